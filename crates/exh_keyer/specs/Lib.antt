@@ -1,0 +1,2 @@
+pub mod Pseudokey
+pub mod PseudokeyFits

@@ -1,0 +1,15 @@
+//! Pseudokeys: the 64 bits of a key by whose leading bits an extendible hash file is organised
+//! (Fagin et al. 1979), and the two keyers that make them.
+#![tactic(auto)]
+
+mod any_keyer;
+mod keyer;
+mod plain_keyer;
+mod sha_keyer;
+#[cfg(test)]
+mod tests;
+
+pub use any_keyer::AnyKeyer;
+pub use keyer::{Keyer, same_pseudokey};
+pub use plain_keyer::PlainKeyer;
+pub use sha_keyer::ShaKeyer;

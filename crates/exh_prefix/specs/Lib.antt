@@ -1,0 +1,5 @@
+pub mod Bits
+pub mod BitLemmas
+pub mod Prefix
+pub mod PrefixLemmas
+pub mod Laws
