@@ -18,7 +18,7 @@ plain_pseudokey key = leading_number (key ++ replicate 8 0)
 abbrev pub sha_pseudokey : List ℕ → ℕ
 sha_pseudokey key = leading_number (sha256 key)
 
--- whichever of the two a file has
+-- either keyer
 abbrev pub any_pseudokey : AnyKeyer → List ℕ → ℕ
 any_pseudokey Plain key = plain_pseudokey key
 any_pseudokey Sha key = sha_pseudokey key

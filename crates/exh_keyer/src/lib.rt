@@ -10,6 +10,6 @@ mod sha_keyer;
 mod tests;
 
 pub use any_keyer::AnyKeyer;
-pub use keyer::{Keyer, same_pseudokey};
+pub use keyer::{Keyer, pseudo_of_both};
 pub use plain_keyer::PlainKeyer;
 pub use sha_keyer::ShaKeyer;

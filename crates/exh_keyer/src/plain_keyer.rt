@@ -28,6 +28,7 @@ impl Keyer for PlainKeyer {
     #[tactic(auto, unfolding(crate::specs::Pseudokey::leading_number))]
     fn pseudo(&self, key: &[u8]) -> u64
         ensures pseudokey { result ≡ plain_pseudokey key.now }
+        // At real bytes the definition's remainder changes nothing.
         ensures bytes { result ≡ from_be_bytes w64 (take 8 (key.now ++ replicate 8 0)) }
     {
         u64::from_be_bytes(first_eight(key))

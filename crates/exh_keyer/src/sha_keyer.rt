@@ -20,6 +20,7 @@ impl Keyer for ShaKeyer {
     #[tactic(auto, unfolding(crate::specs::Pseudokey::leading_number))]
     fn pseudo(&self, key: &[u8]) -> u64
         ensures pseudokey { result ≡ sha_pseudokey key.now }
+        // A digest's bytes are real bytes: the definition's remainder changes nothing.
         ensures bytes { result ≡ from_be_bytes w64 (take 8 (sha256 key.now)) }
     {
         let [a, b, c, d, e, f, g, h, ..] = Sha256::digest(key);

@@ -1,4 +1,4 @@
-use crate::{AnyKeyer, Keyer, PlainKeyer, ShaKeyer, same_pseudokey};
+use crate::{AnyKeyer, Keyer, PlainKeyer, ShaKeyer, pseudo_of_both};
 use std::test::Fail;
 
 fn pseudo_under<K: Keyer>(keyer: K, key: &[u8]) -> u64 {
@@ -40,14 +40,14 @@ fn sha_pseudokeys(rt: HostRuntime) {
 }
 
 #[test]
-fn keys_of_one_pseudokey(rt: HostRuntime) {
+fn pseudokeys_of_two_keys(rt: HostRuntime) {
     let text = b"abcabc";
-    for keyer in [AnyKeyer::Plain, AnyKeyer::Sha] {
-        assert!(rt; same_pseudokey(&keyer, &text[..3], &text[3..]));
-        assert!(rt; !same_pseudokey(&keyer, b"abc", b"abd"));
-    }
-    assert!(rt; same_pseudokey(&PlainKeyer, b"\0\0", b"\0\0\0\0"));
-    assert!(rt; !same_pseudokey(&ShaKeyer, b"\0\0", b"\0\0\0\0"));
+    let (front, back) = pseudo_of_both(&ShaKeyer, &text[..3], &text[3..]);
+    assert_eq!(rt; front, 0xba78_16bf_8f01_cfea);
+    assert_eq!(rt; back, 0xba78_16bf_8f01_cfea);
+    let (one, other) = pseudo_of_both(&AnyKeyer::Plain, b"\x80", b"abc");
+    assert_eq!(rt; one, 0x8000_0000_0000_0000);
+    assert_eq!(rt; other, 0x6162_6300_0000_0000);
 }
 
 #[test]
