@@ -1,13 +1,17 @@
-// A library with one function.
+//! Pages of an extendible hash file: ordered records of one prefix, or a forwarding page.
 #![tactic(auto)]
 
-ghost use Rattle.std.specs.Prelude.{◌≡◌};
-ghost use Rattle.exh_page.specs.Echo.{echo_of};
+pub use key::{KEY_LIMIT, Key};
+pub use page::{CAP_LIMIT, Page, PageNo};
+pub use record::Record;
+pub use records::Records;
+pub use size_fault::SizeFault;
+pub use value::{VALUE_LIMIT, Value};
 
-// The `ensures` clause is the contract: what `echo` returns is `echo_of` of its argument, a definition
-// in `specs/Echo.antt`, which a caller's clause can cite too.
-pub fn echo(x: usize) -> usize
-    ensures { result ≡ echo_of x }
-{
-    x
-}
+mod key;
+mod page;
+mod record;
+mod records;
+mod short_bytes;
+mod size_fault;
+mod value;

@@ -1,0 +1,107 @@
+ghost use Rattle.std.specs.Prelude.{◌≡◌, ℕ, ◌↔◌, IsTrue, IsOk, IsSome, IfOk, OnErr};
+
+use crate::{Key, Record, Records, Value};
+use exh_prefix::Prefix;
+use std::alloc::AllocError;
+
+/// A page's number in its ward, from 0 on (exhash profile).
+pub type PageNo = u32;
+
+/// The most records that a page of any file holds (exhash profile).
+pub const CAP_LIMIT: usize = 16;
+
+/// A page: Fagin's bucket, or what is left of one that was merged away.
+#[derive(Debug, Drop)]
+pub enum Page {
+    /// Holds the records whose pseudokeys the prefix begins. Its length is the local depth.
+    Live {
+        prefix: Prefix,
+        right: Option<PageNo>,
+        records: Records,
+    },
+    /// Sends callers on to a page of a lesser low bound.
+    Forward { low: u64, target: PageNo },
+}
+
+impl Page {
+    ghost use Rattle.std.specs.Prelude.{◌≡◌, ◌↔◌, IsTrue, IsOk, IsSome, IfOk, OnErr};
+    ghost use Rattle.exh_page.specs.Place.{place_of};
+    ghost use Rattle.exh_page.specs.Records.{value_at, with_record, without_place};
+    ghost use Rattle.exh_page.specs.Page.{low_bound, records_of, with_records, IsLive};
+
+    /// The least pseudokey that the page is for.
+    pub fn low(&self) -> u64
+        ensures { result ≡ low_bound self.now }
+    {
+        match self {
+            Page::Live { prefix, .. } => prefix.low(),
+            Page::Forward { low, .. } => *low,
+        }
+    }
+
+    pub fn is_live(&self) -> bool
+        ensures { IsTrue result ↔ IsLive self.now }
+    {
+        match self {
+            Page::Live { .. } => true,
+            Page::Forward { .. } => false,
+        }
+    }
+
+    /// The value of a key with this pseudokey, if a record of the page has it.
+    pub fn find(&self, pseudokey: u64, key: &Key) -> Option<Value>
+        ensures { result ≡ value_at (pseudokey, key.now) (records_of self.now) }
+    {
+        match self {
+            Page::Live { records, .. } => records.find(pseudokey, key),
+            Page::Forward { .. } => None,
+        }
+    }
+
+    /// Puts a record into a live page, and answers the value that it replaces. Only a new record may need memory.
+    pub fn put(&mut self, item: Record) -> Result<Option<Value>, AllocError>
+        requires { IsLive self.old }
+        ensures old { IfOk result (λ old. old ≡ value_at (place_of item) (records_of self.old)) }
+        ensures ok { IfOk result (λ _. self.new ≡ with_records (with_record item (records_of self.old)) self.old) }
+        ensures err { OnErr result (self.new ≡ self.old) }
+        ensures replaces { IsSome (value_at (place_of item) (records_of self.old)) → IsOk result }
+    {
+        match self {
+            Page::Live { records, .. } => records.put(item),
+            Page::Forward { .. } => unreachable!(),
+        }
+    }
+
+    /// Takes the record of a key with this pseudokey out of a live page, and answers its value.
+    pub fn remove(&mut self, pseudokey: u64, key: &Key) -> Option<Value>
+        requires { IsLive self.old }
+        ensures old { result ≡ value_at (pseudokey, key.now) (records_of self.old) }
+        ensures others { self.new ≡ with_records (without_place (pseudokey, key.now) (records_of self.old)) self.old }
+    {
+        match self {
+            Page::Live { records, .. } => records.remove(pseudokey, key),
+            Page::Forward { .. } => unreachable!(),
+        }
+    }
+
+    /// A page equal to this one. It takes memory for the records.
+    pub fn try_clone(&self) -> Result<Page, AllocError>
+        ensures { IfOk result (λ page. page ≡ self.now) }
+    {
+        match self {
+            Page::Live {
+                prefix,
+                right,
+                records,
+            } => Ok(Page::Live {
+                prefix: *prefix,
+                right: *right,
+                records: records.try_clone()?,
+            }),
+            Page::Forward { low, target } => Ok(Page::Forward {
+                low: *low,
+                target: *target,
+            }),
+        }
+    }
+}
