@@ -10,7 +10,7 @@ use Rattle.std.proofs.Math.Numerals.{suc-eq-add-one}
 use Rattle.exh_page.specs.declared.record.Record.{Record}
 use Rattle.exh_page.specs.Place.{Place, place_cmp, place_of}
 use Rattle.exh_page.specs.Records.{IsRising, value_at, with_record, without_place}
-use Rattle.exh_page.specs.RecordsLemmas.{IsCut, AllBefore, AllAfter, IsRising-drop, after_later, value_at-cut, with_record-cut, without_place-cut}
+use Rattle.exh_page.specs.RecordsLemmas.{IsCut, AllBefore, AllAfter, IsRising-drop, IsRising-filter, IsRising-with_record, after_later, value_at-cut, with_record-cut, without_place-cut}
 use Rattle.exh_page.specs.Search.{IsFound, IsGap}
 
 -- the records from i on, of which the first is x
@@ -62,23 +62,41 @@ gap_at_end place records i past before =
       };
     }
 
--- ---- what is read and written at what a search found
+-- ---- what is read and written where a search stopped: the searched list is that of the fields, and that of the view
 
-pub value_found : (place : Place) (records : List Record) (i : ℕ) (x : Record) → x ≡ get_or records i x → IsFound place records i → Some x.value ≡ value_at place records
-value_found place records i x is found =
-    ap Some (ap (λ r. r.value) (is ∙ get_or_from_slice_get records i found.found x found.at)) ∙ sym (value_at-cut place records _ _ _ found.cut)
+pub value_found : {place : Place} {searched items records : List Record} {i : ℕ} {x : Record} → IsFound place searched i → searched ≡ items → items ≡ records
+    → x ≡ get_or items i x → Some x.value ≡ value_at place records
+value_found {place} {searched} {items} {records} {i} {x} found same view is =
+    let at : slice_get items i ≡ Some found.found = subst (λ list. slice_get list i ≡ Some found.found) same found.at in
+    ap Some (ap (λ r. r.value) (is ∙ get_or_from_slice_get items i found.found x at)) ∙ sym (value_at-cut place searched _ _ _ found.cut) ∙ ap (value_at place) (same ∙ view)
 
-pub no_value_at_gap : (place : Place) (records : List Record) (i : ℕ) → IsGap place records i → None ≡ value_at place records
-no_value_at_gap place records i gap = sym (value_at-cut place records _ _ _ gap.cut)
+pub no_value_at_gap : {place : Place} {searched records : List Record} {i : ℕ} → IsGap place searched i → searched ≡ records → None ≡ value_at place records
+no_value_at_gap {place} {searched} {records} {i} gap same = sym (value_at-cut place searched _ _ _ gap.cut) ∙ ap (value_at place) same
 
-pub set_found : (item : Record) (records : List Record) (i : ℕ) → IsFound (place_of item) records i → set records i item ≡ with_record item records
-set_found item records i found = set_split records i item found.within ∙ ap (λ n. take i records ++ item ∷ drop n records) (suc-eq-add-one i) ∙ sym (with_record-cut item records _ _ _ found.cut)
+pub set_found : {searched items records : List Record} {i : ℕ} (item : Record) → IsFound (place_of item) searched i → searched ≡ items → items ≡ records
+    → set items i item ≡ with_record item records
+set_found {searched} {items} {records} {i} item found same view =
+    sym (ap (λ list. set list i item) same) ∙ set_split searched i item found.within ∙ ap (λ n. take i searched ++ item ∷ drop n searched) (suc-eq-add-one i)
+    ∙ sym (with_record-cut item searched _ _ _ found.cut) ∙ ap (with_record item) (same ∙ view)
 
-pub insert_gap : (item : Record) (records : List Record) (i : ℕ) → IsGap (place_of item) records i → insert records i item ≡ with_record item records
-insert_gap item records i gap = sym (with_record-cut item records _ _ _ gap.cut)
+pub insert_gap : {searched items records : List Record} {i : ℕ} (item : Record) → IsGap (place_of item) searched i → searched ≡ items → items ≡ records
+    → insert items i item ≡ with_record item records
+insert_gap {searched} {items} {records} {i} item gap same view =
+    sym (ap (λ list. insert list i item) same) ∙ sym (with_record-cut item searched _ _ _ gap.cut) ∙ ap (with_record item) (same ∙ view)
 
-pub remove_found : (place : Place) (records : List Record) (i : ℕ) → IsFound place records i → remove records i ≡ without_place place records
-remove_found place records i found = ap (λ n. take i records ++ drop n records) (suc-eq-add-one i) ∙ sym (without_place-cut place records _ _ _ found.cut)
+pub remove_found : {place : Place} {searched items records : List Record} {i : ℕ} → IsFound place searched i → searched ≡ items → items ≡ records
+    → remove items i ≡ without_place place records
+remove_found {place} {searched} {items} {records} {i} found same view =
+    sym (ap (λ list. remove list i) same) ∙ ap (λ n. take i searched ++ drop n searched) (suc-eq-add-one i)
+    ∙ sym (without_place-cut place searched _ _ _ found.cut) ∙ ap (without_place place) (same ∙ view)
 
-pub same_at_gap : (place : Place) (records : List Record) (i : ℕ) → IsGap place records i → records ≡ without_place place records
-same_at_gap place records i gap = gap.cut.whole ∙ sym (without_place-cut place records _ _ _ gap.cut)
+pub same_at_gap : {place : Place} {searched records : List Record} {i : ℕ} → IsGap place searched i → searched ≡ records → records ≡ without_place place records
+same_at_gap {place} {searched} {records} {i} gap same = sym same ∙ gap.cut.whole ∙ sym (without_place-cut place searched _ _ _ gap.cut) ∙ ap (without_place place) same
+
+-- ---- what is left there rises
+
+pub rising_with : (item : Record) (records left : List Record) → left ≡ with_record item records → IsRising records → IsRising left
+rising_with item records left is rising = subst IsRising (sym is) (IsRising-with_record item records rising)
+
+pub rising_without : (place : Place) (records left : List Record) → left ≡ without_place place records → IsRising records → IsRising left
+rising_without place records left is rising = subst IsRising (sym is) (IsRising-filter _ records rising)

@@ -9,7 +9,8 @@ use std::marker::Model;
 /// The greatest length of a key, in bytes (exhash profile).
 pub const KEY_LIMIT: usize = 64;
 
-/// A key: 1 to 64 bytes. Keys are ordered as lists of bytes, and a copy takes no memory.
+/// A key: 1 to 64 bytes, ordered as lists of bytes: the first that differs decides, and a key that
+/// ends first is the lesser (exhash profile). A copy takes no memory.
 #[derive(Clone, Copy, Debug, PartialEq, Eq, PartialOrd, Ord)]
 pub struct Key {
     bytes: ShortBytes<KEY_LIMIT>,
@@ -29,7 +30,8 @@ impl Model for Key {
 }
 
 impl Key {
-    /// The key of 1 to 64 bytes. Any other length is a `SizeFault`.
+    /// The key of 1 to 64 bytes (exhash profile). Any other length is a `SizeFault`. It takes no
+    /// memory.
     pub fn from_bytes(bytes: &[u8]) -> Result<Key, SizeFault>
         ensures { OkIff result ((1 ≤ length bytes.now) × (length bytes.now ≤ KEY_LIMIT)) bytes.now }
     {
@@ -42,6 +44,7 @@ impl Key {
         }
     }
 
+    /// The key's bytes, 1 to 64 of them.
     pub fn as_bytes(&self) -> &[u8]
         ensures bytes { result.now ≡ self.now }
         ensures some { 1 ≤ length self.now }

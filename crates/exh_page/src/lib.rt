@@ -1,4 +1,5 @@
-//! Pages of an extendible hash file: ordered records of one prefix, or a forwarding page.
+//! Pages of an extendible hash file: buckets of records whose pseudokeys one prefix begins (Fagin
+//! et al. 1979), and the forwarding pages that merges leave behind (exhash profile).
 #![tactic(auto)]
 
 pub use key::{KEY_LIMIT, Key};
@@ -14,4 +15,6 @@ mod record;
 mod records;
 mod short_bytes;
 mod size_fault;
+#[cfg(test)]
+mod tests;
 mod value;

@@ -10,17 +10,22 @@ pub type PageNo = u32;
 /// The most records that a page of any file holds (exhash profile).
 pub const CAP_LIMIT: usize = 16;
 
-/// A page: Fagin's bucket, or what is left of one that was merged away.
+/// A page: a bucket (Fagin et al. 1979), or what is left of one that was merged away (exhash
+/// profile).
 #[derive(Debug, Drop)]
 pub enum Page {
-    /// Holds the records whose pseudokeys the prefix begins. Its length is the local depth.
+    /// Holds the records whose pseudokeys the prefix begins, the prefix's length being the local
+    /// depth. The right link is the live page with the next greater low bound, if there is one.
     Live {
         prefix: Prefix,
         right: Option<PageNo>,
         records: Records,
     },
-    /// Sends callers on to a page of a lesser low bound.
-    Forward { low: u64, target: PageNo },
+    /// Sends callers on to the page whose low bound is this page's with its lowest set bit cleared.
+    Forward {
+        low: u64,
+        target: PageNo,
+    },
 }
 
 impl Page {
@@ -29,7 +34,7 @@ impl Page {
     ghost use Rattle.exh_page.specs.Records.{value_at, with_record, without_place};
     ghost use Rattle.exh_page.specs.Page.{low_bound, records_of, with_records, IsLive};
 
-    /// The least pseudokey that the page is for.
+    /// The low bound: the least pseudokey that the page is for (exhash profile).
     pub fn low(&self) -> u64
         ensures { result ≡ low_bound self.now }
     {
@@ -39,6 +44,7 @@ impl Page {
         }
     }
 
+    /// Whether the page holds records, and doesn't send callers on.
     pub fn is_live(&self) -> bool
         ensures { IsTrue result ↔ IsLive self.now }
     {
@@ -48,7 +54,8 @@ impl Page {
         }
     }
 
-    /// The value of a key with this pseudokey, if a record of the page has it.
+    /// The value of a key with this pseudokey, or `None` where no record of the page has both. It
+    /// takes no memory.
     pub fn find(&self, pseudokey: u64, key: &Key) -> Option<Value>
         ensures { result ≡ value_at (pseudokey, key.now) (records_of self.now) }
     {
@@ -58,7 +65,9 @@ impl Page {
         }
     }
 
-    /// Puts a record into a live page, and answers the value that it replaces. Only a new record may need memory.
+    /// Puts a record into a live page, and answers the value that it replaces, or `None` where it
+    /// is new. Neither the number of records nor the prefix is tested. Only a new record may need
+    /// memory: where that is refused, an `AllocError`, the page is as before.
     pub fn put(&mut self, item: Record) -> Result<Option<Value>, AllocError>
         requires { IsLive self.old }
         ensures old { IfOk result (λ old. old ≡ value_at (place_of item) (records_of self.old)) }
@@ -72,7 +81,8 @@ impl Page {
         }
     }
 
-    /// Takes the record of a key with this pseudokey out of a live page, and answers its value.
+    /// Takes the record of a key with this pseudokey out of a live page, and answers its value, or
+    /// `None` where there is none. It takes no memory.
     pub fn remove(&mut self, pseudokey: u64, key: &Key) -> Option<Value>
         requires { IsLive self.old }
         ensures old { result ≡ value_at (pseudokey, key.now) (records_of self.old) }
@@ -84,7 +94,8 @@ impl Page {
         }
     }
 
-    /// A page equal to this one. It takes memory for the records.
+    /// A page equal to this one. It takes memory for the records: an `AllocError` where that is
+    /// refused.
     pub fn try_clone(&self) -> Result<Page, AllocError>
         ensures { IfOk result (λ page. page ≡ self.now) }
     {

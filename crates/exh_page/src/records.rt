@@ -8,7 +8,8 @@ use std::alloc::{AllocError, Global};
 use std::cmp::Ordering;
 use std::marker::Model;
 
-/// Records in strictly rising order of (pseudokey, key).
+/// Records in strictly rising order of (pseudokey, key), so no key stands twice under one pseudokey
+/// (exhash profile).
 #[derive(Debug, Drop)]
 pub struct Records {
     records: Vec<Record>,
@@ -52,18 +53,21 @@ impl Records {
         self.records
     }
 
+    /// How many records there are.
     pub fn len(&self) -> usize
         ensures { result ≡ length self.now }
     {
         self.records.len()
     }
 
+    /// Whether there is no record.
     pub fn is_empty(&self) -> bool
         ensures { IsTrue result ↔ (self.now ≡ []) }
     {
         self.records.is_empty()
     }
 
+    /// The records, in their order.
     pub fn as_slice(&self) -> &[Record]
         ensures records { result.now ≡ self.now }
         ensures rising { IsRising self.now }
@@ -71,7 +75,8 @@ impl Records {
         &self.records
     }
 
-    /// The value of a key with this pseudokey, if there is one.
+    /// The value of a key with this pseudokey, or `None` where no record has both. It takes no
+    /// memory.
     pub fn find(&self, pseudokey: u64, key: &Key) -> Option<Value>
         ensures { result ≡ value_at (pseudokey, key.now) self.now }
     {
@@ -81,7 +86,9 @@ impl Records {
         }
     }
 
-    /// Puts a record at its place, and answers the value that it replaces. Only a new record may need memory.
+    /// Puts a record at its place, and answers the value that it replaces, or `None` where it is
+    /// new. Only a new record may need memory: where that is refused, an `AllocError`, the records
+    /// are as before.
     pub fn put(&mut self, item: Record) -> Result<Option<Value>, AllocError>
         ensures old { IfOk result (λ old. old ≡ value_at (place_of item) self.old) }
         ensures ok { IfOk result (λ _. self.new ≡ with_record item self.old) }
@@ -101,7 +108,8 @@ impl Records {
         }
     }
 
-    /// Takes out the record of a key with this pseudokey, and answers its value.
+    /// Takes out the record of a key with this pseudokey, and answers its value, or `None` where
+    /// there is none. It takes no memory.
     pub fn remove(&mut self, pseudokey: u64, key: &Key) -> Option<Value>
         ensures old { result ≡ value_at (pseudokey, key.now) self.old }
         ensures others { self.new ≡ without_place (pseudokey, key.now) self.old }
@@ -112,7 +120,7 @@ impl Records {
         }
     }
 
-    /// Records equal to these. It takes memory for them.
+    /// Records equal to these. It takes memory for them: an `AllocError` where that is refused.
     pub fn try_clone(&self) -> Result<Records, AllocError>
         ensures { IfOk result (λ records. records ≡ self.now) }
     {

@@ -9,7 +9,7 @@ use std::marker::Model;
 /// The greatest length of a value, in bytes (exhash profile).
 pub const VALUE_LIMIT: usize = 128;
 
-/// A value: 0 to 128 bytes. A copy takes no memory.
+/// A value: 0 to 128 bytes (exhash profile). A copy takes no memory.
 #[derive(Clone, Copy, Debug, PartialEq, Eq)]
 pub struct Value {
     bytes: ShortBytes<VALUE_LIMIT>,
@@ -29,7 +29,8 @@ impl Model for Value {
 }
 
 impl Value {
-    /// The value of at most 128 bytes. A longer one is a `SizeFault`.
+    /// The value of 0 to 128 bytes (exhash profile). A longer one is a `SizeFault`. It takes no
+    /// memory.
     pub fn from_bytes(bytes: &[u8]) -> Result<Value, SizeFault>
         ensures { OkIff result (length bytes.now ≤ VALUE_LIMIT) bytes.now }
     {
@@ -39,6 +40,7 @@ impl Value {
         }
     }
 
+    /// The value's bytes, 0 to 128 of them.
     pub fn as_bytes(&self) -> &[u8]
         ensures bytes { result.now ≡ self.now }
         ensures limit { length self.now ≤ VALUE_LIMIT }

@@ -1,5 +1,5 @@
 -- The fields that stand for a prefix.
-use Rattle.std.proofs.Common.{◌≡◌, ℕ, ◌+◌, ◌-◌, ◌*◌, ◌/◌, ◌%◌, ◌^◌, ◌<◌, ◌≤◌, Bool, true, false, cond, List, [], ◌∷◌, ◌++◌, length, take, drop, map, get_or, slice_get, Some, leb, eqb, IsTrue, ◌↔◌, refl, sym, ap, ◌∙◌, subst, arith}
+use Rattle.std.proofs.Common.{◌≡◌, ℕ, ◌+◌, ◌-◌, ◌*◌, ◌/◌, ◌%◌, ◌^◌, ◌<◌, ◌≤◌, Bool, true, false, cond, List, [], ◌∷◌, ◌++◌, length, take, drop, map, get_or, slice_get, Some, leb, eqb, IsTrue, ◌↔◌, sym, ap, ◌∙◌, subst, arith}
 use Rattle.std.proofs.lemmas.List.{length-append, length_push, same_from_push, take_more, get_or-take, map_more}
 use Rattle.std.proofs.lemmas.Option.{slice_get-get_or, slice_get_within, get_or_from_slice_get}
 use Rattle.std.proofs.lemmas.Nat.{pow_pos, one_shl, div-mul-add}
@@ -10,32 +10,42 @@ use Rattle.std.proofs.Math.Nat.{zero-mul}
 use Rattle.exh_prefix.specs.declared.prefix.TheConstants.{LIMIT}
 use Rattle.exh_prefix.specs.Bits.{number_of, word_bits}
 use Rattle.exh_prefix.specs.Prefix.{bit_digit, Begins, low_of, HasPrefix}
-use Rattle.exh_prefix.specs.PrefixLemmas.{take-low_of, HasPrefix-low_of, low_of-lt, low_of-child, low_of-quotient, last_of-number, last_split, begins_low, begins_from_low, length-word_bits, word_split, word_rest-lt}
+use Rattle.exh_prefix.specs.PrefixLemmas.{stored_low, stored_length, take-low_of, HasPrefix-low_of, low_of-lt, low_of-child, low_of-quotient, last_of-number, last_split, begins_low, begins_from_low, length-word_bits, word_split, word_rest-lt}
 
--- a prefix's length and low bound may be stored
-pub made_invariant : (prefix : List Bool) (len bits : ℕ) → length prefix ≤ LIMIT → len ≡ length prefix → bits ≡ low_of prefix → HasPrefix len bits × (bits < 2 ^ 64)
-made_invariant prefix len bits short is_len is_bits =
-    let P : ℕ → Type 0 = λ n. HasPrefix n bits × (bits < 2 ^ 64) in
-    let Q : ℕ → Type 0 = λ n. HasPrefix (length prefix) n × (n < 2 ^ 64) in
-    subst P (sym is_len) (subst Q (sym is_bits) (HasPrefix-low_of prefix short, omega (arith, low_of-lt prefix (omega arith), pow_pos (64 - length prefix))))
+-- the fields stand for the prefix
+pub record IsStored (prefix : List Bool) (len bits : ℕ) : Type 0 where
+  pub view_is : take len (word_bits bits) ≡ prefix
+  pub invariant : HasPrefix len bits × (bits < 2 ^ 64)
 
--- and stand for the prefix
-pub made_view : (prefix : List Bool) (len bits : ℕ) → length prefix ≤ LIMIT → len ≡ length prefix → bits ≡ low_of prefix → take len (word_bits bits) ≡ prefix
-made_view prefix len bits short is_len is_bits = ap (λ n. take n (word_bits bits)) is_len ∙ ap (λ n. take (length prefix) (word_bits n)) is_bits ∙ take-low_of prefix short
+-- a prefix's length and low bound do
+made : (prefix : List Bool) (len bits : ℕ) → length prefix ≤ LIMIT → len ≡ length prefix → bits ≡ low_of prefix → IsStored prefix len bits
+made prefix len bits short is_len is_bits =
+    let P : ℕ → Type 0 = λ n. IsStored prefix n bits in
+    let Q : ℕ → Type 0 = IsStored prefix (length prefix) in
+    let small : low_of prefix < 2 ^ 64 = omega (arith, low_of-lt prefix (omega arith), pow_pos (64 - length prefix)) in
+    subst P (sym is_len) (subst Q (sym is_bits) (record { view_is = take-low_of prefix short; invariant = (HasPrefix-low_of prefix short, small) }))
 
 -- a bit, shifted to a place of a 64-bit word
-pub bit_shl : (bit : Bool) (one place : ℕ) → one ≡ from_bool bit → place < 64 → one * 2 ^ place % 2 ^ 64 ≡ cond bit (2 ^ place) 0
+bit_shl : (bit : Bool) (one place : ℕ) → one ≡ from_bool bit → place < 64 → one * 2 ^ place % 2 ^ 64 ≡ cond bit (2 ^ place) 0
 bit_shl true one place is within = ap (λ n. n * 2 ^ place % 2 ^ 64) is ∙ one_shl place 64 within
 bit_shl false one place is within = ap (λ n. n * 2 ^ place % 2 ^ 64) is ∙ ap (λ n. n % 2 ^ 64) (zero-mul (2 ^ place))
 
-pub child_bits : (prefix : List Bool) (bit : Bool) (len bits one : ℕ) → length prefix ≡ len → low_of prefix ≡ bits → len < 64 → one ≡ from_bool bit
+child_bits : (prefix : List Bool) (bit : Bool) (len bits one : ℕ) → length prefix ≡ len → low_of prefix ≡ bits → len < 64 → one ≡ from_bool bit
     → bits + one * 2 ^ (63 - len) % 2 ^ 64 ≡ low_of (prefix ++ bit ∷ [])
 child_bits prefix bit len bits one is_len is_bits short is_one =
     let shifted : one * 2 ^ (63 - len) % 2 ^ 64 ≡ cond bit (2 ^ (63 - length prefix)) 0 =
     bit_shl bit one (63 - len) is_one (omega arith) ∙ ap (λ n. cond bit (2 ^ (63 - n)) 0) (sym is_len) in
     omega (arith, shifted, low_of-child prefix bit (omega arith))
 
-pub parent_bits : (parent : List Bool) (bit : Bool) (len bits one : ℕ) → len ≡ length parent + 1 → low_of (parent ++ bit ∷ []) ≡ bits → len ≤ 64 → one ≡ from_bool bit
+-- the child of the prefix that is stored so
+pub child_made : (prefix : List Bool) (bit : Bool) (len bits one : ℕ) → take len (word_bits bits) ≡ prefix → HasPrefix len bits × (bits < 2 ^ 64) → len < LIMIT → one ≡ from_bool bit
+    → IsStored (prefix ++ bit ∷ []) (len + 1) (bits + one * 2 ^ (63 - len) % 2 ^ 64)
+child_made prefix bit len bits one is stored short is_one =
+    let is_len = stored_length prefix len bits is stored in
+    let longer = length_push prefix bit in
+    made (prefix ++ bit ∷ []) _ _ (omega arith) (omega arith) (child_bits prefix bit len bits one is_len (stored_low prefix len bits is stored) (omega arith) is_one)
+
+parent_bits : (parent : List Bool) (bit : Bool) (len bits one : ℕ) → len ≡ length parent + 1 → low_of (parent ++ bit ∷ []) ≡ bits → len ≤ 64 → one ≡ from_bool bit
     → low_of parent + one * 2 ^ (64 - len) % 2 ^ 64 ≡ bits
 parent_bits parent bit len bits one is_len is_bits short is_one =
     let less : 64 - len ≡ 63 - length parent = omega arith in
@@ -44,20 +54,24 @@ parent_bits parent bit len bits one is_len is_bits short is_one =
     omega (arith, shifted, low_of-child parent bit (omega arith))
 
 -- the last bit of a prefix, read off its low bound
-pub last_bit_is : (parent : List Bool) (bit : Bool) (len bits : ℕ) → len ≡ length parent + 1 → low_of (parent ++ bit ∷ []) ≡ bits → bits / 2 ^ (64 - len) % 2 ≡ cond bit 1 0
+last_bit_is : (parent : List Bool) (bit : Bool) (len bits : ℕ) → len ≡ length parent + 1 → low_of (parent ++ bit ∷ []) ≡ bits → bits / 2 ^ (64 - len) % 2 ≡ cond bit 1 0
 last_bit_is parent bit len bits is_len is_bits =
     let longer : length (parent ++ bit ∷ []) ≡ len = length-append parent (bit ∷ []) ∙ sym is_len in
     ap (λ n. n / 2 ^ (64 - len) % 2) (sym is_bits) ∙ ap (λ n. low_of (parent ++ bit ∷ []) / 2 ^ (64 - n) % 2) (sym longer)
     ∙ ap (λ n. n % 2) (low_of-quotient (parent ++ bit ∷ [])) ∙ last_of-number parent bit
 
 -- the test of `begins`, where the number isn't below the low bound
-pub begins_test : (prefix : List Bool) (len bits number : ℕ) → low_of prefix ≡ bits → length prefix ≡ len → len ≤ 64 → number < 2 ^ 64 → bits ≤ number
+pub begins_test : (prefix : List Bool) (len bits number : ℕ) → take len (word_bits bits) ≡ prefix → HasPrefix len bits × (bits < 2 ^ 64) → number < 2 ^ 64 → bits ≤ number
     → IsTrue (leb (number - bits) ((2 ^ 64 - 1) / 2 ^ len)) ↔ Begins prefix number
-begins_test prefix len bits number is_bits is_len short small above =
+begins_test prefix len bits number is stored small above =
+    let is_bits = stored_low prefix len bits is stored in
+    let is_len = stored_length prefix len bits is stored in
+    let short : len ≤ 64 = omega (arith, stored.0.0) in
     let most : (2 ^ 64 - 1) / 2 ^ len ≡ 2 ^ (64 - length prefix) - 1 = ones_shr 64 len short ∙ ap (λ n. 2 ^ (64 - n) - 1) (sym is_len) in
-    let positive : 0 < 2 ^ (64 - length prefix) = pow_pos (64 - length prefix) in
-    (λ passes. let within : number - bits ≤ (2 ^ 64 - 1) / 2 ^ len = leb-true _ _ passes in begins_from_low prefix number (omega arith) (omega arith) (omega arith),
-    λ begins. let range = begins_low prefix number (omega arith) small begins in le-leb _ _ (omega (arith, range.1)))
+    let positive : 0 < 2 ^ (64 - length prefix) = pow_pos (64 - length prefix) in (
+      λ passes. let within : number - bits ≤ (2 ^ 64 - 1) / 2 ^ len = leb-true _ _ passes in begins_from_low prefix number (omega arith) (omega arith) (omega arith),
+      λ begins. let range = begins_low prefix number (omega arith) small begins in le-leb _ _ (omega (arith, range.1)),
+    )
 
 right_from_split : (prefix : List Bool) (len bits : ℕ) (front : List Bool) (last : Bool) → prefix ≡ front ++ last ∷ [] → low_of prefix ≡ bits → length prefix ≡ len
     → bits / 2 ^ (64 - len) % 2 ≡ 1 → (parent : List Bool) × (prefix ≡ parent ++ true ∷ [])
@@ -67,11 +81,14 @@ right_from_split prefix len bits front false split is_bits is_len one =
     absurd (omega arith)
 
 -- the test of `is_right_child`, where there is a last bit
-pub right_test : (prefix : List Bool) (len bits : ℕ) → low_of prefix ≡ bits → length prefix ≡ len → 0 < len
+pub right_test : (prefix : List Bool) (len bits : ℕ) → take len (word_bits bits) ≡ prefix → HasPrefix len bits × (bits < 2 ^ 64) → 0 < len
     → IsTrue (eqb (bits / 2 ^ (64 - len) % 2) 1) ↔ ((parent : List Bool) × (prefix ≡ parent ++ true ∷ []))
-right_test prefix len bits is_bits is_len some =
-    (λ passes. let split = last_split prefix (omega arith) in right_from_split prefix len bits split.0 split.1 split.2 is_bits is_len (eqb-true _ _ passes),
-    λ right. eq-eqb _ _ (last_bit_is right.0 true len bits (sym is_len ∙ ap length right.1 ∙ length_push right.0 true) (ap low_of (sym right.1) ∙ is_bits)))
+right_test prefix len bits is stored some =
+    let is_bits = stored_low prefix len bits is stored in
+    let is_len = stored_length prefix len bits is stored in (
+      λ passes. let split = last_split prefix (omega arith) in right_from_split prefix len bits split.0 split.1 split.2 is_bits is_len (eqb-true _ _ passes),
+      λ right. eq-eqb _ _ (last_bit_is right.0 true len bits (sym is_len ∙ ap length right.1 ∙ length_push right.0 true) (ap low_of (sym right.1) ∙ is_bits)),
+    )
 
 -- whether a prefix is a right child is its last bit
 right_is_last : (prefix front : List Bool) (last right : Bool) → prefix ≡ front ++ last ∷ [] → IsTrue right ↔ ((parent : List Bool) × (prefix ≡ parent ++ true ∷ [])) → right ≡ last
@@ -84,18 +101,19 @@ pub record ParentOf (prefix : List Bool) (len bits last_place : ℕ) : Type 0 wh
   pub parent : List Bool
   pub last : Bool
   pub split : prefix ≡ parent ++ last ∷ []
-  pub len_is : len - 1 ≡ length parent
   pub within : last_place ≤ bits
-  pub bits_is : bits - last_place ≡ low_of parent
+  pub stored : IsStored parent (len - 1) (bits - last_place)
 
-pub parent_made : (prefix : List Bool) (len bits one : ℕ) (right : Bool) → low_of prefix ≡ bits → length prefix ≡ len → 0 < len → len ≤ 64 → one ≡ from_bool right
-    → IsTrue right ↔ ((parent : List Bool) × (prefix ≡ parent ++ true ∷ [])) → ParentOf prefix len bits (one * 2 ^ (64 - len) % 2 ^ 64)
-parent_made prefix len bits one right is_bits is_len some short is_one tells =
-    let split = last_split prefix (omega arith) in
+pub parent_made : (prefix : List Bool) (len bits one : ℕ) (right : Bool) → take len (word_bits bits) ≡ prefix → HasPrefix len bits × (bits < 2 ^ 64) → 0 < length prefix
+    → one ≡ from_bool right → IsTrue right ↔ ((parent : List Bool) × (prefix ≡ parent ++ true ∷ [])) → ParentOf prefix len bits (one * 2 ^ (64 - len) % 2 ^ 64)
+parent_made prefix len bits one right is stored some is_one tells =
+    let split = last_split prefix some in
     let last = right_is_last prefix split.0 split.1 right split.2 tells in
+    let is_len = stored_length prefix len bits is stored in
     let longer : len ≡ length split.0 + 1 = sym is_len ∙ ap length split.2 ∙ length_push split.0 split.1 in
-    let sum = parent_bits split.0 split.1 len bits one longer (ap low_of (sym split.2) ∙ is_bits) short (is_one ∙ ap from_bool last) in
-    record { parent = split.0; last = split.1; split = split.2; len_is = omega arith; within = omega (arith, sum); bits_is = omega (arith, sum) }
+    let short : len ≤ LIMIT = stored.0.0 in
+    let sum = parent_bits split.0 split.1 len bits one longer (ap low_of (sym split.2) ∙ stored_low prefix len bits is stored) (omega arith) (is_one ∙ ap from_bool last) in
+    record { parent = split.0; last = split.1; split = split.2; within = omega (arith, sum); stored = made split.0 _ _ (omega arith) (omega arith) (omega (arith, sum)) }
 
 -- the bit of a word at a place, 0 for the highest
 word_bit : (bits place : ℕ) → bits < 2 ^ 64 → place < 64 → bits / 2 ^ (63 - place) % 2 ≡ cond (get_or (word_bits bits) place false) 1 0
@@ -113,11 +131,12 @@ test_of_bit true n is = eq-eqb n 1 is
 test_of_bit false n is = false_from_ne_true _ (λ one. absurd (omega (arith, eqb-true n 1 one)))
 
 -- the bit of a prefix at a place
-pub bit_read : (prefix : List Bool) (len bits place : ℕ) → take len (word_bits bits) ≡ prefix → len ≤ 64 → bits < 2 ^ 64 → length prefix ≡ len → place < len
+pub bit_read : (prefix : List Bool) (len bits place : ℕ) → take len (word_bits bits) ≡ prefix → HasPrefix len bits × (bits < 2 ^ 64) → place < length prefix
     → slice_get prefix place ≡ Some (eqb (bits / 2 ^ (63 - place) % 2) 1)
-bit_read prefix len bits place is short small is_len within =
-    slice_get-get_or prefix place false (omega arith)
-    ∙ ap Some (ap (λ bits. get_or bits place false) (sym is) ∙ get_or-take len (word_bits bits) place false within ∙ sym (test_of_bit _ _ (word_bit bits place small (omega arith))))
+bit_read prefix len bits place is stored within =
+    let is_len = stored_length prefix len bits is stored in
+    slice_get-get_or prefix place false within
+    ∙ ap Some (ap (λ bits. get_or bits place false) (sym is) ∙ get_or-take len (word_bits bits) place false (omega arith) ∙ sym (test_of_bit _ _ (word_bit bits place stored.1 (omega (arith, stored.0.0)))))
 
 -- the digits up to a place, and the next
 pub digits_more : (prefix : List Bool) (place : ℕ) (bit : Bool) → slice_get prefix place ≡ Some bit → map bit_digit (take place prefix) ++ bit_digit bit ∷ [] ≡ map bit_digit (take (place + 1) prefix)

@@ -1,5 +1,5 @@
 -- Laws of prefixes that the crates above cite.
-use Rattle.std.specs.Prelude.{◌≡◌, ℕ, ◌+◌, ◌-◌, ◌^◌, ◌<◌, ◌≤◌, ◌↔◌, ◌⊎◌, Bool, true, false, not, List, [], ◌∷◌, ◌++◌, length}
+use Rattle.std.specs.Prelude.{◌≡◌, ℕ, ◌+◌, ◌-◌, ◌^◌, ◌<◌, ◌≤◌, ◌↔◌, ◌⊎◌, Bool, true, false, List, [], ◌∷◌, ◌++◌, length, IsTrue}
 use Rattle.std.specs.declared.cmp.Ordering.TheVariants.{Equal}
 use Rattle.std.specs.Cmp.{IsTotalOrder}
 use Rattle.exh_prefix.specs.Bits.{lowest_cleared}
@@ -35,3 +35,7 @@ LeftChildKeepsLow = (parent : List Bool) → length parent < LIMIT → low_of (p
 -- the order is total, and ties are equal
 abbrev pub OrderIsTotal : Type 0
 OrderIsTotal = IsTotalOrder prefix_cmp × ((one other : List Bool) → (prefix_cmp one other ≡ Equal) ↔ (one ≡ other))
+
+-- the test passes exactly where the prefixes are the same bits
+abbrev pub DecidesEquality : (List Bool → List Bool → Bool) → Type 0
+DecidesEquality eq = (one other : List Bool) → IsTrue (eq one other) ↔ (one ≡ other)

@@ -1,8 +1,8 @@
 -- Prefixes, their low bounds and the numbers that they begin.
-use Rattle.std.proofs.Common.{◌≡◌, ℕ, zero, suc, ◌+◌, ◌-◌, ◌*◌, ◌/◌, ◌%◌, ◌^◌, ◌<◌, ◌≤◌, Bool, true, false, cond, List, [], ◌∷◌, ◌++◌, length, take, drop, get_or, ◌⊎◌, inl, inr, refl, sym, ap, ◌∙◌, subst, arith, nat_cmp}
+use Rattle.std.proofs.Common.{◌≡◌, ℕ, zero, suc, ◌+◌, ◌-◌, ◌*◌, ◌/◌, ◌%◌, ◌^◌, ◌<◌, ◌≤◌, Bool, true, false, cond, List, [], ◌∷◌, ◌++◌, length, take, drop, get_or, ◌⊎◌, inl, inr, refl, sym, ap, ◌∙◌, subst, arith, nat_cmp, nat_eq, ◌&&◌, IsTrue, ◌↔◌}
 use Rattle.std.specs.Cmp.{IsTotalOrder}
 use Rattle.std.specs.Int.Bits.{bit_and}
-use Rattle.std.proofs.lemmas.Bool.{false≢true}
+use Rattle.std.proofs.lemmas.Bool.{false≢true, and_from, and_parts, eqb-true, eq-eqb}
 use Rattle.std.proofs.lemmas.Cmp.{nat_cmp_total, on_total, then_total}
 use Rattle.std.proofs.lemmas.List.{length-append, length-replicate, length-drop, length-take-le, take_at, drop_at, take-append-drop, take-take, append_assoc, take_more, length_push, same_from_push}
 use Rattle.std.proofs.lemmas.Map.Lookups.{CmpEqualImpliesEq, exact_pairs, exact_unsigned}
@@ -279,3 +279,10 @@ pub prefix_cmp-exact : CmpEqualImpliesEq prefix_cmp
 prefix_cmp-exact one other same =
     let pair = exact_pairs nat_cmp nat_cmp exact_unsigned exact_unsigned (low_of one, length one) (low_of other, length other) same in
     same_prefix one other (ap (λ (p : ℕ × ℕ). p.0) pair) (ap (λ (p : ℕ × ℕ). p.1) pair)
+
+-- what `==` tests, the low bounds and the lengths, passes exactly where the prefixes are the same bits
+pub prefix_eq-exact : (one other : List Bool) → IsTrue (nat_eq (low_of one) (low_of other) && nat_eq (length one) (length other)) ↔ (one ≡ other)
+prefix_eq-exact one other = (
+  λ passes. let parts = and_parts _ _ passes in same_prefix one other (eqb-true _ _ parts.0) (eqb-true _ _ parts.1),
+  λ same. and_from _ _ (eq-eqb _ _ (ap low_of same)) (eq-eqb _ _ (ap length same)),
+)

@@ -1,7 +1,10 @@
 //! Prefixes of pseudokeys: lists of up to `LIMIT` bits, their low bounds and their order.
 #![tactic(auto)]
 
-pub use laws::{beginners_nest, begins_its_range, children_part, left_child_keeps_low, order_is_total, right_child_clears};
+pub use laws::{
+    beginners_nest, begins_its_range, children_part, equality_is_of_bits, left_child_keeps_low,
+    order_is_by_low_bound, order_is_total, right_child_clears,
+};
 pub use prefix::{LIMIT, Prefix};
 
 mod laws;

@@ -9,6 +9,9 @@ ghost use Rattle.exh_prefix.specs.Prefix.{Begins, HasPrefix, low_of, AreBuddies,
 use std::fmt;
 use std::marker::Model;
 
+#[cfg(test)]
+mod tests;
+
 /// The greatest length of a prefix, in bits (exhash profile).
 pub const LIMIT: u8 = 16;
 

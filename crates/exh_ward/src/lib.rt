@@ -1,13 +1,19 @@
-// A library with one function.
+//! A ward of an extendible hash file: its pages, the hops of calls over them, and its history.
 #![tactic(auto)]
 
-ghost use Rattle.std.specs.Prelude.{◌≡◌};
-ghost use Rattle.exh_ward.specs.Echo.{echo_of};
+pub use base::Base;
+pub use call::Call;
+pub use hop::Hop;
+pub use journal_entry::JournalEntry;
+pub use reply::Reply;
+pub use ward::{WARD_BITS_LIMIT, Ward};
+pub use ward_fault::WardFault;
 
-// The `ensures` clause is the contract: what `echo` returns is `echo_of` of its argument, a definition
-// in `specs/Echo.antt`, which a caller's clause can cite too.
-pub fn echo(x: usize) -> usize
-    ensures { result ≡ echo_of x }
-{
-    x
-}
+mod answer;
+mod base;
+mod call;
+mod hop;
+mod journal_entry;
+mod reply;
+mod ward;
+mod ward_fault;

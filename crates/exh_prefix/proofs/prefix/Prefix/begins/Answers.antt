@@ -5,14 +5,12 @@ use Rattle.exh_prefix.proofs.Made.{begins_test}
 use Rattle.exh_prefix.proofs.prefix.Prefix.begins.Goals as goal
 
 pub returns-then-self-pseudokey : goal.returns-then-self-pseudokey
-returns-then-self-pseudokey c =
-    let low = stored_low _ _ _ c.self.view_is c.self.invariant in
-    let len = stored_length _ _ _ c.self.view_is c.self.invariant in
-    begins_test c.args.self c.self.inside.len c.self.inside.bits c.args.pseudokey low len (omega (arith, c.self.invariant.0.0)) (omega arith) (omega arith)
+returns-then-self-pseudokey c = begins_test c.args.self _ _ c.args.pseudokey c.self.view_is c.self.invariant (omega arith) (omega arith)
 
 pub returns-else-self-pseudokey : goal.returns-else-self-pseudokey
 returns-else-self-pseudokey c =
     let low = stored_low _ _ _ c.self.view_is c.self.invariant in
-    let len = stored_length _ _ _ c.self.view_is c.self.invariant in
-    (λ passes. let above : c.self.inside.bits ≤ c.args.pseudokey = leb-true _ _ passes in absurd (omega arith),
-    λ begins. let range = begins_low c.args.self c.args.pseudokey (omega (arith, c.self.invariant.0.0)) (omega arith) begins in absurd (omega (arith, range.0)))
+    let len = stored_length _ _ _ c.self.view_is c.self.invariant in (
+      λ passes. let above : c.self.inside.bits ≤ c.args.pseudokey = leb-true _ _ passes in absurd (omega arith),
+      λ begins. let range = begins_low c.args.self c.args.pseudokey (omega (arith, c.self.invariant.0.0)) (omega arith) begins in absurd (omega (arith, range.0)),
+    )

@@ -1,0 +1,6 @@
+pub mod PageMap
+pub mod Linked
+pub mod Answered
+pub mod OwnPrefix
+pub mod LoneHop
+pub mod Seen

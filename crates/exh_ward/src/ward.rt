@@ -1,0 +1,137 @@
+ghost use Rattle.std.specs.Prelude.{◌≡◌, ◌≢◌, ◌^◌, ◌<◌, ◌≤◌, ◌↔◌, ℕ, List, [], ◌∷◌, IsTrue, IfOk, OnErr, None};
+ghost use Rattle.std.specs.FinMap as map;
+ghost use Rattle.exh_prefix.specs.Prefix.{Begins};
+ghost use Rattle.exh_page.specs.declared.page.TheConstants.{CAP_LIMIT};
+ghost use Rattle.exh_page.specs.declared.page.Page.TheVariants.{Live};
+ghost use Rattle.exh_ward.specs.Call.{key_of};
+ghost use Rattle.exh_ward.specs.HopTable.{HopOf};
+ghost use Rattle.exh_ward.specs.Pages.{ward_prefix};
+ghost use Rattle.exh_ward.specs.WardState.{IsSoundWard, LeavesAfter};
+ghost use Rattle.exh_ward.specs.declared.ward.TheConstants.{WARD_BITS_LIMIT};
+
+use crate::answer::{answer, overflows};
+use crate::{Base, Call, Hop, JournalEntry, WardFault};
+use exh_keyer::Keyer;
+use exh_page::{CAP_LIMIT, Page, PageNo, Records};
+use exh_prefix::Prefix;
+use std::alloc::Global;
+use std::marker::Model;
+
+/// The most leading bits by which a file is cut into wards (exhash profile).
+pub const WARD_BITS_LIMIT: u8 = 4;
+
+/// A part of the file: the pages of all keys whose pseudokeys share the ward's leading bits, with the
+/// history of the calls that they answered.
+#[derive(Drop)]
+pub struct Ward<K: Keyer> {
+    cap: usize,
+    ward_bits: u8,
+    number: u8,
+    keyer: K,
+    own: Prefix,
+    page: Page,
+    base: Base,
+    journal: Vec<JournalEntry>,
+}
+
+impl<K: Keyer> Model for Ward<K> {
+    ghost use Rattle.std.specs.Prelude.{◌∷◌, []};
+    ghost use Rattle.std.specs.Coded.{codes};
+    ghost use Rattle.exh_ward.specs.KeyMap.{coded_key_map};
+    ghost use Rattle.exh_ward.specs.LonePage.{IsOwn, IsLone};
+    ghost use Rattle.exh_ward.specs.WardState.{WardState, IsSound};
+
+    ghost Value = { WardState K };
+
+    ghost coded = { Prim.hlevel (codes, coded_key_map) };
+
+    ghost view = { λ a. record { pages = a.page ∷ []; base = a.base; journal = a.journal.items; cap = a.cap; ward_bits = a.ward_bits; number = a.number; keyer = a.keyer } };
+
+    ghost invariant = { λ a. IsOwn a.ward_bits a.number a.own × IsLone a.own a.page × IsSound a.cap (K.pseudokey_of a.keyer) a.own (a.page ∷ []) a.base a.journal.items };
+}
+
+impl<K: Keyer> Ward<K> {
+    /// A ward of one empty page: `cap` records a page, 1 to 16; the ward's `number` in `ward_bits` bits, 0 to 4.
+    /// It takes no memory.
+    pub fn new(alloc: Global, cap: usize, ward_bits: u8, number: u8, keyer: K) -> Ward<K>
+        requires some { 1 ≤ cap }
+        requires most { cap ≤ CAP_LIMIT }
+        requires bits { ward_bits ≤ WARD_BITS_LIMIT }
+        requires number { number < 2 ^ ward_bits }
+        ensures empty { result ≡ record { pages = Live (ward_prefix ward_bits number) None [] ∷ []; base = map.empty; journal = []; cap = cap; ward_bits = ward_bits; number = number; keyer = keyer } }
+        ensures sound { IsSoundWard K.pseudokey_of result }
+    {
+        let own = own_prefix(ward_bits, number);
+        Ward {
+            cap,
+            ward_bits,
+            number,
+            keyer,
+            own,
+            page: Page::Live {
+                prefix: own,
+                right: None,
+                records: Records::new(alloc),
+            },
+            base: Base::new(alloc),
+            journal: Vec::new(alloc),
+        }
+    }
+
+    /// Whether keys of this pseudokey belong to the ward.
+    pub fn covers(&self, pseudokey: u64) -> bool
+        ensures { IsTrue result ↔ Begins (ward_prefix self.now.ward_bits self.now.number) pseudokey }
+    {
+        self.own.begins(pseudokey)
+    }
+
+    /// One hop of a client's call at a page. The ward covers the call's key. `Err` comes for memory alone,
+    /// and changes nothing.
+    pub fn hop(&mut self, at: PageNo, client: u32, call: &Call) -> Result<Hop, WardFault>
+        requires { Begins (ward_prefix self.old.ward_bits self.old.number) (K.pseudokey_of self.old.keyer (key_of call.now)) }
+        ensures hop { IfOk result (HopOf self.old.cap (K.pseudokey_of self.old.keyer) self.old.pages at call.now) }
+        ensures leaves { IfOk result (λ hop. LeavesAfter K.pseudokey_of self.old at client call.now hop self.new) }
+        ensures err { OnErr result (self.new ≡ self.old) }
+        ensures sound { IsSoundWard K.pseudokey_of self.new }
+    {
+        let pseudokey = self.keyer.pseudo(call.key().as_bytes());
+        // Page 0 is the only one, so it is home to every key that the ward covers.
+        if at != 0 {
+            return Ok(Hop::Stray);
+        }
+        if overflows(&self.page, self.cap, pseudokey, call) {
+            return Ok(Hop::MustSplit);
+        }
+        // Room for the entry first: nothing may fail once the page has changed.
+        self.journal.reserve(1)?;
+        let reply = answer(&mut self.page, pseudokey, call)?;
+        self.journal
+            .push_reserved(JournalEntry::new(client, call, &reply));
+        Ok(Hop::Done(reply))
+    }
+
+    /// The calls that were answered, in order: a history from the base, which leaves the map of the pages.
+    pub fn journal(&self) -> &[JournalEntry]
+        ensures entries { result.now ≡ self.now.journal }
+        ensures sound { IsSoundWard K.pseudokey_of self.now }
+    {
+        &self.journal
+    }
+
+    /// The map that the history begins with.
+    pub fn base(&self) -> &Base
+        ensures { result.now ≡ self.now.base }
+    {
+        &self.base
+    }
+}
+
+// The prefix of all pseudokeys of a ward.
+fn own_prefix(ward_bits: u8, number: u8) -> Prefix
+    requires bits { ward_bits ≤ WARD_BITS_LIMIT }
+    requires number { number < 2 ^ ward_bits }
+    ensures { result ≡ ward_prefix ward_bits number }
+{
+    let low = (u64::from(number) << (64 - WARD_BITS_LIMIT)) << (WARD_BITS_LIMIT - ward_bits);
+    Prefix::new(ward_bits, low).unwrap()
+}
