@@ -4,3 +4,4 @@ pub mod Answered
 pub mod OwnPrefix
 pub mod LoneHop
 pub mod Seen
+pub mod HopFunction

@@ -1,5 +1,5 @@
 -- A hop at the only page of a ward.
-use Rattle.std.proofs.Common.{◌≡◌, ℕ, ◌<◌, ◌^◌, Bool, List, [], ◌∷◌, ◌++◌, slice_get, slice_set, None, refl, sym, ap, ◌∙◌, subst}
+use Rattle.std.proofs.Common.{◌≡◌, ℕ, ◌<◌, ◌^◌, Bool, List, [], ◌∷◌, ◌++◌, None, refl, sym, ap, ◌∙◌, subst}
 use Rattle.exh_prefix.specs.Prefix.{Begins}
 use Rattle.exh_page.specs.declared.page.Page.{Page}
 use Rattle.exh_page.specs.declared.page.Page.TheVariants.{Live, Forward}
@@ -12,12 +12,12 @@ use Rattle.exh_ward.specs.declared.hop.Hop.{Hop}
 use Rattle.exh_ward.specs.declared.hop.Hop.TheVariants.{Done, MustSplit}
 use Rattle.exh_ward.specs.declared.journal_entry.JournalEntry.{JournalEntry}
 use Rattle.exh_ward.specs.declared.reply.Reply.{Reply}
-use Rattle.exh_ward.specs.HopTable.{HopOf}
+use Rattle.exh_ward.specs.HopTable.{HopOf, pages_after}
 use Rattle.exh_ward.specs.KeyMap.{KeyMap}
 use Rattle.exh_ward.specs.LonePage.{IsOwn, IsLone}
 use Rattle.exh_ward.specs.MapMachine.{map_after}
 use Rattle.exh_ward.specs.PageAnswer.{page_reply, records_after, OverflowsPage}
-use Rattle.exh_ward.specs.Pages.{IsAt, map_of}
+use Rattle.exh_ward.specs.Pages.{map_of}
 use Rattle.exh_ward.specs.WardState.{IsSound}
 use Rattle.exh_ward.proofs.Answered.{sound_after, room_from_no_overflow, hop_done, hop_must_split, map_of-lone}
 use Rattle.exh_ward.proofs.PageMap.{map_after-page}
@@ -101,8 +101,9 @@ module _ (cap : ℕ) (pseudo : List ℕ → ℕ) (ward_bits number : ℕ) (own :
       ∙ map_after-page cap pseudo hop.lone.0 call out.sound.legal.each.0.0.hashed (room_from_no_overflow cap pseudo ward_bits number own None hop.lone.0 call hop.own_is (none_written page pseudokey hop none))
       ∙ ap (λ m. map_after cap pseudo m call) (sym (ap (λ page. map_of (page ∷ [])) hop.lone.1 ∙ map_of-lone own None hop.lone.0))
 
--- a change of the only page is a change of page 0
-pub only_page_changed : (page after : Page) (records : List Record) (at : ℕ) → at ≡ 0 → after ≡ with_records records page
-    → (one : Page) × (kept : List Record) × IsAt (page ∷ []) at one × (after ∷ [] ≡ slice_set (page ∷ []) at (with_records kept one))
-only_page_changed page after records at first changed =
-    (page, records, ap (slice_get (page ∷ [])) first, ap (λ page. page ∷ []) changed ∙ ap (λ n. slice_set (page ∷ []) n (with_records records page)) (sym first))
+-- the pages after the call, where there is one page
+pub pages_after-lone : (pseudo : List ℕ → ℕ) (page after : Page) (at : ℕ) (call : Call) (pseudokey : ℕ) → at ≡ 0 → pseudokey ≡ pseudo (key_of call)
+    → after ≡ with_records (records_after pseudokey call (records_of page)) page → after ∷ [] ≡ pages_after pseudo (page ∷ []) at call
+unfolding pages_after
+pages_after-lone pseudo page after at call pseudokey first hashed changed =
+    ap (λ page. page ∷ []) (changed ∙ ap (λ k. with_records (records_after k call (records_of page)) page) hashed) ∙ ap (λ n. pages_after pseudo (page ∷ []) n call) (sym first)

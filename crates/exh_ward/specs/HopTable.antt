@@ -1,14 +1,17 @@
--- The hop table: what one hop of a call at a page comes to.
-use Rattle.std.specs.Prelude.{◌≡◌, ℕ, ◌<◌, ◌≤◌, List, length, Some, None}
+-- The hop table: what one hop of a call at a page comes to, and the pages that it leaves.
+use Rattle.std.specs.Prelude.{◌≡◌, ℕ, ◌<◌, ◌≤◌, Bool, true, false, not, ◌&&◌, nat_le, nat_lt, if◌then◌else◌, List, [], ◌∷◌, length, slice_get, slice_set, Some, None}
+use Rattle.std.specs.Option.{option_map_or}
 use Rattle.std.specs.FinMap as map
 use Rattle.exh_prefix.specs.declared.prefix.TheConstants.{LIMIT}
+use Rattle.exh_prefix.specs.Bits.{word_bits}
 use Rattle.exh_prefix.specs.Prefix.{Begins}
 use Rattle.exh_page.specs.declared.page.Page.{Page}
 use Rattle.exh_page.specs.declared.page.Page.TheVariants.{Live, Forward}
-use Rattle.exh_page.specs.Page.{low_bound}
+use Rattle.exh_page.specs.Page.{low_bound, records_of, with_records}
 use Rattle.exh_ward.specs.KeyMap.{KeyMap}
 use Rattle.exh_ward.specs.Call.{key_of}
 use Rattle.exh_ward.specs.MapMachine.{reply_of}
+use Rattle.exh_ward.specs.PageAnswer.{records_after}
 use Rattle.exh_ward.specs.Pages.{IsAt, IsHome, map_of}
 use Rattle.exh_ward.specs.declared.call.Call.{Call}
 use Rattle.exh_ward.specs.declared.call.Call.TheVariants.{Get, Put, Del}
@@ -38,3 +41,40 @@ HopOf cap pseudo pages at call MustSplit =
 HopOf cap pseudo pages at call (Done reply) =
     (page : Page) × IsReached pages at (pseudo (key_of call)) page × IsHome page (pseudo (key_of call)) × (Overflows cap (map_of pages) page call → ⊥)
     × (reply ≡ reply_of cap pseudo (map_of pages) call)
+
+-- ---- the same table as a function, for whoever computes with it
+
+abbrev pub same_bit : Bool → Bool → Bool
+same_bit true bit = bit
+same_bit false bit = not bit
+
+-- whether the bits are the front of the others
+abbrev pub is_front : List Bool → List Bool → Bool
+is_front [] bits = true
+is_front (first ∷ front) [] = false
+is_front (first ∷ front) (bit ∷ bits) = same_bit first bit && is_front front bits
+
+abbrev pub begins : List Bool → ℕ → Bool
+begins prefix pseudokey = is_front prefix (word_bits pseudokey)
+
+abbrev pub overflows : ℕ → KeyMap → Page → Call → Bool
+overflows cap m (Live prefix right records) (Put key value) = not (map.contains_key m key) && (nat_le cap (length records) && nat_lt (length prefix) LIMIT)
+overflows cap m page call = false
+
+-- a legal ward has a right link wherever this asks for one
+abbrev pub hop_at : ℕ → (List ℕ → ℕ) → List Page → Call → Page → Hop
+hop_at cap pseudo pages call (Forward low target) = Moved target
+hop_at cap pseudo pages call (Live prefix right records) =
+    if begins prefix (pseudo (key_of call))
+    then (if overflows cap (map_of pages) (Live prefix right records) call then MustSplit else Done (reply_of cap pseudo (map_of pages) call))
+    else option_map_or Moved right Stray
+
+unfoldable pub hop_of : ℕ → (List ℕ → ℕ) → List Page → ℕ → Call → Hop
+hop_of cap pseudo pages at call =
+    option_map_or (λ page. if nat_lt (pseudo (key_of call)) (low_bound page) then Stray else hop_at cap pseudo pages call page) (slice_get pages at) Stray
+
+-- ---- the pages after an answer: the call's home has its records after the call
+
+unfoldable pub pages_after : (List ℕ → ℕ) → List Page → ℕ → Call → List Page
+pages_after pseudo pages at call =
+    option_map_or (λ page. slice_set pages at (with_records (records_after (pseudo (key_of call)) call (records_of page)) page)) (slice_get pages at) pages

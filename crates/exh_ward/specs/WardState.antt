@@ -1,12 +1,11 @@
 -- A ward as a value, and what a hop leaves of it.
-use Rattle.std.specs.Prelude.{◌≡◌, ℕ, Bool, List, ◌++◌, ◌∷◌, [], slice_set}
+use Rattle.std.specs.Prelude.{◌≡◌, ℕ, Bool, List, ◌++◌, ◌∷◌, []}
 use Rattle.exh_page.specs.declared.page.Page.{Page}
-use Rattle.exh_page.specs.declared.record.Record.{Record}
-use Rattle.exh_page.specs.Page.{with_records}
 use Rattle.exh_ward.specs.KeyMap.{KeyMap}
 use Rattle.exh_ward.specs.History.{IsHistory, map_left}
+use Rattle.exh_ward.specs.HopTable.{pages_after}
 use Rattle.exh_ward.specs.MapMachine.{map_after}
-use Rattle.exh_ward.specs.Pages.{IsLegal, IsAt, map_of, ward_prefix}
+use Rattle.exh_ward.specs.Pages.{IsLegal, map_of, ward_prefix}
 use Rattle.exh_ward.specs.declared.journal_entry.JournalEntry.{JournalEntry}
 use Rattle.exh_ward.specs.declared.call.Call.{Call}
 use Rattle.exh_ward.specs.declared.hop.Hop.{Hop}
@@ -31,9 +30,9 @@ pub record IsSound (cap : ℕ) (pseudo : List ℕ → ℕ) (ward : List Bool) (p
 abbrev pub IsSoundWard : {K : Type 0} → (K → List ℕ → ℕ) → WardState K → Type 0
 IsSoundWard pseudokey_of ward = IsSound ward.cap (pseudokey_of ward.keyer) (ward_prefix ward.ward_bits ward.number) ward.pages ward.base ward.journal
 
--- an answered call changed the records of one page, so that the map is the map machine's, and is one entry more
+-- an answered call changed the records of its home, so that the map is the map machine's, and is one entry more
 pub record IsAnswered {K : Type 0} (pseudokey_of : K → List ℕ → ℕ) (old : WardState K) (at client : ℕ) (call : Call) (reply : Reply) (new : WardState K) : Type 0 where
-  pub pages : (page : Page) × (records : List Record) × IsAt old.pages at page × (new.pages ≡ slice_set old.pages at (with_records records page))
+  pub pages : new.pages ≡ pages_after (pseudokey_of old.keyer) old.pages at call
   pub map : map_of new.pages ≡ map_after old.cap (pseudokey_of old.keyer) (map_of old.pages) call
   pub journal : new.journal ≡ old.journal ++ record { client = client; call = call; reply = reply } ∷ []
   pub others : new ≡ record old { pages = new.pages; journal = new.journal }

@@ -1,10 +1,8 @@
 use Rattle.std.proofs.Common.{◌≡◌, ◌++◌, ◌∷◌, [], ℕ, List, Bool, sym, ap, ◌∙◌, subst, refl}
 use Rattle.std.proofs.lemmas.Bool.{true≢false}
-use Rattle.exh_page.specs.Page.{records_of, with_records}
-use Rattle.exh_ward.specs.PageAnswer.{records_after}
 use Rattle.exh_ward.specs.WardState.{IsSound}
 use Rattle.exh_ward.specs.declared.hop.Hop.TheVariants.{Done, MustSplit}
-use Rattle.exh_ward.proofs.LoneHop.{must_split, done, sound, map_left_by, page_written, only_page_changed}
+use Rattle.exh_ward.proofs.LoneHop.{must_split, done, sound, map_left_by, page_written, pages_after-lone}
 use Rattle.exh_ward.proofs.Seen.{hop_of_inside, hop_seen, stray_seen, answered_seen}
 use Rattle.exh_ward.proofs.ward.Ward.hop.Goals as goal
 
@@ -39,7 +37,7 @@ returns-clause-leaves g c =
     let step = hop_of_inside g.K.Keyer.pseudokey_of _ c.args.self.now c.self.view_is c.self.inside.own c.self.inside.page c.args.call.now c.pseudo-pseudokey.result c.self.invariant c.requires
     (c.pseudo-pseudokey.ensures ∙ ap (g.K.Keyer.pseudokey_of c.self.inside.keyer) (c.as_bytes.ensures.bytes ∙ c.key.ensures)) c.pseudo-pseudokey.type_inv in
     answered_seen g.K.Keyer.pseudokey_of _ c.args.self.now c.self.view_is c.args.at c.args.client c.args.call.now c.in_ok-reply.reply _ (record {
-      pages = only_page_changed c.self.inside.page c.answer.new.page (records_after c.pseudo-pseudokey.result c.args.call.now (records_of c.self.inside.page)) c.args.at c.if-at-ne0.false c.in_ok-reply.ensures.records;
+      pages = pages_after-lone (g.K.Keyer.pseudokey_of c.self.inside.keyer) c.self.inside.page c.answer.new.page c.args.at c.args.call.now c.pseudo-pseudokey.result c.if-at-ne0.false step.hashed c.in_ok-reply.ensures.records;
       map = map_left_by c.self.inside.cap (g.K.Keyer.pseudokey_of c.self.inside.keyer) c.self.inside.ward_bits c.self.inside.number c.self.inside.own c.self.inside.base c.self.inside.journal.items c.args.call.now c.self.inside.page c.answer.new.page c.pseudo-pseudokey.result step (λ over. true≢false (sym (c.overflows.ensures.1 over) ∙ c.if-overflows.false)) c.in_ok-reply.ensures.records;
       journal = (c.push_reserved.ensures.items ∙ ap (λ entries. entries ++ c.new.result ∷ []) c.reserve.ensures.items ∙ ap (λ entry. c.self.inside.journal.items ++ entry ∷ []) c.new.ensures);
       others = refl;
