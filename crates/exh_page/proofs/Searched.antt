@@ -1,5 +1,5 @@
 -- Where a search of rising records stops.
-use Rattle.std.proofs.Common.{◌≡◌, ℕ, ◌+◌, ◌<◌, ◌≤◌, false, List, [], ◌∷◌, ◌++◌, length, take, drop, get_or, set, insert, remove, slice_get, None, Some, refl, sym, ap, ◌∙◌, subst, arith}
+use Rattle.std.proofs.Common.{◌≡◌, ℕ, ◌+◌, ◌<◌, ◌≤◌, List, [], ◌∷◌, ◌++◌, length, take, drop, get_or, set, insert, remove, slice_get, None, Some, refl, sym, ap, ◌∙◌, subst, arith}
 use Rattle.std.specs.declared.cmp.Ordering.TheVariants.{Less, Equal, Greater}
 use Rattle.std.specs.List.{All}
 use Rattle.std.specs.Ordering.{is_lt}
@@ -10,7 +10,7 @@ use Rattle.std.proofs.Math.Numerals.{suc-eq-add-one}
 use Rattle.exh_page.specs.declared.record.Record.{Record}
 use Rattle.exh_page.specs.Place.{Place, place_cmp, place_of}
 use Rattle.exh_page.specs.Records.{IsRising, value_at, with_record, without_place}
-use Rattle.exh_page.specs.RecordsLemmas.{IsCut, AllBefore, AllAfter, IsRising-drop, IsRising-filter, IsRising-with_record, after_later, value_at-cut, with_record-cut, without_place-cut}
+use Rattle.exh_page.specs.RecordsLemmas.{AllBefore, AllAfter, IsRising-drop, IsRising-filter, IsRising-with_record, after_later, value_at-cut, with_record-cut, without_place-cut}
 use Rattle.exh_page.specs.Search.{IsFound, IsGap}
 
 -- the records from i on, of which the first is x

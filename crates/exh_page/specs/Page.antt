@@ -1,5 +1,5 @@
 -- Pages: buckets of records, and forwarding pages.
-use Rattle.std.specs.Prelude.{◌≡◌, ⊤, ◌≢◌, ℕ, ◌+◌, ◌-◌, ◌^◌, ◌<◌, ◌≤◌, ◌%◌, Bool, List, [], length, Option, Some, None}
+use Rattle.std.specs.Prelude.{◌≡◌, ⊤, ◌≢◌, ℕ, ◌-◌, ◌^◌, ◌≤◌, Bool, List, [], length, Some}
 use Rattle.std.specs.List.{AllByRecursion}
 use Rattle.exh_prefix.specs.Prefix.{Begins, low_of, HasPrefix}
 use Rattle.exh_prefix.specs.declared.prefix.TheConstants.{LIMIT}

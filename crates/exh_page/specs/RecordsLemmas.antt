@@ -1,5 +1,5 @@
 -- Rising records, cut at a place.
-use Rattle.std.proofs.Common.{◌≡◌, ℕ, zero, suc, ◌+◌, ◌<◌, ◌≤◌, Bool, true, false, not, cond, List, [], ◌∷◌, ◌++◌, length, take, drop, get_or, filter, find, Option, None, Some, Ordering, refl, sym, ap, ◌∙◌, subst, arith, inl, inr}
+use Rattle.std.proofs.Common.{◌≡◌, ℕ, zero, suc, Bool, true, false, not, cond, List, [], ◌∷◌, ◌++◌, drop, filter, find, Option, None, Some, Ordering, refl, sym, ap, ◌∙◌}
 use Rattle.std.specs.declared.cmp.Ordering.TheVariants.{Less, Equal, Greater}
 use Rattle.std.specs.Cmp.{IsTotalOrder}
 use Rattle.std.specs.List.{AllByRecursion}
@@ -180,11 +180,11 @@ beyond place r s order later =
     elim (place_cmp (place_of r) place) as (λ o. place_cmp (place_of r) place ≡ o → is_lt o ≡ false → place_cmp (place_of s) place ≡ Greater) [
       | Less ↦ λ is late. cc
       | Equal ↦ λ is late.
-        let tied : place_cmp place (place_of s) ≡ Less = sym (place_cmp-total.congr (place_of r) place (place_of s) is) ∙ order in
-        place_cmp-total.antisymm (place_of s) place ∙ ap ordering_reverse tied
+          let tied : place_cmp place (place_of s) ≡ Less = sym (place_cmp-total.congr (place_of r) place (place_of s) is) ∙ order in
+          place_cmp-total.antisymm (place_of s) place ∙ ap ordering_reverse tied
       | Greater ↦ λ is late.
-        let back : place_cmp place (place_of r) ≡ Less = place_cmp-total.antisymm place (place_of r) ∙ ap ordering_reverse is in
-        place_cmp-total.antisymm (place_of s) place ∙ ap ordering_reverse (place_cmp-total.trans place (place_of r) (place_of s) back order)
+          let back : place_cmp place (place_of r) ≡ Less = place_cmp-total.antisymm place (place_of r) ∙ ap ordering_reverse is in
+          place_cmp-total.antisymm (place_of s) place ∙ ap ordering_reverse (place_cmp-total.trans place (place_of r) (place_of s) back order)
     ] refl later
 
 -- what follows a record that isn't before a place stands after the place

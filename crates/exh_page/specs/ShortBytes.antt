@@ -1,7 +1,7 @@
 -- Byte strings that stand in an array of the greatest length.
 use Rattle.std.specs.Prelude.{◌≡◌, ℕ, ◌-◌, ◌≤◌, List, ◌++◌, length, take, replicate}
-use Rattle.std.proofs.Common.{sym, ap, ◌∙◌, subst}
-use Rattle.std.proofs.lemmas.List.{length-take-le, take_at, length-append, length-replicate}
+use Rattle.std.proofs.Common.{sym, ap, ◌∙◌}
+use Rattle.std.proofs.lemmas.List.{length-take-le}
 use Rattle.std.proofs.Common.{arith}
 
 -- the first `len` bytes of an array of `limit` bytes, of which the others are 0

@@ -1,10 +1,9 @@
 -- What rising records hold after a record is put among them or taken out.
-use Rattle.std.proofs.Common.{◌≡◌, ℕ, ◌+◌, ◌<◌, ◌≤◌, Bool, true, false, not, cond, List, [], ◌∷◌, ◌++◌, length, filter, find, Option, None, Some, Ordering, refl, sym, ap, ◌∙◌, subst, arith}
+use Rattle.std.proofs.Common.{◌≡◌, ℕ, ◌+◌, ◌<◌, ◌≤◌, Bool, true, false, not, cond, List, [], ◌∷◌, ◌++◌, length, filter, find, None, Some, Ordering, refl, sym, ap, ◌∙◌, arith}
 use Rattle.std.specs.declared.cmp.Ordering.TheVariants.{Less, Equal, Greater}
 use Rattle.std.specs.List.{AllByRecursion}
 use Rattle.std.specs.Option.{option_map}
 use Rattle.std.specs.Ordering.{is_lt, is_eq, is_gt, ordering_reverse}
-use Rattle.std.proofs.lemmas.Cmp.{tied_itself}
 use Rattle.std.proofs.lemmas.List.{length-append, append-nil}
 use Rattle.exh_page.specs.declared.record.Record.{Record}
 use Rattle.exh_page.specs.Place.{Place, place_cmp, place_of}
@@ -19,9 +18,9 @@ find_kept p q keeps (r ∷ records) rest none =
     elim (p r) as (λ b. p r ≡ b → find p (cond (q r) (r ∷ filter q records) (filter q records) ++ rest) ≡ cond b (Some r) (find p records)) [
       | true ↦ λ is. rw (keeps r is, is) refl
       | false ↦ λ is. elim (q r) as (λ k. find p (cond k (r ∷ filter q records) (filter q records) ++ rest) ≡ find p records) [
-          | true ↦ rw is (find_kept p q keeps records rest none)
-          | false ↦ find_kept p q keeps records rest none
-        ]
+        | true ↦ rw is (find_kept p q keeps records rest none)
+        | false ↦ find_kept p q keeps records rest none
+      ]
     ] refl
 
 find_dropped : (p q : Record → Bool) → ((r : Record) → p r ≡ true → q r ≡ false) → (records rest : List Record) → find p (filter q records ++ rest) ≡ find p rest
@@ -30,9 +29,9 @@ find_dropped p q drops (r ∷ records) rest =
     elim (p r) as (λ b. p r ≡ b → find p (cond (q r) (r ∷ filter q records) (filter q records) ++ rest) ≡ find p rest) [
       | true ↦ λ is. rw (drops r is) (find_dropped p q drops records rest)
       | false ↦ λ is. elim (q r) as (λ k. find p (cond k (r ∷ filter q records) (filter q records) ++ rest) ≡ find p rest) [
-          | true ↦ rw is (find_dropped p q drops records rest)
-          | false ↦ find_dropped p q drops records rest
-        ]
+        | true ↦ rw is (find_dropped p q drops records rest)
+        | false ↦ find_dropped p q drops records rest
+      ]
     ] refl
 
 -- a record at a place has the place
@@ -101,8 +100,14 @@ at_most_one false = omega arith
 length_of_three : (place : Place) (records : List Record) → length (filter (is_before place) records) + length (filter (is_at place) records) + length (filter (is_after place) records) ≡ length records
 length_of_three place [] = refl
 length_of_three place (r ∷ records) =
-    omega (arith, one_of_three place r, length_of_three place records, length_kept (is_before place r) r (filter (is_before place) records),
-      length_kept (is_at place r) r (filter (is_at place) records), length_kept (is_after place r) r (filter (is_after place) records))
+    omega (
+      arith,
+      one_of_three place r,
+      length_of_three place records,
+      length_kept (is_before place r) r (filter (is_before place) records),
+      length_kept (is_at place r) r (filter (is_at place) records),
+      length_kept (is_after place r) r (filter (is_after place) records),
+    )
 
 pub length-with_record : (r : Record) (records : List Record) → length (with_record r records) + length (filter (is_at (place_of r)) records) ≡ length records + 1
 length-with_record r records = omega (arith, length_of_three (place_of r) records, length-append (filter (is_before (place_of r)) records) (r ∷ filter (is_after (place_of r)) records))

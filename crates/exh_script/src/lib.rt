@@ -1,13 +1,16 @@
-// A library with one function.
+//! The script server: from the bytes of a script to the bytes of its replies.
 #![tactic(auto)]
 
-ghost use Rattle.std.specs.Prelude.{◌≡◌};
-ghost use Rattle.exh_script.specs.Echo.{echo_of};
+pub use answer::Answer;
+pub use in_flight::InFlight;
+pub use line::{FileLine, Line};
+pub use refusal::Refusal;
+pub use request::Request;
+pub use world::World;
 
-// The `ensures` clause is the contract: what `echo` returns is `echo_of` of its argument, a definition
-// in `specs/Echo.antt`, which a caller's clause can cite too.
-pub fn echo(x: usize) -> usize
-    ensures { result ≡ echo_of x }
-{
-    x
-}
+mod answer;
+mod in_flight;
+mod line;
+mod refusal;
+mod request;
+mod world;
