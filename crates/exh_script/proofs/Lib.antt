@@ -1,1 +1,8 @@
+pub mod ByteWords
+pub mod Cuts
+pub mod Hexadecimal
+pub mod Numbers
+pub mod Printed
+pub mod InputLemmas
+pub mod OutputLemmas
 pub mod WorldSteps

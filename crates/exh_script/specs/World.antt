@@ -75,8 +75,8 @@ abbrev pub after_begin : WorldState → ℕ → ℕ → ℕ → Call → WorldSt
 after_begin world name client copy call =
     if is_some (request_named name world.in_flight) then world
     else (if is_copy world copy
-      then record world { in_flight = world.in_flight ++ (name, record { client = client; page = page_named world copy call; call = call }) ∷ [] }
-      else world)
+    then record world { in_flight = world.in_flight ++ (name, record { client = client; page = page_named world copy call; call = call }) ∷ [] }
+    else world)
 
 -- an answer changes the pages of the ward and its journal, and nothing else changes a ward
 abbrev pub ward_after : WardState AnyKeyer → Request → Hop → WardState AnyKeyer

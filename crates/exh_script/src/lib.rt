@@ -3,14 +3,31 @@
 
 pub use answer::Answer;
 pub use in_flight::InFlight;
-pub use line::{FileLine, Line};
+pub use line::{COPIES_LIMIT, FileLine, Line};
+pub use line_fault::LineFault;
 pub use refusal::Refusal;
 pub use request::Request;
 pub use world::World;
 
 mod answer;
+mod byte_word;
+#[cfg(test)]
+mod fakes;
+mod hex;
 mod in_flight;
+mod input;
 mod line;
+mod line_fault;
+mod lines;
+mod number;
+mod output;
+mod parts;
+mod printing;
 mod refusal;
 mod request;
+mod source;
+mod spelled_call;
+mod spelled_file;
+mod spelled_line;
+mod words;
 mod world;

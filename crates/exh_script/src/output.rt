@@ -1,0 +1,225 @@
+ghost use Rattle.std.specs.Prelude.{◌≡◌, ◌+◌, ◌<◌, ◌≤◌, ◌↔◌, [], ◌++◌, drop, length, IfOk, OnOk, OnErr, IsErr, IsTrue, IsFalse};
+ghost use Rattle.std.specs.Io.KnownBytes.{Appends, Keeps, WriteAppends};
+ghost use Rattle.exh_script.specs.Output.{AppendsAllBut, AppendsBeginning, Takes, TakesBeginning, held, pending};
+
+use arrayvec::ArrayVec;
+use std::io::Write;
+use thiserror::Error;
+
+/// Bytes that go out together.
+const BLOCK: usize = 8192;
+
+/// A writer failed, or took no bytes.
+#[derive(Clone, Copy, Debug, PartialEq, Eq, Error)]
+#[error("the writer failed")]
+pub(crate) struct WriteFault;
+
+/// Bytes on their way to a writer, which gets them in blocks, and nothing more once it has failed
+/// (exhash profile).
+#[derive(Drop)]
+pub(crate) struct Output<'w, W: Write> {
+    writer: &'w mut W,
+    has_failed: bool,
+    block: ArrayVec<u8, BLOCK>,
+}
+
+impl<'w, W: Write> Output<'w, W> {
+    pub(crate) fn new(writer: &'w mut W) -> Output<'w, W>
+        ensures same_writer { result.writer.ghost_name ≡ writer.entry.ghost_name }
+        ensures writer { result.writer.now ≡ writer.old }
+        ensures open { IsFalse result.has_failed }
+        ensures empty { pending result ≡ [] }
+    {
+        Output {
+            writer,
+            has_failed: false,
+            block: ArrayVec::new(),
+        }
+    }
+
+    /// Takes bytes. A full block is written when more of them come. On an `Err` the writer got a
+    /// beginning of what it was due.
+    pub(crate) fn push(&mut self, bytes: &[u8]) -> Result<(), WriteFault>
+        ensures same_writer { self.new.writer.ghost_name ≡ self.old.writer.ghost_name }
+        ensures ok { OnOk result (Takes W.contents self.old self.new bytes.now) }
+        ensures err { OnErr result (TakesBeginning W.contents self.old self.new bytes.now) }
+        ensures failed { IsErr result ↔ IsTrue self.new.has_failed }
+        ensures closed { IsTrue self.old.has_failed → self.new.writer.now ≡ self.old.writer.now }
+
+        // What fits in the block waits there.
+        ensures waits { length (pending self.old) + length bytes.now ≤ BLOCK →
+            self.new.writer.now ≡ self.old.writer.now }
+    {
+        if self.has_failed {
+            return Err(WriteFault);
+        }
+        let mut rest = bytes;
+        while !rest.is_empty() {
+            self.make_room()?;
+            let count = rest.len().min(self.block.remaining_capacity());
+            self.block.try_extend_from_slice(&rest[..count]).unwrap();
+            rest = &rest[count..];
+        }
+        Ok(())
+    }
+
+    /// Writes what still waits, and flushes the writer. On an `Err` the writer got a beginning of that.
+    pub(crate) fn finish(&mut self) -> Result<(), WriteFault>
+        ensures same_writer { self.new.writer.ghost_name ≡ self.old.writer.ghost_name }
+        ensures ok { OnOk result (Appends (held W.contents self.old) (held W.contents self.new)
+            (pending self.old)) }
+        ensures empty { OnOk result (pending self.new ≡ []) }
+        ensures err { OnErr result (AppendsBeginning (held W.contents self.old) (held W.contents self.new)
+            (pending self.old)) }
+        ensures failed { IsErr result ↔ IsTrue self.new.has_failed }
+        ensures closed { IsTrue self.old.has_failed → self.new.writer.now ≡ self.old.writer.now }
+    {
+        if self.has_failed {
+            return Err(WriteFault);
+        }
+        self.write_block()?;
+        self.flush()
+    }
+
+    // Writes the block where it is full.
+    fn make_room(&mut self) -> Result<(), WriteFault>
+        requires { IsFalse self.old.has_failed }
+        ensures same_writer { self.new.writer.ghost_name ≡ self.old.writer.ghost_name }
+        ensures ok { OnOk result (AppendsAllBut (held W.contents self.old) (held W.contents self.new)
+            (pending self.old) (pending self.new)) }
+        ensures room { OnOk result (length (pending self.new) < BLOCK) }
+        ensures waits { length (pending self.old) < BLOCK →
+            (pending self.new ≡ pending self.old) × (self.new.writer.now ≡ self.old.writer.now) }
+        ensures err { OnErr result (AppendsBeginning (held W.contents self.old) (held W.contents self.new)
+            (pending self.old)) }
+        ensures failed { IsErr result ↔ IsTrue self.new.has_failed }
+    {
+        if self.block.is_full() {
+            self.write_block()
+        } else {
+            Ok(())
+        }
+    }
+
+    // Writes the block, in as many writes as that takes.
+    fn write_block(&mut self) -> Result<(), WriteFault>
+        requires { IsFalse self.old.has_failed }
+        ensures same_writer { self.new.writer.ghost_name ≡ self.old.writer.ghost_name }
+        ensures ok { OnOk result (Appends (held W.contents self.old) (held W.contents self.new)
+            (pending self.old)) }
+        ensures empty { OnOk result (pending self.new ≡ []) }
+        ensures err { OnErr result (AppendsBeginning (held W.contents self.old) (held W.contents self.new)
+            (pending self.old)) }
+        ensures failed { IsErr result ↔ IsTrue self.new.has_failed }
+    {
+        let mut written = 0;
+        while written < self.block.len() {
+            written += self.write_from(written)?;
+        }
+        self.block.clear();
+        Ok(())
+    }
+
+    // One write of the block from `start` on. Any error is a fault, an interrupted write too, and so
+    // is a write of no bytes.
+    fn write_from(&mut self, start: usize) -> Result<usize, WriteFault>
+        requires open { IsFalse self.old.has_failed }
+        requires inside { start < length (pending self.old) }
+        ensures same_writer { self.new.writer.ghost_name ≡ self.old.writer.ghost_name }
+        ensures block { self.new.block ≡ self.old.block }
+        ensures some { IfOk result (λ count. 0 < count) }
+        ensures bound { IfOk result (λ count. start + count ≤ length (pending self.old)) }
+        ensures bytes { WriteAppends (held W.contents self.old) (held W.contents self.new) result
+            (drop start (pending self.old)) }
+        ensures failed { IsErr result ↔ IsTrue self.new.has_failed }
+    {
+        match self.writer.write(&self.block.as_slice()[start..]) {
+            Ok(count) if count > 0 => Ok(count),
+            _ => {
+                self.has_failed = true;
+                Err(WriteFault)
+            }
+        }
+    }
+
+    // One flush. Any error is a fault.
+    fn flush(&mut self) -> Result<(), WriteFault>
+        requires { IsFalse self.old.has_failed }
+        ensures same_writer { self.new.writer.ghost_name ≡ self.old.writer.ghost_name }
+        ensures block { self.new.block ≡ self.old.block }
+        ensures bytes { Keeps (held W.contents self.old) (held W.contents self.new) }
+        ensures failed { IsErr result ↔ IsTrue self.new.has_failed }
+    {
+        match self.writer.flush() {
+            Ok(()) => Ok(()),
+            Err(_) => {
+                self.has_failed = true;
+                Err(WriteFault)
+            }
+        }
+    }
+}
+
+#[cfg(test)]
+mod tests {
+    use super::*;
+    use crate::fakes::{FakeWriter, Refusal};
+    use std::io::ErrorKind;
+    use std::test::Fail;
+
+    // Pushes the text in parts of several sizes.
+    fn send(output: &mut Output<'_, FakeWriter>, text: &[u8]) -> Result<(), WriteFault> {
+        let (front, rest) = text.split_at(text.len().min(9000));
+        for part in front.chunks(700) {
+            output.push(part)?;
+        }
+        output.push(rest)?;
+        output.finish()
+    }
+
+    #[test]
+    fn writes_all_in_blocks(rt: HostRuntime) -> Result<(), Fail> {
+        let text = vec![in rt.alloc(); b'x'; 20_000]?;
+        for (most, writes) in [(1, 20_000), (5000, 5), (8192, 3)] {
+            let mut writer = FakeWriter {
+                taken: Vec::new(rt.alloc()),
+                most,
+                room: None,
+                refusal: Refusal::NoBytes,
+                writes: 0,
+            };
+            let mut output = Output::new(&mut writer);
+            send(&mut output, text.as_slice())?;
+            assert!(rt; writer.taken == text, "in writes of {most}");
+            assert_eq!(rt; writer.writes, writes);
+        }
+        Ok(())
+    }
+
+    #[test]
+    fn writes_nothing_after_a_fault(rt: HostRuntime) -> Result<(), Fail> {
+        let text = vec![in rt.alloc(); b'x'; 20_000]?;
+        let refusals = [
+            Refusal::Error(ErrorKind::Other),
+            Refusal::Error(ErrorKind::Interrupted),
+            Refusal::NoBytes,
+        ];
+        for refusal in refusals {
+            for room in [0, 1, 8191, 8192, 8193, 19_999] {
+                let mut writer = FakeWriter {
+                    taken: Vec::new(rt.alloc()),
+                    most: 8192,
+                    room: Some(room),
+                    refusal,
+                    writes: 0,
+                };
+                let mut output = Output::new(&mut writer);
+                assert!(rt; send(&mut output, text.as_slice()).is_err(), "after {room}");
+                assert!(rt; output.push(b"more").is_err(), "after {room}");
+                assert!(rt; output.finish().is_err(), "after {room}");
+                assert_eq!(rt; writer.taken.len(), room);
+            }
+        }
+        Ok(())
+    }
+}
