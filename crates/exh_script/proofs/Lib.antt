@@ -6,3 +6,4 @@ pub mod Printed
 pub mod InputLemmas
 pub mod OutputLemmas
 pub mod WorldSteps
+pub mod Responded

@@ -78,3 +78,11 @@ module _ {W : Type 0} {contents : W → Option (List ℕ)} where
 pub OnErr-from : {T E P : Type 0} (r : Result T E) → P → OnErr r P
 OnErr-from (Ok x) p = tt
 OnErr-from (Err e) p = p
+
+module _ {W : Type 0} (contents : W → Option (List ℕ)) where
+  -- nothing is a beginning of any bytes
+  pub TakesBeginning-none : (output : Output W) (bytes : List ℕ) → TakesBeginning contents output output bytes
+  TakesBeginning-none output bytes = record { passed = AppendsBeginning-from (AppendsAllBut-start (contents output.writer.now) (output.block.items ++ bytes)) }
+
+  pub Takes-none : (output : Output W) → Takes contents output output []
+  Takes-none output = record { passed = rw append-nil (AppendsAllBut-start (contents output.writer.now) output.block.items) }

@@ -2,15 +2,19 @@
 #![tactic(auto)]
 
 pub use answer::Answer;
+pub use ended::Ended;
 pub use in_flight::InFlight;
 pub use line::{COPIES_LIMIT, FileLine, Line};
 pub use line_fault::LineFault;
 pub use refusal::Refusal;
 pub use request::Request;
+pub use serve_fault::ServeFault;
 pub use world::World;
 
 mod answer;
+mod answer_text;
 mod byte_word;
+mod ended;
 #[cfg(test)]
 mod fakes;
 mod hex;
@@ -25,6 +29,8 @@ mod parts;
 mod printing;
 mod refusal;
 mod request;
+mod respond;
+mod serve_fault;
 mod source;
 mod spelled_call;
 mod spelled_file;

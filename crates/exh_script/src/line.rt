@@ -1,5 +1,5 @@
-ghost use Rattle.std.specs.Prelude.{◌≡◌};
-ghost use Rattle.exh_script.specs.Grammar.{file_line_of, line_of};
+ghost use Rattle.std.specs.Prelude.{◌≡◌, IfOk, IsTrue};
+ghost use Rattle.exh_script.specs.Grammar.{file_in_range, file_line_of, line_of};
 
 use crate::LineFault;
 use crate::spelled_file::SpelledFile;
@@ -40,7 +40,8 @@ pub enum Line {
 /// out of its range is `Range`.
 #[tactic(auto, unfolding(crate::specs::Grammar::file_line_of))]
 pub(crate) fn parse_file_line(line: &[u8]) -> Result<FileLine, LineFault>
-    ensures { result ≡ file_line_of line.now }
+    ensures line { result ≡ file_line_of line.now }
+    ensures range { IfOk result (λ file. IsTrue (file_in_range file)) }
 {
     let Some(spelled) = SpelledFile::parse(line) else {
         return Err(LineFault::Syntax);

@@ -1,6 +1,3 @@
-ghost use Rattle.std.specs.Prelude.{◌≡◌};
-ghost use Rattle.exh_script.specs.Faults.{fault_number};
-
 use thiserror::Error;
 
 /// Why a line of a script is refused before anything is done for it.
@@ -12,16 +9,4 @@ pub enum LineFault {
     /// The line is in the grammar, and a number, key or value of it is out of its range.
     #[error("a number, key or value of the line is out of its range")]
     Range,
-}
-
-impl LineFault {
-    /// The refusal's number: 60 or 61 (exhash profile).
-    pub fn number(self) -> u8
-        ensures { result ≡ fault_number self }
-    {
-        match self {
-            LineFault::Syntax => 60,
-            LineFault::Range => 61,
-        }
-    }
 }

@@ -1,3 +1,5 @@
+use crate::LineFault;
+
 /// Why a line, a script or a run of it is refused (exhash profile).
 #[derive(Clone, Copy, Debug, PartialEq, Eq)]
 pub enum Refusal {
@@ -33,6 +35,20 @@ impl Refusal {
             Refusal::Syntax => 60,
             Refusal::Range => 61,
             Refusal::TooLong => 62,
+        }
+    }
+}
+
+impl From<LineFault> for Refusal {
+    ghost use Rattle.std.specs.Prelude.{◌≡◌};
+    ghost use Rattle.exh_script.specs.Refusal.{refusal_of};
+
+    ghost from_gives = { λ fault refusal. refusal ≡ refusal_of fault };
+
+    fn from(fault: LineFault) -> Refusal {
+        match fault {
+            LineFault::Syntax => Refusal::Syntax,
+            LineFault::Range => Refusal::Range,
         }
     }
 }

@@ -1,7 +1,9 @@
 ghost use Rattle.std.specs.Prelude.{◌≡◌, ◌≤◌, IfOk, OnErr};
 ghost use Rattle.exh_page.specs.declared.page.TheConstants.{CAP_LIMIT};
 ghost use Rattle.exh_script.specs.World.{new_world, begin_answer, hop_answer, answer_to, after_begin, after_hop_line, world_after};
+ghost use Rattle.exh_script.specs.Text.{line_answer, after_line};
 
+use crate::line::parse_line;
 use crate::{Answer, FileLine, InFlight, Line, Refusal};
 use exh_keyer::AnyKeyer;
 use exh_page::PageNo;
@@ -50,6 +52,19 @@ impl World {
             ward: Ward::new(alloc, file.cap, file.ward_bits, WARD, file.keyer),
             copies: file.copies,
             in_flight: InFlight::new(alloc),
+        }
+    }
+
+    /// Answers a line after the first, as it stands in the script. `Err` comes for memory alone, and changes nothing.
+    #[tactic(auto, unfolding(crate::specs::Text::line_answer, crate::specs::Text::after_line))]
+    pub fn answer_line(&mut self, line: &[u8]) -> Result<Answer, AllocError>
+        ensures answer { IfOk result (λ answer. answer ≡ line_answer self.old line.now) }
+        ensures world { IfOk result (λ _. self.new ≡ after_line self.old line.now) }
+        ensures err { OnErr result (self.new ≡ self.old) }
+    {
+        match parse_line(line) {
+            Ok(line) => self.answer(&line),
+            Err(fault) => Ok(Answer::Refused(fault.into())),
         }
     }
 

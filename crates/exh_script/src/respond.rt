@@ -1,0 +1,97 @@
+ghost use Rattle.std.specs.Prelude.{◌≡◌, ◌≤◌, IfOk, OnOk, OnErr};
+ghost use Rattle.exh_page.specs.declared.page.TheConstants.{CAP_LIMIT};
+ghost use Rattle.exh_script.specs.Grammar.{lines_of};
+ghost use Rattle.exh_script.specs.Output.{Takes, TakesBeginning};
+ghost use Rattle.exh_script.specs.Text.{answer_line, text_from, file_of, text_of_lines, ended_of_lines};
+ghost use Rattle.exh_script.specs.World.{new_world};
+ghost use Rattle.exh_script.specs.declared.answer.Answer.TheVariants.{Refused};
+
+use crate::answer_text::push_answer;
+use crate::line::parse_file_line;
+use crate::lines::Lines;
+use crate::output::Output;
+use crate::{Answer, Ended, FileLine, Refusal, ServeFault, World};
+use std::alloc::Global;
+use std::io::Write;
+
+/// Answers a script, and says how its run ended. On an `Err` a beginning of its text went out.
+pub(crate) fn respond<W: Write>(
+    alloc: Global,
+    output: &mut Output<'_, W>,
+    script: &[u8],
+) -> Result<Ended, ServeFault>
+    ensures same_writer { output.new.writer.ghost_name ≡ output.old.writer.ghost_name }
+    ensures text { OnOk result (Takes W.contents output.old output.new (text_of_lines (lines_of script.now))) }
+    ensures ended { IfOk result (λ ended. ended ≡ ended_of_lines (lines_of script.now)) }
+    ensures err { OnErr result (TakesBeginning W.contents output.old output.new (text_of_lines (lines_of script.now))) }
+{
+    let mut lines = Lines::new(script);
+    let Some(first) = lines.next() else {
+        return refuse(alloc, output, Refusal::Syntax);
+    };
+    match open(first) {
+        Ok(file) => {
+            answer_lines(alloc, output, &file, lines)?;
+            Ok(Ended::Done)
+        }
+        Err(refusal) => refuse(alloc, output, refusal),
+    }
+}
+
+/// Answers with a refusal alone.
+pub(crate) fn refuse<W: Write>(
+    alloc: Global,
+    output: &mut Output<'_, W>,
+    refusal: Refusal,
+) -> Result<Ended, ServeFault>
+    ensures same_writer { output.new.writer.ghost_name ≡ output.old.writer.ghost_name }
+    ensures text { OnOk result (Takes W.contents output.old output.new (answer_line (Refused refusal))) }
+    ensures ended { IfOk result (λ ended. ended ≡ Ended.Refused) }
+    ensures err { OnErr result (TakesBeginning W.contents output.old output.new (answer_line (Refused refusal))) }
+{
+    let mut text = Vec::new(alloc);
+    push_answer(&mut text, &Answer::Refused(refusal))?;
+    output.push(&text)?;
+    Ok(Ended::Refused)
+}
+
+// The settings of the first line.
+#[tactic(auto, unfolding(crate::specs::Text::file_of))]
+fn open(first: &[u8]) -> Result<FileLine, Refusal>
+    ensures file { result ≡ file_of first.now }
+    ensures one_ward { IfOk result (λ file. file.ward_bits ≡ 0) }
+    ensures some { IfOk result (λ file. 1 ≤ file.cap) }
+    ensures most { IfOk result (λ file. file.cap ≤ CAP_LIMIT) }
+{
+    match parse_file_line(first) {
+        Ok(file) if file.ward_bits == 0 => Ok(file),
+        // Several wards aren't served yet.
+        Ok(_) => Err(Refusal::Range),
+        Err(fault) => Err(fault.into()),
+    }
+}
+
+// Answers the lines of a new file.
+fn answer_lines<W: Write>(
+    alloc: Global,
+    output: &mut Output<'_, W>,
+    file: &FileLine,
+    lines: Lines<'_>,
+) -> Result<(), ServeFault>
+    requires one_ward { file.now.ward_bits ≡ 0 }
+    requires some { 1 ≤ file.now.cap }
+    requires most { file.now.cap ≤ CAP_LIMIT }
+    ensures same_writer { output.new.writer.ghost_name ≡ output.old.writer.ghost_name }
+    ensures ok { OnOk result (Takes W.contents output.old output.new (text_from (new_world file.now) lines.entry)) }
+    ensures err { OnErr result (TakesBeginning W.contents output.old output.new (text_from (new_world file.now) lines.entry)) }
+{
+    let mut world = World::new(alloc, file);
+    let mut text = Vec::new(alloc);
+    for line in lines {
+        let answer = world.answer_line(line)?;
+        text.clear();
+        push_answer(&mut text, &answer)?;
+        output.push(&text)?;
+    }
+    Ok(())
+}
