@@ -7,3 +7,4 @@ pub mod InputLemmas
 pub mod OutputLemmas
 pub mod WorldSteps
 pub mod Responded
+pub mod ServedLemmas

@@ -9,6 +9,7 @@ pub use line_fault::LineFault;
 pub use refusal::Refusal;
 pub use request::Request;
 pub use serve_fault::ServeFault;
+pub use server::serve;
 pub use world::World;
 
 mod answer;
@@ -31,6 +32,7 @@ mod refusal;
 mod request;
 mod respond;
 mod serve_fault;
+mod server;
 mod source;
 mod spelled_call;
 mod spelled_file;
