@@ -1,5 +1,5 @@
 -- The text of a script, line by line.
-use Rattle.std.proofs.Common.{◌≡◌, ℕ, List, [], ◌∷◌, ◌++◌, Option, refl, sym, ap, ◌∙◌, subst, append_assoc}
+use Rattle.std.proofs.Common.{◌≡◌, ℕ, List, [], ◌∷◌, ◌++◌, Option, sym, ap, ◌∙◌, subst, append_assoc}
 use Rattle.exh_script.specs.Output.{Takes, TakesBeginning}
 use Rattle.exh_script.specs.Text.{answer_line, line_answer, after_line, text_from}
 use Rattle.exh_script.specs.World.{WorldState}

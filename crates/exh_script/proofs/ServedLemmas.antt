@@ -48,7 +48,8 @@ module _ {W : Type 0} (contents : W → Option (List ℕ)) (old new : Output W) 
       let short = le-leb (length bytes) SCRIPT_LIMIT (subst (λ l. length l ≤ SCRIPT_LIMIT) whole within) in
       OnFalse-from b (
         subst (Takes contents old new) (ap (λ l. text_of_lines (lines_of l)) same ∙ sym (text_at bytes true short)) taken,
-        outcome ∙ ap (λ l. ended_of_lines (lines_of l)) same ∙ sym (ended_at bytes true short))
+        outcome ∙ ap (λ l. ended_of_lines (lines_of l)) same ∙ sym (ended_at bytes true short),
+      )
 
   pub begins_whole : (script : Option (List ℕ)) (items given : List ℕ) (result : Result Ended ServeFault)
       → IfSome script (λ bytes. items ≡ bytes) → given ≡ items → length items ≤ SCRIPT_LIMIT

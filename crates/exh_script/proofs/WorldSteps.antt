@@ -1,11 +1,11 @@
 -- What a hop under the ward is to the world.
-use Rattle.std.proofs.Common.{◌≡◌, ℕ, List, [], ◌∷◌, ◌++◌, Option, Some, None, refl, sym, ap, ◌∙◌, subst}
+use Rattle.std.proofs.Common.{◌≡◌, ℕ, List, Some, refl, sym, ap, ◌∙◌, subst}
 use Rattle.std.specs.Option.{option_map_or}
 use Rattle.exh_prefix.specs.Bits.{bits_of}
 use Rattle.exh_prefix.specs.Prefix.{Begins}
 use Rattle.exh_keyer.specs.declared.any_keyer.AnyKeyer.{AnyKeyer}
 use Rattle.exh_keyer.specs.Pseudokey.{any_pseudokey}
-use Rattle.exh_ward.specs.HopTable.{HopOf, hop_of, pages_after}
+use Rattle.exh_ward.specs.HopTable.{HopOf}
 use Rattle.exh_ward.specs.Pages.{ward_prefix}
 use Rattle.exh_ward.specs.WardState.{WardState, LeavesAfter}
 use Rattle.exh_ward.specs.declared.hop.Hop.{Hop}
@@ -15,7 +15,6 @@ use Rattle.exh_page.specs.declared.page.Page.{Page}
 use Rattle.exh_ward.proofs.HopFunction.{hop_is_hop_of}
 use Rattle.exh_script.specs.InFlight.{Requests, request_named, settled}
 use Rattle.exh_script.specs.World.{WorldState, hop_in, hop_answer, ward_after, after_hop, after_hop_line}
-use Rattle.exh_script.specs.declared.answer.Answer.{Answer}
 use Rattle.exh_script.specs.declared.answer.Answer.TheVariants.{Hopped, Refused}
 use Rattle.exh_script.specs.declared.refusal.Refusal.TheVariants.{NoRequest}
 use Rattle.exh_script.specs.declared.request.Request.{Request}

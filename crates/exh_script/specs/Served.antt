@@ -1,6 +1,5 @@
 -- What the server writes, for the bytes that its reader has left.
-use Rattle.std.specs.Prelude.{◌≡◌, ◌⊎◌, ℕ, Bool, List, Option, IfSome}
-use Rattle.std.specs.Bool.{OnTrue, OnFalse}
+use Rattle.std.specs.Prelude.{◌≡◌, ℕ, List, Option, IfSome}
 use Rattle.std.specs.Io.KnownBytes.{Appends}
 use Rattle.exh_script.specs.Output.{AppendsBeginning, Takes, TakesBeginning}
 use Rattle.exh_script.specs.Text.{answer_line, text_of, ended_of}

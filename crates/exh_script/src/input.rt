@@ -48,19 +48,6 @@ impl From<AllocError> for InputFault {
 ///
 /// `TooLong`: more bytes came. `Read`: the reader failed, and wasn't tried again. `Memory`: a growth
 /// was refused. Whatever comes first decides. After an error a front of the reader's bytes is gone.
-pub(crate) fn read_script<R: Read>(alloc: Global, reader: &mut R) -> Result<Vec<u8>, InputFault>
-    ensures whole { IfOk result (λ script.
-        IfSome (R.remaining reader.old) (λ bytes. script.items ≡ bytes)) }
-    ensures end { OnOk result (IsAtEnd (R.remaining reader.new)) }
-    ensures within { IfOk result (λ script. vec_len script ≤ SCRIPT_LIMIT) }
-    ensures too_long { IsErrOf result InputFault.TooLong →
-        IfSome (R.remaining reader.old) (λ bytes. SCRIPT_LIMIT < length bytes) }
-    ensures front { LosesFront (R.remaining reader.old) (R.remaining reader.new) }
-{
-    read_source(alloc, &mut Source::new(reader))
-}
-
-/// The same out of a source, which knows whether its reader failed.
 pub(crate) fn read_source<R: Read>(
     alloc: Global,
     source: &mut Source<'_, R>,
@@ -108,7 +95,7 @@ mod tests {
                 fault: None,
                 reads: 0,
             };
-            let script = read_script(rt.alloc(), &mut reader)?;
+            let script = read_source(rt.alloc(), &mut Source::new(&mut reader))?;
             assert_eq!(rt; script.as_slice(), text.as_slice(), "in reads of {most}");
         }
         Ok(())
@@ -129,7 +116,7 @@ mod tests {
                 fault: None,
                 reads: 0,
             };
-            match read_script(rt.alloc(), &mut reader) {
+            match read_source(rt.alloc(), &mut Source::new(&mut reader)) {
                 Ok(script) => assert!(rt; is_read && script.len() == len, "{len} by {most}"),
                 Err(fault) => assert!(rt;
                     !is_read && fault == InputFault::TooLong,
@@ -151,7 +138,7 @@ mod tests {
                     fault: Some((at, kind)),
                     reads: 0,
                 };
-                let fault = read_script(rt.alloc(), &mut reader).err();
+                let fault = read_source(rt.alloc(), &mut Source::new(&mut reader)).err();
                 assert_eq!(rt; fault, Some(InputFault::Read), "at read {at}");
                 assert_eq!(rt; reader.reads, at);
             }

@@ -1,4 +1,4 @@
-ghost use Rattle.std.specs.Prelude.{◌≡◌, ◌⊎◌, [], IfOk, OnErr, IsFalse};
+ghost use Rattle.std.specs.Prelude.{◌≡◌, ◌⊎◌, ◌↔◌, [], IfOk, OnErr, IsErrOf, IsTrue, IsFalse};
 ghost use Rattle.std.specs.Bool.{OnTrue, OnFalse};
 ghost use Rattle.exh_script.specs.Output.{TakesBeginning, held, pending};
 ghost use Rattle.exh_script.specs.Served.{WritesText, WritesUnread, BeginsText, BeginsUnread, TakesText, TakesUnread, BeginsTaking, unread_text};
@@ -35,6 +35,7 @@ fn serve_source<R: Read, W: Write>(
     output: &mut Output<'_, W>,
 ) -> Result<Ended, ServeFault>
     requires open { IsFalse source.old.has_failed }
+    requires open_output { IsFalse output.old.has_failed }
     requires empty { pending output.old ≡ [] }
     ensures same_reader { source.new.reader.ghost_name ≡ source.old.reader.ghost_name }
     ensures same_writer { output.new.writer.ghost_name ≡ output.old.writer.ghost_name }
@@ -42,6 +43,7 @@ fn serve_source<R: Read, W: Write>(
     ensures no_text { IfOk result (λ ended. OnTrue source.new.has_failed (WritesUnread (held W.contents output.old) (held W.contents output.new) ended)) }
     ensures err { OnErr result (OnFalse source.new.has_failed (BeginsText (unread R.remaining source.old) (held W.contents output.old) (held W.contents output.new))) }
     ensures no_text_err { OnErr result (OnTrue source.new.has_failed (BeginsUnread (held W.contents output.old) (held W.contents output.new))) }
+    ensures failed { IsErrOf result ServeFault.Write ↔ IsTrue output.new.has_failed }
 {
     let ended = answer_source(alloc, source, output)?;
     output.finish()?;
@@ -54,13 +56,15 @@ fn answer_source<R: Read, W: Write>(
     source: &mut Source<'_, R>,
     output: &mut Output<'_, W>,
 ) -> Result<Ended, ServeFault>
-    requires { IsFalse source.old.has_failed }
+    requires open { IsFalse source.old.has_failed }
+    requires open_output { IsFalse output.old.has_failed }
     ensures same_reader { source.new.reader.ghost_name ≡ source.old.reader.ghost_name }
     ensures same_writer { output.new.writer.ghost_name ≡ output.old.writer.ghost_name }
     ensures text { IfOk result (λ ended. OnFalse source.new.has_failed (TakesText W.contents output.old output.new (unread R.remaining source.old) ended)) }
     ensures no_text { IfOk result (λ ended. OnTrue source.new.has_failed (TakesUnread W.contents output.old output.new ended)) }
     ensures err { OnErr result (OnFalse source.new.has_failed (BeginsTaking W.contents output.old output.new (unread R.remaining source.old))) }
     ensures no_text_err { OnErr result (OnTrue source.new.has_failed (TakesBeginning W.contents output.old output.new unread_text)) }
+    ensures failed { IsErrOf result ServeFault.Write ↔ IsTrue output.new.has_failed }
 {
     match read_source(alloc, source) {
         Ok(script) => respond(alloc, output, &script),

@@ -1,4 +1,4 @@
-use Rattle.std.proofs.Common.{◌≡◌, ◌≤◌, List, ℕ, IsFalse, vec_len}
+use Rattle.std.proofs.Common.{◌≡◌, ◌≤◌, IsFalse, vec_len}
 use Rattle.std.specs.Io.KnownBytes.{Consumes}
 use Rattle.exh_script.specs.declared.input.TheConstants.{SCRIPT_LIMIT}
 use Rattle.exh_script.proofs.input.read_source.Given as goal

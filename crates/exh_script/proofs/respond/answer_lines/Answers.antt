@@ -1,4 +1,4 @@
-use Rattle.std.proofs.Common.{◌∙◌, ◌++◌}
+use Rattle.std.proofs.Common.{◌∙◌, ◌++◌, rules}
 use Rattle.exh_script.specs.Text.{answer_line, line_answer, text_from}
 use Rattle.exh_script.proofs.OutputLemmas.{OnErr-from}
 use Rattle.exh_script.proofs.Responded.{stopped, line_is, text_of_next, line_out, line_told, line_stopped}
@@ -23,6 +23,7 @@ loop-line-preserved g c =
     let is = line_is c.loop-line.world c.in_ok-answer.answer c.in-Some.line.now c.clear.new.self.items c.push_answer.new.out.items c.deref.result.now c.in_ok-answer.ensures.answer c.clear.ensures.items c.in_ok-push_answer.ensures c.deref.ensures.value in
     record {
       same_writer = c.in_ok-push.ensures.same_writer ∙ i.same_writer;
+      open_still = search rules;
       told = i.told ++ line;
       passed = line_out g.W.Write.contents c.args.output.now c.loop-line.output c.push.new.self i.told _ _ line more _ i.passed i.text split is c.in_ok-push.ensures.ok;
       text = line_told g.W.Write.contents c.args.output.now c.loop-line.output c.push.new.self i.told _ _ line more _ i.passed i.text split is;

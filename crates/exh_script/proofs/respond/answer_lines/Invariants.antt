@@ -1,4 +1,4 @@
-use Rattle.std.proofs.Common.{◌≡◌, ℕ, List, ◌++◌}
+use Rattle.std.proofs.Common.{◌≡◌, ℕ, List, ◌++◌, IsFalse}
 use Rattle.exh_script.specs.Output.{Takes}
 use Rattle.exh_script.specs.Text.{text_from}
 use Rattle.exh_script.specs.World.{new_world}
@@ -8,6 +8,7 @@ use Rattle.exh_script.proofs.respond.answer_lines.Given as goal
 abbrev pub invariant-loop-line : goal.invariant-loop-line
 invariant-loop-line g l = record {
   same_writer : l.output.writer.ghost_name ≡ l.fn.output.writer.ghost_name;
+  open_still : IsFalse l.output.has_failed;
   told : List ℕ;
   passed : Takes g.W.Write.contents l.fn.output l.output told;
   text : told ++ text_from l.world l.line-iterator ≡ text_from (new_world l.fn.file) l.fn.lines;

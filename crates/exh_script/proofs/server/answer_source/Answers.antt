@@ -1,5 +1,4 @@
 use Rattle.std.proofs.Common.{ap, Err, arith}
-use Rattle.exh_script.proofs.OutputLemmas.{TakesBeginning-none}
 use Rattle.exh_script.proofs.ServedLemmas.{OnFalse-from, takes_whole, begins_whole, takes_too_long, begins_too_long, takes_unread, begins_unread, begins_none}
 use Rattle.exh_script.specs.Served.{unread_text}
 use Rattle.exh_script.proofs.server.answer_source.Goals as goal

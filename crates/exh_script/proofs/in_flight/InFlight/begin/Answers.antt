@@ -1,4 +1,4 @@
-use Rattle.std.proofs.Common.{◌≡◌, nat_eq, ap, ◌∙◌, ◌++◌, ◌∷◌, []}
+use Rattle.std.proofs.Common.{nat_eq, ap, ◌∙◌, ◌++◌, ◌∷◌, []}
 use Rattle.indexmap.proofs.CallerLemmas.{insert_entry-new}
 use Rattle.exh_script.specs.InFlight.{Requests, request_named}
 use Rattle.exh_script.specs.declared.request.Request.{Request}

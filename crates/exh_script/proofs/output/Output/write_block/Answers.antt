@@ -1,6 +1,5 @@
-use Rattle.std.proofs.Common.{◌≡◌, ◌+◌, drop, rules, sym, ap, ◌∙◌, subst}
+use Rattle.std.proofs.Common.{rules}
 use Rattle.std.proofs.lemmas.List.{drop-drop}
-use Rattle.exh_script.specs.Output.{AppendsAllBut, pending}
 use Rattle.exh_script.proofs.OutputLemmas.{AppendsAllBut-write}
 use Rattle.exh_script.proofs.output.Output.write_block.Goals as goal
 

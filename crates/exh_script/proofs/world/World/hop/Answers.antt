@@ -1,4 +1,4 @@
-use Rattle.std.proofs.Common.{sym, ◌∙◌}
+use Rattle.std.proofs.Common.{sym}
 use Rattle.exh_script.proofs.WorldSteps.{covers_all, hop_answered, world_left}
 use Rattle.exh_script.proofs.world.World.hop.Goals as goal
 
