@@ -4,7 +4,7 @@ use exh_ward::Hop;
 
 /// What a line of a script is answered.
 #[derive(Clone, Copy, Debug, PartialEq, Eq)]
-pub enum Answer {
+pub(crate) enum Answer {
     /// The request stands at a page of a ward.
     Begun { name: u32, ward: u8, page: PageNo },
     /// What a hop of the request in its ward came to.

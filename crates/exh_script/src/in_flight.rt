@@ -10,7 +10,7 @@ use std::marker::Model;
 
 /// The requests in flight by their names, in the order begun.
 #[derive(Drop)]
-pub struct InFlight {
+pub(crate) struct InFlight {
     requests: IndexMap<u32, Request>,
 }
 
@@ -25,7 +25,7 @@ impl Model for InFlight {
 
 impl InFlight {
     /// No requests. It takes no memory.
-    pub fn new(alloc: Global) -> InFlight
+    pub(crate) fn new(alloc: Global) -> InFlight
         ensures { result ≡ [] }
     {
         InFlight {
@@ -34,14 +34,14 @@ impl InFlight {
     }
 
     /// The request of a name.
-    pub fn get(&self, name: u32) -> Option<Request>
+    pub(crate) fn get(&self, name: u32) -> Option<Request>
         ensures { result ≡ request_named name self.now }
     {
         self.requests.get(&name).copied()
     }
 
     /// Begins a request, at a page, of a name that isn't taken.
-    pub fn begin(
+    pub(crate) fn begin(
         &mut self,
         name: u32,
         client: u32,
@@ -62,7 +62,7 @@ impl InFlight {
     }
 
     /// Takes note of what a hop of a request came to. An answered one is taken out, and the others keep their order.
-    pub fn settle(&mut self, name: u32, hop: &Hop)
+    pub(crate) fn settle(&mut self, name: u32, hop: &Hop)
         ensures { self.new ≡ settled name hop.now self.old }
     {
         match hop {

@@ -1,16 +1,17 @@
 //! The script server: from the bytes of a script to the bytes of its replies.
 #![tactic(auto)]
 
-pub use answer::Answer;
 pub use ended::Ended;
-pub use in_flight::InFlight;
-pub use line::{COPIES_LIMIT, FileLine, Line};
-pub use line_fault::LineFault;
-pub use refusal::Refusal;
-pub use request::Request;
 pub use serve_fault::ServeFault;
 pub use server::serve;
-pub use world::World;
+
+use answer::Answer;
+use in_flight::InFlight;
+use line::{COPIES_LIMIT, FileLine, Line};
+use line_fault::LineFault;
+use refusal::Refusal;
+use request::Request;
+use world::World;
 
 mod answer;
 mod answer_text;

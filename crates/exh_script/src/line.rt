@@ -8,12 +8,12 @@ use exh_keyer::AnyKeyer;
 use exh_ward::Call;
 
 /// The most copies of the directory that a file has (exhash profile).
-pub const COPIES_LIMIT: u32 = 8;
+pub(crate) const COPIES_LIMIT: u32 = 8;
 
 /// The settings of a file: records a page, 1 to 16; leading bits that name a ward, 0 to 4; copies of the directory, 1
 /// to 8; and the keyer.
 #[derive(Clone, Copy, Debug, PartialEq, Eq)]
-pub struct FileLine {
+pub(crate) struct FileLine {
     pub cap: usize,
     pub ward_bits: u8,
     pub copies: u32,
@@ -22,7 +22,7 @@ pub struct FileLine {
 
 /// A line of a script after its first, its numbers, key and value in their ranges.
 #[derive(Clone, Copy, Debug, PartialEq, Eq)]
-pub enum Line {
+pub(crate) enum Line {
     /// `begin rN cN COPY CALL`. There may be no such copy.
     Begin {
         name: u32,

@@ -2,7 +2,7 @@ use thiserror::Error;
 
 /// Why a line of a script is refused before anything is done for it.
 #[derive(Clone, Copy, Debug, PartialEq, Eq, Error)]
-pub enum LineFault {
+pub(crate) enum LineFault {
     /// The line is outside the grammar.
     #[error("the line is outside the grammar")]
     Syntax,

@@ -2,7 +2,7 @@ use crate::LineFault;
 
 /// Why a line, a script or a run of it is refused (exhash profile).
 #[derive(Clone, Copy, Debug, PartialEq, Eq)]
-pub enum Refusal {
+pub(crate) enum Refusal {
     /// The file has no such copy.
     NoCopy,
     /// No request of the name is in flight.
@@ -24,7 +24,7 @@ impl Refusal {
     ghost use Rattle.exh_script.specs.Refusal.{refusal_number};
 
     /// The number by which the refusal is printed.
-    pub fn number(self) -> u32
+    pub(crate) fn number(self) -> u32
         ensures { result ≡ refusal_number self }
     {
         match self {

@@ -3,7 +3,7 @@ use exh_ward::Call;
 
 /// A request in flight: who asks what, and the page that it has come to.
 #[derive(Clone, Copy, Debug, PartialEq, Eq)]
-pub struct Request {
+pub(crate) struct Request {
     pub client: u32,
     pub page: PageNo,
     pub call: Call,

@@ -13,7 +13,7 @@ use std::marker::Model;
 
 /// A file of one ward, the copies of its directory, and the requests in flight.
 #[derive(Drop)]
-pub struct World {
+pub(crate) struct World {
     ward: Ward<AnyKeyer>,
     copies: u32,
     in_flight: InFlight,
@@ -42,7 +42,7 @@ const WARD: u8 = 0;
 
 impl World {
     /// The world of a new file. It takes no memory.
-    pub fn new(alloc: Global, file: &FileLine) -> World
+    pub(crate) fn new(alloc: Global, file: &FileLine) -> World
         requires one_ward { file.now.ward_bits ≡ 0 }
         requires some { 1 ≤ file.now.cap }
         requires most { file.now.cap ≤ CAP_LIMIT }
@@ -57,7 +57,7 @@ impl World {
 
     /// Answers a line after the first, as it stands in the script. `Err` comes for memory alone, and changes nothing.
     #[tactic(auto, unfolding(crate::specs::Text::line_answer, crate::specs::Text::after_line))]
-    pub fn answer_line(&mut self, line: &[u8]) -> Result<Answer, AllocError>
+    pub(crate) fn answer_line(&mut self, line: &[u8]) -> Result<Answer, AllocError>
         ensures answer { IfOk result (λ answer. answer ≡ line_answer self.old line.now) }
         ensures world { IfOk result (λ _. self.new ≡ after_line self.old line.now) }
         ensures err { OnErr result (self.new ≡ self.old) }
@@ -69,7 +69,7 @@ impl World {
     }
 
     /// Does what a line asks, and answers it. `Err` comes for memory alone, and changes nothing.
-    pub fn answer(&mut self, line: &Line) -> Result<Answer, AllocError>
+    pub(crate) fn answer(&mut self, line: &Line) -> Result<Answer, AllocError>
         ensures answer { IfOk result (λ answer. answer ≡ answer_to self.old line.now) }
         ensures world { IfOk result (λ _. self.new ≡ world_after self.old line.now) }
         ensures err { OnErr result (self.new ≡ self.old) }
