@@ -5,6 +5,7 @@ pub use base::Base;
 pub use call::Call;
 pub use hop::Hop;
 pub use journal_entry::JournalEntry;
+pub use laws::{histories_go_on, history_is_determined, one_hop};
 pub use reply::Reply;
 pub use ward::{WARD_BITS_LIMIT, Ward};
 pub use ward_fault::WardFault;
@@ -14,6 +15,9 @@ mod base;
 mod call;
 mod hop;
 mod journal_entry;
+mod laws;
 mod reply;
+#[cfg(test)]
+mod tests;
 mod ward;
 mod ward_fault;
