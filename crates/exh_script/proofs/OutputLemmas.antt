@@ -1,5 +1,5 @@
 -- What goes to a writer, part by part.
-use Rattle.std.proofs.Common.{◌≡◌, ℕ, ◌+◌, List, [], length, length-append, arith, ◌++◌, take, drop, Option, Result, Ok, Err, OnErr, refl, sym, ap, ◌∙◌, subst, append_assoc, append-nil, take-append-drop}
+use Rattle.std.proofs.Common.{◌≡◌, ℕ, ◌+◌, List, [], length, length-append, arith, ◌++◌, take, drop, Option, Result, Ok, Err, OnErr, refl, sym, ap, ◌∙◌, append_assoc, take-append-drop}
 use Rattle.std.specs.Io.KnownBytes.{Appends}
 use Rattle.std.proofs.KnownBytes.{Appends-nil, Appends-trans}
 use Rattle.exh_script.specs.Output.{AppendsAllBut, AppendsBeginning, Takes, TakesBeginning}
@@ -8,13 +8,6 @@ use Rattle.exh_script.specs.declared.output.Output.{Output}
 -- nothing was written yet
 pub AppendsAllBut-start : (a : Option (List ℕ)) (bytes : List ℕ) → AppendsAllBut a a bytes bytes
 AppendsAllBut-start a bytes = record { front = []; gone = Appends-nil a; split = refl }
-
--- all of the bytes were written
-pub AppendsAllBut-from_all : (a b : Option (List ℕ)) (bytes : List ℕ) → Appends a b bytes → AppendsAllBut a b bytes []
-AppendsAllBut-from_all a b bytes gone = record { front = bytes; gone = gone; split = sym (append-nil bytes) }
-
-pub AppendsAllBut-all : {a b : Option (List ℕ)} {bytes : List ℕ} → AppendsAllBut a b bytes [] → Appends a b bytes
-AppendsAllBut-all {a} {b} {bytes} h = subst (Appends a b) (sym (h.split ∙ append-nil h.front)) h.gone
 
 -- then a part of the rest was written
 pub AppendsAllBut-trans : {a b c : Option (List ℕ)} {bytes waiting rest : List ℕ} → AppendsAllBut a b bytes waiting → AppendsAllBut b c waiting rest → AppendsAllBut a c bytes rest
@@ -83,6 +76,3 @@ module _ {W : Type 0} (contents : W → Option (List ℕ)) where
   -- nothing is a beginning of any bytes
   pub TakesBeginning-none : (output : Output W) (bytes : List ℕ) → TakesBeginning contents output output bytes
   TakesBeginning-none output bytes = record { passed = AppendsBeginning-from (AppendsAllBut-start (contents output.writer.now) (output.block.items ++ bytes)) }
-
-  pub Takes-none : (output : Output W) → Takes contents output output []
-  Takes-none output = record { passed = rw append-nil (AppendsAllBut-start (contents output.writer.now) output.block.items) }

@@ -44,11 +44,11 @@ impl From<AllocError> for InputFault {
     }
 }
 
-/// Reads a whole script of at most `SCRIPT_LIMIT` bytes.
+/// Reads a whole script of at most `SCRIPT_LIMIT` bytes, from a source that hasn't failed.
 ///
 /// `TooLong`: more bytes came. `Read`: the reader failed, and wasn't tried again. `Memory`: a growth
 /// was refused. Whatever comes first decides. After an error a front of the reader's bytes is gone.
-pub(crate) fn read_source<R: Read>(
+pub(crate) fn read_script<R: Read>(
     alloc: Global,
     source: &mut Source<'_, R>,
 ) -> Result<Vec<u8>, InputFault>
@@ -95,7 +95,7 @@ mod tests {
                 fault: None,
                 reads: 0,
             };
-            let script = read_source(rt.alloc(), &mut Source::new(&mut reader))?;
+            let script = read_script(rt.alloc(), &mut Source::new(&mut reader))?;
             assert_eq!(rt; script.as_slice(), text.as_slice(), "in reads of {most}");
         }
         Ok(())
@@ -116,7 +116,7 @@ mod tests {
                 fault: None,
                 reads: 0,
             };
-            match read_source(rt.alloc(), &mut Source::new(&mut reader)) {
+            match read_script(rt.alloc(), &mut Source::new(&mut reader)) {
                 Ok(script) => assert!(rt; is_read && script.len() == len, "{len} by {most}"),
                 Err(fault) => assert!(rt;
                     !is_read && fault == InputFault::TooLong,
@@ -138,7 +138,7 @@ mod tests {
                     fault: Some((at, kind)),
                     reads: 0,
                 };
-                let fault = read_source(rt.alloc(), &mut Source::new(&mut reader)).err();
+                let fault = read_script(rt.alloc(), &mut Source::new(&mut reader)).err();
                 assert_eq!(rt; fault, Some(InputFault::Read), "at read {at}");
                 assert_eq!(rt; reader.reads, at);
             }

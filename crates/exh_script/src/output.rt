@@ -1,5 +1,5 @@
 ghost use Rattle.std.specs.Prelude.{◌≡◌, ◌+◌, ◌<◌, ◌≤◌, ◌↔◌, [], ◌++◌, drop, length, IfOk, OnOk, OnErr, IsErr, IsTrue, IsFalse};
-ghost use Rattle.std.specs.Io.KnownBytes.{Appends, Keeps, WriteAppends};
+ghost use Rattle.std.specs.Io.KnownBytes.{Appends, WriteAppends};
 ghost use Rattle.exh_script.specs.Output.{AppendsAllBut, AppendsBeginning, Takes, TakesBeginning, held, pending};
 
 use arrayvec::ArrayVec;
@@ -63,7 +63,8 @@ impl<'w, W: Write> Output<'w, W> {
         Ok(())
     }
 
-    /// Writes what still waits, and flushes the writer. On an `Err` the writer got a beginning of that.
+    /// Writes what still waits, and doesn't flush the writer. On an `Err` the writer got a beginning
+    /// of that.
     pub(crate) fn finish(&mut self) -> Result<(), WriteFault>
         ensures same_writer { self.new.writer.ghost_name ≡ self.old.writer.ghost_name }
         ensures ok { OnOk result (Appends (held W.contents self.old) (held W.contents self.new)
@@ -77,8 +78,7 @@ impl<'w, W: Write> Output<'w, W> {
         if self.has_failed {
             return Err(WriteFault);
         }
-        self.write_block()?;
-        self.flush()
+        self.write_block()
     }
 
     // Writes the block where it is full.
@@ -136,23 +136,6 @@ impl<'w, W: Write> Output<'w, W> {
         match self.writer.write(&self.block.as_slice()[start..]) {
             Ok(count) if count > 0 => Ok(count),
             _ => {
-                self.has_failed = true;
-                Err(WriteFault)
-            }
-        }
-    }
-
-    // One flush. Any error is a fault.
-    fn flush(&mut self) -> Result<(), WriteFault>
-        requires { IsFalse self.old.has_failed }
-        ensures same_writer { self.new.writer.ghost_name ≡ self.old.writer.ghost_name }
-        ensures block { self.new.block ≡ self.old.block }
-        ensures bytes { Keeps (held W.contents self.old) (held W.contents self.new) }
-        ensures failed { IsErr result ↔ IsTrue self.new.has_failed }
-    {
-        match self.writer.flush() {
-            Ok(()) => Ok(()),
-            Err(_) => {
                 self.has_failed = true;
                 Err(WriteFault)
             }

@@ -4,7 +4,7 @@ ghost use Rattle.exh_script.specs.Output.{TakesBeginning, held, pending};
 ghost use Rattle.exh_script.specs.Served.{WritesText, WritesUnread, BeginsText, BeginsUnread, TakesText, TakesUnread, BeginsTaking, unread_text};
 ghost use Rattle.exh_script.specs.Source.{unread};
 
-use crate::input::{InputFault, read_source};
+use crate::input::{InputFault, read_script};
 use crate::output::Output;
 use crate::respond::{refuse, respond};
 use crate::source::Source;
@@ -66,7 +66,7 @@ fn answer_source<R: Read, W: Write>(
     ensures no_text_err { OnErr result (OnTrue source.new.has_failed (TakesBeginning W.contents output.old output.new unread_text)) }
     ensures failed { IsErrOf result ServeFault.Write ↔ IsTrue output.new.has_failed }
 {
-    match read_source(alloc, source) {
+    match read_script(alloc, source) {
         Ok(script) => respond(alloc, output, &script),
         Err(InputFault::TooLong) => refuse(alloc, output, Refusal::TooLong),
         Err(InputFault::Read) => refuse(alloc, output, Refusal::Read),

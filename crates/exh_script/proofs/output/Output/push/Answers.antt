@@ -1,11 +1,11 @@
 use Rattle.std.proofs.Common.{◌≡◌, ◌<◌, ◌++◌, length, take, sym, ap, ◌∙◌, subst, rules, arith}
 use Rattle.std.proofs.lemmas.List.{take_rest}
 use Rattle.exh_script.specs.Output.{AppendsAllBut, TakesBeginning}
-use Rattle.exh_script.proofs.OutputLemmas.{AppendsAllBut-start, AppendsAllBut-trans, AppendsAllBut-more, append-taken, length-taken, AppendsBeginning-from, AppendsBeginning-after, AppendsBeginning-of_more, OnErr-from}
+use Rattle.exh_script.proofs.OutputLemmas.{AppendsAllBut-trans, AppendsAllBut-more, append-taken, length-taken, AppendsBeginning-after, AppendsBeginning-of_more, TakesBeginning-none, OnErr-from}
 use Rattle.exh_script.proofs.output.Output.push.Goals as goal
 
 pub returns-then-self-clause-err : goal.returns-then-self-clause-err
-returns-then-self-clause-err g c = record { passed = AppendsBeginning-from (AppendsAllBut-start _ _) }
+returns-then-self-clause-err g c = TakesBeginning-none _ _ _
 
 pub returns-in_err-make_room-clause-err : goal.returns-in_err-make_room-clause-err
 returns-in_err-make_room-clause-err g c =

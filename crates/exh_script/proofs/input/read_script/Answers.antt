@@ -1,7 +1,7 @@
 use Rattle.std.proofs.Common.{arith, rules}
 use Rattle.std.proofs.KnownBytes.{Consumes-trans}
 use Rattle.exh_script.proofs.InputLemmas.{Consumes-all_given, Consumes-too_long}
-use Rattle.exh_script.proofs.input.read_source.Goals as goal
+use Rattle.exh_script.proofs.input.read_script.Goals as goal
 
 pub returns-then-count-eq0-clause-whole : goal.returns-then-count-eq0-clause-whole
 returns-then-count-eq0-clause-whole g c =

@@ -1,7 +1,7 @@
 use Rattle.std.proofs.Common.{◌≡◌, ◌≤◌, IsFalse, vec_len}
 use Rattle.std.specs.Io.KnownBytes.{Consumes}
 use Rattle.exh_script.specs.declared.input.TheConstants.{SCRIPT_LIMIT}
-use Rattle.exh_script.proofs.input.read_source.Given as goal
+use Rattle.exh_script.proofs.input.read_script.Given as goal
 
 -- what came is in the script, and each read gave a byte or more
 abbrev pub invariant-loop : goal.invariant-loop
