@@ -8,3 +8,5 @@ pub mod OutputLemmas
 pub mod WorldSteps
 pub mod Responded
 pub mod ServedLemmas
+pub mod ReplyLaw
+pub mod LoneWorld

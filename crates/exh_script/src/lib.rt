@@ -2,6 +2,7 @@
 #![tactic(auto)]
 
 pub use ended::Ended;
+pub use reply_law::replies_are_one_maps;
 pub use serve_fault::ServeFault;
 pub use server::serve;
 
@@ -30,6 +31,7 @@ mod output;
 mod parts;
 mod printing;
 mod refusal;
+mod reply_law;
 mod request;
 mod respond;
 mod serve_fault;

@@ -1,0 +1,181 @@
+-- A world of one page, where every request stands: lines leave it so, with a sound ward, and no hop strays.
+use Rattle.std.proofs.Common.{◌≡◌, ℕ, suc, List, [], ◌∷◌, ◌++◌, Bool, true, false, cond, Option, Some, None, Result, Ok, Err, refl, sym, ap, ◌∙◌, subst, arith}
+use Rattle.std.specs.FinMap.{empty}
+use Rattle.std.specs.List.{All}
+use Rattle.std.specs.Prelude.{nat_eq}
+use Rattle.std.specs.Map.{values_of}
+use Rattle.std.specs.Option.{option_map_or, IfSome}
+use Rattle.std.proofs.lemmas.Bool.{true≢false, lt-leb}
+use Rattle.std.proofs.lemmas.List.{map-append}
+use Rattle.std.proofs.lemmas.List.Elements.{All-nil, All-cons, All-append}
+use Rattle.std.proofs.lemmas.Map.Views.{IfSome-lookup_from_All, All-map-remove_entry}
+use Rattle.exh_keyer.specs.declared.any_keyer.AnyKeyer.{AnyKeyer}
+use Rattle.exh_keyer.specs.Pseudokey.{any_pseudokey}
+use Rattle.exh_prefix.specs.Bits.{bits_of, number_of}
+use Rattle.exh_prefix.specs.Prefix.{low_of}
+use Rattle.exh_page.specs.Page.{low_bound}
+use Rattle.exh_page.specs.declared.page.Page.{Page}
+use Rattle.exh_page.specs.declared.page.Page.TheVariants.{Live}
+use Rattle.exh_page.specs.declared.record.Record.{Record}
+use Rattle.exh_ward.specs.Call.{key_of}
+use Rattle.exh_ward.specs.HopTable.{overflows, hop_of, pages_after}
+use Rattle.exh_ward.specs.LonePage.{IsOwn}
+use Rattle.exh_ward.specs.MapMachine.{reply_of}
+use Rattle.exh_ward.specs.PageAnswer.{records_after}
+use Rattle.exh_ward.specs.Pages.{map_of, ward_prefix}
+use Rattle.exh_ward.specs.WardState.{IsSound}
+use Rattle.exh_ward.specs.declared.call.Call.{Call}
+use Rattle.exh_ward.specs.declared.hop.Hop.{Hop}
+use Rattle.exh_ward.specs.declared.hop.Hop.TheVariants.{Done, MustSplit}
+use Rattle.exh_ward.specs.declared.journal_entry.JournalEntry.{JournalEntry}
+use Rattle.exh_ward.proofs.Answered.{sound_after, sound_new, map_of-lone, overflows_by_map, room_from_no_overflow}
+use Rattle.exh_ward.proofs.HopFunction.{overflows-true}
+use Rattle.exh_ward.proofs.LoneHop.{pages_after-lone}
+use Rattle.exh_ward.proofs.PageMap.{reply_of-page}
+use Rattle.exh_script.specs.InFlight.{Requests}
+use Rattle.exh_script.specs.Replies.{answers_from, world_left, DoesNotStray}
+use Rattle.exh_script.specs.Text.{answer_parsed, after_parsed, line_answer, after_line}
+use Rattle.exh_script.specs.World.{WorldState, new_world, hop_in, after_hop, page_named}
+use Rattle.exh_script.specs.declared.answer.Answer.{Answer}
+use Rattle.exh_script.specs.declared.answer.Answer.TheVariants.{Begun, Hopped, Refused}
+use Rattle.exh_script.specs.declared.line.FileLine.{FileLine}
+use Rattle.exh_script.specs.declared.line.Line.{Line}
+use Rattle.exh_script.specs.declared.line.Line.TheVariants.{Begin, Hop as HopLine}
+use Rattle.exh_script.specs.declared.line_fault.LineFault.{LineFault}
+use Rattle.exh_script.specs.declared.refusal.Refusal.TheVariants.{NoCopy, NoRequest, NameTaken}
+use Rattle.exh_script.specs.declared.request.Request.{Request}
+
+-- the page of a ward that covers every key
+abbrev lone : List Record → Page
+lone records = Live [] None records
+
+-- it has the prefix of the only ward
+own_prefix : IsOwn 0 0 []
+unfolding bits_of
+own_prefix = record { prefix = refl; bits = omega arith }
+
+low_first : (records : List Record) → low_bound (lone records) ≡ 0
+unfolding low_of number_of
+low_first records = refl
+
+-- ---- a hop at the only page
+
+module _ (cap : ℕ) (pseudo : List ℕ → ℕ) (records : List Record) (call : Call) where
+  abbrev over : Bool
+  over = overflows cap (map_of (lone records ∷ [])) (lone records) call
+
+  hop_at_lone : hop_of cap pseudo (lone records ∷ []) 0 call ≡ cond over MustSplit (Done (reply_of cap pseudo (map_of (lone records ∷ [])) call))
+  unfolding hop_of
+  hop_at_lone = rw (lt-leb (suc (pseudo (key_of call))) (low_bound (lone records)) (omega (arith, low_first records))) refl
+
+  sound_answered : (journal : List JournalEntry) (client : ℕ) → over ≡ false → IsSound cap pseudo [] (lone records ∷ []) empty journal
+      → IsSound cap pseudo [] (lone (records_after (pseudo (key_of call)) call records) ∷ []) empty
+      (journal ++ record { client = client; call = call; reply = reply_of cap pseudo (map_of (lone records ∷ [])) call } ∷ [])
+  sound_answered journal client none sound =
+      let hashed = sound.legal.each.0.0.hashed in
+      let room = room_from_no_overflow cap pseudo 0 0 [] None records call own_prefix
+      (λ page_over. true≢false (sym (overflows-true cap _ (lone records) call (overflows_by_map cap pseudo [] None records call hashed page_over)) ∙ none)) in
+      sound_after cap pseudo [] None records empty journal client call _ refl room
+      (ap (λ m. reply_of cap pseudo m call) (map_of-lone [] None records) ∙ sym (reply_of-page cap pseudo records call hashed room)) sound
+
+-- ---- the world
+
+-- requests stand at the only page
+abbrev AreAtFirst : Requests → Type 0
+AreAtFirst requests = All (λ (request : Request). request.page ≡ 0) (values_of requests)
+
+pub record IsLoneWorld (cap : ℕ) (keyer : AnyKeyer) (world : WorldState) : Type 0 where
+  pub cap_is : world.ward.cap ≡ cap
+  pub keyer_is : world.ward.keyer ≡ keyer
+  pub records : List Record
+  pub pages : world.ward.pages ≡ lone records ∷ []
+  pub sound : IsSound cap (any_pseudokey keyer) [] (lone records ∷ []) empty world.ward.journal
+  pub at_first : AreAtFirst world.in_flight
+
+pub lone_at_new : (file : FileLine) → file.ward_bits ≡ 0 → IsLoneWorld file.cap file.keyer (new_world file)
+unfolding bits_of
+lone_at_new file one = record {
+  cap_is = refl;
+  keyer_is = refl;
+  records = [];
+  pages = ap (λ bits. Live (ward_prefix bits 0) None [] ∷ []) one;
+  sound = sound_new file.cap (any_pseudokey file.keyer) [] [] empty [] refl refl refl;
+  at_first = All-nil _;
+}
+
+module _ (cap : ℕ) (keyer : AnyKeyer) (world : WorldState) (is : IsLoneWorld cap keyer world) where
+  -- the world after a line has one page too, and the answer isn't a stray hop
+  abbrev Stays : Answer → WorldState → Type 0
+  Stays answer after = IsLoneWorld cap keyer after × DoesNotStray answer
+
+  begun : (name client copy : ℕ) (call : Call) (taken there : Bool)
+      → Stays (cond taken (Refused NameTaken) (cond there (Begun name world.ward.number (page_named world copy call)) (Refused NoCopy)))
+      (cond taken world (cond there (record world { in_flight = world.in_flight ++ (name, record { client = client; page = page_named world copy call; call = call }) ∷ [] }) world))
+  begun name client copy call true there = (is, λ n w stray. cc)
+  begun name client copy call false true =
+      let P : Request → Type 0 = λ request. request.page ≡ 0 in (
+        record {
+          cap_is = is.cap_is;
+          keyer_is = is.keyer_is;
+          records = is.records;
+          pages = is.pages;
+          sound = is.sound;
+          at_first = subst (All P) (sym (map-append (λ (entry : ℕ × Request). entry.1) world.in_flight _)) (All-append P _ _ is.at_first (All-cons P _ [] refl (All-nil P)));
+        },
+        λ n w stray. cc,
+      )
+  begun name client copy call false false = (is, λ n w stray. cc)
+
+  module _ (name : ℕ) (request : Request) (first : request.page ≡ 0) where
+    hopped : (split : Bool) → over cap (any_pseudokey keyer) is.records request.call ≡ split → (hop : Hop)
+        → hop ≡ cond split MustSplit (Done (reply_of cap (any_pseudokey keyer) (map_of (lone is.records ∷ [])) request.call)) → Stays (Hopped name world.ward.number hop) (after_hop world name request hop)
+    hopped true is_over hop is_hop =
+        let P : Hop → Type 0 = λ hop. Stays (Hopped name world.ward.number hop) (after_hop world name request hop) in
+        subst P (sym is_hop) (is, λ n w stray. cc)
+    hopped false none hop is_hop =
+        let P : Hop → Type 0 = λ hop. Stays (Hopped name world.ward.number hop) (after_hop world name request hop) in
+        subst P (sym is_hop) (
+          record {
+            cap_is = is.cap_is;
+            keyer_is = is.keyer_is;
+            records = records_after (any_pseudokey keyer (key_of request.call)) request.call is.records;
+            pages = ap (λ keyer. pages_after (any_pseudokey keyer) world.ward.pages request.page request.call) is.keyer_is
+                ∙ ap (λ pages. pages_after (any_pseudokey keyer) pages request.page request.call) is.pages
+                ∙ sym (pages_after-lone (any_pseudokey keyer) (lone is.records) _ request.page request.call _ first refl refl);
+            sound = sound_answered cap (any_pseudokey keyer) is.records request.call world.ward.journal request.client none is.sound;
+            at_first = All-map-remove_entry (nat_eq name) (λ (entry : ℕ × Request). entry.1) (λ request. request.page ≡ 0) world.in_flight is.at_first;
+          },
+          λ n w stray. cc,
+        )
+
+    hop_is : hop_in world request ≡ hop_of cap (any_pseudokey keyer) (lone is.records ∷ []) 0 request.call
+    hop_is =
+        ap (λ cap. hop_of cap (any_pseudokey world.ward.keyer) world.ward.pages request.page request.call) is.cap_is
+        ∙ ap (λ keyer. hop_of cap (any_pseudokey keyer) world.ward.pages request.page request.call) is.keyer_is
+        ∙ ap (λ pages. hop_of cap (any_pseudokey keyer) pages request.page request.call) is.pages
+        ∙ ap (λ at. hop_of cap (any_pseudokey keyer) (lone is.records ∷ []) at request.call) first
+
+  hop_stays : (name : ℕ) (named : Option Request) → IfSome named (λ request. request.page ≡ 0)
+      → Stays (option_map_or (λ request. Hopped name world.ward.number (hop_in world request)) named (Refused NoRequest))
+      (option_map_or (λ request. after_hop world name request (hop_in world request)) named world)
+  hop_stays name None first = (is, λ n w stray. cc)
+  hop_stays name (Some request) first = hopped name request first _ refl _ (hop_is name request first ∙ hop_at_lone cap (any_pseudokey keyer) is.records request.call)
+
+  stays : (parsed : Result Line LineFault) → Stays (answer_parsed world parsed) (after_parsed world parsed)
+  stays (Ok (Begin name client copy call)) = begun name client copy call _ _
+  stays (Ok (HopLine name)) = hop_stays name _ (IfSome-lookup_from_All (λ (request : Request). request.page ≡ 0) (nat_eq name) world.in_flight is.at_first)
+  stays (Err fault) = (is, λ n w stray. cc)
+
+stays_line : (cap : ℕ) (keyer : AnyKeyer) (world : WorldState) → IsLoneWorld cap keyer world → (line : List ℕ) → IsLoneWorld cap keyer (after_line world line) × DoesNotStray (line_answer world line)
+unfolding line_answer after_line
+stays_line cap keyer world is line = stays cap keyer world is _
+
+pub lone_left : (cap : ℕ) (keyer : AnyKeyer) (world : WorldState) → IsLoneWorld cap keyer world → (lines : List (List ℕ)) → IsLoneWorld cap keyer (world_left world lines)
+lone_left cap keyer world is [] = is
+lone_left cap keyer world is (line ∷ lines) = lone_left cap keyer (after_line world line) (stays_line cap keyer world is line).0 lines
+
+pub none_strays : (cap : ℕ) (keyer : AnyKeyer) (world : WorldState) → IsLoneWorld cap keyer world → (lines : List (List ℕ)) → All DoesNotStray (answers_from world lines)
+none_strays cap keyer world is [] = All-nil _
+none_strays cap keyer world is (line ∷ lines) =
+    All-cons DoesNotStray (line_answer world line) _ (stays_line cap keyer world is line).1
+    (none_strays cap keyer (after_line world line) (stays_line cap keyer world is line).0 lines)
