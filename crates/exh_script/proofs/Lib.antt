@@ -10,3 +10,4 @@ pub mod Responded
 pub mod ServedLemmas
 pub mod ReplyLaw
 pub mod LoneWorld
+pub mod ReadAgain

@@ -2,6 +2,7 @@
 #![tactic(auto)]
 
 pub use ended::Ended;
+pub use laws::{newlines_part_lines, numbers_are_decimal, printed_is_read, spaces_part_words};
 pub use reply_law::replies_are_one_maps;
 pub use serve_fault::ServeFault;
 pub use server::serve;
@@ -23,6 +24,7 @@ mod fakes;
 mod hex;
 mod in_flight;
 mod input;
+mod laws;
 mod line;
 mod line_fault;
 mod lines;
@@ -40,5 +42,7 @@ mod source;
 mod spelled_call;
 mod spelled_file;
 mod spelled_line;
+#[cfg(test)]
+mod tests;
 mod words;
 mod world;

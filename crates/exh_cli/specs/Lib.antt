@@ -1,0 +1,4 @@
+pub mod Fault
+pub mod Job
+pub mod Parser
+pub mod Status
