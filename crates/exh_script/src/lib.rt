@@ -37,6 +37,8 @@ mod reply_law;
 mod request;
 mod respond;
 mod serve_fault;
+#[cfg(test)]
+mod serve_tests;
 mod server;
 mod source;
 mod spelled_call;

@@ -1,31 +1,28 @@
 -- What an answered call leaves of a ward of one page.
-use Rattle.std.proofs.Common.{◌≡◌, ℕ, ◌+◌, ◌-◌, ◌<◌, ◌≤◌, ◌^◌, Bool, List, [], ◌∷◌, ◌++◌, length, map, slice_get, slice_set, Option, Some, None, refl, sym, ap, ◌∙◌, subst, arith, inl, inr}
+use Rattle.std.proofs.Common.{◌≡◌, ℕ, ◌<◌, ◌^◌, Bool, List, [], ◌∷◌, ◌++◌, length, Option, None, refl, sym, ap, ◌∙◌, subst, arith, inl, inr}
 use Rattle.std.proofs.lemmas.Bool.{cases_lt}
 use Rattle.std.proofs.lemmas.List.{append-nil}
 use Rattle.std.specs.FinMap as fin
-use Rattle.exh_prefix.specs.declared.prefix.TheConstants.{LIMIT}
-use Rattle.exh_prefix.specs.Bits.{bits_of}
 use Rattle.exh_prefix.specs.BitLemmas.{length-bits_of}
-use Rattle.exh_prefix.specs.Prefix.{Begins, low_of}
+use Rattle.exh_prefix.specs.Prefix.{Begins}
 use Rattle.exh_prefix.specs.PrefixLemmas.{begins_low}
 use Rattle.exh_page.specs.declared.page.Page.{Page}
-use Rattle.exh_page.specs.declared.page.Page.TheVariants.{Live, Forward}
+use Rattle.exh_page.specs.declared.page.Page.TheVariants.{Live}
 use Rattle.exh_page.specs.declared.record.Record.{Record}
 use Rattle.exh_page.specs.Records.{value_at}
-use Rattle.exh_page.specs.Page.{AreRecordsOf, low_bound, records_of, with_records}
 use Rattle.exh_ward.specs.Call.{key_of}
 use Rattle.exh_ward.specs.declared.call.Call.{Call}
 use Rattle.exh_ward.specs.declared.call.Call.TheVariants.{Get, Put, Del}
-use Rattle.exh_ward.specs.declared.hop.Hop.TheVariants.{Done, MustSplit, Stray}
+use Rattle.exh_ward.specs.declared.hop.Hop.TheVariants.{Done, MustSplit}
 use Rattle.exh_ward.specs.declared.journal_entry.JournalEntry.{JournalEntry}
 use Rattle.exh_ward.specs.declared.reply.Reply.{Reply}
 use Rattle.exh_ward.specs.History.{IsHistory, map_left}
 use Rattle.exh_ward.specs.HopTable.{IsReached, Overflows, HopOf}
 use Rattle.exh_ward.specs.KeyMap.{KeyMap}
-use Rattle.exh_ward.specs.LonePage.{IsOwn, IsLone}
+use Rattle.exh_ward.specs.LonePage.{IsOwn}
 use Rattle.exh_ward.specs.MapMachine.{reply_of, map_after}
 use Rattle.exh_ward.specs.PageAnswer.{page_reply, records_after, OverflowsPage}
-use Rattle.exh_ward.specs.Pages.{IsAt, IsHome, IsLegal, IsLegalPage, AreLinked, map_of, ward_prefix}
+use Rattle.exh_ward.specs.Pages.{IsAt, IsLegalPage, map_of}
 use Rattle.exh_ward.specs.WardState.{IsSound}
 use Rattle.exh_ward.proofs.Linked.{lone_linked, only_at}
 use Rattle.exh_ward.proofs.PageMap.{map_of_records, place_of_key, AreHashed, HasRoom, get-map_of_records, reply_of-page, map_after-page, records_stay, records_stay_few}
@@ -64,7 +61,7 @@ sound_after cap pseudo own right records base journal client call reply begins r
       };
       history = IsHistory-push cap pseudo base journal entry sound.history (answered ∙ ap (λ m. reply_of cap pseudo m call) held);
       left = map_of-lone own right _ ∙ map_after-page cap pseudo records call page.0.hashed room
-        ∙ ap (λ m. map_after cap pseudo m call) held ∙ sym (map_left-push cap pseudo base journal entry);
+          ∙ ap (λ m. map_after cap pseudo m call) held ∙ sym (map_left-push cap pseudo base journal entry);
     }
 
 -- ---- the hop table at a lone page
@@ -111,10 +108,14 @@ strays pages page at pseudokey one elsewhere other reached = elsewhere (only_at 
 pub hop_done : (cap : ℕ) (pseudo : List ℕ → ℕ) (ward_bits number : ℕ) (own : List Bool) (right : Option ℕ) (records : List Record) (call : Call) (reply : Reply) → IsOwn ward_bits number own
     → pseudo (key_of call) < 2 ^ 64 → Begins own (pseudo (key_of call)) → IsLegalPage cap pseudo (Live own right records) → (OverflowsPage cap (pseudo (key_of call)) (Live own right records) call → ⊥)
     → reply ≡ page_reply call (value_at (place_of_key pseudo (key_of call)) records) → HopOf cap pseudo (Live own right records ∷ []) 0 call (Done reply)
-hop_done cap pseudo ward_bits number own right records call reply own_is small begins legal none replied =
-    (Live own right records, reached ward_bits number own right records _ own_is small begins, begins, λ over. none (overflows_by_page cap pseudo own right records call legal.0.hashed over),
-    replied ∙ reply_of-page cap pseudo records call legal.0.hashed (room_from_no_overflow cap pseudo ward_bits number own right records call own_is none)
-    ∙ ap (λ m. reply_of cap pseudo m call) (sym (map_of-lone own right records)))
+hop_done cap pseudo ward_bits number own right records call reply own_is small begins legal none replied = (
+  Live own right records,
+  reached ward_bits number own right records _ own_is small begins,
+  begins,
+  λ over. none (overflows_by_page cap pseudo own right records call legal.0.hashed over),
+  replied ∙ reply_of-page cap pseudo records call legal.0.hashed (room_from_no_overflow cap pseudo ward_bits number own right records call own_is none)
+      ∙ ap (λ m. reply_of cap pseudo m call) (sym (map_of-lone own right records)),
+)
 
 pub hop_must_split : (cap : ℕ) (pseudo : List ℕ → ℕ) (ward_bits number : ℕ) (own : List Bool) (right : Option ℕ) (records : List Record) (call : Call) → IsOwn ward_bits number own
     → pseudo (key_of call) < 2 ^ 64 → Begins own (pseudo (key_of call)) → IsLegalPage cap pseudo (Live own right records) → OverflowsPage cap (pseudo (key_of call)) (Live own right records) call

@@ -1,13 +1,11 @@
 -- How a lone page is linked, and that records don't matter for it.
-use Rattle.std.proofs.Common.{◌≡◌, ℕ, zero, suc, ◌<◌, ◌≤◌, ◌^◌, Bool, List, [], ◌∷◌, ◌++◌, length, map, slice_get, slice_set, Option, Some, None, refl, sym, ap, ◌∙◌, subst, arith}
-use Rattle.std.specs.List.{AllByRecursion}
+use Rattle.std.proofs.Common.{◌≡◌, ℕ, zero, suc, Bool, List, [], ◌∷◌, length, None, refl, sym, ap, ◌∙◌, subst, arith}
 use Rattle.std.proofs.lemmas.List.{take_all}
-use Rattle.exh_prefix.specs.Prefix.{IsFront, Begins, low_of}
+use Rattle.exh_prefix.specs.Prefix.{IsFront, low_of}
 use Rattle.exh_page.specs.declared.page.Page.{Page}
-use Rattle.exh_page.specs.declared.page.Page.TheVariants.{Live, Forward}
-use Rattle.exh_page.specs.declared.record.Record.{Record}
-use Rattle.exh_page.specs.Page.{AreRecordsOf, IsLive, low_bound, records_of, with_records}
-use Rattle.exh_ward.specs.Pages.{IsAt, IsHome, IsWithin, IsRightOf, IsRightLink, IsLinkedPage, AreLinked, IsLegal, IsLegalPage}
+use Rattle.exh_page.specs.declared.page.Page.TheVariants.{Live}
+use Rattle.exh_page.specs.Page.{low_bound}
+use Rattle.exh_ward.specs.Pages.{IsAt, IsWithin, IsRightOf, IsLinkedPage, AreLinked}
 
 -- the only page of a list
 pub only_at : (page other : Page) (number : ℕ) → IsAt (page ∷ []) number other → (number ≡ 0) × (other ≡ page)

@@ -1,9 +1,9 @@
 -- A ward's own prefix, read off its number.
-use Rattle.std.proofs.Common.{◌≡◌, ℕ, ◌+◌, ◌-◌, ◌*◌, ◌%◌, ◌^◌, ◌<◌, ◌≤◌, take, length, IsSome, Option, Some, None, Bool, List, refl, sym, ap, ◌∙◌, subst, arith}
+use Rattle.std.proofs.Common.{◌≡◌, ℕ, ◌+◌, ◌-◌, ◌*◌, ◌%◌, ◌^◌, ◌<◌, ◌≤◌, take, length, IsSome, Option, Some, None, refl, sym, ap, ◌∙◌, subst, arith}
 use Rattle.std.specs.Option.{SomeIff}
 use Rattle.std.proofs.lemmas.Nat.{pow-add, shl_whole, shl_below}
 use Rattle.std.proofs.Math.Nat.{mul_assoc}
-use Rattle.exh_prefix.specs.Bits.{number_of, bits_of, word_bits}
+use Rattle.exh_prefix.specs.Bits.{bits_of, word_bits}
 use Rattle.exh_prefix.specs.BitLemmas.{length-bits_of, number_of-bits_of}
 use Rattle.exh_prefix.specs.Prefix.{HasPrefix, low_of}
 use Rattle.exh_prefix.specs.PrefixLemmas.{low_of-product, take-low_of, HasPrefix-low_of}

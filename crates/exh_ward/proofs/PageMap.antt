@@ -1,14 +1,14 @@
 -- The map of one page, and what a call leaves of it.
-use Rattle.std.proofs.Common.{◌≡◌, ℕ, ◌+◌, ◌<◌, ◌≤◌, Bool, true, false, cond, not, leb, List, [], ◌∷◌, ◌++◌, length, map, count_by, find, ◌==◌, Ordering, Option, None, Some, refl, sym, ap, ◌∙◌, subst, arith, nat_cmp}
+use Rattle.std.proofs.Common.{◌≡◌, ℕ, ◌+◌, ◌<◌, ◌≤◌, Bool, true, false, cond, List, [], ◌∷◌, length, map, find, ◌==◌, Ordering, Option, None, Some, refl, sym, ap, ◌∙◌, arith, nat_cmp}
 use Rattle.std.specs.declared.cmp.Ordering.TheVariants.{Less, Equal, Greater}
 use Rattle.std.specs.FinMap as fin
 use Rattle.std.specs.List.{AllByRecursion}
-use Rattle.std.specs.Option.{is_some, option_map}
+use Rattle.std.specs.Option.{option_map}
 use Rattle.std.specs.Ordering.{is_eq, eq_by_cmp}
 use Rattle.std.specs.Cmp.Lexicographic.{slice_cmp}
 use Rattle.std.proofs.lemmas.Bool.{lt-leb, false_from_ne_true, false≢true}
 use Rattle.std.proofs.lemmas.Cmp.{nat_list_cmp_total, tied_itself, eq_by_cmp_equiv}
-use Rattle.std.proofs.lemmas.List.{append-nil, length-map}
+use Rattle.std.proofs.lemmas.List.{length-map}
 use Rattle.std.proofs.lemmas.List.Sums.{count_by-le-length}
 use Rattle.std.proofs.lemmas.Map.Lookups.{exact_bytes}
 use Rattle.exh_page.specs.declared.record.Record.{Record}
@@ -58,9 +58,9 @@ place_of_key pseudo key = (pseudo key, key)
 differ : (pseudo : List ℕ → ℕ) (one other : List ℕ) {o : Ordering} → slice_cmp nat_cmp one other ≡ o → is_eq o ≡ false → is_eq (place_cmp (place_of_key pseudo other) (place_of_key pseudo one)) ≡ false
 differ pseudo one other {o = o} is unequal =
     false_from_ne_true _ (λ tied.
-        let same = ap (λ (p : Place). p.1) (place_cmp-exact (place_of_key pseudo other) (place_of_key pseudo one) (tie_of _ tied)) in
-        let itself : o ≡ Equal = sym is ∙ ap (slice_cmp nat_cmp one) same ∙ tied_itself nat_list_cmp_total one in
-        false≢true (sym unequal ∙ ap is_eq itself))
+    let same = ap (λ (p : Place). p.1) (place_cmp-exact (place_of_key pseudo other) (place_of_key pseudo one) (tie_of _ tied)) in
+    let itself : o ≡ Equal = sym is ∙ ap (slice_cmp nat_cmp one) same ∙ tied_itself nat_list_cmp_total one in
+    false≢true (sym unequal ∙ ap is_eq itself))
 
 -- two keys compare alike exactly where their places do
 same_test : (pseudo : List ℕ → ℕ) (one other : List ℕ) → eq_by_cmp (slice_cmp nat_cmp) one other ≡ is_eq (place_cmp (place_of_key pseudo other) (place_of_key pseudo one))
@@ -68,7 +68,7 @@ same_test pseudo one other =
     elim (slice_cmp nat_cmp one other) as (λ o. slice_cmp nat_cmp one other ≡ o → is_eq o ≡ is_eq (place_cmp (place_of_key pseudo other) (place_of_key pseudo one))) [
       | Less ↦ λ is. sym (differ pseudo one other is refl)
       | Equal ↦ λ is. let same = exact_bytes one other is in
-        sym (ap (λ key. is_eq (place_cmp (place_of_key pseudo key) (place_of_key pseudo one))) (sym same) ∙ ap is_eq (tied_itself place_cmp-total (place_of_key pseudo one)))
+          sym (ap (λ key. is_eq (place_cmp (place_of_key pseudo key) (place_of_key pseudo one))) (sym same) ∙ ap is_eq (tied_itself place_cmp-total (place_of_key pseudo one)))
       | Greater ↦ λ is. sym (differ pseudo one other is refl)
     ] refl
 
@@ -97,9 +97,14 @@ len-from_entries (e ∷ es) =
 -- no more keys share leading bits than there are records
 pub sharing-map_of_records : (pseudo : List ℕ → ℕ) (records : List Record) (key : List ℕ) → sharing pseudo (map_of_records records) key ≤ length records
 sharing-map_of_records pseudo records key =
-    omega (arith, count_by-le-length (λ other. leading_same pseudo key other) (fin.keys (map_of_records records)),
-      length-map (fin.entries (map_of_records records)) (λ (e : List ℕ × List ℕ). e.0), fin.len-entries (map_of_records records),
-      len-from_entries (map pair_of records), length-map records pair_of)
+    omega (
+      arith,
+      count_by-le-length (λ other. leading_same pseudo key other) (fin.keys (map_of_records records)),
+      length-map (fin.entries (map_of_records records)) (λ (e : List ℕ × List ℕ). e.0),
+      fin.len-entries (map_of_records records),
+      len-from_entries (map pair_of records),
+      length-map records pair_of,
+    )
 
 pub not_full : (cap : ℕ) (pseudo : List ℕ → ℕ) (records : List Record) (key : List ℕ) → length records < cap → is_full cap pseudo (map_of_records records) key ≡ false
 not_full cap pseudo records key room = lt-leb cap _ (omega (arith, sharing-map_of_records pseudo records key))
@@ -118,21 +123,21 @@ pub map_of-with_record : (pseudo : List ℕ → ℕ) (key value : List ℕ) (rec
 map_of-with_record pseudo key value records hashed =
     let r : Record = record { pseudokey = pseudo key; key = key; value = value } in
     same_maps _ _ (λ other.
-      get-map_of_records pseudo (with_record r records) other (AllByRecursion-with_record _ r records refl hashed)
-      ∙ value_at-with_record (place_of_key pseudo other) r records
-      ∙ ap (λ b. cond b (Some value) (value_at (place_of_key pseudo other) records)) (same_test_turned pseudo other key)
-      ∙ ap (cond (eq_by_cmp (slice_cmp nat_cmp) other key) (Some value)) (sym (get-map_of_records pseudo records other hashed))
-      ∙ sym (fin.get-insert nat_list_cmp_total (map_of_records records) key value other))
+    get-map_of_records pseudo (with_record r records) other (AllByRecursion-with_record _ r records refl hashed)
+    ∙ value_at-with_record (place_of_key pseudo other) r records
+    ∙ ap (λ b. cond b (Some value) (value_at (place_of_key pseudo other) records)) (same_test_turned pseudo other key)
+    ∙ ap (cond (eq_by_cmp (slice_cmp nat_cmp) other key) (Some value)) (sym (get-map_of_records pseudo records other hashed))
+    ∙ sym (fin.get-insert nat_list_cmp_total (map_of_records records) key value other))
 
 pub map_of-without_place : (pseudo : List ℕ → ℕ) (key : List ℕ) (records : List Record) → AreHashed pseudo records
     → map_of_records (without_place (place_of_key pseudo key) records) ≡ fin.remove (map_of_records records) key
 map_of-without_place pseudo key records hashed =
     same_maps _ _ (λ other.
-      get-map_of_records pseudo (without_place (place_of_key pseudo key) records) other (AllByRecursion-filter _ _ records hashed)
-      ∙ value_at-without_place (place_of_key pseudo other) (place_of_key pseudo key) records
-      ∙ ap (λ b. cond b None (value_at (place_of_key pseudo other) records)) (same_test_turned pseudo other key)
-      ∙ ap (cond (eq_by_cmp (slice_cmp nat_cmp) other key) None) (sym (get-map_of_records pseudo records other hashed))
-      ∙ sym (fin.get-remove nat_list_cmp_total (map_of_records records) key other))
+    get-map_of_records pseudo (without_place (place_of_key pseudo key) records) other (AllByRecursion-filter _ _ records hashed)
+    ∙ value_at-without_place (place_of_key pseudo other) (place_of_key pseudo key) records
+    ∙ ap (λ b. cond b None (value_at (place_of_key pseudo other) records)) (same_test_turned pseudo other key)
+    ∙ ap (cond (eq_by_cmp (slice_cmp nat_cmp) other key) None) (sym (get-map_of_records pseudo records other hashed))
+    ∙ sym (fin.get-remove nat_list_cmp_total (map_of_records records) key other))
 
 -- a put of a new key finds room
 abbrev pub HasRoom : ℕ → (List ℕ → ℕ) → List Record → Call → Type 0

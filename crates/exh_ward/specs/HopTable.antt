@@ -14,7 +14,7 @@ use Rattle.exh_ward.specs.MapMachine.{reply_of}
 use Rattle.exh_ward.specs.PageAnswer.{records_after}
 use Rattle.exh_ward.specs.Pages.{IsAt, IsHome, map_of}
 use Rattle.exh_ward.specs.declared.call.Call.{Call}
-use Rattle.exh_ward.specs.declared.call.Call.TheVariants.{Get, Put, Del}
+use Rattle.exh_ward.specs.declared.call.Call.TheVariants.{Put}
 use Rattle.exh_ward.specs.declared.hop.Hop.{Hop}
 use Rattle.exh_ward.specs.declared.hop.Hop.TheVariants.{Done, Moved, MustSplit, Stray}
 

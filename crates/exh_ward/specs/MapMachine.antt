@@ -1,5 +1,5 @@
 -- The map machine: what a call is answered over a finite map, and the map that it leaves.
-use Rattle.std.specs.Prelude.{◌==◌, ℕ, ◌-◌, ◌/◌, ◌^◌, Bool, true, false, List, Option, Some, None, count_by, nat_le, if◌then◌else◌}
+use Rattle.std.specs.Prelude.{◌==◌, ℕ, ◌-◌, ◌/◌, ◌^◌, Bool, List, Option, Some, None, count_by, nat_le, if◌then◌else◌}
 use Rattle.std.specs.FinMap as map
 use Rattle.exh_prefix.specs.declared.prefix.TheConstants.{LIMIT}
 use Rattle.exh_ward.specs.KeyMap.{KeyMap}

@@ -1,5 +1,5 @@
 -- The pages of a ward.
-use Rattle.std.specs.Prelude.{◌≡◌, ⊤, ◌≢◌, ℕ, ◌<◌, ◌≤◌, ◌^◌, Bool, List, [], length, map, flat_map, slice_get, Option, Some, None}
+use Rattle.std.specs.Prelude.{◌≡◌, ⊤, ℕ, ◌<◌, ◌≤◌, ◌^◌, Bool, List, [], length, map, flat_map, slice_get, Option, Some, None}
 use Rattle.std.specs.FinMap.{from_entries}
 use Rattle.std.specs.List.{AllByRecursion}
 use Rattle.exh_prefix.specs.Bits.{bits_of, lowest_cleared}

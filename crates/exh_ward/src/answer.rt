@@ -15,7 +15,9 @@ pub(crate) fn overflows(page: &Page, cap: usize, pseudokey: u64, call: &Call) ->
 {
     match page {
         Page::Live {
-            prefix, records, ..
+            prefix,
+            records,
+            ..
         } => match call {
             Call::Put { key, .. } => {
                 records.len() >= cap

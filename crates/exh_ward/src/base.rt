@@ -5,7 +5,7 @@ use exh_page::{Key, Value};
 use std::alloc::Global;
 use std::marker::Model;
 
-/// The map that a history begins with.
+/// The map from keys to values that a history begins with (exhash profile).
 #[derive(Debug, Drop)]
 pub struct Base {
     pairs: Vec<(Key, Value)>,
@@ -32,7 +32,7 @@ impl Base {
         }
     }
 
-    /// The pairs of the map: of two pairs of one key the first counts.
+    /// The pairs of the map: of two pairs of one key the first counts. It takes no memory.
     pub fn pairs(&self) -> &[(Key, Value)]
         ensures { map.from_entries result.now ≡ self.now }
     {

@@ -2,7 +2,7 @@ ghost use Rattle.std.specs.Prelude.{◌≡◌};
 
 use exh_page::{Key, Value};
 
-/// A call on the map from keys to values.
+/// A call on the map from keys to values (exhash profile). A copy takes no memory.
 #[derive(Clone, Copy, Debug, PartialEq, Eq)]
 pub enum Call {
     /// Asks for the key's value.
@@ -17,7 +17,7 @@ impl Call {
     ghost use Rattle.std.specs.Prelude.{◌≡◌};
     ghost use Rattle.exh_ward.specs.Call.{key_of};
 
-    /// The key that the call is about.
+    /// The key that the call is about. It takes no memory.
     pub fn key(&self) -> &Key
         ensures { result.now ≡ key_of self.now }
     {

@@ -1,4 +1,5 @@
-//! What holds of the hop table and of all histories, for the proofs of callers. Each function does nothing.
+//! What holds of the hop table and of all histories, for the proofs of callers. Each function does
+//! nothing.
 
 ghost use Rattle.exh_ward.specs.Laws.{OneHop, HistoriesGoOn, HistoryIsDetermined};
 
@@ -7,7 +8,8 @@ pub fn one_hop()
     ensures { OneHop }
 {}
 
-/// A history goes on with the map machine's reply over the map that it leaves, and leaves the map machine's map.
+/// A history goes on with the map machine's reply over the map that it leaves, and then leaves the
+/// map machine's map.
 pub fn histories_go_on()
     ensures { HistoriesGoOn }
 {}

@@ -71,7 +71,8 @@ fn hop_again<K: Keyer>(
     }
 }
 
-// Under `rt try --test --fail-alloc N`, for any N, a growth is refused once, and all is answered the same.
+// Under `rt try --test --fail-alloc N`, for any N, a growth is refused once, and all is answered
+// the same.
 fn one_page_answers<K: Keyer>(rt: &(impl Abort + AllocGlobal), keyer: K) -> Result<(), Fail> {
     let mut ward = Ward::new(rt.alloc(), 2, 0, 0, keyer);
     for (at, client, call, want) in hops_of_one_page()? {

@@ -20,8 +20,8 @@ use std::marker::Model;
 /// The most leading bits by which a file is cut into wards (exhash profile).
 pub const WARD_BITS_LIMIT: u8 = 4;
 
-/// A part of the file: the pages of all keys whose pseudokeys share the ward's leading bits, with the
-/// history of the calls that they answered.
+/// A part of the file: the pages of all keys whose pseudokeys share the ward's leading bits, with
+/// the history of the calls that they answered (exhash profile). Pages are numbered from 0 on.
 #[derive(Drop)]
 pub struct Ward<K: Keyer> {
     cap: usize,
@@ -51,8 +51,9 @@ impl<K: Keyer> Model for Ward<K> {
 }
 
 impl<K: Keyer> Ward<K> {
-    /// A ward of one empty page: `cap` records a page, 1 to 16; the ward's `number` in `ward_bits` bits, 0 to 4.
-    /// It takes no memory.
+    /// Ward `number` of a new file: one live page, empty, and no history. A page holds at most
+    /// `cap` records, 1 to 16. The file is cut into 2^`ward_bits` wards, by 0 to 4 leading bits of
+    /// pseudokeys, and `number` is those bits as a number (exhash profile). It takes no memory.
     pub fn new(alloc: Global, cap: usize, ward_bits: u8, number: u8, keyer: K) -> Ward<K>
         requires some { 1 ≤ cap }
         requires most { cap ≤ CAP_LIMIT }
@@ -78,15 +79,18 @@ impl<K: Keyer> Ward<K> {
         }
     }
 
-    /// Whether keys of this pseudokey belong to the ward.
+    /// Whether keys of this pseudokey belong to the ward: its number is the pseudokey's leading
+    /// bits. It takes no memory.
     pub fn covers(&self, pseudokey: u64) -> bool
         ensures { IsTrue result ↔ Begins (ward_prefix self.now.ward_bits self.now.number) pseudokey }
     {
         self.own.begins(pseudokey)
     }
 
-    /// One hop of a client's call at a page. The ward covers the call's key. `Err` comes for memory alone,
-    /// and changes nothing.
+    /// One hop of a client's call, at the page of number `at`. The ward covers the call's key. What
+    /// the hop comes to, and what it leaves, is the hop table's (exhash profile; Fagin et al. 1979
+    /// for buckets that overflow): only `Done` changes the ward, by the call's change of the map and
+    /// one entry of the journal. Where a growth is refused, `WardFault::Memory`, it is as before.
     pub fn hop(&mut self, at: PageNo, client: u32, call: &Call) -> Result<Hop, WardFault>
         requires { Begins (ward_prefix self.old.ward_bits self.old.number) (K.pseudokey_of self.old.keyer (key_of call.now)) }
         ensures hop { IfOk result (HopOf self.old.cap (K.pseudokey_of self.old.keyer) self.old.pages at call.now) }
@@ -110,7 +114,8 @@ impl<K: Keyer> Ward<K> {
         Ok(Hop::Done(reply))
     }
 
-    /// The calls that were answered, in order: a history from the base, which leaves the map of the pages.
+    /// The calls that were answered, in order, with their callers and replies: a history from the
+    /// base, which leaves the map of the pages. It takes no memory.
     pub fn journal(&self) -> &[JournalEntry]
         ensures entries { result.now ≡ self.now.journal }
         ensures sound { IsSoundWard K.pseudokey_of self.now }
@@ -118,7 +123,7 @@ impl<K: Keyer> Ward<K> {
         &self.journal
     }
 
-    /// The map that the history begins with.
+    /// The map that the history begins with. It takes no memory.
     pub fn base(&self) -> &Base
         ensures { result.now ≡ self.now.base }
     {

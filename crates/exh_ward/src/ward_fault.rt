@@ -4,16 +4,16 @@ ghost use Rattle.exh_ward.specs.declared.ward_fault.WardFault.TheVariants.{Memor
 use std::alloc::AllocError;
 use thiserror::Error;
 
-/// Why a ward refused a step. It is as it was before the step.
+/// Why a ward refused a step (exhash profile). It is as it was before the step.
 #[derive(Clone, Copy, Debug, PartialEq, Eq, Error)]
 pub enum WardFault {
-    /// A growth was refused.
+    /// A growth was refused: number 10.
     #[error("out of memory")]
     Memory,
 }
 
 impl WardFault {
-    /// The refusal's number (exhash profile).
+    /// The refusal's number among all refusals (exhash profile).
     pub fn number(self) -> u8
         ensures { self ≡ WardFault.Memory → result ≡ 10 }
     {
