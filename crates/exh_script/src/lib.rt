@@ -1,18 +1,17 @@
 //! The script server: from the bytes of a script to the bytes of its replies.
 #![tactic(auto)]
 
-pub use ended::Ended;
-pub use laws::{newlines_part_lines, numbers_are_decimal, printed_is_read, spaces_part_words};
-pub use reply_law::replies_are_one_maps;
-pub use serve_fault::ServeFault;
-pub use server::serve;
-
 use answer::Answer;
+pub use ended::Ended;
 use in_flight::InFlight;
+pub use laws::{newlines_part_lines, numbers_are_decimal, printed_is_read, spaces_part_words};
 use line::{COPIES_LIMIT, FileLine, Line};
 use line_fault::LineFault;
 use refusal::Refusal;
+pub use reply_law::replies_are_one_maps;
 use request::Request;
+pub use serve_fault::ServeFault;
+pub use server::serve;
 use world::World;
 
 mod answer;

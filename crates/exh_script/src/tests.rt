@@ -199,15 +199,39 @@ fn file_lines(rt: HostRuntime) {
         (b"file cap=16 wards=4 copies=8 keyer=sha", Ok(file)),
         (b"", Err(LineFault::Syntax)),
         (b"hop r1", Err(LineFault::Syntax)),
-        (b"file cap=0 wards=0 copies=1 keyer=sha", Err(LineFault::Range)),
-        (b"file cap=17 wards=0 copies=1 keyer=sha", Err(LineFault::Range)),
-        (b"file cap=2 wards=5 copies=1 keyer=plain", Err(LineFault::Range)),
-        (b"file cap=2 wards=0 copies=0 keyer=plain", Err(LineFault::Range)),
-        (b"file cap=2 wards=0 copies=9 keyer=plain", Err(LineFault::Range)),
+        (
+            b"file cap=0 wards=0 copies=1 keyer=sha",
+            Err(LineFault::Range),
+        ),
+        (
+            b"file cap=17 wards=0 copies=1 keyer=sha",
+            Err(LineFault::Range),
+        ),
+        (
+            b"file cap=2 wards=5 copies=1 keyer=plain",
+            Err(LineFault::Range),
+        ),
+        (
+            b"file cap=2 wards=0 copies=0 keyer=plain",
+            Err(LineFault::Range),
+        ),
+        (
+            b"file cap=2 wards=0 copies=9 keyer=plain",
+            Err(LineFault::Range),
+        ),
         (b"file cap=2 wards=0 copies=1", Err(LineFault::Syntax)),
-        (b"file cap=2 wards=0 copies=1 keyer=md5", Err(LineFault::Syntax)),
-        (b"file cap=02 wards=0 copies=1 keyer=sha", Err(LineFault::Syntax)),
-        (b"file wards=0 cap=2 copies=1 keyer=sha", Err(LineFault::Syntax)),
+        (
+            b"file cap=2 wards=0 copies=1 keyer=md5",
+            Err(LineFault::Syntax),
+        ),
+        (
+            b"file cap=02 wards=0 copies=1 keyer=sha",
+            Err(LineFault::Syntax),
+        ),
+        (
+            b"file wards=0 cap=2 copies=1 keyer=sha",
+            Err(LineFault::Syntax),
+        ),
     ];
     for (line, want) in lines {
         assert_eq!(rt; parse_file_line(line), want);
