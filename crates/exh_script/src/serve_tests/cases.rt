@@ -214,7 +214,7 @@ pub(super) const CASES: [Case; 43] = [
                   begin r1 c1 1 get k\n\
                   hop r\n\
                   hop 1\n\
-                  hop R1\n\
+                  hop R20\n\
                   hop r+1\n\
                   hop r1x\n\
                   hop r1\n",
