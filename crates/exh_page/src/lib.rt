@@ -2,8 +2,9 @@
 //! et al. 1979), and the forwarding pages that merges leave behind (exhash profile).
 #![tactic(auto)]
 
+pub use exh_prefix::PageNo;
 pub use key::{KEY_LIMIT, Key};
-pub use page::{CAP_LIMIT, Page, PageNo};
+pub use page::{CAP_LIMIT, Page};
 pub use record::Record;
 pub use records::Records;
 pub use size_fault::SizeFault;

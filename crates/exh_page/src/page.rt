@@ -1,11 +1,8 @@
 ghost use Rattle.std.specs.Prelude.{◌≡◌, ℕ, ◌↔◌, IsTrue, IsOk, IsSome, IfOk, OnErr};
 
 use crate::{Key, Record, Records, Value};
-use exh_prefix::Prefix;
+use exh_prefix::{PageNo, Prefix};
 use std::alloc::AllocError;
-
-/// A page's number in its ward, from 0 on (exhash profile).
-pub type PageNo = u32;
 
 /// The most records that a page of any file holds (exhash profile).
 pub const CAP_LIMIT: usize = 16;

@@ -5,7 +5,7 @@ pub use laws::{
     beginners_nest, begins_its_range, children_part, equality_is_of_bits, left_child_keeps_low,
     order_is_by_low_bound, order_is_total, right_child_clears,
 };
-pub use prefix::{LIMIT, Prefix};
+pub use prefix::{LIMIT, PageNo, Prefix};
 
 mod laws;
 mod prefix;

@@ -15,6 +15,9 @@ mod tests;
 /// The greatest length of a prefix, in bits (exhash profile).
 pub const LIMIT: u8 = 16;
 
+/// A page's number in its ward, from 0 on (exhash profile).
+pub type PageNo = u32;
+
 /// The leading bits of pseudokeys, 0 to `LIMIT` of them.
 #[derive(Clone, Copy, Debug, PartialEq, Eq, PartialOrd, Ord, Hash)]
 pub struct Prefix {
