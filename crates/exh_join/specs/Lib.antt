@@ -1,2 +1,5 @@
 pub mod Laws
 pub mod LawsLemmas
+pub mod Greater
+pub mod GreaterLemmas
+pub mod Greatest

@@ -1,0 +1,34 @@
+ghost use Rattle.exh_join.specs.Greatest.{greatest_cmp, greatest_laws};
+ghost use Rattle.exh_join.specs.Greater.{IsUpTo, greater};
+
+use crate::Join;
+use std::alloc::AllocError;
+
+/// A number that only grows: the join of two is the greater.
+#[derive(Clone, Copy, Debug, PartialEq, Eq, PartialOrd, Ord, Hash)]
+pub struct Greatest {
+    pub number: u64,
+}
+
+impl Join for Greatest {
+    ghost IsAtMost = { IsUpTo greatest_cmp };
+
+    ghost join = { greater greatest_cmp };
+
+    ghost laws = { greatest_laws };
+
+    fn at_most(&self, other: &Greatest) -> bool {
+        self <= other
+    }
+
+    fn try_clone(&self) -> Result<Greatest, AllocError> {
+        Ok(*self)
+    }
+
+    fn join_in(&mut self, other: &Greatest) -> Result<(), AllocError> {
+        if *self < *other {
+            *self = *other;
+        }
+        Ok(())
+    }
+}
