@@ -1,5 +1,5 @@
 -- The join of values that a total order puts into one row: the greater of two.
-use Rattle.std.specs.Prelude.{Bool, cond, IsTrue}
+use Rattle.std.specs.Prelude.{cond, IsTrue}
 use Rattle.std.specs.declared.cmp.Ordering.{Ordering}
 use Rattle.std.specs.Ordering.{is_le, is_lt}
 

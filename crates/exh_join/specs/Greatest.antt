@@ -1,8 +1,7 @@
 -- Numbers that only grow.
-use Rattle.std.specs.Prelude.{◌≡◌, ℕ, refl}
+use Rattle.std.specs.Prelude.{ℕ}
 use Rattle.std.specs.declared.cmp.Ordering.{Ordering}
 use Rattle.std.specs.Ordering.{nat_cmp, on}
-use Rattle.std.specs.Cmp.{IsTotalOrder}
 use Rattle.std.specs.FinMap.{IsAntisymmetric, nat_cmp-IsAntisymmetric}
 use Rattle.std.proofs.Common.{ap}
 use Rattle.std.proofs.lemmas.Cmp.{nat_cmp_total, on_total}

@@ -1,5 +1,5 @@
 -- What an order and a join are, for any values.
-use Rattle.std.specs.Prelude.{◌≡◌, List}
+use Rattle.std.specs.Prelude.{◌≡◌}
 
 -- a partial order: each value is at most itself, two that are at most each other are one, and what is at most a
 -- value is at most all that it is at most

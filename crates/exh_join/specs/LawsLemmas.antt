@@ -1,5 +1,4 @@
 -- The laws of a join from the fewest that give them all.
-use Rattle.std.proofs.Common.{◌≡◌}
 use Rattle.exh_join.specs.Laws.{IsPartialOrder, IsLeastAboveBoth, JoinLaws}
 
 module _ {V : Type 0} {IsAtMost : V → V → Type 0} {join : V → V → V} (order : IsPartialOrder IsAtMost) (bound : IsLeastAboveBoth IsAtMost join) where

@@ -1,2 +1,3 @@
 pub mod Entry
 pub mod EntryLemmas
+pub mod Laws

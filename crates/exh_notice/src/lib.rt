@@ -3,7 +3,9 @@
 
 pub use entry::{Entry, Kind};
 pub use exh_prefix::PageNo;
+pub use laws::{equality_is_sameness, order_is_by_number, order_is_total};
 pub use notice::Notice;
 
 mod entry;
+mod laws;
 mod notice;
