@@ -1,5 +1,5 @@
 -- A prefix as the list of its bits.
-use Rattle.std.specs.Prelude.{◌≡◌, ℕ, ◌-◌, ◌≤◌, Bool, true, false, not, List, [], ◌∷◌, ◌++◌, length, take, replicate, map, codes}
+use Rattle.std.specs.Prelude.{◌≡◌, ℕ, ◌-◌, ◌≤◌, Bool, true, false, not, ◌&&◌, List, [], ◌∷◌, ◌++◌, length, take, replicate, map, codes}
 use Rattle.std.specs.declared.cmp.Ordering.{Ordering}
 use Rattle.std.specs.Ordering.{nat_cmp, then_cmp, on}
 use Rattle.exh_prefix.specs.Bits.{number_of, word_bits}
@@ -16,6 +16,23 @@ IsFront front bits = take (length front) bits ≡ front
 -- the prefix is the front of the pseudokey's 64 bits
 abbrev pub Begins : List Bool → ℕ → Type 0
 Begins prefix pseudokey = IsFront prefix (word_bits pseudokey)
+
+-- ---- the same as tests
+
+abbrev pub same_bit : Bool → Bool → Bool
+same_bit true bit = bit
+same_bit false bit = not bit
+
+-- whether the bits are the front of the others
+abbrev pub is_front : List Bool → List Bool → Bool
+is_front [] bits = true
+is_front (first ∷ front) [] = false
+is_front (first ∷ front) (bit ∷ bits) = same_bit first bit && is_front front bits
+
+abbrev pub begins : List Bool → ℕ → Bool
+begins prefix pseudokey = is_front prefix (word_bits pseudokey)
+
+-- ---- low bounds
 
 -- the prefix, followed by zeros to 64 bits, as a number
 unfoldable pub low_of : List Bool → ℕ

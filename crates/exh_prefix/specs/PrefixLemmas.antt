@@ -2,7 +2,7 @@
 use Rattle.std.proofs.Common.{◌≡◌, ℕ, zero, suc, ◌+◌, ◌-◌, ◌*◌, ◌/◌, ◌%◌, ◌^◌, ◌<◌, ◌≤◌, Bool, true, false, cond, List, [], ◌∷◌, ◌++◌, length, take, drop, get_or, ◌⊎◌, inl, inr, refl, sym, ap, ◌∙◌, subst, arith, nat_cmp, nat_eq, ◌&&◌, IsTrue, ◌↔◌}
 use Rattle.std.specs.Cmp.{IsTotalOrder}
 use Rattle.std.specs.Int.Bits.{bit_and}
-use Rattle.std.proofs.lemmas.Bool.{false≢true, and_from, and_parts, eqb-true, eq-eqb}
+use Rattle.std.proofs.lemmas.Bool.{false≢true, and_from, and_parts, eqb-true, eq-eqb, false_from_ne_true}
 use Rattle.std.proofs.lemmas.Cmp.{nat_cmp_total, on_total, then_total}
 use Rattle.std.proofs.lemmas.List.{length-append, length-replicate, length-drop, length-take-le, take_at, drop_at, take-append-drop, take-take, append_assoc, take_more, length_push, same_from_push}
 use Rattle.std.proofs.lemmas.Map.Lookups.{CmpEqualImpliesEq, exact_pairs, exact_unsigned}
@@ -10,7 +10,7 @@ use Rattle.std.proofs.lemmas.Nat.{pow-add, pow_pos, mod-mul-add, shl-shr}
 use Rattle.std.proofs.Math.Nat.{pow-suc, zero-mul, mul-le-mul_right, mul-lt-mul_of_pos_right, le-mul_of_pos_right}
 use Rattle.exh_prefix.specs.declared.prefix.TheConstants.{LIMIT}
 use Rattle.exh_prefix.specs.Bits.{number_of, bits_of, word_bits, lowest_cleared, has_one, without_last_one}
-use Rattle.exh_prefix.specs.Prefix.{zeros, IsFront, Begins, low_of, prefix_cmp, HasPrefix}
+use Rattle.exh_prefix.specs.Prefix.{zeros, IsFront, Begins, same_bit, is_front, begins, low_of, prefix_cmp, HasPrefix}
 use Rattle.exh_prefix.specs.BitLemmas.{length-bits_of, number_of-lt, number_of-bits_of, bits_of-number_of, number_of-append, number_of-zeros, same_bits, zeros_from_number, number_of-without_last_one}
 
 last_bit : (bit : Bool) (n w : ℕ) → (n * 2 ^ length (bit ∷ []) + number_of (bit ∷ [])) * w ≡ n * (w * 2) + cond bit w 0
@@ -165,6 +165,39 @@ fronts_nest one other bits shorter first second = ap (take (length one)) (sym se
 -- the front of a front of some bits is the front of the bits
 pub front_of_front : (one other bits : List Bool) → length one ≤ length other → IsFront one other → IsFront other bits → IsFront one bits
 front_of_front one other bits shorter first second = sym (take-take (length one) (length other) bits shorter) ∙ ap (take (length one)) second ∙ first
+
+-- ---- the tests of fronts
+
+same_bit-self : (bit : Bool) → same_bit bit bit ≡ true
+same_bit-self true = refl
+same_bit-self false = refl
+
+same_bit-true : (one other : Bool) → same_bit one other ≡ true → other ≡ one
+same_bit-true true other same = same
+same_bit-true false true same = cc
+same_bit-true false false same = refl
+
+and_true : (a b : Bool) → (a && b) ≡ true → (a ≡ true) × (b ≡ true)
+and_true true b is = (refl, is)
+and_true false b is = cc
+
+pub is_front-true : (front bits : List Bool) → IsFront front bits → is_front front bits ≡ true
+is_front-true [] bits is = refl
+is_front-true (first ∷ front) [] is = cc
+is_front-true (first ∷ front) (bit ∷ bits) is =
+    let head : bit ≡ first = cc in
+    let rest : take (length front) bits ≡ front = cc in
+    rw (head, same_bit-self first) (is_front-true front bits rest)
+
+pub IsFront-from_test : (front bits : List Bool) → is_front front bits ≡ true → IsFront front bits
+IsFront-from_test [] bits is = refl
+IsFront-from_test (first ∷ front) [] is = cc
+IsFront-from_test (first ∷ front) (bit ∷ bits) is =
+    let both = and_true (same_bit first bit) (is_front front bits) is in
+    rw (same_bit-true first bit both.0, IsFront-from_test front bits both.1) refl
+
+pub not_front : (front bits : List Bool) → (IsFront front bits → ⊥) → is_front front bits ≡ false
+not_front front bits none = false_from_ne_true _ (λ is. none (IsFront-from_test front bits is))
 
 -- ---- children, and the last bit
 

@@ -5,7 +5,8 @@ use Rattle.std.specs.Option.{is_some}
 use Rattle.std.proofs.lemmas.Bool.{leb-true, le-leb, lt-leb, cases_lt, false_from_ne_true}
 use Rattle.exh_prefix.specs.declared.prefix.TheConstants.{LIMIT}
 use Rattle.exh_prefix.specs.Bits.{word_bits}
-use Rattle.exh_prefix.specs.Prefix.{IsFront}
+use Rattle.exh_prefix.specs.Prefix.{Begins, begins}
+use Rattle.exh_prefix.specs.PrefixLemmas.{is_front-true, not_front}
 use Rattle.exh_page.specs.declared.page.Page.{Page}
 use Rattle.exh_page.specs.declared.page.Page.TheVariants.{Live, Forward}
 use Rattle.exh_page.specs.Page.{low_bound}
@@ -13,44 +14,17 @@ use Rattle.exh_ward.specs.Call.{key_of}
 use Rattle.exh_ward.specs.KeyMap.{KeyMap}
 use Rattle.exh_ward.specs.MapMachine.{reply_of}
 use Rattle.exh_ward.specs.Pages.{IsHome, map_of}
-use Rattle.exh_ward.specs.HopTable.{same_bit, is_front, overflows, hop_at, hop_of, IsReached, LeadsTo, Overflows, HopOf}
+use Rattle.exh_ward.specs.HopTable.{overflows, hop_at, hop_of, IsReached, LeadsTo, Overflows, HopOf}
 use Rattle.exh_ward.specs.declared.call.Call.{Call}
 use Rattle.exh_ward.specs.declared.call.Call.TheVariants.{Get, Put, Del}
 use Rattle.exh_ward.specs.declared.hop.Hop.{Hop}
 use Rattle.exh_ward.specs.declared.hop.Hop.TheVariants.{Done, Moved, MustSplit, Stray}
 
--- ---- fronts
-
-same_bit-self : (bit : Bool) → same_bit bit bit ≡ true
-same_bit-self true = refl
-same_bit-self false = refl
-
-same_bit-true : (one other : Bool) → same_bit one other ≡ true → other ≡ one
-same_bit-true true other same = same
-same_bit-true false true same = cc
-same_bit-true false false same = refl
+-- ---- tests
 
 and_true : (a b : Bool) → (a && b) ≡ true → (a ≡ true) × (b ≡ true)
 and_true true b is = (refl, is)
 and_true false b is = cc
-
-pub is_front-true : (front bits : List Bool) → IsFront front bits → is_front front bits ≡ true
-is_front-true [] bits is = refl
-is_front-true (first ∷ front) [] is = cc
-is_front-true (first ∷ front) (bit ∷ bits) is =
-    let head : bit ≡ first = cc in
-    let rest : take (length front) bits ≡ front = cc in
-    rw (head, same_bit-self first) (is_front-true front bits rest)
-
-pub IsFront-from_test : (front bits : List Bool) → is_front front bits ≡ true → IsFront front bits
-IsFront-from_test [] bits is = refl
-IsFront-from_test (first ∷ front) [] is = cc
-IsFront-from_test (first ∷ front) (bit ∷ bits) is =
-    let both = and_true (same_bit first bit) (is_front front bits) is in
-    rw (same_bit-true first bit both.0, IsFront-from_test front bits both.1) refl
-
-pub not_front : (front bits : List Bool) → (IsFront front bits → ⊥) → is_front front bits ≡ false
-not_front front bits none = false_from_ne_true _ (λ is. none (IsFront-from_test front bits is))
 
 -- ---- overflow
 

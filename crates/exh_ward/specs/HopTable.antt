@@ -1,10 +1,9 @@
 -- The hop table: what one hop of a call at a page comes to, and the pages that it leaves.
-use Rattle.std.specs.Prelude.{◌≡◌, ℕ, ◌<◌, ◌≤◌, Bool, true, false, not, ◌&&◌, nat_le, nat_lt, if◌then◌else◌, List, [], ◌∷◌, length, slice_get, slice_set, Some, None}
+use Rattle.std.specs.Prelude.{◌≡◌, ℕ, ◌<◌, ◌≤◌, Bool, false, not, ◌&&◌, nat_le, nat_lt, if◌then◌else◌, List, length, slice_get, slice_set, Some, None}
 use Rattle.std.specs.Option.{option_map_or}
 use Rattle.std.specs.FinMap as map
 use Rattle.exh_prefix.specs.declared.prefix.TheConstants.{LIMIT}
-use Rattle.exh_prefix.specs.Bits.{word_bits}
-use Rattle.exh_prefix.specs.Prefix.{Begins}
+use Rattle.exh_prefix.specs.Prefix.{Begins, begins}
 use Rattle.exh_page.specs.declared.page.Page.{Page}
 use Rattle.exh_page.specs.declared.page.Page.TheVariants.{Live, Forward}
 use Rattle.exh_page.specs.Page.{low_bound, records_of, with_records}
@@ -43,19 +42,6 @@ HopOf cap pseudo pages at call (Done reply) =
     × (reply ≡ reply_of cap pseudo (map_of pages) call)
 
 -- ---- the same table as a function, for whoever computes with it
-
-abbrev pub same_bit : Bool → Bool → Bool
-same_bit true bit = bit
-same_bit false bit = not bit
-
--- whether the bits are the front of the others
-abbrev pub is_front : List Bool → List Bool → Bool
-is_front [] bits = true
-is_front (first ∷ front) [] = false
-is_front (first ∷ front) (bit ∷ bits) = same_bit first bit && is_front front bits
-
-abbrev pub begins : List Bool → ℕ → Bool
-begins prefix pseudokey = is_front prefix (word_bits pseudokey)
 
 abbrev pub overflows : ℕ → KeyMap → Page → Call → Bool
 overflows cap m (Live prefix right records) (Put key value) = not (map.contains_key m key) && (nat_le cap (length records) && nat_lt (length prefix) LIMIT)
