@@ -1,7 +1,7 @@
 -- Pages: buckets of records, and forwarding pages.
-use Rattle.std.specs.Prelude.{◌≡◌, ⊤, ◌≢◌, ℕ, ◌-◌, ◌^◌, ◌≤◌, Bool, List, [], length, Some}
+use Rattle.std.specs.Prelude.{◌≡◌, ⊤, ◌≢◌, ℕ, ◌-◌, ◌^◌, ◌≤◌, Bool, List, [], length, filter, Some}
 use Rattle.std.specs.List.{AllByRecursion}
-use Rattle.exh_prefix.specs.Prefix.{Begins, low_of, HasPrefix}
+use Rattle.exh_prefix.specs.Prefix.{Begins, begins, low_of, HasPrefix}
 use Rattle.exh_prefix.specs.declared.prefix.TheConstants.{LIMIT}
 use Rattle.exh_page.specs.declared.page.Page.{Page}
 use Rattle.exh_page.specs.declared.page.Page.TheVariants.{Live, Forward}
@@ -33,6 +33,10 @@ pub record AreRecordsOf (pseudo : List ℕ → ℕ) (prefix : List Bool) (record
   pub rising : IsRising records
   pub hashed : AllByRecursion (λ r. r.pseudokey ≡ pseudo r.key) records
   pub begun : AllByRecursion (λ r. Begins prefix r.pseudokey) records
+
+-- the records whose pseudokeys the prefix begins, in their order
+abbrev pub begun_by : List Bool → List Record → List Record
+begun_by prefix records = filter (λ r. begins prefix r.pseudokey) records
 
 -- well formed under a keyer's pseudokeys, which is what every page of any file is
 abbrev pub IsWellFormed : (List ℕ → ℕ) → Page → Type 0

@@ -1,0 +1,3 @@
+pub mod KeyMap
+pub mod Pages
+pub mod Change

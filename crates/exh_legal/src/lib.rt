@@ -1,0 +1,2 @@
+//! The pages of a ward: what makes them legal, and what splits and merges change.
+#![tactic(auto)]
