@@ -1,0 +1,13 @@
+//! Stores of pages: lists of pages that a ward reads, changes and grows, wherever they lie (exhash
+//! profile).
+#![tactic(auto)]
+
+pub use pages::Pages;
+pub use pages_fault::PagesFault;
+pub use plain_pages::PlainPages;
+
+mod pages;
+mod pages_fault;
+mod plain_pages;
+#[cfg(test)]
+mod tests;

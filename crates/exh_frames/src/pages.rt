@@ -1,0 +1,114 @@
+ghost use Rattle.std.specs.Prelude.{◌≡◌, ◌≢◌, ℕ, ◌-◌, ◌^◌, ◌<◌, List, [], ◌∷◌, ◌++◌, length, slice_get, slice_set, Some, IfOk, OnOk, OnErr};
+ghost use Rattle.std.specs.Borrow.{sem};
+ghost use Rattle.exh_page.specs.Page.{IsLive, records_of, with_records};
+ghost use Rattle.exh_page.specs.Place.{place_of};
+ghost use Rattle.exh_page.specs.Records.{value_at, with_record, without_place};
+ghost use Rattle.exh_page.specs.declared.page.Page.{Page};
+ghost use Rattle.exh_frames.specs.PageStore.{IfPage, CountsFaults, TakesTheSame, LeavesBehind};
+
+use crate::PagesFault;
+use exh_page::{Key, Page, PageNo, Record, Value};
+
+/// A store of pages, numbered from 0 on in the order in which they came (exhash profile). Each call
+/// that answers a `Result` may be refused: `PagesFault::Page` where a page couldn't be reached, which
+/// the store counts as a failure, else `PagesFault::Memory`. Its pages are then as before.
+pub trait Pages {
+    /// The pages, by their numbers.
+    ghost pages: { Self → List Page };
+
+    /// The pages that may be handed in, which are always the same.
+    ghost takes: { Self → Page → Type 0 };
+
+    /// How many calls have answered a page fault. It never falls.
+    ghost failures: { Self → ℕ };
+
+    /// How many pages there are. It takes no memory.
+    fn count(&self) -> PageNo
+        ensures { result ≡ length (pages self.now) };
+
+    /// How often a page couldn't be reached. It takes no memory.
+    fn failures(&self) -> u64
+        ensures { result ≡ failures self.now };
+
+    /// A page equal to the one of this number.
+    fn get(&mut self, number: PageNo) -> Result<Page, PagesFault>
+        requires { number < length (pages self.old) }
+        ensures page { IfOk result (λ page. slice_get (pages self.old) number ≡ Some page) }
+        ensures pages { pages self.new ≡ pages self.old }
+        ensures failures { CountsFaults result (failures self.old) (failures self.new) }
+        ensures takes { TakesTheSame takes self.old self.new };
+
+    /// The page of this number itself, to be read in place.
+    fn lend(&mut self, number: PageNo) -> Result<&Page, PagesFault>
+        requires { number < length (pages self.old) }
+        ensures page { IfOk result (λ page. slice_get (pages self.old) number ≡ Some page.now) }
+        ensures* store { sem 𝓛 (LeavesBehind Self.row self.entry (λ left. (pages left ≡ pages self.old) × CountsFaults result (failures self.old) (failures left) × TakesTheSame takes self.old left)) };
+
+    /// Puts a record into a live page in place, and answers the value that it replaces, or `None`
+    /// where it is new. The page with the record is one that the store takes.
+    fn put(&mut self, number: PageNo, item: Record) -> Result<Option<Value>, PagesFault>
+        requires there { number < length (pages self.old) }
+        requires live { IfPage (pages self.old) number IsLive }
+        requires taken { IfPage (pages self.old) number (λ page. takes self.old (with_records (with_record item (records_of page)) page)) }
+        ensures old { IfOk result (λ old. IfPage (pages self.old) number (λ page. old ≡ value_at (place_of item) (records_of page))) }
+        ensures ok { OnOk result (IfPage (pages self.old) number (λ page. pages self.new ≡ slice_set (pages self.old) number (with_records (with_record item (records_of page)) page))) }
+        ensures err { OnErr result (pages self.new ≡ pages self.old) }
+        ensures failures { CountsFaults result (failures self.old) (failures self.new) }
+        ensures takes { TakesTheSame takes self.old self.new };
+
+    /// Takes the record of a key with this pseudokey out of a live page in place, and answers its
+    /// value, or `None` where there is none. The page without it is one that the store takes.
+    fn remove(
+        &mut self,
+        number: PageNo,
+        pseudokey: u64,
+        key: &Key,
+    ) -> Result<Option<Value>, PagesFault>
+        requires there { number < length (pages self.old) }
+        requires live { IfPage (pages self.old) number IsLive }
+        requires taken { IfPage (pages self.old) number (λ page. takes self.old (with_records (without_place (pseudokey, key.now) (records_of page)) page)) }
+        ensures old { IfOk result (λ old. IfPage (pages self.old) number (λ page. old ≡ value_at (pseudokey, key.now) (records_of page))) }
+        ensures ok { OnOk result (IfPage (pages self.old) number (λ page. pages self.new ≡ slice_set (pages self.old) number (with_records (without_place (pseudokey, key.now) (records_of page)) page))) }
+        ensures err { OnErr result (pages self.new ≡ pages self.old) }
+        ensures failures { CountsFaults result (failures self.old) (failures self.new) }
+        ensures takes { TakesTheSame takes self.old self.new };
+
+    /// Puts a page in place of the one of this number.
+    fn set(&mut self, number: PageNo, page: Page) -> Result<(), PagesFault>
+        requires there { number < length (pages self.old) }
+        requires taken { takes self.old page }
+        ensures ok { OnOk result (pages self.new ≡ slice_set (pages self.old) number page) }
+        ensures err { OnErr result (pages self.new ≡ pages self.old) }
+        ensures failures { CountsFaults result (failures self.old) (failures self.new) }
+        ensures takes { TakesTheSame takes self.old self.new };
+
+    /// Puts two pages in place of those of two numbers, both or neither.
+    fn set_two(
+        &mut self,
+        number: PageNo,
+        page: Page,
+        other: PageNo,
+        twin: Page,
+    ) -> Result<(), PagesFault>
+        requires there { number < length (pages self.old) }
+        requires other_there { other < length (pages self.old) }
+        requires apart { number ≢ other }
+        requires taken { takes self.old page }
+        requires twin_taken { takes self.old twin }
+        ensures ok { OnOk result (pages self.new ≡ slice_set (slice_set (pages self.old) number page) other twin) }
+        ensures err { OnErr result (pages self.new ≡ pages self.old) }
+        ensures failures { CountsFaults result (failures self.old) (failures self.new) }
+        ensures takes { TakesTheSame takes self.old self.new };
+
+    /// Adds a page, whose number is the count so far, and puts another in place of the one of this
+    /// number, both or neither. The greatest number of 32 bits is no page's.
+    fn grow_and_set(&mut self, new: Page, number: PageNo, page: Page) -> Result<(), PagesFault>
+        requires there { number < length (pages self.old) }
+        requires room { length (pages self.old) < 2 ^ 32 - 1 }
+        requires new_taken { takes self.old new }
+        requires taken { takes self.old page }
+        ensures ok { OnOk result (pages self.new ≡ slice_set (pages self.old) number page ++ new ∷ []) }
+        ensures err { OnErr result (pages self.new ≡ pages self.old) }
+        ensures failures { CountsFaults result (failures self.old) (failures self.new) }
+        ensures takes { TakesTheSame takes self.old self.new };
+}

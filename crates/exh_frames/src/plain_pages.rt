@@ -1,0 +1,98 @@
+ghost use Rattle.std.specs.Prelude.{◌≡◌, [], ◌∷◌, IfOk};
+
+use crate::{Pages, PagesFault};
+use exh_page::{Key, Page, PageNo, Record, Value};
+use std::alloc::{AllocError, Global};
+use std::marker::Model;
+
+/// Pages in memory (exhash profile). It takes every page, and never answers a page fault.
+#[derive(Drop)]
+pub struct PlainPages {
+    pages: Vec<Page>,
+}
+
+impl Model for PlainPages {
+    ghost use Rattle.std.specs.Prelude.{◌^◌, ◌<◌, List, length};
+    ghost use Rattle.exh_page.specs.declared.page.Page.{Page};
+
+    ghost Value = { List Page };
+
+    ghost view = { λ a. a.pages.items };
+
+    ghost invariant = { λ a. length a.pages.items < 2 ^ 32 };
+}
+
+impl PlainPages {
+    /// A store of one page, number 0. It takes memory: an `AllocError` where that is refused.
+    pub fn new(alloc: Global, first: Page) -> Result<PlainPages, AllocError>
+        ensures { IfOk result (λ store. store ≡ first ∷ []) }
+    {
+        let mut pages = Vec::new(alloc);
+        pages.push(first)?;
+        Ok(PlainPages { pages })
+    }
+}
+
+impl Pages for PlainPages {
+    ghost use Rattle.std.specs.Prelude.{⊤};
+
+    ghost pages = { λ store. store };
+
+    ghost takes = { λ _ _. ⊤ };
+
+    ghost failures = { λ _. 0 };
+
+    fn count(&self) -> PageNo {
+        self.pages.len() as PageNo
+    }
+
+    fn failures(&self) -> u64 {
+        0
+    }
+
+    fn get(&mut self, number: PageNo) -> Result<Page, PagesFault> {
+        Ok(self.pages[number as usize].try_clone()?)
+    }
+
+    fn lend(&mut self, number: PageNo) -> Result<&Page, PagesFault> {
+        Ok(&self.pages[number as usize])
+    }
+
+    fn put(&mut self, number: PageNo, item: Record) -> Result<Option<Value>, PagesFault> {
+        Ok(self.pages[number as usize].put(item)?)
+    }
+
+    fn remove(
+        &mut self,
+        number: PageNo,
+        pseudokey: u64,
+        key: &Key,
+    ) -> Result<Option<Value>, PagesFault> {
+        Ok(self.pages[number as usize].remove(pseudokey, key))
+    }
+
+    fn set(&mut self, number: PageNo, page: Page) -> Result<(), PagesFault> {
+        self.pages[number as usize] = page;
+        Ok(())
+    }
+
+    fn set_two(
+        &mut self,
+        number: PageNo,
+        page: Page,
+        other: PageNo,
+        twin: Page,
+    ) -> Result<(), PagesFault> {
+        self.pages[number as usize] = page;
+        self.pages[other as usize] = twin;
+        Ok(())
+    }
+
+    fn grow_and_set(&mut self, new: Page, number: PageNo, page: Page) -> Result<(), PagesFault> {
+        // Room for the new page first: nothing may fail once a page has changed.
+        self.pages.reserve(1)?;
+        self.pages[number as usize] = page;
+        self.pages.push_reserved(new);
+        Ok(())
+    }
+}
