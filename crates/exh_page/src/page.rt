@@ -26,10 +26,10 @@ pub enum Page {
 }
 
 impl Page {
-    ghost use Rattle.std.specs.Prelude.{◌≡◌, ◌↔◌, IsTrue, IsOk, IsSome, IfOk, OnErr};
+    ghost use Rattle.std.specs.Prelude.{◌≡◌, ◌++◌, ◌↔◌, IsTrue, IsOk, IsSome, IfOk, OnErr};
     ghost use Rattle.exh_page.specs.Place.{place_of};
-    ghost use Rattle.exh_page.specs.Records.{value_at, with_record, without_place};
-    ghost use Rattle.exh_page.specs.Page.{low_bound, records_of, with_records, IsLive};
+    ghost use Rattle.exh_page.specs.Records.{IsRising, value_at, with_record, without_place};
+    ghost use Rattle.exh_page.specs.Page.{low_bound, records_of, share_of, with_records, IsDivisible, IsLive};
 
     /// The low bound: the least pseudokey that the page is for (exhash profile).
     pub fn low(&self) -> u64
@@ -88,6 +88,46 @@ impl Page {
         match self {
             Page::Live { records, .. } => records.remove(pseudokey, key),
             Page::Forward { .. } => unreachable!(),
+        }
+    }
+
+    /// The records that a split gives the child of a live page's prefix by this bit, in their order;
+    /// no key is hashed (Fagin et al. 1979). The prefix is shorter than `LIMIT`. It takes memory for
+    /// the records: an `AllocError` where that is refused.
+    pub fn divide(&self, bit: bool) -> Result<Records, AllocError>
+        requires { IsDivisible self.now }
+        ensures { IfOk result (λ records. records ≡ share_of bit self.now) }
+    {
+        match self {
+            Page::Live {
+                prefix,
+                records,
+                ..
+            } => match prefix.child(bit) {
+                Some(child) => records.begun_by(child),
+                None => unreachable!(),
+            },
+            Page::Forward { .. } => unreachable!(),
+        }
+    }
+
+    /// The records that a merge gives a page: its own, and those of its right buddy, which stand
+    /// after them all. It takes memory for the records: an `AllocError` where that is refused.
+    pub fn absorb(&self, buddy: &Page) -> Result<Records, AllocError>
+        requires live { IsLive self.now }
+        requires buddy_live { IsLive buddy.now }
+        requires rising { IsRising (records_of self.now ++ records_of buddy.now) }
+        ensures { IfOk result (λ records. records ≡ records_of self.now ++ records_of buddy.now) }
+    {
+        match (self, buddy) {
+            (
+                Page::Live { records, .. },
+                Page::Live {
+                    records: others,
+                    ..
+                },
+            ) => { records.followed_by(others) }
+            _ => unreachable!(),
         }
     }
 

@@ -1,9 +1,11 @@
-ghost use Rattle.std.specs.Prelude.{◌≡◌, ℕ, ◌<◌, List, [], ◌↔◌, length, vec_len, slice_get, take, drop, IsTrue, IsOk, IsSome, IfOk, IfErr, OnErr};
+ghost use Rattle.std.specs.Prelude.{◌≡◌, ℕ, ◌<◌, List, [], ◌++◌, ◌↔◌, length, vec_len, slice_get, take, drop, IsTrue, IsOk, IsSome, IfOk, IfErr, OnErr};
 ghost use Rattle.exh_page.specs.Place.{place_of};
 ghost use Rattle.exh_page.specs.Records.{IsRising, value_at, with_record, without_place};
+ghost use Rattle.exh_page.specs.Page.{begun_by};
 ghost use Rattle.exh_page.specs.Search.{IsFound, IsGap};
 
 use crate::{Key, Record, Value};
+use exh_prefix::Prefix;
 use std::alloc::{AllocError, Global};
 use std::cmp::Ordering;
 use std::marker::Model;
@@ -118,6 +120,31 @@ impl Records {
             Ok(at) => Some(self.records.remove(at).value),
             Err(_) => None,
         }
+    }
+
+    /// The records whose pseudokeys a prefix begins, in their order (Fagin et al. 1979). It takes
+    /// memory, room for as many as there are here: an `AllocError` where that is refused.
+    pub fn begun_by(&self, prefix: Prefix) -> Result<Records, AllocError>
+        ensures { IfOk result (λ records. records ≡ begun_by prefix self.now) }
+    {
+        let mut records = Vec::with_capacity(*self.records.allocator(), self.len())?;
+        for record in &self.records {
+            if prefix.begins(record.pseudokey) {
+                records.push(*record)?;
+            }
+        }
+        Ok(Records { records })
+    }
+
+    /// These records and others, each of which stands after all of these. It takes memory for them:
+    /// an `AllocError` where that is refused.
+    pub fn followed_by(&self, others: &Records) -> Result<Records, AllocError>
+        requires { IsRising (self.now ++ others.now) }
+        ensures { IfOk result (λ records. records ≡ self.now ++ others.now) }
+    {
+        let mut records = self.records.clone()?;
+        records.extend_from_slice(&others.records)?;
+        Ok(Records { records })
     }
 
     /// Records equal to these. It takes memory for them: an `AllocError` where that is refused.

@@ -162,6 +162,33 @@ fn a_live_page(rt: HostRuntime) -> Result<(), Fail> {
 }
 
 #[test]
+fn a_page_is_divided(rt: HostRuntime) -> Result<(), Fail> {
+    // Of the prefix 10 the left child begins 0x80 to 0x9f, the right one 0xa0 to 0xbf.
+    let (first, second) = (
+        record(0x80 << 56, b"f", b"1")?,
+        record((0xa0 << 56) - 1, b"e", b"2")?,
+    );
+    let (third, fourth) = (
+        record(0xa0 << 56, b"d", b"3")?,
+        record(0xbf << 56, b"c", b"4")?,
+    );
+    let mut records = Records::new(rt.alloc());
+    for item in [fourth, second, first, third] {
+        assert_eq!(rt; records.put(item)?, None);
+    }
+    let page = Page::Live {
+        prefix: Prefix::new(2, 1 << 63).ok_or("two bits")?,
+        right: None,
+        records,
+    };
+    let left = page.divide(false)?;
+    assert_eq!(rt; left.as_slice(), [first, second].as_slice());
+    let right = page.divide(true)?;
+    assert_eq!(rt; right.as_slice(), [third, fourth].as_slice());
+    Ok(())
+}
+
+#[test]
 fn a_forwarding_page(rt: HostRuntime) -> Result<(), Fail> {
     let page = Page::Forward {
         low: 3 << 62,
