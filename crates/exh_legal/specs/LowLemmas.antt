@@ -1,0 +1,74 @@
+-- Prefixes and the low bounds of their children.
+use Rattle.std.proofs.Common.{◌≡◌, ℕ, zero, suc, ◌+◌, ◌-◌, ◌*◌, ◌^◌, ◌<◌, ◌≤◌, Bool, true, false, List, [], ◌∷◌, ◌++◌, length, take, refl, sym, ap, ◌∙◌, arith}
+use Rattle.std.proofs.lemmas.List.{length_push, take-append-le, take_all, append_assoc}
+use Rattle.std.proofs.lemmas.Nat.{pow_pos}
+use Rattle.std.proofs.Math.Nat.{pow-suc}
+use Rattle.exh_prefix.specs.declared.prefix.TheConstants.{LIMIT}
+use Rattle.exh_prefix.specs.Bits.{word_bits}
+use Rattle.exh_prefix.specs.Prefix.{zeros, IsFront, Begins, low_of}
+use Rattle.exh_prefix.specs.PrefixLemmas.{low_of-lt, low_of-child, low_of-left_child, begins_from_low, begins_low, length-word_bits, word_bits-low_of}
+
+pub own_front : (bits : List Bool) → IsFront bits bits
+own_front bits = take_all (length bits) bits (omega arith)
+
+-- a front is no longer than what it is the front of
+pub front_shorter : (front bits : List Bool) → IsFront front bits → length front ≤ length bits
+front_shorter [] bits is = omega arith
+front_shorter (first ∷ front) [] is = cc
+front_shorter (first ∷ front) (bit ∷ bits) is =
+    let rest : take (length front) bits ≡ front = cc in
+    omega (arith, front_shorter front bits rest)
+
+pub front_of_longer : (front bits more : List Bool) → IsFront front bits → IsFront front (bits ++ more)
+front_of_longer front bits more is = take-append-le (length front) bits more (front_shorter front bits is) ∙ is
+
+pub low_of-small : (prefix : List Bool) → length prefix ≤ LIMIT → low_of prefix < 2 ^ 64
+low_of-small prefix short = omega (arith, low_of-lt prefix (omega arith), pow_pos (64 - length prefix))
+
+-- a prefix begins its low bound
+pub begins_own_low : (prefix : List Bool) → length prefix ≤ LIMIT → Begins prefix (low_of prefix)
+begins_own_low prefix short = begins_from_low prefix (low_of prefix) (omega arith) (omega arith) (omega (arith, pow_pos (64 - length prefix)))
+
+-- the low bound of the right child is above the parent's, which the left one keeps
+pub right_above : (prefix : List Bool) → length prefix < LIMIT → low_of prefix < low_of (prefix ++ true ∷ [])
+right_above prefix short = omega (arith, low_of-child prefix true (omega arith), pow_pos (63 - length prefix))
+
+pub left_keeps : (prefix : List Bool) → length prefix < LIMIT → low_of (prefix ++ false ∷ []) ≡ low_of prefix
+left_keeps prefix short = low_of-left_child prefix (omega arith)
+
+pub child_short : (prefix : List Bool) (bit : Bool) → length prefix < LIMIT → length (prefix ++ bit ∷ []) ≤ LIMIT
+child_short prefix bit short = omega (arith, length_push prefix bit)
+
+no_one : (m : ℕ) (bits : List Bool) (n : ℕ) → zeros m ≡ bits ++ true ∷ zeros n → ⊥
+no_one zero [] n same = cc
+no_one zero (bit ∷ bits) n same = cc
+no_one (suc m) [] n same = cc
+no_one (suc m) (bit ∷ bits) n same = let rest : zeros m ≡ bits ++ true ∷ zeros n = cc in no_one m bits n rest
+
+-- what lies between the low bounds of a prefix and its right child, the prefix begins
+pub begins_between : (prefix : List Bool) (number : ℕ) → length prefix < LIMIT → low_of prefix ≤ number → number < low_of (prefix ++ true ∷ []) → Begins prefix number
+begins_between prefix number short above below =
+    let more : 64 - length prefix ≡ suc (63 - length prefix) = omega arith in
+    let double : 2 ^ (64 - length prefix) ≡ 2 ^ (63 - length prefix) * 2 = ap (λ n. 2 ^ n) more ∙ pow-suc 2 (63 - length prefix) in
+    begins_from_low prefix number (omega arith) above (omega (arith, low_of-child prefix true (omega arith), double))
+
+-- a child begins no less than its parent does
+pub child_above : (prefix : List Bool) (bit : Bool) → length prefix < LIMIT → low_of prefix ≤ low_of (prefix ++ bit ∷ [])
+child_above prefix bit short = omega (arith, low_of-child prefix bit (omega arith))
+
+-- ---- a low bound of a right child tells its parent
+
+same_before : (one other : List Bool) (m n : ℕ) → one ++ true ∷ zeros m ≡ other ++ true ∷ zeros n → one ≡ other
+same_before [] [] m n same = refl
+same_before [] (bit ∷ other) m n same = let rest : zeros m ≡ other ++ true ∷ zeros n = cc in absurd (no_one m other n rest)
+same_before (bit ∷ one) [] m n same = let rest : one ++ true ∷ zeros m ≡ zeros n = cc in absurd (no_one n one m (sym rest))
+same_before (first ∷ one) (bit ∷ other) m n same =
+    let head : first ≡ bit = cc in
+    let rest : one ++ true ∷ zeros m ≡ other ++ true ∷ zeros n = cc in
+    rw (head, same_before one other m n rest) refl
+
+pub right_tells_parent : (one other : List Bool) → length one < LIMIT → length other < LIMIT → low_of (one ++ true ∷ []) ≡ low_of (other ++ true ∷ []) → one ≡ other
+right_tells_parent one other short few same =
+    let word : (prefix : List Bool) → length prefix < LIMIT → word_bits (low_of (prefix ++ true ∷ [])) ≡ prefix ++ true ∷ zeros (64 - length (prefix ++ true ∷ [])) =
+    λ prefix short. word_bits-low_of (prefix ++ true ∷ []) (omega (arith, length_push prefix true)) ∙ append_assoc prefix (true ∷ []) _ in
+    same_before one other _ _ (sym (word one short) ∙ ap word_bits same ∙ word other few)
