@@ -15,10 +15,10 @@ use Rattle.exh_page.specs.Page.{AreRecordsOf, IsLive, low_bound, records_of, beg
 use Rattle.exh_page.specs.Place.{Place}
 use Rattle.exh_page.specs.Records.{is_at, value_at}
 use Rattle.exh_page.specs.RecordsLemmas.{AllByRecursion-filter, IsRising-filter, filter-passes}
-use Rattle.exh_legal.specs.Pages.{map_of, IsAt, IsHome, IsLegalPage, IsLegal, AreLinked}
+use Rattle.exh_legal.specs.Pages.{map_of, IsAt, IsHome, IsLegalPage, IsLegal, bare}
 use Rattle.exh_legal.specs.Change.{IsForwardOf, IsRevived, IsFresh, IsSplit}
 use Rattle.exh_legal.specs.LowLemmas.{right_above}
-use Rattle.exh_legal.specs.BareLemmas.{bare, bare_at, at_bare, bare_low, bare_same}
+use Rattle.exh_legal.specs.BareLemmas.{bare_at, at_bare, bare_low, bare_same}
 use Rattle.exh_legal.specs.MapLemmas.{place_of_key, same_maps, found_at, found_alike, found_in_begun, page_at, all_pages, get-map_of_pages, found_at_home, none_elsewhere}
 use Rattle.exh_legal.proofs.SplitLinks.{IsParted, parted_linked, became}
 

@@ -1,15 +1,11 @@
 -- Pages without their records.
 use Rattle.std.proofs.Common.{◌≡◌, ℕ, List, [], ◌∷◌, length, slice_get, Option, None, Some, refl, sym, ap, ◌∙◌}
-use Rattle.std.specs.Prelude.{map}
 use Rattle.std.specs.Option.{option_map}
 use Rattle.std.proofs.lemmas.Option.{slice_get-map}
 use Rattle.exh_page.specs.declared.page.Page.{Page}
 use Rattle.exh_page.specs.declared.page.Page.TheVariants.{Live, Forward}
 use Rattle.exh_page.specs.Page.{low_bound, with_records}
-use Rattle.exh_legal.specs.Pages.{IsAt}
-
-abbrev pub bare : List Page → List Page
-bare pages = map (with_records []) pages
+use Rattle.exh_legal.specs.Pages.{IsAt, bare}
 
 pub bare_at : (pages : List Page) (number : ℕ) (page : Page) → IsAt pages number page → IsAt (bare pages) number (with_records [] page)
 bare_at pages number page is = slice_get-map (with_records []) pages number ∙ ap (option_map (with_records [])) is

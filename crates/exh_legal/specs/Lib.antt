@@ -1,6 +1,9 @@
 pub mod KeyMap
 pub mod Pages
 pub mod Change
+pub mod Growth
+pub mod Fit
+pub mod Numbers
 pub mod LowLemmas
 pub mod BareLemmas
 pub mod MapLemmas

@@ -20,7 +20,7 @@ pair_of r = (r.key, r.value)
 abbrev pub map_of : List Page → KeyMap
 map_of pages = from_entries (map pair_of (flat_map records_of pages))
 
--- ---- legal pages
+-- ---- a legal page
 
 -- a page's records are those of its prefix, at most cap
 abbrev pub IsLegalPage : ℕ → (List ℕ → ℕ) → Page → Type 0
@@ -80,8 +80,12 @@ pub record AreLinked (ward : List Bool) (pages : List Page) : Type 0 where
   -- right links and forwarding targets
   pub links : (number : ℕ) (page : Page) → IsAt pages number page → IsLinkedPage pages page
 
--- ---- a legal ward
+-- ---- legal pages of a ward
+
+-- the pages without their records
+abbrev pub bare : List Page → List Page
+bare pages = map (with_records []) pages
 
 pub record IsLegal (cap : ℕ) (pseudo : List ℕ → ℕ) (ward : List Bool) (pages : List Page) : Type 0 where
   pub each : AllByRecursion (IsLegalPage cap pseudo) pages
-  pub linked : AreLinked ward (map (with_records []) pages)
+  pub linked : AreLinked ward (bare pages)
