@@ -4,6 +4,7 @@
 
 pub use exh_prefix::PageNo;
 pub use key::{KEY_LIMIT, Key};
+pub use laws::{buddies_unite, children_share_all, shares_are_records};
 pub use page::{CAP_LIMIT, Page};
 pub use record::Record;
 pub use records::Records;
@@ -11,6 +12,7 @@ pub use size_fault::SizeFault;
 pub use value::{VALUE_LIMIT, Value};
 
 mod key;
+mod laws;
 mod page;
 mod record;
 mod records;

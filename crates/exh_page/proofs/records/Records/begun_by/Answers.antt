@@ -1,4 +1,4 @@
-use Rattle.std.proofs.Common.{◌≡◌, sym, subst, ◌∙◌, arith}
+use Rattle.std.proofs.Common.{sym, subst, arith}
 use Rattle.exh_page.specs.Records.{IsRising}
 use Rattle.exh_page.proofs.Begun.{begun_pushed, begun_passed, begun_rise}
 use Rattle.exh_page.proofs.records.Records.begun_by.Goals as goal
