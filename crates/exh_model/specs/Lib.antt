@@ -1,0 +1,2 @@
+pub mod MachineState
+pub mod Pairs

@@ -1,0 +1,8 @@
+-- A map machine as a value.
+use Rattle.std.specs.Prelude.{ℕ}
+use Rattle.exh_ward.specs.KeyMap.{KeyMap}
+
+pub record MachineState (K : Type 0) : Type 0 where
+  pub cap : ℕ
+  pub keyer : K
+  pub map : KeyMap

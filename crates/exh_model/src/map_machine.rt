@@ -1,0 +1,109 @@
+ghost use Rattle.std.specs.Prelude.{◌≡◌, ◌↔◌, IsTrue, IfOk, OnErr};
+ghost use Rattle.std.specs.FinMap as map;
+ghost use Rattle.exh_ward.specs.MapMachine.{leading, sharing, is_full, reply_of, map_after};
+
+use crate::PairMap;
+use exh_keyer::Keyer;
+use exh_page::Key;
+use exh_prefix::LIMIT;
+use exh_ward::{Call, Reply};
+use std::alloc::{AllocError, Global};
+use std::marker::Model;
+
+/// A map that answers calls as the whole file answers them, one after another (exhash profile).
+#[derive(Drop)]
+pub struct MapMachine<K: Keyer> {
+    cap: usize,
+    keyer: K,
+    map: PairMap,
+}
+
+impl<K: Keyer> Model for MapMachine<K> {
+    ghost use Rattle.std.specs.Coded.{codes};
+    ghost use Rattle.exh_ward.specs.KeyMap.{coded_key_map};
+    ghost use Rattle.exh_model.specs.MachineState.{MachineState};
+
+    ghost Value = { MachineState K };
+
+    ghost coded = { Prim.hlevel (codes, coded_key_map) };
+
+    ghost view = { λ a. record { cap = a.cap; keyer = a.keyer; map = a.map } };
+}
+
+impl<K: Keyer> MapMachine<K> {
+    /// The machine at the map of no keys. A page of the file holds at most `cap` records, and the
+    /// keyer gives keys their pseudokeys. It takes no memory.
+    pub fn new(alloc: Global, cap: usize, keyer: K) -> MapMachine<K>
+        ensures { result ≡ record { cap = cap; keyer = keyer; map = map.empty } }
+    {
+        MapMachine::from_map(cap, keyer, PairMap::new(alloc))
+    }
+
+    /// The machine at a map, as `new` at the map of no keys. It takes no memory.
+    pub fn from_map(cap: usize, keyer: K, map: PairMap) -> MapMachine<K>
+        ensures { result ≡ record { cap = cap; keyer = keyer; map = map } }
+    {
+        MapMachine { cap, keyer, map }
+    }
+
+    /// The map that the calls so far leave. It takes no memory.
+    pub fn map(&self) -> &PairMap
+        ensures { result.now ≡ self.now.map }
+    {
+        &self.map
+    }
+
+    /// Answers a call, by the map machine's table (exhash profile). Where a growth is refused, an
+    /// `AllocError`, the machine is as before.
+    pub fn answer(&mut self, call: &Call) -> Result<Reply, AllocError>
+        ensures reply { IfOk result (λ reply. reply ≡ reply_of self.old.cap (K.pseudokey_of self.old.keyer) self.old.map call.now) }
+        ensures ok { IfOk result (λ _. self.new ≡ record self.old { map = map_after self.old.cap (K.pseudokey_of self.old.keyer) self.old.map call.now }) }
+        ensures err { OnErr result (self.new ≡ self.old) }
+    {
+        match call {
+            Call::Get { key } => Ok(match self.map.get(key) {
+                Some(value) => Reply::Is(value),
+                None => Reply::None,
+            }),
+            Call::Put { key, value } => {
+                if self.map.get(key).is_none() && self.is_full(key) {
+                    return Ok(Reply::Full);
+                }
+                Ok(match self.map.insert(*key, *value)? {
+                    Some(old) => Reply::Was(old),
+                    None => Reply::New,
+                })
+            }
+            Call::Del { key } => Ok(match self.map.remove(key) {
+                Some(old) => Reply::Was(old),
+                None => Reply::None,
+            }),
+        }
+    }
+
+    // Whether at least `cap` keys share the `LIMIT` leading bits of this key's pseudokey.
+    fn is_full(&self, key: &Key) -> bool
+        ensures { result ≡ is_full self.now.cap (K.pseudokey_of self.now.keyer) self.now.map key.now }
+    {
+        self.sharing(key) >= self.cap
+    }
+
+    // How many keys share the leading bits of this key's pseudokey.
+    fn sharing(&self, key: &Key) -> usize
+        ensures { result ≡ sharing (K.pseudokey_of self.now.keyer) self.now.map key.now }
+    {
+        let leading = self.leading(key);
+        self.map
+            .pairs()
+            .iter()
+            .filter(|pair| self.leading(&pair.0) == leading)
+            .count()
+    }
+
+    // The leading bits of a key's pseudokey, as a number.
+    fn leading(&self, key: &Key) -> u64
+        ensures { result ≡ leading (K.pseudokey_of self.now.keyer key.now) }
+    {
+        self.keyer.pseudo(key.as_bytes()) >> (64 - LIMIT)
+    }
+}
