@@ -1,2 +1,3 @@
 pub mod MachineState
 pub mod Pairs
+pub mod Greatest

@@ -3,8 +3,10 @@
 //! the types of calls and replies.
 #![tactic(auto)]
 
+pub use greatest::{greatest_at, greatest_of};
 pub use map_machine::MapMachine;
 pub use pair_map::PairMap;
 
+mod greatest;
 mod map_machine;
 mod pair_map;

@@ -1,6 +1,5 @@
-use Rattle.std.proofs.Common.{◌≡◌, ◌==◌, List, ℕ, cond, count_by, rules, sym, ap, ◌∙◌}
+use Rattle.std.proofs.Common.{◌≡◌, ◌==◌, count_by, rules, sym, ap, ◌∙◌}
 use Rattle.std.specs.FinMap as map
-use Rattle.std.proofs.lemmas.List.Sorted.{sum_by-IsPermutation}
 use Rattle.exh_ward.specs.MapMachine.{leading, sharing}
 use Rattle.exh_model.specs.MachineState.{MachineState}
 use Rattle.exh_model.proofs.PairLemmas.{Pair, count_by-keys}

@@ -1,4 +1,4 @@
-use Rattle.std.proofs.Common.{◌≡◌, List, Bool, true, false, None, Some, sym, ap, ◌∙◌, arith, drop, take}
+use Rattle.std.proofs.Common.{List, sym, ap, ◌∙◌, arith}
 use Rattle.std.specs.FinMap as map
 use Rattle.exh_ward.specs.KeyMap.{KeyMap}
 use Rattle.exh_model.proofs.PairLemmas.{Pair, by_bytes, has_key-code, find_here, find_more, find_all, get_found}

@@ -1,4 +1,4 @@
-use Rattle.std.proofs.Common.{List, ℕ, sym, subst, ◌∙◌, ap}
+use Rattle.std.proofs.Common.{List, sym, subst}
 use Rattle.std.specs.FinMap as map
 use Rattle.std.specs.List.Sorted.{IsPermutation}
 use Rattle.std.proofs.lemmas.List.Sorted.{IsPermutation-sym}
