@@ -1,11 +1,15 @@
-//! Notices of splits and merges, and the entries that they leave in a table.
+//! Notices of splits and merges, the entries that they leave in a table, and the images of both.
 #![tactic(auto)]
 
 pub use entry::{Entry, Kind};
 pub use exh_prefix::PageNo;
+pub use images::{ENTRY_IMAGE_LEN, NOTICE_IMAGE_LEN};
 pub use laws::{equality_is_sameness, order_is_by_number, order_is_total};
 pub use notice::Notice;
+pub use notice_fault::NoticeFault;
 
 mod entry;
+mod images;
 mod laws;
 mod notice;
+mod notice_fault;

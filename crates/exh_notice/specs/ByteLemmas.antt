@@ -1,0 +1,68 @@
+-- Numbers of any width in bytes, from the bytes to the number and back.
+use Rattle.std.proofs.Common.{◌≡◌, ℕ, zero, suc, ◌+◌, ◌*◌, ◌/◌, ◌%◌, ◌^◌, ◌<◌, ◌≤◌, ◌-◌, List, [], ◌∷◌, length, drop, slice_index, refl, sym, ap, ◌∙◌, subst, arith}
+use Rattle.std.proofs.Math.Nat.{div-one, mod-eq_of_lt, mul-add-div_right, mul-add-mod_self_right, one-le-pow, pow-suc}
+use Rattle.std.proofs.lemmas.List.{get_or-drop}
+use Rattle.std.proofs.lemmas.Nat.{div-mul-add, pow-add}
+use Rattle.std.specs.Int.{byte_at, bytes_high_first}
+use Rattle.byteorder.specs.Endian.{big_from}
+use Rattle.byteorder.specs.Numbers.{big_from-lt}
+
+-- n items of a list, from place i on
+abbrev pub items : ℕ → ℕ → List ℕ → List ℕ
+items i zero bytes = []
+items i (suc n) bytes = slice_index bytes i ∷ items (suc i) n bytes
+
+items-cons : (i n : ℕ) (byte : ℕ) (bytes : List ℕ) → items (suc i) n (byte ∷ bytes) ≡ items i n bytes
+items-cons i zero byte bytes = refl
+items-cons i (suc n) byte bytes = ap (λ rest. slice_index bytes i ∷ rest) (items-cons (suc i) n byte bytes)
+
+-- a list is its items
+pub items_all : (n : ℕ) (bytes : List ℕ) → length bytes ≡ n → items 0 n bytes ≡ bytes
+items_all zero [] len = refl
+items_all zero (byte ∷ bytes) len = absurd (omega (arith, len))
+items_all (suc n) [] len = absurd (omega (arith, len))
+items_all (suc n) (byte ∷ bytes) len = ap (λ rest. byte ∷ rest) (items-cons 0 n byte bytes ∙ items_all n bytes (omega (arith, len)))
+
+power_positive : (n : ℕ) → 0 < 256 ^ n
+power_positive n = let one = one-le-pow n 256 (omega arith) in omega (arith, one)
+
+byte_at-div : (k x : ℕ) → byte_at k x ≡ x / 256 ^ k % 256
+byte_at-div zero x = ap (λ y. y % 256) (sym (div-one x))
+byte_at-div (suc k) x = refl
+
+-- a byte doesn't see what stands above it
+byte_at-lower : (k m high low : ℕ) → byte_at k (high * 256 ^ (m + suc k) + low) ≡ byte_at k low
+byte_at-lower k m high low =
+    let place = 256 ^ k in
+    let above : high * 256 ^ (m + suc k) ≡ (high * 256 ^ m * 256) * place =
+    ap (λ n. high * n) (pow-add 256 m (suc k) ∙ ap (λ n. 256 ^ m * n) (pow-suc 256 k)) ∙ (omega arith) in
+    byte_at-div k (high * 256 ^ (m + suc k) + low) ∙ ap (λ n. (n + low) / place % 256) above
+    ∙ ap (λ n. n % 256) (mul-add-div_right (power_positive k) (high * 256 ^ m * 256) low)
+    ∙ mul-add-mod_self_right (high * 256 ^ m) 256 (low / place) ∙ sym (byte_at-div k low)
+
+-- the low bytes of a number don't see what stands above them
+low_bytes : (k n high low : ℕ) → k ≤ n → bytes_high_first k (high * 256 ^ n + low) ≡ bytes_high_first k low
+low_bytes zero n high low fits = refl
+low_bytes (suc k) n high low fits =
+    let rest : n - suc k + suc k ≡ n = omega (arith, fits) in
+    let byte : byte_at k (high * 256 ^ n + low) ≡ byte_at k low = subst (λ n. byte_at k (high * 256 ^ n + low) ≡ byte_at k low) rest (byte_at-lower k (n - suc k) high low) in
+    let fewer : k ≤ n = omega (arith, fits) in
+    rw (byte, low_bytes k n high low fewer) refl
+
+-- the bytes of the number that n bytes spell are those bytes
+pub bytes_of_number : (i n : ℕ) (bytes : List ℕ) → ((k : ℕ) → slice_index bytes k < 256) → bytes_high_first n (big_from i n bytes) ≡ items i n bytes
+bytes_of_number i zero bytes small = refl
+bytes_of_number i (suc n) bytes small =
+    let byte = slice_index bytes i in
+    let rest = big_from (suc i) n bytes in
+    let top : byte_at n (byte * 256 ^ n + rest) ≡ byte =
+    byte_at-div n (byte * 256 ^ n + rest) ∙ ap (λ n. n % 256) (div-mul-add byte (256 ^ n) rest (big_from-lt (suc i) n bytes small)) ∙ mod-eq_of_lt (small i) in
+    rw (top, low_bytes n n byte rest (omega arith), bytes_of_number (suc i) n bytes small) refl
+
+-- a number read from the rest of some bytes is read from its place
+pub big_from-drop : (i j n : ℕ) (bytes : List ℕ) → big_from j n (drop i bytes) ≡ big_from (i + j) n bytes
+big_from-drop i j zero bytes = refl
+big_from-drop i j (suc n) bytes =
+    let place : i + suc j ≡ suc (i + j) = omega arith in
+    let rest : big_from (suc j) n (drop i bytes) ≡ big_from (suc (i + j)) n bytes = big_from-drop i (suc j) n bytes ∙ ap (λ i. big_from i n bytes) place in
+    rw (get_or-drop i bytes j 0, rest) refl
