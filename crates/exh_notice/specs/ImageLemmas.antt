@@ -1,8 +1,8 @@
 -- The bytes of an image from its fields, and the fields from its bytes.
-use Rattle.std.proofs.Common.{◌≡◌, ℕ, ◌+◌, ◌*◌, ◌/◌, ◌-◌, ◌^◌, ◌<◌, ◌≤◌, inl, inr, Bool, false, List, [], ◌∷◌, ◌++◌, length, take, slice_index, Result, Ok, Err, IfOk, IfErr, refl, sym, ap, ◌∙◌, subst, arith}
+use Rattle.std.proofs.Common.{◌≡◌, ℕ, ◌+◌, ◌*◌, ◌/◌, ◌-◌, ◌^◌, ◌<◌, ◌≤◌, inl, inr, Bool, false, List, [], ◌∷◌, ◌++◌, length, take, drop, slice_index, Result, Ok, Err, IfOk, IfErr, refl, sym, ap, ◌∙◌, subst, arith}
 use Rattle.std.proofs.Math.Nat.{mul_assoc}
 use Rattle.std.proofs.lemmas.Nat.{pow-add, shl-shr}
-use Rattle.std.proofs.lemmas.List.{length-append, length-replicate}
+use Rattle.std.proofs.lemmas.List.{length-append, length-drop, get_or-drop, take-append-drop, length-replicate}
 use Rattle.byteorder.specs.Endian.{big_bytes, big_from}
 use Rattle.byteorder.specs.Numbers.{big_from-lt, big_number-reads_back}
 use Rattle.exh_prefix.specs.Bits.{number_of, word_bits}
@@ -13,10 +13,12 @@ use Rattle.exh_prefix.specs.declared.prefix.TheConstants.{LIMIT}
 use Rattle.exh_notice.specs.declared.entry.Entry.{Entry}
 use Rattle.exh_notice.specs.declared.entry.Kind.{Kind}
 use Rattle.exh_notice.specs.declared.entry.Kind.TheVariants.{Merge, Split}
+use Rattle.exh_notice.specs.declared.notice.Notice.{Notice}
 use Rattle.exh_notice.specs.declared.notice_fault.NoticeFault.{NoticeFault}
 use Rattle.exh_notice.specs.declared.notice_fault.NoticeFault.TheVariants as fault
 use Rattle.exh_notice.specs.ByteLemmas.{items, items_all, bytes_of_number}
-use Rattle.exh_notice.specs.Images.{kind_byte, right_field, prefix_field, entry_image, IsEntryImage, HasKind, IsPadded, HasPrefixField, FailsFirst}
+use Rattle.exh_notice.specs.Images.{kind_byte, right_field, prefix_field, entry_image, IsEntryImage, HasKind, IsPadded, HasPrefixField, FailsFirst, IsNoticeImage}
+use Rattle.exh_notice.specs.Entry.{entry_of}
 
 -- ---- the prefix in two bytes
 
@@ -161,3 +163,45 @@ prefix_field-read prefix len bits small stored is =
     let prefix_len : length prefix ≡ len = ap length is ∙ length-stored len whole stored in
     let low : low_of prefix ≡ whole = ap low_of is ∙ low_of-stored len whole fits stored in
     sym (shl-shr bits 48) ∙ ap (λ n. n / 2 ^ 48) (sym low) ∙ prefix_field-shr prefix (omega (arith, prefix_len, stored.0))
+
+-- ---- notices
+
+-- a notice's image begins with its entry's,
+pub entry_image_of : {notice : Notice} {image : List ℕ} → IsNoticeImage notice image → IsEntryImage notice.ward notice.prefix (entry_of notice) (take 16 image)
+entry_image_of is = record {
+  shorter = is.shorter;
+  number = is.number;
+  right = is.right;
+  bytes = ap (take 16) is.bytes;
+}
+
+-- and ends with its index
+has_index : {notice : Notice} {image : List ℕ} → IsNoticeImage notice image → big_from 0 8 (drop 16 image) ≡ notice.index
+has_index {notice = notice} is = ap (λ bytes. big_from 0 8 (drop 16 bytes)) is.bytes ∙ big_number-reads_back 8 notice.index [] is.index
+
+notice_of : ℕ → ℕ → List Bool → Entry → Notice
+notice_of ward index prefix entry = record { ward = ward; index = index; prefix = prefix; number = entry.number; kind = entry.kind }
+
+-- an image is of one notice
+pub one_notice : {one other : Notice} {image : List ℕ} → IsNoticeImage one image → IsNoticeImage other image → one ≡ other
+unfolding notice_of
+one_notice is other =
+    let same = one_value (entry_image_of is) (entry_image_of other) in
+    let index = sym (has_index is) ∙ has_index other in
+    λ i. notice_of (same.0 i) (index i) (same.1 i) (same.2 i)
+
+-- 24 bytes that begin with an entry's image are a notice's, the other eight being its index
+pub notice_from_parts : (image front back : List ℕ) (ward index : ℕ) (prefix : List Bool) (entry : Entry) → length image ≡ 24 → ((k : ℕ) → slice_index image k < 256)
+    → front ≡ take 16 image → back ≡ drop 16 image → IsEntryImage ward prefix entry front → index ≡ big_from 0 8 back
+    → IsNoticeImage (record { ward = ward; index = index; prefix = prefix; number = entry.number; kind = entry.kind }) image
+notice_from_parts image front back ward index prefix entry len small front_is back_is is index_is =
+    let back_len : length back ≡ 8 = ap length back_is ∙ length-drop 16 image ∙ (omega (arith, len)) in
+    let back_small : (k : ℕ) → slice_index back k < 256 = λ k. subst (λ n. n < 256) (sym (ap (λ bytes. slice_index bytes k) back_is ∙ get_or-drop 16 image k 0)) (small (16 + k)) in
+    let index_bytes : back ≡ big_bytes 8 index = sym (ap (big_bytes 8) index_is ∙ bytes_of_number 0 8 back back_small ∙ items_all 8 back back_len) in
+    record {
+      shorter = is.shorter;
+      number = is.number;
+      right = is.right;
+      index = subst (λ n. n < 2 ^ 64) (sym index_is) (big_from-lt 0 8 back back_small);
+      bytes = sym (take-append-drop 16 image) ∙ (λ i. (sym front_is ∙ is.bytes) i ++ (sym back_is ∙ index_bytes) i);
+    }

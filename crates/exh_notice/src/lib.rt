@@ -2,14 +2,16 @@
 #![tactic(auto)]
 
 pub use entry::{Entry, Kind};
+pub use entry_image::ENTRY_IMAGE_LEN;
 pub use exh_prefix::PageNo;
-pub use images::{ENTRY_IMAGE_LEN, NOTICE_IMAGE_LEN};
 pub use laws::{equality_is_sameness, order_is_by_number, order_is_total};
 pub use notice::Notice;
 pub use notice_fault::NoticeFault;
+pub use notice_image::NOTICE_IMAGE_LEN;
 
 mod entry;
-mod images;
+mod entry_image;
 mod laws;
 mod notice;
 mod notice_fault;
+mod notice_image;

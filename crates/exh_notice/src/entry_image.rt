@@ -2,18 +2,14 @@ ghost use Rattle.std.specs.Prelude.{◌≡◌, ℕ, ◌*◌, ◌^◌, ◌<◌, �
 ghost use Rattle.byteorder.specs.Endian.{big_from};
 ghost use Rattle.exh_prefix.specs.declared.prefix.TheConstants.{LIMIT};
 ghost use Rattle.exh_notice.specs.declared.entry.Entry.{Entry as EntryValue};
-ghost use Rattle.exh_notice.specs.declared.notice.Notice.{Notice as NoticeValue};
-ghost use Rattle.exh_notice.specs.Images.{kind_byte, right_field, prefix_field, entry_image, notice_image, IsEntryImage, IsNoticeImage, HasKind, IsPadded, HasPrefixField, FailsFirst};
+ghost use Rattle.exh_notice.specs.Images.{kind_byte, right_field, prefix_field, entry_image, IsEntryImage, IsPadded, HasPrefixField, FailsFirst};
 
-use crate::{Entry, Kind, Notice, NoticeFault};
+use crate::{Entry, Kind, NoticeFault};
 use byteorder::{BigEndian, ByteOrder};
 use exh_prefix::{LIMIT, Prefix};
 
 /// How many bytes the image of an entry has (exhash profile).
 pub const ENTRY_IMAGE_LEN: usize = 16;
-
-/// How many bytes the image of a notice has (exhash profile).
-pub const NOTICE_IMAGE_LEN: usize = 24;
 
 impl Entry {
     /// The image of the entry at a prefix, in a ward (exhash profile). It takes no memory.
