@@ -37,6 +37,18 @@ fn new_wants_zeros_past_the_length(rt: HostRuntime) {
     }
 }
 
+// The greatest length as a number of its own: a prefix has 16 bits at most.
+#[test]
+fn prefixes_of_16_bits_are_made_and_of_17_not(rt: HostRuntime) {
+    assert_eq!(rt; LIMIT, 16);
+    let longest = prefix_of(&rt, 16, 0xffff_0000_0000_0000);
+    assert_eq!(rt; longest.len(), 16);
+    assert_eq!(rt; longest.child(false), None);
+    assert_eq!(rt; Prefix::new(17, 0xffff_8000_0000_0000), None);
+    let parent = prefix_of(&rt, 15, 0xfffe_0000_0000_0000);
+    assert_eq!(rt; parent.child(true), Some(longest));
+}
+
 #[test]
 fn begins_both_ends_of_its_range(rt: HostRuntime) {
     let ranges = [
