@@ -1,2 +1,4 @@
 pub mod SplitLinks
 pub mod SplitLegal
+pub mod MergeLinks
+pub mod MergeLegal

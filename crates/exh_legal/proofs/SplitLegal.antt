@@ -1,6 +1,6 @@
 -- A split of legal pages leaves them legal, and their map as it was.
-use Rattle.std.proofs.Common.{◌≡◌, ℕ, ◌+◌, ◌<◌, ◌≤◌, Bool, true, false, List, [], ◌∷◌, ◌++◌, length, find, filter, slice_get, Option, None, Some, ◌⊎◌, inl, inr, refl, sym, ap, ◌∙◌, subst, arith}
-use Rattle.std.specs.List.{AllByRecursion, flat_map}
+use Rattle.std.proofs.Common.{◌≡◌, ℕ, ◌≤◌, Bool, true, false, List, [], ◌∷◌, ◌++◌, length, find, slice_get, Option, None, Some, ◌⊎◌, inl, inr, refl, sym, ap, ◌∙◌, subst, arith}
+use Rattle.std.specs.List.{flat_map}
 use Rattle.std.specs.Option.{option_map, option_map_or}
 use Rattle.std.proofs.lemmas.Bool.{cases_eq, cases_Bool}
 use Rattle.std.proofs.lemmas.List.Sums.{count_by-le-length, length-filter}
@@ -11,16 +11,15 @@ use Rattle.exh_prefix.specs.PrefixLemmas.{child_of_begun, parent_begins, is_fron
 use Rattle.exh_page.specs.declared.page.Page.{Page}
 use Rattle.exh_page.specs.declared.page.Page.TheVariants.{Live, Forward}
 use Rattle.exh_page.specs.declared.record.Record.{Record}
-use Rattle.exh_page.specs.Page.{AreRecordsOf, IsLive, low_bound, records_of, begun_by, with_records}
+use Rattle.exh_page.specs.Page.{AreRecordsOf, IsLive, low_bound, records_of, begun_by}
 use Rattle.exh_page.specs.Place.{Place}
-use Rattle.exh_page.specs.Records.{is_at, value_at}
+use Rattle.exh_page.specs.Records.{is_at}
 use Rattle.exh_page.specs.RecordsLemmas.{AllByRecursion-filter, IsRising-filter, filter-passes}
 use Rattle.exh_legal.specs.Pages.{map_of, IsAt, IsHome, IsLegalPage, IsLegal, bare}
-use Rattle.exh_legal.specs.Change.{IsForwardOf, IsRevived, IsFresh, IsSplit}
-use Rattle.exh_legal.specs.LowLemmas.{right_above}
+use Rattle.exh_legal.specs.Change.{IsRevived, IsFresh, IsSplit}
 use Rattle.exh_legal.specs.BareLemmas.{bare_at, at_bare, bare_low, bare_same}
 use Rattle.exh_legal.specs.MapLemmas.{place_of_key, same_maps, found_at, found_alike, found_in_begun, page_at, all_pages, get-map_of_pages, found_at_home, none_elsewhere}
-use Rattle.exh_legal.proofs.SplitLinks.{IsParted, parted_linked, became}
+use Rattle.exh_legal.proofs.SplitLinks.{IsParted, parted_linked}
 
 -- the records that a prefix begins are records of it
 pub begun_records : (pseudo : List ℕ → ℕ) (prefix own : List Bool) (records : List Record) → AreRecordsOf pseudo prefix records → AreRecordsOf pseudo own (begun_by own records)

@@ -1,16 +1,14 @@
 -- A split leaves the pages linked.
 use Rattle.std.proofs.Common.{◌≡◌, ℕ, ◌+◌, ◌<◌, ◌≤◌, ◌^◌, Bool, true, false, List, [], ◌∷◌, ◌++◌, length, slice_get, Option, None, Some, ◌⊎◌, inl, inr, refl, sym, ap, ◌∙◌, subst, arith}
 use Rattle.std.proofs.lemmas.Bool.{cases_eq, cases_lt}
-use Rattle.std.proofs.lemmas.Option.{slice_get_within}
 use Rattle.exh_prefix.specs.declared.prefix.TheConstants.{LIMIT}
-use Rattle.exh_prefix.specs.Bits.{lowest_cleared}
 use Rattle.exh_prefix.specs.Prefix.{Begins, low_of}
 use Rattle.exh_prefix.specs.PrefixLemmas.{child_of_begun, one_child_begins, parent_begins}
 use Rattle.exh_page.specs.declared.page.Page.{Page}
 use Rattle.exh_page.specs.declared.page.Page.TheVariants.{Live, Forward}
 use Rattle.exh_page.specs.Page.{IsLive, low_bound}
-use Rattle.exh_legal.specs.Pages.{IsAt, IsHome, IsWithin, IsRightOf, IsRightLink, IsTarget, IsLinkedPage, AreLinked}
-use Rattle.exh_legal.specs.LowLemmas.{front_of_longer, low_of-small, begins_own_low, right_above, left_keeps, child_short, begins_between, child_above}
+use Rattle.exh_legal.specs.Pages.{IsAt, IsHome, IsWithin, IsRightOf, IsRightLink, IsLinkedPage, AreLinked}
+use Rattle.exh_legal.specs.LowLemmas.{front_of_longer, begins_own_low, right_above, left_keeps, child_short, begins_between}
 
 -- a split, of pages without records: the page at `right` takes the right child
 pub record IsParted (pages : List Page) (at : ℕ) (prefix : List Bool) (link : Option ℕ) (right : ℕ) (new : List Page) : Type 0 where
@@ -23,7 +21,7 @@ pub record IsParted (pages : List Page) (at : ℕ) (prefix : List Bool) (link : 
   pub was : (page : Page) → IsAt pages right page → (IsLive page → ⊥) × (low_bound page ≡ low_of (prefix ++ true ∷ []))
   pub alone : (number : ℕ) (page : Page) → IsAt pages number page → low_bound page ≡ low_of (prefix ++ true ∷ []) → number ≡ right
 
-same_page : (pages : List Page) (number : ℕ) (one other : Page) → IsAt pages number one → IsAt pages number other → one ≡ other
+pub same_page : (pages : List Page) (number : ℕ) (one other : Page) → IsAt pages number one → IsAt pages number other → one ≡ other
 same_page pages number one other is too = let both : Some one ≡ Some other = sym is ∙ too in cc
 
 home_live : (page : Page) (pseudokey : ℕ) → IsHome page pseudokey → IsLive page
@@ -31,7 +29,7 @@ home_live (Live prefix right records) pseudokey home = tt
 home_live (Forward low target) pseudokey home = home
 
 -- what a live page begins of its own low bound
-home_of_low : (page : Page) (ward : List Bool) → IsWithin ward page → IsLive page → IsHome page (low_bound page)
+pub home_of_low : (page : Page) (ward : List Bool) → IsWithin ward page → IsLive page → IsHome page (low_bound page)
 home_of_low (Live prefix right records) ward within live = begins_own_low prefix within.1
 home_of_low (Forward low target) ward within live = absurd live
 
@@ -253,8 +251,7 @@ module _ {ward : List Bool} {pages : List Page} {at : ℕ} {prefix : List Bool} 
       let page = is.0 in
       let else : next ≡ at → ⊥ = λ here.
       let is_parent = same_page pages at page parent (subst (λ n. IsAt pages n page) here is.1.there) parted.there in
-      omega (arith, is.1.greater, ap low_bound is_parent) in
-      (
+      omega (arith, is.1.greater, ap low_bound is_parent) in (
         page,
         record {
           there = parted.others next else (live_elsewhere next page is.1.there is.1.live) ∙ is.1.there;
@@ -288,8 +285,7 @@ module _ {ward : List Bool} {pages : List Page} {at : ℕ} {prefix : List Bool} 
     other_link None none = λ other_number other is_right.
         absurd (omega (arith, nearest (low_bound other + 1) other_number other is_right (λ old_number old is_old. absurd (none old_number old is_old))))
     other_link (Some next) is =
-        let after = stays next is.0 is.1.there in
-        (
+        let after = stays next is.0 is.1.there in (
           after.0,
           record { there = after.1; live = after.3 is.1.live; greater = omega (arith, is.1.greater, after.2) },
           λ other_number other is_right. omega (arith, after.2, nearest (low_bound is.0) other_number other is_right is.2),

@@ -1,12 +1,12 @@
 -- Prefixes and the low bounds of their children.
-use Rattle.std.proofs.Common.{◌≡◌, ℕ, zero, suc, ◌+◌, ◌-◌, ◌*◌, ◌^◌, ◌<◌, ◌≤◌, Bool, true, false, List, [], ◌∷◌, ◌++◌, length, take, refl, sym, ap, ◌∙◌, arith}
+use Rattle.std.proofs.Common.{◌≡◌, ℕ, zero, suc, ◌-◌, ◌*◌, ◌^◌, ◌<◌, ◌≤◌, Bool, true, false, List, [], ◌∷◌, ◌++◌, length, take, refl, sym, ap, ◌∙◌, arith}
 use Rattle.std.proofs.lemmas.List.{length_push, take-append-le, take_all, append_assoc}
 use Rattle.std.proofs.lemmas.Nat.{pow_pos}
 use Rattle.std.proofs.Math.Nat.{pow-suc}
 use Rattle.exh_prefix.specs.declared.prefix.TheConstants.{LIMIT}
 use Rattle.exh_prefix.specs.Bits.{word_bits}
 use Rattle.exh_prefix.specs.Prefix.{zeros, IsFront, Begins, low_of}
-use Rattle.exh_prefix.specs.PrefixLemmas.{low_of-lt, low_of-child, low_of-left_child, begins_from_low, begins_low, length-word_bits, word_bits-low_of}
+use Rattle.exh_prefix.specs.PrefixLemmas.{low_of-lt, low_of-child, low_of-left_child, begins_from_low, word_bits-low_of}
 
 pub own_front : (bits : List Bool) → IsFront bits bits
 own_front bits = take_all (length bits) bits (omega arith)

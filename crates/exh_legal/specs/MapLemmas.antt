@@ -1,5 +1,5 @@
 -- The map of legal pages: what it has at a key.
-use Rattle.std.proofs.Common.{◌≡◌, ℕ, zero, suc, Bool, true, false, cond, List, [], ◌∷◌, ◌++◌, map, find, filter, slice_get, Ordering, Option, None, Some, refl, sym, ap, ◌∙◌, subst, arith, nat_cmp, ◌⊎◌, inl, inr}
+use Rattle.std.proofs.Common.{◌≡◌, ℕ, zero, suc, Bool, true, false, cond, List, [], ◌∷◌, ◌++◌, map, find, filter, slice_get, Ordering, Option, None, Some, refl, sym, ap, ◌∙◌, subst, arith, nat_cmp}
 use Rattle.std.specs.declared.cmp.Ordering.TheVariants.{Less, Equal, Greater}
 use Rattle.std.specs.FinMap as fin
 use Rattle.std.specs.List.{AllByRecursion, flat_map}
@@ -16,7 +16,7 @@ use Rattle.exh_prefix.specs.PrefixLemmas.{is_front-true}
 use Rattle.exh_page.specs.declared.page.Page.{Page}
 use Rattle.exh_page.specs.declared.page.Page.TheVariants.{Live, Forward}
 use Rattle.exh_page.specs.declared.record.Record.{Record}
-use Rattle.exh_page.specs.Page.{AreRecordsOf, records_of, begun_by, with_records}
+use Rattle.exh_page.specs.Page.{records_of, begun_by, with_records}
 use Rattle.exh_page.specs.Place.{Place, place_cmp, place_of}
 use Rattle.exh_page.specs.Records.{is_at, value_at}
 use Rattle.exh_page.specs.RecordsLemmas.{place_cmp-total, place_cmp-exact, AllByRecursion-append}
@@ -88,14 +88,14 @@ same_maps m n same = fin.same_map nat_list_cmp_total (fin.slice_cmp-IsAntisymmet
 abbrev pub found_at : (Record → Bool) → List Page → ℕ → Option Record
 found_at p pages number = option_map_or (λ page. find p (records_of page)) (slice_get pages number) None
 
-skip : (p : Record → Bool) (front back : List Record) → find p front ≡ None → find p (front ++ back) ≡ find p back
+pub skip : (p : Record → Bool) (front back : List Record) → find p front ≡ None → find p (front ++ back) ≡ find p back
 skip p front back none = find-append p front back ∙ ap (λ found. option_or found (find p back)) none
 
 nothing_found : (p : Record → Bool) (pages : List Page) → ((number : ℕ) → found_at p pages number ≡ None) → find p (flat_map records_of pages) ≡ None
 nothing_found p [] none = refl
 nothing_found p (page ∷ pages) none = skip p (records_of page) (flat_map records_of pages) (none 0) ∙ nothing_found p pages (λ number. none (suc number))
 
-or_none : (found : Option Record) → option_or found None ≡ found
+pub or_none : (found : Option Record) → option_or found None ≡ found
 or_none None = refl
 or_none (Some r) = refl
 
