@@ -3,8 +3,6 @@ pub mod Cuts
 pub mod Hexadecimal
 pub mod Numbers
 pub mod Printed
-pub mod InputLemmas
-pub mod OutputLemmas
 pub mod WorldSteps
 pub mod Responded
 pub mod ServedLemmas

@@ -1,11 +1,11 @@
 -- The text of a script, line by line.
 use Rattle.std.proofs.Common.{◌≡◌, ℕ, List, [], ◌∷◌, ◌++◌, Option, sym, ap, ◌∙◌, subst, append_assoc}
-use Rattle.exh_script.specs.Output.{Takes, TakesBeginning}
+use Rattle.exh_stream.specs.Output.{Takes, TakesBeginning}
 use Rattle.exh_script.specs.Text.{answer_line, line_answer, after_line, text_from}
 use Rattle.exh_script.specs.World.{WorldState}
 use Rattle.exh_script.specs.declared.answer.Answer.{Answer}
-use Rattle.exh_script.specs.declared.output.Output.{Output}
-use Rattle.exh_script.proofs.OutputLemmas.{AppendsBeginning-from, Takes-then, TakesBeginning-then, TakesBeginning-of_more}
+use Rattle.exh_stream.specs.declared.output.Output.{Output}
+use Rattle.exh_stream.specs.OutputLemmas.{AppendsBeginning-from, Takes-then, TakesBeginning-then, TakesBeginning-of_more}
 
 module _ {W : Type 0} (contents : W → Option (List ℕ)) (first now : Output W) (told rest whole : List ℕ) (passed : Takes contents first now told) (text : told ++ rest ≡ whole) where
   -- the text so far is a beginning of the whole

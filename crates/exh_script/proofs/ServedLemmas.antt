@@ -2,16 +2,16 @@
 use Rattle.std.proofs.Common.{◌≡◌, ℕ, ◌<◌, ◌≤◌, List, [], ◌++◌, length, Option, Some, None, IfSome, Bool, true, false, cond, leb, Result, Ok, Err, IfOk, OnOk, OnErr, sym, ap, ◌∙◌, subst}
 use Rattle.std.proofs.lemmas.Bool.{le-leb, lt-leb}
 use Rattle.std.specs.Bool.{OnTrue, OnFalse}
-use Rattle.exh_script.proofs.OutputLemmas.{TakesBeginning-none, AppendsBeginning-after}
+use Rattle.exh_stream.specs.OutputLemmas.{TakesBeginning-none, AppendsBeginning-after}
 use Rattle.exh_script.specs.Grammar.{lines_of}
-use Rattle.exh_script.specs.Output.{AppendsBeginning, Takes, TakesBeginning, held, pending}
+use Rattle.exh_stream.specs.Output.{AppendsBeginning, Takes, TakesBeginning, held, pending}
 use Rattle.exh_script.specs.Served.{BeginsText, BeginsUnread, TakesText, TakesUnread, BeginsTaking, unread_text}
 use Rattle.exh_script.specs.Text.{answer_line, text_of_lines, ended_of_lines, text_of, ended_of}
 use Rattle.exh_script.specs.declared.answer.Answer.TheVariants.{Refused}
 use Rattle.exh_script.specs.declared.ended.Ended.{Ended}
 use Rattle.exh_script.specs.declared.ended.Ended.TheVariants as ended
-use Rattle.exh_script.specs.declared.input.TheConstants.{SCRIPT_LIMIT}
-use Rattle.exh_script.specs.declared.output.Output.{Output}
+use Rattle.exh_script.specs.declared.server.TheConstants.{SCRIPT_LIMIT}
+use Rattle.exh_stream.specs.declared.output.Output.{Output}
 use Rattle.exh_script.specs.declared.refusal.Refusal.TheVariants.{TooLong}
 use Rattle.exh_script.specs.declared.serve_fault.ServeFault.{ServeFault}
 

@@ -16,7 +16,7 @@ use Rattle.exh_script.specs.declared.answer.Answer.{Answer}
 use Rattle.exh_script.specs.declared.answer.Answer.TheVariants.{Hopped, Refused}
 use Rattle.exh_script.specs.declared.ended.Ended.{Ended}
 use Rattle.exh_script.specs.declared.ended.Ended.TheVariants as ended
-use Rattle.exh_script.specs.declared.input.TheConstants.{SCRIPT_LIMIT}
+use Rattle.exh_script.specs.declared.server.TheConstants.{SCRIPT_LIMIT}
 use Rattle.exh_script.specs.declared.line.FileLine.{FileLine}
 use Rattle.exh_script.specs.declared.refusal.Refusal.{Refusal}
 

@@ -1,12 +1,12 @@
 -- What the server writes, for the bytes that its reader has left.
 use Rattle.std.specs.Prelude.{◌≡◌, ℕ, List, Option, IfSome}
 use Rattle.std.specs.Io.KnownBytes.{Appends}
-use Rattle.exh_script.specs.Output.{AppendsBeginning, Takes, TakesBeginning}
+use Rattle.exh_stream.specs.Output.{AppendsBeginning, Takes, TakesBeginning}
 use Rattle.exh_script.specs.Text.{answer_line, text_of, ended_of}
 use Rattle.exh_script.specs.declared.answer.Answer.TheVariants.{Refused}
 use Rattle.exh_script.specs.declared.ended.Ended.{Ended}
 use Rattle.exh_script.specs.declared.ended.Ended.TheVariants as ended
-use Rattle.exh_script.specs.declared.output.Output.{Output}
+use Rattle.exh_stream.specs.declared.output.Output.{Output}
 use Rattle.exh_script.specs.declared.refusal.Refusal.TheVariants.{Read}
 
 -- the only line where the reader failed

@@ -18,17 +18,13 @@ mod answer;
 mod answer_text;
 mod byte_word;
 mod ended;
-#[cfg(test)]
-mod fakes;
 mod hex;
 mod in_flight;
-mod input;
 mod laws;
 mod line;
 mod line_fault;
 mod lines;
 mod number;
-mod output;
 mod parts;
 mod printing;
 mod refusal;
@@ -39,7 +35,6 @@ mod serve_fault;
 #[cfg(test)]
 mod serve_tests;
 mod server;
-mod source;
 mod spelled_call;
 mod spelled_file;
 mod spelled_line;

@@ -1,7 +1,7 @@
 ghost use Rattle.std.specs.Prelude.{◌≡◌, ◌≤◌, ◌↔◌, IfOk, OnOk, OnErr, IsErrOf, IsTrue, IsFalse};
 ghost use Rattle.exh_page.specs.declared.page.TheConstants.{CAP_LIMIT};
 ghost use Rattle.exh_script.specs.Grammar.{lines_of};
-ghost use Rattle.exh_script.specs.Output.{Takes, TakesBeginning};
+ghost use Rattle.exh_stream.specs.Output.{SameWriter, Takes, TakesBeginning, writer_failed};
 ghost use Rattle.exh_script.specs.Text.{answer_line, text_from, file_of, text_of_lines, ended_of_lines};
 ghost use Rattle.exh_script.specs.World.{new_world};
 ghost use Rattle.exh_script.specs.declared.answer.Answer.TheVariants.{Refused};
@@ -9,8 +9,8 @@ ghost use Rattle.exh_script.specs.declared.answer.Answer.TheVariants.{Refused};
 use crate::answer_text::push_answer;
 use crate::line::parse_file_line;
 use crate::lines::Lines;
-use crate::output::Output;
 use crate::{Answer, Ended, FileLine, Refusal, ServeFault, World};
+use exh_stream::Output;
 use std::alloc::Global;
 use std::io::Write;
 
@@ -20,12 +20,12 @@ pub(crate) fn respond<W: Write>(
     output: &mut Output<'_, W>,
     script: &[u8],
 ) -> Result<Ended, ServeFault>
-    requires { IsFalse output.old.has_failed }
-    ensures same_writer { output.new.writer.ghost_name ≡ output.old.writer.ghost_name }
+    requires { IsFalse (writer_failed output.old) }
+    ensures same_writer { SameWriter output.old output.new }
     ensures text { OnOk result (Takes W.contents output.old output.new (text_of_lines (lines_of script.now))) }
     ensures ended { IfOk result (λ ended. ended ≡ ended_of_lines (lines_of script.now)) }
     ensures err { OnErr result (TakesBeginning W.contents output.old output.new (text_of_lines (lines_of script.now))) }
-    ensures failed { IsErrOf result ServeFault.Write ↔ IsTrue output.new.has_failed }
+    ensures failed { IsErrOf result ServeFault.Write ↔ IsTrue (writer_failed output.new) }
 {
     let mut lines = Lines::new(script);
     let Some(first) = lines.next() else {
@@ -46,12 +46,12 @@ pub(crate) fn refuse<W: Write>(
     output: &mut Output<'_, W>,
     refusal: Refusal,
 ) -> Result<Ended, ServeFault>
-    requires { IsFalse output.old.has_failed }
-    ensures same_writer { output.new.writer.ghost_name ≡ output.old.writer.ghost_name }
+    requires { IsFalse (writer_failed output.old) }
+    ensures same_writer { SameWriter output.old output.new }
     ensures text { OnOk result (Takes W.contents output.old output.new (answer_line (Refused refusal))) }
     ensures ended { IfOk result (λ ended. ended ≡ Ended.Refused) }
     ensures err { OnErr result (TakesBeginning W.contents output.old output.new (answer_line (Refused refusal))) }
-    ensures failed { IsErrOf result ServeFault.Write ↔ IsTrue output.new.has_failed }
+    ensures failed { IsErrOf result ServeFault.Write ↔ IsTrue (writer_failed output.new) }
 {
     let mut text = Vec::new(alloc);
     push_answer(&mut text, &Answer::Refused(refusal))?;
@@ -82,14 +82,14 @@ fn answer_lines<W: Write>(
     file: &FileLine,
     lines: Lines<'_>,
 ) -> Result<(), ServeFault>
-    requires open { IsFalse output.old.has_failed }
+    requires open { IsFalse (writer_failed output.old) }
     requires one_ward { file.now.ward_bits ≡ 0 }
     requires some { 1 ≤ file.now.cap }
     requires most { file.now.cap ≤ CAP_LIMIT }
-    ensures same_writer { output.new.writer.ghost_name ≡ output.old.writer.ghost_name }
+    ensures same_writer { SameWriter output.old output.new }
     ensures ok { OnOk result (Takes W.contents output.old output.new (text_from (new_world file.now) lines.entry)) }
     ensures err { OnErr result (TakesBeginning W.contents output.old output.new (text_from (new_world file.now) lines.entry)) }
-    ensures failed { IsErrOf result ServeFault.Write ↔ IsTrue output.new.has_failed }
+    ensures failed { IsErrOf result ServeFault.Write ↔ IsTrue (writer_failed output.new) }
 {
     let mut world = World::new(alloc, file);
     let mut text = Vec::new(alloc);

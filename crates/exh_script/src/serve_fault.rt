@@ -1,7 +1,7 @@
 ghost use Rattle.std.specs.Prelude.{◌≡◌};
 ghost use Rattle.exh_script.specs.declared.serve_fault.ServeFault.TheVariants.{Write, Memory};
 
-use crate::output::WriteFault;
+use exh_stream::WriteFault;
 use std::alloc::AllocError;
 use thiserror::Error;
 

@@ -2,9 +2,9 @@
 
 mod cases;
 
-use crate::fakes::{FakeReader, FakeWriter, Refusal};
 use crate::{Ended, ServeFault, serve};
 use cases::CASES;
+use exh_stream::{FakeReader, FakeWriter, WriteRefusal};
 use std::io::{ErrorKind, Read};
 use std::test::Fail;
 
@@ -88,9 +88,9 @@ fn tries_no_fault_of_a_reader_again(rt: HostRuntime) -> Result<(), Fail> {
 #[test]
 fn tries_no_fault_of_a_writer_again(rt: HostRuntime) -> Result<(), Fail> {
     let refusals = [
-        Refusal::Error(ErrorKind::Other),
-        Refusal::Error(ErrorKind::Interrupted),
-        Refusal::NoBytes,
+        WriteRefusal::Error(ErrorKind::Other),
+        WriteRefusal::Error(ErrorKind::Interrupted),
+        WriteRefusal::NoBytes,
     ];
     for refusal in refusals {
         for room in 0..TEXT.len() {
@@ -117,7 +117,7 @@ fn writes_by_single_bytes(rt: HostRuntime) -> Result<(), Fail> {
         taken: Vec::new(rt.alloc()),
         most: 1,
         room: None,
-        refusal: Refusal::NoBytes,
+        refusal: WriteRefusal::NoBytes,
         writes: 0,
     };
     let ended = serve(rt.alloc(), &mut reader, &mut writer)?;

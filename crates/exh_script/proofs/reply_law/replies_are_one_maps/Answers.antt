@@ -12,7 +12,7 @@ use Rattle.exh_script.specs.Text.{answer_line, opened, file_of, text_from, text_
 use Rattle.exh_script.specs.World.{new_world}
 use Rattle.exh_script.specs.declared.answer.Answer.TheVariants.{Refused}
 use Rattle.exh_script.specs.declared.ended.Ended.TheVariants as ended
-use Rattle.exh_script.specs.declared.input.TheConstants.{SCRIPT_LIMIT}
+use Rattle.exh_script.specs.declared.server.TheConstants.{SCRIPT_LIMIT}
 use Rattle.exh_script.specs.declared.line.FileLine.{FileLine}
 use Rattle.exh_script.specs.declared.line_fault.LineFault.{LineFault}
 use Rattle.exh_script.specs.declared.refusal.Refusal.{Refusal}

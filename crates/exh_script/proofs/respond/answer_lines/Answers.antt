@@ -1,6 +1,6 @@
 use Rattle.std.proofs.Common.{◌∙◌, ◌++◌, rules}
 use Rattle.exh_script.specs.Text.{answer_line, line_answer, text_from}
-use Rattle.exh_script.proofs.OutputLemmas.{OnErr-from}
+use Rattle.exh_stream.specs.OutputLemmas.{OnErr-from}
 use Rattle.exh_script.proofs.Responded.{stopped, line_is, text_of_next, line_out, line_told, line_stopped}
 use Rattle.exh_script.proofs.respond.answer_lines.Goals as goal
 

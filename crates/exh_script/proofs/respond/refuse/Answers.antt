@@ -1,4 +1,4 @@
-use Rattle.exh_script.proofs.OutputLemmas.{TakesBeginning-none, OnErr-from}
+use Rattle.exh_stream.specs.OutputLemmas.{TakesBeginning-none, OnErr-from}
 use Rattle.exh_script.proofs.respond.refuse.Goals as goal
 
 pub returns-in_err-push_answer-clause-err : goal.returns-in_err-push_answer-clause-err

@@ -1,4 +1,4 @@
-use Rattle.exh_script.proofs.OutputLemmas.{OnErr-from}
+use Rattle.exh_stream.specs.OutputLemmas.{OnErr-from}
 use Rattle.exh_script.proofs.ServedLemmas.{begins_text, begins_no_text}
 use Rattle.exh_script.proofs.server.serve_source.Goals as goal
 

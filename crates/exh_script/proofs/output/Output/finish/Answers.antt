@@ -1,5 +1,0 @@
-use Rattle.exh_script.proofs.OutputLemmas.{AppendsAllBut-start, AppendsBeginning-from}
-use Rattle.exh_script.proofs.output.Output.finish.Goals as goal
-
-pub returns-then-self-clause-err : goal.returns-then-self-clause-err
-returns-then-self-clause-err g c = AppendsBeginning-from (AppendsAllBut-start _ _)

@@ -1,0 +1,4 @@
+pub mod Source
+pub mod SourceLemmas
+pub mod Output
+pub mod OutputLemmas
