@@ -4,6 +4,12 @@
 
 pub use greatest::Greatest;
 pub use join::Join;
+pub use joined::join_all;
+pub use pair_of::PairOf;
+pub use replica::Replica;
 
 mod greatest;
 mod join;
+mod joined;
+mod pair_of;
+mod replica;

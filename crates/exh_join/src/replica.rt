@@ -1,0 +1,50 @@
+ghost use Rattle.std.specs.Prelude.{◌≡◌, OnOk, OnErr};
+
+use crate::Join;
+use std::alloc::AllocError;
+use std::marker::Model;
+
+/// A value that takes other values by joining them to its own (exhash profile).
+#[derive(Drop)]
+pub struct Replica<J> {
+    value: J,
+}
+
+impl<J> Model for Replica<J> {
+    ghost Value = { J };
+
+    ghost view = { λ replica. replica.value };
+}
+
+impl<J: Join> Replica<J> {
+    /// A replica that begins with a value.
+    pub fn new(start: J) -> Replica<J>
+        ensures { result ≡ start }
+    {
+        Replica { value: start }
+    }
+
+    /// The join of what the replica began with and all that it took.
+    pub fn value(&self) -> &J
+        ensures { result.now ≡ self.now }
+    {
+        &self.value
+    }
+
+    /// Joins a value to the replica's. Where memory is refused, an `AllocError`, it stays as before.
+    pub fn take(&mut self, value: &J) -> Result<(), AllocError>
+        ensures ok { OnOk result (self.new ≡ J.join self.old value.now) }
+        ensures err { OnErr result (self.new ≡ self.old) }
+    {
+        self.value.join_in(value)
+    }
+
+    /// Joins another replica's value to this one's. Where memory is refused, an `AllocError`, it stays
+    /// as before.
+    pub fn combine(&mut self, other: &Replica<J>) -> Result<(), AllocError>
+        ensures ok { OnOk result (self.new ≡ J.join self.old other.now) }
+        ensures err { OnErr result (self.new ≡ self.old) }
+    {
+        self.take(other.value())
+    }
+}
