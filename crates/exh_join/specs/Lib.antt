@@ -6,3 +6,5 @@ pub mod Greatest
 pub mod Joined
 pub mod Pair
 pub mod JoinedLemmas
+pub mod Replicas
+pub mod ReplicasLemmas

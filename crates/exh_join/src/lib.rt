@@ -5,11 +5,13 @@
 pub use greatest::Greatest;
 pub use join::Join;
 pub use joined::join_all;
+pub use laws::{joins_are_least, replicas_agree};
 pub use pair_of::PairOf;
 pub use replica::Replica;
 
 mod greatest;
 mod join;
 mod joined;
+mod laws;
 mod pair_of;
 mod replica;

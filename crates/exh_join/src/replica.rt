@@ -1,4 +1,5 @@
 ghost use Rattle.std.specs.Prelude.{◌≡◌, OnOk, OnErr};
+ghost use Rattle.exh_join.specs.Replicas.{History, Began, Took, Combined, value_after};
 
 use crate::Join;
 use std::alloc::AllocError;
@@ -19,7 +20,8 @@ impl<J> Model for Replica<J> {
 impl<J: Join> Replica<J> {
     /// A replica that begins with a value.
     pub fn new(start: J) -> Replica<J>
-        ensures { result ≡ start }
+        ensures value { result ≡ start }
+        ensures history { result ≡ value_after J.join (Began start) }
     {
         Replica { value: start }
     }
@@ -34,6 +36,7 @@ impl<J: Join> Replica<J> {
     /// Joins a value to the replica's. Where memory is refused, an `AllocError`, it stays as before.
     pub fn take(&mut self, value: &J) -> Result<(), AllocError>
         ensures ok { OnOk result (self.new ≡ J.join self.old value.now) }
+        ensures history { (before : History J) → self.old ≡ value_after J.join before → OnOk result (self.new ≡ value_after J.join (Took before value.now)) }
         ensures err { OnErr result (self.new ≡ self.old) }
     {
         self.value.join_in(value)
@@ -43,6 +46,7 @@ impl<J: Join> Replica<J> {
     /// as before.
     pub fn combine(&mut self, other: &Replica<J>) -> Result<(), AllocError>
         ensures ok { OnOk result (self.new ≡ J.join self.old other.now) }
+        ensures history { (before there : History J) → self.old ≡ value_after J.join before → other.now ≡ value_after J.join there → OnOk result (self.new ≡ value_after J.join (Combined before there)) }
         ensures err { OnErr result (self.new ≡ self.old) }
     {
         self.take(other.value())

@@ -1,0 +1,5 @@
+use Rattle.exh_join.specs.ReplicasLemmas.{replicas_agree}
+use Rattle.exh_join.proofs.laws.replicas_agree.Goals as goal
+
+pub returns : goal.returns
+returns g c = replicas_agree g.met.J.Join.laws
