@@ -15,3 +15,5 @@ mod joined;
 mod laws;
 mod pair_of;
 mod replica;
+#[cfg(test)]
+mod tests;
