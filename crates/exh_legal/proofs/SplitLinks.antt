@@ -52,7 +52,7 @@ module _ {ward : List Bool} {pages : List Page} {at : ℕ} {prefix : List Bool} 
   same_low : low_of (prefix ++ false ∷ []) ≡ low_of prefix
   same_low = left_keeps prefix parted.short
 
-  apart_halves : at ≡ right → ⊥
+  pub apart_halves : at ≡ right → ⊥
   apart_halves same = (parted.was parent (subst (λ n. IsAt pages n parent) same parted.there)).0 tt
 
   -- the page at a number after the split: the left half, the right half, or the old one
@@ -83,7 +83,7 @@ module _ {ward : List Bool} {pages : List Page} {at : ℕ} {prefix : List Bool} 
   ]
 
   -- an old live page isn't at `right`
-  live_elsewhere : (number : ℕ) (page : Page) → IsAt pages number page → IsLive page → number ≡ right → ⊥
+  pub live_elsewhere : (number : ℕ) (page : Page) → IsAt pages number page → IsLive page → number ≡ right → ⊥
   live_elsewhere number page is live there = (parted.was page (subst (λ n. IsAt pages n page) there is)).0 live
 
   -- no other live page's low bound lies between the halves
