@@ -5,3 +5,7 @@ pub mod MergeLegal
 pub mod TableSteps
 pub mod SplitFit
 pub mod SplitGrown
+pub mod Walks
+pub mod Lone
+pub mod RightLinks
+pub mod PageCount

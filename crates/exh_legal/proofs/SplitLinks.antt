@@ -24,7 +24,7 @@ pub record IsParted (pages : List Page) (at : ℕ) (prefix : List Bool) (link : 
 pub same_page : (pages : List Page) (number : ℕ) (one other : Page) → IsAt pages number one → IsAt pages number other → one ≡ other
 same_page pages number one other is too = let both : Some one ≡ Some other = sym is ∙ too in cc
 
-home_live : (page : Page) (pseudokey : ℕ) → IsHome page pseudokey → IsLive page
+pub home_live : (page : Page) (pseudokey : ℕ) → IsHome page pseudokey → IsLive page
 home_live (Live prefix right records) pseudokey home = tt
 home_live (Forward low target) pseudokey home = home
 

@@ -4,6 +4,7 @@ pub mod Change
 pub mod Growth
 pub mod Fit
 pub mod Numbers
+pub mod Laws
 pub mod LowLemmas
 pub mod BareLemmas
 pub mod MapLemmas
