@@ -9,3 +9,4 @@ pub mod Walks
 pub mod Lone
 pub mod RightLinks
 pub mod PageCount
+pub mod SplitReady

@@ -128,8 +128,7 @@ module _ {ward : List Bool} {pages : List Page} {at : ℕ} {prefix : List Bool} 
   live_after leaf number is front proper = elim (cases_eq number at) [
     | inl same ↦
         let page = same_page pages at (Live leaf is.0 is.1) (Live prefix link []) (subst (λ n. IsAt pages n (Live leaf is.0 is.1)) same is.2) parted.there in
-        let leaf_is : leaf ≡ prefix = cc in
-        (
+        let leaf_is : leaf ≡ prefix = cc in (
           prefix ++ false ∷ [],
           at,
           (Some right, [], parted.left),
@@ -215,8 +214,7 @@ module _ {ward : List Bool} {pages : List Page} {at : ℕ} {prefix : List Bool} 
   rights : (other : List Bool) (target : ℕ) → split_at after other ≡ Some target → IsPageOf new (low_of (other ++ true ∷ [])) target
   rights other target is = elim (cases_prefix other prefix) [
     | inl same ↦
-        let target_is : target ≡ right = let both : Some target ≡ Some right = sym is ∙ ap (split_at after) same ∙ split_here in cc in
-        (
+        let target_is : target ≡ right = let both : Some target ≡ Some right = sym is ∙ ap (split_at after) same ∙ split_here in cc in (
           Live (prefix ++ true ∷ []) link [],
           subst (λ n. IsAt new n (Live (prefix ++ true ∷ []) link [])) (sym target_is) parted.right_half,
           ap (λ p. low_of (p ++ true ∷ [])) (sym same),

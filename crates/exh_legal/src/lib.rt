@@ -1,2 +1,9 @@
 //! The pages of a ward: what makes them legal, and what splits and merges change.
 #![tactic(auto)]
+
+pub use laws::{
+    live_pages_split, lone_pages_are_legal, pages_are_few, right_links_lead_on, splits_keep_legal,
+    targets_lead_on, walks_name_homes,
+};
+
+mod laws;

@@ -1,0 +1,41 @@
+//! What holds of the pages of every ward, for the proofs of callers. Each function does nothing.
+
+ghost use Rattle.exh_legal.specs.Laws.{SplitsKeepLegal, LivePagesSplit, WalksNameHomes, RightLinksLeadOn, TargetsLeadOn, LonePagesAreLegal, PagesAreFew};
+
+/// A split of a legal ward leaves it legal, for the changes with its notice, and leaves the map and
+/// each page's number and low bound as they were.
+pub fn splits_keep_legal()
+    ensures { SplitsKeepLegal }
+{}
+
+/// A live page that is shorter than `LIMIT` can be split: the number at its prefix is even, and a
+/// page of its right child's low bound is a forwarding page.
+pub fn live_pages_split()
+    ensures { LivePagesSplit }
+{}
+
+/// The walk of a ward's table for a pseudokey ends at the page that the directory names.
+pub fn walks_name_homes()
+    ensures { WalksNameHomes }
+{}
+
+/// A live page that isn't a pseudokey's home, and isn't beyond it, has a right link that isn't
+/// beyond it either.
+pub fn right_links_lead_on()
+    ensures { RightLinksLeadOn }
+{}
+
+/// A forwarding page's target has no greater low bound.
+pub fn targets_lead_on()
+    ensures { TargetsLeadOn }
+{}
+
+/// One empty page of the ward's own prefix is a legal ward.
+pub fn lone_pages_are_legal()
+    ensures { LonePagesAreLegal }
+{}
+
+/// A ward has at most 2^(`LIMIT` - s) pages, s being the bits by which the file is cut.
+pub fn pages_are_few()
+    ensures { PagesAreFew }
+{}
