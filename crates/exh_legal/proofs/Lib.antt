@@ -10,3 +10,5 @@ pub mod Lone
 pub mod RightLinks
 pub mod PageCount
 pub mod SplitReady
+pub mod MergeFit
+pub mod MergeGrown

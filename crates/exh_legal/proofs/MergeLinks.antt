@@ -120,7 +120,7 @@ module _ {ward : List Bool} {pages : List Page} {at : ℕ} {prefix : List Bool} 
   ]
 
   -- the home of what a half begins is that half
-  home_is_half : (pseudokey number : ℕ) (page : Page) → IsAt pages number page → IsHome page pseudokey → Begins prefix pseudokey → (number ≡ at) ⊎ (number ≡ right)
+  pub home_is_half : (pseudokey number : ℕ) (page : Page) → IsAt pages number page → IsHome page pseudokey → Begins prefix pseudokey → (number ≡ at) ⊎ (number ≡ right)
   home_is_half pseudokey number page is home begins = elim (child_of_begun prefix pseudokey (omega (arith, short)) begins) [
     | inl lower ↦ inl (linked.one_home pseudokey number at page left_page is joined.there home lower)
     | inr upper ↦ inr (linked.one_home pseudokey number right page right_page is joined.buddy home upper)
@@ -146,10 +146,10 @@ module _ {ward : List Bool} {pages : List Page} {at : ℕ} {prefix : List Bool} 
 
   -- ---- the parts
 
-  parent_in_ward : IsFront ward prefix
+  pub parent_in_ward : IsFront ward prefix
   parent_in_ward = parent_within ward prefix (linked.within at left_page joined.there).0 (linked.within right right_page joined.buddy).0
 
-  first_else : (page : Page) → IsAt pages 0 page → low_bound page ≡ low_of ward → 0 ≡ right → ⊥
+  pub first_else : (page : Page) → IsAt pages 0 page → low_bound page ≡ low_of ward → 0 ≡ right → ⊥
   first_else page is low here =
       let begins : Begins ward (low_of prefix) = front_of_front ward prefix (word_bits (low_of prefix)) (front_shorter ward prefix parent_in_ward) parent_in_ward (begins_own_low prefix (omega (arith, short))) in
       let least = (begins_low ward (low_of prefix) (omega (arith, front_shorter ward prefix parent_in_ward, short)) (low_of-small prefix (omega (arith, short))) begins).0 in

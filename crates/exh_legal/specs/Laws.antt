@@ -1,21 +1,22 @@
 -- Laws of legal pages, that the crates above cite.
-use Rattle.std.specs.Prelude.{◌≡◌, ℕ, ◌-◌, ◌+◌, ◌%◌, ◌^◌, ◌<◌, ◌≤◌, Bool, true, List, ◌∷◌, [], ◌++◌, length, Option, None, Some}
+use Rattle.std.specs.Prelude.{◌≡◌, ℕ, ◌-◌, ◌+◌, ◌%◌, ◌^◌, ◌<◌, ◌≤◌, Bool, true, false, List, ◌∷◌, [], ◌++◌, length, Option, None, Some}
 use Rattle.std.specs.FinMap as fin
 use Rattle.exh_prefix.specs.declared.prefix.TheConstants.{LIMIT}
 use Rattle.exh_prefix.specs.Prefix.{Begins, low_of}
-use Rattle.exh_notice.specs.declared.entry.Kind.TheVariants.{Split}
+use Rattle.exh_notice.specs.declared.entry.Kind.TheVariants.{Split, Merge}
 use Rattle.exh_notice.specs.declared.notice.Notice.{Notice}
 use Rattle.exh_table.specs.declared.leaf.Leaf.{Leaf}
 use Rattle.exh_table.specs.Table.{TableMap, table_with}
 use Rattle.exh_table.specs.Leaves.{ward_leaves}
-use Rattle.exh_table.specs.Walk.{walk_in}
+use Rattle.exh_table.specs.Walk.{walk_in, split_at}
 use Rattle.exh_table.specs.Directory.{IsName}
 use Rattle.exh_page.specs.declared.page.Page.{Page}
 use Rattle.exh_page.specs.declared.page.Page.TheVariants.{Live, Forward}
 use Rattle.exh_page.specs.declared.record.Record.{Record}
+use Rattle.exh_page.specs.Laws.{AreOfWords}
 use Rattle.exh_page.specs.Page.{low_bound}
-use Rattle.exh_legal.specs.Pages.{IsAt, IsHome, map_of, bare, AreLinked}
-use Rattle.exh_legal.specs.Change.{IsForwardOf, IsSplit}
+use Rattle.exh_legal.specs.Pages.{IsAt, map_of, bare, AreLinked}
+use Rattle.exh_legal.specs.Change.{IsForwardOf, IsSplit, IsMerge}
 use Rattle.exh_legal.specs.Growth.{IsLiveAt, IsPageOf, IsLegalSince}
 use Rattle.exh_legal.specs.Fit.{FitsPages}
 use Rattle.exh_legal.specs.Numbers.{number_at, index_of}
@@ -46,6 +47,13 @@ SplitsKeepLegal =
     → notice.prefix ≡ prefix → notice.number ≡ number_at table prefix + 1 → notice.kind ≡ Split right
     → IsChanged cap pseudo ward start changes table pages notice new
 
+abbrev pub MergesKeepLegal : Type 0
+MergesKeepLegal =
+    (cap : ℕ) (pseudo : List ℕ → ℕ) (ward : List Bool) (start : TableMap) (changes : List Notice) (table : TableMap) (pages : List Page) (at : ℕ) (prefix : List Bool) (new : List Page) (notice : Notice)
+    → AreOfWords pseudo → IsWard cap pseudo ward start changes table pages → IsMerge cap pages at prefix new
+    → notice.prefix ≡ prefix → notice.number ≡ number_at table prefix + 1 → notice.kind ≡ Merge
+    → IsChanged cap pseudo ward start changes table pages notice new
+
 -- before a split of a live page the number at its prefix is even, and if a page has its right child's low bound, that forwards
 pub record IsSplittable (table : TableMap) (pages : List Page) (prefix : List Bool) : Type 0 where
   pub even : (number_at table prefix) % 2 ≡ 0
@@ -55,6 +63,20 @@ abbrev pub LivePagesSplit : Type 0
 LivePagesSplit =
     (cap : ℕ) (pseudo : List ℕ → ℕ) (ward : List Bool) (start : TableMap) (changes : List Notice) (table : TableMap) (pages : List Page) (prefix : List Bool) (number : ℕ)
     → IsWard cap pseudo ward start changes table pages → IsLiveAt pages prefix number → length prefix < LIMIT → IsSplittable table pages prefix
+
+-- before a merge of a live left child the number at its parent is odd, and the table's split there names the page of the right child's low bound, which is the right
+-- child's page if that is live
+pub record IsMergeable (table : TableMap) (pages : List Page) (prefix : List Bool) : Type 0 where
+  pub odd : (number_at table prefix) % 2 ≡ 1
+  pub right : ℕ
+  pub split : split_at table prefix ≡ Some right
+  pub page : IsPageOf pages (low_of (prefix ++ true ∷ [])) right
+  pub buddy : (number : ℕ) → IsLiveAt pages (prefix ++ true ∷ []) number → number ≡ right
+
+abbrev pub LiveLeftChildrenMerge : Type 0
+LiveLeftChildrenMerge =
+    (cap : ℕ) (pseudo : List ℕ → ℕ) (ward : List Bool) (start : TableMap) (changes : List Notice) (table : TableMap) (pages : List Page) (prefix : List Bool) (number : ℕ)
+    → IsWard cap pseudo ward start changes table pages → IsLiveAt pages (prefix ++ false ∷ []) number → length ward ≤ length prefix → IsMergeable table pages prefix
 
 -- ---- walks
 

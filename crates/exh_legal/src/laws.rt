@@ -1,6 +1,6 @@
 //! What holds of the pages of every ward, for the proofs of callers. Each function does nothing.
 
-ghost use Rattle.exh_legal.specs.Laws.{SplitsKeepLegal, LivePagesSplit, WalksNameHomes, RightLinksLeadOn, TargetsLeadOn, LonePagesAreLegal, PagesAreFew};
+ghost use Rattle.exh_legal.specs.Laws.{SplitsKeepLegal, MergesKeepLegal, LivePagesSplit, LiveLeftChildrenMerge, WalksNameHomes, RightLinksLeadOn, TargetsLeadOn, LonePagesAreLegal, PagesAreFew};
 
 /// A split of a legal ward leaves it legal, for the changes with its notice, and leaves the map and
 /// each page's number and low bound as they were.
@@ -12,6 +12,18 @@ pub fn splits_keep_legal()
 /// page of its right child's low bound is a forwarding page.
 pub fn live_pages_split()
     ensures { LivePagesSplit }
+{}
+
+/// A merge of a legal ward leaves it legal, for the changes with its notice, and leaves the map and
+/// each page's number and low bound as they were.
+pub fn merges_keep_legal()
+    ensures { MergesKeepLegal }
+{}
+
+/// A live page that is a left child of its ward can be merged where its right buddy is live: the
+/// number at the parent is odd, and the table's split there names the buddy's page.
+pub fn live_left_children_merge()
+    ensures { LiveLeftChildrenMerge }
 {}
 
 /// The walk of a ward's table for a pseudokey ends at the page that the directory names.

@@ -2,8 +2,8 @@
 #![tactic(auto)]
 
 pub use laws::{
-    live_pages_split, lone_pages_are_legal, pages_are_few, right_links_lead_on, splits_keep_legal,
-    targets_lead_on, walks_name_homes,
+    live_left_children_merge, live_pages_split, lone_pages_are_legal, merges_keep_legal,
+    pages_are_few, right_links_lead_on, splits_keep_legal, targets_lead_on, walks_name_homes,
 };
 
 mod laws;
