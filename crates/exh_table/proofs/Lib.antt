@@ -1,0 +1,4 @@
+pub mod Seen
+pub mod SomeIff
+pub mod Children
+pub mod Raised

@@ -1,6 +1,7 @@
 -- The leaves of a table, and how changes turn them.
-use Rattle.std.specs.Prelude.{◌≡◌, ◌≢◌, ◌⊎◌, ℕ, ◌<◌, ◌^◌, Bool, List, [], ◌∷◌, ◌++◌}
-use Rattle.exh_prefix.specs.Prefix.{Begins}
+use Rattle.std.specs.Prelude.{◌≡◌, ◌≢◌, ◌⊎◌, ◌↔◌, ℕ, ◌<◌, ◌^◌, Bool, List, [], ◌∷◌, ◌++◌, map, Contains}
+use Rattle.std.specs.List.Sorted.{IsStrictlySortedBy}
+use Rattle.exh_prefix.specs.Prefix.{Begins, prefix_cmp}
 use Rattle.exh_notice.specs.declared.entry.Kind.{Kind}
 use Rattle.exh_notice.specs.declared.entry.Kind.TheVariants.{Split, Merge}
 use Rattle.exh_notice.specs.declared.notice.Notice.{Notice}
@@ -17,6 +18,11 @@ IsLeafIn table ward leaf = (pseudokey : ℕ) × (pseudokey < 2 ^ 64) × Begins w
 -- the same in all wards of so many bits
 abbrev pub IsLeaf : TableMap → ℕ → Leaf → Type 0
 IsLeaf table ward_bits leaf = (pseudokey : ℕ) × (pseudokey < 2 ^ 64) × (walk_of table ward_bits pseudokey ≡ leaf)
+
+-- all leaves, each once, in the order of prefixes
+pub record AreLeaves (table : TableMap) (ward_bits : ℕ) (leaves : List Leaf) : Type 0 where
+  pub each : (leaf : Leaf) → Contains leaves leaf ↔ IsLeaf table ward_bits leaf
+  pub ordered : IsStrictlySortedBy prefix_cmp (map (λ leaf. leaf.prefix) leaves)
 
 -- ---- the prefixes of leaves, as a set
 

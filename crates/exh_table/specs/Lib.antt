@@ -3,3 +3,7 @@ pub mod TableOrder
 pub mod Walk
 pub mod Leaves
 pub mod Directory
+pub mod Below
+pub mod TableLemmas
+pub mod WalkLemmas
+pub mod LeafLemmas

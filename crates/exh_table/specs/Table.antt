@@ -1,7 +1,7 @@
 -- A table as a finite map from prefixes to entries, and the table of a set of notices.
 use Rattle.std.specs.Prelude.{Bool, List, ◌++◌, map, Option, Some, None, Contains}
 use Rattle.std.specs.Coded.{Coded, coded_list, coded_bool}
-use Rattle.std.specs.FinMap.{FinMap, code, entries, get, insert}
+use Rattle.std.specs.FinMap.{FinMap, code, entries, get, insert, remove}
 use Rattle.exh_prefix.specs.Prefix.{prefix_cmp}
 use Rattle.exh_join.specs.Greater.{IsUpTo}
 use Rattle.exh_notice.specs.declared.entry.Entry.{Entry}
@@ -50,6 +50,15 @@ abbrev pub greater_of : Option Entry → Entry → Entry
 greater_of None entry = entry
 greater_of (Some old) entry = greater_entry old entry
 
--- the table with one notice more: at its prefix the greater entry, elsewhere the same
+-- the table that was told an entry more: at its prefix the greater entry, elsewhere the same
+abbrev pub raised : TableMap → List Bool → Entry → TableMap
+raised table prefix entry = insert table prefix (greater_of (get table prefix) entry)
+
+-- the table with one notice more
 abbrev pub table_with : TableMap → Notice → TableMap
-table_with table notice = insert table notice.prefix (greater_of (get table notice.prefix) (entry_of notice))
+table_with table notice = raised table notice.prefix (entry_of notice)
+
+-- the table with the given entry, or none, at a prefix
+abbrev pub table_at : TableMap → List Bool → Option Entry → TableMap
+table_at table prefix None = remove table prefix
+table_at table prefix (Some entry) = insert table prefix entry

@@ -1,17 +1,20 @@
-ghost use Rattle.std.specs.Prelude.{◌≡◌};
+ghost use Rattle.std.specs.Prelude.{◌≡◌, None, IsSome, IfOk, OnOk, OnErr};
 ghost use Rattle.std.specs.FinMap as map;
+ghost use Rattle.exh_table.specs.Table.{table_with, table_at, raised, greater_of};
 
-use exh_notice::Entry;
+use exh_notice::{Entry, Notice};
 use exh_prefix::Prefix;
-use std::alloc::Global;
+use std::alloc::{AllocError, Global};
 use std::collections::BTreeMap;
+use std::collections::btree_map::Iter;
 use std::marker::Model;
 
 /// What a copy of the directory knows: at each prefix the greatest entry that it was told, or none
 /// (exhash profile).
 #[derive(Drop)]
 pub struct Table {
-    entries: BTreeMap<Prefix, Entry>,
+    pub(crate) alloc: Global,
+    pub(crate) entries: BTreeMap<Prefix, Entry>,
 }
 
 impl Model for Table {
@@ -27,12 +30,83 @@ impl Model for Table {
 }
 
 impl Table {
-    /// The table with no entry.
+    /// The table with no entry. It takes no memory.
     pub fn new(alloc: Global) -> Table
         ensures { result ≡ map.empty }
     {
         Table {
+            alloc,
             entries: BTreeMap::new(alloc),
         }
+    }
+
+    /// The entry at a prefix, if there is one. It takes no memory.
+    pub fn get(&self, prefix: Prefix) -> Option<Entry>
+        ensures { result ≡ map.get self.now prefix }
+    {
+        self.entries.get(&prefix).copied()
+    }
+
+    /// All entries with their prefixes, in the order of prefixes. It takes no memory.
+    pub fn entries(&self) -> Iter<'_, Prefix, Entry>
+        ensures { result ≡ map.entries self.now }
+    {
+        self.entries.iter()
+    }
+
+    /// Takes a notice: at its prefix the greater entry stays. It answers what stood there. Where
+    /// memory is refused, an `AllocError`, the table is as before; it is asked for only where no
+    /// entry stands at the prefix.
+    pub fn take(&mut self, notice: &Notice) -> Result<Option<Entry>, AllocError>
+        ensures stood { IfOk result (λ stood. stood ≡ map.get self.old notice.now.prefix) }
+        ensures ok { OnOk result (self.new ≡ table_with self.old notice.now) }
+        ensures err { OnErr result (self.new ≡ self.old) }
+        ensures absent { OnErr result (map.get self.old notice.now.prefix ≡ None) }
+    {
+        self.put_greater(notice.prefix, notice.entry())
+    }
+
+    // Takes an entry at a prefix, and answers what stood there.
+    pub(crate) fn put_greater(
+        &mut self,
+        prefix: Prefix,
+        entry: Entry,
+    ) -> Result<Option<Entry>, AllocError>
+        ensures stood { IfOk result (λ stood. stood ≡ map.get self.old prefix) }
+        ensures ok { OnOk result (self.new ≡ raised self.old prefix entry) }
+        ensures err { OnErr result (self.new ≡ self.old) }
+        ensures absent { OnErr result (map.get self.old prefix ≡ None) }
+    {
+        let stood = self.get(prefix);
+        let greater = greater_of(stood, entry);
+        self.entries.insert(prefix, greater)?;
+        Ok(stood)
+    }
+
+    /// Puts the given entry, or none, where one stands. It takes no memory.
+    pub fn put_back(&mut self, prefix: Prefix, entry: Option<Entry>)
+        requires { IsSome (map.get self.old prefix) }
+        ensures { self.new ≡ table_at self.old prefix entry }
+    {
+        match entry {
+            None => {
+                self.entries.remove(&prefix);
+            }
+            Some(entry) => {
+                if let Some(place) = self.entries.get_mut(&prefix) {
+                    *place = entry;
+                }
+            }
+        }
+    }
+}
+
+// The greater of an entry and what stood at its prefix.
+fn greater_of(stood: Option<Entry>, entry: Entry) -> Entry
+    ensures { result ≡ greater_of stood entry }
+{
+    match stood {
+        Some(old) if old >= entry => old,
+        _ => entry,
     }
 }
