@@ -1,0 +1,28 @@
+ghost use Rattle.std.specs.Prelude.{◌≡◌, ◌↔◌, ℕ, List, take, IsTrue};
+ghost use Rattle.exh_codec.specs.declared.block.TheConstants.{CONTENT_LEN};
+ghost use Rattle.exh_codec.specs.Block.{sealed, IsSealed};
+
+use sha2::{Digest, Sha256};
+
+/// The length of a block, in bytes (exhash profile).
+pub const BLOCK_LEN: usize = 4096;
+
+/// How many bytes of a block stand before its digest (exhash profile).
+pub const CONTENT_LEN: usize = 4064;
+
+/// Writes the digest of a block's content, the SHA-256 (FIPS 180-4) of bytes 0 to 4,064, over the
+/// bytes after it.
+pub fn seal(block: &mut [u8; BLOCK_LEN])
+    ensures { block.new ≡ sealed (take CONTENT_LEN block.old) }
+{
+    let digest = Sha256::digest(&block[..CONTENT_LEN]);
+    block[CONTENT_LEN..].copy_from_slice(&digest);
+}
+
+/// Whether the last 32 bytes of a block are the digest of those before them.
+pub fn is_sealed(block: &[u8; BLOCK_LEN]) -> bool
+    ensures { IsTrue result ↔ IsSealed block.now }
+{
+    let digest = Sha256::digest(&block[..CONTENT_LEN]);
+    block[CONTENT_LEN..] == digest[..]
+}

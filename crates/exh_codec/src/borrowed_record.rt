@@ -1,0 +1,36 @@
+ghost use Rattle.std.specs.Prelude.{◌≡◌};
+ghost use Rattle.exh_page.specs.Place.{place_cmp, place_of};
+ghost use Rattle.exh_codec.specs.Cells.{IsSized, pair_of};
+ghost use Rattle.exh_codec.specs.BorrowedRecord.{record_in};
+
+use exh_page::{Key, Record, Value};
+use std::cmp::Ordering;
+
+/// A record that stands in an image, with its key's pseudokey.
+#[derive(Clone, Copy, Debug, Default)]
+pub(crate) struct BorrowedRecord<'a> {
+    pub pseudokey: u64,
+    pub key: &'a [u8],
+    pub value: &'a [u8],
+}
+
+/// How a record's place compares with another's.
+pub(crate) fn cmp_places(one: &BorrowedRecord<'_>, other: &BorrowedRecord<'_>) -> Ordering
+    ensures { result ≡ place_cmp (place_of (record_in one.now)) (place_of (record_in other.now)) }
+{
+    one.pseudokey
+        .cmp(&other.pseudokey)
+        .then(one.key.cmp(&other.key))
+}
+
+/// The record itself.
+pub(crate) fn to_record(record: &BorrowedRecord<'_>) -> Record
+    requires { IsSized (pair_of (record_in record.now)) }
+    ensures { result ≡ record_in record.now }
+{
+    Record {
+        pseudokey: record.pseudokey,
+        key: Key::from_bytes(record.key).unwrap(),
+        value: Value::from_bytes(record.value).unwrap(),
+    }
+}

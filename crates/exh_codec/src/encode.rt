@@ -1,0 +1,85 @@
+ghost use Rattle.std.specs.Prelude.{◌≡◌, ◌≤◌, ◌*◌, ◌++◌, length, map, take, drop, replicate};
+ghost use Rattle.std.specs.List.{AllByRecursion, flat_map};
+ghost use Rattle.exh_page.specs.declared.page.TheConstants.{CAP_LIMIT};
+ghost use Rattle.exh_page.specs.Page.{records_of};
+ghost use Rattle.exh_codec.specs.declared.block.TheConstants.{BLOCK_LEN, CONTENT_LEN};
+ghost use Rattle.exh_codec.specs.Cells.{IsSized, pair_image, pair_of};
+ghost use Rattle.exh_codec.specs.PageImage.{used_of, content_of, IsInRange, IsImage};
+ghost use Rattle.exh_page.specs.Page.{IsWellFormed};
+
+use crate::block::{BLOCK_LEN, CONTENT_LEN, seal};
+use crate::head::{HEAD_LEN, Head};
+use exh_keyer::Keyer;
+use exh_page::{KEY_LIMIT, Page, Record, VALUE_LIMIT};
+
+/// The greatest length of a record in an image, in bytes (exhash profile).
+const RECORD_LEN: usize = 2 + KEY_LIMIT + VALUE_LIMIT;
+
+/// The image of a page that is well formed under a keyer. It takes no memory.
+pub fn encode_page<K: Keyer>(_keyer: &K, page: &Page) -> [u8; BLOCK_LEN]
+    requires { IsWellFormed (K.pseudokey_of _keyer.now) page.now }
+    ensures { IsImage (K.pseudokey_of _keyer.now) page.now result }
+{
+    let mut block = lay_out(page);
+    seal(&mut block);
+    block
+}
+
+/// A block with a page's content, of at most 16 records, whose digest bytes are zero. It takes no
+/// memory. [`seal`] makes it the page's image.
+pub fn lay_out(page: &Page) -> [u8; BLOCK_LEN]
+    requires { length (records_of page.now) ≤ CAP_LIMIT }
+    ensures content { take CONTENT_LEN result ≡ content_of page.now }
+    ensures digest { drop CONTENT_LEN result ≡ replicate 32 0 }
+    // The types of a page hold no others.
+    ensures in_range { IsInRange page.now }
+{
+    let mut block = [0; BLOCK_LEN];
+    put_page(&mut block, page);
+    block
+}
+
+// Writes a page over the first bytes of a block.
+fn put_page(block: &mut [u8], page: &Page)
+    requires len { length block.old ≡ BLOCK_LEN }
+    requires few { length (records_of page.now) ≤ CAP_LIMIT }
+    ensures used { block.new ≡ used_of page.now ++ drop (length (used_of page.now)) block.old }
+    ensures in_range { IsInRange page.now }
+{
+    let head = Head::of(page).to_bytes();
+    block[..HEAD_LEN].copy_from_slice(&head);
+    if let Page::Live { records, .. } = page {
+        put_records(&mut block[HEAD_LEN..], records.as_slice());
+    }
+}
+
+// Writes records, one after the other, over the first bytes.
+fn put_records(out: &mut [u8], records: &[Record])
+    requires { RECORD_LEN * length records.now ≤ length out.old }
+    ensures bytes { let image = flat_map pair_image (map pair_of records.now) in out.new ≡ image ++ drop (length image) out.old }
+    ensures sized { AllByRecursion IsSized (map pair_of records.now) }
+{
+    let mut end = 0;
+    for record in records {
+        end += put_record(&mut out[end..], record);
+    }
+}
+
+// Writes a record over the first bytes, and answers how many it takes.
+fn put_record(out: &mut [u8], record: &Record) -> usize
+    requires { RECORD_LEN ≤ length out.old }
+    ensures len { result ≡ length (pair_image (pair_of record.now)) }
+    ensures limit { result ≤ RECORD_LEN }
+    ensures bytes { out.new ≡ pair_image (pair_of record.now) ++ drop result out.old }
+    ensures sized { IsSized (pair_of record.now) }
+{
+    let key = record.key.as_bytes();
+    let value = record.value.as_bytes();
+    let value_start = 2 + key.len();
+    let end = value_start + value.len();
+    out[0] = key.len() as u8;
+    out[1] = value.len() as u8;
+    out[2..value_start].copy_from_slice(key);
+    out[value_start..end].copy_from_slice(value);
+    end
+}

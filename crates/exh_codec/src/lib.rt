@@ -1,0 +1,16 @@
+//! Pages as blocks of 4,096 bytes and back (exhash profile). A well-formed page has exactly one
+//! image, and an image is that of one page.
+#![tactic(auto)]
+
+pub use block::{BLOCK_LEN, CONTENT_LEN, is_sealed, seal};
+pub use encode::{encode_page, lay_out};
+pub use image_fault::ImageFault;
+
+mod block;
+mod borrowed_record;
+mod cell;
+mod encode;
+mod head;
+mod image_fault;
+mod kind;
+mod zeros;
