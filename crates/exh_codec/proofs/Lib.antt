@@ -1,1 +1,4 @@
 pub mod PairImages
+pub mod PutPairs
+pub mod Elements
+pub mod UsedBytes

@@ -28,10 +28,11 @@ pub(crate) struct Head {
 }
 
 impl Head {
-    ghost use Rattle.std.specs.Prelude.{◌≡◌, ◌≤◌, ℕ, List, length, slice_index, IfSome, IfNone};
+    ghost use Rattle.std.specs.Prelude.{◌≡◌, ◌≤◌, ◌<◌, ◌^◌, ℕ, List, length, slice_index, IfSome, IfNone};
     ghost use Rattle.exh_codec.specs.declared.head.TheConstants.{HEAD_LEN};
     ghost use Rattle.exh_codec.specs.declared.kind.Kind.{Kind};
     ghost use Rattle.exh_codec.specs.Kind.{kind_byte};
+    ghost use Rattle.exh_prefix.specs.declared.prefix.TheConstants.{LIMIT};
     ghost use Rattle.exh_page.specs.declared.page.TheConstants.{CAP_LIMIT};
     ghost use Rattle.exh_page.specs.Page.{records_of};
     ghost use Rattle.exh_codec.specs.Head.{head_of, head_bytes, IsReadHead};
@@ -39,7 +40,9 @@ impl Head {
     /// The head of a page's image.
     pub(crate) fn of(page: &Page) -> Head
         requires { length (records_of page.now) ≤ CAP_LIMIT }
-        ensures { result ≡ head_of page.now }
+        ensures head { result ≡ head_of page.now }
+        ensures prefix { result.prefix_len ≤ LIMIT }
+        ensures link { result.link < 2 ^ 32 }
     {
         match page {
             Page::Live {

@@ -1,0 +1,65 @@
+-- Pairs that are written one after the other.
+use Rattle.std.proofs.Common.{◌≡◌, ℕ, ◌+◌, ◌-◌, ◌<◌, ◌≤◌, List, [], ◌∷◌, ◌++◌, length, take, drop, set, replicate, refl, sym, ap, ◌∙◌, append_assoc, append-nil, arith}
+use borrow.Rule.Slice.PartMut.{put_mid}
+use Rattle.std.proofs.lemmas.List.{take_all, take_at, drop_at, drop_all, drop-drop, drop-replicate, take-replicate, length-append, length-drop}
+use Rattle.std.proofs.Math.Seq.{take-append-add}
+use Rattle.exh_codec.specs.Cells.{Pair, pair_image}
+
+pub length-pair_image : (pair : Pair) → length (pair_image pair) ≡ 2 + length pair.0 + length pair.1
+unfolding pair_image
+length-pair_image pair = omega (arith, length-append pair.0 pair.1)
+
+pub put_pair : (out key value : List ℕ) (k l : ℕ) → 2 ≤ length out → k ≡ length key → l ≡ length value
+    → put_mid (2 + length key) l (put_mid 2 k (set (set out 0 (length key)) 1 (length value)) key) value ≡ pair_image (key, value) ++ drop (2 + length key + length value) out
+unfolding pair_image
+put_pair [] key value k l some key_len value_len = absurd (omega (arith, some))
+put_pair (x ∷ []) key value k l some key_len value_len = absurd (omega (arith, some))
+put_pair (x ∷ y ∷ out) key value k l some key_len value_len =
+    let front = length key ∷ length value ∷ key in
+    let len : length front ≡ 2 + length key = omega arith in
+    let rest : drop l (drop k out) ≡ drop (2 + length key + length value) (x ∷ y ∷ out) =
+    drop-drop l k out ∙ drop-drop (k + l) 2 (x ∷ y ∷ out) ∙ ap (λ (n : ℕ). drop n (x ∷ y ∷ out)) (omega (arith, key_len, value_len)) in
+    let taken : take (2 + length key) (front ++ drop k out) ≡ front = take_at front (drop k out) (2 + length key) len in
+    let dropped : drop (2 + length key) (front ++ drop k out) ≡ drop k out = drop_at front (drop k out) (2 + length key) len in
+    ap (λ (taken : List ℕ). taken ++ (value ++ drop l (drop (2 + length key) (front ++ drop k out)))) taken
+    ∙ ap (λ (dropped : List ℕ). front ++ (value ++ drop l dropped)) dropped
+    ∙ ap (λ (rest : List ℕ). front ++ (value ++ rest)) rest
+    ∙ sym (append_assoc front value (drop (2 + length key + length value) (x ∷ y ∷ out)))
+
+-- a head is put in front, and then an image behind it
+pub put_behind : (block head image new : List ℕ) (n k : ℕ) → length head ≡ n → k ≡ length (head ++ drop n block) - n
+    → new ≡ image ++ drop (length image) (take k (drop n (head ++ drop n block)))
+    → put_mid n k (head ++ drop n block) new ≡ (head ++ image) ++ drop (length (head ++ image)) block
+put_behind block head image new n k len room is =
+    let rest = drop n block in
+    let taken : take n (head ++ rest) ≡ head = take_at head rest n len in
+    let dropped : drop n (head ++ rest) ≡ rest = drop_at head rest n len in
+    let size : length (head ++ rest) ≡ n + length rest = omega (arith, len, length-append head rest) in
+    let whole : take k rest ≡ rest = take_all k rest (omega (arith, room, size)) in
+    let none : drop k (drop n (head ++ rest)) ≡ [] = ap (drop k) dropped ∙ drop_all k rest (omega (arith, room, size)) in
+    let part : new ≡ image ++ drop (length image) rest = is ∙ ap (λ (bytes : List ℕ). image ++ drop (length image) (take k bytes)) dropped ∙ ap (λ (bytes : List ℕ). image ++ drop (length image) bytes) whole in
+    let end : drop (length image) rest ≡ drop (length (head ++ image)) block =
+    drop-drop (length image) n block ∙ ap (λ (m : ℕ). drop m block) (omega (arith, len, length-append head image)) in
+    ap (λ (front : List ℕ). front ++ (new ++ drop k (drop n (head ++ rest)))) taken
+    ∙ ap (λ (back : List ℕ). head ++ (new ++ back)) none ∙ ap (λ (back : List ℕ). head ++ back) (append-nil new ∙ part)
+    ∙ sym (append_assoc head image (drop (length image) rest)) ∙ ap (λ (back : List ℕ). (head ++ image) ++ back) end
+
+-- bytes that are written over zeros
+pub front_padded : (used : List ℕ) (content whole : ℕ) → length used ≤ content → content ≤ whole
+    → take content (used ++ drop (length used) (replicate whole 0)) ≡ used ++ replicate (content - length used) 0
+front_padded used content whole fits room =
+    let zeros : drop (length used) (replicate whole 0) ≡ replicate (whole - length used) 0 = drop-replicate (length used) whole 0 in
+    let some : content ≡ length used + (content - length used) = omega (arith, fits) in
+    ap (λ (back : List ℕ). take content (used ++ back)) zeros
+    ∙ ap (λ (n : ℕ). take n (used ++ replicate (whole - length used) 0)) some
+    ∙ take-append-add used (replicate (whole - length used) 0) (content - length used)
+    ∙ ap (λ (back : List ℕ). used ++ back) (take-replicate (content - length used) (whole - length used) 0 (omega (arith, room)))
+
+pub back_padded : (used : List ℕ) (content whole : ℕ) → length used ≤ content → content ≤ whole
+    → drop content (used ++ drop (length used) (replicate whole 0)) ≡ replicate (whole - content) 0
+back_padded used content whole fits room =
+    let some : content ≡ length used + (content - length used) = omega (arith, fits) in
+    let split : drop content (used ++ drop (length used) (replicate whole 0)) ≡ drop (content - length used) (drop (length used) (used ++ drop (length used) (replicate whole 0))) =
+    ap (λ (n : ℕ). drop n (used ++ drop (length used) (replicate whole 0))) some ∙ sym (drop-drop (content - length used) (length used) _) in
+    split ∙ ap (drop (content - length used)) (drop_at used (drop (length used) (replicate whole 0)) (length used) refl)
+    ∙ drop-drop (content - length used) (length used) (replicate whole 0) ∙ ap (λ (n : ℕ). drop n (replicate whole 0)) (sym some) ∙ drop-replicate content whole 0
