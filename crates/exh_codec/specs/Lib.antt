@@ -8,3 +8,4 @@ pub mod ImageTests
 pub mod Pairs
 pub mod Zeros
 pub mod BorrowedRecord
+pub mod ReadPages

@@ -24,13 +24,13 @@ pub(crate) fn cmp_places(one: &BorrowedRecord<'_>, other: &BorrowedRecord<'_>) -
 }
 
 /// The record itself.
-pub(crate) fn to_record(record: &BorrowedRecord<'_>) -> Record
-    requires { IsSized (pair_of (record_in record.now)) }
-    ensures { result ≡ record_in record.now }
+pub(crate) fn to_record(item: &BorrowedRecord<'_>) -> Record
+    requires { IsSized (pair_of (record_in item.now)) }
+    ensures { result ≡ record_in item.now }
 {
     Record {
-        pseudokey: record.pseudokey,
-        key: Key::from_bytes(record.key).unwrap(),
-        value: Value::from_bytes(record.value).unwrap(),
+        pseudokey: item.pseudokey,
+        key: Key::from_bytes(item.key).unwrap(),
+        value: Value::from_bytes(item.value).unwrap(),
     }
 }

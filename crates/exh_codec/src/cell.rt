@@ -1,8 +1,10 @@
-ghost use Rattle.std.specs.Prelude.{◌≡◌, ◌≤◌, ℕ, List, ◌++◌, length, map, IfSome, IfNone};
+ghost use Rattle.std.specs.Prelude.{◌≡◌, ◌≤◌, ℕ, List, ◌++◌, length, map, IfSome, IfNone, OnSome};
 ghost use Rattle.exh_codec.specs.Cells.{Pair, IsSized, AreCells, pair_image};
 ghost use Rattle.exh_codec.specs.Pairs.{pair_in};
 ghost use Rattle.exh_page.specs.declared.page.TheConstants.{CAP_LIMIT};
 
+use crate::head::Head;
+use crate::kind::Kind;
 use arrayvec::ArrayVec;
 use exh_page::{CAP_LIMIT, KEY_LIMIT, VALUE_LIMIT};
 
@@ -46,4 +48,20 @@ pub(crate) fn split_cells(count: usize, bytes: &[u8]) -> Option<(ArrayVec<Cell<'
         rest = after;
     }
     Some((cells, rest))
+}
+
+/// The records of an image with this head, and the bytes after them, `None` where there are too
+/// many or a length is out of its range.
+pub(crate) fn cells_of(head: Head, body: &[u8]) -> Option<(ArrayVec<Cell<'_>, CAP_LIMIT>, &[u8])>
+    ensures few { OnSome result (head.count ≤ CAP_LIMIT) }
+    ensures forward { OnSome result (head.kind ≡ Kind.Forward → head.count ≡ 0) }
+    ensures cells { IfSome result (λ split. AreCells head.count body.now (map pair_in split.0.items) split.1.now) }
+    ensures none { IfNone result (head.count ≤ CAP_LIMIT → (head.kind ≡ Kind.Forward → head.count ≡ 0)
+        → (pairs : List Pair) (rest : List ℕ) → AreCells head.count body.now pairs rest → ⊥) }
+{
+    let count = head.count as usize;
+    if count > CAP_LIMIT || (head.kind == Kind::Forward && count > 0) {
+        return None;
+    }
+    split_cells(count, body)
 }

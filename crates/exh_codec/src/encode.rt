@@ -16,9 +16,9 @@ use exh_page::{KEY_LIMIT, Page, Record, VALUE_LIMIT};
 const RECORD_LEN: usize = 2 + KEY_LIMIT + VALUE_LIMIT;
 
 /// The image of a page that is well formed under a keyer. It takes no memory.
-pub fn encode_page<K: Keyer>(_keyer: &K, page: &Page) -> [u8; BLOCK_LEN]
-    requires { IsWellFormed (K.pseudokey_of _keyer.now) page.now }
-    ensures { IsImage (K.pseudokey_of _keyer.now) page.now result }
+pub fn encode_page<K: Keyer>(keyer: &K, page: &Page) -> [u8; BLOCK_LEN]
+    requires { IsWellFormed (K.pseudokey_of keyer.now) page.now }
+    ensures { IsImage (K.pseudokey_of keyer.now) page.now result }
 {
     let mut block = lay_out(page);
     seal(&mut block);
@@ -60,21 +60,21 @@ fn put_records(out: &mut [u8], records: &[Record])
     ensures sized { AllByRecursion IsSized (map pair_of records.now) }
 {
     let mut end = 0;
-    for record in records {
-        end += put_record(&mut out[end..], record);
+    for item in records {
+        end += put_record(&mut out[end..], item);
     }
 }
 
 // Writes a record over the first bytes, and answers how many it takes.
-fn put_record(out: &mut [u8], record: &Record) -> usize
+fn put_record(out: &mut [u8], item: &Record) -> usize
     requires { RECORD_LEN ≤ length out.old }
-    ensures len { result ≡ length (pair_image (pair_of record.now)) }
+    ensures len { result ≡ length (pair_image (pair_of item.now)) }
     ensures limit { result ≤ RECORD_LEN }
-    ensures bytes { out.new ≡ pair_image (pair_of record.now) ++ drop result out.old }
-    ensures sized { IsSized (pair_of record.now) }
+    ensures bytes { out.new ≡ pair_image (pair_of item.now) ++ drop result out.old }
+    ensures sized { IsSized (pair_of item.now) }
 {
-    let key = record.key.as_bytes();
-    let value = record.value.as_bytes();
+    let key = item.key.as_bytes();
+    let value = item.value.as_bytes();
     let value_start = 2 + key.len();
     let end = value_start + value.len();
     out[0] = key.len() as u8;

@@ -11,7 +11,7 @@ pub(crate) const HEAD_LEN: usize = 16;
 pub(crate) const LOW_END: usize = 10;
 
 /// The link that an image of a page without a right link has (exhash profile).
-const NO_LINK: PageNo = PageNo::MAX;
+pub(crate) const NO_LINK: PageNo = PageNo::MAX;
 
 /// What the first bytes of an image say (exhash profile).
 #[derive(Clone, Copy, Debug, PartialEq, Eq)]

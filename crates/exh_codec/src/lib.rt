@@ -3,14 +3,17 @@
 #![tactic(auto)]
 
 pub use block::{BLOCK_LEN, CONTENT_LEN, is_sealed, seal};
+pub use decode::{decode_content, decode_page};
 pub use encode::{encode_page, lay_out};
 pub use image_fault::ImageFault;
 
 mod block;
 mod borrowed_record;
 mod cell;
+mod decode;
 mod encode;
 mod head;
 mod image_fault;
 mod kind;
+mod pages;
 mod zeros;

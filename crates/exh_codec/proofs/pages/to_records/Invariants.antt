@@ -1,0 +1,6 @@
+use Rattle.std.proofs.Common.{◌≡◌, map, take}
+use Rattle.exh_codec.specs.BorrowedRecord.{record_in}
+use Rattle.exh_codec.proofs.pages.to_records.Given as goal
+
+abbrev pub invariant-loop-item : goal.invariant-loop-item
+invariant-loop-item l = l.owned.items ≡ map record_in (take l.item-index l.records)

@@ -1,0 +1,77 @@
+ghost use Rattle.std.specs.Prelude.{◌≡◌, ◌≢◌, MatchResult, IfOk, IfErr};
+ghost use Rattle.exh_page.specs.declared.page.Page.{Page};
+ghost use Rattle.exh_codec.specs.PageImage.{IsImage, IsLaidOut};
+ghost use Rattle.exh_codec.specs.ReadPages.{GivesPage};
+ghost use Rattle.exh_codec.specs.ImageTests.{Passes, IsFirst, content_tests, image_tests};
+
+use crate::ImageFault;
+use crate::block::{BLOCK_LEN, CONTENT_LEN, is_sealed};
+use crate::cell::cells_of;
+use crate::head::{HEAD_LEN, Head, LOW_END};
+use crate::kind::Kind;
+use crate::pages::{forward_page, live_page};
+use crate::zeros::are_zero;
+use exh_keyer::Keyer;
+use exh_page::Page;
+use std::alloc::Global;
+
+/// The page that a block is the image of, under a keyer. Where it is that of none, the fault is the
+/// first of `Digest`, `Kind`, `Length`, `Padding`, `Prefix` and `Order` whose test the block fails,
+/// each test being over the whole block. It takes memory for the records: `Memory` where that is
+/// refused.
+pub fn decode_page<K: Keyer>(
+    alloc: Global,
+    keyer: &K,
+    block: &[u8; BLOCK_LEN],
+) -> Result<Page, ImageFault>
+    ensures page { IfOk result (λ page. IsImage (K.pseudokey_of keyer.now) page block.now) }
+    ensures only { (page : Page) → IsImage (K.pseudokey_of keyer.now) page block.now
+        → MatchResult result (λ found. found ≡ page) (λ fault. fault ≡ ImageFault.Memory) }
+    ensures fault { IfErr result (λ fault. fault ≢ ImageFault.Memory
+        → IsFirst (Passes (K.pseudokey_of keyer.now) block.now) image_tests fault) }
+{
+    if !is_sealed(block) {
+        return Err(ImageFault::Digest);
+    }
+    decode_content(alloc, keyer, block)
+}
+
+/// The page that a block was laid out for, under a keyer, whatever its digest bytes are. Where
+/// there is none, the fault is the first of `Kind`, `Length`, `Padding`, `Prefix` and `Order` whose
+/// test the block fails. It takes memory for the records: `Memory` where that is refused.
+pub fn decode_content<K: Keyer>(
+    alloc: Global,
+    keyer: &K,
+    block: &[u8; BLOCK_LEN],
+) -> Result<Page, ImageFault>
+    ensures page { IfOk result (λ page. IsLaidOut (K.pseudokey_of keyer.now) page block.now) }
+    ensures only { (page : Page) → IsLaidOut (K.pseudokey_of keyer.now) page block.now
+        → MatchResult result (λ found. found ≡ page) (λ fault. fault ≡ ImageFault.Memory) }
+    ensures fault { IfErr result (λ fault. fault ≢ ImageFault.Memory
+        → IsFirst (Passes (K.pseudokey_of keyer.now) block.now) content_tests fault) }
+{
+    read_content(alloc, keyer, block)
+}
+
+// The page that a block was laid out for, or the first fault.
+fn read_content<K: Keyer>(
+    alloc: Global,
+    keyer: &K,
+    block: &[u8; BLOCK_LEN],
+) -> Result<Page, ImageFault>
+    ensures { GivesPage (K.pseudokey_of keyer.now) block.now result }
+{
+    let Some(head) = Head::from_bytes(block) else {
+        return Err(ImageFault::Kind);
+    };
+    let Some((cells, rest)) = cells_of(head, &block[HEAD_LEN..CONTENT_LEN]) else {
+        return Err(ImageFault::Length);
+    };
+    if block[3] != 0 || !are_zero(&block[LOW_END..HEAD_LEN]) || !are_zero(rest) {
+        return Err(ImageFault::Padding);
+    }
+    match head.kind {
+        Kind::Live => live_page(alloc, keyer, head, &cells),
+        Kind::Forward => forward_page(head),
+    }
+}
