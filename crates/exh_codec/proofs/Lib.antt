@@ -4,3 +4,8 @@ pub mod Elements
 pub mod UsedBytes
 pub mod Rising
 pub mod HeadReading
+pub mod LaidOut
+pub mod TestsPassed
+pub mod ReadBack
+pub mod FirstFault
+pub mod PassedTests

@@ -1,5 +1,5 @@
 -- Pairs one after the other, of which bytes tell which they are.
-use Rattle.std.proofs.Common.{◌≡◌, ℕ, ◌+◌, ◌-◌, ◌<◌, ◌≤◌, get_or, List, [], ◌∷◌, ◌++◌, length, take, drop, map, refl, sym, ap, ◌∙◌, subst, append_assoc, arith}
+use Rattle.std.proofs.Common.{◌≡◌, ℕ, ◌+◌, ◌-◌, ◌<◌, ◌≤◌, get_or, List, [], ◌∷◌, ◌++◌, length, take, drop, refl, sym, ap, ◌∙◌, append_assoc, arith}
 use Rattle.std.specs.List.{AllByRecursion, flat_map}
 use Rattle.std.proofs.lemmas.List.{take_all, take_at, drop_at, length-append, append-nil}
 use Rattle.std.proofs.lemmas.List.Concat.{flat_map-append}
@@ -68,7 +68,7 @@ more_cells i bytes front rest pair after cells sized next = record {
   all = omega (arith, cells.all, length-append front (pair ∷ []));
   sized = sized_push front pair cells.sized sized;
   whole = cells.whole ∙ ap (λ (bytes : List ℕ). flat_map pair_image front ++ bytes) next ∙ sym (append_assoc (flat_map pair_image front) (pair_image pair) after)
-    ∙ ap (λ (bytes : List ℕ). bytes ++ after) (ap (λ (image : List ℕ). flat_map pair_image front ++ image) (sym (append-nil (pair_image pair))) ∙ sym (flat_map-append pair_image front (pair ∷ [])));
+      ∙ ap (λ (bytes : List ℕ). bytes ++ after) (ap (λ (image : List ℕ). flat_map pair_image front ++ image) (sym (append-nil (pair_image pair))) ∙ sym (flat_map-append pair_image front (pair ∷ [])));
 }
 
 pub no_cells : (bytes : List ℕ) → AreCells 0 bytes [] bytes

@@ -1,7 +1,7 @@
 -- Pairs that are written one after the other.
-use Rattle.std.proofs.Common.{◌≡◌, ℕ, ◌+◌, ◌-◌, ◌<◌, ◌≤◌, List, [], ◌∷◌, ◌++◌, length, take, drop, set, replicate, refl, sym, ap, ◌∙◌, append_assoc, append-nil, arith}
+use Rattle.std.proofs.Common.{◌≡◌, ℕ, ◌+◌, ◌-◌, ◌≤◌, List, [], ◌∷◌, ◌++◌, length, take, drop, set, replicate, refl, sym, ap, ◌∙◌, append_assoc, append-nil, arith}
 use borrow.Rule.Slice.PartMut.{put_mid}
-use Rattle.std.proofs.lemmas.List.{take_all, take_at, drop_at, drop_all, drop-drop, drop-replicate, take-replicate, length-append, length-drop}
+use Rattle.std.proofs.lemmas.List.{take_all, take_at, drop_at, drop_all, drop-drop, drop-replicate, take-replicate, length-append}
 use Rattle.std.proofs.Math.Seq.{take-append-add}
 use Rattle.exh_codec.specs.Cells.{Pair, pair_image}
 

@@ -1,8 +1,8 @@
 -- The bytes that a page uses in its image.
-use Rattle.std.proofs.Common.{◌≡◌, ℕ, ◌+◌, ◌*◌, ◌^◌, ◌<◌, ◌≤◌, Bool, List, [], ◌∷◌, ◌++◌, length, map, Option, None, Some, refl, sym, ap, ◌∙◌, subst, arith}
+use Rattle.std.proofs.Common.{◌≡◌, ℕ, ◌*◌, ◌^◌, ◌<◌, ◌≤◌, Bool, List, [], ◌∷◌, length, map, replicate, ◌-◌, Option, None, Some, refl, subst, arith}
 use Rattle.std.specs.Prelude.{IfSome}
 use Rattle.std.specs.List.{AllByRecursion, flat_map}
-use Rattle.std.proofs.lemmas.List.{length-append, length-map}
+use Rattle.std.proofs.lemmas.List.{length-append, length-map, length-replicate}
 use Rattle.exh_prefix.specs.declared.prefix.TheConstants.{LIMIT}
 use Rattle.exh_page.specs.declared.page.Page.{Page}
 use Rattle.exh_page.specs.declared.page.Page.TheVariants.{Live, Forward}
@@ -11,7 +11,7 @@ use Rattle.exh_page.specs.Page.{records_of}
 use Rattle.exh_codec.specs.declared.head.Head.{Head}
 use Rattle.exh_codec.specs.Cells.{Pair, IsSized, pair_image, pair_of}
 use Rattle.exh_codec.specs.Head.{head_of, head_bytes, link_number}
-use Rattle.exh_codec.specs.PageImage.{IsInRange, used_of}
+use Rattle.exh_codec.specs.PageImage.{IsInRange, IsPage, used_of, content_of}
 use Rattle.exh_codec.proofs.PutPairs.{length-pair_image}
 
 pub length-head_bytes : (head : Head) → length (head_bytes head) ≡ 16
@@ -24,7 +24,7 @@ length-pairs [] sized = omega arith
 length-pairs (p ∷ pairs) sized =
     omega (arith, length-append (pair_image p) (flat_map pair_image pairs), length-pair_image p, sized.0.key, sized.0.value, length-pairs pairs sized.1)
 
-sized_records : (page : Page) → IsInRange page → AllByRecursion IsSized (map pair_of (records_of page))
+pub sized_records : (page : Page) → IsInRange page → AllByRecursion IsSized (map pair_of (records_of page))
 sized_records (Live prefix right records) in_range = in_range.2
 sized_records (Forward low target) in_range = tt
 
@@ -48,3 +48,18 @@ pub live_in_range : (prefix : List Bool) (right : Option ℕ) (records : List Re
     → AllByRecursion IsSized (map pair_of records) → IsInRange (Live prefix right records)
 live_in_range prefix right records head is short small sized =
     (subst (λ (h : Head). h.prefix_len ≤ LIMIT) is short, link_in_range right (subst (λ (h : Head). h.link < 2 ^ 32) is small), sized)
+
+few_records : (pseudo : List ℕ → ℕ) (page : Page) → IsPage pseudo page → length (records_of page) ≤ 16
+few_records pseudo (Live prefix right records) page = page.formed.1
+few_records pseudo (Forward low target) page = omega arith
+
+-- a content fills a block up to its digest
+pub length-content_of : (pseudo : List ℕ → ℕ) (page : Page) → IsPage pseudo page → length (content_of page) ≡ 4064
+unfolding content_of
+length-content_of pseudo page valid =
+    omega (
+      arith,
+      length-append (used_of page) (replicate (4064 - length (used_of page)) 0),
+      length-replicate {A = ℕ} (4064 - length (used_of page)) 0,
+      length-used_of page valid.in_range (few_records pseudo page valid),
+    )

@@ -1,5 +1,5 @@
 -- The tests of an image, each over the whole block, and the first that fails.
-use Rattle.std.specs.Prelude.{◌≡◌, ◌≢◌, ⊤, ℕ, ◌≤◌, List, [], ◌∷◌, ◌++◌, length, map, take, drop, slice_index, slice_range}
+use Rattle.std.specs.Prelude.{◌≡◌, ◌≢◌, ⊤, ℕ, ◌≤◌, List, [], ◌∷◌, ◌++◌, map, take, drop, slice_index, slice_range}
 use Rattle.std.specs.List.{AllByRecursion}
 use Rattle.byteorder.specs.Endian.{big_number}
 use Rattle.exh_prefix.specs.Bits.{word_bits}
@@ -64,7 +64,7 @@ pub record IsPadded (block : List ℕ) : Type 0 where
 pub record IsBegun (pseudo : List ℕ → ℕ) (block : List ℕ) : Type 0 where
   pub prefix : HasPrefix (prefix_len_of block) (low_in block)
   pub begun : (pairs : List Pair) (rest : List ℕ) → HasCells block pairs rest
-    → AllByRecursion (λ pair. Begins (take (prefix_len_of block) (word_bits (low_in block))) (pseudo pair.0)) pairs
+      → AllByRecursion (λ pair. Begins (take (prefix_len_of block) (word_bits (low_in block))) (pseudo pair.0)) pairs
 
 -- a forwarding page has no length of a prefix, and a low bound that is one and isn't zero
 pub record IsLowBound (block : List ℕ) : Type 0 where

@@ -9,3 +9,4 @@ pub mod Pairs
 pub mod Zeros
 pub mod BorrowedRecord
 pub mod ReadPages
+pub mod Laws

@@ -25,7 +25,11 @@ pub(crate) fn split_cell(bytes: &[u8]) -> Option<(Cell<'_>, &[u8])>
         return None;
     };
     let (key_len, value_len) = (*key_len as usize, *value_len as usize);
-    if key_len == 0 || key_len > KEY_LIMIT || value_len > VALUE_LIMIT || rest.len() < key_len + value_len {
+    if key_len == 0
+        || key_len > KEY_LIMIT
+        || value_len > VALUE_LIMIT
+        || rest.len() < key_len + value_len
+    {
         return None;
     }
     let (key, rest) = rest.split_at(key_len);
@@ -35,7 +39,10 @@ pub(crate) fn split_cell(bytes: &[u8]) -> Option<(Cell<'_>, &[u8])>
 
 /// So many records at the front of some bytes, and the bytes after them, `None` where there are
 /// fewer with their lengths in their ranges.
-pub(crate) fn split_cells(count: usize, bytes: &[u8]) -> Option<(ArrayVec<Cell<'_>, CAP_LIMIT>, &[u8])>
+pub(crate) fn split_cells(
+    count: usize,
+    bytes: &[u8],
+) -> Option<(ArrayVec<Cell<'_>, CAP_LIMIT>, &[u8])>
     requires { count ≤ CAP_LIMIT }
     ensures some { IfSome result (λ split. AreCells count bytes.now (map pair_in split.0.items) split.1.now) }
     ensures none { IfNone result ((pairs : List Pair) (rest : List ℕ) → AreCells count bytes.now pairs rest → ⊥) }

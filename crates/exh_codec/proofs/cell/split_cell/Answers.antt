@@ -1,6 +1,6 @@
-use Rattle.std.proofs.Common.{◌≡◌, ℕ, List, ◌++◌, ◌≤◌, ◌+◌, ◌-◌, drop, length, sym, ◌∙◌, arith}
+use Rattle.std.proofs.Common.{◌-◌, drop, length, arith}
 use Rattle.std.proofs.lemmas.List.{length-drop, length-take}
-use Rattle.exh_codec.specs.Cells.{Pair, IsSized, pair_image}
+use Rattle.exh_codec.specs.Cells.{IsSized}
 use Rattle.exh_codec.proofs.PairImages.{pair_at_front, pair_from_cuts}
 use Rattle.exh_codec.proofs.cell.split_cell.Goals as goal
 use Rattle.exh_codec.proofs.cell.split_cell.Goals.{then-key_len-eq0-via-then-key_len-eq0, then-key_len-eq0-via-else-key_len-eq0+then-key_len-gt-KEY_LIMIT, then-key_len-eq0-via-else-key_len-eq0+else-key_len-gt-KEY_LIMIT+then-value_len-gt-VALUE_LIMIT, then-key_len-eq0-via-else-key_len-eq0+else-key_len-gt-KEY_LIMIT+else-value_len-gt-VALUE_LIMIT+then-rest-key_len}
@@ -28,6 +28,8 @@ returns-clause-some c =
       some = omega arith;
       key = omega arith;
       value = omega arith;
-    } in
-    (sized, pair_from_cuts c.args.bytes.now c.split_at.result.0.now c.split_at.result.1.now c.split_at-2.result.0.now c.split_at-2.result.1.now
-      c.in-len2-up.len_at_least key_len value_len c.split_at.ensures.by_index.0 c.split_at-2.ensures.by_index.0)
+    } in (
+      sized,
+      pair_from_cuts c.args.bytes.now c.split_at.result.0.now c.split_at.result.1.now c.split_at-2.result.0.now c.split_at-2.result.1.now
+          c.in-len2-up.len_at_least key_len value_len c.split_at.ensures.by_index.0 c.split_at-2.ensures.by_index.0,
+    )

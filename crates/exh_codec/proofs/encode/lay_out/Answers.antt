@@ -1,4 +1,4 @@
-use Rattle.std.proofs.Common.{◌≡◌, ◌∙◌, ap, take, drop, List, ℕ, arith}
+use Rattle.std.proofs.Common.{◌∙◌, ap, take, drop, arith}
 use Rattle.exh_codec.specs.PageImage.{content_of, used_of}
 use Rattle.exh_codec.proofs.PutPairs.{front_padded, back_padded}
 use Rattle.exh_codec.proofs.UsedBytes.{length-used_of}

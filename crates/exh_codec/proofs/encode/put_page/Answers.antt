@@ -1,6 +1,5 @@
-use Rattle.std.proofs.Common.{◌≡◌, ◌++◌, length, map, drop, ℕ, List, sym, ap, ◌∙◌, subst, arith, refl}
+use Rattle.std.proofs.Common.{◌≡◌, ◌++◌, length, map, drop, ℕ, List, sym, ap, ◌∙◌, subst, refl}
 use Rattle.std.specs.List.{AllByRecursion, flat_map}
-use Rattle.exh_page.specs.declared.page.Page.{Page}
 use Rattle.exh_page.specs.declared.record.Record.{Record}
 use Rattle.exh_page.specs.Page.{records_of}
 use Rattle.exh_codec.specs.Cells.{IsSized, pair_image, pair_of}
@@ -26,4 +25,4 @@ pub returns-in-Live-clause-in_range : goal.returns-in-Live-clause-in_range
 returns-in-Live-clause-in_range c =
     subst IsInRange (sym c.in-Live.is)
     (live_in_range c.in-Live.prefix c.in-Live.right c.in-Live.records c.of.result (c.of.ensures.head ∙ ap head_of c.in-Live.is) c.of.ensures.prefix c.of.ensures.link
-      (subst (λ (records : List Record). AllByRecursion IsSized (map pair_of records)) c.as_slice.ensures.records c.put_records.ensures.sized))
+    (subst (λ (records : List Record). AllByRecursion IsSized (map pair_of records)) c.as_slice.ensures.records c.put_records.ensures.sized))

@@ -8,5 +8,5 @@ invariant-loop-item l = record {
   len : l.end ≡ length (flat_map pair_image (map pair_of (take l.item-index l.records)));
   limit : l.end ≤ 194 * l.item-index;
   bytes : l.out ≡ flat_map pair_image (map pair_of (take l.item-index l.records)) ++ drop l.end l.fn.out;
-  sized : AllByRecursion IsSized (map pair_of (take l.item-index l.records))
+  sized : AllByRecursion IsSized (map pair_of (take l.item-index l.records));
 }

@@ -1,4 +1,4 @@
-use Rattle.std.proofs.Common.{sym, ◌∙◌, subst, arith}
+use Rattle.std.proofs.Common.{sym, ◌∙◌, arith}
 use Rattle.exh_codec.proofs.Rising.{rising_more, neighbours_rise, less_from_test, not_less_from_test}
 use Rattle.exh_codec.proofs.pages.are_rising.Goals as goal
 

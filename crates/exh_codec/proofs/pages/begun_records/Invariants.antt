@@ -11,5 +11,5 @@ abbrev pub invariant-loop-cell : goal.invariant-loop-cell
 invariant-loop-cell g l = record {
   records : map record_in l.records.items ≡ map (record_of (g.K.Keyer.pseudokey_of l.keyer)) (map pair_in (take l.cell-index l.cells));
   begun : AllByRecursion (λ pair. Begins l.prefix (g.K.Keyer.pseudokey_of l.keyer pair.0)) (map pair_in (take l.cell-index l.cells));
-  len : array_vec_len l.records ≡ l.cell-index
+  len : array_vec_len l.records ≡ l.cell-index;
 }

@@ -1,0 +1,6 @@
+use Rattle.exh_codec.proofs.FirstFault.{image_parts}
+use Rattle.exh_codec.proofs.TestsPassed.{one_page_laid}
+use Rattle.exh_codec.proofs.laws.one_page.Goals as goal
+
+pub returns : goal.returns
+returns c pseudo block one other first second = one_page_laid pseudo block one other (image_parts pseudo one block first).0 (image_parts pseudo other block second).0

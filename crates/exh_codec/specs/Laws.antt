@@ -1,0 +1,25 @@
+-- Laws of images, for the crates above.
+use Rattle.std.specs.Prelude.{◌≡◌, ◌<◌, ℕ, ◌↔◌, List, length, slice_index}
+use Rattle.std.specs.List.{AllByRecursion}
+use Rattle.exh_page.specs.declared.page.Page.{Page}
+use Rattle.exh_codec.specs.declared.block.TheConstants.{BLOCK_LEN}
+use Rattle.exh_codec.specs.ImageTests.{Passes, image_tests}
+use Rattle.exh_codec.specs.PageImage.{IsPage, IsImage}
+
+-- the block is the page's image, and no other is
+pub record IsOneImage (pseudo : List ℕ → ℕ) (page : Page) (block : List ℕ) : Type 0 where
+  pub image : IsImage pseudo page block
+  pub only : (other : List ℕ) → IsImage pseudo page other → other ≡ block
+
+-- a page that any file may have has exactly one image
+abbrev pub OneImage : Type 0
+OneImage = (pseudo : List ℕ → ℕ) (page : Page) → IsPage pseudo page → (block : List ℕ) × IsOneImage pseudo page block
+
+-- an image is that of one page
+abbrev pub OnePage : Type 0
+OnePage = (pseudo : List ℕ → ℕ) (block : List ℕ) (one other : Page) → IsImage pseudo one block → IsImage pseudo other block → one ≡ other
+
+-- a block of bytes is the image of a page exactly where it passes all tests
+abbrev pub ImagesPass : Type 0
+ImagesPass = (pseudo : List ℕ → ℕ) (block : List ℕ) → length block ≡ BLOCK_LEN → ((i : ℕ) → slice_index block i < 256)
+    → ((page : Page) × IsImage pseudo page block) ↔ AllByRecursion (Passes pseudo block) image_tests

@@ -1,0 +1,18 @@
+//! What holds of all images, for the proofs of callers. Each function does nothing.
+
+ghost use Rattle.exh_codec.specs.Laws.{OneImage, OnePage, ImagesPass};
+
+/// A well-formed page has exactly one image.
+pub fn one_image()
+    ensures { OneImage }
+{}
+
+/// An image is that of one page.
+pub fn one_page()
+    ensures { OnePage }
+{}
+
+/// A block is the image of a page exactly where it passes all tests.
+pub fn images_pass()
+    ensures { ImagesPass }
+{}
