@@ -1,2 +1,3 @@
 pub mod PairLemmas
 pub mod GreatestEntries
+pub mod LeafLemmas

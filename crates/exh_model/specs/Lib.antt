@@ -1,3 +1,4 @@
 pub mod MachineState
 pub mod Pairs
 pub mod Greatest
+pub mod LeafSet

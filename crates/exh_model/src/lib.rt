@@ -4,9 +4,11 @@
 #![tactic(auto)]
 
 pub use greatest::{greatest_at, greatest_of};
+pub use leaf_set::LeafSet;
 pub use map_machine::MapMachine;
 pub use pair_map::PairMap;
 
 mod greatest;
+mod leaf_set;
 mod map_machine;
 mod pair_map;

@@ -1,0 +1,151 @@
+ghost use Rattle.std.specs.Prelude.{◌≡◌, ◌↔◌, ◌<◌, ◌≤◌, ℕ, Bool, List, length, IsTrue, IfOk, IfSome, OnOk, OnErr, MatchOption};
+ghost use Rattle.std.specs.List.{All};
+ghost use Rattle.std.specs.FinSet as set;
+ghost use Rattle.exh_prefix.specs.declared.prefix.TheConstants.{LIMIT};
+ghost use Rattle.exh_notice.specs.declared.notice.Notice.{Notice as NoticeType};
+ghost use Rattle.exh_table.specs.Directory.{IsName, IsDepth, IsDirectory};
+ghost use Rattle.exh_table.specs.Leaves.{after_kind, leaves_after};
+ghost use Rattle.exh_model.specs.LeafSet.{members, AreSame, ListsLeaves};
+
+use exh_notice::{Kind, Notice};
+use exh_prefix::{LIMIT, Prefix};
+use std::alloc::{AllocError, Global};
+use std::marker::Model;
+
+/// The leaves of a directory, by which its buckets stand: a set of prefixes (Fagin et al. 1979).
+#[derive(Debug, Drop)]
+pub struct LeafSet {
+    leaves: Vec<Prefix>,
+}
+
+impl Model for LeafSet {
+    ghost use Rattle.std.specs.Coded.{coded_list, coded_bool};
+    ghost use Rattle.std.specs.FinSet as set;
+    ghost use Rattle.exh_prefix.specs.Prefix.{prefix_cmp};
+
+    ghost Value = { set.FinSet prefix_cmp };
+
+    ghost coded = { set.code (coded_list coded_bool) };
+
+    ghost view = { λ a. set.from_list a.leaves.items };
+}
+
+impl LeafSet {
+    /// The set of these prefixes, as the one leaf of a new ward. One that stands twice counts once.
+    /// An `AllocError` where memory for them is refused.
+    pub fn new(alloc: Global, leaves: &[Prefix]) -> Result<LeafSet, AllocError>
+        ensures { IfOk result (λ made. made ≡ set.from_list leaves.now) }
+    {
+        Ok(LeafSet {
+            leaves: Vec::from_slice(alloc, leaves)?,
+        })
+    }
+
+    /// The leaves that changes leave of a start's, one after another. Each change is at a prefix
+    /// shorter than `LIMIT`. An `AllocError` where memory for the leaves is refused.
+    pub fn after(
+        alloc: Global,
+        start: &[Prefix],
+        changes: &[Notice],
+    ) -> Result<LeafSet, AllocError>
+        requires { All (λ (change : NoticeType). length change.prefix < LIMIT) changes.now }
+        ensures { IfOk result (λ leaves. AreSame (members leaves) (leaves_after (members (set.from_list start.now)) changes.now)) }
+    {
+        let mut leaves = LeafSet::new(alloc, start)?;
+        for change in changes {
+            leaves.change(change)?;
+        }
+        Ok(leaves)
+    }
+
+    /// Changes the leaves by a notice, at a prefix shorter than `LIMIT`: a split takes the prefix out
+    /// and puts its children in, a merge the other way round (Fagin et al. 1979). Where a growth is
+    /// refused, an `AllocError`, the leaves are as before.
+    pub fn change(&mut self, change: &Notice) -> Result<(), AllocError>
+        requires { length change.now.prefix < LIMIT }
+        ensures ok { OnOk result (AreSame (members self.new) (after_kind (members self.old) change.now.prefix change.now.kind)) }
+        ensures err { OnErr result (self.new ≡ self.old) }
+    {
+        let parent = change.prefix;
+        let left = parent.child(false).unwrap();
+        let right = parent.child(true).unwrap();
+        self.leaves.reserve(2)?;
+        match change.kind {
+            Kind::Split { .. } => {
+                self.leaves.retain(|leaf| *leaf != parent);
+                self.leaves.push_reserved(left);
+                self.leaves.push_reserved(right);
+            }
+            Kind::Merge => {
+                self.leaves.retain(|leaf| *leaf != left && *leaf != right);
+                self.leaves.push_reserved(parent);
+            }
+        }
+        Ok(())
+    }
+
+    /// The leaves in prefix order, each once. An `AllocError` where memory for them is refused.
+    pub fn prefixes(&self) -> Result<Vec<Prefix>, AllocError>
+        ensures { IfOk result (λ prefixes. ListsLeaves self.now prefixes.items) }
+    {
+        let mut prefixes = Vec::from_slice(*self.leaves.allocator(), &self.leaves)?;
+        prefixes.sort()?;
+        prefixes.dedup();
+        Ok(prefixes)
+    }
+
+    /// The directory's name of a pseudokey: the one leaf that begins it, or `None` where none or more
+    /// than one does (Fagin et al. 1979). It takes no memory.
+    pub fn name(&self, pseudokey: u64) -> Option<Prefix>
+        ensures { MatchOption result ((name : List Bool) → IsName (members self.now) pseudokey name → ⊥) (IsName (members self.now) pseudokey) }
+    {
+        let mut name = None;
+        for leaf in &self.leaves {
+            if leaf.begins(pseudokey) {
+                match name {
+                    None => name = Some(*leaf),
+                    Some(other) => {
+                        if other != *leaf {
+                            return None;
+                        }
+                    }
+                }
+            }
+        }
+        name
+    }
+
+    /// The directory's depth: the greatest length of a leaf, or `None` where there is no leaf (Fagin
+    /// et al. 1979). It takes no memory.
+    pub fn depth(&self) -> Option<u8>
+        ensures depth { MatchOption result (self.now ≡ set.empty) (IsDepth (members self.now)) }
+        ensures limit { IfSome result (λ depth. depth ≤ LIMIT) }
+    {
+        let mut depth = None;
+        for leaf in &self.leaves {
+            depth = depth.max(Some(leaf.len()));
+        }
+        depth
+    }
+
+    /// The directory: the names of all pseudokeys in the order of their leading bits, as many as the
+    /// depth, or `None` where a pseudokey has no name (Fagin et al. 1979). An `AllocError` where
+    /// memory for the names is refused.
+    pub fn directory(&self) -> Result<Option<Vec<Prefix>>, AllocError>
+        ensures { IfOk result (λ directory. MatchOption directory ((names : List (List Bool)) → IsDirectory (members self.now) names → ⊥) (λ names. IsDirectory (members self.now) names.items)) }
+    {
+        let Some(depth) = self.depth() else {
+            return Ok(None);
+        };
+        let mut names = Vec::new(*self.leaves.allocator());
+        for leading in 0..1u64 << depth {
+            // The first pseudokey with these leading bits.
+            let pseudokey = (leading << (LIMIT - depth)) << (64 - LIMIT);
+            let Some(name) = self.name(pseudokey) else {
+                return Ok(None);
+            };
+            names.push(name)?;
+        }
+        Ok(Some(names))
+    }
+}
