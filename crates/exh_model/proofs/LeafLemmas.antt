@@ -1,5 +1,5 @@
 -- Lists of leaves as sets of prefixes.
-use Rattle.std.proofs.Common.{◌≡◌, ℕ, zero, suc, ◌+◌, ◌-◌, ◌*◌, ◌^◌, ◌<◌, ◌≤◌, ◌↔◌, ◌⊎◌, Bool, true, false, cond, not, ◌&&◌, ◌||◌, List, [], ◌∷◌, ◌++◌, length, filter, get_or, slice_get, take, map, Option, None, Some, Ordering, Contains, IsTrue, nat_eq, nat_cmp, refl, sym, ap, subst, ◌∙◌, arith, inl, inr}
+use Rattle.std.proofs.Common.{◌≡◌, ℕ, zero, suc, ◌+◌, ◌<◌, ◌≤◌, Bool, true, false, cond, not, ◌&&◌, ◌||◌, List, [], ◌∷◌, ◌++◌, length, filter, get_or, take, Option, None, Some, Ordering, Contains, nat_eq, nat_cmp, refl, sym, ap, subst, ◌∙◌, arith, inl, inr}
 use Rattle.std.specs.declared.cmp.Ordering.TheVariants.{Less, Equal, Greater}
 use Rattle.std.specs.List.{All, list_any, dedup}
 use Rattle.std.specs.List.Sorted.{IsPermutation, IsSorted}
@@ -20,7 +20,7 @@ use Rattle.exh_notice.specs.declared.entry.Kind.{Kind}
 use Rattle.exh_notice.specs.declared.entry.Kind.TheVariants.{Split, Merge}
 use Rattle.exh_notice.specs.declared.notice.Notice.{Notice}
 use Rattle.exh_table.specs.Leaves.{PrefixSet, after_split, after_merge, after_kind, leaves_after}
-use Rattle.exh_table.specs.Directory.{IsName, IsDepth, IsDirectory}
+use Rattle.exh_table.specs.Directory.{IsName, IsDepth}
 use Rattle.exh_model.specs.LeafSet.{members, AreSame, ListsLeaves}
 
 -- ---- members
@@ -104,9 +104,10 @@ kept test (item ∷ items) prefix (suc k, within, is) passes =
     ]
 
 from_kept : (test : List Bool → Bool) (items : List (List Bool)) (prefix : List Bool) → Contains (filter test items) prefix → Contains items prefix × (test prefix ≡ true)
-from_kept test items prefix among =
-    (All-contains (Contains items) (filter test items) prefix (All-filter test (Contains items) items (All-contains_itself items)) among,
-     All-contains (λ item. test item ≡ true) (filter test items) prefix (filter_passes test items) among)
+from_kept test items prefix among = (
+  All-contains (Contains items) (filter test items) prefix (All-filter test (Contains items) items (All-contains_itself items)) among,
+  All-contains (λ item. test item ≡ true) (filter test items) prefix (filter_passes test items) among,
+)
 
 -- the items after a split, in the code's order
 abbrev pub split_items : List Bool → List (List Bool) → List (List Bool)
@@ -125,19 +126,19 @@ members-split parent items prefix =
     let left = parent ++ false ∷ [] in
     let right = parent ++ true ∷ [] in
     let test : List Bool → Bool = λ leaf. not (prefix_eq leaf parent) in
-    let rest = filter test items in
-    (λ among. elim (Contains-push_cases (rest ++ left ∷ []) right prefix among) [
-       | inl before ↦ elim (Contains-push_cases rest left prefix before) [
-         | inl old ↦ let parts = from_kept test items prefix old in inl (parts.0, differs prefix parent parts.1)
-         | inr is ↦ inr (false, sym is)
-       ]
-       | inr is ↦ inr (true, sym is)
-     ],
-     λ after. elim after [
-       | inl old ↦ Contains-append_left (rest ++ left ∷ []) (right ∷ []) prefix (Contains-append_left rest (left ∷ []) prefix (kept test items prefix old.0 (not_same prefix parent old.1)))
-       | inr new ↦ new_child parent rest prefix new.0 new.1
-     ])
-
+    let rest = filter test items in (
+      λ among. elim (Contains-push_cases (rest ++ left ∷ []) right prefix among) [
+        | inl before ↦ elim (Contains-push_cases rest left prefix before) [
+          | inl old ↦ let parts = from_kept test items prefix old in inl (parts.0, differs prefix parent parts.1)
+          | inr is ↦ inr (false, sym is)
+        ]
+        | inr is ↦ inr (true, sym is)
+      ],
+      λ after. elim after [
+        | inl old ↦ Contains-append_left (rest ++ left ∷ []) (right ∷ []) prefix (Contains-append_left rest (left ∷ []) prefix (kept test items prefix old.0 (not_same prefix parent old.1)))
+        | inr new ↦ new_child parent rest prefix new.0 new.1
+      ],
+    )
 
 -- the items after a merge
 abbrev pub merged_items : List Bool → List (List Bool) → List (List Bool)
@@ -154,19 +155,20 @@ no_child parent prefix left right false = differs prefix (parent ++ false ∷ []
 pub members-merge : (parent : List Bool) (items : List (List Bool)) → AreSame (Contains (merged_items parent items)) (after_merge (Contains items) parent)
 members-merge parent items prefix =
     let test : List Bool → Bool = λ leaf. not (prefix_eq leaf (parent ++ false ∷ [])) && not (prefix_eq leaf (parent ++ true ∷ [])) in
-    let rest = filter test items in
-    (λ among. elim (Contains-push_cases rest parent prefix among) [
-       | inl old ↦
-           let parts = from_kept test items prefix old in
-           let tests = both_true (not (prefix_eq prefix (parent ++ false ∷ []))) (not (prefix_eq prefix (parent ++ true ∷ []))) parts.1 in
-           inl (parts.0, no_child parent prefix tests.0 tests.1)
-       | inr is ↦ inr (sym is)
-     ],
-     λ after. elim after [
-       | inl old ↦ Contains-append_left rest (parent ∷ []) prefix (kept test items prefix old.0
-           (ap (λ b. b && not (prefix_eq prefix (parent ++ true ∷ []))) (not_same prefix (parent ++ false ∷ []) (old.1 false)) ∙ not_same prefix (parent ++ true ∷ []) (old.1 true)))
-       | inr is ↦ let P : List Bool → Type 0 = λ p. Contains (rest ++ parent ∷ []) p in subst P (sym is) (Contains-push rest parent)
-     ])
+    let rest = filter test items in (
+      λ among. elim (Contains-push_cases rest parent prefix among) [
+        | inl old ↦
+            let parts = from_kept test items prefix old in
+            let tests = both_true (not (prefix_eq prefix (parent ++ false ∷ []))) (not (prefix_eq prefix (parent ++ true ∷ []))) parts.1 in
+            inl (parts.0, no_child parent prefix tests.0 tests.1)
+        | inr is ↦ inr (sym is)
+      ],
+      λ after. elim after [
+        | inl old ↦ Contains-append_left rest (parent ∷ []) prefix (kept test items prefix old.0
+            (ap (λ b. b && not (prefix_eq prefix (parent ++ true ∷ []))) (not_same prefix (parent ++ false ∷ []) (old.1 false)) ∙ not_same prefix (parent ++ true ∷ []) (old.1 true)))
+        | inr is ↦ let P : List Bool → Type 0 = λ p. Contains (rest ++ parent ∷ []) p in subst P (sym is) (Contains-push rest parent)
+      ],
+    )
 
 -- the set after a change
 done : (new items : List (List Bool)) (leaves : set.FinSet prefix_cmp) (at : List Bool) (kind : Kind) → set.from_list items ≡ leaves → AreSame (Contains new) (after_kind (Contains items) at kind)
@@ -225,9 +227,11 @@ IsNamed-begun : (seen : List (List Bool)) (pseudokey : ℕ) (name : Option (List
     → IsNamed (seen ++ leaf ∷ []) pseudokey (Some leaf)
 IsNamed-begun seen pseudokey None leaf begins same named =
     (Contains-push seen leaf, begins, All-push (λ other. Begins other pseudokey → other ≡ leaf) seen leaf (All-weaker (λ leaf. Begins leaf pseudokey → ⊥) (λ other. Begins other pseudokey → other ≡ leaf) (λ other not begun. absurd (not begun)) seen named) (λ begun. refl))
-IsNamed-begun seen pseudokey (Some name) leaf begins same named =
-    (Contains-push seen leaf, begins,
-     All-push (λ other. Begins other pseudokey → other ≡ leaf) seen leaf (All-weaker (λ other. Begins other pseudokey → other ≡ name) (λ other. Begins other pseudokey → other ≡ leaf) (λ other is begun. is begun ∙ same) seen named.2) (λ begun. refl))
+IsNamed-begun seen pseudokey (Some name) leaf begins same named = (
+  Contains-push seen leaf,
+  begins,
+  All-push (λ other. Begins other pseudokey → other ≡ leaf) seen leaf (All-weaker (λ other. Begins other pseudokey → other ≡ name) (λ other. Begins other pseudokey → other ≡ leaf) (λ other is begun. is begun ∙ same) seen named.2) (λ begun. refl),
+)
 
 seen_more : (items : List (List Bool)) (i : ℕ) (leaf : List Bool) → i < length items → leaf ≡ get_or items i leaf → take (i + 1) items ≡ take i items ++ leaf ∷ []
 seen_more items i leaf within is = take_more items i leaf within ∙ ap (λ l. take i items ++ l ∷ []) (sym is)
@@ -299,12 +303,12 @@ IsLongest-push seen leaf (Some depth) longest =
       | Equal ↦ λ o. newer (omega (arith, nat_level (length leaf) depth o))
       | Greater ↦ λ o. newer (omega (arith, nat_more (length leaf) depth o))
     ] refl
-    where
-      older : length leaf ≤ depth → IsLongest (seen ++ leaf ∷ []) (Some depth)
-      older below = ((longest.0.0, Contains-append_left seen (leaf ∷ []) longest.0.0 longest.0.1, longest.0.2), All-push (λ other. length other ≤ depth) seen leaf longest.1 below)
+  where
+    older : length leaf ≤ depth → IsLongest (seen ++ leaf ∷ []) (Some depth)
+    older below = ((longest.0.0, Contains-append_left seen (leaf ∷ []) longest.0.0 longest.0.1, longest.0.2), All-push (λ other. length other ≤ depth) seen leaf longest.1 below)
 
-      newer : depth ≤ length leaf → IsLongest (seen ++ leaf ∷ []) (Some (length leaf))
-      newer above = ((leaf, Contains-push seen leaf, refl), All-push (λ other. length other ≤ length leaf) seen leaf (All-weaker (λ other. length other ≤ depth) (λ other. length other ≤ length leaf) (λ other below. omega (arith, below)) seen longest.1) (omega arith))
+    newer : depth ≤ length leaf → IsLongest (seen ++ leaf ∷ []) (Some (length leaf))
+    newer above = ((leaf, Contains-push seen leaf, refl), All-push (λ other. length other ≤ length leaf) seen leaf (All-weaker (λ other. length other ≤ depth) (λ other. length other ≤ length leaf) (λ other below. omega (arith, below)) seen longest.1) (omega arith))
 
 pub longest_more : (items : List (List Bool)) (i : ℕ) (leaf : List Bool) (depth : Option ℕ) → i < length items → leaf ≡ get_or items i leaf → IsLongest (take i items) depth
     → IsLongest (take (i + 1) items) (ord_max (option_cmp nat_cmp) depth (Some (length leaf)))
@@ -339,14 +343,14 @@ listed_unique items sorted moved in_order =
         λ member. Contains-dedup equal tied_same sorted prefix (Contains-permutation items sorted prefix moved ((members-from_list items prefix).0 member)),
       );
     }
-    where
-      level : (o : Ordering) → is_eq o ≡ true → o ≡ Equal
-      level Less tied = cc
-      level Equal tied = refl
-      level Greater tied = cc
+  where
+    level : (o : Ordering) → is_eq o ≡ true → o ≡ Equal
+    level Less tied = cc
+    level Equal tied = refl
+    level Greater tied = cc
 
-      tied_same : (one other : List Bool) → eq_by_cmp prefix_cmp one other ≡ true → one ≡ other
-      tied_same one other tied = prefix_cmp-exact one other (level (prefix_cmp one other) tied)
+    tied_same : (one other : List Bool) → eq_by_cmp prefix_cmp one other ≡ true → one ≡ other
+    tied_same one other tied = prefix_cmp-exact one other (level (prefix_cmp one other) tied)
 
 pub leaves_listed : (items sorted unique : List (List Bool)) (leaves : set.FinSet prefix_cmp) (eq : List Bool → List Bool → Bool) → ((one other : List Bool) → eq one other ≡ eq_by_cmp prefix_cmp one other)
     → set.from_list items ≡ leaves → IsPermutation items sorted → IsSorted prefix_cmp sorted → IsFiltered (DiffersFromLast eq) [] sorted unique → ListsLeaves leaves unique
@@ -355,15 +359,3 @@ leaves_listed items sorted unique leaves eq ties seen moved in_order kept =
     let P : List (List Bool) → Type 0 = λ prefixes. ListsLeaves (set.from_list items) prefixes in
     let Q : set.FinSet prefix_cmp → Type 0 = λ leaves. ListsLeaves leaves unique in
     subst Q seen (subst P (sym (dedup_is eq sorted unique kept ∙ ap (λ (eq : List Bool → List Bool → Bool). dedup eq sorted) same)) (listed_unique items sorted moved in_order))
-
--- ---- the directory
-
-pub no_directory : (leaves : set.FinSet prefix_cmp) → leaves ≡ set.empty → (names : List (List Bool)) → IsDirectory (members leaves) names → ⊥
-no_directory leaves empty names directory =
-    let P : set.FinSet prefix_cmp → Type 0 = λ leaves. members leaves directory.is_depth.reached.0 in
-    true≢false (sym (subst P empty directory.is_depth.reached.1) ∙ set.contains-empty prefix_cmp directory.is_depth.reached.0)
-
--- the names of the first pseudokeys with these leading bits, one after another
-pub record AreNames (leaves : PrefixSet) (depth : ℕ) (names : List (List Bool)) (count : ℕ) : Type 0 where
-  pub long : length names ≡ count
-  pub each : (k : ℕ) → k < count → (name : List Bool) × (slice_get names k ≡ Some name) × IsName leaves (k * 2 ^ (64 - depth)) name

@@ -1,3 +1,4 @@
 pub mod PairLemmas
 pub mod GreatestEntries
 pub mod LeafLemmas
+pub mod DirectoryLemmas

@@ -1,4 +1,4 @@
-ghost use Rattle.std.specs.Prelude.{◌≡◌, ◌↔◌, ◌<◌, ◌≤◌, ℕ, Bool, List, length, IsTrue, IfOk, IfSome, OnOk, OnErr, MatchOption};
+ghost use Rattle.std.specs.Prelude.{◌≡◌, ◌↔◌, ◌-◌, ◌*◌, ◌^◌, ◌<◌, ◌≤◌, ℕ, Bool, List, length, IsTrue, IfOk, IfSome, OnOk, OnErr, MatchOption};
 ghost use Rattle.std.specs.List.{All};
 ghost use Rattle.std.specs.FinSet as set;
 ghost use Rattle.exh_prefix.specs.declared.prefix.TheConstants.{LIMIT};
@@ -43,11 +43,7 @@ impl LeafSet {
 
     /// The leaves that changes leave of a start's, one after another. Each change is at a prefix
     /// shorter than `LIMIT`. An `AllocError` where memory for the leaves is refused.
-    pub fn after(
-        alloc: Global,
-        start: &[Prefix],
-        changes: &[Notice],
-    ) -> Result<LeafSet, AllocError>
+    pub fn after(alloc: Global, start: &[Prefix], changes: &[Notice]) -> Result<LeafSet, AllocError>
         requires { All (λ (change : NoticeType). length change.prefix < LIMIT) changes.now }
         ensures { IfOk result (λ leaves. AreSame (members leaves) (leaves_after (members (set.from_list start.now)) changes.now)) }
     {
@@ -139,13 +135,20 @@ impl LeafSet {
         };
         let mut names = Vec::new(*self.leaves.allocator());
         for leading in 0..1u64 << depth {
-            // The first pseudokey with these leading bits.
-            let pseudokey = (leading << (LIMIT - depth)) << (64 - LIMIT);
-            let Some(name) = self.name(pseudokey) else {
+            let Some(name) = self.name(first_pseudokey(leading, depth)) else {
                 return Ok(None);
             };
             names.push(name)?;
         }
         Ok(Some(names))
     }
+}
+
+// The first pseudokey with these leading bits, as many as the depth.
+fn first_pseudokey(leading: u64, depth: u8) -> u64
+    requires depth { depth ≤ LIMIT }
+    requires leading { leading < 2 ^ depth }
+    ensures { result ≡ leading * 2 ^ (64 - depth) }
+{
+    (leading << (LIMIT - depth)) << (64 - LIMIT)
 }

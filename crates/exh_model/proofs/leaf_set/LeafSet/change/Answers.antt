@@ -1,7 +1,7 @@
-use Rattle.std.proofs.Common.{◌<◌, length, ◌≡◌, Bool, true, false, not, ◌&&◌, List, [], ◌∷◌, ◌++◌, filter, rules, sym, ap, ◌∙◌}
+use Rattle.std.proofs.Common.{◌<◌, length, Bool, true, false, not, ◌&&◌, List, [], ◌∷◌, ◌++◌, filter, rules, ap, ◌∙◌}
 use Rattle.std.proofs.lemmas.Fn.{filter_same}
 use Rattle.exh_prefix.specs.declared.prefix.TheConstants.{LIMIT}
-use Rattle.exh_model.proofs.LeafLemmas.{prefix_eq, split_items, merged_items, split_done, merge_done, child_is}
+use Rattle.exh_model.proofs.LeafLemmas.{prefix_eq, split_done, merge_done, child_is}
 use Rattle.exh_model.proofs.leaf_set.LeafSet.change.Goals as goal
 
 pub returns-in-Split-clause-ok : goal.returns-in-Split-clause-ok

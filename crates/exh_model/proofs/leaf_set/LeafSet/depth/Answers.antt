@@ -1,4 +1,4 @@
-use Rattle.std.proofs.Common.{Bool, List, subst, take, ap, ◌∙◌, arith}
+use Rattle.std.proofs.Common.{Bool, List, subst, ap, ◌∙◌, arith}
 use Rattle.std.specs.FinSet as set
 use Rattle.std.proofs.lemmas.List.{take_all}
 use Rattle.exh_prefix.specs.Prefix.{prefix_cmp}

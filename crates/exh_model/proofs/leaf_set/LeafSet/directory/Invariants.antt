@@ -1,4 +1,4 @@
-use Rattle.exh_model.proofs.LeafLemmas.{AreNames}
+use Rattle.exh_model.proofs.DirectoryLemmas.{AreNames}
 use Rattle.exh_model.specs.LeafSet.{members}
 use Rattle.exh_model.proofs.leaf_set.LeafSet.directory.Given as goal
 

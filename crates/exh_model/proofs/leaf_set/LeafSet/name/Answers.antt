@@ -1,4 +1,4 @@
-use Rattle.std.proofs.Common.{◌+◌, Bool, true, false, List, Option, None, Some, sym, subst, take, ap, ◌∙◌, arith}
+use Rattle.std.proofs.Common.{◌+◌, Bool, List, Option, None, Some, sym, subst, take, ap, ◌∙◌, arith}
 use Rattle.std.specs.FinSet as set
 use Rattle.std.proofs.lemmas.Bool.{true≢false}
 use Rattle.std.proofs.lemmas.List.{take_all}
