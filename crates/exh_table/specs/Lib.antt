@@ -3,7 +3,10 @@ pub mod TableOrder
 pub mod Walk
 pub mod Leaves
 pub mod Directory
+pub mod Laws
 pub mod Below
 pub mod TableLemmas
+pub mod SetLemmas
 pub mod WalkLemmas
 pub mod LeafLemmas
+pub mod PathLemmas
