@@ -4,7 +4,7 @@
 
 pub use exh_prefix::PageNo;
 pub use key::{KEY_LIMIT, Key};
-pub use laws::{buddies_unite, children_share_all, shares_are_records};
+pub use laws::{buddies_unite, children_share_all, pages_have_limits, shares_are_records};
 pub use page::{CAP_LIMIT, Page};
 pub use record::Record;
 pub use records::Records;

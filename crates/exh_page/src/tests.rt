@@ -1,4 +1,4 @@
-use crate::{Key, Page, Record, Records, SizeFault, Value};
+use crate::{CAP_LIMIT, KEY_LIMIT, Key, Page, Record, Records, SizeFault, VALUE_LIMIT, Value};
 use exh_prefix::Prefix;
 use std::cmp::Ordering;
 use std::test::Fail;
@@ -29,6 +29,12 @@ fn values_of_allowed_lengths(rt: HostRuntime) -> Result<(), Fail> {
         [7; 128].as_slice()
     );
     assert_ne!(rt; Value::from_bytes(b"a")?, Value::from_bytes(b"a\0")?);
+    Ok(())
+}
+
+#[test]
+fn limits(rt: HostRuntime) -> Result<(), Fail> {
+    assert_eq!(rt; (CAP_LIMIT, KEY_LIMIT, VALUE_LIMIT), (16, 64, 128));
     Ok(())
 }
 
@@ -185,6 +191,37 @@ fn a_page_is_divided(rt: HostRuntime) -> Result<(), Fail> {
     assert_eq!(rt; left.as_slice(), [first, second].as_slice());
     let right = page.divide(true)?;
     assert_eq!(rt; right.as_slice(), [third, fourth].as_slice());
+    Ok(())
+}
+
+#[test]
+fn a_page_absorbs_its_buddy(rt: HostRuntime) -> Result<(), Fail> {
+    let low = Record {
+        pseudokey: 7,
+        key: Key::from_bytes(b"l")?,
+        value: Value::from_bytes(b"1")?,
+    };
+    let high = Record {
+        pseudokey: 1 << 63,
+        key: Key::from_bytes(b"h")?,
+        value: Value::from_bytes(b"2")?,
+    };
+    let mut records = Records::new(rt.alloc());
+    assert_eq!(rt; records.put(low)?, None);
+    let left = Page::Live {
+        prefix: Prefix::new(1, 0).ok_or("one bit")?,
+        right: Some(4),
+        records,
+    };
+    let mut records = Records::new(rt.alloc());
+    assert_eq!(rt; records.put(high)?, None);
+    let right = Page::Live {
+        prefix: Prefix::new(1, 1 << 63).ok_or("one bit")?,
+        right: None,
+        records,
+    };
+    let all = left.absorb(&right)?;
+    assert_eq!(rt; all.as_slice(), [low, high].as_slice());
     Ok(())
 }
 
