@@ -1,11 +1,6 @@
-pub mod ByteWords
-pub mod Cuts
-pub mod Hexadecimal
-pub mod Numbers
-pub mod Printed
 pub mod WorldSteps
 pub mod Responded
 pub mod ServedLemmas
+pub mod RequestLemmas
 pub mod ReplyLaw
 pub mod LoneWorld
-pub mod ReadAgain

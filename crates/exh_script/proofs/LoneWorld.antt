@@ -1,5 +1,5 @@
 -- A world of one page, where every request stands: lines leave it so, with a sound ward, and no hop strays.
-use Rattle.std.proofs.Common.{◌≡◌, ℕ, suc, List, [], ◌∷◌, ◌++◌, Bool, true, false, cond, Option, Some, None, Result, Ok, Err, refl, sym, ap, ◌∙◌, subst, arith}
+use Rattle.std.proofs.Common.{◌≡◌, ◌≢◌, ℕ, suc, List, [], ◌∷◌, ◌++◌, Bool, true, false, cond, Option, Some, None, Result, Ok, Err, refl, sym, ap, ◌∙◌, subst, arith}
 use Rattle.std.specs.FinMap.{empty}
 use Rattle.std.specs.List.{All}
 use Rattle.std.specs.Prelude.{nat_eq}
@@ -33,17 +33,19 @@ use Rattle.exh_ward.proofs.HopFunction.{overflows-true}
 use Rattle.exh_ward.proofs.LoneHop.{pages_after-lone}
 use Rattle.exh_ward.proofs.PageMap.{reply_of-page}
 use Rattle.exh_script.specs.InFlight.{Requests}
-use Rattle.exh_script.specs.Replies.{answers_from, world_left, DoesNotStray}
-use Rattle.exh_script.specs.Text.{answer_parsed, after_parsed, line_answer, after_line}
-use Rattle.exh_script.specs.World.{WorldState, new_world, hop_in, after_hop, page_named}
+use Rattle.exh_script.specs.Answer.{hop_answer, step_answer}
+use Rattle.exh_script.specs.Replies.{turns_from, world_left, DoesNotStray}
+use Rattle.exh_script.specs.Text.{parsed_answer, after_parsed, line_answer, after_line}
+use Rattle.exh_script.specs.World.{WorldState, new_world, hop_in, after_hop_to, page_named}
 use Rattle.exh_script.specs.declared.answer.Answer.{Answer}
-use Rattle.exh_script.specs.declared.answer.Answer.TheVariants.{Begun, Hopped, Refused}
+use Rattle.exh_script.specs.declared.answer.Answer.TheVariants.{Stray}
 use Rattle.exh_script.specs.declared.line.FileLine.{FileLine}
 use Rattle.exh_script.specs.declared.line.Line.{Line}
 use Rattle.exh_script.specs.declared.line.Line.TheVariants.{Begin, Hop as HopLine}
-use Rattle.exh_script.specs.declared.line_fault.LineFault.{LineFault}
-use Rattle.exh_script.specs.declared.refusal.Refusal.TheVariants.{NoCopy, NoRequest, NameTaken}
-use Rattle.exh_script.specs.declared.request.Request.{Request}
+use Rattle.exh_text.specs.declared.line_fault.LineFault.{LineFault}
+use Rattle.exh_script.specs.declared.in_flight.Request.{Request}
+use Rattle.exh_script.specs.declared.step.Outcome.TheVariants.{Begun, Hopped}
+use Rattle.exh_script.specs.declared.step.StepRefusal.TheVariants.{NoCopy, NoRequest, NameTaken}
 
 -- the page of a ward that covers every key
 abbrev lone : List Record → Page
@@ -106,12 +108,12 @@ lone_at_new file one = record {
 module _ (cap : ℕ) (keyer : AnyKeyer) (world : WorldState) (is : IsLoneWorld cap keyer world) where
   -- the world after a line has one page too, and the answer isn't a stray hop
   abbrev Stays : Answer → WorldState → Type 0
-  Stays answer after = IsLoneWorld cap keyer after × DoesNotStray answer
+  Stays answer after = IsLoneWorld cap keyer after × ((name : ℕ) → answer ≢ Stray name)
 
   begun : (name client copy : ℕ) (call : Call) (taken there : Bool)
-      → Stays (cond taken (Refused NameTaken) (cond there (Begun name world.ward.number (page_named world copy call)) (Refused NoCopy)))
+      → Stays (step_answer (cond taken (Err NameTaken) (cond there (Ok (Begun name world.ward.number (page_named world copy call))) (Err NoCopy))))
       (cond taken world (cond there (record world { in_flight = world.in_flight ++ (name, record { client = client; page = page_named world copy call; call = call }) ∷ [] }) world))
-  begun name client copy call true there = (is, λ n w stray. cc)
+  begun name client copy call true there = (is, λ n stray. cc)
   begun name client copy call false true =
       let P : Request → Type 0 = λ request. request.page ≡ 0 in (
         record {
@@ -122,18 +124,18 @@ module _ (cap : ℕ) (keyer : AnyKeyer) (world : WorldState) (is : IsLoneWorld c
           sound = is.sound;
           at_first = subst (All P) (sym (map-append (λ (entry : ℕ × Request). entry.1) world.in_flight _)) (All-append P _ _ is.at_first (All-cons P _ [] refl (All-nil P)));
         },
-        λ n w stray. cc,
+        λ n stray. cc,
       )
-  begun name client copy call false false = (is, λ n w stray. cc)
+  begun name client copy call false false = (is, λ n stray. cc)
 
   module _ (name : ℕ) (request : Request) (first : request.page ≡ 0) where
     hopped : (split : Bool) → over cap (any_pseudokey keyer) is.records request.call ≡ split → (hop : Hop)
-        → hop ≡ cond split MustSplit (Done (reply_of cap (any_pseudokey keyer) (map_of (lone is.records ∷ [])) request.call)) → Stays (Hopped name world.ward.number hop) (after_hop world name request hop)
+        → hop ≡ cond split MustSplit (Done (reply_of cap (any_pseudokey keyer) (map_of (lone is.records ∷ [])) request.call)) → Stays (hop_answer name world.ward.number hop) (after_hop_to world name request hop)
     hopped true is_over hop is_hop =
-        let P : Hop → Type 0 = λ hop. Stays (Hopped name world.ward.number hop) (after_hop world name request hop) in
-        subst P (sym is_hop) (is, λ n w stray. cc)
+        let P : Hop → Type 0 = λ hop. Stays (hop_answer name world.ward.number hop) (after_hop_to world name request hop) in
+        subst P (sym is_hop) (is, λ n stray. cc)
     hopped false none hop is_hop =
-        let P : Hop → Type 0 = λ hop. Stays (Hopped name world.ward.number hop) (after_hop world name request hop) in
+        let P : Hop → Type 0 = λ hop. Stays (hop_answer name world.ward.number hop) (after_hop_to world name request hop) in
         subst P (sym is_hop) (
           record {
             cap_is = is.cap_is;
@@ -145,7 +147,7 @@ module _ (cap : ℕ) (keyer : AnyKeyer) (world : WorldState) (is : IsLoneWorld c
             sound = sound_answered cap (any_pseudokey keyer) is.records request.call world.ward.journal request.client none is.sound;
             at_first = All-map-remove_entry (nat_eq name) (λ (entry : ℕ × Request). entry.1) (λ request. request.page ≡ 0) world.in_flight is.at_first;
           },
-          λ n w stray. cc,
+          λ n stray. cc,
         )
 
     hop_is : hop_in world request ≡ hop_of cap (any_pseudokey keyer) (lone is.records ∷ []) 0 request.call
@@ -156,17 +158,17 @@ module _ (cap : ℕ) (keyer : AnyKeyer) (world : WorldState) (is : IsLoneWorld c
         ∙ ap (λ at. hop_of cap (any_pseudokey keyer) (lone is.records ∷ []) at request.call) first
 
   hop_stays : (name : ℕ) (named : Option Request) → IfSome named (λ request. request.page ≡ 0)
-      → Stays (option_map_or (λ request. Hopped name world.ward.number (hop_in world request)) named (Refused NoRequest))
-      (option_map_or (λ request. after_hop world name request (hop_in world request)) named world)
-  hop_stays name None first = (is, λ n w stray. cc)
+      → Stays (step_answer (option_map_or (λ request. Ok (Hopped name world.ward.number (hop_in world request))) named (Err NoRequest)))
+      (option_map_or (λ request. after_hop_to world name request (hop_in world request)) named world)
+  hop_stays name None first = (is, λ n stray. cc)
   hop_stays name (Some request) first = hopped name request first _ refl _ (hop_is name request first ∙ hop_at_lone cap (any_pseudokey keyer) is.records request.call)
 
-  stays : (parsed : Result Line LineFault) → Stays (answer_parsed world parsed) (after_parsed world parsed)
+  stays : (parsed : Result Line LineFault) → Stays (parsed_answer world parsed) (after_parsed world parsed)
   stays (Ok (Begin name client copy call)) = begun name client copy call _ _
   stays (Ok (HopLine name)) = hop_stays name _ (IfSome-lookup_from_All (λ (request : Request). request.page ≡ 0) (nat_eq name) world.in_flight is.at_first)
-  stays (Err fault) = (is, λ n w stray. cc)
+  stays (Err fault) = (is, λ n stray. cc)
 
-stays_line : (cap : ℕ) (keyer : AnyKeyer) (world : WorldState) → IsLoneWorld cap keyer world → (line : List ℕ) → IsLoneWorld cap keyer (after_line world line) × DoesNotStray (line_answer world line)
+stays_line : (cap : ℕ) (keyer : AnyKeyer) (world : WorldState) → IsLoneWorld cap keyer world → (line : List ℕ) → IsLoneWorld cap keyer (after_line world line) × ((name : ℕ) → line_answer world line ≢ Stray name)
 unfolding line_answer after_line
 stays_line cap keyer world is line = stays cap keyer world is _
 
@@ -174,8 +176,8 @@ pub lone_left : (cap : ℕ) (keyer : AnyKeyer) (world : WorldState) → IsLoneWo
 lone_left cap keyer world is [] = is
 lone_left cap keyer world is (line ∷ lines) = lone_left cap keyer (after_line world line) (stays_line cap keyer world is line).0 lines
 
-pub none_strays : (cap : ℕ) (keyer : AnyKeyer) (world : WorldState) → IsLoneWorld cap keyer world → (lines : List (List ℕ)) → All DoesNotStray (answers_from world lines)
+pub none_strays : (cap : ℕ) (keyer : AnyKeyer) (world : WorldState) → IsLoneWorld cap keyer world → (lines : List (List ℕ)) → All DoesNotStray (turns_from world lines)
 none_strays cap keyer world is [] = All-nil _
 none_strays cap keyer world is (line ∷ lines) =
-    All-cons DoesNotStray (line_answer world line) _ (stays_line cap keyer world is line).1
+    All-cons DoesNotStray _ _ (stays_line cap keyer world is line).1
     (none_strays cap keyer (after_line world line) (stays_line cap keyer world is line).0 lines)

@@ -3,10 +3,11 @@ use Rattle.std.proofs.Common.{◌≡◌, ℕ, ◌<◌, ◌≤◌, List, [], ◌+
 use Rattle.std.proofs.lemmas.Bool.{le-leb, lt-leb}
 use Rattle.std.specs.Bool.{OnTrue, OnFalse}
 use Rattle.exh_stream.specs.OutputLemmas.{TakesBeginning-none, AppendsBeginning-after}
-use Rattle.exh_script.specs.Grammar.{lines_of}
+use Rattle.exh_text.specs.Lines.{lines_of}
 use Rattle.exh_stream.specs.Output.{AppendsBeginning, Takes, TakesBeginning, held, pending}
 use Rattle.exh_script.specs.Served.{BeginsText, BeginsUnread, TakesText, TakesUnread, BeginsTaking, unread_text}
-use Rattle.exh_script.specs.Text.{answer_line, text_of_lines, ended_of_lines, text_of, ended_of}
+use Rattle.exh_script.specs.Answer.{answer_text}
+use Rattle.exh_script.specs.Text.{text_of_lines, ended_of_lines, text_of, ended_of}
 use Rattle.exh_script.specs.declared.answer.Answer.TheVariants.{Refused}
 use Rattle.exh_script.specs.declared.ended.Ended.{Ended}
 use Rattle.exh_script.specs.declared.ended.Ended.TheVariants as ended
@@ -17,9 +18,9 @@ use Rattle.exh_script.specs.declared.serve_fault.ServeFault.{ServeFault}
 
 -- the test of the length, where it is decided
 text_at : (script : List ℕ) (b : Bool) → leb (length script) SCRIPT_LIMIT ≡ b
-    → text_of script ≡ cond b (text_of_lines (lines_of script)) (answer_line (Refused TooLong))
+    → text_of script ≡ cond b (text_of_lines (lines_of script)) (answer_text (Refused TooLong))
 unfolding text_of
-text_at script b is = ap (λ b. cond b (text_of_lines (lines_of script)) (answer_line (Refused TooLong))) is
+text_at script b is = ap (λ b. cond b (text_of_lines (lines_of script)) (answer_text (Refused TooLong))) is
 
 ended_at : (script : List ℕ) (b : Bool) → leb (length script) SCRIPT_LIMIT ≡ b
     → ended_of script ≡ cond b (ended_of_lines (lines_of script)) ended.Refused
@@ -65,7 +66,7 @@ module _ {W : Type 0} (contents : W → Option (List ℕ)) (old new : Output W) 
   -- a script that is too long
   pub takes_too_long : (script : Option (List ℕ)) (result : Result Ended ServeFault)
       → IfSome script (λ bytes. SCRIPT_LIMIT < length bytes)
-      → OnOk result (Takes contents old new (answer_line (Refused TooLong))) → IfOk result (λ outcome. outcome ≡ ended.Refused)
+      → OnOk result (Takes contents old new (answer_text (Refused TooLong))) → IfOk result (λ outcome. outcome ≡ ended.Refused)
       → IfOk result (λ outcome. OnFalse b (TakesText contents old new script outcome))
   takes_too_long script (Err fault) long taken outcome = tt
   takes_too_long None (Ok end) long taken outcome = OnFalse-from b tt
@@ -75,7 +76,7 @@ module _ {W : Type 0} (contents : W → Option (List ℕ)) (old new : Output W) 
 
   pub begins_too_long : (script : Option (List ℕ)) (result : Result Ended ServeFault)
       → IfSome script (λ bytes. SCRIPT_LIMIT < length bytes)
-      → OnErr result (TakesBeginning contents old new (answer_line (Refused TooLong)))
+      → OnErr result (TakesBeginning contents old new (answer_text (Refused TooLong)))
       → OnErr result (OnFalse b (BeginsTaking contents old new script))
   begins_too_long script (Ok end) long taken = tt
   begins_too_long None (Err fault) long taken = OnFalse-from b tt

@@ -1,5 +1,5 @@
 -- What a hop under the ward is to the world.
-use Rattle.std.proofs.Common.{◌≡◌, ℕ, List, Some, refl, sym, ap, ◌∙◌, subst}
+use Rattle.std.proofs.Common.{◌≡◌, ℕ, List, Some, Result, Ok, Err, refl, sym, ap, ◌∙◌, subst}
 use Rattle.std.specs.Option.{option_map_or}
 use Rattle.exh_prefix.specs.Bits.{bits_of}
 use Rattle.exh_prefix.specs.Prefix.{Begins}
@@ -13,11 +13,13 @@ use Rattle.exh_ward.specs.declared.hop.Hop.TheVariants.{Done, Moved, MustSplit, 
 use Rattle.exh_ward.specs.declared.journal_entry.JournalEntry.{JournalEntry}
 use Rattle.exh_page.specs.declared.page.Page.{Page}
 use Rattle.exh_ward.proofs.HopFunction.{hop_is_hop_of}
-use Rattle.exh_script.specs.InFlight.{Requests, request_named, settled}
-use Rattle.exh_script.specs.World.{WorldState, hop_in, hop_answer, ward_after, after_hop, after_hop_line}
-use Rattle.exh_script.specs.declared.answer.Answer.TheVariants.{Hopped, Refused}
-use Rattle.exh_script.specs.declared.refusal.Refusal.TheVariants.{NoRequest}
-use Rattle.exh_script.specs.declared.request.Request.{Request}
+use Rattle.exh_script.specs.InFlight.{Requests, request_named, requests_after}
+use Rattle.exh_script.specs.World.{WorldState, hop_in, hop_result, ward_after, after_hop_to, after_hop}
+use Rattle.exh_script.specs.declared.in_flight.Request.{Request}
+use Rattle.exh_script.specs.declared.step.Outcome.{Outcome}
+use Rattle.exh_script.specs.declared.step.Outcome.TheVariants.{Hopped}
+use Rattle.exh_script.specs.declared.step.StepRefusal.{StepRefusal}
+use Rattle.exh_script.specs.declared.step.StepRefusal.TheVariants.{NoRequest}
 
 -- the only ward covers every key
 pub covers_all : (ward_bits number pseudokey : ℕ) → ward_bits ≡ 0 → Begins (ward_prefix ward_bits number) pseudokey
@@ -44,17 +46,18 @@ module _ (inside now : WorldState) (seen : inside ≡ now) (name : ℕ) (request
   hop_is : hop ≡ hop_in inside request
   hop_is = hop_is_hop_of inside.ward.cap (any_pseudokey inside.ward.keyer) inside.ward.pages request.page request.call hop by_table
 
-  pub hop_answered : (number : ℕ) → inside.ward.number ≡ number → Hopped name number hop ≡ hop_answer now name
-  hop_answered number is_number =
-      ap (Hopped name number) hop_is ∙ ap (λ n. Hopped name n (hop_in inside request)) (sym is_number)
-      ∙ ap (λ found. option_map_or (λ request. Hopped name inside.ward.number (hop_in inside request)) found (Refused NoRequest)) (sym found)
-      ∙ ap (λ (world : WorldState). hop_answer world name) seen
+  pub hop_came_to : (number : ℕ) → inside.ward.number ≡ number → Ok (Hopped name number hop) ≡ hop_result now name
+  hop_came_to number is_number =
+      let result = λ (number : ℕ) (hop : Hop). let ok : Result Outcome StepRefusal = Ok (Hopped name number hop) in ok in
+      ap (result number) hop_is ∙ ap (λ n. result n (hop_in inside request)) (sym is_number)
+      ∙ ap (λ found. option_map_or (λ request. result inside.ward.number (hop_in inside request)) found (Err NoRequest)) (sym found)
+      ∙ ap (λ (world : WorldState). hop_result world name) seen
 
-  pub world_left : (ward : WardState AnyKeyer) (in_flight : Requests) → LeavesAfter any_pseudokey inside.ward request.page request.client request.call hop ward → in_flight ≡ settled name hop inside.in_flight
-      → (let left : WorldState = record { ward = ward; copies = inside.copies; in_flight = in_flight } in left) ≡ after_hop_line now name
-  world_left ward in_flight left is_settled =
+  pub left_by_hop : (ward : WardState AnyKeyer) (in_flight : Requests) → LeavesAfter any_pseudokey inside.ward request.page request.client request.call hop ward → in_flight ≡ requests_after name hop inside.in_flight
+      → (let left : WorldState = record { ward = ward; copies = inside.copies; in_flight = in_flight } in left) ≡ after_hop now name
+  left_by_hop ward in_flight left is_after =
       let world = λ (ward : WardState AnyKeyer) (in_flight : Requests). let left : WorldState = record { ward = ward; copies = inside.copies; in_flight = in_flight } in left in
-      ap (λ ward. world ward in_flight) (ward_left inside.ward ward request hop left) ∙ ap (world (ward_after inside.ward request hop)) is_settled
-      ∙ ap (after_hop inside name request) hop_is
-      ∙ ap (λ found. option_map_or (λ request. after_hop inside name request (hop_in inside request)) found inside) (sym found)
-      ∙ ap (λ (world : WorldState). after_hop_line world name) seen
+      ap (λ ward. world ward in_flight) (ward_left inside.ward ward request hop left) ∙ ap (world (ward_after inside.ward request hop)) is_after
+      ∙ ap (after_hop_to inside name request) hop_is
+      ∙ ap (λ found. option_map_or (λ request. after_hop_to inside name request (hop_in inside request)) found inside) (sym found)
+      ∙ ap (λ (world : WorldState). after_hop world name) seen

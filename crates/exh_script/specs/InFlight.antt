@@ -5,7 +5,7 @@ use Rattle.std.specs.Option.{option_map_or}
 use Rattle.indexmap.specs.IndexMap.{insert_entry}
 use Rattle.exh_ward.specs.declared.hop.Hop.{Hop}
 use Rattle.exh_ward.specs.declared.hop.Hop.TheVariants.{Done, Moved, MustSplit, Stray}
-use Rattle.exh_script.specs.declared.request.Request.{Request}
+use Rattle.exh_script.specs.declared.in_flight.Request.{Request}
 
 abbrev pub Requests : Type 0
 Requests = List (ℕ × Request)
@@ -23,8 +23,8 @@ abbrev pub without : ℕ → Requests → Requests
 without name requests = remove_entry (nat_eq name) requests
 
 -- the requests after a hop of one: it is out where it was answered, and stands elsewhere where it was moved
-abbrev pub settled : ℕ → Hop → Requests → Requests
-settled name (Done reply) requests = without name requests
-settled name (Moved next) requests = moved_to name next requests
-settled name MustSplit requests = requests
-settled name Stray requests = requests
+abbrev pub requests_after : ℕ → Hop → Requests → Requests
+requests_after name (Done reply) requests = without name requests
+requests_after name (Moved next) requests = moved_to name next requests
+requests_after name MustSplit requests = requests
+requests_after name Stray requests = requests

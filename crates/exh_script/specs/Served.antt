@@ -2,7 +2,8 @@
 use Rattle.std.specs.Prelude.{◌≡◌, ℕ, List, Option, IfSome}
 use Rattle.std.specs.Io.KnownBytes.{Appends}
 use Rattle.exh_stream.specs.Output.{AppendsBeginning, Takes, TakesBeginning}
-use Rattle.exh_script.specs.Text.{answer_line, text_of, ended_of}
+use Rattle.exh_script.specs.Answer.{answer_text}
+use Rattle.exh_script.specs.Text.{text_of, ended_of}
 use Rattle.exh_script.specs.declared.answer.Answer.TheVariants.{Refused}
 use Rattle.exh_script.specs.declared.ended.Ended.{Ended}
 use Rattle.exh_script.specs.declared.ended.Ended.TheVariants as ended
@@ -11,7 +12,7 @@ use Rattle.exh_script.specs.declared.refusal.Refusal.TheVariants.{Read}
 
 -- the only line where the reader failed
 unfoldable pub unread_text : List ℕ
-unread_text = answer_line (Refused Read)
+unread_text = answer_text (Refused Read)
 
 -- the writer got the text of the script, where the bytes of it are known
 abbrev pub WritesText : Option (List ℕ) → Option (List ℕ) → Option (List ℕ) → Ended → Type 0

@@ -1,12 +1,19 @@
 ghost use Rattle.std.specs.Prelude.{◌≡◌, ℕ, List, [], ◌∷◌, ◌++◌, IsOk, IsSome, IfSome, OnOk, OnErr, None, Some};
-ghost use Rattle.exh_script.specs.InFlight.{request_named, moved_to, settled};
+ghost use Rattle.exh_script.specs.InFlight.{request_named, requests_after, moved_to};
 
-use crate::request::Request;
 use exh_page::PageNo;
 use exh_ward::{Call, Hop};
 use indexmap::IndexMap;
 use std::alloc::{AllocError, Global};
 use std::marker::Model;
+
+/// A request in flight: who asks what, and the page that it has come to.
+#[derive(Clone, Copy, Debug, PartialEq, Eq)]
+pub(crate) struct Request {
+    pub client: u32,
+    pub page: PageNo,
+    pub call: Call,
+}
 
 /// The requests in flight by their names, in the order begun.
 #[derive(Drop)]
@@ -16,7 +23,7 @@ pub(crate) struct InFlight {
 
 impl Model for InFlight {
     ghost use Rattle.std.specs.Prelude.{ℕ, List};
-    ghost use Rattle.exh_script.specs.declared.request.Request.{Request};
+    ghost use Rattle.exh_script.specs.declared.in_flight.Request.{Request};
 
     ghost Value = { List (ℕ × Request) };
 
@@ -62,8 +69,8 @@ impl InFlight {
     }
 
     /// Takes note of what a hop of a request came to. An answered one is taken out, and the others keep their order.
-    pub(crate) fn settle(&mut self, name: u32, hop: &Hop)
-        ensures { self.new ≡ settled name hop.now self.old }
+    pub(crate) fn note_hop(&mut self, name: u32, hop: &Hop)
+        ensures { self.new ≡ requests_after name hop.now self.old }
     {
         match hop {
             Hop::Done(_) => {

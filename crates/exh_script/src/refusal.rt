@@ -1,20 +1,15 @@
-use crate::LineFault;
+use crate::step::StepRefusal;
+use exh_text::LineFault;
 
 /// Why a line, a script or a run of it is refused (exhash profile).
 #[derive(Clone, Copy, Debug, PartialEq, Eq)]
 pub(crate) enum Refusal {
-    /// The file has no such copy.
-    NoCopy,
-    /// No request of the name is in flight.
-    NoRequest,
-    /// A request of the name is in flight.
-    NameTaken,
+    /// The line can't be read, or stands at the wrong place.
+    Line(LineFault),
+    /// The step that the line asks for is refused.
+    Step(StepRefusal),
     /// The reader failed.
     Read,
-    /// The line isn't in the grammar, or not at its place.
-    Syntax,
-    /// A number, a key or a value of the line is out of its range.
-    Range,
     /// The script is longer than a script may be.
     TooLong,
 }
@@ -28,12 +23,9 @@ impl Refusal {
         ensures { result ≡ refusal_number self }
     {
         match self {
-            Refusal::NoCopy => 20,
-            Refusal::NoRequest => 21,
-            Refusal::NameTaken => 25,
+            Refusal::Line(fault) => fault.number(),
+            Refusal::Step(refusal) => refusal.number(),
             Refusal::Read => 41,
-            Refusal::Syntax => 60,
-            Refusal::Range => 61,
             Refusal::TooLong => 62,
         }
     }
@@ -41,14 +33,22 @@ impl Refusal {
 
 impl From<LineFault> for Refusal {
     ghost use Rattle.std.specs.Prelude.{◌≡◌};
-    ghost use Rattle.exh_script.specs.Refusal.{refusal_of};
+    ghost use Rattle.exh_script.specs.declared.refusal.Refusal.TheVariants.{Line};
 
-    ghost from_gives = { λ fault refusal. refusal ≡ refusal_of fault };
+    ghost from_gives = { λ fault refusal. refusal ≡ Line fault };
 
     fn from(fault: LineFault) -> Refusal {
-        match fault {
-            LineFault::Syntax => Refusal::Syntax,
-            LineFault::Range => Refusal::Range,
-        }
+        Refusal::Line(fault)
+    }
+}
+
+impl From<StepRefusal> for Refusal {
+    ghost use Rattle.std.specs.Prelude.{◌≡◌};
+    ghost use Rattle.exh_script.specs.declared.refusal.Refusal.TheVariants.{Step};
+
+    ghost from_gives = { λ step refusal. refusal ≡ Step step };
+
+    fn from(step: StepRefusal) -> Refusal {
+        Refusal::Step(step)
     }
 }

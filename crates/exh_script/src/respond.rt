@@ -1,16 +1,18 @@
 ghost use Rattle.std.specs.Prelude.{◌≡◌, ◌≤◌, ◌↔◌, IfOk, OnOk, OnErr, IsErrOf, IsTrue, IsFalse};
 ghost use Rattle.exh_page.specs.declared.page.TheConstants.{CAP_LIMIT};
-ghost use Rattle.exh_script.specs.Grammar.{lines_of};
+ghost use Rattle.exh_text.specs.Lines.{lines_of};
 ghost use Rattle.exh_stream.specs.Output.{SameWriter, Takes, TakesBeginning, writer_failed};
-ghost use Rattle.exh_script.specs.Text.{answer_line, text_from, file_of, text_of_lines, ended_of_lines};
+ghost use Rattle.exh_script.specs.Text.{text_from, file_of, text_of_lines, ended_of_lines};
+ghost use Rattle.exh_script.specs.Answer.{answer_text};
 ghost use Rattle.exh_script.specs.World.{new_world};
 ghost use Rattle.exh_script.specs.declared.answer.Answer.TheVariants.{Refused};
 
+use crate::answer::answer_line;
 use crate::answer_text::push_answer;
 use crate::line::parse_file_line;
-use crate::lines::Lines;
 use crate::{Answer, Ended, FileLine, Refusal, ServeFault, World};
 use exh_stream::Output;
+use exh_text::{LineFault, Lines};
 use std::alloc::Global;
 use std::io::Write;
 
@@ -29,7 +31,7 @@ pub(crate) fn respond<W: Write>(
 {
     let mut lines = Lines::new(script);
     let Some(first) = lines.next() else {
-        return refuse(alloc, output, Refusal::Syntax);
+        return refuse(alloc, output, LineFault::Syntax.into());
     };
     match open(first) {
         Ok(file) => {
@@ -48,9 +50,9 @@ pub(crate) fn refuse<W: Write>(
 ) -> Result<Ended, ServeFault>
     requires { IsFalse (writer_failed output.old) }
     ensures same_writer { SameWriter output.old output.new }
-    ensures text { OnOk result (Takes W.contents output.old output.new (answer_line (Refused refusal))) }
+    ensures text { OnOk result (Takes W.contents output.old output.new (answer_text (Refused refusal))) }
     ensures ended { IfOk result (λ ended. ended ≡ Ended.Refused) }
-    ensures err { OnErr result (TakesBeginning W.contents output.old output.new (answer_line (Refused refusal))) }
+    ensures err { OnErr result (TakesBeginning W.contents output.old output.new (answer_text (Refused refusal))) }
     ensures failed { IsErrOf result ServeFault.Write ↔ IsTrue (writer_failed output.new) }
 {
     let mut text = Vec::new(alloc);
@@ -70,7 +72,7 @@ fn open(first: &[u8]) -> Result<FileLine, Refusal>
     match parse_file_line(first) {
         Ok(file) if file.ward_bits == 0 => Ok(file),
         // Several wards aren't served yet.
-        Ok(_) => Err(Refusal::Range),
+        Ok(_) => Err(LineFault::Range.into()),
         Err(fault) => Err(fault.into()),
     }
 }
@@ -94,7 +96,7 @@ fn answer_lines<W: Write>(
     let mut world = World::new(alloc, file);
     let mut text = Vec::new(alloc);
     for line in lines {
-        let answer = world.answer_line(line)?;
+        let answer = answer_line(&mut world, line)?;
         text.clear();
         push_answer(&mut text, &answer)?;
         output.push(&text)?;

@@ -1,10 +1,9 @@
 ghost use Rattle.std.specs.Prelude.{◌≡◌, ◌≤◌, IfOk, OnErr};
 ghost use Rattle.exh_page.specs.declared.page.TheConstants.{CAP_LIMIT};
-ghost use Rattle.exh_script.specs.World.{new_world, begin_answer, hop_answer, answer_to, after_begin, after_hop_line, world_after};
-ghost use Rattle.exh_script.specs.Text.{line_answer, after_line};
+ghost use Rattle.exh_script.specs.World.{new_world, begin_result, hop_result, step_result, after_begin, after_hop, after_step};
 
-use crate::line::parse_line;
-use crate::{Answer, FileLine, InFlight, Line, Refusal};
+use crate::step::{Outcome, StepRefusal};
+use crate::{FileLine, InFlight, Line};
 use exh_keyer::AnyKeyer;
 use exh_page::PageNo;
 use exh_ward::{Call, Ward, WardFault};
@@ -55,23 +54,10 @@ impl World {
         }
     }
 
-    /// Answers a line after the first, as it stands in the script. `Err` comes for memory alone, and changes nothing.
-    #[tactic(auto, unfolding(crate::specs::Text::line_answer, crate::specs::Text::after_line))]
-    pub(crate) fn answer_line(&mut self, line: &[u8]) -> Result<Answer, AllocError>
-        ensures answer { IfOk result (λ answer. answer ≡ line_answer self.old line.now) }
-        ensures world { IfOk result (λ _. self.new ≡ after_line self.old line.now) }
-        ensures err { OnErr result (self.new ≡ self.old) }
-    {
-        match parse_line(line) {
-            Ok(line) => self.answer(&line),
-            Err(fault) => Ok(Answer::Refused(fault.into())),
-        }
-    }
-
-    /// Does what a line asks, and answers it. `Err` comes for memory alone, and changes nothing.
-    pub(crate) fn answer(&mut self, line: &Line) -> Result<Answer, AllocError>
-        ensures answer { IfOk result (λ answer. answer ≡ answer_to self.old line.now) }
-        ensures world { IfOk result (λ _. self.new ≡ world_after self.old line.now) }
+    /// Does what a line asks. A refused step changes nothing. `Err` comes for memory alone, and changes nothing.
+    pub(crate) fn step(&mut self, line: &Line) -> Result<Result<Outcome, StepRefusal>, AllocError>
+        ensures result { IfOk result (λ result. result ≡ step_result self.old line.now) }
+        ensures world { IfOk result (λ _. self.new ≡ after_step self.old line.now) }
         ensures err { OnErr result (self.new ≡ self.old) }
     {
         match line {
@@ -91,42 +77,42 @@ impl World {
         client: u32,
         copy: u32,
         call: &Call,
-    ) -> Result<Answer, AllocError>
-        ensures answer { IfOk result (λ answer. answer ≡ begin_answer self.old name copy call.now) }
+    ) -> Result<Result<Outcome, StepRefusal>, AllocError>
+        ensures result { IfOk result (λ result. result ≡ begin_result self.old name copy call.now) }
         ensures world { IfOk result (λ _. self.new ≡ after_begin self.old name client copy call.now) }
         ensures err { OnErr result (self.new ≡ self.old) }
     {
         if self.in_flight.get(name).is_some() {
-            return Ok(Answer::Refused(Refusal::NameTaken));
+            return Ok(Err(StepRefusal::NameTaken));
         }
         if copy < 1 || copy > self.copies {
-            return Ok(Answer::Refused(Refusal::NoCopy));
+            return Ok(Err(StepRefusal::NoCopy));
         }
         self.in_flight.begin(name, client, PAGE_NAMED, call)?;
-        Ok(Answer::Begun {
+        Ok(Ok(Outcome::Begun {
             name,
             ward: WARD,
             page: PAGE_NAMED,
-        })
+        }))
     }
 
-    fn hop(&mut self, name: u32) -> Result<Answer, AllocError>
-        ensures answer { IfOk result (λ answer. answer ≡ hop_answer self.old name) }
-        ensures world { IfOk result (λ _. self.new ≡ after_hop_line self.old name) }
+    fn hop(&mut self, name: u32) -> Result<Result<Outcome, StepRefusal>, AllocError>
+        ensures result { IfOk result (λ result. result ≡ hop_result self.old name) }
+        ensures world { IfOk result (λ _. self.new ≡ after_hop self.old name) }
         ensures err { OnErr result (self.new ≡ self.old) }
     {
         let Some(request) = self.in_flight.get(name) else {
-            return Ok(Answer::Refused(Refusal::NoRequest));
+            return Ok(Err(StepRefusal::NoRequest));
         };
         let hop = match self.ward.hop(request.page, request.client, &request.call) {
             Ok(hop) => hop,
             Err(WardFault::Memory) => return Err(AllocError),
         };
-        self.in_flight.settle(name, &hop);
-        Ok(Answer::Hopped {
+        self.in_flight.note_hop(name, &hop);
+        Ok(Ok(Outcome::Hopped {
             name,
             ward: WARD,
             hop,
-        })
+        }))
     }
 }

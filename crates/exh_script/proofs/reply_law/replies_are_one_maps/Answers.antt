@@ -6,23 +6,26 @@ use Rattle.exh_keyer.specs.Pseudokey.{any_pseudokey}
 use Rattle.exh_ward.specs.History.{IsHistory, map_left}
 use Rattle.exh_ward.specs.Pages.{map_of}
 use Rattle.exh_ward.specs.declared.journal_entry.JournalEntry.{JournalEntry}
-use Rattle.exh_script.specs.Grammar.{lines_of, file_line_of}
+use Rattle.exh_script.specs.Grammar.{file_line_of}
+use Rattle.exh_text.specs.Lines.{lines_of}
 use Rattle.exh_script.specs.Replies.{RepliesAsMap, PrintsAs}
-use Rattle.exh_script.specs.Text.{answer_line, opened, file_of, text_from, text_after, text_of_lines, ended_after, ended_of_lines, text_of, ended_of}
+use Rattle.exh_script.specs.Answer.{answer_text}
+use Rattle.exh_script.specs.Text.{opened, file_of, text_from, text_after, text_of_lines, ended_after, ended_of_lines, text_of, ended_of}
 use Rattle.exh_script.specs.World.{new_world}
 use Rattle.exh_script.specs.declared.answer.Answer.TheVariants.{Refused}
 use Rattle.exh_script.specs.declared.ended.Ended.TheVariants as ended
 use Rattle.exh_script.specs.declared.server.TheConstants.{SCRIPT_LIMIT}
 use Rattle.exh_script.specs.declared.line.FileLine.{FileLine}
-use Rattle.exh_script.specs.declared.line_fault.LineFault.{LineFault}
+use Rattle.exh_text.specs.declared.line_fault.LineFault.{LineFault}
 use Rattle.exh_script.specs.declared.refusal.Refusal.{Refusal}
-use Rattle.exh_script.specs.declared.refusal.Refusal.TheVariants.{Syntax, Range, TooLong}
+use Rattle.exh_script.specs.declared.refusal.Refusal.TheVariants.{Line as LineRefusal, TooLong}
+use Rattle.exh_text.specs.declared.line_fault.LineFault.TheVariants.{Syntax, Range}
 use Rattle.exh_script.proofs.LoneWorld.{lone_at_new, lone_left, none_strays}
-use Rattle.exh_script.proofs.ReplyLaw.{text_is_answers, replies_are_entries, journal_is_entries}
+use Rattle.exh_script.proofs.ReplyLaw.{text_is_answers, entries_from, enter_in_order}
 use Rattle.exh_script.proofs.reply_law.replies_are_one_maps.Goals as goal
 
 -- a file that is served has one ward
-one_if_so : (file read : FileLine) (one : Bool) → (read.ward_bits == 0) ≡ one → (let settings : Result FileLine Refusal = cond one (Ok read) (Err Range) in settings) ≡ Ok file → file.ward_bits ≡ 0
+one_if_so : (file read : FileLine) (one : Bool) → (read.ward_bits == 0) ≡ one → (let settings : Result FileLine Refusal = cond one (Ok read) (Err (LineRefusal Range)) in settings) ≡ Ok file → file.ward_bits ≡ 0
 one_if_so file read true is right = let same : read ≡ file = cc in ap (λ (f : FileLine). f.ward_bits) (sym same) ∙ eqb-true _ _ is
 one_if_so file read false is right = cc
 
@@ -35,31 +38,32 @@ unfolding file_of
 one_ward_of file first right = one_ward file (file_line_of first) right
 
 module _ (script : List ℕ) where
-  as_map : (file : FileLine) (lines : List (List ℕ)) → file.ward_bits ≡ 0 → text_of script ≡ text_from (new_world file) lines → RepliesAsMap script file lines
+  as_map : (file : FileLine) (lines : List (List ℕ)) → file.ward_bits ≡ 0 → text_of script ≡ text_from (new_world file) lines
+      → RepliesAsMap script file lines (entries_from (new_world file) lines)
   as_map file lines one text =
       let new = lone_at_new file one in
-      let journal = journal_is_entries (new_world file) lines in
+      let entered = enter_in_order (new_world file) refl lines in
       let end = lone_left file.cap file.keyer (new_world file) new lines in
       record {
         text = text ∙ text_is_answers (new_world file) lines;
-        replies = replies_are_entries (new_world file) lines;
-        history = let P : List JournalEntry → Type 0 = IsHistory file.cap (any_pseudokey file.keyer) empty in subst P journal end.sound.history;
-        journal = journal;
-        left = ap map_of end.pages ∙ end.sound.left ∙ ap (λ entries. map_left file.cap (any_pseudokey file.keyer) empty entries) journal;
+        answered = entered.0;
+        history = let P : List JournalEntry → Type 0 = IsHistory file.cap (any_pseudokey file.keyer) empty in subst P entered.1 end.sound.history;
+        journal = entered.1;
+        left = ap map_of end.pages ∙ end.sound.left ∙ ap (λ entries. map_left file.cap (any_pseudokey file.keyer) empty entries) entered.1;
         no_stray = none_strays file.cap file.keyer (new_world file) new lines;
       }
 
   by_file : (first : List ℕ) (lines : List (List ℕ)) (read : Result FileLine Refusal) → length script ≤ SCRIPT_LIMIT → lines_of script ≡ first ∷ lines → file_of first ≡ read
       → text_of script ≡ text_after read lines → PrintsAs script (ended_after read)
   by_file first lines (Ok file) fits split right text =
-      (file, lines, record { fits = fits; first = (first, split, right) }, as_map file lines (one_ward_of file first right) text)
+      (file, lines, entries_from (new_world file) lines, record { fits = fits; first = (first, split, right) }, as_map file lines (one_ward_of file first right) text)
   by_file first lines (Err refusal) fits split right text = (refusal, text)
 
   by_lines : (lines : List (List ℕ)) → length script ≤ SCRIPT_LIMIT → lines_of script ≡ lines → text_of script ≡ text_of_lines lines → PrintsAs script (ended_of_lines lines)
-  by_lines [] fits split text = (Syntax, text)
+  by_lines [] fits split text = (LineRefusal Syntax, text)
   by_lines (first ∷ lines) fits split text = by_file first lines (file_of first) fits split refl text
 
-  by_length : (fits : Bool) → leb (length script) SCRIPT_LIMIT ≡ fits → text_of script ≡ cond fits (text_of_lines (lines_of script)) (answer_line (Refused TooLong))
+  by_length : (fits : Bool) → leb (length script) SCRIPT_LIMIT ≡ fits → text_of script ≡ cond fits (text_of_lines (lines_of script)) (answer_text (Refused TooLong))
       → PrintsAs script (cond fits (ended_of_lines (lines_of script)) ended.Refused)
   by_length true fits text = by_lines (lines_of script) (leb-true _ _ fits) refl text
   by_length false fits text = (TooLong, text)

@@ -1,7 +1,7 @@
 use Rattle.std.proofs.Common.{nat_eq, ap, ◌∙◌, ◌++◌, ◌∷◌, []}
 use Rattle.indexmap.proofs.CallerLemmas.{insert_entry-new}
 use Rattle.exh_script.specs.InFlight.{Requests, request_named}
-use Rattle.exh_script.specs.declared.request.Request.{Request}
+use Rattle.exh_script.specs.declared.in_flight.Request.{Request}
 use Rattle.exh_script.proofs.in_flight.InFlight.begin.Goals as goal
 
 pub returns-clause-ok : goal.returns-clause-ok

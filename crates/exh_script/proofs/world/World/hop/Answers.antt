@@ -1,14 +1,14 @@
 use Rattle.std.proofs.Common.{sym}
-use Rattle.exh_script.proofs.WorldSteps.{covers_all, hop_answered, world_left}
+use Rattle.exh_script.proofs.WorldSteps.{covers_all, hop_came_to, left_by_hop}
 use Rattle.exh_script.proofs.world.World.hop.Goals as goal
 
 pub hop-requires : goal.hop-requires
 hop-requires c = covers_all c.self.inside.ward.ward_bits c.self.inside.ward.number _ c.self.invariant.0
 
-pub returns-clause-answer : goal.returns-clause-answer
-returns-clause-answer c =
-    hop_answered _ c.args.self.now c.self.view_is c.args.name c.in-Some.request (sym c.in-Some.ensures) c.in-Ok.hop c.in-Ok.ensures.hop 0 c.self.invariant.1
+pub returns-clause-result : goal.returns-clause-result
+returns-clause-result c =
+    hop_came_to _ c.args.self.now c.self.view_is c.args.name c.in-Some.request (sym c.in-Some.ensures) c.in-Ok.hop c.in-Ok.ensures.hop 0 c.self.invariant.1
 
 pub returns-clause-world : goal.returns-clause-world
 returns-clause-world c =
-    world_left _ c.args.self.now c.self.view_is c.args.name c.in-Some.request (sym c.in-Some.ensures) c.in-Ok.hop c.in-Ok.ensures.hop c.hop.new.self c.settle.new.self c.in-Ok.ensures.leaves c.settle.ensures
+    left_by_hop _ c.args.self.now c.self.view_is c.args.name c.in-Some.request (sym c.in-Some.ensures) c.in-Ok.hop c.in-Ok.ensures.hop c.hop.new.self c.note_hop.new.self c.in-Ok.ensures.leaves c.note_hop.ensures

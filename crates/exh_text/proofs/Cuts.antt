@@ -1,0 +1,43 @@
+-- Where a byte first cuts bytes.
+use Rattle.std.proofs.Common.{◌≡◌, ◌≢◌, ℕ, ◌+◌, ◌-◌, ◌<◌, List, [], ◌∷◌, ◌++◌, length, take, drop, Bool, true, false, All, cond, eqb, ltb, Option, Some, None, refl, ap, ◌∙◌, arith}
+use Rattle.std.specs.List.{position_or_len, slice_split, onto_first}
+use Rattle.std.proofs.lemmas.Bool.Decides.{nat_tests}
+use Rattle.std.proofs.lemmas.List.{take_rest}
+use Rattle.std.proofs.lemmas.List.Sums.{fails_before_first}
+use Rattle.std.proofs.lemmas.List.Splits.{slice_split_first, slice_split_none, length-slice_split}
+use Rattle.std.proofs.lemmas.Option.{cond_some}
+use Rattle.exh_text.specs.Lines.{parts_at}
+
+-- what `position` answers of the byte
+abbrev pub first_at : ℕ → List ℕ → Option ℕ
+first_at byte bytes = cond (ltb (position_or_len (λ b. eqb b byte) bytes) (length bytes)) (Some (position_or_len (λ b. eqb b byte) bytes)) None
+
+pub parts_at_first : (byte : ℕ) (bytes : List ℕ) (end : ℕ) → first_at byte bytes ≡ Some end → parts_at byte bytes ≡ take end bytes ∷ parts_at byte (take (length bytes - (end + 1)) (drop (end + 1) bytes))
+unfolding parts_at
+parts_at_first byte bytes end found =
+    let cut = cond_some _ _ _ found in
+    rw take_rest (rw (← cut.1) (slice_split_first (λ b. eqb b byte) bytes 0 (grind (arith, nat_tests, cut.0))))
+
+pub parts_at_none : (byte : ℕ) (bytes : List ℕ) → first_at byte bytes ≡ None → parts_at byte bytes ≡ bytes ∷ []
+unfolding parts_at
+parts_at_none byte bytes none =
+    slice_split_none (λ b. eqb b byte) bytes (λ k d within. fails_before_first (λ b. eqb b byte) bytes k d (grind (arith, nat_tests)))
+
+parted : (cuts : Bool) (byte : ℕ) (xs ys : List (List ℕ)) → 0 < length xs → cond cuts ([] ∷ (xs ++ ys)) (onto_first byte (xs ++ ys)) ≡ cond cuts ([] ∷ xs) (onto_first byte xs) ++ ys
+parted true byte xs ys some = refl
+parted false byte [] ys some = absurd (omega arith)
+parted false byte (x ∷ xs) ys some = refl
+
+slice_split-append : (p : ℕ → Bool) (front : List ℕ) (byte : ℕ) (rest : List ℕ) → p byte ≡ true → slice_split p (front ++ byte ∷ rest) ≡ slice_split p front ++ slice_split p rest
+slice_split-append p [] byte rest cuts = rw cuts refl
+slice_split-append p (b ∷ front) byte rest cuts =
+    ap (λ parts. cond (p b) ([] ∷ parts) (onto_first b parts)) (slice_split-append p front byte rest cuts)
+    ∙ parted (p b) b (slice_split p front) (slice_split p rest) (omega (arith, length-slice_split p front))
+
+pub parts_at-append : (byte : ℕ) (front rest : List ℕ) → parts_at byte (front ++ byte ∷ rest) ≡ parts_at byte front ++ parts_at byte rest
+unfolding parts_at
+parts_at-append byte front rest = slice_split-append (λ b. eqb b byte) front byte rest (grind (arith, nat_tests))
+
+pub parts_at-one : (byte : ℕ) (bytes : List ℕ) → All (λ b. b ≢ byte) bytes → parts_at byte bytes ≡ bytes ∷ []
+unfolding parts_at
+parts_at-one byte bytes all = slice_split_none (λ b. eqb b byte) bytes (λ k d within. let other = all k d within in grind (arith, nat_tests))

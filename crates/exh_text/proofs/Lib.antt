@@ -1,0 +1,6 @@
+pub mod ByteWords
+pub mod Cuts
+pub mod Hexadecimal
+pub mod Numbers
+pub mod Printed
+pub mod ReadAgain

@@ -1,0 +1,5 @@
+pub mod Lines
+pub mod Numbers
+pub mod ByteWord
+pub mod Printing
+pub mod LineFault

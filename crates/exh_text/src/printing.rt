@@ -1,0 +1,77 @@
+ghost use Rattle.std.specs.Prelude.{◌≡◌, ◌++◌, OnOk, OnErr, decimal};
+ghost use Rattle.exh_prefix.specs.Prefix.{prefix_text};
+ghost use Rattle.exh_text.specs.Printing.{AppendsFrontOf, is_plain, place_text, printed, refused_text};
+
+use exh_prefix::Prefix;
+use itoa::Buffer;
+use std::alloc::AllocError;
+use std::io::Write;
+
+/// Adds a text at the end, or nothing where memory runs out.
+pub fn push_text(out: &mut Vec<u8>, text: &str) -> Result<(), AllocError>
+    ensures ok { OnOk result (out.new.items ≡ out.old.items ++ text.now) }
+    ensures err { OnErr result (out.new.items ≡ out.old.items) }
+{
+    out.extend_from_slice(text.as_bytes())
+}
+
+/// Adds a number in decimal digits at the end, or nothing where memory runs out.
+pub fn push_number(out: &mut Vec<u8>, number: u64) -> Result<(), AllocError>
+    ensures ok { OnOk result (out.new.items ≡ out.old.items ++ decimal number) }
+    ensures err { OnErr result (out.new.items ≡ out.old.items) }
+{
+    push_text(out, Buffer::new().format(number))
+}
+
+/// Adds a value or a key at the end: as it is where it is a word of bytes 21 to 7e that doesn't begin with `#`, else as
+/// `#` and two hexadecimal digits a byte (exhash profile). Where memory runs out, a beginning of that is added.
+#[tactic(auto, unfolding(crate::specs::Printing::printed))]
+pub fn push_value(out: &mut Vec<u8>, value: &[u8]) -> Result<(), AllocError>
+    ensures ok { OnOk result (out.new.items ≡ out.old.items ++ printed value.now) }
+    ensures err { OnErr result (AppendsFrontOf (printed value.now) out.old.items out.new.items) }
+{
+    if is_plain(value) {
+        out.extend_from_slice(value)?;
+        return Ok(());
+    }
+    out.push(b'#')?;
+    let mut digits = [0; 2];
+    for byte in value {
+        hex::encode_to_slice([*byte].as_slice(), &mut digits).unwrap();
+        out.extend_from_slice(&digits)?;
+    }
+    Ok(())
+}
+
+fn is_plain(bytes: &[u8]) -> bool
+    ensures { result ≡ is_plain bytes.now }
+{
+    match bytes {
+        [] | [b'#', ..] => false,
+        _ => bytes.iter().all(u8::is_ascii_graphic),
+    }
+}
+
+/// Adds a prefix at the end: its bits, the empty one as `-` (exhash profile).
+pub fn push_prefix(out: &mut Vec<u8>, prefix: &Prefix) -> Result<(), AllocError>
+    ensures { OnOk result (out.new.items ≡ out.old.items ++ prefix_text prefix.now) }
+{
+    write!(out, "{prefix}").map_err(|_| AllocError)
+}
+
+/// Adds a place at the end: a ward and the number of a page or of a notice of it (exhash profile).
+pub fn push_place(out: &mut Vec<u8>, ward: u8, number: u64) -> Result<(), AllocError>
+    ensures { OnOk result (out.new.items ≡ out.old.items ++ place_text ward number) }
+{
+    push_number(out, u64::from(ward))?;
+    push_text(out, "/")?;
+    push_number(out, number)
+}
+
+/// Adds a refusal at the end, as `refused 60` (exhash profile).
+pub fn push_refused(out: &mut Vec<u8>, number: u32) -> Result<(), AllocError>
+    ensures { OnOk result (out.new.items ≡ out.old.items ++ refused_text number) }
+{
+    push_text(out, "refused ")?;
+    push_number(out, u64::from(number))
+}
