@@ -4,12 +4,14 @@ use Rattle.std.specs.FinMap.{entries, get}
 use Rattle.exh_prefix.specs.Prefix.{Begins}
 use Rattle.exh_prefix.specs.declared.prefix.TheConstants.{LIMIT}
 use Rattle.exh_notice.specs.declared.entry.Entry.{Entry}
+use Rattle.exh_notice.specs.declared.entry.Kind.{Kind}
+use Rattle.exh_notice.specs.declared.entry.Kind.TheVariants.{Split, Merge}
 use Rattle.exh_notice.specs.declared.notice.Notice.{Notice}
 use Rattle.exh_table.specs.declared.leaf.Leaf.{Leaf}
 use Rattle.exh_table.specs.Table.{TableMap, told_by, IsTableOf, table_with, table_at}
 use Rattle.exh_table.specs.TableOrder.{table_join}
-use Rattle.exh_table.specs.Walk.{split_at, walk_in}
-use Rattle.exh_table.specs.Leaves.{IsLeafIn, leaves_in, leaves_of}
+use Rattle.exh_table.specs.Walk.{split_at, walk_in, walk_of}
+use Rattle.exh_table.specs.Leaves.{PrefixSet, IsLeafIn, leaves_in, leaves_of, ward_leaves}
 use Rattle.exh_table.specs.Directory.{IsName, IsDirectory}
 
 -- ---- tables of sets
@@ -61,8 +63,30 @@ pub record IsParted (table : TableMap) (ward : List Bool) (pseudokey : ℕ) : Ty
 abbrev pub LeavesPart : Type 0
 LeavesPart = (table : TableMap) (ward : List Bool) (pseudokey : ℕ) → length ward ≤ LIMIT → pseudokey < 2 ^ 64 → Begins ward pseudokey → IsParted table ward pseudokey
 
+-- the same of all wards: a walk ends at the one leaf that begins its pseudokey
+abbrev pub WalksNameLeaves : Type 0
+WalksNameLeaves = (table : TableMap) (ward_bits pseudokey : ℕ) → ward_bits ≤ LIMIT → pseudokey < 2 ^ 64 → IsName (leaves_of table ward_bits) pseudokey (walk_of table ward_bits pseudokey).prefix
+
 -- ---- directories
 
--- a table has one directory
+-- a table has a directory, and only one
+pub record HasDirectory (table : TableMap) (ward_bits : ℕ) : Type 0 where
+  pub names : List (List Bool)
+  pub is : IsDirectory (leaves_of table ward_bits) names
+  pub only : (others : List (List Bool)) → IsDirectory (leaves_of table ward_bits) others → others ≡ names
+
 abbrev pub OneDirectory : Type 0
-OneDirectory = (table : TableMap) (ward_bits : ℕ) (one other : List (List Bool)) → ward_bits ≤ LIMIT → IsDirectory (leaves_of table ward_bits) one → IsDirectory (leaves_of table ward_bits) other → one ≡ other
+OneDirectory = (table : TableMap) (ward_bits : ℕ) → ward_bits ≤ LIMIT → HasDirectory table ward_bits
+
+-- ---- changes
+
+-- a change at a place where it can be made: a split at a leaf shorter than LIMIT, a merge of two leaves of one parent
+abbrev pub CanBeMade : PrefixSet → List Bool → Kind → Type 0
+CanBeMade leaves at (Split right) = leaves at × (length at < LIMIT)
+CanBeMade leaves at Merge = ((bit : Bool) → leaves (at ++ bit ∷ [])) × (length at < LIMIT)
+
+-- where one leaf of a ward begins a pseudokey, one does after a change
+abbrev pub ChangesKeepNames : Type 0
+ChangesKeepNames = (start : TableMap) (ward : List Bool) (changes : List Notice) (change : Notice) (pseudokey : ℕ) (name : List Bool)
+    → CanBeMade (ward_leaves start ward changes) change.prefix change.kind → IsName (ward_leaves start ward changes) pseudokey name
+    → (next : List Bool) × IsName (ward_leaves start ward (changes ++ change ∷ [])) pseudokey next

@@ -96,10 +96,10 @@ leaf_is_end table ward_bits leaf short (pseudokey, small, walks) = record {
 }
 
 -- the first pseudokey that the bits begin
-low_of-small : (bits : List Bool) → length bits ≤ 64 → low_of bits < 2 ^ 64
+pub low_of-small : (bits : List Bool) → length bits ≤ 64 → low_of bits < 2 ^ 64
 low_of-small bits short = omega (arith, low_of-lt bits short, pow_pos (64 - length bits))
 
-take-word-low_of : (bits : List Bool) (n : ℕ) → length bits ≡ n → n ≤ 64 → take n (word_bits (low_of bits)) ≡ bits
+pub take-word-low_of : (bits : List Bool) (n : ℕ) → length bits ≡ n → n ≤ 64 → take n (word_bits (low_of bits)) ≡ bits
 take-word-low_of bits n many short = ap (take n) (word_bits-low_of bits (omega arith)) ∙ take_at bits (zeros (64 - length bits)) n many
 
 pub end_is_leaf : (table : TableMap) (ward_bits : ℕ) (leaf : Leaf) → ward_bits ≤ LIMIT → IsEnd (splits_above table ward_bits) LIMIT root leaf → IsLeaf table ward_bits leaf

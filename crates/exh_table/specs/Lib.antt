@@ -10,3 +10,5 @@ pub mod SetLemmas
 pub mod WalkLemmas
 pub mod LeafLemmas
 pub mod PathLemmas
+pub mod DirectoryLemmas
+pub mod ChangeLemmas

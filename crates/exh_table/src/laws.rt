@@ -1,6 +1,6 @@
 //! What holds of all tables, walks and leaves, for the proofs of callers. Each function does nothing.
 
-ghost use Rattle.exh_table.specs.Laws.{OwnEntries, OneNoticeMore, UnionIsJoin, MembersDecide, PutBackUndoes, WalksArePaths, LeavesPart};
+ghost use Rattle.exh_table.specs.Laws.{OwnEntries, OneNoticeMore, UnionIsJoin, MembersDecide, PutBackUndoes, WalksArePaths, LeavesPart, WalksNameLeaves, OneDirectory, ChangesKeepNames};
 
 /// A table's own entries, read as a set, give that table.
 pub fn own_entries_give_the_table()
@@ -37,4 +37,19 @@ pub fn walks_are_paths()
 /// leaf that begins it.
 pub fn leaves_part()
     ensures { LeavesPart }
+{}
+
+/// Over all wards, the walk for a pseudokey ends at the one leaf that begins it.
+pub fn walks_name_leaves()
+    ensures { WalksNameLeaves }
+{}
+
+/// A table has one directory (Fagin et al. 1979).
+pub fn one_directory()
+    ensures { OneDirectory }
+{}
+
+/// Where one leaf of a ward begins a pseudokey, one does after a split or a merge.
+pub fn changes_keep_names()
+    ensures { ChangesKeepNames }
 {}

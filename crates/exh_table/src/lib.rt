@@ -2,8 +2,8 @@
 #![tactic(auto)]
 
 pub use laws::{
-    leaves_part, members_decide, one_notice_more_is_taken, own_entries_give_the_table,
-    put_back_undoes, union_is_join, walks_are_paths,
+    changes_keep_names, leaves_part, members_decide, one_directory, one_notice_more_is_taken,
+    own_entries_give_the_table, put_back_undoes, union_is_join, walks_are_paths, walks_name_leaves,
 };
 pub use leaf::Leaf;
 pub use table::Table;
