@@ -1,3 +1,4 @@
+ghost use Rattle.std.specs.Prelude.{◌≡◌, Ok, IsOk};
 ghost use Rattle.exh_join.specs.Greatest.{greatest_cmp, greatest_laws};
 ghost use Rattle.exh_join.specs.Greater.{IsUpTo, greater};
 
@@ -21,11 +22,18 @@ impl Join for Greatest {
         self <= other
     }
 
-    fn try_clone(&self) -> Result<Greatest, AllocError> {
+    /// It takes no memory, and always succeeds.
+    fn try_clone(&self) -> Result<Greatest, AllocError>
+        ensures { result ≡ Ok self.now }
+    {
         Ok(*self)
     }
 
-    fn join_in(&mut self, other: &Greatest) -> Result<(), AllocError> {
+    /// It takes no memory, and always succeeds.
+    fn join_in(&mut self, other: &Greatest) -> Result<(), AllocError>
+        ensures succeeds { IsOk result }
+        ensures joined { self.new ≡ greater greatest_cmp self.old other.now }
+    {
         if *self < *other {
             *self = *other;
         }

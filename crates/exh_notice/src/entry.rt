@@ -1,4 +1,4 @@
-ghost use Rattle.std.specs.Prelude.{◌≡◌};
+ghost use Rattle.std.specs.Prelude.{◌≡◌, Ok, IsOk};
 ghost use Rattle.exh_join.specs.Greater.{IsUpTo, greater};
 ghost use Rattle.exh_notice.specs.Entry.{entry_cmp};
 ghost use Rattle.exh_notice.specs.EntryLemmas.{entry_laws};
@@ -19,7 +19,7 @@ pub enum Kind {
 
 /// What a table has at a prefix: the number of the last split or merge there, from 1 on, and which
 /// it was. Entries are ordered by number, then by kind (exhash profile).
-#[derive(Clone, Copy, Debug, PartialEq, Eq, PartialOrd, Ord, Hash)]
+#[derive(Clone, Copy, Debug, Hash, PartialEq, Eq, PartialOrd, Ord)]
 pub struct Entry {
     pub number: u32,
     pub kind: Kind,
@@ -36,11 +36,18 @@ impl Join for Entry {
         self <= other
     }
 
-    fn try_clone(&self) -> Result<Entry, AllocError> {
+    /// It takes no memory, and always succeeds.
+    fn try_clone(&self) -> Result<Entry, AllocError>
+        ensures { result ≡ Ok self.now }
+    {
         Ok(*self)
     }
 
-    fn join_in(&mut self, other: &Entry) -> Result<(), AllocError> {
+    /// It takes no memory, and always succeeds.
+    fn join_in(&mut self, other: &Entry) -> Result<(), AllocError>
+        ensures succeeds { IsOk result }
+        ensures joined { self.new ≡ greater entry_cmp self.old other.now }
+    {
         if *self < *other {
             *self = *other;
         }
