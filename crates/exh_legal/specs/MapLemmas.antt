@@ -91,7 +91,7 @@ found_at p pages number = option_map_or (λ page. find p (records_of page)) (sli
 pub skip : (p : Record → Bool) (front back : List Record) → find p front ≡ None → find p (front ++ back) ≡ find p back
 skip p front back none = find-append p front back ∙ ap (λ found. option_or found (find p back)) none
 
-nothing_found : (p : Record → Bool) (pages : List Page) → ((number : ℕ) → found_at p pages number ≡ None) → find p (flat_map records_of pages) ≡ None
+pub nothing_found : (p : Record → Bool) (pages : List Page) → ((number : ℕ) → found_at p pages number ≡ None) → find p (flat_map records_of pages) ≡ None
 nothing_found p [] none = refl
 nothing_found p (page ∷ pages) none = skip p (records_of page) (flat_map records_of pages) (none 0) ∙ nothing_found p pages (λ number. none (suc number))
 
