@@ -12,4 +12,6 @@ mod join;
 mod laws;
 mod leaf;
 mod table;
+#[cfg(test)]
+mod tests;
 mod walk;
