@@ -19,6 +19,10 @@ impl Record {
     pub fn cmp_place(&self, pseudokey: u64, key: &Key) -> Ordering
         ensures { result ≡ place_cmp (place_of self.now) (pseudokey, key.now) }
     {
-        self.pseudokey.cmp(&pseudokey).then(self.key.cmp(key))
+        // Keys are compared where pseudokeys tie alone: most searches never meet a tie before the last step.
+        match self.pseudokey.cmp(&pseudokey) {
+            Ordering::Equal => self.key.cmp(key),
+            unequal => unequal,
+        }
     }
 }
