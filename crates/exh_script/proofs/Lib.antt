@@ -4,3 +4,4 @@ pub mod ServedLemmas
 pub mod RequestLemmas
 pub mod ReplyLaw
 pub mod LoneWorld
+pub mod ToldLemmas

@@ -1,5 +1,5 @@
 -- What a line is answered, and what is printed of it.
-use Rattle.std.specs.Prelude.{ℕ, List, [], ◌∷◌, ◌++◌, Result, Ok, Err, decimal, codes}
+use Rattle.std.specs.Prelude.{⊤, ℕ, ◌^◌, ◌<◌, List, [], ◌∷◌, ◌++◌, All, Result, Ok, Err, decimal, codes}
 use Rattle.exh_text.specs.Lines.{newline}
 use Rattle.exh_text.specs.Printing.{printed, place_text, refused_text}
 use Rattle.exh_ward.specs.declared.hop.Hop.{Hop}
@@ -54,3 +54,23 @@ answer_words (Refused refusal) = refused_text (refusal_number refusal)
 -- an answer is printed on a line of its own
 abbrev pub answer_text : Answer → List ℕ
 answer_text answer = answer_words answer ++ newline ∷ []
+
+-- ---- the widths of its numbers and bytes
+
+abbrev pub HasByteValues : List ℕ → Type 0
+HasByteValues bytes = All (λ byte. byte < 256) bytes
+
+abbrev pub HasReplyWidths : Reply → Type 0
+HasReplyWidths (Is value) = HasByteValues value
+HasReplyWidths Absent = ⊤
+HasReplyWidths New = ⊤
+HasReplyWidths (Was value) = HasByteValues value
+HasReplyWidths Full = ⊤
+
+abbrev pub HasWidths : Answer → Type 0
+HasWidths (Begun name ward page) = (name < 2 ^ 32) × (ward < 2 ^ 8) × (page < 2 ^ 32)
+HasWidths (Replied name reply) = (name < 2 ^ 32) × HasReplyWidths reply
+HasWidths (Moved name ward page) = (name < 2 ^ 32) × (ward < 2 ^ 8) × (page < 2 ^ 32)
+HasWidths (MustSplit name) = name < 2 ^ 32
+HasWidths (Stray name) = name < 2 ^ 32
+HasWidths (Refused refusal) = ⊤

@@ -4,9 +4,9 @@
 use answer::Answer;
 pub use ended::Ended;
 use in_flight::InFlight;
+pub use laws::{printed_answers_are_one, replies_are_one_maps};
 use line::{COPIES_LIMIT, FileLine, Line};
 use refusal::Refusal;
-pub use reply_law::replies_are_one_maps;
 pub use serve_fault::ServeFault;
 pub use server::serve;
 use world::World;
@@ -15,9 +15,9 @@ mod answer;
 mod answer_text;
 mod ended;
 mod in_flight;
+mod laws;
 mod line;
 mod refusal;
-mod reply_law;
 mod respond;
 mod serve_fault;
 #[cfg(test)]

@@ -22,22 +22,3 @@ pub parts_at_none : (byte : ℕ) (bytes : List ℕ) → first_at byte bytes ≡ 
 unfolding parts_at
 parts_at_none byte bytes none =
     slice_split_none (λ b. eqb b byte) bytes (λ k d within. fails_before_first (λ b. eqb b byte) bytes k d (grind (arith, nat_tests)))
-
-parted : (cuts : Bool) (byte : ℕ) (xs ys : List (List ℕ)) → 0 < length xs → cond cuts ([] ∷ (xs ++ ys)) (onto_first byte (xs ++ ys)) ≡ cond cuts ([] ∷ xs) (onto_first byte xs) ++ ys
-parted true byte xs ys some = refl
-parted false byte [] ys some = absurd (omega arith)
-parted false byte (x ∷ xs) ys some = refl
-
-slice_split-append : (p : ℕ → Bool) (front : List ℕ) (byte : ℕ) (rest : List ℕ) → p byte ≡ true → slice_split p (front ++ byte ∷ rest) ≡ slice_split p front ++ slice_split p rest
-slice_split-append p [] byte rest cuts = rw cuts refl
-slice_split-append p (b ∷ front) byte rest cuts =
-    ap (λ parts. cond (p b) ([] ∷ parts) (onto_first b parts)) (slice_split-append p front byte rest cuts)
-    ∙ parted (p b) b (slice_split p front) (slice_split p rest) (omega (arith, length-slice_split p front))
-
-pub parts_at-append : (byte : ℕ) (front rest : List ℕ) → parts_at byte (front ++ byte ∷ rest) ≡ parts_at byte front ++ parts_at byte rest
-unfolding parts_at
-parts_at-append byte front rest = slice_split-append (λ b. eqb b byte) front byte rest (grind (arith, nat_tests))
-
-pub parts_at-one : (byte : ℕ) (bytes : List ℕ) → All (λ b. b ≢ byte) bytes → parts_at byte bytes ≡ bytes ∷ []
-unfolding parts_at
-parts_at-one byte bytes all = slice_split_none (λ b. eqb b byte) bytes (λ k d within. let other = all k d within in grind (arith, nat_tests))

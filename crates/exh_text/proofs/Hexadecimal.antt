@@ -98,26 +98,3 @@ pub encode_lower-append : (front rest : List ℕ) → encode_lower (front ++ res
 unfolding encode_with
 encode_lower-append [] rest = refl
 encode_lower-append (byte ∷ front) rest = ap (λ digits. slice_index lower_digits (byte / 16) ∷ slice_index lower_digits (byte % 16) ∷ digits) (encode_lower-append front rest)
-
--- ---- the digits that are printed
-
-is_digit : ℕ → Bool
-is_digit value = eqb (slice_index lower_digits value) (digit_char value)
-
-are_digits : ℕ → Bool
-are_digits zero = true
-are_digits (suc n) = is_digit n && are_digits n
-
-digit_below : (n value : ℕ) → are_digits n ≡ true → value < n → slice_index lower_digits value ≡ digit_char value
-unfolding are_digits is_digit
-digit_below zero value all below = absurd (omega arith)
-digit_below (suc n) value all below =
-    let parts = and_parts (is_digit n) (are_digits n) all in
-    elim (cases_eq value n) [
-      | inl last ↦ rw last (eqb-true (slice_index lower_digits n) (digit_char n) parts.0)
-      | inr other ↦ digit_below n value parts.1 (omega arith)
-    ]
-
-pub digit_is : (value : ℕ) → value < 16 → slice_index lower_digits value ≡ digit_char value
-unfolding are_digits is_digit
-digit_is value small = digit_below 16 value refl small

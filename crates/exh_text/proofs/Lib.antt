@@ -3,4 +3,3 @@ pub mod Cuts
 pub mod Hexadecimal
 pub mod Numbers
 pub mod Printed
-pub mod ReadAgain

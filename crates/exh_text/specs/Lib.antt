@@ -3,3 +3,4 @@ pub mod Numbers
 pub mod ByteWord
 pub mod Printing
 pub mod LineFault
+pub mod TextLemmas

@@ -1,4 +1,4 @@
-use Rattle.exh_text.proofs.ReadAgain.{number_again, number_alone, number_word}
+use Rattle.exh_text.specs.TextLemmas.{number_again, number_alone, number_word}
 use Rattle.exh_text.proofs.laws.numbers_are_decimal.Goals as goal
 
 pub returns-clause-printed : goal.returns-clause-printed

@@ -1,5 +1,5 @@
 use Rattle.std.proofs.lemmas.List.Elements.{recursion_from_All}
-use Rattle.exh_text.proofs.ReadAgain.{printed_again, printed_word}
+use Rattle.exh_text.specs.TextLemmas.{printed_again, printed_word}
 use Rattle.exh_text.proofs.laws.printed_is_read.Goals as goal
 
 pub returns-clause-bytes : goal.returns-clause-bytes

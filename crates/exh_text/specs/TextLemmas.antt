@@ -1,21 +1,45 @@
--- What is printed is read again.
-use Rattle.std.proofs.Common.{◌≡◌, ℕ, zero, suc, ◌/◌, ◌%◌, ◌^◌, ◌<◌, ◌≤◌, List, [], ◌∷◌, length, get_or, Bool, true, false, cond, eqb, Some, decimal, lit<, refl, sym, ap, ◌∙◌, arith}
+-- What is printed is read again: for proofs of the crates above.
+use Rattle.std.proofs.Common.{◌≡◌, ◌≢◌, ℕ, zero, suc, ◌+◌, ◌-◌, ◌/◌, ◌%◌, ◌^◌, ◌<◌, ◌≤◌, List, [], ◌∷◌, ◌++◌, length, slice_index, get_or, Bool, true, false, ◌&&◌, All, cond, eqb, Some, decimal, lit<, inl, inr, refl, sym, ap, ◌∙◌, arith}
 use Rattle.std.specs.Char.{is_ascii_graphic, digit_char}
-use Rattle.std.specs.List.{list_all, AllByRecursion}
+use Rattle.std.specs.List.{list_all, AllByRecursion, slice_split, onto_first}
 use Rattle.std.specs.Str.{all_ascii_digits}
 use Rattle.std.specs.Str.Parse.{digits_value}
-use Rattle.std.proofs.lemmas.Bool.{false≢true}
+use Rattle.std.proofs.lemmas.Bool.{false≢true, and_parts, cases_eq, eqb-true}
 use Rattle.std.proofs.lemmas.Bool.Decides.{nat_tests}
+use Rattle.std.proofs.lemmas.List.Splits.{slice_split_none, length-slice_split}
 use Rattle.std.proofs.lemmas.Option.{cond_some}
 use Rattle.std.proofs.lemmas.Fmt.{decimal_digit, decimal_nonempty, first_decimal, digits_decimal, digits_value-decimal, decimal-digits_value}
 use Rattle.std.proofs.lemmas.Str.Parse.{IsNumeralModel, numerals_by_value, tells_all_ascii_digits}
-use Rattle.hex.specs.Hex.{encode_lower, encode_with}
-use Rattle.exh_text.proofs.Hexadecimal.{digit_is}
+use Rattle.hex.specs.Hex.{lower_digits, encode_lower, encode_with}
 use Rattle.exh_text.specs.ByteWord.{hash, hex_digit, hex_bytes, bytes_of_word}
-use Rattle.exh_text.specs.Lines.{space, words_of}
+use Rattle.exh_text.specs.Lines.{parts_at, space, words_of}
 use Rattle.exh_text.specs.Numbers.{number_up_to, is_numeral}
-use Rattle.exh_text.specs.Lines.{parts_at}
-use Rattle.exh_text.specs.Printing.{is_plain, printed}
+use Rattle.exh_text.specs.Printing.{is_plain, printed, place_text}
+
+-- ---- the digits that are printed
+
+is_digit : ℕ → Bool
+is_digit value = eqb (slice_index lower_digits value) (digit_char value)
+
+are_digits : ℕ → Bool
+are_digits zero = true
+are_digits (suc n) = is_digit n && are_digits n
+
+digit_below : (n value : ℕ) → are_digits n ≡ true → value < n → slice_index lower_digits value ≡ digit_char value
+unfolding are_digits is_digit
+digit_below zero value all below = absurd (omega arith)
+digit_below (suc n) value all below =
+    let parts = and_parts (is_digit n) (are_digits n) all in
+    elim (cases_eq value n) [
+      | inl last ↦ rw last (eqb-true (slice_index lower_digits n) (digit_char n) parts.0)
+      | inr other ↦ digit_below n value parts.1 (omega arith)
+    ]
+
+pub digit_is : (value : ℕ) → value < 16 → slice_index lower_digits value ≡ digit_char value
+unfolding are_digits is_digit
+digit_is value small = digit_below 16 value refl small
+
+-- ---- bytes
 
 digit_again : (value : ℕ) → value < 16 → hex_digit (digit_char value) ≡ Some value
 unfolding hex_digit
@@ -43,7 +67,26 @@ pub printed_again : (bytes : List ℕ) → AllByRecursion (λ byte. byte < 256) 
 unfolding printed
 printed_again bytes all = again_at _ bytes refl all
 
--- A word: there are bytes, and none of them parts words.
+-- ---- words
+
+parted : (cuts : Bool) (byte : ℕ) (xs ys : List (List ℕ)) → 0 < length xs → cond cuts ([] ∷ (xs ++ ys)) (onto_first byte (xs ++ ys)) ≡ cond cuts ([] ∷ xs) (onto_first byte xs) ++ ys
+parted true byte xs ys some = refl
+parted false byte [] ys some = absurd (omega arith)
+parted false byte (x ∷ xs) ys some = refl
+
+slice_split-append : (p : ℕ → Bool) (front : List ℕ) (byte : ℕ) (rest : List ℕ) → p byte ≡ true → slice_split p (front ++ byte ∷ rest) ≡ slice_split p front ++ slice_split p rest
+slice_split-append p [] byte rest cuts = rw cuts refl
+slice_split-append p (b ∷ front) byte rest cuts =
+    ap (λ parts. cond (p b) ([] ∷ parts) (onto_first b parts)) (slice_split-append p front byte rest cuts)
+    ∙ parted (p b) b (slice_split p front) (slice_split p rest) (omega (arith, length-slice_split p front))
+
+pub parts_at-append : (byte : ℕ) (front rest : List ℕ) → parts_at byte (front ++ byte ∷ rest) ≡ parts_at byte front ++ parts_at byte rest
+unfolding parts_at
+parts_at-append byte front rest = slice_split-append (λ b. eqb b byte) front byte rest (grind (arith, nat_tests))
+
+pub parts_at-one : (byte : ℕ) (bytes : List ℕ) → All (λ b. b ≢ byte) bytes → parts_at byte bytes ≡ bytes ∷ []
+unfolding parts_at
+parts_at-one byte bytes all = slice_split_none (λ b. eqb b byte) bytes (λ k d within. let other = all k d within in grind (arith, nat_tests))
 
 digit_graphic : (value : ℕ) → value < 16 → is_ascii_graphic (digit_char value) ≡ true
 digit_graphic value small = grind (arith, nat_tests)
@@ -56,7 +99,7 @@ hex_graphic (byte ∷ bytes) all =
     let low : byte % 16 < 16 = omega arith in
     rw (digit_is (byte / 16) high, digit_is (byte % 16) low, digit_graphic (byte / 16) high, digit_graphic (byte % 16) low, hex_graphic bytes all.1) refl
 
-one_part : (bytes : List ℕ) → list_all is_ascii_graphic bytes ≡ true → parts_at space bytes ≡ bytes ∷ []
+pub one_part : (bytes : List ℕ) → list_all is_ascii_graphic bytes ≡ true → parts_at space bytes ≡ bytes ∷ []
 unfolding parts_at
 one_part [] graphic = refl
 one_part (byte ∷ bytes) graphic =
@@ -80,7 +123,7 @@ pub printed_word : (bytes : List ℕ) → AllByRecursion (λ byte. byte < 256) b
 unfolding printed
 printed_word bytes all = word_at _ bytes refl all
 
--- Numbers.
+-- ---- numbers
 
 own : IsNumeralModel (λ digits. all_ascii_digits digits ≡ true) (digits_value 10)
 own = numerals_by_value _ tells_all_ascii_digits
@@ -118,3 +161,43 @@ graphic_digits (digit ∷ digits) all = let rest = graphic_digits digits (grind 
 
 pub number_word : (number : ℕ) → number < 2 ^ 64 → words_of (decimal number) ≡ Some (decimal number ∷ [])
 number_word number small = one_word (decimal number) (graphic_digits (decimal number) (digits_decimal own number small)) (decimal_nonempty number small)
+
+-- ---- words behind each other
+
+pub decimal_graphic : (number : ℕ) → number < 2 ^ 64 → list_all is_ascii_graphic (decimal number) ≡ true
+decimal_graphic number small = graphic_digits (decimal number) (digits_decimal own number small)
+
+printed_graphic_at : (plain : Bool) (bytes : List ℕ) → plain ≡ is_plain bytes → AllByRecursion (λ byte. byte < 256) bytes → list_all is_ascii_graphic (cond plain bytes (hash ∷ encode_lower bytes)) ≡ true
+printed_graphic_at true [] e all = refl
+printed_graphic_at true (byte ∷ bytes) e all = grind (arith, nat_tests)
+printed_graphic_at false bytes e all = hex_graphic bytes all
+
+pub printed_graphic : (bytes : List ℕ) → AllByRecursion (λ byte. byte < 256) bytes → list_all is_ascii_graphic (printed bytes) ≡ true
+unfolding printed
+printed_graphic bytes all = printed_graphic_at _ bytes refl all
+
+-- the first word, and those behind it
+pub parts_at-word : (word rest : List ℕ) → list_all is_ascii_graphic word ≡ true → parts_at space (word ++ space ∷ rest) ≡ word ∷ parts_at space rest
+parts_at-word word rest graphic = parts_at-append space word rest ∙ ap (λ (words : List (List ℕ)). words ++ parts_at space rest) (one_part word graphic)
+
+-- ---- places
+
+digits_part : (digits : List ℕ) → all_ascii_digits digits ≡ true → parts_at 47 digits ≡ digits ∷ []
+unfolding parts_at
+digits_part [] all = refl
+digits_part (digit ∷ digits) all =
+    let other : eqb digit 47 ≡ false = grind (arith, nat_tests) in
+    let rest : all_ascii_digits digits ≡ true = grind (arith, nat_tests) in
+    rw (other, digits_part digits rest) refl
+
+-- the two numbers of a place
+pub parts_at-place : (ward number : ℕ) → ward < 2 ^ 64 → number < 2 ^ 64 → parts_at 47 (place_text ward number) ≡ decimal ward ∷ decimal number ∷ []
+parts_at-place ward number small other =
+    parts_at-append 47 (decimal ward) (decimal number) ∙ rw (digits_part (decimal ward) (digits_decimal own ward small), digits_part (decimal number) (digits_decimal own number other)) refl
+
+graphic-append : (front rest : List ℕ) → list_all is_ascii_graphic front ≡ true → list_all is_ascii_graphic rest ≡ true → list_all is_ascii_graphic (front ++ rest) ≡ true
+graphic-append [] rest all more = more
+graphic-append (byte ∷ front) rest all more = let tail = graphic-append front rest (grind (arith, nat_tests)) more in grind (arith, nat_tests)
+
+pub place_graphic : (ward number : ℕ) → ward < 2 ^ 64 → number < 2 ^ 64 → list_all is_ascii_graphic (place_text ward number) ≡ true
+place_graphic ward number small other = graphic-append (decimal ward) (47 ∷ decimal number) (decimal_graphic ward small) (decimal_graphic number other)

@@ -22,7 +22,7 @@ use Rattle.exh_script.specs.declared.refusal.Refusal.TheVariants.{Line as LineRe
 use Rattle.exh_text.specs.declared.line_fault.LineFault.TheVariants.{Syntax, Range}
 use Rattle.exh_script.proofs.LoneWorld.{lone_at_new, lone_left, none_strays}
 use Rattle.exh_script.proofs.ReplyLaw.{text_is_answers, entries_from, enter_in_order}
-use Rattle.exh_script.proofs.reply_law.replies_are_one_maps.Goals as goal
+use Rattle.exh_script.proofs.laws.replies_are_one_maps.Goals as goal
 
 -- a file that is served has one ward
 one_if_so : (file read : FileLine) (one : Bool) → (read.ward_bits == 0) ≡ one → (let settings : Result FileLine Refusal = cond one (Ok read) (Err (LineRefusal Range)) in settings) ≡ Ok file → file.ward_bits ≡ 0
