@@ -82,30 +82,17 @@ fn file_lines(rt: HostRuntime) {
         copies: 8,
         keyer: AnyKeyer::Sha,
     };
-    let lines: [(&[u8], Result<FileLine, LineFault>); 12] = [
+    let least = FileLine {
+        cap: 1,
+        ward_bits: 0,
+        copies: 1,
+        keyer: AnyKeyer::Plain,
+    };
+    let lines: [(&[u8], Result<FileLine, LineFault>); 8] = [
         (b"file cap=16 wards=4 copies=8 keyer=sha", Ok(file)),
+        (b"file cap=1 wards=0 copies=1 keyer=plain", Ok(least)),
         (b"", Err(LineFault::Syntax)),
         (b"hop r1", Err(LineFault::Syntax)),
-        (
-            b"file cap=0 wards=0 copies=1 keyer=sha",
-            Err(LineFault::Range),
-        ),
-        (
-            b"file cap=17 wards=0 copies=1 keyer=sha",
-            Err(LineFault::Range),
-        ),
-        (
-            b"file cap=2 wards=5 copies=1 keyer=plain",
-            Err(LineFault::Range),
-        ),
-        (
-            b"file cap=2 wards=0 copies=0 keyer=plain",
-            Err(LineFault::Range),
-        ),
-        (
-            b"file cap=2 wards=0 copies=9 keyer=plain",
-            Err(LineFault::Range),
-        ),
         (b"file cap=2 wards=0 copies=1", Err(LineFault::Syntax)),
         (
             b"file cap=2 wards=0 copies=1 keyer=md5",
@@ -122,6 +109,62 @@ fn file_lines(rt: HostRuntime) {
     ];
     for (line, want) in lines {
         assert_eq!(rt; parse_file_line(line), want);
+    }
+}
+
+// A number out of its range is `Range`, one above 4,294,967,295 is outside the grammar, and what is outside the grammar is
+// so whatever the other numbers are.
+#[test]
+fn numbers_of_file_lines_out_of_range(rt: HostRuntime) {
+    let lines: [(&[u8], LineFault); 10] = [
+        (b"file cap=0 wards=0 copies=1 keyer=sha", LineFault::Range),
+        (b"file cap=17 wards=0 copies=1 keyer=sha", LineFault::Range),
+        (b"file cap=2 wards=5 copies=1 keyer=sha", LineFault::Range),
+        (b"file cap=2 wards=0 copies=0 keyer=sha", LineFault::Range),
+        (b"file cap=2 wards=0 copies=9 keyer=sha", LineFault::Range),
+        (
+            b"file cap=4294967295 wards=0 copies=1 keyer=sha",
+            LineFault::Range,
+        ),
+        (
+            b"file cap=4294967296 wards=0 copies=1 keyer=sha",
+            LineFault::Syntax,
+        ),
+        (b"file cap=17 wards=0 copies=1 keyer=md5", LineFault::Syntax),
+        (
+            b"file cap=17 wards=5 copies=09 keyer=sha",
+            LineFault::Syntax,
+        ),
+        (
+            b"file cap=0 wards=0 copies=1 keyer=sha x",
+            LineFault::Syntax,
+        ),
+    ];
+    for (line, want) in lines {
+        assert_eq!(rt; parse_file_line(line), Err(want));
+    }
+}
+
+// Names and clients go from 1 to 4,294,967,295; a copy's number may be any, since the step tells whether it is there.
+#[test]
+fn numbers_of_lines(rt: HostRuntime) {
+    let lines: [(&[u8], Option<LineFault>); 13] = [
+        (b"hop r0", Some(LineFault::Range)),
+        (b"hop r1", None),
+        (b"hop r4294967295", None),
+        (b"hop r4294967296", Some(LineFault::Syntax)),
+        (b"begin r0 c1 1 get k", Some(LineFault::Range)),
+        (b"begin r1 c0 1 get k", Some(LineFault::Range)),
+        (b"begin r1 c1 0 get k", None),
+        (b"begin r4294967295 c4294967295 4294967295 get k", None),
+        (b"begin r4294967296 c1 1 get k", Some(LineFault::Syntax)),
+        (b"begin r1 c4294967296 1 get k", Some(LineFault::Syntax)),
+        (b"begin r1 c1 4294967296 get k", Some(LineFault::Syntax)),
+        (b"begin r0 c0 1 set k", Some(LineFault::Syntax)),
+        (b"begin r0 c1 1 put # #0", Some(LineFault::Syntax)),
+    ];
+    for (line, want) in lines {
+        assert_eq!(rt; fault_of(line), want);
     }
 }
 
