@@ -1,9 +1,12 @@
 -- The text of a script, line by line.
-use Rattle.std.proofs.Common.{◌≡◌, ℕ, List, [], ◌∷◌, ◌++◌, Option, sym, ap, ◌∙◌, subst, append_assoc}
+use Rattle.std.proofs.Common.{◌≡◌, ℕ, List, [], ◌∷◌, ◌++◌, Option, Result, Ok, Err, refl, sym, ap, ◌∙◌, subst, append_assoc, append-nil}
 use Rattle.exh_stream.specs.Output.{Takes, TakesBeginning}
 use Rattle.exh_script.specs.Answer.{answer_text}
-use Rattle.exh_script.specs.Text.{line_answer, after_line, text_from}
-use Rattle.exh_script.specs.World.{WorldState}
+use Rattle.exh_script.specs.Text.{line_answer, after_line, text_from, file_of, text_after, text_of_lines}
+use Rattle.exh_script.specs.World.{WorldState, new_world}
+use Rattle.exh_script.specs.declared.answer.Answer.TheVariants.{Refused}
+use Rattle.exh_script.specs.declared.line.FileLine.{FileLine}
+use Rattle.exh_script.specs.declared.refusal.Refusal.{Refusal}
 use Rattle.exh_script.specs.declared.answer.Answer.{Answer}
 use Rattle.exh_stream.specs.declared.output.Output.{Output}
 use Rattle.exh_stream.specs.OutputLemmas.{AppendsBeginning-from, Takes-then, TakesBeginning-then, TakesBeginning-of_more}
@@ -42,3 +45,47 @@ module _ {W : Type 0} (contents : W → Option (List ℕ)) (first now new : Outp
   -- a beginning of it is out
   pub line_stopped : TakesBeginning contents now new bytes → TakesBeginning contents first new whole
   line_stopped beginning = stopped_in contents first now told rest whole passed text new line more split (subst (TakesBeginning contents now new) is beginning)
+
+-- ---- lines that were answered
+
+-- these lines lead from one world to another, where the text goes on
+pub record LeadTo (new world : WorldState) (lines : List (List ℕ)) : Type 0 where
+  goes_on : (more : List (List ℕ)) → text_from new (lines ++ more) ≡ text_from new lines ++ text_from world more
+
+pub LeadTo-none : (new : WorldState) → LeadTo new new []
+LeadTo-none new = record { goes_on = λ more. refl }
+
+module _ (new world : WorldState) (lines : List (List ℕ)) (lead : LeadTo new world lines) where
+  -- what is printed of these lines and of those left is what is printed of all
+  pub text_of_left : (left whole : List (List ℕ)) → whole ≡ lines ++ left → text_from new lines ++ text_from world left ≡ text_from new whole
+  text_of_left left whole split = sym (lead.goes_on left) ∙ ap (text_from new) (sym split)
+
+  module _ (line : List ℕ) where
+    pub text_of_more : text_from new (lines ++ line ∷ []) ≡ text_from new lines ++ answer_text (line_answer world line)
+    text_of_more = lead.goes_on (line ∷ []) ∙ ap (λ l. text_from new lines ++ l) (append-nil (answer_text (line_answer world line)))
+
+    -- one line more
+    pub LeadTo-more : (next : WorldState) → next ≡ after_line world line → LeadTo new next (lines ++ line ∷ [])
+    LeadTo-more next is = record {
+      goes_on = λ more.
+          ap (text_from new) (append_assoc lines (line ∷ []) more)
+          ∙ lead.goes_on (line ∷ more)
+          ∙ ap (λ world'. text_from new lines ++ (answer_text (line_answer world line) ++ text_from world' more)) (sym is)
+          ∙ sym (append_assoc (text_from new lines) (answer_text (line_answer world line)) (text_from next more))
+          ∙ ap (λ l. l ++ text_from next more) (sym text_of_more);
+    }
+
+-- ---- the text of a beginning of the lines begins the text
+
+pub lines_begin : (world : WorldState) (front rest : List (List ℕ)) → (more : List ℕ) × (text_from world (front ++ rest) ≡ text_from world front ++ more)
+lines_begin world [] rest = (text_from world rest, refl)
+lines_begin world (line ∷ front) rest =
+    let left = lines_begin (after_line world line) front rest in
+    (left.0, ap (λ l. answer_text (line_answer world line) ++ l) left.1 ∙ sym (append_assoc (answer_text (line_answer world line)) (text_from (after_line world line) front) left.0))
+
+file_begins : (read : Result FileLine Refusal) (front rest : List (List ℕ)) → (more : List ℕ) × (text_after read (front ++ rest) ≡ text_after read front ++ more)
+file_begins (Ok file) front rest = lines_begin (new_world file) front rest
+file_begins (Err refusal) front rest = ([], sym (append-nil (answer_text (Refused refusal))))
+
+pub front_begins : (first : List ℕ) (front rest : List (List ℕ)) → (more : List ℕ) × (text_of_lines (first ∷ (front ++ rest)) ≡ text_of_lines (first ∷ front) ++ more)
+front_begins first front rest = file_begins (file_of first) front rest

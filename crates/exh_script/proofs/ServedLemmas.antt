@@ -1,22 +1,26 @@
--- What is written of a script, and of a reader that failed.
-use Rattle.std.proofs.Common.{◌≡◌, ℕ, ◌<◌, ◌≤◌, List, [], ◌++◌, length, Option, Some, None, IfSome, Bool, true, false, cond, leb, Result, Ok, Err, IfOk, OnOk, OnErr, sym, ap, ◌∙◌, subst}
+-- What is printed of a script, and of a reader that failed.
+use Rattle.std.proofs.Common.{◌≡◌, ℕ, ◌<◌, ◌≤◌, List, [], ◌∷◌, length, Option, Some, None, IfSome, Bool, true, false, cond, leb, IsFalse, Result, Ok, Err, IfOk, OnOk, OnErr, refl, sym, ap, ◌∙◌, subst, append-nil, inl, inr}
+use Rattle.std.specs.Prelude.{◌⊎◌, MatchBool}
 use Rattle.std.proofs.lemmas.Bool.{le-leb, lt-leb}
-use Rattle.std.specs.Bool.{OnTrue, OnFalse}
-use Rattle.exh_stream.specs.OutputLemmas.{TakesBeginning-none, AppendsBeginning-after}
+use Rattle.std.specs.Io.KnownBytes.{Appends}
+use Rattle.exh_stream.specs.Output.{AppendsBeginning, Takes, TakesBeginning, WriterUntouched, held, pending}
+use Rattle.exh_stream.specs.OutputLemmas.{AppendsBeginning-from, AppendsBeginning-of_more, Takes-finished, Takes-cut, TakesBeginning-left}
+use Rattle.exh_stream.specs.declared.output.Output.{Output}
 use Rattle.exh_text.specs.Lines.{lines_of}
-use Rattle.exh_stream.specs.Output.{AppendsBeginning, Takes, TakesBeginning, held, pending}
-use Rattle.exh_script.specs.Served.{BeginsText, BeginsUnread, TakesText, TakesUnread, BeginsTaking, unread_text}
+use Rattle.exh_script.specs.Served.{PrintsText, PrintsWhole, PrintsUnread, PrintsFront, PrintsLines, unread_text}
 use Rattle.exh_script.specs.Answer.{answer_text}
 use Rattle.exh_script.specs.Text.{text_of_lines, ended_of_lines, text_of, ended_of}
 use Rattle.exh_script.specs.declared.answer.Answer.TheVariants.{Refused}
 use Rattle.exh_script.specs.declared.ended.Ended.{Ended}
 use Rattle.exh_script.specs.declared.ended.Ended.TheVariants as ended
-use Rattle.exh_script.specs.declared.server.TheConstants.{SCRIPT_LIMIT}
-use Rattle.exh_stream.specs.declared.output.Output.{Output}
 use Rattle.exh_script.specs.declared.refusal.Refusal.TheVariants.{TooLong}
 use Rattle.exh_script.specs.declared.serve_fault.ServeFault.{ServeFault}
+use Rattle.exh_script.specs.declared.serve_fault.ServeFault.TheVariants.{Write, Memory}
+use Rattle.exh_script.specs.declared.server.TheConstants.{SCRIPT_LIMIT}
+use Rattle.exh_script.proofs.Responded.{front_begins}
 
--- the test of the length, where it is decided
+-- ---- the test of the length, where it is decided
+
 text_at : (script : List ℕ) (b : Bool) → leb (length script) SCRIPT_LIMIT ≡ b
     → text_of script ≡ cond b (text_of_lines (lines_of script)) (answer_text (Refused TooLong))
 unfolding text_of
@@ -27,92 +31,166 @@ ended_at : (script : List ℕ) (b : Bool) → leb (length script) SCRIPT_LIMIT �
 unfolding ended_of
 ended_at script b is = ap (λ b. cond b (ended_of_lines (lines_of script)) ended.Refused) is
 
--- what holds anyway holds under a test
-pub OnFalse-from : {P : Type 0} (b : Bool) → P → OnFalse b P
-OnFalse-from true p = tt
-OnFalse-from false p = p
+text_within : (script : List ℕ) → length script ≤ SCRIPT_LIMIT → text_of script ≡ text_of_lines (lines_of script)
+text_within script fits = text_at script true (le-leb (length script) SCRIPT_LIMIT fits)
 
-pub OnTrue-from : {P : Type 0} (b : Bool) → P → OnTrue b P
-OnTrue-from true p = p
-OnTrue-from false p = tt
+-- ---- a script is read, or its reader fails
 
-module _ {W : Type 0} (contents : W → Option (List ℕ)) (old new : Output W) (b : Bool) where
-  -- a script that was read whole
-  pub takes_whole : (script : Option (List ℕ)) (items given : List ℕ) (result : Result Ended ServeFault)
-      → IfSome script (λ bytes. items ≡ bytes) → given ≡ items → length items ≤ SCRIPT_LIMIT
-      → OnOk result (Takes contents old new (text_of_lines (lines_of given))) → IfOk result (λ outcome. outcome ≡ ended_of_lines (lines_of given))
-      → IfOk result (λ outcome. OnFalse b (TakesText contents old new script outcome))
-  takes_whole script items given (Err fault) whole is within taken outcome = tt
-  takes_whole None items given (Ok end) whole is within taken outcome = OnFalse-from b tt
-  takes_whole (Some bytes) items given (Ok end) whole is within taken outcome =
-      let same : given ≡ bytes = is ∙ whole in
-      let short = le-leb (length bytes) SCRIPT_LIMIT (subst (λ l. length l ≤ SCRIPT_LIMIT) whole within) in
-      OnFalse-from b (
-        subst (Takes contents old new) (ap (λ l. text_of_lines (lines_of l)) same ∙ sym (text_at bytes true short)) taken,
-        outcome ∙ ap (λ l. ended_of_lines (lines_of l)) same ∙ sym (ended_at bytes true short),
-      )
+abbrev IsReadAs : Option (List ℕ) → List ℕ → Type 0
+IsReadAs known script = IfSome known (λ bytes. script ≡ bytes)
 
-  pub begins_whole : (script : Option (List ℕ)) (items given : List ℕ) (result : Result Ended ServeFault)
-      → IfSome script (λ bytes. items ≡ bytes) → given ≡ items → length items ≤ SCRIPT_LIMIT
-      → OnErr result (TakesBeginning contents old new (text_of_lines (lines_of given)))
-      → OnErr result (OnFalse b (BeginsTaking contents old new script))
-  begins_whole script items given (Ok end) whole is within taken = tt
-  begins_whole None items given (Err fault) whole is within taken = OnFalse-from b tt
-  begins_whole (Some bytes) items given (Err fault) whole is within taken =
-      let same : given ≡ bytes = is ∙ whole in
-      let short = le-leb (length bytes) SCRIPT_LIMIT (subst (λ l. length l ≤ SCRIPT_LIMIT) whole within) in
-      OnFalse-from b (subst (TakesBeginning contents old new) (ap (λ l. text_of_lines (lines_of l)) same ∙ sym (text_at bytes true short)) taken)
+-- there is a script, where the bytes are unknown too
+abbrev script_in : Option (List ℕ) → List ℕ → List ℕ
+script_in None other = other
+script_in (Some bytes) other = bytes
 
-  -- a script that is too long
-  pub takes_too_long : (script : Option (List ℕ)) (result : Result Ended ServeFault)
-      → IfSome script (λ bytes. SCRIPT_LIMIT < length bytes)
-      → OnOk result (Takes contents old new (answer_text (Refused TooLong))) → IfOk result (λ outcome. outcome ≡ ended.Refused)
-      → IfOk result (λ outcome. OnFalse b (TakesText contents old new script outcome))
-  takes_too_long script (Err fault) long taken outcome = tt
-  takes_too_long None (Ok end) long taken outcome = OnFalse-from b tt
-  takes_too_long (Some bytes) (Ok end) long taken outcome =
-      let over = lt-leb (length bytes) SCRIPT_LIMIT long in
-      OnFalse-from b (subst (Takes contents old new) (sym (text_at bytes false over)) taken, outcome ∙ sym (ended_at bytes false over))
+script_in_is : (known : Option (List ℕ)) (other : List ℕ) → IsReadAs known (script_in known other)
+script_in_is None other = tt
+script_in_is (Some bytes) other = refl
 
-  pub begins_too_long : (script : Option (List ℕ)) (result : Result Ended ServeFault)
-      → IfSome script (λ bytes. SCRIPT_LIMIT < length bytes)
-      → OnErr result (TakesBeginning contents old new (answer_text (Refused TooLong)))
-      → OnErr result (OnFalse b (BeginsTaking contents old new script))
-  begins_too_long script (Ok end) long taken = tt
-  begins_too_long None (Err fault) long taken = OnFalse-from b tt
-  begins_too_long (Some bytes) (Err fault) long taken =
-      OnFalse-from b (subst (TakesBeginning contents old new) (sym (text_at bytes false (lt-leb (length bytes) SCRIPT_LIMIT long))) taken)
+long_in : (known : Option (List ℕ)) (other : List ℕ) → SCRIPT_LIMIT < length other → IfSome known (λ bytes. SCRIPT_LIMIT < length bytes) → SCRIPT_LIMIT < length (script_in known other)
+long_in None other long had = long
+long_in (Some bytes) other long had = had
 
-  -- a reader that failed
-  pub takes_unread : (result : Result Ended ServeFault)
-      → OnOk result (Takes contents old new unread_text) → IfOk result (λ outcome. outcome ≡ ended.Refused)
-      → IfOk result (λ outcome. OnTrue b (TakesUnread contents old new outcome))
-  takes_unread (Err fault) taken outcome = tt
-  takes_unread (Ok end) taken outcome = OnTrue-from b (taken, outcome)
+-- what is said under a test that came out
+by_false : (P Q : Type 0) (b : Bool) → IsFalse b → Q → MatchBool b P Q
+by_false P Q b is q = subst (λ b. MatchBool b P Q) (sym is) q
 
-  pub begins_unread : (result : Result Ended ServeFault)
-      → OnErr result (TakesBeginning contents old new unread_text)
-      → OnErr result (OnTrue b (TakesBeginning contents old new unread_text))
-  begins_unread (Ok end) taken = tt
-  begins_unread (Err fault) taken = OnTrue-from b taken
+by_true : (P Q : Type 0) (b : Bool) → b ≡ true → P → MatchBool b P Q
+by_true P Q b is p = subst (λ b. MatchBool b P Q) (sym is) p
 
--- nothing is a beginning of the text
-pub begins_none : {W : Type 0} (contents : W → Option (List ℕ)) (output : Output W) (script : Option (List ℕ)) → BeginsTaking contents output output script
-begins_none contents output None = tt
-begins_none contents output (Some bytes) = TakesBeginning-none contents output (text_of bytes)
+-- ---- what an output takes of a script that was read
 
--- of what waits at the end, a beginning goes out
-module _ {W : Type 0} (contents : W → Option (List ℕ)) (old mid new : Output W) (start : pending old ≡ []) (gone : AppendsBeginning (held contents mid) (held contents new) (pending mid)) where
-  finished_beginning : (bytes : List ℕ) → Takes contents old mid bytes → AppendsBeginning (held contents old) (held contents new) bytes
-  finished_beginning bytes taken = subst (λ l. AppendsBeginning (held contents old) (held contents new) (l ++ bytes)) start (AppendsBeginning-after taken.passed gone)
+module _ (P : List ℕ → Type 0) (known : Option (List ℕ)) (b : Bool) (is_open : IsFalse b) where
+  -- read whole
+  module _ (items given : List ℕ) (read : IsReadAs known items) (is : given ≡ items) (fits : length items ≤ SCRIPT_LIMIT) where
+    whole_fits : length given ≤ SCRIPT_LIMIT
+    whole_fits = subst (λ l. length l ≤ SCRIPT_LIMIT) (sym is) fits
 
-  pub begins_text : (b : Bool) (script : Option (List ℕ)) (outcome : Ended)
-      → OnFalse b (TakesText contents old mid script outcome) → OnFalse b (BeginsText script (held contents old) (held contents new))
-  begins_text true script outcome taken = tt
-  begins_text false None outcome taken = tt
-  begins_text false (Some bytes) outcome taken = finished_beginning (text_of bytes) taken.0
+    whole_read : IsReadAs known given
+    whole_read = subst (IsReadAs known) (sym is) read
 
-  pub begins_no_text : (b : Bool) (outcome : Ended)
-      → OnTrue b (TakesUnread contents old mid outcome) → OnTrue b (BeginsUnread (held contents old) (held contents new))
-  begins_no_text true outcome taken = finished_beginning unread_text taken.0
-  begins_no_text false outcome taken = tt
+    abbrev whole_text : P (text_of_lines (lines_of given)) → PrintsText P known
+    whole_text text = record { script = given; read = whole_read; text = subst P (sym (text_within given whole_fits)) text }
+
+    pub whole_ok : (result : Result Ended ServeFault) → OnOk result (P (text_of_lines (lines_of given))) → IfOk result (λ outcome. outcome ≡ ended_of_lines (lines_of given))
+        → IfOk result (λ outcome. MatchBool b (PrintsUnread P outcome) (PrintsWhole P known outcome))
+    whole_ok (Err fault) text end = tt
+    whole_ok (Ok outcome) text end =
+        by_false _ _ b is_open (record { whole = whole_text text; ended = end ∙ sym (ended_at given true (le-leb (length given) SCRIPT_LIMIT whole_fits)) })
+
+    pub whole_err : (result : Result Ended ServeFault) (unread : Type 0) → OnErr result (P (text_of_lines (lines_of given))) → OnErr result (MatchBool b unread (PrintsText P known))
+    whole_err (Ok outcome) unread text = tt
+    whole_err (Err fault) unread text = by_false _ _ b is_open (whole_text text)
+
+    pub whole_memory : (unread : Type 0) → P [] ⊎ PrintsFront P (lines_of given) → MatchBool b unread (PrintsLines P known)
+    whole_memory unread (inl none) = by_false _ _ b is_open (record { script = given; read = whole_read; lines = inl none })
+    whole_memory unread (inr front) = by_false _ _ b is_open (record { script = given; read = whole_read; lines = inr (whole_fits, front) })
+
+  -- or too long
+  module _ (front : List ℕ) (long : SCRIPT_LIMIT < length front) (had : IfSome known (λ bytes. SCRIPT_LIMIT < length bytes)) where
+    long_at : leb (length (script_in known front)) SCRIPT_LIMIT ≡ false
+    long_at = lt-leb (length (script_in known front)) SCRIPT_LIMIT (long_in known front long had)
+
+    abbrev long_text : P (answer_text (Refused TooLong)) → PrintsText P known
+    long_text text = record { script = script_in known front; read = script_in_is known front; text = subst P (sym (text_at (script_in known front) false long_at)) text }
+
+    pub long_ok : (result : Result Ended ServeFault) → OnOk result (P (answer_text (Refused TooLong))) → IfOk result (λ outcome. outcome ≡ ended.Refused)
+        → IfOk result (λ outcome. MatchBool b (PrintsUnread P outcome) (PrintsWhole P known outcome))
+    long_ok (Err fault) text end = tt
+    long_ok (Ok outcome) text end = by_false _ _ b is_open (record { whole = long_text text; ended = end ∙ sym (ended_at (script_in known front) false long_at) })
+
+    pub long_err : (result : Result Ended ServeFault) (unread : Type 0) → OnErr result (P (answer_text (Refused TooLong))) → OnErr result (MatchBool b unread (PrintsText P known))
+    long_err (Ok outcome) unread text = tt
+    long_err (Err fault) unread text = by_false _ _ b is_open (long_text text)
+
+  -- or not, for want of memory
+  pub none_memory : (unread : Type 0) → P [] → MatchBool b unread (PrintsLines P known)
+  none_memory unread none = by_false _ _ b is_open (record { script = script_in known []; read = script_in_is known []; lines = inl none })
+
+  pub none_text : (result : Result Ended ServeFault) (unread : Type 0) → ((bytes : List ℕ) → P bytes) → OnErr result (MatchBool b unread (PrintsText P known))
+  none_text (Ok outcome) unread none = tt
+  none_text (Err fault) unread none = by_false _ _ b is_open (record { script = script_in known []; read = script_in_is known []; text = none (text_of (script_in known [])) })
+
+-- ---- or of a reader that failed
+
+module _ (P : List ℕ → Type 0) (b : Bool) (failed : b ≡ true) where
+  pub unread_ok : (result : Result Ended ServeFault) (Q : Ended → Type 0) → OnOk result (P unread_text) → IfOk result (λ outcome. outcome ≡ ended.Refused)
+      → IfOk result (λ outcome. MatchBool b (PrintsUnread P outcome) (Q outcome))
+  unread_ok (Err fault) Q text end = tt
+  unread_ok (Ok outcome) Q text end = by_true _ _ b failed (text, end)
+
+  pub unread_err : (result : Result Ended ServeFault) (Q : Type 0) → OnErr result (P unread_text) → OnErr result (MatchBool b (P unread_text) Q)
+  unread_err (Ok outcome) Q text = tt
+  unread_err (Err fault) Q text = by_true _ _ b failed text
+
+-- ---- at the end what waits is written, or a beginning of it
+
+module _ {W : Type 0} (contents : W → Option (List ℕ)) (old mid new : Output W) (start : pending old ≡ []) (known : Option (List ℕ)) where
+  abbrev Taken : List ℕ → Type 0
+  Taken bytes = Takes contents old mid bytes
+
+  abbrev Written : List ℕ → Type 0
+  Written bytes = Appends (held contents old) (held contents new) bytes
+
+  abbrev Begun : List ℕ → Type 0
+  Begun bytes = AppendsBeginning (held contents old) (held contents new) bytes
+
+  module _ (f : (bytes : List ℕ) → Taken bytes → Begun bytes) where
+    lines_begin_text : (script : List ℕ) → Taken [] ⊎ ((length script ≤ SCRIPT_LIMIT) × PrintsFront Taken (lines_of script)) → Begun (text_of script)
+    lines_begin_text script (inl none) = AppendsBeginning-of_more (text_of script) (f [] none)
+    lines_begin_text script (inr (fits, printed)) =
+        let more = front_begins printed.first printed.front printed.rest in
+        subst Begun (sym (text_within script fits ∙ ap text_of_lines printed.split ∙ more.1)) (AppendsBeginning-of_more more.0 (f (text_of_lines (printed.first ∷ printed.front)) printed.text))
+
+    -- a beginning of the lines is a beginning of the text
+    lines_text : (b : Bool) → MatchBool b (Taken []) (PrintsLines Taken known) → MatchBool b (Begun unread_text) (PrintsText Begun known)
+    lines_text true none = AppendsBeginning-of_more unread_text (f [] none)
+    lines_text false lines = record { script = lines.script; read = lines.read; text = lines_begin_text lines.script lines.lines }
+
+    whole_begins : (b : Bool) (outcome : Ended) → MatchBool b (PrintsUnread Taken outcome) (PrintsWhole Taken known outcome) → MatchBool b (Begun unread_text) (PrintsText Begun known)
+    whole_begins true outcome taken = f unread_text taken.0
+    whole_begins false outcome taken = record { script = taken.whole.script; read = taken.whole.read; text = f (text_of taken.whole.script) taken.whole.text }
+
+  -- all of it was written
+  module _ (gone : Appends (held contents mid) (held contents new) (pending mid)) where
+    written : (bytes : List ℕ) → Taken bytes → Written bytes
+    written bytes taken = Takes-finished contents old mid new start bytes taken gone
+
+    begun : (bytes : List ℕ) → Taken bytes → Begun bytes
+    begun bytes taken = Takes-cut contents old mid new start bytes taken (AppendsBeginning-from (record { front = pending mid; gone = gone; split = sym (append-nil (pending mid)) }))
+
+    pub finished_ok : (result : Result Ended ServeFault) (b : Bool) → IfOk result (λ outcome. MatchBool b (PrintsUnread Taken outcome) (PrintsWhole Taken known outcome))
+        → IfOk result (λ outcome. MatchBool b (PrintsUnread Written outcome) (PrintsWhole Written known outcome))
+    finished_ok (Err fault) b taken = tt
+    finished_ok (Ok outcome) true taken = (written unread_text taken.0, taken.1)
+    finished_ok (Ok outcome) false taken =
+        record { whole = record { script = taken.whole.script; read = taken.whole.read; text = written (text_of taken.whole.script) taken.whole.text }; ended = taken.ended }
+
+    pub finished_err : (result : Result Ended ServeFault) (b : Bool) → (result ≡ Err Memory → MatchBool b (Taken []) (PrintsLines Taken known)) → (result ≡ Err Write → ⊥)
+        → OnErr result (MatchBool b (Begun unread_text) (PrintsText Begun known))
+    finished_err (Ok outcome) b lines never = tt
+    finished_err (Err Memory) b lines never = lines_text begun b (lines refl)
+    finished_err (Err Write) b lines never = absurd (never refl)
+
+    written_lines : (script : List ℕ) → Taken [] ⊎ ((length script ≤ SCRIPT_LIMIT) × PrintsFront Taken (lines_of script)) → Written [] ⊎ ((length script ≤ SCRIPT_LIMIT) × PrintsFront Written (lines_of script))
+    written_lines script (inl none) = inl (written [] none)
+    written_lines script (inr (fits, printed)) =
+        inr (fits, record { first = printed.first; front = printed.front; rest = printed.rest; split = printed.split; text = written (text_of_lines (printed.first ∷ printed.front)) printed.text })
+
+    pub finished_memory : (b : Bool) → MatchBool b (Taken []) (PrintsLines Taken known) → PrintsLines Written known
+    finished_memory true none = record { script = script_in known []; read = script_in_is known []; lines = inl (written [] none) }
+    finished_memory false lines = record { script = lines.script; read = lines.read; lines = written_lines lines.script lines.lines }
+
+  -- or a beginning was
+  module _ (gone : AppendsBeginning (held contents mid) (held contents new) (pending mid)) where
+    pub cut_err : (result : Result Ended ServeFault) (b : Bool) → IfOk result (λ outcome. MatchBool b (PrintsUnread Taken outcome) (PrintsWhole Taken known outcome))
+        → (result ≡ Err Memory → MatchBool b (Taken []) (PrintsLines Taken known))
+        → OnErr result (MatchBool b (TakesBeginning contents old mid unread_text) (PrintsText (TakesBeginning contents old mid) known))
+        → (result ≡ Err Write → WriterUntouched mid new)
+        → MatchBool b (Begun unread_text) (PrintsText Begun known)
+    cut_err (Ok outcome) b taken lines text left = whole_begins (λ bytes taken. Takes-cut contents old mid new start bytes taken gone) b outcome taken
+    cut_err (Err Memory) b taken lines text left = lines_text (λ bytes taken. Takes-cut contents old mid new start bytes taken gone) b (lines refl)
+    cut_err (Err Write) true taken lines text left = TakesBeginning-left contents old mid new start unread_text text (left refl)
+    cut_err (Err Write) false taken lines text left =
+        record { script = text.script; read = text.read; text = TakesBeginning-left contents old mid new start (text_of text.script) text.text (left refl) }

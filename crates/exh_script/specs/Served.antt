@@ -1,42 +1,53 @@
--- What the server writes, for the bytes that its reader has left.
-use Rattle.std.specs.Prelude.{◌≡◌, ℕ, List, Option, IfSome}
-use Rattle.std.specs.Io.KnownBytes.{Appends}
-use Rattle.exh_stream.specs.Output.{AppendsBeginning, Takes, TakesBeginning}
+-- What the server prints, for the bytes that its reader has left.
+use Rattle.std.specs.Prelude.{◌≡◌, ◌⊎◌, ◌≤◌, ℕ, List, [], ◌∷◌, ◌++◌, Option, IfSome, length}
+use Rattle.exh_text.specs.Lines.{lines_of}
 use Rattle.exh_script.specs.Answer.{answer_text}
-use Rattle.exh_script.specs.Text.{text_of, ended_of}
+use Rattle.exh_script.specs.Text.{text_from, text_of_lines, text_of, ended_of}
+use Rattle.exh_script.specs.World.{WorldState}
 use Rattle.exh_script.specs.declared.answer.Answer.TheVariants.{Refused}
 use Rattle.exh_script.specs.declared.ended.Ended.{Ended}
 use Rattle.exh_script.specs.declared.ended.Ended.TheVariants as ended
-use Rattle.exh_stream.specs.declared.output.Output.{Output}
 use Rattle.exh_script.specs.declared.refusal.Refusal.TheVariants.{Read}
+use Rattle.exh_script.specs.declared.server.TheConstants.{SCRIPT_LIMIT}
 
 -- the only line where the reader failed
 unfoldable pub unread_text : List ℕ
 unread_text = answer_text (Refused Read)
 
--- the writer got the text of the script, where the bytes of it are known
-abbrev pub WritesText : Option (List ℕ) → Option (List ℕ) → Option (List ℕ) → Ended → Type 0
-WritesText script old new outcome = IfSome script (λ script. Appends old new (text_of script) × (outcome ≡ ended_of script))
+-- `prints bytes` says how bytes go out: that a writer holds them, or a beginning of them, or that an output took them.
+module _ (prints : List ℕ → Type 0) where
+  -- the text of a script, which is the reader's bytes where they are known
+  pub record PrintsText (known : Option (List ℕ)) : Type 0 where
+    pub script : List ℕ
+    pub read : IfSome known (λ bytes. script ≡ bytes)
+    pub text : prints (text_of script)
 
--- the writer got the line of a reader that failed
-abbrev pub WritesUnread : Option (List ℕ) → Option (List ℕ) → Ended → Type 0
-WritesUnread old new outcome = Appends old new unread_text × (outcome ≡ ended.Refused)
+  -- and the run ends as the script's
+  pub record PrintsWhole (known : Option (List ℕ)) (outcome : Ended) : Type 0 where
+    pub whole : PrintsText known
+    pub ended : outcome ≡ ended_of whole.script
 
--- the writer got a beginning of the one or of the other
-abbrev pub BeginsText : Option (List ℕ) → Option (List ℕ) → Option (List ℕ) → Type 0
-BeginsText script old new = IfSome script (λ script. AppendsBeginning old new (text_of script))
+  -- the line of a reader that failed
+  abbrev pub PrintsUnread : Ended → Type 0
+  PrintsUnread outcome = prints unread_text × (outcome ≡ ended.Refused)
 
-abbrev pub BeginsUnread : Option (List ℕ) → Option (List ℕ) → Type 0
-BeginsUnread old new = AppendsBeginning old new unread_text
+  -- the text of a beginning of these lines
+  pub record PrintsFront (lines : List (List ℕ)) : Type 0 where
+    pub first : List ℕ
+    pub front : List (List ℕ)
+    pub rest : List (List ℕ)
+    pub split : lines ≡ first ∷ (front ++ rest)
+    pub text : prints (text_of_lines (first ∷ front))
 
--- ---- the same of an output, in whose block some of it may still wait
+  -- the same of lines that come to a world
+  pub record PrintsFrontIn (world : WorldState) (lines : List (List ℕ)) : Type 0 where
+    pub front : List (List ℕ)
+    pub rest : List (List ℕ)
+    pub split : lines ≡ front ++ rest
+    pub text : prints (text_from world front)
 
-module _ {W : Type 0} (contents : W → Option (List ℕ)) (old new : Output W) where
-  abbrev pub TakesText : Option (List ℕ) → Ended → Type 0
-  TakesText script outcome = IfSome script (λ script. Takes contents old new (text_of script) × (outcome ≡ ended_of script))
-
-  abbrev pub TakesUnread : Ended → Type 0
-  TakesUnread outcome = Takes contents old new unread_text × (outcome ≡ ended.Refused)
-
-  abbrev pub BeginsTaking : Option (List ℕ) → Type 0
-  BeginsTaking script = IfSome script (λ script. TakesBeginning contents old new (text_of script))
+  -- nothing, or the text of a beginning of the script's lines
+  pub record PrintsLines (known : Option (List ℕ)) : Type 0 where
+    pub script : List ℕ
+    pub read : IfSome known (λ bytes. script ≡ bytes)
+    pub lines : prints [] ⊎ ((length script ≤ SCRIPT_LIMIT) × PrintsFront (lines_of script))

@@ -1,9 +1,10 @@
-ghost use Rattle.std.specs.Prelude.{◌≡◌, ◌≤◌, ◌↔◌, IfOk, OnOk, OnErr, IsErrOf, IsTrue, IsFalse};
+ghost use Rattle.std.specs.Prelude.{◌≡◌, ◌⊎◌, ◌≤◌, ◌↔◌, [], IfOk, OnOk, OnErr, IsErrOf, IsTrue, IsFalse};
 ghost use Rattle.exh_page.specs.declared.page.TheConstants.{CAP_LIMIT};
 ghost use Rattle.exh_text.specs.Lines.{lines_of};
 ghost use Rattle.exh_stream.specs.Output.{SameWriter, Takes, TakesBeginning, writer_failed};
-ghost use Rattle.exh_script.specs.Text.{text_from, file_of, text_of_lines, ended_of_lines};
+ghost use Rattle.exh_script.specs.Served.{PrintsFront, PrintsFrontIn};
 ghost use Rattle.exh_script.specs.Answer.{answer_text};
+ghost use Rattle.exh_script.specs.Text.{text_from, file_of, text_of_lines, ended_of_lines};
 ghost use Rattle.exh_script.specs.World.{new_world};
 ghost use Rattle.exh_script.specs.declared.answer.Answer.TheVariants.{Refused};
 
@@ -16,7 +17,8 @@ use exh_text::{LineFault, Lines};
 use std::alloc::Global;
 use std::io::Write;
 
-/// Answers a script, and says how its run ended. On an `Err` a beginning of its text went out.
+/// Answers a script, and says how its run ended. On an `Err` a beginning of its text went out, after `Memory` that of a
+/// beginning of its lines.
 pub(crate) fn respond<W: Write>(
     alloc: Global,
     output: &mut Output<'_, W>,
@@ -27,6 +29,8 @@ pub(crate) fn respond<W: Write>(
     ensures text { OnOk result (Takes W.contents output.old output.new (text_of_lines (lines_of script.now))) }
     ensures ended { IfOk result (λ ended. ended ≡ ended_of_lines (lines_of script.now)) }
     ensures err { OnErr result (TakesBeginning W.contents output.old output.new (text_of_lines (lines_of script.now))) }
+    ensures memory { IsErrOf result ServeFault.Memory → Takes W.contents output.old output.new []
+        ⊎ PrintsFront (Takes W.contents output.old output.new) (lines_of script.now) }
     ensures failed { IsErrOf result ServeFault.Write ↔ IsTrue (writer_failed output.new) }
 {
     let mut lines = Lines::new(script);
@@ -53,6 +57,7 @@ pub(crate) fn refuse<W: Write>(
     ensures text { OnOk result (Takes W.contents output.old output.new (answer_text (Refused refusal))) }
     ensures ended { IfOk result (λ ended. ended ≡ Ended.Refused) }
     ensures err { OnErr result (TakesBeginning W.contents output.old output.new (answer_text (Refused refusal))) }
+    ensures memory { IsErrOf result ServeFault.Memory → Takes W.contents output.old output.new [] }
     ensures failed { IsErrOf result ServeFault.Write ↔ IsTrue (writer_failed output.new) }
 {
     let mut text = Vec::new(alloc);
@@ -77,7 +82,7 @@ fn open(first: &[u8]) -> Result<FileLine, Refusal>
     }
 }
 
-// Answers the lines of a new file.
+// Answers the lines of a new file. Want of memory leaves each line whole or out.
 fn answer_lines<W: Write>(
     alloc: Global,
     output: &mut Output<'_, W>,
@@ -91,6 +96,7 @@ fn answer_lines<W: Write>(
     ensures same_writer { SameWriter output.old output.new }
     ensures ok { OnOk result (Takes W.contents output.old output.new (text_from (new_world file.now) lines.entry)) }
     ensures err { OnErr result (TakesBeginning W.contents output.old output.new (text_from (new_world file.now) lines.entry)) }
+    ensures memory { IsErrOf result ServeFault.Memory → PrintsFrontIn (Takes W.contents output.old output.new) (new_world file.now) lines.entry }
     ensures failed { IsErrOf result ServeFault.Write ↔ IsTrue (writer_failed output.new) }
 {
     let mut world = World::new(alloc, file);

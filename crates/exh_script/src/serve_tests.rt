@@ -43,10 +43,11 @@ fn serves_scripts_up_to_the_limit(rt: HostRuntime) -> Result<(), Fail> {
         script.extend_from_slice(b"hop r1\n")?;
     }
     assert_eq!(rt; script.len(), 1_048_577);
-    for most in [1, 8192] {
+    for (most, reads) in [(1, 1_048_577), (8192, 129)] {
         let mut reader = reader_of(&script, most, None);
         let mut text = Vec::new(rt.alloc());
         let ended = serve(rt.alloc(), &mut reader, &mut text)?;
+        assert_eq!(rt; reader.reads, reads, "{most} a read");
         assert_eq!(rt;
             text.as_slice(),
             b"refused 62\n".as_slice(),
@@ -58,6 +59,7 @@ fn serves_scripts_up_to_the_limit(rt: HostRuntime) -> Result<(), Fail> {
         let mut reader = reader_of(script.get(..1_048_576).ok_or("short")?, most, None);
         let mut text = Vec::new(rt.alloc());
         let ended = serve(rt.alloc(), &mut reader, &mut text)?;
+        assert_eq!(rt; reader.reads, reads, "{most} a read");
         assert_eq!(rt; text.len(), 149_791 * 11, "{most} a read");
         assert!(rt;
             text.chunks(11)
@@ -150,9 +152,9 @@ const LATER_TEXT: &[u8] = b"r1 at 0/0\n\
                             r5 is w\n";
 
 // Under `rt try --test --fail-alloc N -- refused_growth` the Nth growth is refused: this test makes none of its own.
-// The wrong lines fill a block, so that some growths come after a part of the text went out.
+// The wrong lines fill a block, whose end is amid a line, so that some growths come after a part of a line went out.
 #[test]
-fn writes_a_beginning_before_a_refused_growth(rt: HostRuntime) {
+fn writes_whole_lines_before_a_refused_growth(rt: HostRuntime) {
     let wrong_lines = [*b"-\n"; 800];
     let refusals = [*b"refused 60\n"; 800];
     let mut reader = SCRIPT.chain(wrong_lines.as_flattened()).chain(LATER_LINES);
@@ -167,7 +169,10 @@ fn writes_a_beginning_before_a_refused_growth(rt: HostRuntime) {
             assert_eq!(rt; ended, Ended::Done);
             assert_eq!(rt; written, TEXT.len() + 8800 + LATER_TEXT.len());
         }
-        Err(fault) => assert_eq!(rt; fault, ServeFault::Memory),
+        Err(fault) => {
+            assert_eq!(rt; fault, ServeFault::Memory);
+            assert!(rt; matches!(space[..written].last(), None | Some(b'\n')));
+        }
     }
 }
 

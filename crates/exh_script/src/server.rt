@@ -1,7 +1,7 @@
-ghost use Rattle.std.specs.Prelude.{◌≡◌, ◌⊎◌, ◌↔◌, [], IfOk, OnErr, IsErrOf, IsTrue, IsFalse};
-ghost use Rattle.std.specs.Bool.{OnTrue, OnFalse};
-ghost use Rattle.exh_stream.specs.Output.{SameWriter, TakesBeginning, held, pending, writer_failed};
-ghost use Rattle.exh_script.specs.Served.{WritesText, WritesUnread, BeginsText, BeginsUnread, TakesText, TakesUnread, BeginsTaking, unread_text};
+ghost use Rattle.std.specs.Prelude.{◌≡◌, ◌⊎◌, ◌↔◌, [], MatchBool, IfOk, OnErr, IsErrOf, IsTrue, IsFalse};
+ghost use Rattle.std.specs.Io.KnownBytes.{Appends};
+ghost use Rattle.exh_script.specs.Served.{PrintsLines, PrintsText, PrintsUnread, PrintsWhole, unread_text};
+ghost use Rattle.exh_stream.specs.Output.{AppendsBeginning, SameWriter, Takes, TakesBeginning, held, pending, writer_failed};
 ghost use Rattle.exh_stream.specs.Source.{SameReader, reader_failed, unread};
 
 use crate::respond::{refuse, respond};
@@ -14,22 +14,28 @@ use std::io::{Read, Write};
 pub(crate) const SCRIPT_LIMIT: usize = 1_048_576;
 
 /// Reads a whole script, and writes its text and nothing else. Where the reader fails, that is the line `refused 41`
-/// alone. On an `Err` a beginning of it went out: `Write` where the writer failed or took no bytes, `Memory` where a
-/// growth was refused. No fault is tried again.
+/// alone. No fault is tried again.
+///
+/// `Write`: the writer failed or took no bytes, and got a beginning of it. `Memory`: a growth was refused, and the
+/// writer got the text of a beginning of the script's lines, each line whole.
 pub fn serve<R: Read, W: Write>(
     alloc: Global,
     reader: &mut R,
     writer: &mut W,
 ) -> Result<Ended, ServeFault>
-    ensures ok { IfOk result (λ ended. WritesText (R.remaining reader.old) (W.contents writer.old) (W.contents writer.new) ended
-        ⊎ WritesUnread (W.contents writer.old) (W.contents writer.new) ended) }
-    ensures err { OnErr result (BeginsText (R.remaining reader.old) (W.contents writer.old) (W.contents writer.new)
-        ⊎ BeginsUnread (W.contents writer.old) (W.contents writer.new)) }
+    ensures ok { IfOk result (λ ended.
+        PrintsWhole (Appends (W.contents writer.old) (W.contents writer.new)) (R.remaining reader.old) ended
+        ⊎ PrintsUnread (Appends (W.contents writer.old) (W.contents writer.new)) ended) }
+    ensures err { OnErr result (
+        PrintsText (AppendsBeginning (W.contents writer.old) (W.contents writer.new)) (R.remaining reader.old)
+        ⊎ AppendsBeginning (W.contents writer.old) (W.contents writer.new) unread_text) }
+    ensures memory { IsErrOf result ServeFault.Memory →
+        PrintsLines (Appends (W.contents writer.old) (W.contents writer.new)) (R.remaining reader.old) }
 {
     serve_source(alloc, &mut Source::new(reader), &mut Output::new(writer))
 }
 
-// The same, where the source tells whether the reader failed.
+// The same, where the source tells whether the reader failed. What waits is written after want of memory too.
 fn serve_source<R: Read, W: Write>(
     alloc: Global,
     source: &mut Source<'_, R>,
@@ -40,15 +46,19 @@ fn serve_source<R: Read, W: Write>(
     requires empty { pending output.old ≡ [] }
     ensures same_reader { SameReader source.old source.new }
     ensures same_writer { SameWriter output.old output.new }
-    ensures text { IfOk result (λ ended. OnFalse (reader_failed source.new) (WritesText (unread R.remaining source.old) (held W.contents output.old) (held W.contents output.new) ended)) }
-    ensures no_text { IfOk result (λ ended. OnTrue (reader_failed source.new) (WritesUnread (held W.contents output.old) (held W.contents output.new) ended)) }
-    ensures err { OnErr result (OnFalse (reader_failed source.new) (BeginsText (unread R.remaining source.old) (held W.contents output.old) (held W.contents output.new))) }
-    ensures no_text_err { OnErr result (OnTrue (reader_failed source.new) (BeginsUnread (held W.contents output.old) (held W.contents output.new))) }
+    ensures text { IfOk result (λ ended. MatchBool (reader_failed source.new)
+        (PrintsUnread (Appends (held W.contents output.old) (held W.contents output.new)) ended)
+        (PrintsWhole (Appends (held W.contents output.old) (held W.contents output.new)) (unread R.remaining source.old) ended)) }
+    ensures err { OnErr result (MatchBool (reader_failed source.new)
+        (AppendsBeginning (held W.contents output.old) (held W.contents output.new) unread_text)
+        (PrintsText (AppendsBeginning (held W.contents output.old) (held W.contents output.new)) (unread R.remaining source.old))) }
+    ensures memory { IsErrOf result ServeFault.Memory →
+        PrintsLines (Appends (held W.contents output.old) (held W.contents output.new)) (unread R.remaining source.old) }
     ensures failed { IsErrOf result ServeFault.Write ↔ IsTrue (writer_failed output.new) }
 {
-    let ended = answer_source(alloc, source, output)?;
+    let served = answer_source(alloc, source, output);
     output.finish()?;
-    Ok(ended)
+    served
 }
 
 // Answers the script of a source. Where its reader fails, the answer is that alone.
@@ -61,10 +71,15 @@ fn answer_source<R: Read, W: Write>(
     requires open_output { IsFalse (writer_failed output.old) }
     ensures same_reader { SameReader source.old source.new }
     ensures same_writer { SameWriter output.old output.new }
-    ensures text { IfOk result (λ ended. OnFalse (reader_failed source.new) (TakesText W.contents output.old output.new (unread R.remaining source.old) ended)) }
-    ensures no_text { IfOk result (λ ended. OnTrue (reader_failed source.new) (TakesUnread W.contents output.old output.new ended)) }
-    ensures err { OnErr result (OnFalse (reader_failed source.new) (BeginsTaking W.contents output.old output.new (unread R.remaining source.old))) }
-    ensures no_text_err { OnErr result (OnTrue (reader_failed source.new) (TakesBeginning W.contents output.old output.new unread_text)) }
+    ensures text { IfOk result (λ ended. MatchBool (reader_failed source.new)
+        (PrintsUnread (Takes W.contents output.old output.new) ended)
+        (PrintsWhole (Takes W.contents output.old output.new) (unread R.remaining source.old) ended)) }
+    ensures err { OnErr result (MatchBool (reader_failed source.new)
+        (TakesBeginning W.contents output.old output.new unread_text)
+        (PrintsText (TakesBeginning W.contents output.old output.new) (unread R.remaining source.old))) }
+    ensures memory { IsErrOf result ServeFault.Memory → MatchBool (reader_failed source.new)
+        (Takes W.contents output.old output.new [])
+        (PrintsLines (Takes W.contents output.old output.new) (unread R.remaining source.old)) }
     ensures failed { IsErrOf result ServeFault.Write ↔ IsTrue (writer_failed output.new) }
 {
     match source.read_whole(alloc, SCRIPT_LIMIT) {

@@ -1,7 +1,8 @@
 -- What goes to a writer, part by part.
-use Rattle.std.proofs.Common.{ℕ, List, [], ◌++◌, Option, Result, Ok, Err, OnErr, refl, sym, ap, ◌∙◌, append_assoc}
+use Rattle.std.proofs.Common.{◌≡◌, ℕ, List, [], ◌++◌, Option, Result, Ok, Err, OnErr, refl, sym, ap, ◌∙◌, subst, append_assoc, append-nil}
+use Rattle.std.specs.Io.KnownBytes.{Appends}
 use Rattle.std.proofs.KnownBytes.{Appends-nil, Appends-trans}
-use Rattle.exh_stream.specs.Output.{AppendsAllBut, AppendsBeginning, Takes, TakesBeginning}
+use Rattle.exh_stream.specs.Output.{AppendsAllBut, AppendsBeginning, Takes, TakesBeginning, WriterUntouched, held, pending}
 use Rattle.exh_stream.specs.declared.output.Output.{Output}
 
 -- nothing was written yet
@@ -61,3 +62,26 @@ module _ {W : Type 0} (contents : W → Option (List ℕ)) where
   -- nothing is a beginning of any bytes
   pub TakesBeginning-none : (output : Output W) (bytes : List ℕ) → TakesBeginning contents output output bytes
   TakesBeginning-none output bytes = record { passed = AppendsBeginning-from (AppendsAllBut-start (contents output.writer.now) (output.block.items ++ bytes)) }
+
+  pub Takes-none : (output : Output W) → Takes contents output output []
+  Takes-none output = record {
+    passed = record { front = []; gone = Appends-nil (held contents output); split = append-nil (pending output) };
+  }
+
+-- ---- of an output that began with nothing waiting, at its end
+
+module _ {W : Type 0} (contents : W → Option (List ℕ)) (old mid new : Output W) (start : pending old ≡ []) (bytes : List ℕ) where
+  -- all that waited was written
+  pub Takes-finished : Takes contents old mid bytes → Appends (held contents mid) (held contents new) (pending mid) → Appends (held contents old) (held contents new) bytes
+  Takes-finished taken gone =
+      let whole : bytes ≡ taken.passed.front ++ pending mid = ap (λ l. l ++ bytes) (sym start) ∙ taken.passed.split in
+      subst (Appends (held contents old) (held contents new)) (sym whole) (Appends-trans _ _ _ taken.passed.front (pending mid) taken.passed.gone gone)
+
+  -- a beginning of it was
+  pub Takes-cut : Takes contents old mid bytes → AppendsBeginning (held contents mid) (held contents new) (pending mid) → AppendsBeginning (held contents old) (held contents new) bytes
+  Takes-cut taken gone = subst (λ l. AppendsBeginning (held contents old) (held contents new) (l ++ bytes)) start (AppendsBeginning-after taken.passed gone)
+
+  -- nothing more was
+  pub TakesBeginning-left : TakesBeginning contents old mid bytes → WriterUntouched mid new → AppendsBeginning (held contents old) (held contents new) bytes
+  TakesBeginning-left taken same =
+      subst (λ l. AppendsBeginning (held contents old) (held contents new) (l ++ bytes)) start (subst (λ now. AppendsBeginning (held contents old) now (pending old ++ bytes)) (ap contents (sym same)) taken.passed)

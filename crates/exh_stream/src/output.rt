@@ -42,7 +42,8 @@ impl<'w, W: Write> Output<'w, W> {
         ensures ok { OnOk result (Takes W.contents self.old self.new bytes.now) }
         ensures err { OnErr result (TakesBeginning W.contents self.old self.new bytes.now) }
         ensures failed { IsErr result ↔ IsTrue (writer_failed self.new) }
-        ensures closed { IsTrue (writer_failed self.old) → WriterUntouched self.old self.new }
+        ensures closed { IsTrue (writer_failed self.old) →
+            IsErr result × WriterUntouched self.old self.new }
 
         // What fits in the block waits there: the writer isn't asked, and so there is no fault.
         ensures waits { length (pending self.old) + length bytes.now ≤ BLOCK →
@@ -72,7 +73,8 @@ impl<'w, W: Write> Output<'w, W> {
         ensures err { OnErr result (AppendsBeginning (held W.contents self.old) (held W.contents self.new)
             (pending self.old)) }
         ensures failed { IsErr result ↔ IsTrue (writer_failed self.new) }
-        ensures closed { IsTrue (writer_failed self.old) → WriterUntouched self.old self.new }
+        ensures closed { IsTrue (writer_failed self.old) →
+            IsErr result × WriterUntouched self.old self.new }
 
         // Where nothing waits the writer isn't asked.
         ensures nothing { pending self.old ≡ [] → WriterUntouched self.old self.new

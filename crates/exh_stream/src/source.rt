@@ -49,7 +49,8 @@ impl<'r, R: Read> Source<'r, R> {
         ensures err { OnErr result
             (LosesFrontOf (unread R.remaining self.old) (unread R.remaining self.new) block.new) }
         ensures failed { IsErr result ↔ IsTrue (reader_failed self.new) }
-        ensures closed { IsTrue (reader_failed self.old) → ReaderUntouched self.old self.new }
+        ensures closed { IsTrue (reader_failed self.old) →
+            IsErr result × ReaderUntouched self.old self.new }
     {
         if self.has_failed {
             return Err(ReadFault);
@@ -80,7 +81,8 @@ impl<'r, R: Read> Source<'r, R> {
         ensures err { OnErr result
             (LosesSome (unread R.remaining self.old) (unread R.remaining self.new)) }
         ensures failed { IsErrOf result InputFault.Read ↔ IsTrue (reader_failed self.new) }
-        ensures closed { IsTrue (reader_failed self.old) → ReaderUntouched self.old self.new }
+        ensures closed { IsTrue (reader_failed self.old) →
+            IsErr result × ReaderUntouched self.old self.new }
     {
         if self.has_failed {
             return Err(InputFault::Read);
