@@ -12,3 +12,5 @@ mod greatest;
 mod leaf_set;
 mod map_machine;
 mod pair_map;
+#[cfg(test)]
+mod tests;
