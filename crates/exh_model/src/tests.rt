@@ -9,7 +9,7 @@ use exh_notice::{Entry, Kind, Notice};
 use exh_page::{Key, SizeFault, Value};
 use exh_prefix::{LIMIT, Prefix};
 use exh_table::Table;
-use exh_ward::{Call, Reply};
+use exh_ward::{Call, Hop, Reply, Ward};
 use std::alloc::{AllocError, Global};
 use std::process::Abort;
 use std::test::Fail;
@@ -281,6 +281,56 @@ impl Dice {
     {
         self.word() as usize % sides
     }
+}
+
+// Any call at one of sixteen keys, of which some share their leading bits.
+fn next_call(dice: &mut Dice) -> Result<Call, SizeFault> {
+    let first = if dice.roll(2) == 0 { 0 } else { 0x80 };
+    let key = [first, 0, dice.roll(8) as u8];
+    let value = [dice.roll(256) as u8];
+    match dice.roll(3) {
+        0 => get(&key),
+        1 => put(&key, &value),
+        _ => del(&key),
+    }
+}
+
+// A call's reply by the ward's hops, from page 0 on.
+fn reply_of(
+    rt: &(impl Abort + AllocGlobal),
+    ward: &mut Ward<PlainKeyer>,
+    call: &Call,
+) -> Result<Reply, Fail> {
+    let mut at = 0;
+    for _ in 0..100 {
+        let pseudokey = PlainKeyer.pseudo(call.key().as_bytes());
+        assert!(rt; ward.covers(pseudokey));
+        match ward.hop(at, 1, call)? {
+            Hop::Done(reply) => return Ok(reply),
+            Hop::Moved(to) => at = to,
+            Hop::MustSplit | Hop::Stray => break,
+        }
+    }
+    Err("no reply")?
+}
+
+// A thousand calls of one ward of one page: its replies are the slow program's, and so is its journal.
+#[test]
+fn wards_beside(rt: HostRuntime) -> Result<(), Fail> {
+    let mut dice = Dice { state: 1979 };
+    let mut ward = Ward::new(rt.alloc(), 16, 0, 0, PlainKeyer);
+    let mut machine = MapMachine::new(rt.alloc(), 16, PlainKeyer);
+    for _ in 0..1000 {
+        let call = next_call(&mut dice)?;
+        let reply = machine.answer(&call)?;
+        assert_eq!(rt; reply_of(&rt, &mut ward, &call)?, reply, "{call:?}");
+    }
+    let mut again = MapMachine::new(rt.alloc(), 16, PlainKeyer);
+    for entry in ward.journal() {
+        assert_eq!(rt; again.answer(&entry.call)?, entry.reply);
+    }
+    assert_eq!(rt; again.map().pairs(), machine.map().pairs());
+    Ok(())
 }
 
 // The next change at some leaf: a merge with its buddy, where that is a leaf, or a split.
