@@ -2,10 +2,12 @@
 //! profile).
 #![tactic(auto)]
 
+pub use failing_pages::FailingPages;
 pub use pages::Pages;
 pub use pages_fault::PagesFault;
 pub use plain_pages::PlainPages;
 
+mod failing_pages;
 mod pages;
 mod pages_fault;
 mod plain_pages;

@@ -3,7 +3,7 @@ ghost use Rattle.exh_page.specs.Page.{low_bound, IsLive};
 ghost use Rattle.exh_page.specs.declared.page.Page.{Page};
 ghost use Rattle.exh_frames.specs.PageStore.{CountsFaults, IfPage};
 
-use crate::{Pages, PagesFault, PlainPages};
+use crate::{FailingPages, Pages, PagesFault, PlainPages};
 use exh_page::{Key, Page, PageNo, Record, Records, Value};
 use exh_prefix::Prefix;
 use std::alloc::Global;
@@ -139,6 +139,39 @@ fn pages_come_last_and_change_together(rt: HostRuntime) -> Result<(), Fail> {
     for (number, low) in [(0, 3 << 62), (1, 1 << 62), (2, 0)] {
         assert!(rt; number < store.count());
         assert_eq!(rt; low_of(&mut store, number)?, low);
+    }
+    Ok(())
+}
+
+// The refusals of as many looks at page 0.
+fn looks<P: Pages>(store: &mut P, alloc: Global) -> Result<Vec<Option<PagesFault>>, Fail> {
+    let mut answers = Vec::new(alloc);
+    for _ in 0..4 {
+        if store.count() == 0 {
+            return Err("no page".into());
+        }
+        answers.push(store.lend(0).err())?;
+    }
+    Ok(answers)
+}
+
+#[test]
+fn one_call_fails(rt: HostRuntime) -> Result<(), Fail> {
+    let page = Some(PagesFault::Page);
+    let cases = [
+        (0, [None, None, None, None], 0),
+        (1, [page, None, None, None], 1),
+        (3, [None, None, page, None], 1),
+        (5, [None, None, None, None], 0),
+    ];
+    for (at, answers, failures) in cases {
+        let inner = PlainPages::new(rt.alloc(), live(rt.alloc(), 0, 0, None)?)?;
+        let mut store = FailingPages::new(inner, at);
+        assert_eq!(rt;
+            looks(&mut store, rt.alloc())?.as_slice(),
+            answers.as_slice()
+        );
+        assert_eq!(rt; store.failures(), failures);
     }
     Ok(())
 }
