@@ -9,7 +9,7 @@ pub(super) struct Case {
 }
 
 /// Each form of a line and of a reply, each refusal, and each way in which a run ends.
-pub(super) const CASES: [Case; 43] = [
+pub(super) const CASES: [Case; 44] = [
     Case {
         name: "a get of an absent key",
         script: b"file cap=2 wards=0 copies=2 keyer=plain\n\
@@ -55,6 +55,31 @@ pub(super) const CASES: [Case; 43] = [
                 r2 new\n\
                 r3 at 0/0\n\
                 r3 split\n",
+        ended: Ended::Done,
+    },
+    Case {
+        name: "a put, a get and a del at a full page",
+        script: b"file cap=2 wards=0 copies=2 keyer=plain\n\
+                  begin r1 c1 1 put #00 a\n\
+                  hop r1\n\
+                  begin r2 c1 1 put #80 b\n\
+                  hop r2\n\
+                  begin r3 c1 1 put #80 c\n\
+                  hop r3\n\
+                  begin r4 c1 1 get #40\n\
+                  hop r4\n\
+                  begin r5 c1 1 del #00\n\
+                  hop r5\n",
+        text: b"r1 at 0/0\n\
+                r1 new\n\
+                r2 at 0/0\n\
+                r2 new\n\
+                r3 at 0/0\n\
+                r3 was b\n\
+                r4 at 0/0\n\
+                r4 none\n\
+                r5 at 0/0\n\
+                r5 was a\n",
         ended: Ended::Done,
     },
     Case {
