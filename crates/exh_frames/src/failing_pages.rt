@@ -11,7 +11,7 @@ pub struct FailingPages {
 }
 
 impl FailingPages {
-    ghost use Rattle.std.specs.Prelude.{◌≡◌};
+    ghost use Rattle.std.specs.Prelude.{◌≡◌, ◌-◌, ◌^◌, ◌<◌, ◌↔◌, IsErr};
     ghost use Rattle.exh_frames.specs.PageStore.{CountsFaults};
 
     /// The store, of which the `at`-th call (1, 2, ..) of those that answer a `Result` will answer a
@@ -20,6 +20,7 @@ impl FailingPages {
     pub fn new(inner: PlainPages, at: u64) -> FailingPages
         ensures pages { ⟦<FailingPages as Pages>⟧.pages result ≡ inner }
         ensures failures { ⟦<FailingPages as Pages>⟧.failures result ≡ 0 }
+        ensures left { result.left ≡ at }
     {
         FailingPages {
             inner,
@@ -28,10 +29,12 @@ impl FailingPages {
         }
     }
 
-    // Begins a call, which may be the one that fails.
+    // Begins a call, which fails where it is the last of those that are left.
     fn enter(&mut self) -> Result<(), PagesFault>
         ensures inner { self.new.inner ≡ self.old.inner }
         ensures counts { CountsFaults result self.old.failures self.new.failures }
+        ensures left { self.new.left ≡ self.old.left - 1 }
+        ensures last { IsErr result ↔ ((self.old.left ≡ 1) × (self.old.failures < 2 ^ 64 - 1)) }
     {
         if self.left == 0 {
             return Ok(());
