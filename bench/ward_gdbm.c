@@ -1,4 +1,4 @@
-/* The rival of crates/ward_bench: the same calls by gdbm's own library.
+/* What a ward is measured against: puts and gets by gdbm's own library.
  *
  *   ward_gdbm FILE RECORDS ROUNDS CACHE BLOCK MAP
  *
