@@ -1,11 +1,12 @@
 -- Lists of pairs as finite maps.
-use Rattle.std.proofs.Common.{◌≡◌, ℕ, ◌+◌, ◌<◌, ◌≤◌, Bool, true, false, cond, not, List, [], ◌∷◌, ◌++◌, length, filter, get_or, take, drop, count_by, sum_by, map, Option, None, Some, Ordering, refl, sym, ap, subst, ◌∙◌, nat_cmp, nat_eq}
+use Rattle.std.proofs.Common.{◌≡◌, ℕ, ◌+◌, ◌<◌, ◌≤◌, Bool, true, false, cond, not, List, [], ◌∷◌, ◌++◌, length, filter, get_or, take, drop, count_by, sum_by, map, Option, None, Some, is_some, Ordering, refl, sym, ap, subst, ◌∙◌, nat_cmp, nat_eq}
 use Rattle.std.specs.declared.cmp.Ordering.TheVariants.{Less, Equal, Greater}
 use Rattle.std.specs.FinMap as fin
 use Rattle.std.specs.FinMap.Entries.{put, by_order, find-where_key}
 use Rattle.std.specs.List.Sorted.{IsPermutation}
 use Rattle.std.specs.Ordering.{eq_by_cmp, is_eq}
 use Rattle.std.specs.Cmp.Lexicographic.{slice_cmp, pointwise, texts_ties}
+use Rattle.std.proofs.lemmas.Bool.{true≢false}
 use Rattle.std.proofs.lemmas.Cmp.{nat_list_cmp_total, eq_by_cmp_equiv, tied_itself}
 use Rattle.std.proofs.lemmas.List.{drop_more, take_more, take-append-drop, take_all, nil_from_length}
 use Rattle.std.proofs.lemmas.List.Sorted.{IsPermutation-refl, IsPermutation-sym, IsPermutation-trans, IsPermutation-cons, IsPermutation-middle, sum_by-IsPermutation}
@@ -158,3 +159,48 @@ sum_by-map f g (x ∷ xs) = sum_by-cons (λ x. f (g x)) x xs ∙ ap (λ n. f (g 
 -- how many keys pass a test, counted over the pairs
 pub count_by-keys : (p : List ℕ → Bool) (m : KeyMap) (pairs : List Pair) → IsPermutation (fin.entries m) pairs → count_by (λ pair. p pair.0) pairs ≡ count_by p (fin.keys m)
 count_by-keys p m pairs same = sum_by-IsPermutation (λ (pair : Pair). cond (p pair.0) 1 0) (fin.entries m) pairs same ∙ sum_by-map (λ key. cond (p key) 1 0) (λ (pair : Pair). pair.0) (fin.entries m)
+
+-- ---- a map of any pairs
+
+-- where the front has the key, the back doesn't matter
+find-append_seen : (key : List ℕ) (front back : List Pair) (value : List ℕ) → fin.find by_bytes key front ≡ Some value → fin.find by_bytes key (front ++ back) ≡ Some value
+find-append_seen key [] back value = λ seen. cc
+find-append_seen key (pair ∷ front) back value =
+    elim (has_key key pair) as (λ b. cond b (Some pair.1) (fin.find by_bytes key front) ≡ Some value → cond b (Some pair.1) (fin.find by_bytes key (front ++ back)) ≡ Some value) [
+      | true ↦ λ seen. seen
+      | false ↦ λ seen. find-append_seen key front back value seen
+    ]
+
+-- a pair more of a key that is there is not found
+find-again : (key value : List ℕ) (pairs : List Pair) (old : List ℕ) (other : List ℕ) (found : Option (List ℕ)) → fin.find by_bytes key pairs ≡ Some old → fin.find by_bytes other pairs ≡ found
+    → fin.find by_bytes other (pairs ++ (key, value) ∷ []) ≡ found
+find-again key value pairs old other (Some there) seen is = find-append_seen other pairs ((key, value) ∷ []) there is
+find-again key value pairs old other None seen is =
+    find-append other pairs ((key, value) ∷ []) is
+    ∙ elim (by_bytes other key) as (λ o. by_bytes other key ≡ o → cond (is_eq o) (Some value) None ≡ None) [
+      | Less ↦ λ o. refl
+      | Equal ↦ λ o. let clash : Some old ≡ None = sym seen ∙ ap (λ key. fin.find by_bytes key pairs) (sym (exact_bytes other key o)) ∙ is in cc
+      | Greater ↦ λ o. refl
+    ] refl
+
+-- one pair more, whose key the map has
+pub from_entries_again : (pairs : List Pair) (i : ℕ) (pair : Pair) (old : List ℕ) → i < length pairs → pair ≡ get_or pairs i pair → fin.get (fin.from_entries {R = by_bytes} (take i pairs)) pair.0 ≡ Some old
+    → fin.from_entries {R = by_bytes} (take i pairs) ≡ fin.from_entries (take (i + 1) pairs)
+from_entries_again pairs i pair old within is seen =
+    same_maps _ _ (λ other. get_found other (take i pairs) ∙ sym (find-again pair.0 pair.1 (take i pairs) old other _ (sym (get_found pair.0 (take i pairs)) ∙ seen) refl)
+    ∙ ap (fin.find by_bytes other) (sym (take_more pairs i pair within ∙ ap (λ p. take i pairs ++ p ∷ []) (sym is))) ∙ sym (get_found other (take (i + 1) pairs)))
+
+-- one pair more, whose key the map lacks
+pub from_entries_new : (pairs : List Pair) (i : ℕ) (pair : Pair) → i < length pairs → pair ≡ get_or pairs i pair → fin.get (fin.from_entries {R = by_bytes} (take i pairs)) pair.0 ≡ None
+    → fin.insert (fin.from_entries {R = by_bytes} (take i pairs)) pair.0 pair.1 ≡ fin.from_entries (take (i + 1) pairs)
+from_entries_new pairs i pair within is none =
+    sym (fin.from_entries_push nat_list_cmp_total (fin.slice_cmp-IsAntisymmetric fin.nat_cmp-IsAntisymmetric) (take i pairs) pair.0 pair.1 (sym (get_found pair.0 (take i pairs)) ∙ none))
+    ∙ ap (λ (ps : List Pair). fin.from_entries {R = by_bytes} ps) (sym (take_more pairs i pair within ∙ ap (λ p. take i pairs ++ p ∷ []) (sym is)))
+
+pub none_there : (found : Option (List ℕ)) → is_some found ≡ false → found ≡ None
+none_there None none = refl
+none_there (Some value) none = absurd (true≢false none)
+
+pub some_there : (found : Option (List ℕ)) → is_some found ≡ true → (value : List ℕ) × (found ≡ Some value)
+some_there None some = absurd (true≢false (sym some))
+some_there (Some value) some = (value, refl)

@@ -36,6 +36,20 @@ impl PairMap {
         }
     }
 
+    /// The map of these pairs: of two pairs of one key the first counts. An `AllocError` where memory
+    /// for them is refused.
+    pub fn from_pairs(alloc: Global, pairs: &[(Key, Value)]) -> Result<PairMap, AllocError>
+        ensures { IfOk result (λ made. made ≡ map.from_entries pairs.now) }
+    {
+        let mut map = PairMap::new(alloc);
+        for (key, value) in pairs {
+            if map.get(key).is_none() {
+                map.insert(*key, *value)?;
+            }
+        }
+        Ok(map)
+    }
+
     /// The pairs of the map, each once, in some order. It takes no memory.
     pub fn pairs(&self) -> &[(Key, Value)]
         ensures { IsPermutation (map.entries self.now) result.now }

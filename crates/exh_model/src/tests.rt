@@ -101,6 +101,23 @@ fn equal_leading_bits(rt: HostRuntime) -> Result<(), Fail> {
     Ok(())
 }
 
+// Of two pairs of one key the first counts.
+#[test]
+fn maps_of_pairs(rt: HostRuntime) -> Result<(), Fail> {
+    let k = Key::from_bytes(b"k")?;
+    let l = Key::from_bytes(b"l")?;
+    let v = Value::from_bytes(b"v")?;
+    let w = Value::from_bytes(b"w")?;
+    let mut map = PairMap::from_pairs(rt.alloc(), &[(k, v), (l, w), (k, w)])?;
+    assert_eq!(rt; map.pairs().len(), 2);
+    assert_eq!(rt; map.get(&k), Some(v));
+    assert_eq!(rt; map.insert(k, w)?, Some(v));
+    assert_eq!(rt; map.remove(&k), Some(w));
+    assert_eq!(rt; map.get(&k), None);
+    assert_eq!(rt; map.pairs(), [(l, w)].as_slice());
+    Ok(())
+}
+
 fn prefix(bits: &str) -> Option<Prefix> {
     let mut prefix = Prefix::new(0, 0)?;
     for bit in bits.bytes() {

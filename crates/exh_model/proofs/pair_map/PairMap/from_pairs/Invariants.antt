@@ -1,0 +1,7 @@
+use Rattle.std.proofs.Common.{◌≡◌, take}
+use Rattle.std.specs.FinMap as map
+use Rattle.exh_model.proofs.pair_map.PairMap.from_pairs.Given as goal
+
+-- the map of the pairs so far
+abbrev pub invariant-loop-key : goal.invariant-loop-key
+invariant-loop-key l = l.map ≡ map.from_entries (take l.key-index l.pairs)
