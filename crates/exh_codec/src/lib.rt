@@ -18,4 +18,6 @@ mod image_fault;
 mod kind;
 mod laws;
 mod pages;
+#[cfg(test)]
+mod tests;
 mod zeros;
