@@ -10,9 +10,8 @@ use Rattle.byteorder.specs.Numbers.{big_number-reads_back}
 use Rattle.exh_codec.specs.declared.head.Head.{Head}
 use Rattle.exh_codec.specs.declared.kind.Kind.{Kind}
 use Rattle.exh_codec.specs.declared.kind.Kind.TheVariants.{Live, Forward}
-use Rattle.exh_codec.specs.Head.{head_bytes, IsReadHead}
-use Rattle.exh_codec.specs.Kind.{kind_byte}
-use Rattle.exh_codec.specs.Zeros.{AreZero}
+use Rattle.exh_codec.specs.Head.{head_bytes, IsReadHead, kind_byte}
+use Rattle.exh_codec.specs.Block.{AreZero}
 
 abbrev pub AreBytes : List ℕ → Type 0
 AreBytes bytes = (i : ℕ) → get_or bytes i 0 < 256

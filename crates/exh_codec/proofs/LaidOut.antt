@@ -16,7 +16,7 @@ use Rattle.exh_codec.specs.Cells.{Pair, pair_image, pair_of}
 use Rattle.exh_codec.specs.Head.{head_of, head_bytes, link_number, IsReadHead}
 use Rattle.exh_codec.specs.ImageTests.{HasCells}
 use Rattle.exh_codec.specs.PageImage.{IsInRange, IsPage, IsLaidOut, content_of, used_of}
-use Rattle.exh_codec.specs.Zeros.{AreZero}
+use Rattle.exh_codec.specs.Block.{AreZero}
 use Rattle.exh_codec.proofs.HeadReading.{reads_head, fourth_is_zero, past_low_is_zero}
 use Rattle.exh_codec.proofs.UsedBytes.{length-head_bytes, sized_records}
 

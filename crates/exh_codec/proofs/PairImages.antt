@@ -19,7 +19,10 @@ same_pair one other rest after same =
     let key_len : length one.0 ≡ length other.0 = cc in
     let value_len : length one.1 ≡ length other.1 = cc in
     let bodies : (one.0 ++ one.1) ++ rest ≡ (other.0 ++ other.1) ++ after = cc in
-    let keys = same_fronts one.0 other.0 (one.1 ++ rest) (other.1 ++ after) key_len (sym (append_assoc one.0 one.1 rest) ∙ bodies ∙ append_assoc other.0 other.1 after) in
+    let parted : one.0 ++ (one.1 ++ rest) ≡ (one.0 ++ one.1) ++ rest = sym (append_assoc one.0 one.1 rest) in
+    let joined : (other.0 ++ other.1) ++ after ≡ other.0 ++ (other.1 ++ after) = append_assoc other.0 other.1 after in
+    let bodies_parted : one.0 ++ (one.1 ++ rest) ≡ other.0 ++ (other.1 ++ after) = cc in
+    let keys = same_fronts one.0 other.0 (one.1 ++ rest) (other.1 ++ after) key_len bodies_parted in
     let values = same_fronts one.1 other.1 rest after value_len keys.1 in
     (ap (λ (key : List ℕ). (key, one.1)) keys.0 ∙ ap (λ (value : List ℕ). (other.0, value)) values.0, values.1)
 

@@ -9,9 +9,8 @@ use Rattle.exh_page.specs.declared.page.Page.TheVariants as pages
 use Rattle.exh_codec.specs.declared.head.Head.{Head}
 use Rattle.exh_codec.specs.declared.kind.Kind.{Kind}
 use Rattle.exh_codec.specs.declared.kind.Kind.TheVariants.{Live, Forward}
-use Rattle.exh_codec.specs.Head.{link_number}
+use Rattle.exh_codec.specs.Head.{link_number, kind_byte}
 use Rattle.exh_codec.specs.ImageTests.{record_of, HasLengths, IsPadded, HasBound, IsOrdered, IsOfKind, Passes, image_tests, count_of, prefix_len_of, low_in}
-use Rattle.exh_codec.specs.Kind.{kind_byte}
 use Rattle.exh_codec.specs.PageImage.{IsImage, IsLaidOut}
 use Rattle.exh_codec.specs.ReadPages.{IsLivePage, HasLow}
 use Rattle.exh_codec.proofs.FirstFault.{image_from_parts}

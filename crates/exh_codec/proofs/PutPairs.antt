@@ -48,7 +48,7 @@ put_behind block head image new n k len room is =
 pub front_padded : (used : List ℕ) (content whole : ℕ) → length used ≤ content → content ≤ whole
     → take content (used ++ drop (length used) (replicate whole 0)) ≡ used ++ replicate (content - length used) 0
 front_padded used content whole fits room =
-    let zeros : drop (length used) (replicate whole 0) ≡ replicate (whole - length used) 0 = drop-replicate (length used) whole 0 in
+    let zeros : drop (length used) (replicate {A = ℕ} whole 0) ≡ replicate {A = ℕ} (whole - length used) 0 = drop-replicate {X = ℕ} (length used) whole 0 in
     let some : content ≡ length used + (content - length used) = omega (arith, fits) in
     ap (λ (back : List ℕ). take content (used ++ back)) zeros
     ∙ ap (λ (n : ℕ). take n (used ++ replicate (whole - length used) 0)) some

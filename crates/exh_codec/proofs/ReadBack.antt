@@ -1,6 +1,5 @@
 -- What is read of a block is the page that it was laid out for, or a test that it fails.
-use Rattle.std.proofs.Common.{◌≡◌, ℕ, ◌^◌, ◌-◌, ◌<◌, ◌≤◌, Bool, List, [], ◌∷◌, ◌++◌, length, map, replicate, take, drop, slice_index, slice_range, Option, None, Some, Result, Ok, Err, refl, sym, ap, ◌∙◌, subst, append_assoc, arith}
-use Rattle.std.specs.Prelude.{IfSome}
+use Rattle.std.proofs.Common.{◌≡◌, ℕ, ◌^◌, ◌-◌, ◌<◌, ◌≤◌, Bool, List, [], ◌∷◌, ◌++◌, length, map, replicate, take, drop, slice_index, slice_range, Result, Ok, Err, refl, sym, ap, ◌∙◌, subst, append_assoc, arith}
 use Rattle.std.specs.List.{AllByRecursion, flat_map}
 use Rattle.std.proofs.lemmas.List.{take-append-drop, take-take, drop-take, length-append, length-take-le, length-map, nil_from_length}
 use Rattle.byteorder.specs.Numbers.{big_from-lt}
@@ -17,15 +16,15 @@ use Rattle.exh_codec.specs.declared.image_fault.ImageFault.TheVariants as faults
 use Rattle.exh_codec.specs.declared.kind.Kind.{Kind}
 use Rattle.exh_codec.specs.declared.kind.Kind.TheVariants.{Live, Forward}
 use Rattle.exh_codec.specs.Cells.{Pair, IsSized, AreCells, pair_image, pair_of}
-use Rattle.exh_codec.specs.Head.{head_of, head_bytes, link_number, IsReadHead}
+use Rattle.exh_codec.specs.Head.{head_of, head_bytes, link_number, IsReadHead, kind_byte}
 use Rattle.exh_codec.specs.ImageTests.{record_of, HasCells, HasKind, HasLengths, IsPadded, HasBound, IsOrdered, IsOfKind, Passes, IsFirst, content_tests, prefix_len_of, low_in}
-use Rattle.exh_codec.specs.Kind.{kind_byte}
 use Rattle.exh_codec.specs.PageImage.{IsLaidOut, content_of, used_of}
 use Rattle.exh_codec.specs.ReadPages.{BeginsPairs, IsLivePage, GivesLive, HasLow, GivesForward, GivesPage}
-use Rattle.exh_codec.specs.Zeros.{AreZero}
+use Rattle.exh_codec.specs.Block.{AreZero}
 use Rattle.exh_codec.proofs.HeadReading.{AreBytes, AreBytes-drop, head_back}
 use Rattle.exh_codec.proofs.PairImages.{same_cells}
 use Rattle.exh_codec.proofs.Rising.{pairs_of_records}
+use Rattle.exh_codec.proofs.UsedBytes.{link_in_range}
 
 -- what is read of a block before its page is
 pub record IsReadBlock (block : List ℕ) (head : Head) (pairs : List Pair) (rest : List ℕ) : Type 0 where
@@ -65,10 +64,6 @@ link_below block head pairs rest read = subst (λ (n : ℕ). n < 2 ^ 32) read.sa
 low_below : (block : List ℕ) (head : Head) (pairs : List Pair) (rest : List ℕ) → IsReadBlock block head pairs rest → head.low < 2 ^ 64
 low_below block head pairs rest read = subst (λ (n : ℕ). n < 2 ^ 64) read.says.low (big_from-lt 0 8 (drop 8 block) (AreBytes-drop 8 block read.fits))
 
-right_fits : (right : Option ℕ) (link : ℕ) → link_number right ≡ link → link < 2 ^ 32 → IfSome right (λ page. page < 2 ^ 32)
-right_fits None link is fits = tt
-right_fits (Some page) link is fits = omega (arith, is, fits)
-
 hashed_records : (pseudo : List ℕ → ℕ) (pairs : List Pair) → AllByRecursion (λ r. r.pseudokey ≡ pseudo r.key) (map (record_of pseudo) pairs)
 hashed_records pseudo [] = tt
 hashed_records pseudo (pair ∷ pairs) = (refl, hashed_records pseudo pairs)
@@ -98,7 +93,7 @@ live_laid pseudo block head pairs rest page read kind live =
     let same = pairs_of_records pseudo pairs in
     let laid : IsLaidOut pseudo (pages.Live prefix live.right records) block = record {
       valid = record {
-        in_range = (omega (arith, len, stored.0), right_fits live.right head.link live.link link_fits, subst (AllByRecursion IsSized) (sym same) read.cells.sized);
+        in_range = (omega (arith, len, stored.0), link_in_range live.right (subst (λ (n : ℕ). n < 2 ^ 32) (sym live.link) link_fits), subst (AllByRecursion IsSized) (sym same) read.cells.sized);
         formed = (
           record { rising = live.rising; hashed = hashed_records pseudo pairs; begun = begun_records pseudo prefix pairs live.begins.begun },
           omega (arith, count, read.few),

@@ -10,11 +10,9 @@ use Rattle.exh_page.specs.Place.{place_cmp, place_of}
 use Rattle.exh_page.specs.Records.{IsRising}
 use Rattle.exh_page.specs.RecordsLemmas.{place_cmp-total}
 use Rattle.exh_codec.specs.declared.borrowed_record.BorrowedRecord.{BorrowedRecord}
-use Rattle.exh_codec.specs.BorrowedRecord.{record_in}
+use Rattle.exh_codec.specs.Cells.{record_in, Pair, IsSized, pair_of, pair_in}
 use Rattle.exh_codec.specs.declared.cell.Cell.{Cell}
-use Rattle.exh_codec.specs.Cells.{Pair, IsSized, pair_of}
 use Rattle.exh_codec.specs.ImageTests.{record_of}
-use Rattle.exh_codec.specs.Pairs.{pair_in}
 use Rattle.exh_codec.proofs.Elements.{all_push, all_back}
 
 abbrev Comes : Record → Record → Type 0

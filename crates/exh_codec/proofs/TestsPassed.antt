@@ -14,7 +14,7 @@ use Rattle.exh_codec.specs.Cells.{Pair, pair_of}
 use Rattle.exh_codec.specs.Head.{head_of, link_number}
 use Rattle.exh_codec.specs.ImageTests.{record_of, HasCells, HasKind, HasLengths, IsPadded, HasBound, IsOrdered, Passes, content_tests, prefix_len_of, low_in}
 use Rattle.exh_codec.specs.PageImage.{IsPage, IsLaidOut}
-use Rattle.exh_codec.specs.Zeros.{AreZero}
+use Rattle.exh_codec.specs.Block.{AreZero}
 use Rattle.exh_codec.proofs.HeadReading.{same_heads}
 use Rattle.exh_codec.proofs.LaidOut.{Says, says, pairs_in, zeros_of}
 use Rattle.exh_codec.proofs.PairImages.{same_cells}

@@ -4,6 +4,8 @@ use Rattle.std.specs.List.{AllByRecursion, flat_map}
 use Rattle.exh_page.specs.declared.key.TheConstants.{KEY_LIMIT}
 use Rattle.exh_page.specs.declared.record.Record.{Record}
 use Rattle.exh_page.specs.declared.value.TheConstants.{VALUE_LIMIT}
+use Rattle.exh_codec.specs.declared.borrowed_record.BorrowedRecord.{BorrowedRecord}
+use Rattle.exh_codec.specs.declared.cell.Cell.{Cell}
 
 -- a key and its value
 abbrev pub Pair : Type 0
@@ -27,3 +29,11 @@ pub record AreCells (count : ℕ) (bytes : List ℕ) (pairs : List Pair) (rest :
   pub all : length pairs ≡ count
   pub sized : AllByRecursion IsSized pairs
   pub whole : bytes ≡ flat_map pair_image pairs ++ rest
+
+-- ---- what borrowed records hold
+
+abbrev pub pair_in : Cell → Pair
+pair_in cell = (cell.key.now, cell.value.now)
+
+abbrev pub record_in : BorrowedRecord → Record
+record_in borrowed = record { pseudokey = borrowed.pseudokey; key = borrowed.key.now; value = borrowed.value.now }

@@ -5,8 +5,13 @@ use Rattle.exh_prefix.specs.Prefix.{low_of}
 use Rattle.exh_page.specs.declared.page.Page.{Page}
 use Rattle.exh_page.specs.declared.page.Page.TheVariants as pages
 use Rattle.exh_codec.specs.declared.head.Head.{Head}
+use Rattle.exh_codec.specs.declared.kind.Kind.{Kind}
 use Rattle.exh_codec.specs.declared.kind.Kind.TheVariants.{Live, Forward}
-use Rattle.exh_codec.specs.Kind.{kind_byte}
+
+-- the byte of a page's kind
+abbrev pub kind_byte : Kind → ℕ
+kind_byte Live = 1
+kind_byte Forward = 2
 
 -- the number that stands for a right link: all bits set for none
 abbrev pub link_number : Option ℕ → ℕ

@@ -14,10 +14,9 @@ use Rattle.exh_codec.specs.declared.image_fault.ImageFault.{ImageFault}
 use Rattle.exh_codec.specs.declared.image_fault.ImageFault.TheVariants as faults
 use Rattle.exh_codec.specs.declared.kind.Kind.{Kind}
 use Rattle.exh_codec.specs.declared.kind.Kind.TheVariants.{Live, Forward}
-use Rattle.exh_codec.specs.Block.{IsSealed}
+use Rattle.exh_codec.specs.Block.{IsSealed, AreZero}
 use Rattle.exh_codec.specs.Cells.{Pair, AreCells}
-use Rattle.exh_codec.specs.Kind.{kind_byte}
-use Rattle.exh_codec.specs.Zeros.{AreZero}
+use Rattle.exh_codec.specs.Head.{kind_byte}
 
 -- ---- what a block says, read as an image
 

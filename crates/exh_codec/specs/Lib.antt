@@ -1,12 +1,8 @@
 pub mod Block
 pub mod ImageFault
-pub mod Kind
 pub mod Head
 pub mod Cells
 pub mod PageImage
 pub mod ImageTests
-pub mod Pairs
-pub mod Zeros
-pub mod BorrowedRecord
 pub mod ReadPages
 pub mod Laws

@@ -1,7 +1,6 @@
 ghost use Rattle.std.specs.Prelude.{◌≡◌};
 ghost use Rattle.exh_page.specs.Place.{place_cmp, place_of};
-ghost use Rattle.exh_codec.specs.Cells.{IsSized, pair_of};
-ghost use Rattle.exh_codec.specs.BorrowedRecord.{record_in};
+ghost use Rattle.exh_codec.specs.Cells.{IsSized, pair_of, record_in};
 
 use exh_page::{Key, Record, Value};
 use std::cmp::Ordering;

@@ -1,6 +1,5 @@
 ghost use Rattle.std.specs.Prelude.{◌≡◌, ◌≤◌, ℕ, List, ◌++◌, length, map, IfSome, IfNone, OnSome};
-ghost use Rattle.exh_codec.specs.Cells.{Pair, IsSized, AreCells, pair_image};
-ghost use Rattle.exh_codec.specs.Pairs.{pair_in};
+ghost use Rattle.exh_codec.specs.Cells.{Pair, IsSized, AreCells, pair_image, pair_in};
 ghost use Rattle.exh_page.specs.declared.page.TheConstants.{CAP_LIMIT};
 
 use crate::head::Head;

@@ -1,4 +1,5 @@
-ghost use Rattle.std.specs.Prelude.{◌≡◌, ◌≢◌, MatchResult, IfOk, IfErr};
+ghost use Rattle.std.specs.Prelude.{◌≡◌, ◌≢◌, ◌↔◌, IsTrue, MatchResult, IfOk, IfErr};
+ghost use Rattle.exh_codec.specs.Block.{AreZero};
 ghost use Rattle.exh_page.specs.declared.page.Page.{Page};
 ghost use Rattle.exh_codec.specs.PageImage.{IsImage, IsLaidOut};
 ghost use Rattle.exh_codec.specs.ReadPages.{GivesPage};
@@ -10,7 +11,6 @@ use crate::cell::cells_of;
 use crate::head::{HEAD_LEN, Head, LOW_END};
 use crate::kind::Kind;
 use crate::pages::{forward_page, live_page};
-use crate::zeros::are_zero;
 use exh_keyer::Keyer;
 use exh_page::Page;
 use std::alloc::Global;
@@ -74,4 +74,15 @@ fn read_content<K: Keyer>(
         Kind::Live => live_page(alloc, keyer, head, &cells),
         Kind::Forward => forward_page(head),
     }
+}
+
+// Whether all bytes are zero. There is no branch for a byte, so that many are tested at once.
+fn are_zero(bytes: &[u8]) -> bool
+    ensures { IsTrue result ↔ AreZero bytes.now }
+{
+    let mut set = 0;
+    for byte in bytes {
+        set |= *byte;
+    }
+    set == 0
 }

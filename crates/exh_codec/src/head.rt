@@ -31,11 +31,10 @@ impl Head {
     ghost use Rattle.std.specs.Prelude.{◌≡◌, ◌≤◌, ◌<◌, ◌^◌, ℕ, List, length, slice_index, IfSome, IfNone};
     ghost use Rattle.exh_codec.specs.declared.head.TheConstants.{HEAD_LEN};
     ghost use Rattle.exh_codec.specs.declared.kind.Kind.{Kind};
-    ghost use Rattle.exh_codec.specs.Kind.{kind_byte};
+    ghost use Rattle.exh_codec.specs.Head.{kind_byte, head_of, head_bytes, IsReadHead};
     ghost use Rattle.exh_prefix.specs.declared.prefix.TheConstants.{LIMIT};
     ghost use Rattle.exh_page.specs.declared.page.TheConstants.{CAP_LIMIT};
     ghost use Rattle.exh_page.specs.Page.{records_of};
-    ghost use Rattle.exh_codec.specs.Head.{head_of, head_bytes, IsReadHead};
 
     /// The head of a page's image.
     pub(crate) fn of(page: &Page) -> Head

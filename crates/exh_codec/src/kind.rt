@@ -10,7 +10,7 @@ pub(crate) enum Kind {
 impl Kind {
     ghost use Rattle.std.specs.Prelude.{◌≡◌, ℕ, IfSome, IfNone};
     ghost use Rattle.exh_codec.specs.declared.kind.Kind.{Kind};
-    ghost use Rattle.exh_codec.specs.Kind.{kind_byte};
+    ghost use Rattle.exh_codec.specs.Head.{kind_byte};
 
     /// The kind of a byte, `None` where it is that of no kind.
     pub(crate) fn from_byte(byte: u8) -> Option<Kind>

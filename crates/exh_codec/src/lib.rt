@@ -20,4 +20,3 @@ mod laws;
 mod pages;
 #[cfg(test)]
 mod tests;
-mod zeros;

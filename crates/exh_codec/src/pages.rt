@@ -2,11 +2,9 @@ ghost use Rattle.std.specs.Prelude.{◌≡◌, ◌≢◌, ◌^◌, ◌≤◌, �
 ghost use Rattle.std.specs.List.{AllByRecursion};
 ghost use Rattle.exh_prefix.specs.Prefix.{Begins};
 ghost use Rattle.exh_page.specs.Records.{IsRising};
-ghost use Rattle.exh_codec.specs.BorrowedRecord.{record_in};
-ghost use Rattle.exh_codec.specs.Cells.{IsSized, pair_of};
+ghost use Rattle.exh_codec.specs.Cells.{record_in, IsSized, pair_of, pair_in};
 ghost use Rattle.exh_codec.specs.Head.{link_number};
 ghost use Rattle.exh_codec.specs.ImageTests.{record_of};
-ghost use Rattle.exh_codec.specs.Pairs.{pair_in};
 ghost use Rattle.exh_codec.specs.ReadPages.{GivesLive, GivesForward};
 
 use crate::ImageFault;

@@ -1,5 +1,5 @@
 use Rattle.std.proofs.Common.{map, arith}
-use Rattle.exh_codec.specs.Pairs.{pair_in}
+use Rattle.exh_codec.specs.Cells.{pair_in}
 use Rattle.exh_codec.proofs.PairImages.{no_more_cells}
 use Rattle.exh_codec.proofs.cell.split_cells.Goals as goal
 

@@ -1,7 +1,6 @@
 use Rattle.std.proofs.Common.{◌≡◌, map}
 use Rattle.arrayvec.specs.ArrayVec.{array_vec_len}
-use Rattle.exh_codec.specs.Cells.{AreCells}
-use Rattle.exh_codec.specs.Pairs.{pair_in}
+use Rattle.exh_codec.specs.Cells.{AreCells, pair_in}
 use Rattle.exh_codec.proofs.cell.split_cells.Given as goal
 
 abbrev pub invariant-loop : goal.invariant-loop

@@ -1,5 +1,5 @@
 use Rattle.std.proofs.Common.{List, subst, map}
-use Rattle.exh_codec.specs.Pairs.{pair_in}
+use Rattle.exh_codec.specs.Cells.{pair_in}
 use Rattle.exh_codec.specs.declared.cell.Cell.{Cell}
 use Rattle.exh_codec.specs.ImageTests.{IsPadded}
 use Rattle.exh_codec.specs.ReadPages.{GivesLive}

@@ -1,6 +1,6 @@
 use Rattle.std.proofs.Common.{map, take}
 use Rattle.exh_page.specs.Records.{IsRising}
-use Rattle.exh_codec.specs.BorrowedRecord.{record_in}
+use Rattle.exh_codec.specs.Cells.{record_in}
 use Rattle.exh_codec.proofs.pages.are_rising.Given as goal
 
 abbrev pub invariant-loop-i : goal.invariant-loop-i

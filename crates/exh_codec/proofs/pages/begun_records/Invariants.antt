@@ -2,9 +2,8 @@ use Rattle.std.proofs.Common.{◌≡◌, map, take}
 use Rattle.std.specs.List.{AllByRecursion}
 use Rattle.arrayvec.specs.ArrayVec.{array_vec_len}
 use Rattle.exh_prefix.specs.Prefix.{Begins}
-use Rattle.exh_codec.specs.BorrowedRecord.{record_in}
+use Rattle.exh_codec.specs.Cells.{record_in, pair_in}
 use Rattle.exh_codec.specs.ImageTests.{record_of}
-use Rattle.exh_codec.specs.Pairs.{pair_in}
 use Rattle.exh_codec.proofs.pages.begun_records.Given as goal
 
 abbrev pub invariant-loop-cell : goal.invariant-loop-cell

@@ -5,10 +5,8 @@ use Rattle.exh_prefix.specs.Prefix.{Begins}
 use Rattle.exh_page.specs.declared.record.Record.{Record}
 use Rattle.exh_page.specs.declared.page.Page.TheVariants.{Live}
 use Rattle.exh_page.specs.Records.{IsRising}
-use Rattle.exh_codec.specs.BorrowedRecord.{record_in}
-use Rattle.exh_codec.specs.Cells.{Pair, IsSized, pair_of}
+use Rattle.exh_codec.specs.Cells.{record_in, Pair, IsSized, pair_of, pair_in}
 use Rattle.exh_codec.specs.ImageTests.{record_of}
-use Rattle.exh_codec.specs.Pairs.{pair_in}
 use Rattle.exh_codec.proofs.Rising.{pairs_of_records}
 use Rattle.exh_codec.proofs.pages.live_page.Goals as goal
 

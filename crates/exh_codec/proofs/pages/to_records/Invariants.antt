@@ -1,5 +1,5 @@
 use Rattle.std.proofs.Common.{◌≡◌, map, take}
-use Rattle.exh_codec.specs.BorrowedRecord.{record_in}
+use Rattle.exh_codec.specs.Cells.{record_in}
 use Rattle.exh_codec.proofs.pages.to_records.Given as goal
 
 abbrev pub invariant-loop-item : goal.invariant-loop-item

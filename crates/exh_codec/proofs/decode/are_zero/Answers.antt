@@ -2,9 +2,9 @@ use Rattle.std.proofs.Common.{◌≡◌, ℕ, [], ◌∷◌, ◌++◌, take, bit
 use Rattle.std.specs.Int.Bits.{or_zero_l}
 use Rattle.std.proofs.lemmas.List.{take_more}
 use Rattle.std.proofs.lemmas.Nat.{le_or_l, le_or_r}
-use Rattle.exh_codec.specs.Zeros.{AreZero}
+use Rattle.exh_codec.specs.Block.{AreZero}
 use Rattle.exh_codec.proofs.Elements.{all_push, all_front, all_back}
-use Rattle.exh_codec.proofs.zeros.are_zero.Goals as goal
+use Rattle.exh_codec.proofs.decode.are_zero.Goals as goal
 
 pub loop-byte-preserved : goal.loop-byte-preserved
 loop-byte-preserved c =
