@@ -3,8 +3,9 @@ use Rattle.std.specs.Prelude.{◌≡◌, ◌<◌, ℕ, ◌↔◌, List, length, 
 use Rattle.std.specs.List.{AllByRecursion}
 use Rattle.exh_page.specs.declared.page.Page.{Page}
 use Rattle.exh_codec.specs.declared.block.TheConstants.{BLOCK_LEN}
+use Rattle.exh_codec.specs.Block.{IsSealed}
 use Rattle.exh_codec.specs.ImageTests.{Passes, image_tests}
-use Rattle.exh_codec.specs.PageImage.{IsPage, IsImage}
+use Rattle.exh_codec.specs.PageImage.{IsPage, IsImage, IsLaidOut}
 
 -- the block is the page's image, and no other is
 pub record IsOneImage (pseudo : List ℕ → ℕ) (page : Page) (block : List ℕ) : Type 0 where
@@ -23,3 +24,7 @@ OnePage = (pseudo : List ℕ → ℕ) (block : List ℕ) (one other : Page) → 
 abbrev pub ImagesPass : Type 0
 ImagesPass = (pseudo : List ℕ → ℕ) (block : List ℕ) → length block ≡ BLOCK_LEN → ((i : ℕ) → slice_index block i < 256)
     → ((page : Page) × IsImage pseudo page block) ↔ AllByRecursion (Passes pseudo block) image_tests
+
+-- a block is a page's image exactly where it was laid out for the page and is sealed
+abbrev pub ImagesAreSealed : Type 0
+ImagesAreSealed = (pseudo : List ℕ → ℕ) (page : Page) (block : List ℕ) → IsImage pseudo page block ↔ (IsLaidOut pseudo page block × IsSealed block)

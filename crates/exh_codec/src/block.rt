@@ -13,7 +13,9 @@ pub const CONTENT_LEN: usize = 4064;
 /// Writes the digest of a block's content, the SHA-256 (FIPS 180-4) of bytes 0 to 4,064, over the
 /// bytes after it.
 pub fn seal(block: &mut [u8; BLOCK_LEN])
-    ensures { block.new ≡ sealed (take CONTENT_LEN block.old) }
+    ensures block { block.new ≡ sealed (take CONTENT_LEN block.old) }
+    ensures content { take CONTENT_LEN block.new ≡ take CONTENT_LEN block.old }
+    ensures sealed { IsSealed block.new }
 {
     let digest = Sha256::digest(&block[..CONTENT_LEN]);
     block[CONTENT_LEN..].copy_from_slice(&digest);

@@ -70,24 +70,10 @@ impl Head {
     pub(crate) fn to_bytes(self) -> [u8; HEAD_LEN]
         ensures { result ≡ head_bytes self }
     {
-        let mut bytes = [
-            self.kind.to_byte(),
-            self.prefix_len,
-            self.count,
-            0,
-            0,
-            0,
-            0,
-            0,
-            0,
-            0,
-            0,
-            0,
-            0,
-            0,
-            0,
-            0,
-        ];
+        let mut bytes = [0; HEAD_LEN];
+        bytes[0] = self.kind.to_byte();
+        bytes[1] = self.prefix_len;
+        bytes[2] = self.count;
         BigEndian::write_u32(&mut bytes[4..], self.link);
         BigEndian::write_u64(&mut bytes[8..], self.low);
         bytes

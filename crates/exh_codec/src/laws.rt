@@ -1,6 +1,6 @@
 //! What holds of all images, for the proofs of callers. Each function does nothing.
 
-ghost use Rattle.exh_codec.specs.Laws.{OneImage, OnePage, ImagesPass};
+ghost use Rattle.exh_codec.specs.Laws.{OneImage, OnePage, ImagesPass, ImagesAreSealed};
 
 /// A well-formed page has exactly one image.
 pub fn one_image()
@@ -15,4 +15,9 @@ pub fn one_page()
 /// A block is the image of a page exactly where it passes all tests.
 pub fn images_pass()
     ensures { ImagesPass }
+{}
+
+/// A block is a page's image exactly where it was laid out for the page and is sealed.
+pub fn images_are_sealed()
+    ensures { ImagesAreSealed }
 {}

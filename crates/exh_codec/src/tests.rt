@@ -3,8 +3,8 @@ ghost use Rattle.exh_codec.specs.declared.block.TheConstants.{CONTENT_LEN};
 ghost use Rattle.exh_codec.specs.PageImage.{IsImage};
 
 use crate::{
-    BLOCK_LEN, CONTENT_LEN, ImageFault, decode_content, decode_page, encode_page, images_pass,
-    is_sealed, lay_out, one_image, one_page, seal,
+    BLOCK_LEN, CONTENT_LEN, ImageFault, decode_content, decode_page, encode_page,
+    images_are_sealed, images_pass, is_sealed, lay_out, one_image, one_page, seal,
 };
 use exh_keyer::{AnyKeyer, Keyer, PlainKeyer, ShaKeyer};
 use exh_page::{CAP_LIMIT, Key, Page, PageNo, Record, Records, Value};
@@ -267,6 +267,7 @@ fn numbers_of_faults(rt: HostRuntime) -> Result<(), Fail> {
 
 #[test]
 fn laws_are_called(_rt: HostRuntime) {
+    images_are_sealed();
     one_image();
     one_page();
     images_pass();
