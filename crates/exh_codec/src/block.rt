@@ -1,4 +1,5 @@
 ghost use Rattle.std.specs.Prelude.{◌≡◌, ◌↔◌, ℕ, List, take, IsTrue};
+ghost use Rattle.sha2.specs.Sha256.{sha256};
 ghost use Rattle.exh_codec.specs.declared.block.TheConstants.{CONTENT_LEN};
 ghost use Rattle.exh_codec.specs.Block.{sealed, IsSealed};
 
@@ -17,7 +18,7 @@ pub fn seal(block: &mut [u8; BLOCK_LEN])
     ensures content { take CONTENT_LEN block.new ≡ take CONTENT_LEN block.old }
     ensures sealed { IsSealed block.new }
 {
-    let digest = Sha256::digest(&block[..CONTENT_LEN]);
+    let digest = digest_of(block);
     block[CONTENT_LEN..].copy_from_slice(&digest);
 }
 
@@ -25,6 +26,13 @@ pub fn seal(block: &mut [u8; BLOCK_LEN])
 pub fn is_sealed(block: &[u8; BLOCK_LEN]) -> bool
     ensures { IsTrue result ↔ IsSealed block.now }
 {
-    let digest = Sha256::digest(&block[..CONTENT_LEN]);
+    let digest = digest_of(block);
     block[CONTENT_LEN..] == digest[..]
+}
+
+// The digest of a block's content.
+fn digest_of(block: &[u8; BLOCK_LEN]) -> [u8; 32]
+    ensures { result ≡ sha256 (take CONTENT_LEN block.now) }
+{
+    Sha256::digest(&block[..CONTENT_LEN])
 }

@@ -15,7 +15,7 @@ pub returns-clause-block : goal.returns-clause-block
 returns-clause-block c =
     let block = c.args.block.now in
     let none : drop 32 (drop 4064 block) ≡ [] = drop-drop 32 4064 block ∙ drop_all 4096 block (omega (arith, c.told-block)) in
-    ap (λ (digest : List ℕ). take 4064 block ++ (digest ++ drop 32 (drop 4064 block))) (c.copy_from_slice.ensures.after ∙ c.digest-digest.ensures)
+    ap (λ (digest : List ℕ). take 4064 block ++ (digest ++ drop 32 (drop 4064 block))) (c.copy_from_slice.ensures.after ∙ c.digest_of-digest.ensures)
     ∙ ap (λ (rest : List ℕ). take 4064 block ++ (sha256 (take 4064 block) ++ rest)) none ∙ ap (λ (digest : List ℕ). take 4064 block ++ digest) (append-nil _)
 
 pub returns-clause-content : goal.returns-clause-content
