@@ -1,16 +1,18 @@
 -- What is printed is read again: for proofs of the crates above.
-use Rattle.std.proofs.Common.{◌≡◌, ◌≢◌, ℕ, zero, suc, ◌+◌, ◌-◌, ◌/◌, ◌%◌, ◌^◌, ◌<◌, ◌≤◌, List, [], ◌∷◌, ◌++◌, length, slice_index, get_or, Bool, true, false, ◌&&◌, All, cond, eqb, Some, decimal, lit<, inl, inr, refl, sym, ap, ◌∙◌, arith}
+use Rattle.std.proofs.Common.{◌≡◌, ◌≢◌, ℕ, zero, suc, ◌+◌, ◌-◌, ◌/◌, ◌%◌, ◌^◌, ◌<◌, ◌≤◌, List, [], ◌∷◌, ◌++◌, length, map, slice_index, get_or, Bool, true, false, ◌&&◌, All, cond, eqb, Some, decimal, lit<, inl, inr, refl, sym, ap, ◌∙◌, arith}
 use Rattle.std.specs.Char.{is_ascii_graphic, digit_char}
 use Rattle.std.specs.List.{list_all, AllByRecursion, slice_split, onto_first}
 use Rattle.std.specs.Str.{all_ascii_digits}
 use Rattle.std.specs.Str.Parse.{digits_value}
 use Rattle.std.proofs.lemmas.Bool.{false≢true, and_parts, cases_eq, eqb-true}
 use Rattle.std.proofs.lemmas.Bool.Decides.{nat_tests}
+use Rattle.std.proofs.lemmas.List.{length-append}
 use Rattle.std.proofs.lemmas.List.Splits.{slice_split_none, length-slice_split}
 use Rattle.std.proofs.lemmas.Option.{cond_some}
-use Rattle.std.proofs.lemmas.Fmt.{decimal_digit, decimal_nonempty, first_decimal, digits_decimal, digits_value-decimal, decimal-digits_value}
+use Rattle.std.proofs.lemmas.Fmt.{decimal_digit, decimal_nonempty, first_decimal, digits_decimal, digits_value-decimal, decimal-digits_value, decimal_injective}
 use Rattle.std.proofs.lemmas.Str.Parse.{IsNumeralModel, numerals_by_value, tells_all_ascii_digits}
 use Rattle.hex.specs.Hex.{lower_digits, encode_lower, encode_with}
+use Rattle.exh_prefix.specs.Prefix.{bit_digit, prefix_text}
 use Rattle.exh_text.specs.ByteWord.{hash, hex_digit, hex_bytes, bytes_of_word}
 use Rattle.exh_text.specs.Lines.{parts_at, space, words_of}
 use Rattle.exh_text.specs.Numbers.{number_up_to, is_numeral}
@@ -201,3 +203,52 @@ graphic-append (byte ∷ front) rest all more = let tail = graphic-append front 
 
 pub place_graphic : (ward number : ℕ) → ward < 2 ^ 64 → number < 2 ^ 64 → list_all is_ascii_graphic (place_text ward number) ≡ true
 place_graphic ward number small other = graphic-append (decimal ward) (47 ∷ decimal number) (decimal_graphic ward small) (decimal_graphic number other)
+
+pub place_word : (ward number : ℕ) → ward < 2 ^ 64 → number < 2 ^ 64 → words_of (place_text ward number) ≡ Some (place_text ward number ∷ [])
+place_word ward number small other =
+    one_word (place_text ward number) (place_graphic ward number small other) (omega (arith, length-append (decimal ward) (47 ∷ decimal number)))
+
+pub place_told : (ward number ward' number' : ℕ) → ward < 2 ^ 64 → number < 2 ^ 64 → ward' < 2 ^ 64 → number' < 2 ^ 64 → place_text ward number ≡ place_text ward' number' → (ward ≡ ward') × (number ≡ number')
+place_told ward number ward' number' w n w' n' same =
+    let parts : decimal ward ∷ decimal number ∷ [] ≡ decimal ward' ∷ decimal number' ∷ [] = sym (parts_at-place ward number w n) ∙ ap (parts_at 47) same ∙ parts_at-place ward' number' w' n' in
+    let wards : decimal ward ≡ decimal ward' = cc in
+    let numbers : decimal number ≡ decimal number' = cc in
+    (decimal_injective ward ward' w w' wards, decimal_injective number number' n n' numbers)
+
+-- ---- prefixes
+
+bits_graphic : (bits : List Bool) → list_all is_ascii_graphic (map bit_digit bits) ≡ true
+bits_graphic [] = refl
+bits_graphic (true ∷ bits) = bits_graphic bits
+bits_graphic (false ∷ bits) = bits_graphic bits
+
+pub prefix_word : (bits : List Bool) → words_of (prefix_text bits) ≡ Some (prefix_text bits ∷ [])
+prefix_word [] = one_word (prefix_text []) refl (omega arith)
+prefix_word (bit ∷ bits) = one_word (prefix_text (bit ∷ bits)) (bits_graphic (bit ∷ bits)) (omega arith)
+
+bit_told : (bit other : Bool) → bit_digit bit ≡ bit_digit other → bit ≡ other
+bit_told true true same = refl
+bit_told true false same = absurd (omega (arith, same))
+bit_told false true same = absurd (omega (arith, same))
+bit_told false false same = refl
+
+bits_told : (bits others : List Bool) → map bit_digit bits ≡ map bit_digit others → bits ≡ others
+bits_told [] [] same = refl
+bits_told [] (other ∷ others) same = cc
+bits_told (bit ∷ bits) [] same = cc
+bits_told (bit ∷ bits) (other ∷ others) same =
+    let first : bit_digit bit ≡ bit_digit other = cc in
+    let rest : map bit_digit bits ≡ map bit_digit others = cc in
+    let e = bit_told bit other first in
+    let es = bits_told bits others rest in
+    cc
+
+no_dash : (bit : Bool) → 45 ≡ bit_digit bit → ⊥
+no_dash true same = omega (arith, same)
+no_dash false same = omega (arith, same)
+
+pub prefix_told : (bits others : List Bool) → prefix_text bits ≡ prefix_text others → bits ≡ others
+prefix_told [] [] same = refl
+prefix_told [] (other ∷ others) same = let dash : 45 ≡ bit_digit other = ap (λ text. get_or text 0 0) same in absurd (no_dash other dash)
+prefix_told (bit ∷ bits) [] same = let dash : bit_digit bit ≡ 45 = ap (λ text. get_or text 0 0) same in absurd (no_dash bit (sym dash))
+prefix_told (bit ∷ bits) (other ∷ others) same = bits_told (bit ∷ bits) (other ∷ others) same

@@ -1,11 +1,12 @@
 //! What holds of words and of printing, for all bytes. Each function does nothing.
 
-ghost use Rattle.std.specs.Prelude.{◌≡◌, ◌≢◌, ◌<◌, ◌≤◌, ◌^◌, ℕ, List, [], ◌∷◌, ◌++◌, length, All, decimal};
+ghost use Rattle.std.specs.Prelude.{◌≡◌, ◌≢◌, ◌<◌, ◌≤◌, ◌^◌, ℕ, Bool, List, [], ◌∷◌, ◌++◌, length, All, decimal};
 ghost use Rattle.std.specs.List.{join_with_byte};
+ghost use Rattle.exh_prefix.specs.Prefix.{prefix_text};
 ghost use Rattle.exh_text.specs.ByteWord.{bytes_of_word};
 ghost use Rattle.exh_text.specs.Lines.{lines_of, newline, space, words_of};
 ghost use Rattle.exh_text.specs.Numbers.{number_up_to};
-ghost use Rattle.exh_text.specs.Printing.{printed};
+ghost use Rattle.exh_text.specs.Printing.{place_text, printed};
 
 /// A newline parts lines, and bytes without one are a line where there are some. So empty lines are skipped, and the last
 /// line may lack its newline.
@@ -31,4 +32,17 @@ pub fn numbers_are_decimal()
 pub fn printed_is_read()
     ensures bytes { (bytes : List ℕ) → All (λ byte. byte < 256) bytes → bytes_of_word (printed bytes) ≡ Some bytes }
     ensures word { (bytes : List ℕ) → All (λ byte. byte < 256) bytes → words_of (printed bytes) ≡ Some (printed bytes ∷ []) }
+{}
+
+/// What is printed of a place is one word, and tells its two numbers.
+pub fn printed_places_are_told()
+    ensures word { (ward number : ℕ) → ward < 2 ^ 64 → number < 2 ^ 64 → words_of (place_text ward number) ≡ Some (place_text ward number ∷ []) }
+    ensures told { (ward number ward' number' : ℕ) → ward < 2 ^ 64 → number < 2 ^ 64 → ward' < 2 ^ 64 → number' < 2 ^ 64 →
+        place_text ward number ≡ place_text ward' number' → (ward ≡ ward') × (number ≡ number') }
+{}
+
+/// What is printed of a prefix is one word, and tells its bits.
+pub fn printed_prefixes_are_told()
+    ensures word { (bits : List Bool) → words_of (prefix_text bits) ≡ Some (prefix_text bits ∷ []) }
+    ensures told { (bits others : List Bool) → prefix_text bits ≡ prefix_text others → bits ≡ others }
 {}

@@ -3,7 +3,10 @@
 #![tactic(auto)]
 
 pub use byte_word::{ByteWord, parse_key, parse_pair};
-pub use laws::{newlines_part_lines, numbers_are_decimal, printed_is_read, spaces_part_words};
+pub use laws::{
+    newlines_part_lines, numbers_are_decimal, printed_is_read, printed_places_are_told,
+    printed_prefixes_are_told, spaces_part_words,
+};
 pub use line_fault::LineFault;
 pub use lines::{Lines, split_words};
 pub use number::{parse_u32, parse_u32_after, parse_u64};
