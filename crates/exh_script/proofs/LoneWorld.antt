@@ -17,21 +17,21 @@ use Rattle.exh_page.specs.Page.{low_bound}
 use Rattle.exh_page.specs.declared.page.Page.{Page}
 use Rattle.exh_page.specs.declared.page.Page.TheVariants.{Live}
 use Rattle.exh_page.specs.declared.record.Record.{Record}
-use Rattle.exh_ward.specs.Call.{key_of}
-use Rattle.exh_ward.specs.HopTable.{overflows, hop_of, pages_after}
-use Rattle.exh_ward.specs.LonePage.{IsOwn}
-use Rattle.exh_ward.specs.MapMachine.{reply_of}
-use Rattle.exh_ward.specs.PageAnswer.{records_after}
-use Rattle.exh_ward.specs.Pages.{map_of, ward_prefix}
-use Rattle.exh_ward.specs.WardState.{IsSound}
-use Rattle.exh_ward.specs.declared.call.Call.{Call}
-use Rattle.exh_ward.specs.declared.hop.Hop.{Hop}
-use Rattle.exh_ward.specs.declared.hop.Hop.TheVariants.{Done, MustSplit}
-use Rattle.exh_ward.specs.declared.journal_entry.JournalEntry.{JournalEntry}
-use Rattle.exh_ward.proofs.Answered.{sound_after, sound_new, map_of-lone, overflows_by_map, room_from_no_overflow}
-use Rattle.exh_ward.proofs.HopFunction.{overflows-true}
-use Rattle.exh_ward.proofs.LoneHop.{pages_after-lone}
-use Rattle.exh_ward.proofs.PageMap.{reply_of-page}
+use Rattle.exh_lone.specs.Call.{key_of}
+use Rattle.exh_lone.specs.HopTable.{overflows, hop_of, pages_after}
+use Rattle.exh_lone.specs.LonePage.{IsOwn}
+use Rattle.exh_lone.specs.MapMachine.{reply_of}
+use Rattle.exh_lone.specs.PageAnswer.{records_after}
+use Rattle.exh_lone.specs.Pages.{map_of, ward_prefix}
+use Rattle.exh_lone.specs.WardState.{IsSound}
+use Rattle.exh_lone.specs.declared.call.Call.{Call}
+use Rattle.exh_lone.specs.declared.hop.Hop.{Hop}
+use Rattle.exh_lone.specs.declared.hop.Hop.TheVariants.{Done, MustSplit}
+use Rattle.exh_lone.specs.declared.journal_entry.JournalEntry.{JournalEntry}
+use Rattle.exh_lone.proofs.Answered.{sound_after, sound_new, map_of-lone, overflows_by_map, room_from_no_overflow}
+use Rattle.exh_lone.proofs.HopFunction.{overflows-true}
+use Rattle.exh_lone.proofs.LoneHop.{pages_after-lone}
+use Rattle.exh_lone.proofs.PageMap.{reply_of-page}
 use Rattle.exh_script.specs.InFlight.{Requests}
 use Rattle.exh_script.specs.Answer.{hop_answer, step_answer}
 use Rattle.exh_script.specs.Replies.{turns_from, world_left, DoesNotStray}

@@ -5,14 +5,14 @@ use Rattle.exh_prefix.specs.Bits.{bits_of}
 use Rattle.exh_prefix.specs.Prefix.{Begins}
 use Rattle.exh_keyer.specs.declared.any_keyer.AnyKeyer.{AnyKeyer}
 use Rattle.exh_keyer.specs.Pseudokey.{any_pseudokey}
-use Rattle.exh_ward.specs.HopTable.{HopOf}
-use Rattle.exh_ward.specs.Pages.{ward_prefix}
-use Rattle.exh_ward.specs.WardState.{WardState, LeavesAfter}
-use Rattle.exh_ward.specs.declared.hop.Hop.{Hop}
-use Rattle.exh_ward.specs.declared.hop.Hop.TheVariants.{Done, Moved, MustSplit, Stray}
-use Rattle.exh_ward.specs.declared.journal_entry.JournalEntry.{JournalEntry}
+use Rattle.exh_lone.specs.HopTable.{HopOf}
+use Rattle.exh_lone.specs.Pages.{ward_prefix}
+use Rattle.exh_lone.specs.WardState.{WardState, LeavesAfter}
+use Rattle.exh_lone.specs.declared.hop.Hop.{Hop}
+use Rattle.exh_lone.specs.declared.hop.Hop.TheVariants.{Done, Moved, MustSplit, Stray}
+use Rattle.exh_lone.specs.declared.journal_entry.JournalEntry.{JournalEntry}
 use Rattle.exh_page.specs.declared.page.Page.{Page}
-use Rattle.exh_ward.proofs.HopFunction.{hop_is_hop_of}
+use Rattle.exh_lone.proofs.HopFunction.{hop_is_hop_of}
 use Rattle.exh_script.specs.InFlight.{Requests, request_named, requests_after}
 use Rattle.exh_script.specs.World.{WorldState, hop_in, hop_result, ward_after, after_hop_to, after_hop}
 use Rattle.exh_script.specs.declared.in_flight.Request.{Request}

@@ -5,12 +5,12 @@ use Rattle.std.specs.Option.{option_map_or}
 use Rattle.exh_keyer.specs.declared.any_keyer.AnyKeyer.{AnyKeyer}
 use Rattle.exh_keyer.specs.Pseudokey.{any_pseudokey}
 use Rattle.exh_page.specs.declared.page.Page.TheVariants.{Live}
-use Rattle.exh_ward.specs.HopTable.{hop_of, pages_after}
-use Rattle.exh_ward.specs.Pages.{ward_prefix}
-use Rattle.exh_ward.specs.WardState.{WardState}
-use Rattle.exh_ward.specs.declared.call.Call.{Call}
-use Rattle.exh_ward.specs.declared.hop.Hop.{Hop as HopOutcome}
-use Rattle.exh_ward.specs.declared.hop.Hop.TheVariants.{Done, Moved, MustSplit, Stray}
+use Rattle.exh_lone.specs.HopTable.{hop_of, pages_after}
+use Rattle.exh_lone.specs.Pages.{ward_prefix}
+use Rattle.exh_lone.specs.WardState.{WardState}
+use Rattle.exh_lone.specs.declared.call.Call.{Call}
+use Rattle.exh_lone.specs.declared.hop.Hop.{Hop as HopOutcome}
+use Rattle.exh_lone.specs.declared.hop.Hop.TheVariants.{Done, Moved, MustSplit, Stray}
 use Rattle.exh_script.specs.InFlight.{Requests, request_named, requests_after}
 use Rattle.exh_script.specs.declared.line.FileLine.{FileLine}
 use Rattle.exh_script.specs.declared.line.Line.{Line}

@@ -6,7 +6,7 @@ use crate::step::{Outcome, StepRefusal};
 use crate::{FileLine, InFlight, Line};
 use exh_keyer::AnyKeyer;
 use exh_page::PageNo;
-use exh_ward::{Call, Ward, WardFault};
+use exh_lone::{Call, Ward, WardFault};
 use std::alloc::{AllocError, Global};
 use std::marker::Model;
 
@@ -21,7 +21,7 @@ pub(crate) struct World {
 impl Model for World {
     ghost use Rattle.std.specs.Prelude.{◌≡◌};
     ghost use Rattle.std.specs.Coded.{codes};
-    ghost use Rattle.exh_ward.specs.KeyMap.{coded_key_map};
+    ghost use Rattle.exh_lone.specs.KeyMap.{coded_key_map};
     ghost use Rattle.exh_script.specs.World.{WorldState};
 
     ghost Value = { WorldState };

@@ -1,7 +1,9 @@
-pub mod PageMap
-pub mod Linked
-pub mod Answered
-pub mod OwnPrefix
-pub mod LoneHop
-pub mod Seen
 pub mod HopFunction
+pub mod Histories
+pub mod StoredPages
+pub mod IndexSeen
+pub mod Sharing
+pub mod RecordCount
+pub mod LeadingBits
+pub mod Home
+pub mod HomeAfter

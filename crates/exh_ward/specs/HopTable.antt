@@ -16,6 +16,7 @@ use Rattle.exh_ward.specs.declared.call.Call.{Call}
 use Rattle.exh_ward.specs.declared.call.Call.TheVariants.{Put}
 use Rattle.exh_ward.specs.declared.hop.Hop.{Hop}
 use Rattle.exh_ward.specs.declared.hop.Hop.TheVariants.{Done, Moved, MustSplit, Stray}
+use Rattle.exh_ward.specs.declared.reply.Reply.{Reply}
 
 -- the page is there, and its low bound isn't above the pseudokey
 pub record IsReached (pages : List Page) (at pseudokey : ℕ) (page : Page) : Type 0 where
@@ -61,6 +62,6 @@ hop_of cap pseudo pages at call =
 
 -- ---- the pages after an answer: the call's home has its records after the call
 
-unfoldable pub pages_after : (List ℕ → ℕ) → List Page → ℕ → Call → List Page
-pages_after pseudo pages at call =
-    option_map_or (λ page. slice_set pages at (with_records (records_after (pseudo (key_of call)) call (records_of page)) page)) (slice_get pages at) pages
+unfoldable pub pages_after : (List ℕ → ℕ) → List Page → ℕ → Call → Reply → List Page
+pages_after pseudo pages at call reply =
+    option_map_or (λ page. slice_set pages at (with_records (records_after (pseudo (key_of call)) call reply (records_of page)) page)) (slice_get pages at) pages

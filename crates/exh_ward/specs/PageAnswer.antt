@@ -1,5 +1,5 @@
 -- What a call's home page answers it, and the records that it keeps.
-use Rattle.std.specs.Prelude.{◌≡◌, ℕ, ◌<◌, ◌≤◌, false, List, length, Option, None}
+use Rattle.std.specs.Prelude.{◌≡◌, ℕ, ◌<◌, ◌≤◌, Bool, nat_le, List, length, Option, None}
 use Rattle.exh_prefix.specs.declared.prefix.TheConstants.{LIMIT}
 use Rattle.exh_page.specs.declared.page.Page.{Page}
 use Rattle.exh_page.specs.declared.page.Page.TheVariants.{Live}
@@ -9,18 +9,28 @@ use Rattle.exh_ward.specs.MapMachine.{get_reply, put_reply, del_reply}
 use Rattle.exh_ward.specs.declared.call.Call.{Call}
 use Rattle.exh_ward.specs.declared.call.Call.TheVariants.{Get, Put, Del}
 use Rattle.exh_ward.specs.declared.reply.Reply.{Reply}
+use Rattle.exh_ward.specs.declared.reply.Reply.TheVariants.{Full}
 
--- the reply, by the value that the page has for the key
-abbrev pub page_reply : Call → Option (List ℕ) → Reply
-page_reply (Get key) value = get_reply value
-page_reply (Put key new) value = put_reply false value
-page_reply (Del key) value = del_reply value
+-- the reply, by whether the page is full and the value that it has for the key
+abbrev pub page_reply : Bool → Call → Option (List ℕ) → Reply
+page_reply full (Get key) value = get_reply value
+page_reply full (Put key new) value = put_reply full value
+page_reply full (Del key) value = del_reply value
 
--- the records after the call
-abbrev pub records_after : ℕ → Call → List Record → List Record
-records_after pseudokey (Get key) records = records
-records_after pseudokey (Put key value) records = with_record (record { pseudokey = pseudokey; key = key; value = value }) records
-records_after pseudokey (Del key) records = without_place (pseudokey, key) records
+-- the reply of a page of at most so many records
+abbrev pub reply_at : ℕ → ℕ → Call → List ℕ → List Record → Reply
+reply_at cap pseudokey call key records = page_reply (nat_le cap (length records)) call (value_at (pseudokey, key) records)
+
+-- the records after the call, where it wasn't turned away
+abbrev pub records_written : ℕ → Call → List Record → List Record
+records_written pseudokey (Get key) records = records
+records_written pseudokey (Put key value) records = with_record (record { pseudokey = pseudokey; key = key; value = value }) records
+records_written pseudokey (Del key) records = without_place (pseudokey, key) records
+
+-- the records after the call that was answered so
+abbrev pub records_after : ℕ → Call → Reply → List Record → List Record
+records_after pseudokey call Full records = records
+records_after pseudokey call reply records = records_written pseudokey call records
 
 -- a put of a key that the page lacks, where it is full and shorter than LIMIT
 abbrev pub OverflowsPage : ℕ → ℕ → Page → Call → Type 0

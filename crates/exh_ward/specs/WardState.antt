@@ -1,11 +1,15 @@
--- A ward as a value, and what a hop leaves of it.
-use Rattle.std.specs.Prelude.{◌≡◌, ℕ, Bool, List, ◌++◌, ◌∷◌, []}
+-- A ward as a value, and what its steps leave of it.
+use Rattle.std.specs.Prelude.{◌≡◌, ⊤, ℕ, ◌<◌, Bool, List, ◌++◌, ◌∷◌, []}
+use Rattle.exh_notice.specs.declared.notice.Notice.{Notice}
+use Rattle.exh_table.specs.Table.{TableMap, IsTableSince, table_with}
 use Rattle.exh_page.specs.declared.page.Page.{Page}
-use Rattle.exh_ward.specs.KeyMap.{KeyMap}
+use Rattle.exh_legal.specs.KeyMap.{KeyMap}
+use Rattle.exh_legal.specs.Numbers.{AreNumbered}
+use Rattle.exh_legal.specs.Laws.{IsWard}
+use Rattle.exh_legal.specs.Pages.{map_of, ward_prefix}
 use Rattle.exh_ward.specs.History.{IsHistory, map_left}
 use Rattle.exh_ward.specs.HopTable.{pages_after}
 use Rattle.exh_ward.specs.MapMachine.{map_after}
-use Rattle.exh_ward.specs.Pages.{IsLegal, map_of, ward_prefix}
 use Rattle.exh_ward.specs.declared.journal_entry.JournalEntry.{JournalEntry}
 use Rattle.exh_ward.specs.declared.call.Call.{Call}
 use Rattle.exh_ward.specs.declared.hop.Hop.{Hop}
@@ -16,23 +20,37 @@ pub record WardState (K : Type 0) : Type 0 where
   pub pages : List Page
   pub base : KeyMap
   pub journal : List JournalEntry
+  -- the table at first, the notices since, and the table of both
+  pub start : TableMap
+  pub notices : List Notice
+  pub table : TableMap
+  -- how often a page couldn't be reached
+  pub failures : ℕ
   pub cap : ℕ
   pub ward_bits : ℕ
   pub number : ℕ
   pub keyer : K
 
--- the pages are legal, and hold the map that the journal, which is a history, leaves of the base
-pub record IsSound (cap : ℕ) (pseudo : List ℕ → ℕ) (ward : List Bool) (pages : List Page) (base : KeyMap) (journal : List JournalEntry) : Type 0 where
-  pub legal : IsLegal cap pseudo ward pages
-  pub history : IsHistory cap pseudo base journal
-  pub left : map_of pages ≡ map_left cap pseudo base journal
+abbrev pub own_prefix : {K : Type 0} → WardState K → List Bool
+own_prefix ward = ward_prefix ward.ward_bits ward.number
+
+-- the pages are a legal ward for the start table and the notices since, and the table fits them; it is that of the start and the notices;
+-- and the pages hold the map that the journal, which is a history, leaves of the base
+pub record IsSound {K : Type 0} (pseudo : List ℕ → ℕ) (ward : WardState K) : Type 0 where
+  pub legal : IsWard ward.cap pseudo (own_prefix ward) ward.start ward.notices ward.table ward.pages
+  pub since : IsTableSince ward.start ward.notices ward.table
+  pub numbered : AreNumbered ward.number ward.start ward.notices
+  pub history : IsHistory ward.cap pseudo ward.base ward.journal
+  pub left : map_of ward.pages ≡ map_left ward.cap pseudo ward.base ward.journal
 
 abbrev pub IsSoundWard : {K : Type 0} → (K → List ℕ → ℕ) → WardState K → Type 0
-IsSoundWard pseudokey_of ward = IsSound ward.cap (pseudokey_of ward.keyer) (ward_prefix ward.ward_bits ward.number) ward.pages ward.base ward.journal
+IsSoundWard pseudokey_of ward = IsSound (pseudokey_of ward.keyer) ward
+
+-- ---- hops
 
 -- an answered call changed the records of its home, so that the map is the map machine's, and is one entry more
 pub record IsAnswered {K : Type 0} (pseudokey_of : K → List ℕ → ℕ) (old : WardState K) (at client : ℕ) (call : Call) (reply : Reply) (new : WardState K) : Type 0 where
-  pub pages : new.pages ≡ pages_after (pseudokey_of old.keyer) old.pages at call
+  pub pages : new.pages ≡ pages_after (pseudokey_of old.keyer) old.pages at call reply
   pub map : map_of new.pages ≡ map_after old.cap (pseudokey_of old.keyer) (map_of old.pages) call
   pub journal : new.journal ≡ old.journal ++ record { client = client; call = call; reply = reply } ∷ []
   pub others : new ≡ record old { pages = new.pages; journal = new.journal }
@@ -43,3 +61,9 @@ LeavesAfter pseudokey_of old at client call (Done reply) new = IsAnswered pseudo
 LeavesAfter pseudokey_of old at client call (Moved next) new = new ≡ old
 LeavesAfter pseudokey_of old at client call MustSplit new = new ≡ old
 LeavesAfter pseudokey_of old at client call Stray new = new ≡ old
+
+-- ---- refusals
+
+-- nothing but the count of failures differs
+abbrev pub IsUnchanged : {K : Type 0} → WardState K → WardState K → Type 0
+IsUnchanged old new = new ≡ record old { failures = new.failures }

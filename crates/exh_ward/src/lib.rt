@@ -7,7 +7,6 @@ pub use hop::Hop;
 pub use journal_entry::JournalEntry;
 pub use laws::{histories_go_on, history_is_determined, one_hop};
 pub use reply::Reply;
-pub use ward::{WARD_BITS_LIMIT, Ward};
 pub use ward_fault::WardFault;
 
 mod answer;
@@ -16,8 +15,7 @@ mod call;
 mod hop;
 mod journal_entry;
 mod laws;
+mod page_index;
 mod reply;
-#[cfg(test)]
-mod tests;
-mod ward;
+mod sight;
 mod ward_fault;

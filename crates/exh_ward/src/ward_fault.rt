@@ -1,24 +1,47 @@
 ghost use Rattle.std.specs.Prelude.{◌≡◌};
+ghost use Rattle.exh_frames.specs.declared.pages_fault.PagesFault.{PagesFault};
+ghost use Rattle.exh_ward.specs.WardFault.{fault_of, fault_number};
 ghost use Rattle.exh_ward.specs.declared.ward_fault.WardFault.TheVariants.{Memory};
 
+use exh_frames::PagesFault;
 use std::alloc::AllocError;
 use thiserror::Error;
 
 /// Why a ward refused a step (exhash profile). It is as it was before the step.
 #[derive(Clone, Copy, Debug, PartialEq, Eq, Error)]
 pub enum WardFault {
+    /// There is no page of this number: number 1.
+    #[error("no such page")]
+    NoPage,
+    /// The page sends callers on: number 3.
+    #[error("the page isn't live")]
+    NotLive,
+    /// The page has fewer records than a page may: number 4.
+    #[error("the page isn't full")]
+    NotFull,
+    /// The page's prefix has no children: number 5.
+    #[error("the page's prefix has the greatest length")]
+    AtLimit,
     /// A growth was refused: number 10.
     #[error("out of memory")]
     Memory,
+    /// A page couldn't be reached, which the ward's store has counted: number 11.
+    #[error("a page is out of reach")]
+    Page,
 }
 
 impl WardFault {
     /// The refusal's number among all refusals (exhash profile).
     pub fn number(self) -> u8
-        ensures { self ≡ WardFault.Memory → result ≡ 10 }
+        ensures { result ≡ fault_number self }
     {
         match self {
+            WardFault::NoPage => 1,
+            WardFault::NotLive => 3,
+            WardFault::NotFull => 4,
+            WardFault::AtLimit => 5,
             WardFault::Memory => 10,
+            WardFault::Page => 11,
         }
     }
 }
@@ -28,5 +51,16 @@ impl From<AllocError> for WardFault {
 
     fn from(_error: AllocError) -> WardFault {
         WardFault::Memory
+    }
+}
+
+impl From<PagesFault> for WardFault {
+    ghost from_gives = { λ error fault. fault ≡ fault_of error };
+
+    fn from(error: PagesFault) -> WardFault {
+        match error {
+            PagesFault::Memory => WardFault::Memory,
+            PagesFault::Page => WardFault::Page,
+        }
     }
 }

@@ -3,9 +3,9 @@ use Rattle.std.specs.Prelude.{◌==◌}
 use Rattle.std.specs.FinMap.{empty}
 use Rattle.std.proofs.lemmas.Bool.{leb-true, eqb-true}
 use Rattle.exh_keyer.specs.Pseudokey.{any_pseudokey}
-use Rattle.exh_ward.specs.History.{IsHistory, map_left}
-use Rattle.exh_ward.specs.Pages.{map_of}
-use Rattle.exh_ward.specs.declared.journal_entry.JournalEntry.{JournalEntry}
+use Rattle.exh_lone.specs.History.{IsHistory, map_left}
+use Rattle.exh_lone.specs.Pages.{map_of}
+use Rattle.exh_lone.specs.declared.journal_entry.JournalEntry.{JournalEntry}
 use Rattle.exh_script.specs.Grammar.{file_line_of}
 use Rattle.exh_text.specs.Lines.{lines_of}
 use Rattle.exh_script.specs.Replies.{RepliesAsMap, PrintsAs}

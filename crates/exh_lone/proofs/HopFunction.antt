@@ -1,0 +1,93 @@
+-- The hop table as a relation gives what it gives as a function.
+use Rattle.std.proofs.Common.{◌≡◌, ℕ, suc, Bool, true, false, not, ◌&&◌, List, [], ◌∷◌, length, take, slice_get, Option, Some, None, refl, sym, ap, ◌∙◌, arith, inl, inr}
+use Rattle.std.specs.FinMap as map
+use Rattle.std.specs.Option.{is_some}
+use Rattle.std.proofs.lemmas.Bool.{leb-true, le-leb, lt-leb, cases_lt, false_from_ne_true}
+use Rattle.exh_prefix.specs.declared.prefix.TheConstants.{LIMIT}
+use Rattle.exh_prefix.specs.Bits.{word_bits}
+use Rattle.exh_prefix.specs.Prefix.{Begins, begins}
+use Rattle.exh_prefix.specs.PrefixLemmas.{is_front-true, not_front}
+use Rattle.exh_page.specs.declared.page.Page.{Page}
+use Rattle.exh_page.specs.declared.page.Page.TheVariants.{Live, Forward}
+use Rattle.exh_page.specs.Page.{low_bound}
+use Rattle.exh_lone.specs.Call.{key_of}
+use Rattle.exh_lone.specs.KeyMap.{KeyMap}
+use Rattle.exh_lone.specs.MapMachine.{reply_of}
+use Rattle.exh_lone.specs.Pages.{IsHome, map_of}
+use Rattle.exh_lone.specs.HopTable.{overflows, hop_at, hop_of, IsReached, LeadsTo, Overflows, HopOf}
+use Rattle.exh_lone.specs.declared.call.Call.{Call}
+use Rattle.exh_lone.specs.declared.call.Call.TheVariants.{Get, Put, Del}
+use Rattle.exh_lone.specs.declared.hop.Hop.{Hop}
+use Rattle.exh_lone.specs.declared.hop.Hop.TheVariants.{Done, Moved, MustSplit, Stray}
+
+-- ---- tests
+
+and_true : (a b : Bool) → (a && b) ≡ true → (a ≡ true) × (b ≡ true)
+and_true true b is = (refl, is)
+and_true false b is = cc
+
+-- ---- overflow
+
+no_key : (m : KeyMap) (key : List ℕ) → map.get m key ≡ None → map.contains_key m key ≡ false
+no_key m key none = ap is_some none
+
+key_absent : {T : Type 0} (o : Option T) → not (is_some o) ≡ true → o ≡ None
+key_absent None is = refl
+key_absent (Some x) is = cc
+
+pub overflows-true : (cap : ℕ) (m : KeyMap) (page : Page) (call : Call) → Overflows cap m page call → overflows cap m page call ≡ true
+overflows-true cap m (Live prefix right records) (Put key value) over =
+    rw (no_key m key over.0, le-leb cap (length records) over.1, le-leb (suc (length prefix)) LIMIT over.2) refl
+overflows-true cap m (Live prefix right records) (Get key) over = absurd over
+overflows-true cap m (Live prefix right records) (Del key) over = absurd over
+overflows-true cap m (Forward low target) call over = absurd over
+
+pub Overflows-from_test : (cap : ℕ) (m : KeyMap) (page : Page) (call : Call) → overflows cap m page call ≡ true → Overflows cap m page call
+Overflows-from_test cap m (Live prefix right records) (Put key value) is =
+    let first = and_true _ _ is in
+    let second = and_true _ _ first.1 in
+    (key_absent (map.get m key) first.0, leb-true _ _ second.0, leb-true _ _ second.1)
+Overflows-from_test cap m (Live prefix right records) (Get key) is = cc
+Overflows-from_test cap m (Live prefix right records) (Del key) is = cc
+Overflows-from_test cap m (Forward low target) call is = cc
+
+no_overflow : (cap : ℕ) (m : KeyMap) (page : Page) (call : Call) → (Overflows cap m page call → ⊥) → overflows cap m page call ≡ false
+no_overflow cap m page call none = false_from_ne_true _ (λ is. none (Overflows-from_test cap m page call is))
+
+-- ---- the table
+
+module _ (cap : ℕ) (pseudo : List ℕ → ℕ) (pages : List Page) (at : ℕ) (call : Call) where
+  -- a page that is reached decides
+  at_reached : (page : Page) → IsReached pages at (pseudo (key_of call)) page → hop_of cap pseudo pages at call ≡ hop_at cap pseudo pages call page
+  unfolding hop_of
+  at_reached page reached = rw (reached.there, lt-leb (suc (pseudo (key_of call))) (low_bound page) (omega (arith, reached.below))) refl
+
+  leads : (page : Page) (next : ℕ) → LeadsTo page (pseudo (key_of call)) next → hop_at cap pseudo pages call page ≡ Moved next
+  leads (Forward low target) next is = ap Moved is
+  leads (Live prefix right records) next is = rw (not_front prefix (word_bits (pseudo (key_of call))) is.0, is.1) refl
+
+  splits : (page : Page) → IsHome page (pseudo (key_of call)) → Overflows cap (map_of pages) page call → hop_at cap pseudo pages call page ≡ MustSplit
+  splits (Forward low target) home over = absurd home
+  splits (Live prefix right records) home over =
+      rw (is_front-true prefix (word_bits (pseudo (key_of call))) home, overflows-true cap (map_of pages) (Live prefix right records) call over) refl
+
+  answers : (page : Page) → IsHome page (pseudo (key_of call)) → (Overflows cap (map_of pages) page call → ⊥) → hop_at cap pseudo pages call page ≡ Done (reply_of cap pseudo (map_of pages) call)
+  answers (Forward low target) home none = absurd home
+  answers (Live prefix right records) home none =
+      rw (is_front-true prefix (word_bits (pseudo (key_of call))) home, no_overflow cap (map_of pages) (Live prefix right records) call none) refl
+
+  -- where no page is reached
+  strays_at : (found : Option Page) → slice_get pages at ≡ found → ((page : Page) → IsReached pages at (pseudo (key_of call)) page → ⊥) → Stray ≡ hop_of cap pseudo pages at call
+  unfolding hop_of
+  strays_at None is none = rw is refl
+  strays_at (Some page) is none =
+      elim (cases_lt (pseudo (key_of call)) (low_bound page)) [
+        | inl before ↦ rw (is, le-leb (suc (pseudo (key_of call))) (low_bound page) before) refl
+        | inr reached ↦ absurd (none page (record { there = is; below = reached }))
+      ]
+
+  pub hop_is_hop_of : (hop : Hop) → HopOf cap pseudo pages at call hop → hop ≡ hop_of cap pseudo pages at call
+  hop_is_hop_of Stray is = strays_at (slice_get pages at) refl is
+  hop_is_hop_of (Moved next) is = sym (at_reached is.0 is.1 ∙ leads is.0 next is.2)
+  hop_is_hop_of MustSplit is = sym (at_reached is.0 is.1 ∙ splits is.0 is.2 is.3)
+  hop_is_hop_of (Done reply) is = ap Done is.4 ∙ sym (at_reached is.0 is.1 ∙ answers is.0 is.2 is.3)

@@ -1,0 +1,38 @@
+-- Laws of the hop table and of histories, that the crates above cite.
+use Rattle.std.specs.Prelude.{◌≡◌, ℕ, List, [], ◌∷◌, ◌++◌, map}
+use Rattle.exh_page.specs.declared.page.Page.{Page}
+use Rattle.exh_lone.specs.KeyMap.{KeyMap}
+use Rattle.exh_lone.specs.MapMachine.{reply_of, map_after}
+use Rattle.exh_lone.specs.History.{IsHistory, map_left}
+use Rattle.exh_lone.specs.HopTable.{HopOf}
+use Rattle.exh_lone.specs.declared.call.Call.{Call}
+use Rattle.exh_lone.specs.declared.hop.Hop.{Hop}
+use Rattle.exh_lone.specs.declared.journal_entry.JournalEntry.{JournalEntry}
+use Rattle.exh_lone.specs.declared.reply.Reply.{Reply}
+
+-- a call at a page comes to one outcome at most, whatever the pages
+abbrev pub OneHop : Type 0
+OneHop = (cap : ℕ) (pseudo : List ℕ → ℕ) (pages : List Page) (at : ℕ) (call : Call) (one other : Hop)
+    → HopOf cap pseudo pages at call one → HopOf cap pseudo pages at call other → one ≡ other
+
+-- one entry more, whose reply is the map machine's over the map left, makes a history whose map is the map machine's
+pub record IsLonger (cap : ℕ) (pseudo : List ℕ → ℕ) (base : KeyMap) (journal : List JournalEntry) (entry : JournalEntry) : Type 0 where
+  pub history : IsHistory cap pseudo base (journal ++ entry ∷ [])
+  pub left : map_left cap pseudo base (journal ++ entry ∷ []) ≡ map_after cap pseudo (map_left cap pseudo base journal) entry.call
+
+abbrev pub HistoriesGoOn : Type 0
+HistoriesGoOn = (cap : ℕ) (pseudo : List ℕ → ℕ) (base : KeyMap) (journal : List JournalEntry) (entry : JournalEntry)
+    → IsHistory cap pseudo base journal → entry.reply ≡ reply_of cap pseudo (map_left cap pseudo base journal) entry.call
+    → IsLonger cap pseudo base journal entry
+
+abbrev pub calls_of : List JournalEntry → List Call
+calls_of journal = map (λ entry. entry.call) journal
+
+abbrev pub replies_of : List JournalEntry → List Reply
+replies_of journal = map (λ entry. entry.reply) journal
+
+-- histories of the same calls from one base have the same replies, and leave the same map
+abbrev pub HistoryIsDetermined : Type 0
+HistoryIsDetermined = (cap : ℕ) (pseudo : List ℕ → ℕ) (base : KeyMap) (one other : List JournalEntry)
+    → IsHistory cap pseudo base one → IsHistory cap pseudo base other → calls_of one ≡ calls_of other
+    → (replies_of one ≡ replies_of other) × (map_left cap pseudo base one ≡ map_left cap pseudo base other)

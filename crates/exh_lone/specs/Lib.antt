@@ -1,0 +1,10 @@
+pub mod KeyMap
+pub mod Call
+pub mod MapMachine
+pub mod History
+pub mod Pages
+pub mod HopTable
+pub mod PageAnswer
+pub mod LonePage
+pub mod WardState
+pub mod Laws

@@ -1,0 +1,20 @@
+//! What holds of the hop table and of all histories, for the proofs of callers. Each function does
+//! nothing.
+
+ghost use Rattle.exh_lone.specs.Laws.{OneHop, HistoriesGoOn, HistoryIsDetermined};
+
+/// A call at a page comes to one outcome at most, for any list of pages.
+pub fn one_hop()
+    ensures { OneHop }
+{}
+
+/// A history goes on with the map machine's reply over the map that it leaves, and then leaves the
+/// map machine's map.
+pub fn histories_go_on()
+    ensures { HistoriesGoOn }
+{}
+
+/// The calls of a history decide its replies and the map that it leaves.
+pub fn history_is_determined()
+    ensures { HistoryIsDetermined }
+{}

@@ -1,0 +1,17 @@
+use exh_page::Value;
+
+/// What a call is answered (exhash profile).
+#[derive(Clone, Copy, Debug, PartialEq, Eq)]
+pub enum Reply {
+    /// The value of the key asked for.
+    Is(Value),
+    /// The key has no value, and none is given to it.
+    None,
+    /// The key was absent, and has the value now.
+    New,
+    /// The value that the key had, which is replaced or taken out.
+    Was(Value),
+    /// The key is absent and stays so: as many keys as a page holds share the `LIMIT` leading bits
+    /// of its pseudokey.
+    Full,
+}

@@ -1,0 +1,141 @@
+-- A call at its home page: what is answered, and what is left.
+use Rattle.std.proofs.Common.{◌≡◌, ℕ, ◌<◌, ◌≤◌, ◌^◌, Bool, true, false, not, cond, leb, List, [], ◌∷◌, length, find, slice_get, Option, None, Some, ◌⊎◌, inl, inr, refl, sym, ap, ◌∙◌, subst, arith, nat_cmp, ◌==◌}
+use Rattle.std.specs.Prelude.{slice_set}
+use Rattle.std.specs.FinMap as fin
+use Rattle.std.specs.List.{AllByRecursion, flat_map}
+use Rattle.std.specs.Option.{option_map, option_map_or}
+use Rattle.std.specs.Ordering.{is_eq, eq_by_cmp}
+use Rattle.std.specs.Cmp.Lexicographic.{slice_cmp}
+use Rattle.std.proofs.lemmas.Bool.{cases_eq, cases_lt, cases_Bool, le-leb, lt-leb, eqb-true, eq-eqb, false_from_ne_true, true≢false}
+use Rattle.std.proofs.lemmas.Cmp.{nat_list_cmp_total, eq_by_cmp_equiv}
+use Rattle.exh_prefix.specs.declared.prefix.TheConstants.{LIMIT}
+use Rattle.exh_prefix.specs.Bits.{word_bits}
+use Rattle.exh_prefix.specs.Prefix.{Begins, begins, IsFront}
+use Rattle.exh_prefix.specs.PrefixLemmas.{is_front-true, IsFront-from_test}
+use Rattle.exh_page.specs.declared.page.Page.{Page}
+use Rattle.exh_page.specs.declared.page.Page.TheVariants.{Live}
+use Rattle.exh_page.specs.declared.record.Record.{Record}
+use Rattle.exh_page.specs.Page.{AreRecordsOf, records_of, with_records}
+use Rattle.exh_page.specs.Place.{Place, place_cmp, place_of}
+use Rattle.exh_page.specs.Records.{is_at, value_at, with_record, without_place}
+use Rattle.exh_page.specs.RecordsLemmas.{place_cmp-total, AllByRecursion-filter, IsRising-filter, IsRising-with_record}
+use Rattle.exh_page.specs.Values.{value_at-with_record, value_at-without_place, AllByRecursion-with_record, length-with_record_old, length-with_record_le, length-without_place}
+use Rattle.exh_legal.specs.KeyMap.{KeyMap}
+use Rattle.exh_legal.specs.Pages.{map_of, IsAt, IsHome, IsLegalPage, IsLegal, AreLinked, bare}
+use Rattle.exh_legal.specs.BareLemmas.{bare_at}
+use Rattle.exh_legal.specs.MapLemmas.{map_of_records, AreHashed, place_of_key, same_test, same_maps, get-map_of, get-map_of_pages, get-map_of_records, found_at, found_alike, none_of_others, none_elsewhere, page_at, all_pages}
+use Rattle.exh_ward.specs.Call.{key_of}
+use Rattle.exh_ward.specs.MapMachine.{leading, sharing, is_full, get_reply, put_reply, del_reply, put_leaves, reply_of, map_after}
+use Rattle.exh_ward.specs.PageAnswer.{page_reply, records_written, records_after, OverflowsPage}
+use Rattle.exh_ward.specs.declared.call.Call.{Call}
+use Rattle.exh_ward.specs.declared.call.Call.TheVariants.{Get, Put, Del}
+use Rattle.exh_ward.specs.declared.reply.Reply.{Reply}
+use Rattle.exh_ward.specs.declared.reply.Reply.TheVariants.{Is, None as Absent, New, Was, Full}
+use Rattle.exh_ward.proofs.StoredPages.{set_here, set_else, bare_set}
+use Rattle.exh_ward.proofs.Sharing.{shares, sharing_same, sharing_all, sharing-le}
+use Rattle.exh_ward.proofs.RecordCount.{len-map_of_records-le, len-map_of_records}
+use Rattle.exh_ward.proofs.LeadingBits.{begins_by-sharing, shared_begins}
+
+-- a key and the key of a test, the other way round
+pub same_test_turned : (pseudo : List ℕ → ℕ) (one other : List ℕ) → is_eq (place_cmp (place_of_key pseudo one) (place_of_key pseudo other)) ≡ eq_by_cmp (slice_cmp nat_cmp) one other
+same_test_turned pseudo one other = (eq_by_cmp_equiv place_cmp-total).symm (place_of_key pseudo one) (place_of_key pseudo other) ∙ sym (same_test pseudo one other)
+
+abbrev pub IsPut : Call → Type 0
+IsPut (Put k v) = Unit {0}
+IsPut (Get k) = ⊥
+IsPut (Del k) = ⊥
+
+-- every pseudokey is a number of 64 bits
+abbrev pub Fit : (List ℕ → ℕ) → Type 0
+Fit pseudo = (key : List ℕ) → pseudo key < 2 ^ 64
+
+-- what a call at its home goes by
+pub record AtHome (cap : ℕ) (pseudo : List ℕ → ℕ) (ward : List Bool) (pages : List Page) (at : ℕ) (prefix : List Bool) (link : Option ℕ) (records : List Record) (call : Call) : Type 0 where
+  pub legal : IsLegal cap pseudo ward pages
+  pub there : IsAt pages at (Live prefix link records)
+  pub home : Begins prefix (pseudo (key_of call))
+  pub none : OverflowsPage cap (pseudo (key_of call)) (Live prefix link records) call → ⊥
+
+module _ {cap : ℕ} {pseudo : List ℕ → ℕ} {ward : List Bool} {pages : List Page} {at : ℕ} {prefix : List Bool} {link : Option ℕ} {records : List Record} {call : Call} (fit : Fit pseudo) (is : AtHome cap pseudo ward pages at prefix link records call) where
+  abbrev m : KeyMap
+  m = map_of pages
+
+  abbrev key : List ℕ
+  key = key_of call
+
+  abbrev full : Bool
+  full = leb cap (length records)
+
+  pub page_legal : AreRecordsOf pseudo prefix records × (length records ≤ cap)
+  page_legal = page_at (IsLegalPage cap pseudo) pages at _ is.legal.each is.there
+
+  short : length prefix ≤ LIMIT
+  short = (is.legal.linked.within at _ (bare_at pages at _ is.there)).1
+
+  -- what the map has at a key that the prefix begins is what the page has
+  get_at : (other : List ℕ) → Begins prefix (pseudo other) → fin.get m other ≡ value_at (place_of_key pseudo other) records
+  get_at other begins = get-map_of cap pseudo ward pages at _ other is.legal is.there begins
+
+  pub get_key : fin.get m key ≡ value_at (place_of_key pseudo key) records
+  get_key = get_at key is.home
+
+  -- ---- the reply
+
+  shared_home : (other : List ℕ) → shares pseudo key other ≡ true → Begins prefix (pseudo other)
+  shared_home other same = shared_begins prefix (pseudo key) (pseudo other) short (fit key) (fit other) is.home (eqb-true _ _ same)
+
+  sharing_here : sharing pseudo m key ≡ sharing pseudo (map_of_records records) key
+  sharing_here = sharing_same pseudo key m (map_of_records records) (λ q same. get_at q (shared_home q same) ∙ sym (get-map_of_records pseudo records q page_legal.0.hashed))
+
+  sharing_few : sharing pseudo m key ≤ length records
+  sharing_few = omega (arith, sharing_here, sharing-le pseudo key (map_of_records records), len-map_of_records-le records)
+
+  -- where the prefix is as long as can be all records share
+  sharing_most : length prefix ≡ LIMIT → sharing pseudo m key ≡ length records
+  sharing_most long =
+      sharing_here
+      ∙ sharing_all pseudo key (map_of_records records) (λ q apart.
+      get-map_of_records pseudo records q page_legal.0.hashed
+      ∙ ap (option_map (λ r. r.value)) (none_of_others prefix (place_of_key pseudo q) records page_legal.0.begun
+      (λ begins. let same = eq-eqb _ _ ((begins_by-sharing prefix (pseudo key) (pseudo q) long (fit key) (fit q) is.home).0 begins) in true≢false (sym same ∙ apart))))
+      ∙ len-map_of_records pseudo records page_legal.0.rising page_legal.0.hashed
+
+  -- a put of a new key finds the page full exactly where the map machine turns it away
+  pub full_alike : (value_at (place_of_key pseudo key) records ≡ None) → (cap ≤ length records → length prefix ≡ LIMIT) → full ≡ is_full cap pseudo m key
+  full_alike absent limit = elim (cases_lt (length records) cap) [
+    | inl room ↦ lt-leb cap (length records) room ∙ sym (lt-leb cap (sharing pseudo m key) (omega (arith, sharing_few, room)))
+    | inr few ↦ le-leb cap (length records) few ∙ sym (le-leb cap (sharing pseudo m key) (omega (arith, sharing_most (limit few), few)))
+  ]
+
+  -- the reply of the page is the map machine's
+  reply_alike : (call : Call) (value : Option (List ℕ)) → (value ≡ None → full ≡ is_full cap pseudo m (key_of call)) → fin.get m (key_of call) ≡ value
+      → page_reply full call value ≡ reply_of cap pseudo m call
+  reply_alike (Get k) value alike found = ap get_reply (sym found)
+  reply_alike (Del k) value alike found = ap del_reply (sym found)
+  reply_alike (Put k v) (Some old) alike found = ap (put_reply (is_full cap pseudo m k)) (sym found)
+  reply_alike (Put k v) None alike found = ap (λ full. put_reply full None) (alike refl) ∙ ap (put_reply (is_full cap pseudo m k)) (sym found)
+
+  -- a full page at which a put of a new key doesn't overflow has a prefix as long as can be
+  pub at_limit : (call : Call) → (OverflowsPage cap (pseudo (key_of call)) (Live prefix link records) call → ⊥) → value_at (place_of_key pseudo (key_of call)) records ≡ None → IsPut call → cap ≤ length records → length prefix ≡ LIMIT
+  at_limit (Put k v) none absent put few = elim (cases_lt (length prefix) LIMIT) [
+    | inl shorter ↦ absurd (none (few, shorter, absent))
+    | inr long ↦ omega (arith, long, short)
+  ]
+  at_limit (Get k) none absent put few = absurd put
+  at_limit (Del k) none absent put few = absurd put
+
+  decide_put : (call : Call) → IsPut call ⊎ (IsPut call → ⊥)
+  decide_put (Put k v) = inl tt
+  decide_put (Get k) = inr (λ put. put)
+  decide_put (Del k) = inr (λ put. put)
+
+  not_put_reply : (call : Call) (value : Option (List ℕ)) → (IsPut call → ⊥) → fin.get m (key_of call) ≡ value → page_reply full call value ≡ reply_of cap pseudo m call
+  not_put_reply (Get k) value not found = ap get_reply (sym found)
+  not_put_reply (Del k) value not found = ap del_reply (sym found)
+  not_put_reply (Put k v) value not found = absurd (not tt)
+
+  pub reply_is : page_reply full call (value_at (place_of_key pseudo key) records) ≡ reply_of cap pseudo m call
+  reply_is = elim (decide_put call) [
+    | inl put ↦ reply_alike call _ (λ absent. full_alike absent (at_limit call is.none absent put)) get_key
+    | inr not ↦ not_put_reply call _ not get_key
+  ]

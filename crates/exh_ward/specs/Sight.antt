@@ -1,0 +1,29 @@
+-- What a call meets at a page.
+use Rattle.std.specs.Prelude.{◌≡◌, ℕ, ◌<◌, ◌≤◌, nat_le, Bool, List, length, None}
+use Rattle.exh_prefix.specs.Prefix.{Begins}
+use Rattle.exh_page.specs.declared.page.Page.{Page}
+use Rattle.exh_page.specs.declared.page.Page.TheVariants.{Live}
+use Rattle.exh_page.specs.declared.record.Record.{Record}
+use Rattle.exh_page.specs.Page.{low_bound, records_of}
+use Rattle.exh_ward.specs.HopTable.{IsReached, LeadsTo}
+use Rattle.exh_ward.specs.PageAnswer.{OverflowsPage}
+use Rattle.exh_ward.specs.Pages.{IsAt, IsHome}
+use Rattle.exh_ward.specs.declared.call.Call.{Call}
+use Rattle.exh_ward.specs.declared.sight.Sight.{Sight}
+use Rattle.exh_ward.specs.declared.sight.Sight.TheVariants.{Beyond, Leads, NoWay, Overflows, Home}
+
+-- a live page that isn't the pseudokey's home, and has no right link
+abbrev pub IsDeadEnd : Page → ℕ → Type 0
+IsDeadEnd page pseudokey = (prefix : List Bool) × (records : List Record) × (page ≡ Live prefix None records) × (Begins prefix pseudokey → ⊥)
+
+abbrev pub SightOf : ℕ → ℕ → Page → Call → Sight → Type 0
+SightOf cap pseudokey page call Beyond = pseudokey < low_bound page
+SightOf cap pseudokey page call (Leads next) = (low_bound page ≤ pseudokey) × LeadsTo page pseudokey next
+SightOf cap pseudokey page call NoWay = (low_bound page ≤ pseudokey) × IsDeadEnd page pseudokey
+SightOf cap pseudokey page call Overflows = (low_bound page ≤ pseudokey) × IsHome page pseudokey × OverflowsPage cap pseudokey page call
+SightOf cap pseudokey page call (Home full) = (low_bound page ≤ pseudokey) × IsHome page pseudokey × (OverflowsPage cap pseudokey page call → ⊥) × (full ≡ nat_le cap (length (records_of page)))
+
+-- of a page number
+abbrev pub SightIn : ℕ → ℕ → List Page → ℕ → Call → Sight → Type 0
+SightIn cap pseudokey pages at call Beyond = (page : Page) → IsReached pages at pseudokey page → ⊥
+SightIn cap pseudokey pages at call sight = (page : Page) × IsAt pages at page × SightOf cap pseudokey page call sight
