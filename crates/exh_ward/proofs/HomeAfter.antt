@@ -1,12 +1,12 @@
 -- What a call at its home page leaves of the pages.
-use Rattle.std.proofs.Common.{◌≡◌, ℕ, ◌<◌, ◌≤◌, ◌^◌, Bool, true, false, cond, leb, List, [], ◌∷◌, length, find, slice_get, Option, None, Some, ◌⊎◌, inl, inr, refl, sym, ap, ◌∙◌, subst, arith, nat_cmp}
+use Rattle.std.proofs.Common.{◌≡◌, ℕ, ◌<◌, ◌≤◌, ◌^◌, Bool, true, false, cond, leb, List, [], ◌∷◌, length, find, slice_get, Option, None, Some, ◌⊎◌, ◌↔◌, IsTrue, inl, inr, refl, sym, ap, ◌∙◌, subst, arith, nat_cmp}
 use Rattle.std.specs.Prelude.{slice_set}
 use Rattle.std.specs.FinMap as fin
 use Rattle.std.specs.List.{AllByRecursion, flat_map}
 use Rattle.std.specs.Option.{option_map, option_map_or}
 use Rattle.std.specs.Ordering.{is_eq, eq_by_cmp}
 use Rattle.std.specs.Cmp.Lexicographic.{slice_cmp}
-use Rattle.std.proofs.lemmas.Bool.{cases_eq, cases_Bool, leb-false, false_from_ne_true}
+use Rattle.std.proofs.lemmas.Bool.{cases_eq, cases_Bool, leb-false, false_from_ne_true, false≢true}
 use Rattle.std.proofs.lemmas.Cmp.{nat_list_cmp_total}
 use Rattle.std.proofs.lemmas.Map.Lookups.{exact_bytes}
 use Rattle.exh_prefix.specs.Bits.{word_bits}
@@ -46,6 +46,13 @@ records_after-left k (Del key) full (Some v) records = refl
 records_after-left k (Put key new) full (Some old) records = refl
 records_after-left k (Put key new) true None records = refl
 records_after-left k (Put key new) false None records = refl
+
+-- a put that isn't turned away leaves its record
+pub put_left : (k : ℕ) (key new : List ℕ) (full : Bool) (value : Option (List ℕ)) (records : List Record) (away : Bool) → away ≡ false → (IsTrue away ↔ (IsTrue full × (value ≡ None)))
+    → left_by k (Put key new) full value records ≡ with_record (record { pseudokey = k; key = key; value = new }) records
+put_left k key new full (Some old) records away not is = refl
+put_left k key new true None records away not is = absurd (false≢true (sym not ∙ is.1 (refl, refl)))
+put_left k key new false None records away not is = refl
 
 -- a page with the records that a call leaves is legal
 legal_left : (cap : ℕ) (pseudo : List ℕ → ℕ) (prefix : List Bool) (records : List Record) (call : Call) (full : Bool) (value : Option (List ℕ)) → AreRecordsOf pseudo prefix records × (length records ≤ cap)

@@ -7,3 +7,8 @@ pub mod RecordCount
 pub mod LeadingBits
 pub mod Home
 pub mod HomeAfter
+pub mod OwnPrefix
+pub mod KeptSteps
+pub mod Sights
+pub mod AnswerSteps
+pub mod NewWard

@@ -1,10 +1,12 @@
 -- What a call's home page answers it, and the records that it keeps.
-use Rattle.std.specs.Prelude.{◌≡◌, ℕ, ◌<◌, ◌≤◌, Bool, nat_le, List, length, Option, None}
+use Rattle.std.specs.Prelude.{◌≡◌, ℕ, ◌<◌, ◌≤◌, Bool, List, length, Option, None}
 use Rattle.exh_prefix.specs.declared.prefix.TheConstants.{LIMIT}
 use Rattle.exh_page.specs.declared.page.Page.{Page}
 use Rattle.exh_page.specs.declared.page.Page.TheVariants.{Live}
 use Rattle.exh_page.specs.declared.record.Record.{Record}
 use Rattle.exh_page.specs.Records.{value_at, with_record, without_place}
+use Rattle.exh_page.specs.Page.{records_of}
+use Rattle.exh_ward.specs.Call.{key_of}
 use Rattle.exh_ward.specs.MapMachine.{get_reply, put_reply, del_reply}
 use Rattle.exh_ward.specs.declared.call.Call.{Call}
 use Rattle.exh_ward.specs.declared.call.Call.TheVariants.{Get, Put, Del}
@@ -17,9 +19,9 @@ page_reply full (Get key) value = get_reply value
 page_reply full (Put key new) value = put_reply full value
 page_reply full (Del key) value = del_reply value
 
--- the reply of a page of at most so many records
-abbrev pub reply_at : ℕ → ℕ → Call → List ℕ → List Record → Reply
-reply_at cap pseudokey call key records = page_reply (nat_le cap (length records)) call (value_at (pseudokey, key) records)
+-- what a page replies
+abbrev pub reply_by : Bool → ℕ → Call → Page → Reply
+reply_by full pseudokey call page = page_reply full call (value_at (pseudokey, key_of call) (records_of page))
 
 -- the records after the call, where it wasn't turned away
 abbrev pub records_written : ℕ → Call → List Record → List Record

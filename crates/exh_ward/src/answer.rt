@@ -2,8 +2,7 @@ ghost use Rattle.std.specs.Prelude.{◌≡◌, ◌<◌, ◌↔◌, IsTrue, lengt
 ghost use Rattle.exh_frames.specs.PageStore.{CountsFaults, IfPage, TakesTheSame};
 ghost use Rattle.exh_page.specs.Page.{IsLive, records_of, with_records};
 ghost use Rattle.exh_page.specs.Records.{value_at};
-ghost use Rattle.exh_ward.specs.Call.{key_of};
-ghost use Rattle.exh_ward.specs.PageAnswer.{page_reply, records_after, records_written};
+ghost use Rattle.exh_ward.specs.PageAnswer.{reply_by, records_after};
 
 use crate::{Call, Reply};
 use exh_frames::{Pages, PagesFault};
@@ -19,8 +18,8 @@ pub(crate) fn answer<P: Pages>(
 ) -> Result<Reply, PagesFault>
     requires there { at < length (P.pages store.old) }
     requires live { IfPage (P.pages store.old) at IsLive }
-    requires taken { IfPage (P.pages store.old) at (λ page. P.takes store.old (with_records (records_written pseudokey call.now (records_of page)) page)) }
-    ensures reply { IfOk result (λ reply. IfPage (P.pages store.old) at (λ page. reply ≡ page_reply full call.now (value_at (pseudokey, key_of call.now) (records_of page)))) }
+    requires taken { IfPage (P.pages store.old) at (λ page. P.takes store.old (with_records (records_after pseudokey call.now (reply_by full pseudokey call.now page) (records_of page)) page)) }
+    ensures reply { IfOk result (λ reply. IfPage (P.pages store.old) at (λ page. reply ≡ reply_by full pseudokey call.now page)) }
     ensures pages { IfOk result (λ reply. IfPage (P.pages store.old) at (λ page. P.pages store.new ≡ slice_set (P.pages store.old) at (with_records (records_after pseudokey call.now reply (records_of page)) page))) }
     ensures err { OnErr result (P.pages store.new ≡ P.pages store.old) }
     ensures failures { CountsFaults result (P.failures store.old) (P.failures store.new) }

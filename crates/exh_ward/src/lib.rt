@@ -7,6 +7,7 @@ pub use hop::Hop;
 pub use journal_entry::JournalEntry;
 pub use laws::{histories_go_on, history_is_determined, one_hop};
 pub use reply::Reply;
+pub use ward::{WARD_BITS_LIMIT, Ward, first_page};
 pub use ward_fault::WardFault;
 
 mod answer;
@@ -18,4 +19,5 @@ mod laws;
 mod page_index;
 mod reply;
 mod sight;
+mod ward;
 mod ward_fault;

@@ -1,0 +1,132 @@
+-- An answer at a call's home, as a ward's fields have it.
+use Rattle.std.proofs.Common.{◌≡◌, ℕ, ◌-◌, ◌<◌, ◌≤◌, ◌^◌, Bool, leb, List, [], ◌∷◌, ◌++◌, length, slice_get, Option, Some, refl, sym, ap, ◌∙◌, subst, arith}
+use Rattle.std.specs.Prelude.{slice_set}
+use Rattle.std.proofs.Math.Pow.{pow_mono}
+use Rattle.exh_prefix.specs.declared.prefix.TheConstants.{LIMIT}
+use Rattle.exh_prefix.specs.BitLemmas.{length-bits_of}
+use Rattle.exh_prefix.specs.Prefix.{low_of}
+use Rattle.exh_page.specs.declared.page.Page.{Page}
+use Rattle.exh_page.specs.declared.page.Page.TheVariants.{Live}
+use Rattle.exh_page.specs.declared.record.Record.{Record}
+use Rattle.exh_page.specs.Page.{records_of, with_records}
+use Rattle.exh_page.specs.Records.{value_at}
+use Rattle.exh_legal.specs.Laws.{PagesAreFew}
+use Rattle.exh_legal.specs.MapLemmas.{place_of_key}
+use Rattle.exh_legal.specs.Pages.{map_of, IsAt}
+use Rattle.exh_ward.specs.Call.{key_of}
+use Rattle.exh_ward.specs.HopTable.{HopOf, pages_after}
+use Rattle.exh_ward.specs.Kept.{IsKept}
+use Rattle.exh_ward.specs.MapMachine.{reply_of, map_after}
+use Rattle.exh_ward.specs.PageAnswer.{reply_by, page_reply, records_after}
+use Rattle.exh_ward.specs.PageIndex.{IndexMap}
+use Rattle.exh_ward.specs.Sight.{SightIn}
+use Rattle.exh_ward.specs.WardState.{WardState, IsAnswered, own_prefix}
+use Rattle.exh_ward.specs.declared.call.Call.{Call}
+use Rattle.exh_ward.specs.declared.hop.Hop.TheVariants.{Done}
+use Rattle.exh_ward.specs.declared.journal_entry.JournalEntry.{JournalEntry}
+use Rattle.exh_ward.specs.declared.reply.Reply.{Reply}
+use Rattle.exh_ward.specs.declared.sight.Sight.TheVariants.{Home}
+use Rattle.exh_ward.proofs.Home.{AtHome, Fit, reply_is}
+use Rattle.exh_ward.proofs.HomeAfter.{left_by, records_after-left, left_legal, new_map}
+use Rattle.exh_ward.proofs.KeptSteps.{well_formed}
+use Rattle.exh_ward.proofs.Sights.{same_there, answers_at, hop_done}
+
+-- a ward's pages have numbers of 32 bits, with one to spare
+pub few_pages : {K : Type 0} {pseudo : List ℕ → ℕ} {takes : Page → Type 0} {own : List Bool} {index : IndexMap} {told : ℕ} {w : WardState K} → PagesAreFew → IsKept pseudo takes own index told w → length w.pages < 2 ^ 32 - 1
+few_pages {w = w} law kept =
+    let len : length (own_prefix w) ≡ w.ward_bits = length-bits_of w.ward_bits w.number in
+    let most = law (own_prefix w) w.pages (omega (arith, len, kept.bits)) kept.sound.legal.legal.legal.linked in
+    let room : 2 ^ (LIMIT - length (own_prefix w)) ≤ 2 ^ LIMIT = pow_mono {i = LIMIT - length (own_prefix w)} {j = LIMIT} (omega arith) in
+    omega (arith, most, room)
+
+-- where the count of failures is as it was
+pub same_failures : {K : Type 0} (w : WardState K) (pages : List Page) (journal : List JournalEntry) (failures : ℕ) → failures ≡ w.failures
+    → (let after : WardState K = record w { pages = pages; journal = journal; failures = failures } in after) ≡ record w { pages = pages; journal = journal }
+same_failures {K = K} w pages journal failures same = ap (λ failures. let after : WardState K = record w { pages = pages; journal = journal; failures = failures } in after) same
+
+-- what an answering hop goes by: the call's home, written out
+pub record Answers {K : Type 0} (pseudo : List ℕ → ℕ) (w : WardState K) (at : ℕ) (call : Call) (pseudokey : ℕ) (full : Bool) : Type 0 where
+  pub prefix : List Bool
+  pub link : Option ℕ
+  pub records : List Record
+  pub home : AtHome w.cap pseudo (own_prefix w) w.pages at prefix link records call
+  pub below : low_of prefix ≤ pseudo (key_of call)
+  pub full_is : full ≡ leb w.cap (length records)
+  pub hashed : pseudokey ≡ pseudo (key_of call)
+
+pub answers_here : {K : Type 0} (pseudokey_of : K → List ℕ → ℕ) {takes : Page → Type 0} {own : List Bool} {index : IndexMap} {told : ℕ} {w now : WardState K} → w ≡ now → IsKept (pseudokey_of w.keyer) takes own index told w → (at : ℕ) (call : Call) (pseudokey : ℕ) (full : Bool)
+    → pseudokey ≡ pseudokey_of now.keyer (key_of call) → SightIn now.cap pseudokey now.pages at call (Home full) → Answers (pseudokey_of w.keyer) w at call pseudokey full
+answers_here {K = K} pseudokey_of {w = w} {now = now} seen kept at call pseudokey full hashed sight =
+    let P : WardState K → Type 0 = λ w. SightIn w.cap pseudokey w.pages at call (Home full) in
+    let Q : WardState K → Type 0 = λ w. pseudokey ≡ pseudokey_of w.keyer (key_of call) in
+    let hashed_w = subst Q (sym seen) hashed in
+    let R : ℕ → Type 0 = λ k. SightIn w.cap k w.pages at call (Home full) in
+    let found = answers_at kept.sound.legal.legal.legal at call full (subst R hashed_w (subst P (sym seen) sight)) in
+    record { prefix = found.0; link = found.1; records = found.2; home = found.3; below = found.4; full_is = found.5; hashed = hashed_w }
+
+module _ {K : Type 0} {pseudo : List ℕ → ℕ} {takes : Page → Type 0} {own : List Bool} {index : IndexMap} {told : ℕ} {w : WardState K} (fit : Fit pseudo) (kept : IsKept pseudo takes own index told w) {at : ℕ} {call : Call} {pseudokey : ℕ} {full : Bool}
+    (answers : Answers pseudo w at call pseudokey full) where
+  abbrev page : Page
+  page = Live answers.prefix answers.link answers.records
+
+  abbrev left : List Record
+  left = left_by (pseudo (key_of call)) call (leb w.cap (length answers.records)) (value_at (place_of_key pseudo (key_of call)) answers.records) answers.records
+
+  -- the page as the store writes it
+  written : with_records (records_after pseudokey call (reply_by full pseudokey call page) answers.records) page ≡ Live answers.prefix answers.link left
+  written =
+      ap (λ k. Live answers.prefix answers.link (records_after k call (page_reply full call (value_at (k, key_of call) answers.records)) answers.records)) answers.hashed
+      ∙ ap (λ full. Live answers.prefix answers.link (records_after (pseudo (key_of call)) call (page_reply full call (value_at (pseudo (key_of call), key_of call) answers.records)) answers.records)) answers.full_is
+      ∙ ap (Live answers.prefix answers.link) (records_after-left (pseudo (key_of call)) call (leb w.cap (length answers.records)) (value_at (pseudo (key_of call), key_of call) answers.records) answers.records)
+
+  there_is : (other : Page) → IsAt w.pages at other → other ≡ page
+  there_is other is = same_there w.pages at other page is answers.home.there
+
+  pub written_taken : length w.pages < 2 ^ 32 - 1 → (other : Page) → IsAt w.pages at other → takes (with_records (records_after pseudokey call (reply_by full pseudokey call other) (records_of other)) other)
+  written_taken few other is =
+      let formed = well_formed w.pages kept.sound.legal.legal.legal.linked few kept.most at answers.prefix answers.link answers.records left answers.home.there (left_legal fit answers.home) in
+      let P : Page → Type 0 = λ other. takes (with_records (records_after pseudokey call (reply_by full pseudokey call other) (records_of other)) other) in
+      subst P (sym (there_is other is)) (subst takes (sym written) (kept.takes_all _ formed))
+
+  pub replied : (reply : Reply) → ((other : Page) → IsAt w.pages at other → reply ≡ reply_by full pseudokey call other) → reply ≡ reply_of w.cap pseudo (map_of w.pages) call
+  replied reply by_page =
+      by_page page answers.home.there
+      ∙ ap (λ k. page_reply full call (value_at (k, key_of call) answers.records)) answers.hashed
+      ∙ ap (λ full. page_reply full call (value_at (pseudo (key_of call), key_of call) answers.records)) answers.full_is
+      ∙ reply_is fit answers.home
+
+  pub pages_are : (reply : Reply) (pages : List Page) → ((other : Page) → IsAt w.pages at other → reply ≡ reply_by full pseudokey call other)
+      → ((other : Page) → IsAt w.pages at other → pages ≡ slice_set w.pages at (with_records (records_after pseudokey call reply (records_of other)) other)) → pages ≡ slice_set w.pages at (Live answers.prefix answers.link left)
+  pages_are reply pages by_page by_store =
+      by_store page answers.home.there
+      ∙ ap (λ reply. slice_set w.pages at (with_records (records_after pseudokey call reply answers.records) page)) (by_page page answers.home.there)
+      ∙ ap (slice_set w.pages at) written
+
+  pub after_is : (reply : Reply) (pages : List Page) → ((other : Page) → IsAt w.pages at other → pages ≡ slice_set w.pages at (with_records (records_after pseudokey call reply (records_of other)) other)) → pages ≡ pages_after pseudo w.pages at call reply
+  unfolding pages_after
+  after_is reply pages by_store =
+      by_store page answers.home.there
+      ∙ ap (λ k. slice_set w.pages at (with_records (records_after k call reply answers.records) page)) answers.hashed
+      ∙ rw answers.home.there refl
+
+  pub map_is : (pages : List Page) → pages ≡ slice_set w.pages at (Live answers.prefix answers.link left) → map_of pages ≡ map_after w.cap pseudo (map_of w.pages) call
+  map_is pages is = ap map_of is ∙ new_map fit answers.home
+
+  pub hop_is_done : (reply : Reply) → reply ≡ reply_of w.cap pseudo (map_of w.pages) call → HopOf w.cap pseudo w.pages at call (Done reply)
+  hop_is_done reply is = hop_done kept.sound.legal.legal.legal at call fit answers.prefix answers.link answers.records reply answers.home answers.below is
+
+-- an answer, as the ward is seen
+pub answered_seen : {K : Type 0} (pseudokey_of : K → List ℕ → ℕ) {takes : Page → Type 0} {own : List Bool} {index : IndexMap} {told : ℕ} {w now : WardState K} → w ≡ now → Fit (pseudokey_of w.keyer) → IsKept (pseudokey_of w.keyer) takes own index told w
+    → {at : ℕ} {call : Call} {pseudokey : ℕ} {full : Bool} → Answers (pseudokey_of w.keyer) w at call pseudokey full → (client : ℕ) (reply : Reply) (pages : List Page) (journal : List JournalEntry) (failures : ℕ)
+    → ((other : Page) → IsAt w.pages at other → reply ≡ reply_by full pseudokey call other)
+    → ((other : Page) → IsAt w.pages at other → pages ≡ slice_set w.pages at (with_records (records_after pseudokey call reply (records_of other)) other))
+    → journal ≡ w.journal ++ record { client = client; call = call; reply = reply } ∷ [] → failures ≡ w.failures
+    → IsAnswered pseudokey_of now at client call reply (record w { pages = pages; journal = journal; failures = failures })
+answered_seen {K = K} pseudokey_of {w = w} {now = now} seen fit kept {at = at} {call = call} answers client reply pages journal failures by_page by_store pushed same =
+    let P : WardState K → Type 0 = λ old. IsAnswered pseudokey_of old at client call reply (record w { pages = pages; journal = journal; failures = failures }) in
+    subst P seen (record {
+      pages = after_is fit kept answers reply pages by_store;
+      map = map_is fit kept answers pages (pages_are fit kept answers reply pages by_page by_store);
+      journal = pushed;
+      others = same_failures w pages journal failures same;
+    })
