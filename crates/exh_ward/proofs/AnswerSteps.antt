@@ -31,13 +31,17 @@ use Rattle.exh_ward.proofs.HomeAfter.{left_by, records_after-left, left_legal, n
 use Rattle.exh_ward.proofs.KeptSteps.{well_formed}
 use Rattle.exh_ward.proofs.Sights.{same_there, answers_at, hop_done}
 
+pub most_pages : {K : Type 0} {pseudo : List ℕ → ℕ} {takes : Page → Type 0} {own : List Bool} {index : IndexMap} {told : ℕ} {w : WardState K} → PagesAreFew → IsKept pseudo takes own index told w → length w.pages ≤ 2 ^ (LIMIT - w.ward_bits)
+most_pages {w = w} law kept =
+    let len : length (own_prefix w) ≡ w.ward_bits = length-bits_of w.ward_bits w.number in
+    let P : ℕ → Type 0 = λ n. length w.pages ≤ 2 ^ (LIMIT - n) in
+    subst P len (law (own_prefix w) w.pages (omega (arith, len, kept.bits)) kept.sound.legal.legal.legal.linked)
+
 -- a ward's pages have numbers of 32 bits, with one to spare
 pub few_pages : {K : Type 0} {pseudo : List ℕ → ℕ} {takes : Page → Type 0} {own : List Bool} {index : IndexMap} {told : ℕ} {w : WardState K} → PagesAreFew → IsKept pseudo takes own index told w → length w.pages < 2 ^ 32 - 1
 few_pages {w = w} law kept =
-    let len : length (own_prefix w) ≡ w.ward_bits = length-bits_of w.ward_bits w.number in
-    let most = law (own_prefix w) w.pages (omega (arith, len, kept.bits)) kept.sound.legal.legal.legal.linked in
-    let room : 2 ^ (LIMIT - length (own_prefix w)) ≤ 2 ^ LIMIT = pow_mono {i = LIMIT - length (own_prefix w)} {j = LIMIT} (omega arith) in
-    omega (arith, most, room)
+    let room : 2 ^ (LIMIT - w.ward_bits) ≤ 2 ^ LIMIT = pow_mono {i = LIMIT - w.ward_bits} {j = LIMIT} (omega arith) in
+    omega (arith, most_pages law kept, room)
 
 -- where the count of failures is as it was
 pub same_failures : {K : Type 0} (w : WardState K) (pages : List Page) (journal : List JournalEntry) (failures : ℕ) → failures ≡ w.failures

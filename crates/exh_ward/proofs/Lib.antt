@@ -12,3 +12,5 @@ pub mod KeptSteps
 pub mod Sights
 pub mod AnswerSteps
 pub mod NewWard
+pub mod HalvesSteps
+pub mod ChangeSteps

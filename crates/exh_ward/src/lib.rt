@@ -13,6 +13,7 @@ pub use ward_fault::WardFault;
 mod answer;
 mod base;
 mod call;
+mod halves;
 mod hop;
 mod journal_entry;
 mod laws;

@@ -1,0 +1,9 @@
+use Rattle.std.proofs.Common.{refl}
+use Rattle.exh_ward.proofs.KeptSteps.{kept_read}
+use Rattle.exh_ward.proofs.ward.Ward.page.Goals as goal
+
+pub invariant_of-self : goal.invariant_of-self
+invariant_of-self g c = kept_read c.self.invariant _ c.get.ensures.takes _ _ _ c.get.ensures.pages refl
+
+pub invariant_of-self-2 : goal.invariant_of-self-2
+invariant_of-self-2 g c = kept_read c.self.invariant _ c.get.ensures.takes _ _ _ c.get.ensures.pages refl
