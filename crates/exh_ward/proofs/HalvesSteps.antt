@@ -49,12 +49,12 @@ counts_same (Err Memory) cap page old new refused same = same
 counts_same (Err OutOfReach) cap page old new refused same = absurd refused
 
 -- a page of pages without records is one with them
-full_page_of : (pages : List Page) (low number : ℕ) → IsPageOf (bare pages) low number → IsPageOf pages low number
+pub full_page_of : (pages : List Page) (low number : ℕ) → IsPageOf (bare pages) low number → IsPageOf pages low number
 full_page_of pages low number is =
     let full = at_bare pages number is.0 is.1 in
     (full.0, full.1, sym (bare_low full.0) ∙ sym (ap low_bound full.2) ∙ is.2)
 
-bare_page_of : (pages : List Page) (low number : ℕ) → IsPageOf pages low number → IsPageOf (bare pages) low number
+pub bare_page_of : (pages : List Page) (low number : ℕ) → IsPageOf pages low number → IsPageOf (bare pages) low number
 bare_page_of pages low number is = (with_records [] is.0, bare_at pages number is.0 is.1, bare_low is.0 ∙ is.2)
 
 not_forward : (pages : List Page) (number low target : ℕ) (page : Page) → IsAt pages number page → IsLive page → IsAt pages number (Forward low target) → ⊥

@@ -13,4 +13,5 @@ pub mod Sights
 pub mod AnswerSteps
 pub mod NewWard
 pub mod HalvesSteps
+pub mod TableSince
 pub mod ChangeSteps

@@ -1,0 +1,10 @@
+use Rattle.std.proofs.Common.{subst}
+use Rattle.exh_prefix.specs.Prefix.{Begins}
+use Rattle.exh_legal.specs.Laws.{NamesHome}
+use Rattle.exh_ward.specs.WardState.{WardState, own_prefix}
+use Rattle.exh_ward.proofs.ward.Ward.table.Goals as goal
+
+pub returns-clause-walks : goal.returns-clause-walks
+returns-clause-walks g c pseudokey small covered =
+    let P : WardState g.row.K.Denot → Type 0 = λ w. Begins (own_prefix w) pseudokey → NamesHome (own_prefix w) w.start w.notices w.table w.pages pseudokey in
+    subst P c.self.view_is (λ covered. c.walks_name_homes.ensures _ _ _ _ _ _ _ pseudokey c.self.invariant.sound.legal small covered) covered
