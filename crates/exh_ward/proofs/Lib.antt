@@ -15,3 +15,4 @@ pub mod NewWard
 pub mod HalvesSteps
 pub mod TableSince
 pub mod ChangeSteps
+pub mod SplitSteps

@@ -1,0 +1,210 @@
+-- A split of a ward's page: the pages that it leaves, and its notice.
+use Rattle.std.proofs.Common.{◌≡◌, ℕ, zero, suc, ◌+◌, ◌-◌, ◌%◌, ◌<◌, ◌≤◌, ◌^◌, Bool, true, false, List, [], ◌∷◌, ◌++◌, length, slice_get, Option, None, Some, ◌⊎◌, inl, inr, refl, sym, ap, ◌∙◌, subst, arith}
+use Rattle.std.specs.Prelude.{slice_set}
+use Rattle.std.proofs.lemmas.Bool.{cases_lt}
+use Rattle.std.proofs.lemmas.List.{length-append, length-set}
+use Rattle.std.proofs.lemmas.Option.{slice_get_within, slice_get_past}
+use Rattle.std.proofs.Math.Pow.{pow_mono}
+use Rattle.exh_prefix.specs.declared.prefix.TheConstants.{LIMIT}
+use Rattle.exh_prefix.specs.BitLemmas.{length-bits_of}
+use Rattle.exh_prefix.specs.Prefix.{low_of}
+use Rattle.exh_notice.specs.declared.entry.Kind.TheVariants.{Split}
+use Rattle.exh_notice.specs.declared.notice.Notice.{Notice}
+use Rattle.exh_table.specs.Table.{TableMap, table_with}
+use Rattle.exh_page.specs.declared.page.TheConstants.{CAP_LIMIT}
+use Rattle.exh_page.specs.declared.page.Page.{Page}
+use Rattle.exh_page.specs.declared.page.Page.TheVariants.{Live, Forward}
+use Rattle.exh_page.specs.declared.record.Record.{Record}
+use Rattle.exh_page.specs.Page.{IsLive, IsWellFormed, low_bound, begun_by}
+use Rattle.exh_legal.specs.Change.{IsForwardOf, IsSplit}
+use Rattle.exh_legal.specs.Growth.{IsLiveAt}
+use Rattle.exh_legal.specs.Laws.{IsChanged, LivePagesSplit, PagesAreFew, SplitsKeepLegal}
+use Rattle.exh_legal.specs.MapLemmas.{page_at}
+use Rattle.exh_legal.specs.Numbers.{number_at, next_notice}
+use Rattle.exh_legal.specs.Pages.{IsAt, IsLegalPage, AreLinked, bare}
+use Rattle.exh_ward.specs.SplitStep.{AreHalvesOf, IsSplitStep}
+use Rattle.exh_ward.specs.Told.{IsChangedTo, IsTold}
+use Rattle.exh_ward.specs.WardState.{WardState, IsSound, own_prefix}
+use Rattle.exh_ward.specs.declared.halves.Halves.{Halves}
+use Rattle.exh_ward.specs.declared.ward.TheConstants.{WARD_BITS_LIMIT}
+use Rattle.exh_ward.proofs.KeptSteps.{well_formed}
+use Rattle.exh_ward.proofs.StoredPages.{set_here, set_else}
+
+page_front : (front back : List Page) (place : ℕ) → place < length front → slice_get (front ++ back) place ≡ slice_get front place
+page_front [] back place within = absurd (omega arith)
+page_front (page ∷ front) back zero within = refl
+page_front (page ∷ front) back (suc place) within = page_front front back place (omega arith)
+
+page_last : (front : List Page) (page : Page) → slice_get (front ++ page ∷ []) (length front) ≡ Some page
+page_last [] page = refl
+page_last (first ∷ front) page = page_last front page
+
+-- a page of the ward, with its halves
+pub record IsHalved {K : Type 0} (w : WardState K) (at : ℕ) (halves : Halves) : Type 0 where
+  pub records : List Record
+  pub there : IsAt w.pages at (Live halves.prefix halves.link records)
+  pub full : w.cap ≤ length records
+  pub short : length halves.prefix < LIMIT
+  pub left : halves.left ≡ begun_by (halves.prefix ++ false ∷ []) records
+  pub right : halves.right ≡ begun_by (halves.prefix ++ true ∷ []) records
+
+pub halved : {K : Type 0} {w now : WardState K} → w ≡ now → (at : ℕ) (halves : Halves) → (old : Page) × IsAt now.pages at old × AreHalvesOf now.cap old halves → IsHalved w at halves
+halved {K = K} same at halves (old, is, are) =
+    let P : WardState K → Type 0 = λ w. IsHalved w at halves in
+    subst P (sym same) (record { records = are.records; there = is ∙ ap Some are.live; full = are.full; short = are.short; left = are.left; right = are.right })
+
+-- the pages after a split, with the two that it made
+pub record IsMade {K : Type 0} (w : WardState K) (at : ℕ) (prefix : List Bool) (right : ℕ) (left twin : Page) (new : List Page) : Type 0 where
+  pub split : IsSplit w.cap w.pages at prefix right new
+  pub left_at : IsAt new at left
+  pub left_live : IsLive left
+  pub twin_at : IsAt new right twin
+  pub twin_live : IsLive twin
+
+module _ {K : Type 0} {w : WardState K} {at : ℕ} {halves : Halves} (is : IsHalved w at halves) where
+  abbrev low : ℕ
+  low = low_of (halves.prefix ++ true ∷ [])
+
+  abbrev left_page : ℕ → Page
+  left_page right = Live (halves.prefix ++ false ∷ []) (Some right) (begun_by (halves.prefix ++ false ∷ []) is.records)
+
+  abbrev right_page : Page
+  right_page = Live (halves.prefix ++ true ∷ []) halves.link (begun_by (halves.prefix ++ true ∷ []) is.records)
+
+  pub live_there : (number : ℕ) × IsLiveAt w.pages halves.prefix number
+  live_there = (at, (halves.link, is.records, is.there))
+
+  pub at_within : at < length w.pages
+  at_within = slice_get_within w.pages at _ is.there
+
+  -- the pages as the ward made them
+  pub left_is : (right : ℕ) (page : Page) → page ≡ Live (halves.prefix ++ false ∷ []) (Some right) halves.left → page ≡ left_page right
+  left_is right page made = made ∙ ap (Live (halves.prefix ++ false ∷ []) (Some right)) is.left
+
+  pub right_is : (page : Page) → page ≡ Live (halves.prefix ++ true ∷ []) halves.link halves.right → page ≡ right_page
+  right_is page made = made ∙ ap (Live (halves.prefix ++ true ∷ []) halves.link) is.right
+
+  apart : (right : ℕ) → IsForwardOf w.pages low right → at ≡ right → ⊥
+  apart right forward same =
+      let both : Some (Live halves.prefix halves.link is.records) ≡ Some (Forward low forward.0) = sym is.there ∙ ap (slice_get w.pages) same ∙ forward.1 in
+      cc
+
+  -- a split that makes a forwarding page live again
+  pub revived : (right : ℕ) → IsForwardOf w.pages low right → IsSplit w.cap w.pages at halves.prefix right (slice_set (slice_set w.pages at (left_page right)) right right_page)
+  revived right forward =
+      let first = slice_set w.pages at (left_page right) in
+      let differ = apart right forward in
+      let forward_first : IsAt first right (Forward low forward.0) = set_else w.pages at right (left_page right) (λ same. differ (sym same)) ∙ forward.1 in
+      record {
+        link = halves.link;
+        records = is.records;
+        there = is.there;
+        full = is.full;
+        short = is.short;
+        left = set_else first right at right_page differ ∙ set_here w.pages at _ (left_page right) is.there;
+        right_half = set_here first right _ right_page forward_first;
+        place = inl (forward, length-set first right right_page ∙ length-set w.pages at (left_page right));
+        others = λ number else elsewhere. set_else first right number right_page elsewhere ∙ set_else w.pages at number (left_page right) else;
+      }
+
+  -- a split that makes a new page
+  pub fresh : ((number : ℕ) (page : Page) → IsAt w.pages number page → low_bound page ≡ low → ⊥) → IsSplit w.cap w.pages at halves.prefix (length w.pages) (slice_set w.pages at (left_page (length w.pages)) ++ right_page ∷ [])
+  fresh none =
+      let right = length w.pages in
+      let front = slice_set w.pages at (left_page right) in
+      let same : length front ≡ right = length-set w.pages at (left_page right) in
+      record {
+        link = halves.link;
+        records = is.records;
+        there = is.there;
+        full = is.full;
+        short = is.short;
+        left = page_front front (right_page ∷ []) at (omega (arith, same, at_within)) ∙ set_here w.pages at _ (left_page right) is.there;
+        right_half = ap (slice_get (front ++ right_page ∷ [])) (sym same) ∙ page_last front right_page;
+        place = inr (record { none = none; last = refl; more = omega (arith, length-append front (right_page ∷ []), same) });
+        others = λ number else elsewhere. elim (cases_lt number right) [
+          | inl before ↦ page_front front (right_page ∷ []) number (omega (arith, same, before)) ∙ set_else w.pages at number (left_page right) else
+          | inr after ↦
+              slice_get_past (front ++ right_page ∷ []) number (omega (arith, after, elsewhere, length-append front (right_page ∷ []), same))
+              ∙ sym (slice_get_past w.pages number (omega (arith, after)))
+        ];
+      }
+
+  -- the pages after a split, with the two that it makes
+  pub made_revived : (right : ℕ) → IsForwardOf w.pages low right → (left twin : Page) → left ≡ Live (halves.prefix ++ false ∷ []) (Some right) halves.left → twin ≡ Live (halves.prefix ++ true ∷ []) halves.link halves.right
+      → IsMade w at halves.prefix right left twin (slice_set (slice_set w.pages at left) right twin)
+  made_revived right forward left twin is_left is_twin =
+      let split = revived right forward in
+      let first = slice_set w.pages at (left_page right) in
+      let differ = apart right forward in
+      let forward_first : IsAt first right (Forward low forward.0) = set_else w.pages at right (left_page right) (λ same. differ (sym same)) ∙ forward.1 in
+      let P : Page → Type 0 = λ left. IsMade w at halves.prefix right left twin (slice_set (slice_set w.pages at left) right twin) in
+      let Q : Page → Type 0 = λ twin. IsMade w at halves.prefix right (left_page right) twin (slice_set (slice_set w.pages at (left_page right)) right twin) in
+      subst P (sym (left_is right left is_left)) (subst Q (sym (right_is twin is_twin)) (record {
+        split = split;
+        left_live = tt;
+        twin_live = tt;
+        left_at = set_else first right at right_page differ ∙ set_here w.pages at _ (left_page right) is.there;
+        twin_at = set_here first right _ right_page forward_first;
+      }))
+
+  pub made_fresh : ((number : ℕ) (page : Page) → IsAt w.pages number page → low_bound page ≡ low → ⊥) → (right : ℕ) → right ≡ length w.pages → (left twin : Page)
+      → left ≡ Live (halves.prefix ++ false ∷ []) (Some right) halves.left → twin ≡ Live (halves.prefix ++ true ∷ []) halves.link halves.right → IsMade w at halves.prefix right left twin (slice_set w.pages at left ++ twin ∷ [])
+  made_fresh none right right_last left twin is_left is_twin =
+      let last = length w.pages in
+      let front = slice_set w.pages at (left_page last) in
+      let same : length front ≡ last = length-set w.pages at (left_page last) in
+      let P : Page → Type 0 = λ left. IsMade w at halves.prefix last left twin (slice_set w.pages at left ++ twin ∷ []) in
+      let Q : Page → Type 0 = λ twin. IsMade w at halves.prefix last (left_page last) twin (slice_set w.pages at (left_page last) ++ twin ∷ []) in
+      let R : ℕ → Type 0 = λ right. IsMade w at halves.prefix right left twin (slice_set w.pages at left ++ twin ∷ []) in
+      let is_left_last = is_left ∙ ap (λ right. Live (halves.prefix ++ false ∷ []) (Some right) halves.left) right_last in
+      subst R (sym right_last) (subst P (sym (left_is last left is_left_last)) (subst Q (sym (right_is twin is_twin)) (record {
+        split = fresh none;
+        left_live = tt;
+        twin_live = tt;
+        left_at = page_front front (right_page ∷ []) at (omega (arith, same, at_within)) ∙ set_here w.pages at _ (left_page last) is.there;
+        twin_at = ap (slice_get (front ++ right_page ∷ [])) (sym same) ∙ page_last front right_page;
+      })))
+
+  module _ {pseudo : List ℕ → ℕ} (sound : IsSound pseudo w) where
+    pub number_even : LivePagesSplit → (number_at w.table halves.prefix) % 2 ≡ 0
+    number_even law = (law w.cap pseudo (own_prefix w) w.start w.notices w.table w.pages halves.prefix at sound.legal (halves.link, is.records, is.there) is.short).even
+
+    pub not_greatest : LivePagesSplit → number_at w.table halves.prefix ≡ 2 ^ 32 - 1 → ⊥
+    not_greatest law same =
+        let parity : (number_at w.table halves.prefix) % 2 ≡ 1 = ap (λ n. n % 2) same in
+        omega (arith, parity, number_even law)
+
+    module _ (law : SplitsKeepLegal) (right : ℕ) (new : List Page) (split : IsSplit w.cap w.pages at halves.prefix right new) (notice : Notice) (next : notice ≡ next_notice w.number w.table halves.prefix (Split right)) where
+      pub split_changed : IsChangedTo pseudo w notice new
+      split_changed = law w.cap pseudo (own_prefix w) w.start w.notices w.table w.pages at halves.prefix right new notice sound.legal split
+          (ap (λ (n : Notice). n.prefix) next) (ap (λ (n : Notice). n.number) next) (ap (λ (n : Notice). n.kind) next)
+
+      -- the halves are well formed
+      few_new : PagesAreFew → w.ward_bits ≤ WARD_BITS_LIMIT → length new < 2 ^ 32 - 1
+      few_new few bits =
+          let len : length (own_prefix w) ≡ w.ward_bits = length-bits_of w.ward_bits w.number in
+          let most = few (own_prefix w) new (omega (arith, len, bits)) split_changed.legal.legal.linked in
+          let room : 2 ^ (LIMIT - length (own_prefix w)) ≤ 2 ^ LIMIT = pow_mono {i = LIMIT - length (own_prefix w)} {j = LIMIT} (omega arith) in
+          omega (arith, most, room)
+
+      pub formed : PagesAreFew → w.ward_bits ≤ WARD_BITS_LIMIT → w.cap ≤ CAP_LIMIT → (number : ℕ) (page : Page) → IsAt new number page → IsLive page → IsWellFormed pseudo page
+      formed few bits cap number (Live prefix link records) there live =
+          let legal = split_changed.legal.legal in
+          well_formed new legal.linked (few_new few bits) cap number prefix link records records there (page_at (IsLegalPage w.cap pseudo) new number _ legal.each there)
+      formed few bits cap number (Forward from target) there live = absurd live
+
+      pub split_step : (after : WardState K) → IsTold w notice new after → IsSplitStep w at notice after
+      split_step after told =
+          let P : WardState K → Type 0 = λ after. IsSplitStep w at notice after in
+          let at_prefix : halves.prefix ≡ notice.prefix = sym (ap (λ (n : Notice). n.prefix) next) in
+          let Q : List Bool → Type 0 = λ p. IsSplit w.cap w.pages at p right new in
+          let R : List Bool → Type 0 = λ p. notice ≡ next_notice w.number w.table p (Split right) in
+          subst P (sym told) (record {
+            right = right;
+            split = subst Q at_prefix split;
+            notice_is = subst R at_prefix next;
+            map = split_changed.map;
+            places = split_changed.places;
+            others = refl;
+          })
