@@ -1,21 +1,20 @@
 -- A lone empty page is a legal ward.
-use Rattle.std.proofs.Common.{◌≡◌, ℕ, zero, suc, ◌<◌, ◌≤◌, Bool, true, List, [], ◌∷◌, ◌++◌, length, Option, None, Some, inl, inr, ◌⊎◌, refl, sym, ap, ◌∙◌, subst, arith}
-use Rattle.std.specs.Prelude.{IsSome, Contains}
+use Rattle.std.proofs.Common.{◌≡◌, ℕ, zero, suc, ◌≤◌, Bool, List, [], ◌∷◌, length, None, Some, inl, inr, refl, sym, ap, ◌∙◌, subst, arith}
+use Rattle.std.specs.Prelude.{IsSome}
 use Rattle.std.specs.FinMap as fin
 use Rattle.std.proofs.lemmas.Bool.{false≢true}
 use Rattle.exh_prefix.specs.declared.prefix.TheConstants.{LIMIT}
-use Rattle.exh_prefix.specs.Prefix.{Begins, low_of, prefix_cmp}
+use Rattle.exh_prefix.specs.Prefix.{low_of, prefix_cmp}
 use Rattle.exh_notice.specs.declared.entry.Entry.{Entry}
-use Rattle.exh_notice.specs.declared.notice.Notice.{Notice}
 use Rattle.exh_table.specs.Table.{TableMap}
-use Rattle.exh_table.specs.Walk.{right_of, split_at}
+use Rattle.exh_table.specs.Walk.{right_of}
 use Rattle.exh_table.specs.Leaves.{leaves_in, ward_leaves}
 use Rattle.exh_page.specs.declared.page.Page.{Page}
-use Rattle.exh_page.specs.declared.page.Page.TheVariants.{Live, Forward}
+use Rattle.exh_page.specs.declared.page.Page.TheVariants.{Live}
 use Rattle.exh_page.specs.Page.{low_bound}
 use Rattle.exh_legal.specs.Pages.{IsAt, IsWithin, IsRightOf, IsLinkedPage, AreLinked}
-use Rattle.exh_legal.specs.Growth.{IsLiveAt, IsPageOf, HasEntryEver, IsGrown}
-use Rattle.exh_legal.specs.Fit.{IsSplitAt, IsMergeAt, IsInner, FitsPages}
+use Rattle.exh_legal.specs.Growth.{IsLiveAt, HasEntryEver, IsGrown}
+use Rattle.exh_legal.specs.Fit.{IsSplitAt, IsInner, FitsPages}
 use Rattle.exh_legal.specs.LowLemmas.{own_front, begins_own_low, low_of-small, front_shorter}
 use Rattle.exh_legal.proofs.Walks.{walk_ends}
 

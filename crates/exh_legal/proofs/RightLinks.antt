@@ -1,9 +1,7 @@
 -- Where a live page that isn't a pseudokey's home leads to.
-use Rattle.std.proofs.Common.{◌≡◌, ℕ, ◌-◌, ◌<◌, ◌≤◌, ◌^◌, Bool, List, [], Option, None, Some, ◌⊎◌, inl, inr, refl, sym, ap, ◌∙◌, subst, arith}
+use Rattle.std.proofs.Common.{◌≡◌, ℕ, ◌-◌, ◌<◌, ◌≤◌, ◌^◌, Bool, List, Option, None, Some, inl, inr, refl, subst, arith}
 use Rattle.std.proofs.lemmas.Bool.{cases_lt}
 use Rattle.std.proofs.lemmas.Nat.{and_le_l}
-use Rattle.std.specs.Int.Bits.{bit_and}
-use Rattle.exh_prefix.specs.Bits.{lowest_cleared}
 use Rattle.exh_prefix.specs.Prefix.{Begins, low_of}
 use Rattle.exh_prefix.specs.PrefixLemmas.{begins_low, begins_from_low, lowest_cleared-and}
 use Rattle.exh_page.specs.declared.page.Page.{Page}

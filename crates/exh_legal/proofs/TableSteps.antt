@@ -1,8 +1,8 @@
 -- A table with one notice more.
-use Rattle.std.proofs.Common.{◌≡◌, ℕ, suc, ◌+◌, ◌<◌, ◌≤◌, Bool, true, false, cond, List, [], ◌∷◌, ◌++◌, Ordering, Option, None, Some, ◌⊎◌, inl, inr, refl, sym, ap, ◌∙◌, subst, arith, nat_cmp}
+use Rattle.std.proofs.Common.{◌≡◌, ℕ, ◌+◌, ◌<◌, Bool, true, false, cond, List, [], ◌∷◌, Ordering, Option, None, Some, ◌⊎◌, inl, inr, refl, sym, ap, ◌∙◌, arith, nat_cmp}
 use Rattle.std.specs.Prelude.{T, ◌&&◌}
 use Rattle.std.specs.declared.cmp.Ordering.TheVariants.{Less, Equal, Greater}
-use Rattle.std.specs.Cmp.{IsTotalOrder, nat_cmp_is}
+use Rattle.std.specs.Cmp.{nat_cmp_is}
 use Rattle.std.specs.FinMap as fin
 use Rattle.std.specs.FinMap.Entries.{find, put, is_sorted, below_all, by_order}
 use Rattle.std.specs.List.{sum_by}
@@ -15,7 +15,7 @@ use Rattle.exh_prefix.specs.Prefix.{prefix_cmp}
 use Rattle.exh_prefix.specs.PrefixLemmas.{prefix_cmp-total, prefix_cmp-exact}
 use Rattle.exh_notice.specs.declared.entry.Entry.{Entry}
 use Rattle.exh_notice.specs.declared.notice.Notice.{Notice}
-use Rattle.exh_notice.specs.Entry.{entry_cmp, greater_entry, entry_of}
+use Rattle.exh_notice.specs.Entry.{entry_of}
 use Rattle.exh_table.specs.Table.{TableMap, table_with, greater_of}
 use Rattle.exh_legal.specs.Numbers.{number_at, index_of}
 use Rattle.exh_legal.specs.MapLemmas.{tie_of}

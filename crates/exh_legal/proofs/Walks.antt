@@ -1,21 +1,18 @@
 -- A walk of a table that fits the pages ends at the pseudokey's home.
-use Rattle.std.proofs.Common.{◌≡◌, ℕ, ◌+◌, ◌<◌, ◌≤◌, ◌^◌, Bool, true, false, List, [], ◌∷◌, ◌++◌, length, take, drop, Option, None, Some, ◌⊎◌, inl, inr, refl, sym, ap, ◌∙◌, subst, arith}
+use Rattle.std.proofs.Common.{◌≡◌, ℕ, ◌+◌, ◌<◌, ◌≤◌, ◌^◌, Bool, true, false, List, [], ◌∷◌, ◌++◌, length, take, drop, None, Some, inl, inr, refl, sym, ap, ◌∙◌, subst, arith}
 use Rattle.std.specs.Option.{option_map_or}
-use Rattle.std.proofs.lemmas.Bool.{cases_eq, cases_lt}
-use Rattle.std.proofs.lemmas.List.{length-append, length_push, append_assoc, append-nil, take_at, take-append-drop, length-take-le, take-take}
+use Rattle.std.proofs.lemmas.Bool.{cases_eq}
+use Rattle.std.proofs.lemmas.List.{length_push, append_assoc, append-nil, take_at, take-append-drop, length-take-le, take-take}
 use Rattle.exh_prefix.specs.declared.prefix.TheConstants.{LIMIT}
 use Rattle.exh_prefix.specs.Bits.{word_bits}
 use Rattle.exh_prefix.specs.Prefix.{IsFront, Begins, low_of}
-use Rattle.exh_prefix.specs.PrefixLemmas.{fronts_nest, front_of_front, length-word_bits}
+use Rattle.exh_prefix.specs.PrefixLemmas.{fronts_nest, length-word_bits}
 use Rattle.exh_notice.specs.declared.notice.Notice.{Notice}
 use Rattle.exh_table.specs.declared.leaf.Leaf.{Leaf}
 use Rattle.exh_table.specs.Table.{TableMap}
 use Rattle.exh_table.specs.Walk.{split_at, step, walk_on, walk_in}
-use Rattle.exh_table.specs.Directory.{IsName}
-use Rattle.exh_table.specs.Leaves.{ward_leaves}
 use Rattle.exh_page.specs.declared.page.Page.{Page}
 use Rattle.exh_page.specs.declared.page.Page.TheVariants.{Live, Forward}
-use Rattle.exh_page.specs.Page.{low_bound}
 use Rattle.exh_legal.specs.Pages.{IsAt, IsHome, AreLinked}
 use Rattle.exh_legal.specs.Growth.{IsLiveAt, IsPageOf, IsGrown}
 use Rattle.exh_legal.specs.Fit.{IsInner, FitsPages}

@@ -1,6 +1,6 @@
 -- Pages without their records.
 use Rattle.std.proofs.Common.{◌≡◌, ℕ, List, [], slice_get, Option, None, Some, refl, sym, ap, ◌∙◌}
-use Rattle.std.proofs.Common.{◌≡◌, ℕ, Bool, List, [], ◌∷◌, length, slice_get, Option, None, Some, refl, sym, ap, ◌∙◌}
+use Rattle.std.proofs.Common.{◌≡◌, ℕ, Bool, List, [], slice_get, Option, None, Some, refl, sym, ap, ◌∙◌}
 use Rattle.std.specs.Option.{option_map}
 use Rattle.std.proofs.lemmas.Option.{slice_get-map}
 use Rattle.exh_page.specs.declared.page.Page.{Page}

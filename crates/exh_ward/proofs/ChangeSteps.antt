@@ -1,13 +1,11 @@
 -- A change of a ward's pages with its notice: what is kept of the fields, and what an undone change leaves.
-use Rattle.std.proofs.Common.{◌≡◌, ℕ, zero, suc, ◌+◌, ◌-◌, ◌<◌, ◌≤◌, ◌^◌, Bool, true, false, cond, List, [], ◌∷◌, ◌++◌, length, slice_get, Option, None, Some, ◌⊎◌, inl, inr, ◌↔◌, IsSome, refl, sym, ap, ◌∙◌, subst, arith, nat_cmp, Contains, map}
-use Rattle.std.specs.Prelude.{slice_set}
+use Rattle.std.proofs.Common.{◌≡◌, ℕ, zero, suc, ◌+◌, ◌<◌, Bool, true, false, cond, List, [], ◌∷◌, ◌++◌, length, slice_get, Option, None, Some, inl, inr, ◌↔◌, IsSome, refl, sym, ap, ◌∙◌, subst, arith, nat_cmp}
 use Rattle.std.specs.FinMap as fin
 use Rattle.std.specs.Ordering.{is_eq, eq_by_cmp}
-use Rattle.std.proofs.lemmas.Bool.{cases_eq, cases_lt, cases_Bool, false≢true}
+use Rattle.std.proofs.lemmas.Bool.{cases_lt, cases_Bool, false≢true}
 use Rattle.std.proofs.lemmas.Cmp.{nat_cmp_total, tied_itself}
-use Rattle.std.proofs.lemmas.List.{length-append, length-set, length-map}
+use Rattle.std.proofs.lemmas.List.{length-append}
 use Rattle.std.proofs.lemmas.Option.{slice_get_within}
-use Rattle.std.specs.Cmp.{IsTotalOrder}
 use Rattle.exh_prefix.specs.Prefix.{prefix_cmp}
 use Rattle.exh_prefix.specs.PrefixLemmas.{prefix_cmp-total, prefix_cmp-exact}
 use Rattle.exh_notice.specs.declared.entry.Entry.{Entry}
@@ -15,16 +13,15 @@ use Rattle.exh_notice.specs.declared.notice.Notice.{Notice}
 use Rattle.exh_notice.specs.Entry.{entry_of}
 use Rattle.exh_table.specs.Table.{TableMap, greater_of, table_with, table_at}
 use Rattle.exh_page.specs.declared.page.Page.{Page}
-use Rattle.exh_page.specs.Page.{IsWellFormed, low_bound, with_records}
-use Rattle.exh_legal.specs.BareLemmas.{bare_at, at_bare, bare_low}
+use Rattle.exh_page.specs.Page.{low_bound}
 use Rattle.exh_legal.specs.Growth.{IsPageOf}
-use Rattle.exh_legal.specs.Laws.{IsWard, IsChanged, KeepsPlaces}
+use Rattle.exh_legal.specs.Laws.{KeepsPlaces}
 use Rattle.exh_legal.specs.MapLemmas.{tie_of}
-use Rattle.exh_legal.specs.Numbers.{number_at, index_of, next_notice, AreNumbered}
-use Rattle.exh_legal.specs.Pages.{IsAt, map_of, bare, AreLinked}
+use Rattle.exh_legal.specs.Numbers.{index_of, AreNumbered}
+use Rattle.exh_legal.specs.Pages.{IsAt, bare}
 use Rattle.exh_ward.specs.Kept.{IsKept}
 use Rattle.exh_ward.specs.PageIndex.{IndexMap, IsIndexOf}
-use Rattle.exh_ward.specs.Told.{IsChangedTo, IsNextNotice, IsTold}
+use Rattle.exh_ward.specs.Told.{IsChangedTo, IsNextNotice}
 use Rattle.exh_ward.specs.WardState.{WardState, IsSound}
 use Rattle.exh_ward.proofs.HalvesSteps.{full_page_of, bare_page_of}
 use Rattle.exh_ward.proofs.KeptSteps.{kept_read}

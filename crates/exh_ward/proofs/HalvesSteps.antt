@@ -1,12 +1,12 @@
 -- What the halves of a page are to the ward.
-use Rattle.std.proofs.Common.{◌≡◌, ℕ, ◌<◌, ◌%◌, ◌⊎◌, inl, inr, Bool, true, List, [], ◌∷◌, ◌++◌, length, Option, None, Some, Result, Ok, Err, IfOk, IfErr, refl, sym, ap, ◌∙◌, subst, arith, ◌↔◌}
+use Rattle.std.proofs.Common.{◌≡◌, ℕ, ◌<◌, ◌%◌, inl, inr, Bool, true, List, [], ◌∷◌, ◌++◌, length, Option, None, Some, Result, Ok, Err, IfOk, IfErr, sym, ap, ◌∙◌, subst, arith}
 use Rattle.std.specs.FinMap as fin
 use Rattle.std.specs.Option.{MatchOption}
 use Rattle.std.proofs.lemmas.Bool.{cases_eq}
 use Rattle.exh_prefix.specs.declared.prefix.TheConstants.{LIMIT}
 use Rattle.exh_prefix.specs.Prefix.{low_of}
 use Rattle.exh_page.specs.declared.page.Page.{Page}
-use Rattle.exh_page.specs.declared.page.Page.TheVariants.{Live, Forward}
+use Rattle.exh_page.specs.declared.page.Page.TheVariants.{Forward}
 use Rattle.exh_page.specs.Page.{IsLive, low_bound, with_records}
 use Rattle.exh_legal.specs.BareLemmas.{bare_at, at_bare, bare_low}
 use Rattle.exh_legal.specs.Change.{IsForwardOf}
@@ -15,7 +15,7 @@ use Rattle.exh_legal.specs.Laws.{IsSplittable, LivePagesSplit}
 use Rattle.exh_legal.specs.Numbers.{number_at}
 use Rattle.exh_legal.specs.Pages.{IsAt, bare}
 use Rattle.exh_ward.specs.Kept.{IsKept}
-use Rattle.exh_ward.specs.PageIndex.{IndexMap, IsIndexOf}
+use Rattle.exh_ward.specs.PageIndex.{IndexMap}
 use Rattle.exh_ward.specs.SplitStep.{SplitRefusedAt, SplitRefused, AreHalvesOf}
 use Rattle.exh_ward.specs.WardFault.{CountsFailures}
 use Rattle.exh_ward.specs.WardState.{WardState, own_prefix}

@@ -1,37 +1,29 @@
 -- A call at its home page: what is answered, and what is left.
-use Rattle.std.proofs.Common.{◌≡◌, ℕ, ◌<◌, ◌≤◌, ◌^◌, Bool, true, false, not, cond, leb, List, [], ◌∷◌, length, find, slice_get, Option, None, Some, ◌⊎◌, inl, inr, refl, sym, ap, ◌∙◌, subst, arith, nat_cmp, ◌==◌}
-use Rattle.std.specs.Prelude.{slice_set}
+use Rattle.std.proofs.Common.{◌≡◌, ℕ, ◌<◌, ◌≤◌, ◌^◌, Bool, true, not, leb, List, length, Option, None, Some, ◌⊎◌, inl, inr, refl, sym, ap, ◌∙◌, arith, nat_cmp}
 use Rattle.std.specs.FinMap as fin
-use Rattle.std.specs.List.{AllByRecursion, flat_map}
-use Rattle.std.specs.Option.{option_map, option_map_or}
+use Rattle.std.specs.Option.{option_map}
 use Rattle.std.specs.Ordering.{is_eq, eq_by_cmp}
 use Rattle.std.specs.Cmp.Lexicographic.{slice_cmp}
-use Rattle.std.proofs.lemmas.Bool.{cases_eq, cases_lt, cases_Bool, le-leb, lt-leb, eqb-true, eq-eqb, false_from_ne_true, true≢false}
-use Rattle.std.proofs.lemmas.Cmp.{nat_list_cmp_total, eq_by_cmp_equiv}
+use Rattle.std.proofs.lemmas.Bool.{cases_lt, le-leb, lt-leb, eqb-true, eq-eqb, true≢false}
+use Rattle.std.proofs.lemmas.Cmp.{eq_by_cmp_equiv}
 use Rattle.exh_prefix.specs.declared.prefix.TheConstants.{LIMIT}
-use Rattle.exh_prefix.specs.Bits.{word_bits}
-use Rattle.exh_prefix.specs.Prefix.{Begins, begins, IsFront}
-use Rattle.exh_prefix.specs.PrefixLemmas.{is_front-true, IsFront-from_test}
+use Rattle.exh_prefix.specs.Prefix.{Begins, begins}
 use Rattle.exh_page.specs.declared.page.Page.{Page}
 use Rattle.exh_page.specs.declared.page.Page.TheVariants.{Live}
 use Rattle.exh_page.specs.declared.record.Record.{Record}
-use Rattle.exh_page.specs.Page.{AreRecordsOf, records_of, with_records}
-use Rattle.exh_page.specs.Place.{Place, place_cmp, place_of}
-use Rattle.exh_page.specs.Records.{is_at, value_at, with_record, without_place}
-use Rattle.exh_page.specs.RecordsLemmas.{place_cmp-total, AllByRecursion-filter, IsRising-filter, IsRising-with_record}
-use Rattle.exh_page.specs.Values.{value_at-with_record, value_at-without_place, AllByRecursion-with_record, length-with_record_old, length-with_record_le, length-without_place}
+use Rattle.exh_page.specs.Page.{AreRecordsOf}
+use Rattle.exh_page.specs.Place.{place_cmp}
+use Rattle.exh_page.specs.Records.{value_at}
+use Rattle.exh_page.specs.RecordsLemmas.{place_cmp-total}
 use Rattle.exh_legal.specs.KeyMap.{KeyMap}
-use Rattle.exh_legal.specs.Pages.{map_of, IsAt, IsHome, IsLegalPage, IsLegal, AreLinked, bare}
+use Rattle.exh_legal.specs.Pages.{map_of, IsAt, IsLegalPage, IsLegal}
 use Rattle.exh_legal.specs.BareLemmas.{bare_at}
-use Rattle.exh_legal.specs.MapLemmas.{map_of_records, AreHashed, place_of_key, same_test, same_maps, get-map_of, get-map_of_pages, get-map_of_records, found_at, found_alike, none_of_others, none_elsewhere, page_at, all_pages}
+use Rattle.exh_legal.specs.MapLemmas.{map_of_records, place_of_key, same_test, get-map_of, get-map_of_records, none_of_others, page_at}
 use Rattle.exh_ward.specs.Call.{key_of}
-use Rattle.exh_ward.specs.MapMachine.{leading, sharing, is_full, get_reply, put_reply, del_reply, put_leaves, reply_of, map_after}
-use Rattle.exh_ward.specs.PageAnswer.{page_reply, records_written, records_after, OverflowsPage}
+use Rattle.exh_ward.specs.MapMachine.{sharing, is_full, get_reply, put_reply, del_reply, reply_of}
+use Rattle.exh_ward.specs.PageAnswer.{page_reply, OverflowsPage}
 use Rattle.exh_ward.specs.declared.call.Call.{Call}
 use Rattle.exh_ward.specs.declared.call.Call.TheVariants.{Get, Put, Del}
-use Rattle.exh_ward.specs.declared.reply.Reply.{Reply}
-use Rattle.exh_ward.specs.declared.reply.Reply.TheVariants.{Is, None as Absent, New, Was, Full}
-use Rattle.exh_ward.proofs.StoredPages.{set_here, set_else, bare_set}
 use Rattle.exh_ward.proofs.Sharing.{shares, sharing_same, sharing_all, sharing-le}
 use Rattle.exh_ward.proofs.RecordCount.{len-map_of_records-le, len-map_of_records}
 use Rattle.exh_ward.proofs.LeadingBits.{begins_by-sharing, shared_begins}

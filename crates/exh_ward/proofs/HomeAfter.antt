@@ -1,10 +1,10 @@
 -- What a call at its home page leaves of the pages.
-use Rattle.std.proofs.Common.{◌≡◌, ℕ, ◌<◌, ◌≤◌, ◌^◌, Bool, true, false, cond, leb, List, [], ◌∷◌, length, find, slice_get, Option, None, Some, ◌⊎◌, ◌↔◌, IsTrue, inl, inr, refl, sym, ap, ◌∙◌, subst, arith, nat_cmp}
+use Rattle.std.proofs.Common.{◌≡◌, ℕ, ◌≤◌, Bool, true, false, cond, leb, List, length, find, slice_get, Option, None, Some, ◌↔◌, IsTrue, inl, inr, refl, sym, ap, ◌∙◌, subst, arith, nat_cmp}
 use Rattle.std.specs.Prelude.{slice_set}
 use Rattle.std.specs.FinMap as fin
-use Rattle.std.specs.List.{AllByRecursion, flat_map}
+use Rattle.std.specs.List.{AllByRecursion}
 use Rattle.std.specs.Option.{option_map, option_map_or}
-use Rattle.std.specs.Ordering.{is_eq, eq_by_cmp}
+use Rattle.std.specs.Ordering.{eq_by_cmp}
 use Rattle.std.specs.Cmp.Lexicographic.{slice_cmp}
 use Rattle.std.proofs.lemmas.Bool.{cases_eq, cases_Bool, leb-false, false_from_ne_true, false≢true}
 use Rattle.std.proofs.lemmas.Cmp.{nat_list_cmp_total}
@@ -29,7 +29,7 @@ use Rattle.exh_ward.specs.PageAnswer.{page_reply, records_after}
 use Rattle.exh_ward.specs.declared.call.Call.{Call}
 use Rattle.exh_ward.specs.declared.call.Call.TheVariants.{Get, Put, Del}
 use Rattle.exh_ward.proofs.StoredPages.{set_here, set_else, bare_set}
-use Rattle.exh_ward.proofs.Home.{AtHome, Fit, IsPut, same_test_turned, page_legal, get_key, full_alike, at_limit}
+use Rattle.exh_ward.proofs.Home.{AtHome, Fit, IsPut, same_test_turned, get_key, full_alike, at_limit}
 
 -- the records after a call, by whether the page is full and the value that it has
 abbrev pub left_by : ℕ → Call → Bool → Option (List ℕ) → List Record → List Record

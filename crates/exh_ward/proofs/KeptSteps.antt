@@ -1,9 +1,8 @@
 -- What a ward keeps of its fields, over its steps.
-use Rattle.std.proofs.Common.{◌≡◌, ℕ, ◌-◌, ◌<◌, ◌≤◌, ◌^◌, Bool, leb, List, [], ◌∷◌, ◌++◌, length, Option, None, Some, ◌↔◌, refl, sym, ap, ◌∙◌, subst, arith}
+use Rattle.std.proofs.Common.{◌≡◌, ℕ, ◌-◌, ◌<◌, ◌≤◌, ◌^◌, Bool, leb, List, [], ◌∷◌, ◌++◌, length, Option, None, Some, ◌↔◌, sym, ap, ◌∙◌, subst, arith}
 use Rattle.std.specs.Prelude.{slice_set}
 use Rattle.std.proofs.lemmas.Option.{slice_get_within}
 use Rattle.std.proofs.lemmas.List.{length-map}
-use Rattle.exh_prefix.specs.Prefix.{Begins}
 use Rattle.exh_page.specs.declared.page.TheConstants.{CAP_LIMIT}
 use Rattle.exh_page.specs.declared.page.Page.{Page}
 use Rattle.exh_page.specs.declared.page.Page.TheVariants.{Live}
@@ -17,7 +16,6 @@ use Rattle.exh_legal.specs.BareLemmas.{bare_at}
 use Rattle.exh_legal.specs.MapLemmas.{place_of_key}
 use Rattle.exh_legal.specs.Pages.{map_of, IsAt, IsRightLink, AreLinked, bare}
 use Rattle.exh_ward.specs.Call.{key_of}
-use Rattle.exh_ward.specs.History.{IsHistory, map_left}
 use Rattle.exh_ward.specs.Kept.{IsKept}
 use Rattle.exh_ward.specs.MapMachine.{reply_of, map_after}
 use Rattle.exh_ward.specs.PageIndex.{IndexMap, IsIndexOf}
@@ -26,8 +24,8 @@ use Rattle.exh_ward.specs.declared.call.Call.{Call}
 use Rattle.exh_ward.specs.declared.journal_entry.JournalEntry.{JournalEntry}
 use Rattle.exh_ward.specs.declared.reply.Reply.{Reply}
 use Rattle.exh_ward.proofs.Histories.{IsHistory-push, map_left-push}
-use Rattle.exh_ward.proofs.Home.{AtHome, Fit, reply_is}
-use Rattle.exh_ward.proofs.HomeAfter.{left_by, left_legal, new_legal, new_map, same_bare}
+use Rattle.exh_ward.proofs.Home.{AtHome, Fit}
+use Rattle.exh_ward.proofs.HomeAfter.{left_by, new_legal, new_map, same_bare}
 
 linked_fits : (pages : List Page) (page : Page) (link : Option ℕ) → length pages < 2 ^ 32 - 1 → IsRightLink (bare pages) page link → link ≡ Some (2 ^ 32 - 1) → ⊥
 linked_fits pages page None few is so = cc

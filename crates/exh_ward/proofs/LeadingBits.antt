@@ -1,5 +1,5 @@
 -- Prefixes of the greatest length, and leading bits.
-use Rattle.std.proofs.Common.{◌≡◌, ℕ, ◌+◌, ◌-◌, ◌*◌, ◌/◌, ◌^◌, ◌<◌, ◌≤◌, Bool, List, length, ◌↔◌, refl, sym, ap, ◌∙◌, arith}
+use Rattle.std.proofs.Common.{◌≡◌, ℕ, ◌+◌, ◌-◌, ◌*◌, ◌^◌, ◌<◌, ◌≤◌, Bool, List, length, ◌↔◌, sym, ap, ◌∙◌, arith}
 use Rattle.std.proofs.lemmas.Nat.{pow_pos, pow-add}
 use Rattle.std.proofs.Math.Nat.{div-eq_of_lt-le, div-mul-le_self, lt-div-mul-add}
 use Rattle.exh_prefix.specs.declared.prefix.TheConstants.{LIMIT}

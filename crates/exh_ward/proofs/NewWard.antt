@@ -1,8 +1,7 @@
 -- A ward of a new file.
-use Rattle.std.proofs.Common.{◌≡◌, ℕ, zero, suc, ◌+◌, ◌<◌, ◌≤◌, ◌^◌, Bool, List, [], ◌∷◌, ◌++◌, length, lit<, Option, None, Some, slice_get, refl, sym, ap, ◌∙◌, subst, arith, Contains}
+use Rattle.std.proofs.Common.{◌≡◌, ℕ, zero, suc, ◌<◌, ◌≤◌, Bool, List, [], ◌∷◌, ◌++◌, lit<, None, Some, refl, sym, ap, ◌∙◌, subst, arith, Contains}
 use Rattle.std.specs.FinMap as fin
 use Rattle.std.specs.List.{sum_by}
-use Rattle.exh_prefix.specs.declared.prefix.TheConstants.{LIMIT}
 use Rattle.exh_prefix.specs.BitLemmas.{length-bits_of}
 use Rattle.exh_prefix.specs.Prefix.{prefix_cmp}
 use Rattle.exh_notice.specs.declared.entry.Entry.{Entry}
@@ -11,15 +10,15 @@ use Rattle.exh_table.specs.Table.{TableMap, IsEntryOf, IsTableSince}
 use Rattle.exh_page.specs.declared.page.TheConstants.{CAP_LIMIT}
 use Rattle.exh_page.specs.declared.page.Page.{Page}
 use Rattle.exh_page.specs.declared.page.Page.TheVariants.{Live}
-use Rattle.exh_page.specs.Page.{IsWellFormed, low_bound}
+use Rattle.exh_page.specs.Page.{IsWellFormed}
 use Rattle.exh_legal.specs.KeyMap.{KeyMap}
 use Rattle.exh_legal.specs.Growth.{IsPageOf}
 use Rattle.exh_legal.specs.Laws.{LonePagesAreLegal}
 use Rattle.exh_legal.specs.Numbers.{index_of}
-use Rattle.exh_legal.specs.Pages.{ward_prefix, bare}
+use Rattle.exh_legal.specs.Pages.{ward_prefix}
 use Rattle.exh_ward.specs.Kept.{IsKept}
 use Rattle.exh_ward.specs.PageIndex.{IndexMap, IsIndexOf}
-use Rattle.exh_ward.specs.WardState.{WardState, IsSound}
+use Rattle.exh_ward.specs.WardState.{WardState}
 use Rattle.exh_ward.specs.declared.ward.TheConstants.{WARD_BITS_LIMIT}
 use Rattle.exh_ward.specs.declared.journal_entry.JournalEntry.{JournalEntry}
 use Rattle.std.proofs.lemmas.List.{nil_from_length}

@@ -1,5 +1,5 @@
 -- How many keys the records of a page have.
-use Rattle.std.proofs.Common.{◌≡◌, ℕ, ◌+◌, ◌≤◌, Bool, true, false, cond, List, [], ◌∷◌, length, map, find, Option, None, Some, refl, sym, ap, ◌∙◌, arith, nat_cmp}
+use Rattle.std.proofs.Common.{◌≡◌, ℕ, ◌+◌, ◌≤◌, Bool, true, false, cond, List, [], ◌∷◌, length, find, None, Some, refl, sym, ap, ◌∙◌, arith, nat_cmp}
 use Rattle.std.specs.FinMap as fin
 use Rattle.std.specs.Cmp.Lexicographic.{slice_cmp}
 use Rattle.std.specs.declared.cmp.Ordering.TheVariants.{Less}
@@ -8,11 +8,10 @@ use Rattle.std.specs.Option.{option_map, is_some}
 use Rattle.std.specs.Ordering.{is_eq, ordering_reverse}
 use Rattle.std.proofs.lemmas.Cmp.{nat_list_cmp_total}
 use Rattle.exh_page.specs.declared.record.Record.{Record}
-use Rattle.exh_page.specs.Place.{Place, place_cmp, place_of}
+use Rattle.exh_page.specs.Place.{place_cmp, place_of}
 use Rattle.exh_page.specs.Records.{is_at, value_at, IsRising}
 use Rattle.exh_page.specs.RecordsLemmas.{place_cmp-total}
-use Rattle.exh_legal.specs.Pages.{pair_of}
-use Rattle.exh_legal.specs.MapLemmas.{map_of_records, AreHashed, place_of_key, get-map_of_records}
+use Rattle.exh_legal.specs.MapLemmas.{map_of_records, AreHashed, get-map_of_records}
 
 at_most_one_more : (b : Bool) (n : ℕ) → cond b n (n + 1) ≤ n + 1
 at_most_one_more true n = omega arith

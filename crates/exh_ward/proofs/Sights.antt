@@ -1,28 +1,25 @@
 -- What a call meets, and what its hop comes to.
-use Rattle.std.proofs.Common.{◌≡◌, ℕ, ◌<◌, ◌≤◌, ◌^◌, Bool, leb, List, [], length, slice_get, Option, None, Some, refl, sym, ap, ◌∙◌, subst, arith}
-use Rattle.std.specs.FinMap as fin
-use Rattle.exh_prefix.specs.declared.prefix.TheConstants.{LIMIT}
+use Rattle.std.proofs.Common.{◌≡◌, ℕ, ◌<◌, ◌≤◌, ◌^◌, Bool, leb, List, length, slice_get, Option, None, Some, refl, sym, ap, ◌∙◌, subst, arith}
 use Rattle.exh_prefix.specs.Prefix.{Begins, low_of}
 use Rattle.exh_page.specs.declared.page.Page.{Page}
 use Rattle.exh_page.specs.declared.page.Page.TheVariants.{Live, Forward}
 use Rattle.exh_page.specs.declared.record.Record.{Record}
 use Rattle.exh_page.specs.Page.{low_bound, records_of}
-use Rattle.exh_page.specs.Records.{value_at}
 use Rattle.exh_legal.specs.Laws.{RightLinksLeadOn}
-use Rattle.exh_legal.specs.MapLemmas.{place_of_key, get-map_of}
+use Rattle.exh_legal.specs.MapLemmas.{get-map_of}
 use Rattle.exh_legal.specs.Pages.{map_of, IsAt, IsHome, IsLegal}
 use Rattle.exh_ward.specs.Call.{key_of}
-use Rattle.exh_ward.specs.HopTable.{IsReached, LeadsTo, Overflows, HopOf}
-use Rattle.exh_ward.specs.PageAnswer.{OverflowsPage, reply_by}
-use Rattle.exh_ward.specs.Sight.{IsDeadEnd, SightOf, SightIn}
+use Rattle.exh_ward.specs.HopTable.{Overflows, HopOf}
+use Rattle.exh_ward.specs.PageAnswer.{OverflowsPage}
+use Rattle.exh_ward.specs.Sight.{SightOf, SightIn}
 use Rattle.exh_ward.specs.MapMachine.{reply_of}
 use Rattle.exh_ward.specs.declared.call.Call.{Call}
 use Rattle.exh_ward.specs.declared.call.Call.TheVariants.{Get, Put, Del}
-use Rattle.exh_ward.specs.declared.hop.Hop.TheVariants.{Done, Moved, MustSplit, Stray}
+use Rattle.exh_ward.specs.declared.hop.Hop.TheVariants.{Done, MustSplit}
 use Rattle.exh_ward.specs.declared.reply.Reply.{Reply}
 use Rattle.exh_ward.specs.declared.sight.Sight.{Sight}
 use Rattle.exh_ward.specs.declared.sight.Sight.TheVariants.{Beyond, Leads, NoWay, Overflows as MustWait, Home}
-use Rattle.exh_ward.proofs.Home.{AtHome, Fit, reply_is}
+use Rattle.exh_ward.proofs.Home.{AtHome, Fit}
 
 pub same_there : (pages : List Page) (at : ℕ) (one other : Page) → IsAt pages at one → IsAt pages at other → one ≡ other
 same_there pages at one other is too = let both : Some one ≡ Some other = sym is ∙ too in cc

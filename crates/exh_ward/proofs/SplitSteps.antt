@@ -1,5 +1,5 @@
 -- A split of a ward's page: the pages that it leaves, and its notice.
-use Rattle.std.proofs.Common.{◌≡◌, ℕ, zero, suc, ◌+◌, ◌-◌, ◌%◌, ◌<◌, ◌≤◌, ◌^◌, Bool, true, false, List, [], ◌∷◌, ◌++◌, length, slice_get, Option, None, Some, ◌⊎◌, inl, inr, refl, sym, ap, ◌∙◌, subst, arith}
+use Rattle.std.proofs.Common.{◌≡◌, ℕ, zero, suc, ◌-◌, ◌%◌, ◌<◌, ◌≤◌, ◌^◌, Bool, true, false, List, [], ◌∷◌, ◌++◌, length, slice_get, Some, inl, inr, refl, sym, ap, ◌∙◌, subst, arith}
 use Rattle.std.specs.Prelude.{slice_set}
 use Rattle.std.proofs.lemmas.Bool.{cases_lt}
 use Rattle.std.proofs.lemmas.List.{length-append, length-set}
@@ -10,7 +10,6 @@ use Rattle.exh_prefix.specs.BitLemmas.{length-bits_of}
 use Rattle.exh_prefix.specs.Prefix.{low_of}
 use Rattle.exh_notice.specs.declared.entry.Kind.TheVariants.{Split}
 use Rattle.exh_notice.specs.declared.notice.Notice.{Notice}
-use Rattle.exh_table.specs.Table.{TableMap, table_with}
 use Rattle.exh_page.specs.declared.page.TheConstants.{CAP_LIMIT}
 use Rattle.exh_page.specs.declared.page.Page.{Page}
 use Rattle.exh_page.specs.declared.page.Page.TheVariants.{Live, Forward}
@@ -18,10 +17,10 @@ use Rattle.exh_page.specs.declared.record.Record.{Record}
 use Rattle.exh_page.specs.Page.{IsLive, IsWellFormed, low_bound, begun_by}
 use Rattle.exh_legal.specs.Change.{IsForwardOf, IsSplit}
 use Rattle.exh_legal.specs.Growth.{IsLiveAt}
-use Rattle.exh_legal.specs.Laws.{IsChanged, LivePagesSplit, PagesAreFew, SplitsKeepLegal}
+use Rattle.exh_legal.specs.Laws.{LivePagesSplit, PagesAreFew, SplitsKeepLegal}
 use Rattle.exh_legal.specs.MapLemmas.{page_at}
 use Rattle.exh_legal.specs.Numbers.{number_at, next_notice}
-use Rattle.exh_legal.specs.Pages.{IsAt, IsLegalPage, AreLinked, bare}
+use Rattle.exh_legal.specs.Pages.{IsAt, IsLegalPage}
 use Rattle.exh_ward.specs.SplitStep.{AreHalvesOf, IsSplitStep}
 use Rattle.exh_ward.specs.Told.{IsChangedTo, IsTold}
 use Rattle.exh_ward.specs.WardState.{WardState, IsSound, own_prefix}

@@ -1,5 +1,5 @@
 -- Refusals of a ward.
-use Rattle.std.specs.Prelude.{◌≡◌, ℕ, ◌<◌, Result, Ok, Err}
+use Rattle.std.specs.Prelude.{◌≡◌, ℕ, ◌<◌, Result, Err}
 use Rattle.exh_frames.specs.declared.pages_fault.PagesFault.{PagesFault}
 use Rattle.exh_frames.specs.declared.pages_fault.PagesFault.TheVariants.{Memory as StoreMemory, Page as StorePage}
 use Rattle.exh_ward.specs.declared.ward_fault.WardFault.{WardFault}

@@ -1,7 +1,7 @@
 -- A ward as a value, and what its steps leave of it.
-use Rattle.std.specs.Prelude.{◌≡◌, ⊤, ℕ, ◌<◌, Bool, List, ◌++◌, ◌∷◌, []}
+use Rattle.std.specs.Prelude.{◌≡◌, ℕ, Bool, List, ◌++◌, ◌∷◌, []}
 use Rattle.exh_notice.specs.declared.notice.Notice.{Notice}
-use Rattle.exh_table.specs.Table.{TableMap, IsTableSince, table_with}
+use Rattle.exh_table.specs.Table.{TableMap, IsTableSince}
 use Rattle.exh_page.specs.declared.page.Page.{Page}
 use Rattle.exh_legal.specs.KeyMap.{KeyMap}
 use Rattle.exh_legal.specs.Numbers.{AreNumbered}

@@ -1,4 +1,4 @@
-use Rattle.std.proofs.Common.{◌≤◌, arith}
+use Rattle.std.proofs.Common.{arith}
 use Rattle.exh_legal.proofs.Lone.{lone_linked, lone_fits, lone_grown}
 use Rattle.exh_legal.proofs.laws.lone_pages_are_legal.Goals as goal
 

@@ -1,4 +1,4 @@
-use Rattle.std.proofs.Common.{◌-◌, ◌^◌, ◌≤◌, length, [], arith}
+use Rattle.std.proofs.Common.{[], arith}
 use Rattle.std.proofs.lemmas.List.{length-map}
 use Rattle.exh_page.specs.Page.{with_records}
 use Rattle.exh_legal.proofs.PageCount.{page_count}

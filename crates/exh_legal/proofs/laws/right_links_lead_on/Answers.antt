@@ -1,4 +1,4 @@
-use Rattle.std.proofs.Common.{sym, ap, ◌∙◌, ◌≤◌, subst, ℕ}
+use Rattle.std.proofs.Common.{ap, ◌∙◌, ◌≤◌, subst, ℕ}
 use Rattle.exh_legal.specs.BareLemmas.{bare_at, at_bare, bare_low}
 use Rattle.exh_page.specs.Page.{low_bound}
 use Rattle.exh_legal.proofs.RightLinks.{live_leads}

@@ -1,4 +1,4 @@
-use Rattle.std.proofs.Common.{◌+◌, ◌<◌, sym, ap, ◌∙◌, [], arith}
+use Rattle.std.proofs.Common.{◌<◌, sym, ap, ◌∙◌, [], arith}
 use Rattle.exh_page.specs.Page.{low_bound, with_records}
 use Rattle.exh_legal.specs.BareLemmas.{bare_at, at_bare, bare_low}
 use Rattle.exh_legal.specs.Numbers.{number_at}

@@ -1,4 +1,3 @@
-use Rattle.exh_legal.specs.Growth.{IsLiveAt}
 use Rattle.exh_legal.specs.BareLemmas.{live_full}
 use Rattle.exh_legal.proofs.Walks.{names_home}
 use Rattle.exh_legal.proofs.laws.walks_name_homes.Goals as goal

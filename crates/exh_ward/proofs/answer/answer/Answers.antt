@@ -1,6 +1,5 @@
-use Rattle.std.proofs.Common.{◌≡◌, sym, ap, ◌∙◌, subst, List, slice_get}
+use Rattle.std.proofs.Common.{sym, ap, ◌∙◌, subst, List, slice_get}
 use Rattle.std.specs.Prelude.{slice_set}
-use Rattle.exh_page.specs.declared.page.Page.{Page}
 use Rattle.exh_page.specs.Page.{records_of, with_records}
 use Rattle.exh_page.specs.Records.{with_record, value_at}
 use Rattle.exh_ward.specs.declared.call.Call.{Call}

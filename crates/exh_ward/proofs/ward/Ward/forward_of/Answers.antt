@@ -1,4 +1,4 @@
-use Rattle.std.proofs.Common.{ℕ, List, Bool, true, ◌≡◌, ◌++◌, ◌∷◌, [], ap, sym, ◌∙◌, subst}
+use Rattle.std.proofs.Common.{ℕ, true, ◌≡◌, ◌++◌, ◌∷◌, [], ap, sym, ◌∙◌, subst}
 use Rattle.std.specs.FinMap as fin
 use Rattle.std.specs.Option.{MatchOption}
 use Rattle.exh_prefix.specs.Prefix.{low_of}

@@ -1,4 +1,4 @@
-use Rattle.std.proofs.Common.{ℕ, IfOk, IfErr, refl, sym, ap, ◌∙◌, subst}
+use Rattle.std.proofs.Common.{IfOk, IfErr, refl, subst}
 use Rattle.exh_page.specs.declared.page.Page.{Page}
 use Rattle.exh_legal.specs.Pages.{IsAt}
 use Rattle.exh_ward.specs.SplitStep.{AreHalvesOf, SplitRefused}

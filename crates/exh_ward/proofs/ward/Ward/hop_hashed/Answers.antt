@@ -2,7 +2,7 @@ use Rattle.std.proofs.Common.{ℕ, IfOk, subst}
 use Rattle.exh_ward.specs.HopTable.{HopOf}
 use Rattle.exh_ward.specs.Sight.{SightIn}
 use Rattle.exh_ward.specs.WardState.{WardState, IsSoundWard}
-use Rattle.exh_ward.specs.declared.sight.Sight.TheVariants.{NoWay, Overflows}
+use Rattle.exh_ward.specs.declared.sight.Sight.TheVariants.{Overflows}
 use Rattle.exh_ward.proofs.Sights.{hop_waits, no_dead_end}
 use Rattle.exh_ward.proofs.ward.Ward.hop_hashed.Goals as goal
 

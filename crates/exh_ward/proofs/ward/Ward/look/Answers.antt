@@ -1,4 +1,4 @@
-use Rattle.std.proofs.Common.{ℕ, refl, sym, ap, ◌∙◌, subst}
+use Rattle.std.proofs.Common.{refl, subst}
 use Rattle.exh_ward.specs.Sight.{SightIn}
 use Rattle.exh_ward.specs.WardState.{WardState}
 use Rattle.exh_ward.proofs.KeptSteps.{kept_read}
