@@ -111,12 +111,10 @@ index_grown index pages front new indexed places same some alone low number =
       | inl tied ↦
           let low_is : low ≡ low_bound new = fin.nat_cmp-IsAntisymmetric low (low_bound new) (tie_of (nat_cmp low (low_bound new)) tied) in
           let found : fin.get (fin.insert index (low_bound new) (length pages)) low ≡ Some (length pages) = get_is ∙ ap (λ b. cond b (Some (length pages)) (fin.get index low)) tied in
-          let last : IsAt all (length pages) new = ap (slice_get all) (sym same) ∙ last_there front new in
-          (
+          let last : IsAt all (length pages) new = ap (slice_get all) (sym same) ∙ last_there front new in (
             λ is.
                 let both : Some (length pages) ≡ Some number = sym found ∙ is in
-                let number_is : length pages ≡ number = cc in
-                (
+                let number_is : length pages ≡ number = cc in (
                   omega (arith, some, number_is),
                   bare_page_of all low number (new, subst (λ n. IsAt all n new) number_is last, sym low_is),
                 ),
@@ -133,8 +131,7 @@ index_grown index pages front new indexed places same some alone low number =
                 ],
           )
       | inr apart ↦
-          let found : fin.get (fin.insert index (low_bound new) (length pages)) low ≡ fin.get index low = get_is ∙ ap (λ b. cond b (Some (length pages)) (fin.get index low)) apart in
-          (
+          let found : fin.get (fin.insert index (low_bound new) (length pages)) low ≡ fin.get index low = get_is ∙ ap (λ b. cond b (Some (length pages)) (fin.get index low)) apart in (
             λ is.
                 let old = (indexed low number).0 (sym found ∙ is) in
                 (old.0, bare_page_of all low number (page_after pages all places low number (full_page_of pages low number old.1))),
@@ -183,8 +180,7 @@ module _ {K : Type 0} {pseudo : List ℕ → ℕ} {takes : Page → Type 0} {own
           let here : place ≡ length w.notices = omega (arith, after, slice_get_within (w.notices ++ notice ∷ []) place other is, length-append w.notices (notice ∷ [])) in
           let both : Some notice ≡ Some other = sym (get_last w.notices notice) ∙ ap (slice_get (w.notices ++ notice ∷ [])) (sym here) ∙ is in
           let same : notice ≡ other = cc in
-          let index_is : notice.index ≡ index_of w.table + 1 = ap (λ (n : Notice). n.index) next in
-          (
+          let index_is : notice.index ≡ index_of w.table + 1 = ap (λ (n : Notice). n.index) next in (
             sym (ap (λ (n : Notice). n.ward) same) ∙ ap (λ (n : Notice). n.ward) next,
             omega (arith, ap (λ (n : Notice). n.index) same, index_is, kept.counted, kept.told_is, here),
           )

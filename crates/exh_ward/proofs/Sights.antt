@@ -69,8 +69,7 @@ module _ {cap : ℕ} {pseudo : List ℕ → ℕ} {ward : List Bool} {pages : Lis
       let live = home_live sight.0 (pseudo (key_of call)) sight.2.1 in
       let page_is = live.3 in
       let P : Page → Type 0 = λ page. low_bound page ≤ pseudo (key_of call) in
-      let Q : Page → Type 0 = λ page. OverflowsPage cap (pseudo (key_of call)) page call → ⊥ in
-      (
+      let Q : Page → Type 0 = λ page. OverflowsPage cap (pseudo (key_of call)) page call → ⊥ in (
         live.0,
         live.1,
         live.2,

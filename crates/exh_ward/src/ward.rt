@@ -87,7 +87,14 @@ impl<P: Pages + Drop, K: Keyer> Ward<P, K> {
     /// holds at most `cap` records, 1 to 16. The file is cut into 2^`ward_bits` wards, by 0 to 4
     /// leading bits of pseudokeys, and `number` is those bits as a number (exhash profile). It takes
     /// no memory.
-    pub fn new(alloc: Global, store: P, cap: usize, ward_bits: u8, number: u8, keyer: K) -> Ward<P, K>
+    pub fn new(
+        alloc: Global,
+        store: P,
+        cap: usize,
+        ward_bits: u8,
+        number: u8,
+        keyer: K,
+    ) -> Ward<P, K>
         requires first { P.pages store ≡ Live (ward_prefix ward_bits number) None [] ∷ [] }
         requires takes { (page : Page) → IsWellFormed (K.pseudokey_of keyer) page → P.takes store page }
         requires some { 1 ≤ cap }
