@@ -26,7 +26,7 @@ SplitRefusedAt cap (Forward low target) NotFull = ⊥
 SplitRefusedAt cap (Live prefix link records) AtLimit = (cap ≤ length records) × (LIMIT ≤ length prefix)
 SplitRefusedAt cap (Forward low target) AtLimit = ⊥
 SplitRefusedAt cap page Memory = ⊤
-SplitRefusedAt cap page Page = ⊥
+SplitRefusedAt cap page fault = ⊥
 
 abbrev pub SplitRefused : ℕ → List PageType → ℕ → WardFault → Type 0
 SplitRefused cap pages at NoPage = length pages ≤ at

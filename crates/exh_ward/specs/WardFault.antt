@@ -3,7 +3,7 @@ use Rattle.std.specs.Prelude.{◌≡◌, ℕ, ◌<◌, Result, Err}
 use Rattle.exh_frames.specs.declared.pages_fault.PagesFault.{PagesFault}
 use Rattle.exh_frames.specs.declared.pages_fault.PagesFault.TheVariants.{Memory as StoreMemory, Page as StorePage}
 use Rattle.exh_ward.specs.declared.ward_fault.WardFault.{WardFault}
-use Rattle.exh_ward.specs.declared.ward_fault.WardFault.TheVariants.{NoPage, NotLive, NotFull, AtLimit, Memory, Page}
+use Rattle.exh_ward.specs.declared.ward_fault.WardFault.TheVariants.{NoPage, NotLive, NotFull, AtLimit, NoBuddy, BuddySplit, TooMany, Worn, Memory, Page}
 
 -- the refusal that a store's becomes
 abbrev pub fault_of : PagesFault → WardFault
@@ -15,6 +15,10 @@ fault_number NoPage = 1
 fault_number NotLive = 3
 fault_number NotFull = 4
 fault_number AtLimit = 5
+fault_number NoBuddy = 6
+fault_number BuddySplit = 7
+fault_number (TooMany sum) = 8
+fault_number Worn = 9
 fault_number Memory = 10
 fault_number Page = 11
 

@@ -20,5 +20,6 @@ mod laws;
 mod page_index;
 mod reply;
 mod sight;
+mod union;
 mod ward;
 mod ward_fault;

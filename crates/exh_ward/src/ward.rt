@@ -38,6 +38,8 @@ use exh_table::Table;
 use std::alloc::Global;
 use std::marker::Model;
 
+mod merge;
+
 /// The most leading bits by which a file is cut into wards (exhash profile).
 pub const WARD_BITS_LIMIT: u8 = 4;
 

@@ -22,6 +22,18 @@ pub enum WardFault {
     /// The page's prefix has no children: number 5.
     #[error("the page's prefix has the greatest length")]
     AtLimit,
+    /// The page's prefix is the ward's own, or ends in 1: number 6.
+    #[error("the page is no left half")]
+    NoBuddy,
+    /// No live page has the right buddy's prefix: number 7.
+    #[error("the page's right buddy was split")]
+    BuddySplit,
+    /// Both pages have this many records together, more than a page may: number 8.
+    #[error("both pages have {0} records together")]
+    TooMany(usize),
+    /// The number at the parent is the greatest: number 9.
+    #[error("the number at the parent is the greatest")]
+    Worn,
     /// A growth was refused: number 10.
     #[error("out of memory")]
     Memory,
@@ -40,6 +52,10 @@ impl WardFault {
             WardFault::NotLive => 3,
             WardFault::NotFull => 4,
             WardFault::AtLimit => 5,
+            WardFault::NoBuddy => 6,
+            WardFault::BuddySplit => 7,
+            WardFault::TooMany(_) => 8,
+            WardFault::Worn => 9,
             WardFault::Memory => 10,
             WardFault::Page => 11,
         }
