@@ -21,7 +21,7 @@ use Rattle.exh_ward.specs.WardFault.{CountsFailures}
 use Rattle.exh_ward.specs.WardState.{WardState, own_prefix}
 use Rattle.exh_ward.specs.declared.halves.Halves.{Halves}
 use Rattle.exh_ward.specs.declared.ward_fault.WardFault.{WardFault}
-use Rattle.exh_ward.specs.declared.ward_fault.WardFault.TheVariants.{NoPage, NotLive, NotFull, AtLimit, Memory, Page as OutOfReach}
+use Rattle.exh_ward.specs.declared.ward_fault.WardFault.TheVariants.{NoPage, NotLive, NotFull, AtLimit, NoBuddy, BuddySplit, TooMany, Worn, Memory, Page as OutOfReach}
 
 pub halves_in : (r : Result Halves WardFault) (cap : ℕ) (pages : List Page) (at : ℕ) (page : Page) → IsAt pages at page → IfOk r (AreHalvesOf cap page) → IfOk r (λ halves. (old : Page) × IsAt pages at old × AreHalvesOf cap old halves)
 halves_in (Ok halves) cap pages at page is are = (page, is, are)
@@ -34,6 +34,10 @@ refused_by NotFull cap pages at page is refused = (page, is, refused)
 refused_by AtLimit cap pages at page is refused = (page, is, refused)
 refused_by Memory cap pages at page is refused = tt
 refused_by OutOfReach cap pages at page is refused = tt
+refused_by NoBuddy cap pages at page is refused = absurd refused
+refused_by BuddySplit cap pages at page is refused = absurd refused
+refused_by (TooMany sum) cap pages at page is refused = absurd refused
+refused_by Worn cap pages at page is refused = absurd refused
 
 pub refused_in : (r : Result Halves WardFault) (cap : ℕ) (pages : List Page) (at : ℕ) (page : Page) → IsAt pages at page → IfErr r (SplitRefusedAt cap page) → IfErr r (SplitRefused cap pages at)
 refused_in (Ok halves) cap pages at page is refused = tt
@@ -46,6 +50,10 @@ counts_same (Err NotLive) cap page old new refused same = same
 counts_same (Err NotFull) cap page old new refused same = same
 counts_same (Err AtLimit) cap page old new refused same = same
 counts_same (Err Memory) cap page old new refused same = same
+counts_same (Err NoBuddy) cap page old new refused same = same
+counts_same (Err BuddySplit) cap page old new refused same = same
+counts_same (Err (TooMany sum)) cap page old new refused same = same
+counts_same (Err Worn) cap page old new refused same = same
 counts_same (Err OutOfReach) cap page old new refused same = absurd refused
 
 -- a page of pages without records is one with them

@@ -16,3 +16,4 @@ pub mod HalvesSteps
 pub mod TableSince
 pub mod ChangeSteps
 pub mod SplitSteps
+pub mod MergeSteps

@@ -240,16 +240,22 @@ impl<P: Pages + Drop, K: Keyer> Ward<P, K> {
         requires { number_at self.now.table prefix ≢ u32.MAX }
         ensures { result ≡ next_notice self.now.number self.now.table prefix kind }
     {
-        let number = match self.table.get(prefix) {
-            Some(entry) => entry.number,
-            None => 0,
-        };
         Notice {
             ward: self.number,
             index: self.told + self.notices.len() as u64 + 1,
             prefix,
-            number: number + 1,
+            number: self.number_at(prefix) + 1,
             kind,
+        }
+    }
+
+    // The number at a prefix.
+    fn number_at(&self, prefix: Prefix) -> u32
+        ensures { result ≡ number_at self.now.table prefix }
+    {
+        match self.table.get(prefix) {
+            Some(entry) => entry.number,
+            None => 0,
         }
     }
 

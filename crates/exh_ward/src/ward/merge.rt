@@ -1,5 +1,4 @@
 ghost use Rattle.std.specs.Prelude.{◌≡◌, IfOk, IfErr, OnErr};
-ghost use Rattle.exh_legal.specs.Numbers.{number_at};
 ghost use Rattle.exh_ward.specs.MergeStep.{IsMergeStep, MergeRefused};
 ghost use Rattle.exh_ward.specs.Union.{AreUnited};
 ghost use Rattle.exh_ward.specs.WardFault.{CountsFailures};
@@ -13,7 +12,6 @@ use exh_keyer::Keyer;
 use exh_legal::{live_left_children_merge, merges_keep_legal, pages_are_few};
 use exh_notice::{Kind, Notice};
 use exh_page::{PageNo, buddies_unite};
-use exh_prefix::Prefix;
 
 impl<P: Pages + Drop, K: Keyer> Ward<P, K> {
     /// Merges a live page, the left half of its parent, with the live page of the right half, and
@@ -61,15 +59,5 @@ impl<P: Pages + Drop, K: Keyer> Ward<P, K> {
         let parent = parent_of(&left, self.own)?;
         let right = right_page(&self.table, parent);
         Union::of(&left, self.store.lend(right)?, parent, right, self.cap)
-    }
-
-    // The number at a prefix.
-    fn number_at(&self, prefix: Prefix) -> u32
-        ensures { result ≡ number_at self.now.table prefix }
-    {
-        match self.table.get(prefix) {
-            Some(entry) => entry.number,
-            None => 0,
-        }
     }
 }
