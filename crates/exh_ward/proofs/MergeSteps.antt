@@ -1,5 +1,5 @@
 -- A merge of two pages of a ward: what it finds, the pages that it leaves, and its notice.
-use Rattle.std.proofs.Common.{◌≡◌, ℕ, ◌+◌, ◌-◌, ◌<◌, ◌≤◌, ◌^◌, Bool, true, false, List, [], ◌∷◌, ◌++◌, length, slice_get, Option, None, Some, IsSome, Result, Ok, Err, IfOk, IfErr, ◌⊎◌, inl, inr, refl, sym, ap, ◌∙◌, subst, arith}
+use Rattle.std.proofs.Common.{◌≡◌, ℕ, ◌+◌, ◌-◌, ◌<◌, ◌≤◌, ◌^◌, Bool, true, false, List, [], ◌∷◌, ◌++◌, length, Option, Some, IsSome, Result, Ok, Err, IfOk, IfErr, inl, inr, refl, sym, ap, ◌∙◌, subst, arith}
 use Rattle.std.specs.Prelude.{slice_set}
 use Rattle.std.proofs.lemmas.List.{length-append, length-set}
 use Rattle.std.proofs.lemmas.Option.{slice_get_within}
@@ -13,16 +13,15 @@ use Rattle.exh_page.specs.declared.page.Page.{Page}
 use Rattle.exh_page.specs.declared.page.Page.TheVariants.{Live, Forward}
 use Rattle.exh_page.specs.declared.record.Record.{Record}
 use Rattle.exh_page.specs.Laws.{AreOfWords, BuddiesUnite}
-use Rattle.exh_page.specs.Page.{AreRecordsOf, IsLive, IsWellFormed, low_bound, records_of, with_records}
+use Rattle.exh_page.specs.Page.{AreRecordsOf, IsLive, IsWellFormed, low_bound, records_of}
 use Rattle.exh_page.specs.Records.{IsRising}
 use Rattle.exh_legal.specs.BareLemmas.{bare_at}
 use Rattle.exh_legal.specs.Change.{IsMerge}
-use Rattle.exh_legal.specs.Growth.{IsPageOf}
 use Rattle.exh_legal.specs.Laws.{IsMergeable, LiveLeftChildrenMerge, MergesKeepLegal}
 use Rattle.exh_legal.specs.LowLemmas.{left_keeps, right_above}
 use Rattle.exh_legal.specs.MapLemmas.{page_at}
 use Rattle.exh_legal.specs.Numbers.{next_notice}
-use Rattle.exh_legal.specs.Pages.{IsAt, IsLegalPage, IsWithin, bare}
+use Rattle.exh_legal.specs.Pages.{IsAt, IsLegalPage, IsWithin}
 use Rattle.exh_ward.specs.Kept.{IsKept}
 use Rattle.exh_ward.specs.MergeStep.{IsLeftChild, HasNoBuddy, MergeRefused, IsMergeStep}
 use Rattle.exh_ward.specs.PageIndex.{IndexMap}
@@ -104,9 +103,14 @@ module _ {K : Type 0} {pseudo : List ℕ → ℕ} {takes : Page → Type 0} {own
           union_refused NotFull refused = absurd refused
           union_refused AtLimit refused = absurd refused
           union_refused NoBuddy refused = absurd refused
-          union_refused BuddySplit refused = (parent, half.records, left_child, λ others (number, link, is).
-              let here : number ≡ right = mergeable.buddy number (link, others, is) ∙ right_is in
-              refused link others (same_there w.pages right buddy _ is_buddy (subst (λ n. IsAt w.pages n (Live (parent ++ true ∷ []) link others)) here is)))
+          union_refused BuddySplit refused = (
+            parent,
+            half.records,
+            left_child,
+            λ others (number, link, is).
+                let here : number ≡ right = mergeable.buddy number (link, others, is) ∙ right_is in
+                refused link others (same_there w.pages right buddy _ is_buddy (subst (λ n. IsAt w.pages n (Live (parent ++ true ∷ []) link others)) here is)),
+          )
           union_refused (TooMany sum) (link, others, live, sum_is, more) =
               (parent, half.records, others, left_child, (right, link, is_buddy ∙ ap Some live), sum_is ∙ ap (λ (records : List Record). length records + length others) own_records, more)
           union_refused Worn refused = absurd refused

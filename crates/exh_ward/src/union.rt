@@ -117,10 +117,12 @@ pub(crate) fn right_page(table: &Table, prefix: Prefix) -> PageNo
     ensures { split_at table.now prefix ≡ Some result }
 {
     match table.get(prefix) {
-        Some(Entry {
-            kind: Kind::Split { right },
-            ..
-        }) => right,
+        Some(
+            Entry {
+                kind: Kind::Split { right },
+                ..
+            },
+        ) => right,
         _ => unreachable!(),
     }
 }

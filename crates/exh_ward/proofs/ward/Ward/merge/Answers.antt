@@ -1,4 +1,4 @@
-use Rattle.std.proofs.Common.{ℕ, sym, subst}
+use Rattle.std.proofs.Common.{subst}
 use Rattle.exh_ward.specs.MergeStep.{IsMergeStep}
 use Rattle.exh_ward.specs.WardState.{WardState}
 use Rattle.exh_ward.proofs.MergeSteps.{still_united, merge_changed, merge_step, twin_formed}

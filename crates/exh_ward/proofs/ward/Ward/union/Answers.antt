@@ -1,4 +1,4 @@
-use Rattle.std.proofs.Common.{◌≡◌, ℕ, ◌<◌, length, List, Bool, Result, Ok, Err, IfOk, IfErr, IsErrAnd, IsSome, refl, sym, ap, ◌∙◌, subst}
+use Rattle.std.proofs.Common.{◌≡◌, ◌<◌, length, List, Result, Ok, Err, IfOk, IfErr, IsErrAnd, refl, sym, subst}
 use Rattle.exh_page.specs.declared.page.Page.{Page}
 use Rattle.exh_legal.specs.Pages.{IsAt}
 use Rattle.exh_ward.specs.MergeStep.{MergeRefused}
