@@ -4,12 +4,13 @@ ghost use Rattle.exh_prefix.specs.declared.prefix.TheConstants.{LIMIT};
 ghost use Rattle.exh_notice.specs.declared.notice.Notice.{Notice as NoticeType};
 
 use crate::{LeafSet, MapMachine, PairMap, greatest_at, greatest_of};
+use exh_frames::PlainPages;
 use exh_keyer::{AnyKeyer, Keyer, PlainKeyer};
 use exh_notice::{Entry, Kind, Notice};
 use exh_page::{Key, SizeFault, Value};
 use exh_prefix::{LIMIT, Prefix};
 use exh_table::Table;
-use exh_ward::{Call, Hop, Reply, Ward};
+use exh_ward::{Call, Hop, Reply, Ward, first_page};
 use std::alloc::{AllocError, Global};
 use std::process::Abort;
 use std::test::Fail;
@@ -312,10 +313,10 @@ fn next_call(dice: &mut Dice) -> Result<Call, SizeFault> {
     }
 }
 
-// A call's reply by the ward's hops, from page 0 on.
+// A call's reply by the ward's hops, from page 0 on; a page that is full is split, and tried again.
 fn reply_of(
     rt: &(impl Abort + AllocGlobal),
-    ward: &mut Ward<PlainKeyer>,
+    ward: &mut Ward<PlainPages, PlainKeyer>,
     call: &Call,
 ) -> Result<Reply, Fail> {
     let mut at = 0;
@@ -325,28 +326,38 @@ fn reply_of(
         match ward.hop(at, 1, call)? {
             Hop::Done(reply) => return Ok(reply),
             Hop::Moved(to) => at = to,
-            Hop::MustSplit | Hop::Stray => break,
+            Hop::MustSplit => {
+                ward.split(at)?;
+            }
+            Hop::Stray => break,
         }
     }
     Err("no reply")?
 }
 
-// A thousand calls of one ward of one page: its replies are the slow program's, and so is its journal.
+// A thousand calls of one ward that splits its pages of two records: its replies are the slow
+// program's, and so is its journal; what it tells of its pages is one notice a split.
 #[test]
 fn wards_beside(rt: HostRuntime) -> Result<(), Fail> {
     let mut dice = Dice { state: 1979 };
-    let mut ward = Ward::new(rt.alloc(), 16, 0, 0, PlainKeyer);
-    let mut machine = MapMachine::new(rt.alloc(), 16, PlainKeyer);
+    let store = PlainPages::new(rt.alloc(), first_page(rt.alloc(), 0, 0))?;
+    let mut ward = Ward::new(rt.alloc(), store, 2, 0, 0, PlainKeyer);
+    let mut machine = MapMachine::new(rt.alloc(), 2, PlainKeyer);
+    let mut any_full = false;
     for _ in 0..1000 {
         let call = next_call(&mut dice)?;
         let reply = machine.answer(&call)?;
         assert_eq!(rt; reply_of(&rt, &mut ward, &call)?, reply, "{call:?}");
+        any_full |= reply == Reply::Full;
     }
-    let mut again = MapMachine::new(rt.alloc(), 16, PlainKeyer);
+    assert!(rt; any_full);
+    let mut again = MapMachine::new(rt.alloc(), 2, PlainKeyer);
     for entry in ward.journal() {
         assert_eq!(rt; again.answer(&entry.call)?, entry.reply);
     }
     assert_eq!(rt; again.map().pairs(), machine.map().pairs());
+    assert!(rt; ward.page_count() > 2);
+    assert_eq!(rt; ward.notices_after(0).len() + 1, ward.page_count() as usize);
     Ok(())
 }
 
