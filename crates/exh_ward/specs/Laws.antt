@@ -1,8 +1,10 @@
 -- Laws of the hop table and of histories, that the crates above cite.
-use Rattle.std.specs.Prelude.{◌≡◌, ℕ, List, [], ◌∷◌, ◌++◌, map}
+use Rattle.std.specs.Prelude.{◌≡◌, ℕ, ◌<◌, ◌≤◌, ◌^◌, Bool, List, [], ◌∷◌, ◌++◌, length, map}
+use Rattle.exh_prefix.specs.declared.prefix.TheConstants.{LIMIT}
+use Rattle.exh_prefix.specs.Prefix.{Begins}
 use Rattle.exh_page.specs.declared.page.Page.{Page}
 use Rattle.exh_ward.specs.KeyMap.{KeyMap}
-use Rattle.exh_ward.specs.MapMachine.{reply_of, map_after}
+use Rattle.exh_ward.specs.MapMachine.{leading, reply_of, map_after}
 use Rattle.exh_ward.specs.History.{IsHistory, map_left}
 use Rattle.exh_ward.specs.HopTable.{HopOf}
 use Rattle.exh_ward.specs.declared.call.Call.{Call}
@@ -36,3 +38,11 @@ abbrev pub HistoryIsDetermined : Type 0
 HistoryIsDetermined = (cap : ℕ) (pseudo : List ℕ → ℕ) (base : KeyMap) (one other : List JournalEntry)
     → IsHistory cap pseudo base one → IsHistory cap pseudo base other → calls_of one ≡ calls_of other
     → (replies_of one ≡ replies_of other) × (map_left cap pseudo base one ≡ map_left cap pseudo base other)
+
+-- a prefix that begins a pseudokey begins all that share its leading bits, as Full counts them; and one of LIMIT bits begins no others
+pub record AreSharers (prefix : List Bool) (one other : ℕ) : Type 0 where
+  pub begun : Begins prefix one → leading other ≡ leading one → Begins prefix other
+  pub alone : length prefix ≡ LIMIT → Begins prefix one → Begins prefix other → leading other ≡ leading one
+
+abbrev pub SharersBegin : Type 0
+SharersBegin = (prefix : List Bool) (one other : ℕ) → length prefix ≤ LIMIT → one < 2 ^ 64 → other < 2 ^ 64 → AreSharers prefix one other

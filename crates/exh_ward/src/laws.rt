@@ -1,7 +1,7 @@
 //! What holds of the hop table and of all histories, for the proofs of callers. Each function does
 //! nothing.
 
-ghost use Rattle.exh_ward.specs.Laws.{OneHop, HistoriesGoOn, HistoryIsDetermined};
+ghost use Rattle.exh_ward.specs.Laws.{OneHop, SharersBegin, HistoriesGoOn, HistoryIsDetermined};
 
 /// A call at a page comes to one outcome at most, for any list of pages.
 pub fn one_hop()
@@ -17,4 +17,10 @@ pub fn histories_go_on()
 /// The calls of a history decide its replies and the map that it leaves.
 pub fn history_is_determined()
     ensures { HistoryIsDetermined }
+{}
+
+/// A prefix that begins a pseudokey begins all that share its leading bits as `Full` counts them, and
+/// one of `LIMIT` bits begins no others.
+pub fn sharers_begin()
+    ensures { SharersBegin }
 {}
