@@ -1,0 +1,35 @@
+-- What holds of each effect holds of every step that isn't refused.
+use Rattle.std.proofs.Common.{ℕ, List}
+use Rattle.exh_notice.specs.declared.notice.Notice.{Notice}
+use Rattle.exh_ward.specs.MergeStep.{IsMergeStep}
+use Rattle.exh_ward.specs.SplitStep.{IsSplitStep}
+use Rattle.exh_ward.specs.declared.call.Call.{Call}
+use Rattle.exh_ward.specs.declared.hop.Hop.{Hop as HopOutcome}
+use Rattle.exh_world.specs.Step.{HasBegun, HasHopped, HasChanged, HasTaken, HasSent, HasJoined, HasRestarted, HasEffect}
+use Rattle.exh_world.specs.World.{WorldState}
+use Rattle.exh_world.specs.declared.event.Event.{Event}
+use Rattle.exh_world.specs.declared.event.Event.TheVariants.{Begin, Hop as HopOn, Split, Merge, Deliver, Send, Combine, Restart}
+use Rattle.exh_world.specs.declared.outcome.Outcome.{Outcome}
+use Rattle.exh_world.specs.declared.outcome.Outcome.TheVariants.{Begun, Hopped, Changed, Taken, Sent, Joined, Restarted}
+
+module _ {K : Type 0} (pseudokey_of : K → List ℕ → ℕ) (old : WorldState K) (P : Event → Outcome → WorldState K → Type 0) where
+  pub record ForEach : Type 0 where
+    pub begun : (name client copy : ℕ) (call : Call) (ward page : ℕ) (new : WorldState K) → HasBegun pseudokey_of old name client copy call ward page new → P (Begin name client copy call) (Begun ward page) new
+    pub hopped : (name ward : ℕ) (hop : HopOutcome) (new : WorldState K) → HasHopped pseudokey_of old name ward hop new → P (HopOn name) (Hopped ward hop) new
+    pub split : (ward page : ℕ) (notice : Notice) (new : WorldState K) → HasChanged IsSplitStep old ward page notice new → P (Split ward page) (Changed notice) new
+    pub merge : (ward page : ℕ) (notice : Notice) (new : WorldState K) → HasChanged IsMergeStep old ward page notice new → P (Merge ward page) (Changed notice) new
+    pub taken : (copy ward index : ℕ) (notice : Notice) (new : WorldState K) → HasTaken old copy ward index notice new → P (Deliver copy ward index) (Taken notice) new
+    pub sent : (copy number : ℕ) (new : WorldState K) → HasSent old copy number new → P (Send copy) (Sent number) new
+    pub joined : (copy table : ℕ) (new : WorldState K) → HasJoined old copy table new → P (Combine copy table) Joined new
+    pub restarted : (copy : ℕ) (new : WorldState K) → HasRestarted old copy new → P (Restart copy) Restarted new
+
+  pub on_effect : ForEach → (event : Event) (outcome : Outcome) (new : WorldState K) → HasEffect pseudokey_of old event outcome new → P event outcome new
+  on_effect each (Begin name client copy call) (Begun ward page) new has = each.begun name client copy call ward page new has
+  on_effect each (HopOn name) (Hopped ward hop) new has = each.hopped name ward hop new has
+  on_effect each (Split ward page) (Changed notice) new has = each.split ward page notice new has
+  on_effect each (Merge ward page) (Changed notice) new has = each.merge ward page notice new has
+  on_effect each (Deliver copy ward index) (Taken notice) new has = each.taken copy ward index notice new has
+  on_effect each (Send copy) (Sent number) new has = each.sent copy number new has
+  on_effect each (Combine copy table) Joined new has = each.joined copy table new has
+  on_effect each (Restart copy) Restarted new has = each.restarted copy new has
+  on_effect each event outcome new has = absurd has

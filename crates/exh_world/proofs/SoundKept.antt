@@ -1,0 +1,120 @@
+-- A world stays sound where one of its wards changes and every page keeps its number and low bound.
+use Rattle.std.proofs.Common.{◌≡◌, ℕ, Bool, true, List, [], ◌∷◌, ◌++◌, slice_get, Some, inl, inr, sym, ◌∙◌, subst, arith}
+use Rattle.std.specs.Prelude.{slice_set, ◌↔◌}
+use Rattle.std.proofs.lemmas.Bool.{cases_eq}
+use Rattle.exh_prefix.specs.Prefix.{low_of}
+use Rattle.exh_notice.specs.declared.entry.Kind.{Kind}
+use Rattle.exh_notice.specs.declared.entry.Kind.TheVariants.{Split, Merge}
+use Rattle.exh_notice.specs.declared.notice.Notice.{Notice}
+use Rattle.exh_table.specs.Leaves.{PrefixSet, after_kind, leaves_after}
+use Rattle.exh_table.specs.Table.{TableMap}
+use Rattle.exh_page.specs.declared.page.Page.{Page}
+use Rattle.exh_legal.specs.Growth.{IsPageOf}
+use Rattle.exh_legal.specs.Laws.{KeepsPlaces}
+use Rattle.exh_legal.specs.Pages.{ward_prefix}
+use Rattle.exh_ward.specs.WardState.{WardState}
+use Rattle.exh_world.specs.InFlight.{Requests}
+use Rattle.exh_world.specs.Sound.{IsBelow, LeadsRight, IsTrueNotice, IsWardOf, LeadsRightIn, IsOnTheWay, IsSoundWorld}
+use Rattle.exh_world.specs.World.{WorldState}
+use Rattle.exh_world.specs.declared.request.Request.{Request}
+use Rattle.exh_world.proofs.Lists.{length_set, set_here, set_else, set_is, one_there}
+use Rattle.exh_world.proofs.RequestsKept.{AllRequests}
+
+-- ---- pages that keep their places
+
+module _ (pages new : List Page) (places : KeepsPlaces pages new) where
+  pub page_kept : (low number : ℕ) → IsPageOf pages low number → IsPageOf new low number
+  page_kept low number is = let kept = places number is.0 is.1 in (kept.0, kept.1, kept.2 ∙ is.2)
+
+  pub below_kept : (number pseudokey : ℕ) → IsBelow pages number pseudokey → IsBelow new number pseudokey
+  below_kept number pseudokey is = let kept = places number is.0 is.1 in (kept.0, kept.1, omega (arith, is.2, kept.2))
+
+  pub leads_kept : (ward : List Bool) (table : TableMap) → LeadsRight ward pages table → LeadsRight ward new table
+  leads_kept ward table leads prefix right front split = page_kept (low_of (prefix ++ true ∷ [])) right (leads prefix right front split)
+
+  pub notice_kept : (ward : List Bool) (notice : Notice) → IsTrueNotice ward pages notice → IsTrueNotice ward new notice
+  notice_kept ward notice is = record { within = is.within; right = λ right kind. page_kept (low_of (notice.prefix ++ true ∷ [])) right (is.right right kind) }
+
+-- ---- leaves after one change more
+
+pub leaves_push_to : (leaves : PrefixSet) (changes : List Notice) (change : Notice) (prefix : List Bool)
+    → leaves_after leaves (changes ++ change ∷ []) prefix → after_kind (leaves_after leaves changes) change.prefix change.kind prefix
+leaves_push_to leaves [] change prefix is = is
+leaves_push_to leaves (first ∷ changes) change prefix is = leaves_push_to (after_kind leaves first.prefix first.kind) changes change prefix is
+
+pub leaves_push_from : (leaves : PrefixSet) (changes : List Notice) (change : Notice) (prefix : List Bool)
+    → after_kind (leaves_after leaves changes) change.prefix change.kind prefix → leaves_after leaves (changes ++ change ∷ []) prefix
+leaves_push_from leaves [] change prefix is = is
+leaves_push_from leaves (first ∷ changes) change prefix is = leaves_push_from (after_kind leaves first.prefix first.kind) changes change prefix is
+
+alike_after : (one other : PrefixSet) → ((prefix : List Bool) → one prefix → other prefix) → (at : List Bool) (kind : Kind) (prefix : List Bool) → after_kind one at kind prefix → after_kind other at kind prefix
+alike_after one other weaker at (Split right) prefix (inl kept) = inl (weaker prefix kept.0, kept.1)
+alike_after one other weaker at (Split right) prefix (inr child) = inr child
+alike_after one other weaker at Merge prefix (inl kept) = inl (weaker prefix kept.0, kept.1)
+alike_after one other weaker at Merge prefix (inr parent) = inr parent
+
+-- two sets of leaves that are alike stay so
+pub alike_push : (one other : PrefixSet) (fore aft : List Notice) (change : Notice) → ((prefix : List Bool) → leaves_after one fore prefix ↔ leaves_after other aft prefix)
+    → (prefix : List Bool) → leaves_after one (fore ++ change ∷ []) prefix ↔ leaves_after other (aft ++ change ∷ []) prefix
+alike_push one other fore aft change alike prefix = (
+  λ is. leaves_push_from other aft change prefix (alike_after _ _ (λ p. (alike p).0) change.prefix change.kind prefix (leaves_push_to one fore change prefix is)),
+  λ is. leaves_push_from one fore change prefix (alike_after _ _ (λ p. (alike p).1) change.prefix change.kind prefix (leaves_push_to other aft change prefix is)),
+)
+
+-- ---- one ward changed
+
+module _ {K : Type 0} (pseudokey_of : K → List ℕ → ℕ) (old : WorldState K) (sound : IsSoundWorld pseudokey_of old) (at : ℕ) (before left : WardState K) (found : slice_get old.wards at ≡ Some before) (places : KeepsPlaces before.pages left.pages) (requests : Requests) where
+  abbrev pub after : WorldState K
+  after = record old { wards = slice_set old.wards at left; in_flight = requests }
+
+  other_ward : (number : ℕ) (ward : WardState K) → IsWardOf pseudokey_of old number ward → IsWardOf pseudokey_of after number ward
+  other_ward number ward is = record {
+    cap = is.cap;
+    bits = is.bits;
+    number_is = is.number_is;
+    keyer = is.keyer;
+    sound = is.sound;
+    notices = is.notices;
+    before = is.before;
+    noticed = is.noticed;
+    first = is.first;
+    directory = is.directory;
+  }
+
+  leads_after : (table : TableMap) → LeadsRightIn old table → LeadsRightIn after table
+  leads_after table leads number ward is = elim (set_is old.wards at number before left ward found is) [
+    | inl here ↦
+        let kept = leads_kept before.pages left.pages places (ward_prefix old.ward_bits at) table (leads at before found) in
+        let P : ℕ → WardState K → Type 0 = λ n w. LeadsRight (ward_prefix old.ward_bits n) w.pages table in
+        subst (λ n. P n ward) (sym here.0) (subst (λ w. P at w) (sym here.1) kept)
+    | inr else ↦ leads number ward else.1
+  ]
+
+  -- a request that was on its way still is
+  pub way_kept : (request : Request) → IsOnTheWay pseudokey_of old request → IsOnTheWay pseudokey_of after request
+  way_kept request is = elim (cases_eq request.ward at) [
+    | inl here ↦ record {
+      pseudokey_is = is.pseudokey_is;
+      ward = left;
+      there = subst (λ n. slice_get (slice_set old.wards at left) n ≡ Some left) (sym here) (set_here old.wards at before left found);
+      begins = is.begins;
+      below = below_kept before.pages left.pages places request.page request.pseudokey
+          (subst (λ (w : WardState K). IsBelow w.pages request.page request.pseudokey) (one_there old.wards at is.ward before (subst (λ n. slice_get old.wards n ≡ Some is.ward) here is.there) found) is.below);
+    }
+    | inr else ↦ record { pseudokey_is = is.pseudokey_is; ward = is.ward; there = set_else old.wards at request.ward left else ∙ is.there; begins = is.begins; below = is.below }
+  ]
+
+  pub sound_after : IsWardOf pseudokey_of after at left → AllRequests (IsOnTheWay pseudokey_of after) requests → IsSoundWorld pseudokey_of after
+  sound_after left_is on_the_way = record {
+    bits = sound.bits;
+    words = sound.words;
+    count = length_set old.wards at left ∙ sound.count;
+    wards = λ number ward is. elim (set_is old.wards at number before left ward found is) [
+      | inl here ↦ subst (λ n. IsWardOf pseudokey_of after n ward) (sym here.0) (subst (λ w. IsWardOf pseudokey_of after at w) (sym here.1) left_is)
+      | inr else ↦ other_ward number ward (sound.wards number ward else.1)
+    ];
+    start = leads_after old.start sound.start;
+    copies = λ copy table is. leads_after table (sound.copies copy table is);
+    sent = λ number table is. leads_after table (sound.sent number table is);
+    requests = on_the_way;
+  }

@@ -1,0 +1,26 @@
+-- Laws of worlds.
+use Rattle.std.specs.Prelude.{◌≡◌, ℕ, List, map, slice_get, Some, All, Result}
+use Rattle.exh_ward.specs.WardState.{WardState, IsSoundWard}
+use Rattle.exh_world.specs.Headline.{IsHeadline}
+use Rattle.exh_world.specs.Run.{Moment, IsRun}
+use Rattle.exh_world.specs.Sound.{IsSoundWorld}
+use Rattle.exh_world.specs.Step.{Step}
+use Rattle.exh_world.specs.World.{WorldState}
+use Rattle.exh_world.specs.declared.event.Event.{Event}
+use Rattle.exh_world.specs.declared.outcome.Outcome.{Outcome}
+use Rattle.exh_world.specs.declared.step_fault.StepFault.{StepFault}
+
+-- each ward of the world is sound, which is what a ward's own calls promise
+abbrev pub AreWardsSound : {K : Type 0} → (K → List ℕ → ℕ) → WorldState K → Type 0
+AreWardsSound {K} pseudokey_of world = (number : ℕ) (ward : WardState K) → slice_get world.wards number ≡ Some ward → IsSoundWard pseudokey_of ward
+
+-- a step leaves a sound world sound, as far as its wards are
+abbrev pub StepsKeepWorldsSound : {K : Type 0} → (K → List ℕ → ℕ) → Type 0
+StepsKeepWorldsSound {K} pseudokey_of = (old : WorldState K) (event : Event) (result : Result Outcome StepFault) (new : WorldState K)
+    → IsSoundWorld pseudokey_of old → Step pseudokey_of old event result new → AreWardsSound pseudokey_of new → IsSoundWorld pseudokey_of new
+
+-- every run from a sound world, over wards that stay sound, carries the headline
+abbrev pub RunsCarryTheHeadline : {K : Type 0} → (K → List ℕ → ℕ) → Type 0
+RunsCarryTheHeadline {K} pseudokey_of = (start : WorldState K) (moments : List (Moment K)) (end : WorldState K)
+    → IsSoundWorld pseudokey_of start → All (λ (moment : Moment K). AreWardsSound pseudokey_of moment.after) moments → IsRun pseudokey_of start moments end
+    → IsHeadline pseudokey_of start (map (λ moment. moment.turn) moments) end

@@ -1,0 +1,33 @@
+//! What holds of every step and every run of a world. Each function does nothing.
+
+ghost use Rattle.exh_world.specs.Laws.{RunsCarryTheHeadline, StepsKeepWorldsSound};
+
+use exh_keyer::Keyer;
+use exh_legal::{right_links_lead_on, targets_lead_on};
+use exh_table::{
+    members_decide, one_notice_more_is_taken, own_entries_give_the_table, union_is_join,
+};
+use exh_ward::sharers_begin;
+
+/// A step leaves a sound world sound, as far as the ward that it changes is.
+pub fn steps_keep_worlds_sound<K: Keyer>()
+    ensures { StepsKeepWorldsSound K.pseudokey_of }
+{
+    right_links_lead_on();
+    targets_lead_on();
+}
+
+/// Over every list of requests, hops, splits, merges, restarts and deliveries, late, lost or repeated,
+/// copies that took the same notices are equal, and combining two is their least upper bound; a
+/// request begun at any copy is answered only at the page that the current directory names (Fagin et
+/// al. 1979); and the replies, in the order of the answering hops, are one map's.
+pub fn runs_carry_the_headline<K: Keyer>()
+    ensures { RunsCarryTheHeadline K.pseudokey_of }
+{
+    steps_keep_worlds_sound::<K>();
+    own_entries_give_the_table();
+    one_notice_more_is_taken();
+    union_is_join();
+    members_decide();
+    sharers_begin();
+}

@@ -1,0 +1,17 @@
+//! A world: the wards of an extendible hash file (Fagin et al. 1979), the copies of its directory, and the requests in
+//! flight, with whatever may happen to them as an event (exhash profile).
+#![tactic(auto)]
+
+pub use event::Event;
+pub use laws::{runs_carry_the_headline, steps_keep_worlds_sound};
+pub use outcome::Outcome;
+pub use request::Request;
+pub use step_fault::StepFault;
+pub use turn::Turn;
+
+mod event;
+mod laws;
+mod outcome;
+mod request;
+mod step_fault;
+mod turn;

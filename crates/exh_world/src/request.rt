@@ -1,0 +1,13 @@
+use exh_prefix::PageNo;
+use exh_ward::Call;
+
+/// A request in flight: who asks what, and the page that it has come to (exhash profile).
+#[derive(Clone, Copy, Debug, PartialEq, Eq)]
+pub struct Request {
+    pub client: u32,
+    pub call: Call,
+    /// The pseudokey of the call's key, so that the key is hashed once however often it hops.
+    pub pseudokey: u64,
+    pub ward: u8,
+    pub page: PageNo,
+}

@@ -1,0 +1,8 @@
+use crate::{Event, Outcome, StepFault};
+
+/// An event with what it came to, or why it was refused (exhash profile).
+#[derive(Clone, Copy, Debug, PartialEq, Eq)]
+pub struct Turn {
+    pub event: Event,
+    pub result: Result<Outcome, StepFault>,
+}
