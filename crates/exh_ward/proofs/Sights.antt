@@ -41,7 +41,7 @@ home_live (Forward low target) pseudokey home = absurd home
 
 module _ {cap : ℕ} {pseudo : List ℕ → ℕ} {ward : List Bool} {pages : List Page} (legal : IsLegal cap pseudo ward pages) (at : ℕ) (call : Call) where
   -- an overflow by the page's records is one by the map
-  over_by_map : (call : Call) (prefix : List Bool) (link : Option ℕ) (records : List Record) → IsAt pages at (Live prefix link records) → Begins prefix (pseudo (key_of call)) → OverflowsPage cap (pseudo (key_of call)) (Live prefix link records) call
+  pub over_by_map : (call : Call) (prefix : List Bool) (link : Option ℕ) (records : List Record) → IsAt pages at (Live prefix link records) → Begins prefix (pseudo (key_of call)) → OverflowsPage cap (pseudo (key_of call)) (Live prefix link records) call
       → Overflows cap (map_of pages) (Live prefix link records) call
   over_by_map (Put key value) prefix link records is begins over = (get-map_of cap pseudo ward pages at _ key legal is begins ∙ over.2, over.0, over.1)
   over_by_map (Get key) prefix link records is begins over = over

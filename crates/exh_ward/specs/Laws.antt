@@ -6,9 +6,11 @@ use Rattle.exh_page.specs.declared.page.Page.{Page}
 use Rattle.exh_ward.specs.KeyMap.{KeyMap}
 use Rattle.exh_ward.specs.MapMachine.{leading, reply_of, map_after}
 use Rattle.exh_ward.specs.History.{IsHistory, map_left}
-use Rattle.exh_ward.specs.HopTable.{HopOf}
+use Rattle.exh_ward.specs.HopTable.{HopOf, hop_of, pages_after}
+use Rattle.exh_ward.specs.Pages.{IsLegal, map_of}
 use Rattle.exh_ward.specs.declared.call.Call.{Call}
 use Rattle.exh_ward.specs.declared.hop.Hop.{Hop}
+use Rattle.exh_ward.specs.declared.hop.Hop.TheVariants.{Done}
 use Rattle.exh_ward.specs.declared.journal_entry.JournalEntry.{JournalEntry}
 use Rattle.exh_ward.specs.declared.reply.Reply.{Reply}
 
@@ -16,6 +18,21 @@ use Rattle.exh_ward.specs.declared.reply.Reply.{Reply}
 abbrev pub OneHop : Type 0
 OneHop = (cap : ℕ) (pseudo : List ℕ → ℕ) (pages : List Page) (at : ℕ) (call : Call) (one other : Hop)
     → HopOf cap pseudo pages at call one → HopOf cap pseudo pages at call other → one ≡ other
+
+-- what the relation says of a hop, the function computes
+abbrev pub HopsAreComputed : Type 0
+HopsAreComputed = (cap : ℕ) (pseudo : List ℕ → ℕ) (pages : List Page) (at : ℕ) (call : Call) (hop : Hop) → HopOf cap pseudo pages at call hop → hop ≡ hop_of cap pseudo pages at call
+
+-- the pages after an answer are legal, and hold the map machine's map
+pub record IsLegalAnswer (cap : ℕ) (pseudo : List ℕ → ℕ) (ward : List Bool) (pages : List Page) (call : Call) (new : List Page) : Type 0 where
+  pub legal : IsLegal cap pseudo ward new
+  pub map : map_of new ≡ map_after cap pseudo (map_of pages) call
+
+abbrev pub AnswersKeepLegal : Type 0
+AnswersKeepLegal =
+    (cap : ℕ) (pseudo : List ℕ → ℕ) (ward : List Bool) (pages : List Page) (at : ℕ) (call : Call) (reply : Reply)
+    → ((key : List ℕ) → pseudo key < 2 ^ 64) → IsLegal cap pseudo ward pages → HopOf cap pseudo pages at call (Done reply)
+    → IsLegalAnswer cap pseudo ward pages call (pages_after pseudo pages at call reply)
 
 -- one entry more, whose reply is the map machine's over the map left, makes a history whose map is the map machine's
 pub record IsLonger (cap : ℕ) (pseudo : List ℕ → ℕ) (base : KeyMap) (journal : List JournalEntry) (entry : JournalEntry) : Type 0 where

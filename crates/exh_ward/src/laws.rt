@@ -1,11 +1,21 @@
 //! What holds of the hop table and of all histories, for the proofs of callers. Each function does
 //! nothing.
 
-ghost use Rattle.exh_ward.specs.Laws.{OneHop, SharersBegin, HistoriesGoOn, HistoryIsDetermined};
+ghost use Rattle.exh_ward.specs.Laws.{OneHop, HopsAreComputed, AnswersKeepLegal, SharersBegin, HistoriesGoOn, HistoryIsDetermined};
 
 /// A call at a page comes to one outcome at most, for any list of pages.
 pub fn one_hop()
     ensures { OneHop }
+{}
+
+/// The hop table as a function gives what it says as a relation, for any list of pages.
+pub fn hops_are_computed()
+    ensures { HopsAreComputed }
+{}
+
+/// An answer at legal pages leaves them legal, with the map machine's map.
+pub fn answers_keep_legal()
+    ensures { AnswersKeepLegal }
 {}
 
 /// A history goes on with the map machine's reply over the map that it leaves, and then leaves the
