@@ -7,11 +7,11 @@ use Rattle.std.specs.Option.{option_map_or}
 use Rattle.std.proofs.lemmas.Bool.{eqb-true}
 use Rattle.std.proofs.lemmas.List.{append-nil}
 use Rattle.std.proofs.lemmas.List.Elements.{All-nil, All-cons, All-append}
-use Rattle.exh_lone.specs.declared.call.Call.{Call}
-use Rattle.exh_lone.specs.declared.hop.Hop.{Hop as HopOutcome}
-use Rattle.exh_lone.specs.declared.hop.Hop.TheVariants as hops
-use Rattle.exh_lone.specs.declared.journal_entry.JournalEntry.{JournalEntry}
-use Rattle.exh_lone.specs.declared.reply.Reply.{Reply}
+use Rattle.exh_ward.specs.declared.call.Call.{Call}
+use Rattle.exh_ward.specs.declared.hop.Hop.{Hop as HopOutcome}
+use Rattle.exh_ward.specs.declared.hop.Hop.TheVariants as hops
+use Rattle.exh_ward.specs.declared.journal_entry.JournalEntry.{JournalEntry}
+use Rattle.exh_ward.specs.declared.reply.Reply.{Reply}
 use Rattle.exh_text.specs.declared.line_fault.LineFault.{LineFault}
 use Rattle.exh_script.specs.Answer.{answer_text, hop_answer, step_answer}
 use Rattle.exh_script.specs.Grammar.{line_of}

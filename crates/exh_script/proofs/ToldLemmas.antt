@@ -12,8 +12,8 @@ use Rattle.exh_text.specs.Numbers.{◌>>=◌, number_of, number_up_to, number_af
 use Rattle.exh_text.specs.Printing.{printed, place_text}
 use Rattle.exh_text.specs.TextLemmas.{number_again, printed_again, decimal_graphic, printed_graphic, place_graphic, parts_at-word, parts_at-place, one_part}
 use Rattle.exh_text.specs.declared.line_fault.LineFault.TheVariants.{Syntax, Range}
-use Rattle.exh_lone.specs.declared.reply.Reply.{Reply}
-use Rattle.exh_lone.specs.declared.reply.Reply.TheVariants.{Is, None as Absent, New, Was, Full}
+use Rattle.exh_ward.specs.declared.reply.Reply.{Reply}
+use Rattle.exh_ward.specs.declared.reply.Reply.TheVariants.{Is, None as Absent, New, Was, Full}
 use Rattle.exh_script.specs.Answer.{answer_words, answer_text, reply_text, request_text, HasWidths, HasByteValues}
 use Rattle.exh_script.specs.Refusal.{refusal_number}
 use Rattle.exh_script.specs.declared.answer.Answer.{Answer}

@@ -2,10 +2,10 @@
 use Rattle.std.specs.Prelude.{⊤, ℕ, ◌^◌, ◌<◌, List, [], ◌∷◌, ◌++◌, All, Result, Ok, Err, decimal, codes}
 use Rattle.exh_text.specs.Lines.{newline}
 use Rattle.exh_text.specs.Printing.{printed, place_text, refused_text}
-use Rattle.exh_lone.specs.declared.hop.Hop.{Hop}
-use Rattle.exh_lone.specs.declared.hop.Hop.TheVariants as hops
-use Rattle.exh_lone.specs.declared.reply.Reply.{Reply}
-use Rattle.exh_lone.specs.declared.reply.Reply.TheVariants.{Is, None as Absent, New, Was, Full}
+use Rattle.exh_ward.specs.declared.hop.Hop.{Hop}
+use Rattle.exh_ward.specs.declared.hop.Hop.TheVariants as hops
+use Rattle.exh_ward.specs.declared.reply.Reply.{Reply}
+use Rattle.exh_ward.specs.declared.reply.Reply.TheVariants.{Is, None as Absent, New, Was, Full}
 use Rattle.exh_script.specs.Refusal.{refusal_number}
 use Rattle.exh_script.specs.declared.answer.Answer.{Answer}
 use Rattle.exh_script.specs.declared.answer.Answer.TheVariants.{Begun, Replied, Moved, MustSplit, Stray, Refused}

@@ -11,9 +11,9 @@ use Rattle.exh_text.specs.LineFault.{ranged}
 use Rattle.exh_text.specs.Lines.{words_of}
 use Rattle.exh_text.specs.Numbers.{◌>>=◌, after_prefix, number_after, number_of}
 use Rattle.exh_text.specs.declared.line_fault.LineFault.{LineFault}
-use Rattle.exh_lone.specs.declared.call.Call.{Call}
-use Rattle.exh_lone.specs.declared.call.Call.TheVariants.{Get, Put, Del}
-use Rattle.exh_lone.specs.declared.ward.TheConstants.{WARD_BITS_LIMIT}
+use Rattle.exh_ward.specs.declared.call.Call.{Call}
+use Rattle.exh_ward.specs.declared.call.Call.TheVariants.{Get, Put, Del}
+use Rattle.exh_ward.specs.declared.ward.TheConstants.{WARD_BITS_LIMIT}
 use Rattle.exh_script.specs.declared.line.TheConstants.{COPIES_LIMIT}
 use Rattle.exh_script.specs.declared.line.FileLine.{FileLine}
 use Rattle.exh_script.specs.declared.line.Line.{Line}

@@ -3,10 +3,10 @@ use Rattle.std.specs.Prelude.{◌≡◌, ◌≢◌, ℕ, ◌≤◌, List, [], �
 use Rattle.std.specs.FinMap.{empty}
 use Rattle.exh_keyer.specs.Pseudokey.{any_pseudokey}
 use Rattle.exh_text.specs.Lines.{lines_of}
-use Rattle.exh_lone.specs.History.{IsHistory, map_left}
-use Rattle.exh_lone.specs.Pages.{map_of}
-use Rattle.exh_lone.specs.declared.call.Call.{Call}
-use Rattle.exh_lone.specs.declared.journal_entry.JournalEntry.{JournalEntry}
+use Rattle.exh_ward.specs.History.{IsHistory, map_left}
+use Rattle.exh_ward.specs.Pages.{map_of}
+use Rattle.exh_ward.specs.declared.call.Call.{Call}
+use Rattle.exh_ward.specs.declared.journal_entry.JournalEntry.{JournalEntry}
 use Rattle.exh_script.specs.Answer.{answer_text}
 use Rattle.exh_script.specs.Grammar.{line_of}
 use Rattle.exh_script.specs.Text.{line_answer, after_line, file_of, text_of, ended_of}

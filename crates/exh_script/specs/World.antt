@@ -5,12 +5,12 @@ use Rattle.std.specs.Option.{option_map_or}
 use Rattle.exh_keyer.specs.declared.any_keyer.AnyKeyer.{AnyKeyer}
 use Rattle.exh_keyer.specs.Pseudokey.{any_pseudokey}
 use Rattle.exh_page.specs.declared.page.Page.TheVariants.{Live}
-use Rattle.exh_lone.specs.HopTable.{hop_of, pages_after}
-use Rattle.exh_lone.specs.Pages.{ward_prefix}
-use Rattle.exh_lone.specs.WardState.{WardState}
-use Rattle.exh_lone.specs.declared.call.Call.{Call}
-use Rattle.exh_lone.specs.declared.hop.Hop.{Hop as HopOutcome}
-use Rattle.exh_lone.specs.declared.hop.Hop.TheVariants.{Done, Moved, MustSplit, Stray}
+use Rattle.exh_ward.specs.HopTable.{hop_of, pages_after}
+use Rattle.exh_ward.specs.Pages.{ward_prefix}
+use Rattle.exh_ward.specs.WardState.{WardState}
+use Rattle.exh_ward.specs.declared.call.Call.{Call}
+use Rattle.exh_ward.specs.declared.hop.Hop.{Hop as HopOutcome}
+use Rattle.exh_ward.specs.declared.hop.Hop.TheVariants.{Done, Moved, MustSplit, Stray}
 use Rattle.exh_script.specs.InFlight.{Requests, request_named, requests_after}
 use Rattle.exh_script.specs.declared.line.FileLine.{FileLine}
 use Rattle.exh_script.specs.declared.line.Line.{Line}
@@ -26,6 +26,10 @@ pub record WorldState : Type 0 where
   pub copies : ℕ
   pub in_flight : Requests
 
+-- A ward without its count of failures: pages in memory are never out of reach.
+abbrev pub uncounted : WardState AnyKeyer → WardState AnyKeyer
+uncounted ward = record ward { failures = 0 }
+
 -- the world of a new file
 abbrev pub new_world : FileLine → WorldState
 new_world file = record {
@@ -33,6 +37,10 @@ new_world file = record {
     pages = Live (ward_prefix file.ward_bits 0) None [] ∷ [];
     base = empty;
     journal = [];
+    start = empty;
+    notices = [];
+    table = empty;
+    failures = 0;
     cap = file.cap;
     ward_bits = file.ward_bits;
     number = 0;
@@ -81,7 +89,7 @@ after_begin world name client copy call =
 -- an answer changes the pages of the ward and its journal, and nothing else changes a ward
 abbrev pub ward_after : WardState AnyKeyer → Request → HopOutcome → WardState AnyKeyer
 ward_after ward request (Done reply) = record ward {
-  pages = pages_after (any_pseudokey ward.keyer) ward.pages request.page request.call;
+  pages = pages_after (any_pseudokey ward.keyer) ward.pages request.page request.call reply;
   journal = ward.journal ++ record { client = request.client; call = request.call; reply = reply } ∷ [];
 }
 ward_after ward request (Moved next) = ward

@@ -5,7 +5,7 @@ use crate::line::parse_line;
 use crate::step::Outcome;
 use crate::{Refusal, World};
 use exh_page::PageNo;
-use exh_lone::{Hop, Reply};
+use exh_ward::{Hop, Reply};
 use std::alloc::AllocError;
 
 /// What a line of a script is answered. Each variant is one printed line.

@@ -3,7 +3,7 @@ ghost use Rattle.exh_script.specs.Answer.{answer_text, reply_text, request_text}
 
 use crate::Answer;
 use exh_text::{push_number, push_place, push_refused, push_text, push_value};
-use exh_lone::Reply;
+use exh_ward::Reply;
 use std::alloc::AllocError;
 
 /// Adds the line that an answer prints.

@@ -2,7 +2,7 @@ ghost use Rattle.std.specs.Prelude.{◌≡◌, ℕ, List, [], ◌∷◌, ◌++�
 ghost use Rattle.exh_script.specs.InFlight.{request_named, requests_after, moved_to};
 
 use exh_page::PageNo;
-use exh_lone::{Call, Hop};
+use exh_ward::{Call, Hop};
 use indexmap::IndexMap;
 use std::alloc::{AllocError, Global};
 use std::marker::Model;

@@ -5,7 +5,7 @@ ghost use Rattle.exh_script.specs.Grammar.{call_in_range, file_in_range, file_li
 use exh_keyer::AnyKeyer;
 use exh_page::CAP_LIMIT;
 use exh_text::{LineFault, Parts, parse_key, parse_pair, parse_u32, parse_u32_after, split_words};
-use exh_lone::{Call, WARD_BITS_LIMIT};
+use exh_ward::{Call, WARD_BITS_LIMIT};
 
 /// The most copies of the directory that a file has (exhash profile).
 pub(crate) const COPIES_LIMIT: u32 = 8;

@@ -99,7 +99,7 @@ fn answer_lines<W: Write>(
     ensures memory { IsErrOf result ServeFault.Memory → PrintsFrontIn (Takes W.contents output.old output.new) (new_world file.now) lines.entry }
     ensures failed { IsErrOf result ServeFault.Write ↔ IsTrue (writer_failed output.new) }
 {
-    let mut world = World::new(alloc, file);
+    let mut world = World::new(alloc, file)?;
     let mut text = Vec::new(alloc);
     for line in lines {
         let answer = answer_line(&mut world, line)?;

@@ -1,5 +1,5 @@
 use exh_page::PageNo;
-use exh_lone::Hop;
+use exh_ward::Hop;
 use thiserror::Error;
 
 /// What a step came to.

@@ -3,7 +3,7 @@ use crate::{FileLine, Line};
 use exh_keyer::AnyKeyer;
 use exh_page::{Key, Value};
 use exh_text::LineFault;
-use exh_lone::Call;
+use exh_ward::Call;
 use std::alloc::{AllocError, Global};
 use std::test::Fail;
 

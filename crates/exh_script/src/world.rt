@@ -4,16 +4,17 @@ ghost use Rattle.exh_script.specs.World.{new_world, begin_result, hop_result, st
 
 use crate::step::{Outcome, StepRefusal};
 use crate::{FileLine, InFlight, Line};
+use exh_frames::PlainPages;
 use exh_keyer::AnyKeyer;
 use exh_page::PageNo;
-use exh_lone::{Call, Ward, WardFault};
+use exh_ward::{Call, Ward, first_page, hops_are_computed};
 use std::alloc::{AllocError, Global};
 use std::marker::Model;
 
-/// A file of one ward, the copies of its directory, and the requests in flight.
+/// A file of one ward, whose pages lie in memory, the copies of its directory, and the requests in flight.
 #[derive(Drop)]
 pub(crate) struct World {
-    ward: Ward<AnyKeyer>,
+    ward: Ward<PlainPages, AnyKeyer>,
     copies: u32,
     in_flight: InFlight,
 }
@@ -21,14 +22,15 @@ pub(crate) struct World {
 impl Model for World {
     ghost use Rattle.std.specs.Prelude.{◌≡◌};
     ghost use Rattle.std.specs.Coded.{codes};
-    ghost use Rattle.exh_lone.specs.KeyMap.{coded_key_map};
-    ghost use Rattle.exh_script.specs.World.{WorldState};
+    ghost use Rattle.exh_table.specs.Table.{coded_table};
+    ghost use Rattle.exh_ward.specs.KeyMap.{coded_key_map};
+    ghost use Rattle.exh_script.specs.World.{WorldState, uncounted};
 
     ghost Value = { WorldState };
 
-    ghost coded = { Prim.hlevel (codes, coded_key_map) };
+    ghost coded = { Prim.hlevel (codes, coded_key_map, coded_table) };
 
-    ghost view = { λ a. record { ward = a.ward; copies = a.copies; in_flight = a.in_flight } };
+    ghost view = { λ a. record { ward = uncounted a.ward; copies = a.copies; in_flight = a.in_flight } };
 
     ghost invariant = { λ a. (a.ward.ward_bits ≡ 0) × (a.ward.number ≡ 0) };
 }
@@ -40,18 +42,19 @@ const PAGE_NAMED: PageNo = 0;
 const WARD: u8 = 0;
 
 impl World {
-    /// The world of a new file. It takes no memory.
-    pub(crate) fn new(alloc: Global, file: &FileLine) -> World
+    /// The world of a new file. It takes memory: an `AllocError` where that is refused.
+    pub(crate) fn new(alloc: Global, file: &FileLine) -> Result<World, AllocError>
         requires one_ward { file.now.ward_bits ≡ 0 }
         requires some { 1 ≤ file.now.cap }
         requires most { file.now.cap ≤ CAP_LIMIT }
-        ensures { result ≡ new_world file.now }
+        ensures { IfOk result (λ world. world ≡ new_world file.now) }
     {
-        World {
-            ward: Ward::new(alloc, file.cap, file.ward_bits, WARD, file.keyer),
+        let pages = PlainPages::new(alloc, first_page(alloc, file.ward_bits, WARD))?;
+        Ok(World {
+            ward: Ward::new(alloc, pages, file.cap, file.ward_bits, WARD, file.keyer),
             copies: file.copies,
             in_flight: InFlight::new(alloc),
-        }
+        })
     }
 
     /// Does what a line asks. A refused step changes nothing. `Err` comes for memory alone, and changes nothing.
@@ -104,9 +107,11 @@ impl World {
         let Some(request) = self.in_flight.get(name) else {
             return Ok(Err(StepRefusal::NoRequest));
         };
+        hops_are_computed();
         let hop = match self.ward.hop(request.page, request.client, &request.call) {
             Ok(hop) => hop,
-            Err(WardFault::Memory) => return Err(AllocError),
+            // Pages in memory are never out of reach.
+            Err(_) => return Err(AllocError),
         };
         self.in_flight.note_hop(name, &hop);
         Ok(Ok(Outcome::Hopped {

@@ -3,9 +3,9 @@ use Rattle.std.specs.Prelude.{◌==◌}
 use Rattle.std.specs.FinMap.{empty}
 use Rattle.std.proofs.lemmas.Bool.{leb-true, eqb-true}
 use Rattle.exh_keyer.specs.Pseudokey.{any_pseudokey}
-use Rattle.exh_lone.specs.History.{IsHistory, map_left}
-use Rattle.exh_lone.specs.Pages.{map_of}
-use Rattle.exh_lone.specs.declared.journal_entry.JournalEntry.{JournalEntry}
+use Rattle.exh_ward.specs.History.{IsHistory, map_left}
+use Rattle.exh_ward.specs.Pages.{map_of}
+use Rattle.exh_ward.specs.declared.journal_entry.JournalEntry.{JournalEntry}
 use Rattle.exh_script.specs.Grammar.{file_line_of}
 use Rattle.exh_text.specs.Lines.{lines_of}
 use Rattle.exh_script.specs.Replies.{RepliesAsMap, PrintsAs}
@@ -20,7 +20,7 @@ use Rattle.exh_text.specs.declared.line_fault.LineFault.{LineFault}
 use Rattle.exh_script.specs.declared.refusal.Refusal.{Refusal}
 use Rattle.exh_script.specs.declared.refusal.Refusal.TheVariants.{Line as LineRefusal, TooLong}
 use Rattle.exh_text.specs.declared.line_fault.LineFault.TheVariants.{Syntax, Range}
-use Rattle.exh_script.proofs.LoneWorld.{lone_at_new, lone_left, none_strays}
+use Rattle.exh_script.proofs.LoneWorld.{WardLaws, lone_at_new, lone_left, none_strays}
 use Rattle.exh_script.proofs.ReplyLaw.{text_is_answers, entries_from, enter_in_order}
 use Rattle.exh_script.proofs.laws.replies_are_one_maps.Goals as goal
 
@@ -37,20 +37,20 @@ one_ward_of : (file : FileLine) (first : List ℕ) → file_of first ≡ Ok file
 unfolding file_of
 one_ward_of file first right = one_ward file (file_line_of first) right
 
-module _ (script : List ℕ) where
+module _ (laws : WardLaws) (script : List ℕ) where
   as_map : (file : FileLine) (lines : List (List ℕ)) → file.ward_bits ≡ 0 → text_of script ≡ text_from (new_world file) lines
       → RepliesAsMap script file lines (entries_from (new_world file) lines)
   as_map file lines one text =
-      let new = lone_at_new file one in
+      let new = lone_at_new laws file one in
       let entered = enter_in_order (new_world file) refl lines in
-      let end = lone_left file.cap file.keyer (new_world file) new lines in
+      let end = lone_left laws file.cap file.keyer (new_world file) new lines in
       record {
         text = text ∙ text_is_answers (new_world file) lines;
         answered = entered.0;
-        history = let P : List JournalEntry → Type 0 = IsHistory file.cap (any_pseudokey file.keyer) empty in subst P entered.1 end.sound.history;
+        history = let P : List JournalEntry → Type 0 = IsHistory file.cap (any_pseudokey file.keyer) empty in subst P entered.1 end.history;
         journal = entered.1;
-        left = ap map_of end.pages ∙ end.sound.left ∙ ap (λ entries. map_left file.cap (any_pseudokey file.keyer) empty entries) entered.1;
-        no_stray = none_strays file.cap file.keyer (new_world file) new lines;
+        left = ap map_of end.pages ∙ end.left ∙ ap (λ entries. map_left file.cap (any_pseudokey file.keyer) empty entries) entered.1;
+        no_stray = none_strays laws file.cap file.keyer (new_world file) new lines;
       }
 
   by_file : (first : List ℕ) (lines : List (List ℕ)) (read : Result FileLine Refusal) → length script ≤ SCRIPT_LIMIT → lines_of script ≡ first ∷ lines → file_of first ≡ read
@@ -70,4 +70,11 @@ module _ (script : List ℕ) where
 
 pub returns : goal.returns
 unfolding text_of ended_of
-returns c script = by_length script _ refl refl
+returns c script =
+    let laws : WardLaws = record {
+      lone_pages = c.lone_pages_are_legal.ensures;
+      computed = c.hops_are_computed.ensures;
+      answers = c.answers_keep_legal.ensures;
+      histories = c.histories_go_on.ensures;
+    } in
+    by_length laws script _ refl refl

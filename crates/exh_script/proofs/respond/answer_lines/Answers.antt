@@ -1,11 +1,17 @@
-use Rattle.std.proofs.Common.{[], ◌∷◌, ◌∙◌, ◌++◌, sym, ap, subst, append_assoc, rules}
+use Rattle.std.proofs.Common.{[], ◌∷◌, ◌∙◌, ◌++◌, refl, sym, ap, subst, append_assoc, rules}
 use Rattle.exh_stream.specs.Output.{Takes}
-use Rattle.exh_stream.specs.OutputLemmas.{OnErr-from, Takes-none}
+use Rattle.exh_stream.specs.OutputLemmas.{OnErr-from, Takes-none, TakesBeginning-none}
 use Rattle.exh_script.specs.Answer.{answer_text}
 use Rattle.exh_script.specs.Text.{line_answer, text_from}
 use Rattle.exh_script.specs.World.{new_world}
 use Rattle.exh_script.proofs.Responded.{LeadTo, stopped, line_is, text_of_next, line_out, line_stopped, LeadTo-none, LeadTo-more, text_of_left, text_of_more}
 use Rattle.exh_script.proofs.respond.answer_lines.Goals as goal
+
+pub returns-in_err-world-clause-err : goal.returns-in_err-world-clause-err
+returns-in_err-world-clause-err g c = OnErr-from c.from_residual.result (TakesBeginning-none g.W.Write.contents c.args.output.now _)
+
+pub returns-in_err-world-clause-memory : goal.returns-in_err-world-clause-memory
+returns-in_err-world-clause-memory g c = λ _. record { front = []; rest = c.args.lines; split = refl; text = Takes-none g.W.Write.contents c.args.output.now }
 
 pub loop-line-init : goal.loop-line-init
 loop-line-init g c = record {
@@ -13,14 +19,14 @@ loop-line-init g c = record {
   open_still = search rules;
   answered = [];
   split = search rules;
-  lead = subst (λ world. LeadTo (new_world c.args.file.now) world []) (sym c.new-world.ensures) (LeadTo-none (new_world c.args.file.now));
+  lead = subst (λ world. LeadTo (new_world c.args.file.now) world []) (sym c.in_ok-world.ensures) (LeadTo-none (new_world c.args.file.now));
   passed = Takes-none g.W.Write.contents c.args.output.now;
 }
 
 pub returns-in_err-answer-clause-err : goal.returns-in_err-answer-clause-err
 returns-in_err-answer-clause-err g c =
     let i = c.loop-line.invariant in
-    OnErr-from c.from_residual.result (stopped g.W.Write.contents c.args.output.now c.loop-line.output _ _ _ i.passed (text_of_left _ _ i.answered i.lead _ _ i.split))
+    OnErr-from c.from_residual-in_err-answer.result (stopped g.W.Write.contents c.args.output.now c.loop-line.output _ _ _ i.passed (text_of_left _ _ i.answered i.lead _ _ i.split))
 
 pub returns-in_err-push_answer-clause-err : goal.returns-in_err-push_answer-clause-err
 returns-in_err-push_answer-clause-err g c =

@@ -1,4 +1,4 @@
-use Rattle.std.proofs.Common.{sym}
+use Rattle.std.proofs.Common.{refl, sym}
 use Rattle.exh_script.proofs.WorldSteps.{covers_all, hop_came_to, left_by_hop}
 use Rattle.exh_script.proofs.world.World.hop.Goals as goal
 
@@ -7,8 +7,8 @@ hop-requires c = covers_all c.self.inside.ward.ward_bits c.self.inside.ward.numb
 
 pub returns-clause-result : goal.returns-clause-result
 returns-clause-result c =
-    hop_came_to _ c.args.self.now c.self.view_is c.args.name c.in-Some.request (sym c.in-Some.ensures) c.in-Ok.hop c.in-Ok.ensures.hop 0 c.self.invariant.1
+    hop_came_to c.hops_are_computed.ensures c.self.inside.ward _ c.args.self.now refl c.self.view_is c.args.name c.in-Some.request (sym c.in-Some.ensures) c.in-Ok.hop c.in-Ok.ensures.hop 0 c.self.invariant.1
 
 pub returns-clause-world : goal.returns-clause-world
 returns-clause-world c =
-    left_by_hop _ c.args.self.now c.self.view_is c.args.name c.in-Some.request (sym c.in-Some.ensures) c.in-Ok.hop c.in-Ok.ensures.hop c.hop.new.self c.note_hop.new.self c.in-Ok.ensures.leaves c.note_hop.ensures
+    left_by_hop c.hops_are_computed.ensures c.self.inside.ward _ c.args.self.now refl c.self.view_is c.args.name c.in-Some.request (sym c.in-Some.ensures) c.in-Ok.hop c.in-Ok.ensures.hop c.hop.new.self c.note_hop.new.self c.in-Ok.ensures.leaves c.note_hop.ensures
