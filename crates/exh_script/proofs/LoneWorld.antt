@@ -5,7 +5,7 @@ use Rattle.std.specs.List.{All}
 use Rattle.std.specs.Prelude.{nat_eq}
 use Rattle.std.specs.Map.{values_of}
 use Rattle.std.specs.Option.{option_map_or, IfSome}
-use Rattle.std.proofs.lemmas.Bool.{true≢false, lt-leb}
+use Rattle.std.proofs.lemmas.Bool.{lt-leb}
 use Rattle.std.proofs.lemmas.List.{map-append}
 use Rattle.std.proofs.lemmas.List.Elements.{All-nil, All-cons, All-append}
 use Rattle.std.proofs.lemmas.Map.Views.{IfSome-lookup_from_All, All-map-remove_entry}
@@ -20,7 +20,7 @@ use Rattle.exh_page.specs.declared.page.Page.TheVariants.{Live}
 use Rattle.exh_page.specs.declared.record.Record.{Record}
 use Rattle.exh_ward.specs.Call.{key_of}
 use Rattle.exh_ward.specs.History.{IsHistory, map_left}
-use Rattle.exh_ward.specs.HopTable.{IsReached, Overflows, HopOf, overflows, hop_of, pages_after}
+use Rattle.exh_ward.specs.HopTable.{IsReached, Overflows, overflows, hop_of, pages_after}
 use Rattle.exh_ward.specs.Laws.{HopsAreComputed, AnswersKeepLegal, HistoriesGoOn, IsLonger, IsLegalAnswer}
 use Rattle.exh_ward.specs.MapMachine.{reply_of, map_after}
 use Rattle.exh_ward.specs.PageAnswer.{records_after}

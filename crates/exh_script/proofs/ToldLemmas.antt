@@ -1,10 +1,10 @@
 -- The answer that a printed line tells.
-use Rattle.std.proofs.Common.{◌≡◌, ℕ, ◌-◌, ◌^◌, ◌<◌, List, [], ◌∷◌, ◌++◌, All, Bool, true, false, cond, eqb, Option, Some, None, decimal, refl, sym, ap, ◌∙◌, arith}
+use Rattle.std.proofs.Common.{◌≡◌, ℕ, ◌-◌, ◌^◌, ◌<◌, List, [], ◌∷◌, ◌++◌, true, cond, eqb, Option, Some, None, decimal, refl, sym, ap, ◌∙◌, arith}
 use Rattle.std.specs.Prelude.{codes}
 use Rattle.std.specs.Str.{bytes_eq}
 use Rattle.std.specs.List.{list_all}
 use Rattle.std.specs.Char.{is_ascii_graphic}
-use Rattle.std.proofs.lemmas.List.{append_cancel_right, append_assoc}
+use Rattle.std.proofs.lemmas.List.{append_cancel_right}
 use Rattle.std.proofs.lemmas.List.Elements.{recursion_from_All}
 use Rattle.exh_text.specs.ByteWord.{bytes_of_word}
 use Rattle.exh_text.specs.Lines.{parts_at, space}
@@ -12,15 +12,13 @@ use Rattle.exh_text.specs.Numbers.{◌>>=◌, number_of, number_up_to, number_af
 use Rattle.exh_text.specs.Printing.{printed, place_text}
 use Rattle.exh_text.specs.TextLemmas.{number_again, printed_again, decimal_graphic, printed_graphic, place_graphic, parts_at-word, parts_at-place, one_part}
 use Rattle.exh_text.specs.declared.line_fault.LineFault.TheVariants.{Syntax, Range}
-use Rattle.exh_ward.specs.declared.reply.Reply.{Reply}
 use Rattle.exh_ward.specs.declared.reply.Reply.TheVariants.{Is, None as Absent, New, Was, Full}
-use Rattle.exh_script.specs.Answer.{answer_words, answer_text, reply_text, request_text, HasWidths, HasByteValues}
+use Rattle.exh_script.specs.Answer.{answer_words, answer_text, request_text, HasWidths, HasByteValues}
 use Rattle.exh_script.specs.Refusal.{refusal_number}
 use Rattle.exh_script.specs.declared.answer.Answer.{Answer}
 use Rattle.exh_script.specs.declared.answer.Answer.TheVariants.{Begun, Replied, Moved, MustSplit, Stray, Refused}
 use Rattle.exh_script.specs.declared.refusal.Refusal.{Refusal}
 use Rattle.exh_script.specs.declared.refusal.Refusal.TheVariants.{Line, Step, Read, TooLong}
-use Rattle.exh_script.specs.declared.step.StepRefusal.{StepRefusal}
 use Rattle.exh_script.specs.declared.step.StepRefusal.TheVariants.{NoCopy, NoRequest, NameTaken}
 
 -- ---- reading the words of an answer
