@@ -78,8 +78,8 @@ module _ (laws : WardLaws) (cap : ℕ) (pseudo : List ℕ → ℕ) (records : Li
   no_overflow : over ≡ false → Overflows cap (map_of (lone records ∷ [])) (lone records) call → ⊥
   no_overflow none overflow =
       let clash : MustSplit ≡ Done (reply_of cap pseudo (map_of (lone records ∷ [])) call) =
-          laws.computed cap pseudo (lone records ∷ []) 0 call MustSplit (lone records, reached, refl, overflow) ∙ hop_at_lone
-          ∙ ap (λ b. cond b MustSplit (Done (reply_of cap pseudo (map_of (lone records ∷ [])) call))) none in
+      laws.computed cap pseudo (lone records ∷ []) 0 call MustSplit (lone records, reached, refl, overflow) ∙ hop_at_lone
+      ∙ ap (λ b. cond b MustSplit (Done (reply_of cap pseudo (map_of (lone records ∷ [])) call))) none in
       cc
 
   abbrev answer : Reply
