@@ -23,6 +23,8 @@ mod laws;
 mod page_index;
 mod reply;
 mod sight;
+#[cfg(test)]
+mod tests;
 mod union;
 mod ward;
 mod ward_fault;
