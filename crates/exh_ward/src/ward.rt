@@ -142,6 +142,7 @@ impl<P: Pages + Drop, K: Keyer> Ward<P, K> {
         ensures hop { IfOk result (HopOf self.old.cap (K.pseudokey_of self.old.keyer) self.old.pages at call.now) }
         ensures leaves { IfOk result (λ hop. LeavesAfter K.pseudokey_of self.old at client call.now hop self.new) }
         ensures err { OnErr result (IsUnchanged self.old self.new) }
+        ensures fault { IfErr result IsStoreFault }
         ensures failures { CountsFailures result self.old.failures self.new.failures }
         ensures sound { IsSoundWard K.pseudokey_of self.new }
     {
@@ -162,6 +163,7 @@ impl<P: Pages + Drop, K: Keyer> Ward<P, K> {
         ensures hop { IfOk result (HopOf self.old.cap (K.pseudokey_of self.old.keyer) self.old.pages at call.now) }
         ensures leaves { IfOk result (λ hop. LeavesAfter K.pseudokey_of self.old at client call.now hop self.new) }
         ensures err { OnErr result (IsUnchanged self.old self.new) }
+        ensures fault { IfErr result IsStoreFault }
         ensures failures { CountsFailures result self.old.failures self.new.failures }
         ensures sound { IsSoundWard K.pseudokey_of self.new }
     {
@@ -419,6 +421,7 @@ impl<P: Pages + Drop, K: Keyer> Ward<P, K> {
         ensures hop { IfOk result (HopOf self.old.cap (K.pseudokey_of self.old.keyer) self.old.pages at call.now) }
         ensures leaves { IfOk result (λ hop. LeavesAfter K.pseudokey_of self.old at client call.now hop self.new) }
         ensures err { OnErr result (IsUnchanged self.old self.new) }
+        ensures fault { IfErr result IsStoreFault }
         ensures failures { CountsFailures result self.old.failures self.new.failures }
         ensures sound { IsSoundWard K.pseudokey_of self.new }
     {
@@ -436,6 +439,7 @@ impl<P: Pages + Drop, K: Keyer> Ward<P, K> {
         ensures sight { IfOk result (SightIn self.old.cap pseudokey self.old.pages at call.now) }
         ensures ok { IfOk result (λ _. self.new ≡ self.old) }
         ensures err { OnErr result (IsUnchanged self.old self.new) }
+        ensures fault { IfErr result IsStoreFault }
         ensures failures { CountsFailures result self.old.failures self.new.failures }
         ensures sound { IsSoundWard K.pseudokey_of self.new }
     {
