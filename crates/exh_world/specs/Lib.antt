@@ -6,3 +6,4 @@ pub mod Headline
 pub mod Sound
 pub mod Laws
 pub mod StepFault
+pub mod Kept

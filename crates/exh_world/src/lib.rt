@@ -2,16 +2,21 @@
 //! flight, with whatever may happen to them as an event (exhash profile).
 #![tactic(auto)]
 
+pub use config::Config;
 pub use event::Event;
 pub use laws::{runs_carry_the_headline, steps_keep_worlds_sound};
 pub use outcome::Outcome;
 pub use request::Request;
 pub use step_fault::StepFault;
 pub use turn::Turn;
+pub use world::World;
 
+mod config;
 mod event;
+mod in_flight;
 mod laws;
 mod outcome;
 mod request;
 mod step_fault;
 mod turn;
+mod world;

@@ -1,7 +1,10 @@
 ghost use Rattle.std.specs.Prelude.{◌≡◌};
+ghost use Rattle.exh_ward.specs.declared.ward_fault.WardFault.TheVariants.{Memory};
 ghost use Rattle.exh_world.specs.StepFault.{step_fault_number};
+ghost use Rattle.exh_world.specs.declared.step_fault.StepFault.TheVariants.{Ward as OfWard};
 
 use exh_ward::WardFault;
+use std::alloc::AllocError;
 use thiserror::Error;
 
 /// Why a world refused an event (exhash profile). It is as it was before the event.
@@ -44,5 +47,21 @@ impl StepFault {
             StepFault::NameTaken => 25,
             StepFault::Ward(fault) => fault.number(),
         }
+    }
+}
+
+impl From<WardFault> for StepFault {
+    ghost from_gives = { λ error fault. fault ≡ OfWard error };
+
+    fn from(fault: WardFault) -> StepFault {
+        StepFault::Ward(fault)
+    }
+}
+
+impl From<AllocError> for StepFault {
+    ghost from_gives = { λ _ fault. fault ≡ OfWard Memory };
+
+    fn from(_error: AllocError) -> StepFault {
+        StepFault::Ward(WardFault::Memory)
     }
 }

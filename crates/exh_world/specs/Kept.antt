@@ -1,0 +1,16 @@
+-- What a world keeps beside being sound, and how it shows its wards.
+use Rattle.std.specs.Prelude.{ℕ, ◌^◌, ◌<◌, ◌≤◌, List, length}
+use Rattle.exh_ward.specs.WardState.{WardState}
+use Rattle.exh_ward.specs.declared.ward.TheConstants.{WARD_BITS_LIMIT}
+use Rattle.exh_world.specs.Sound.{IsSoundWorld}
+use Rattle.exh_world.specs.World.{WorldState}
+
+-- a world doesn't show how often its wards couldn't reach a page
+abbrev pub uncounted : {K : Type 0} → WardState K → WardState K
+uncounted ward = record ward { failures = 0 }
+
+-- the world is sound, and its numbers have room
+pub record IsKept {K : Type 0} (pseudokey_of : K → List ℕ → ℕ) (world : WorldState K) : Type 0 where
+  pub sound : IsSoundWorld pseudokey_of world
+  pub few_wards : world.ward_bits ≤ WARD_BITS_LIMIT
+  pub few_sent : length world.sent < 2 ^ 32

@@ -1,0 +1,74 @@
+ghost use Rattle.std.specs.Prelude.{◌≡◌, ℕ, List, [], ◌∷◌, ◌++◌, OnOk, OnErr, None};
+ghost use Rattle.exh_world.specs.InFlight.{request_named, requests_after, moved_to};
+
+use crate::Request;
+use exh_prefix::PageNo;
+use exh_ward::Hop;
+use indexmap::IndexMap;
+use std::alloc::{AllocError, Global};
+use std::marker::Model;
+
+/// The requests in flight by their names, in the order begun.
+#[derive(Drop)]
+pub(crate) struct InFlight {
+    requests: IndexMap<u32, Request>,
+}
+
+impl Model for InFlight {
+    ghost use Rattle.std.specs.Prelude.{ℕ, List};
+    ghost use Rattle.exh_world.specs.declared.request.Request.{Request};
+
+    ghost Value = { List (ℕ × Request) };
+
+    ghost view = { λ a. a.requests.entries };
+}
+
+impl InFlight {
+    /// No requests. It takes no memory.
+    pub(crate) fn new(alloc: Global) -> InFlight
+        ensures { result ≡ [] }
+    {
+        InFlight {
+            requests: IndexMap::new(alloc),
+        }
+    }
+
+    /// The request of a name.
+    pub(crate) fn get(&self, name: u32) -> Option<Request>
+        ensures { result ≡ request_named name self.now }
+    {
+        self.requests.get(&name).copied()
+    }
+
+    /// Adds a request, of a name that isn't taken. An `AllocError` where memory is refused.
+    pub(crate) fn begin(&mut self, name: u32, request: Request) -> Result<(), AllocError>
+        requires { request_named name self.old ≡ None }
+        ensures ok { OnOk result (self.new ≡ self.old ++ (name, request) ∷ []) }
+        ensures err { OnErr result (self.new ≡ self.old) }
+    {
+        self.requests.insert(name, request)?;
+        Ok(())
+    }
+
+    /// Takes note of what a hop of a request came to. An answered one is taken out, and the others keep their order.
+    pub(crate) fn note_hop(&mut self, name: u32, hop: &Hop)
+        ensures { self.new ≡ requests_after name hop.now self.old }
+    {
+        match hop {
+            Hop::Done(_) => {
+                self.requests.shift_remove(&name);
+            }
+            Hop::Moved(next) => self.move_to(name, *next),
+            Hop::MustSplit | Hop::Stray => {}
+        }
+    }
+
+    fn move_to(&mut self, name: u32, page: PageNo)
+        ensures { self.new ≡ moved_to name page self.old }
+    {
+        if let Some(request) = self.get(name) {
+            let moved = Request { page, ..request };
+            let _ = self.requests.insert(name, moved);
+        }
+    }
+}

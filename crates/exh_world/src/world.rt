@@ -1,0 +1,46 @@
+ghost use Rattle.std.specs.Prelude.{◌≡◌};
+ghost use Rattle.exh_world.specs.Sound.{IsSoundWorld};
+
+use crate::in_flight::InFlight;
+use exh_frames::Pages;
+use exh_keyer::Keyer;
+use exh_table::Table;
+use exh_ward::Ward;
+use std::alloc::Global;
+use std::marker::Model;
+
+mod copy_steps;
+mod place;
+
+/// The wards of a file, the copies of its directory, the tables sent between them, and the requests
+/// in flight (exhash profile). Whatever happens to it is an `Event`.
+#[derive(Drop)]
+pub struct World<P: Pages + Drop, K: Keyer> {
+    alloc: Global,
+    cap: usize,
+    ward_bits: u8,
+    keyer: K,
+    wards: Vec<Ward<P, K>>,
+    start: Table,
+    noticed: Vec<usize>,
+    copies: Vec<Table>,
+    sent: Vec<Table>,
+    in_flight: InFlight,
+}
+
+impl<P: Pages + Drop, K: Keyer> Model for World<P, K> {
+    ghost use Rattle.std.specs.Prelude.{◌≤◌, ◌<◌, ◌^◌, length, map};
+    ghost use Rattle.std.specs.Coded.{codes};
+    ghost use Rattle.exh_legal.specs.KeyMap.{coded_key_map};
+    ghost use Rattle.exh_table.specs.Table.{coded_table};
+    ghost use Rattle.exh_world.specs.Kept.{IsKept, uncounted};
+    ghost use Rattle.exh_world.specs.World.{WorldState};
+
+    ghost Value = { WorldState K };
+
+    ghost coded = { Prim.hlevel (codes, coded_key_map, coded_table) };
+
+    ghost view = { λ a. record { cap = a.cap; ward_bits = a.ward_bits; keyer = a.keyer; wards = map uncounted a.wards.items; start = a.start; noticed = a.noticed.items; copies = a.copies.items; sent = a.sent.items; in_flight = a.in_flight } };
+
+    ghost invariant = { λ a. IsKept K.pseudokey_of (record { cap = a.cap; ward_bits = a.ward_bits; keyer = a.keyer; wards = map uncounted a.wards.items; start = a.start; noticed = a.noticed.items; copies = a.copies.items; sent = a.sent.items; in_flight = a.in_flight }) };
+}
