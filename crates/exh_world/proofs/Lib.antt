@@ -17,3 +17,4 @@ pub mod Named
 pub mod StepFacts
 pub mod RunFacts
 pub mod HeadlineOf
+pub mod Settled

@@ -1,5 +1,6 @@
 -- What a world keeps beside being sound, and how it shows its wards.
-use Rattle.std.specs.Prelude.{ℕ, ◌^◌, ◌<◌, ◌≤◌, List, length}
+use Rattle.std.specs.Prelude.{◌≡◌, ℕ, ◌+◌, ◌^◌, ◌<◌, ◌≤◌, List, length, slice_get, Some}
+use Rattle.exh_notice.specs.declared.notice.Notice.{Notice}
 use Rattle.exh_ward.specs.WardState.{WardState}
 use Rattle.exh_ward.specs.declared.ward.TheConstants.{WARD_BITS_LIMIT}
 use Rattle.exh_world.specs.Sound.{IsSoundWorld}
@@ -14,3 +15,7 @@ pub record IsKept {K : Type 0} (pseudokey_of : K → List ℕ → ℕ) (world : 
   pub sound : IsSoundWorld pseudokey_of world
   pub few_wards : world.ward_bits ≤ WARD_BITS_LIMIT
   pub few_sent : length world.sent < 2 ^ 32
+
+-- the notices' indexes follow on one another
+abbrev pub HaveIndexesInTurn : List Notice → Type 0
+HaveIndexesInTurn notices = (first : ℕ) × ((place : ℕ) (notice : Notice) → slice_get notices place ≡ Some notice → notice.index ≡ first + place)

@@ -10,6 +10,7 @@ use std::alloc::Global;
 use std::marker::Model;
 
 mod copy_steps;
+mod notice_of;
 mod place;
 
 /// The wards of a file, the copies of its directory, the tables sent between them, and the requests
