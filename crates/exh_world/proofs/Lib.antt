@@ -17,3 +17,6 @@ pub mod Named
 pub mod StepFacts
 pub mod RunFacts
 pub mod HeadlineOf
+pub mod UncountedWards
+pub mod WardsLeft
+pub mod UncountedChanges
