@@ -17,4 +17,7 @@ pub mod Named
 pub mod StepFacts
 pub mod RunFacts
 pub mod HeadlineOf
-pub mod Settled
+pub mod UncountedWards
+pub mod WardsLeft
+pub mod UncountedChanges
+pub mod CopySteps

@@ -1,10 +1,10 @@
 -- What a world keeps beside being sound, and how it shows its wards.
-use Rattle.std.specs.Prelude.{◌≡◌, ℕ, ◌+◌, ◌^◌, ◌<◌, ◌≤◌, List, length, slice_get, Some}
+use Rattle.std.specs.Prelude.{◌≡◌, ℕ, ◌+◌, ◌-◌, ◌^◌, ◌<◌, ◌≤◌, List, length, slice_get, Some}
 use Rattle.exh_notice.specs.declared.notice.Notice.{Notice}
 use Rattle.exh_ward.specs.WardState.{WardState}
 use Rattle.exh_ward.specs.declared.ward.TheConstants.{WARD_BITS_LIMIT}
 use Rattle.exh_world.specs.Sound.{IsSoundWorld}
-use Rattle.exh_world.specs.World.{WorldState}
+use Rattle.exh_world.specs.World.{WorldState, numbered}
 
 -- a world doesn't show how often its wards couldn't reach a page
 abbrev pub uncounted : {K : Type 0} → WardState K → WardState K
@@ -19,3 +19,7 @@ pub record IsKept {K : Type 0} (pseudokey_of : K → List ℕ → ℕ) (world : 
 -- the notices' indexes follow on one another
 abbrev pub HaveIndexesInTurn : List Notice → Type 0
 HaveIndexesInTurn notices = (first : ℕ) × ((place : ℕ) (notice : Notice) → slice_get notices place ≡ Some notice → notice.index ≡ first + place)
+
+-- the place in a list of the item that has a number, from 1 on
+abbrev pub IsPlaceOf : {A : Type 0} → List A → ℕ → ℕ → Type 0
+IsPlaceOf items number place = (place ≡ number - 1) × (place < length items) × (numbered items number ≡ slice_get items place)
