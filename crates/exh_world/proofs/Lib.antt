@@ -18,3 +18,4 @@ pub mod StepFacts
 pub mod RunFacts
 pub mod HeadlineOf
 pub mod Settled
+pub mod WardNumber
