@@ -19,3 +19,5 @@ pub mod RunFacts
 pub mod HeadlineOf
 pub mod Settled
 pub mod WardNumber
+pub mod UncountedWards
+pub mod RequestSteps
