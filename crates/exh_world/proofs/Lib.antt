@@ -20,4 +20,4 @@ pub mod HeadlineOf
 pub mod Settled
 pub mod WardNumber
 pub mod UncountedWards
-pub mod RequestSteps
+pub mod HopSteps
