@@ -26,6 +26,7 @@ use Rattle.exh_world.specs.declared.request.Request.{Request}
 use Rattle.exh_world.specs.declared.step_fault.StepFault.{StepFault}
 use Rattle.exh_world.specs.declared.step_fault.StepFault.TheVariants.{Ward as OfWard}
 use Rattle.exh_world.specs.declared.world.World.TheInside.{Inside}
+use Rattle.exh_world.proofs.InsideWorld.{world_of}
 use Rattle.exh_world.proofs.RequestsKept.{all_named}
 use Rattle.exh_world.proofs.UncountedWards.{map_there, map_from, unchanged_shown, leaves_shown, all_sound_shown}
 
@@ -41,12 +42,7 @@ pub refused_step : {K : Type 0} (pseudokey_of : K → List ℕ → ℕ) (old new
 refused_step pseudokey_of old new event fault (Ok outcome) is want same = absurd is.1
 refused_step pseudokey_of old new event fault (Err given) is want same = (same, inr (want_of given fault is.1 want))
 
--- ---- the world that a struct holds
-
-abbrev pub world_of : {P K : Type 0} → Inside P K → WorldState K
-world_of i = record { cap = i.cap; ward_bits = i.ward_bits; keyer = i.keyer; wards = map uncounted i.wards.items; start = i.start; noticed = i.noticed.items; copies = i.copies.items; sent = i.sent.items; in_flight = i.in_flight }
-
--- the same with one ward left so by a step
+-- the world that a struct holds, with one ward left so by a step
 abbrev pub with_ward : {P K : Type 0} → Inside P K → ℕ → WardState K → Requests → WorldState K
 with_ward i at left requests = record (world_of i) { wards = map uncounted (slice_set i.wards.items at left); in_flight = requests }
 
@@ -81,7 +77,7 @@ module _ {P K : Type 0} (pseudokey_of : K → List ℕ → ℕ) (i : Inside P K)
       refused same = ap (λ (wards : List (WardState K)). record (world_of i) { wards = wards }) (unchanged_shown i.wards.items at ward left there_at same)
 
       module _ (hop : Hop) (outcome : HopOf ward.cap (pseudokey_of ward.keyer) ward.pages request.page request.call hop)
-        (leaves : LeavesAfter pseudokey_of ward request.page request.client request.call hop left) (requests : Requests) (requests_are : requests ≡ requests_after name hop i.in_flight) where
+          (leaves : LeavesAfter pseudokey_of ward request.page request.client request.call hop left) (requests : Requests) (requests_are : requests ≡ requests_after name hop i.in_flight) where
         outcome_is : HopOf i.cap (pseudokey_of i.keyer) ward.pages request.page request.call hop
         outcome_is =
             subst (λ cap. HopOf cap (pseudokey_of i.keyer) ward.pages request.page request.call hop) own.cap

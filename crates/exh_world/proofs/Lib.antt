@@ -20,4 +20,6 @@ pub mod HeadlineOf
 pub mod Settled
 pub mod WardNumber
 pub mod UncountedWards
+pub mod InsideWorld
+pub mod BeginSteps
 pub mod HopSteps

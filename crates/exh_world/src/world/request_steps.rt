@@ -25,7 +25,6 @@ impl<P: Pages + Drop, K: Keyer> World<P, K> {
         ensures step { Step K.pseudokey_of self.old (Begin name client copy call.now) result self.new }
         ensures sound { IsSoundWorld K.pseudokey_of self.new }
     {
-        steps_keep_worlds_sound::<K>();
         if self.in_flight.get(name).is_some() {
             return Err(StepFault::NameTaken);
         }

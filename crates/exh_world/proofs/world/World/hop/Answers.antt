@@ -3,7 +3,7 @@ use Rattle.exh_world.specs.Kept.{IsKept}
 use Rattle.exh_world.specs.Step.{Step, HasHopped}
 use Rattle.exh_world.specs.World.{WorldState}
 use Rattle.exh_world.specs.declared.event.Event.TheVariants.{Hop as HopOn}
-use Rattle.exh_world.proofs.HopSteps.{world_of, with_ward, refused_step, ward_within, hashed, covered, refused, hopped, hopped_kept}
+use Rattle.exh_world.proofs.HopSteps.{with_ward, refused_step, ward_within, hashed, covered, refused, hopped, hopped_kept}
 use Rattle.exh_world.proofs.world.World.hop.Goals as goal
 
 pub index_mut-ward-requires : goal.index_mut-ward-requires
