@@ -1,7 +1,8 @@
 -- Lists after one place is written, and things numbered from 1 on.
-use Rattle.std.proofs.Common.{◌≡◌, ℕ, zero, suc, ◌-◌, ◌<◌, ◌≤◌, List, [], ◌∷◌, ◌++◌, length, drop, slice_get, Some, ◌⊎◌, inl, inr, refl, sym, ap, ◌∙◌, subst, arith}
+use Rattle.std.proofs.Common.{◌≡◌, ℕ, zero, suc, ◌-◌, ◌<◌, ◌≤◌, List, [], ◌∷◌, ◌++◌, length, get_or, drop, slice_get, Some, ◌⊎◌, inl, inr, refl, sym, ap, ◌∙◌, subst, arith}
 use Rattle.std.specs.Prelude.{slice_set}
 use Rattle.std.proofs.lemmas.Bool.{cases_eq}
+use Rattle.std.proofs.lemmas.Option.{slice_get_read}
 use Rattle.exh_world.specs.World.{numbered}
 
 module _ {A : Type 0} where
@@ -76,3 +77,9 @@ module _ {A : Type 0} where
   numbered_here xs (suc at) old x there =
       let before : suc at - 1 ≡ at = omega arith in
       subst (λ n. slice_get (slice_set xs n x) at ≡ Some x) (sym before) (set_here xs at old x there)
+
+  -- what stands at the place of a number, once it is read there
+  pub numbered_read : (xs seen : List A) (at place : ℕ) (x : A) → seen ≡ xs → (place ≡ at - 1) × (place < length seen) × (numbered seen at ≡ slice_get seen place) → x ≡ get_or xs place x → numbered xs at ≡ Some x
+  numbered_read xs seen at place x same is read =
+      subst (λ items. numbered items at ≡ slice_get items place) same is.2
+      ∙ slice_get_read xs (length xs) place x refl (subst (λ items. place < length items) same is.1) read

@@ -1,4 +1,5 @@
 -- Splits and merges of wards, in the world that shows them with no failures counted.
+use Rattle.std.proofs.lemmas.List.{map-set}
 use Rattle.std.proofs.Common.{◌≡◌, ℕ, ◌<◌, List, length, map, slice_get, Some, Bool, Result, Ok, Err, inl, refl, ap, ◌∙◌, sym, subst}
 use Rattle.std.specs.Prelude.{slice_set, slice_index_or, IsErr, IsErrAnd}
 use Rattle.std.proofs.lemmas.Option.{slice_get_read}
@@ -18,7 +19,7 @@ use Rattle.exh_world.specs.declared.event.Event.{Event}
 use Rattle.exh_world.specs.declared.outcome.Outcome.{Outcome}
 use Rattle.exh_world.specs.declared.step_fault.StepFault.{StepFault}
 use Rattle.exh_world.specs.declared.step_fault.StepFault.TheVariants.{Ward}
-use Rattle.exh_world.proofs.UncountedWards.{map_there, map_set, unchanged_shown}
+use Rattle.exh_world.proofs.UncountedWards.{map_there, unchanged_shown}
 use Rattle.exh_world.proofs.WardsLeft.{wards_left}
 
 -- ---- one ward
@@ -65,7 +66,7 @@ module _ {K : Type 0} {pseudokey_of : K → List ℕ → ℕ} {world now : World
     found = found_shown;
     left = uncounted left;
     change = change;
-    after = ap (λ ws. record world { wards = ws }) (map_set uncounted wards at left ∙ ap (λ ws. slice_set ws at (uncounted left)) (sym shows));
+    after = ap (λ ws. record world { wards = ws }) (map-set uncounted wards at left ∙ ap (λ ws. slice_set ws at (uncounted left)) (sym shows));
   }
 
   -- where the ward is left sound, the step keeps what the world keeps

@@ -1,26 +1,22 @@
 -- What holds of wards holds of them as a world shows them, without their counts of failures.
-use Rattle.std.proofs.Common.{◌≡◌, ℕ, zero, suc, List, [], ◌∷◌, map, slice_get, Some, refl, ap, ◌∙◌}
+use Rattle.std.proofs.Common.{◌≡◌, ℕ, zero, suc, List, [], ◌∷◌, map, slice_get, Some, inl, inr, refl, sym, ap, ◌∙◌, subst}
 use Rattle.std.specs.Prelude.{slice_set}
+use Rattle.std.specs.Option.{option_map}
+use Rattle.std.proofs.lemmas.List.{map-set}
+use Rattle.std.proofs.lemmas.Option.{slice_get-map}
 use Rattle.exh_ward.specs.WardState.{WardState, IsSoundWard, IsAnswered, IsUnchanged, LeavesAfter}
 use Rattle.exh_ward.specs.declared.call.Call.{Call}
 use Rattle.exh_ward.specs.declared.hop.Hop.{Hop}
 use Rattle.exh_ward.specs.declared.hop.Hop.TheVariants.{Done, Moved, MustSplit, Stray}
 use Rattle.exh_ward.specs.declared.reply.Reply.{Reply}
 use Rattle.exh_world.specs.Kept.{uncounted}
-use Rattle.exh_world.proofs.Lists.{set_same}
+use Rattle.exh_world.proofs.Lists.{set_is, set_same}
 
 -- ---- lists
 
 module _ {A B : Type 0} (f : A → B) where
   pub map_there : (xs : List A) (at : ℕ) (x : A) → slice_get xs at ≡ Some x → slice_get (map f xs) at ≡ Some (f x)
-  map_there [] at x is = cc
-  map_there (y ∷ xs) zero x is = let same : y ≡ x = cc in ap (λ z. Some (f z)) same
-  map_there (y ∷ xs) (suc at) x is = map_there xs at x is
-
-  pub map_set : (xs : List A) (at : ℕ) (x : A) → map f (slice_set xs at x) ≡ slice_set (map f xs) at (f x)
-  map_set [] at x = refl
-  map_set (y ∷ xs) zero x = refl
-  map_set (y ∷ xs) (suc at) x = ap (λ rest. f y ∷ rest) (map_set xs at x)
+  map_there xs at x is = slice_get-map f xs at ∙ ap (option_map f) is
 
   pub map_from : (xs : List A) (at : ℕ) (y : B) → slice_get (map f xs) at ≡ Some y → (x : A) × (slice_get xs at ≡ Some x) × (y ≡ f x)
   map_from [] at y is = cc
@@ -33,7 +29,7 @@ module _ {K : Type 0} where
   -- a ward that a refused step leaves is shown as before
   pub unchanged_shown : (wards : List (WardState K)) (at : ℕ) (old new : WardState K) → slice_get wards at ≡ Some old → IsUnchanged old new → map uncounted (slice_set wards at new) ≡ map uncounted wards
   unchanged_shown wards at old new there is =
-      map_set uncounted wards at new ∙ ap (slice_set (map uncounted wards) at) (ap uncounted is) ∙ set_same (map uncounted wards) at (uncounted old) (map_there uncounted wards at old there)
+      map-set uncounted wards at new ∙ ap (slice_set (map uncounted wards) at) (ap uncounted is) ∙ set_same (map uncounted wards) at (uncounted old) (map_there uncounted wards at old there)
 
   pub sound_shown : (pseudokey_of : K → List ℕ → ℕ) (ward : WardState K) → IsSoundWard pseudokey_of ward → IsSoundWard pseudokey_of (uncounted ward)
   sound_shown pseudokey_of ward is = record { legal = is.legal; since = is.since; numbered = is.numbered; history = is.history; left = is.left }
@@ -51,3 +47,15 @@ module _ {K : Type 0} where
   leaves_shown pseudokey_of old at client call (Moved next) new is = ap uncounted is
   leaves_shown pseudokey_of old at client call MustSplit new is = ap uncounted is
   leaves_shown pseudokey_of old at client call Stray new is = ap uncounted is
+
+  -- where one ward is left sound, all are
+  pub all_sound_shown : (pseudokey_of : K → List ℕ → ℕ) (wards : List (WardState K)) (at : ℕ) (old left : WardState K) → slice_get wards at ≡ Some old
+      → ((number : ℕ) (ward : WardState K) → slice_get (map uncounted wards) number ≡ Some ward → IsSoundWard pseudokey_of ward) → IsSoundWard pseudokey_of left
+      → (number : ℕ) (ward : WardState K) → slice_get (map uncounted (slice_set wards at left)) number ≡ Some ward → IsSoundWard pseudokey_of ward
+  all_sound_shown pseudokey_of wards at old left there all sound number ward is =
+      let hidden = map_from uncounted (slice_set wards at left) number ward is in
+      subst (IsSoundWard pseudokey_of) (sym hidden.2)
+      (sound_shown pseudokey_of hidden.0 (elim (set_is wards at number old left hidden.0 there hidden.1) [
+        | inl here ↦ subst (IsSoundWard pseudokey_of) (sym here.1) sound
+        | inr else ↦ sound_hidden pseudokey_of hidden.0 (all number (uncounted hidden.0) (map_there uncounted wards number hidden.0 else.1))
+      ]))

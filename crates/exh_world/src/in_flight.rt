@@ -46,7 +46,9 @@ impl InFlight {
         ensures ok { OnOk result (self.new ≡ self.old ++ (name, request) ∷ []) }
         ensures err { OnErr result (self.new ≡ self.old) }
     {
-        self.requests.insert(name, request)?;
+        // Built here, since the proof of an insert has to see the types of its fields.
+        let begun = Request { ..request };
+        self.requests.insert(name, begun)?;
         Ok(())
     }
 

@@ -12,6 +12,8 @@ use std::marker::Model;
 mod copy_steps;
 mod notice_of;
 mod place;
+mod request_steps;
+mod ward_number;
 mod ward_steps;
 
 /// The wards of a file, the copies of its directory, the tables sent between them, and the requests

@@ -1,0 +1,32 @@
+use Rattle.std.proofs.Common.{sym, ap, ◌∙◌, subst}
+use Rattle.exh_world.specs.Step.{HasBegun}
+use Rattle.exh_world.specs.World.{WorldState}
+use Rattle.exh_world.proofs.BeginSteps.{none_there, with_requests, begun, begun_kept}
+use Rattle.exh_world.proofs.InsideWorld.{world_of}
+use Rattle.exh_world.proofs.Lists.{numbered_read}
+use Rattle.exh_world.proofs.world.World.begin.Given.{Over}
+use Rattle.exh_world.proofs.world.World.begin.Goals.{In_ok-begin}
+use Rattle.exh_world.proofs.world.World.begin.Goals as goal
+
+abbrev HasBegunHere : (g : Over) → In_ok-begin g → WorldState g.row.K.Denot → Type 0
+HasBegunHere g c old = HasBegun g.K.Keyer.pseudokey_of old c.args.name c.args.client c.args.copy c.args.call.now c.ward_number-ward.result c.walk-page.result (with_requests c.self.inside c.begin.new.self)
+
+begun_here : (g : Over) (c : In_ok-begin g) → HasBegunHere g c (world_of c.self.inside)
+begun_here g c =
+    let i = c.self.inside in
+    let pseudokey_of = g.K.Keyer.pseudokey_of in
+    let free = sym c.get.ensures ∙ none_there c.get.result (sym c.is_some.ensures ∙ c.if-is_some.false) in
+    let there = numbered_read i.copies.items c.deref.result.now c.args.copy c.in-Some.at c.index.result.now c.deref.ensures.value c.in-Some.ensures.some c.index.ensures in
+    let hashed = c.pseudo-pseudokey.ensures ∙ ap (pseudokey_of i.keyer) (c.as_bytes.ensures.bytes ∙ c.key.ensures) in
+    begun pseudokey_of i c.args.name c.args.client c.args.copy c.args.call.now free c.index.result.now there c.pseudo-pseudokey.result c.ward_number-ward.result c.walk-page.result hashed
+    c.ward_number-ward.ensures c.walk-page.ensures c.begin.new.self c.in_ok-begin.ensures.ok
+
+pub invariant_of-self-2 : goal.invariant_of-self-2
+invariant_of-self-2 g c =
+    begun_kept g.K.Keyer.pseudokey_of c.self.inside c.args.name c.args.client c.args.copy c.args.call.now c.ward_number-ward.result c.walk-page.result c.begin.new.self c.self.invariant (begun_here g c)
+
+pub returns-clause-step : goal.returns-clause-step
+returns-clause-step g c = subst (HasBegunHere g c) c.self.view_is (begun_here g c)
+
+pub returns-clause-sound : goal.returns-clause-sound
+returns-clause-sound g c = (invariant_of-self-2 g c).sound

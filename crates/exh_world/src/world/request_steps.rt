@@ -1,0 +1,73 @@
+ghost use Rattle.exh_world.specs.Sound.{IsSoundWorld};
+ghost use Rattle.exh_world.specs.Step.{Step};
+ghost use Rattle.exh_world.specs.declared.event.Event.TheVariants.{Begin, Hop as HopOn};
+
+use super::World;
+use super::place::place_in;
+use super::ward_number::ward_number;
+use crate::laws::steps_keep_worlds_sound;
+use crate::{Outcome, Request, StepFault};
+use exh_frames::Pages;
+use exh_keyer::Keyer;
+use exh_ward::Call;
+
+impl<P: Pages + Drop, K: Keyer> World<P, K> {
+    /// Begins a request of a name that no request in flight has: it stands at the page that the
+    /// copy's table names for the call's key (Fagin et al. 1979). Refused in this order: `NameTaken`,
+    /// `NoCopy`; at any point `StepFault::Ward(Memory)`. Then the world is as before.
+    pub fn begin(
+        &mut self,
+        name: u32,
+        client: u32,
+        copy: u32,
+        call: &Call,
+    ) -> Result<Outcome, StepFault>
+        ensures step { Step K.pseudokey_of self.old (Begin name client copy call.now) result self.new }
+        ensures sound { IsSoundWorld K.pseudokey_of self.new }
+    {
+        if self.in_flight.get(name).is_some() {
+            return Err(StepFault::NameTaken);
+        }
+        let Some(at) = place_in(&self.copies, copy) else {
+            return Err(StepFault::NoCopy);
+        };
+        let pseudokey = self.keyer.pseudo(call.key().as_bytes());
+        let ward = ward_number(self.ward_bits, pseudokey);
+        let page = self.copies[at].walk(self.ward_bits, pseudokey);
+        let request = Request {
+            client,
+            call: *call,
+            pseudokey,
+            ward,
+            page,
+        };
+        self.in_flight.begin(name, request)?;
+        Ok(Outcome::Begun { ward, page })
+    }
+
+    /// One hop of a request: what it comes to is the hop table's (exhash profile). An answered request
+    /// is no longer in flight, and a moved one stands at the page that it was led to. Refused:
+    /// `NoRequest`; at any point `StepFault::Ward(Memory)` or `StepFault::Ward(Page)`. Then the world
+    /// is as before.
+    pub fn hop(&mut self, name: u32) -> Result<Outcome, StepFault>
+        ensures step { Step K.pseudokey_of self.old (HopOn name) result self.new }
+        ensures sound { IsSoundWorld K.pseudokey_of self.new }
+    {
+        steps_keep_worlds_sound::<K>();
+        let Some(request) = self.in_flight.get(name) else {
+            return Err(StepFault::NoRequest);
+        };
+        let ward = &mut self.wards[usize::from(request.ward)];
+        let hop = ward.hop_hashed(
+            request.page,
+            request.client,
+            &request.call,
+            request.pseudokey,
+        )?;
+        self.in_flight.note_hop(name, &hop);
+        Ok(Outcome::Hopped {
+            ward: request.ward,
+            hop,
+        })
+    }
+}
