@@ -16,6 +16,8 @@ pub mod WorldMaps
 pub mod Named
 pub mod StepFacts
 pub mod RunFacts
+pub mod Runs
+pub mod FreshWorld
 pub mod HeadlineOf
 pub mod UncountedWards
 pub mod WardsLeft

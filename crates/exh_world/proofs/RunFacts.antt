@@ -57,7 +57,7 @@ left_on pseudokey_of old new [] rest goes = ap (λ m. map_left old.cap (pseudoke
 left_on pseudokey_of old new (entry ∷ []) rest goes = ap (λ m. map_left old.cap (pseudokey_of old.keyer) m rest) goes.1
 left_on pseudokey_of old new (entry ∷ other ∷ entries) rest goes = absurd goes
 
-all_append : {A : Type 0} (P : A → Type 0) (front back : List A) → AllByRecursion P front → AllByRecursion P back → AllByRecursion P (front ++ back)
+pub all_append : {A : Type 0} (P : A → Type 0) (front back : List A) → AllByRecursion P front → AllByRecursion P back → AllByRecursion P (front ++ back)
 all_append P [] back fore aft = aft
 all_append P (x ∷ front) back fore aft = (fore.0, all_append P front back fore.1 aft)
 

@@ -7,3 +7,4 @@ pub mod Sound
 pub mod Laws
 pub mod StepFault
 pub mod Kept
+pub mod NewWorld

@@ -5,6 +5,7 @@ use crate::Request;
 use exh_prefix::PageNo;
 use exh_ward::Hop;
 use indexmap::IndexMap;
+use indexmap::map::Iter;
 use std::alloc::{AllocError, Global};
 use std::marker::Model;
 
@@ -38,6 +39,13 @@ impl InFlight {
         ensures { result ≡ request_named name self.now }
     {
         self.requests.get(&name).copied()
+    }
+
+    /// The requests with their names.
+    pub(crate) fn iter(&self) -> Iter<'_, u32, Request>
+        ensures { result ≡ self.now }
+    {
+        self.requests.iter()
     }
 
     /// Adds a request, of a name that isn't taken. An `AllocError` where memory is refused.

@@ -10,9 +10,12 @@ use std::alloc::Global;
 use std::marker::Model;
 
 mod copy_steps;
+mod new_world;
 mod notice_of;
 mod place;
+mod readers;
 mod request_steps;
+mod run;
 mod ward_number;
 mod ward_steps;
 

@@ -1,0 +1,135 @@
+-- The world of a new file is sound.
+use Rattle.std.proofs.Common.{◌≡◌, ℕ, zero, suc, ◌+◌, ◌-◌, ◌^◌, ◌<◌, ◌≤◌, ◌⊎◌, inl, inr, Bool, true, List, [], ◌∷◌, ◌++◌, length, map, take, drop, replicate, slice_get, Some, None, refl, sym, ap, ◌∙◌, subst, arith, lit<}
+use Rattle.std.specs.FinMap as fin
+use Rattle.std.specs.List.{range_with_len}
+use Rattle.std.proofs.lemmas.List.{length-replicate, get_or-replicate}
+use Rattle.std.proofs.Math.Seq.{take-nil}
+use Rattle.std.proofs.lemmas.List.FromFn.{length-map-range_with_len, map-range_with_len_more, get_or-map-range_with_len}
+use Rattle.std.proofs.lemmas.Option.{get_or_from_slice_get, slice_get_within, slice_get-get_or}
+use Rattle.exh_prefix.specs.declared.prefix.TheConstants.{LIMIT}
+use Rattle.exh_prefix.specs.Prefix.{prefix_cmp}
+use Rattle.exh_notice.specs.declared.notice.Notice.{Notice}
+use Rattle.exh_table.specs.Table.{TableMap}
+use Rattle.exh_table.specs.Walk.{split_at, right_of}
+use Rattle.exh_legal.specs.Pages.{ward_prefix}
+use Rattle.exh_ward.specs.WardState.{WardState, IsSoundWard}
+use Rattle.exh_ward.specs.declared.ward.TheConstants.{WARD_BITS_LIMIT}
+use Rattle.exh_world.specs.Kept.{IsKept, uncounted}
+use Rattle.exh_world.specs.NewWorld.{new_ward, new_world}
+use Rattle.exh_world.specs.Sound.{LeadsRight, LeadsRightIn, IsWardOf, IsSoundWorld}
+use Rattle.exh_world.specs.World.{WorldState, numbered}
+use Rattle.exh_world.specs.InFlight.{Requests}
+use Rattle.exh_world.specs.declared.config.Config.{Config}
+use Rattle.exh_world.proofs.Lists.{push_is}
+
+replicate_is : {A : Type 0} (n : ℕ) (x y : A) (at : ℕ) → slice_get (replicate n x) at ≡ Some y → y ≡ x
+replicate_is n x y at is =
+    let within = subst (λ length. at < length) (length-replicate n x) (slice_get_within (replicate n x) at y is) in
+    sym (get_or_from_slice_get (replicate n x) at y x is) ∙ get_or-replicate n at x x within
+
+numbered_is : {A : Type 0} (n : ℕ) (x y : A) (number : ℕ) → numbered (replicate n x) number ≡ Some y → y ≡ x
+numbered_is n x y zero is = cc
+numbered_is n x y (suc number) is = replicate_is n x y number is
+
+numbered_none : {A : Type 0} (number : ℕ) (y : A) → numbered (let none : List A = [] in none) number ≡ Some y → ⊥
+numbered_none zero y is = cc
+numbered_none (suc number) y is = cc
+
+replicate_there : {A : Type 0} (n : ℕ) (x : A) (at : ℕ) → at < n → slice_get (replicate n x) at ≡ Some x
+replicate_there n x at within =
+    slice_get-get_or (replicate n x) at x (subst (λ length. at < length) (sym (length-replicate n x)) within) ∙ ap Some (get_or-replicate n at x x within)
+
+mapped_is : {A : Type 0} (f : ℕ → A) (n at : ℕ) (y : A) → slice_get (map f (range_with_len 0 n)) at ≡ Some y → (at < n) × (y ≡ f at)
+mapped_is f n at y is =
+    let within = subst (λ length. at < length) (length-map-range_with_len f 0 n) (slice_get_within (map f (range_with_len 0 n)) at y is) in
+    (within, sym (get_or_from_slice_get (map f (range_with_len 0 n)) at y y is) ∙ get_or-map-range_with_len f 0 n at at y within (omega arith))
+
+no_splits : (ward : List Bool) (pages : List _) → LeadsRight ward pages fin.empty
+no_splits ward pages prefix right within split = let none : None ≡ Some right = sym (ap right_of (fin.get-empty prefix_cmp prefix)) ∙ split in cc
+
+-- a world shows the wards of a new file as they are
+none_counted : {K : Type 0} (config : Config K) (numbers : List ℕ) → map uncounted (map (new_ward config) numbers) ≡ map (new_ward config) numbers
+none_counted config [] = refl
+none_counted config (number ∷ numbers) = ap (λ wards. new_ward config number ∷ wards) (none_counted config numbers)
+
+pub none_noticed : (n k count : ℕ) (before noticed : List ℕ) → n ≡ count → before ≡ [] → k ≡ 0 → noticed ≡ take n before ++ replicate (n - k) 0 → noticed ≡ replicate count 0
+none_noticed n k count before noticed n_is none k_is is =
+    is ∙ ap (λ ns. take n ns ++ replicate (n - k) 0) none ∙ ap (λ ns. ns ++ replicate (n - k) 0) (take-nil n) ∙ ap (λ m. replicate m 0) (let m : n - k ≡ count = omega (arith, n_is, k_is) in m)
+
+module _ {K : Type 0} (config : Config K) where
+  abbrev pub made_of : List (WardState K) → TableMap → List ℕ → List TableMap → List TableMap → Requests → WorldState K
+  made_of wards start noticed copies sent in_flight = record {
+    cap = config.cap;
+    ward_bits = config.ward_bits;
+    keyer = config.keyer;
+    wards = map uncounted wards;
+    start = start;
+    noticed = noticed;
+    copies = copies;
+    sent = sent;
+    in_flight = in_flight;
+  }
+
+  pub made_is : (wards : List (WardState K)) (start : TableMap) (noticed : List ℕ) (copies sent : List TableMap) (in_flight : Requests)
+      → wards ≡ (new_world config).wards → start ≡ fin.empty → noticed ≡ (new_world config).noticed → copies ≡ (new_world config).copies → sent ≡ [] → in_flight ≡ []
+      → made_of wards start noticed copies sent in_flight ≡ new_world config
+  made_is wards start noticed copies sent in_flight is_wards is_start is_noticed is_copies is_sent is_in_flight =
+      let new = new_world config in
+      ap (λ ws. made_of ws start noticed copies sent in_flight) is_wards
+      ∙ ap (λ s. made_of new.wards s noticed copies sent in_flight) is_start
+      ∙ ap (λ ns. made_of new.wards fin.empty ns copies sent in_flight) is_noticed
+      ∙ ap (λ cs. made_of new.wards fin.empty new.noticed cs sent in_flight) is_copies
+      ∙ ap (λ ss. made_of new.wards fin.empty new.noticed new.copies ss in_flight) is_sent
+      ∙ ap (λ rs. made_of new.wards fin.empty new.noticed new.copies [] rs) is_in_flight
+      ∙ ap (λ ws. let w : WorldState K = record new { wards = ws } in w) (none_counted config (range_with_len 0 (2 ^ config.ward_bits)))
+
+module _ {K : Type 0} (pseudokey_of : K → List ℕ → ℕ) where
+  abbrev pub AreSoundWards : List (WardState K) → Type 0
+  AreSoundWards wards = (number : ℕ) (ward : WardState K) → slice_get wards number ≡ Some ward → IsSoundWard pseudokey_of ward
+
+  -- the wards of the numbers below one, each of them sound
+  pub record AreNewWards (config : Config K) (number : ℕ) (wards : List (WardState K)) : Type 0 where
+    pub made : wards ≡ map (new_ward config) (range_with_len 0 number)
+    pub sound : AreSoundWards wards
+
+  pub one_ward_more : (config : Config K) (number : ℕ) (wards after : List (WardState K)) (more : WardState K) → AreNewWards config number wards
+      → more ≡ new_ward config number → IsSoundWard pseudokey_of more → after ≡ wards ++ more ∷ [] → AreNewWards config (number + 1) after
+  one_ward_more config number wards after more are is sound pushed = record {
+    made = pushed ∙ ap (λ ws. ws ++ more ∷ []) are.made ∙ ap (λ w. map (new_ward config) (range_with_len 0 number) ++ w ∷ []) is ∙ sym (map-range_with_len_more (new_ward config) 0 number number (omega arith));
+    sound = λ at ward here. elim (push_is wards more ward at (sym (ap (λ ws. slice_get ws at) pushed) ∙ here)) [
+      | inl before ↦ are.sound at ward before
+      | inr same ↦ subst (IsSoundWard pseudokey_of) (sym same) sound
+    ];
+  }
+
+  module _ (config : Config K) (words : (keyer : K) (key : List ℕ) → pseudokey_of keyer key < 2 ^ 64) (bits : config.ward_bits ≤ WARD_BITS_LIMIT) (sound : AreSoundWards (new_world config).wards) where
+    new_is_ward : (number : ℕ) → number < 2 ^ config.ward_bits → IsSoundWard pseudokey_of (new_ward config number) → IsWardOf pseudokey_of (new_world config) number (new_ward config number)
+    new_is_ward number within is = record {
+      cap = refl;
+      bits = refl;
+      number_is = refl;
+      keyer = refl;
+      sound = is;
+      notices = λ notice member. absurd (let none : ⊥ = omega (arith, member.1) in none);
+      before = 0;
+      noticed = replicate_there (2 ^ config.ward_bits) 0 number within;
+      first = omega arith;
+      directory = λ prefix. (λ leaf. leaf, λ leaf. leaf);
+    }
+
+    pub new_sound : IsSoundWorld pseudokey_of (new_world config)
+    new_sound = record {
+      bits = omega (arith, bits);
+      words = words config.keyer;
+      count = length-map-range_with_len (new_ward config) 0 (2 ^ config.ward_bits);
+      wards = λ number ward is.
+          let here = mapped_is (new_ward config) (2 ^ config.ward_bits) number ward is in
+          subst (IsWardOf pseudokey_of (new_world config) number) (sym here.1) (new_is_ward number here.0 (subst (IsSoundWard pseudokey_of) here.1 (sound number ward is)));
+      start = λ number ward is. no_splits (ward_prefix config.ward_bits number) ward.pages;
+      copies = λ copy table is. subst (LeadsRightIn (new_world config)) (sym (numbered_is config.copies fin.empty table copy is)) (λ number ward is. no_splits (ward_prefix config.ward_bits number) ward.pages);
+      sent = λ number table is. absurd (numbered_none number table is);
+      requests = tt;
+    }
+
+    pub new_kept : IsKept pseudokey_of (new_world config)
+    new_kept = record { sound = new_sound; few_wards = bits; few_sent = lit< tt }

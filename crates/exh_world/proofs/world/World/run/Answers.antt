@@ -1,0 +1,26 @@
+use Rattle.std.proofs.Common.{◌≡◌, List, ◌+◌, take, sym, subst, arith}
+use Rattle.exh_world.specs.Sound.{IsSoundWorld}
+use Rattle.exh_world.specs.declared.turn.Turn.{Turn}
+use Rattle.exh_world.proofs.Runs.{HasRun, one_more, headline_of}
+use Rattle.exh_world.proofs.world.World.run.Goals as goal
+
+pub loop-event-preserved : goal.loop-event-preserved
+loop-event-preserved g c =
+    let pseudokey_of = g.K.Keyer.pseudokey_of in
+    let P : List Turn → Type 0 = λ turns. HasRun pseudokey_of c.args.self.now (take (c.loop-event.event-index + 1) c.args.events.now) turns c.step-result.new.self in
+    record {
+      has_run = subst P (sym {A = List Turn} c.push_reserved.ensures.items)
+          (one_more pseudokey_of c.args.self.now c.args.events.now c.loop-event.event-index c.loop-event.turns.items c.loop-event.self c.loop-event.invariant.has_run
+          c.event-item.result c.loop-event-test.true c.event-item.is c.step-result.result c.step-result.new.self c.step-result.ensures.step c.step-result.ensures.sound);
+      sound = c.step-result.ensures.sound;
+      room = omega (arith, c.loop-event.invariant.room, c.push_reserved.ensures.len, c.push_reserved.ensures.capacity, c.loop-event-test.true);
+    }
+
+pub returns-clause-headline : goal.returns-clause-headline
+returns-clause-headline g c =
+    let pseudokey_of = g.K.Keyer.pseudokey_of in
+    headline_of pseudokey_of c.runs_carry_the_headline.ensures c.args.self.now _ c.loop-event.turns.items c.loop-event.self
+    (subst (IsSoundWorld pseudokey_of) c.self.view_is c.self.invariant.sound) c.loop-event.invariant.has_run
+
+pub returns-clause-equal : goal.returns-clause-equal
+returns-clause-equal g c = (returns-clause-headline g c).equal

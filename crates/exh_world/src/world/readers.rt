@@ -1,0 +1,58 @@
+ghost use Rattle.std.specs.Prelude.{◌≡◌, slice_get, Some, None, IfOk, IfErr};
+ghost use Rattle.exh_legal.specs.Pages.{IsAt};
+ghost use Rattle.exh_ward.specs.WardState.{WardState};
+ghost use Rattle.exh_ward.specs.SplitStep.{PageRefused};
+ghost use Rattle.exh_world.specs.Sound.{IsSoundWorld};
+ghost use Rattle.exh_world.specs.Step.{IsChangeRefused};
+ghost use Rattle.exh_world.specs.World.{numbered};
+
+use super::World;
+use super::place::place_in;
+use crate::{Request, StepFault};
+use exh_frames::Pages;
+use exh_keyer::Keyer;
+use exh_page::{Page, PageNo};
+use exh_table::Table;
+use indexmap::map::Iter;
+
+impl<P: Pages + Drop, K: Keyer> World<P, K> {
+    /// The file is cut into 2^this many wards, by so many leading bits of pseudokeys. It takes no
+    /// memory.
+    pub fn ward_bits(&self) -> u8
+        ensures { result ≡ self.now.ward_bits }
+    {
+        self.ward_bits
+    }
+
+    /// A copy's table. Copies are numbered from 1 on. It takes no memory. Refused: `NoCopy`.
+    pub fn copy(&self, number: u32) -> Result<&Table, StepFault>
+        ensures table { IfOk result (λ table. numbered self.now.copies number ≡ Some table.now) }
+        ensures refused { IfErr result (λ fault. (fault ≡ StepFault.NoCopy) × (numbered self.now.copies number ≡ None)) }
+    {
+        let Some(at) = place_in(&self.copies, number) else {
+            return Err(StepFault::NoCopy);
+        };
+        Ok(&self.copies[at])
+    }
+
+    /// The requests in flight with their names, in the order begun. It takes no memory.
+    pub fn in_flight(&self) -> Iter<'_, u32, Request>
+        ensures { result ≡ self.now.in_flight }
+    {
+        self.in_flight.iter()
+    }
+
+    /// A page equal to the one of this number in a ward; both are numbered from 0 on. Refused in
+    /// this order: `NoWard`, `NoPage`; at any point `Memory` and `Page`. The world stays as it was.
+    pub fn page(&mut self, ward: u32, page: PageNo) -> Result<Page, StepFault>
+        ensures page { IfOk result (λ content. (state : WardState K) × (slice_get self.old.wards ward ≡ Some state) × IsAt state.pages page content) }
+        ensures refused { IfErr result (IsChangeRefused self.old (λ state. PageRefused state.pages) ward page) }
+        ensures same { self.new ≡ self.old }
+        ensures sound { IsSoundWorld K.pseudokey_of self.new }
+    {
+        let Some(state) = self.wards.get_mut(ward as usize) else {
+            return Err(StepFault::NoWard);
+        };
+        Ok(state.page(page)?)
+    }
+}
