@@ -1,5 +1,5 @@
 -- What beginning a request leaves of the world.
-use Rattle.std.proofs.Common.{◌≡◌, ℕ, List, [], ◌∷◌, ◌++◌, Option, None, Some, Bool, false, refl, ap, ◌∙◌}
+use Rattle.std.proofs.Common.{◌≡◌, ℕ, List, [], ◌∷◌, ◌++◌, Option, None, Some, false, refl, ap, ◌∙◌}
 use Rattle.std.specs.Prelude.{is_some}
 use Rattle.exh_table.specs.Table.{TableMap}
 use Rattle.exh_table.specs.Walk.{walk_of}
@@ -22,18 +22,20 @@ abbrev pub with_requests : {P K : Type 0} → Inside P K → Requests → WorldS
 with_requests i requests = record (world_of i) { in_flight = requests }
 
 module _ {P K : Type 0} (pseudokey_of : K → List ℕ → ℕ) (i : Inside P K) (name client copy : ℕ) (call : Call) where
-  pub begun : (free : request_named name i.in_flight ≡ None) (table : TableMap) (there : numbered i.copies.items copy ≡ Some table) (pseudokey ward page : ℕ) → pseudokey ≡ pseudokey_of i.keyer (key_of call)
+  pub begun : (free : request_named name i.in_flight ≡ None) (table : TableMap) (there : numbered i.copies.items copy ≡ Some table) (bytes : List ℕ) → bytes ≡ key_of call → (pseudokey ward page : ℕ) → pseudokey ≡ pseudokey_of i.keyer bytes
       → ward ≡ ward_of i.ward_bits pseudokey → page ≡ (walk_of table i.ward_bits pseudokey).page
       → (requests : Requests) → requests ≡ i.in_flight ++ (name, record { client = client; call = call; pseudokey = pseudokey; ward = ward; page = page }) ∷ []
       → HasBegun pseudokey_of (world_of i) name client copy call ward page (with_requests i requests)
-  begun free table there pseudokey ward page hashed ward_is page_is requests requests_are = record {
-    free = free;
-    table = table;
-    there = there;
-    ward_is = ward_is ∙ ap (ward_of i.ward_bits) hashed;
-    page_is = page_is ∙ ap (λ k. (walk_of table i.ward_bits k).page) hashed;
-    after = ap (with_requests i) (requests_are ∙ ap (λ k. i.in_flight ++ (name, record { client = client; call = call; pseudokey = k; ward = ward; page = page }) ∷ []) hashed);
-  }
+  begun free table there bytes bytes_are pseudokey ward page pseudokey_is ward_is page_is requests requests_are =
+      let hashed = pseudokey_is ∙ ap (pseudokey_of i.keyer) bytes_are in
+      record {
+        free = free;
+        table = table;
+        there = there;
+        ward_is = ward_is ∙ ap (ward_of i.ward_bits) hashed;
+        page_is = page_is ∙ ap (λ k. (walk_of table i.ward_bits k).page) hashed;
+        after = ap (with_requests i) (requests_are ∙ ap (λ k. i.in_flight ++ (name, record { client = client; call = call; pseudokey = k; ward = ward; page = page }) ∷ []) hashed);
+      }
 
   pub begun_kept : (ward page : ℕ) (requests : Requests) → IsKept pseudokey_of (world_of i) → HasBegun pseudokey_of (world_of i) name client copy call ward page (with_requests i requests) → IsKept pseudokey_of (with_requests i requests)
   begun_kept ward page requests kept has = record {

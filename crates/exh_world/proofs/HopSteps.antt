@@ -14,7 +14,7 @@ use Rattle.exh_ward.specs.declared.ward_fault.WardFault.{WardFault}
 use Rattle.exh_ward.specs.declared.ward_fault.WardFault.TheVariants.{Memory, Page}
 use Rattle.exh_world.specs.InFlight.{Requests, request_named, requests_after}
 use Rattle.exh_world.specs.Kept.{IsKept, uncounted}
-use Rattle.exh_world.specs.Laws.{AreWardsSound, StepsKeepWorldsSound}
+use Rattle.exh_world.specs.Laws.{StepsKeepWorldsSound}
 use Rattle.exh_world.specs.Sound.{IsWardOf, IsOnTheWay}
 use Rattle.exh_world.specs.Step.{HasHopped, IsWant, Step}
 use Rattle.exh_world.specs.World.{WorldState}
@@ -28,7 +28,8 @@ use Rattle.exh_world.specs.declared.step_fault.StepFault.TheVariants.{Ward as Of
 use Rattle.exh_world.specs.declared.world.World.TheInside.{Inside}
 use Rattle.exh_world.proofs.InsideWorld.{world_of}
 use Rattle.exh_world.proofs.RequestsKept.{all_named}
-use Rattle.exh_world.proofs.UncountedWards.{map_there, map_from, unchanged_shown, leaves_shown, all_sound_shown}
+use Rattle.exh_world.proofs.UncountedWards.{map_there, map_from, unchanged_shown, leaves_shown}
+use Rattle.exh_world.proofs.WardsLeft.{wards_left}
 
 -- ---- a refusal for want
 
@@ -103,7 +104,7 @@ module _ {P K : Type 0} (pseudokey_of : K → List ℕ → ℕ) (i : Inside P K)
 
         pub hopped_kept : StepsKeepWorldsSound pseudokey_of → IsSoundWard pseudokey_of left → IsKept pseudokey_of (with_ward i at left requests)
         hopped_kept steps sound =
-            let wards : AreWardsSound pseudokey_of (with_ward i at left requests) = all_sound_shown pseudokey_of i.wards.items at ward left there_at (λ number one is. (kept.sound.wards number one is).sound) sound in
+            let wards = wards_left pseudokey_of (world_of i) (with_ward i at left requests) i.wards.items at ward left kept.sound refl refl there_at sound in
             record {
               sound = steps (world_of i) (HopOn name) (Ok (Hopped request.ward hop)) (with_ward i at left requests) kept.sound hopped wards;
               few_wards = kept.few_wards;

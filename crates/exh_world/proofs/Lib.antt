@@ -23,7 +23,6 @@ pub mod UncountedWards
 pub mod WardsLeft
 pub mod UncountedChanges
 pub mod CopySteps
-pub mod Settled
 pub mod WardNumber
 pub mod InsideWorld
 pub mod BeginSteps

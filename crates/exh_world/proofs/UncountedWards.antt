@@ -1,5 +1,5 @@
 -- What holds of wards holds of them as a world shows them, without their counts of failures.
-use Rattle.std.proofs.Common.{◌≡◌, ℕ, zero, suc, List, [], ◌∷◌, map, slice_get, Some, inl, inr, refl, sym, ap, ◌∙◌, subst}
+use Rattle.std.proofs.Common.{◌≡◌, ℕ, zero, suc, List, [], ◌∷◌, map, slice_get, Some, refl, ap, ◌∙◌}
 use Rattle.std.specs.Prelude.{slice_set}
 use Rattle.std.specs.Option.{option_map}
 use Rattle.std.proofs.lemmas.List.{map-set}
@@ -10,7 +10,7 @@ use Rattle.exh_ward.specs.declared.hop.Hop.{Hop}
 use Rattle.exh_ward.specs.declared.hop.Hop.TheVariants.{Done, Moved, MustSplit, Stray}
 use Rattle.exh_ward.specs.declared.reply.Reply.{Reply}
 use Rattle.exh_world.specs.Kept.{uncounted}
-use Rattle.exh_world.proofs.Lists.{set_is, set_same}
+use Rattle.exh_world.proofs.Lists.{set_same}
 
 -- ---- lists
 
@@ -34,9 +34,6 @@ module _ {K : Type 0} where
   pub sound_shown : (pseudokey_of : K → List ℕ → ℕ) (ward : WardState K) → IsSoundWard pseudokey_of ward → IsSoundWard pseudokey_of (uncounted ward)
   sound_shown pseudokey_of ward is = record { legal = is.legal; since = is.since; numbered = is.numbered; history = is.history; left = is.left }
 
-  pub sound_hidden : (pseudokey_of : K → List ℕ → ℕ) (ward : WardState K) → IsSoundWard pseudokey_of (uncounted ward) → IsSoundWard pseudokey_of ward
-  sound_hidden pseudokey_of ward is = record { legal = is.legal; since = is.since; numbered = is.numbered; history = is.history; left = is.left }
-
   answered_shown : (pseudokey_of : K → List ℕ → ℕ) (old : WardState K) (at client : ℕ) (call : Call) (reply : Reply) (new : WardState K) → IsAnswered pseudokey_of old at client call reply new
       → IsAnswered pseudokey_of (uncounted old) at client call reply (uncounted new)
   answered_shown pseudokey_of old at client call reply new is = record { pages = is.pages; map = is.map; journal = is.journal; others = ap uncounted is.others }
@@ -47,15 +44,3 @@ module _ {K : Type 0} where
   leaves_shown pseudokey_of old at client call (Moved next) new is = ap uncounted is
   leaves_shown pseudokey_of old at client call MustSplit new is = ap uncounted is
   leaves_shown pseudokey_of old at client call Stray new is = ap uncounted is
-
-  -- where one ward is left sound, all are
-  pub all_sound_shown : (pseudokey_of : K → List ℕ → ℕ) (wards : List (WardState K)) (at : ℕ) (old left : WardState K) → slice_get wards at ≡ Some old
-      → ((number : ℕ) (ward : WardState K) → slice_get (map uncounted wards) number ≡ Some ward → IsSoundWard pseudokey_of ward) → IsSoundWard pseudokey_of left
-      → (number : ℕ) (ward : WardState K) → slice_get (map uncounted (slice_set wards at left)) number ≡ Some ward → IsSoundWard pseudokey_of ward
-  all_sound_shown pseudokey_of wards at old left there all sound number ward is =
-      let hidden = map_from uncounted (slice_set wards at left) number ward is in
-      subst (IsSoundWard pseudokey_of) (sym hidden.2)
-      (sound_shown pseudokey_of hidden.0 (elim (set_is wards at number old left hidden.0 there hidden.1) [
-        | inl here ↦ subst (IsSoundWard pseudokey_of) (sym here.1) sound
-        | inr else ↦ sound_hidden pseudokey_of hidden.0 (all number (uncounted hidden.0) (map_there uncounted wards number hidden.0 else.1))
-      ]))

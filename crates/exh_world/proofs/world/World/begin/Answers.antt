@@ -1,4 +1,5 @@
-use Rattle.std.proofs.Common.{sym, ap, ◌∙◌, subst}
+use Rattle.std.proofs.Common.{◌≡◌, None, sym, ◌∙◌, subst}
+use Rattle.exh_world.specs.InFlight.{request_named}
 use Rattle.exh_world.specs.Step.{HasBegun}
 use Rattle.exh_world.specs.World.{WorldState}
 use Rattle.exh_world.proofs.BeginSteps.{none_there, with_requests, begun, begun_kept}
@@ -15,11 +16,11 @@ begun_here : (g : Over) (c : In_ok-begin g) → HasBegunHere g c (world_of c.sel
 begun_here g c =
     let i = c.self.inside in
     let pseudokey_of = g.K.Keyer.pseudokey_of in
-    let free = sym c.get.ensures ∙ none_there c.get.result (sym c.is_some.ensures ∙ c.if-is_some.false) in
+    let free : request_named c.args.name i.in_flight ≡ None = sym c.get.ensures ∙ none_there c.get.result (sym c.is_some.ensures ∙ c.if-is_some.false) in
     let there = numbered_read i.copies.items c.deref.result.now c.args.copy c.in-Some.at c.index.result.now c.deref.ensures.value c.in-Some.ensures.some c.index.ensures in
-    let hashed = c.pseudo-pseudokey.ensures ∙ ap (pseudokey_of i.keyer) (c.as_bytes.ensures.bytes ∙ c.key.ensures) in
-    begun pseudokey_of i c.args.name c.args.client c.args.copy c.args.call.now free c.index.result.now there c.pseudo-pseudokey.result c.ward_number-ward.result c.walk-page.result hashed
-    c.ward_number-ward.ensures c.walk-page.ensures c.begin.new.self c.in_ok-begin.ensures.ok
+    let bytes = c.as_bytes.ensures.bytes ∙ c.key.ensures in
+    begun pseudokey_of i c.args.name c.args.client c.args.copy c.args.call.now free c.index.result.now there c.as_bytes.result.now bytes c.pseudo-pseudokey.result c.ward_number-ward.result c.walk-page.result
+    c.pseudo-pseudokey.ensures c.ward_number-ward.ensures c.walk-page.ensures c.begin.new.self c.in_ok-begin.ensures.ok
 
 pub invariant_of-self-2 : goal.invariant_of-self-2
 invariant_of-self-2 g c =

@@ -1,6 +1,6 @@
 use Rattle.std.proofs.Common.{sym, ◌∙◌, subst, arith}
 use Rattle.exh_world.specs.Kept.{IsKept}
-use Rattle.exh_world.specs.Step.{Step, HasHopped}
+use Rattle.exh_world.specs.Step.{HasHopped}
 use Rattle.exh_world.specs.World.{WorldState}
 use Rattle.exh_world.specs.declared.event.Event.TheVariants.{Hop as HopOn}
 use Rattle.exh_world.proofs.HopSteps.{with_ward, refused_step, ward_within, hashed, covered, refused, hopped, hopped_kept}
