@@ -59,6 +59,9 @@ module _ {K : Type 0} {pseudokey_of : K → List ℕ → ℕ} {world now : World
   found_shown : slice_get world.wards at ≡ Some (uncounted before)
   found_shown = ap (λ ws. slice_get ws at) shows ∙ map_there uncounted wards at before found
 
+  pub found_now : slice_get now.wards at ≡ Some (uncounted before)
+  found_now = ap (λ (w : WorldState K). slice_get w.wards at) (sym view_is) ∙ found_shown
+
   -- a change of the ward is one of the world
   pub world_changed : (Changes : WardState K → ℕ → Notice → WardState K → Type 0) (page : ℕ) (notice : Notice) → Changes (uncounted before) page notice (uncounted left) → HasChanged Changes now at page notice after
   world_changed Changes page notice change = subst (λ old. HasChanged Changes old at page notice after) view_is record {
@@ -80,7 +83,7 @@ module _ {K : Type 0} {pseudokey_of : K → List ℕ → ℕ} {world now : World
   -- ---- refusals
 
   module _ (unchanged : IsUnchanged before left) where
-    world_same : after ≡ world
+    pub world_same : after ≡ world
     world_same = ap (λ ws. record world { wards = ws }) (unchanged_shown wards at before left found unchanged ∙ sym shows)
 
     pub same_kept : IsKept pseudokey_of after
@@ -91,4 +94,4 @@ module _ {K : Type 0} {pseudokey_of : K → List ℕ → ℕ} {world now : World
     world_refused event (Err f) fault is refused = (world_same ∙ view_is, inl (subst (IsRefused now event) (sym is.1) refused))
 
   pub change_refused : (Refuses : WardState K → ℕ → WardFault → Type 0) (page : ℕ) (fault : WardFault) → Refuses (uncounted before) page fault → IsChangeRefused now Refuses at page (Ward fault)
-  change_refused Refuses page fault refused = (uncounted before, ap (λ (w : WorldState K). slice_get w.wards at) (sym view_is) ∙ found_shown, refused)
+  change_refused Refuses page fault refused = (uncounted before, found_now, refused)
