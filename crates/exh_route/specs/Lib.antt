@@ -1,0 +1,2 @@
+pub mod WardRun
+pub mod Laws

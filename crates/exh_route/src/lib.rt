@@ -1,0 +1,7 @@
+//! The ways of requests through one ward: what lists of hops, splits and merges keep of it, and how far a page is from
+//! a key's home (exhash profile).
+#![tactic(auto)]
+
+pub use laws::pages_stay;
+
+mod laws;
