@@ -2,6 +2,6 @@
 //! a key's home (exhash profile).
 #![tactic(auto)]
 
-pub use laws::pages_stay;
+pub use laws::{pages_stay, runs_keep_wards_sound_and_one_map};
 
 mod laws;
