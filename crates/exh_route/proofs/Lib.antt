@@ -3,3 +3,7 @@ pub mod RunPlaces
 pub mod AnsweredPages
 pub mod StepFacts
 pub mod RunFacts
+pub mod Links
+pub mod Counts
+pub mod OneDistance
+pub mod GoHome

@@ -1,12 +1,21 @@
 -- Laws of runs of one ward.
-use Rattle.std.specs.Prelude.{◌≡◌, ℕ, ◌+◌, ◌≤◌, List, [], ◌++◌, length, All}
+use Rattle.std.specs.Prelude.{◌≡◌, ℕ, suc, ◌+◌, ◌^◌, ◌<◌, ◌≤◌, Bool, List, [], ◌++◌, length, All}
+use Rattle.exh_prefix.specs.Prefix.{Begins}
 use Rattle.exh_page.specs.declared.page.Page.{Page}
 use Rattle.exh_page.specs.Page.{low_bound}
 use Rattle.exh_legal.specs.Laws.{KeepsPlaces, IsWard}
 use Rattle.exh_legal.specs.Numbers.{index_of}
-use Rattle.exh_legal.specs.Pages.{IsAt, map_of}
+use Rattle.exh_legal.specs.Pages.{IsAt, AreLinked, bare, map_of}
+use Rattle.exh_ward.specs.Call.{key_of}
 use Rattle.exh_ward.specs.History.{IsHistory, map_left}
+use Rattle.exh_ward.specs.HopTable.{HopOf, Overflows}
+use Rattle.exh_ward.specs.MapMachine.{reply_of}
 use Rattle.exh_ward.specs.WardState.{WardState, IsSoundWard, own_prefix}
+use Rattle.exh_ward.specs.declared.call.Call.{Call}
+use Rattle.exh_ward.specs.declared.call.Call.TheVariants.{Get}
+use Rattle.exh_ward.specs.declared.hop.Hop.TheVariants.{Done, Moved, MustSplit}
+use Rattle.exh_route.specs.Distance.{IsDistance}
+use Rattle.exh_route.specs.Moves.{AreMoves, GoesHome}
 use Rattle.exh_route.specs.WardRun.{WardMoment, IsWardRun, answered_by, answered_in, changes_in}
 
 -- ---- one map
@@ -63,3 +72,43 @@ pub record ArePlacesKept {K : Type 0} (start : WardState K) (moments : List (War
 abbrev pub PagesStay : {K : Type 0} → (K → List ℕ → ℕ) → Type 0
 PagesStay {K} pseudokey_of = (start : WardState K) (moments : List (WardMoment K)) (end : WardState K)
     → IsWardRun pseudokey_of start moments end → ArePlacesKept start moments end
+
+-- ---- moves
+
+-- linked pages, as those of a legal ward are, and a page from which a call of a pseudokey can go on
+pub record IsOnTheWay (ward : List Bool) (pages : List Page) (from pseudokey : ℕ) : Type 0 where
+  pub linked : AreLinked ward (bare pages)
+  pub word : pseudokey < 2 ^ 64
+  pub covered : Begins ward pseudokey
+  pub below : IsBelow pages from pseudokey
+
+-- a Get's hops end at the live page whose prefix begins its pseudokey, after as many moves as the distance, with the map machine's reply
+abbrev pub GetsGoHome : Type 0
+GetsGoHome = (cap : ℕ) (pseudo : List ℕ → ℕ) (ward : List Bool) (pages : List Page) (from : ℕ) (key : List ℕ)
+    → IsOnTheWay ward pages from (pseudo key)
+    → (way : GoesHome cap pseudo pages from (Get key)) × HopOf cap pseudo pages way.home (Get key) (Done (reply_of cap pseudo (map_of pages) (Get key)))
+
+-- and so do those of any call; there it is answered, but for a new key's Put at a full page, which must wait for a split
+pub record EndsAtHome (cap : ℕ) (pseudo : List ℕ → ℕ) (pages : List Page) (from : ℕ) (call : Call) : Type 0 where
+  pub way : GoesHome cap pseudo pages from call
+  pub answered : (Overflows cap (map_of pages) way.page call → ⊥) → HopOf cap pseudo pages way.home call (Done (reply_of cap pseudo (map_of pages) call))
+  pub waits : Overflows cap (map_of pages) way.page call → HopOf cap pseudo pages way.home call MustSplit
+
+abbrev pub CallsGoHome : Type 0
+CallsGoHome = (cap : ℕ) (pseudo : List ℕ → ℕ) (ward : List Bool) (pages : List Page) (from : ℕ) (call : Call)
+    → IsOnTheWay ward pages from (pseudo (key_of call)) → EndsAtHome cap pseudo pages from call
+
+-- calls of one pseudokey make the same moves, whatever they are
+abbrev pub MovesAreOfPseudokeys : Type 0
+MovesAreOfPseudokeys = (cap : ℕ) (pseudo : List ℕ → ℕ) (pages : List Page) (from : ℕ) (call other : Call) (moves : List ℕ) (to : ℕ)
+    → pseudo (key_of call) ≡ pseudo (key_of other) → AreMoves cap pseudo pages call from moves to → AreMoves cap pseudo pages other from moves to
+
+-- each move lowers the distance by exactly one
+abbrev pub MovesComeNearer : Type 0
+MovesComeNearer = (cap : ℕ) (pseudo : List ℕ → ℕ) (ward : List Bool) (pages : List Page) (from : ℕ) (call : Call) (next distance : ℕ)
+    → IsOnTheWay ward pages from (pseudo (key_of call)) → IsDistance pages from (pseudo (key_of call)) distance → HopOf cap pseudo pages from call (Moved next)
+    → (left : ℕ) × (distance ≡ suc left) × IsDistance pages next (pseudo (key_of call)) left
+
+-- of any list of pages, a page has one distance at most
+abbrev pub OneDistance : Type 0
+OneDistance = (pages : List Page) (from pseudokey one other : ℕ) → IsDistance pages from pseudokey one → IsDistance pages from pseudokey other → one ≡ other

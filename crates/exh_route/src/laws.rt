@@ -1,11 +1,11 @@
 //! What holds of every list of hops, splits and merges of one ward, and of the ways through it. Each function does
 //! nothing.
 
-ghost use Rattle.exh_route.specs.Laws.{PagesStay, RunsAreOneMaps, RunsKeepWardsSound};
+ghost use Rattle.exh_route.specs.Laws.{PagesStay, RunsAreOneMaps, RunsKeepWardsSound, GetsGoHome, CallsGoHome, MovesAreOfPseudokeys, MovesComeNearer, OneDistance};
 
 use exh_keyer::Keyer;
-use exh_legal::{merges_keep_legal, splits_keep_legal};
-use exh_ward::{answers_keep_legal, histories_go_on};
+use exh_legal::{merges_keep_legal, right_links_lead_on, splits_keep_legal};
+use exh_ward::{answers_keep_legal, histories_go_on, one_hop};
 
 /// Over every list of hops, splits and merges of a ward, it is legal for its start table and all
 /// changes; the replies are one map's, from the map at the start; and a split or merge leaves the map
@@ -24,4 +24,31 @@ pub fn runs_keep_wards_sound_and_one_map<K: Keyer>()
 /// bound: where a request stands at a page that isn't beyond its key, it still does.
 pub fn pages_stay<K: Keyer>()
     ensures { PagesStay K.pseudokey_of }
+{}
+
+/// From every page that isn't beyond a key of the ward, the hops of a Get end at the live page whose
+/// prefix begins the key's pseudokey, after as many moves as the distance says: the forwarding pages
+/// to the first live page, and the live pages whose low bound is above that one's and at most the
+/// pseudokey. No other moves end in an answer. The same holds of any call, but that a new key's Put
+/// is answered `MustSplit` at a full page; the moves are the same for all calls of a pseudokey.
+pub fn gets_go_home()
+    ensures gets { GetsGoHome }
+    ensures calls { CallsGoHome }
+    ensures same { MovesAreOfPseudokeys }
+{
+    right_links_lead_on();
+    one_hop();
+}
+
+/// Each move lowers the distance by exactly one.
+pub fn moves_come_nearer()
+    ensures { MovesComeNearer }
+{
+    right_links_lead_on();
+    one_hop();
+}
+
+/// A page has one distance at most, for any list of pages.
+pub fn one_distance()
+    ensures { OneDistance }
 {}

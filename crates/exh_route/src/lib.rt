@@ -2,6 +2,8 @@
 //! a key's home (exhash profile).
 #![tactic(auto)]
 
-pub use laws::{pages_stay, runs_keep_wards_sound_and_one_map};
+pub use laws::{
+    gets_go_home, moves_come_nearer, one_distance, pages_stay, runs_keep_wards_sound_and_one_map,
+};
 
 mod laws;
