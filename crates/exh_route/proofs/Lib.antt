@@ -7,3 +7,4 @@ pub mod Links
 pub mod Counts
 pub mod OneDistance
 pub mod GoHome
+pub mod RunNamed

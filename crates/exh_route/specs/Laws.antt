@@ -16,7 +16,7 @@ use Rattle.exh_ward.specs.declared.call.Call.TheVariants.{Get}
 use Rattle.exh_ward.specs.declared.hop.Hop.TheVariants.{Done, Moved, MustSplit}
 use Rattle.exh_route.specs.Distance.{IsDistance}
 use Rattle.exh_route.specs.Moves.{AreMoves, GoesHome}
-use Rattle.exh_route.specs.WardRun.{WardMoment, IsWardRun, answered_by, answered_in, changes_in}
+use Rattle.exh_route.specs.WardRun.{WardMoment, IsWardRun, answered_by, answered_in, changes_in, named_by}
 
 -- ---- one map
 
@@ -72,6 +72,16 @@ pub record ArePlacesKept {K : Type 0} (start : WardState K) (moments : List (War
 abbrev pub PagesStay : {K : Type 0} → (K → List ℕ → ℕ) → Type 0
 PagesStay {K} pseudokey_of = (start : WardState K) (moments : List (WardMoment K)) (end : WardState K)
     → IsWardRun pseudokey_of start moments end → ArePlacesKept start moments end
+
+-- the number is a page's, and stays one's of the same low bound
+abbrev pub IsKeptPage : List Page → List Page → ℕ → Type 0
+IsKeptPage pages new number = (page : Page) × IsAt pages number page × ((after : Page) × IsAt new number after × (low_bound after ≡ low_bound page))
+
+-- from a legal ward, each page number that a moment names is a page's from then on
+abbrev pub NamedPagesStay : {K : Type 0} → (K → List ℕ → ℕ) → Type 0
+NamedPagesStay {K} pseudokey_of = (start : WardState K) (moments : List (WardMoment K)) (end : WardState K)
+    → IsLegalWard pseudokey_of start → IsWardRun pseudokey_of start moments end
+    → All (λ (moment : WardMoment K). All (IsKeptPage moment.after.pages end.pages) (named_by moment.event)) moments
 
 -- ---- moves
 

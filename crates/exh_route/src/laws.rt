@@ -1,7 +1,7 @@
 //! What holds of every list of hops, splits and merges of one ward, and of the ways through it. Each function does
 //! nothing.
 
-ghost use Rattle.exh_route.specs.Laws.{PagesStay, RunsAreOneMaps, RunsKeepWardsSound, GetsGoHome, CallsGoHome, MovesAreOfPseudokeys, MovesComeNearer, OneDistance};
+ghost use Rattle.exh_route.specs.Laws.{PagesStay, NamedPagesStay, RunsAreOneMaps, RunsKeepWardsSound, GetsGoHome, CallsGoHome, MovesAreOfPseudokeys, MovesComeNearer, OneDistance};
 
 use exh_keyer::Keyer;
 use exh_legal::{merges_keep_legal, right_links_lead_on, splits_keep_legal};
@@ -25,6 +25,18 @@ pub fn runs_keep_wards_sound_and_one_map<K: Keyer>()
 pub fn pages_stay<K: Keyer>()
     ensures { PagesStay K.pseudokey_of }
 {}
+
+/// Over every list of hops, splits and merges of a ward, each page number that one of them names, as
+/// where a hop moves on to or as a split's right page, is from then on that of a page of one low
+/// bound.
+pub fn named_pages_stay<K: Keyer>()
+    ensures { NamedPagesStay K.pseudokey_of }
+{
+    splits_keep_legal();
+    merges_keep_legal();
+    answers_keep_legal();
+    histories_go_on();
+}
 
 /// From every page that isn't beyond a key of the ward, the hops of a Get end at the live page whose
 /// prefix begins the key's pseudokey, after as many moves as the distance says: the forwarding pages

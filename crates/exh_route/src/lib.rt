@@ -3,7 +3,8 @@
 #![tactic(auto)]
 
 pub use laws::{
-    gets_go_home, moves_come_nearer, one_distance, pages_stay, runs_keep_wards_sound_and_one_map,
+    gets_go_home, moves_come_nearer, named_pages_stay, one_distance, pages_stay,
+    runs_keep_wards_sound_and_one_map,
 };
 
 mod laws;
