@@ -1,13 +1,17 @@
 -- Counts over two tests that differ at one place, or nowhere.
-use Rattle.std.proofs.Common.{◌≡◌, ℕ, zero, suc, ◌+◌, Bool, true, false, cond, List, [], ◌∷◌, slice_get, Some, refl, ap, ◌∙◌, arith}
+use Rattle.std.proofs.Common.{◌≡◌, ℕ, zero, suc, ◌+◌, ◌≤◌, Bool, true, false, cond, List, [], ◌∷◌, slice_get, Some, refl, ap, ◌∙◌, arith}
 use Rattle.std.specs.Prelude.{count_by}
 use Rattle.std.proofs.lemmas.List.Sums.{sum_by-cons}
 
-abbrev counts : Bool → ℕ
+abbrev pub counts : Bool → ℕ
 counts b = cond b 1 0
 
+pub counts_few : (b : Bool) → counts b ≤ 1
+counts_few true = omega arith
+counts_few false = omega arith
+
 module _ {A : Type 0} where
-  count_cons : (p : A → Bool) (x : A) (xs : List A) → count_by p (x ∷ xs) ≡ counts (p x) + count_by p xs
+  pub count_cons : (p : A → Bool) (x : A) (xs : List A) → count_by p (x ∷ xs) ≡ counts (p x) + count_by p xs
   count_cons p x xs = sum_by-cons (λ x. cond (p x) 1 0) x xs
 
   pub count_same : (p q : A → Bool) (xs : List A) → ((place : ℕ) (x : A) → slice_get xs place ≡ Some x → p x ≡ q x) → count_by p xs ≡ count_by q xs
@@ -21,6 +25,10 @@ module _ {A : Type 0} where
   count_none p (x ∷ xs) none =
       let first : counts (p x) ≡ 0 = ap counts (none 0 x refl) in
       omega (arith, count_cons p x xs, first, count_none p xs (λ place. none (suc place)))
+
+  pub count_less : (p q : A → Bool) (xs : List A) → ((x : A) → counts (p x) ≤ counts (q x)) → count_by p xs ≤ count_by q xs
+  count_less p q [] less = omega arith
+  count_less p q (x ∷ xs) less = omega (arith, count_cons p x xs, count_cons q x xs, less x, count_less p q xs less)
 
   -- one more passes
   pub count_one_more : (p q : A → Bool) (xs : List A) (at : ℕ) (x : A) → slice_get xs at ≡ Some x → p x ≡ true → q x ≡ false

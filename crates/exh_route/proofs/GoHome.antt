@@ -181,7 +181,7 @@ module _ (cap : ℕ) (pseudo : List ℕ → ℕ) (pages : List Page) (call : Cal
           there = way.there;
           begins = way.begins;
           below = way.below;
-          distance = record { over = []; live = number; forwarded = refl; page = page; there = is; is_live = live; sum = omega (arith, way.count_is) };
+          distance = record { over = []; live = number; forwarded = refl; page = page; there = is; lives = live; sum = omega (arith, way.count_is) };
         }
 
     moved_back : (number low target : ℕ) → IsAt pages number (Forward low target) → low ≤ k → GoesOn target → GoesOn number
@@ -199,7 +199,7 @@ module _ (cap : ℕ) (pseudo : List ℕ → ℕ) (pages : List Page) (call : Cal
         forwarded = (refl, (low, target, is, rest.distance.forwarded));
         page = rest.distance.page;
         there = rest.distance.there;
-        is_live = rest.distance.is_live;
+        lives = rest.distance.lives;
         sum = omega (arith, rest.distance.sum);
       };
     }

@@ -5,6 +5,7 @@ pub mod StepFacts
 pub mod RunFacts
 pub mod Links
 pub mod Counts
+pub mod Ones
 pub mod OneDistance
 pub mod GoHome
 pub mod RunNamed

@@ -1,7 +1,9 @@
 -- What linked pages say of pages with their records.
 use Rattle.std.proofs.Common.{◌≡◌, ℕ, zero, suc, ◌-◌, ◌^◌, ◌<◌, ◌≤◌, Bool, List, [], length, Some, sym, ap, ◌∙◌, subst, arith}
 use Rattle.std.proofs.lemmas.Nat.{and_le_r}
-use Rattle.exh_prefix.specs.Prefix.{low_of}
+use Rattle.exh_prefix.specs.declared.prefix.TheConstants.{LIMIT}
+use Rattle.exh_prefix.specs.Bits.{lowest_cleared}
+use Rattle.exh_prefix.specs.Prefix.{HasPrefix, low_of}
 use Rattle.exh_prefix.specs.PrefixLemmas.{begins_low, begins_from_low, lowest_cleared-and}
 use Rattle.exh_page.specs.declared.page.Page.{Page}
 use Rattle.exh_page.specs.declared.page.Page.TheVariants.{Live, Forward}
@@ -75,7 +77,7 @@ module _ (ward : List Bool) (pages : List Page) (linked : AreLinked ward (bare p
   -- ---- forwarding pages
 
   -- none has the low bound 0, which is page 0's where it is of the ward
-  forward_above : (number low target : ℕ) → IsAt pages number (Forward low target) → 0 < low
+  pub forward_above : (number low target : ℕ) → IsAt pages number (Forward low target) → 0 < low
   forward_above zero low target is =
       let first = first_page in
       absurd (subst IsLive (one_there pages 0 first.0 (Forward low target) first.1 is) first.2)
@@ -88,14 +90,21 @@ module _ (ward : List Bool) (pages : List Page) (linked : AreLinked ward (bare p
       absurd (omega (arith, same))
   forward_above (suc number) (suc low) target is = omega arith
 
+  pub target_cleared : (number low target : ℕ) → IsAt pages number (Forward low target) → (page : Page) × IsAt pages target page × (low_bound page ≡ lowest_cleared low)
+  target_cleared number low target is =
+      let next = linked.links number (Forward low target) (bare_at pages number (Forward low target) is) in
+      let full = at_bare pages target next.0 next.1 in
+      (full.0, full.1, sym (bare_low full.0) ∙ sym (ap low_bound full.2) ∙ next.2)
+
+  pub forward_prefix : (number low target : ℕ) → IsAt pages number (Forward low target) → (low < 2 ^ 64) × HasPrefix LIMIT low
+  forward_prefix number low target is = let within = within_at number (Forward low target) is in (within.0, within.2)
+
   -- the target's low bound is lower
   pub target_below : (number low target : ℕ) → IsAt pages number (Forward low target) → (page : Page) × IsAt pages target page × (low_bound page < low)
   target_below number low target is =
-      let next = linked.links number (Forward low target) (bare_at pages number (Forward low target) is) in
-      let full = at_bare pages target next.0 next.1 in
-      let within = within_at number (Forward low target) is in
-      let low_is : low_bound full.0 ≡ low_bound next.0 = sym (bare_low full.0) ∙ sym (ap low_bound full.2) in
-      (full.0, full.1, omega (arith, low_is, next.2, lowest_cleared-and low within.0, and_le_r low (low - 1), forward_above number low target is))
+      let next = target_cleared number low target is in
+      let small = (forward_prefix number low target is).0 in
+      (next.0, next.1, omega (arith, next.2, lowest_cleared-and low small, and_le_r low (low - 1), forward_above number low target is))
 
   -- ---- right links
 

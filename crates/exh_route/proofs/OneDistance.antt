@@ -33,6 +33,6 @@ module _ (pages : List Page) where
 
 pub same_distance : (pages : List Page) (from pseudokey one other : ℕ) → IsDistance pages from pseudokey one → IsDistance pages from pseudokey other → one ≡ other
 same_distance pages from pseudokey one other first second =
-    let same = one_chain pages from first.over second.over first.live second.live first.forwarded second.forwarded (first.page, first.there, first.is_live) (second.page, second.there, second.is_live) in
+    let same = one_chain pages from first.over second.over first.live second.live first.forwarded second.forwarded (first.page, first.there, first.lives) (second.page, second.there, second.lives) in
     let page_same : first.page ≡ second.page = one_there pages second.live first.page second.page (subst (λ n. IsAt pages n first.page) same.1 first.there) second.there in
     first.sum ∙ ap (λ over. length over + live_between pages (low_bound first.page) pseudokey) same.0 ∙ ap (λ page. length second.over + live_between pages (low_bound page) pseudokey) page_same ∙ sym second.sum

@@ -1,5 +1,6 @@
 -- Laws of runs of one ward.
 use Rattle.std.specs.Prelude.{◌≡◌, ℕ, suc, ◌+◌, ◌^◌, ◌<◌, ◌≤◌, Bool, List, [], ◌++◌, length, All}
+use Rattle.exh_prefix.specs.declared.prefix.TheConstants.{LIMIT}
 use Rattle.exh_prefix.specs.Prefix.{Begins}
 use Rattle.exh_page.specs.declared.page.Page.{Page}
 use Rattle.exh_page.specs.Page.{low_bound}
@@ -14,7 +15,7 @@ use Rattle.exh_ward.specs.WardState.{WardState, IsSoundWard, own_prefix}
 use Rattle.exh_ward.specs.declared.call.Call.{Call}
 use Rattle.exh_ward.specs.declared.call.Call.TheVariants.{Get}
 use Rattle.exh_ward.specs.declared.hop.Hop.TheVariants.{Done, Moved, MustSplit}
-use Rattle.exh_route.specs.Distance.{IsDistance}
+use Rattle.exh_route.specs.Distance.{IsDistance, live_pages}
 use Rattle.exh_route.specs.Moves.{AreMoves, GoesHome}
 use Rattle.exh_route.specs.WardRun.{WardMoment, IsWardRun, answered_by, answered_in, changes_in, named_by}
 
@@ -122,3 +123,7 @@ MovesComeNearer = (cap : ℕ) (pseudo : List ℕ → ℕ) (ward : List Bool) (pa
 -- of any list of pages, a page has one distance at most
 abbrev pub OneDistance : Type 0
 OneDistance = (pages : List Page) (from pseudokey one other : ℕ) → IsDistance pages from pseudokey one → IsDistance pages from pseudokey other → one ≡ other
+
+-- a distance in linked pages is at most LIMIT more than the live pages
+abbrev pub DistancesAreFew : Type 0
+DistancesAreFew = (ward : List Bool) (pages : List Page) (from pseudokey distance : ℕ) → AreLinked ward (bare pages) → IsDistance pages from pseudokey distance → distance ≤ LIMIT + live_pages pages

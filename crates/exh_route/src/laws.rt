@@ -1,7 +1,7 @@
 //! What holds of every list of hops, splits and merges of one ward, and of the ways through it. Each function does
 //! nothing.
 
-ghost use Rattle.exh_route.specs.Laws.{PagesStay, NamedPagesStay, RunsAreOneMaps, RunsKeepWardsSound, GetsGoHome, CallsGoHome, MovesAreOfPseudokeys, MovesComeNearer, OneDistance};
+ghost use Rattle.exh_route.specs.Laws.{PagesStay, NamedPagesStay, RunsAreOneMaps, RunsKeepWardsSound, GetsGoHome, CallsGoHome, MovesAreOfPseudokeys, MovesComeNearer, OneDistance, DistancesAreFew};
 
 use exh_keyer::Keyer;
 use exh_legal::{merges_keep_legal, right_links_lead_on, splits_keep_legal};
@@ -63,4 +63,9 @@ pub fn moves_come_nearer()
 /// A page has one distance at most, for any list of pages.
 pub fn one_distance()
     ensures { OneDistance }
+{}
+
+/// In the pages of a legal ward a distance is at most `LIMIT` more than the live pages.
+pub fn distances_are_few()
+    ensures { DistancesAreFew }
 {}

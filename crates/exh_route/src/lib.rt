@@ -3,7 +3,7 @@
 #![tactic(auto)]
 
 pub use laws::{
-    gets_go_home, moves_come_nearer, named_pages_stay, one_distance, pages_stay,
+    distances_are_few, gets_go_home, moves_come_nearer, named_pages_stay, one_distance, pages_stay,
     runs_keep_wards_sound_and_one_map,
 };
 
