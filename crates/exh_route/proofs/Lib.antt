@@ -1,0 +1,11 @@
+pub mod Places
+pub mod RunPlaces
+pub mod AnsweredPages
+pub mod StepFacts
+pub mod RunFacts
+pub mod Links
+pub mod Counts
+pub mod Ones
+pub mod OneDistance
+pub mod GoHome
+pub mod RunNamed

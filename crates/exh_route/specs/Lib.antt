@@ -1,0 +1,4 @@
+pub mod WardRun
+pub mod Distance
+pub mod Moves
+pub mod Laws

@@ -1,0 +1,10 @@
+//! The ways of requests through one ward: what lists of hops, splits and merges keep of it, and how far a page is from
+//! a key's home (exhash profile).
+#![tactic(auto)]
+
+pub use laws::{
+    distances_are_few, gets_go_home, moves_come_nearer, named_pages_stay, one_distance, pages_stay,
+    runs_keep_wards_sound_and_one_map,
+};
+
+mod laws;
