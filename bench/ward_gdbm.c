@@ -7,8 +7,8 @@
  * the key in reverse. CACHE is the number of buckets that gdbm keeps and BLOCK its block size, 0 for what gdbm
  * chooses itself; MAP is 1 where it may map the file to memory. It doesn't lock the file, and doesn't synchronize.
  *
- * To standard output: how many gets found the right value, the same for all rounds. To standard error: the fewest
- * nanoseconds of a round's puts, and of its gets. */
+ * It prints how many gets found the right value, the same for all rounds, and the fewest nanoseconds of a round's
+ * puts, and of its gets. */
 #include <gdbm.h>
 #include <stdint.h>
 #include <stdio.h>
@@ -100,7 +100,7 @@ int main(int argc, char **argv) {
         if (put - begun < best_puts) best_puts = put - begun;
         if (got - put < best_gets) best_gets = got - put;
     }
-    printf("found %llu\n", (unsigned long long)right);
-    fprintf(stderr, "puts %llu gets %llu\n", (unsigned long long)best_puts, (unsigned long long)best_gets);
+    printf("%llu %llu %llu\n", (unsigned long long)right, (unsigned long long)best_puts,
+           (unsigned long long)best_gets);
     return 0;
 }

@@ -1,0 +1,133 @@
+ghost use Rattle.std.specs.Prelude.{◌≡◌};
+
+use anyhow::bail;
+use exh_frames::PlainPages;
+use exh_keyer::{AnyKeyer, Keyer};
+use exh_notice::{Entry, Kind};
+use exh_page::{CAP_LIMIT, Key, PageNo};
+use exh_prefix::{LIMIT, Prefix};
+use exh_ward::{Call, Hop, Reply, Ward, WardFault, first_page};
+use std::alloc::Global;
+
+// More hops than a call may need.
+const HOPS: u32 = 64;
+
+/// A ward of a new file, alone in it, and its one caller, who finds pages by the ward's own table.
+#[derive(Drop)]
+pub(crate) struct Caller {
+    ward: Ward<PlainPages, AnyKeyer>,
+    keyer: AnyKeyer,
+    ghost hashes: { ward.keyer ≡ keyer },
+    ghost alone: { ward.ward_bits ≡ 0 },
+}
+
+impl Caller {
+    ghost use Rattle.std.specs.Prelude.{◌≡◌};
+    ghost use Rattle.exh_keyer.specs.Pseudokey.{any_pseudokey};
+    ghost use Rattle.exh_ward.specs.Call.{key_of};
+
+    /// The caller of a new ward of the greatest cap.
+    pub(crate) fn new(alloc: Global, keyer: AnyKeyer) -> anyhow::Result<Caller> {
+        let store = PlainPages::new(alloc, first_page(alloc, 0, 0))?;
+        Ok(Caller {
+            ward: Ward::new(alloc, store, CAP_LIMIT, 0, 0, keyer),
+            keyer,
+        })
+    }
+
+    /// The page that the table names for a key.
+    pub(crate) fn home(&self, key: &Key) -> PageNo {
+        let pseudokey = self.keyer.pseudo(key.as_bytes());
+        self.ward.table().walk(0, pseudokey)
+    }
+
+    /// Makes a call, from the page that the table names.
+    pub(crate) fn call(&mut self, call: &Call) -> anyhow::Result<Reply> {
+        let pseudokey = self.keyer.pseudo(call.key().as_bytes());
+        let at = self.ward.table().walk(0, pseudokey);
+        self.follow(at, call, pseudokey)
+    }
+
+    /// Makes a call, from a page that the caller knows.
+    pub(crate) fn call_at(&mut self, at: PageNo, call: &Call) -> anyhow::Result<Reply> {
+        let pseudokey = self.keyer.pseudo(call.key().as_bytes());
+        self.follow(at, call, pseudokey)
+    }
+
+    /// Deletes a key, and merges the pair that its page is of, and then the pair that the merged page
+    /// is of, as long as they fit.
+    pub(crate) fn delete(&mut self, key: &Key) -> anyhow::Result<Reply> {
+        let pseudokey = self.keyer.pseudo(key.as_bytes());
+        let at = self.ward.table().walk(0, pseudokey);
+        let reply = self.follow(at, &Call::Del { key: *key }, pseudokey)?;
+        for _ in 0..LIMIT {
+            if !self.merge(pseudokey)? {
+                break;
+            }
+        }
+        Ok(reply)
+    }
+
+    /// How many pages are live.
+    pub(crate) fn live(&mut self) -> anyhow::Result<u32> {
+        let mut live = 0u32;
+        for number in 0..self.ward.page_count() {
+            live = live.saturating_add(u32::from(self.ward.page(number)?.is_live()));
+        }
+        Ok(live)
+    }
+
+    // Hops until the call is answered, and splits where that is to be done first.
+    fn follow(&mut self, at: PageNo, call: &Call, pseudokey: u64) -> anyhow::Result<Reply>
+        requires { pseudokey ≡ any_pseudokey self.old.keyer (key_of call.now) }
+    {
+        let mut at = at;
+        'hops: for _ in 0..HOPS {
+            match self.ward.hop_hashed(at, 1, call, pseudokey)? {
+                Hop::Done(reply) => return Ok(reply),
+                Hop::Moved(next) => at = next,
+                Hop::MustSplit => {
+                    self.ward.split(at)?;
+                }
+                Hop::Stray => bail!("the call went astray"),
+            }
+        }
+        bail!("the call came to no answer")
+    }
+
+    // Merges the pair that the home of a pseudokey is of, and tells whether it fitted.
+    fn merge(&mut self, pseudokey: u64) -> anyhow::Result<bool> {
+        let Some(left) = self.left_of_pair(pseudokey) else {
+            return Ok(false);
+        };
+        match self.ward.merge(left) {
+            Ok(_) => Ok(true),
+            Err(WardFault::NoBuddy | WardFault::BuddySplit | WardFault::TooMany(_)) => Ok(false),
+            Err(fault) => Err(fault.into()),
+        }
+    }
+
+    // The page that the table had for a pseudokey before the last split on its walk: the left page of
+    // the pair that its home is of.
+    fn left_of_pair(&self, pseudokey: u64) -> Option<PageNo> {
+        let mut prefix = Prefix::new(0, 0)?;
+        let mut page = 0;
+        let mut left = None;
+        for _ in 0..LIMIT {
+            let Some(
+                Entry {
+                    kind: Kind::Split { right },
+                    ..
+                },
+            ) = self.ward.table().get(prefix)
+            else {
+                break;
+            };
+            left = Some(page);
+            let bit = prefix.child(true)?.begins(pseudokey);
+            prefix = prefix.child(bit)?;
+            page = if bit { right } else { page };
+        }
+        left
+    }
+}
