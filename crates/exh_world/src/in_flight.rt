@@ -1,5 +1,7 @@
 ghost use Rattle.std.specs.Prelude.{◌≡◌, ℕ, List, [], ◌∷◌, ◌++◌, OnOk, OnErr, None};
+ghost use Rattle.std.specs.Map.Iter.{ShowsInOrder, deref_pair};
 ghost use Rattle.exh_world.specs.InFlight.{request_named, requests_after, moved_to};
+ghost use Rattle.exh_world.specs.declared.request.Request.{Request as RequestType};
 
 use crate::Request;
 use exh_prefix::PageNo;
@@ -43,7 +45,8 @@ impl InFlight {
 
     /// The requests with their names.
     pub(crate) fn iter(&self) -> Iter<'_, u32, Request>
-        ensures { result ≡ self.now }
+        ensures rest { result ≡ self.now }
+        ensures runs { ShowsInOrder (deref_pair {K = ℕ} {X = RequestType}) }
     {
         self.requests.iter()
     }

@@ -1,10 +1,12 @@
-ghost use Rattle.std.specs.Prelude.{◌≡◌, slice_get, Some, None, IfOk, IfErr};
+ghost use Rattle.std.specs.Prelude.{◌≡◌, ℕ, slice_get, Some, None, IfOk, IfErr};
+ghost use Rattle.std.specs.Map.Iter.{ShowsInOrder, deref_pair};
 ghost use Rattle.exh_legal.specs.Pages.{IsAt};
 ghost use Rattle.exh_ward.specs.WardState.{WardState};
 ghost use Rattle.exh_ward.specs.SplitStep.{PageRefused};
 ghost use Rattle.exh_world.specs.Sound.{IsSoundWorld};
 ghost use Rattle.exh_world.specs.Step.{IsChangeRefused};
 ghost use Rattle.exh_world.specs.World.{numbered};
+ghost use Rattle.exh_world.specs.declared.request.Request.{Request as RequestType};
 
 use super::World;
 use super::place::place_in;
@@ -37,7 +39,8 @@ impl<P: Pages + Drop, K: Keyer> World<P, K> {
 
     /// The requests in flight with their names, in the order begun. It takes no memory.
     pub fn in_flight(&self) -> Iter<'_, u32, Request>
-        ensures { result ≡ self.now.in_flight }
+        ensures rest { result ≡ self.now.in_flight }
+        ensures runs { ShowsInOrder (deref_pair {K = ℕ} {X = RequestType}) }
     {
         self.in_flight.iter()
     }

@@ -11,8 +11,8 @@ use exh_keyer::Keyer;
 use std::alloc::AllocError;
 
 impl<P: Pages + Drop, K: Keyer> World<P, K> {
-    /// Does what an event asks. What it comes to, and why it may be refused, its variant's method
-    /// says; where it is refused, the world is as before.
+    /// Does what an event asks, as the event's own method says. Where that refuses it, the world is
+    /// as before.
     pub fn step(&mut self, event: &Event) -> Result<Outcome, StepFault>
         ensures step { Step K.pseudokey_of self.old event.now result self.new }
         ensures sound { IsSoundWorld K.pseudokey_of self.new }
