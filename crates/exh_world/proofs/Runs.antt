@@ -4,7 +4,6 @@ use Rattle.std.specs.Prelude.{Result}
 use Rattle.std.specs.List.{AllByRecursion}
 use Rattle.std.proofs.lemmas.List.{map-append, take_more}
 use Rattle.std.proofs.lemmas.List.Elements.{All-from_recursion}
-use Rattle.exh_ward.specs.WardState.{WardState}
 use Rattle.exh_world.specs.Headline.{IsHeadline}
 use Rattle.exh_world.specs.Laws.{AreWardsSound, RunsCarryTheHeadline}
 use Rattle.exh_world.specs.Run.{Moment, IsRun}

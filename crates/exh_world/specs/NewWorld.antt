@@ -1,5 +1,5 @@
 -- The world of a new file.
-use Rattle.std.specs.Prelude.{ℕ, ◌^◌, List, [], ◌∷◌, map, replicate, None}
+use Rattle.std.specs.Prelude.{ℕ, ◌^◌, [], ◌∷◌, map, replicate, None}
 use Rattle.std.specs.List.{range_with_len}
 use Rattle.std.specs.FinMap.{empty}
 use Rattle.exh_page.specs.declared.page.Page.TheVariants.{Live}

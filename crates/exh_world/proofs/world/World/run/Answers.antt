@@ -1,4 +1,4 @@
-use Rattle.std.proofs.Common.{◌≡◌, List, ◌+◌, take, sym, subst, arith}
+use Rattle.std.proofs.Common.{List, ◌+◌, take, sym, subst, arith}
 use Rattle.exh_world.specs.Sound.{IsSoundWorld}
 use Rattle.exh_world.specs.declared.turn.Turn.{Turn}
 use Rattle.exh_world.proofs.Runs.{HasRun, one_more, headline_of}

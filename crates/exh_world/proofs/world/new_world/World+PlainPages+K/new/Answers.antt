@@ -1,6 +1,6 @@
 use Rattle.std.proofs.Common.{sym, subst, rules}
 use Rattle.exh_world.specs.Kept.{IsKept}
-use Rattle.exh_world.proofs.FreshWorld.{made_of, made_is, none_noticed, AreSoundWards, new_kept}
+use Rattle.exh_world.proofs.FreshWorld.{made_is, none_noticed, AreSoundWards, new_kept}
 use Rattle.exh_world.proofs.world.new_world.World+PlainPages+K.new.Goals as goal
 
 pub returns-clause-world : goal.returns-clause-world
