@@ -48,12 +48,13 @@ module _ {K : Type 0} (pseudokey_of : K → List ℕ → ℕ) where
       }
 
   -- the turn of one event more of a list
-  pub one_more : (start : WorldState K) (events : List Event) (at : ℕ) (turns : List Turn) (now : WorldState K) → HasRun pseudokey_of start (take at events) turns now
+  pub one_more : (start : WorldState K) (events : List Event) (at : ℕ) (turns after : List Turn) (now : WorldState K) → HasRun pseudokey_of start (take at events) turns now
       → (event : Event) → at < length events → event ≡ get_or events at event → (result : Result Outcome StepFault) (next : WorldState K) → Step pseudokey_of now event result next → IsSoundWorld pseudokey_of next
-      → HasRun pseudokey_of start (take (at + 1) events) (turns ++ record { event = event; result = result } ∷ []) next
-  one_more start events at turns now has event within is result next step sound =
+      → after ≡ turns ++ record { event = event; result = result } ∷ [] → HasRun pseudokey_of start (take (at + 1) events) after next
+  one_more start events at turns after now has event within is result next step sound pushed =
       let longer : take (at + 1) events ≡ take at events ++ event ∷ [] = take_more events at event within ∙ ap (λ e. take at events ++ e ∷ []) (sym is) in
-      subst (λ es. HasRun pseudokey_of start es (turns ++ record { event = event; result = result } ∷ []) next) (sym longer) (goes_on start (take at events) turns now has event result next step sound)
+      subst (λ ts. HasRun pseudokey_of start (take (at + 1) events) ts next) (sym pushed)
+      (subst (λ es. HasRun pseudokey_of start es (turns ++ record { event = event; result = result } ∷ []) next) (sym longer) (goes_on start (take at events) turns now has event result next step sound))
 
   -- a run from a sound world carries the headline
   pub headline_of : RunsCarryTheHeadline pseudokey_of → (start : WorldState K) (events : List Event) (turns : List Turn) (now : WorldState K) → IsSoundWorld pseudokey_of start

@@ -1,17 +1,14 @@
-use Rattle.std.proofs.Common.{List, ◌+◌, take, sym, subst, arith}
+use Rattle.std.proofs.Common.{subst, arith}
 use Rattle.exh_world.specs.Sound.{IsSoundWorld}
-use Rattle.exh_world.specs.declared.turn.Turn.{Turn}
-use Rattle.exh_world.proofs.Runs.{HasRun, one_more, headline_of}
+use Rattle.exh_world.proofs.Runs.{one_more, headline_of}
 use Rattle.exh_world.proofs.world.World.run.Goals as goal
 
 pub loop-event-preserved : goal.loop-event-preserved
 loop-event-preserved g c =
     let pseudokey_of = g.K.Keyer.pseudokey_of in
-    let P : List Turn → Type 0 = λ turns. HasRun pseudokey_of c.args.self.now (take (c.loop-event.event-index + 1) c.args.events.now) turns c.step-result.new.self in
     record {
-      has_run = subst P (sym {A = List Turn} c.push_reserved.ensures.items)
-          (one_more pseudokey_of c.args.self.now c.args.events.now c.loop-event.event-index c.loop-event.turns.items c.loop-event.self c.loop-event.invariant.has_run
-          c.event-item.result c.loop-event-test.true c.event-item.is c.step-result.result c.step-result.new.self c.step-result.ensures.step c.step-result.ensures.sound);
+      has_run = one_more pseudokey_of c.args.self.now c.args.events.now c.loop-event.event-index c.loop-event.turns.items c.push_reserved.new.self.items c.loop-event.self c.loop-event.invariant.has_run
+          c.event-item.result c.loop-event-test.true c.event-item.is c.step-result.result c.step-result.new.self c.step-result.ensures.step c.step-result.ensures.sound c.push_reserved.ensures.items;
       sound = c.step-result.ensures.sound;
       room = omega (arith, c.loop-event.invariant.room, c.push_reserved.ensures.len, c.push_reserved.ensures.capacity, c.loop-event-test.true);
     }
