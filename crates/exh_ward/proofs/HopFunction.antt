@@ -1,18 +1,23 @@
 -- The hop table as a relation gives what it gives as a function.
-use Rattle.std.proofs.Common.{◌≡◌, ℕ, suc, Bool, true, false, not, ◌&&◌, List, length, slice_get, Option, Some, None, refl, sym, ap, ◌∙◌, arith, inl, inr}
+use Rattle.std.specs.Option.{option_map_or}
+use Rattle.std.specs.Prelude.{nat_lt, if◌then◌else◌}
+use Rattle.std.proofs.Common.{◌≡◌, ℕ, suc, ◌<◌, ◌^◌, subst, Bool, true, false, not, ◌&&◌, List, length, slice_get, Option, Some, None, refl, sym, ap, ◌∙◌, arith, inl, inr}
 use Rattle.std.specs.FinMap as map
 use Rattle.std.specs.Option.{is_some}
-use Rattle.std.proofs.lemmas.Bool.{leb-true, le-leb, lt-leb, cases_lt, false_from_ne_true}
+use Rattle.std.proofs.lemmas.Bool.{leb-true, le-leb, lt-leb, cases_lt, false_from_ne_true, false≢true}
 use Rattle.exh_prefix.specs.declared.prefix.TheConstants.{LIMIT}
 use Rattle.exh_prefix.specs.Bits.{word_bits}
-use Rattle.exh_prefix.specs.PrefixLemmas.{is_front-true, not_front}
+use Rattle.exh_prefix.specs.PrefixLemmas.{is_front-true, not_front, IsFront-from_test}
 use Rattle.exh_page.specs.declared.page.Page.{Page}
 use Rattle.exh_page.specs.declared.page.Page.TheVariants.{Live, Forward}
 use Rattle.exh_page.specs.Page.{low_bound}
+use Rattle.exh_page.specs.declared.record.Record.{Record}
+use Rattle.exh_legal.specs.Laws.{RightLinksLeadOn}
+use Rattle.exh_prefix.specs.Prefix.{Begins, is_front}
 use Rattle.exh_ward.specs.Call.{key_of}
 use Rattle.exh_ward.specs.KeyMap.{KeyMap}
 use Rattle.exh_ward.specs.MapMachine.{reply_of}
-use Rattle.exh_ward.specs.Pages.{IsHome, map_of}
+use Rattle.exh_ward.specs.Pages.{IsHome, IsLegal, map_of}
 use Rattle.exh_ward.specs.HopTable.{overflows, hop_at, hop_of, IsReached, LeadsTo, Overflows, HopOf}
 use Rattle.exh_ward.specs.declared.call.Call.{Call}
 use Rattle.exh_ward.specs.declared.call.Call.TheVariants.{Get, Put, Del}
@@ -90,3 +95,47 @@ module _ (cap : ℕ) (pseudo : List ℕ → ℕ) (pages : List Page) (at : ℕ) 
   hop_is_hop_of (Moved next) is = sym (at_reached is.0 is.1 ∙ leads is.0 next is.2)
   hop_is_hop_of MustSplit is = sym (at_reached is.0 is.1 ∙ splits is.0 is.2 is.3)
   hop_is_hop_of (Done reply) is = ap Done is.4 ∙ sym (at_reached is.0 is.1 ∙ answers is.0 is.2 is.3)
+
+  -- ---- the other way, in legal pages
+
+  module _ (ward : List Bool) (links : RightLinksLeadOn) (legal : IsLegal cap pseudo ward pages) (small : pseudo (key_of call) < 2 ^ 64) (covered : Begins ward (pseudo (key_of call))) where
+    abbrev k : ℕ
+    k = pseudo (key_of call)
+
+    -- at its home a call is answered, or has to wait
+    at_home : (prefix : List Bool) (link : Option ℕ) (records : List Record) → IsReached pages at k (Live prefix link records) → Begins prefix k → (over : Bool) → overflows cap (map_of pages) (Live prefix link records) call ≡ over
+        → HopOf cap pseudo pages at call (if over then MustSplit else Done (reply_of cap pseudo (map_of pages) call))
+    at_home prefix link records reached begins true is = (Live prefix link records, reached, begins, Overflows-from_test cap (map_of pages) (Live prefix link records) call is)
+    at_home prefix link records reached begins false is =
+        (Live prefix link records, reached, begins, λ over. false≢true (sym is ∙ overflows-true cap (map_of pages) (Live prefix link records) call over), refl)
+
+    -- another live page has a right link
+    elsewhere : (prefix : List Bool) (link : Option ℕ) (records : List Record) → IsReached pages at k (Live prefix link records) → (Begins prefix k → ⊥) → HopOf cap pseudo pages at call (option_map_or Moved link Stray)
+    elsewhere prefix link records reached none =
+        let on = links ward pages at prefix link records k legal.linked reached.there small covered reached.below none in
+        subst (λ link. HopOf cap pseudo pages at call (option_map_or Moved link Stray)) (sym on.1) (Live prefix link records, reached, (none, on.1))
+
+    at_live : (prefix : List Bool) (link : Option ℕ) (records : List Record) → IsReached pages at k (Live prefix link records) → (here : Bool) → is_front prefix (word_bits k) ≡ here
+        → HopOf cap pseudo pages at call (if here then (if overflows cap (map_of pages) (Live prefix link records) call then MustSplit else Done (reply_of cap pseudo (map_of pages) call)) else option_map_or Moved link Stray)
+    at_live prefix link records reached true is = at_home prefix link records reached (IsFront-from_test prefix (word_bits k) is) (overflows cap (map_of pages) (Live prefix link records) call) refl
+    at_live prefix link records reached false is = elsewhere prefix link records reached (λ begins. false≢true (sym is ∙ is_front-true prefix (word_bits k) begins))
+
+    at_page : (page : Page) → IsReached pages at k page → HopOf cap pseudo pages at call (hop_at cap pseudo pages call page)
+    at_page (Live prefix link records) reached = at_live prefix link records reached (is_front prefix (word_bits k)) refl
+    at_page (Forward low target) reached = (Forward low target, reached, refl)
+
+    beyond : ((page : Page) → IsReached pages at k page → ⊥) → HopOf cap pseudo pages at call Stray
+    beyond none = none
+
+    at_number : (found : Option Page) → slice_get pages at ≡ found → HopOf cap pseudo pages at call (option_map_or (λ page. if nat_lt k (low_bound page) then Stray else hop_at cap pseudo pages call page) found Stray)
+    at_number None is = beyond (λ page reached. let both : None ≡ Some page = sym is ∙ reached.there in cc)
+    at_number (Some page) is = elim (cases_lt k (low_bound page)) [
+      | inl before ↦ rw (le-leb (suc k) (low_bound page) before) (beyond (λ other reached.
+          let same : page ≡ other = (let both : Some page ≡ Some other = sym is ∙ reached.there in cc) in
+          absurd (omega (arith, before, reached.below, ap low_bound same))))
+      | inr below ↦ rw (lt-leb (suc k) (low_bound page) (omega (arith, below))) (at_page page (record { there = is; below = below }))
+    ]
+
+    pub has_outcome : HopOf cap pseudo pages at call (hop_of cap pseudo pages at call)
+    unfolding hop_of
+    has_outcome = at_number (slice_get pages at) refl

@@ -3,6 +3,7 @@ use Rattle.std.specs.Prelude.{◌≡◌, ℕ, ◌<◌, ◌≤◌, ◌^◌, Bool,
 use Rattle.exh_prefix.specs.declared.prefix.TheConstants.{LIMIT}
 use Rattle.exh_prefix.specs.Prefix.{Begins}
 use Rattle.exh_page.specs.declared.page.Page.{Page}
+use Rattle.exh_ward.specs.Call.{key_of}
 use Rattle.exh_ward.specs.KeyMap.{KeyMap}
 use Rattle.exh_ward.specs.MapMachine.{leading, reply_of, map_after}
 use Rattle.exh_ward.specs.History.{IsHistory, map_left}
@@ -22,6 +23,12 @@ OneHop = (cap : ℕ) (pseudo : List ℕ → ℕ) (pages : List Page) (at : ℕ) 
 -- what the relation says of a hop, the function computes
 abbrev pub HopsAreComputed : Type 0
 HopsAreComputed = (cap : ℕ) (pseudo : List ℕ → ℕ) (pages : List Page) (at : ℕ) (call : Call) (hop : Hop) → HopOf cap pseudo pages at call hop → hop ≡ hop_of cap pseudo pages at call
+
+-- and in legal pages the relation says what the function computes, so a call has an outcome at each page of its ward
+abbrev pub HopsHaveOutcomes : Type 0
+HopsHaveOutcomes =
+    (cap : ℕ) (pseudo : List ℕ → ℕ) (ward : List Bool) (pages : List Page) (at : ℕ) (call : Call)
+    → IsLegal cap pseudo ward pages → pseudo (key_of call) < 2 ^ 64 → Begins ward (pseudo (key_of call)) → HopOf cap pseudo pages at call (hop_of cap pseudo pages at call)
 
 -- the pages after an answer are legal, and hold the map machine's map
 pub record IsLegalAnswer (cap : ℕ) (pseudo : List ℕ → ℕ) (ward : List Bool) (pages : List Page) (call : Call) (new : List Page) : Type 0 where

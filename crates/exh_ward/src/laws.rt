@@ -1,7 +1,9 @@
 //! What holds of the hop table and of all histories, for the proofs of callers. Each function does
 //! nothing.
 
-ghost use Rattle.exh_ward.specs.Laws.{OneHop, HopsAreComputed, AnswersKeepLegal, SharersBegin, HistoriesGoOn, HistoryIsDetermined};
+ghost use Rattle.exh_ward.specs.Laws.{OneHop, HopsAreComputed, HopsHaveOutcomes, AnswersKeepLegal, SharersBegin, HistoriesGoOn, HistoryIsDetermined};
+
+use exh_legal::right_links_lead_on;
 
 /// A call at a page comes to one outcome at most, for any list of pages.
 pub fn one_hop()
@@ -12,6 +14,14 @@ pub fn one_hop()
 pub fn hops_are_computed()
     ensures { HopsAreComputed }
 {}
+
+/// In legal pages a call of a key of the ward has an outcome at each page: the one that the function
+/// gives.
+pub fn hops_have_outcomes()
+    ensures { HopsHaveOutcomes }
+{
+    right_links_lead_on();
+}
 
 /// An answer at legal pages leaves them legal, with the map machine's map.
 pub fn answers_keep_legal()
