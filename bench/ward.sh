@@ -1,8 +1,8 @@
 #!/usr/bin/env bash
 # Compares a ward of the hash file with gdbm's own library on the same calls, in one run, and shrinks the ward.
 #
-#   bench/ward.sh [RUNS]     the best of RUNS runs of each counts, 5 if left out; a run makes as many rounds of
-#                            1,000 or 10,000 records as come to 60,000
+#   bench/ward.sh [RUNS]     the best round of RUNS runs counts, 5 if left out; a run makes 3 rounds of 60,000 records,
+#                            18 of 10,000 and 180 of 1,000
 #
 # What is compared: microseconds a call, at 1,000, 10,000 and 60,000 records. A round begins with an empty file, puts
 # as many new keys as that, with the splits that they bring, and then gets each of them once, in another order. Keys
@@ -10,14 +10,13 @@
 # - crates/bench_ward calls a ward of 16 records a page over pages in memory, by keyer plain and by keyer sha. Its
 #   caller hashes a key once, walks the ward's own table to the page, hops until it is answered, and splits where that
 #   is to be done first. Of a get are also timed the walk alone (hash and walk) and the hop alone (hash and hop, from
-#   the page that a walk came to before).
+#   the page that a walk came to before), which is printed beside a get of gdbm.
 # - ward_gdbm.c calls gdbm_store and gdbm_fetch. It is to stand as well as it can: its file is on /dev/shm where there
 #   is one, it takes no lock and doesn't synchronize, and the fastest of several settings counts.
 # Then the ward's caller deletes until a tenth of the records is left. After each delete it walks the table for the
-# pair that the page is of, and tries to merge it; where that succeeds, it tries the pair of the merged page too. It
-# keeps no counts of its own: whether a pair fits is what `Ward::merge` says, which reads both pages and copies the
-# left one. Printed are the pages that are live at the end, and the share of the least possible that they come to,
-# which is the records left by 16, rounded up.
+# pair that the page is of, and tries to merge it, and then the pair of the merged page, as long as `Ward::merge` takes
+# them. It keeps no counts of its own: whether a pair fits is found by reading both pages, and copying the left one.
+# Printed are the pages live at the end, also as a share of the least possible, the records left by 16, rounded up.
 #
 # Wanted: with keyer plain a put with its splits takes at most 0.25 of gdbm's time, and a get at most 0.5; with keyer
 # sha neither takes more than gdbm's; and a call at 60,000 records, a delete too, at most 1.5 times its time at 1,000.
@@ -27,7 +26,6 @@ set -u
 export LC_ALL=C
 
 RUNS=${1:-5}
-SIZES=(1000 10000 60000)
 # Settings of gdbm that were worth a try: cached buckets, block size, whether the file is mapped to memory.
 SETTINGS=('0 0 1' '1000 0 1' '8000 0 1' '0 4096 1' '8000 4096 1')
 
@@ -54,7 +52,7 @@ clock() {
 
 # Runs all programs on $1 records, in turns.
 measure() {
-    local records=$1 rounds=$((60000 / $1)) run setting
+    local records=$1 rounds=$((180000 / $1)) run setting
     for ((run = 0; run < RUNS; run++)); do
         clock plain "$records" "$program" plain "$records" "$rounds"
         clock sha "$records" "$program" sha "$records" "$rounds"
@@ -71,10 +69,11 @@ cc -O2 -Wall -Wextra -o "$folder/ward_gdbm" "$bench/ward_gdbm.c" -lgdbm ||
     cat "$folder/log" >&2
     die 'the program could not be built'
 }
-for records in "${SIZES[@]}"; do
+for records in 1000 10000 60000; do
     measure "$records"
 done > "$folder/times"
-echo "machine: $(nproc) x $(sed -n 's/^model name[^:]*: //p' /proc/cpuinfo | head -n 1), load $(cut -d ' ' -f 1 /proc/loadavg); best of $RUNS runs; microseconds a call"
+machine="$(nproc) x $(sed -n 's/^model name[^:]*: //p' /proc/cpuinfo | head -n 1)"
+echo "machine: $machine, load $(cut -d ' ' -f 1 /proc/loadavg); best of $RUNS runs; microseconds a call"
 awk '
     function fail(text) {
         print "bench/ward.sh: " text > "/dev/stderr"
@@ -86,33 +85,39 @@ awk '
             falls[++short] = sprintf("FALLS SHORT: %s: %.2f, at most %.2f is wanted", what, quotient, most)
         }
     }
-    # Prints a line of a call by plain, which may take this share of the time of gdbm, by sha and by gdbm.
-    function compare(records, call, column, share,    cost, cost_sha, rival) {
-        cost = best["plain", records, column] / records
-        cost_sha = best["sha", records, column] / records
-        rival = best["gdbm", records, column] / records
-        printf "%7d  %-6s  %6.3f  %6.3f  %6.3f  %10.2f  %8.2f\n", records, call, cost / 1000, cost_sha / 1000,
-            rival / 1000, cost / rival, cost_sha / rival
-        judge(call " of plain by that of gdbm at " records " records", cost / rival, share)
-        judge(call " of sha by that of gdbm at " records " records", cost_sha / rival, 1)
+    # Microseconds a call. Nine tenths of the records are deleted.
+    function cost(name, records, column) {
+        return best[name, records, column] / (column == 8 ? records * 9 / 10 : records) / 1000
     }
-    # Prints a line of what gdbm has nothing to compare with: of so many calls.
-    function tell(records, call, column, calls) {
-        printf "%7d  %-6s  %6.3f  %6.3f\n", records, call, best["plain", records, column] / calls / 1000,
-            best["sha", records, column] / calls / 1000
+    # Prints a line of a call of the ward, beside the one of gdbm whose times are in column `rival`, if any. Where `share`
+    # is given, the call may take that share of the time of gdbm by plain, and as much by sha.
+    function tell(records, call, column, rival, share,    plain, sha, gdbm) {
+        plain = cost("plain", records, column)
+        sha = cost("sha", records, column)
+        printf "%7d  %-6s  %6.3f  %6.3f", records, call, plain, sha
+        if (rival) {
+            gdbm = cost("gdbm", records, rival)
+            printf "  %6.3f  %10.2f  %8.2f", gdbm, plain / gdbm, sha / gdbm
+        }
+        print ""
+        if (share) {
+            judge("a " call " of plain by one of gdbm at " records " records", plain / gdbm, share)
+            judge("a " call " of sha by one of gdbm at " records " records", sha / gdbm, 1)
+        }
     }
-    function tell_pages(records, keyer,    least) {
+    # Prints how many pages are live at the end, by plain and by sha.
+    function tell_pages(records,    least) {
         least = int((records / 10 + 15) / 16)
-        printf "%7d  %-6s  %d pages live for %d records, %.2f of the least possible\n", records, keyer,
-            live[keyer, records], records / 10, live[keyer, records] / least
+        printf "%7d  pages   %6d  %6d  live, %.2f and %.2f of the least possible\n", records, live["plain", records],
+            live["sha", records], live["plain", records] / least, live["sha", records] / least
     }
     # Prints how the cost of a call grows from 1,000 to 60,000 records, by plain and by sha.
-    function tell_growth(call, column,    growth, growth_sha) {
-        growth = best["plain", 60000, column] / 60 / best["plain", 1000, column]
-        growth_sha = best["sha", 60000, column] / 60 / best["sha", 1000, column]
-        printf "growth   %-6s  %6.2f  %6.2f\n", call, growth, growth_sha
-        judge("growth of a " call " of plain", growth, 1.5)
-        judge("growth of a " call " of sha", growth_sha, 1.5)
+    function tell_growth(call, column,    plain, sha) {
+        plain = cost("plain", 60000, column) / cost("plain", 1000, column)
+        sha = cost("sha", 60000, column) / cost("sha", 1000, column)
+        printf "growth   %-6s  %6.2f  %6.2f\n", call, plain, sha
+        judge("the growth of a " call " of plain", plain, 1.5)
+        judge("the growth of a " call " of sha", sha, 1.5)
     }
     $3 != $2 || (NF > 5 && $9 != $2 / 10) { fail("wrong values: " $0) }
     {
@@ -128,16 +133,17 @@ awk '
         if (!(("gdbm", 60000, 5) in best)) fail("nothing was measured")
         split("1000 10000 60000", sizes, " ")
         print "records  call     plain     sha    gdbm  plain/gdbm  sha/gdbm"
-        for (i = 1; i <= 3; i++) compare(sizes[i], "put", 4, 0.25)
-        for (i = 1; i <= 3; i++) compare(sizes[i], "get", 5, 0.5)
-        for (i = 1; i <= 3; i++) tell(sizes[i], "walk", 6, sizes[i])
-        for (i = 1; i <= 3; i++) tell(sizes[i], "hop", 7, sizes[i])
-        for (i = 1; i <= 3; i++) tell(sizes[i], "delete", 8, sizes[i] * 9 / 10)
+        for (i = 1; i <= 3; i++) {
+            tell(sizes[i], "put", 4, 4, 0.25)
+            tell(sizes[i], "get", 5, 5, 0.5)
+            tell(sizes[i], "walk", 6)
+            tell(sizes[i], "hop", 7, 5)
+            tell(sizes[i], "delete", 8)
+            tell_pages(sizes[i])
+        }
         tell_growth("put", 4)
         tell_growth("get", 5)
         tell_growth("delete", 8)
-        for (i = 1; i <= 3; i++) tell_pages(sizes[i], "plain")
-        for (i = 1; i <= 3; i++) tell_pages(sizes[i], "sha")
         for (i = 1; i <= short; i++) print falls[i]
         exit (short > 0)
     }' "$folder/times"
