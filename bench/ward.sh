@@ -89,8 +89,8 @@ awk '
     function cost(name, records, column) {
         return best[name, records, column] / (column == 8 ? records * 9 / 10 : records) / 1000
     }
-    # Prints a line of a call of the ward, beside the one of gdbm whose times are in column `rival`, if any. Where `share`
-    # is given, the call may take that share of the time of gdbm by plain, and as much by sha.
+    # Prints a line of a call of the ward, beside the one of gdbm whose times are in column `rival`, if any. Where
+    # `share` is given, the call may take that share of the time of gdbm by plain, and as much by sha.
     function tell(records, call, column, rival, share,    plain, sha, gdbm) {
         plain = cost("plain", records, column)
         sha = cost("sha", records, column)
