@@ -17,3 +17,6 @@ pub mod TableSince
 pub mod ChangeSteps
 pub mod SplitSteps
 pub mod MergeSteps
+pub mod PlacedPages
+pub mod SplitFunction
+pub mod MergeFunction

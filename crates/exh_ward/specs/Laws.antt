@@ -1,19 +1,27 @@
--- Laws of the hop table and of histories, that the crates above cite.
-use Rattle.std.specs.Prelude.{◌≡◌, ℕ, ◌<◌, ◌≤◌, ◌^◌, Bool, List, [], ◌∷◌, ◌++◌, length, map}
+-- Laws of the hop table, of splits and merges, and of histories, that the crates above cite.
+use Rattle.std.specs.Prelude.{◌≡◌, ◌⊎◌, ℕ, ◌<◌, ◌≤◌, ◌^◌, Bool, List, [], ◌∷◌, ◌++◌, length, map, Ok, Err}
 use Rattle.exh_prefix.specs.declared.prefix.TheConstants.{LIMIT}
 use Rattle.exh_prefix.specs.Prefix.{Begins}
+use Rattle.exh_notice.specs.declared.notice.Notice.{Notice}
 use Rattle.exh_page.specs.declared.page.Page.{Page}
 use Rattle.exh_ward.specs.Call.{key_of}
 use Rattle.exh_ward.specs.KeyMap.{KeyMap}
 use Rattle.exh_ward.specs.MapMachine.{leading, reply_of, map_after}
 use Rattle.exh_ward.specs.History.{IsHistory, map_left}
 use Rattle.exh_ward.specs.HopTable.{HopOf, hop_of, pages_after}
+use Rattle.exh_ward.specs.MergeFunction.{merge_of, ward_after_merge}
+use Rattle.exh_ward.specs.MergeStep.{IsMergeStep, MergeRefused}
 use Rattle.exh_ward.specs.Pages.{IsLegal, map_of}
+use Rattle.exh_ward.specs.SplitFunction.{split_of, ward_after_split}
+use Rattle.exh_ward.specs.SplitStep.{IsSplitStep, SplitRefused}
+use Rattle.exh_ward.specs.Told.{IsStoreFault}
+use Rattle.exh_ward.specs.WardState.{WardState, IsSoundWard}
 use Rattle.exh_ward.specs.declared.call.Call.{Call}
 use Rattle.exh_ward.specs.declared.hop.Hop.{Hop}
 use Rattle.exh_ward.specs.declared.hop.Hop.TheVariants.{Done}
 use Rattle.exh_ward.specs.declared.journal_entry.JournalEntry.{JournalEntry}
 use Rattle.exh_ward.specs.declared.reply.Reply.{Reply}
+use Rattle.exh_ward.specs.declared.ward_fault.WardFault.{WardFault}
 
 -- a call at a page comes to one outcome at most, whatever the pages
 abbrev pub OneHop : Type 0
@@ -29,6 +37,22 @@ abbrev pub HopsHaveOutcomes : Type 0
 HopsHaveOutcomes =
     (cap : ℕ) (pseudo : List ℕ → ℕ) (ward : List Bool) (pages : List Page) (at : ℕ) (call : Call)
     → IsLegal cap pseudo ward pages → pseudo (key_of call) < 2 ^ 64 → Begins ward (pseudo (key_of call)) → HopOf cap pseudo pages at call (hop_of cap pseudo pages at call)
+
+-- a split of a page comes to what the function computes, unless memory is wanting or a page is out of reach
+pub record IsSplitComputed {K : Type 0} (ward : WardState K) (at : ℕ) : Type 0 where
+  pub refused : (fault : WardFault) → SplitRefused ward.cap ward.pages at fault → IsStoreFault fault ⊎ (split_of ward at ≡ Err fault)
+  pub split : (notice : Notice) (new : WardState K) → IsSplitStep ward at notice new → (split_of ward at ≡ Ok notice) × (new ≡ ward_after_split ward at)
+
+abbrev pub SplitsAreComputed : {K : Type 0} → (K → List ℕ → ℕ) → Type 0
+SplitsAreComputed {K} pseudokey_of = (ward : WardState K) (at : ℕ) → IsSoundWard pseudokey_of ward → IsSplitComputed ward at
+
+-- so does a merge, whose notice has a number of 32 bits
+pub record IsMergeComputed {K : Type 0} (ward : WardState K) (at : ℕ) : Type 0 where
+  pub refused : (fault : WardFault) → MergeRefused ward at fault → IsStoreFault fault ⊎ (merge_of ward at ≡ Err fault)
+  pub merged : (notice : Notice) (new : WardState K) → IsMergeStep ward at notice new → notice.number < 2 ^ 32 → (merge_of ward at ≡ Ok notice) × (new ≡ ward_after_merge ward at)
+
+abbrev pub MergesAreComputed : {K : Type 0} → (K → List ℕ → ℕ) → Type 0
+MergesAreComputed {K} pseudokey_of = (ward : WardState K) (at : ℕ) → IsSoundWard pseudokey_of ward → IsMergeComputed ward at
 
 -- the pages after an answer are legal, and hold the map machine's map
 pub record IsLegalAnswer (cap : ℕ) (pseudo : List ℕ → ℕ) (ward : List Bool) (pages : List Page) (call : Call) (new : List Page) : Type 0 where

@@ -1,8 +1,9 @@
-//! What holds of the hop table and of all histories, for the proofs of callers. Each function does
-//! nothing.
+//! What holds of the hop table, of splits and merges, and of all histories, for the proofs of callers.
+//! Each function does nothing.
 
-ghost use Rattle.exh_ward.specs.Laws.{OneHop, HopsAreComputed, HopsHaveOutcomes, AnswersKeepLegal, SharersBegin, HistoriesGoOn, HistoryIsDetermined};
+ghost use Rattle.exh_ward.specs.Laws.{OneHop, HopsAreComputed, HopsHaveOutcomes, SplitsAreComputed, MergesAreComputed, AnswersKeepLegal, SharersBegin, HistoriesGoOn, HistoryIsDetermined};
 
+use exh_keyer::Keyer;
 use exh_legal::right_links_lead_on;
 
 /// A call at a page comes to one outcome at most, for any list of pages.
@@ -22,6 +23,18 @@ pub fn hops_have_outcomes()
 {
     right_links_lead_on();
 }
+
+/// A split of a sound ward's page, as a function, gives what it is as a relation, unless memory is
+/// wanting or a page is out of reach.
+pub fn splits_are_computed<K: Keyer>()
+    ensures { SplitsAreComputed K.pseudokey_of }
+{}
+
+/// A merge of a sound ward's page, as a function, gives what it is as a relation, unless memory is
+/// wanting or a page is out of reach.
+pub fn merges_are_computed<K: Keyer>()
+    ensures { MergesAreComputed K.pseudokey_of }
+{}
 
 /// An answer at legal pages leaves them legal, with the map machine's map.
 pub fn answers_keep_legal()
