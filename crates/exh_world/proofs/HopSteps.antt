@@ -33,7 +33,7 @@ use Rattle.exh_world.proofs.WardsLeft.{wards_left}
 
 -- ---- a refusal for want
 
-want_of : (given : StepFault) (fault : WardFault) → given ≡ OfWard fault → IsStoreFault fault → IsWant given
+pub want_of : (given : StepFault) (fault : WardFault) → given ≡ OfWard fault → IsStoreFault fault → IsWant given
 want_of given Memory is want = inl is
 want_of given Page is want = inr is
 want_of given _ is want = absurd want

@@ -27,3 +27,4 @@ pub mod WardNumber
 pub mod InsideWorld
 pub mod BeginSteps
 pub mod HopSteps
+pub mod StepFunction

@@ -1,13 +1,15 @@
 -- Laws of worlds.
-use Rattle.std.specs.Prelude.{◌≡◌, ℕ, List, map, slice_get, Some, All, Result}
+use Rattle.std.specs.Prelude.{◌≡◌, ⊤, ◌⊎◌, ℕ, ◌^◌, ◌<◌, List, map, slice_get, Some, All, Result, Ok, Err}
 use Rattle.exh_ward.specs.WardState.{WardState, IsSoundWard}
 use Rattle.exh_world.specs.Headline.{IsHeadline}
 use Rattle.exh_world.specs.Run.{Moment, IsRun}
 use Rattle.exh_world.specs.Sound.{IsSoundWorld}
-use Rattle.exh_world.specs.Step.{Step}
+use Rattle.exh_world.specs.Step.{IsWant, Step}
+use Rattle.exh_world.specs.StepFunction.{result_of, world_after}
 use Rattle.exh_world.specs.World.{WorldState}
 use Rattle.exh_world.specs.declared.event.Event.{Event}
 use Rattle.exh_world.specs.declared.outcome.Outcome.{Outcome}
+use Rattle.exh_world.specs.declared.outcome.Outcome.TheVariants.{Changed}
 use Rattle.exh_world.specs.declared.step_fault.StepFault.{StepFault}
 
 -- each ward of the world is sound, which is what a ward's own calls promise
@@ -18,6 +20,20 @@ AreWardsSound {K} pseudokey_of world = (number : ℕ) (ward : WardState K) → s
 abbrev pub StepsKeepWorldsSound : {K : Type 0} → (K → List ℕ → ℕ) → Type 0
 StepsKeepWorldsSound {K} pseudokey_of = (old : WorldState K) (event : Event) (result : Result Outcome StepFault) (new : WorldState K)
     → IsSoundWorld pseudokey_of old → Step pseudokey_of old event result new → AreWardsSound pseudokey_of new → IsSoundWorld pseudokey_of new
+
+-- a notice that the step issued has a number of 32 bits
+abbrev pub HasNumberOfWord : Result Outcome StepFault → Type 0
+HasNumberOfWord (Ok (Changed notice)) = notice.number < 2 ^ 32
+HasNumberOfWord result = ⊤
+
+-- the step was refused for want of memory or a page, or it is what the function computes
+abbrev pub IsComputed : {K : Type 0} → (K → List ℕ → ℕ) → WorldState K → Event → Result Outcome StepFault → WorldState K → Type 0
+IsComputed pseudokey_of old event result new =
+    ((fault : StepFault) × (result ≡ Err fault) × IsWant fault × (new ≡ old)) ⊎ ((result ≡ result_of pseudokey_of old event) × (new ≡ world_after pseudokey_of old event))
+
+abbrev pub StepsAreComputed : {K : Type 0} → (K → List ℕ → ℕ) → Type 0
+StepsAreComputed {K} pseudokey_of = (old : WorldState K) (event : Event) (result : Result Outcome StepFault) (new : WorldState K)
+    → IsSoundWorld pseudokey_of old → HasNumberOfWord result → Step pseudokey_of old event result new → IsComputed pseudokey_of old event result new
 
 -- every run from a sound world, over wards that stay sound, carries the headline
 abbrev pub RunsCarryTheHeadline : {K : Type 0} → (K → List ℕ → ℕ) → Type 0

@@ -1,6 +1,7 @@
 pub mod InFlight
 pub mod World
 pub mod Step
+pub mod StepFunction
 pub mod Run
 pub mod Headline
 pub mod Sound

@@ -1,13 +1,13 @@
 //! What holds of every step and every run of a world. Each function does nothing.
 
-ghost use Rattle.exh_world.specs.Laws.{RunsCarryTheHeadline, StepsKeepWorldsSound};
+ghost use Rattle.exh_world.specs.Laws.{RunsCarryTheHeadline, StepsAreComputed, StepsKeepWorldsSound};
 
 use exh_keyer::Keyer;
 use exh_legal::{right_links_lead_on, targets_lead_on};
 use exh_table::{
     members_decide, one_notice_more_is_taken, own_entries_give_the_table, union_is_join,
 };
-use exh_ward::sharers_begin;
+use exh_ward::{hops_are_computed, merges_are_computed, sharers_begin, splits_are_computed};
 
 /// A step leaves a sound world sound, as far as the ward that it changes is.
 pub fn steps_keep_worlds_sound<K: Keyer>()
@@ -15,6 +15,16 @@ pub fn steps_keep_worlds_sound<K: Keyer>()
 {
     right_links_lead_on();
     targets_lead_on();
+}
+
+/// A step of a sound world, as a function, gives what it is as a relation, unless it is refused for want
+/// of memory or of a page.
+pub fn steps_are_computed<K: Keyer>()
+    ensures { StepsAreComputed K.pseudokey_of }
+{
+    hops_are_computed();
+    splits_are_computed::<K>();
+    merges_are_computed::<K>();
 }
 
 /// Over every list of requests, hops, splits, merges, restarts and deliveries, late, lost or repeated,
