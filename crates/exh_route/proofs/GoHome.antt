@@ -1,7 +1,6 @@
 -- The ways home: what moves there are, and how many.
-use Rattle.std.proofs.Common.{◌≡◌, ℕ, zero, suc, ◌^◌, ◌<◌, ◌≤◌, Bool, true, false, List, [], ◌∷◌, length, Option, Some, ◌⊎◌, inl, inr, refl, sym, ap, ◌∙◌, subst, arith}
-use Rattle.std.specs.Prelude.{◌&&◌, nat_lt, nat_le}
-use Rattle.std.proofs.lemmas.Bool.{cases_Bool, cases_lt, lt-ltb, le-ltb, le-leb, lt-leb, false≢true}
+use Rattle.std.proofs.Common.{◌≡◌, ℕ, zero, suc, ◌^◌, ◌<◌, ◌≤◌, Bool, List, [], ◌∷◌, length, Option, Some, ◌⊎◌, inl, inr, refl, sym, ap, ◌∙◌, subst, arith}
+use Rattle.std.proofs.lemmas.Bool.{cases_Bool, false≢true}
 use Rattle.exh_prefix.specs.Bits.{word_bits}
 use Rattle.exh_prefix.specs.Prefix.{Begins, begins, low_of}
 use Rattle.exh_prefix.specs.PrefixLemmas.{IsFront-from_test, is_front-true}
@@ -17,40 +16,13 @@ use Rattle.exh_ward.specs.Laws.{OneHop}
 use Rattle.exh_ward.specs.declared.call.Call.{Call}
 use Rattle.exh_ward.specs.declared.hop.Hop.{Hop}
 use Rattle.exh_ward.specs.declared.hop.Hop.TheVariants.{Moved}
-use Rattle.exh_route.specs.Distance.{IsDistance, is_live_between, live_between}
+use Rattle.exh_route.specs.Distance.{IsDistance, live_between}
 use Rattle.exh_route.specs.Laws.{IsBelow, IsOnTheWay, EndsAtHome}
 use Rattle.exh_route.specs.Moves.{AreMoves, EndsMoves}
-use Rattle.exh_route.proofs.Counts.{count_none, count_one_more}
-use Rattle.exh_route.proofs.Links.{IsNext, apart, target_below, next_live, none_beyond_home}
+use Rattle.exh_route.proofs.Links.{IsNext, target_below, next_live, none_beyond_home}
+use Rattle.exh_route.proofs.LiveCounts.{none_between, one_less_right}
 use Rattle.exh_route.proofs.OneDistance.{same_distance}
 use Rattle.exh_route.proofs.Places.{one_there}
-
--- ---- the test that counts live pages
-
--- a number above the next low bound is above the first, and none other is
-above_same : (low next bound : ℕ) → low < next → (low < bound → next ≤ bound) → (bound ≡ next → ⊥) → nat_lt low bound ≡ nat_lt next bound
-above_same low next bound less least differs = elim (cases_lt low bound) [
-  | inl above ↦ lt-ltb low bound above ∙ sym (lt-ltb next bound (omega (arith, least above, differs)))
-  | inr below ↦ le-ltb low bound below ∙ sym (le-ltb next bound (omega (arith, below, less)))
-]
-
-not_between : (low pseudokey : ℕ) (page : Page) → (IsLive page → low < low_bound page → low_bound page ≤ pseudokey → ⊥) → is_live_between low pseudokey page ≡ false
-not_between low pseudokey (Forward bound target) none = refl
-not_between low pseudokey (Live prefix right records) none = elim (cases_lt low (low_of prefix)) [
-  | inl above ↦ elim (cases_lt pseudokey (low_of prefix)) [
-    | inl beyond ↦ ap (λ b. b && nat_le (low_of prefix) pseudokey) (lt-ltb low (low_of prefix) above) ∙ lt-leb (low_of prefix) pseudokey beyond
-    | inr within ↦ absurd (none tt above within)
-  ]
-  | inr below ↦ ap (λ b. b && nat_le (low_of prefix) pseudokey) (le-ltb low (low_of prefix) below)
-]
-
-is_between : (low pseudokey : ℕ) (page : Page) → IsLive page → low < low_bound page → low_bound page ≤ pseudokey → is_live_between low pseudokey page ≡ true
-is_between low pseudokey (Live prefix right records) live above within = ap (λ b. b && nat_le (low_of prefix) pseudokey) (lt-ltb low (low_of prefix) above) ∙ le-leb (low_of prefix) pseudokey within
-is_between low pseudokey (Forward bound target) live above within = absurd live
-
-same_between : (low next pseudokey : ℕ) (page : Page) → low < next → (IsLive page → low < low_bound page → next ≤ low_bound page) → (low_bound page ≡ next → ⊥) → is_live_between low pseudokey page ≡ is_live_between next pseudokey page
-same_between low next pseudokey (Live prefix right records) less least differs = ap (λ b. b && nat_le (low_of prefix) pseudokey) (above_same low next (low_of prefix) less (least tt) differs)
-same_between low next pseudokey (Forward bound target) less least differs = refl
 
 -- ---- the ways
 
@@ -82,18 +54,7 @@ module _ (cap : ℕ) (pseudo : List ℕ → ℕ) (pages : List Page) (call : Cal
 
   module _ (ward : List Bool) (linked : AreLinked ward (bare pages)) (links : RightLinksLeadOn) (small : k < 2 ^ 64) (covered : Begins ward k) where
     none_at_home : (home : ℕ) (page : Page) → IsAt pages home page → IsHome page k → live_between pages (low_bound page) k ≡ 0
-    none_at_home home page is begins =
-        count_none (is_live_between (low_bound page) k) pages (λ other beyond is_beyond.
-        not_between (low_bound page) k beyond (λ live above within. none_beyond_home ward pages linked k home page is small begins other beyond is_beyond live above within))
-
-    -- the next live page has one less to its right
-    one_less : (page : Page) (right : ℕ) (next : Page) → IsNext pages page right next → low_bound next ≤ k → live_between pages (low_bound page) k ≡ suc (live_between pages (low_bound next) k)
-    one_less page right next is within =
-        count_one_more (is_live_between (low_bound page) k) (is_live_between (low_bound next) k) pages right next is.there
-        (is_between (low_bound page) k next is.live is.greater within)
-        (not_between (low_bound next) k next (λ live above below. omega (arith, above)))
-        (λ other beyond is_beyond differs.
-        same_between (low_bound page) (low_bound next) k beyond is.greater (is.least other beyond is_beyond) (λ same. differs (apart ward pages linked other right beyond next is_beyond is.there same)))
+    none_at_home home page is begins = none_between pages (low_bound page) k (λ other beyond is_beyond. none_beyond_home ward pages linked k home page is small begins other beyond is_beyond)
 
     -- ---- from a live page to the right
 
@@ -149,7 +110,7 @@ module _ (cap : ℕ) (pseudo : List ℕ → ℕ) (pages : List Page) (call : Cal
       | inl begun ↦ arrived number (suc count) (Live prefix link records) is below count_is begun
       | inr else ↦
           let on = rightward number prefix link records is below else in
-          let less : live_between pages (low_of prefix) k ≡ suc (live_between pages (low_bound on.1.next) k) = one_less (Live prefix link records) on.0 on.1.next on.1.is_next on.1.within in
+          let less : live_between pages (low_of prefix) k ≡ suc (live_between pages (low_bound on.1.next) k) = one_less_right ward pages linked k (Live prefix link records) on.0 on.1.next on.1.is_next on.1.within in
           moved_right count number prefix link records is below else on.0 on.1 (again on.0 on.1.next on.1.is_next.there on.1.is_next.live on.1.within (omega (arith, less, count_is)))
     ]
 
@@ -158,7 +119,7 @@ module _ (cap : ℕ) (pseudo : List ℕ → ℕ) (pages : List Page) (call : Cal
       | inl begun ↦ arrived number 0 (Live prefix link records) is below count_is begun
       | inr else ↦
           let on = rightward number prefix link records is below else in
-          let less : live_between pages (low_of prefix) k ≡ suc (live_between pages (low_bound on.1.next) k) = one_less (Live prefix link records) on.0 on.1.next on.1.is_next on.1.within in
+          let less : live_between pages (low_of prefix) k ≡ suc (live_between pages (low_bound on.1.next) k) = one_less_right ward pages linked k (Live prefix link records) on.0 on.1.next on.1.is_next on.1.within in
           absurd (omega (arith, less, count_is))
     ]
 

@@ -7,5 +7,7 @@ pub mod Links
 pub mod Counts
 pub mod Ones
 pub mod OneDistance
+pub mod LiveCounts
 pub mod GoHome
 pub mod RunNamed
+pub mod FirstSteps

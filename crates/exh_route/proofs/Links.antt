@@ -1,5 +1,5 @@
 -- What linked pages say of pages with their records.
-use Rattle.std.proofs.Common.{◌≡◌, ℕ, zero, suc, ◌-◌, ◌^◌, ◌<◌, ◌≤◌, Bool, List, [], length, Some, sym, ap, ◌∙◌, subst, arith}
+use Rattle.std.proofs.Common.{◌≡◌, ℕ, zero, suc, ◌-◌, ◌^◌, ◌<◌, ◌≤◌, Bool, List, [], length, None, Some, sym, ap, ◌∙◌, subst, arith}
 use Rattle.std.proofs.lemmas.Nat.{and_le_r}
 use Rattle.exh_prefix.specs.declared.prefix.TheConstants.{LIMIT}
 use Rattle.exh_prefix.specs.Bits.{lowest_cleared}
@@ -34,7 +34,7 @@ within_full : (ward : List Bool) (page : Page) → IsWithin ward (with_records [
 within_full ward (Live prefix right records) within = within
 within_full ward (Forward low target) within = within
 
-ward_short : (ward : List Bool) (page : Page) → IsWithin ward page → IsLive page → length ward ≤ 64
+ward_short : (ward : List Bool) (page : Page) → IsWithin ward page → IsLive page → length ward ≤ LIMIT
 ward_short ward (Live prefix right records) within live = omega (arith, front_shorter ward prefix within.0, within.1)
 ward_short ward (Forward low target) within live = absurd live
 
@@ -74,6 +74,9 @@ module _ (ward : List Bool) (pages : List Page) (linked : AreLinked ward (bare p
       let full = at_bare pages 0 first.0 first.1 in
       (full.0, full.1, live_full full.0 (subst IsLive full.2 first.2), sym (bare_low full.0) ∙ sym (ap low_bound full.2) ∙ first.3)
 
+  pub ward_few : length ward ≤ LIMIT
+  ward_few = let first = first_page in ward_short ward first.0 (within_at 0 first.0 first.1) first.2
+
   -- ---- forwarding pages
 
   -- none has the low bound 0, which is page 0's where it is of the ward
@@ -84,8 +87,7 @@ module _ (ward : List Bool) (pages : List Page) (linked : AreLinked ward (bare p
   forward_above (suc number) zero target is =
       let first = first_page in
       let within = within_at (suc number) (Forward zero target) is in
-      let short = ward_short ward first.0 (within_at 0 first.0 first.1) first.2 in
-      let low_is : low_of ward ≡ 0 = omega (arith, (begins_low ward 0 short within.0 within.1).0) in
+      let low_is : low_of ward ≡ 0 = omega (arith, (begins_low ward 0 (omega (arith, ward_few)) within.0 within.1).0) in
       let same : suc number ≡ 0 = apart (suc number) 0 (Forward zero target) first.0 is first.1 (sym (first.3 ∙ low_is)) in
       absurd (omega (arith, same))
   forward_above (suc number) (suc low) target is = omega arith
@@ -124,6 +126,14 @@ module _ (ward : List Bool) (pages : List Page) (linked : AreLinked ward (bare p
 
   pub next_live : (number : ℕ) (prefix : List Bool) (right : ℕ) (records : List Record) → IsAt pages number (Live prefix (Some right) records) → (next : Page) × IsNext pages (Live prefix (Some right) records) right next
   next_live number prefix right records is = next_from prefix records right (linked.links number (Live prefix (Some right) []) (bare_at pages number (Live prefix (Some right) records) is))
+
+  none_from : (prefix : List Bool) (records : List Record) → IsRightLink (bare pages) (Live prefix None []) None → (other : ℕ) (beyond : Page) → IsAt pages other beyond → IsLive beyond → low_of prefix < low_bound beyond → ⊥
+  none_from prefix records none other beyond is live above =
+      none other (with_records [] beyond) (record { there = bare_at pages other beyond is; live = live_bare beyond live; greater = omega (arith, above, bare_low beyond) })
+
+  -- a live page without a right link is the last
+  pub last_live : (number : ℕ) (prefix : List Bool) (records : List Record) → IsAt pages number (Live prefix None records) → (other : ℕ) (beyond : Page) → IsAt pages other beyond → IsLive beyond → low_of prefix < low_bound beyond → ⊥
+  last_live number prefix records is = none_from prefix records (linked.links number (Live prefix None []) (bare_at pages number (Live prefix None records) is))
 
   -- ---- homes
 

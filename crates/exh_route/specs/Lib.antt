@@ -1,4 +1,5 @@
 pub mod WardRun
 pub mod Distance
 pub mod Moves
+pub mod FirstLive
 pub mod Laws
