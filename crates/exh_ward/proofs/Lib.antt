@@ -20,3 +20,5 @@ pub mod MergeSteps
 pub mod PlacedPages
 pub mod SplitFunction
 pub mod MergeFunction
+pub mod SplitOutcome
+pub mod MergeOutcome

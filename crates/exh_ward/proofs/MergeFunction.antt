@@ -36,10 +36,10 @@ and_false false = refl
 before_last : (parent : List Bool) (bit : Bool) → length (parent ++ bit ∷ []) - 1 ≡ length parent
 before_last parent bit = omega (arith, length_push parent bit)
 
-parent_is : (parent : List Bool) (bit : Bool) → parent_of (parent ++ bit ∷ []) ≡ parent
+pub parent_is : (parent : List Bool) (bit : Bool) → parent_of (parent ++ bit ∷ []) ≡ parent
 parent_is parent bit = ap (λ n. take n (parent ++ bit ∷ [])) (before_last parent bit) ∙ take_at parent (bit ∷ []) (length parent) refl
 
-last_is : (parent : List Bool) (bit : Bool) → get_or (parent ++ bit ∷ []) (length (parent ++ bit ∷ []) - 1) true ≡ bit
+pub last_is : (parent : List Bool) (bit : Bool) → get_or (parent ++ bit ∷ []) (length (parent ++ bit ∷ []) - 1) true ≡ bit
 last_is parent bit = get_or_push parent bit true (length (parent ++ bit ∷ []) - 1) (sym (before_last parent bit))
 
 -- a front of both children is no longer than their parent
@@ -55,23 +55,23 @@ front_of_children own parent left right = elim (cases_lt (length parent) (length
 
 -- ---- the live page of a prefix
 
-live_passes : (prefix : List Bool) (link : Option ℕ) (records : List Record) → is_live_of prefix (Live prefix link records) ≡ true
+pub live_passes : (prefix : List Bool) (link : Option ℕ) (records : List Record) → is_live_of prefix (Live prefix link records) ≡ true
 live_passes prefix link records = (prefix_eq-exact prefix prefix).1 refl
 
 passes_low : (prefix : List Bool) (page : Page) → is_live_of prefix page ≡ true → low_bound page ≡ low_of prefix
 passes_low prefix (Live own link records) passes = eqb-true (low_of own) (low_of prefix) (and_parts _ _ passes).0
 passes_low prefix (Forward low target) passes = cc
 
-passes_live : (prefix : List Bool) (page : Page) → is_live_of prefix page ≡ true → (link : Option ℕ) × (records : List Record) × (page ≡ Live prefix link records)
+pub passes_live : (prefix : List Bool) (page : Page) → is_live_of prefix page ≡ true → (link : Option ℕ) × (records : List Record) × (page ≡ Live prefix link records)
 passes_live prefix (Live own link records) passes = (link, records, ap (λ p. Live p link records) ((prefix_eq-exact own prefix).0 passes))
 passes_live prefix (Forward low target) passes = cc
 
 module _ {K : Type 0} (ward : WardState K) (at : ℕ) where
-  at_page : (page : Page) → IsAt ward.pages at page → merge_of ward at ≡ merge_of_page ward page
+  pub at_page : (page : Page) → IsAt ward.pages at page → merge_of ward at ≡ merge_of_page ward page
   unfolding merge_of
   at_page page there = rw there refl
 
-  no_page : length ward.pages ≤ at → merge_of ward at ≡ Err NoPage
+  pub no_page : length ward.pages ≤ at → merge_of ward at ≡ Err NoPage
   unfolding merge_of
   no_page past = rw (slice_get_past ward.pages at past) refl
 
@@ -88,7 +88,7 @@ module _ {K : Type 0} (ward : WardState K) (at : ℕ) where
       ap (λ b. longer (parent ++ false ∷ []) && not b) (last_is parent false)
       ∙ ap (λ b. b && true) (le-leb (suc (length (own_prefix ward))) (length (parent ++ false ∷ [])) (omega (arith, length_push parent false)))
 
-  no_left_child : (prefix : List Bool) → HasNoBuddy ward prefix → is_left_child ward prefix ≡ false
+  pub no_left_child : (prefix : List Bool) → HasNoBuddy ward prefix → is_left_child ward prefix ≡ false
   no_left_child prefix (inl own) = ap (λ b. b && ends_low prefix) (lt-leb (suc (length (own_prefix ward))) (length prefix) (omega (arith, ap length own)))
   no_left_child prefix (inr (parent, same)) =
       ap (is_left_child ward) same ∙ ap (λ b. longer (parent ++ true ∷ []) && not b) (last_is parent true) ∙ and_false (longer (parent ++ true ∷ []))
@@ -105,7 +105,7 @@ module _ {K : Type 0} (ward : WardState K) (at : ℕ) where
         ∙ ap (λ p. by_buddy p records (slice_get ward.pages (buddy_number ward.pages p))) (parent_is parent false)
 
     -- no live page is the right child's
-    split_buddy : ((others : List Record) → IsBuddy ward parent others → ⊥) → merge_of ward at ≡ Err BuddySplit
+    pub split_buddy : ((others : List Record) → IsBuddy ward parent others → ⊥) → merge_of ward at ≡ Err BuddySplit
     split_buddy none =
         let number_is : buddy_number ward.pages parent ≡ length ward.pages = number_of_none (is_live_of (parent ++ true ∷ [])) ward.pages (λ number page is passes.
         let live = passes_live (parent ++ true ∷ []) page passes in
@@ -123,18 +123,18 @@ module _ {K : Type 0} (ward : WardState K) (at : ℕ) where
       both_are : merge_of ward at ≡ merge_of_both ward parent (length records + length others)
       both_are = by_pages ∙ ap (by_buddy parent records) found
 
-      many : ward.cap < length records + length others → merge_of ward at ≡ Err (TooMany (length records + length others))
+      pub many : ward.cap < length records + length others → merge_of ward at ≡ Err (TooMany (length records + length others))
       many more = both_are ∙ rw (le-leb (suc ward.cap) (length records + length others) more) refl
 
-      worn : length records + length others ≤ ward.cap → number_at ward.table parent ≡ 2 ^ 32 - 1 → merge_of ward at ≡ Err Worn
+      pub worn : length records + length others ≤ ward.cap → number_at ward.table parent ≡ 2 ^ 32 - 1 → merge_of ward at ≡ Err Worn
       worn few last = both_are ∙ rw (lt-leb (suc ward.cap) (length records + length others) (omega arith), eq-eqb (number_at ward.table parent) (2 ^ 32 - 1) last) refl
 
-      noticed : length records + length others ≤ ward.cap → number_at ward.table parent + 1 < 2 ^ 32 → merge_of ward at ≡ Ok (next_notice ward.number ward.table parent Merge)
-      noticed few room =
-          let unworn : nat_eq (number_at ward.table parent) (2 ^ 32 - 1) ≡ false = false_from_ne_true _ (λ same. absurd (omega (arith, eqb-true (number_at ward.table parent) (2 ^ 32 - 1) same))) in
-          both_are ∙ rw (lt-leb (suc ward.cap) (length records + length others) (omega arith), unworn) refl
+      pub noticed : length records + length others ≤ ward.cap → (number_at ward.table parent ≡ 2 ^ 32 - 1 → ⊥) → merge_of ward at ≡ Ok (next_notice ward.number ward.table parent Merge)
+      noticed few unworn =
+          let other : nat_eq (number_at ward.table parent) (2 ^ 32 - 1) ≡ false = false_from_ne_true _ (λ same. unworn (eqb-true (number_at ward.table parent) (2 ^ 32 - 1) same)) in
+          both_are ∙ rw (lt-leb (suc ward.cap) (length records + length others) (omega arith), other) refl
 
-      pages_are : option_map_or (merged ward.pages at) (slice_get ward.pages at) ward.pages
+      pub pages_are : option_map_or (merged ward.pages at) (slice_get ward.pages at) ward.pages
           ≡ with_page right (Forward (low_of (parent ++ true ∷ [])) at) (with_page at (Live parent right_link (records ++ others)) ward.pages)
       pages_are =
           ap (λ page. option_map_or (merged ward.pages at) page ward.pages) there
@@ -177,7 +177,7 @@ module _ {K : Type 0} (ward : WardState K) (at : ℕ) where
         let merge = step.merge in
         let number : number_at ward.table notice.prefix + 1 < 2 ^ 32 = subst (λ n. n < 2 ^ 32) (ap (λ (n : Notice). n.number) step.notice_is) room in
         let is : merge_of ward at ≡ Ok notice =
-        noticed notice.prefix merge.left_link merge.left_records merge.there (inner_of notice.prefix new.pages merge) linked merge.right merge.right_link merge.right_records merge.buddy merge.few number
+        noticed notice.prefix merge.left_link merge.left_records merge.there (inner_of notice.prefix new.pages merge) linked merge.right merge.right_link merge.right_records merge.buddy merge.few (λ last. omega (arith, number, last))
         ∙ ap Ok (sym step.notice_is) in
         let pages = made notice.prefix new.pages merge in
         (is, step.others ∙ ap (ward_after ward (Ok notice)) pages ∙ ap (λ result. ward_after ward result (option_map_or (merged ward.pages at) (slice_get ward.pages at) ward.pages)) (sym is))

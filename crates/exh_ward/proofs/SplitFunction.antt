@@ -34,11 +34,11 @@ one_of_low ward pages linked one other page twin is too same =
 module _ {K : Type 0} (ward : WardState K) (at : ℕ) where
   -- ---- refusals
 
-  at_page : (page : Page) → IsAt ward.pages at page → split_of ward at ≡ split_of_page ward page
+  pub at_page : (page : Page) → IsAt ward.pages at page → split_of ward at ≡ split_of_page ward page
   unfolding split_of
   at_page page there = rw there refl
 
-  no_page : length ward.pages ≤ at → split_of ward at ≡ Err NoPage
+  pub no_page : length ward.pages ≤ at → split_of ward at ≡ Err NoPage
   unfolding split_of
   no_page past = rw (slice_get_past ward.pages at past) refl
 

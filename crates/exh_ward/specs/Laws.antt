@@ -1,9 +1,10 @@
 -- Laws of the hop table, of splits and merges, and of histories, that the crates above cite.
-use Rattle.std.specs.Prelude.{◌≡◌, ◌⊎◌, ℕ, ◌<◌, ◌≤◌, ◌^◌, Bool, List, [], ◌∷◌, ◌++◌, length, map, Ok, Err}
+use Rattle.std.specs.Prelude.{◌≡◌, ◌⊎◌, ℕ, ◌<◌, ◌≤◌, ◌^◌, Bool, List, [], ◌∷◌, ◌++◌, length, map, Result, Ok, Err}
 use Rattle.exh_prefix.specs.declared.prefix.TheConstants.{LIMIT}
 use Rattle.exh_prefix.specs.Prefix.{Begins}
 use Rattle.exh_notice.specs.declared.notice.Notice.{Notice}
 use Rattle.exh_page.specs.declared.page.Page.{Page}
+use Rattle.exh_page.specs.Laws.{AreOfWords}
 use Rattle.exh_ward.specs.Call.{key_of}
 use Rattle.exh_ward.specs.KeyMap.{KeyMap}
 use Rattle.exh_ward.specs.MapMachine.{leading, reply_of, map_after}
@@ -53,6 +54,22 @@ pub record IsMergeComputed {K : Type 0} (ward : WardState K) (at : ℕ) : Type 0
 
 abbrev pub MergesAreComputed : {K : Type 0} → (K → List ℕ → ℕ) → Type 0
 MergesAreComputed {K} pseudokey_of = (ward : WardState K) (at : ℕ) → IsSoundWard pseudokey_of ward → IsMergeComputed ward at
+
+-- and in a sound ward the relations say what the functions compute, so a split or merge of a page comes to an outcome
+abbrev pub IsSplitOutcome : {K : Type 0} → WardState K → ℕ → Result Notice WardFault → WardState K → Type 0
+IsSplitOutcome ward at (Ok notice) new = IsSplitStep ward at notice new
+IsSplitOutcome ward at (Err fault) new = SplitRefused ward.cap ward.pages at fault × (new ≡ ward)
+
+abbrev pub SplitsHaveOutcomes : {K : Type 0} → (K → List ℕ → ℕ) → Type 0
+SplitsHaveOutcomes {K} pseudokey_of = (ward : WardState K) (at : ℕ) → IsSoundWard pseudokey_of ward → IsSplitOutcome ward at (split_of ward at) (ward_after_split ward at)
+
+abbrev pub IsMergeOutcome : {K : Type 0} → WardState K → ℕ → Result Notice WardFault → WardState K → Type 0
+IsMergeOutcome ward at (Ok notice) new = IsMergeStep ward at notice new
+IsMergeOutcome ward at (Err fault) new = MergeRefused ward at fault × (new ≡ ward)
+
+abbrev pub MergesHaveOutcomes : {K : Type 0} → (K → List ℕ → ℕ) → Type 0
+MergesHaveOutcomes {K} pseudokey_of = (ward : WardState K) (at : ℕ)
+    → AreOfWords (pseudokey_of ward.keyer) → IsSoundWard pseudokey_of ward → IsMergeOutcome ward at (merge_of ward at) (ward_after_merge ward at)
 
 -- the pages after an answer are legal, and hold the map machine's map
 pub record IsLegalAnswer (cap : ℕ) (pseudo : List ℕ → ℕ) (ward : List Bool) (pages : List Page) (call : Call) (new : List Page) : Type 0 where

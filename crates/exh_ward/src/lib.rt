@@ -7,7 +7,8 @@ pub use hop::Hop;
 pub use journal_entry::JournalEntry;
 pub use laws::{
     answers_keep_legal, histories_go_on, history_is_determined, hops_are_computed,
-    hops_have_outcomes, merges_are_computed, one_hop, sharers_begin, splits_are_computed,
+    hops_have_outcomes, merges_are_computed, merges_have_outcomes, one_hop, sharers_begin,
+    splits_are_computed, splits_have_outcomes,
 };
 pub use reply::Reply;
 pub use ward::{WARD_BITS_LIMIT, Ward, first_page};
