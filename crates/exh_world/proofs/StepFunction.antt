@@ -41,7 +41,7 @@ some_there : {A : Type 0} (found : Option A) → IsSome found → (x : A) × (fo
 some_there None is = cc
 some_there (Some x) is = (x, refl)
 
-place_of : {A : Type 0} (xs : List A) (x : A) → Contains xs x → (place : ℕ) × (slice_get xs place ≡ Some x)
+pub place_of : {A : Type 0} (xs : List A) (x : A) → Contains xs x → (place : ℕ) × (slice_get xs place ≡ Some x)
 place_of xs x is = (is.0, slice_get_read xs (length xs) is.0 x refl is.1 (sym is.2))
 
 module _ (test : Notice → Bool) where
@@ -149,11 +149,11 @@ module _ {K : Type 0} (pseudokey_of : K → List ℕ → ℕ) (old : WorldState 
 
   -- ---- splits and merges
 
-  split_computed : (ward page : ℕ) (before : WardState K) → slice_get old.wards ward ≡ Some before → step_of pseudokey_of old (Split ward page) ≡ changed old ward (split_of before page) (ward_after_split before page)
+  pub split_computed : (ward page : ℕ) (before : WardState K) → slice_get old.wards ward ≡ Some before → step_of pseudokey_of old (Split ward page) ≡ changed old ward (split_of before page) (ward_after_split before page)
   unfolding step_of
   split_computed ward page before found = rw found refl
 
-  merge_computed : (ward page : ℕ) (before : WardState K) → slice_get old.wards ward ≡ Some before → step_of pseudokey_of old (Merge ward page) ≡ changed old ward (merge_of before page) (ward_after_merge before page)
+  pub merge_computed : (ward page : ℕ) (before : WardState K) → slice_get old.wards ward ≡ Some before → step_of pseudokey_of old (Merge ward page) ≡ changed old ward (merge_of before page) (ward_after_merge before page)
   unfolding step_of
   merge_computed ward page before found = rw found refl
 

@@ -35,6 +35,10 @@ abbrev pub StepsAreComputed : {K : Type 0} → (K → List ℕ → ℕ) → Type
 StepsAreComputed {K} pseudokey_of = (old : WorldState K) (event : Event) (result : Result Outcome StepFault) (new : WorldState K)
     → IsSoundWorld pseudokey_of old → HasNumberOfWord result → Step pseudokey_of old event result new → IsComputed pseudokey_of old event result new
 
+-- and what the function computes is a step, so each event comes to an outcome or a refusal
+abbrev pub StepsHaveOutcomes : {K : Type 0} → (K → List ℕ → ℕ) → Type 0
+StepsHaveOutcomes {K} pseudokey_of = (old : WorldState K) (event : Event) → IsSoundWorld pseudokey_of old → Step pseudokey_of old event (result_of pseudokey_of old event) (world_after pseudokey_of old event)
+
 -- every run from a sound world, over wards that stay sound, carries the headline
 abbrev pub RunsCarryTheHeadline : {K : Type 0} → (K → List ℕ → ℕ) → Type 0
 RunsCarryTheHeadline {K} pseudokey_of = (start : WorldState K) (moments : List (Moment K)) (end : WorldState K)

@@ -1,13 +1,16 @@
 //! What holds of every step and every run of a world. Each function does nothing.
 
-ghost use Rattle.exh_world.specs.Laws.{RunsCarryTheHeadline, StepsAreComputed, StepsKeepWorldsSound};
+ghost use Rattle.exh_world.specs.Laws.{RunsCarryTheHeadline, StepsAreComputed, StepsHaveOutcomes, StepsKeepWorldsSound};
 
 use exh_keyer::Keyer;
 use exh_legal::{right_links_lead_on, targets_lead_on};
 use exh_table::{
     members_decide, one_notice_more_is_taken, own_entries_give_the_table, union_is_join,
 };
-use exh_ward::{hops_are_computed, merges_are_computed, sharers_begin, splits_are_computed};
+use exh_ward::{
+    answers_keep_legal, hops_are_computed, hops_have_outcomes, merges_are_computed,
+    merges_have_outcomes, sharers_begin, splits_are_computed, splits_have_outcomes,
+};
 
 /// A step leaves a sound world sound, as far as the ward that it changes is.
 pub fn steps_keep_worlds_sound<K: Keyer>()
@@ -25,6 +28,16 @@ pub fn steps_are_computed<K: Keyer>()
     hops_are_computed();
     splits_are_computed::<K>();
     merges_are_computed::<K>();
+}
+
+/// An event of a sound world comes to what the function gives.
+pub fn steps_have_outcomes<K: Keyer>()
+    ensures { StepsHaveOutcomes K.pseudokey_of }
+{
+    hops_have_outcomes();
+    answers_keep_legal();
+    splits_have_outcomes::<K>();
+    merges_have_outcomes::<K>();
 }
 
 /// Over every list of requests, hops, splits, merges, restarts and deliveries, late, lost or repeated,

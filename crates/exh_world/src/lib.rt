@@ -4,7 +4,9 @@
 
 pub use config::Config;
 pub use event::Event;
-pub use laws::{runs_carry_the_headline, steps_are_computed, steps_keep_worlds_sound};
+pub use laws::{
+    runs_carry_the_headline, steps_are_computed, steps_have_outcomes, steps_keep_worlds_sound,
+};
 pub use outcome::Outcome;
 pub use request::Request;
 pub use step_fault::StepFault;
