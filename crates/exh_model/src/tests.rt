@@ -15,6 +15,10 @@ use std::alloc::{AllocError, Global};
 use std::process::Abort;
 use std::test::Fail;
 
+mod by_hand;
+mod legality;
+mod small_wards;
+
 fn get(key: &[u8]) -> Result<Call, SizeFault> {
     Ok(Call::Get {
         key: Key::from_bytes(key)?,
