@@ -12,7 +12,7 @@ use Rattle.exh_page.specs.Page.{IsLive, low_bound}
 use Rattle.exh_legal.specs.Laws.{PagesAreFew}
 use Rattle.exh_legal.specs.Pages.{IsAt, AreLinked, bare}
 use Rattle.exh_ward.specs.SplitStep.{PageRefused}
-use Rattle.exh_ward.specs.WardState.{WardState, IsSound, own_prefix}
+use Rattle.exh_ward.specs.WardState.{WardState, IsSound, IsUnchanged, own_prefix}
 use Rattle.exh_ward.specs.declared.ward_fault.WardFault.{WardFault}
 use Rattle.exh_ward.specs.declared.ward_fault.WardFault.TheVariants.{NoPage, Memory, Page as OutOfReach}
 use Rattle.exh_route.specs.Distance.{IsForwarded, is_live_between, live_between}
@@ -86,9 +86,18 @@ module _ (ward : List Bool) (pages : List Page) (linked : AreLinked ward (bare p
 abbrev pub IsLeadAt : List Page → ℕ → Lead → Type 0
 IsLeadAt pages number lead = (page : Page) × IsAt pages number page × (lead ≡ lead_of page)
 
-module _ {K : Type 0} (old now : WardState K) (same : now ≡ old) where
-  pub lead_before : (number : ℕ) (lead : Lead) → IsLeadAt now.pages number lead → IsLeadAt old.pages number lead
-  lead_before number lead is = subst (λ (w : WardState K). IsLeadAt w.pages number lead) same is
+module _ {K : Type 0} (old now : WardState K) where
+  pub pages_same : now ≡ old → now.pages ≡ old.pages
+  pages_same same = ap (λ (w : WardState K). w.pages) same
+
+  pub pages_unchanged : IsUnchanged old now → now.pages ≡ old.pages
+  pages_unchanged same = ap (λ (w : WardState K). w.pages) same
+
+  pub lead_before : now ≡ old → (number : ℕ) (lead : Lead) → IsLeadAt now.pages number lead → IsLeadAt old.pages number lead
+  lead_before same number lead is = subst (λ pages. IsLeadAt pages number lead) (pages_same same) is
+
+  pub live_before : now ≡ old → (number low : ℕ) (right : Option ℕ) → IsLivePage now.pages number low right → IsLivePage old.pages number low right
+  live_before same number low right is = subst (λ pages. IsLivePage pages number low right) (pages_same same) is
 
 pub linked_before : {K : Type 0} (pseudo : List ℕ → ℕ) (new : WardState K) (pages : List Page) → IsSound pseudo new → new.pages ≡ pages → AreLinked (own_prefix new) (bare pages)
 linked_before pseudo new pages sound same = subst (λ pages. AreLinked (own_prefix new) (bare pages)) same sound.legal.legal.legal.linked
@@ -119,8 +128,9 @@ module _ (ward : List Bool) (pages : List Page) (linked : AreLinked ward (bare p
   next_of : (number last next : ℕ) (is : IsLivePage pages number last (Some next)) → (page : Page) × IsNext pages (Live is.prefix (Some next) is.records) next page
   next_of number last next is = next_live ward pages linked number is.prefix next is.records is.there
 
-  pub next_lives : (low pseudokey count next : ℕ) → HasCounted pages low pseudokey count (Some next) → (bound : ℕ) × (right : Option ℕ) × IsLivePage pages next bound right
-  next_lives low pseudokey count next counted =
+  pub next_lives : (low pseudokey count next : ℕ) (link : Option ℕ) → link ≡ Some next → HasCounted pages low pseudokey count link → (bound : ℕ) × (right : Option ℕ) × IsLivePage pages next bound right
+  next_lives low pseudokey count next link link_is has =
+      let counted = subst (HasCounted pages low pseudokey count) link_is has in
       let found = next_of counted.0 counted.1 next counted.2 in
       live_page_of pages next found.0 found.1.there found.1.live
 
@@ -128,8 +138,9 @@ module _ (ward : List Bool) (pages : List Page) (linked : AreLinked ward (bare p
   low_there number low right page is there = is.low_is ∙ ap low_bound (one_there pages number (Live is.prefix right is.records) page is.there there)
 
   -- it is beyond the pseudokey
-  pub counted_beyond : (low pseudokey count next bound : ℕ) (right : Option ℕ) → HasCounted pages low pseudokey count (Some next) → IsLivePage pages next bound right → pseudokey < bound → live_between pages low pseudokey ≡ count
-  counted_beyond low pseudokey count next bound right counted is beyond =
+  pub counted_beyond : (low pseudokey count next bound : ℕ) (link right : Option ℕ) → link ≡ Some next → HasCounted pages low pseudokey count link → IsLivePage pages next bound right → pseudokey < bound → live_between pages low pseudokey ≡ count
+  counted_beyond low pseudokey count next bound link right link_is has is beyond =
+      let counted = subst (HasCounted pages low pseudokey count) link_is has in
       let found = next_of counted.0 counted.1 next counted.2 in
       let low_is = low_there next bound right found.0 is found.1.there in
       let none : live_between pages counted.1 pseudokey ≡ 0 = none_between pages counted.1 pseudokey (λ other page is_page live above within.
@@ -149,8 +160,9 @@ module _ (ward : List Bool) (pages : List Page) (linked : AreLinked ward (bare p
   counted_all low pseudokey count (Some next) counted none = absurd (none next refl)
 
   -- it is counted
-  pub counted_more : (low pseudokey count next bound : ℕ) (right : Option ℕ) → HasCounted pages low pseudokey count (Some next) → IsLivePage pages next bound right → bound ≤ pseudokey → HasCounted pages low pseudokey (count + 1) right
-  counted_more low pseudokey count next bound right counted is within =
+  pub counted_more : (low pseudokey count next bound : ℕ) (link right : Option ℕ) → link ≡ Some next → HasCounted pages low pseudokey count link → IsLivePage pages next bound right → bound ≤ pseudokey → HasCounted pages low pseudokey (count + 1) right
+  counted_more low pseudokey count next bound link right link_is has is within =
+      let counted = subst (HasCounted pages low pseudokey count) link_is has in
       let found = next_of counted.0 counted.1 next counted.2 in
       let low_is = low_there next bound right found.0 is found.1.there in
       let less : live_between pages (low_bound (Live counted.2.prefix (Some next) counted.2.records)) pseudokey ≡ suc (live_between pages (low_bound found.0) pseudokey) =

@@ -1,23 +1,19 @@
-use Rattle.std.proofs.Common.{◌≡◌, ◌+◌, ℕ, Option, Some, refl, sym, ◌∙◌, subst, arith}
+use Rattle.std.proofs.Common.{◌≡◌, ◌+◌, ℕ, Option, refl, sym, ◌∙◌, subst, arith}
 use Rattle.exh_ward.specs.WardState.{WardState, own_prefix}
 use Rattle.exh_route.specs.Distance.{live_between}
 use Rattle.exh_route.specs.FirstLive.{IsLivePage}
-use Rattle.exh_route.proofs.FirstSteps.{HasCounted, next_lives, counted_beyond, counted_all, counted_more, between_few}
+use Rattle.exh_route.proofs.FirstSteps.{live_before, next_lives, counted_beyond, counted_all, counted_more, between_few}
 use Rattle.exh_route.proofs.distances.count_beyond.Goals as goal
 
 pub live_at-requires : goal.live_at-requires
 live_at-requires g c =
-    let counted : HasCounted c.args.ward.now.pages c.args.first.low c.args.pseudokey c.loop-next.count (Some c.in-Some.number) =
-    subst (HasCounted c.args.ward.now.pages c.args.first.low c.args.pseudokey c.loop-next.count) c.in-Some.is c.loop-next.invariant.counted in
-    let is = next_lives (own_prefix c.args.ward.now) c.args.ward.now.pages c.requires.sound.legal.legal.legal.linked c.args.first.low c.args.pseudokey c.loop-next.count c.in-Some.number counted in
+    let is = next_lives (own_prefix c.args.ward.now) c.args.ward.now.pages c.requires.sound.legal.legal.legal.linked c.args.first.low c.args.pseudokey c.loop-next.count c.in-Some.number c.loop-next.next c.in-Some.is c.loop-next.invariant.counted in
     subst (λ (w : WardState g.row.K.Denot). (low : ℕ) × (right : Option ℕ) × IsLivePage w.pages c.in-Some.number low right) (sym c.loop-next.invariant.same) is
 
 pub returns-then-low-pseudokey-clause-count : goal.returns-then-low-pseudokey-clause-count
 returns-then-low-pseudokey-clause-count g c =
-    let counted : HasCounted c.args.ward.now.pages c.args.first.low c.args.pseudokey c.loop-next.count (Some c.in-Some.number) =
-    subst (HasCounted c.args.ward.now.pages c.args.first.low c.args.pseudokey c.loop-next.count) c.in-Some.is c.loop-next.invariant.counted in
-    let is : IsLivePage c.args.ward.now.pages c.in-Some.number c.in_ok-low.low c.in_ok-low.right = subst (λ (w : WardState g.row.K.Denot). IsLivePage w.pages c.in-Some.number c.in_ok-low.low c.in_ok-low.right) c.loop-next.invariant.same c.in_ok-low.ensures.live in
-    sym (counted_beyond (own_prefix c.args.ward.now) c.args.ward.now.pages c.requires.sound.legal.legal.legal.linked c.args.first.low c.args.pseudokey c.loop-next.count c.in-Some.number c.in_ok-low.low c.in_ok-low.right counted is c.if-low-pseudokey.true)
+    let is = live_before c.args.ward.now c.loop-next.ward c.loop-next.invariant.same c.in-Some.number c.in_ok-low.low c.in_ok-low.right c.in_ok-low.ensures.live in
+    sym (counted_beyond (own_prefix c.args.ward.now) c.args.ward.now.pages c.requires.sound.legal.legal.legal.linked c.args.first.low c.args.pseudokey c.loop-next.count c.in-Some.number c.in_ok-low.low c.loop-next.next c.in_ok-low.right c.in-Some.is c.loop-next.invariant.counted is c.if-low-pseudokey.true)
 
 pub returns-then-low-pseudokey-clause-few : goal.returns-then-low-pseudokey-clause-few
 returns-then-low-pseudokey-clause-few g c =
@@ -29,22 +25,18 @@ overflow_add-count g c =
 
 pub loop-next-smaller : goal.loop-next-smaller
 loop-next-smaller g c =
-    let counted : HasCounted c.args.ward.now.pages c.args.first.low c.args.pseudokey c.loop-next.count (Some c.in-Some.number) =
-    subst (HasCounted c.args.ward.now.pages c.args.first.low c.args.pseudokey c.loop-next.count) c.in-Some.is c.loop-next.invariant.counted in
-    let is : IsLivePage c.args.ward.now.pages c.in-Some.number c.in_ok-low.low c.in_ok-low.right = subst (λ (w : WardState g.row.K.Denot). IsLivePage w.pages c.in-Some.number c.in_ok-low.low c.in_ok-low.right) c.loop-next.invariant.same c.in_ok-low.ensures.live in
-    let more = counted_more (own_prefix c.args.ward.now) c.args.ward.now.pages c.requires.sound.legal.legal.legal.linked c.args.first.low c.args.pseudokey c.loop-next.count c.in-Some.number c.in_ok-low.low c.in_ok-low.right counted is c.if-low-pseudokey.false in
+    let is = live_before c.args.ward.now c.loop-next.ward c.loop-next.invariant.same c.in-Some.number c.in_ok-low.low c.in_ok-low.right c.in_ok-low.ensures.live in
+    let more = counted_more (own_prefix c.args.ward.now) c.args.ward.now.pages c.requires.sound.legal.legal.legal.linked c.args.first.low c.args.pseudokey c.loop-next.count c.in-Some.number c.in_ok-low.low c.loop-next.next c.in_ok-low.right c.in-Some.is c.loop-next.invariant.counted is c.if-low-pseudokey.false in
     let total : live_between c.args.ward.now.pages c.args.first.low c.args.pseudokey ≡ c.loop-next.count + 1 + live_between c.args.ward.now.pages more.1 c.args.pseudokey = more.3 in
     omega (arith, total)
 
 pub loop-next-preserved : goal.loop-next-preserved
 loop-next-preserved g c =
-    let counted : HasCounted c.args.ward.now.pages c.args.first.low c.args.pseudokey c.loop-next.count (Some c.in-Some.number) =
-    subst (HasCounted c.args.ward.now.pages c.args.first.low c.args.pseudokey c.loop-next.count) c.in-Some.is c.loop-next.invariant.counted in
-    let is : IsLivePage c.args.ward.now.pages c.in-Some.number c.in_ok-low.low c.in_ok-low.right = subst (λ (w : WardState g.row.K.Denot). IsLivePage w.pages c.in-Some.number c.in_ok-low.low c.in_ok-low.right) c.loop-next.invariant.same c.in_ok-low.ensures.live in
+    let is = live_before c.args.ward.now c.loop-next.ward c.loop-next.invariant.same c.in-Some.number c.in_ok-low.low c.in_ok-low.right c.in_ok-low.ensures.live in
     record {
       same = c.in_ok-low.ensures.ok ∙ c.loop-next.invariant.same;
       k_same = refl;
-      counted = counted_more (own_prefix c.args.ward.now) c.args.ward.now.pages c.requires.sound.legal.legal.legal.linked c.args.first.low c.args.pseudokey c.loop-next.count c.in-Some.number c.in_ok-low.low c.in_ok-low.right counted is c.if-low-pseudokey.false;
+      counted = counted_more (own_prefix c.args.ward.now) c.args.ward.now.pages c.requires.sound.legal.legal.legal.linked c.args.first.low c.args.pseudokey c.loop-next.count c.in-Some.number c.in_ok-low.low c.loop-next.next c.in_ok-low.right c.in-Some.is c.loop-next.invariant.counted is c.if-low-pseudokey.false;
     }
 
 pub returns-clause-count : goal.returns-clause-count
