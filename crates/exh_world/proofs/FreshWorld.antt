@@ -25,11 +25,11 @@ replicate_is n x y at is =
     let within = subst (λ length. at < length) (length-replicate n x) (slice_get_within (replicate n x) at y is) in
     sym (get_or_from_slice_get (replicate n x) at y x is) ∙ get_or-replicate n at x x within
 
-numbered_is : {A : Type 0} (n : ℕ) (x y : A) (number : ℕ) → numbered (replicate n x) number ≡ Some y → y ≡ x
+pub numbered_is : {A : Type 0} (n : ℕ) (x y : A) (number : ℕ) → numbered (replicate n x) number ≡ Some y → y ≡ x
 numbered_is n x y zero is = cc
 numbered_is n x y (suc number) is = replicate_is n x y number is
 
-numbered_none : {A : Type 0} (number : ℕ) (y : A) → numbered (let none : List A = [] in none) number ≡ Some y → ⊥
+pub numbered_none : {A : Type 0} (number : ℕ) (y : A) → numbered (let none : List A = [] in none) number ≡ Some y → ⊥
 numbered_none zero y is = cc
 numbered_none (suc number) y is = cc
 

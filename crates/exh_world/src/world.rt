@@ -9,6 +9,7 @@ use exh_ward::Ward;
 use std::alloc::Global;
 use std::marker::Model;
 
+mod copies_of;
 mod copy_steps;
 mod new_world;
 mod notice_of;
@@ -18,6 +19,7 @@ mod request_steps;
 mod run;
 mod ward_number;
 mod ward_steps;
+mod world_of_wards;
 
 /// The wards of a file, the copies of its directory, the tables sent between them, and the requests
 /// in flight (exhash profile). Whatever happens to it is an `Event`.

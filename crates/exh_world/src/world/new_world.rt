@@ -1,6 +1,5 @@
-ghost use Rattle.std.specs.Prelude.{◌≡◌, ℕ, ◌^◌, ◌<◌, ◌≤◌, map, replicate, slice_get, Some, IfOk};
+ghost use Rattle.std.specs.Prelude.{◌≡◌, ℕ, ◌^◌, ◌<◌, ◌≤◌, map, slice_get, Some, IfOk};
 ghost use Rattle.std.specs.List.{range_with_len};
-ghost use Rattle.std.specs.FinMap.{empty};
 ghost use Rattle.exh_page.specs.declared.page.TheConstants.{CAP_LIMIT};
 ghost use Rattle.exh_ward.specs.WardState.{WardState, IsSoundWard};
 ghost use Rattle.exh_ward.specs.declared.ward.TheConstants.{WARD_BITS_LIMIT};
@@ -8,6 +7,7 @@ ghost use Rattle.exh_world.specs.NewWorld.{new_ward, new_world};
 ghost use Rattle.exh_world.specs.Sound.{IsSoundWorld};
 
 use super::World;
+use super::copies_of::copies_of;
 use crate::Config;
 use crate::in_flight::InFlight;
 use exh_frames::PlainPages;
@@ -30,15 +30,17 @@ impl<K: Keyer> World<PlainPages, K> {
         let wards = new_wards(alloc, config)?;
         let mut noticed = Vec::new(alloc);
         noticed.resize(1 << config.ward_bits, 0)?;
+        let start = Table::new(alloc);
+        let copies = copies_of(alloc, &start, config.copies)?;
         Ok(World {
             alloc,
             cap: config.cap,
             ward_bits: config.ward_bits,
             keyer: config.keyer,
             wards,
-            start: Table::new(alloc),
+            start,
             noticed,
-            copies: new_copies(alloc, config.copies)?,
+            copies,
             sent: Vec::new(alloc),
             in_flight: InFlight::new(alloc),
         })
@@ -69,15 +71,4 @@ fn new_wards<K: Keyer>(
         ))?;
     }
     Ok(wards)
-}
-
-// The tables of so many copies that were told of nothing.
-fn new_copies(alloc: Global, count: u32) -> Result<Vec<Table>, AllocError>
-    ensures { IfOk result (λ copies. copies.items ≡ replicate count empty) }
-{
-    let mut copies = Vec::new(alloc);
-    for _ in 0..count {
-        copies.push(Table::new(alloc))?;
-    }
-    Ok(copies)
 }

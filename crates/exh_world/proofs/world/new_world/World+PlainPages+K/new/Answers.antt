@@ -1,14 +1,14 @@
-use Rattle.std.proofs.Common.{sym, subst, rules}
+use Rattle.std.proofs.Common.{replicate, sym, ap, ◌∙◌, subst, rules}
 use Rattle.exh_world.specs.Kept.{IsKept}
 use Rattle.exh_world.proofs.FreshWorld.{made_is, none_noticed, AreSoundWards, new_kept}
 use Rattle.exh_world.proofs.world.new_world.World+PlainPages+K.new.Goals as goal
 
 pub returns-clause-world : goal.returns-clause-world
 returns-clause-world g c =
-    made_is c.args.config.now c.in_ok-wards.wards.items c.new.result c.resize.new.self.items c.in_ok-new_copies.field-0.items c.new-2.result.items c.new-3.result
-    c.in_ok-wards.ensures.wards c.new.ensures
+    made_is c.args.config.now c.in_ok-wards.wards.items c.new-start.result c.resize.new.self.items c.in_ok-copies.copies.items c.new.result.items c.new-2.result
+    c.in_ok-wards.ensures.wards c.new-start.ensures
     (none_noticed _ _ _ c.new-noticed.result.items c.resize.new.self.items (search rules) c.new-noticed.ensures.items c.new-noticed.ensures.len c.in_ok-resize.ensures.items)
-    c.in_ok-new_copies.ensures c.new-2.ensures.items c.new-3.ensures
+    (c.in_ok-copies.ensures ∙ ap (replicate c.args.config.now.copies) c.new-start.ensures) c.new.ensures.items c.new-2.ensures
 
 pub invariant_of-result : goal.invariant_of-result
 invariant_of-result g c =

@@ -1,0 +1,82 @@
+ghost use Rattle.std.specs.Prelude.{◌≡◌, ℕ, ◌^◌, ◌≤◌, length, map, slice_get, Some, IfOk};
+ghost use Rattle.exh_ward.specs.WardState.{WardState, IsSoundWard};
+ghost use Rattle.exh_ward.specs.declared.ward.TheConstants.{WARD_BITS_LIMIT};
+ghost use Rattle.exh_world.specs.NewWorld.{AreWardsFor, tables_joined, world_of_wards};
+ghost use Rattle.exh_world.specs.Sound.{IsSoundWorld};
+
+use super::World;
+use super::copies_of::copies_of;
+use crate::Config;
+use crate::in_flight::InFlight;
+use exh_frames::Pages;
+use exh_join::Join;
+use exh_keyer::Keyer;
+use exh_legal::walks_name_homes;
+use exh_table::Table;
+use exh_ward::Ward;
+use std::alloc::{AllocError, Global};
+
+impl<P: Pages + Drop, K: Keyer> World<P, K> {
+    /// The world of given wards, one for each number, in order, each of the settings' `cap`,
+    /// `ward_bits` and `keyer`: their tables together are the start table and that of each copy, and
+    /// the changes are those that the wards make from now on, whatever notices they had before. No
+    /// table was sent, and no request is in flight (exhash profile). An `AllocError` where memory is
+    /// refused.
+    pub fn from_wards(
+        alloc: Global,
+        config: &Config<K>,
+        wards: Vec<Ward<P, K>>,
+    ) -> Result<World<P, K>, AllocError>
+        requires bits { config.now.ward_bits ≤ WARD_BITS_LIMIT }
+        requires count { length wards.items ≡ 2 ^ config.now.ward_bits }
+        requires each { AreWardsFor config.now wards.items }
+        ensures world { IfOk result (λ world. world ≡ world_of_wards config.now wards.items) }
+        ensures sound { IfOk result (IsSoundWorld K.pseudokey_of) }
+    {
+        walks_name_homes();
+        let start = joined_tables(alloc, &wards)?;
+        let noticed = notice_counts(alloc, &wards)?;
+        let copies = copies_of(alloc, &start, config.copies)?;
+        Ok(World {
+            alloc,
+            cap: config.cap,
+            ward_bits: config.ward_bits,
+            keyer: config.keyer,
+            wards,
+            start,
+            noticed,
+            copies,
+            sent: Vec::new(alloc),
+            in_flight: InFlight::new(alloc),
+        })
+    }
+}
+
+// The wards' tables together. The wards are sound, as each says when asked for its table.
+fn joined_tables<P: Pages + Drop, K: Keyer>(
+    alloc: Global,
+    wards: &[Ward<P, K>],
+) -> Result<Table, AllocError>
+    ensures table { IfOk result (λ table. table ≡ tables_joined wards.now) }
+    ensures sound { IfOk result (λ _. (number : ℕ) (ward : WardState K) → slice_get wards.now number ≡ Some ward → IsSoundWard K.pseudokey_of ward) }
+{
+    let mut table = Table::new(alloc);
+    for ward in wards {
+        table.join_in(ward.table())?;
+    }
+    Ok(table)
+}
+
+// How many notices each ward has.
+fn notice_counts<P: Pages + Drop, K: Keyer>(
+    alloc: Global,
+    wards: &[Ward<P, K>],
+) -> Result<Vec<usize>, AllocError>
+    ensures { IfOk result (λ counts. counts.items ≡ map (λ ward. length ward.notices) wards.now) }
+{
+    let mut counts = Vec::new(alloc);
+    for ward in wards {
+        counts.push(ward.notices_after(0).len())?;
+    }
+    Ok(counts)
+}
