@@ -24,13 +24,10 @@ const CONFIG: Config<AnyKeyer> = Config {
 };
 
 // The notice of the first split of page 0, of one ward, at the prefix of no bits.
-const FIRST: Told = Told {
-    ward: 0,
-    index: 1,
-    bits: "",
-    number: 1,
-    kind: Kind::Split { right: 1 },
-};
+const FIRST: Told = Told(0, 1, "", 1, Kind::Split { right: 1 });
+
+// The notice of a merge at the prefix of no bits, that undoes the first split.
+const SECOND: Told = Told(0, 2, "", 2, Kind::Merge);
 
 // Leaves pages 0 and 1 with the prefixes 0 and 1, and no request in flight.
 const THE_THREE_KEYS: [Line; 8] = [

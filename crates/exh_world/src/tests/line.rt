@@ -56,24 +56,25 @@ impl Came {
     }
 }
 
-/// A notice with its prefix as text.
+/// A notice: ward, index, the bits of the prefix, number and kind.
 #[derive(Clone, Copy)]
-pub(super) struct Told {
-    pub(super) ward: u8,
-    pub(super) index: u64,
-    pub(super) bits: &'static str,
-    pub(super) number: u32,
-    pub(super) kind: Kind,
-}
+pub(super) struct Told(
+    pub(super) u8,
+    pub(super) u64,
+    pub(super) &'static str,
+    pub(super) u32,
+    pub(super) Kind,
+);
 
 impl Told {
     fn notice(&self) -> Result<Notice, Fail> {
+        let Told(ward, index, bits, number, kind) = *self;
         Ok(Notice {
-            ward: self.ward,
-            index: self.index,
-            prefix: prefix(self.bits)?,
-            number: self.number,
-            kind: self.kind,
+            ward,
+            index,
+            prefix: prefix(bits)?,
+            number,
+            kind,
         })
     }
 }
@@ -106,7 +107,9 @@ pub(super) enum Line {
     Combine(u32, u32),
     /// A copy.
     Restart(u32),
-    /// An event, and its refusal.
+    /// The name, client, copy and call of a request, and the refusal.
+    RefusedBegin(u32, u32, u32, Ask, StepFault),
+    /// Another event, and its refusal.
     Refused(Event, StepFault),
 }
 
@@ -121,7 +124,8 @@ impl Line {
 
     fn event(&self) -> Result<Event, Fail> {
         Ok(match self {
-            Line::Begin(name, client, copy, ask, _, _) => Event::Begin {
+            Line::Begin(name, client, copy, ask, _, _)
+            | Line::RefusedBegin(name, client, copy, ask, _) => Event::Begin {
                 name: *name,
                 client: *client,
                 copy: *copy,
@@ -129,17 +133,17 @@ impl Line {
             },
             Line::Hop(name, _, _) => Event::Hop { name: *name },
             Line::Split(page, told) => Event::Split {
-                ward: u32::from(told.ward),
+                ward: u32::from(told.0),
                 page: *page,
             },
             Line::Merge(page, told) => Event::Merge {
-                ward: u32::from(told.ward),
+                ward: u32::from(told.0),
                 page: *page,
             },
             Line::Deliver(copy, told) => Event::Deliver {
                 copy: *copy,
-                ward: u32::from(told.ward),
-                index: told.index,
+                ward: u32::from(told.0),
+                index: told.1,
             },
             Line::Send(copy, _) => Event::Send { copy: *copy },
             Line::Combine(copy, table) => Event::Combine {
@@ -166,7 +170,9 @@ impl Line {
             Line::Send(_, table) => Outcome::Sent(*table),
             Line::Combine(_, _) => Outcome::Joined,
             Line::Restart(_) => Outcome::Restarted,
-            Line::Refused(_, fault) => return Ok(Err(*fault)),
+            Line::RefusedBegin(_, _, _, _, fault) | Line::Refused(_, fault) => {
+                return Ok(Err(*fault));
+            }
         }))
     }
 }

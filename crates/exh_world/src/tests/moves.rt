@@ -3,7 +3,7 @@ use super::line::Line::{Begin, Deliver, Hop, Merge, Refused, Split};
 use super::line::{Came, Line, Told};
 use super::run_again::world_after;
 use super::seen::{PageSeen, assert_page};
-use super::{CONFIG, FIRST, THE_THREE_KEYS};
+use super::{CONFIG, FIRST, SECOND, THE_THREE_KEYS};
 use crate::{Event, StepFault};
 use exh_notice::Kind;
 use exh_ward::WardFault;
@@ -34,14 +34,6 @@ fn the_right_link(rt: HostRuntime) -> Result<(), Fail> {
     world_after(&rt, &CONFIG, &THE_THREE_KEYS, &THE_RIGHT_LINK)?;
     Ok(())
 }
-
-// The merge at the prefix of no bits, that undoes the first split.
-const SECOND: Told = Told {
-    index: 2,
-    number: 2,
-    kind: Kind::Merge,
-    ..FIRST
-};
 
 // After the three keys: copy 1 isn't told of the merge, so it names a page that sends on.
 const THE_OLD_HINT: [Line; 10] = [
@@ -75,14 +67,7 @@ const THE_REVIVED_PAGE: [Line; 7] = [
     Begin(6, 1, 1, Del(b"\x40"), 0, 0),
     Hop(6, 0, Came::Was(b"x")),
     Merge(0, SECOND),
-    Split(
-        0,
-        Told {
-            index: 3,
-            number: 3,
-            ..FIRST
-        },
-    ),
+    Split(0, Told(0, 3, "", 3, Kind::Split { right: 1 })),
     Hop(5, 0, Came::Is(b"b")),
 ];
 
