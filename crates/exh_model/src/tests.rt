@@ -15,6 +15,8 @@ use std::alloc::{AllocError, Global};
 use std::process::Abort;
 use std::test::Fail;
 
+mod worlds;
+
 fn get(key: &[u8]) -> Result<Call, SizeFault> {
     Ok(Call::Get {
         key: Key::from_bytes(key)?,
