@@ -18,6 +18,7 @@ use std::test::Fail;
 mod by_hand;
 mod legality;
 mod small_wards;
+mod worlds;
 
 fn get(key: &[u8]) -> Result<Call, SizeFault> {
     Ok(Call::Get {

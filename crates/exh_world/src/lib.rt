@@ -20,5 +20,7 @@ mod laws;
 mod outcome;
 mod request;
 mod step_fault;
+#[cfg(test)]
+mod tests;
 mod turn;
 mod world;
