@@ -10,3 +10,5 @@ pub use laws::{
 
 mod distances;
 mod laws;
+#[cfg(test)]
+mod tests;
