@@ -5,10 +5,13 @@ use crate::{Base, Call, Hop, Reply, WARD_BITS_LIMIT, Ward, WardFault, first_page
 use exh_frames::PlainPages;
 use exh_keyer::{Keyer, PlainKeyer};
 use exh_notice::{Kind, Notice};
-use exh_page::{Key, PageNo, SizeFault, Value};
+use exh_page::{Key, Page, PageNo, Record, SizeFault, Value};
 use exh_prefix::Prefix;
 use std::alloc::Global;
 use std::test::Fail;
+
+mod readers;
+mod refused;
 
 type PlainWard = Ward<PlainPages, PlainKeyer>;
 
@@ -86,6 +89,18 @@ fn ward_of_three_keys(alloc: Global) -> Result<PlainWard, Fail> {
     split(&mut ward, 0)?;
     put_new(&mut ward, 0, &put(b"\x40", b"x")?)?;
     Ok(ward)
+}
+
+// Whether a page is live and has these parts.
+fn is_live(page: &Page, prefix: Prefix, right: Option<PageNo>, records: &[Record]) -> bool {
+    match page {
+        Page::Live {
+            prefix: its_prefix,
+            right: its_right,
+            records: its_records,
+        } => *its_prefix == prefix && *its_right == right && its_records.as_slice() == records,
+        Page::Forward { .. } => false,
+    }
 }
 
 // A notice of ward 0 at the prefix of no bits.

@@ -1,0 +1,35 @@
+use super::{PlainWard, del, plain_hop, put, ward_of_three_keys};
+use crate::{Base, JournalEntry, Reply};
+use std::test::Fail;
+
+fn journal(ward: &PlainWard) -> &[JournalEntry] {
+    ward.journal()
+}
+
+fn base(ward: &PlainWard) -> &Base {
+    ward.base()
+}
+
+// The journal of the three keys, and a del of an absent key, all of client 1.
+fn four_entries() -> Result<[JournalEntry; 4], Fail> {
+    Ok([
+        JournalEntry::new(1, &put(b"\0", b"a")?, &Reply::New),
+        JournalEntry::new(1, &put(b"\x80", b"b")?, &Reply::New),
+        JournalEntry::new(1, &put(b"\x40", b"x")?, &Reply::New),
+        JournalEntry::new(1, &del(b"\xc0")?, &Reply::None),
+    ])
+}
+
+#[test]
+fn the_journal_that_is_read(rt: HostRuntime) -> Result<(), Fail> {
+    let mut ward = ward_of_three_keys(rt.alloc())?;
+    let entries = four_entries()?;
+    assert_eq!(rt; journal(&ward), &entries[..3]);
+    let absent = del(b"\xc0")?;
+    plain_hop(&mut ward, 0, &absent)?;
+    assert_eq!(rt; journal(&ward), &entries[..3]);
+    plain_hop(&mut ward, 1, &absent)?;
+    assert_eq!(rt; journal(&ward), entries.as_slice());
+    assert!(rt; base(&ward).pairs().is_empty());
+    Ok(())
+}
