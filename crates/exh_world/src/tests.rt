@@ -1,42 +1,202 @@
-//! What comes of lists of events, each list also with any one growth refused.
+//! Worked examples, as events with what each comes to.
 
-mod changes;
-mod copies;
-mod line;
-mod moves;
-mod refusals;
-mod run_again;
-mod seen;
+use crate::{Config, Event, Outcome, StepFault, World};
+use exh_frames::PlainPages;
+use exh_keyer::PlainKeyer;
+use exh_notice::{Kind, Notice};
+use exh_page::{Key, PageNo, SizeFault, Value};
+use exh_prefix::Prefix;
+use exh_ward::{Call, Hop, Reply, WardFault};
+use std::alloc::Global;
+use std::process::Abort;
+use std::test::Fail;
 
-use crate::Config;
-use exh_keyer::AnyKeyer;
-use exh_notice::Kind;
-use line::Ask::Put;
-use line::Line::{Begin, Hop, Split};
-use line::{Came, Line, Told};
+type PlainWorld = World<PlainPages, PlainKeyer>;
 
-// Unless an example says otherwise: pages of two records, one ward, two copies.
-const CONFIG: Config<AnyKeyer> = Config {
-    cap: 2,
-    ward_bits: 0,
-    copies: 2,
-    keyer: AnyKeyer::Plain,
-};
+// An empty file of one ward, two records a page and two copies.
+fn new_world(alloc: Global) -> Result<PlainWorld, Fail> {
+    let config = Config {
+        cap: 2,
+        ward_bits: 0,
+        copies: 2,
+        keyer: PlainKeyer,
+    };
+    Ok(World::new(alloc, &config)?)
+}
 
-// The notice of the first split of page 0, of one ward, at the prefix of no bits.
-const FIRST: Told = Told(0, 1, "", 1, Kind::Split { right: 1 });
+fn step(world: &mut PlainWorld, event: &Event) -> Result<Outcome, StepFault> {
+    world.step(event)
+}
 
-// The notice of a merge at the prefix of no bits, that undoes the first split.
-const SECOND: Told = Told(0, 2, "", 2, Kind::Merge);
+fn put(key: &[u8], value: &[u8]) -> Result<Call, SizeFault> {
+    Ok(Call::Put {
+        key: Key::from_bytes(key)?,
+        value: Value::from_bytes(value)?,
+    })
+}
 
-// Leaves pages 0 and 1 with the prefixes 0 and 1, and no request in flight.
-const THE_THREE_KEYS: [Line; 8] = [
-    Begin(1, 1, 1, Put(b"\0", b"a"), 0, 0),
-    Hop(1, 0, Came::New),
-    Begin(2, 1, 1, Put(b"\x80", b"b"), 0, 0),
-    Hop(2, 0, Came::New),
-    Begin(3, 1, 1, Put(b"\x40", b"x"), 0, 0),
-    Hop(3, 0, Came::MustSplit),
-    Split(0, FIRST),
-    Hop(3, 0, Came::New),
-];
+fn get(key: &[u8]) -> Result<Call, SizeFault> {
+    Ok(Call::Get {
+        key: Key::from_bytes(key)?,
+    })
+}
+
+// A request of client 1 begins at a copy, and stands at this page.
+fn assert_begins(
+    rt: &impl Abort,
+    world: &mut PlainWorld,
+    name: u32,
+    copy: u32,
+    call: &Call,
+    page: PageNo,
+) {
+    let event = Event::Begin {
+        name,
+        client: 1,
+        copy,
+        call: *call,
+    };
+    assert_eq!(rt; step(world, &event), Ok(Outcome::Begun { ward: 0, page }));
+}
+
+fn assert_hops(rt: &impl Abort, world: &mut PlainWorld, name: u32, hop: Hop) {
+    assert_eq!(rt;
+        step(world, &Event::Hop { name }),
+        Ok(Outcome::Hopped { ward: 0, hop })
+    );
+}
+
+fn assert_refused(rt: &impl Abort, world: &mut PlainWorld, event: &Event, fault: StepFault) {
+    assert_eq!(rt; step(world, event), Err(fault));
+}
+
+// The notice of the change of that index and number at the root.
+fn root_notice(index: u64, number: u32, kind: Kind) -> Result<Notice, Fail> {
+    Ok(Notice {
+        ward: 0,
+        index,
+        prefix: Prefix::new(0, 0).ok_or("a prefix")?,
+        number,
+        kind,
+    })
+}
+
+// Two keys fill page 0, and the third splits it.
+fn three_keys(rt: &impl Abort, world: &mut PlainWorld) -> Result<(), Fail> {
+    assert_begins(rt, world, 1, 1, &put(b"\x00", b"a")?, 0);
+    assert_hops(rt, world, 1, Hop::Done(Reply::New));
+    assert_begins(rt, world, 2, 1, &put(b"\x80", b"b")?, 0);
+    assert_hops(rt, world, 2, Hop::Done(Reply::New));
+    assert_begins(rt, world, 3, 1, &put(b"\x40", b"x")?, 0);
+    assert_hops(rt, world, 3, Hop::MustSplit);
+    let notice = root_notice(1, 1, Kind::Split { right: 1 })?;
+    assert_eq!(rt;
+        step(world, &Event::Split { ward: 0, page: 0 }),
+        Ok(Outcome::Changed(notice))
+    );
+    assert_hops(rt, world, 3, Hop::Done(Reply::New));
+    Ok(())
+}
+
+// A copy that was told of nothing leads to the key by one move, a told one at once.
+fn told_and_untold(rt: &impl Abort, world: &mut PlainWorld) -> Result<(), Fail> {
+    let found = Hop::Done(Reply::Is(Value::from_bytes(b"b")?));
+    assert_begins(rt, world, 4, 2, &get(b"\x80")?, 0);
+    assert_hops(rt, world, 4, Hop::Moved(1));
+    assert_hops(rt, world, 4, found);
+    let notice = root_notice(1, 1, Kind::Split { right: 1 })?;
+    let told = Event::Deliver {
+        copy: 1,
+        ward: 0,
+        index: 1,
+    };
+    assert_eq!(rt; step(world, &told), Ok(Outcome::Taken(notice)));
+    assert_begins(rt, world, 5, 1, &get(b"\x80")?, 1);
+    assert_hops(rt, world, 5, found);
+    Ok(())
+}
+
+#[test]
+fn the_three_keys(rt: HostRuntime) -> Result<(), Fail> {
+    let mut world = new_world(rt.alloc())?;
+    three_keys(&rt, &mut world)?;
+    told_and_untold(&rt, &mut world)
+}
+
+// A table that was sent reaches the other copy, which then restarts.
+fn sent_and_lost(rt: &impl Abort, world: &mut PlainWorld) -> Result<(), Fail> {
+    let there = get(b"\x80")?;
+    let sent = Event::Combine { copy: 2, table: 1 };
+    assert_eq!(rt; step(world, &Event::Send { copy: 1 }), Ok(Outcome::Sent(1)));
+    assert_eq!(rt; step(world, &sent), Ok(Outcome::Joined));
+    assert_begins(rt, world, 6, 2, &there, 1);
+    assert_eq!(rt;
+        step(world, &Event::Restart { copy: 2 }),
+        Ok(Outcome::Restarted)
+    );
+    assert_begins(rt, world, 7, 2, &there, 0);
+    Ok(())
+}
+
+#[test]
+fn a_sent_table_is_joined_and_lost(rt: HostRuntime) -> Result<(), Fail> {
+    let mut world = new_world(rt.alloc())?;
+    three_keys(&rt, &mut world)?;
+    told_and_untold(&rt, &mut world)?;
+    sent_and_lost(&rt, &mut world)
+}
+
+// Where two refusals fit, the first of the event's list is answered.
+#[test]
+fn orders_of_refusals(rt: HostRuntime) -> Result<(), Fail> {
+    let mut world = new_world(rt.alloc())?;
+    let world = &mut world;
+    let call = get(b"\x00")?;
+    assert_begins(&rt, world, 1, 1, &call, 0);
+    let taken = Event::Begin {
+        name: 1,
+        client: 1,
+        copy: 3,
+        call,
+    };
+    assert_refused(&rt, world, &taken, StepFault::NameTaken);
+    assert_refused(&rt, world, &Event::Hop { name: 2 }, StepFault::NoRequest);
+    let full = StepFault::Ward(WardFault::NotFull);
+    assert_refused(
+        &rt,
+        world,
+        &Event::Split { ward: 1, page: 9 },
+        StepFault::NoWard,
+    );
+    assert_refused(&rt, world, &Event::Split { ward: 0, page: 0 }, full);
+    assert_refused(
+        &rt,
+        world,
+        &Event::Combine { copy: 0, table: 1 },
+        StepFault::NoCopy,
+    );
+    assert_refused(
+        &rt,
+        world,
+        &Event::Combine { copy: 1, table: 1 },
+        StepFault::NoTable,
+    );
+    Ok(())
+}
+
+#[test]
+fn orders_of_refused_deliveries(rt: HostRuntime) -> Result<(), Fail> {
+    let mut world = new_world(rt.alloc())?;
+    let world = &mut world;
+    let deliver = |copy, ward| Event::Deliver {
+        copy,
+        ward,
+        index: 1,
+    };
+    assert_refused(&rt, world, &deliver(3, 1), StepFault::NoCopy);
+    assert_refused(&rt, world, &deliver(1, 1), StepFault::NoWard);
+    assert_refused(&rt, world, &deliver(1, 0), StepFault::NoNotice);
+    assert_refused(&rt, world, &Event::Send { copy: 3 }, StepFault::NoCopy);
+    assert_refused(&rt, world, &Event::Restart { copy: 0 }, StepFault::NoCopy);
+    Ok(())
+}

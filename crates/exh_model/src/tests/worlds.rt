@@ -134,7 +134,9 @@ fn next_event(dice: &mut Dice, beside: &Beside) -> Result<Event, SizeFault> {
         74 | 75 => Event::Send { copy },
         76..=78 => Event::Combine {
             copy,
-            table: dice.roll(beside.sent.len() + 1) as u32 + 1,
+            table: u32::try_from(dice.roll(beside.sent.len() + 1).saturating_add(1)).unwrap_or(
+                u32::MAX,
+            ),
         },
         _ => Event::Restart { copy },
     })
