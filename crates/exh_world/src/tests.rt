@@ -200,3 +200,110 @@ fn orders_of_refused_deliveries(rt: HostRuntime) -> Result<(), Fail> {
     assert_refused(&rt, world, &Event::Restart { copy: 0 }, StepFault::NoCopy);
     Ok(())
 }
+
+fn assert_changes(rt: &impl Abort, world: &mut PlainWorld, event: &Event, notice: Notice) {
+    assert_eq!(rt; step(world, event), Ok(Outcome::Changed(notice)));
+}
+
+fn del(key: &[u8]) -> Result<Call, SizeFault> {
+    Ok(Call::Del {
+        key: Key::from_bytes(key)?,
+    })
+}
+
+// Copy 1 takes the notice of the first split.
+fn tell_copy_1(rt: &impl Abort, world: &mut PlainWorld) -> Result<(), Fail> {
+    let told = Event::Deliver {
+        copy: 1,
+        ward: 0,
+        index: 1,
+    };
+    let notice = root_notice(1, 1, Kind::Split { right: 1 })?;
+    assert_eq!(rt; step(world, &told), Ok(Outcome::Taken(notice)));
+    Ok(())
+}
+
+// After a merge a request that begins at the page merged away is led on from there.
+fn old_hint(rt: &impl Abort, world: &mut PlainWorld) -> Result<(), Fail> {
+    let x = Value::from_bytes(b"x")?;
+    let b = Value::from_bytes(b"b")?;
+    assert_begins(rt, world, 5, 1, &del(b"\x40")?, 0);
+    assert_hops(rt, world, 5, Hop::Done(Reply::Was(x)));
+    assert_begins(rt, world, 6, 1, &del(b"\x80")?, 1);
+    assert_hops(rt, world, 6, Hop::Done(Reply::Was(b)));
+    let notice = root_notice(2, 2, Kind::Merge)?;
+    assert_changes(rt, world, &Event::Merge { ward: 0, page: 0 }, notice);
+    assert_begins(rt, world, 7, 1, &get(b"\x80")?, 1);
+    assert_hops(rt, world, 7, Hop::Moved(0));
+    assert_hops(rt, world, 7, Hop::Done(Reply::None));
+    let not_live = StepFault::Ward(WardFault::NotLive);
+    assert_refused(rt, world, &Event::Split { ward: 0, page: 1 }, not_live);
+    Ok(())
+}
+
+#[test]
+fn the_old_hint(rt: HostRuntime) -> Result<(), Fail> {
+    let mut world = new_world(rt.alloc())?;
+    three_keys(&rt, &mut world)?;
+    tell_copy_1(&rt, &mut world)?;
+    old_hint(&rt, &mut world)
+}
+
+// A split after a merge makes the page merged away live again, where a request stands.
+fn revived_page(rt: &impl Abort, world: &mut PlainWorld) -> Result<(), Fail> {
+    assert_begins(rt, world, 5, 1, &get(b"\x80")?, 1);
+    assert_begins(rt, world, 6, 1, &del(b"\x40")?, 0);
+    let x = Value::from_bytes(b"x")?;
+    assert_hops(rt, world, 6, Hop::Done(Reply::Was(x)));
+    let merged = root_notice(2, 2, Kind::Merge)?;
+    assert_changes(rt, world, &Event::Merge { ward: 0, page: 0 }, merged);
+    let split = root_notice(3, 3, Kind::Split { right: 1 })?;
+    assert_changes(rt, world, &Event::Split { ward: 0, page: 0 }, split);
+    let b = Value::from_bytes(b"b")?;
+    assert_hops(rt, world, 5, Hop::Done(Reply::Is(b)));
+    Ok(())
+}
+
+#[test]
+fn the_revived_page(rt: HostRuntime) -> Result<(), Fail> {
+    let mut world = new_world(rt.alloc())?;
+    three_keys(&rt, &mut world)?;
+    tell_copy_1(&rt, &mut world)?;
+    revived_page(&rt, &mut world)
+}
+
+// Merges that are refused: for the sum, for the right half, and for a buddy that was split.
+fn refused_changes(rt: &impl Abort, world: &mut PlainWorld) -> Result<(), Fail> {
+    let merge = Event::Merge { ward: 0, page: 0 };
+    let too_many = StepFault::Ward(WardFault::TooMany(3));
+    assert_refused(rt, world, &merge, too_many);
+    let no_buddy = StepFault::Ward(WardFault::NoBuddy);
+    assert_refused(rt, world, &Event::Merge { ward: 0, page: 1 }, no_buddy);
+    assert_begins(rt, world, 4, 1, &put(b"\xc0", b"y")?, 0);
+    assert_hops(rt, world, 4, Hop::Moved(1));
+    assert_hops(rt, world, 4, Hop::Done(Reply::New));
+    let notice = Notice {
+        ward: 0,
+        index: 2,
+        prefix: Prefix::new(1, 1 << 63).ok_or("a prefix")?,
+        number: 1,
+        kind: Kind::Split { right: 2 },
+    };
+    assert_changes(rt, world, &Event::Split { ward: 0, page: 1 }, notice);
+    assert_refused(rt, world, &merge, StepFault::Ward(WardFault::BuddySplit));
+    Ok(())
+}
+
+#[test]
+fn the_refused_changes(rt: HostRuntime) -> Result<(), Fail> {
+    let mut world = new_world(rt.alloc())?;
+    let no_buddy = StepFault::Ward(WardFault::NoBuddy);
+    assert_refused(
+        &rt,
+        &mut world,
+        &Event::Merge { ward: 0, page: 0 },
+        no_buddy,
+    );
+    three_keys(&rt, &mut world)?;
+    refused_changes(&rt, &mut world)
+}
