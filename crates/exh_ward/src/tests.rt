@@ -12,6 +12,7 @@ use std::test::Fail;
 
 mod readers;
 mod refused;
+mod wards;
 
 type PlainWard = Ward<PlainPages, PlainKeyer>;
 
