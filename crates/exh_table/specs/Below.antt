@@ -1,6 +1,7 @@
 -- The tree of prefixes below a place, as walks go through it.
 use Rattle.std.specs.Prelude.{ℕ, zero, suc, nat_lt, Bool, true, false, if◌then◌else◌, List, [], ◌∷◌, ◌++◌, length, Option, Some, max}
 use Rattle.std.specs.Option.{option_map_or}
+use Rattle.exh_prefix.specs.declared.prefix.TheConstants.{LIMIT}
 use Rattle.exh_table.specs.declared.leaf.Leaf.{Leaf}
 use Rattle.exh_table.specs.Table.{TableMap}
 use Rattle.exh_table.specs.Walk.{split_at, step}
@@ -18,3 +19,11 @@ leaves_below splits (suc n) at = option_map_or (λ right. leaves_below splits n 
 abbrev pub depth_below : (List Bool → Option ℕ) → ℕ → Leaf → ℕ
 depth_below splits zero at = length at.prefix
 depth_below splits (suc n) at = option_map_or (λ right. max (depth_below splits n (step at false right)) (depth_below splits n (step at true right))) (splits at.prefix) (length at.prefix)
+
+-- the leaves of all wards of so many bits, in order
+unfoldable pub leaves_listed : TableMap → ℕ → List Leaf
+leaves_listed table ward_bits = leaves_below (splits_above table ward_bits) LIMIT (record { prefix = []; page = 0 })
+
+-- the depth over all wards of so many bits
+unfoldable pub depth_of : TableMap → ℕ → ℕ
+depth_of table ward_bits = depth_below (splits_above table ward_bits) LIMIT (record { prefix = []; page = 0 })

@@ -3,7 +3,7 @@ ghost use Rattle.exh_prefix.specs.declared.prefix.TheConstants.{LIMIT};
 ghost use Rattle.exh_table.specs.Walk.{walk_of};
 ghost use Rattle.exh_table.specs.Leaves.{leaves_of, AreLeaves};
 ghost use Rattle.exh_table.specs.Directory.{IsDepth};
-ghost use Rattle.exh_table.specs.Below.{splits_above, leaves_below, depth_below};
+ghost use Rattle.exh_table.specs.Below.{splits_above, leaves_below, depth_below, leaves_listed, depth_of};
 
 use crate::leaf::Leaf;
 use crate::table::Table;
@@ -29,7 +29,8 @@ impl Table {
     /// 1979). It takes no memory.
     pub fn depth(&self, ward_bits: u8) -> u8
         requires { ward_bits ≤ LIMIT }
-        ensures { IsDepth (leaves_of self.now ward_bits) result }
+        ensures depth { IsDepth (leaves_of self.now ward_bits) result }
+        ensures computed { result ≡ depth_of self.now ward_bits }
     {
         self.depth_below(ward_bits, &Leaf::root())
     }
@@ -38,7 +39,8 @@ impl Table {
     /// `AllocError` where memory is refused.
     pub fn leaves(&self, ward_bits: u8) -> Result<Vec<Leaf>, AllocError>
         requires { ward_bits ≤ LIMIT }
-        ensures { IfOk result (λ leaves. AreLeaves self.now ward_bits leaves.items) }
+        ensures leaves { IfOk result (λ leaves. AreLeaves self.now ward_bits leaves.items) }
+        ensures listed { IfOk result (λ leaves. leaves.items ≡ leaves_listed self.now ward_bits) }
     {
         let mut leaves = Vec::new(self.alloc);
         self.add_leaves(ward_bits, &Leaf::root(), &mut leaves)?;
