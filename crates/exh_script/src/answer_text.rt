@@ -14,7 +14,7 @@ pub(crate) fn push_answer(out: &mut Vec<u8>, answer: &Answer) -> Result<(), Allo
         Answer::Begun { name, ward, page } => {
             push_request(out, *name)?;
             push_text(out, " at ")?;
-            push_place(out, *ward, u64::from(*page))?;
+            push_place(out, u32::from(*ward), u64::from(*page))?;
         }
         Answer::Replied { name, reply } => {
             push_request(out, *name)?;
@@ -24,7 +24,7 @@ pub(crate) fn push_answer(out: &mut Vec<u8>, answer: &Answer) -> Result<(), Allo
         Answer::Moved { name, ward, page } => {
             push_request(out, *name)?;
             push_text(out, " moved ")?;
-            push_place(out, *ward, u64::from(*page))?;
+            push_place(out, u32::from(*ward), u64::from(*page))?;
         }
         Answer::MustSplit { name } => {
             push_request(out, *name)?;

@@ -60,7 +60,7 @@ pub fn push_prefix(out: &mut Vec<u8>, prefix: &Prefix) -> Result<(), AllocError>
 }
 
 /// Adds a place at the end: a ward and the number of a page or of a notice of it (exhash profile).
-pub fn push_place(out: &mut Vec<u8>, ward: u8, number: u64) -> Result<(), AllocError>
+pub fn push_place(out: &mut Vec<u8>, ward: u32, number: u64) -> Result<(), AllocError>
     ensures { OnOk result (out.new.items ≡ out.old.items ++ place_text ward number) }
 {
     push_number(out, u64::from(ward))?;

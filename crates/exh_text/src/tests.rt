@@ -187,6 +187,8 @@ fn printed_places_prefixes_and_refusals(rt: HostRuntime) -> Result<(), Fail> {
     let mut out = Vec::new(rt.alloc());
     push_place(&mut out, 3, 4_294_967_296)?;
     push_text(&mut out, " ")?;
+    push_place(&mut out, 256, 0)?;
+    push_text(&mut out, " ")?;
     push_prefix(&mut out, &Prefix::new(0, 0).ok_or("no prefix")?)?;
     push_text(&mut out, " ")?;
     push_prefix(&mut out, &Prefix::new(2, 1 << 62).ok_or("no prefix")?)?;
@@ -196,7 +198,7 @@ fn printed_places_prefixes_and_refusals(rt: HostRuntime) -> Result<(), Fail> {
     push_refused(&mut out, LineFault::Range.number())?;
     assert_eq!(rt;
         out.as_slice(),
-        b"3/4294967296 - 01 refused 60 refused 61".as_slice()
+        b"3/4294967296 256/0 - 01 refused 60 refused 61".as_slice()
     );
     Ok(())
 }
