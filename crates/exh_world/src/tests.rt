@@ -11,6 +11,11 @@ use std::alloc::Global;
 use std::process::Abort;
 use std::test::Fail;
 
+mod four_wards;
+mod hashed_keys;
+mod leading_bits;
+mod line;
+
 type PlainWorld = World<PlainPages, PlainKeyer>;
 
 // An empty file of one ward, two records a page and two copies.
