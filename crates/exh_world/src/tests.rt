@@ -7,26 +7,29 @@ use exh_notice::{Kind, Notice};
 use exh_page::{Key, PageNo, SizeFault, Value};
 use exh_prefix::Prefix;
 use exh_ward::{Call, Hop, Reply, WardFault};
-use std::alloc::Global;
+use line::{Asked, Line, assert_lines};
+use std::alloc::{AllocError, Global};
 use std::process::Abort;
 use std::test::Fail;
+use told_copies::SPLIT;
 
 mod four_wards;
 mod hashed_keys;
 mod leading_bits;
 mod line;
+mod told_copies;
 
 type PlainWorld = World<PlainPages, PlainKeyer>;
 
 // An empty file of one ward, two records a page and two copies.
-fn new_world(alloc: Global) -> Result<PlainWorld, Fail> {
+fn new_world(alloc: Global) -> Result<PlainWorld, AllocError> {
     let config = Config {
         cap: 2,
         ward_bits: 0,
         copies: 2,
         keyer: PlainKeyer,
     };
-    Ok(World::new(alloc, &config)?)
+    World::new(alloc, &config)
 }
 
 fn step(world: &mut PlainWorld, event: &Event) -> Result<Outcome, StepFault> {
@@ -87,20 +90,19 @@ fn root_notice(index: u64, number: u32, kind: Kind) -> Result<Notice, Fail> {
 }
 
 // Two keys fill page 0, and the third splits it.
+const THREE_KEYS: [Line; 8] = [
+    Line::Begin(1, 1, Asked::Put(b"\0", b"a"), 0, 0),
+    Line::Hop(1, 0, Hop::Done(Reply::New)),
+    Line::Begin(2, 1, Asked::Put(b"\x80", b"b"), 0, 0),
+    Line::Hop(2, 0, Hop::Done(Reply::New)),
+    Line::Begin(3, 1, Asked::Put(b"\x40", b"x"), 0, 0),
+    Line::Hop(3, 0, Hop::MustSplit),
+    Line::Split(0, SPLIT),
+    Line::Hop(3, 0, Hop::Done(Reply::New)),
+];
+
 fn three_keys(rt: &impl Abort, world: &mut PlainWorld) -> Result<(), Fail> {
-    assert_begins(rt, world, 1, 1, &put(b"\x00", b"a")?, 0);
-    assert_hops(rt, world, 1, Hop::Done(Reply::New));
-    assert_begins(rt, world, 2, 1, &put(b"\x80", b"b")?, 0);
-    assert_hops(rt, world, 2, Hop::Done(Reply::New));
-    assert_begins(rt, world, 3, 1, &put(b"\x40", b"x")?, 0);
-    assert_hops(rt, world, 3, Hop::MustSplit);
-    let notice = root_notice(1, 1, Kind::Split { right: 1 })?;
-    assert_eq!(rt;
-        step(world, &Event::Split { ward: 0, page: 0 }),
-        Ok(Outcome::Changed(notice))
-    );
-    assert_hops(rt, world, 3, Hop::Done(Reply::New));
-    Ok(())
+    assert_lines(rt, world, &THREE_KEYS)
 }
 
 // A copy that was told of nothing leads to the key by one move, a told one at once.
