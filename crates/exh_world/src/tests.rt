@@ -17,6 +17,7 @@ mod four_wards;
 mod hashed_keys;
 mod leading_bits;
 mod line;
+mod refused_growth;
 mod told_copies;
 
 type PlainWorld = World<PlainPages, PlainKeyer>;
