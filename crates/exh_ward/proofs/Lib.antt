@@ -22,3 +22,4 @@ pub mod SplitFunction
 pub mod MergeFunction
 pub mod SplitOutcome
 pub mod MergeOutcome
+pub mod Worn

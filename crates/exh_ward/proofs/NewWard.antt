@@ -25,7 +25,7 @@ use Rattle.std.proofs.lemmas.List.{nil_from_length}
 use Rattle.std.specs.Ordering.{nat_cmp}
 
 -- the table with no entry has no entries
-no_entries : fin.entries (let none : TableMap = fin.empty in none) ≡ []
+pub no_entries : fin.entries (let none : TableMap = fin.empty in none) ≡ []
 no_entries = nil_from_length (fin.entries (let none : TableMap = fin.empty in none)) (sym (fin.len-entries (let none : TableMap = fin.empty in none)) ∙ fin.len-empty prefix_cmp Entry)
 
 no_index : index_of fin.empty ≡ 0
@@ -44,7 +44,7 @@ first_alone : (page : Page) (low number : ℕ) → 0 < number → IsPageOf (page
 first_alone page low zero some is = omega arith
 first_alone page low (suc number) some is = cc
 
-no_pages : (page : Page) → IsIndexOf fin.empty (page ∷ [])
+pub no_pages : (page : Page) → IsIndexOf fin.empty (page ∷ [])
 no_pages page low number = (λ found. let none : None ≡ Some number = sym (fin.get-empty nat_cmp low) ∙ found in cc, λ is. absurd (first_alone page low number is.0 is.1))
 
 module _ {K : Type 0} (law : LonePagesAreLegal) {pseudo : List ℕ → ℕ} {takes : Page → Type 0} (cap ward_bits number failures : ℕ) (keyer : K) (takes_all : (page : Page) → IsWellFormed pseudo page → takes page)

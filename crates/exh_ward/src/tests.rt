@@ -13,6 +13,7 @@ use std::test::Fail;
 mod readers;
 mod refused;
 mod wards;
+mod worn;
 
 type PlainWard = Ward<PlainPages, PlainKeyer>;
 

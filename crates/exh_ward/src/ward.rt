@@ -39,6 +39,8 @@ use std::alloc::Global;
 use std::marker::Model;
 
 mod merge;
+#[cfg(test)]
+pub(crate) mod worn;
 
 /// The most leading bits by which a file is cut into wards (exhash profile).
 pub const WARD_BITS_LIMIT: u8 = 4;
