@@ -1,7 +1,13 @@
-pub mod WorldSteps
 pub mod Responded
 pub mod ServedLemmas
+pub mod Stepped
 pub mod RequestLemmas
+pub mod LineMoments
+pub mod WardSteps
+pub mod KeptWorlds
+pub mod Journals
+pub mod BegunRequests
 pub mod ReplyLaw
-pub mod LoneWorld
+pub mod Strays
+pub mod NewFile
 pub mod ToldLemmas

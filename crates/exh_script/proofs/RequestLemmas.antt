@@ -8,8 +8,8 @@ use Rattle.std.proofs.lemmas.Bool.{eqb-true}
 use Rattle.std.proofs.lemmas.Bool.Decides.{nat_tests}
 use Rattle.std.proofs.lemmas.Map.{lookup-remove_entry}
 use Rattle.indexmap.specs.IndexMap.{insert_entry}
-use Rattle.exh_script.specs.InFlight.{Requests, request_named, without}
-use Rattle.exh_script.specs.declared.in_flight.Request.{Request}
+use Rattle.exh_world.specs.InFlight.{Requests, request_named, without}
+use Rattle.exh_world.specs.declared.request.Request.{Request}
 
 -- no name stands twice
 abbrev pub AreNamedOnce : Requests → Type 0

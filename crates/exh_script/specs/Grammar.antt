@@ -1,5 +1,5 @@
 -- The lines of a script, by cases on whole words. The code that reads a script scans bytes.
-use Rattle.std.specs.Prelude.{ℕ, List, [], ◌∷◌, Bool, ◌&&◌, nat_le, if◌then◌else◌, Option, Some, None, Result, codes}
+use Rattle.std.specs.Prelude.{ℕ, List, [], ◌∷◌, Bool, true, ◌&&◌, nat_le, if◌then◌else◌, Option, Some, None, Result, codes}
 use Rattle.std.specs.Int.{is_in_range}
 use Rattle.std.specs.Str.{bytes_eq}
 use Rattle.exh_keyer.specs.declared.any_keyer.AnyKeyer.{AnyKeyer}
@@ -9,15 +9,17 @@ use Rattle.exh_page.specs.declared.page.TheConstants.{CAP_LIMIT}
 use Rattle.exh_text.specs.ByteWord.{bytes_of_word, key_in_range, value_in_range, spelled_pair}
 use Rattle.exh_text.specs.LineFault.{ranged}
 use Rattle.exh_text.specs.Lines.{words_of}
-use Rattle.exh_text.specs.Numbers.{◌>>=◌, after_prefix, number_after, number_of}
+use Rattle.exh_text.specs.Numbers.{◌>>=◌, after_prefix, index_of, number_after, number_of}
 use Rattle.exh_text.specs.declared.line_fault.LineFault.{LineFault}
 use Rattle.exh_ward.specs.declared.call.Call.{Call}
 use Rattle.exh_ward.specs.declared.call.Call.TheVariants.{Get, Put, Del}
 use Rattle.exh_ward.specs.declared.ward.TheConstants.{WARD_BITS_LIMIT}
-use Rattle.exh_script.specs.declared.line.TheConstants.{COPIES_LIMIT}
-use Rattle.exh_script.specs.declared.line.FileLine.{FileLine}
+use Rattle.exh_world.specs.declared.config.Config.{Config}
+use Rattle.exh_world.specs.declared.event.Event.{Event}
+use Rattle.exh_world.specs.declared.event.Event.TheVariants.{Begin, Hop, Split, Merge, Deliver, Send, Combine, Restart}
+use Rattle.exh_script.specs.declared.file_line.TheConstants.{COPIES_LIMIT}
 use Rattle.exh_script.specs.declared.line.Line.{Line}
-use Rattle.exh_script.specs.declared.line.Line.TheVariants.{Begin, Hop}
+use Rattle.exh_script.specs.declared.line.Line.TheVariants.{Step, Show, Page, InFlight}
 
 -- ---- the lines that words spell, whatever their numbers and lengths are
 
@@ -37,20 +39,70 @@ spelled_begin (name ∷ client ∷ copy ∷ call) = do
   client ← number_after (codes "c") client
   copy ← number_of copy
   call ← spelled_call call
-  Some (Begin name client copy call)
+  Some (Step (Begin name client copy call))
 spelled_begin words = None
 
 -- `rN`
 unfoldable pub spelled_hop : List (List ℕ) → Option Line
-spelled_hop (name ∷ []) = number_after (codes "r") name >>= λ n. Some (Hop n)
+spelled_hop (name ∷ []) = number_after (codes "r") name >>= λ n. Some (Step (Hop n))
 spelled_hop words = None
+
+-- a number alone
+unfoldable pub spelled_number : List (List ℕ) → Option ℕ
+spelled_number (word ∷ []) = number_of word
+spelled_number words = None
+
+-- two numbers, as `WARD PAGE` or `COPY TABLE`
+unfoldable pub spelled_pair_of_numbers : List (List ℕ) → Option (ℕ × ℕ)
+spelled_pair_of_numbers (first ∷ second ∷ []) = do
+  first ← number_of first
+  second ← number_of second
+  Some (first, second)
+spelled_pair_of_numbers words = None
+
+-- `COPY WARD INDEX`
+unfoldable pub spelled_deliver : List (List ℕ) → Option Line
+spelled_deliver (copy ∷ ward ∷ index ∷ []) = do
+  copy ← number_of copy
+  ward ← number_of ward
+  index ← index_of index
+  Some (Step (Deliver copy ward index))
+spelled_deliver words = None
+
+-- no word more
+unfoldable pub spelled_in_flight : List (List ℕ) → Option Line
+spelled_in_flight [] = Some InFlight
+spelled_in_flight words = None
+
+-- views: `show COPY`, `page WARD PAGE`, `inflight`
+unfoldable pub spelled_view : List ℕ → List (List ℕ) → Option Line
+spelled_view keyword words =
+    if bytes_eq keyword (codes "show") then (spelled_number words >>= λ copy. Some (Show copy))
+    else (if bytes_eq keyword (codes "page") then (spelled_pair_of_numbers words >>= λ place. Some (Page place.0 place.1))
+    else (if bytes_eq keyword (codes "inflight") then spelled_in_flight words else None))
+
+-- steps of copies: `deliver COPY WARD INDEX`, `send COPY`, `combine COPY TABLE`, `restart COPY`; or a view
+unfoldable pub spelled_copy_step : List ℕ → List (List ℕ) → Option Line
+spelled_copy_step keyword words =
+    if bytes_eq keyword (codes "deliver") then spelled_deliver words
+    else (if bytes_eq keyword (codes "send") then (spelled_number words >>= λ copy. Some (Step (Send copy)))
+    else (if bytes_eq keyword (codes "combine") then (spelled_pair_of_numbers words >>= λ sent. Some (Step (Combine sent.0 sent.1)))
+    else (if bytes_eq keyword (codes "restart") then (spelled_number words >>= λ copy. Some (Step (Restart copy)))
+    else spelled_view keyword words)))
+
+-- changes of pages: `split WARD PAGE`, `merge WARD PAGE`; or one of those above
+unfoldable pub spelled_change : List ℕ → List (List ℕ) → Option Line
+spelled_change keyword words =
+    if bytes_eq keyword (codes "split") then (spelled_pair_of_numbers words >>= λ place. Some (Step (Split place.0 place.1)))
+    else (if bytes_eq keyword (codes "merge") then (spelled_pair_of_numbers words >>= λ place. Some (Step (Merge place.0 place.1)))
+    else spelled_copy_step keyword words)
 
 -- each line by its first word; a `file` line is none of them
 unfoldable pub spelled : List (List ℕ) → Option Line
 spelled [] = None
 spelled (keyword ∷ words) =
     if bytes_eq keyword (codes "begin") then spelled_begin words
-    else (if bytes_eq keyword (codes "hop") then spelled_hop words else None)
+    else (if bytes_eq keyword (codes "hop") then spelled_hop words else spelled_change keyword words)
 
 -- the keyer of a word `keyer=sha` or `keyer=plain`
 abbrev pub keyer_named : List ℕ → Option AnyKeyer
@@ -62,7 +114,7 @@ unfoldable pub keyer_of : List ℕ → Option AnyKeyer
 keyer_of word = after_prefix (codes "keyer=") word >>= keyer_named
 
 -- `cap=N wards=N copies=N keyer=K`
-unfoldable pub spelled_settings : List (List ℕ) → Option FileLine
+unfoldable pub spelled_settings : List (List ℕ) → Option (Config AnyKeyer)
 spelled_settings (cap ∷ wards ∷ copies ∷ keyer ∷ []) = do
   cap ← number_after (codes "cap=") cap
   ward_bits ← number_after (codes "wards=") wards
@@ -72,7 +124,7 @@ spelled_settings (cap ∷ wards ∷ copies ∷ keyer ∷ []) = do
 spelled_settings words = None
 
 -- `file` and the settings
-unfoldable pub spelled_file : List (List ℕ) → Option FileLine
+unfoldable pub spelled_file : List (List ℕ) → Option (Config AnyKeyer)
 spelled_file [] = None
 spelled_file (keyword ∷ words) = if bytes_eq keyword (codes "file") then spelled_settings words else None
 
@@ -87,17 +139,22 @@ call_in_range (Del key) = key_in_range key
 abbrev pub name_in_range : ℕ → Bool
 name_in_range = nat_le 1
 
-abbrev pub line_in_range : Line → Bool
-line_in_range (Begin name client copy call) = name_in_range name && name_in_range client && call_in_range call
-line_in_range (Hop name) = name_in_range name
+abbrev pub event_in_range : Event → Bool
+event_in_range (Begin name client copy call) = name_in_range name && name_in_range client && call_in_range call
+event_in_range (Hop name) = name_in_range name
+event_in_range event = true
 
-abbrev pub file_in_range : FileLine → Bool
+abbrev pub line_in_range : Line → Bool
+line_in_range (Step event) = event_in_range event
+line_in_range line = true
+
+abbrev pub file_in_range : Config AnyKeyer → Bool
 file_in_range file = is_in_range 1 CAP_LIMIT file.cap && is_in_range 0 WARD_BITS_LIMIT file.ward_bits && is_in_range 1 COPIES_LIMIT file.copies
 
 -- ---- lines
 
 -- the first line of a script
-unfoldable pub file_line_of : List ℕ → Result FileLine LineFault
+unfoldable pub file_line_of : List ℕ → Result (Config AnyKeyer) LineFault
 file_line_of line = ranged file_in_range (words_of line >>= spelled_file)
 
 -- each later line

@@ -2,8 +2,7 @@
 use Rattle.std.specs.Prelude.{◌≡◌, ◌⊎◌, ◌≤◌, ℕ, List, [], ◌∷◌, ◌++◌, Option, IfSome, length}
 use Rattle.exh_text.specs.Lines.{lines_of}
 use Rattle.exh_script.specs.Answer.{answer_text}
-use Rattle.exh_script.specs.Text.{text_from, text_of_lines, text_of, ended_of}
-use Rattle.exh_script.specs.World.{WorldState}
+use Rattle.exh_script.specs.Text.{ScriptWorld, text_from, text_of_lines, text_of, ended_of}
 use Rattle.exh_script.specs.declared.answer.Answer.TheVariants.{Refused}
 use Rattle.exh_script.specs.declared.ended.Ended.{Ended}
 use Rattle.exh_script.specs.declared.ended.Ended.TheVariants as ended
@@ -40,7 +39,7 @@ module _ (prints : List ℕ → Type 0) where
     pub text : prints (text_of_lines (first ∷ front))
 
   -- the same of lines that come to a world
-  pub record PrintsFrontIn (world : WorldState) (lines : List (List ℕ)) : Type 0 where
+  pub record PrintsFrontIn (world : ScriptWorld) (lines : List (List ℕ)) : Type 0 where
     pub front : List (List ℕ)
     pub rest : List (List ℕ)
     pub split : lines ≡ front ++ rest

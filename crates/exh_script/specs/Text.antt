@@ -1,53 +1,95 @@
 -- The text of a script: a fold over its lines.
-use Rattle.std.specs.Prelude.{ℕ, List, [], ◌∷◌, ◌++◌, length, nat_le, ◌==◌, if◌then◌else◌, Result, Ok, Err}
+use Rattle.std.specs.Prelude.{ℕ, List, [], ◌∷◌, ◌++◌, length, nat_le, slice_get, if◌then◌else◌, Option, Some, None, Result, Ok, Err}
+use Rattle.std.specs.Option.{option_map_or}
+use Rattle.exh_keyer.specs.declared.any_keyer.AnyKeyer.{AnyKeyer}
+use Rattle.exh_keyer.specs.Pseudokey.{any_pseudokey}
 use Rattle.exh_text.specs.Lines.{lines_of}
 use Rattle.exh_text.specs.declared.line_fault.LineFault.{LineFault}
-use Rattle.exh_text.specs.declared.line_fault.LineFault.TheVariants.{Syntax, Range}
+use Rattle.exh_text.specs.declared.line_fault.LineFault.TheVariants.{Syntax}
+use Rattle.exh_ward.specs.declared.ward_fault.WardFault.TheVariants.{NoPage}
+use Rattle.exh_world.specs.NewWorld.{new_world}
+use Rattle.exh_world.specs.StepFunction.{result_of, world_after}
+use Rattle.exh_world.specs.World.{WorldState, numbered}
+use Rattle.exh_world.specs.declared.config.Config.{Config}
+use Rattle.exh_world.specs.declared.step_fault.StepFault.{StepFault}
+use Rattle.exh_world.specs.declared.step_fault.StepFault.TheVariants.{NoCopy, NoWard, Ward}
 use Rattle.exh_script.specs.Answer.{answer_text, step_answer}
 use Rattle.exh_script.specs.Grammar.{file_line_of, line_of}
-use Rattle.exh_script.specs.World.{WorldState, new_world, step_result, after_step}
+use Rattle.exh_script.specs.View.{in_flight_text, page_text, shown_text}
 use Rattle.exh_script.specs.declared.answer.Answer.{Answer}
 use Rattle.exh_script.specs.declared.answer.Answer.TheVariants.{Refused}
 use Rattle.exh_script.specs.declared.ended.Ended.{Ended}
 use Rattle.exh_script.specs.declared.ended.Ended.TheVariants as ended
 use Rattle.exh_script.specs.declared.server.TheConstants.{SCRIPT_LIMIT}
-use Rattle.exh_script.specs.declared.line.FileLine.{FileLine}
 use Rattle.exh_script.specs.declared.line.Line.{Line}
+use Rattle.exh_script.specs.declared.line.Line.TheVariants as lines
 use Rattle.exh_script.specs.declared.refusal.Refusal.{Refusal}
-use Rattle.exh_script.specs.declared.refusal.Refusal.TheVariants.{Line as LineRefusal, TooLong}
+use Rattle.exh_script.specs.declared.refusal.Refusal.TheVariants.{Line as LineRefusal, Step as StepRefusal, TooLong}
+
+-- the world that a script works on
+abbrev pub ScriptWorld : Type 0
+ScriptWorld = WorldState AnyKeyer
 
 -- ---- what a later line is answered, and the world after it
 
-abbrev pub parsed_answer : WorldState → Result Line LineFault → Answer
-parsed_answer world (Ok line) = step_answer (step_result world line)
-parsed_answer world (Err fault) = Refused (LineRefusal fault)
+-- an answer, or a view of the world
+pub data Response : Type 0 where
+  Said : Answer → Response
+  Shown : List ℕ → Response
 
-abbrev pub after_parsed : WorldState → Result Line LineFault → WorldState
-after_parsed world (Ok line) = after_step world line
+abbrev pub refused_step : StepFault → Response
+refused_step fault = Said (Refused (StepRefusal fault))
+
+-- the text of what was found, else a refusal
+abbrev pub shown_or_refused : {A : Type 0} → StepFault → (A → List ℕ) → Option A → Response
+shown_or_refused fault text None = refused_step fault
+shown_or_refused fault text (Some found) = Shown (text found)
+
+abbrev pub response_to : ScriptWorld → Line → Response
+response_to world (lines.Step event) = Said (step_answer event (result_of any_pseudokey world event))
+response_to world (lines.Show copy) = shown_or_refused NoCopy (shown_text world.ward_bits copy) (numbered world.copies copy)
+response_to world (lines.Page ward page) =
+    option_map_or (λ state. shown_or_refused (Ward NoPage) (page_text ward page) (slice_get state.pages page)) (slice_get world.wards ward) (refused_step NoWard)
+response_to world lines.InFlight = Shown (in_flight_text world.in_flight)
+
+-- only a step changes the world
+abbrev pub after_asked : ScriptWorld → Line → ScriptWorld
+after_asked world (lines.Step event) = world_after any_pseudokey world event
+after_asked world line = world
+
+abbrev pub parsed_response : ScriptWorld → Result Line LineFault → Response
+parsed_response world (Ok line) = response_to world line
+parsed_response world (Err fault) = Said (Refused (LineRefusal fault))
+
+abbrev pub after_parsed : ScriptWorld → Result Line LineFault → ScriptWorld
+after_parsed world (Ok line) = after_asked world line
 after_parsed world (Err fault) = world
 
-unfoldable pub line_answer : WorldState → List ℕ → Answer
-line_answer world line = parsed_answer world (line_of line)
+unfoldable pub line_response : ScriptWorld → List ℕ → Response
+line_response world line = parsed_response world (line_of line)
 
-unfoldable pub after_line : WorldState → List ℕ → WorldState
+unfoldable pub after_line : ScriptWorld → List ℕ → ScriptWorld
 after_line world line = after_parsed world (line_of line)
 
-abbrev pub text_from : WorldState → List (List ℕ) → List ℕ
+abbrev pub response_text : Response → List ℕ
+response_text (Said answer) = answer_text answer
+response_text (Shown text) = text
+
+abbrev pub text_from : ScriptWorld → List (List ℕ) → List ℕ
 text_from world [] = []
-text_from world (line ∷ lines) = answer_text (line_answer world line) ++ text_from (after_line world line) lines
+text_from world (line ∷ lines) = response_text (line_response world line) ++ text_from (after_line world line) lines
 
 -- ---- the first line
 
--- a file of several wards isn't served yet
-abbrev pub opened : Result FileLine LineFault → Result FileLine Refusal
-opened (Ok file) = if file.ward_bits == 0 then Ok file else Err (LineRefusal Range)
+abbrev pub opened : Result (Config AnyKeyer) LineFault → Result (Config AnyKeyer) Refusal
+opened (Ok file) = Ok file
 opened (Err fault) = Err (LineRefusal fault)
 
 -- the settings of a right first line, else its refusal
-unfoldable pub file_of : List ℕ → Result FileLine Refusal
+unfoldable pub file_of : List ℕ → Result (Config AnyKeyer) Refusal
 file_of line = opened (file_line_of line)
 
-abbrev pub text_after : Result FileLine Refusal → List (List ℕ) → List ℕ
+abbrev pub text_after : Result (Config AnyKeyer) Refusal → List (List ℕ) → List ℕ
 text_after (Ok file) lines = text_from (new_world file) lines
 text_after (Err refusal) lines = answer_text (Refused refusal)
 
@@ -56,7 +98,7 @@ abbrev pub text_of_lines : List (List ℕ) → List ℕ
 text_of_lines [] = answer_text (Refused (LineRefusal Syntax))
 text_of_lines (first ∷ lines) = text_after (file_of first) lines
 
-abbrev pub ended_after : Result FileLine Refusal → Ended
+abbrev pub ended_after : Result (Config AnyKeyer) Refusal → Ended
 ended_after (Ok file) = ended.Done
 ended_after (Err refusal) = ended.Refused
 

@@ -1,14 +1,13 @@
-ghost use Rattle.std.specs.Prelude.{◌≡◌, IfOk, OnErr};
-ghost use Rattle.exh_script.specs.Text.{line_answer, after_line};
+ghost use Rattle.std.specs.Prelude.{◌≡◌};
+ghost use Rattle.exh_script.specs.Answer.{copy_in, hop_answer, outcome_answer, request_in, table_in};
 
-use crate::line::parse_line;
-use crate::step::Outcome;
-use crate::{Refusal, World};
+use crate::Refusal;
+use exh_notice::Notice;
 use exh_page::PageNo;
 use exh_ward::{Hop, Reply};
-use std::alloc::AllocError;
+use exh_world::{Event, Outcome};
 
-/// What a line of a script is answered. Each variant is one printed line.
+/// What a line of a script is answered, unless it asks for a view. Each variant is one printed line.
 #[derive(Clone, Copy, Debug, PartialEq, Eq)]
 pub(crate) enum Answer {
     /// `rN at W/P`: the request stands at a page of a ward.
@@ -21,15 +20,50 @@ pub(crate) enum Answer {
     MustSplit { name: u32 },
     /// `rN stray`: the request stands where no key of its kind is.
     Stray { name: u32 },
+    /// `notice W/I prefix P number N split right R`, or with `merge` at its end: a page was split or merged.
+    Changed(Notice),
+    /// `copy C took W/I`: the copy took a ward's notice.
+    Taken { copy: u32, ward: u8, index: u64 },
+    /// `table T`: a copy's table was sent.
+    Sent { table: u32 },
+    /// `copy C joined T`: the copy joined a sent table.
+    Joined { copy: u32, table: u32 },
+    /// `copy C restarted`: the copy has lost what it was told.
+    Restarted { copy: u32 },
     /// `refused N`: the line changed nothing.
     Refused(Refusal),
 }
 
 impl Answer {
-    ghost use Rattle.std.specs.Prelude.{◌≡◌};
-    ghost use Rattle.exh_script.specs.Answer.{hop_answer};
+    /// What an event's line is answered where it isn't refused.
+    pub(crate) fn of_outcome(event: &Event, outcome: &Outcome) -> Answer
+        ensures { result ≡ outcome_answer event.now outcome.now }
+    {
+        match *outcome {
+            Outcome::Begun { ward, page } => Answer::Begun {
+                name: request_in(event),
+                ward,
+                page,
+            },
+            Outcome::Hopped { ward, hop } => Answer::of_hop(request_in(event), ward, &hop),
+            Outcome::Changed(notice) => Answer::Changed(notice),
+            Outcome::Taken(notice) => Answer::Taken {
+                copy: copy_in(event),
+                ward: notice.ward,
+                index: notice.index,
+            },
+            Outcome::Sent(table) => Answer::Sent { table },
+            Outcome::Joined => Answer::Joined {
+                copy: copy_in(event),
+                table: table_in(event),
+            },
+            Outcome::Restarted => Answer::Restarted {
+                copy: copy_in(event),
+            },
+        }
+    }
 
-    /// What a hop in a ward is answered.
+    // What a hop in a ward is answered.
     fn of_hop(name: u32, ward: u8, hop: &Hop) -> Answer
         ensures { result ≡ hop_answer name ward hop.now }
     {
@@ -42,20 +76,33 @@ impl Answer {
     }
 }
 
-/// Answers a line after the first, as it stands in the script. `Err` comes for memory alone, and changes nothing.
-#[tactic(auto, unfolding(crate::specs::Text::line_answer, crate::specs::Text::after_line))]
-pub(crate) fn answer_line(world: &mut World, line: &[u8]) -> Result<Answer, AllocError>
-    ensures answer { IfOk result (λ answer. answer ≡ line_answer world.old line.now) }
-    ensures world { IfOk result (λ _. world.new ≡ after_line world.old line.now) }
-    ensures err { OnErr result (world.new ≡ world.old) }
+// The request that an event's line names, 0 where it names none.
+fn request_in(event: &Event) -> u32
+    ensures { result ≡ request_in event.now }
 {
-    let line = match parse_line(line) {
-        Ok(line) => line,
-        Err(fault) => return Ok(Answer::Refused(fault.into())),
-    };
-    match world.step(&line)? {
-        Ok(Outcome::Begun { name, ward, page }) => Ok(Answer::Begun { name, ward, page }),
-        Ok(Outcome::Hopped { name, ward, hop }) => Ok(Answer::of_hop(name, ward, &hop)),
-        Err(refusal) => Ok(Answer::Refused(refusal.into())),
+    match event {
+        Event::Begin { name, .. } | Event::Hop { name } => *name,
+        _ => 0,
+    }
+}
+
+// The copy, 0 where it names none.
+fn copy_in(event: &Event) -> u32
+    ensures { result ≡ copy_in event.now }
+{
+    match event {
+        Event::Deliver { copy, .. } | Event::Combine { copy, .. } | Event::Restart { copy } =>
+            *copy,
+        _ => 0,
+    }
+}
+
+// The sent table, 0 where it names none.
+fn table_in(event: &Event) -> u32
+    ensures { result ≡ table_in event.now }
+{
+    match event {
+        Event::Combine { table, .. } => *table,
+        _ => 0,
     }
 }

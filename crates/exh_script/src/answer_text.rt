@@ -1,8 +1,11 @@
 ghost use Rattle.std.specs.Prelude.{◌≡◌, ◌++◌, OnOk};
-ghost use Rattle.exh_script.specs.Answer.{answer_text, reply_text, request_text};
+ghost use Rattle.exh_script.specs.Answer.{answer_text, copy_text, entry_text, kind_text, notice_text, reply_text, request_text};
+ghost use Rattle.exh_script.specs.declared.answer.Answer.TheVariants.{Refused};
 
-use crate::Answer;
-use exh_text::{push_number, push_place, push_refused, push_text, push_value};
+use crate::{Answer, Refusal};
+use exh_notice::{Kind, Notice};
+use exh_prefix::Prefix;
+use exh_text::{push_number, push_place, push_prefix, push_refused, push_text, push_value};
 use exh_ward::Reply;
 use std::alloc::AllocError;
 
@@ -34,16 +37,88 @@ pub(crate) fn push_answer(out: &mut Vec<u8>, answer: &Answer) -> Result<(), Allo
             push_request(out, *name)?;
             push_text(out, " stray")?;
         }
+        Answer::Changed(notice) => push_notice(out, notice)?,
+        Answer::Taken { copy, ward, index } => {
+            push_copy(out, *copy)?;
+            push_text(out, " took ")?;
+            push_place(out, u32::from(*ward), *index)?;
+        }
+        Answer::Sent { table } => {
+            push_text(out, "table ")?;
+            push_number(out, u64::from(*table))?;
+        }
+        Answer::Joined { copy, table } => {
+            push_copy(out, *copy)?;
+            push_text(out, " joined ")?;
+            push_number(out, u64::from(*table))?;
+        }
+        Answer::Restarted { copy } => {
+            push_copy(out, *copy)?;
+            push_text(out, " restarted")?;
+        }
         Answer::Refused(refusal) => push_refused(out, refusal.number())?,
     }
     push_text(out, "\n")
 }
 
-fn push_request(out: &mut Vec<u8>, name: u32) -> Result<(), AllocError>
+/// Adds the line of a refusal.
+pub(crate) fn push_refusal(out: &mut Vec<u8>, refusal: Refusal) -> Result<(), AllocError>
+    ensures { OnOk result (out.new.items ≡ out.old.items ++ answer_text (Refused refusal)) }
+{
+    push_refused(out, refusal.number())?;
+    push_text(out, "\n")
+}
+
+/// Adds the name of a request.
+pub(crate) fn push_request(out: &mut Vec<u8>, name: u32) -> Result<(), AllocError>
     ensures { OnOk result (out.new.items ≡ out.old.items ++ request_text name) }
 {
     push_text(out, "r")?;
     push_number(out, u64::from(name))
+}
+
+/// Adds the number of a copy.
+pub(crate) fn push_copy(out: &mut Vec<u8>, copy: u32) -> Result<(), AllocError>
+    ensures { OnOk result (out.new.items ≡ out.old.items ++ copy_text copy) }
+{
+    push_text(out, "copy ")?;
+    push_number(out, u64::from(copy))
+}
+
+/// Adds the number and the kind of what was done at a prefix.
+pub(crate) fn push_entry(
+    out: &mut Vec<u8>,
+    prefix: &Prefix,
+    number: u32,
+    kind: &Kind,
+) -> Result<(), AllocError>
+    ensures { OnOk result (out.new.items ≡ out.old.items ++ entry_text prefix.now number kind.now) }
+{
+    push_prefix(out, prefix)?;
+    push_text(out, " number ")?;
+    push_number(out, u64::from(number))?;
+    push_kind(out, kind)
+}
+
+fn push_notice(out: &mut Vec<u8>, notice: &Notice) -> Result<(), AllocError>
+    ensures { OnOk result (out.new.items ≡ out.old.items ++ notice_text notice.now) }
+{
+    push_text(out, "notice ")?;
+    push_place(out, u32::from(notice.ward), notice.index)?;
+    push_text(out, " prefix ")?;
+    push_entry(out, &notice.prefix, notice.number, &notice.kind)
+}
+
+fn push_kind(out: &mut Vec<u8>, kind: &Kind) -> Result<(), AllocError>
+    ensures { OnOk result (out.new.items ≡ out.old.items ++ kind_text kind.now) }
+{
+    match kind {
+        Kind::Split { right } => {
+            push_text(out, " split right ")?;
+            push_number(out, u64::from(*right))
+        }
+        Kind::Merge => push_text(out, " merge"),
+    }
 }
 
 fn push_reply(out: &mut Vec<u8>, reply: &Reply) -> Result<(), AllocError>

@@ -1,27 +1,32 @@
 //! What holds of all scripts and all answers. Each function does nothing.
 
 ghost use Rattle.std.specs.Prelude.{◌≡◌};
-ghost use Rattle.exh_script.specs.Answer.{answer_text, HasWidths};
+ghost use Rattle.exh_script.specs.Answer.{answer_text, told_answer, HasWidths};
 ghost use Rattle.exh_script.specs.Replies.{RepliesAreOneMaps};
 ghost use Rattle.exh_script.specs.declared.answer.Answer.{Answer};
 
-use exh_legal::lone_pages_are_legal;
-use exh_ward::{answers_keep_legal, histories_go_on, hops_are_computed};
+use exh_keyer::AnyKeyer;
+use exh_route::runs_keep_wards_sound_and_one_map;
+use exh_world::{
+    new_worlds_are_sound, runs_carry_the_headline, steps_have_outcomes, steps_keep_worlds_sound,
+};
 
 /// A printed line tells its answer: two answers that print the same are the same, their numbers and bytes being as wide
-/// as those of an answer.
+/// as those of an answer. Only how many records a refused merge would have come to isn't printed.
 pub fn printed_answers_are_one()
-    ensures { (one other : Answer) → HasWidths one → HasWidths other → answer_text one ≡ answer_text other → one ≡ other }
+    ensures { (one other : Answer) → HasWidths one → HasWidths other → answer_text one ≡ answer_text other → told_answer one ≡ told_answer other }
 {}
 
 /// The replies that a script prints are, in the order of the answering hops, those of the map machine from the empty
 /// map, to the calls that its lines ask: each is that of the last accepted `begin` of its name before the hop, and no
-/// `begin` is answered twice. A script that is refused prints none.
+/// `begin` is answered twice. The steps that its lines ask for carry the headline of a world; what `show` prints of
+/// copies that took the same is the same. A script that is refused prints none.
 pub fn replies_are_one_maps()
     ensures { RepliesAreOneMaps }
 {
-    lone_pages_are_legal();
-    hops_are_computed();
-    answers_keep_legal();
-    histories_go_on();
+    new_worlds_are_sound::<AnyKeyer>();
+    steps_have_outcomes::<AnyKeyer>();
+    steps_keep_worlds_sound::<AnyKeyer>();
+    runs_carry_the_headline::<AnyKeyer>();
+    runs_keep_wards_sound_and_one_map::<AnyKeyer>();
 }

@@ -3,27 +3,25 @@
 
 use answer::Answer;
 pub use ended::Ended;
-use in_flight::InFlight;
 pub use laws::{printed_answers_are_one, replies_are_one_maps};
-use line::{COPIES_LIMIT, FileLine, Line};
+use line::Line;
 use refusal::Refusal;
 pub use serve_fault::ServeFault;
 pub use server::serve;
-use world::World;
 
 mod answer;
 mod answer_text;
 mod ended;
-mod in_flight;
+mod file_line;
 mod laws;
 mod line;
 mod refusal;
 mod respond;
+mod response;
 mod serve_fault;
 #[cfg(test)]
 mod serve_tests;
 mod server;
-mod step;
 #[cfg(test)]
 mod tests;
-mod world;
+mod view_text;

@@ -1,39 +1,26 @@
-ghost use Rattle.std.specs.Prelude.{◌≡◌, IfOk, IsTrue};
+ghost use Rattle.std.specs.Prelude.{◌≡◌};
 ghost use Rattle.exh_text.specs.LineFault.{ranged};
-ghost use Rattle.exh_script.specs.Grammar.{call_in_range, file_in_range, file_line_of, keyer_of, line_in_range, line_of, spelled_begin, spelled_call, spelled_hop, spelled_settings};
+ghost use Rattle.exh_script.specs.Grammar.{call_in_range, line_in_range, line_of, spelled_begin, spelled_call, spelled_change, spelled_copy_step, spelled_deliver, spelled_hop, spelled_in_flight, spelled_number, spelled_pair_of_numbers, spelled_view};
 
-use exh_keyer::AnyKeyer;
-use exh_page::CAP_LIMIT;
-use exh_text::{LineFault, Parts, parse_key, parse_pair, parse_u32, parse_u32_after, split_words};
-use exh_ward::{Call, WARD_BITS_LIMIT};
+use exh_page::PageNo;
+use exh_text::{
+    LineFault, Parts, parse_key, parse_pair, parse_u32, parse_u32_after, parse_u64, split_words,
+};
+use exh_ward::Call;
+use exh_world::Event;
 
-/// The most copies of the directory that a file has (exhash profile).
-pub(crate) const COPIES_LIMIT: u32 = 8;
-
-/// The settings of a file: records a page, 1 to 16; leading bits that name a ward, 0 to 4; copies of the directory, 1
-/// to 8; and the keyer.
-#[derive(Clone, Copy, Debug, PartialEq, Eq)]
-pub(crate) struct FileLine {
-    pub cap: usize,
-    pub ward_bits: u8,
-    pub copies: u32,
-    pub keyer: AnyKeyer,
-}
-
-/// A line of a script after its first, its numbers, key and value in their ranges.
+/// A line of a script after its first, its numbers, key and value in their ranges (exhash profile). There may be no such
+/// request, copy, table, ward or page.
 #[derive(Clone, Copy, Debug, PartialEq, Eq)]
 pub(crate) enum Line {
-    /// `begin rN cN COPY CALL`. There may be no such copy.
-    Begin {
-        name: u32,
-        client: u32,
-        copy: u32,
-        call: Call,
-    },
-    /// `hop rN`
-    Hop {
-        name: u32,
-    },
+    /// `begin`, `hop`, `split`, `merge`, `deliver`, `send`, `combine` or `restart`.
+    Step(Event),
+    /// `show COPY`
+    Show { copy: u32 },
+    /// `page WARD PAGE`
+    Page { ward: u32, page: PageNo },
+    /// `inflight`
+    InFlight,
 }
 
 /// Reads a later line, without its newline. A line outside the grammar is `Syntax`, whatever its numbers are; one in it
@@ -47,7 +34,7 @@ pub(crate) fn parse_line(line: &[u8]) -> Result<Line, LineFault>
     match keyword {
         b"begin" => parse_begin(words),
         b"hop" => parse_hop(words),
-        _ => Err(LineFault::Syntax),
+        _ => parse_change(keyword, words),
     }
 }
 
@@ -66,12 +53,12 @@ fn parse_begin(mut words: Parts<'_>) -> Result<Line, LineFault>
     if name == 0 || client == 0 {
         return Err(LineFault::Range);
     }
-    Ok(Line::Begin {
+    Ok(Line::Step(Event::Begin {
         name,
         client,
         copy,
         call,
-    })
+    }))
 }
 
 // `rN`
@@ -87,7 +74,124 @@ fn parse_hop(mut words: Parts<'_>) -> Result<Line, LineFault>
     if name == 0 {
         return Err(LineFault::Range);
     }
-    Ok(Line::Hop { name })
+    Ok(Line::Step(Event::Hop { name }))
+}
+
+// A split or merge, or what comes below.
+#[tactic(auto, unfolding(crate::specs::Grammar::spelled_change))]
+fn parse_change(keyword: &[u8], words: Parts<'_>) -> Result<Line, LineFault>
+    ensures { result ≡ ranged line_in_range (spelled_change keyword.now words.entry) }
+{
+    match keyword {
+        b"split" => {
+            let (ward, page) = parse_two(words).ok_or(LineFault::Syntax)?;
+            Ok(Line::Step(Event::Split { ward, page }))
+        }
+        b"merge" => {
+            let (ward, page) = parse_two(words).ok_or(LineFault::Syntax)?;
+            Ok(Line::Step(Event::Merge { ward, page }))
+        }
+        _ => parse_copy_step(keyword, words),
+    }
+}
+
+// What a copy of the directory is told, sends or loses, or what comes below.
+#[tactic(auto, unfolding(crate::specs::Grammar::spelled_copy_step))]
+fn parse_copy_step(keyword: &[u8], words: Parts<'_>) -> Result<Line, LineFault>
+    ensures { result ≡ ranged line_in_range (spelled_copy_step keyword.now words.entry) }
+{
+    if keyword == b"deliver".as_slice() {
+        return parse_deliver(words);
+    }
+    if keyword == b"send".as_slice() {
+        return Ok(Line::Step(Event::Send {
+            copy: parse_one(words).ok_or(LineFault::Syntax)?,
+        }));
+    }
+    if keyword == b"combine".as_slice() {
+        let (copy, table) = parse_two(words).ok_or(LineFault::Syntax)?;
+        return Ok(Line::Step(Event::Combine { copy, table }));
+    }
+    if keyword == b"restart".as_slice() {
+        return Ok(Line::Step(Event::Restart {
+            copy: parse_one(words).ok_or(LineFault::Syntax)?,
+        }));
+    }
+    parse_view(keyword, words)
+}
+
+// A view of the world.
+#[tactic(auto, unfolding(crate::specs::Grammar::spelled_view))]
+fn parse_view(keyword: &[u8], words: Parts<'_>) -> Result<Line, LineFault>
+    ensures { result ≡ ranged line_in_range (spelled_view keyword.now words.entry) }
+{
+    if keyword == b"show".as_slice() {
+        return Ok(Line::Show {
+            copy: parse_one(words).ok_or(LineFault::Syntax)?,
+        });
+    }
+    if keyword == b"page".as_slice() {
+        let (ward, page) = parse_two(words).ok_or(LineFault::Syntax)?;
+        return Ok(Line::Page { ward, page });
+    }
+    if keyword == b"inflight".as_slice() {
+        return parse_in_flight(words);
+    }
+    Err(LineFault::Syntax)
+}
+
+// A number alone.
+#[tactic(auto, unfolding(crate::specs::Grammar::spelled_number))]
+fn parse_one(mut words: Parts<'_>) -> Option<u32>
+    ensures { result ≡ spelled_number words.entry }
+{
+    let number = words.next()?;
+    if words.next().is_some() {
+        return None;
+    }
+    parse_u32(number)
+}
+
+// Two numbers.
+#[tactic(auto, unfolding(crate::specs::Grammar::spelled_pair_of_numbers))]
+fn parse_two(mut words: Parts<'_>) -> Option<(u32, u32)>
+    ensures { result ≡ spelled_pair_of_numbers words.entry }
+{
+    let first = words.next()?;
+    let second = words.next()?;
+    if words.next().is_some() {
+        return None;
+    }
+    Some((parse_u32(first)?, parse_u32(second)?))
+}
+
+// `COPY WARD INDEX`
+#[tactic(auto, unfolding(crate::specs::Grammar::spelled_deliver))]
+fn parse_deliver(mut words: Parts<'_>) -> Result<Line, LineFault>
+    ensures { result ≡ ranged line_in_range (spelled_deliver words.entry) }
+{
+    let copy = words.next().ok_or(LineFault::Syntax)?;
+    let ward = words.next().ok_or(LineFault::Syntax)?;
+    let index = words.next().ok_or(LineFault::Syntax)?;
+    if words.next().is_some() {
+        return Err(LineFault::Syntax);
+    }
+    Ok(Line::Step(Event::Deliver {
+        copy: parse_u32(copy).ok_or(LineFault::Syntax)?,
+        ward: parse_u32(ward).ok_or(LineFault::Syntax)?,
+        index: parse_u64(index).ok_or(LineFault::Syntax)?,
+    }))
+}
+
+// No word more.
+#[tactic(auto, unfolding(crate::specs::Grammar::spelled_in_flight))]
+fn parse_in_flight(mut words: Parts<'_>) -> Result<Line, LineFault>
+    ensures { result ≡ ranged line_in_range (spelled_in_flight words.entry) }
+{
+    match words.next() {
+        Some(_) => Err(LineFault::Syntax),
+        None => Ok(Line::InFlight),
+    }
 }
 
 // `get KEY`, `put KEY VALUE` or `del KEY`
@@ -113,62 +217,5 @@ fn parse_call(mut words: Parts<'_>) -> Result<Call, LineFault>
             Ok(Call::Put { key, value })
         }
         _ => Err(LineFault::Syntax),
-    }
-}
-
-/// Reads the first line of a script, without its newline. What isn't a file line is `Syntax`; a file line with a number
-/// out of its range is `Range`.
-#[tactic(auto, unfolding(crate::specs::Grammar::file_line_of, crate::specs::Grammar::spelled_file))]
-pub(crate) fn parse_file_line(line: &[u8]) -> Result<FileLine, LineFault>
-    ensures line { result ≡ file_line_of line.now }
-    ensures range { IfOk result (λ file. IsTrue (file_in_range file)) }
-{
-    let mut words = split_words(line).ok_or(LineFault::Syntax)?;
-    match words.next() {
-        Some(b"file") => parse_settings(words),
-        _ => Err(LineFault::Syntax),
-    }
-}
-
-// `cap=N wards=N copies=N keyer=K`
-#[tactic(auto, unfolding(crate::specs::Grammar::spelled_settings))]
-fn parse_settings(mut words: Parts<'_>) -> Result<FileLine, LineFault>
-    ensures { result ≡ ranged file_in_range (spelled_settings words.entry) }
-{
-    let cap = words.next().ok_or(LineFault::Syntax)?;
-    let ward_bits = words.next().ok_or(LineFault::Syntax)?;
-    let copies = words.next().ok_or(LineFault::Syntax)?;
-    let keyer = words.next().ok_or(LineFault::Syntax)?;
-    let cap = parse_u32_after(b"cap=", cap).ok_or(LineFault::Syntax)?;
-    let ward_bits = parse_u32_after(b"wards=", ward_bits).ok_or(LineFault::Syntax)?;
-    let copies = parse_u32_after(b"copies=", copies).ok_or(LineFault::Syntax)?;
-    let keyer = parse_keyer(keyer).ok_or(LineFault::Syntax)?;
-    if words.next().is_some() {
-        return Err(LineFault::Syntax);
-    }
-    if cap == 0
-        || cap > CAP_LIMIT as u32
-        || ward_bits > u32::from(WARD_BITS_LIMIT)
-        || copies == 0
-        || copies > COPIES_LIMIT
-    {
-        return Err(LineFault::Range);
-    }
-    Ok(FileLine {
-        cap: cap as usize,
-        ward_bits: ward_bits as u8,
-        copies,
-        keyer,
-    })
-}
-
-#[tactic(auto, unfolding(crate::specs::Grammar::keyer_of))]
-fn parse_keyer(word: &[u8]) -> Option<AnyKeyer>
-    ensures { result ≡ keyer_of word.now }
-{
-    match word.strip_prefix(b"keyer=")? {
-        b"sha" => Some(AnyKeyer::Sha),
-        b"plain" => Some(AnyKeyer::Plain),
-        _ => None,
     }
 }

@@ -1,5 +1,5 @@
-use crate::step::StepRefusal;
 use exh_text::LineFault;
+use exh_world::StepFault;
 
 /// Why a line, a script or a run of it is refused (exhash profile).
 #[derive(Clone, Copy, Debug, PartialEq, Eq)]
@@ -7,7 +7,7 @@ pub(crate) enum Refusal {
     /// The line can't be read, or stands at the wrong place.
     Line(LineFault),
     /// The step that the line asks for is refused.
-    Step(StepRefusal),
+    Step(StepFault),
     /// The reader failed.
     Read,
     /// The script is longer than a script may be.
@@ -24,7 +24,7 @@ impl Refusal {
     {
         match self {
             Refusal::Line(fault) => fault.number(),
-            Refusal::Step(refusal) => refusal.number(),
+            Refusal::Step(fault) => u32::from(fault.number()),
             Refusal::Read => 41,
             Refusal::TooLong => 62,
         }
@@ -42,13 +42,13 @@ impl From<LineFault> for Refusal {
     }
 }
 
-impl From<StepRefusal> for Refusal {
+impl From<StepFault> for Refusal {
     ghost use Rattle.std.specs.Prelude.{◌≡◌};
     ghost use Rattle.exh_script.specs.declared.refusal.Refusal.TheVariants.{Step};
 
-    ghost from_gives = { λ step refusal. refusal ≡ Step step };
+    ghost from_gives = { λ fault refusal. refusal ≡ Step fault };
 
-    fn from(step: StepRefusal) -> Refusal {
-        Refusal::Step(step)
+    fn from(fault: StepFault) -> Refusal {
+        Refusal::Step(fault)
     }
 }

@@ -5,15 +5,19 @@ ghost use Rattle.exh_stream.specs.Output.{SameWriter, Takes, TakesBeginning, wri
 ghost use Rattle.exh_script.specs.Served.{PrintsFront, PrintsFrontIn};
 ghost use Rattle.exh_script.specs.Answer.{answer_text};
 ghost use Rattle.exh_script.specs.Text.{text_from, file_of, text_of_lines, ended_of_lines};
-ghost use Rattle.exh_script.specs.World.{new_world};
+ghost use Rattle.exh_ward.specs.declared.ward.TheConstants.{WARD_BITS_LIMIT};
+ghost use Rattle.exh_world.specs.NewWorld.{new_world};
 ghost use Rattle.exh_script.specs.declared.answer.Answer.TheVariants.{Refused};
 
-use crate::answer::answer_line;
-use crate::answer_text::push_answer;
-use crate::line::parse_file_line;
-use crate::{Answer, Ended, FileLine, Refusal, ServeFault, World};
+use crate::answer_text::push_refusal;
+use crate::file_line::parse_file_line;
+use crate::response::push_response;
+use crate::{Ended, Refusal, ServeFault};
+use exh_frames::PlainPages;
+use exh_keyer::AnyKeyer;
 use exh_stream::Output;
 use exh_text::{LineFault, Lines};
+use exh_world::{Config, World};
 use std::alloc::Global;
 use std::io::Write;
 
@@ -61,50 +65,44 @@ pub(crate) fn refuse<W: Write>(
     ensures failed { IsErrOf result ServeFault.Write ↔ IsTrue (writer_failed output.new) }
 {
     let mut text = Vec::new(alloc);
-    push_answer(&mut text, &Answer::Refused(refusal))?;
+    push_refusal(&mut text, refusal)?;
     output.push(&text)?;
     Ok(Ended::Refused)
 }
 
 // The settings of the first line.
 #[tactic(auto, unfolding(crate::specs::Text::file_of))]
-fn open(first: &[u8]) -> Result<FileLine, Refusal>
+fn open(first: &[u8]) -> Result<Config<AnyKeyer>, Refusal>
     ensures file { result ≡ file_of first.now }
-    ensures one_ward { IfOk result (λ file. file.ward_bits ≡ 0) }
     ensures some { IfOk result (λ file. 1 ≤ file.cap) }
     ensures most { IfOk result (λ file. file.cap ≤ CAP_LIMIT) }
+    ensures bits { IfOk result (λ file. file.ward_bits ≤ WARD_BITS_LIMIT) }
 {
-    match parse_file_line(first) {
-        Ok(file) if file.ward_bits == 0 => Ok(file),
-        // Several wards aren't served yet.
-        Ok(_) => Err(LineFault::Range.into()),
-        Err(fault) => Err(fault.into()),
-    }
+    Ok(parse_file_line(first)?)
 }
 
 // Answers the lines of a new file. Want of memory leaves each line whole or out.
 fn answer_lines<W: Write>(
     alloc: Global,
     output: &mut Output<'_, W>,
-    file: &FileLine,
+    file: &Config<AnyKeyer>,
     lines: Lines<'_>,
 ) -> Result<(), ServeFault>
     requires open { IsFalse (writer_failed output.old) }
-    requires one_ward { file.now.ward_bits ≡ 0 }
     requires some { 1 ≤ file.now.cap }
     requires most { file.now.cap ≤ CAP_LIMIT }
+    requires bits { file.now.ward_bits ≤ WARD_BITS_LIMIT }
     ensures same_writer { SameWriter output.old output.new }
     ensures ok { OnOk result (Takes W.contents output.old output.new (text_from (new_world file.now) lines.entry)) }
     ensures err { OnErr result (TakesBeginning W.contents output.old output.new (text_from (new_world file.now) lines.entry)) }
     ensures memory { IsErrOf result ServeFault.Memory → PrintsFrontIn (Takes W.contents output.old output.new) (new_world file.now) lines.entry }
     ensures failed { IsErrOf result ServeFault.Write ↔ IsTrue (writer_failed output.new) }
 {
-    let mut world = World::new(alloc, file)?;
+    let mut world: World<PlainPages, AnyKeyer> = World::new(alloc, file)?;
     let mut text = Vec::new(alloc);
     for line in lines {
-        let answer = answer_line(&mut world, line)?;
         text.clear();
-        push_answer(&mut text, &answer)?;
+        push_response(&mut text, &mut world, line)?;
         output.push(&text)?;
     }
     Ok(())

@@ -3,9 +3,21 @@
 mod cases;
 
 use crate::{Ended, ServeFault, serve};
-use cases::CASES;
+use cases::copies::COPIES;
+use cases::first_lines::FIRST_LINES;
+use cases::merges::MERGES;
+use cases::moves::MOVES;
+use cases::requests::REQUESTS;
+use cases::splits::SPLITS;
+use cases::views::VIEWS;
+use cases::wards::WARDS;
+use cases::words::WORDS;
+use cases::{Case, LineCase};
 use exh_stream::{FakeReader, FakeWriter, WriteRefusal};
+use std::alloc::{AllocError, Global};
 use std::io::{ErrorKind, Read};
+use std::process::Abort;
+use std::str;
 use std::test::Fail;
 
 // Puts, gets and deletes the key `k`.
@@ -25,8 +37,22 @@ const TEXT: &[u8] = b"r1 at 0/0\n\
                       r3 was v\n";
 
 #[test]
-fn answers_each_script_with_its_text(rt: HostRuntime) -> Result<(), Fail> {
-    for case in &CASES {
+fn answers_requests(rt: HostRuntime) -> Result<(), Fail> {
+    assert_answered(&rt, &REQUESTS)
+}
+
+#[test]
+fn answers_right_and_wrong_words(rt: HostRuntime) -> Result<(), Fail> {
+    assert_answered(&rt, &WORDS)
+}
+
+#[test]
+fn answers_first_lines(rt: HostRuntime) -> Result<(), Fail> {
+    assert_answered(&rt, &FIRST_LINES)
+}
+
+fn assert_answered(rt: &(impl Abort + AllocGlobal), cases: &[Case]) -> Result<(), Fail> {
+    for case in cases {
         let mut reader = case.script;
         let mut text = Vec::new(rt.alloc());
         let ended = serve(rt.alloc(), &mut reader, &mut text)?;
@@ -34,6 +60,70 @@ fn answers_each_script_with_its_text(rt: HostRuntime) -> Result<(), Fail> {
         assert_eq!(rt; ended, case.ended, "{}", case.name);
     }
     Ok(())
+}
+
+#[test]
+fn answers_splits(rt: HostRuntime) -> Result<(), Fail> {
+    assert_lines_answered(&rt, &SPLITS)
+}
+
+#[test]
+fn answers_merges(rt: HostRuntime) -> Result<(), Fail> {
+    assert_lines_answered(&rt, &MERGES)
+}
+
+#[test]
+fn answers_moves(rt: HostRuntime) -> Result<(), Fail> {
+    assert_lines_answered(&rt, &MOVES)
+}
+
+#[test]
+fn answers_copies(rt: HostRuntime) -> Result<(), Fail> {
+    assert_lines_answered(&rt, &COPIES)
+}
+
+#[test]
+fn answers_views(rt: HostRuntime) -> Result<(), Fail> {
+    assert_lines_answered(&rt, &VIEWS)
+}
+
+#[test]
+fn answers_several_wards(rt: HostRuntime) -> Result<(), Fail> {
+    assert_lines_answered(&rt, &WARDS)
+}
+
+fn assert_lines_answered(rt: &(impl Abort + AllocGlobal), cases: &[LineCase]) -> Result<(), Fail> {
+    for case in cases {
+        let script = script_of(rt.alloc(), case)?;
+        let mut reader = script.as_slice();
+        let mut text = Vec::new(rt.alloc());
+        let ended = serve(rt.alloc(), &mut reader, &mut text)?;
+        assert_eq!(rt;
+            str::from_utf8(&text)?,
+            text_of(rt.alloc(), case)?.as_str(),
+            "{}",
+            case.name
+        );
+        assert_eq!(rt; ended, Ended::Done, "{}", case.name);
+    }
+    Ok(())
+}
+
+fn script_of(alloc: Global, case: &LineCase) -> Result<Vec<u8>, AllocError> {
+    let mut script = Vec::new(alloc);
+    for (line, _) in case.after.iter().chain(case.lines) {
+        script.extend_from_slice(line.as_bytes())?;
+        script.push(b'\n')?;
+    }
+    Ok(script)
+}
+
+fn text_of(alloc: Global, case: &LineCase) -> Result<String, AllocError> {
+    let mut text = String::new(alloc);
+    for (_, printed) in case.after.iter().chain(case.lines) {
+        text.push_str(printed)?;
+    }
+    Ok(text)
 }
 
 #[test]

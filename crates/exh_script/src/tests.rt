@@ -1,24 +1,25 @@
-use crate::line::{parse_file_line, parse_line};
-use crate::{FileLine, Line};
+//! Right and wrong lines, each limit from both sides.
+
+use crate::Line;
+use crate::file_line::parse_file_line;
+use crate::line::parse_line;
 use exh_keyer::AnyKeyer;
 use exh_page::{Key, Value};
 use exh_text::LineFault;
 use exh_ward::Call;
+use exh_world::Event;
 use std::alloc::{AllocError, Global};
 use std::test::Fail;
 
+const GREATEST: u32 = 4_294_967_295;
+
 #[test]
-fn right_lines(rt: HostRuntime) -> Result<(), Fail> {
+fn lines_of_requests(rt: HostRuntime) -> Result<(), Fail> {
     let key = Key::from_bytes(b"\0")?;
     let empty = Value::from_bytes(b"")?;
-    let lines: [(&[u8], Line); 5] = [
-        (b"hop r1", Line::Hop { name: 1 }),
-        (
-            b"hop r4294967295",
-            Line::Hop {
-                name: 4_294_967_295,
-            },
-        ),
+    let lines: [(&[u8], Event); 5] = [
+        (b"hop r1", Event::Hop { name: 1 }),
+        (b"hop r4294967295", Event::Hop { name: GREATEST }),
         (b"begin r1 c2 3 get #00", begun(Call::Get { key })),
         (b"begin r1 c2 3 del #00", begun(Call::Del { key })),
         (
@@ -27,13 +28,13 @@ fn right_lines(rt: HostRuntime) -> Result<(), Fail> {
         ),
     ];
     for (line, want) in lines {
-        assert_eq!(rt; parse_line(line), Ok(want));
+        assert_eq!(rt; parse_line(line), Ok(Line::Step(want)));
     }
     Ok(())
 }
 
-fn begun(call: Call) -> Line {
-    Line::Begin {
+fn begun(call: Call) -> Event {
+    Event::Begin {
         name: 1,
         client: 2,
         copy: 3,
@@ -41,11 +42,74 @@ fn begun(call: Call) -> Line {
     }
 }
 
+// Which copies, wards, pages, notices and tables there are is asked of the step, so any number is right.
 #[test]
-fn wrong_lines(rt: HostRuntime) {
-    let lines: [(&[u8], LineFault); 24] = [
+fn lines_of_changes_and_copies(rt: HostRuntime) {
+    let lines: [(&[u8], Event); 11] = [
+        (b"split 0 1", Event::Split { ward: 0, page: 1 }),
+        (
+            b"split 4294967295 0",
+            Event::Split {
+                ward: GREATEST,
+                page: 0,
+            },
+        ),
+        (
+            b"split 0 4294967295",
+            Event::Split {
+                ward: 0,
+                page: GREATEST,
+            },
+        ),
+        (b"merge 15 10", Event::Merge { ward: 15, page: 10 }),
+        (b"deliver 1 2 3", delivered(1, 2, 3)),
+        (b"deliver 0 0 0", delivered(0, 0, 0)),
+        (b"deliver 1 0 4294967296", delivered(1, 0, 4_294_967_296)),
+        (
+            b"deliver 1 0 18446744073709551615",
+            delivered(1, 0, 18_446_744_073_709_551_615),
+        ),
+        (b"send 0", Event::Send { copy: 0 }),
+        (b"combine 2 1", Event::Combine { copy: 2, table: 1 }),
+        (b"restart 4294967295", Event::Restart { copy: GREATEST }),
+    ];
+    for (line, want) in lines {
+        assert_eq!(rt; parse_line(line), Ok(Line::Step(want)));
+    }
+}
+
+fn delivered(copy: u32, ward: u32, index: u64) -> Event {
+    Event::Deliver { copy, ward, index }
+}
+
+#[test]
+fn lines_of_views(rt: HostRuntime) {
+    let lines: [(&[u8], Line); 6] = [
+        (b"show 1", Line::Show { copy: 1 }),
+        (b"show 4294967295", Line::Show { copy: GREATEST }),
+        (b"page 1 2", Line::Page { ward: 1, page: 2 }),
+        (b"page 0 0", Line::Page { ward: 0, page: 0 }),
+        (
+            b"page 4294967295 4294967295",
+            Line::Page {
+                ward: GREATEST,
+                page: GREATEST,
+            },
+        ),
+        (b"inflight", Line::InFlight),
+    ];
+    for (line, want) in lines {
+        assert_eq!(rt; parse_line(line), Ok(want));
+    }
+}
+
+#[test]
+fn wrong_lines_of_requests(rt: HostRuntime) {
+    let lines: [(&[u8], LineFault); 27] = [
         (b"", LineFault::Syntax),
+        (b" ", LineFault::Syntax),
         (b"hop", LineFault::Syntax),
+        (b"hop ", LineFault::Syntax),
         (b"hop r1 ", LineFault::Syntax),
         (b" hop r1", LineFault::Syntax),
         (b"hop  r1", LineFault::Syntax),
@@ -57,12 +121,13 @@ fn wrong_lines(rt: HostRuntime) {
         (b"hop r4294967296", LineFault::Syntax),
         (b"hop r0", LineFault::Range),
         (b"Hop r1", LineFault::Syntax),
-        (b"split 0 0", LineFault::Syntax),
+        (b"hops r1", LineFault::Syntax),
         (b"file cap=2 wards=0 copies=1 keyer=sha", LineFault::Syntax),
         (b"begin r1 c1 1 put k", LineFault::Syntax),
         (b"begin r1 c1 1 get k v", LineFault::Syntax),
         (b"begin r1 c1 1 set k v", LineFault::Syntax),
         (b"begin r1 c1 1", LineFault::Syntax),
+        (b"begin r1 c1 1 get k ", LineFault::Syntax),
         (b"begin r0 c1 1 get #00", LineFault::Range),
         (b"begin r1 c0 1 get #00", LineFault::Range),
         (b"begin r1 c1 1 get #", LineFault::Range),
@@ -74,52 +139,159 @@ fn wrong_lines(rt: HostRuntime) {
     }
 }
 
+// No number of these lines has a range of its own, so that each fault is Syntax.
 #[test]
-fn file_lines(rt: HostRuntime) {
-    let file = FileLine {
-        cap: 16,
-        ward_bits: 4,
-        copies: 8,
-        keyer: AnyKeyer::Sha,
-    };
-    let least = FileLine {
-        cap: 1,
-        ward_bits: 0,
-        copies: 1,
-        keyer: AnyKeyer::Plain,
-    };
-    let lines: [(&[u8], Result<FileLine, LineFault>); 8] = [
-        (b"file cap=16 wards=4 copies=8 keyer=sha", Ok(file)),
-        (b"file cap=1 wards=0 copies=1 keyer=plain", Ok(least)),
-        (b"", Err(LineFault::Syntax)),
-        (b"hop r1", Err(LineFault::Syntax)),
-        (b"file cap=2 wards=0 copies=1", Err(LineFault::Syntax)),
-        (
-            b"file cap=2 wards=0 copies=1 keyer=md5",
-            Err(LineFault::Syntax),
-        ),
-        (
-            b"file cap=02 wards=0 copies=1 keyer=sha",
-            Err(LineFault::Syntax),
-        ),
-        (
-            b"file wards=0 cap=2 copies=1 keyer=sha",
-            Err(LineFault::Syntax),
-        ),
+fn wrong_lines_of_changes(rt: HostRuntime) {
+    let lines: [&[u8]; 23] = [
+        b"split",
+        b"split ",
+        b"split 0",
+        b"split 0 ",
+        b"split 0 0 ",
+        b"split 0 0 0",
+        b"split  0 0",
+        b"split 0  0",
+        b" split 0 0",
+        b"split 0 00",
+        b"split 00 0",
+        b"split 0 01",
+        b"split 0 4294967296",
+        b"split 4294967296 0",
+        b"split 0 -1",
+        b"split 0 +1",
+        b"split 0/0",
+        b"split 0 0x0",
+        b"split 0 1111111111111111111111111111111111111111",
+        b"Split 0 0",
+        b"merge 0",
+        b"merge 0 1 2",
+        b"merge 0 4294967296",
     ];
-    for (line, want) in lines {
-        assert_eq!(rt; parse_file_line(line), want);
+    for line in lines {
+        assert_eq!(rt; parse_line(line), Err(LineFault::Syntax));
     }
 }
 
-// A number out of its range is `Range`, one above 4,294,967,295 is outside the grammar, and what is outside the grammar is
-// so whatever the other numbers are.
+#[test]
+fn wrong_lines_of_copies(rt: HostRuntime) {
+    let lines: [&[u8]; 24] = [
+        b"deliver",
+        b"deliver 1 0",
+        b"deliver 1 0 1 1",
+        b"deliver 1 0 1 ",
+        b"deliver 1  0 1",
+        b"deliver 1 0/1",
+        b"deliver 01 0 1",
+        b"deliver 1 00 1",
+        b"deliver 1 0 01",
+        b"deliver 4294967296 0 1",
+        b"deliver 1 4294967296 1",
+        b"deliver 1 0 18446744073709551616",
+        b"deliver 1 0 1111111111111111111111111111111111111111",
+        b"send",
+        b"send 1 2",
+        b"send 4294967296",
+        b"send c1",
+        b"combine 1",
+        b"combine 1 1 1",
+        b"combine 1 4294967296",
+        b"restart",
+        b"restart 1 ",
+        b"restart 1 2",
+        b"restart 00",
+    ];
+    for line in lines {
+        assert_eq!(rt; parse_line(line), Err(LineFault::Syntax));
+    }
+}
+
+#[test]
+fn wrong_lines_of_views(rt: HostRuntime) {
+    let lines: [&[u8]; 15] = [
+        b"show",
+        b"show ",
+        b"show 1 2",
+        b"show 01",
+        b"show 4294967296",
+        b"show copy",
+        b"page",
+        b"page 0",
+        b"page 0 0 0",
+        b"page 0 4294967296",
+        b"page 0/0",
+        b"inflight ",
+        b"inflight 1",
+        b"in flight",
+        b"Inflight",
+    ];
+    for line in lines {
+        assert_eq!(rt; parse_line(line), Err(LineFault::Syntax));
+    }
+}
+
+#[test]
+fn right_file_lines(rt: HostRuntime) {
+    let lines: [(&[u8], (usize, u8, u32, AnyKeyer)); 4] = [
+        (
+            b"file cap=16 wards=4 copies=8 keyer=sha",
+            (16, 4, 8, AnyKeyer::Sha),
+        ),
+        (
+            b"file cap=1 wards=0 copies=1 keyer=plain",
+            (1, 0, 1, AnyKeyer::Plain),
+        ),
+        (
+            b"file cap=2 wards=1 copies=3 keyer=plain",
+            (2, 1, 3, AnyKeyer::Plain),
+        ),
+        (
+            b"file cap=15 wards=3 copies=7 keyer=sha",
+            (15, 3, 7, AnyKeyer::Sha),
+        ),
+    ];
+    for (line, want) in lines {
+        assert_eq!(rt; settings_of(line), Ok(want));
+    }
+}
+
+#[test]
+fn wrong_file_lines(rt: HostRuntime) {
+    let lines: [&[u8]; 15] = [
+        b"",
+        b"hop r1",
+        b"file",
+        b"file cap=2 wards=0 copies=1",
+        b"file cap=2 wards=0 copies=1 keyer=md5",
+        b"file cap=2 wards=0 copies=1 keyer=",
+        b"file cap=02 wards=0 copies=1 keyer=sha",
+        b"file cap=2 wards=00 copies=1 keyer=sha",
+        b"file cap= wards=0 copies=1 keyer=sha",
+        b"file wards=0 cap=2 copies=1 keyer=sha",
+        b"file cap=2 wards=0 copies=1 keyer=sha ",
+        b" file cap=2 wards=0 copies=1 keyer=sha",
+        b"file cap=2  wards=0 copies=1 keyer=sha",
+        b"file cap=2 wards=0 copies=1 keyer=sha keyer=sha",
+        b"File cap=2 wards=0 copies=1 keyer=sha",
+    ];
+    for line in lines {
+        assert_eq!(rt; settings_of(line), Err(LineFault::Syntax));
+    }
+}
+
+fn settings_of(line: &[u8]) -> Result<(usize, u8, u32, AnyKeyer), LineFault> {
+    let file = parse_file_line(line)?;
+    Ok((file.cap, file.ward_bits, file.copies, file.keyer))
+}
+
+// A number out of its range is `Range`, one above 4,294,967,295 is outside the grammar, and what is outside the grammar
+// is so whatever the other numbers are.
 #[test]
 fn numbers_of_file_lines_out_of_range(rt: HostRuntime) {
-    let lines: [(&[u8], LineFault); 10] = [
+    let lines: [(&[u8], LineFault); 13] = [
         (b"file cap=0 wards=0 copies=1 keyer=sha", LineFault::Range),
         (b"file cap=17 wards=0 copies=1 keyer=sha", LineFault::Range),
         (b"file cap=2 wards=5 copies=1 keyer=sha", LineFault::Range),
+        (b"file cap=2 wards=256 copies=1 keyer=sha", LineFault::Range),
         (b"file cap=2 wards=0 copies=0 keyer=sha", LineFault::Range),
         (b"file cap=2 wards=0 copies=9 keyer=sha", LineFault::Range),
         (
@@ -130,9 +302,17 @@ fn numbers_of_file_lines_out_of_range(rt: HostRuntime) {
             b"file cap=4294967296 wards=0 copies=1 keyer=sha",
             LineFault::Syntax,
         ),
+        (
+            b"file cap=2 wards=4294967296 copies=1 keyer=sha",
+            LineFault::Syntax,
+        ),
         (b"file cap=17 wards=0 copies=1 keyer=md5", LineFault::Syntax),
         (
             b"file cap=17 wards=5 copies=09 keyer=sha",
+            LineFault::Syntax,
+        ),
+        (
+            b"file cap=2 wards=0 copies=4294967296 keyer=sha",
             LineFault::Syntax,
         ),
         (
@@ -141,7 +321,7 @@ fn numbers_of_file_lines_out_of_range(rt: HostRuntime) {
         ),
     ];
     for (line, want) in lines {
-        assert_eq!(rt; parse_file_line(line), Err(want));
+        assert_eq!(rt; settings_of(line), Err(want));
     }
 }
 

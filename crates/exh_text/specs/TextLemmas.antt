@@ -1,5 +1,5 @@
 -- What is printed is read again: for proofs of the crates above.
-use Rattle.std.proofs.Common.{◌≡◌, ◌≢◌, ℕ, zero, suc, ◌+◌, ◌-◌, ◌/◌, ◌%◌, ◌^◌, ◌<◌, ◌≤◌, List, [], ◌∷◌, ◌++◌, length, map, slice_index, get_or, Bool, true, false, ◌&&◌, All, cond, eqb, Some, decimal, lit<, inl, inr, refl, sym, ap, ◌∙◌, arith}
+use Rattle.std.proofs.Common.{◌≡◌, ◌≢◌, ℕ, zero, suc, ◌/◌, ◌%◌, ◌^◌, ◌<◌, ◌≤◌, List, [], ◌∷◌, ◌++◌, length, map, slice_index, get_or, Bool, true, false, ◌&&◌, All, cond, eqb, Some, decimal, lit<, inl, inr, refl, sym, ap, ◌∙◌, arith}
 use Rattle.std.specs.Char.{is_ascii_graphic, digit_char}
 use Rattle.std.specs.List.{list_all, AllByRecursion, slice_split, onto_first}
 use Rattle.std.specs.Str.{all_ascii_digits}
@@ -222,33 +222,31 @@ bits_graphic [] = refl
 bits_graphic (true ∷ bits) = bits_graphic bits
 bits_graphic (false ∷ bits) = bits_graphic bits
 
+pub prefix_graphic : (bits : List Bool) → list_all is_ascii_graphic (prefix_text bits) ≡ true
+prefix_graphic [] = refl
+prefix_graphic (bit ∷ bits) = bits_graphic (bit ∷ bits)
+
 pub prefix_word : (bits : List Bool) → words_of (prefix_text bits) ≡ Some (prefix_text bits ∷ [])
 prefix_word [] = one_word (prefix_text []) refl (omega arith)
 prefix_word (bit ∷ bits) = one_word (prefix_text (bit ∷ bits)) (bits_graphic (bit ∷ bits)) (omega arith)
 
-bit_told : (bit other : Bool) → bit_digit bit ≡ bit_digit other → bit ≡ other
-bit_told true true same = refl
-bit_told true false same = absurd (omega (arith, same))
-bit_told false true same = absurd (omega (arith, same))
-bit_told false false same = refl
+-- the bits that the digits 1 and 0 spell
+abbrev bits_of : List ℕ → List Bool
+bits_of digits = map (λ digit. eqb digit 49) digits
 
-bits_told : (bits others : List Bool) → map bit_digit bits ≡ map bit_digit others → bits ≡ others
-bits_told [] [] same = refl
-bits_told [] (other ∷ others) same = cc
-bits_told (bit ∷ bits) [] same = cc
-bits_told (bit ∷ bits) (other ∷ others) same =
-    let first : bit_digit bit ≡ bit_digit other = cc in
-    let rest : map bit_digit bits ≡ map bit_digit others = cc in
-    let e = bit_told bit other first in
-    let es = bits_told bits others rest in
-    cc
+bits_again : (bits : List Bool) → bits_of (map bit_digit bits) ≡ bits
+bits_again [] = refl
+bits_again (true ∷ bits) = ap (λ (rest : List Bool). true ∷ rest) (bits_again bits)
+bits_again (false ∷ bits) = ap (λ (rest : List Bool). false ∷ rest) (bits_again bits)
 
-no_dash : (bit : Bool) → 45 ≡ bit_digit bit → ⊥
-no_dash true same = omega (arith, same)
-no_dash false same = omega (arith, same)
+-- the prefix that a word is the text of: no bits where it begins with a dash
+abbrev pub prefix_of_text : List ℕ → List Bool
+prefix_of_text text = cond (eqb (get_or text 0 0) 45) [] (bits_of text)
+
+pub prefix_again : (bits : List Bool) → prefix_of_text (prefix_text bits) ≡ bits
+prefix_again [] = refl
+prefix_again (true ∷ bits) = bits_again (true ∷ bits)
+prefix_again (false ∷ bits) = bits_again (false ∷ bits)
 
 pub prefix_told : (bits others : List Bool) → prefix_text bits ≡ prefix_text others → bits ≡ others
-prefix_told [] [] same = refl
-prefix_told [] (other ∷ others) same = let dash : 45 ≡ bit_digit other = ap (λ text. get_or text 0 0) same in absurd (no_dash other dash)
-prefix_told (bit ∷ bits) [] same = let dash : bit_digit bit ≡ 45 = ap (λ text. get_or text 0 0) same in absurd (no_dash bit (sym dash))
-prefix_told (bit ∷ bits) (other ∷ others) same = bits_told (bit ∷ bits) (other ∷ others) same
+prefix_told bits others same = sym (prefix_again bits) ∙ ap prefix_of_text same ∙ prefix_again others

@@ -37,7 +37,7 @@ replicate_there : {A : Type 0} (n : ℕ) (x : A) (at : ℕ) → at < n → slice
 replicate_there n x at within =
     slice_get-get_or (replicate n x) at x (subst (λ length. at < length) (sym (length-replicate n x)) within) ∙ ap Some (get_or-replicate n at x x within)
 
-mapped_is : {A : Type 0} (f : ℕ → A) (n at : ℕ) (y : A) → slice_get (map f (range_with_len 0 n)) at ≡ Some y → (at < n) × (y ≡ f at)
+pub mapped_is : {A : Type 0} (f : ℕ → A) (n at : ℕ) (y : A) → slice_get (map f (range_with_len 0 n)) at ≡ Some y → (at < n) × (y ≡ f at)
 mapped_is f n at y is =
     let within = subst (λ length. at < length) (length-map-range_with_len f 0 n) (slice_get_within (map f (range_with_len 0 n)) at y is) in
     (within, sym (get_or_from_slice_get (map f (range_with_len 0 n)) at y y is) ∙ get_or-map-range_with_len f 0 n at at y within (omega arith))

@@ -121,15 +121,19 @@ module _ {K : Type 0} (pseudokey_of : K → List ℕ → ℕ) (own : OwnEntries)
         let other_is : of_other.0 ≡ taken_too = let both : Some of_other.0 ≡ Some taken_too = sym of_other.1 ∙ second in cc in
         decide taken taken_too table twin (λ pair. same pair.0 pair.1) (subst (λ told. IsTableOf told table) one_is of_one.2) (subst (λ told. IsTableOf told twin) other_is of_other.2)
 
-    pub headline : IsHeadline pseudokey_of start turns end
-    headline = record {
-      moments = moments;
-      turns_are = refl;
-      run = run;
-      tables = tables;
-      equal = equal;
-      combined = All-from_recursion (CombinesLeast {K = K}) moments (all_combined start moments end run);
-      named = All-from_recursion (IsNamed start.start start.ward_bits) (answered_in moments) facts.named_all;
-      one_map = record { replies = facts.history; left = facts.left };
-      no_stray = All-from_recursion (DoesNotStray {K = K}) moments (none_strays start moments end sound run);
-    }
+    -- the headline, over these moments
+    pub headline : (over : IsHeadline pseudokey_of start turns end) × (over.moments ≡ moments)
+    headline = (
+      record {
+        moments = moments;
+        turns_are = refl;
+        run = run;
+        tables = tables;
+        equal = equal;
+        combined = All-from_recursion (CombinesLeast {K = K}) moments (all_combined start moments end run);
+        named = All-from_recursion (IsNamed start.start start.ward_bits) (answered_in moments) facts.named_all;
+        one_map = record { replies = facts.history; left = facts.left };
+        no_stray = All-from_recursion (DoesNotStray {K = K}) moments (none_strays start moments end sound run);
+      },
+      refl,
+    )

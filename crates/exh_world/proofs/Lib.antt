@@ -18,6 +18,7 @@ pub mod StepFacts
 pub mod RunFacts
 pub mod Runs
 pub mod FreshWorld
+pub mod NewWards
 pub mod WorldOfWards
 pub mod HeadlineOf
 pub mod UncountedWards

@@ -61,4 +61,4 @@ module _ {K : Type 0} (pseudokey_of : K → List ℕ → ℕ) where
       → HasRun pseudokey_of start events turns now → IsHeadline pseudokey_of start turns now
   headline_of carry start events turns now sound has =
       subst (λ ts. IsHeadline pseudokey_of start ts now) has.turns_are
-      (carry start has.moments now sound (All-from_recursion (λ (moment : Moment K). AreWardsSound pseudokey_of moment.after) has.moments has.wards) has.run)
+      (carry start has.moments now sound (All-from_recursion (λ (moment : Moment K). AreWardsSound pseudokey_of moment.after) has.moments has.wards) has.run).0

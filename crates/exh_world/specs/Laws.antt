@@ -1,12 +1,15 @@
 -- Laws of worlds.
-use Rattle.std.specs.Prelude.{◌≡◌, ⊤, ◌⊎◌, ℕ, ◌^◌, ◌<◌, List, map, slice_get, Some, All, Result, Ok, Err}
+use Rattle.std.specs.Prelude.{◌≡◌, ⊤, ◌⊎◌, ℕ, ◌^◌, ◌<◌, ◌≤◌, List, map, slice_get, Some, All, Result, Ok, Err}
 use Rattle.exh_ward.specs.WardState.{WardState, IsSoundWard}
+use Rattle.exh_ward.specs.declared.ward.TheConstants.{WARD_BITS_LIMIT}
 use Rattle.exh_world.specs.Headline.{IsHeadline}
+use Rattle.exh_world.specs.NewWorld.{new_world}
 use Rattle.exh_world.specs.Run.{Moment, IsRun}
 use Rattle.exh_world.specs.Sound.{IsSoundWorld}
 use Rattle.exh_world.specs.Step.{IsWant, Step}
 use Rattle.exh_world.specs.StepFunction.{result_of, world_after}
 use Rattle.exh_world.specs.World.{WorldState}
+use Rattle.exh_world.specs.declared.config.Config.{Config}
 use Rattle.exh_world.specs.declared.event.Event.{Event}
 use Rattle.exh_world.specs.declared.outcome.Outcome.{Outcome}
 use Rattle.exh_world.specs.declared.outcome.Outcome.TheVariants.{Changed}
@@ -39,8 +42,12 @@ StepsAreComputed {K} pseudokey_of = (old : WorldState K) (event : Event) (result
 abbrev pub StepsHaveOutcomes : {K : Type 0} → (K → List ℕ → ℕ) → Type 0
 StepsHaveOutcomes {K} pseudokey_of = (old : WorldState K) (event : Event) → IsSoundWorld pseudokey_of old → Step pseudokey_of old event (result_of pseudokey_of old event) (world_after pseudokey_of old event)
 
--- every run from a sound world, over wards that stay sound, carries the headline
+-- every run from a sound world, over wards that stay sound, carries the headline, over its own moments
 abbrev pub RunsCarryTheHeadline : {K : Type 0} → (K → List ℕ → ℕ) → Type 0
 RunsCarryTheHeadline {K} pseudokey_of = (start : WorldState K) (moments : List (Moment K)) (end : WorldState K)
     → IsSoundWorld pseudokey_of start → All (λ (moment : Moment K). AreWardsSound pseudokey_of moment.after) moments → IsRun pseudokey_of start moments end
-    → IsHeadline pseudokey_of start (map (λ moment. moment.turn) moments) end
+    → (headline : IsHeadline pseudokey_of start (map (λ moment. moment.turn) moments) end) × (headline.moments ≡ moments)
+
+-- the world of a new file is sound
+abbrev pub NewWorldsAreSound : {K : Type 0} → (K → List ℕ → ℕ) → Type 0
+NewWorldsAreSound {K} pseudokey_of = (config : Config K) → config.ward_bits ≤ WARD_BITS_LIMIT → IsSoundWorld pseudokey_of (new_world config)

@@ -1,9 +1,9 @@
 //! What holds of every step and every run of a world. Each function does nothing.
 
-ghost use Rattle.exh_world.specs.Laws.{RunsCarryTheHeadline, StepsAreComputed, StepsHaveOutcomes, StepsKeepWorldsSound};
+ghost use Rattle.exh_world.specs.Laws.{NewWorldsAreSound, RunsCarryTheHeadline, StepsAreComputed, StepsHaveOutcomes, StepsKeepWorldsSound};
 
 use exh_keyer::Keyer;
-use exh_legal::{right_links_lead_on, targets_lead_on};
+use exh_legal::{lone_pages_are_legal, right_links_lead_on, targets_lead_on};
 use exh_table::{
     members_decide, one_notice_more_is_taken, own_entries_give_the_table, union_is_join,
 };
@@ -53,4 +53,11 @@ pub fn runs_carry_the_headline<K: Keyer>()
     union_is_join();
     members_decide();
     sharers_begin();
+}
+
+/// The world of a new file is sound.
+pub fn new_worlds_are_sound<K: Keyer>()
+    ensures { NewWorldsAreSound K.pseudokey_of }
+{
+    lone_pages_are_legal();
 }

@@ -5,13 +5,15 @@
 pub use config::Config;
 pub use event::Event;
 pub use laws::{
-    runs_carry_the_headline, steps_are_computed, steps_have_outcomes, steps_keep_worlds_sound,
+    new_worlds_are_sound, runs_carry_the_headline, steps_are_computed, steps_have_outcomes,
+    steps_keep_worlds_sound,
 };
 pub use outcome::Outcome;
 pub use request::Request;
 pub use step_fault::StepFault;
 pub use turn::Turn;
 pub use world::World;
+pub use world::ward_number::ward_number;
 
 mod config;
 mod event;

@@ -17,7 +17,7 @@ mod place;
 mod readers;
 mod request_steps;
 mod run;
-mod ward_number;
+pub(crate) mod ward_number;
 mod ward_steps;
 mod world_of_wards;
 

@@ -1,8 +1,9 @@
-ghost use Rattle.std.specs.Prelude.{◌≡◌, ℕ, slice_get, Some, None, IfOk, IfErr};
+ghost use Rattle.std.specs.Prelude.{◌≡◌, ◌≤◌, ℕ, slice_get, Some, None, IfOk, IfErr};
 ghost use Rattle.std.specs.Map.Iter.{ShowsInOrder, deref_pair};
 ghost use Rattle.exh_legal.specs.Pages.{IsAt};
 ghost use Rattle.exh_ward.specs.WardState.{WardState};
 ghost use Rattle.exh_ward.specs.SplitStep.{PageRefused};
+ghost use Rattle.exh_ward.specs.declared.ward.TheConstants.{WARD_BITS_LIMIT};
 ghost use Rattle.exh_world.specs.Sound.{IsSoundWorld};
 ghost use Rattle.exh_world.specs.Step.{IsChangeRefused};
 ghost use Rattle.exh_world.specs.World.{numbered};
@@ -18,10 +19,11 @@ use exh_table::Table;
 use indexmap::map::Iter;
 
 impl<P: Pages + Drop, K: Keyer> World<P, K> {
-    /// The file is cut into 2^this many wards, by so many leading bits of pseudokeys. It takes no
-    /// memory.
+    /// The file is cut into 2^this many wards, by so many leading bits of pseudokeys, 0 to 4. It takes
+    /// no memory.
     pub fn ward_bits(&self) -> u8
-        ensures { result ≡ self.now.ward_bits }
+        ensures bits { result ≡ self.now.ward_bits }
+        ensures most { result ≤ WARD_BITS_LIMIT }
     {
         self.ward_bits
     }

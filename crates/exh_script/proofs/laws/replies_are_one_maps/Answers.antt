@@ -1,62 +1,101 @@
-use Rattle.std.proofs.Common.{◌≡◌, ℕ, ◌≤◌, List, [], ◌∷◌, length, leb, cond, Bool, true, false, Result, Ok, Err, refl, sym, ap, ◌∙◌, subst}
-use Rattle.std.specs.Prelude.{◌==◌}
+use Rattle.std.proofs.Common.{◌≡◌, ℕ, ◌≤◌, List, [], ◌∷◌, ◌++◌, length, leb, map, cond, Bool, true, false, Some, slice_get, Result, Ok, Err, refl, sym, ap, ◌∙◌, subst}
 use Rattle.std.specs.FinMap.{empty}
-use Rattle.std.proofs.lemmas.Bool.{leb-true, eqb-true}
+use Rattle.std.specs.Prelude.{filter, All}
+use Rattle.std.proofs.lemmas.Bool.{leb-true}
+use Rattle.std.proofs.lemmas.List.Elements.{All-from_recursion}
+use Rattle.exh_keyer.specs.declared.any_keyer.AnyKeyer.{AnyKeyer}
 use Rattle.exh_keyer.specs.Pseudokey.{any_pseudokey}
-use Rattle.exh_ward.specs.History.{IsHistory, map_left}
-use Rattle.exh_ward.specs.Pages.{map_of}
-use Rattle.exh_ward.specs.declared.journal_entry.JournalEntry.{JournalEntry}
-use Rattle.exh_script.specs.Grammar.{file_line_of}
 use Rattle.exh_text.specs.Lines.{lines_of}
-use Rattle.exh_script.specs.Replies.{RepliesAsMap, PrintsAs}
+use Rattle.exh_text.specs.declared.line_fault.LineFault.TheVariants.{Syntax}
+use Rattle.exh_ward.specs.History.{IsHistory, map_left}
+use Rattle.exh_ward.specs.KeyMap.{KeyMap}
+use Rattle.exh_ward.specs.WardState.{WardState}
+use Rattle.exh_ward.specs.declared.journal_entry.JournalEntry.{JournalEntry}
+use Rattle.exh_ward.specs.declared.ward.TheConstants.{WARD_BITS_LIMIT}
+use Rattle.exh_world.specs.Headline.{IsHeadline, DoesNotStray as KeepsCourse}
+use Rattle.exh_world.specs.Laws.{AreWardsSound, NewWorldsAreSound, RunsCarryTheHeadline}
+use Rattle.exh_world.specs.NewWorld.{new_world}
+use Rattle.exh_world.specs.Run.{Moment, answered_in, entry_of}
+use Rattle.exh_world.specs.declared.config.Config.{Config}
+use Rattle.exh_world.specs.declared.turn.Turn.{Turn as StepTurn}
 use Rattle.exh_script.specs.Answer.{answer_text}
-use Rattle.exh_script.specs.Text.{opened, file_of, text_from, text_after, text_of_lines, ended_after, ended_of_lines, text_of, ended_of}
-use Rattle.exh_script.specs.World.{new_world}
+use Rattle.exh_script.specs.Replies.{steps_from, world_left, is_of_ward, ShowTheSame, RepliesAsMap, PrintsAs}
+use Rattle.exh_script.specs.Text.{ScriptWorld, file_of, text_from, text_after, text_of_lines, ended_after, ended_of_lines, text_of, ended_of}
+use Rattle.exh_script.specs.View.{shown_text, table_text}
 use Rattle.exh_script.specs.declared.answer.Answer.TheVariants.{Refused}
 use Rattle.exh_script.specs.declared.ended.Ended.TheVariants as ended
-use Rattle.exh_script.specs.declared.server.TheConstants.{SCRIPT_LIMIT}
-use Rattle.exh_script.specs.declared.line.FileLine.{FileLine}
-use Rattle.exh_text.specs.declared.line_fault.LineFault.{LineFault}
 use Rattle.exh_script.specs.declared.refusal.Refusal.{Refusal}
 use Rattle.exh_script.specs.declared.refusal.Refusal.TheVariants.{Line as LineRefusal, TooLong}
-use Rattle.exh_text.specs.declared.line_fault.LineFault.TheVariants.{Syntax, Range}
-use Rattle.exh_script.proofs.LoneWorld.{WardLaws, lone_at_new, lone_left, none_strays}
-use Rattle.exh_script.proofs.ReplyLaw.{text_is_answers, entries_from, enter_in_order}
+use Rattle.exh_script.specs.declared.server.TheConstants.{SCRIPT_LIMIT}
+use Rattle.exh_script.proofs.Journals.{lines_more}
+use Rattle.exh_script.proofs.KeptWorlds.{WorldLaws, IsKept, lines_run}
+use Rattle.exh_script.proofs.LineMoments.{moments_from, turns_are, entries_from, entries_are}
+use Rattle.exh_script.proofs.NewFile.{few_ward_bits, new_map, new_journal, new_kept}
+use Rattle.exh_script.proofs.ReplyLaw.{text_is_responses, enter_in_order}
+use Rattle.exh_script.proofs.Strays.{no_strays}
 use Rattle.exh_script.proofs.laws.replies_are_one_maps.Goals as goal
 
--- a file that is served has one ward
-one_if_so : (file read : FileLine) (one : Bool) → (read.ward_bits == 0) ≡ one → (let settings : Result FileLine Refusal = cond one (Ok read) (Err (LineRefusal Range)) in settings) ≡ Ok file → file.ward_bits ≡ 0
-one_if_so file read true is right = let same : read ≡ file = cc in ap (λ (f : FileLine). f.ward_bits) (sym same) ∙ eqb-true _ _ is
-one_if_so file read false is right = cc
+-- copies that took the same are shown the same
+shown_same : (start : ScriptWorld) (steps : List StepTurn) (end : ScriptWorld) → IsHeadline any_pseudokey start steps end → ShowTheSame start steps end
+shown_same start steps end headline one other table twin taken taken_too there there_too took took_too same =
+    let equal : table ≡ twin = headline.equal one other table twin taken taken_too there there_too took took_too same in
+    (table_text end.ward_bits table, refl, ap (λ t. shown_text end.ward_bits other t) (sym equal))
 
-one_ward : (file : FileLine) (read : Result FileLine LineFault) → opened read ≡ Ok file → file.ward_bits ≡ 0
-one_ward file (Ok read) right = one_if_so file read _ refl right
-one_ward file (Err fault) right = cc
+module _ (laws : WorldLaws) (carry : RunsCarryTheHeadline any_pseudokey) (fresh : NewWorldsAreSound any_pseudokey) (script : List ℕ) where
+  module _ (file : Config AnyKeyer) (lines : List (List ℕ)) (few : file.ward_bits ≤ WARD_BITS_LIMIT) where
+    abbrev start : ScriptWorld
+    start = new_world file
 
-one_ward_of : (file : FileLine) (first : List ℕ) → file_of first ≡ Ok file → file.ward_bits ≡ 0
-unfolding file_of
-one_ward_of file first right = one_ward file (file_line_of first) right
+    abbrev end : ScriptWorld
+    end = world_left start lines
 
-module _ (laws : WardLaws) (script : List ℕ) where
-  as_map : (file : FileLine) (lines : List (List ℕ)) → file.ward_bits ≡ 0 → text_of script ≡ text_from (new_world file) lines
-      → RepliesAsMap script file lines (entries_from (new_world file) lines)
-  as_map file lines one text =
-      let new = lone_at_new laws file one in
-      let entered = enter_in_order (new_world file) refl lines in
-      let end = lone_left laws file.cap file.keyer (new_world file) new lines in
-      record {
-        text = text ∙ text_is_answers (new_world file) lines;
-        answered = entered.0;
-        history = let P : List JournalEntry → Type 0 = IsHistory file.cap (any_pseudokey file.keyer) empty in subst P entered.1 end.history;
-        journal = entered.1;
-        left = ap map_of end.pages ∙ end.left ∙ ap (λ entries. map_left file.cap (any_pseudokey file.keyer) empty entries) entered.1;
-        no_stray = none_strays laws file.cap file.keyer (new_world file) new lines;
-      }
+    kept : IsKept file.ward_bits file.keyer start
+    kept = new_kept file fresh few
 
-  by_file : (first : List ℕ) (lines : List (List ℕ)) (read : Result FileLine Refusal) → length script ≤ SCRIPT_LIMIT → lines_of script ≡ first ∷ lines → file_of first ≡ read
+    -- the headline, over the moments of the lines
+    abbrev IsOver : List StepTurn → Type 0
+    IsOver turns = (headline : IsHeadline any_pseudokey start turns end) × (headline.moments ≡ moments_from start lines)
+
+    over : IsOver (steps_from start lines)
+    over =
+        let runs = lines_run laws file.ward_bits file.keyer start kept lines in
+        subst IsOver (turns_are start lines)
+        (carry start (moments_from start lines) end kept.sound (All-from_recursion (λ (moment : Moment AnyKeyer). AreWardsSound any_pseudokey moment.after) (moments_from start lines) runs.1) runs.0)
+
+    entries_same : map entry_of (answered_in over.0.moments) ≡ entries_from start lines
+    entries_same = ap (λ (moments : List (Moment AnyKeyer)). map entry_of (answered_in moments)) over.1 ∙ entries_are start lines
+
+    abbrev entries : List JournalEntry
+    entries = entries_from start lines
+
+    history : IsHistory file.cap (any_pseudokey file.keyer) empty entries
+    history =
+        let P : KeyMap → List JournalEntry → Type 0 = λ m entries. IsHistory file.cap (any_pseudokey file.keyer) m entries in
+        subst (P empty) entries_same (subst (λ m. P m (map entry_of (answered_in over.0.moments))) (new_map file) over.0.one_map.replies)
+
+    journals : (number : ℕ) (ward : WardState AnyKeyer) → slice_get end.wards number ≡ Some ward → ward.journal ≡ filter (is_of_ward file number) entries
+    journals number ward is =
+        let more = lines_more laws file.ward_bits file.keyer number start kept lines ward is in
+        more.journal ∙ ap (λ journal. journal ++ filter (is_of_ward file number) entries) (new_journal file number more.before more.there)
+
+    as_map : text_of script ≡ text_from start lines → RepliesAsMap script file lines entries
+    as_map text = record {
+      text = text ∙ text_is_responses start lines;
+      answered = enter_in_order laws file.ward_bits file.keyer start kept refl lines;
+      headline = over.0;
+      entries_are = entries_same;
+      history = history;
+      journals = journals;
+      left = over.0.one_map.left ∙ ap (λ m. map_left file.cap (any_pseudokey file.keyer) m (map entry_of (answered_in over.0.moments))) (new_map file)
+          ∙ ap (map_left file.cap (any_pseudokey file.keyer) empty) entries_same;
+      shows = shown_same start (steps_from start lines) end over.0;
+      no_stray = no_strays start lines (subst (λ (moments : List (Moment AnyKeyer)). All (λ (moment : Moment AnyKeyer). KeepsCourse moment) moments) over.1 over.0.no_stray);
+    }
+
+  by_file : (first : List ℕ) (lines : List (List ℕ)) (read : Result (Config AnyKeyer) Refusal) → length script ≤ SCRIPT_LIMIT → lines_of script ≡ first ∷ lines → file_of first ≡ read
       → text_of script ≡ text_after read lines → PrintsAs script (ended_after read)
   by_file first lines (Ok file) fits split right text =
-      (file, lines, entries_from (new_world file) lines, record { fits = fits; first = (first, split, right) }, as_map file lines (one_ward_of file first right) text)
+      (file, lines, entries_from (new_world file) lines, record { fits = fits; first = (first, split, right) }, as_map file lines (few_ward_bits first file right) text)
   by_file first lines (Err refusal) fits split right text = (refusal, text)
 
   by_lines : (lines : List (List ℕ)) → length script ≤ SCRIPT_LIMIT → lines_of script ≡ lines → text_of script ≡ text_of_lines lines → PrintsAs script (ended_of_lines lines)
@@ -71,10 +110,9 @@ module _ (laws : WardLaws) (script : List ℕ) where
 pub returns : goal.returns
 unfolding text_of ended_of
 returns c script =
-    let laws : WardLaws = record {
-      lone_pages = c.lone_pages_are_legal.ensures;
-      computed = c.hops_are_computed.ensures;
-      answers = c.answers_keep_legal.ensures;
-      histories = c.histories_go_on.ensures;
+    let laws : WorldLaws = record {
+      outcomes = c.steps_have_outcomes.ensures;
+      keep_sound = c.steps_keep_worlds_sound.ensures;
+      wards = c.runs_keep_wards_sound_and_one_map.ensures.sound;
     } in
-    by_length laws script _ refl refl
+    by_length laws c.runs_carry_the_headline.ensures c.new_worlds_are_sound.ensures script _ refl refl

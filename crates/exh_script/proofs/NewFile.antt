@@ -1,0 +1,80 @@
+-- The world of a script's first line.
+use Rattle.std.proofs.Common.{◌≡◌, ℕ, ◌^◌, ◌≤◌, List, [], ◌∷◌, leb, map, flat_map, slice_get, Bool, true, false, cond, Option, Some, None, Result, Ok, Err, refl, sym, ap, subst, arith}
+use Rattle.std.specs.Prelude.{◌&&◌}
+use Rattle.std.specs.Int.{is_in_range}
+use Rattle.std.specs.FinMap.{empty, from_entries}
+use Rattle.std.specs.List.{range_with_len}
+use Rattle.std.proofs.lemmas.Bool.{leb-true}
+use Rattle.exh_keyer.specs.declared.any_keyer.AnyKeyer.{AnyKeyer}
+use Rattle.exh_keyer.specs.Pseudokey.{any_pseudokey}
+use Rattle.exh_page.specs.Page.{records_of}
+use Rattle.exh_page.specs.declared.page.TheConstants.{CAP_LIMIT}
+use Rattle.exh_page.specs.declared.record.Record.{Record}
+use Rattle.exh_route.specs.Laws.{IsCounted}
+use Rattle.exh_text.specs.LineFault.{ranged}
+use Rattle.exh_text.specs.Lines.{words_of}
+use Rattle.exh_text.specs.Numbers.{◌>>=◌}
+use Rattle.exh_ward.specs.Pages.{pair_of}
+use Rattle.exh_ward.specs.WardState.{WardState}
+use Rattle.exh_ward.specs.declared.ward.TheConstants.{WARD_BITS_LIMIT}
+use Rattle.exh_world.specs.Laws.{NewWorldsAreSound}
+use Rattle.exh_world.specs.NewWorld.{new_ward, new_world}
+use Rattle.exh_world.specs.World.{map_in}
+use Rattle.exh_world.specs.declared.config.Config.{Config}
+use Rattle.exh_world.proofs.FreshWorld.{mapped_is}
+use Rattle.exh_script.specs.Grammar.{file_in_range, file_line_of, spelled_file}
+use Rattle.exh_script.specs.Text.{opened, file_of}
+use Rattle.exh_script.specs.declared.file_line.TheConstants.{COPIES_LIMIT}
+use Rattle.exh_script.specs.declared.refusal.Refusal.{Refusal}
+use Rattle.exh_text.specs.declared.line_fault.LineFault.TheVariants.{Range}
+use Rattle.exh_script.proofs.KeptWorlds.{IsKept}
+
+-- ---- its settings are in their ranges
+
+both : (one other : Bool) → (one && other) ≡ true → (one ≡ true) × (other ≡ true)
+both true other is = (refl, is)
+both false other is = cc
+
+bits_in_range : (file : Config AnyKeyer) → file_in_range file ≡ true → file.ward_bits ≤ WARD_BITS_LIMIT
+bits_in_range file is =
+    let cap = is_in_range 1 CAP_LIMIT file.cap in
+    let bits = is_in_range 0 WARD_BITS_LIMIT file.ward_bits in
+    let copies = is_in_range 1 COPIES_LIMIT file.copies in
+    leb-true file.ward_bits WARD_BITS_LIMIT (both (leb 0 file.ward_bits) (leb file.ward_bits WARD_BITS_LIMIT) (both cap bits (both (cap && bits) copies is).0).1).1
+
+by_range : (file read : Config AnyKeyer) (within : Bool) → file_in_range read ≡ within
+    → (let settings : Result (Config AnyKeyer) Refusal = opened (cond within (Ok read) (Err Range)) in settings) ≡ Ok file → file.ward_bits ≤ WARD_BITS_LIMIT
+by_range file read true is right = let same : read ≡ file = cc in subst (λ (f : Config AnyKeyer). f.ward_bits ≤ WARD_BITS_LIMIT) same (bits_in_range read is)
+by_range file read false is right = cc
+
+by_words : (file : Config AnyKeyer) (spelled : Option (Config AnyKeyer)) → opened (ranged file_in_range spelled) ≡ Ok file → file.ward_bits ≤ WARD_BITS_LIMIT
+by_words file None right = cc
+by_words file (Some read) right = by_range file read (file_in_range read) refl right
+
+pub few_ward_bits : (line : List ℕ) (file : Config AnyKeyer) → file_of line ≡ Ok file → file.ward_bits ≤ WARD_BITS_LIMIT
+unfolding file_of file_line_of
+few_ward_bits line file right = by_words file (words_of line >>= spelled_file) right
+
+-- ---- what the new world has
+
+module _ (file : Config AnyKeyer) where
+  no_records : (numbers : List ℕ) → flat_map records_of (flat_map (λ (ward : WardState AnyKeyer). ward.pages) (map (new_ward file) numbers)) ≡ []
+  no_records [] = refl
+  no_records (number ∷ numbers) = no_records numbers
+
+  pub new_map : map_in (new_world file) ≡ empty
+  new_map = ap (λ (records : List Record). from_entries (map pair_of records)) (no_records (range_with_len 0 (2 ^ file.ward_bits)))
+
+  pub new_journal : (number : ℕ) (ward : WardState AnyKeyer) → slice_get (new_world file).wards number ≡ Some ward → ward.journal ≡ []
+  new_journal number ward is = ap (λ (w : WardState AnyKeyer). w.journal) (mapped_is (new_ward file) (2 ^ file.ward_bits) number ward is).1
+
+  new_counted : (number : ℕ) → IsCounted (new_ward file number)
+  new_counted number = omega arith
+
+  pub new_kept : NewWorldsAreSound any_pseudokey → file.ward_bits ≤ WARD_BITS_LIMIT → IsKept file.ward_bits file.keyer (new_world file)
+  new_kept law few = record {
+    sound = law file few;
+    counted = λ number ward is. subst IsCounted (sym (mapped_is (new_ward file) (2 ^ file.ward_bits) number ward is).1) (new_counted number);
+    bits_are = refl;
+    keyer_is = refl;
+  }

@@ -1,0 +1,78 @@
+-- No hop of a script strays, where none of its world's does.
+use Rattle.std.proofs.Common.{ℕ, List, [], ◌∷◌, ◌++◌, slice_get, Option, Some, None, Result, Ok, Err, refl}
+use Rattle.std.specs.Prelude.{◌≢◌}
+use Rattle.std.specs.List.{All, AllByRecursion}
+use Rattle.std.specs.Option.{option_map_or}
+use Rattle.std.proofs.lemmas.List.Elements.{All-from_recursion, recursion_from_All}
+use Rattle.exh_keyer.specs.declared.any_keyer.AnyKeyer.{AnyKeyer}
+use Rattle.exh_keyer.specs.Pseudokey.{any_pseudokey}
+use Rattle.exh_text.specs.declared.line_fault.LineFault.{LineFault}
+use Rattle.exh_ward.specs.WardState.{WardState}
+use Rattle.exh_ward.specs.declared.hop.Hop.TheVariants as hops
+use Rattle.exh_ward.specs.declared.ward_fault.WardFault.TheVariants.{NoPage}
+use Rattle.exh_world.specs.Headline.{DoesNotStray as KeepsCourse}
+use Rattle.exh_world.specs.Run.{Moment}
+use Rattle.exh_world.specs.StepFunction.{result_of}
+use Rattle.exh_world.specs.World.{numbered}
+use Rattle.exh_world.specs.declared.event.Event.{Event}
+use Rattle.exh_world.specs.declared.outcome.Outcome.{Outcome}
+use Rattle.exh_world.specs.declared.outcome.Outcome.TheVariants as outcomes
+use Rattle.exh_world.specs.declared.step_fault.StepFault.{StepFault}
+use Rattle.exh_world.specs.declared.step_fault.StepFault.TheVariants.{NoCopy, NoWard, Ward}
+use Rattle.exh_script.specs.Answer.{step_answer}
+use Rattle.exh_script.specs.Grammar.{line_of}
+use Rattle.exh_script.specs.Replies.{turns_from, DoesNotStray}
+use Rattle.exh_script.specs.Text.{ScriptWorld, Said, shown_or_refused, refused_step, parsed_response, line_response, after_line}
+use Rattle.exh_script.specs.View.{shown_text, page_text}
+use Rattle.exh_script.specs.declared.answer.Answer.TheVariants.{Stray}
+use Rattle.exh_script.specs.declared.line.Line.{Line}
+use Rattle.exh_script.specs.declared.line.Line.TheVariants as lines
+use Rattle.exh_script.proofs.LineMoments.{parsed_moments, moments_from}
+
+strays_never : (event : Event) (result : Result Outcome StepFault) → ((ward : ℕ) → result ≢ Ok (outcomes.Hopped ward hops.Stray)) → (name : ℕ) → Said (step_answer event result) ≢ Said (Stray name)
+strays_never event (Err fault) none name same = cc
+strays_never event (Ok (outcomes.Begun ward page)) none name same = cc
+strays_never event (Ok (outcomes.Hopped ward (hops.Done reply))) none name same = cc
+strays_never event (Ok (outcomes.Hopped ward (hops.Moved next))) none name same = cc
+strays_never event (Ok (outcomes.Hopped ward hops.MustSplit)) none name same = cc
+strays_never event (Ok (outcomes.Hopped ward hops.Stray)) none name same = none ward refl
+strays_never event (Ok (outcomes.Changed notice)) none name same = cc
+strays_never event (Ok (outcomes.Taken notice)) none name same = cc
+strays_never event (Ok (outcomes.Sent number)) none name same = cc
+strays_never event (Ok outcomes.Joined) none name same = cc
+strays_never event (Ok outcomes.Restarted) none name same = cc
+
+shown_never : {A : Type 0} (fault : StepFault) (text : A → List ℕ) (found : Option A) (name : ℕ) → shown_or_refused fault text found ≢ Said (Stray name)
+shown_never fault text None name same = cc
+shown_never fault text (Some found) name same = cc
+
+page_never : (ward page : ℕ) (found : Option (WardState AnyKeyer)) (name : ℕ) → option_map_or (λ state. shown_or_refused (Ward NoPage) (page_text ward page) (slice_get state.pages page)) found (refused_step NoWard) ≢ Said (Stray name)
+page_never ward page None name same = cc
+page_never ward page (Some state) name same = shown_never (Ward NoPage) (page_text ward page) (slice_get state.pages page) name same
+
+abbrev AllKeepCourse : List (Moment AnyKeyer) → Type 0
+AllKeepCourse moments = AllByRecursion (λ (moment : Moment AnyKeyer). KeepsCourse moment) moments
+
+parsed_never : (world : ScriptWorld) (parsed : Result Line LineFault) → AllKeepCourse (parsed_moments world parsed) → (name : ℕ) → parsed_response world parsed ≢ Said (Stray name)
+parsed_never world (Ok (lines.Step event)) all name same = strays_never event (result_of any_pseudokey world event) all.0 name same
+parsed_never world (Ok (lines.Show copy)) all name same = shown_never NoCopy (shown_text world.ward_bits copy) (numbered world.copies copy) name same
+parsed_never world (Ok (lines.Page ward page)) all name same = page_never ward page (slice_get world.wards ward) name same
+parsed_never world (Ok lines.InFlight) all name same = cc
+parsed_never world (Err fault) all name same = cc
+
+line_never : (world : ScriptWorld) (line : List ℕ) → AllKeepCourse (parsed_moments world (line_of line)) → (name : ℕ) → line_response world line ≢ Said (Stray name)
+unfolding line_response
+line_never world line = parsed_never world (line_of line)
+
+all_parts : (front back : List (Moment AnyKeyer)) → AllKeepCourse (front ++ back) → AllKeepCourse front × AllKeepCourse back
+all_parts [] back all = (tt, all)
+all_parts (moment ∷ front) back all = let rest = all_parts front back all.1 in ((all.0, rest.0), rest.1)
+
+none_stray : (world : ScriptWorld) (lines : List (List ℕ)) → AllKeepCourse (moments_from world lines) → AllByRecursion DoesNotStray (turns_from world lines)
+none_stray world [] all = tt
+none_stray world (line ∷ lines) all =
+    let parts = all_parts (parsed_moments world (line_of line)) (moments_from (after_line world line) lines) all in
+    (line_never world line parts.0, none_stray (after_line world line) lines parts.1)
+
+pub no_strays : (world : ScriptWorld) (lines : List (List ℕ)) → All (λ (moment : Moment AnyKeyer). KeepsCourse moment) (moments_from world lines) → All DoesNotStray (turns_from world lines)
+no_strays world lines all = All-from_recursion DoesNotStray (turns_from world lines) (none_stray world lines (recursion_from_All (λ (moment : Moment AnyKeyer). KeepsCourse moment) (moments_from world lines) all))

@@ -1,0 +1,62 @@
+-- What is printed of a copy's table, of a page and of the requests in flight.
+use Rattle.std.specs.Prelude.{ℕ, Bool, List, [], ◌∷◌, ◌++◌, length, flat_map, Option, Some, None, decimal, codes}
+use Rattle.std.specs.FinMap.{entries}
+use Rattle.exh_prefix.specs.Prefix.{low_of, prefix_text}
+use Rattle.exh_notice.specs.declared.entry.Entry.{Entry}
+use Rattle.exh_table.specs.Below.{depth_of, leaves_listed}
+use Rattle.exh_table.specs.Table.{TableMap}
+use Rattle.exh_table.specs.declared.leaf.Leaf.{Leaf}
+use Rattle.exh_page.specs.declared.page.Page.{Page}
+use Rattle.exh_page.specs.declared.page.Page.TheVariants.{Live, Forward}
+use Rattle.exh_text.specs.Lines.{newline}
+use Rattle.exh_text.specs.Printing.{place_text}
+use Rattle.exh_world.specs.InFlight.{Requests}
+use Rattle.exh_world.specs.World.{ward_of}
+use Rattle.exh_world.specs.declared.request.Request.{Request}
+use Rattle.exh_script.specs.Answer.{copy_text, entry_text, request_text}
+
+-- a line of its own
+abbrev pub on_line : List ℕ → List ℕ
+on_line words = words ++ newline ∷ []
+
+-- ---- a table
+
+-- an entry at a prefix
+abbrev pub entry_line : List Bool × Entry → List ℕ
+entry_line at = on_line (codes "entry " ++ entry_text at.0 at.1.number at.1.kind)
+
+-- a leaf, with its page in its ward, which is that of the leaf's pseudokeys
+abbrev pub leaf_line : ℕ → Leaf → List ℕ
+leaf_line ward_bits leaf = on_line (codes "leaf " ++ (prefix_text leaf.prefix ++ (codes " " ++ place_text (ward_of ward_bits (low_of leaf.prefix)) leaf.page)))
+
+-- the directory's depth, the entries, and the leaves, each in the order of prefixes
+abbrev pub table_text : ℕ → TableMap → List ℕ
+table_text ward_bits table =
+    on_line (codes " depth " ++ decimal (depth_of table ward_bits)) ++ (flat_map entry_line (entries table) ++ flat_map (leaf_line ward_bits) (leaves_listed table ward_bits))
+
+abbrev pub shown_text : ℕ → ℕ → TableMap → List ℕ
+shown_text ward_bits copy table = copy_text copy ++ table_text ward_bits table
+
+-- ---- a page
+
+abbrev pub right_text : Option ℕ → List ℕ
+right_text None = codes "none"
+right_text (Some right) = decimal right
+
+-- what a page of a ward holds, or where it sends callers on to
+abbrev pub content_text : ℕ → Page → List ℕ
+content_text ward (Live prefix right records) =
+    codes " live prefix " ++ (prefix_text prefix ++ (codes " right " ++ (right_text right ++ (codes " records " ++ decimal (length records)))))
+content_text ward (Forward low target) = codes " forward " ++ place_text ward target
+
+abbrev pub page_text : ℕ → ℕ → Page → List ℕ
+page_text ward number page = on_line (codes "page " ++ (place_text ward number ++ content_text ward page))
+
+-- ---- the requests in flight
+
+abbrev pub request_line : ℕ × Request → List ℕ
+request_line named = on_line (request_text named.0 ++ (codes " at " ++ place_text named.1.ward named.1.page))
+
+-- how many there are, and each in the order begun
+abbrev pub in_flight_text : Requests → List ℕ
+in_flight_text requests = on_line (codes "inflight " ++ decimal (length requests)) ++ flat_map request_line requests

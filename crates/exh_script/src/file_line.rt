@@ -1,0 +1,69 @@
+ghost use Rattle.std.specs.Prelude.{◌≡◌, IfOk, IsTrue};
+ghost use Rattle.exh_text.specs.LineFault.{ranged};
+ghost use Rattle.exh_script.specs.Grammar.{file_in_range, file_line_of, keyer_of, spelled_settings};
+
+use exh_keyer::AnyKeyer;
+use exh_page::CAP_LIMIT;
+use exh_text::{LineFault, Parts, parse_u32_after, split_words};
+use exh_ward::WARD_BITS_LIMIT;
+use exh_world::Config;
+
+/// The most copies of the directory that a file has (exhash profile).
+pub(crate) const COPIES_LIMIT: u32 = 8;
+
+/// Reads the settings of the first line of a script, without its newline. What isn't a file line is `Syntax`; a file line with a number
+/// out of its range is `Range`.
+#[tactic(auto, unfolding(crate::specs::Grammar::file_line_of, crate::specs::Grammar::spelled_file))]
+pub(crate) fn parse_file_line(line: &[u8]) -> Result<Config<AnyKeyer>, LineFault>
+    ensures line { result ≡ file_line_of line.now }
+    ensures range { IfOk result (λ file. IsTrue (file_in_range file)) }
+{
+    let mut words = split_words(line).ok_or(LineFault::Syntax)?;
+    match words.next() {
+        Some(b"file") => parse_settings(words),
+        _ => Err(LineFault::Syntax),
+    }
+}
+
+// `cap=N wards=N copies=N keyer=K`
+#[tactic(auto, unfolding(crate::specs::Grammar::spelled_settings))]
+fn parse_settings(mut words: Parts<'_>) -> Result<Config<AnyKeyer>, LineFault>
+    ensures { result ≡ ranged file_in_range (spelled_settings words.entry) }
+{
+    let cap = words.next().ok_or(LineFault::Syntax)?;
+    let ward_bits = words.next().ok_or(LineFault::Syntax)?;
+    let copies = words.next().ok_or(LineFault::Syntax)?;
+    let keyer = words.next().ok_or(LineFault::Syntax)?;
+    let cap = parse_u32_after(b"cap=", cap).ok_or(LineFault::Syntax)?;
+    let ward_bits = parse_u32_after(b"wards=", ward_bits).ok_or(LineFault::Syntax)?;
+    let copies = parse_u32_after(b"copies=", copies).ok_or(LineFault::Syntax)?;
+    let keyer = parse_keyer(keyer).ok_or(LineFault::Syntax)?;
+    if words.next().is_some() {
+        return Err(LineFault::Syntax);
+    }
+    if cap == 0
+        || cap > CAP_LIMIT as u32
+        || ward_bits > u32::from(WARD_BITS_LIMIT)
+        || copies == 0
+        || copies > COPIES_LIMIT
+    {
+        return Err(LineFault::Range);
+    }
+    Ok(Config {
+        cap: cap as usize,
+        ward_bits: ward_bits as u8,
+        copies,
+        keyer,
+    })
+}
+
+#[tactic(auto, unfolding(crate::specs::Grammar::keyer_of))]
+fn parse_keyer(word: &[u8]) -> Option<AnyKeyer>
+    ensures { result ≡ keyer_of word.now }
+{
+    match word.strip_prefix(b"keyer=")? {
+        b"sha" => Some(AnyKeyer::Sha),
+        b"plain" => Some(AnyKeyer::Plain),
+        _ => None,
+    }
+}

@@ -1,0 +1,136 @@
+ghost use Rattle.std.specs.Prelude.{◌≡◌, ◌++◌, ◌≤◌, flat_map, OnOk};
+ghost use Rattle.std.specs.FinMap.{entries};
+ghost use Rattle.exh_ward.specs.declared.ward.TheConstants.{WARD_BITS_LIMIT};
+ghost use Rattle.exh_prefix.specs.Prefix.{low_of};
+ghost use Rattle.exh_table.specs.Below.{leaves_listed};
+ghost use Rattle.exh_world.specs.World.{ward_of};
+ghost use Rattle.exh_script.specs.View.{content_text, entry_line, in_flight_text, leaf_line, page_text, request_line, right_text, shown_text};
+
+use crate::answer_text::{push_copy, push_entry, push_request};
+use exh_frames::PlainPages;
+use exh_keyer::AnyKeyer;
+use exh_page::{Page, PageNo};
+use exh_table::Table;
+use exh_text::{push_number, push_place, push_prefix, push_text};
+use exh_world::{World, ward_number};
+use std::alloc::AllocError;
+
+/// Adds what a copy knows: the depth of its directory, its entries and its leaves, a line each.
+pub(crate) fn push_shown(
+    out: &mut Vec<u8>,
+    ward_bits: u8,
+    copy: u32,
+    table: &Table,
+) -> Result<(), AllocError>
+    requires { ward_bits ≤ WARD_BITS_LIMIT }
+    ensures { OnOk result (out.new.items ≡ out.old.items ++ shown_text ward_bits copy table.now) }
+{
+    push_copy(out, copy)?;
+    push_text(out, " depth ")?;
+    push_number(out, u64::from(table.depth(ward_bits)))?;
+    push_text(out, "\n")?;
+    push_entries(out, table)?;
+    push_leaves(out, ward_bits, table)
+}
+
+fn push_entries(out: &mut Vec<u8>, table: &Table) -> Result<(), AllocError>
+    ensures { OnOk result (out.new.items ≡ out.old.items ++ flat_map entry_line (entries table.now)) }
+{
+    for (prefix, entry) in table.entries() {
+        push_text(out, "entry ")?;
+        push_entry(out, prefix, entry.number, &entry.kind)?;
+        push_text(out, "\n")?;
+    }
+    Ok(())
+}
+
+fn push_leaves(out: &mut Vec<u8>, ward_bits: u8, table: &Table) -> Result<(), AllocError>
+    requires { ward_bits ≤ WARD_BITS_LIMIT }
+    ensures { OnOk result (out.new.items ≡ out.old.items ++ flat_map (leaf_line ward_bits) (leaves_listed table.now ward_bits)) }
+{
+    let leaves = table.leaves(ward_bits)?;
+    for leaf in &leaves {
+        push_text(out, "leaf ")?;
+        push_prefix(out, &leaf.prefix)?;
+        push_text(out, " ")?;
+        push_place(
+            out,
+            u32::from(ward_number(ward_bits, leaf.prefix.low())),
+            u64::from(leaf.page),
+        )?;
+        push_text(out, "\n")?;
+    }
+    Ok(())
+}
+
+/// Adds the line of a page of a ward: what it holds, or where it sends callers on to.
+pub(crate) fn push_page(
+    out: &mut Vec<u8>,
+    ward: u32,
+    number: PageNo,
+    page: &Page,
+) -> Result<(), AllocError>
+    ensures { OnOk result (out.new.items ≡ out.old.items ++ page_text ward number page.now) }
+{
+    push_text(out, "page ")?;
+    push_place(out, ward, u64::from(number))?;
+    push_content(out, ward, page)?;
+    push_text(out, "\n")
+}
+
+fn push_content(out: &mut Vec<u8>, ward: u32, page: &Page) -> Result<(), AllocError>
+    ensures { OnOk result (out.new.items ≡ out.old.items ++ content_text ward page.now) }
+{
+    match page {
+        Page::Live {
+            prefix,
+            right,
+            records,
+        } => {
+            push_text(out, " live prefix ")?;
+            push_prefix(out, prefix)?;
+            push_text(out, " right ")?;
+            push_right(out, *right)?;
+            push_text(out, " records ")?;
+            push_number(out, records.len() as u64)
+        }
+        Page::Forward { target, .. } => {
+            push_text(out, " forward ")?;
+            push_place(out, ward, u64::from(*target))
+        }
+    }
+}
+
+fn push_right(out: &mut Vec<u8>, right: Option<PageNo>) -> Result<(), AllocError>
+    ensures { OnOk result (out.new.items ≡ out.old.items ++ right_text right) }
+{
+    match right {
+        Some(right) => push_number(out, u64::from(right)),
+        None => push_text(out, "none"),
+    }
+}
+
+/// Adds the number of the requests in flight, and a line for each, in the order begun.
+pub(crate) fn push_in_flight(
+    out: &mut Vec<u8>,
+    world: &World<PlainPages, AnyKeyer>,
+) -> Result<(), AllocError>
+    ensures { OnOk result (out.new.items ≡ out.old.items ++ in_flight_text world.now.in_flight) }
+{
+    push_text(out, "inflight ")?;
+    push_number(out, world.in_flight().len() as u64)?;
+    push_text(out, "\n")?;
+    push_requests(out, world)
+}
+
+fn push_requests(out: &mut Vec<u8>, world: &World<PlainPages, AnyKeyer>) -> Result<(), AllocError>
+    ensures { OnOk result (out.new.items ≡ out.old.items ++ flat_map request_line world.now.in_flight) }
+{
+    for (name, request) in world.in_flight() {
+        push_request(out, *name)?;
+        push_text(out, " at ")?;
+        push_place(out, u32::from(request.ward), u64::from(request.page))?;
+        push_text(out, "\n")?;
+    }
+    Ok(())
+}
