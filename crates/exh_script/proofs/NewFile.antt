@@ -21,7 +21,7 @@ use Rattle.exh_world.specs.Laws.{NewWorldsAreSound}
 use Rattle.exh_world.specs.NewWorld.{new_ward, new_world}
 use Rattle.exh_world.specs.World.{map_in}
 use Rattle.exh_world.specs.declared.config.Config.{Config}
-use Rattle.exh_world.proofs.FreshWorld.{mapped_is}
+use Rattle.exh_world.specs.ListLemmas.{mapped_is}
 use Rattle.exh_script.specs.Grammar.{file_in_range, file_line_of, spelled_file}
 use Rattle.exh_script.specs.Text.{opened, file_of}
 use Rattle.exh_script.specs.declared.file_line.TheConstants.{COPIES_LIMIT}

@@ -25,7 +25,7 @@ use Rattle.exh_world.specs.declared.outcome.Outcome.TheVariants as outcomes
 use Rattle.exh_world.specs.declared.request.Request.{Request}
 use Rattle.exh_world.specs.declared.step_fault.StepFault.{StepFault}
 use Rattle.exh_world.specs.declared.step_fault.StepFault.TheVariants.{NoCopy, NoWard, Ward}
-use Rattle.exh_world.proofs.Effects.{on_effect}
+use Rattle.exh_world.specs.EffectLemmas.{on_effect}
 use Rattle.exh_script.specs.Answer.{hop_answer, outcome_answer, step_answer}
 use Rattle.exh_script.specs.Grammar.{line_of}
 use Rattle.exh_script.specs.Replies.{Turn, turns_from, is_about, IsBegunLast, Enters, EnterInOrder}

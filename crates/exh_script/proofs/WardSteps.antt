@@ -31,9 +31,9 @@ use Rattle.exh_world.specs.declared.outcome.Outcome.{Outcome}
 use Rattle.exh_world.specs.declared.outcome.Outcome.TheVariants.{Hopped}
 use Rattle.exh_world.specs.declared.request.Request.{Request}
 use Rattle.exh_world.specs.declared.step_fault.StepFault.{StepFault}
-use Rattle.exh_world.proofs.Effects.{on_effect}
-use Rattle.exh_world.proofs.Lists.{set_is}
-use Rattle.exh_world.proofs.RequestsKept.{all_named}
+use Rattle.exh_world.specs.EffectLemmas.{on_effect}
+use Rattle.exh_world.specs.ListLemmas.{set_is}
+use Rattle.exh_world.specs.RequestLemmas.{all_named}
 use Rattle.exh_script.specs.Text.{ScriptWorld}
 use Rattle.exh_script.proofs.LineMoments.{none_answered}
 

@@ -18,8 +18,8 @@ use Rattle.exh_world.specs.Sound.{IsBelow, IsWardOf, LeadsRightIn, IsOnTheWay, I
 use Rattle.exh_world.specs.Step.{pseudokey_in}
 use Rattle.exh_world.specs.World.{WorldState, numbered, ward_of}
 use Rattle.exh_world.specs.declared.request.Request.{Request}
-use Rattle.exh_world.proofs.Lists.{within_there}
-use Rattle.exh_world.proofs.RequestsKept.{AllRequests, all_weaker, all_push}
+use Rattle.exh_world.specs.ListLemmas.{within_there}
+use Rattle.exh_world.specs.RequestLemmas.{AllRequests, all_weaker, all_push}
 use Rattle.exh_world.proofs.WalksBelow.{walk_below}
 
 module _ {K : Type 0} (pseudokey_of : K → List ℕ → ℕ) (old : WorldState K) (sound : IsSoundWorld pseudokey_of old) where

@@ -20,8 +20,8 @@ use Rattle.exh_ward.specs.MergeStep.{IsMergeStep}
 use Rattle.exh_ward.specs.SplitStep.{IsSplitStep}
 use Rattle.exh_world.specs.Sound.{IsTrueNotice, IsWardOf, IsSoundWorld}
 use Rattle.exh_world.specs.World.{WorldState}
-use Rattle.exh_world.proofs.Lists.{drop_push}
-use Rattle.exh_world.proofs.RequestsKept.{all_weaker}
+use Rattle.exh_world.specs.ListLemmas.{drop_push}
+use Rattle.exh_world.specs.RequestLemmas.{all_weaker}
 use Rattle.exh_world.proofs.SoundKept.{notice_kept, alike_push, after, way_kept, sound_after}
 
 module _ {K : Type 0} (pseudokey_of : K → List ℕ → ℕ) (old : WorldState K) (sound : IsSoundWorld pseudokey_of old) (at : ℕ) (before left : WardState K) (found : slice_get old.wards at ≡ Some before) where

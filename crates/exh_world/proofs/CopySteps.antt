@@ -19,7 +19,7 @@ use Rattle.exh_world.specs.declared.outcome.Outcome.{Outcome}
 use Rattle.exh_world.specs.declared.step_fault.StepFault.{StepFault}
 use Rattle.exh_world.specs.declared.step_fault.StepFault.TheVariants.{Ward, NoNotice}
 use Rattle.exh_world.specs.declared.event.Event.TheVariants.{Deliver}
-use Rattle.exh_world.proofs.Lists.{set_same}
+use Rattle.exh_world.specs.ListLemmas.{set_same}
 use Rattle.exh_world.proofs.UncountedWards.{map_there}
 
 -- notices of a sound ward

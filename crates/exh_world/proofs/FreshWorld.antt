@@ -4,7 +4,7 @@ use Rattle.std.specs.FinMap as fin
 use Rattle.std.specs.List.{range_with_len}
 use Rattle.std.proofs.lemmas.List.{length-replicate, get_or-replicate}
 use Rattle.std.proofs.Math.Seq.{take-nil}
-use Rattle.std.proofs.lemmas.List.FromFn.{length-map-range_with_len, map-range_with_len_more, get_or-map-range_with_len}
+use Rattle.std.proofs.lemmas.List.FromFn.{length-map-range_with_len, map-range_with_len_more}
 use Rattle.std.proofs.lemmas.Option.{get_or_from_slice_get, slice_get_within, slice_get-get_or}
 use Rattle.exh_prefix.specs.Prefix.{prefix_cmp}
 use Rattle.exh_table.specs.Table.{TableMap}
@@ -18,7 +18,7 @@ use Rattle.exh_world.specs.Sound.{LeadsRight, LeadsRightIn, IsWardOf, IsSoundWor
 use Rattle.exh_world.specs.World.{WorldState, numbered}
 use Rattle.exh_world.specs.InFlight.{Requests}
 use Rattle.exh_world.specs.declared.config.Config.{Config}
-use Rattle.exh_world.proofs.Lists.{push_is}
+use Rattle.exh_world.specs.ListLemmas.{mapped_is, push_is}
 
 replicate_is : {A : Type 0} (n : ℕ) (x y : A) (at : ℕ) → slice_get (replicate n x) at ≡ Some y → y ≡ x
 replicate_is n x y at is =
@@ -36,11 +36,6 @@ numbered_none (suc number) y is = cc
 replicate_there : {A : Type 0} (n : ℕ) (x : A) (at : ℕ) → at < n → slice_get (replicate n x) at ≡ Some x
 replicate_there n x at within =
     slice_get-get_or (replicate n x) at x (subst (λ length. at < length) (sym (length-replicate n x)) within) ∙ ap Some (get_or-replicate n at x x within)
-
-pub mapped_is : {A : Type 0} (f : ℕ → A) (n at : ℕ) (y : A) → slice_get (map f (range_with_len 0 n)) at ≡ Some y → (at < n) × (y ≡ f at)
-mapped_is f n at y is =
-    let within = subst (λ length. at < length) (length-map-range_with_len f 0 n) (slice_get_within (map f (range_with_len 0 n)) at y is) in
-    (within, sym (get_or_from_slice_get (map f (range_with_len 0 n)) at y y is) ∙ get_or-map-range_with_len f 0 n at at y within (omega arith))
 
 no_splits : (ward : List Bool) (pages : List _) → LeadsRight ward pages fin.empty
 no_splits ward pages prefix right within split = let none : None ≡ Some right = sym (ap right_of (fin.get-empty prefix_cmp prefix)) ∙ split in cc

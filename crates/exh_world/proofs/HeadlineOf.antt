@@ -22,9 +22,9 @@ use Rattle.exh_world.specs.declared.outcome.Outcome.{Outcome}
 use Rattle.exh_world.specs.declared.outcome.Outcome.TheVariants.{Hopped}
 use Rattle.exh_world.specs.declared.step_fault.StepFault.{StepFault}
 use Rattle.exh_world.specs.declared.turn.Turn.{Turn}
-use Rattle.exh_world.proofs.Effects.{on_effect}
+use Rattle.exh_world.specs.EffectLemmas.{on_effect}
 use Rattle.exh_world.proofs.Known.{IsKnown, own_sets, set_of}
-use Rattle.exh_world.proofs.Lists.{numbered_here}
+use Rattle.exh_world.specs.ListLemmas.{numbered_here}
 use Rattle.exh_world.proofs.RunFacts.{AreSound, IsRunFrom, run_from}
 use Rattle.exh_world.proofs.StepSound.{does_not_stray}
 

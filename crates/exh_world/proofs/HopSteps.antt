@@ -27,7 +27,7 @@ use Rattle.exh_world.specs.declared.step_fault.StepFault.{StepFault}
 use Rattle.exh_world.specs.declared.step_fault.StepFault.TheVariants.{Ward as OfWard}
 use Rattle.exh_world.specs.declared.world.World.TheInside.{Inside}
 use Rattle.exh_world.proofs.InsideWorld.{world_of}
-use Rattle.exh_world.proofs.RequestsKept.{all_named}
+use Rattle.exh_world.specs.RequestLemmas.{all_named}
 use Rattle.exh_world.proofs.UncountedWards.{map_there, map_from, unchanged_shown, leaves_shown}
 use Rattle.exh_world.proofs.WardsLeft.{wards_left}
 

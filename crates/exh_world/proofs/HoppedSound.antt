@@ -22,8 +22,8 @@ use Rattle.exh_world.specs.InFlight.{Requests, request_named, requests_after}
 use Rattle.exh_world.specs.Sound.{IsBelow, IsWardOf, IsOnTheWay, IsSoundWorld}
 use Rattle.exh_world.specs.World.{WorldState}
 use Rattle.exh_world.specs.declared.request.Request.{Request}
-use Rattle.exh_world.proofs.Lists.{set_here, set_else, set_same, one_there}
-use Rattle.exh_world.proofs.RequestsKept.{AllRequests, all_weaker, all_without, all_moved}
+use Rattle.exh_world.specs.ListLemmas.{set_here, set_else, set_same, one_there}
+use Rattle.exh_world.specs.RequestLemmas.{AllRequests, all_weaker, all_without, all_moved}
 use Rattle.exh_world.proofs.SoundKept.{notice_kept, after, way_kept, sound_after}
 use Rattle.exh_world.proofs.BegunSound.{requests_sound}
 

@@ -1,5 +1,3 @@
-pub mod Lists
-pub mod RequestsKept
 pub mod TablesKept
 pub mod OneMap
 pub mod MapsOfWards
@@ -10,7 +8,6 @@ pub mod ToldSound
 pub mod BegunSound
 pub mod HoppedSound
 pub mod StepSound
-pub mod Effects
 pub mod Known
 pub mod WorldMaps
 pub mod Named

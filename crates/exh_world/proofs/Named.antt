@@ -12,7 +12,7 @@ use Rattle.exh_ward.specs.WardState.{WardState, own_prefix}
 use Rattle.exh_world.specs.Run.{prefix_of, prefix_at}
 use Rattle.exh_world.specs.Sound.{IsWardOf, IsSoundWorld}
 use Rattle.exh_world.specs.World.{WorldState, issued_in, changes_in}
-use Rattle.exh_world.proofs.Lists.{one_there}
+use Rattle.exh_world.specs.ListLemmas.{one_there}
 
 module _ {K : Type 0} (pseudokey_of : K → List ℕ → ℕ) (world : WorldState K) (sound : IsSoundWorld pseudokey_of world) (number : ℕ) (ward : WardState K) (found : slice_get world.wards number ≡ Some ward) where
   abbrev own : List Bool

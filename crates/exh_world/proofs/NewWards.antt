@@ -12,7 +12,8 @@ use Rattle.exh_ward.specs.WardState.{IsSoundWard}
 use Rattle.exh_ward.specs.declared.ward.TheConstants.{WARD_BITS_LIMIT}
 use Rattle.exh_world.specs.NewWorld.{new_ward, new_world}
 use Rattle.exh_world.specs.declared.config.Config.{Config}
-use Rattle.exh_world.proofs.FreshWorld.{AreSoundWards, mapped_is}
+use Rattle.exh_world.proofs.FreshWorld.{AreSoundWards}
+use Rattle.exh_world.specs.ListLemmas.{mapped_is}
 
 -- the table with no entry has no entries
 no_entries : fin.entries (let none : TableMap = fin.empty in none) ≡ []

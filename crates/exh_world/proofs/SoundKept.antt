@@ -17,8 +17,8 @@ use Rattle.exh_world.specs.InFlight.{Requests}
 use Rattle.exh_world.specs.Sound.{IsBelow, LeadsRight, IsTrueNotice, IsWardOf, LeadsRightIn, IsOnTheWay, IsSoundWorld}
 use Rattle.exh_world.specs.World.{WorldState}
 use Rattle.exh_world.specs.declared.request.Request.{Request}
-use Rattle.exh_world.proofs.Lists.{length_set, set_here, set_else, set_is, one_there}
-use Rattle.exh_world.proofs.RequestsKept.{AllRequests}
+use Rattle.exh_world.specs.ListLemmas.{length_set, set_here, set_else, set_is, one_there}
+use Rattle.exh_world.specs.RequestLemmas.{AllRequests}
 
 -- ---- pages that keep their places
 

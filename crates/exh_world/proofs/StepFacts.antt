@@ -28,11 +28,11 @@ use Rattle.exh_world.specs.declared.event.Event.{Event}
 use Rattle.exh_world.specs.declared.event.Event.TheVariants.{Begin, Hop as HopOn, Split, Merge, Deliver, Send, Combine, Restart}
 use Rattle.exh_world.specs.declared.outcome.Outcome.{Outcome}
 use Rattle.exh_world.specs.declared.outcome.Outcome.TheVariants.{Begun, Hopped, Changed, Taken, Sent, Joined, Restarted}
-use Rattle.exh_world.proofs.Effects.{on_effect}
+use Rattle.exh_world.specs.EffectLemmas.{on_effect}
 use Rattle.exh_world.proofs.Known.{IsKnown, taken_known, joined_known, sent_known, restarted_known}
-use Rattle.exh_world.proofs.Lists.{set_same}
+use Rattle.exh_world.specs.ListLemmas.{set_same}
 use Rattle.exh_world.proofs.Named.{named}
-use Rattle.exh_world.proofs.RequestsKept.{all_named}
+use Rattle.exh_world.specs.RequestLemmas.{all_named}
 use Rattle.exh_world.proofs.WorldMaps.{same_map, one_reply, map_answered}
 
 -- the settings of a world, which no step changes

@@ -32,7 +32,7 @@ use Rattle.exh_world.specs.declared.outcome.Outcome.TheVariants.{Begun, Hopped, 
 use Rattle.exh_world.specs.declared.request.Request.{Request}
 use Rattle.exh_world.specs.declared.step_fault.StepFault.{StepFault}
 use Rattle.exh_world.specs.declared.step_fault.StepFault.TheVariants.{NameTaken, NoCopy, NoRequest, NoWard, NoNotice, NoTable, Ward}
-use Rattle.exh_world.proofs.Effects.{on_effect}
+use Rattle.exh_world.specs.EffectLemmas.{on_effect}
 use Rattle.exh_world.proofs.HopSteps.{want_of}
 
 -- ---- what is found

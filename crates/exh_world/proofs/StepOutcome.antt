@@ -30,7 +30,7 @@ use Rattle.exh_world.specs.declared.event.Event.TheVariants.{Begin, Hop as HopOn
 use Rattle.exh_world.specs.declared.outcome.Outcome.TheVariants.{Taken, Sent, Joined, Restarted}
 use Rattle.exh_world.specs.declared.request.Request.{Request}
 use Rattle.exh_world.specs.declared.step_fault.StepFault.TheVariants.{NameTaken, NoCopy, NoRequest, NoWard, NoNotice, NoTable}
-use Rattle.exh_world.proofs.RequestsKept.{all_named}
+use Rattle.exh_world.specs.RequestLemmas.{all_named}
 use Rattle.exh_world.proofs.StepFunction.{place_of, split_computed, merge_computed}
 
 -- ---- what a search finds

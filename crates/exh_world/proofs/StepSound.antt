@@ -19,9 +19,9 @@ use Rattle.exh_world.specs.declared.event.Event.{Event}
 use Rattle.exh_world.specs.declared.outcome.Outcome.{Outcome}
 use Rattle.exh_world.specs.declared.request.Request.{Request}
 use Rattle.exh_world.specs.declared.step_fault.StepFault.{StepFault}
-use Rattle.exh_world.proofs.Effects.{on_effect}
-use Rattle.exh_world.proofs.Lists.{set_here}
-use Rattle.exh_world.proofs.RequestsKept.{all_named}
+use Rattle.exh_world.specs.EffectLemmas.{on_effect}
+use Rattle.exh_world.specs.ListLemmas.{set_here}
+use Rattle.exh_world.specs.RequestLemmas.{all_named}
 use Rattle.exh_world.proofs.BegunSound.{begun_sound}
 use Rattle.exh_world.proofs.HoppedSound.{same_sound, moved_sound, answered_sound, no_stray}
 use Rattle.exh_world.proofs.ChangedSound.{split_sound, merge_sound}

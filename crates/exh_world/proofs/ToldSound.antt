@@ -14,8 +14,8 @@ use Rattle.exh_ward.specs.WardState.{WardState}
 use Rattle.exh_world.specs.Sound.{IsTrueNotice, IsWardOf, LeadsRightIn, IsOnTheWay, IsSoundWorld}
 use Rattle.exh_world.specs.World.{WorldState, numbered, issued_in}
 use Rattle.exh_world.specs.declared.request.Request.{Request}
-use Rattle.exh_world.proofs.Lists.{numbered_push, numbered_set}
-use Rattle.exh_world.proofs.RequestsKept.{all_weaker}
+use Rattle.exh_world.specs.ListLemmas.{numbered_push, numbered_set}
+use Rattle.exh_world.specs.RequestLemmas.{all_weaker}
 use Rattle.exh_world.proofs.TablesKept.{leads_with, leads_joined}
 
 module _ {K : Type 0} (pseudokey_of : K → List ℕ → ℕ) (old : WorldState K) (sound : IsSoundWorld pseudokey_of old) where

@@ -10,7 +10,7 @@ use Rattle.exh_ward.specs.declared.hop.Hop.{Hop}
 use Rattle.exh_ward.specs.declared.hop.Hop.TheVariants.{Done, Moved, MustSplit, Stray}
 use Rattle.exh_ward.specs.declared.reply.Reply.{Reply}
 use Rattle.exh_world.specs.Kept.{uncounted}
-use Rattle.exh_world.proofs.Lists.{set_same}
+use Rattle.exh_world.specs.ListLemmas.{set_same}
 
 -- ---- lists
 

@@ -7,7 +7,7 @@ use Rattle.exh_world.specs.Kept.{uncounted}
 use Rattle.exh_world.specs.Laws.{AreWardsSound}
 use Rattle.exh_world.specs.Sound.{IsSoundWorld}
 use Rattle.exh_world.specs.World.{WorldState}
-use Rattle.exh_world.proofs.Lists.{set_is}
+use Rattle.exh_world.specs.ListLemmas.{set_is}
 use Rattle.exh_world.proofs.UncountedWards.{map_there, sound_shown}
 
 -- both worlds show their wards without the counts of failures

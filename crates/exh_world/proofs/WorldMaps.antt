@@ -22,7 +22,7 @@ use Rattle.exh_ward.specs.declared.call.Call.{Call}
 use Rattle.exh_world.specs.Sound.{IsSoundWorld}
 use Rattle.exh_world.specs.World.{WorldState, ward_of, map_in}
 use Rattle.exh_world.proofs.BegunSound.{ward_begins, ward_there}
-use Rattle.exh_world.proofs.Lists.{set_here, set_else}
+use Rattle.exh_world.specs.ListLemmas.{set_here, set_else}
 use Rattle.exh_world.proofs.MapsOfWards.{all_pages_of, AreLegalFrom, get_in_ward}
 use Rattle.exh_world.proofs.OneMap.{AreAlike, same_reply, left_by_call}
 

@@ -28,7 +28,7 @@ use Rattle.exh_world.specs.Kept.{IsKept, uncounted}
 use Rattle.exh_world.specs.NewWorld.{IsWardFor, AreWardsFor, tables_joined, world_of_wards}
 use Rattle.exh_world.specs.Sound.{LeadsRight, LeadsRightIn, IsWardOf}
 use Rattle.exh_world.proofs.FreshWorld.{AreSoundWards, made_of, numbered_is, numbered_none}
-use Rattle.exh_world.proofs.Lists.{push_is}
+use Rattle.exh_world.specs.ListLemmas.{push_is}
 use Rattle.exh_world.proofs.MapsOfWards.{one_front}
 use Rattle.exh_world.proofs.UncountedWards.{map_there, map_from, sound_shown}
 

@@ -9,3 +9,6 @@ pub mod Laws
 pub mod StepFault
 pub mod Kept
 pub mod NewWorld
+pub mod ListLemmas
+pub mod EffectLemmas
+pub mod RequestLemmas

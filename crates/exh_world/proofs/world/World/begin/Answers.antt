@@ -4,7 +4,7 @@ use Rattle.exh_world.specs.Step.{HasBegun}
 use Rattle.exh_world.specs.World.{WorldState}
 use Rattle.exh_world.proofs.BeginSteps.{none_there, with_requests, begun, begun_kept}
 use Rattle.exh_world.proofs.InsideWorld.{world_of}
-use Rattle.exh_world.proofs.Lists.{numbered_read}
+use Rattle.exh_world.specs.ListLemmas.{numbered_read}
 use Rattle.exh_world.proofs.world.World.begin.Given.{Over}
 use Rattle.exh_world.proofs.world.World.begin.Goals.{In_ok-begin}
 use Rattle.exh_world.proofs.world.World.begin.Goals as goal

@@ -7,7 +7,7 @@ use Rattle.exh_world.specs.Kept.{IsPlaceOf, HaveIndexesInTurn}
 use Rattle.exh_world.specs.declared.event.Event.TheVariants.{Deliver}
 use Rattle.exh_world.specs.declared.outcome.Outcome.TheVariants.{Taken}
 use Rattle.exh_world.proofs.CopySteps.{kept_after, has_taken, refused_same, same_copy, lent_there, indexes_in_turn, no_notice}
-use Rattle.exh_world.proofs.Lists.{within_there}
+use Rattle.exh_world.specs.ListLemmas.{within_there}
 use Rattle.exh_world.proofs.world.World.deliver.Goals as goal
 
 pub notice_of-requires : goal.notice_of-requires

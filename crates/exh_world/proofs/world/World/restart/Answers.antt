@@ -5,7 +5,7 @@ use Rattle.exh_world.specs.Step.{HasRestarted}
 use Rattle.exh_world.specs.declared.event.Event.TheVariants.{Restart}
 use Rattle.exh_world.specs.declared.outcome.Outcome.TheVariants.{Restarted}
 use Rattle.exh_world.proofs.CopySteps.{kept_after, has_restarted, with_copy}
-use Rattle.exh_world.proofs.Lists.{within_there}
+use Rattle.exh_world.specs.ListLemmas.{within_there}
 use Rattle.exh_world.proofs.world.World.restart.Goals as goal
 
 pub returns-clause-step : goal.returns-clause-step

@@ -1,8 +1,10 @@
 -- Lists after one place is written, and things numbered from 1 on.
-use Rattle.std.proofs.Common.{◌≡◌, ℕ, zero, suc, ◌-◌, ◌<◌, ◌≤◌, List, [], ◌∷◌, ◌++◌, length, get_or, drop, slice_get, Some, ◌⊎◌, inl, inr, refl, sym, ap, ◌∙◌, subst, arith}
+use Rattle.std.proofs.Common.{◌≡◌, ℕ, zero, suc, ◌-◌, ◌<◌, ◌≤◌, List, [], ◌∷◌, ◌++◌, length, map, get_or, drop, slice_get, Some, ◌⊎◌, inl, inr, refl, sym, ap, ◌∙◌, subst, arith}
 use Rattle.std.specs.Prelude.{slice_set}
+use Rattle.std.specs.List.{range_with_len}
+use Rattle.std.proofs.lemmas.List.FromFn.{length-map-range_with_len, get_or-map-range_with_len}
 use Rattle.std.proofs.lemmas.Bool.{cases_eq}
-use Rattle.std.proofs.lemmas.Option.{slice_get_read}
+use Rattle.std.proofs.lemmas.Option.{get_or_from_slice_get, slice_get_read, slice_get_within}
 use Rattle.exh_world.specs.World.{numbered}
 
 module _ {A : Type 0} where
@@ -83,3 +85,10 @@ module _ {A : Type 0} where
   numbered_read xs seen at place x same is read =
       subst (λ items. numbered items at ≡ slice_get items place) same is.2
       ∙ slice_get_read xs (length xs) place x refl (subst (λ items. place < length items) same is.1) read
+
+-- ---- the list of the values of a function
+
+pub mapped_is : {A : Type 0} (f : ℕ → A) (n at : ℕ) (y : A) → slice_get (map f (range_with_len 0 n)) at ≡ Some y → (at < n) × (y ≡ f at)
+mapped_is f n at y is =
+    let within = subst (λ length. at < length) (length-map-range_with_len f 0 n) (slice_get_within (map f (range_with_len 0 n)) at y is) in
+    (within, sym (get_or_from_slice_get (map f (range_with_len 0 n)) at y y is) ∙ get_or-map-range_with_len f 0 n at at y within (omega arith))
