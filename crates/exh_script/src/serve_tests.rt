@@ -4,6 +4,7 @@ mod cases;
 
 use crate::{Ended, ServeFault, serve};
 use cases::copies::COPIES;
+use cases::examples::EXAMPLES;
 use cases::first_lines::FIRST_LINES;
 use cases::merges::MERGES;
 use cases::moves::MOVES;
@@ -90,6 +91,11 @@ fn answers_views(rt: HostRuntime) -> Result<(), Fail> {
 #[test]
 fn answers_several_wards(rt: HostRuntime) -> Result<(), Fail> {
     assert_lines_answered(&rt, &WARDS)
+}
+
+#[test]
+fn answers_examples(rt: HostRuntime) -> Result<(), Fail> {
+    assert_lines_answered(&rt, &EXAMPLES)
 }
 
 fn assert_lines_answered(rt: &(impl Abort + AllocGlobal), cases: &[LineCase]) -> Result<(), Fail> {
@@ -218,7 +224,7 @@ fn writes_by_single_bytes(rt: HostRuntime) -> Result<(), Fail> {
     Ok(())
 }
 
-// Five requests in flight at once, and a long value.
+// Five requests in flight at once, and a long value; then each other kind of line.
 const LATER_LINES: &[u8] = b"begin r1 c1 1 put k 0123456789abcdef0123456789abcdef\n\
                              begin r2 c2 2 get k\n\
                              begin r3 c1 1 put l w\n\
@@ -228,7 +234,18 @@ const LATER_LINES: &[u8] = b"begin r1 c1 1 put k 0123456789abcdef0123456789abcde
                              hop r2\n\
                              hop r3\n\
                              hop r4\n\
-                             hop r5\n";
+                             hop r5\n\
+                             begin r6 c1 1 put #80 b\n\
+                             hop r6\n\
+                             split 0 0\n\
+                             deliver 1 0 1\n\
+                             send 1\n\
+                             combine 2 1\n\
+                             restart 1\n\
+                             show 2\n\
+                             merge 0 0\n\
+                             page 0 1\n\
+                             inflight\n";
 
 const LATER_TEXT: &[u8] = b"r1 at 0/0\n\
                             r2 at 0/0\n\
@@ -239,7 +256,21 @@ const LATER_TEXT: &[u8] = b"r1 at 0/0\n\
                             r2 is 0123456789abcdef0123456789abcdef\n\
                             r3 new\n\
                             r4 was 0123456789abcdef0123456789abcdef\n\
-                            r5 is w\n";
+                            r5 is w\n\
+                            r6 at 0/0\n\
+                            r6 new\n\
+                            notice 0/1 prefix - number 1 split right 1\n\
+                            copy 1 took 0/1\n\
+                            table 1\n\
+                            copy 2 joined 1\n\
+                            copy 1 restarted\n\
+                            copy 2 depth 1\n\
+                            entry - number 1 split right 1\n\
+                            leaf 0 0/0\n\
+                            leaf 1 0/1\n\
+                            notice 0/2 prefix - number 2 merge\n\
+                            page 0/1 forward 0/0\n\
+                            inflight 0\n";
 
 // Under `rt try --test --fail-alloc N -- refused_growth` the Nth growth is refused: this test makes none of its own.
 // The wrong lines fill a block, whose end is amid a line, so that some growths come after a part of a line went out.

@@ -1,6 +1,7 @@
 //! Scripts with the texts that they print, by the rules of docs/FORMATS.md.
 
 pub(super) mod copies;
+pub(super) mod examples;
 pub(super) mod first_lines;
 pub(super) mod merges;
 pub(super) mod moves;
