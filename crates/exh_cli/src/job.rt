@@ -45,6 +45,41 @@ mod tests {
         Ok(())
     }
 
+    // The first column of 'Lines' in docs/FORMATS.md.
+    const LINES: [&str; 12] = [
+        "file cap=N wards=N copies=N keyer=K",
+        "begin rN cN COPY CALL",
+        "hop rN",
+        "split WARD PAGE",
+        "merge WARD PAGE",
+        "deliver COPY WARD INDEX",
+        "send COPY",
+        "combine COPY TABLE",
+        "restart COPY",
+        "show COPY",
+        "page WARD PAGE",
+        "inflight",
+    ];
+
+    #[test]
+    fn names_each_line_of_a_script(rt: HostRuntime) -> Result<(), Fail> {
+        let Err(CliFault::Wrong(error)) = job_of(rt.alloc(), &["exhash", "serve", "--help"]) else {
+            assert!(rt; false, "help is a job");
+            return Ok(());
+        };
+        let text = format!(in rt.alloc(); "{error}")?;
+        for line in LINES {
+            assert!(rt;
+                text.contains(format!(in rt.alloc(); "\n  {line}  ")?.as_str()),
+                "{line}"
+            );
+        }
+        for line in text.lines() {
+            assert!(rt; line.len() <= 80, "{line}");
+        }
+        Ok(())
+    }
+
     #[test]
     fn explains_other_words(rt: HostRuntime) -> Result<(), Fail> {
         let lines: [&[&str]; 10] = [

@@ -15,12 +15,50 @@ const USAGE: &str = "exhash serve < SCRIPT
 Example:
   ./exhash serve < examples/one-key.script";
 
+// What a stranger writes a script from. Each line of it has at most 80 columns.
+const LINES: &str = "\
+Lines of a script, of which `file` is the first:
+  file cap=N wards=N copies=N keyer=K  an empty file, with 2^wards wards
+  begin rN cN COPY CALL    request N, of client N, at the page that a copy names
+  hop rN                   the request is answered, moves, or wants a split
+  split WARD PAGE          a full page shares its records with a new page
+  merge WARD PAGE          a page takes in its right buddy
+  deliver COPY WARD INDEX  a copy takes the notice of a split or merge
+  send COPY                a copy's table is kept, as table 1, 2, ..
+  combine COPY TABLE       a copy takes in a table that was sent
+  restart COPY             a copy forgets what it took
+  show COPY                prints what a copy knows: depth, entries, leaves
+  page WARD PAGE           prints a page: live or forwarding, prefix, records
+  inflight                 prints the requests that aren't answered yet
+
+A script has at most 1048576 bytes. Words have one space between them, and no
+line begins or ends with one.
+  file        cap, the records of a page, 1 to 16; wards 0 to 4; copies 1 to 8;
+              K is sha or plain: how a key's bytes lead to its page
+  rN, cN      r or c and a number from 1 to 4294967295
+  COPY, TABLE and a ward's INDEX begin at 1, WARD and PAGE at 0.
+  CALL        get KEY, put KEY VALUE, or del KEY
+  KEY, VALUE  1 to 64 and 0 to 128 bytes: characters ! to ~, the first not #; or
+              # and for each byte two digits of 0 to 9 and a to f
+
+A line that can't be done prints `refused` and a number, and changes nothing.
+
+Example, with what its lines print:
+  file cap=1 wards=0 copies=1 keyer=plain
+  begin r1 c1 1 put #80 x    r1 at 0/0
+  hop r1                     r1 new
+  split 0 0                  notice 0/1 prefix - number 1 split right 1
+  deliver 1 0 1              copy 1 took 0/1
+  begin r2 c1 1 get #80      r2 at 0/1
+  hop r2                     r2 is x";
+
 /// The parser of the program's command line.
 pub fn parser<'a>(alloc: Global) -> Result<Command<'a>, AllocError>
     ensures { IfOk result (λ parser. ReadsJobs (app_of parser)) }
 {
     let serve = Command::new(alloc, SERVE)
         .about("Answers the script on standard input, line by line, on standard output")
+        .after_help(LINES)
         .override_usage(USAGE);
     let exhash = Command::new(alloc, "exhash")
         .about("An extendible hash file whose directory is copied to several nodes")
