@@ -104,7 +104,7 @@ mod tests {
             };
             assert!(rt; text.contains("exhash serve < SCRIPT"), "{text}");
             assert!(rt;
-                text.contains("./exhash serve < examples/one-key.script"),
+                text.contains("./exhash serve < examples/untold-copy.script"),
                 "{text}"
             );
         }

@@ -13,7 +13,7 @@ pub const SERVE: &str = "serve";
 const USAGE: &str = "exhash serve < SCRIPT
 
 Example:
-  ./exhash serve < examples/one-key.script";
+  ./exhash serve < examples/untold-copy.script";
 
 // What a stranger writes a script from. Each line of it has at most 80 columns.
 const LINES: &str = "\
