@@ -1,17 +1,14 @@
 //! Worked examples, as events with what each comes to.
 
-use crate::{Config, Event, Outcome, StepFault, World};
+use crate::{Config, Event, StepFault, World};
 use exh_frames::PlainPages;
 use exh_keyer::PlainKeyer;
-use exh_notice::{Kind, Notice};
-use exh_page::{Key, PageNo, SizeFault, Value};
-use exh_prefix::Prefix;
-use exh_ward::{Call, Hop, Reply, WardFault};
+use exh_ward::{Hop, Reply, WardFault};
 use line::{Asked, Line, assert_lines};
 use std::alloc::{AllocError, Global};
 use std::process::Abort;
 use std::test::Fail;
-use told_copies::SPLIT;
+use told_copies::{BUDDY_SPLIT, MERGED, REVIVED, SPLIT};
 
 mod four_wards;
 mod hashed_keys;
@@ -33,63 +30,6 @@ fn new_world(alloc: Global) -> Result<PlainWorld, AllocError> {
     World::new(alloc, &config)
 }
 
-fn step(world: &mut PlainWorld, event: &Event) -> Result<Outcome, StepFault> {
-    world.step(event)
-}
-
-fn put(key: &[u8], value: &[u8]) -> Result<Call, SizeFault> {
-    Ok(Call::Put {
-        key: Key::from_bytes(key)?,
-        value: Value::from_bytes(value)?,
-    })
-}
-
-fn get(key: &[u8]) -> Result<Call, SizeFault> {
-    Ok(Call::Get {
-        key: Key::from_bytes(key)?,
-    })
-}
-
-// A request of client 1 begins at a copy, and stands at this page.
-fn assert_begins(
-    rt: &impl Abort,
-    world: &mut PlainWorld,
-    name: u32,
-    copy: u32,
-    call: &Call,
-    page: PageNo,
-) {
-    let event = Event::Begin {
-        name,
-        client: 1,
-        copy,
-        call: *call,
-    };
-    assert_eq!(rt; step(world, &event), Ok(Outcome::Begun { ward: 0, page }));
-}
-
-fn assert_hops(rt: &impl Abort, world: &mut PlainWorld, name: u32, hop: Hop) {
-    assert_eq!(rt;
-        step(world, &Event::Hop { name }),
-        Ok(Outcome::Hopped { ward: 0, hop })
-    );
-}
-
-fn assert_refused(rt: &impl Abort, world: &mut PlainWorld, event: &Event, fault: StepFault) {
-    assert_eq!(rt; step(world, event), Err(fault));
-}
-
-// The notice of the change of that index and number at the root.
-fn root_notice(index: u64, number: u32, kind: Kind) -> Result<Notice, Fail> {
-    Ok(Notice {
-        ward: 0,
-        index,
-        prefix: Prefix::new(0, 0).ok_or("a prefix")?,
-        number,
-        kind,
-    })
-}
-
 // Two keys fill page 0, and the third splits it.
 const THREE_KEYS: [Line; 8] = [
     Line::Begin(1, 1, Asked::Put(b"\0", b"a"), 0, 0),
@@ -107,211 +47,165 @@ fn three_keys(rt: &impl Abort, world: &mut PlainWorld) -> Result<(), Fail> {
 }
 
 // A copy that was told of nothing leads to the key by one move, a told one at once.
-fn told_and_untold(rt: &impl Abort, world: &mut PlainWorld) -> Result<(), Fail> {
-    let found = Hop::Done(Reply::Is(Value::from_bytes(b"b")?));
-    assert_begins(rt, world, 4, 2, &get(b"\x80")?, 0);
-    assert_hops(rt, world, 4, Hop::Moved(1));
-    assert_hops(rt, world, 4, found);
-    let notice = root_notice(1, 1, Kind::Split { right: 1 })?;
-    let told = Event::Deliver {
-        copy: 1,
-        ward: 0,
-        index: 1,
-    };
-    assert_eq!(rt; step(world, &told), Ok(Outcome::Taken(notice)));
-    assert_begins(rt, world, 5, 1, &get(b"\x80")?, 1);
-    assert_hops(rt, world, 5, found);
-    Ok(())
-}
+const TOLD_AND_UNTOLD: [Line; 6] = [
+    Line::Begin(4, 2, Asked::Get(b"\x80"), 0, 0),
+    Line::Hop(4, 0, Hop::Moved(1)),
+    Line::Is(4, 0, b"b"),
+    Line::Deliver(1, SPLIT),
+    Line::Begin(5, 1, Asked::Get(b"\x80"), 0, 1),
+    Line::Is(5, 0, b"b"),
+];
 
 #[test]
 fn the_three_keys(rt: HostRuntime) -> Result<(), Fail> {
     let mut world = new_world(rt.alloc())?;
     three_keys(&rt, &mut world)?;
-    told_and_untold(&rt, &mut world)
+    assert_lines(&rt, &mut world, &TOLD_AND_UNTOLD)
 }
 
 // A table that was sent reaches the other copy, which then restarts.
-fn sent_and_lost(rt: &impl Abort, world: &mut PlainWorld) -> Result<(), Fail> {
-    let there = get(b"\x80")?;
-    let sent = Event::Combine { copy: 2, table: 1 };
-    assert_eq!(rt; step(world, &Event::Send { copy: 1 }), Ok(Outcome::Sent(1)));
-    assert_eq!(rt; step(world, &sent), Ok(Outcome::Joined));
-    assert_begins(rt, world, 6, 2, &there, 1);
-    assert_eq!(rt;
-        step(world, &Event::Restart { copy: 2 }),
-        Ok(Outcome::Restarted)
-    );
-    assert_begins(rt, world, 7, 2, &there, 0);
-    Ok(())
-}
+const SENT_AND_LOST: [Line; 5] = [
+    Line::Send(1, 1),
+    Line::Combine(2, 1),
+    Line::Begin(6, 2, Asked::Get(b"\x80"), 0, 1),
+    Line::Restart(2),
+    Line::Begin(7, 2, Asked::Get(b"\x80"), 0, 0),
+];
 
 #[test]
 fn a_sent_table_is_joined_and_lost(rt: HostRuntime) -> Result<(), Fail> {
     let mut world = new_world(rt.alloc())?;
     three_keys(&rt, &mut world)?;
-    told_and_untold(&rt, &mut world)?;
-    sent_and_lost(&rt, &mut world)
+    assert_lines(&rt, &mut world, &TOLD_AND_UNTOLD)?;
+    assert_lines(&rt, &mut world, &SENT_AND_LOST)
 }
 
 // Where two refusals fit, the first of the event's list is answered.
+const REFUSALS: [Line; 7] = [
+    Line::Begin(1, 1, Asked::Get(b"\0"), 0, 0),
+    Line::NotBegun(1, 3, Asked::Get(b"\0"), StepFault::NameTaken),
+    Line::Refused(Event::Hop { name: 2 }, StepFault::NoRequest),
+    Line::Refused(Event::Split { ward: 1, page: 9 }, StepFault::NoWard),
+    Line::Refused(
+        Event::Split { ward: 0, page: 0 },
+        StepFault::Ward(WardFault::NotFull),
+    ),
+    Line::Refused(Event::Combine { copy: 0, table: 1 }, StepFault::NoCopy),
+    Line::Refused(Event::Combine { copy: 1, table: 1 }, StepFault::NoTable),
+];
+
 #[test]
 fn orders_of_refusals(rt: HostRuntime) -> Result<(), Fail> {
     let mut world = new_world(rt.alloc())?;
-    let world = &mut world;
-    let call = get(b"\x00")?;
-    assert_begins(&rt, world, 1, 1, &call, 0);
-    let taken = Event::Begin {
-        name: 1,
-        client: 1,
-        copy: 3,
-        call,
-    };
-    assert_refused(&rt, world, &taken, StepFault::NameTaken);
-    assert_refused(&rt, world, &Event::Hop { name: 2 }, StepFault::NoRequest);
-    let full = StepFault::Ward(WardFault::NotFull);
-    assert_refused(
-        &rt,
-        world,
-        &Event::Split { ward: 1, page: 9 },
-        StepFault::NoWard,
-    );
-    assert_refused(&rt, world, &Event::Split { ward: 0, page: 0 }, full);
-    assert_refused(
-        &rt,
-        world,
-        &Event::Combine { copy: 0, table: 1 },
-        StepFault::NoCopy,
-    );
-    assert_refused(
-        &rt,
-        world,
-        &Event::Combine { copy: 1, table: 1 },
-        StepFault::NoTable,
-    );
-    Ok(())
+    assert_lines(&rt, &mut world, &REFUSALS)
 }
+
+const REFUSED_DELIVERIES: [Line; 5] = [
+    Line::Refused(
+        Event::Deliver {
+            copy: 3,
+            ward: 1,
+            index: 1,
+        },
+        StepFault::NoCopy,
+    ),
+    Line::Refused(
+        Event::Deliver {
+            copy: 1,
+            ward: 1,
+            index: 1,
+        },
+        StepFault::NoWard,
+    ),
+    Line::Refused(
+        Event::Deliver {
+            copy: 1,
+            ward: 0,
+            index: 1,
+        },
+        StepFault::NoNotice,
+    ),
+    Line::Refused(Event::Send { copy: 3 }, StepFault::NoCopy),
+    Line::Refused(Event::Restart { copy: 0 }, StepFault::NoCopy),
+];
 
 #[test]
 fn orders_of_refused_deliveries(rt: HostRuntime) -> Result<(), Fail> {
     let mut world = new_world(rt.alloc())?;
-    let world = &mut world;
-    let deliver = |copy, ward| Event::Deliver {
-        copy,
-        ward,
-        index: 1,
-    };
-    assert_refused(&rt, world, &deliver(3, 1), StepFault::NoCopy);
-    assert_refused(&rt, world, &deliver(1, 1), StepFault::NoWard);
-    assert_refused(&rt, world, &deliver(1, 0), StepFault::NoNotice);
-    assert_refused(&rt, world, &Event::Send { copy: 3 }, StepFault::NoCopy);
-    assert_refused(&rt, world, &Event::Restart { copy: 0 }, StepFault::NoCopy);
-    Ok(())
-}
-
-fn assert_changes(rt: &impl Abort, world: &mut PlainWorld, event: &Event, notice: Notice) {
-    assert_eq!(rt; step(world, event), Ok(Outcome::Changed(notice)));
-}
-
-fn del(key: &[u8]) -> Result<Call, SizeFault> {
-    Ok(Call::Del {
-        key: Key::from_bytes(key)?,
-    })
-}
-
-// Copy 1 takes the notice of the first split.
-fn tell_copy_1(rt: &impl Abort, world: &mut PlainWorld) -> Result<(), Fail> {
-    let told = Event::Deliver {
-        copy: 1,
-        ward: 0,
-        index: 1,
-    };
-    let notice = root_notice(1, 1, Kind::Split { right: 1 })?;
-    assert_eq!(rt; step(world, &told), Ok(Outcome::Taken(notice)));
-    Ok(())
+    assert_lines(&rt, &mut world, &REFUSED_DELIVERIES)
 }
 
 // After a merge a request that begins at the page merged away is led on from there.
-fn old_hint(rt: &impl Abort, world: &mut PlainWorld) -> Result<(), Fail> {
-    let x = Value::from_bytes(b"x")?;
-    let b = Value::from_bytes(b"b")?;
-    assert_begins(rt, world, 5, 1, &del(b"\x40")?, 0);
-    assert_hops(rt, world, 5, Hop::Done(Reply::Was(x)));
-    assert_begins(rt, world, 6, 1, &del(b"\x80")?, 1);
-    assert_hops(rt, world, 6, Hop::Done(Reply::Was(b)));
-    let notice = root_notice(2, 2, Kind::Merge)?;
-    assert_changes(rt, world, &Event::Merge { ward: 0, page: 0 }, notice);
-    assert_begins(rt, world, 7, 1, &get(b"\x80")?, 1);
-    assert_hops(rt, world, 7, Hop::Moved(0));
-    assert_hops(rt, world, 7, Hop::Done(Reply::None));
-    let not_live = StepFault::Ward(WardFault::NotLive);
-    assert_refused(rt, world, &Event::Split { ward: 0, page: 1 }, not_live);
-    Ok(())
-}
+const OLD_HINT: [Line; 10] = [
+    Line::Deliver(1, SPLIT),
+    Line::Begin(5, 1, Asked::Del(b"\x40"), 0, 0),
+    Line::Was(5, 0, b"x"),
+    Line::Begin(6, 1, Asked::Del(b"\x80"), 0, 1),
+    Line::Was(6, 0, b"b"),
+    Line::Merge(0, MERGED),
+    Line::Begin(7, 1, Asked::Get(b"\x80"), 0, 1),
+    Line::Hop(7, 0, Hop::Moved(0)),
+    Line::Hop(7, 0, Hop::Done(Reply::None)),
+    Line::Refused(
+        Event::Split { ward: 0, page: 1 },
+        StepFault::Ward(WardFault::NotLive),
+    ),
+];
 
 #[test]
 fn the_old_hint(rt: HostRuntime) -> Result<(), Fail> {
     let mut world = new_world(rt.alloc())?;
     three_keys(&rt, &mut world)?;
-    tell_copy_1(&rt, &mut world)?;
-    old_hint(&rt, &mut world)
+    assert_lines(&rt, &mut world, &OLD_HINT)
 }
 
 // A split after a merge makes the page merged away live again, where a request stands.
-fn revived_page(rt: &impl Abort, world: &mut PlainWorld) -> Result<(), Fail> {
-    assert_begins(rt, world, 5, 1, &get(b"\x80")?, 1);
-    assert_begins(rt, world, 6, 1, &del(b"\x40")?, 0);
-    let x = Value::from_bytes(b"x")?;
-    assert_hops(rt, world, 6, Hop::Done(Reply::Was(x)));
-    let merged = root_notice(2, 2, Kind::Merge)?;
-    assert_changes(rt, world, &Event::Merge { ward: 0, page: 0 }, merged);
-    let split = root_notice(3, 3, Kind::Split { right: 1 })?;
-    assert_changes(rt, world, &Event::Split { ward: 0, page: 0 }, split);
-    let b = Value::from_bytes(b"b")?;
-    assert_hops(rt, world, 5, Hop::Done(Reply::Is(b)));
-    Ok(())
-}
+const REVIVED_PAGE: [Line; 7] = [
+    Line::Deliver(1, SPLIT),
+    Line::Begin(5, 1, Asked::Get(b"\x80"), 0, 1),
+    Line::Begin(6, 1, Asked::Del(b"\x40"), 0, 0),
+    Line::Was(6, 0, b"x"),
+    Line::Merge(0, MERGED),
+    Line::Split(0, REVIVED),
+    Line::Is(5, 0, b"b"),
+];
 
 #[test]
 fn the_revived_page(rt: HostRuntime) -> Result<(), Fail> {
     let mut world = new_world(rt.alloc())?;
     three_keys(&rt, &mut world)?;
-    tell_copy_1(&rt, &mut world)?;
-    revived_page(&rt, &mut world)
+    assert_lines(&rt, &mut world, &REVIVED_PAGE)
 }
 
+const EMPTY_MERGE: Line = Line::Refused(
+    Event::Merge { ward: 0, page: 0 },
+    StepFault::Ward(WardFault::NoBuddy),
+);
+
 // Merges that are refused: for the sum, for the right half, and for a buddy that was split.
-fn refused_changes(rt: &impl Abort, world: &mut PlainWorld) -> Result<(), Fail> {
-    let merge = Event::Merge { ward: 0, page: 0 };
-    let too_many = StepFault::Ward(WardFault::TooMany(3));
-    assert_refused(rt, world, &merge, too_many);
-    let no_buddy = StepFault::Ward(WardFault::NoBuddy);
-    assert_refused(rt, world, &Event::Merge { ward: 0, page: 1 }, no_buddy);
-    assert_begins(rt, world, 4, 1, &put(b"\xc0", b"y")?, 0);
-    assert_hops(rt, world, 4, Hop::Moved(1));
-    assert_hops(rt, world, 4, Hop::Done(Reply::New));
-    let notice = Notice {
-        ward: 0,
-        index: 2,
-        prefix: Prefix::new(1, 1 << 63).ok_or("a prefix")?,
-        number: 1,
-        kind: Kind::Split { right: 2 },
-    };
-    assert_changes(rt, world, &Event::Split { ward: 0, page: 1 }, notice);
-    assert_refused(rt, world, &merge, StepFault::Ward(WardFault::BuddySplit));
-    Ok(())
-}
+const REFUSED_CHANGES: [Line; 7] = [
+    Line::Refused(
+        Event::Merge { ward: 0, page: 0 },
+        StepFault::Ward(WardFault::TooMany(3)),
+    ),
+    Line::Refused(
+        Event::Merge { ward: 0, page: 1 },
+        StepFault::Ward(WardFault::NoBuddy),
+    ),
+    Line::Begin(4, 1, Asked::Put(b"\xc0", b"y"), 0, 0),
+    Line::Hop(4, 0, Hop::Moved(1)),
+    Line::Hop(4, 0, Hop::Done(Reply::New)),
+    Line::Split(1, BUDDY_SPLIT),
+    Line::Refused(
+        Event::Merge { ward: 0, page: 0 },
+        StepFault::Ward(WardFault::BuddySplit),
+    ),
+];
 
 #[test]
 fn the_refused_changes(rt: HostRuntime) -> Result<(), Fail> {
     let mut world = new_world(rt.alloc())?;
-    let no_buddy = StepFault::Ward(WardFault::NoBuddy);
-    assert_refused(
-        &rt,
-        &mut world,
-        &Event::Merge { ward: 0, page: 0 },
-        no_buddy,
-    );
+    assert_lines(&rt, &mut world, &[EMPTY_MERGE])?;
     three_keys(&rt, &mut world)?;
-    refused_changes(&rt, &mut world)
+    assert_lines(&rt, &mut world, &REFUSED_CHANGES)
 }

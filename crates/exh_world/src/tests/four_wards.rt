@@ -7,8 +7,8 @@ use exh_ward::{Hop, Reply, WardFault};
 use std::alloc::Global;
 use std::test::Fail;
 
-// A key of the last ward, whose first page is split and isn't merged.
-const LINES: [Line; 7] = [
+/// A key of the last ward, whose first page is split and isn't merged.
+pub(super) const FOUR_WARDS: [Line; 7] = [
     Line::Begin(1, 1, Asked::Put(b"\xff", b"z"), 3, 0),
     Line::Hop(1, 3, Hop::Done(Reply::New)),
     Line::Refused(
@@ -45,5 +45,5 @@ fn four_wards(alloc: Global) -> Result<World<PlainPages, PlainKeyer>, Fail> {
 #[test]
 fn the_four_wards(rt: HostRuntime) -> Result<(), Fail> {
     let mut world = four_wards(rt.alloc())?;
-    assert_lines(&rt, &mut world, &LINES)
+    assert_lines(&rt, &mut world, &FOUR_WARDS)
 }

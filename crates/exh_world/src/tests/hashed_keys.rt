@@ -12,8 +12,8 @@ use std::test::Fail;
 
 type HashedWorld = World<PlainPages, ShaKeyer>;
 
-// The first bits of the keys' hashes are 1, 1, 0, 0.
-const LINES: [Line; 10] = [
+/// The first bits of the keys' hashes are 1, 1, 0, 0.
+pub(super) const HASHED_KEYS: [Line; 10] = [
     Line::Begin(1, 1, Asked::Put(b"abc", b"1"), 0, 0),
     Line::Hop(1, 0, Hop::Done(Reply::New)),
     Line::Begin(2, 1, Asked::Put(b"a", b"2"), 0, 0),
@@ -83,7 +83,7 @@ fn keys(first: &[u8], second: &[u8]) -> Result<[Key; 2], SizeFault> {
 #[test]
 fn the_hashed_keys(rt: HostRuntime) -> Result<(), Fail> {
     let mut world = hashed_world(rt.alloc())?;
-    assert_lines(&rt, &mut world, &LINES)?;
+    assert_lines(&rt, &mut world, &HASHED_KEYS)?;
     let left = page(&mut world, 0)?;
     assert_page(&rt, &left, 0, Some(1), &keys(b"c", b"b")?)?;
     let right = page(&mut world, 1)?;

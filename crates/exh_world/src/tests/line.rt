@@ -42,6 +42,8 @@ pub(super) enum Line {
     Was(u32, u8, &'static [u8]),
     /// A page is split, and this is told of it.
     Split(PageNo, Told),
+    /// Page 0 is split under so many zeros. The changes before, as many, were such splits too.
+    Narrow(u8),
     /// A page is merged, and this is told of it.
     Merge(PageNo, Told),
     /// A copy takes a notice.
@@ -51,6 +53,8 @@ pub(super) enum Line {
     /// A copy joins a sent table.
     Combine(u32, u32),
     Restart(u32),
+    /// A request of this name doesn't begin at a copy.
+    NotBegun(u32, u32, Asked, StepFault),
     Refused(Event, StepFault),
 }
 
@@ -79,14 +83,26 @@ fn notice_of(told: &Told) -> Result<Notice, Fail> {
     })
 }
 
+fn narrowed(zeros: u8) -> Result<Notice, Fail> {
+    let right = u32::from(zeros) + 1;
+    Ok(Notice {
+        ward: 0,
+        index: u64::from(right),
+        prefix: Prefix::new(zeros, 0).ok_or("a prefix")?,
+        number: 1,
+        kind: Kind::Split { right },
+    })
+}
+
 fn event_of(line: &Line) -> Result<Event, SizeFault> {
     Ok(match line {
-        Line::Begin(name, copy, asked, _, _) => Event::Begin {
-            name: *name,
-            client: 1,
-            copy: *copy,
-            call: call_of(asked)?,
-        },
+        Line::Begin(name, copy, asked, _, _) | Line::NotBegun(name, copy, asked, _) =>
+            Event::Begin {
+                name: *name,
+                client: 1,
+                copy: *copy,
+                call: call_of(asked)?,
+            },
         Line::Hop(name, _, _) | Line::Is(name, _, _) | Line::Was(name, _, _) => {
             Event::Hop { name: *name }
         }
@@ -94,6 +110,7 @@ fn event_of(line: &Line) -> Result<Event, SizeFault> {
             ward: u32::from(told.ward),
             page: *page,
         },
+        Line::Narrow(_) => Event::Split { ward: 0, page: 0 },
         Line::Merge(page, told) => Event::Merge {
             ward: u32::from(told.ward),
             page: *page,
@@ -133,18 +150,19 @@ fn outcome_of(line: &Line) -> Result<Outcome, Fail> {
             hop: Hop::Done(Reply::Was(Value::from_bytes(value)?)),
         },
         Line::Split(_, told) | Line::Merge(_, told) => Outcome::Changed(notice_of(told)?),
+        Line::Narrow(zeros) => Outcome::Changed(narrowed(*zeros)?),
         Line::Deliver(_, told) => Outcome::Taken(notice_of(told)?),
         Line::Send(_, table) => Outcome::Sent(*table),
         Line::Combine(_, _) => Outcome::Joined,
         Line::Restart(_) => Outcome::Restarted,
-        Line::Refused(_, _) => return Err("a refused event".into()),
+        Line::NotBegun(_, _, _, _) | Line::Refused(_, _) => return Err("a refused event".into()),
     })
 }
 
 /// A line's event, with what it should come to.
 pub(super) fn turn_of(line: &Line) -> Result<Turn, Fail> {
     let result = match line {
-        Line::Refused(_, fault) => Err(*fault),
+        Line::NotBegun(_, _, _, fault) | Line::Refused(_, fault) => Err(*fault),
         _ => Ok(outcome_of(line)?),
     };
     Ok(Turn {

@@ -28,7 +28,27 @@ pub(super) const MERGED: Told = Told {
     kind: Kind::Merge,
 };
 
-// The split of page 0 after it.
+/// The split after the merge, which makes the page merged away live again.
+pub(super) const REVIVED: Told = Told {
+    ward: 0,
+    index: 3,
+    len: 0,
+    bits: 0,
+    number: 3,
+    kind: Kind::Split { right: 1 },
+};
+
+/// The split of page 1 after the first.
+pub(super) const BUDDY_SPLIT: Told = Told {
+    ward: 0,
+    index: 2,
+    len: 1,
+    bits: 1 << 63,
+    number: 1,
+    kind: Kind::Split { right: 2 },
+};
+
+// The split of page 0 after the first.
 const SECOND_SPLIT: Told = Told {
     ward: 0,
     index: 2,
@@ -73,8 +93,8 @@ fn leaf(len: u8, bits: u64, page: PageNo) -> Result<Leaf, Fail> {
     })
 }
 
-// Both notices reach both copies, in either order.
-const TWO_ORDERS: [Line; 7] = [
+/// Both notices reach both copies, in either order.
+pub(super) const TWO_ORDERS: [Line; 7] = [
     Line::Begin(4, 1, Asked::Del(b"\x40"), 0, 0),
     Line::Was(4, 0, b"x"),
     Line::Merge(0, MERGED),
@@ -97,8 +117,8 @@ fn both_orders_of_two_notices(rt: HostRuntime) -> Result<(), Fail> {
     Ok(())
 }
 
-// The second split reaches a copy before the first.
-const LATER_FIRST: [Line; 5] = [
+/// The second split reaches a copy before the first.
+pub(super) const LATER_FIRST: [Line; 5] = [
     Line::Split(0, SECOND_SPLIT),
     Line::Deliver(1, SECOND_SPLIT),
     Line::Begin(4, 1, Asked::Get(b"\x40"), 0, 0),
@@ -134,8 +154,8 @@ fn a_late_table(rt: HostRuntime) -> Result<(), Fail> {
     assert_merged(&rt, &world, 2)
 }
 
-// A copy that was told of the split restarts, and a request is led on by the right link.
-const RESTARTED: [Line; 5] = [
+/// A copy that was told of the split restarts, and a request is led on by the right link.
+pub(super) const RESTARTED: [Line; 5] = [
     Line::Deliver(2, SPLIT),
     Line::Restart(2),
     Line::Begin(4, 2, Asked::Get(b"\x80"), 0, 0),
