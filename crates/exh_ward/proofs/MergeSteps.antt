@@ -1,5 +1,5 @@
 -- A merge of two pages of a ward: what it finds, the pages that it leaves, and its notice.
-use Rattle.std.proofs.Common.{◌≡◌, ℕ, ◌+◌, ◌-◌, ◌<◌, ◌≤◌, ◌^◌, Bool, true, false, List, [], ◌∷◌, ◌++◌, length, Option, Some, IsSome, Result, Ok, Err, IfOk, IfErr, inl, inr, refl, sym, ap, ◌∙◌, subst, arith}
+use Rattle.std.proofs.Common.{◌≡◌, ℕ, ◌+◌, ◌-◌, ◌<◌, ◌≤◌, ◌^◌, Bool, true, false, List, [], ◌∷◌, ◌++◌, length, Option, Some, IsSome, inl, inr, refl, sym, ap, ◌∙◌, subst, arith}
 use Rattle.std.specs.Prelude.{slice_set}
 use Rattle.std.proofs.lemmas.List.{length-append, length-set}
 use Rattle.std.proofs.lemmas.Option.{slice_get_within}
@@ -26,9 +26,10 @@ use Rattle.exh_ward.specs.Kept.{IsKept}
 use Rattle.exh_ward.specs.MergeStep.{IsLeftChild, HasNoBuddy, MergeRefused, IsMergeStep}
 use Rattle.exh_ward.specs.PageIndex.{IndexMap}
 use Rattle.exh_ward.specs.Told.{IsChangedTo, IsTold}
-use Rattle.exh_ward.specs.Union.{IsLeftHalf, NoLeftHalf, IsUnionOf, UnionRefusedAt, AreUnited}
+use Rattle.exh_ward.specs.LeftHalf.{FitsBeside, IsLeftHalf, NoLeftHalf, NotBeside}
+use Rattle.exh_ward.specs.Union.{FitTogether, IsUnionOf, AreUnited}
 use Rattle.exh_ward.specs.WardState.{WardState, IsSound, own_prefix}
-use Rattle.exh_ward.specs.declared.union.Union.{Union}
+use Rattle.exh_ward.specs.declared.left_half.LeftHalf.{LeftHalf}
 use Rattle.exh_ward.specs.declared.ward_fault.WardFault.{WardFault}
 use Rattle.exh_ward.specs.declared.ward_fault.WardFault.TheVariants.{NoPage, NotLive, NotFull, AtLimit, NoBuddy, BuddySplit, TooMany, Worn, Memory, Page as OutOfReach}
 use Rattle.exh_ward.proofs.KeptSteps.{well_formed}
@@ -69,27 +70,27 @@ module _ {K : Type 0} {pseudo : List ℕ → ℕ} {takes : Page → Type 0} {own
   no_left_half at left is Memory refused = absurd refused
   no_left_half at left is OutOfReach refused = absurd refused
 
-  module _ (at : ℕ) {left : Page} (there : IsAt w.pages at left) {parent : List Bool} (half : IsLeftHalf own left parent) where
-    live_left : IsAt w.pages at (Live (parent ++ false ∷ []) half.link half.records)
-    live_left = there ∙ ap Some half.live
+  module _ (at : ℕ) {left : Page} (there : IsAt w.pages at left) {half : LeftHalf} (is : IsLeftHalf own left half) where
+    live_left : IsAt w.pages at (Live (half.parent ++ false ∷ []) is.link is.records)
+    live_left = there ∙ ap Some is.live
 
-    inner : length (own_prefix w) ≤ length parent
-    inner = subst (λ (own : List Bool). length own ≤ length parent) kept.own_is half.inner
+    inner : length (own_prefix w) ≤ length half.parent
+    inner = subst (λ (own : List Bool). length own ≤ length half.parent) kept.own_is is.inner
 
-    left_child : IsLeftChild w at parent half.records
-    left_child = record { link = half.link; there = live_left; inner = inner }
+    left_child : IsLeftChild w at half.parent is.records
+    left_child = record { link = is.link; there = live_left; inner = inner }
 
-    own_records : records_of left ≡ half.records
-    own_records = ap records_of half.live
+    pub few_left : half.count ≤ CAP_LIMIT
+    few_left = omega (arith, is.count, few_at at _ live_left)
 
     module _ (law : LiveLeftChildrenMerge) where
-      mergeable : IsMergeable w.table w.pages parent
-      mergeable = law w.cap pseudo (own_prefix w) w.start w.notices w.table w.pages parent at kept.sound.legal (half.link, half.records, live_left) inner
+      mergeable : IsMergeable w.table w.pages half.parent
+      mergeable = law w.cap pseudo (own_prefix w) w.start w.notices w.table w.pages half.parent at kept.sound.legal (is.link, is.records, live_left) inner
 
-      pub split_there : IsSome (split_at w.table parent)
+      pub split_there : IsSome (split_at w.table half.parent)
       split_there = subst IsSome (sym mergeable.split) refl
 
-      module _ {right : ℕ} (found : split_at w.table parent ≡ Some right) where
+      module _ {right : ℕ} (found : split_at w.table half.parent ≡ Some right) where
         right_is : mergeable.right ≡ right
         right_is = let both : Some mergeable.right ≡ Some right = sym mergeable.split ∙ found in cc
 
@@ -97,145 +98,173 @@ module _ {K : Type 0} {pseudo : List ℕ → ℕ} {takes : Page → Type 0} {own
         right_within = subst (λ n. n < length w.pages) right_is (slice_get_within w.pages mergeable.right mergeable.page.0 mergeable.page.1)
 
         module _ {buddy : Page} (is_buddy : IsAt w.pages right buddy) where
-          union_refused : (fault : WardFault) → UnionRefusedAt w.cap left buddy parent fault → MergeRefused w at fault
-          union_refused NoPage refused = absurd refused
-          union_refused NotLive refused = absurd refused
-          union_refused NotFull refused = absurd refused
-          union_refused AtLimit refused = absurd refused
-          union_refused NoBuddy refused = absurd refused
-          union_refused BuddySplit refused = (
-            parent,
-            half.records,
+          pub not_beside : (fault : WardFault) → NotBeside w.cap half buddy fault → MergeRefused w at fault
+          not_beside NoPage refused = absurd refused
+          not_beside NotLive refused = absurd refused
+          not_beside NotFull refused = absurd refused
+          not_beside AtLimit refused = absurd refused
+          not_beside NoBuddy refused = absurd refused
+          not_beside BuddySplit refused = (
+            half.parent,
+            is.records,
             left_child,
-            λ others (number, link, is).
-                let here : number ≡ right = mergeable.buddy number (link, others, is) ∙ right_is in
-                refused link others (same_there w.pages right buddy _ is_buddy (subst (λ n. IsAt w.pages n (Live (parent ++ true ∷ []) link others)) here is)),
+            λ others (number, link, there).
+                let here : number ≡ right = mergeable.buddy number (link, others, there) ∙ right_is in
+                refused link others (same_there w.pages right buddy _ is_buddy (subst (λ n. IsAt w.pages n (Live (half.parent ++ true ∷ []) link others)) here there)),
           )
-          union_refused (TooMany sum) (link, others, live, sum_is, more) =
-              (parent, half.records, others, left_child, (right, link, is_buddy ∙ ap Some live), sum_is ∙ ap (λ (records : List Record). length records + length others) own_records, more)
-          union_refused Worn refused = absurd refused
-          union_refused Memory refused = tt
-          union_refused OutOfReach refused = absurd refused
+          not_beside (TooMany sum) (link, others, live, sum_is, more) =
+              (half.parent, is.records, others, left_child, (right, link, is_buddy ∙ ap Some live), sum_is ∙ ap (λ n. n + length others) is.count, more)
+          not_beside Worn refused = absurd refused
+          not_beside Memory refused = absurd refused
+          not_beside OutOfReach refused = absurd refused
 
-          pub refused_here : (r : Result Union WardFault) → IfErr r (UnionRefusedAt w.cap left buddy parent) → IfErr r (MergeRefused w at)
-          refused_here (Ok union) refused = tt
-          refused_here (Err fault) refused = union_refused fault refused
+          pub halves_fit : length half.parent < LIMIT → FitsBeside w.cap half buddy → FitTogether w at half.parent right
+          halves_fit short fits = record {
+            records = is.records;
+            link = fits.link;
+            others = fits.others;
+            left = left_child;
+            buddy = is_buddy ∙ ap Some fits.live;
+            few = omega (arith, is.count, fits.few);
+            short = short;
+          }
 
-          module _ (words : AreOfWords pseudo) (unite : BuddiesUnite) (short : length parent < LIMIT) where
-            all_records : (link : Option ℕ) (others : List Record) → buddy ≡ Live (parent ++ true ∷ []) link others → AreRecordsOf pseudo parent (half.records ++ others)
-            all_records link others live = unite pseudo parent half.records others words short (legal_at at _ live_left).0 (legal_at right (Live (parent ++ true ∷ []) link others) (is_buddy ∙ ap Some live)).0
+  -- ---- the page that it makes
 
-            pub rising : (link : Option ℕ) (others : List Record) → buddy ≡ Live (parent ++ true ∷ []) link others → IsRising (records_of left ++ others)
-            rising link others live = subst (λ (records : List Record). IsRising (records ++ others)) (sym own_records) (all_records link others live).rising
+  module _ {at : ℕ} {parent : List Bool} {right : ℕ} (halves : FitTogether w at parent right) where
+    abbrev left_page : Page
+    left_page = Live (parent ++ false ∷ []) halves.left.link halves.records
 
-            united : length w.pages < 2 ^ 32 - 1 → (union : Union) → IsUnionOf w.cap left buddy parent right union → AreUnited w pseudo at union
-            united few union is =
-                let live_right = is_buddy ∙ ap Some is.live in
-                let all : union.records ≡ half.records ++ is.others = is.all ∙ ap (λ (records : List Record). records ++ is.others) own_records in
-                let sum : length half.records + length is.others ≤ w.cap = subst (λ (records : List Record). length records + length is.others ≤ w.cap) own_records is.few in
-                let formed = well_formed w.pages kept.sound.legal.legal.legal.linked few kept.most right (parent ++ true ∷ []) union.link is.others is.others live_right (legal_at right _ live_right) in
-                let most : length (half.records ++ is.others) ≤ CAP_LIMIT = omega (arith, length-append half.records is.others, sum, kept.most) in
-                let merged : IsWellFormed pseudo (Live parent union.link (half.records ++ is.others)) = (all_records union.link is.others is.live, most, formed.2) in
-                let P : List Bool → Type 0 = λ p. IsLeftChild w at p half.records in
-                let Q : ℕ → List Bool → Type 0 = λ n p. IsAt w.pages n (Live (p ++ true ∷ []) union.link is.others) in
-                record {
-                  records = half.records;
-                  others = is.others;
-                  left = subst P (sym is.parent_is) left_child;
-                  buddy = subst (λ n. Q n union.parent) (sym is.right_is) (subst (Q right) (sym is.parent_is) live_right);
-                  few = sum;
-                  all = all;
-                  short = subst (λ (p : List Bool). length p < LIMIT) (sym is.parent_is) short;
-                  formed = subst (λ (p : List Bool). IsWellFormed pseudo (Live p union.link union.records)) (sym is.parent_is) (subst (λ (records : List Record). IsWellFormed pseudo (Live parent union.link records)) (sym all) merged);
-                }
+    abbrev right_page : Page
+    right_page = Live (parent ++ true ∷ []) halves.link halves.others
 
-            pub united_here : length w.pages < 2 ^ 32 - 1 → (r : Result Union WardFault) → IfOk r (IsUnionOf w.cap left buddy parent right) → IfOk r (AreUnited w pseudo at)
-            united_here few (Ok union) is = united few union is
-            united_here few (Err fault) is = tt
+    pub left_within : at < length w.pages
+    left_within = slice_get_within w.pages at left_page halves.left.there
+
+    pub buddy_within : right < length w.pages
+    buddy_within = slice_get_within w.pages right right_page halves.buddy
+
+    module _ {left buddy : Page} (there : IsAt w.pages at left) (is_buddy : IsAt w.pages right buddy) where
+      left_is : left ≡ left_page
+      left_is = same_there w.pages at left left_page there halves.left.there
+
+      buddy_is : buddy ≡ right_page
+      buddy_is = same_there w.pages right buddy right_page is_buddy halves.buddy
+
+      module _ (words : AreOfWords pseudo) (unite : BuddiesUnite) where
+        all_records : AreRecordsOf pseudo parent (halves.records ++ halves.others)
+        all_records = unite pseudo parent halves.records halves.others words halves.short (legal_at at left_page halves.left.there).0 (legal_at right right_page halves.buddy).0
+
+        all_are : records_of left ++ records_of buddy ≡ halves.records ++ halves.others
+        all_are = ap (λ page. records_of page ++ records_of buddy) left_is ∙ ap (λ page. halves.records ++ records_of page) buddy_is
+
+        pub rising : IsRising (records_of left ++ records_of buddy)
+        rising = subst IsRising (sym all_are) all_records.rising
+
+        abbrev merged_page : Page
+        merged_page = Live parent halves.link (halves.records ++ halves.others)
+
+        well_merged : length w.pages < 2 ^ 32 - 1 → IsWellFormed pseudo merged_page
+        well_merged few =
+            let formed = well_formed w.pages kept.sound.legal.legal.legal.linked few kept.most right (parent ++ true ∷ []) halves.link halves.others halves.others halves.buddy (legal_at right right_page halves.buddy) in
+            let most : length (halves.records ++ halves.others) ≤ CAP_LIMIT = omega (arith, length-append halves.records halves.others, halves.few, kept.most) in
+            (all_records, most, formed.2)
+
+        union_is : (union : Page) → IsUnionOf left buddy parent union → union ≡ merged_page
+        union_is union is =
+            let same : right_page ≡ Live is.prefix is.link is.others = sym buddy_is ∙ is.live in
+            let link : halves.link ≡ is.link = cc in
+            let others : halves.others ≡ is.others = cc in
+            is.is ∙ ap (λ link. Live parent link (records_of left ++ is.others)) (sym link) ∙ ap (λ others. Live parent halves.link (records_of left ++ others)) (sym others) ∙ ap (λ page. Live parent halves.link (records_of page ++ halves.others)) left_is
+
+        pub united : length w.pages < 2 ^ 32 - 1 → (union : Page) → IsUnionOf left buddy parent union → AreUnited w pseudo at parent right union
+        united few union is =
+            let same = union_is union is in
+            record { halves = halves; is = same; formed = subst (IsWellFormed pseudo) (sym same) (well_merged few) }
 
 -- ---- the pages that it leaves
 
-module _ {K : Type 0} {w : WardState K} {pseudo : List ℕ → ℕ} {at : ℕ} {union : Union} (is : AreUnited w pseudo at union) where
-  abbrev merged_page : Page
-  merged_page = Live union.parent union.link union.records
+module _ {K : Type 0} {w : WardState K} {pseudo : List ℕ → ℕ} {at : ℕ} {parent : List Bool} {twin : ℕ} {merged : Page} (is : AreUnited w pseudo at parent twin merged) where
+  abbrev halves : FitTogether w at parent twin
+  halves = is.halves
 
   abbrev forward_page : Page
-  forward_page = Forward (low_of (union.parent ++ true ∷ [])) at
+  forward_page = Forward (low_of (parent ++ true ∷ [])) at
 
   abbrev left : Page
-  left = Live (union.parent ++ false ∷ []) is.left.link is.records
+  left = Live (parent ++ false ∷ []) halves.left.link halves.records
 
   abbrev right : Page
-  right = Live (union.parent ++ true ∷ []) union.link is.others
+  right = Live (parent ++ true ∷ []) halves.link halves.others
 
-  apart : at ≡ union.right → ⊥
+  apart : at ≡ twin → ⊥
   apart same =
-      let one : left ≡ right = same_there w.pages at left right is.left.there (subst (λ n. IsAt w.pages n right) (sym same) is.buddy) in
-      let low : low_of (union.parent ++ false ∷ []) ≡ low_of (union.parent ++ true ∷ []) = ap low_bound one in
-      omega (arith, low, left_keeps union.parent is.short, right_above union.parent is.short)
+      let one : left ≡ right = same_there w.pages at left right halves.left.there (subst (λ n. IsAt w.pages n right) (sym same) halves.buddy) in
+      let low : low_of (parent ++ false ∷ []) ≡ low_of (parent ++ true ∷ []) = ap low_bound one in
+      omega (arith, low, left_keeps parent halves.short, right_above parent halves.short)
 
   abbrev first : List Page
-  first = slice_set w.pages at merged_page
+  first = slice_set w.pages at merged
 
   abbrev new : List Page
-  new = slice_set first union.right forward_page
+  new = slice_set first twin forward_page
 
-  right_first : IsAt first union.right right
-  right_first = set_else w.pages at union.right merged_page (λ same. apart (sym same)) ∙ is.buddy
+  right_first : IsAt first twin right
+  right_first = set_else w.pages at twin merged (λ same. apart (sym same)) ∙ halves.buddy
 
-  forwards_there : IsAt new union.right forward_page
-  forwards_there = set_here first union.right right forward_page right_first
+  forwards_there : IsAt new twin forward_page
+  forwards_there = set_here first twin right forward_page right_first
 
-  merge_is : IsMerge w.cap w.pages at union.parent new
+  merge_is : IsMerge w.cap w.pages at parent new
   merge_is = record {
-    right = union.right;
-    left_link = is.left.link;
-    right_link = union.link;
-    left_records = is.records;
-    right_records = is.others;
-    there = is.left.there;
-    buddy = is.buddy;
-    few = is.few;
-    merged = set_else first union.right at forward_page apart ∙ set_here w.pages at left merged_page is.left.there ∙ ap (λ (records : List Record). Some (Live union.parent union.link records)) is.all;
+    right = twin;
+    left_link = halves.left.link;
+    right_link = halves.link;
+    left_records = halves.records;
+    right_records = halves.others;
+    there = halves.left.there;
+    buddy = halves.buddy;
+    few = halves.few;
+    merged = set_else first twin at forward_page apart ∙ set_here w.pages at left merged halves.left.there ∙ ap Some is.is;
     forwards = forwards_there;
-    others = λ number else elsewhere. set_else first union.right number forward_page elsewhere ∙ set_else w.pages at number merged_page else;
-    same = length-set first union.right forward_page ∙ length-set w.pages at merged_page;
+    others = λ number else elsewhere. set_else first twin number forward_page elsewhere ∙ set_else w.pages at number merged else;
+    same = length-set first twin forward_page ∙ length-set w.pages at merged;
   }
 
-  module _ (sound : IsSound pseudo w) (words : AreOfWords pseudo) (law : MergesKeepLegal) (notice : Notice) (next : notice ≡ next_notice w.number w.table union.parent Merge) where
+  module _ (sound : IsSound pseudo w) (words : AreOfWords pseudo) (law : MergesKeepLegal) (notice : Notice) (next : notice ≡ next_notice w.number w.table parent Merge) where
     changed : IsChangedTo pseudo w notice new
-    changed = law w.cap pseudo (own_prefix w) w.start w.notices w.table w.pages at union.parent new notice words sound.legal merge_is
+    changed = law w.cap pseudo (own_prefix w) w.start w.notices w.table w.pages at parent new notice words sound.legal merge_is
         (ap (λ (n : Notice). n.prefix) next) (ap (λ (n : Notice). n.number) next) (ap (λ (n : Notice). n.kind) next)
 
     forward_formed : IsWellFormed pseudo forward_page
     forward_formed =
-        let within : IsWithin (own_prefix w) forward_page = changed.legal.legal.linked.within union.right forward_page (bare_at new union.right forward_page forwards_there) in
-        (λ none. omega (arith, right_above union.parent is.short, none), within.2)
+        let within : IsWithin (own_prefix w) forward_page = changed.legal.legal.linked.within twin forward_page (bare_at new twin forward_page forwards_there) in
+        (λ none. omega (arith, right_above parent halves.short, none), within.2)
 
     step : (after : WardState K) → IsTold w notice new after → IsMergeStep w at notice after
     step after told =
         let P : WardState K → Type 0 = λ after. IsMergeStep w at notice after in
-        let at_prefix : union.parent ≡ notice.prefix = sym (ap (λ (n : Notice). n.prefix) next) in
+        let at_prefix : parent ≡ notice.prefix = sym (ap (λ (n : Notice). n.prefix) next) in
         let Q : List Bool → Type 0 = λ p. IsMerge w.cap w.pages at p new in
         let R : List Bool → Type 0 = λ p. notice ≡ next_notice w.number w.table p Merge in
         subst P (sym told) (record { merge = subst Q at_prefix merge_is; notice_is = subst R at_prefix next; map = changed.map; places = changed.places; others = refl })
 
-    -- the pages as the ward made them
-    module _ {merged forward : Page} (is_merged : merged ≡ merged_page) (is_forward : forward ≡ forward_page) where
-      made : new ≡ slice_set (slice_set w.pages at merged) union.right forward
-      made = ap (λ (page : Page). slice_set (slice_set w.pages at page) union.right forward_page) (sym is_merged) ∙ ap (slice_set (slice_set w.pages at merged) union.right) (sym is_forward)
+    -- the forwarding page as the ward made it
+    module _ {forward : Page} (is_forward : forward ≡ forward_page) where
+      made : new ≡ slice_set (slice_set w.pages at merged) twin forward
+      made = ap (slice_set first twin) (sym is_forward)
 
-      pub merge_changed : IsChangedTo pseudo w notice (slice_set (slice_set w.pages at merged) union.right forward)
+      pub merge_changed : IsChangedTo pseudo w notice (slice_set (slice_set w.pages at merged) twin forward)
       merge_changed = subst (IsChangedTo pseudo w notice) made changed
 
-      pub merge_step : (after : WardState K) → IsTold w notice (slice_set (slice_set w.pages at merged) union.right forward) after → IsMergeStep w at notice after
+      pub merge_step : (after : WardState K) → IsTold w notice (slice_set (slice_set w.pages at merged) twin forward) after → IsMergeStep w at notice after
       merge_step after told = let P : List Page → Type 0 = λ pages. IsTold w notice pages after in step after (subst P (sym made) told)
 
       pub twin_formed : IsWellFormed pseudo forward
       twin_formed = subst (IsWellFormed pseudo) (sym is_forward) forward_formed
 
 -- the union, where the ward is as it was
-pub still_united : {K : Type 0} (pseudokey_of : K → List ℕ → ℕ) {w now : WardState K} → w ≡ now → {at : ℕ} {union : Union} → AreUnited now (pseudokey_of now.keyer) at union → AreUnited w (pseudokey_of w.keyer) at union
-still_united {K = K} pseudokey_of same {at = at} {union = union} is =
-    let P : WardState K → Type 0 = λ w. AreUnited w (pseudokey_of w.keyer) at union in
+pub still_united : {K : Type 0} (pseudokey_of : K → List ℕ → ℕ) {w now : WardState K} → w ≡ now → {at : ℕ} {parent : List Bool} {twin : ℕ} {union : Page} → AreUnited now (pseudokey_of now.keyer) at parent twin union → AreUnited w (pseudokey_of w.keyer) at parent twin union
+still_united {K = K} pseudokey_of same {at = at} {parent = parent} {twin = twin} {union = union} is =
+    let P : WardState K → Type 0 = λ w. AreUnited w (pseudokey_of w.keyer) at parent twin union in
     subst P (sym same) is

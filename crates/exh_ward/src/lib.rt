@@ -21,6 +21,7 @@ mod halves;
 mod hop;
 mod journal_entry;
 mod laws;
+mod left_half;
 mod page_index;
 mod reply;
 mod sight;

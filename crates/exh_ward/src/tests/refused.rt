@@ -15,16 +15,18 @@ enum Step {
     Hop(PageNo, Call, Hop),
     Split(PageNo, Notice),
     Merge(PageNo, Notice),
+    // A merge is refused.
+    Refused(PageNo, WardFault),
     // A page is read, and has this low bound.
     Look(PageNo, u64),
 }
 
-const STEPS: usize = 18;
+const STEPS: usize = 20;
 
 const HALF: u64 = 0x8000_0000_0000_0000;
 
 // Steps of a ward of pages of two records, of which each makes a growth or reaches a page: hops
-// that come to anything but `Stray`, splits that grow or revive a page, merges.
+// that come to anything but `Stray`, splits that grow or revive a page, merges, also refused ones.
 fn steps() -> Result<[Step; STEPS], Fail> {
     let (new, b) = (Hop::Done(Reply::New), Value::from_bytes(b"b")?);
     let (y, z) = (Value::from_bytes(b"y")?, Value::from_bytes(b"z")?);
@@ -37,7 +39,9 @@ fn steps() -> Result<[Step; STEPS], Fail> {
         Step::Hop(0, put(b"\xc0", b"y")?, Hop::MustSplit),
         Step::Split(0, first_split(1, root, 1)),
         Step::Hop(1, put(b"\xc0", b"y")?, new),
+        Step::Refused(0, WardFault::TooMany(3)),
         Step::Split(1, first_split(2, right, 2)),
+        Step::Refused(0, WardFault::BuddySplit),
         Step::Hop(1, get(b"\xc0")?, Hop::Moved(2)),
         Step::Hop(2, get(b"\xc0")?, Hop::Done(Reply::Is(y))),
         Step::Merge(1, notice(3, right, 2, Kind::Merge)),
@@ -96,6 +100,18 @@ fn page<P: Pages + Drop>(
     ward.page(number)
 }
 
+// Whether a merge is refused for this reason. It copies no page, so that memory is never wanting.
+fn is_refused<P: Pages + Drop>(
+    ward: &mut Ward<P, PlainKeyer>,
+    at: PageNo,
+    fault: WardFault,
+) -> Result<bool, WardFault> {
+    match merge(ward, at) {
+        Err(WardFault::Page) => Err(WardFault::Page),
+        answer => Ok(answer == Err(fault)),
+    }
+}
+
 // Whether a step comes to what it should.
 fn take<P: Pages + Drop>(
     rt: &impl Abort,
@@ -106,6 +122,7 @@ fn take<P: Pages + Drop>(
         Step::Hop(at, call, want) => Ok(hop(rt, ward, *at, call)? == *want),
         Step::Split(at, notice) => Ok(split(ward, *at)? == *notice),
         Step::Merge(at, notice) => Ok(merge(ward, *at)? == *notice),
+        Step::Refused(at, fault) => is_refused(ward, *at, *fault),
         Step::Look(at, low) => Ok(page(ward, *at)?.low() == *low),
     }
 }

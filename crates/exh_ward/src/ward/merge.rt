@@ -1,17 +1,20 @@
 ghost use Rattle.std.specs.Prelude.{◌≡◌, IfOk, IfErr, OnErr};
 ghost use Rattle.exh_ward.specs.MergeStep.{IsMergeStep, MergeRefused};
-ghost use Rattle.exh_ward.specs.Union.{AreUnited};
+ghost use Rattle.exh_ward.specs.Told.{IsStoreFault};
+ghost use Rattle.exh_ward.specs.Union.{FitTogether, AreUnited};
 ghost use Rattle.exh_ward.specs.WardFault.{CountsFailures};
 ghost use Rattle.exh_ward.specs.WardState.{IsSoundWard, IsUnchanged};
 
 use super::Ward;
 use crate::WardFault;
-use crate::union::{Union, parent_of, right_page};
+use crate::left_half::LeftHalf;
+use crate::union::{forward_from_right, right_page, union_of};
 use exh_frames::Pages;
 use exh_keyer::Keyer;
 use exh_legal::{live_left_children_merge, merges_keep_legal, pages_are_few};
 use exh_notice::{Kind, Notice};
-use exh_page::{PageNo, buddies_unite};
+use exh_page::{Page, PageNo, buddies_unite};
+use exh_prefix::Prefix;
 
 impl<P: Pages + Drop, K: Keyer> Ward<P, K> {
     /// Merges a live page, the left half of its parent, with the live page of the right half, and
@@ -28,21 +31,21 @@ impl<P: Pages + Drop, K: Keyer> Ward<P, K> {
         ensures sound { IsSoundWard K.pseudokey_of self.new }
     {
         merges_keep_legal();
-        let union = self.union(page)?;
-        let parent = union.parent;
-        let right = union.right;
+        let (parent, right) = self.fitting_buddy(page)?;
         if self.number_at(parent) == u32::MAX {
             return Err(WardFault::Worn);
         }
+        let merged = self.union(page, parent, right)?;
+        let forward = forward_from_right(parent, page);
         let notice = self.next_notice(parent, Kind::Merge);
-        let (merged, forward) = union.into_pages(page);
         self.change_two(page, merged, right, forward, &notice)?;
         Ok(notice)
     }
 
-    // What a merge makes of a page and its right buddy.
-    fn union(&mut self, page: PageNo) -> Result<Union, WardFault>
-        ensures united { IfOk result (AreUnited self.old (K.pseudokey_of self.old.keyer) page) }
+    // The parent of a page's prefix, and the number of the page's right buddy, where both pages fit
+    // into one. They are only read in place, so that a refused merge copies none.
+    fn fitting_buddy(&mut self, page: PageNo) -> Result<(Prefix, PageNo), WardFault>
+        ensures fit { IfOk result (λ found. FitTogether self.old page found.0 found.1) }
         ensures refused { IfErr result (MergeRefused self.old page) }
         ensures ok { IfOk result (λ _. self.new ≡ self.old) }
         ensures err { OnErr result (IsUnchanged self.old self.new) }
@@ -50,14 +53,28 @@ impl<P: Pages + Drop, K: Keyer> Ward<P, K> {
         ensures sound { IsSoundWard K.pseudokey_of self.new }
     {
         live_left_children_merge();
-        buddies_unite();
-        pages_are_few();
         if page >= self.store.count() {
             return Err(WardFault::NoPage);
         }
+        let half = LeftHalf::of(self.store.lend(page)?, self.own)?;
+        let right = right_page(&self.table, half.parent);
+        half.test_buddy(self.store.lend(right)?, self.cap)?;
+        Ok((half.parent, right))
+    }
+
+    // The page of the parent that a merge makes of a page and its right buddy.
+    fn union(&mut self, page: PageNo, parent: Prefix, right: PageNo) -> Result<Page, WardFault>
+        requires { FitTogether self.old page parent right }
+        ensures united { IfOk result (AreUnited self.old (K.pseudokey_of self.old.keyer) page parent right) }
+        ensures ok { IfOk result (λ _. self.new ≡ self.old) }
+        ensures err { OnErr result (IsUnchanged self.old self.new) }
+        ensures fault { IfErr result IsStoreFault }
+        ensures failures { CountsFailures result self.old.failures self.new.failures }
+        ensures sound { IsSoundWard K.pseudokey_of self.new }
+    {
+        buddies_unite();
+        pages_are_few();
         let left = self.store.get(page)?;
-        let parent = parent_of(&left, self.own)?;
-        let right = right_page(&self.table, parent);
-        Union::of(&left, self.store.lend(right)?, parent, right, self.cap)
+        Ok(union_of(&left, self.store.lend(right)?, parent)?)
     }
 }

@@ -1,0 +1,78 @@
+use Rattle.std.proofs.Common.{◌≡◌, ◌<◌, length, List, Result, Ok, Err, IfErr, IsErrAnd, refl, sym, subst}
+use Rattle.exh_page.specs.declared.page.Page.{Page}
+use Rattle.exh_legal.specs.Pages.{IsAt}
+use Rattle.exh_ward.specs.MergeStep.{MergeRefused}
+use Rattle.exh_ward.specs.Union.{FitTogether}
+use Rattle.exh_ward.specs.WardState.{WardState}
+use Rattle.exh_ward.specs.declared.ward_fault.WardFault.{WardFault}
+use Rattle.exh_ward.proofs.KeptSteps.{kept_read}
+use Rattle.exh_ward.proofs.MergeSteps.{few_at, few_left, halves_fit, no_left_half, not_beside, own_in_front, right_within, split_there}
+use Rattle.exh_ward.proofs.ward.Ward.fitting_buddy.Goals as goal
+
+failed_with : {T : Type 0} (r : Result T WardFault) (fault : WardFault) (P : WardFault → Type 0) → IsErrAnd r (λ e. e ≡ fault) → P fault → IfErr r P
+failed_with (Ok value) fault P is refused = tt
+failed_with (Err other) fault P is refused = subst P (sym is) refused
+
+pub invariant_of-self : goal.invariant_of-self
+invariant_of-self g c = kept_read c.self.invariant _ c.lend.follows.holds-at-none.2 _ _ _ c.lend.follows.holds-at-none.0 refl
+
+pub of-requires : goal.of-requires
+of-requires g c = own_in_front c.self.invariant c.args.page c.in_ok-lend.field-0.now c.in_ok-lend.ensures.page
+
+pub invariant_of-self-in_err-half : goal.invariant_of-self-in_err-half
+invariant_of-self-in_err-half g c = kept_read c.self.invariant _ c.lend.follows.holds-at-none.2 _ _ _ c.lend.follows.holds-at-none.0 refl
+
+pub returns-in_err-half-clause-refused : goal.returns-in_err-half-clause-refused
+returns-in_err-half-clause-refused g c =
+    let refused = no_left_half c.self.invariant c.args.page c.in_ok-lend.field-0.now c.in_ok-lend.ensures.page _ c.in_err-half.ensures.err in
+    let P : WardState g.row.K.Denot → Type 0 = λ w. MergeRefused w c.args.page c.in_err-half.field-0.0 in
+    let now = subst P c.self.view_is refused in
+    failed_with c.from_residual-in_err-half.result c.in_err-half.field-0.0 (MergeRefused c.args.self.now c.args.page) c.from_residual-in_err-half.ensures.1 now
+
+pub right_page-right-requires : goal.right_page-right-requires
+right_page-right-requires g c = split_there c.self.invariant c.args.page c.in_ok-lend.ensures.page c.in_ok-half.ensures.ok c.live_left_children_merge.ensures
+
+pub lend-requires-2 : goal.lend-requires-2
+lend-requires-2 g c =
+    let within = right_within c.self.invariant c.args.page c.in_ok-lend.ensures.page c.in_ok-half.ensures.ok c.live_left_children_merge.ensures c.right_page-right.ensures in
+    let P : List Page → Type 0 = λ pages. c.right_page-right.result < length pages in
+    subst P (sym c.lend.follows.holds-at-none.0) within
+
+pub invariant_of-self-in_err-lend-2 : goal.invariant_of-self-in_err-lend-2
+invariant_of-self-in_err-lend-2 g c =
+    let read = kept_read c.self.invariant _ c.lend.follows.holds-at-none.2 _ _ (g.P.Pages.failures c.lend.follows.lender-at-none) c.lend.follows.holds-at-none.0 refl in
+    kept_read read _ c.lend-2.follows.holds-at-none.2 _ _ _ c.lend-2.follows.holds-at-none.0 refl
+
+pub test_buddy-requires-clause-few : goal.test_buddy-requires-clause-few
+test_buddy-requires-clause-few g c = few_left c.self.invariant c.args.page c.in_ok-lend.ensures.page c.in_ok-half.ensures.ok
+
+pub test_buddy-requires-clause-few_others : goal.test_buddy-requires-clause-few_others
+test_buddy-requires-clause-few_others g c =
+    let P : List Page → Type 0 = λ pages. IsAt pages c.right_page-right.result c.in_ok-lend-2.field-0.now in
+    few_at c.self.invariant c.right_page-right.result c.in_ok-lend-2.field-0.now (subst P c.lend.follows.holds-at-none.0 c.in_ok-lend-2.ensures.page)
+
+pub invariant_of-self-in_err-test_buddy : goal.invariant_of-self-in_err-test_buddy
+invariant_of-self-in_err-test_buddy g c =
+    let read = kept_read c.self.invariant _ c.lend.follows.holds-at-none.2 _ _ (g.P.Pages.failures c.lend.follows.lender-at-none) c.lend.follows.holds-at-none.0 refl in
+    kept_read read _ c.lend-2.follows.holds-at-none.2 _ _ _ c.lend-2.follows.holds-at-none.0 refl
+
+pub returns-in_err-test_buddy-clause-refused : goal.returns-in_err-test_buddy-clause-refused
+returns-in_err-test_buddy-clause-refused g c =
+    let L : List Page → Type 0 = λ pages. IsAt pages c.right_page-right.result c.in_ok-lend-2.field-0.now in
+    let buddy = subst L c.lend.follows.holds-at-none.0 c.in_ok-lend-2.ensures.page in
+    let refused = not_beside c.self.invariant c.args.page c.in_ok-lend.ensures.page c.in_ok-half.ensures.ok c.live_left_children_merge.ensures c.right_page-right.ensures buddy _ c.in_err-test_buddy.ensures.err in
+    let P : WardState g.row.K.Denot → Type 0 = λ w. MergeRefused w c.args.page c.in_err-test_buddy.field-0.0 in
+    let now = subst P c.self.view_is refused in
+    failed_with c.from_residual-in_err-test_buddy.result c.in_err-test_buddy.field-0.0 (MergeRefused c.args.self.now c.args.page) c.from_residual-in_err-test_buddy.ensures.1 now
+
+pub invariant_of-self-2 : goal.invariant_of-self-2
+invariant_of-self-2 g c =
+    let read = kept_read c.self.invariant _ c.lend.follows.holds-at-none.2 _ _ (g.P.Pages.failures c.lend.follows.lender-at-none) c.lend.follows.holds-at-none.0 refl in
+    kept_read read _ c.lend-2.follows.holds-at-none.2 _ _ _ c.lend-2.follows.holds-at-none.0 refl
+
+pub returns-clause-fit : goal.returns-clause-fit
+returns-clause-fit g c =
+    let L : List Page → Type 0 = λ pages. IsAt pages c.right_page-right.result c.in_ok-lend-2.field-0.now in
+    let buddy = subst L c.lend.follows.holds-at-none.0 c.in_ok-lend-2.ensures.page in
+    let P : WardState g.row.K.Denot → Type 0 = λ w. FitTogether w c.args.page c.in_ok-half.half.parent c.right_page-right.result in
+    subst P c.self.view_is (halves_fit c.self.invariant c.args.page c.in_ok-lend.ensures.page c.in_ok-half.ensures.ok c.live_left_children_merge.ensures c.right_page-right.ensures buddy c.in_ok-half.ensures.short c.in_ok-test_buddy.ensures.ok)

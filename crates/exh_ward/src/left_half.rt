@@ -1,0 +1,79 @@
+ghost use Rattle.std.specs.Prelude.{◌≡◌, ℕ, ◌<◌, ◌≤◌, length, Bool, List, Option, IfOk, IfErr, OnOk};
+ghost use Rattle.exh_prefix.specs.Prefix.{IsFront};
+ghost use Rattle.exh_prefix.specs.declared.prefix.TheConstants.{LIMIT};
+ghost use Rattle.exh_page.specs.Page.{records_of};
+ghost use Rattle.exh_page.specs.declared.page.Page.TheVariants.{Live};
+ghost use Rattle.exh_page.specs.declared.page.TheConstants.{CAP_LIMIT};
+ghost use Rattle.exh_page.specs.declared.record.Record.{Record};
+ghost use Rattle.exh_ward.specs.LeftHalf.{FitsBeside, IsLeftHalf, NoLeftHalf, NotBeside};
+
+use crate::WardFault;
+use exh_page::Page;
+use exh_prefix::Prefix;
+
+/// What a merge has to know of the left half of a parent before it copies a page (Fagin et al.
+/// 1979).
+#[derive(Clone, Copy)]
+pub(crate) struct LeftHalf {
+    /// The parent of the page's prefix.
+    pub(crate) parent: Prefix,
+    /// How many records the page has.
+    pub(crate) count: usize,
+}
+
+impl LeftHalf {
+    /// What is known of a page that is live and a left child of the ward's own prefix `own` or of a
+    /// longer one, else `NotLive` or `NoBuddy`. It takes no memory.
+    pub(crate) fn of(page: &Page, own: Prefix) -> Result<LeftHalf, WardFault>
+        requires { (prefix : List Bool) (link : Option ℕ) (records : List Record) → page.now ≡ Live prefix link records → IsFront own prefix }
+        ensures ok { IfOk result (IsLeftHalf own page.now) }
+        ensures short { IfOk result (λ half. length half.parent < LIMIT) }
+        ensures err { IfErr result (NoLeftHalf own page.now) }
+    {
+        match page {
+            Page::Forward { .. } => Err(WardFault::NotLive),
+            Page::Live {
+                prefix,
+                records,
+                ..
+            } => {
+                if prefix.len() <= own.len() || prefix.is_right_child() {
+                    return Err(WardFault::NoBuddy);
+                }
+                Ok(LeftHalf {
+                    parent: prefix.parent().unwrap(),
+                    count: records.len(),
+                })
+            }
+        }
+    }
+
+    /// Tests the page at the low bound of the parent's right child: `BuddySplit` where it isn't the
+    /// live page of that child, `TooMany` with the sum where both halves have more than `cap`
+    /// records. It takes no memory.
+    pub(crate) fn test_buddy(&self, buddy: &Page, cap: usize) -> Result<(), WardFault>
+        requires short { length self.now.parent < LIMIT }
+        requires few { self.now.count ≤ CAP_LIMIT }
+        requires few_others { length (records_of buddy.now) ≤ CAP_LIMIT }
+        ensures ok { OnOk result (FitsBeside cap self.now buddy.now) }
+        ensures err { IfErr result (NotBeside cap self.now buddy.now) }
+    {
+        match buddy {
+            Page::Forward { .. } => Err(WardFault::BuddySplit),
+            Page::Live {
+                prefix,
+                records,
+                ..
+            } => {
+                if *prefix != self.parent.child(true).unwrap() {
+                    return Err(WardFault::BuddySplit);
+                }
+                let sum = self.count + records.len();
+                if sum > cap {
+                    return Err(WardFault::TooMany(sum));
+                }
+                Ok(())
+            }
+        }
+    }
+}
