@@ -357,7 +357,7 @@ fn wards_beside(rt: HostRuntime) -> Result<(), Fail> {
     }
     assert!(rt; any_full);
     let mut again = MapMachine::new(rt.alloc(), 2, PlainKeyer);
-    for entry in ward.journal() {
+    for entry in ward.journal().iter() {
         assert_eq!(rt; again.answer(&entry.call)?, entry.reply);
     }
     assert_eq!(rt; again.map().pairs(), machine.map().pairs());

@@ -23,3 +23,4 @@ pub mod MergeFunction
 pub mod SplitOutcome
 pub mod MergeOutcome
 pub mod Worn
+pub mod Journals

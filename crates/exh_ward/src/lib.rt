@@ -4,6 +4,7 @@
 pub use base::Base;
 pub use call::Call;
 pub use hop::Hop;
+pub use journal::{Entries, Journal};
 pub use journal_entry::JournalEntry;
 pub use laws::{
     answers_keep_legal, histories_go_on, history_is_determined, hops_are_computed,
@@ -19,12 +20,14 @@ mod base;
 mod call;
 mod halves;
 mod hop;
+mod journal;
 mod journal_entry;
 mod laws;
 mod left_half;
 mod page_index;
 mod reply;
 mod sight;
+mod stored_entry;
 #[cfg(test)]
 mod tests;
 mod union;

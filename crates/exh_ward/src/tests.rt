@@ -10,6 +10,7 @@ use exh_prefix::Prefix;
 use std::alloc::Global;
 use std::test::Fail;
 
+mod journals;
 mod readers;
 mod refused;
 mod wards;

@@ -24,7 +24,7 @@ use crate::answer::answer;
 use crate::halves::Halves;
 use crate::page_index::PageIndex;
 use crate::sight::Sight;
-use crate::{Base, Call, Hop, JournalEntry, WardFault};
+use crate::{Base, Call, Hop, Journal, WardFault};
 use exh_frames::Pages;
 use exh_keyer::Keyer;
 use exh_legal::{
@@ -58,7 +58,7 @@ pub struct Ward<P: Pages + Drop, K: Keyer> {
     store: P,
     index: PageIndex,
     base: Base,
-    journal: Vec<JournalEntry>,
+    journal: Journal,
     start: Table,
     told: u64,
     notices: Vec<Notice>,
@@ -81,9 +81,9 @@ impl<P: Pages + Drop, K: Keyer> Model for Ward<P, K> {
 
     ghost coded = { Prim.hlevel (codes, coded_key_map, coded_table) };
 
-    ghost view = { λ a. record { pages = P.pages a.store; base = a.base; journal = a.journal.items; start = a.start; notices = a.notices.items; table = a.table; failures = P.failures a.store; cap = a.cap; ward_bits = a.ward_bits; number = a.number; keyer = a.keyer } };
+    ghost view = { λ a. record { pages = P.pages a.store; base = a.base; journal = a.journal.entries; start = a.start; notices = a.notices.items; table = a.table; failures = P.failures a.store; cap = a.cap; ward_bits = a.ward_bits; number = a.number; keyer = a.keyer } };
 
-    ghost invariant = { λ a. IsKept (K.pseudokey_of a.keyer) (P.takes a.store) a.own a.index a.told (record { pages = P.pages a.store; base = a.base; journal = a.journal.items; start = a.start; notices = a.notices.items; table = a.table; failures = P.failures a.store; cap = a.cap; ward_bits = a.ward_bits; number = a.number; keyer = a.keyer }) };
+    ghost invariant = { λ a. IsKept (K.pseudokey_of a.keyer) (P.takes a.store) a.own a.index a.told (record { pages = P.pages a.store; base = a.base; journal = a.journal.entries; start = a.start; notices = a.notices.items; table = a.table; failures = P.failures a.store; cap = a.cap; ward_bits = a.ward_bits; number = a.number; keyer = a.keyer }) };
 }
 
 impl<P: Pages + Drop, K: Keyer> Ward<P, K> {
@@ -118,7 +118,7 @@ impl<P: Pages + Drop, K: Keyer> Ward<P, K> {
             store,
             index: PageIndex::new(alloc),
             base: Base::new(alloc),
-            journal: Vec::new(alloc),
+            journal: Journal::new(alloc),
             start: Table::new(alloc),
             told: 0,
             notices: Vec::new(alloc),
@@ -395,8 +395,8 @@ impl<P: Pages + Drop, K: Keyer> Ward<P, K> {
 
     /// The calls that were answered, in order, with their callers and replies: a history from the
     /// base, which leaves the map of the pages. It takes no memory.
-    pub fn journal(&self) -> &[JournalEntry]
-        ensures entries { result.now ≡ self.now.journal }
+    pub fn journal(&self) -> &Journal
+        ensures entries { result.now.entries ≡ self.now.journal }
         ensures sound { IsSoundWard K.pseudokey_of self.now }
     {
         &self.journal
@@ -429,10 +429,9 @@ impl<P: Pages + Drop, K: Keyer> Ward<P, K> {
     {
         pages_are_few();
         // Room for the entry first: nothing may fail once the page has changed.
-        self.journal.reserve(1)?;
+        self.journal.reserve()?;
         let reply = answer(&mut self.store, at, pseudokey, call, full)?;
-        self.journal
-            .push_reserved(JournalEntry::new(client, call, &reply));
+        self.journal.push_reserved(client, call, &reply);
         Ok(Hop::Done(reply))
     }
 

@@ -258,7 +258,7 @@ fn run(
         step(rt, dice, &mut small, round % 400 < 250, met)?;
     }
     let mut again = MapMachine::new(rt.alloc(), small.cap, PlainKeyer);
-    for entry in small.ward.journal() {
+    for entry in small.ward.journal().iter() {
         assert_eq!(rt; again.answer(&entry.call)?, entry.reply);
     }
     assert_eq!(rt; again.map().pairs(), small.machine.map().pairs());

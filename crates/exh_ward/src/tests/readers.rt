@@ -2,8 +2,9 @@ use super::{PlainWard, del, plain_hop, put, ward_of_three_keys};
 use crate::{Base, JournalEntry, Reply};
 use std::test::Fail;
 
-fn journal(ward: &PlainWard) -> &[JournalEntry] {
-    ward.journal()
+// Whether the journal has these entries and no others.
+fn has_journal(ward: &PlainWard, entries: &[JournalEntry]) -> bool {
+    ward.journal().iter().eq(entries.iter().copied())
 }
 
 fn base(ward: &PlainWard) -> &Base {
@@ -24,12 +25,12 @@ fn four_entries() -> Result<[JournalEntry; 4], Fail> {
 fn the_journal_that_is_read(rt: HostRuntime) -> Result<(), Fail> {
     let mut ward = ward_of_three_keys(rt.alloc())?;
     let entries = four_entries()?;
-    assert_eq!(rt; journal(&ward), &entries[..3]);
+    assert!(rt; has_journal(&ward, &entries[..3]));
     let absent = del(b"\xc0")?;
     plain_hop(&mut ward, 0, &absent)?;
-    assert_eq!(rt; journal(&ward), &entries[..3]);
+    assert!(rt; has_journal(&ward, &entries[..3]));
     plain_hop(&mut ward, 1, &absent)?;
-    assert_eq!(rt; journal(&ward), entries.as_slice());
+    assert!(rt; has_journal(&ward, &entries));
     assert!(rt; base(&ward).pairs().is_empty());
     Ok(())
 }

@@ -157,7 +157,7 @@ fn are_same(one: &Page, other: &Page) -> bool {
 fn are_told_alike<P: Pages + Drop>(ward: &Ward<P, PlainKeyer>, other: &PlainWard) -> bool {
     ward.page_count() == other.page_count()
         && ward.notices_after(0) == other.notices_after(0)
-        && ward.journal() == other.journal()
+        && ward.journal().iter().eq(other.journal().iter())
         && ward.table().entries().eq(other.table().entries())
 }
 

@@ -4,7 +4,7 @@ ghost use Rattle.exh_page.specs.declared.page.Page.TheVariants.{Live};
 
 use super::{Ward, first_page, own_prefix};
 use crate::page_index::PageIndex;
-use crate::{Base, WardFault};
+use crate::{Base, Journal, WardFault};
 use exh_frames::{Pages, PlainPages};
 use exh_keyer::PlainKeyer;
 use exh_legal::{lone_pages_are_legal, splits_keep_legal, walks_name_homes};
@@ -37,7 +37,7 @@ pub(crate) fn worn_ward(alloc: Global) -> Result<Ward<PlainPages, PlainKeyer>, W
         store,
         index,
         base: Base::new(alloc),
-        journal: Vec::new(alloc),
+        journal: Journal::new(alloc),
         start,
         told: 4_294_967_295,
         notices: Vec::new(alloc),

@@ -2,6 +2,7 @@ use Rattle.std.proofs.Common.{◌++◌, ◌∷◌, [], ap, ◌∙◌, subst}
 use Rattle.exh_ward.specs.HopTable.{HopOf}
 use Rattle.exh_ward.specs.WardState.{WardState}
 use Rattle.exh_ward.specs.declared.hop.Hop.TheVariants.{Done}
+use Rattle.exh_ward.specs.declared.journal_entry.JournalEntry.{JournalEntry}
 use Rattle.exh_ward.proofs.AnswerSteps.{few_pages, answers_here, written_taken, replied, pages_are, hop_is_done, answered_seen}
 use Rattle.exh_ward.proofs.KeptSteps.{kept_read, kept_answered}
 use Rattle.exh_ward.proofs.ward.Ward.answer_at.Goals as goal
@@ -14,7 +15,7 @@ answer-requires-clause-taken g c =
     written_taken fit c.self.invariant answers (few_pages c.pages_are_few.ensures c.self.invariant)
 
 pub invariant_of-self-in_err-reply : goal.invariant_of-self-in_err-reply
-invariant_of-self-in_err-reply g c = kept_read c.self.invariant _ c.answer.ensures.takes _ _ _ c.in_err-reply.ensures.err c.reserve.ensures.items
+invariant_of-self-in_err-reply g c = kept_read c.self.invariant _ c.answer.ensures.takes _ _ _ c.in_err-reply.ensures.err c.reserve.ensures.entries
 
 pub invariant_of-self-2 : goal.invariant_of-self-2
 invariant_of-self-2 g c =
@@ -22,7 +23,8 @@ invariant_of-self-2 g c =
     let fit = g.met.K.Keyer.pseudokey_fits c.self.inside.keyer in
     let answers = answers_here pseudokey_of c.self.view_is c.self.invariant c.args.at c.args.call.now c.args.pseudokey c.args.full c.requires.hashed c.requires.home in
     let is_reply = replied fit c.self.invariant answers c.in_ok-reply.reply c.in_ok-reply.ensures.reply in
-    let pushed = c.push_reserved.ensures.items ∙ ap (λ entries. entries ++ c.new.result ∷ []) c.reserve.ensures.items ∙ ap (λ entry. c.self.inside.journal.items ++ entry ∷ []) c.new.ensures in
+    let entry : JournalEntry = record { client = c.args.client; call = c.args.call.now; reply = c.in_ok-reply.reply } in
+    let pushed = c.push_reserved.ensures ∙ ap (λ entries. entries ++ entry ∷ []) c.reserve.ensures.entries in
     kept_answered c.self.invariant _ c.answer.ensures.takes fit answers.home c.args.client c.in_ok-reply.reply is_reply _ _ _
     (pages_are fit c.self.invariant answers c.in_ok-reply.reply _ c.in_ok-reply.ensures.reply c.in_ok-reply.ensures.pages) pushed
 
@@ -40,7 +42,8 @@ returns-clause-leaves g c =
     let pseudokey_of = g.K.Keyer.pseudokey_of in
     let fit = g.met.K.Keyer.pseudokey_fits c.self.inside.keyer in
     let answers = answers_here pseudokey_of c.self.view_is c.self.invariant c.args.at c.args.call.now c.args.pseudokey c.args.full c.requires.hashed c.requires.home in
-    let pushed = c.push_reserved.ensures.items ∙ ap (λ entries. entries ++ c.new.result ∷ []) c.reserve.ensures.items ∙ ap (λ entry. c.self.inside.journal.items ++ entry ∷ []) c.new.ensures in
+    let entry : JournalEntry = record { client = c.args.client; call = c.args.call.now; reply = c.in_ok-reply.reply } in
+    let pushed = c.push_reserved.ensures ∙ ap (λ entries. entries ++ entry ∷ []) c.reserve.ensures.entries in
     answered_seen pseudokey_of c.self.view_is fit c.self.invariant answers c.args.client c.in_ok-reply.reply _ _ _ c.in_ok-reply.ensures.reply c.in_ok-reply.ensures.pages pushed c.in_ok-reply.ensures.failures
 
 pub returns-clause-sound : goal.returns-clause-sound
