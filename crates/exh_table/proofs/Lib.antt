@@ -1,4 +1,4 @@
 pub mod Seen
 pub mod SomeIff
 pub mod Children
-pub mod Raised
+pub mod Compared

@@ -72,11 +72,10 @@ module _ (table : TableMap) (ward_bits : ℕ) (short : ward_bits ≤ LIMIT) wher
   name_of : ℕ → ℕ → List Bool
   name_of depth number = (walk_of table ward_bits (low_of (bits_of depth number))).prefix
 
-  -- pseudokeys of the same bits up to the depth have one leaf
-  same_leaf : (depth one other : ℕ) → IsDepth (leaves_of table ward_bits) depth → one < 2 ^ 64 → take depth (word_bits one) ≡ take depth (word_bits other) → walk_of table ward_bits other ≡ walk_of table ward_bits one
-  same_leaf depth one other is small same =
+  -- a pseudokey with the same bits up to the end of a leaf has that leaf
+  pub same_leaf : (depth one other : ℕ) → length (walk_of table ward_bits one).prefix ≤ depth → one < 2 ^ 64 → take depth (word_bits one) ≡ take depth (word_bits other) → walk_of table ward_bits other ≡ walk_of table ward_bits one
+  same_leaf depth one other within small same =
       let leaf = walk_of table ward_bits one in
-      let within : length leaf.prefix ≤ depth = is.greatest leaf.prefix (leaf.page, (one, small, refl)) in
       let begun : Begins leaf.prefix other =
       sym (take-take (length leaf.prefix) depth (word_bits other) within) ∙ ap (take (length leaf.prefix)) (sym same) ∙ take-take (length leaf.prefix) depth (word_bits one) within ∙ leaf_begins one in
       walk_ends_at other leaf (one, small, refl) begun
@@ -98,8 +97,10 @@ module _ (table : TableMap) (ward_bits : ℕ) (short : ward_bits ≤ LIMIT) wher
         let many : length front ≡ depth = length-take-le depth (word_bits pseudokey) (omega (arith, length-word_bits pseudokey, depth_short depth is)) in
         let bits : bits_of depth (number_of front) ≡ front = ap (λ n. bits_of n (number_of front)) (sym many) ∙ bits_of-number_of front in
         let first : take depth (word_bits (low_of front)) ≡ front = take-word-low_of front depth many (omega (arith, depth_short depth is)) in
+        let small : low_of front < 2 ^ 64 = low_of-small front (omega (arith, depth_short depth is)) in
+        let leaf = walk_of table ward_bits (low_of front) in
         ap (λ p. (walk_of table ward_bits (low_of p)).prefix) bits
-        ∙ ap (λ (leaf : Leaf). leaf.prefix) (sym (same_leaf depth (low_of front) pseudokey is (low_of-small front (omega (arith, depth_short depth is))) first))
+        ∙ ap (λ (leaf : Leaf). leaf.prefix) (sym (same_leaf depth (low_of front) pseudokey (is.greatest leaf.prefix (leaf.page, (low_of front, small, refl))) small first))
 
     are_directory : IsDirectory (leaves_of table ward_bits) names
     unfolding names

@@ -6,6 +6,7 @@ pub mod Directory
 pub mod Laws
 pub mod Below
 pub mod TableLemmas
+pub mod RaisedLemmas
 pub mod SetLemmas
 pub mod WalkLemmas
 pub mod LeafLemmas

@@ -108,11 +108,11 @@ members_decide told others table other same first second = same_table table othe
 
 -- ---- a table's own entries
 
-first_part : (a b : Bool) → T (a && b) → T a
+pub first_part : (a b : Bool) → T (a && b) → T a
 first_part true b both = tt
 first_part false b both = both
 
-second_part : (a b : Bool) → T (a && b) → T b
+pub second_part : (a b : Bool) → T (a && b) → T b
 second_part true b both = both
 second_part false b both = absurd both
 
@@ -121,7 +121,7 @@ less_is_not_equal Less less = refl
 less_is_not_equal Equal less = absurd less
 less_is_not_equal Greater less = refl
 
-none_below : (prefix : List Bool) (es : List (List Bool × Entry)) → T (below_all prefix_cmp prefix es) → find prefix_cmp prefix es ≡ None
+pub none_below : (prefix : List Bool) (es : List (List Bool × Entry)) → T (below_all prefix_cmp prefix es) → find prefix_cmp prefix es ≡ None
 none_below prefix [] below = refl
 none_below prefix (e ∷ es) below =
     ap (λ here. cond here (Some e.1) (find prefix_cmp prefix es)) (less_is_not_equal (prefix_cmp prefix e.0) (first_part _ _ below)) ∙ none_below prefix es (second_part _ _ below)

@@ -5,10 +5,11 @@ ghost use Rattle.exh_prefix.specs.declared.prefix.TheConstants.{LIMIT};
 
 use exh_prefix::{LIMIT, PageNo, Prefix};
 
-/// Where walks through a table stop: a prefix of the directory, with its page.
+/// A place that walks through a table come to, such as a leaf, where they stop: a prefix with its
+/// page.
 #[derive(Clone, Copy, Debug, PartialEq, Eq)]
 pub struct Leaf {
-    /// The bits that all pseudokeys of the leaf begin with.
+    /// The bits that all pseudokeys of the place begin with.
     pub prefix: Prefix,
     /// The page that the table names for them.
     pub page: PageNo,
@@ -17,8 +18,8 @@ pub struct Leaf {
 impl Leaf {
     ghost use Rattle.exh_table.specs.Walk.{step};
 
-    // Where all walks begin: the empty prefix, with page 0.
-    pub(crate) fn root() -> Leaf
+    /// Where all walks begin: the empty prefix, with page 0.
+    pub fn root() -> Leaf
         ensures { result ≡ record { prefix = []; page = 0 } }
     {
         Leaf {
@@ -37,8 +38,9 @@ impl Leaf {
         right.begins(pseudokey)
     }
 
-    // One bit further over a split: the bit 1 leads to its right page, the bit 0 keeps the page.
-    pub(crate) fn step(&self, bit: bool, right: PageNo) -> Leaf
+    /// One bit further over a split: the bit 1 leads to its right page, the bit 0 keeps the page
+    /// (exhash profile). The prefix is shorter than `LIMIT`.
+    pub fn step(&self, bit: bool, right: PageNo) -> Leaf
         requires { length self.now.prefix < LIMIT }
         ensures { result ≡ step self.now bit right }
     {

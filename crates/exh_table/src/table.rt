@@ -66,8 +66,10 @@ impl Table {
         self.put_greater(notice.prefix, notice.entry())
     }
 
-    // Takes an entry at a prefix, and answers what stood there.
-    pub(crate) fn put_greater(
+    /// Takes an entry at a prefix: there the greater one stays. It answers what stood there. Where
+    /// memory is refused, an `AllocError`, the table is as before; it is asked for only where no
+    /// entry stands at the prefix.
+    pub fn put_greater(
         &mut self,
         prefix: Prefix,
         entry: Entry,

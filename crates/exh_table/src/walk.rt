@@ -47,9 +47,9 @@ impl Table {
         Ok(leaves)
     }
 
-    // The right page of the split over which walks go on from a place: none where they stop. Above
-    // the wards all go on, with page 0.
-    fn split_at(&self, ward_bits: u8, at: &Leaf) -> Option<PageNo>
+    /// The right page of the split over which walks go on from a place: none where they stop. Above
+    /// the wards, of so many bits, all go on with page 0 (exhash profile). It takes no memory.
+    pub fn split_at(&self, ward_bits: u8, at: &Leaf) -> Option<PageNo>
         ensures { result ≡ (if nat_lt (length at.now.prefix) LIMIT then splits_above self.now ward_bits at.now.prefix else None) }
     {
         let prefix = at.prefix;
@@ -65,7 +65,9 @@ impl Table {
         }
     }
 
-    fn depth_below(&self, ward_bits: u8, at: &Leaf) -> u8
+    /// The greatest length of a leaf that walks from a place come to, in a file of so many ward bits
+    /// (Fagin et al. 1979). It takes no memory.
+    pub fn depth_below(&self, ward_bits: u8, at: &Leaf) -> u8
         ensures { result ≡ depth_below (splits_above self.now ward_bits) (LIMIT - length at.now.prefix) at.now }
     {
         let Some(right) = self.split_at(ward_bits, at) else {

@@ -4,7 +4,7 @@ use Rattle.exh_join.specs.Greater.{IsUpTo}
 use Rattle.exh_notice.specs.declared.entry.Entry.{Entry}
 use Rattle.exh_notice.specs.Entry.{entry_cmp}
 use Rattle.exh_table.specs.TableOrder.{IsOptionUpTo}
-use Rattle.exh_table.proofs.Raised.{AllUpTo, all_up_to, up_so_far, not_up, all_up}
+use Rattle.exh_table.proofs.Compared.{AllUpTo, all_up_to, up_so_far, not_up, all_up}
 use Rattle.exh_table.proofs.join.TableJoin.at_most.Goals as goal
 
 pub loop-prefix-init : goal.loop-prefix-init

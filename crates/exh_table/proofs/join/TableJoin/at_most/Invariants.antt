@@ -1,6 +1,6 @@
 use Rattle.std.proofs.Common.{◌↔◌}
 use Rattle.exh_table.specs.TableOrder.{IsTableUpTo}
-use Rattle.exh_table.proofs.Raised.{AllUpTo}
+use Rattle.exh_table.proofs.Compared.{AllUpTo}
 use Rattle.exh_table.proofs.join.TableJoin.at_most.Given as goal
 
 -- what is left decides

@@ -1,14 +1,16 @@
 use Rattle.std.proofs.Common.{ap, ◌∙◌, sym}
 use Rattle.exh_table.specs.Table.{TableMap}
 use Rattle.exh_table.specs.TableOrder.{table_join}
-use Rattle.exh_table.proofs.Raised.{raised_all, raised_all-join}
+use Rattle.std.specs.FinMap.{entries}
+use Rattle.exh_table.specs.RaisedLemmas.{raised_all, raised_entries-join}
+use Rattle.exh_table.proofs.Seen.{entries_seen}
 use Rattle.exh_table.proofs.join.TableJoin.join_in.Goals as goal
 
 pub loop-prefix-init : goal.loop-prefix-init
 loop-prefix-init c =
     let gives = c.into_iter-prefix-iterator.ensures.into_iter_gives in
-    ap (raised_all c.in_ok-joined.joined) gives.0
-    ∙ raised_all-join c.in_ok-joined.joined c.args.other.now c.other.inside.entries.entries c.other.view_is gives.5
+    ap (raised_all c.in_ok-joined.joined) (gives.0 ∙ sym (entries_seen c.other.inside.entries.entries gives.5) ∙ ap (λ (table : TableMap). entries table) c.other.view_is)
+    ∙ raised_entries-join c.in_ok-joined.joined c.args.other.now
     ∙ ap (λ (table : TableMap). table_join table c.args.other.now) c.in_ok-joined.ensures
 
 pub loop-prefix-preserved : goal.loop-prefix-preserved

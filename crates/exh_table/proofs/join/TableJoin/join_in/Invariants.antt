@@ -1,6 +1,6 @@
 use Rattle.std.proofs.Common.{◌≡◌}
 use Rattle.exh_table.specs.TableOrder.{table_join}
-use Rattle.exh_table.proofs.Raised.{raised_all}
+use Rattle.exh_table.specs.RaisedLemmas.{raised_all}
 use Rattle.exh_table.proofs.join.TableJoin.join_in.Given as goal
 
 -- what is left to be taken makes the join

@@ -1,0 +1,12 @@
+pub mod Leading
+pub mod Counts
+pub mod Ranges
+pub mod Walks
+pub mod Below
+pub mod Depth
+pub mod Start
+pub mod Pieces
+pub mod Deeper
+pub mod Halved
+pub mod Flat
+pub mod Updates

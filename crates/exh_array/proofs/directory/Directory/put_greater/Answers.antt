@@ -1,0 +1,36 @@
+use Rattle.std.proofs.Common.{◌≡◌, ◌≤◌, IsSome, refl, sym, ap, ◌∙◌, subst}
+use Rattle.std.specs.FinMap as map
+use Rattle.exh_prefix.specs.declared.prefix.TheConstants.{LIMIT}
+use Rattle.exh_table.specs.Table.{TableMap, table_at}
+use Rattle.exh_table.specs.SetLemmas.{put_back}
+use Rattle.exh_table.specs.RaisedLemmas.{raised_here, raised_elsewhere}
+use Rattle.exh_array.specs.Pointers.{PointerArray, IsArrayOf}
+use Rattle.exh_array.proofs.directory.Directory.put_greater.Goals as goal
+
+pub update-requires : goal.update-requires
+update-requires c = (
+  c.self.inside.table,
+  c.self.invariant.0,
+  λ at apart. sym (ap (λ (table : TableMap). map.get table at) c.in_ok-stood.ensures.ok ∙ raised_elsewhere c.self.inside.table c.args.prefix c.args.entry at apart),
+)
+
+pub put_back-requires : goal.put_back-requires
+put_back-requires c =
+    let P : TableMap → Type 0 = λ table. IsSome (map.get table c.args.prefix) in
+    subst P (sym c.in_ok-stood.ensures.ok) (subst IsSome (sym (raised_here c.self.inside.table c.args.prefix c.args.entry)) refl)
+
+-- the table is as before
+undone : (c : goal.After-put_back) → c.put_back.new.self ≡ c.self.inside.table
+undone c =
+    c.put_back.ensures
+    ∙ ap (λ (table : TableMap). table_at table c.args.prefix c.in_ok-stood.stood) c.in_ok-stood.ensures.ok
+    ∙ ap (table_at _ c.args.prefix) c.in_ok-stood.ensures.stood
+    ∙ put_back c.self.inside.table c.args.prefix c.args.entry
+
+pub invariant_of-self-in-Err : goal.invariant_of-self-in-Err
+invariant_of-self-in-Err c =
+    let P : TableMap → PointerArray → Type 0 = λ table array. IsArrayOf table array × (array.ward_bits ≡ c.self.inside.ward_bits) × (c.self.inside.ward_bits ≤ LIMIT) in
+    subst (P c.put_back.new.self) (sym c.in-Err.ensures.err) (subst (λ table. P table c.self.inside.pointers) (sym (undone c)) c.self.invariant)
+
+pub returns-in-Err-clause-err : goal.returns-in-Err-clause-err
+returns-in-Err-clause-err c = undone c ∙ c.self.view_is
