@@ -1,22 +1,24 @@
 ghost use Rattle.std.specs.Prelude.{◌≡◌};
 
 use anyhow::bail;
+use exh_array::Directory;
 use exh_frames::PlainPages;
 use exh_keyer::{AnyKeyer, Keyer};
-use exh_notice::{Entry, Kind};
 use exh_page::{CAP_LIMIT, Key, PageNo};
-use exh_prefix::{LIMIT, Prefix};
+use exh_prefix::LIMIT;
 use exh_ward::{Call, Hop, Reply, Ward, WardFault, first_page};
 use std::alloc::Global;
 
 // More hops than a call may need.
 const HOPS: u32 = 64;
 
-/// A ward of a new file, alone in it, and its one caller, who finds pages by the ward's own table.
+/// A ward of a new file, alone in it, and its one caller, who finds pages by a copy of the directory
+/// that takes each notice at once.
 #[derive(Drop)]
 pub(crate) struct Caller {
     ward: Ward<PlainPages, AnyKeyer>,
     keyer: AnyKeyer,
+    directory: Directory,
     ghost hashes: { ward.keyer ≡ keyer },
     ghost alone: { ward.ward_bits ≡ 0 },
 }
@@ -32,19 +34,20 @@ impl Caller {
         Ok(Caller {
             ward: Ward::new(alloc, store, CAP_LIMIT, 0, 0, keyer),
             keyer,
+            directory: Directory::new(alloc, 0)?,
         })
     }
 
     /// The page that the table names for a key.
     pub(crate) fn home(&self, key: &Key) -> PageNo {
         let pseudokey = self.keyer.pseudo(key.as_bytes());
-        self.ward.table().walk(0, pseudokey)
+        self.directory.walk(0, pseudokey)
     }
 
     /// Makes a call, from the page that the table names.
     pub(crate) fn call(&mut self, call: &Call) -> anyhow::Result<Reply> {
         let pseudokey = self.keyer.pseudo(call.key().as_bytes());
-        let at = self.ward.table().walk(0, pseudokey);
+        let at = self.directory.walk(0, pseudokey);
         self.follow(at, call, pseudokey)
     }
 
@@ -58,7 +61,7 @@ impl Caller {
     /// is of, as long as they fit.
     pub(crate) fn delete(&mut self, key: &Key) -> anyhow::Result<Reply> {
         let pseudokey = self.keyer.pseudo(key.as_bytes());
-        let at = self.ward.table().walk(0, pseudokey);
+        let at = self.directory.walk(0, pseudokey);
         let reply = self.follow(at, &Call::Del { key: *key }, pseudokey)?;
         for _ in 0..LIMIT {
             if !self.merge(pseudokey)? {
@@ -87,7 +90,7 @@ impl Caller {
                 Hop::Done(reply) => return Ok(reply),
                 Hop::Moved(next) => at = next,
                 Hop::MustSplit => {
-                    self.ward.split(at)?;
+                    self.directory.take(&self.ward.split(at)?)?;
                 }
                 Hop::Stray => bail!("the call went astray"),
             }
@@ -101,33 +104,19 @@ impl Caller {
             return Ok(false);
         };
         match self.ward.merge(left) {
-            Ok(_) => Ok(true),
+            Ok(notice) => {
+                self.directory.take(&notice)?;
+                Ok(true)
+            }
             Err(WardFault::NoBuddy | WardFault::BuddySplit | WardFault::TooMany(_)) => Ok(false),
             Err(fault) => Err(fault.into()),
         }
     }
 
-    // The page that the table had for a pseudokey before the last split on its walk: the left page of
-    // the pair that its home is of.
+    // The left page of the pair that the home of a pseudokey is of: the page of the parent's low bound.
     fn left_of_pair(&self, pseudokey: u64) -> Option<PageNo> {
-        let mut prefix = Prefix::new(0, 0)?;
-        let mut page = 0;
-        let mut left = None;
-        for _ in 0..LIMIT {
-            let Some(
-                Entry {
-                    kind: Kind::Split { right },
-                    ..
-                },
-            ) = self.ward.table().get(prefix)
-            else {
-                break;
-            };
-            left = Some(page);
-            let bit = prefix.child(true)?.begins(pseudokey);
-            prefix = prefix.child(bit)?;
-            page = if bit { right } else { page };
-        }
-        left
+        let pointers = self.directory.pointers();
+        let above = pointers.local_depth(pseudokey).checked_sub(1)?;
+        Some(pointers.page(pseudokey & !(u64::MAX >> above)))
     }
 }

@@ -81,7 +81,7 @@ fn push_copy_shown(
     ensures { OnOk result (out.new.items ≡ out.old.items ++ response_text (response_to world.now (Show copy))) }
 {
     match world.copy(copy) {
-        Ok(table) => push_shown(out, world.ward_bits(), copy, table),
+        Ok(directory) => push_shown(out, world.ward_bits(), copy, directory),
         Err(fault) => push_refusal(out, fault.into()),
     }
 }

@@ -7,6 +7,7 @@ ghost use Rattle.exh_world.specs.World.{ward_of};
 ghost use Rattle.exh_script.specs.View.{content_text, entry_line, in_flight_text, leaf_line, page_text, request_line, right_text, shown_text};
 
 use crate::answer_text::{push_copy, push_entry, push_request};
+use exh_array::Directory;
 use exh_frames::PlainPages;
 use exh_keyer::AnyKeyer;
 use exh_page::{Page, PageNo};
@@ -20,17 +21,17 @@ pub(crate) fn push_shown(
     out: &mut Vec<u8>,
     ward_bits: u8,
     copy: u32,
-    table: &Table,
+    directory: &Directory,
 ) -> Result<(), AllocError>
     requires { ward_bits ≤ WARD_BITS_LIMIT }
-    ensures { OnOk result (out.new.items ≡ out.old.items ++ shown_text ward_bits copy table.now) }
+    ensures { OnOk result (out.new.items ≡ out.old.items ++ shown_text ward_bits copy directory.now) }
 {
     push_copy(out, copy)?;
     push_text(out, " depth ")?;
-    push_number(out, u64::from(table.depth(ward_bits)))?;
+    push_number(out, u64::from(directory.depth(ward_bits)))?;
     push_text(out, "\n")?;
-    push_entries(out, table)?;
-    push_leaves(out, ward_bits, table)
+    push_entries(out, directory.table())?;
+    push_leaves(out, ward_bits, directory.table())
 }
 
 fn push_entries(out: &mut Vec<u8>, table: &Table) -> Result<(), AllocError>

@@ -2,6 +2,7 @@ ghost use Rattle.std.specs.Prelude.{◌≡◌};
 ghost use Rattle.exh_world.specs.Sound.{IsSoundWorld};
 
 use crate::in_flight::InFlight;
+use exh_array::Directory;
 use exh_frames::Pages;
 use exh_keyer::Keyer;
 use exh_table::Table;
@@ -30,9 +31,9 @@ pub struct World<P: Pages + Drop, K: Keyer> {
     ward_bits: u8,
     keyer: K,
     wards: Vec<Ward<P, K>>,
-    start: Table,
+    start: Directory,
     noticed: Vec<usize>,
-    copies: Vec<Table>,
+    copies: Vec<Directory>,
     sent: Vec<Table>,
     in_flight: InFlight,
 }

@@ -337,7 +337,7 @@ fn table_is_alike(
     let taken = beside.taken.get(place as usize).ok_or("no copy")?;
     let entries = greatest_of(rt.alloc(), taken)?;
     let mut listed = entries.iter();
-    for (prefix, entry) in world.copy(copy)?.entries() {
+    for (prefix, entry) in world.copy(copy)?.table().entries() {
         assert_eq!(rt; listed.next(), Some(&(*prefix, *entry)));
     }
     assert!(rt; listed.next().is_none());

@@ -192,8 +192,11 @@ fn assert_same_copy(
     other: &AnyWorld,
     copy: u32,
 ) -> Result<(), Fail> {
-    let entries = world.copy(copy)?.entries();
-    assert!(rt; entries.eq(other.copy(copy)?.entries()), "copy {copy}");
+    let entries = world.copy(copy)?.table().entries();
+    assert!(rt;
+        entries.eq(other.copy(copy)?.table().entries()),
+        "copy {copy}"
+    );
     Ok(())
 }
 

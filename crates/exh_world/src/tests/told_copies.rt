@@ -60,7 +60,7 @@ const SECOND_SPLIT: Told = Told {
 
 // A copy has one entry, a merge's at the root.
 fn assert_merged(rt: &impl Abort, world: &PlainWorld, copy: u32) -> Result<(), Fail> {
-    let table = world.copy(copy)?;
+    let table = world.copy(copy)?.table();
     let root = Prefix::new(0, 0).ok_or("a prefix")?;
     let merged = Entry {
         number: 2,
@@ -79,9 +79,9 @@ fn assert_leaves(
     depth: u8,
     want: &[Leaf],
 ) -> Result<(), Fail> {
-    let table = world.copy(copy)?;
-    assert_eq!(rt; table.depth(0), depth);
-    let leaves = table.leaves(0)?;
+    let directory = world.copy(copy)?;
+    assert_eq!(rt; directory.depth(0), depth);
+    let leaves = directory.table().leaves(0)?;
     assert_eq!(rt; leaves.as_slice(), want);
     Ok(())
 }

@@ -47,7 +47,7 @@ impl<P: Pages + Drop, K: Keyer> World<P, K> {
         let Ok(number) = u32::try_from(self.sent.len() + 1) else {
             return Err(StepFault::Ward(WardFault::Memory));
         };
-        let table = self.copies[at].try_clone()?;
+        let table = self.copies[at].table().try_clone()?;
         self.sent.reserve(1)?;
         self.sent.push_reserved(table);
         Ok(Outcome::Sent(number))

@@ -10,9 +10,9 @@ use super::World;
 use super::copies_of::copies_of;
 use crate::Config;
 use crate::in_flight::InFlight;
+use exh_array::Directory;
 use exh_frames::PlainPages;
 use exh_keyer::Keyer;
-use exh_table::Table;
 use exh_ward::{Ward, first_page};
 use std::alloc::{AllocError, Global};
 
@@ -30,7 +30,7 @@ impl<K: Keyer> World<PlainPages, K> {
         let wards = new_wards(alloc, config)?;
         let mut noticed = Vec::new(alloc);
         noticed.resize(1 << config.ward_bits, 0)?;
-        let start = Table::new(alloc);
+        let start = Directory::new(alloc, config.ward_bits)?;
         let copies = copies_of(alloc, &start, config.copies)?;
         Ok(World {
             alloc,

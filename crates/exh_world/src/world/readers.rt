@@ -12,10 +12,10 @@ ghost use Rattle.exh_world.specs.declared.request.Request.{Request as RequestTyp
 use super::World;
 use super::place::place_in;
 use crate::{Request, StepFault};
+use exh_array::Directory;
 use exh_frames::Pages;
 use exh_keyer::Keyer;
 use exh_page::{Page, PageNo};
-use exh_table::Table;
 use indexmap::map::Iter;
 
 impl<P: Pages + Drop, K: Keyer> World<P, K> {
@@ -28,9 +28,9 @@ impl<P: Pages + Drop, K: Keyer> World<P, K> {
         self.ward_bits
     }
 
-    /// A copy's table. Copies are numbered from 1 on. It takes no memory. Refused: `NoCopy`.
-    pub fn copy(&self, number: u32) -> Result<&Table, StepFault>
-        ensures table { IfOk result (λ table. numbered self.now.copies number ≡ Some table.now) }
+    /// A copy, which lends its table. Copies are numbered from 1 on. It takes no memory. Refused: `NoCopy`.
+    pub fn copy(&self, number: u32) -> Result<&Directory, StepFault>
+        ensures copy { IfOk result (λ copy. numbered self.now.copies number ≡ Some copy.now) }
         ensures refused { IfErr result (λ fault. (fault ≡ StepFault.NoCopy) × (numbered self.now.copies number ≡ None)) }
     {
         let Some(at) = place_in(&self.copies, number) else {

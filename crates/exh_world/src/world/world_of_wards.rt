@@ -8,11 +8,10 @@ use super::World;
 use super::copies_of::copies_of;
 use crate::Config;
 use crate::in_flight::InFlight;
+use exh_array::Directory;
 use exh_frames::Pages;
-use exh_join::Join;
 use exh_keyer::Keyer;
 use exh_legal::walks_name_homes;
-use exh_table::Table;
 use exh_ward::Ward;
 use std::alloc::{AllocError, Global};
 
@@ -34,7 +33,7 @@ impl<P: Pages + Drop, K: Keyer> World<P, K> {
         ensures sound { IfOk result (IsSoundWorld K.pseudokey_of) }
     {
         walks_name_homes();
-        let start = joined_tables(alloc, &wards)?;
+        let start = joined_tables(alloc, config.ward_bits, &wards)?;
         let noticed = notice_counts(alloc, &wards)?;
         let copies = copies_of(alloc, &start, config.copies)?;
         Ok(World {
@@ -55,16 +54,18 @@ impl<P: Pages + Drop, K: Keyer> World<P, K> {
 // The wards' tables together. The wards are sound, as each says when asked for its table.
 fn joined_tables<P: Pages + Drop, K: Keyer>(
     alloc: Global,
+    ward_bits: u8,
     wards: &[Ward<P, K>],
-) -> Result<Table, AllocError>
-    ensures table { IfOk result (λ table. table ≡ tables_joined wards.now) }
+) -> Result<Directory, AllocError>
+    requires { ward_bits ≤ WARD_BITS_LIMIT }
+    ensures table { IfOk result (λ directory. directory ≡ tables_joined wards.now) }
     ensures sound { IfOk result (λ _. (number : ℕ) (ward : WardState K) → slice_get wards.now number ≡ Some ward → IsSoundWard K.pseudokey_of ward) }
 {
-    let mut table = Table::new(alloc);
+    let mut directory = Directory::new(alloc, ward_bits)?;
     for ward in wards {
-        table.join_in(ward.table())?;
+        directory.join_in(ward.table())?;
     }
-    Ok(table)
+    Ok(directory)
 }
 
 // How many notices each ward has.

@@ -16,7 +16,7 @@ returns-clause-step g c =
     let placed = subst (λ (items : List TableMap). IsPlaceOf items c.args.copy c.in-Some.at) c.deref.ensures.value c.in-Some.ensures.some in
     let own_at = lent_there c.self.inside.copies.items c.args.copy c.in-Some.at c.index.result.now placed c.index.ensures in
     let number : c.in-Ok.number ≡ suc (length c.self.inside.sent.items) = omega (arith, c.in-Ok.ensures.1, c.len.ensures) in
-    has_sent c.self.view_is c.self.invariant c.args.copy c.in-Some.at placed c.index.result.now own_at c.in-Ok.number c.in_ok-table.table c.push_reserved.new.self.items number c.in_ok-table.ensures (sent_are g c)
+    has_sent c.self.view_is c.self.invariant c.args.copy c.in-Some.at placed c.index.result.now own_at c.in-Ok.number c.in_ok-table.table c.push_reserved.new.self.items number (c.in_ok-table.ensures ∙ c.table.ensures) (sent_are g c)
 
 pub invariant_of-self-2 : goal.invariant_of-self-2
 invariant_of-self-2 g c = kept_after c.self.view_is c.self.invariant c.steps_keep_worlds_sound.ensures (Send c.args.copy) (Ok (Sent c.in-Ok.number)) _ (returns-clause-step g c) refl refl (omega (arith, c.in-Ok.ensures.0, c.len.ensures, ap length (sent_are g c), length_push c.self.inside.sent.items c.in_ok-table.table))

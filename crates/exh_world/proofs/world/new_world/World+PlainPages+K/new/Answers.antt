@@ -5,10 +5,10 @@ use Rattle.exh_world.proofs.world.new_world.World+PlainPages+K.new.Goals as goal
 
 pub returns-clause-world : goal.returns-clause-world
 returns-clause-world g c =
-    made_is c.args.config.now c.in_ok-wards.wards.items c.new-start.result c.resize.new.self.items c.in_ok-copies.copies.items c.new.result.items c.new-2.result
-    c.in_ok-wards.ensures.wards c.new-start.ensures
+    made_is c.args.config.now c.in_ok-wards.wards.items c.in_ok-start.start c.resize.new.self.items c.in_ok-copies.copies.items c.new-2.result.items c.new-3.result
+    c.in_ok-wards.ensures.wards c.in_ok-start.ensures
     (none_noticed _ _ _ c.new-noticed.result.items c.resize.new.self.items (search rules) c.new-noticed.ensures.items c.new-noticed.ensures.len c.in_ok-resize.ensures.items)
-    (c.in_ok-copies.ensures ∙ ap (replicate c.args.config.now.copies) c.new-start.ensures) c.new.ensures.items c.new-2.ensures
+    (c.in_ok-copies.ensures ∙ ap (replicate c.args.config.now.copies) c.in_ok-start.ensures) c.new-2.ensures.items c.new-3.ensures
 
 pub invariant_of-result : goal.invariant_of-result
 invariant_of-result g c =
