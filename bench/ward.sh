@@ -8,18 +8,24 @@
 # as many new keys as that, with the splits that they bring, and then gets each of them once, in another order. Keys
 # and values have 8 bytes, and the keys' first bits are evenly spread.
 # - crates/bench_ward calls a ward of 16 records a page over pages in memory, by keyer plain and by keyer sha. Its
-#   caller hashes a key once, walks the ward's own table to the page, hops until it is answered, and splits where that
-#   is to be done first. Of a get are also timed the walk alone (hash and walk) and the hop alone (hash and hop, from
-#   the page that a walk came to before), which is printed beside a get of gdbm.
+#   caller hashes a key once, asks a copy of the directory for the page, hops until it is answered, and splits where
+#   that is to be done first; the copy takes each notice at once. Of a get are also timed the walk alone (hash and look
+#   at the pointer) and the hop alone (hash and hop, from the page that a walk came to before), which is printed beside
+#   a get of gdbm.
 # - ward_gdbm.c calls gdbm_store and gdbm_fetch. It is to stand as well as it can: its file is on /dev/shm where there
 #   is one, it takes no lock and doesn't synchronize, and the fastest of several settings counts.
-# Then the ward's caller deletes until a tenth of the records is left. After each delete it walks the table for the
-# pair that the page is of, and tries to merge it, and then the pair of the merged page, as long as `Ward::merge` takes
-# them. It keeps no counts of its own: whether a pair fits is found by reading both pages, and copying the left one.
-# Printed are the pages live at the end, also as a share of the least possible, the records left by 16, rounded up.
+# Then the ward's caller deletes until a tenth of the records is left. After each delete it asks the copy for the pair
+# that the page is of, and tries to merge it, and then the pair of the merged page, as long as `Ward::merge` takes them.
+# It keeps no counts of its own: whether a pair fits is found by reading both pages. Printed are the pages live at the
+# end, also as a share of the least possible, the records left by 16, rounded up.
+#
+# Where valgrind is there, it counts the instructions of one round by keyer plain, a call: of puts and gets with their
+# splits, and of deletes with their merges. They are the same in each run, and tell what work grows with the records;
+# the times also tell how far away the memory of that many records is.
 #
 # Wanted: with keyer plain a put with its splits takes at most 0.25 of gdbm's time, and a get at most 0.5; with keyer
-# sha neither takes more than gdbm's; and a call at 60,000 records, a delete too, at most 1.5 times its time at 1,000.
+# sha neither takes more than gdbm's; and a call at 60,000 records, a delete too, at most 1.5 times its time at 1,000,
+# and at most 1.2 times its instructions.
 #
 # Status: 0 where all that is met, 1 where something isn't, 2 where nothing could be measured.
 set -u
@@ -63,6 +69,12 @@ measure() {
     done
 }
 
+# Prints how many instructions a round of $1 records makes in a part of the program, by keyer plain.
+count() {
+    valgrind --tool=callgrind --callgrind-out-file=/dev/null --toggle-collect="bench_ward::$2" "$program" plain "$1" 1 2>&1 |
+        sed -n 's/.*Collected : *//p'
+}
+
 cc -O2 -Wall -Wextra -o "$folder/ward_gdbm" "$bench/ward_gdbm.c" -lgdbm ||
     die "gdbm's library could not be built against (Debian: apt-get install libgdbm-dev)"
 (cd "$root/crates/bench_ward" && rt run) > "$folder/log" 2>&1 || {
@@ -71,6 +83,9 @@ cc -O2 -Wall -Wextra -o "$folder/ward_gdbm" "$bench/ward_gdbm.c" -lgdbm ||
 }
 for records in 1000 10000 60000; do
     measure "$records"
+    if command -v valgrind > "$folder/log"; then
+        echo "count $records $(count "$records" 'caller::Caller::call') $(count "$records" 'times::delete_time*')"
+    fi
 done > "$folder/times"
 machine="$(nproc) x $(sed -n 's/^model name[^:]*: //p' /proc/cpuinfo | head -n 1)"
 echo "machine: $machine, load $(cut -d ' ' -f 1 /proc/loadavg); best of $RUNS runs; microseconds a call"
@@ -111,6 +126,10 @@ awk '
         printf "%7d  pages   %6d  %6d  live, %.2f and %.2f of the least possible\n", records, live["plain", records],
             live["sha", records], live["plain", records] / least, live["sha", records] / least
     }
+    # Prints how many instructions a call makes: a put or get, and a delete.
+    function tell_work(records) {
+        printf "%7d  work    %6.0f instructions a put or get, %.0f a delete\n", records, calls[records], deletes[records]
+    }
     # Prints how the cost of a call grows from 1,000 to 60,000 records, by plain and by sha.
     function tell_growth(call, column,    plain, sha) {
         plain = cost("plain", 60000, column) / cost("plain", 1000, column)
@@ -118,6 +137,12 @@ awk '
         printf "growth   %-6s  %6.2f  %6.2f\n", call, plain, sha
         judge("the growth of a " call " of plain", plain, 1.5)
         judge("the growth of a " call " of sha", sha, 1.5)
+    }
+    $1 == "count" {
+        # Each key is put and got, a tenth of them once more, and nine tenths are deleted.
+        calls[$2] = $3 / ($2 * 2.1)
+        deletes[$2] = $4 / ($2 * 0.9)
+        next
     }
     $3 != $2 || (NF > 5 && $9 != $2 / 10) { fail("wrong values: " $0) }
     {
@@ -140,10 +165,19 @@ awk '
             tell(sizes[i], "hop", 7, 5)
             tell(sizes[i], "delete", 8)
             tell_pages(sizes[i])
+            if (sizes[i] in calls) tell_work(sizes[i])
         }
         tell_growth("put", 4)
         tell_growth("get", 5)
         tell_growth("delete", 8)
+        printf "growth   gdbm    %6.2f of a put, %.2f of a get\n", cost("gdbm", 60000, 4) / cost("gdbm", 1000, 4),
+            cost("gdbm", 60000, 5) / cost("gdbm", 1000, 5)
+        if (1000 in calls) {
+            printf "growth   work    %6.2f of a put or get, %.2f of a delete\n", calls[60000] / calls[1000],
+                deletes[60000] / deletes[1000]
+            judge("the growth of the work of a put or get", calls[60000] / calls[1000], 1.2)
+            judge("the growth of the work of a delete", deletes[60000] / deletes[1000], 1.2)
+        }
         for (i = 1; i <= short; i++) print falls[i]
         exit (short > 0)
     }' "$folder/times"
