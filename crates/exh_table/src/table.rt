@@ -69,11 +69,7 @@ impl Table {
     /// Takes an entry at a prefix: there the greater one stays. It answers what stood there. Where
     /// memory is refused, an `AllocError`, the table is as before; it is asked for only where no
     /// entry stands at the prefix.
-    pub fn put_greater(
-        &mut self,
-        prefix: Prefix,
-        entry: Entry,
-    ) -> Result<Option<Entry>, AllocError>
+    pub fn put_greater(&mut self, prefix: Prefix, entry: Entry) -> Result<Option<Entry>, AllocError>
         ensures stood { IfOk result (λ stood. stood ≡ map.get self.old prefix) }
         ensures ok { OnOk result (self.new ≡ raised self.old prefix entry) }
         ensures err { OnErr result (self.new ≡ self.old) }
