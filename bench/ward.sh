@@ -20,8 +20,8 @@
 # end, also as a share of the least possible, the records left by 16, rounded up.
 #
 # Where valgrind is there, it counts the instructions of one round by keyer plain, a call: of puts and gets with their
-# splits, and of deletes with their merges. They are the same in each run, and tell what work grows with the records;
-# the times also tell how far away the memory of that many records is.
+# splits, and of deletes with their merges. They hardly differ from run to run, and tell what work grows with the
+# records; the times also tell how far away the memory of that many records is.
 #
 # Wanted: with keyer plain a put with its splits takes at most 0.25 of gdbm's time, and a get at most 0.5; with keyer
 # sha neither takes more than gdbm's; and a call at 60,000 records, a delete too, at most 1.5 times its time at 1,000,
