@@ -1,14 +1,14 @@
 -- Records of which each neighbour is before the next.
-use Rattle.std.proofs.Common.{◌≡◌, ℕ, zero, suc, ◌+◌, ◌-◌, ◌<◌, ◌≤◌, Bool, true, false, not, nat_eq, List, [], ◌∷◌, ◌++◌, length, map, get_or, take, refl, sym, ap, ◌∙◌, subst, arith}
+use Rattle.std.proofs.Common.{◌≡◌, ℕ, zero, suc, ◌+◌, ◌-◌, ◌<◌, ◌≤◌, Bool, true, false, not, nat_eq, List, [], ◌∷◌, ◌++◌, length, map, get_or, take, drop, refl, sym, ap, ◌∙◌, subst, arith}
 use Rattle.std.specs.declared.cmp.Ordering.TheVariants.{Less, Equal, Greater}
 use Rattle.std.specs.declared.cmp.Ordering.{Ordering}
 use Rattle.std.specs.Ordering.{ordering_index}
 use Rattle.std.specs.List.{AllByRecursion}
-use Rattle.std.proofs.lemmas.List.{map-append, take_more}
+use Rattle.std.proofs.lemmas.List.{map-append, take-append-drop, take_more}
 use Rattle.exh_page.specs.declared.record.Record.{Record}
 use Rattle.exh_page.specs.Place.{place_cmp, place_of}
 use Rattle.exh_page.specs.Records.{IsRising}
-use Rattle.exh_page.specs.RecordsLemmas.{place_cmp-total}
+use Rattle.exh_page.specs.RecordsLemmas.{IsRising-append_left, place_cmp-total}
 use Rattle.exh_codec.specs.declared.borrowed_record.BorrowedRecord.{BorrowedRecord}
 use Rattle.exh_codec.specs.Cells.{record_in, Pair, IsSized, pair_of, pair_in}
 use Rattle.exh_codec.specs.declared.cell.Cell.{Cell}
@@ -83,3 +83,12 @@ item_at (r ∷ items) (suc i) d within sized = item_at items i d (omega arith) s
 pub pairs_of_records : (pseudo : List ℕ → ℕ) (pairs : List Pair) → map pair_of (map (record_of pseudo) pairs) ≡ pairs
 pairs_of_records pseudo [] = refl
 pairs_of_records pseudo (pair ∷ pairs) = ap (λ (rest : List Pair). pair ∷ rest) (pairs_of_records pseudo pairs)
+
+-- the first records and the next one rise, as all do
+pub rising_front : (items : List BorrowedRecord) (i : ℕ) (d : BorrowedRecord) → i < length items → IsRising (map record_in items) → IsRising (map record_in (take i items) ++ record_in (get_or items i d) ∷ [])
+rising_front items i d within rising =
+    let cut : map record_in items ≡ map record_in (take (i + 1) items) ++ map record_in (drop (i + 1) items) =
+    ap (map record_in) (sym (take-append-drop (i + 1) items)) ∙ map-append record_in (take (i + 1) items) (drop (i + 1) items) in
+    let shown : map record_in (take (i + 1) items) ≡ map record_in (take i items) ++ record_in (get_or items i d) ∷ [] =
+    ap (map record_in) (take_more items i d within) ∙ map-append record_in (take i items) (get_or items i d ∷ []) in
+    subst IsRising shown (IsRising-append_left _ _ (subst IsRising cut rising))

@@ -10,7 +10,7 @@ ghost use Rattle.exh_page.specs.Page.{IsWellFormed};
 use crate::block::{BLOCK_LEN, CONTENT_LEN, seal};
 use crate::head::{HEAD_LEN, Head};
 use exh_keyer::Keyer;
-use exh_page::{KEY_LIMIT, Page, Record, VALUE_LIMIT};
+use exh_page::{KEY_LIMIT, Page, Record, Records, VALUE_LIMIT};
 
 /// The greatest length of a record in an image, in bytes (exhash profile).
 const RECORD_LEN: usize = 2 + KEY_LIMIT + VALUE_LIMIT;
@@ -49,19 +49,19 @@ fn put_page(block: &mut [u8], page: &Page)
     let head = Head::of(page).to_bytes();
     block[..HEAD_LEN].copy_from_slice(&head);
     if let Page::Live { records, .. } = page {
-        put_records(&mut block[HEAD_LEN..], records.as_slice());
+        put_records(&mut block[HEAD_LEN..], records);
     }
 }
 
 // Writes records, one after the other, over the first bytes.
-fn put_records(out: &mut [u8], records: &[Record])
+fn put_records(out: &mut [u8], records: &Records)
     requires { RECORD_LEN * length records.now ≤ length out.old }
     ensures bytes { let image = flat_map pair_image (map pair_of records.now) in out.new ≡ image ++ drop (length image) out.old }
     ensures sized { AllByRecursion IsSized (map pair_of records.now) }
 {
     let mut end = 0;
-    for item in records {
-        end += put_record(&mut out[end..], item);
+    for item in records.iter() {
+        end += put_record(&mut out[end..], &item);
     }
 }
 

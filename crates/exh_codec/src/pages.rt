@@ -13,7 +13,7 @@ use crate::cell::Cell;
 use crate::head::{Head, NO_LINK};
 use arrayvec::ArrayVec;
 use exh_keyer::Keyer;
-use exh_page::{CAP_LIMIT, Page, PageNo, Record, Records};
+use exh_page::{CAP_LIMIT, Page, PageNo, Records};
 use exh_prefix::{LIMIT, Prefix};
 use std::alloc::{AllocError, Global};
 use std::cmp::Ordering;
@@ -42,7 +42,7 @@ pub(crate) fn live_page<K: Keyer>(
     Ok(Page::Live {
         prefix,
         right: right_link(head.link),
-        records: Records::from_vec(to_records(alloc, &records)?),
+        records: to_records(alloc, &records)?,
     })
 }
 
@@ -105,14 +105,15 @@ fn are_rising(records: &[BorrowedRecord<'_>]) -> bool
     true
 }
 
-// The records themselves.
-fn to_records(alloc: Global, records: &[BorrowedRecord<'_>]) -> Result<Vec<Record>, AllocError>
-    requires { AllByRecursion IsSized (map pair_of (map record_in records.now)) }
-    ensures { IfOk result (λ owned. owned.items ≡ map record_in records.now) }
+// The records themselves, which rise.
+fn to_records(alloc: Global, records: &[BorrowedRecord<'_>]) -> Result<Records, AllocError>
+    requires sized { AllByRecursion IsSized (map pair_of (map record_in records.now)) }
+    requires rising { IsRising (map record_in records.now) }
+    ensures { IfOk result (λ owned. owned ≡ map record_in records.now) }
 {
-    let mut owned = Vec::with_capacity(alloc, records.len())?;
+    let mut owned = Records::new(alloc);
     for item in records {
-        owned.push(to_record(item))?;
+        owned.push(&to_record(item))?;
     }
     Ok(owned)
 }

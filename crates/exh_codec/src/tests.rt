@@ -80,7 +80,7 @@ fn are_same(one: &Page, other: &Page) -> bool {
         ) => {
             prefix == other_prefix
                 && right == other_right
-                && records.as_slice() == other_records.as_slice()
+                && records.iter().eq(other_records.iter())
         }
         (
             Page::Forward { low, target },

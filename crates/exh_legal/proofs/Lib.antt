@@ -12,3 +12,4 @@ pub mod PageCount
 pub mod SplitReady
 pub mod MergeFit
 pub mod MergeGrown
+pub mod Siblings

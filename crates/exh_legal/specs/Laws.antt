@@ -110,6 +110,18 @@ abbrev pub TargetsLeadOn : Type 0
 TargetsLeadOn =
     (ward : List Bool) (pages : List Page) (number low target : ℕ) → AreLinked ward (bare pages) → IsAt pages number (Forward low target) → (page : Page) × IsAt pages target page × (low_bound page ≤ low)
 
+-- the right link of a live left child: it leads to the page of the sibling's low bound, which is the sibling's page if that is live
+pub record LinksToSibling (pages : List Page) (prefix : List Bool) (link : Option ℕ) : Type 0 where
+  pub right : ℕ
+  pub link_is : link ≡ Some right
+  pub page : IsPageOf pages (low_of (prefix ++ true ∷ [])) right
+  pub sibling : (number : ℕ) → IsLiveAt pages (prefix ++ true ∷ []) number → number ≡ right
+
+abbrev pub LeftChildrenLinkToSiblings : Type 0
+LeftChildrenLinkToSiblings =
+    (ward : List Bool) (pages : List Page) (number : ℕ) (prefix : List Bool) (link : Option ℕ) (records : List Record)
+    → AreLinked ward (bare pages) → IsAt pages number (Live (prefix ++ false ∷ []) link records) → length ward ≤ length prefix → LinksToSibling pages prefix link
+
 -- ---- the beginning, and how many there can be
 
 -- a lone empty page of the ward's own prefix is a legal ward, of the table with no entry and no change

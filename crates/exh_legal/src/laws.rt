@@ -1,6 +1,6 @@
 //! What holds of the pages of every ward, for the proofs of callers. Each function does nothing.
 
-ghost use Rattle.exh_legal.specs.Laws.{SplitsKeepLegal, MergesKeepLegal, LivePagesSplit, LiveLeftChildrenMerge, WalksNameHomes, RightLinksLeadOn, TargetsLeadOn, LonePagesAreLegal, PagesAreFew};
+ghost use Rattle.exh_legal.specs.Laws.{SplitsKeepLegal, MergesKeepLegal, LivePagesSplit, LiveLeftChildrenMerge, WalksNameHomes, RightLinksLeadOn, TargetsLeadOn, LeftChildrenLinkToSiblings, LonePagesAreLegal, PagesAreFew};
 
 /// A split of a legal ward leaves it legal, for the changes with its notice, and leaves the map and
 /// each page's number and low bound as they were.
@@ -40,6 +40,12 @@ pub fn right_links_lead_on()
 /// A forwarding page's target has no greater low bound.
 pub fn targets_lead_on()
     ensures { TargetsLeadOn }
+{}
+
+/// A live page that is a left child of its ward has a right link to the page of its sibling's low
+/// bound, which is the sibling's page where that is live.
+pub fn left_children_link_to_siblings()
+    ensures { LeftChildrenLinkToSiblings }
 {}
 
 /// One empty page of the ward's own prefix is a legal ward.

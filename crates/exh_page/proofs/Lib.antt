@@ -1,2 +1,5 @@
 pub mod Searched
 pub mod Begun
+pub mod Packed
+pub mod PackedEdits
+pub mod PackedReads

@@ -1,16 +1,19 @@
 -- Where a search of rising records stops.
-use Rattle.std.proofs.Common.{◌≡◌, ℕ, ◌+◌, ◌<◌, ◌≤◌, List, [], ◌∷◌, ◌++◌, length, take, drop, get_or, set, insert, remove, slice_get, None, Some, refl, sym, ap, ◌∙◌, subst, arith}
+use Rattle.std.proofs.Common.{◌≡◌, ℕ, ◌+◌, ◌<◌, ◌≤◌, Bool, true, false, List, [], ◌∷◌, ◌++◌, length, take, drop, get_or, set, insert, remove, slice_get, None, Some, IfSome, refl, sym, ap, ◌∙◌, subst, arith}
 use Rattle.std.specs.declared.cmp.Ordering.TheVariants.{Less, Equal, Greater}
 use Rattle.std.specs.List.{All}
 use Rattle.std.specs.Ordering.{is_lt}
-use Rattle.std.proofs.lemmas.List.{take-append-drop, drop_more, drop_all, take_all, set_split}
+use Rattle.std.proofs.lemmas.Bool.{false≢true}
+use Rattle.std.proofs.lemmas.List.{length-append, take-append-drop, drop_more, drop_all, take_all, set_split}
 use Rattle.std.proofs.lemmas.List.Elements.{recursion_from_All}
-use Rattle.std.proofs.lemmas.Option.{slice_get_read, get_or_from_slice_get}
+use Rattle.std.proofs.lemmas.Option.{slice_get_read}
 use Rattle.std.proofs.Math.Numerals.{suc-eq-add-one}
 use Rattle.exh_page.specs.declared.record.Record.{Record}
 use Rattle.exh_page.specs.Place.{Place, place_cmp, place_of}
 use Rattle.exh_page.specs.Records.{IsRising, value_at, with_record, without_place}
-use Rattle.exh_page.specs.RecordsLemmas.{AllBefore, AllAfter, IsRising-drop, IsRising-filter, IsRising-with_record, after_later, value_at-cut, with_record-cut, without_place-cut}
+use Rattle.exh_page.specs.PackedRecords.{text_of}
+use Rattle.exh_page.specs.Page.{begun_by}
+use Rattle.exh_page.specs.RecordsLemmas.{place_cmp-exact, AllBefore, AllAfter, IsRising-drop, IsRising-filter, IsRising-with_record, after_later, value_at-cut, with_record-cut, without_place-cut}
 use Rattle.exh_page.specs.Search.{IsFound, IsGap}
 
 -- the records from i on, of which the first is x
@@ -62,36 +65,50 @@ gap_at_end place records i past before =
       };
     }
 
--- ---- what is read and written where a search stopped: the searched list is that of the fields, and that of the view
+-- ---- what is read and written where a search stopped: the searched list is that of the view
 
-pub value_found : {place : Place} {searched items records : List Record} {i : ℕ} {x : Record} → IsFound place searched i → searched ≡ items → items ≡ records
-    → x ≡ get_or items i x → Some x.value ≡ value_at place records
-value_found {place} {searched} {items} {records} {i} {x} found same view is =
-    let at : slice_get items i ≡ Some found.found = subst (λ list. slice_get list i ≡ Some found.found) same found.at in
-    ap Some (ap (λ r. r.value) (is ∙ get_or_from_slice_get items i found.found x at)) ∙ sym (value_at-cut place searched _ _ _ found.cut) ∙ ap (value_at place) (same ∙ view)
+pub value_found : {place : Place} {searched records : List Record} {i : ℕ} {value : List ℕ} → IsFound place searched i → searched ≡ records → IfSome (slice_get searched i) (λ r. value ≡ r.value)
+    → Some value ≡ value_at place records
+value_found {place} {searched} {records} {i} {value} found same read =
+    let is : value ≡ found.found.value = subst (λ o. IfSome o (λ r. value ≡ r.value)) found.at read in
+    ap Some is ∙ sym (value_at-cut place searched _ _ _ found.cut) ∙ ap (value_at place) same
 
 pub no_value_at_gap : {place : Place} {searched records : List Record} {i : ℕ} → IsGap place searched i → searched ≡ records → None ≡ value_at place records
 no_value_at_gap {place} {searched} {records} {i} gap same = sym (value_at-cut place searched _ _ _ gap.cut) ∙ ap (value_at place) same
 
-pub set_found : {searched items records : List Record} {i : ℕ} (item : Record) → IsFound (place_of item) searched i → searched ≡ items → items ≡ records
-    → set items i item ≡ with_record item records
-set_found {searched} {items} {records} {i} item found same view =
-    sym (ap (λ list. set list i item) same) ∙ set_split searched i item found.within ∙ ap (λ n. take i searched ++ item ∷ drop n searched) (suc-eq-add-one i)
-    ∙ sym (with_record-cut item searched _ _ _ found.cut) ∙ ap (with_record item) (same ∙ view)
+pub set_found : {searched records : List Record} {i : ℕ} (item : Record) → IsFound (place_of item) searched i → searched ≡ records → set searched i item ≡ with_record item records
+set_found {searched} {records} {i} item found same =
+    set_split searched i item found.within ∙ ap (λ n. take i searched ++ item ∷ drop n searched) (suc-eq-add-one i)
+    ∙ sym (with_record-cut item searched _ _ _ found.cut) ∙ ap (with_record item) same
 
-pub insert_gap : {searched items records : List Record} {i : ℕ} (item : Record) → IsGap (place_of item) searched i → searched ≡ items → items ≡ records
-    → insert items i item ≡ with_record item records
-insert_gap {searched} {items} {records} {i} item gap same view =
-    sym (ap (λ list. insert list i item) same) ∙ sym (with_record-cut item searched _ _ _ gap.cut) ∙ ap (with_record item) (same ∙ view)
+pub insert_gap : {searched records : List Record} {i : ℕ} (item : Record) → IsGap (place_of item) searched i → searched ≡ records → insert searched i item ≡ with_record item records
+insert_gap {searched} {records} {i} item gap same = sym (with_record-cut item searched _ _ _ gap.cut) ∙ ap (with_record item) same
 
-pub remove_found : {place : Place} {searched items records : List Record} {i : ℕ} → IsFound place searched i → searched ≡ items → items ≡ records
-    → remove items i ≡ without_place place records
-remove_found {place} {searched} {items} {records} {i} found same view =
-    sym (ap (λ list. remove list i) same) ∙ ap (λ n. take i searched ++ drop n searched) (suc-eq-add-one i)
-    ∙ sym (without_place-cut place searched _ _ _ found.cut) ∙ ap (without_place place) (same ∙ view)
+pub remove_found : {place : Place} {searched records : List Record} {i : ℕ} → IsFound place searched i → searched ≡ records → remove searched i ≡ without_place place records
+remove_found {place} {searched} {records} {i} found same =
+    ap (λ n. take i searched ++ drop n searched) (suc-eq-add-one i) ∙ sym (without_place-cut place searched _ _ _ found.cut) ∙ ap (without_place place) same
 
 pub same_at_gap : {place : Place} {searched records : List Record} {i : ℕ} → IsGap place searched i → searched ≡ records → records ≡ without_place place records
 same_at_gap {place} {searched} {records} {i} gap same = sym same ∙ gap.cut.whole ∙ sym (without_place-cut place searched _ _ _ gap.cut) ∙ ap (without_place place) same
+
+-- ---- where memory was refused, the value was longer than the one that it was to replace, or there was none
+
+longer : (item : Record) {searched : List Record} {i : ℕ} → IsFound (place_of item) searched i → IfSome (slice_get searched i) (λ r. length (text_of item) ≤ length (text_of r) → false ≡ true)
+    → (P : Type 0) (value : List ℕ) → IfSome (slice_get searched i) (λ r. value ≡ r.value) → length item.value ≤ length value → P
+longer item {searched} {i} found refused P value read le =
+    let r : Record = found.found in
+    let is : value ≡ r.value = subst (λ o. IfSome o (λ r. value ≡ r.value)) found.at read in
+    let key : r.key ≡ item.key = ap (λ (place : Place). place.1) (place_cmp-exact (place_of r) (place_of item) found.cut.here.0) in
+    let fits : length (text_of item) ≤ length (text_of r) = omega (arith, length-append item.key item.value, length-append r.key r.value, ap length key, ap length is) in
+    absurd (false≢true (subst (λ o. IfSome o (λ r. length (text_of item) ≤ length (text_of r) → false ≡ true)) found.at refused fits))
+
+pub refused_found : (item : Record) {searched records : List Record} {i : ℕ} (P : Type 0) (value : List ℕ) → IsFound (place_of item) searched i → searched ≡ records → IfSome (slice_get searched i) (λ r. value ≡ r.value)
+    → IfSome (slice_get searched i) (λ r. length (text_of item) ≤ length (text_of r) → false ≡ true) → IfSome (value_at (place_of item) records) (λ old. length item.value ≤ length old → P)
+refused_found item {searched} {records} {i} P value found same read refused =
+    subst (λ o. IfSome o (λ old. length item.value ≤ length old → P)) (value_found found same read) (longer item found refused P value read)
+
+pub refused_at_gap : (item : Record) {searched records : List Record} {i : ℕ} (P : Type 0) → IsGap (place_of item) searched i → searched ≡ records → IfSome (value_at (place_of item) records) (λ old. length item.value ≤ length old → P)
+refused_at_gap item {searched} {records} {i} P gap same = subst (λ o. IfSome o (λ old. length item.value ≤ length old → P)) (no_value_at_gap gap same) tt
 
 -- ---- what is left there rises
 
@@ -100,3 +117,6 @@ rising_with item records left is rising = subst IsRising (sym is) (IsRising-with
 
 pub rising_without : (place : Place) (records left : List Record) → left ≡ without_place place records → IsRising records → IsRising left
 rising_without place records left is rising = subst IsRising (sym is) (IsRising-filter _ records rising)
+
+pub rising_begun : (prefix : List Bool) (records found : List Record) → found ≡ begun_by prefix records → IsRising records → IsRising found
+rising_begun prefix records found is rising = subst IsRising (sym is) (IsRising-filter _ records rising)

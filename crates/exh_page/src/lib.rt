@@ -7,17 +7,19 @@ pub use key::{KEY_LIMIT, Key};
 pub use laws::{buddies_unite, children_share_all, pages_have_limits, shares_are_records};
 pub use page::{CAP_LIMIT, Page};
 pub use record::Record;
-pub use records::Records;
+pub use records::{Records, RecordsIter};
 pub use size_fault::SizeFault;
 pub use value::{VALUE_LIMIT, Value};
 
 mod key;
 mod laws;
+mod packed_records;
 mod page;
 mod record;
 mod records;
 mod short_bytes;
 mod size_fault;
+mod stored_record;
 #[cfg(test)]
 mod tests;
 mod value;

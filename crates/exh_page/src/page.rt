@@ -1,4 +1,4 @@
-ghost use Rattle.std.specs.Prelude.{◌≡◌, ℕ, ◌↔◌, IsTrue, IsOk, IsSome, IfOk, OnErr};
+ghost use Rattle.std.specs.Prelude.{◌≡◌, ℕ, ◌≤◌, ◌↔◌, length, IsTrue, IsOk, IfSome, IfOk, OnErr};
 
 use crate::{Key, Record, Records, Value};
 use exh_prefix::{PageNo, Prefix};
@@ -26,7 +26,7 @@ pub enum Page {
 }
 
 impl Page {
-    ghost use Rattle.std.specs.Prelude.{◌≡◌, ◌++◌, ◌↔◌, IsTrue, IsOk, IsSome, IfOk, OnErr};
+    ghost use Rattle.std.specs.Prelude.{◌≡◌, ◌≤◌, ◌++◌, ◌↔◌, length, IsTrue, IsOk, IfSome, IfOk, OnErr};
     ghost use Rattle.exh_page.specs.Place.{place_of};
     ghost use Rattle.exh_page.specs.Records.{IsRising, value_at, with_record, without_place};
     ghost use Rattle.exh_page.specs.Page.{low_bound, records_of, share_of, with_records, IsDivisible, IsLive};
@@ -63,14 +63,15 @@ impl Page {
     }
 
     /// Puts a record into a live page, and answers the value that it replaces, or `None` where it
-    /// is new. Neither the number of records nor the prefix is tested. Only a new record may need
-    /// memory: where that is refused, an `AllocError`, the page is as before.
+    /// is new. Neither the number of records nor the prefix is tested. Only a new record, or a value
+    /// longer than the one it replaces, may need memory: where that is refused, an `AllocError`, the
+    /// page is as before.
     pub fn put(&mut self, item: Record) -> Result<Option<Value>, AllocError>
         requires { IsLive self.old }
         ensures old { IfOk result (λ old. old ≡ value_at (place_of item) (records_of self.old)) }
         ensures ok { IfOk result (λ _. self.new ≡ with_records (with_record item (records_of self.old)) self.old) }
         ensures err { OnErr result (self.new ≡ self.old) }
-        ensures replaces { IsSome (value_at (place_of item) (records_of self.old)) → IsOk result }
+        ensures replaces { IfSome (value_at (place_of item) (records_of self.old)) (λ old. length item.value ≤ length old → IsOk result) }
     {
         match self {
             Page::Live { records, .. } => records.put(item),

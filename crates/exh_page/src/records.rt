@@ -1,20 +1,20 @@
-ghost use Rattle.std.specs.Prelude.{◌≡◌, ℕ, ◌<◌, List, [], ◌++◌, ◌↔◌, length, vec_len, slice_get, take, drop, IsTrue, IsOk, IsSome, IfOk, IfErr, OnErr};
+ghost use Rattle.std.specs.Prelude.{◌≡◌, ◌≤◌, [], ◌∷◌, ◌++◌, ◌↔◌, length, slice_get, IsTrue, IsOk, IfSome, IfOk, OnOk, OnErr};
+ghost use Rattle.std.specs.Iterator.{YieldsFirst, item_count};
 ghost use Rattle.exh_page.specs.Place.{place_of};
 ghost use Rattle.exh_page.specs.Records.{IsRising, value_at, with_record, without_place};
 ghost use Rattle.exh_page.specs.Page.{begun_by};
-ghost use Rattle.exh_page.specs.Search.{IsFound, IsGap};
 
+use crate::packed_records::PackedRecords;
 use crate::{Key, Record, Value};
 use exh_prefix::Prefix;
 use std::alloc::{AllocError, Global};
-use std::cmp::Ordering;
 use std::marker::Model;
 
 /// Records in strictly rising order of (pseudokey, key), so no key stands twice under one pseudokey
 /// (exhash profile).
 #[derive(Debug, Drop)]
 pub struct Records {
-    records: Vec<Record>,
+    packed: PackedRecords,
 }
 
 impl Model for Records {
@@ -24,9 +24,9 @@ impl Model for Records {
 
     ghost Value = { List Record };
 
-    ghost view = { λ a. a.records.items };
+    ghost view = { λ a. a.packed };
 
-    ghost invariant = { λ a. IsRising a.records.items };
+    ghost invariant = { λ a. IsRising a.packed };
 }
 
 impl Records {
@@ -35,46 +35,50 @@ impl Records {
         ensures { result ≡ [] }
     {
         Records {
-            records: Vec::new(alloc),
+            packed: PackedRecords::new(alloc),
         }
     }
 
-    /// The records of a vector that is in order. It takes no memory.
-    pub fn from_vec(records: Vec<Record>) -> Records
-        requires { IsRising records.items }
-        ensures { result ≡ records.items }
+    /// Adds a record that stands after all others. It may need memory: an `AllocError` where that is
+    /// refused, and the records are as before.
+    pub fn push(&mut self, item: &Record) -> Result<(), AllocError>
+        requires { IsRising (self.old ++ item.now ∷ []) }
+        ensures ok { OnOk result (self.new ≡ self.old ++ item.now ∷ []) }
+        ensures err { OnErr result (self.new ≡ self.old) }
     {
-        Records { records }
-    }
-
-    /// The vector of the records. It takes no memory.
-    pub fn into_vec(self) -> Vec<Record>
-        ensures records { result.items ≡ self }
-        ensures rising { IsRising self }
-    {
-        self.records
+        self.packed.insert(self.packed.len(), item)
     }
 
     /// How many records there are.
     pub fn len(&self) -> usize
         ensures { result ≡ length self.now }
     {
-        self.records.len()
+        self.packed.len()
     }
 
     /// Whether there is no record.
     pub fn is_empty(&self) -> bool
         ensures { IsTrue result ↔ (self.now ≡ []) }
     {
-        self.records.is_empty()
+        self.packed.len() == 0
     }
 
-    /// The records, in their order.
-    pub fn as_slice(&self) -> &[Record]
-        ensures records { result.now ≡ self.now }
+    /// The record at a place, from 0 on; `None` past the last. It takes no memory.
+    pub fn get(&self, at: usize) -> Option<Record>
+        ensures { result ≡ slice_get self.now at }
+    {
+        self.packed.get(at)
+    }
+
+    /// The records, in their order. It takes no memory.
+    pub fn iter(&self) -> RecordsIter<'_>
+        ensures records { result ≡ self.now }
         ensures rising { IsRising self.now }
     {
-        &self.records
+        RecordsIter {
+            packed: &self.packed,
+            next: 0,
+        }
     }
 
     /// The value of a key with this pseudokey, or `None` where no record has both. It takes no
@@ -82,29 +86,29 @@ impl Records {
     pub fn find(&self, pseudokey: u64, key: &Key) -> Option<Value>
         ensures { result ≡ value_at (pseudokey, key.now) self.now }
     {
-        match search(&self.records, pseudokey, key) {
-            Ok(at) => Some(self.records[at].value),
+        match self.packed.search(pseudokey, key) {
+            Ok(at) => Some(self.packed.value(at)),
             Err(_) => None,
         }
     }
 
     /// Puts a record at its place, and answers the value that it replaces, or `None` where it is
-    /// new. Only a new record may need memory: where that is refused, an `AllocError`, the records
-    /// are as before.
+    /// new. Only a new record, or a value longer than the one it replaces, may need memory: where
+    /// that is refused, an `AllocError`, the records are as before.
     pub fn put(&mut self, item: Record) -> Result<Option<Value>, AllocError>
         ensures old { IfOk result (λ old. old ≡ value_at (place_of item) self.old) }
         ensures ok { IfOk result (λ _. self.new ≡ with_record item self.old) }
         ensures err { OnErr result (self.new ≡ self.old) }
-        ensures replaces { IsSome (value_at (place_of item) self.old) → IsOk result }
+        ensures replaces { IfSome (value_at (place_of item) self.old) (λ old. length item.value ≤ length old → IsOk result) }
     {
-        match search(&self.records, item.pseudokey, &item.key) {
+        match self.packed.search(item.pseudokey, &item.key) {
             Ok(at) => {
-                let old = self.records[at].value;
-                self.records[at] = item;
+                let old = self.packed.value(at);
+                self.packed.replace(at, &item)?;
                 Ok(Some(old))
             }
             Err(at) => {
-                self.records.insert(at, item)?;
+                self.packed.insert(at, &item)?;
                 Ok(None)
             }
         }
@@ -116,8 +120,12 @@ impl Records {
         ensures old { result ≡ value_at (pseudokey, key.now) self.old }
         ensures others { self.new ≡ without_place (pseudokey, key.now) self.old }
     {
-        match search(&self.records, pseudokey, key) {
-            Ok(at) => Some(self.records.remove(at).value),
+        match self.packed.search(pseudokey, key) {
+            Ok(at) => {
+                let old = self.packed.value(at);
+                self.packed.remove(at);
+                Some(old)
+            }
             Err(_) => None,
         }
     }
@@ -127,13 +135,9 @@ impl Records {
     pub fn begun_by(&self, prefix: Prefix) -> Result<Records, AllocError>
         ensures { IfOk result (λ records. records ≡ begun_by prefix self.now) }
     {
-        let mut records = Vec::with_capacity(*self.records.allocator(), self.len())?;
-        for record in &self.records {
-            if prefix.begins(record.pseudokey) {
-                records.push(*record)?;
-            }
-        }
-        Ok(Records { records })
+        Ok(Records {
+            packed: self.packed.begun_by(prefix)?,
+        })
     }
 
     /// These records and others, each of which stands after all of these. It takes memory for them:
@@ -142,9 +146,9 @@ impl Records {
         requires { IsRising (self.now ++ others.now) }
         ensures { IfOk result (λ records. records ≡ self.now ++ others.now) }
     {
-        let mut records = self.records.clone()?;
-        records.extend_from_slice(&others.records)?;
-        Ok(Records { records })
+        Ok(Records {
+            packed: self.packed.followed_by(&others.packed)?,
+        })
     }
 
     /// Records equal to these. It takes memory for them: an `AllocError` where that is refused.
@@ -152,23 +156,40 @@ impl Records {
         ensures { IfOk result (λ records. records ≡ self.now) }
     {
         Ok(Records {
-            records: self.records.clone()?,
+            packed: self.packed.try_clone()?,
         })
     }
 }
 
-// Where the record of a key stands, or where it would.
-fn search(records: &[Record], pseudokey: u64, key: &Key) -> Result<usize, usize>
-    requires { IsRising records.now }
-    ensures found { IfOk result (IsFound (pseudokey, key.now) records.now) }
-    ensures gap { IfErr result (IsGap (pseudokey, key.now) records.now) }
-{
-    for (i, record) in records.iter().enumerate() {
-        match record.cmp_place(pseudokey, key) {
-            Ordering::Less => {}
-            Ordering::Equal => return Ok(i),
-            Ordering::Greater => return Err(i),
+/// Records in their order, from one on.
+#[derive(Drop)]
+pub struct RecordsIter<'a> {
+    packed: &'a PackedRecords,
+    next: usize,
+}
+
+impl<'a> Model for RecordsIter<'a> {
+    ghost use Rattle.std.specs.Prelude.{List, drop};
+    ghost use Rattle.exh_page.specs.declared.record.Record.{Record};
+
+    ghost Value = { List Record };
+
+    ghost view = { λ a. drop a.next a.packed.now };
+}
+
+impl<'a> Iterator for RecordsIter<'a> {
+    type Item = Record;
+
+    ghost next_gives = { YieldsFirst (λ records. records) };
+
+    ghost remaining = { item_count (λ records. records) };
+
+    fn next(&mut self) -> Option<Record> {
+        if self.next >= self.packed.len() {
+            return None;
         }
+        let item = self.packed.get(self.next);
+        self.next += 1;
+        item
     }
-    Err(records.len())
 }

@@ -1,5 +1,7 @@
+use crate::stored_record::StoredRecord;
 use crate::{CAP_LIMIT, KEY_LIMIT, Key, Page, Record, Records, SizeFault, VALUE_LIMIT, Value};
 use exh_prefix::Prefix;
+use std::alloc::{AllocError, Global};
 use std::cmp::Ordering;
 use std::test::Fail;
 
@@ -9,6 +11,15 @@ fn record(pseudokey: u64, key: &[u8], value: &[u8]) -> Result<Record, SizeFault>
         key: Key::from_bytes(key)?,
         value: Value::from_bytes(value)?,
     })
+}
+
+// The records, in their order.
+fn listed(records: &Records, alloc: Global) -> Result<Vec<Record>, AllocError> {
+    let mut list = Vec::new(alloc);
+    for item in records.iter() {
+        list.push(item)?;
+    }
+    Ok(list)
 }
 
 #[test]
@@ -71,7 +82,7 @@ fn keys_are_ordered_as_bytes(rt: HostRuntime) -> Result<(), Fail> {
 
 #[test]
 fn places_by_pseudokey_and_key(rt: HostRuntime) -> Result<(), Fail> {
-    let item = record(5, b"k", b"")?;
+    let stored = StoredRecord::of(&record(5, b"k", b"vk")?);
     let places: [(u64, &[u8], Ordering); 5] = [
         (5, b"k", Ordering::Equal),
         (5, b"j", Ordering::Greater),
@@ -80,7 +91,8 @@ fn places_by_pseudokey_and_key(rt: HostRuntime) -> Result<(), Fail> {
         (6, b"a", Ordering::Less),
     ];
     for (pseudokey, key, want) in places {
-        assert_eq!(rt; item.cmp_place(pseudokey, &Key::from_bytes(key)?), want);
+        let key = Key::from_bytes(key)?;
+        assert_eq!(rt; stored.cmp_place(b"kvk", pseudokey, &key), want);
     }
     Ok(())
 }
@@ -97,21 +109,69 @@ fn records_in_their_order(rt: HostRuntime) -> Result<(), Fail> {
     for item in [high, low, tied] {
         assert_eq!(rt; records.put(item)?, None);
     }
-    assert_eq!(rt; records.as_slice(), [low, tied, high].as_slice());
+    assert_eq!(rt;
+        listed(&records, rt.alloc())?.as_slice(),
+        [low, tied, high].as_slice()
+    );
     assert_eq!(rt; records.len(), 3);
     assert!(rt; !records.is_empty());
+    Ok(())
+}
 
+#[test]
+fn a_copy_of_records(rt: HostRuntime) -> Result<(), Fail> {
+    let (item, other) = (record(2, b"a", b"1")?, record(2, b"a", b"other")?);
+    let mut records = Records::new(rt.alloc());
+    records.put(item)?;
     let copy = records.try_clone()?;
-    let renewed = record(2, b"a", b"new")?;
-    assert_eq!(rt; records.put(renewed)?, Some(tied.value));
-    assert_eq!(rt; records.as_slice(), [low, renewed, high].as_slice());
-    assert_eq!(rt; copy.as_slice(), [low, tied, high].as_slice());
-
-    let vec = records.into_vec();
-    assert_eq!(rt; vec.as_slice(), [low, renewed, high].as_slice());
+    assert_eq!(rt; records.put(other)?, Some(item.value));
     assert_eq!(rt;
-        Records::from_vec(vec).as_slice(),
-        [low, renewed, high].as_slice()
+        listed(&records, rt.alloc())?.as_slice(),
+        [other].as_slice()
+    );
+    assert_eq!(rt; listed(&copy, rt.alloc())?.as_slice(), [item].as_slice());
+    Ok(())
+}
+
+#[test]
+fn records_by_their_index(rt: HostRuntime) -> Result<(), Fail> {
+    let (low, high) = (record(1, b"z", b"1")?, record(2, b"a", b"2")?);
+    let mut records = Records::new(rt.alloc());
+    for item in [low, high] {
+        assert_eq!(rt; records.put(item)?, None);
+    }
+    assert_eq!(rt;
+        listed(&records, rt.alloc())?.as_slice(),
+        [low, high].as_slice()
+    );
+    assert_eq!(rt; records.get(1), Some(high));
+    assert_eq!(rt; records.get(2), None);
+    Ok(())
+}
+
+#[test]
+fn values_of_other_lengths(rt: HostRuntime) -> Result<(), Fail> {
+    // Three records of which the middle one grows, shrinks to nothing, grows again and goes.
+    let (low, high) = (record(1, b"low", b"first")?, record(3, b"h", &[9; 128])?);
+    let mut records = Records::new(rt.alloc());
+    assert_eq!(rt; records.put(high)?, None);
+    assert_eq!(rt; records.put(low)?, None);
+    let mut before = None;
+    let values: [&[u8]; 5] = [b"v", &[7; 128], b"", b"vv", b"ww"];
+    for value in values {
+        let item = record(2, &[5; 64], value)?;
+        assert_eq!(rt; records.put(item)?, before);
+        assert_eq!(rt;
+            listed(&records, rt.alloc())?.as_slice(),
+            [low, item, high].as_slice()
+        );
+        assert_eq!(rt; records.find(3, &high.key), Some(high.value));
+        before = Some(item.value);
+    }
+    assert_eq!(rt; records.remove(2, &Key::from_bytes(&[5; 64])?), before);
+    assert_eq!(rt;
+        listed(&records, rt.alloc())?.as_slice(),
+        [low, high].as_slice()
     );
     Ok(())
 }
@@ -131,7 +191,10 @@ fn records_of_one_pseudokey(rt: HostRuntime) -> Result<(), Fail> {
     assert_eq!(rt; records.remove(9, &absent), None);
     assert_eq!(rt; records.remove(9, &one.key), Some(one.value));
     assert_eq!(rt; records.remove(9, &one.key), None);
-    assert_eq!(rt; records.as_slice(), [other].as_slice());
+    assert_eq!(rt;
+        listed(&records, rt.alloc())?.as_slice(),
+        [other].as_slice()
+    );
     Ok(())
 }
 
@@ -160,7 +223,7 @@ fn a_live_page(rt: HostRuntime) -> Result<(), Fail> {
         } => {
             assert_eq!(rt; same, prefix);
             assert_eq!(rt; right, Some(1));
-            assert_eq!(rt; records.as_slice(), [item].as_slice());
+            assert_eq!(rt; listed(&records, rt.alloc())?.as_slice(), [item].as_slice());
         }
         Page::Forward { .. } => return Err("a copy that forwards".into()),
     }
@@ -188,9 +251,15 @@ fn a_page_is_divided(rt: HostRuntime) -> Result<(), Fail> {
         records,
     };
     let left = page.divide(false)?;
-    assert_eq!(rt; left.as_slice(), [first, second].as_slice());
+    assert_eq!(rt;
+        listed(&left, rt.alloc())?.as_slice(),
+        [first, second].as_slice()
+    );
     let right = page.divide(true)?;
-    assert_eq!(rt; right.as_slice(), [third, fourth].as_slice());
+    assert_eq!(rt;
+        listed(&right, rt.alloc())?.as_slice(),
+        [third, fourth].as_slice()
+    );
     Ok(())
 }
 
@@ -221,7 +290,10 @@ fn a_page_absorbs_its_buddy(rt: HostRuntime) -> Result<(), Fail> {
         records,
     };
     let all = left.absorb(&right)?;
-    assert_eq!(rt; all.as_slice(), [low, high].as_slice());
+    assert_eq!(rt;
+        listed(&all, rt.alloc())?.as_slice(),
+        [low, high].as_slice()
+    );
     Ok(())
 }
 

@@ -1,5 +1,5 @@
 -- A merge of two pages of a ward: what it finds, the pages that it leaves, and its notice.
-use Rattle.std.proofs.Common.{◌≡◌, ℕ, ◌+◌, ◌-◌, ◌<◌, ◌≤◌, ◌^◌, Bool, true, false, List, [], ◌∷◌, ◌++◌, length, Option, Some, IsSome, inl, inr, refl, sym, ap, ◌∙◌, subst, arith}
+use Rattle.std.proofs.Common.{◌≡◌, ℕ, ◌+◌, ◌-◌, ◌<◌, ◌≤◌, ◌^◌, Bool, true, false, List, [], ◌∷◌, ◌++◌, length, Option, Some, inl, inr, refl, sym, ap, ◌∙◌, subst, arith}
 use Rattle.std.specs.Prelude.{slice_set}
 use Rattle.std.proofs.lemmas.List.{length-append, length-set}
 use Rattle.std.proofs.lemmas.Option.{slice_get_within}
@@ -7,7 +7,6 @@ use Rattle.exh_prefix.specs.declared.prefix.TheConstants.{LIMIT}
 use Rattle.exh_prefix.specs.Prefix.{IsFront, low_of}
 use Rattle.exh_notice.specs.declared.entry.Kind.TheVariants.{Merge}
 use Rattle.exh_notice.specs.declared.notice.Notice.{Notice}
-use Rattle.exh_table.specs.Walk.{split_at}
 use Rattle.exh_page.specs.declared.page.TheConstants.{CAP_LIMIT}
 use Rattle.exh_page.specs.declared.page.Page.{Page}
 use Rattle.exh_page.specs.declared.page.Page.TheVariants.{Live, Forward}
@@ -17,7 +16,7 @@ use Rattle.exh_page.specs.Page.{AreRecordsOf, IsLive, IsWellFormed, low_bound, r
 use Rattle.exh_page.specs.Records.{IsRising}
 use Rattle.exh_legal.specs.BareLemmas.{bare_at}
 use Rattle.exh_legal.specs.Change.{IsMerge}
-use Rattle.exh_legal.specs.Laws.{IsMergeable, LiveLeftChildrenMerge, MergesKeepLegal}
+use Rattle.exh_legal.specs.Laws.{LinksToSibling, LeftChildrenLinkToSiblings, MergesKeepLegal}
 use Rattle.exh_legal.specs.LowLemmas.{left_keeps, right_above}
 use Rattle.exh_legal.specs.MapLemmas.{page_at}
 use Rattle.exh_legal.specs.Numbers.{next_notice}
@@ -71,31 +70,28 @@ module _ {K : Type 0} {pseudo : List ℕ → ℕ} {takes : Page → Type 0} {own
   no_left_half at left is OutOfReach refused = absurd refused
 
   module _ (at : ℕ) {left : Page} (there : IsAt w.pages at left) {half : LeftHalf} (is : IsLeftHalf own left half) where
-    live_left : IsAt w.pages at (Live (half.parent ++ false ∷ []) is.link is.records)
+    live_left : IsAt w.pages at (Live (half.parent ++ false ∷ []) half.right is.records)
     live_left = there ∙ ap Some is.live
 
     inner : length (own_prefix w) ≤ length half.parent
     inner = subst (λ (own : List Bool). length own ≤ length half.parent) kept.own_is is.inner
 
     left_child : IsLeftChild w at half.parent is.records
-    left_child = record { link = is.link; there = live_left; inner = inner }
+    left_child = record { link = half.right; there = live_left; inner = inner }
 
     pub few_left : half.count ≤ CAP_LIMIT
     few_left = omega (arith, is.count, few_at at _ live_left)
 
-    module _ (law : LiveLeftChildrenMerge) where
-      mergeable : IsMergeable w.table w.pages half.parent
-      mergeable = law w.cap pseudo (own_prefix w) w.start w.notices w.table w.pages half.parent at kept.sound.legal (is.link, is.records, live_left) inner
+    module _ (law : LeftChildrenLinkToSiblings) where
+      to_sibling : LinksToSibling w.pages half.parent half.right
+      to_sibling = law (own_prefix w) w.pages at half.parent half.right is.records kept.sound.legal.legal.legal.linked live_left inner
 
-      pub split_there : IsSome (split_at w.table half.parent)
-      split_there = subst IsSome (sym mergeable.split) refl
-
-      module _ {right : ℕ} (found : split_at w.table half.parent ≡ Some right) where
-        right_is : mergeable.right ≡ right
-        right_is = let both : Some mergeable.right ≡ Some right = sym mergeable.split ∙ found in cc
+      module _ {right : ℕ} (found : half.right ≡ Some right) where
+        right_is : to_sibling.right ≡ right
+        right_is = let both : Some to_sibling.right ≡ Some right = sym to_sibling.link_is ∙ found in cc
 
         pub right_within : right < length w.pages
-        right_within = subst (λ n. n < length w.pages) right_is (slice_get_within w.pages mergeable.right mergeable.page.0 mergeable.page.1)
+        right_within = subst (λ n. n < length w.pages) right_is (slice_get_within w.pages to_sibling.right to_sibling.page.0 to_sibling.page.1)
 
         module _ {buddy : Page} (is_buddy : IsAt w.pages right buddy) where
           pub not_beside : (fault : WardFault) → NotBeside w.cap half buddy fault → MergeRefused w at fault
@@ -109,7 +105,7 @@ module _ {K : Type 0} {pseudo : List ℕ → ℕ} {takes : Page → Type 0} {own
             is.records,
             left_child,
             λ others (number, link, there).
-                let here : number ≡ right = mergeable.buddy number (link, others, there) ∙ right_is in
+                let here : number ≡ right = to_sibling.sibling number (link, others, there) ∙ right_is in
                 refused link others (same_there w.pages right buddy _ is_buddy (subst (λ n. IsAt w.pages n (Live (half.parent ++ true ∷ []) link others)) here there)),
           )
           not_beside (TooMany sum) (link, others, live, sum_is, more) =

@@ -10,9 +10,8 @@ use Rattle.exh_ward.specs.declared.ward_fault.WardFault.TheVariants.{NotLive, No
 
 -- the page is the live left child of a prefix, which is no shorter than the ward's own
 pub record IsLeftHalf (own : List Bool) (page : PageType) (half : LeftHalf) : Type 0 where
-  pub link : Option ℕ
   pub records : List Record
-  pub live : page ≡ Live (half.parent ++ false ∷ []) link records
+  pub live : page ≡ Live (half.parent ++ false ∷ []) half.right records
   pub inner : length own ≤ length half.parent
   pub count : half.count ≡ length records
 

@@ -8,7 +8,7 @@ ghost use Rattle.exh_page.specs.declared.record.Record.{Record};
 ghost use Rattle.exh_ward.specs.LeftHalf.{FitsBeside, IsLeftHalf, NoLeftHalf, NotBeside};
 
 use crate::WardFault;
-use exh_page::Page;
+use exh_page::{Page, PageNo};
 use exh_prefix::Prefix;
 
 /// What a merge has to know of the left half of a parent before it copies a page (Fagin et al.
@@ -19,6 +19,8 @@ pub(crate) struct LeftHalf {
     pub(crate) parent: Prefix,
     /// How many records the page has.
     pub(crate) count: usize,
+    /// The page's right link.
+    pub(crate) right: Option<PageNo>,
 }
 
 impl LeftHalf {
@@ -34,8 +36,8 @@ impl LeftHalf {
             Page::Forward { .. } => Err(WardFault::NotLive),
             Page::Live {
                 prefix,
+                right,
                 records,
-                ..
             } => {
                 if prefix.len() <= own.len() || prefix.is_right_child() {
                     return Err(WardFault::NoBuddy);
@@ -43,6 +45,7 @@ impl LeftHalf {
                 Ok(LeftHalf {
                     parent: prefix.parent().unwrap(),
                     count: records.len(),
+                    right: *right,
                 })
             }
         }

@@ -1,16 +1,13 @@
-ghost use Rattle.std.specs.Prelude.{◌≡◌, ◌<◌, ◌++◌, ◌∷◌, [], length, true, IfOk, IsSome, Some};
+ghost use Rattle.std.specs.Prelude.{◌≡◌, ◌<◌, ◌++◌, ◌∷◌, [], length, true, IfOk};
 ghost use Rattle.exh_prefix.specs.Prefix.{low_of};
 ghost use Rattle.exh_prefix.specs.declared.prefix.TheConstants.{LIMIT};
 ghost use Rattle.exh_page.specs.Page.{IsLive, records_of};
 ghost use Rattle.exh_page.specs.Records.{IsRising};
 ghost use Rattle.exh_page.specs.declared.page.Page.TheVariants.{Forward};
-ghost use Rattle.exh_table.specs.Walk.{split_at};
 ghost use Rattle.exh_ward.specs.Union.{IsUnionOf};
 
-use exh_notice::{Entry, Kind};
 use exh_page::{Page, PageNo};
 use exh_prefix::Prefix;
-use exh_table::Table;
 use std::alloc::AllocError;
 
 /// The page of a parent that a merge makes of its halves, both live (Fagin et al. 1979). It takes
@@ -39,21 +36,5 @@ pub(crate) fn forward_from_right(parent: Prefix, left: PageNo) -> Page
     Page::Forward {
         low: parent.child(true).unwrap().low(),
         target: left,
-    }
-}
-
-/// The right page of the split that a table has at a prefix.
-pub(crate) fn right_page(table: &Table, prefix: Prefix) -> PageNo
-    requires { IsSome (split_at table.now prefix) }
-    ensures { split_at table.now prefix ≡ Some result }
-{
-    match table.get(prefix) {
-        Some(
-            Entry {
-                kind: Kind::Split { right },
-                ..
-            },
-        ) => right,
-        _ => unreachable!(),
     }
 }

@@ -5,7 +5,7 @@ ghost use Rattle.exh_prefix.specs.declared.prefix.TheConstants.{LIMIT};
 
 use crate::MapMachine;
 use exh_keyer::{Keyer, PlainKeyer};
-use exh_page::{Key, Page, PageNo, Record};
+use exh_page::{Key, Page, PageNo, Records};
 use exh_prefix::Prefix;
 use exh_table::Table;
 use std::process::Abort;
@@ -81,8 +81,8 @@ pub(super) fn assert_records(
         } = page
         {
             assert!(rt; records.len() <= cap);
-            assert_rising(rt, records.as_slice());
-            for item in records.as_slice() {
+            assert_rising(rt, records);
+            for item in records.iter() {
                 assert!(rt; prefix.begins(item.pseudokey));
                 assert_eq!(rt; item.pseudokey, PlainKeyer.pseudo(item.key.as_bytes()));
                 assert_eq!(rt; machine.map().get(&item.key), Some(item.value));
@@ -93,7 +93,7 @@ pub(super) fn assert_records(
     assert_eq!(rt; sum, machine.map().pairs().len());
 }
 
-fn assert_rising(rt: &impl Abort, records: &[Record]) {
+fn assert_rising(rt: &impl Abort, records: &Records) {
     for (item, next) in records.iter().zip(records.iter().skip(1)) {
         assert!(rt; (item.pseudokey, item.key) < (next.pseudokey, next.key));
     }

@@ -8,10 +8,10 @@ ghost use Rattle.exh_ward.specs.WardState.{IsSoundWard, IsUnchanged};
 use super::Ward;
 use crate::WardFault;
 use crate::left_half::LeftHalf;
-use crate::union::{forward_from_right, right_page, union_of};
+use crate::union::{forward_from_right, union_of};
 use exh_frames::Pages;
 use exh_keyer::Keyer;
-use exh_legal::{live_left_children_merge, merges_keep_legal, pages_are_few};
+use exh_legal::{left_children_link_to_siblings, merges_keep_legal, pages_are_few};
 use exh_notice::{Kind, Notice};
 use exh_page::{Page, PageNo, buddies_unite};
 use exh_prefix::Prefix;
@@ -43,7 +43,8 @@ impl<P: Pages + Drop, K: Keyer> Ward<P, K> {
     }
 
     // The parent of a page's prefix, and the number of the page's right buddy, where both pages fit
-    // into one. They are only read in place, so that a refused merge copies none.
+    // into one. They are only read in place, so that a refused merge copies none. The buddy is found
+    // by the page's own right link, so that no table is walked.
     fn fitting_buddy(&mut self, page: PageNo) -> Result<(Prefix, PageNo), WardFault>
         ensures fit { IfOk result (λ found. FitTogether self.old page found.0 found.1) }
         ensures refused { IfErr result (MergeRefused self.old page) }
@@ -52,12 +53,14 @@ impl<P: Pages + Drop, K: Keyer> Ward<P, K> {
         ensures failures { CountsFailures result self.old.failures self.new.failures }
         ensures sound { IsSoundWard K.pseudokey_of self.new }
     {
-        live_left_children_merge();
+        left_children_link_to_siblings();
         if page >= self.store.count() {
             return Err(WardFault::NoPage);
         }
         let half = LeftHalf::of(self.store.lend(page)?, self.own)?;
-        let right = right_page(&self.table, half.parent);
+        let Some(right) = half.right else {
+            unreachable!()
+        };
         half.test_buddy(self.store.lend(right)?, self.cap)?;
         Ok((half.parent, right))
     }

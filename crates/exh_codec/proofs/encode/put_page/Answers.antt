@@ -1,8 +1,8 @@
 use Rattle.std.proofs.Common.{◌≡◌, ◌++◌, length, map, drop, ℕ, List, sym, ap, ◌∙◌, subst, refl}
-use Rattle.std.specs.List.{AllByRecursion, flat_map}
+use Rattle.std.specs.List.{flat_map}
 use Rattle.exh_page.specs.declared.record.Record.{Record}
 use Rattle.exh_page.specs.Page.{records_of}
-use Rattle.exh_codec.specs.Cells.{IsSized, pair_image, pair_of}
+use Rattle.exh_codec.specs.Cells.{pair_image, pair_of}
 use Rattle.exh_codec.specs.Head.{head_of, head_bytes}
 use Rattle.exh_codec.specs.PageImage.{used_of, IsInRange}
 use Rattle.exh_codec.proofs.PutPairs.{put_behind}
@@ -13,9 +13,9 @@ pub returns-in-Live-clause-used : goal.returns-in-Live-clause-used
 returns-in-Live-clause-used c =
     let block = c.args.block.now in
     let head = c.copy_from_slice.new.self in
-    let image = flat_map pair_image (map pair_of c.as_slice.result.now) in
+    let image = flat_map pair_image (map pair_of c.in-Live.records) in
     let head_is : head ≡ head_bytes (head_of c.args.page.now) = c.copy_from_slice.ensures.after ∙ c.to_bytes-head.ensures ∙ ap head_bytes c.of.ensures.head in
-    let records_are : c.as_slice.result.now ≡ records_of c.args.page.now = c.as_slice.ensures.records ∙ sym (ap records_of c.in-Live.is) in
+    let records_are : c.in-Live.records ≡ records_of c.args.page.now = sym (ap records_of c.in-Live.is) in
     let used_is : head ++ image ≡ used_of c.args.page.now =
     ap (λ (bytes : List ℕ). bytes ++ image) head_is ∙ ap (λ (records : List Record). head_bytes (head_of c.args.page.now) ++ flat_map pair_image (map pair_of records)) records_are in
     let len : length head ≡ 16 = ap length head_is ∙ length-head_bytes (head_of c.args.page.now) in
@@ -25,4 +25,4 @@ pub returns-in-Live-clause-in_range : goal.returns-in-Live-clause-in_range
 returns-in-Live-clause-in_range c =
     subst IsInRange (sym c.in-Live.is)
     (live_in_range c.in-Live.prefix c.in-Live.right c.in-Live.records c.of.result (c.of.ensures.head ∙ ap head_of c.in-Live.is) c.of.ensures.prefix c.of.ensures.link
-    (subst (λ (records : List Record). AllByRecursion IsSized (map pair_of records)) c.as_slice.ensures.records c.put_records.ensures.sized))
+    c.put_records.ensures.sized)

@@ -10,8 +10,8 @@ use Rattle.exh_codec.specs.ImageTests.{record_of}
 use Rattle.exh_codec.proofs.Rising.{pairs_of_records}
 use Rattle.exh_codec.proofs.pages.live_page.Goals as goal
 
-pub to_records-requires : goal.to_records-requires
-to_records-requires g c =
+pub to_records-requires-clause-sized : goal.to_records-requires-clause-sized
+to_records-requires-clause-sized g c =
     let pseudo = g.K.Keyer.pseudokey_of c.args.keyer.now in
     let pairs = map pair_in c.args.cells.now in
     let records : map record_in c.deref-2.result.now ≡ map (record_of pseudo) pairs = ap (map record_in) c.deref-2.ensures.0 ∙ c.in-Some-begun_records.ensures.records in
@@ -23,8 +23,8 @@ returns g c =
     let head = c.args.head in
     let pairs = map pair_in c.args.cells.now in
     let prefix : c.in-Some.prefix ≡ take head.prefix_len (word_bits head.low) = c.in-Some.ensures.1 in
-    let records : c.from_vec.result ≡ map (record_of pseudo) pairs =
-    c.from_vec.ensures ∙ c.in_ok-to_records.ensures ∙ ap (map record_in) c.deref-2.ensures.0 ∙ c.in-Some-begun_records.ensures.records in
+    let records : c.in_ok-to_records.field-0 ≡ map (record_of pseudo) pairs =
+    c.in_ok-to_records.ensures ∙ ap (map record_in) c.deref-2.ensures.0 ∙ c.in-Some-begun_records.ensures.records in
     record {
       begins = record {
         prefix = c.in-Some.ensures.0;
@@ -34,5 +34,5 @@ returns g c =
       right = c.right_link.result;
       link = c.right_link.ensures.number;
       named = c.right_link.ensures.other;
-      is = ap (λ (p : List Bool). Live p c.right_link.result c.from_vec.result) prefix ∙ ap (λ (r : List Record). Live (take head.prefix_len (word_bits head.low)) c.right_link.result r) records;
+      is = ap (λ (p : List Bool). Live p c.right_link.result c.in_ok-to_records.field-0) prefix ∙ ap (λ (r : List Record). Live (take head.prefix_len (word_bits head.low)) c.right_link.result r) records;
     }

@@ -6,7 +6,7 @@ use Rattle.exh_ward.specs.Union.{FitTogether}
 use Rattle.exh_ward.specs.WardState.{WardState}
 use Rattle.exh_ward.specs.declared.ward_fault.WardFault.{WardFault}
 use Rattle.exh_ward.proofs.KeptSteps.{kept_read}
-use Rattle.exh_ward.proofs.MergeSteps.{few_at, few_left, halves_fit, no_left_half, not_beside, own_in_front, right_within, split_there}
+use Rattle.exh_ward.proofs.MergeSteps.{few_at, few_left, halves_fit, no_left_half, not_beside, own_in_front, right_within}
 use Rattle.exh_ward.proofs.ward.Ward.fitting_buddy.Goals as goal
 
 failed_with : {T : Type 0} (r : Result T WardFault) (fault : WardFault) (P : WardFault → Type 0) → IsErrAnd r (λ e. e ≡ fault) → P fault → IfErr r P
@@ -29,13 +29,10 @@ returns-in_err-half-clause-refused g c =
     let now = subst P c.self.view_is refused in
     failed_with c.from_residual-in_err-half.result c.in_err-half.field-0.0 (MergeRefused c.args.self.now c.args.page) c.from_residual-in_err-half.ensures.1 now
 
-pub right_page-right-requires : goal.right_page-right-requires
-right_page-right-requires g c = split_there c.self.invariant c.args.page c.in_ok-lend.ensures.page c.in_ok-half.ensures.ok c.live_left_children_merge.ensures
-
 pub lend-requires-2 : goal.lend-requires-2
 lend-requires-2 g c =
-    let within = right_within c.self.invariant c.args.page c.in_ok-lend.ensures.page c.in_ok-half.ensures.ok c.live_left_children_merge.ensures c.right_page-right.ensures in
-    let P : List Page → Type 0 = λ pages. c.right_page-right.result < length pages in
+    let within = right_within c.self.invariant c.args.page c.in_ok-lend.ensures.page c.in_ok-half.ensures.ok c.left_children_link_to_siblings.ensures c.in-Some.is in
+    let P : List Page → Type 0 = λ pages. c.in-Some.right < length pages in
     subst P (sym c.lend.follows.holds-at-none.0) within
 
 pub invariant_of-self-in_err-lend-2 : goal.invariant_of-self-in_err-lend-2
@@ -48,8 +45,8 @@ test_buddy-requires-clause-few g c = few_left c.self.invariant c.args.page c.in_
 
 pub test_buddy-requires-clause-few_others : goal.test_buddy-requires-clause-few_others
 test_buddy-requires-clause-few_others g c =
-    let P : List Page → Type 0 = λ pages. IsAt pages c.right_page-right.result c.in_ok-lend-2.field-0.now in
-    few_at c.self.invariant c.right_page-right.result c.in_ok-lend-2.field-0.now (subst P c.lend.follows.holds-at-none.0 c.in_ok-lend-2.ensures.page)
+    let P : List Page → Type 0 = λ pages. IsAt pages c.in-Some.right c.in_ok-lend-2.field-0.now in
+    few_at c.self.invariant c.in-Some.right c.in_ok-lend-2.field-0.now (subst P c.lend.follows.holds-at-none.0 c.in_ok-lend-2.ensures.page)
 
 pub invariant_of-self-in_err-test_buddy : goal.invariant_of-self-in_err-test_buddy
 invariant_of-self-in_err-test_buddy g c =
@@ -58,9 +55,9 @@ invariant_of-self-in_err-test_buddy g c =
 
 pub returns-in_err-test_buddy-clause-refused : goal.returns-in_err-test_buddy-clause-refused
 returns-in_err-test_buddy-clause-refused g c =
-    let L : List Page → Type 0 = λ pages. IsAt pages c.right_page-right.result c.in_ok-lend-2.field-0.now in
+    let L : List Page → Type 0 = λ pages. IsAt pages c.in-Some.right c.in_ok-lend-2.field-0.now in
     let buddy = subst L c.lend.follows.holds-at-none.0 c.in_ok-lend-2.ensures.page in
-    let refused = not_beside c.self.invariant c.args.page c.in_ok-lend.ensures.page c.in_ok-half.ensures.ok c.live_left_children_merge.ensures c.right_page-right.ensures buddy _ c.in_err-test_buddy.ensures.err in
+    let refused = not_beside c.self.invariant c.args.page c.in_ok-lend.ensures.page c.in_ok-half.ensures.ok c.left_children_link_to_siblings.ensures c.in-Some.is buddy _ c.in_err-test_buddy.ensures.err in
     let P : WardState g.row.K.Denot → Type 0 = λ w. MergeRefused w c.args.page c.in_err-test_buddy.field-0.0 in
     let now = subst P c.self.view_is refused in
     failed_with c.from_residual-in_err-test_buddy.result c.in_err-test_buddy.field-0.0 (MergeRefused c.args.self.now c.args.page) c.from_residual-in_err-test_buddy.ensures.1 now
@@ -72,7 +69,7 @@ invariant_of-self-2 g c =
 
 pub returns-clause-fit : goal.returns-clause-fit
 returns-clause-fit g c =
-    let L : List Page → Type 0 = λ pages. IsAt pages c.right_page-right.result c.in_ok-lend-2.field-0.now in
+    let L : List Page → Type 0 = λ pages. IsAt pages c.in-Some.right c.in_ok-lend-2.field-0.now in
     let buddy = subst L c.lend.follows.holds-at-none.0 c.in_ok-lend-2.ensures.page in
-    let P : WardState g.row.K.Denot → Type 0 = λ w. FitTogether w c.args.page c.in_ok-half.half.parent c.right_page-right.result in
-    subst P c.self.view_is (halves_fit c.self.invariant c.args.page c.in_ok-lend.ensures.page c.in_ok-half.ensures.ok c.live_left_children_merge.ensures c.right_page-right.ensures buddy c.in_ok-half.ensures.short c.in_ok-test_buddy.ensures.ok)
+    let P : WardState g.row.K.Denot → Type 0 = λ w. FitTogether w c.args.page c.in_ok-half.half.parent c.in-Some.right in
+    subst P c.self.view_is (halves_fit c.self.invariant c.args.page c.in_ok-lend.ensures.page c.in_ok-half.ensures.ok c.left_children_link_to_siblings.ensures c.in-Some.is buddy c.in_ok-half.ensures.short c.in_ok-test_buddy.ensures.ok)

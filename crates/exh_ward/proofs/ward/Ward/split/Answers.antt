@@ -1,6 +1,7 @@
-use Rattle.std.proofs.Common.{◌≡◌, ◌≤◌, length, subst}
+use Rattle.std.proofs.Common.{◌≡◌, ◌≤◌, length, ap, ◌∙◌, subst}
 use Rattle.std.proofs.lemmas.Option.{slice_get_within}
 use Rattle.exh_page.specs.declared.page.TheConstants.{CAP_LIMIT}
+use Rattle.exh_page.specs.Page.{low_bound}
 use Rattle.exh_ward.specs.SplitStep.{IsSplitStep}
 use Rattle.exh_ward.specs.WardState.{WardState}
 use Rattle.exh_ward.specs.declared.ward.TheConstants.{WARD_BITS_LIMIT}
@@ -58,6 +59,9 @@ pub grow-requires-clause-there : goal.grow-requires-clause-there
 grow-requires-clause-there g c =
     let is = halved (c.in_ok-halves.ensures.ok) c.args.page c.in_ok-halves.halves c.in_ok-halves.ensures.halves in
     at_within is
+
+pub grow-requires-clause-alone : goal.grow-requires-clause-alone
+grow-requires-clause-alone g c other twin at same = c.in-None.ensures other twin at (same ∙ ap low_bound c.into_pages-left-in-None.ensures.right)
 
 pub grow-requires-clause-formed : goal.grow-requires-clause-formed
 grow-requires-clause-formed g c =

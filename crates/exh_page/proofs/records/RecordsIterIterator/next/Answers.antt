@@ -1,0 +1,8 @@
+use Rattle.std.proofs.Common.{add-one, arith}
+use Rattle.exh_page.specs.ListLemmas.{first_left}
+use Rattle.exh_page.proofs.records.RecordsIterIterator.next.Goals as goal
+
+pub returns-clause-steps : goal.returns-clause-steps
+returns-clause-steps c =
+    let inside = c.self.inside in
+    rw (← c.self.view_is, add-one inside.next) (first_left inside.packed.now inside.next c.get-item.result (omega arith) c.get-item.ensures)

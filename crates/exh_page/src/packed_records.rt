@@ -1,0 +1,243 @@
+ghost use Rattle.std.specs.Prelude.{◌≡◌, ℕ, ◌+◌, ◌<◌, ◌≤◌, [], ◌++◌, length, take, drop, insert, remove, set, slice_get, IsOk, IfOk, IfErr, IfSome, OnOk, OnErr};
+ghost use Rattle.std.specs.List.{flat_map};
+ghost use Rattle.exh_page.specs.declared.key.TheConstants.{KEY_LIMIT};
+ghost use Rattle.exh_page.specs.declared.value.TheConstants.{VALUE_LIMIT};
+ghost use Rattle.exh_page.specs.PackedRecords.{text_of};
+ghost use Rattle.exh_page.specs.Page.{begun_by};
+ghost use Rattle.exh_page.specs.Records.{IsRising};
+ghost use Rattle.exh_page.specs.Search.{IsFound, IsGap};
+
+use crate::stored_record::StoredRecord;
+use crate::{Key, Record, Value};
+use exh_prefix::Prefix;
+use std::alloc::{AllocError, Global};
+use std::cmp::Ordering;
+use std::marker::Model;
+
+/// A list of records, in any order. A record takes 16 bytes and those of its key and value, so that
+/// many pages are near at hand (exhash profile).
+#[derive(Debug, Drop)]
+pub(crate) struct PackedRecords {
+    stored: Vec<StoredRecord>,
+    texts: Vec<u8>,
+}
+
+impl Model for PackedRecords {
+    ghost use Rattle.std.specs.Prelude.{List};
+    ghost use Rattle.exh_page.specs.declared.record.Record.{Record};
+    ghost use Rattle.exh_page.specs.PackedRecords.{ArePacked, records_in};
+
+    ghost Value = { List Record };
+
+    ghost view = { λ a. records_in a.stored.items a.texts.items };
+
+    ghost invariant = { λ a. ArePacked (records_in a.stored.items a.texts.items) a.stored.items a.texts.items };
+}
+
+impl PackedRecords {
+    /// No records. It takes no memory.
+    pub(crate) fn new(alloc: Global) -> PackedRecords
+        ensures { result ≡ [] }
+    {
+        PackedRecords {
+            stored: Vec::new(alloc),
+            texts: Vec::new(alloc),
+        }
+    }
+
+    /// How many records there are.
+    pub(crate) fn len(&self) -> usize
+        ensures { result ≡ length self.now }
+    {
+        self.stored.len()
+    }
+
+    /// The record at a place, from 0 on; `None` past the last. It takes no memory.
+    pub(crate) fn get(&self, at: usize) -> Option<Record>
+        ensures { result ≡ slice_get self.now at }
+    {
+        let stored = self.stored.get(at).copied()?;
+        let text = self.text_from(at);
+        let key = Key::from_bytes(&text[..usize::from(stored.key_len)]).unwrap();
+        let value = &text[usize::from(stored.key_len)..stored.text_len()];
+        Some(Record {
+            pseudokey: stored.pseudokey,
+            key,
+            value: Value::from_bytes(value).unwrap(),
+        })
+    }
+
+    /// The value of the record at a place that has one. It takes no memory.
+    pub(crate) fn value(&self, at: usize) -> Value
+        requires { at < length self.now }
+        ensures { IfSome (slice_get self.now at) (λ r. result ≡ r.value) }
+    {
+        let stored = self.stored[at];
+        let text = self.text_from(at);
+        Value::from_bytes(&text[usize::from(stored.key_len)..stored.text_len()]).unwrap()
+    }
+
+    /// Where the record of a key stands among rising records, or where it would.
+    pub(crate) fn search(&self, pseudokey: u64, key: &Key) -> Result<usize, usize>
+        requires { IsRising self.now }
+        ensures found { IfOk result (IsFound (pseudokey, key.now) self.now) }
+        ensures gap { IfErr result (IsGap (pseudokey, key.now) self.now) }
+    {
+        let mut start = 0;
+        for (i, stored) in self.stored.iter().enumerate() {
+            match stored.cmp_place(&self.texts[start..], pseudokey, key) {
+                Ordering::Less => {}
+                Ordering::Equal => return Ok(i),
+                Ordering::Greater => return Err(i),
+            }
+            start += stored.text_len();
+        }
+        Err(self.stored.len())
+    }
+
+    /// Puts a record at a place, before those from there on. It takes memory: where that is refused,
+    /// an `AllocError`, the records are as before.
+    pub(crate) fn insert(&mut self, at: usize, item: &Record) -> Result<(), AllocError>
+        requires { at ≤ length self.old }
+        ensures ok { OnOk result (self.new ≡ insert self.old at item.now) }
+        ensures err { OnErr result (self.new ≡ self.old) }
+    {
+        self.stored.reserve(1)?;
+        let start = self.start_of(at);
+        let (key, value) = (item.key.as_bytes(), item.value.as_bytes());
+        put_text(&mut self.texts, start, start, key, value)?;
+        // There is room for it.
+        self.stored.insert(at, StoredRecord::of(item)).unwrap();
+        Ok(())
+    }
+
+    /// Puts a record in place of the one at a place. Only one of more bytes may need memory: where
+    /// that is refused, an `AllocError`, the records are as before.
+    pub(crate) fn replace(&mut self, at: usize, item: &Record) -> Result<(), AllocError>
+        requires { at < length self.old }
+        ensures ok { OnOk result (self.new ≡ set self.old at item.now) }
+        ensures err { OnErr result (self.new ≡ self.old) }
+        ensures fits { IfSome (slice_get self.old at) (λ r. length (text_of item.now) ≤ length (text_of r) → IsOk result) }
+    {
+        let start = self.start_of(at);
+        let end = start + self.stored[at].text_len();
+        let (key, value) = (item.key.as_bytes(), item.value.as_bytes());
+        put_text(&mut self.texts, start, end, key, value)?;
+        self.stored[at] = StoredRecord::of(item);
+        Ok(())
+    }
+
+    /// Takes out the record at a place. It takes no memory.
+    pub(crate) fn remove(&mut self, at: usize)
+        requires { at < length self.old }
+        ensures { self.new ≡ remove self.old at }
+    {
+        let start = self.start_of(at);
+        let end = start + self.stored.remove(at).text_len();
+        cut_text(&mut self.texts, start, end);
+    }
+
+    /// The records whose pseudokeys a prefix begins, in their order. It takes memory, room for as
+    /// many as there are here: an `AllocError` where that is refused.
+    pub(crate) fn begun_by(&self, prefix: Prefix) -> Result<PackedRecords, AllocError>
+        ensures { IfOk result (λ records. records ≡ begun_by prefix self.now) }
+    {
+        let alloc = *self.stored.allocator();
+        let mut stored = Vec::with_capacity(alloc, self.stored.len())?;
+        let mut texts = Vec::with_capacity(alloc, self.texts.len())?;
+        let mut start = 0;
+        for item in &self.stored {
+            let end = start + item.text_len();
+            if prefix.begins(item.pseudokey) {
+                stored.push(*item)?;
+                texts.extend_from_slice(&self.texts[start..end])?;
+            }
+            start = end;
+        }
+        Ok(PackedRecords { stored, texts })
+    }
+
+    /// These records and then others. It takes memory for them: an `AllocError` where that is
+    /// refused.
+    pub(crate) fn followed_by(&self, others: &PackedRecords) -> Result<PackedRecords, AllocError>
+        ensures { IfOk result (λ records. records ≡ self.now ++ others.now) }
+    {
+        let mut stored = self.stored.clone()?;
+        let mut texts = self.texts.clone()?;
+        stored.extend_from_slice(&others.stored)?;
+        texts.extend_from_slice(&others.texts)?;
+        Ok(PackedRecords { stored, texts })
+    }
+
+    /// Records equal to these. It takes memory for them: an `AllocError` where that is refused.
+    pub(crate) fn try_clone(&self) -> Result<PackedRecords, AllocError>
+        ensures { IfOk result (λ records. records ≡ self.now) }
+    {
+        Ok(PackedRecords {
+            stored: self.stored.clone()?,
+            texts: self.texts.clone()?,
+        })
+    }
+
+    // The bytes of the records from a place on.
+    fn text_from(&self, at: usize) -> &[u8]
+        requires { at ≤ length self.now }
+        ensures { result.now ≡ flat_map text_of (drop at self.now) }
+    {
+        &self.texts[self.start_of(at)..]
+    }
+
+    // How many bytes the records before a place have.
+    fn start_of(&self, at: usize) -> usize
+        requires { at ≤ length self.now }
+        ensures { result ≡ length (flat_map text_of (take at self.now)) }
+    {
+        let mut start = 0;
+        for stored in &self.stored[..at] {
+            prove!(start <= self.texts.as_slice().len());
+            start += stored.text_len();
+        }
+        start
+    }
+}
+
+// Puts a key and a value in place of the bytes from `start` to `end`. Only more bytes than these may
+// need memory: where that is refused, the bytes are as before.
+fn put_text(
+    texts: &mut Vec<u8>,
+    start: usize,
+    end: usize,
+    key: &[u8],
+    value: &[u8],
+) -> Result<(), AllocError>
+    requires order { start ≤ end }
+    requires within { end ≤ length texts.old.items }
+    requires key { length key.now ≤ KEY_LIMIT }
+    requires value { length value.now ≤ VALUE_LIMIT }
+    ensures ok { OnOk result (texts.new.items ≡ take start texts.old.items ++ ((key.now ++ value.now) ++ drop end texts.old.items)) }
+    ensures err { OnErr result (texts.new.items ≡ texts.old.items) }
+    ensures fits { start + length key.now + length value.now ≤ end → IsOk result }
+{
+    let old_len = texts.len();
+    let middle = start + key.len();
+    let new_end = middle + value.len();
+    if new_end > end {
+        texts.resize(old_len + (new_end - end), 0)?;
+    }
+    texts.copy_within(end..old_len, new_end);
+    texts[start..middle].copy_from_slice(key);
+    texts[middle..new_end].copy_from_slice(value);
+    texts.truncate(new_end + (old_len - end));
+    Ok(())
+}
+
+// Takes out the bytes from `start` to `end`.
+fn cut_text(texts: &mut Vec<u8>, start: usize, end: usize)
+    requires order { start ≤ end }
+    requires within { end ≤ length texts.old.items }
+    ensures { texts.new.items ≡ take start texts.old.items ++ drop end texts.old.items }
+{
+    let old_len = texts.len();
+    texts.copy_within(end..old_len, start);
+    texts.truncate(old_len - (end - start));
+}

@@ -1,0 +1,46 @@
+ghost use Rattle.std.specs.Prelude.{◌≡◌, ◌≤◌, length, take};
+ghost use Rattle.exh_page.specs.Place.{place_cmp};
+ghost use Rattle.exh_page.specs.PackedRecords.{stored_of, text_len};
+
+use crate::{Key, Record};
+use std::cmp::Ordering;
+
+/// What is kept of a record beside its bytes: its pseudokey, and how long its key and value are.
+#[derive(Clone, Copy, Debug)]
+pub(crate) struct StoredRecord {
+    pub(crate) pseudokey: u64,
+    pub(crate) key_len: u8,
+    pub(crate) value_len: u8,
+}
+
+impl StoredRecord {
+    /// What is kept of a record.
+    pub(crate) fn of(item: &Record) -> StoredRecord
+        ensures { result ≡ stored_of item.now }
+    {
+        StoredRecord {
+            pseudokey: item.pseudokey,
+            key_len: item.key.as_bytes().len() as u8,
+            value_len: item.value.as_bytes().len() as u8,
+        }
+    }
+
+    /// How many bytes the key and the value have together.
+    pub(crate) fn text_len(&self) -> usize
+        ensures { result ≡ text_len self.now }
+    {
+        usize::from(self.key_len) + usize::from(self.value_len)
+    }
+    /// How the record's place compares with another: by pseudokey, then by key (exhash profile). The
+    /// text begins with the record's bytes.
+    pub(crate) fn cmp_place(&self, text: &[u8], pseudokey: u64, key: &Key) -> Ordering
+        requires { self.now.key_len ≤ length text.now }
+        ensures { result ≡ place_cmp (self.now.pseudokey, take self.now.key_len text.now) (pseudokey, key.now) }
+    {
+        // Keys are compared where pseudokeys tie alone: most searches never meet a tie before the last step.
+        match self.pseudokey.cmp(&pseudokey) {
+            Ordering::Equal => text[..usize::from(self.key_len)].cmp(&key.as_bytes()),
+            unequal => unequal,
+        }
+    }
+}
