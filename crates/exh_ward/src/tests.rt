@@ -101,7 +101,9 @@ fn is_live(page: &Page, prefix: Prefix, right: Option<PageNo>, records: &[Record
             prefix: its_prefix,
             right: its_right,
             records: its_records,
-        } => *its_prefix == prefix && *its_right == right && its_records.as_slice() == records,
+        } => *its_prefix == prefix
+            && *its_right == right
+            && its_records.iter().eq(records.iter().copied()),
         Page::Forward { .. } => false,
     }
 }

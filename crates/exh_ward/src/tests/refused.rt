@@ -1,4 +1,4 @@
-use super::{PlainWard, del, first_split, get, is_live, page_count, plain_ward, put};
+use super::{PlainWard, del, first_split, get, page_count, plain_ward, put};
 use crate::{Call, Hop, Reply, Ward, WardFault, first_page};
 use exh_frames::{FailingPages, Pages, PlainPages};
 use exh_keyer::{Keyer, PlainKeyer};
@@ -137,19 +137,27 @@ fn ward_after(rt: &(impl Abort + AllocGlobal), steps: &[Step]) -> Result<PlainWa
 }
 
 fn are_same(one: &Page, other: &Page) -> bool {
-    match other {
-        Page::Live {
-            prefix,
-            right,
-            records,
-        } => is_live(one, *prefix, *right, records.as_slice()),
-        Page::Forward { low, target } => match one {
-            Page::Live { .. } => false,
+    match (one, other) {
+        (
+            Page::Live {
+                prefix,
+                right,
+                records,
+            },
+            Page::Live {
+                prefix: its_prefix,
+                right: its_right,
+                records: its_records,
+            },
+        ) => its_prefix == prefix && its_right == right && its_records.iter().eq(records.iter()),
+        (
+            Page::Forward { low, target },
             Page::Forward {
                 low: its_low,
                 target: its_target,
-            } => its_low == low && its_target == target,
-        },
+            },
+        ) => its_low == low && its_target == target,
+        _ => false,
     }
 }
 

@@ -66,7 +66,7 @@ fn assert_page(
     assert_eq!(rt; Some(*prefix), Prefix::new(1, bits));
     assert_eq!(rt; *right, link);
     assert_eq!(rt; records.len(), 2);
-    for (record, key) in records.as_slice().iter().zip(keys) {
+    for (record, key) in records.iter().zip(keys) {
         assert_eq!(rt; record.key, *key);
     }
     Ok(())

@@ -137,11 +137,7 @@ fn are_same(one: &Page, other: &Page) -> bool {
                 right: other_right,
                 records: others,
             },
-        ) => {
-            prefix == other_prefix
-                && right == other_right
-                && records.as_slice() == others.as_slice()
-        }
+        ) => { prefix == other_prefix && right == other_right && records.iter().eq(others.iter()) }
         (
             Page::Forward { low, target },
             Page::Forward {
