@@ -82,7 +82,11 @@ fn keys_are_ordered_as_bytes(rt: HostRuntime) -> Result<(), Fail> {
 
 #[test]
 fn places_by_pseudokey_and_key(rt: HostRuntime) -> Result<(), Fail> {
-    let stored = StoredRecord::of(&record(5, b"k", b"vk")?);
+    let stored = StoredRecord {
+        pseudokey: 5,
+        key_len: 1,
+        value_len: 2,
+    };
     let places: [(u64, &[u8], Ordering); 5] = [
         (5, b"k", Ordering::Equal),
         (5, b"j", Ordering::Greater),
