@@ -4,6 +4,7 @@ use exh_keyer::{Keyer, PlainKeyer};
 use exh_page::{Key, PageNo, SizeFault, Value};
 use exh_ward::{Call, Hop, Reply, Ward, WardFault, first_page};
 use std::alloc::Global;
+use std::process::Abort;
 use std::test::Fail;
 
 type PlainWard = Ward<PlainPages, PlainKeyer>;
@@ -71,90 +72,126 @@ fn is_far(ward: &mut PlainWard, page: PageNo, pseudokey: u64, moves: u32) -> Res
     }
 }
 
-// A ward of the three keys: pages 0 and 1 with the prefixes 0 and 1.
+// Puts the three keys into an empty ward.
+fn put_three_keys(ward: &mut PlainWard) -> Result<(), Fail> {
+    put_new(ward, 0, b"\0")?;
+    put_new(ward, 0, b"\x80")?;
+    split(ward, 0)?;
+    put_new(ward, 0, b"\x40")
+}
+
+// A ward of the three keys: pages 0 and 1 with the prefixes 0 and 1. A function that owns a ward has
+// few exits, each of which drops it: proofs are long otherwise.
 fn ward_of_three_keys(alloc: Global) -> Result<PlainWard, Fail> {
     let mut ward = plain_ward(alloc)?;
-    put_new(&mut ward, 0, b"\0")?;
-    put_new(&mut ward, 0, b"\x80")?;
-    split(&mut ward, 0)?;
-    put_new(&mut ward, 0, b"\x40")?;
+    put_three_keys(&mut ward)?;
     Ok(ward)
+}
+
+// Splits both pages of the ward of the three keys.
+fn split_both(ward: &mut PlainWard) -> Result<(), Fail> {
+    split(ward, 0)?;
+    put_new(ward, 1, b"\xc0")?;
+    split(ward, 1)?;
+    Ok(())
 }
 
 // Pages 0 to 3 with the prefixes 00, 1, 01 and then 10, 11 for page 1: in the order of their low
 // bounds 0, 2, 1, 3, a key at each.
 fn ward_of_four_pages(alloc: Global) -> Result<PlainWard, Fail> {
     let mut ward = ward_of_three_keys(alloc)?;
-    split(&mut ward, 0)?;
-    put_new(&mut ward, 1, b"\xc0")?;
-    split(&mut ward, 1)?;
+    split_both(&mut ward)?;
     Ok(ward)
+}
+
+fn assert_one_page(rt: &impl Abort, ward: &mut PlainWard) -> Result<(), Fail> {
+    is_far(ward, 0, 0, 0)?;
+    is_far(ward, 0, u64::MAX, 0)?;
+    assert_eq!(rt; distance(ward, 1, 0), Err(WardFault::NoPage));
+    Ok(())
 }
 
 // The first page is live and alone: no page is far from its key.
 #[test]
 fn the_one_page(rt: HostRuntime) -> Result<(), Fail> {
     let mut ward = plain_ward(rt.alloc())?;
-    is_far(&mut ward, 0, 0, 0)?;
-    is_far(&mut ward, 0, u64::MAX, 0)?;
-    assert_eq!(rt; distance(&mut ward, 1, 0), Err(WardFault::NoPage));
-    Ok(())
+    assert_one_page(&rt, &mut ward)
+}
+
+fn assert_right_link(ward: &mut PlainWard) -> Result<(), Fail> {
+    is_far(ward, 0, EIGHTY - 1, 0)?;
+    is_far(ward, 0, EIGHTY, 1)?;
+    is_far(ward, 1, EIGHTY, 0)
 }
 
 // A page whose right link leads on is one move from the next.
 #[test]
 fn the_right_link(rt: HostRuntime) -> Result<(), Fail> {
     let mut ward = ward_of_three_keys(rt.alloc())?;
-    is_far(&mut ward, 0, EIGHTY - 1, 0)?;
-    is_far(&mut ward, 0, EIGHTY, 1)?;
-    is_far(&mut ward, 1, EIGHTY, 0)
+    assert_right_link(&mut ward)
+}
+
+fn assert_old_hint(ward: &mut PlainWard) -> Result<(), Fail> {
+    take_out(ward, 0, b"\x40")?;
+    take_out(ward, 1, b"\x80")?;
+    is_far(ward, 1, EIGHTY, 0)?;
+    merge(ward, 0)?;
+    is_far(ward, 1, EIGHTY, 1)?;
+    is_far(ward, 0, EIGHTY, 0)
 }
 
 // A forwarding page is one move from its target.
 #[test]
 fn the_old_hint(rt: HostRuntime) -> Result<(), Fail> {
     let mut ward = ward_of_three_keys(rt.alloc())?;
-    take_out(&mut ward, 0, b"\x40")?;
-    take_out(&mut ward, 1, b"\x80")?;
-    is_far(&mut ward, 1, EIGHTY, 0)?;
-    merge(&mut ward, 0)?;
-    is_far(&mut ward, 1, EIGHTY, 1)?;
-    is_far(&mut ward, 0, EIGHTY, 0)
+    assert_old_hint(&mut ward)
+}
+
+fn assert_revived_page(ward: &mut PlainWard) -> Result<(), Fail> {
+    take_out(ward, 0, b"\x40")?;
+    merge(ward, 0)?;
+    is_far(ward, 1, EIGHTY, 1)?;
+    split(ward, 0)?;
+    is_far(ward, 1, EIGHTY, 0)?;
+    is_far(ward, 0, EIGHTY, 1)
 }
 
 // A page that is live again is where it was.
 #[test]
 fn the_revived_page(rt: HostRuntime) -> Result<(), Fail> {
     let mut ward = ward_of_three_keys(rt.alloc())?;
-    take_out(&mut ward, 0, b"\x40")?;
-    merge(&mut ward, 0)?;
-    is_far(&mut ward, 1, EIGHTY, 1)?;
-    split(&mut ward, 0)?;
-    is_far(&mut ward, 1, EIGHTY, 0)?;
-    is_far(&mut ward, 0, EIGHTY, 1)
+    assert_revived_page(&mut ward)
+}
+
+fn assert_each_page_to_the_right(ward: &mut PlainWard) -> Result<(), Fail> {
+    is_far(ward, 0, EIGHTY / 2, 1)?;
+    is_far(ward, 0, EIGHTY, 2)?;
+    is_far(ward, 0, C0, 3)?;
+    is_far(ward, 2, u64::MAX, 2)?;
+    is_far(ward, 1, C0 - 1, 0)
 }
 
 // From the first page to each of four, as many live pages as come after it.
 #[test]
 fn each_page_to_the_right(rt: HostRuntime) -> Result<(), Fail> {
     let mut ward = ward_of_four_pages(rt.alloc())?;
-    is_far(&mut ward, 0, EIGHTY / 2, 1)?;
-    is_far(&mut ward, 0, EIGHTY, 2)?;
-    is_far(&mut ward, 0, C0, 3)?;
-    is_far(&mut ward, 2, u64::MAX, 2)?;
-    is_far(&mut ward, 1, C0 - 1, 0)
+    assert_each_page_to_the_right(&mut ward)
+}
+
+fn assert_two_forwarding_pages(ward: &mut PlainWard) -> Result<(), Fail> {
+    take_out(ward, 1, b"\x80")?;
+    merge(ward, 1)?;
+    take_out(ward, 2, b"\x40")?;
+    merge(ward, 0)?;
+    is_far(ward, 2, EIGHTY, 2)?;
+    merge(ward, 0)?;
+    is_far(ward, 3, C0, 2)?;
+    is_far(ward, 1, C0, 1)
 }
 
 // Two forwarding pages, one after the other, and the live page to the right of where they end.
 #[test]
 fn two_forwarding_pages(rt: HostRuntime) -> Result<(), Fail> {
     let mut ward = ward_of_four_pages(rt.alloc())?;
-    take_out(&mut ward, 1, b"\x80")?;
-    merge(&mut ward, 1)?;
-    take_out(&mut ward, 2, b"\x40")?;
-    merge(&mut ward, 0)?;
-    is_far(&mut ward, 2, EIGHTY, 2)?;
-    merge(&mut ward, 0)?;
-    is_far(&mut ward, 3, C0, 2)?;
-    is_far(&mut ward, 1, C0, 1)
+    assert_two_forwarding_pages(&mut ward)
 }

@@ -8,6 +8,7 @@ use exh_notice::{Kind, Notice};
 use exh_page::{Key, Page, PageNo, Record, SizeFault, Value};
 use exh_prefix::Prefix;
 use std::alloc::Global;
+use std::process::Abort;
 use std::test::Fail;
 
 mod journals;
@@ -84,13 +85,41 @@ fn put_new(ward: &mut PlainWard, at: PageNo, call: &Call) -> Result<(), Fail> {
     }
 }
 
-// A ward of the three keys: pages 0 and 1 with the prefixes 0 and 1, and one notice.
+// A hop comes to this.
+fn assert_hop(
+    rt: &impl Abort,
+    ward: &mut PlainWard,
+    at: PageNo,
+    call: &Call,
+    want: Hop,
+) -> Result<(), Fail> {
+    assert_eq!(rt; plain_hop(ward, at, call)?, want);
+    Ok(())
+}
+
+// A split comes to this.
+fn assert_split(
+    rt: &impl Abort,
+    ward: &mut PlainWard,
+    page: PageNo,
+    want: Result<Notice, WardFault>,
+) {
+    assert_eq!(rt; split(ward, page), want);
+}
+
+// Puts the three keys into an empty ward.
+fn put_three_keys(ward: &mut PlainWard) -> Result<(), Fail> {
+    put_new(ward, 0, &put(b"\0", b"a")?)?;
+    put_new(ward, 0, &put(b"\x80", b"b")?)?;
+    split(ward, 0)?;
+    put_new(ward, 0, &put(b"\x40", b"x")?)
+}
+
+// A ward of the three keys: pages 0 and 1 with the prefixes 0 and 1, and one notice. A function that
+// owns a ward has few exits, each of which drops it: proofs are long otherwise.
 fn ward_of_three_keys(alloc: Global) -> Result<PlainWard, Fail> {
     let mut ward = plain_ward(alloc, 0, 0)?;
-    put_new(&mut ward, 0, &put(b"\0", b"a")?)?;
-    put_new(&mut ward, 0, &put(b"\x80", b"b")?)?;
-    split(&mut ward, 0)?;
-    put_new(&mut ward, 0, &put(b"\x40", b"x")?)?;
+    put_three_keys(&mut ward)?;
     Ok(ward)
 }
 
@@ -130,121 +159,120 @@ fn first_split(index: u64, prefix: Prefix, right: PageNo) -> Notice {
     }
 }
 
+fn assert_three_keys(rt: &impl Abort, ward: &mut PlainWard) -> Result<(), Fail> {
+    let last = put(b"\x40", b"x")?;
+    let new = Hop::Done(Reply::New);
+    assert_split(rt, ward, 0, Err(WardFault::NotFull));
+    assert_split(rt, ward, 1, Err(WardFault::NoPage));
+    assert_hop(rt, ward, 0, &put(b"\0", b"a")?, new)?;
+    assert_hop(rt, ward, 0, &put(b"\x80", b"b")?, new)?;
+    assert_hop(rt, ward, 0, &last, Hop::MustSplit)?;
+    assert_eq!(rt; journal_len(ward), 2);
+    let root = Prefix::new(0, 0).ok_or("a prefix")?;
+    assert_split(rt, ward, 0, Ok(first_split(1, root, 1)));
+    assert_hop(rt, ward, 0, &last, new)?;
+    assert_eq!(rt; page_count(ward), 2);
+    Ok(())
+}
+
 #[test]
 fn the_three_keys(rt: HostRuntime) -> Result<(), Fail> {
     let mut ward = plain_ward(rt.alloc(), 0, 0)?;
-    let last = put(b"\x40", b"x")?;
-    assert_eq!(rt; split(&mut ward, 0), Err(WardFault::NotFull));
-    assert_eq!(rt; split(&mut ward, 1), Err(WardFault::NoPage));
-    assert_eq!(rt;
-        plain_hop(&mut ward, 0, &put(b"\0", b"a")?)?,
-        Hop::Done(Reply::New)
-    );
-    assert_eq!(rt;
-        plain_hop(&mut ward, 0, &put(b"\x80", b"b")?)?,
-        Hop::Done(Reply::New)
-    );
-    assert_eq!(rt; plain_hop(&mut ward, 0, &last)?, Hop::MustSplit);
-    assert_eq!(rt; journal_len(&ward), 2);
-    let root = Prefix::new(0, 0).ok_or("a prefix")?;
-    let notice = split(&mut ward, 0)?;
-    assert_eq!(rt; notice, first_split(1, root, 1));
-    assert_eq!(rt; plain_hop(&mut ward, 0, &last)?, Hop::Done(Reply::New));
-    assert_eq!(rt; page_count(&ward), 2);
-    Ok(())
+    assert_three_keys(&rt, &mut ward)
+}
+
+fn assert_right_link(rt: &impl Abort, ward: &mut PlainWard) -> Result<(), Fail> {
+    assert_hop(rt, ward, 1, &get(b"\0")?, Hop::Stray)?;
+    assert_hop(rt, ward, 2, &get(b"\0")?, Hop::Stray)?;
+    assert_hop(rt, ward, 0, &get(b"\x80")?, Hop::Moved(1))?;
+    let b = Value::from_bytes(b"b")?;
+    assert_hop(rt, ward, 1, &get(b"\x80")?, Hop::Done(Reply::Is(b)))
 }
 
 // A page for greater pseudokeys, one that isn't there, and a page whose right link leads on.
 #[test]
 fn the_right_link(rt: HostRuntime) -> Result<(), Fail> {
     let mut ward = ward_of_three_keys(rt.alloc())?;
-    assert_eq!(rt; plain_hop(&mut ward, 1, &get(b"\0")?)?, Hop::Stray);
-    assert_eq!(rt; plain_hop(&mut ward, 2, &get(b"\0")?)?, Hop::Stray);
-    assert_eq!(rt; plain_hop(&mut ward, 0, &get(b"\x80")?)?, Hop::Moved(1));
-    let b = Value::from_bytes(b"b")?;
-    assert_eq!(rt;
-        plain_hop(&mut ward, 1, &get(b"\x80")?)?,
-        Hop::Done(Reply::Is(b))
+    assert_right_link(&rt, &mut ward)
+}
+
+// Page 0 is split at this length, since the key waits for it.
+fn assert_waits(rt: &impl Abort, ward: &mut PlainWard, call: &Call, len: u8) -> Result<(), Fail> {
+    assert_hop(rt, ward, 0, call, Hop::MustSplit)?;
+    let prefix = Prefix::new(len, 0).ok_or("a prefix")?;
+    let right = u32::from(len) + 1;
+    assert_split(
+        rt,
+        ward,
+        0,
+        Ok(first_split(u64::from(right), prefix, right)),
     );
+    Ok(())
+}
+
+fn assert_equal_leading_bits(rt: &impl Abort, ward: &mut PlainWard) -> Result<(), Fail> {
+    let third = put(b"\0\0\0\0", b"c")?;
+    let new = Hop::Done(Reply::New);
+    assert_hop(rt, ward, 0, &put(b"\0\0", b"a")?, new)?;
+    assert_hop(rt, ward, 0, &put(b"\0\0\0", b"b")?, new)?;
+    for len in 0..16u8 {
+        assert_waits(rt, ward, &third, len)?;
+    }
+    assert_hop(rt, ward, 0, &third, Hop::Done(Reply::Full))?;
+    let was = Hop::Done(Reply::Was(Value::from_bytes(b"a")?));
+    assert_hop(rt, ward, 0, &put(b"\0\0", b"d")?, was)?;
+    assert_split(rt, ward, 0, Err(WardFault::AtLimit));
+    assert_eq!(rt; page_count(ward), 17);
     Ok(())
 }
 
 #[test]
 fn the_equal_leading_bits(rt: HostRuntime) -> Result<(), Fail> {
     let mut ward = plain_ward(rt.alloc(), 0, 0)?;
-    let third = put(b"\0\0\0\0", b"c")?;
-    assert_eq!(rt;
-        plain_hop(&mut ward, 0, &put(b"\0\0", b"a")?)?,
-        Hop::Done(Reply::New)
-    );
-    assert_eq!(rt;
-        plain_hop(&mut ward, 0, &put(b"\0\0\0", b"b")?)?,
-        Hop::Done(Reply::New)
-    );
-    for len in 0..16u8 {
-        assert_eq!(rt; plain_hop(&mut ward, 0, &third)?, Hop::MustSplit);
-        let prefix = Prefix::new(len, 0).ok_or("a prefix")?;
-        let right = u32::from(len) + 1;
-        assert_eq!(rt;
-            split(&mut ward, 0),
-            Ok(first_split(u64::from(right), prefix, right))
-        );
-    }
-    assert_eq!(rt; plain_hop(&mut ward, 0, &third)?, Hop::Done(Reply::Full));
-    let a = Value::from_bytes(b"a")?;
-    assert_eq!(rt;
-        plain_hop(&mut ward, 0, &put(b"\0\0", b"d")?)?,
-        Hop::Done(Reply::Was(a))
-    );
-    assert_eq!(rt; split(&mut ward, 0), Err(WardFault::AtLimit));
-    assert_eq!(rt; page_count(&ward), 17);
-    Ok(())
+    assert_equal_leading_bits(&rt, &mut ward)
+}
+
+fn assert_old_hint(rt: &impl Abort, ward: &mut PlainWard) -> Result<(), Fail> {
+    let right_key = get(b"\x80")?;
+    let x = Value::from_bytes(b"x")?;
+    let b = Hop::Done(Reply::Is(Value::from_bytes(b"b")?));
+    assert_hop(rt, ward, 0, &del(b"\x40")?, Hop::Done(Reply::Was(x)))?;
+    assert_eq!(rt; merge(ward, 0), Ok(root_notice(2, 2, Kind::Merge)?));
+    assert_eq!(rt; page_count(ward), 2);
+    assert_hop(rt, ward, 1, &right_key, Hop::Moved(0))?;
+    assert_hop(rt, ward, 0, &right_key, b)?;
+    let second = root_notice(3, 3, Kind::Split { right: 1 })?;
+    assert_split(rt, ward, 0, Ok(second));
+    assert_eq!(rt; page_count(ward), 2);
+    assert_hop(rt, ward, 1, &right_key, b)
 }
 
 // A merge puts both pages together, the right one sends callers on, and the next split revives it.
 #[test]
 fn the_old_hint_and_the_revived_page(rt: HostRuntime) -> Result<(), Fail> {
     let mut ward = ward_of_three_keys(rt.alloc())?;
-    let right_key = get(b"\x80")?;
-    let x = Value::from_bytes(b"x")?;
-    let b = Value::from_bytes(b"b")?;
-    assert_eq!(rt;
-        plain_hop(&mut ward, 0, &del(b"\x40")?)?,
-        Hop::Done(Reply::Was(x))
-    );
-    let merged = root_notice(2, 2, Kind::Merge)?;
-    assert_eq!(rt; merge(&mut ward, 0), Ok(merged));
-    assert_eq!(rt; page_count(&ward), 2);
-    assert_eq!(rt; plain_hop(&mut ward, 1, &right_key)?, Hop::Moved(0));
-    assert_eq!(rt;
-        plain_hop(&mut ward, 0, &right_key)?,
-        Hop::Done(Reply::Is(b.clone()?))
-    );
-    let second = root_notice(3, 3, Kind::Split { right: 1 })?;
-    assert_eq!(rt; split(&mut ward, 0), Ok(second));
-    assert_eq!(rt; page_count(&ward), 2);
-    assert_eq!(rt;
-        plain_hop(&mut ward, 1, &right_key)?,
-        Hop::Done(Reply::Is(b))
-    );
+    assert_old_hint(&rt, &mut ward)
+}
+
+fn assert_refused_changes(rt: &impl Abort, ward: &mut PlainWard) -> Result<(), Fail> {
+    assert_eq!(rt; merge(ward, 2), Err(WardFault::NoPage));
+    assert_eq!(rt; merge(ward, 1), Err(WardFault::NoBuddy));
+    assert_eq!(rt; merge(ward, 0), Err(WardFault::TooMany(3)));
+    put_new(ward, 1, &put(b"\xc0", b"y")?)?;
+    split(ward, 1)?;
+    assert_eq!(rt; merge(ward, 0), Err(WardFault::BuddySplit));
+    merge(ward, 1)?;
+    assert_eq!(rt; merge(ward, 2), Err(WardFault::NotLive));
+    assert_split(rt, ward, 2, Err(WardFault::NotLive));
+    assert_eq!(rt; merge(ward, 0), Err(WardFault::TooMany(4)));
+    assert_eq!(rt; notice_count(ward), 3);
     Ok(())
 }
 
 #[test]
 fn the_refused_changes(rt: HostRuntime) -> Result<(), Fail> {
     let mut ward = ward_of_three_keys(rt.alloc())?;
-    assert_eq!(rt; merge(&mut ward, 2), Err(WardFault::NoPage));
-    assert_eq!(rt; merge(&mut ward, 1), Err(WardFault::NoBuddy));
-    assert_eq!(rt; merge(&mut ward, 0), Err(WardFault::TooMany(3)));
-    put_new(&mut ward, 1, &put(b"\xc0", b"y")?)?;
-    split(&mut ward, 1)?;
-    assert_eq!(rt; merge(&mut ward, 0), Err(WardFault::BuddySplit));
-    merge(&mut ward, 1)?;
-    assert_eq!(rt; merge(&mut ward, 2), Err(WardFault::NotLive));
-    assert_eq!(rt; split(&mut ward, 2), Err(WardFault::NotLive));
-    assert_eq!(rt; merge(&mut ward, 0), Err(WardFault::TooMany(4)));
-    assert_eq!(rt; notice_count(&ward), 3);
-    Ok(())
+    assert_refused_changes(&rt, &mut ward)
 }
 
 #[test]

@@ -1,5 +1,6 @@
 use super::{PlainWard, del, plain_hop, put, ward_of_three_keys};
 use crate::{Base, JournalEntry, Reply};
+use std::process::Abort;
 use std::test::Fail;
 
 // Whether the journal has these entries and no others.
@@ -21,16 +22,20 @@ fn four_entries() -> Result<[JournalEntry; 4], Fail> {
     ])
 }
 
+fn assert_journal(rt: &impl Abort, ward: &mut PlainWard) -> Result<(), Fail> {
+    let entries = four_entries()?;
+    assert!(rt; has_journal(ward, &entries[..3]));
+    let absent = del(b"\xc0")?;
+    plain_hop(ward, 0, &absent)?;
+    assert!(rt; has_journal(ward, &entries[..3]));
+    plain_hop(ward, 1, &absent)?;
+    assert!(rt; has_journal(ward, &entries));
+    assert!(rt; base(ward).pairs().is_empty());
+    Ok(())
+}
+
 #[test]
 fn the_journal_that_is_read(rt: HostRuntime) -> Result<(), Fail> {
     let mut ward = ward_of_three_keys(rt.alloc())?;
-    let entries = four_entries()?;
-    assert!(rt; has_journal(&ward, &entries[..3]));
-    let absent = del(b"\xc0")?;
-    plain_hop(&mut ward, 0, &absent)?;
-    assert!(rt; has_journal(&ward, &entries[..3]));
-    plain_hop(&mut ward, 1, &absent)?;
-    assert!(rt; has_journal(&ward, &entries));
-    assert!(rt; base(&ward).pairs().is_empty());
-    Ok(())
+    assert_journal(&rt, &mut ward)
 }

@@ -182,6 +182,18 @@ fn are_alike<P: Pages + Drop>(
     Ok(are_told_alike(ward, other))
 }
 
+// A ward is as one that took these steps.
+fn assert_after<P: Pages + Drop>(
+    rt: &(impl Abort + AllocGlobal),
+    ward: &mut Ward<P, PlainKeyer>,
+    steps: &[Step],
+) -> Result<(), Fail> {
+    let mut other = ward_after(rt, steps)?;
+    let place = steps.len();
+    assert!(rt; are_alike(ward, &mut other)?, "step {place}");
+    Ok(())
+}
+
 // Takes the steps, each once more where it is refused, and then the ward is as before: one that
 // took the steps before. Answers the place of the step that was refused, if one was.
 fn take_all<P: Pages + Drop>(
@@ -196,8 +208,7 @@ fn take_all<P: Pages + Drop>(
             Ok(taken) => taken,
             Err(met) => {
                 assert_eq!(rt; met, fault, "step {place}");
-                let mut before = ward_after(rt, &steps[..place])?;
-                assert!(rt; are_alike(ward, &mut before)?, "step {place}");
+                assert_after(rt, ward, &steps[..place])?;
                 refused = Some(place);
                 take(rt, ward, step)?
             }
@@ -205,10 +216,17 @@ fn take_all<P: Pages + Drop>(
         assert!(rt; taken, "step {place}");
     }
     if refused.is_some() {
-        let mut after = ward_after(rt, &steps)?;
-        assert!(rt; are_alike(ward, &mut after)?);
+        assert_after(rt, ward, &steps)?;
     }
     Ok(refused)
+}
+
+// The step that was refused in a new ward, whose page is out of reach at the access of this number.
+fn refused_step(rt: &(impl Abort + AllocGlobal), at: u64) -> Result<Option<usize>, Fail> {
+    let inner = PlainPages::new(rt.alloc(), first_page(rt.alloc(), 0, 0))?;
+    let store = FailingPages::new(inner, at);
+    let mut ward = Ward::new(rt.alloc(), store, 2, 0, 0, PlainKeyer);
+    take_all(rt, &mut ward, WardFault::Page)
 }
 
 // Each access of a page that the steps make is refused in turn, until there are no more.
@@ -216,10 +234,7 @@ fn take_all<P: Pages + Drop>(
 fn each_page_out_of_reach(rt: HostRuntime) -> Result<(), Fail> {
     let mut refused = [false; STEPS];
     for at in 1..100 {
-        let inner = PlainPages::new(rt.alloc(), first_page(rt.alloc(), 0, 0))?;
-        let store = FailingPages::new(inner, at);
-        let mut ward = Ward::new(rt.alloc(), store, 2, 0, 0, PlainKeyer);
-        match take_all(&rt, &mut ward, WardFault::Page)? {
+        match refused_step(&rt, at)? {
             Some(place) => {
                 if let Some(met) = refused.get_mut(place) {
                     *met = true;

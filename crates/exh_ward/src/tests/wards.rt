@@ -73,13 +73,17 @@ fn assert_right_page(rt: &impl Abort, ward: &mut HashedWard) -> Result<(), Fail>
     Ok(())
 }
 
+fn assert_hashed_keys(rt: &impl Abort, ward: &mut HashedWard) -> Result<(), Fail> {
+    put_hashed_keys(rt, ward)?;
+    assert_left_page(rt, ward)?;
+    assert_right_page(rt, ward)
+}
+
 // Pages are parted by the hashes of keys, of which the expected bytes are those of another program.
 #[test]
 fn the_hashed_keys(rt: HostRuntime) -> Result<(), Fail> {
     let mut ward = hashed_ward(rt.alloc())?;
-    put_hashed_keys(&rt, &mut ward)?;
-    assert_left_page(&rt, &mut ward)?;
-    assert_right_page(&rt, &mut ward)
+    assert_hashed_keys(&rt, &mut ward)
 }
 
 type LastWard = Ward<PlainPages, PlainKeyer>;
@@ -119,15 +123,18 @@ fn split_last_ward(rt: &impl Abort, ward: &mut LastWard) -> Result<(), Fail> {
     Ok(())
 }
 
-#[test]
-fn the_four_wards(rt: HostRuntime) -> Result<(), Fail> {
-    let mut ward = last_of_four(rt.alloc())?;
-    let ward = &mut ward;
+fn assert_last_of_four(rt: &impl Abort, ward: &mut LastWard) -> Result<(), Fail> {
     assert!(rt; !ward.covers(PlainKeyer.pseudo(b"\x7f")));
-    split_last_ward(&rt, ward)?;
+    split_last_ward(rt, ward)?;
     let asked = get(b"\xff")?;
     assert_eq!(rt; last_hop(ward, 0, &asked)?, Hop::Moved(1));
     let z = Value::from_bytes(b"z")?;
     assert_eq!(rt; last_hop(ward, 1, &asked)?, Hop::Done(Reply::Is(z)));
     Ok(())
+}
+
+#[test]
+fn the_four_wards(rt: HostRuntime) -> Result<(), Fail> {
+    let mut ward = last_of_four(rt.alloc())?;
+    assert_last_of_four(&rt, &mut ward)
 }

@@ -80,12 +80,16 @@ fn keys(first: &[u8], second: &[u8]) -> Result<[Key; 2], SizeFault> {
     Ok([Key::from_bytes(first)?, Key::from_bytes(second)?])
 }
 
+fn assert_hashed_keys(rt: &impl Abort, world: &mut HashedWorld) -> Result<(), Fail> {
+    assert_lines(rt, world, &HASHED_KEYS)?;
+    let left = page(world, 0)?;
+    assert_page(rt, &left, 0, Some(1), &keys(b"c", b"b")?)?;
+    let right = page(world, 1)?;
+    assert_page(rt, &right, 1 << 63, None, &keys(b"abc", b"a")?)
+}
+
 #[test]
 fn the_hashed_keys(rt: HostRuntime) -> Result<(), Fail> {
     let mut world = hashed_world(rt.alloc())?;
-    assert_lines(&rt, &mut world, &HASHED_KEYS)?;
-    let left = page(&mut world, 0)?;
-    assert_page(&rt, &left, 0, Some(1), &keys(b"c", b"b")?)?;
-    let right = page(&mut world, 1)?;
-    assert_page(&rt, &right, 1 << 63, None, &keys(b"abc", b"a")?)
+    assert_hashed_keys(&rt, &mut world)
 }

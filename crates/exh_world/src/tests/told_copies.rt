@@ -104,17 +104,21 @@ pub(super) const TWO_ORDERS: [Line; 7] = [
     Line::Deliver(2, MERGED),
 ];
 
+fn assert_two_orders(rt: &impl Abort, world: &mut PlainWorld) -> Result<(), Fail> {
+    three_keys(rt, world)?;
+    assert_lines(rt, world, &TWO_ORDERS)?;
+    let leaves = [leaf(0, 0, 0)?];
+    for copy in [1, 2] {
+        assert_merged(rt, world, copy)?;
+        assert_leaves(rt, world, copy, 0, &leaves)?;
+    }
+    Ok(())
+}
+
 #[test]
 fn both_orders_of_two_notices(rt: HostRuntime) -> Result<(), Fail> {
     let mut world = new_world(rt.alloc())?;
-    three_keys(&rt, &mut world)?;
-    assert_lines(&rt, &mut world, &TWO_ORDERS)?;
-    let leaves = [leaf(0, 0, 0)?];
-    for copy in [1, 2] {
-        assert_merged(&rt, &world, copy)?;
-        assert_leaves(&rt, &world, copy, 0, &leaves)?;
-    }
-    Ok(())
+    assert_two_orders(&rt, &mut world)
 }
 
 /// The second split reaches a copy before the first.
@@ -126,13 +130,17 @@ pub(super) const LATER_FIRST: [Line; 5] = [
     Line::Begin(5, 1, Asked::Get(b"\x40"), 0, 2),
 ];
 
+fn assert_later_first(rt: &impl Abort, world: &mut PlainWorld) -> Result<(), Fail> {
+    three_keys(rt, world)?;
+    assert_lines(rt, world, &LATER_FIRST)?;
+    let leaves = [leaf(2, 0, 0)?, leaf(2, 1 << 62, 2)?, leaf(1, 1 << 63, 1)?];
+    assert_leaves(rt, world, 1, 2, &leaves)
+}
+
 #[test]
 fn a_split_told_before_the_one_above(rt: HostRuntime) -> Result<(), Fail> {
     let mut world = new_world(rt.alloc())?;
-    three_keys(&rt, &mut world)?;
-    assert_lines(&rt, &mut world, &LATER_FIRST)?;
-    let leaves = [leaf(2, 0, 0)?, leaf(2, 1 << 62, 2)?, leaf(1, 1 << 63, 1)?];
-    assert_leaves(&rt, &world, 1, 2, &leaves)
+    assert_later_first(&rt, &mut world)
 }
 
 /// A table that was sent before the merge reaches a copy after it.
