@@ -20,6 +20,8 @@ mod legality;
 mod small_wards;
 mod worlds;
 
+type PlainWard = Ward<PlainPages, PlainKeyer>;
+
 fn get(key: &[u8]) -> Result<Call, SizeFault> {
     Ok(Call::Get {
         key: Key::from_bytes(key)?,
@@ -321,7 +323,7 @@ fn next_call(dice: &mut Dice) -> Result<Call, SizeFault> {
 // A call's reply by the ward's hops, from page 0 on; a page that is full is split, and tried again.
 fn reply_of(
     rt: &(impl Abort + AllocGlobal),
-    ward: &mut Ward<PlainPages, PlainKeyer>,
+    ward: &mut PlainWard,
     call: &Call,
 ) -> Result<Reply, Fail> {
     let mut at = 0;
@@ -340,29 +342,65 @@ fn reply_of(
     Err("no reply")?
 }
 
-// A thousand calls of one ward that splits its pages of two records: its replies are the slow
-// program's, and so is its journal; what it tells of its pages is one notice a split.
-#[test]
-fn wards_beside(rt: HostRuntime) -> Result<(), Fail> {
+// A thousand calls come to the same by a ward and by a machine, `Full` among them.
+fn assert_beside(
+    rt: &(impl Abort + AllocGlobal),
+    ward: &mut PlainWard,
+    machine: &mut MapMachine<PlainKeyer>,
+) -> Result<(), Fail> {
     let mut dice = Dice { state: 1979 };
-    let store = PlainPages::new(rt.alloc(), first_page(rt.alloc(), 0, 0))?;
-    let mut ward = Ward::new(rt.alloc(), store, 2, 0, 0, PlainKeyer);
-    let mut machine = MapMachine::new(rt.alloc(), 2, PlainKeyer);
     let mut any_full = false;
     for _ in 0..1000 {
         let call = next_call(&mut dice)?;
         let reply = machine.answer(&call)?;
-        assert_eq!(rt; reply_of(&rt, &mut ward, &call)?, reply, "{call:?}");
+        assert_eq!(rt; reply_of(rt, ward, &call)?, reply, "{call:?}");
         any_full |= reply == Reply::Full;
     }
     assert!(rt; any_full);
-    let mut again = MapMachine::new(rt.alloc(), 2, PlainKeyer);
+    Ok(())
+}
+
+// A machine answers a ward's journal in the same way.
+fn answer_journal(
+    rt: &impl Abort,
+    ward: &PlainWard,
+    machine: &mut MapMachine<PlainKeyer>,
+) -> Result<(), Fail> {
     for entry in ward.journal().iter() {
-        assert_eq!(rt; again.answer(&entry.call)?, entry.reply);
+        assert_eq!(rt; machine.answer(&entry.call)?, entry.reply);
     }
+    Ok(())
+}
+
+// A ward's journal gives the map of a machine.
+fn assert_journal(
+    rt: &(impl Abort + AllocGlobal),
+    ward: &PlainWard,
+    cap: usize,
+    machine: &MapMachine<PlainKeyer>,
+) -> Result<(), Fail> {
+    let mut again = MapMachine::new(rt.alloc(), cap, PlainKeyer);
+    answer_journal(rt, ward, &mut again)?;
     assert_eq!(rt; again.map().pairs(), machine.map().pairs());
+    Ok(())
+}
+
+// One notice is told a split.
+fn assert_told_of_splits(rt: &impl Abort, ward: &PlainWard) {
     assert!(rt; ward.page_count() > 2);
     assert_eq!(rt; ward.notices_after(0).len() + 1, ward.page_count() as usize);
+}
+
+// A thousand calls of one ward that splits its pages of two records: its replies are the slow
+// program's, and so is its journal; what it tells of its pages is one notice a split.
+#[test]
+fn wards_beside(rt: HostRuntime) -> Result<(), Fail> {
+    let store = PlainPages::new(rt.alloc(), first_page(rt.alloc(), 0, 0))?;
+    let mut ward = Ward::new(rt.alloc(), store, 2, 0, 0, PlainKeyer);
+    let mut machine = MapMachine::new(rt.alloc(), 2, PlainKeyer);
+    assert_beside(&rt, &mut ward, &mut machine)?;
+    assert_journal(&rt, &ward, 2, &machine)?;
+    assert_told_of_splits(&rt, &ward);
     Ok(())
 }
 
@@ -405,30 +443,43 @@ fn shuffled(alloc: Global, dice: &mut Dice, notices: &[Notice]) -> Result<Vec<No
     Ok(told)
 }
 
-// The table that took the notices has the entries, leaves, depth and names of the slow program.
-fn table_is_alike(
-    rt: &(impl Abort + AllocGlobal),
-    dice: &mut Dice,
-    told: &[Notice],
-    leaves: &LeafSet,
-) -> Result<(), Fail> {
-    let mut table = Table::new(rt.alloc());
+// The table that took the notices.
+fn table_of(alloc: Global, told: &[Notice]) -> Result<Table, AllocError> {
+    let mut table = Table::new(alloc);
     for notice in told {
         table.take(notice)?;
     }
+    Ok(table)
+}
+
+// The table has the entries of the slow program.
+fn entries_are_alike(
+    rt: &(impl Abort + AllocGlobal),
+    table: &Table,
+    told: &[Notice],
+) -> Result<(), Fail> {
     let entries = greatest_of(rt.alloc(), told)?;
     let mut listed = entries.iter();
     for (prefix, entry) in table.entries() {
         assert_eq!(rt; listed.next(), Some(&(*prefix, *entry)));
     }
     assert!(rt; listed.next().is_none());
+    Ok(())
+}
+
+// The table has the leaves of the slow program, and walks to the same ones.
+fn leaves_are_alike(
+    rt: &impl Abort,
+    dice: &mut Dice,
+    table: &Table,
+    leaves: &LeafSet,
+) -> Result<(), Fail> {
     let table_leaves = table.leaves(0)?;
     let prefixes = leaves.prefixes()?;
     assert_eq!(rt; table_leaves.len(), prefixes.len());
     for (leaf, prefix) in table_leaves.iter().zip(&prefixes) {
         assert_eq!(rt; leaf.prefix, *prefix);
     }
-    assert_eq!(rt; Some(table.depth(0)), leaves.depth());
     for _ in 0..100 {
         let pseudokey = dice.word();
         let name = leaves.name(pseudokey).ok_or("no name")?;
@@ -440,25 +491,70 @@ fn table_is_alike(
     Ok(())
 }
 
+// The table that took the notices has the entries, leaves, depth and names of the slow program.
+fn table_is_alike(
+    rt: &(impl Abort + AllocGlobal),
+    dice: &mut Dice,
+    told: &[Notice],
+    leaves: &LeafSet,
+) -> Result<(), Fail> {
+    let table = table_of(rt.alloc(), told)?;
+    entries_are_alike(rt, &table, told)?;
+    leaves_are_alike(rt, dice, &table, leaves)?;
+    assert_eq!(rt; Some(table.depth(0)), leaves.depth());
+    Ok(())
+}
+
+// Changes the leaves once more.
+fn change_leaves(
+    rt: &impl Abort,
+    dice: &mut Dice,
+    leaves: &mut LeafSet,
+    changes: &mut Vec<Notice>,
+) -> Result<(), Fail> {
+    let prefixes = leaves.prefixes()?;
+    let change = next_change(dice, &prefixes, changes).ok_or("no change")?;
+    assert!(rt; change.prefix.len() < LIMIT);
+    leaves.change(&change)?;
+    changes.push(change)?;
+    Ok(())
+}
+
+// A table that is told of the changes in any order is like the leaves.
+fn assert_told(
+    rt: &(impl Abort + AllocGlobal),
+    dice: &mut Dice,
+    changes: &[Notice],
+    leaves: &LeafSet,
+) -> Result<(), Fail> {
+    let told = shuffled(rt.alloc(), dice, changes)?;
+    table_is_alike(rt, dice, &told, leaves)
+}
+
+// A thousand changes of the leaves, with a table at each quarter of them.
+fn change_beside(
+    rt: &(impl Abort + AllocGlobal),
+    leaves: &mut LeafSet,
+    changes: &mut Vec<Notice>,
+) -> Result<(), Fail> {
+    let mut dice = Dice { state: 1979 };
+    for round in 1..=1000 {
+        change_leaves(rt, &mut dice, leaves, changes)?;
+        if round % 250 == 0 {
+            assert_told(rt, &mut dice, changes, leaves)?;
+        }
+    }
+    Ok(())
+}
+
 // A thousand changes of one ward, in random order with repeats: the tables that take them are the
 // slow program's, and so are their leaves.
 #[test]
 fn tables_beside(rt: HostRuntime) -> Result<(), Fail> {
     let root = prefix("").ok_or("no prefix")?;
-    let mut dice = Dice { state: 1979 };
     let mut leaves = LeafSet::new(rt.alloc(), &[root])?;
     let mut changes: Vec<Notice> = Vec::new(rt.alloc());
-    for round in 1..=1000 {
-        let prefixes = leaves.prefixes()?;
-        let change = next_change(&mut dice, &prefixes, &changes).ok_or("no change")?;
-        assert!(rt; change.prefix.len() < LIMIT);
-        leaves.change(&change)?;
-        changes.push(change)?;
-        if round % 250 == 0 {
-            let told = shuffled(rt.alloc(), &mut dice, &changes)?;
-            table_is_alike(&rt, &mut dice, &told, &leaves)?;
-        }
-    }
+    change_beside(&rt, &mut leaves, &mut changes)?;
     let after = leaves_after(&rt, &[root], &changes)?;
     let same = after.prefixes()?;
     assert_eq!(rt; same.as_slice(), leaves.prefixes()?.as_slice());

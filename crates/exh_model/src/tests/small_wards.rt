@@ -4,7 +4,7 @@ ghost use Rattle.exh_ward.specs.declared.ward.TheConstants.{WARD_BITS_LIMIT};
 
 use super::by_hand::{Told, hop_at, merge_at, split_at};
 use super::legality::{assert_forwarded, assert_linked, assert_records, assert_walk};
-use super::{Dice, del, get, put};
+use super::{Dice, PlainWard, assert_journal, del, get, put};
 use crate::MapMachine;
 use exh_frames::PlainPages;
 use exh_keyer::{Keyer, PlainKeyer};
@@ -16,8 +16,6 @@ use exh_ward::{Call, Hop, Reply, Ward, WardFault, first_page};
 use std::alloc::Global;
 use std::process::Abort;
 use std::test::Fail;
-
-type PlainWard = Ward<PlainPages, PlainKeyer>;
 
 // The calls of a ward and its readers, as the runs use them.
 fn hop_of(
@@ -72,6 +70,7 @@ impl Small {
         requires bits { ward_bits ≤ WARD_BITS_LIMIT }
         requires number { number < 2 ^ ward_bits }
     {
+        let own = Prefix::new(ward_bits, low).ok_or("a prefix")?;
         let store = PlainPages::new(alloc, first_page(alloc, ward_bits, number))?;
         Ok(Small {
             ward: Ward::new(alloc, store, cap, ward_bits, number, PlainKeyer),
@@ -79,7 +78,7 @@ impl Small {
             cap,
             ward_bits,
             number,
-            own: Prefix::new(ward_bits, low).ok_or("a prefix")?,
+            own,
         })
     }
 
@@ -251,18 +250,47 @@ fn step(
 fn run(
     rt: &(impl Abort + AllocGlobal),
     dice: &mut Dice,
-    mut small: Small,
+    small: &mut Small,
     met: &mut Met,
 ) -> Result<(), Fail> {
     for round in 0..1200 {
-        step(rt, dice, &mut small, round % 400 < 250, met)?;
+        step(rt, dice, small, round % 400 < 250, met)?;
     }
-    let mut again = MapMachine::new(rt.alloc(), small.cap, PlainKeyer);
-    for entry in small.ward.journal().iter() {
-        assert_eq!(rt; again.answer(&entry.call)?, entry.reply);
-    }
-    assert_eq!(rt; again.map().pairs(), small.machine.map().pairs());
-    Ok(())
+    assert_journal(rt, &small.ward, small.cap, &small.machine)
+}
+
+// Runs a new ward of these leading bits.
+fn run_ward(
+    rt: &(impl Abort + AllocGlobal),
+    dice: &mut Dice,
+    cap: usize,
+    ward_bits: u8,
+    number: u8,
+    low: u64,
+    met: &mut Met,
+) -> Result<(), Fail>
+    requires some { 1 ≤ cap }
+    requires most { cap ≤ CAP_LIMIT }
+    requires bits { ward_bits ≤ WARD_BITS_LIMIT }
+    requires number { number < 2 ^ ward_bits }
+{
+    let mut small = Small::new(rt.alloc(), cap, ward_bits, number, low)?;
+    run(rt, dice, &mut small, met)
+}
+
+// Runs a whole file, the right half of one and the second quarter of one, each a ward.
+fn run_three(
+    rt: &(impl Abort + AllocGlobal),
+    dice: &mut Dice,
+    cap: usize,
+    met: &mut Met,
+) -> Result<(), Fail>
+    requires some { 1 ≤ cap }
+    requires most { cap ≤ CAP_LIMIT }
+{
+    run_ward(rt, dice, cap, 0, 0, 0, met)?;
+    run_ward(rt, dice, cap, 1, 1, 1 << 63, met)?;
+    run_ward(rt, dice, cap, 2, 1, 1 << 62, met)
 }
 
 // Ten thousand hops, splits and merges of wards whose pages hold one to three records: each comes
@@ -272,12 +300,7 @@ fn small_wards_beside(rt: HostRuntime) -> Result<(), Fail> {
     let mut dice = Dice { state: 1979 };
     let mut met = Met::nothing();
     for cap in 1..4 {
-        let whole = Small::new(rt.alloc(), cap, 0, 0, 0)?;
-        run(&rt, &mut dice, whole, &mut met)?;
-        let half = Small::new(rt.alloc(), cap, 1, 1, 1 << 63)?;
-        run(&rt, &mut dice, half, &mut met)?;
-        let quarter = Small::new(rt.alloc(), cap, 2, 1, 1 << 62)?;
-        run(&rt, &mut dice, quarter, &mut met)?;
+        run_three(&rt, &mut dice, cap, &mut met)?;
     }
     assert!(rt; met.grown && met.revived && met.merged);
     assert!(rt; met.full && met.waits && met.moved && met.stray);
