@@ -1,8 +1,11 @@
 #!/usr/bin/env bash
 # Compares a ward of the hash file with gdbm's own library on the same calls, in one run, and shrinks the ward.
 #
-#   bench/ward.sh [RUNS]     the best round of RUNS runs counts, 5 if left out; a run makes 3 rounds of 60,000 records,
-#                            18 of 10,000 and 180 of 1,000
+#   bench/ward.sh [RUNS]     the best of RUNS runs counts, 5 if left out; a run makes 3 rounds of 60,000 records, 18 of
+#                            10,000 or 180 of 1,000, each of other keys, and what counts is the time of all its rounds
+#
+# So as many calls count at each size, and at none is a round quicker for having been made before: the processor learns
+# the turns of rounds that come again.
 #
 # What is compared: microseconds a call, at 1,000, 10,000 and 60,000 records. A round begins with an empty file, puts
 # as many new keys as that, with the splits that they bring, and then gets each of them once, in another order. Keys
@@ -32,6 +35,8 @@ set -u
 export LC_ALL=C
 
 RUNS=${1:-5}
+# The records of all rounds of a run.
+readonly RECORDS=180000
 # Settings of gdbm that were worth a try: cached buckets, block size, whether the file is mapped to memory.
 SETTINGS=('0 0 1' '1000 0 1' '8000 0 1' '0 4096 1' '8000 4096 1')
 
@@ -48,7 +53,7 @@ shared=/dev/shm
 folder=$(mktemp -d "$shared/exhash-bench.XXXXXX") || exit 2
 trap 'rm -rf "$folder"' EXIT
 
-# Runs a program of name $1 on $2 records, and prints a line: both, and what it printed.
+# Runs a program of name $1 on rounds of $2 records, and prints a line: both, and what it printed.
 clock() {
     local name=$1 records=$2 line
     shift 2
@@ -56,9 +61,9 @@ clock() {
     echo "$name $records $line"
 }
 
-# Runs all programs on $1 records, in turns.
+# Runs all programs on rounds of $1 records, in turns.
 measure() {
-    local records=$1 rounds=$((180000 / $1)) run setting
+    local records=$1 rounds=$((RECORDS / $1)) run setting
     for ((run = 0; run < RUNS; run++)); do
         clock plain "$records" "$program" plain "$records" "$rounds"
         clock sha "$records" "$program" sha "$records" "$rounds"
@@ -89,7 +94,7 @@ for records in 1000 10000 60000; do
 done > "$folder/times"
 machine="$(nproc) x $(sed -n 's/^model name[^:]*: //p' /proc/cpuinfo | head -n 1)"
 echo "machine: $machine, load $(cut -d ' ' -f 1 /proc/loadavg); best of $RUNS runs; microseconds a call"
-awk '
+awk -v run="$RECORDS" '
     function fail(text) {
         print "bench/ward.sh: " text > "/dev/stderr"
         failed = 1
@@ -102,7 +107,7 @@ awk '
     }
     # Microseconds a call. Nine tenths of the records are deleted.
     function cost(name, records, column) {
-        return best[name, records, column] / (column == 8 ? records * 9 / 10 : records) / 1000
+        return best[name, records, column] / (column == 8 ? run * 9 / 10 : run) / 1000
     }
     # Prints a line of a call of the ward, beside the one of gdbm whose times are in column `rival`, if any. Where
     # `share` is given, the call may take that share of the time of gdbm by plain, and as much by sha.
@@ -120,11 +125,13 @@ awk '
             judge("a " call " of sha by one of gdbm at " records " records", sha / gdbm, 1)
         }
     }
-    # Prints how many pages are live at the end, by plain and by sha.
-    function tell_pages(records,    least) {
+    # Prints how many pages are live at the end of a round, in the middle, by plain and by sha.
+    function tell_pages(records,    least, plain, sha) {
         least = int((records / 10 + 15) / 16)
-        printf "%7d  pages   %6d  %6d  live, %.2f and %.2f of the least possible\n", records, live["plain", records],
-            live["sha", records], live["plain", records] / least, live["sha", records] / least
+        plain = live["plain", records] / (run / records)
+        sha = live["sha", records] / (run / records)
+        printf "%7d  pages   %6.1f  %6.1f  live, %.2f and %.2f of the least possible\n", records, plain, sha,
+            plain / least, sha / least
     }
     # Prints how many instructions a call makes: a put or get, and a delete.
     function tell_work(records) {
@@ -144,7 +151,7 @@ awk '
         deletes[$2] = $4 / ($2 * 0.9)
         next
     }
-    $3 != $2 || (NF > 5 && $9 != $2 / 10) { fail("wrong values: " $0) }
+    $3 != run || (NF > 5 && $9 != run / 10) { fail("wrong values: " $0) }
     {
         for (column = 4; column <= NF && column <= 8; column++) {
             if (!(($1, $2, column) in best) || $column < best[$1, $2, column]) {

@@ -2,13 +2,12 @@
  *
  *   ward_gdbm FILE RECORDS ROUNDS CACHE BLOCK MAP
  *
- * A round makes the file anew, puts RECORDS new keys, and gets each of them once, in another order. Keys and
- * values have 8 bytes. Key i is the i-th number of splitmix64, the highest byte first, and its value the bytes of
- * the key in reverse. CACHE is the number of buckets that gdbm keeps and BLOCK its block size, 0 for what gdbm
+ * A round makes the file anew, puts RECORDS new keys, and gets each of them once, in another order. Each round has
+ * other keys, so that none is quicker for having been made before. Keys and values have 8 bytes. Key i is the i-th
+ * number of splitmix64, the highest byte first, and its value the bytes of the key in reverse. CACHE is the number of buckets that gdbm keeps and BLOCK its block size, 0 for what gdbm
  * chooses itself; MAP is 1 where it may map the file to memory. It doesn't lock the file, and doesn't synchronize.
  *
- * It prints how many gets found the right value, the same for all rounds, and the fewest nanoseconds of a round's
- * puts, and of its gets. */
+ * It prints how many gets found the right value, and the nanoseconds of the puts, and of the gets, of all rounds. */
 #include <gdbm.h>
 #include <stdint.h>
 #include <stdio.h>
@@ -58,20 +57,20 @@ static GDBM_FILE open_new(const char *name, int cache, int block, int map) {
     return file;
 }
 
-static void put_all(GDBM_FILE file, uint64_t records) {
+static void put_all(GDBM_FILE file, uint64_t first, uint64_t records) {
     for (uint64_t i = 0; i < records; i++) {
         char key[BYTES], value[BYTES];
-        make_pair(i, key, value);
+        make_pair(first + i, key, value);
         datum k = {key, BYTES}, v = {value, BYTES};
         if (gdbm_store(file, k, v, GDBM_REPLACE) != 0) die("store");
     }
 }
 
-static uint64_t get_all(GDBM_FILE file, uint64_t records) {
+static uint64_t get_all(GDBM_FILE file, uint64_t first, uint64_t records) {
     uint64_t right = 0;
     for (uint64_t i = 0; i < records; i++) {
         char key[BYTES], value[BYTES];
-        make_pair(asked(i, records), key, value);
+        make_pair(first + asked(i, records), key, value);
         datum k = {key, BYTES};
         datum found = gdbm_fetch(file, k);
         if (found.dptr == NULL) die("fetch");
@@ -88,19 +87,18 @@ int main(int argc, char **argv) {
     }
     uint64_t records = strtoull(argv[2], NULL, 10), rounds = strtoull(argv[3], NULL, 10);
     int cache = atoi(argv[4]), block = atoi(argv[5]), map = atoi(argv[6]);
-    uint64_t best_puts = UINT64_MAX, best_gets = UINT64_MAX, right = 0;
+    uint64_t puts = 0, gets = 0, right = 0;
     for (uint64_t round = 0; round < rounds; round++) {
         GDBM_FILE file = open_new(argv[1], cache, block, map);
         uint64_t begun = nanoseconds();
-        put_all(file, records);
+        put_all(file, round * records, records);
         uint64_t put = nanoseconds();
-        right = get_all(file, records);
+        right += get_all(file, round * records, records);
         uint64_t got = nanoseconds();
         if (gdbm_close(file) != 0) die("close");
-        if (put - begun < best_puts) best_puts = put - begun;
-        if (got - put < best_gets) best_gets = got - put;
+        puts += put - begun;
+        gets += got - put;
     }
-    printf("%llu %llu %llu\n", (unsigned long long)right, (unsigned long long)best_puts,
-           (unsigned long long)best_gets);
+    printf("%llu %llu %llu\n", (unsigned long long)right, (unsigned long long)puts, (unsigned long long)gets);
     return 0;
 }

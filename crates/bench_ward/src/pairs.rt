@@ -10,10 +10,25 @@ pub(crate) fn value_of(i: u32) -> Result<Value, SizeFault> {
     Value::from_bytes(&mixed(i).to_le_bytes())
 }
 
-/// The number of the key that the i-th call but a put is about: a step that has no divisor in common
-/// with any number of records used here.
-pub(crate) fn asked(i: u32, records: u32) -> u32 {
-    (u64::from(i) * 7919 % u64::from(records.max(1))) as u32
+/// The keys of a round: as many as it has records, from key `first` on.
+#[derive(Clone, Copy, Debug)]
+pub(crate) struct RoundKeys {
+    pub(crate) first: u32,
+    pub(crate) records: u32,
+}
+
+impl RoundKeys {
+    /// The key of the i-th put.
+    pub(crate) fn put(&self, i: u32) -> u32 {
+        self.first.wrapping_add(i)
+    }
+
+    /// The key that the i-th call but a put is about: a step that has no divisor in common with any
+    /// number of records used here.
+    pub(crate) fn asked(&self, i: u32) -> u32 {
+        let at = u64::from(i) * 7919 % u64::from(self.records.max(1));
+        self.first.wrapping_add(at as u32)
+    }
 }
 
 // The i-th number of splitmix64.

@@ -1,12 +1,12 @@
 use crate::caller::Caller;
-use crate::pairs::{asked, key_of, value_of};
+use crate::pairs::{RoundKeys, key_of, value_of};
 use exh_keyer::AnyKeyer;
 use exh_page::PageNo;
 use exh_ward::{Call, Reply};
 use std::fmt;
 use std::time::{Clock, Instant};
 
-/// What a round over a new ward found, and the nanoseconds of each of its parts.
+/// What rounds over new wards found, and the nanoseconds of each of their parts together.
 #[derive(Clone, Copy, Debug)]
 pub(crate) struct Times {
     /// How many of the gets found the right value.
@@ -28,20 +28,30 @@ pub(crate) struct Times {
 }
 
 impl Times {
-    /// Makes a round of so many records.
+    /// Makes a round of these keys.
     pub(crate) fn measure(
         rt: &(impl Clock + AllocGlobal),
         keyer: AnyKeyer,
-        records: u32,
+        keys: RoundKeys,
     ) -> anyhow::Result<Times> {
         let mut caller = Caller::new(rt.alloc(), keyer)?;
-        let puts = put_time(rt, &mut caller, records)?;
-        let (found, gets) = get_time(rt, &mut caller, 0, records)?;
-        let (homes, walks) = walk_time(rt, &caller, records)?;
-        let hops = hop_time(rt, &mut caller, records, &homes)?;
-        let deleted = records - records / 10;
-        let deletes = delete_time(rt, &mut caller, deleted, records)?;
-        let (left, _) = get_time(rt, &mut caller, deleted, records)?;
+        Times::of_round(rt, &mut caller, keys)
+    }
+
+    // Makes the round of a new caller. Who owns a caller has few exits, for the prover's sake: each
+    // drops it.
+    fn of_round(
+        rt: &(impl Clock + AllocGlobal),
+        caller: &mut Caller,
+        keys: RoundKeys,
+    ) -> anyhow::Result<Times> {
+        let puts = put_time(rt, caller, keys)?;
+        let (found, gets) = get_time(rt, caller, 0, keys)?;
+        let (homes, walks) = walk_time(rt, caller, keys)?;
+        let hops = hop_time(rt, caller, keys, &homes)?;
+        let deleted = keys.records - keys.records / 10;
+        let deletes = delete_time(rt, caller, deleted, keys)?;
+        let (left, _) = get_time(rt, caller, deleted, keys)?;
         Ok(Times {
             found,
             puts,
@@ -54,15 +64,17 @@ impl Times {
         })
     }
 
-    /// The least of both in each time; counts are those of `self`.
-    pub(crate) fn least(&self, other: &Times) -> Times {
+    /// Both together.
+    pub(crate) fn plus(&self, other: &Times) -> Times {
         Times {
-            puts: self.puts.min(other.puts),
-            gets: self.gets.min(other.gets),
-            walks: self.walks.min(other.walks),
-            hops: self.hops.min(other.hops),
-            deletes: self.deletes.min(other.deletes),
-            ..*self
+            found: self.found.saturating_add(other.found),
+            puts: self.puts.saturating_add(other.puts),
+            gets: self.gets.saturating_add(other.gets),
+            walks: self.walks.saturating_add(other.walks),
+            hops: self.hops.saturating_add(other.hops),
+            deletes: self.deletes.saturating_add(other.deletes),
+            left: self.left.saturating_add(other.left),
+            live: self.live.saturating_add(other.live),
         }
     }
 }
@@ -84,12 +96,13 @@ impl fmt::Display for Times {
     }
 }
 
-fn put_time(clock: &impl Clock, caller: &mut Caller, records: u32) -> anyhow::Result<u128> {
+fn put_time(clock: &impl Clock, caller: &mut Caller, keys: RoundKeys) -> anyhow::Result<u128> {
     let start = Instant::now(clock)?;
-    for i in 0..records {
+    for i in 0..keys.records {
+        let number = keys.put(i);
         let call = Call::Put {
-            key: key_of(i)?,
-            value: value_of(i)?,
+            key: key_of(number)?,
+            value: value_of(number)?,
         };
         caller.call(&call)?;
     }
@@ -101,12 +114,12 @@ fn get_time(
     clock: &impl Clock,
     caller: &mut Caller,
     first: u32,
-    records: u32,
+    keys: RoundKeys,
 ) -> anyhow::Result<(u32, u128)> {
     let mut right = 0u32;
     let start = Instant::now(clock)?;
-    for i in first..records {
-        let number = asked(i, records);
+    for i in first..keys.records {
+        let number = keys.asked(i);
         let reply = caller.call(&Call::Get {
             key: key_of(number)?,
         })?;
@@ -121,13 +134,13 @@ fn get_time(
 fn walk_time(
     rt: &(impl Clock + AllocGlobal),
     caller: &Caller,
-    records: u32,
+    keys: RoundKeys,
 ) -> anyhow::Result<(Vec<PageNo>, u128)> {
     let mut homes = Vec::new(rt.alloc());
-    homes.reserve(records as usize)?;
+    homes.reserve(keys.records as usize)?;
     let start = Instant::now(rt)?;
-    for i in 0..records {
-        homes.push(caller.home(&key_of(asked(i, records))?))?;
+    for i in 0..keys.records {
+        homes.push(caller.home(&key_of(keys.asked(i))?))?;
     }
     Ok((homes, start.elapsed(rt)?.as_nanos()))
 }
@@ -135,12 +148,12 @@ fn walk_time(
 fn hop_time(
     clock: &impl Clock,
     caller: &mut Caller,
-    records: u32,
+    keys: RoundKeys,
     homes: &[PageNo],
 ) -> anyhow::Result<u128> {
     let start = Instant::now(clock)?;
-    for (i, home) in (0..records).zip(homes) {
-        let key = key_of(asked(i, records))?;
+    for (i, home) in (0..keys.records).zip(homes) {
+        let key = key_of(keys.asked(i))?;
         caller.call_at(*home, &Call::Get { key })?;
     }
     Ok(start.elapsed(clock)?.as_nanos())
@@ -150,11 +163,11 @@ fn delete_time(
     clock: &impl Clock,
     caller: &mut Caller,
     deleted: u32,
-    records: u32,
+    keys: RoundKeys,
 ) -> anyhow::Result<u128> {
     let start = Instant::now(clock)?;
     for i in 0..deleted {
-        caller.delete(&key_of(asked(i, records))?)?;
+        caller.delete(&key_of(keys.asked(i))?)?;
     }
     Ok(start.elapsed(clock)?.as_nanos())
 }
