@@ -4,8 +4,7 @@
 #   bench/ward.sh [RUNS]     the best of RUNS runs counts, 5 if left out; a run makes 3 rounds of 60,000 records, 18 of
 #                            10,000 or 180 of 1,000, each of other keys, and what counts is the time of all its rounds
 #
-# So as many calls count at each size, and at none is a round quicker for having been made before: the processor learns
-# the turns of rounds that come again.
+# So as many calls count at each size, and no round can be quicker for having been made before.
 #
 # What is compared: microseconds a call, at 1,000, 10,000 and 60,000 records. A round begins with an empty file, puts
 # as many new keys as that, with the splits that they bring, and then gets each of them once, in another order. Keys
