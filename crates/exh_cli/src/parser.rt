@@ -78,18 +78,3 @@ pub fn not_text(alloc: Global) -> Result<Error, AllocError>
         "a word of the command line is not UTF-8",
     )
 }
-
-#[cfg(test)]
-mod tests {
-    use super::*;
-    use std::test::Fail;
-
-    #[test]
-    fn explains_words_that_are_no_text(rt: HostRuntime) -> Result<(), Fail> {
-        let error = not_text(rt.alloc())?;
-        let text = format!(in rt.alloc(); "{error}")?;
-        assert!(rt; text.contains("is not UTF-8"), "{text}");
-        assert!(rt; text.contains(USAGE), "{text}");
-        Ok(())
-    }
-}

@@ -19,9 +19,5 @@ mod refusal;
 mod respond;
 mod response;
 mod serve_fault;
-#[cfg(test)]
-mod serve_tests;
 mod server;
-#[cfg(test)]
-mod tests;
 mod view_text;

@@ -22,7 +22,5 @@ mod laws;
 mod outcome;
 mod request;
 mod step_fault;
-#[cfg(test)]
-mod tests;
 mod turn;
 mod world;

@@ -1,0 +1,87 @@
+/* Refuses one growth of memory: tests/run preloads it into the program.
+ *
+ * Counted from the start of main, the call number REFUSED_GROWTH of malloc, calloc, realloc, aligned_alloc and
+ * posix_memalign is answered as where there is no memory left, and a byte is written to the descriptor REFUSED_TELLS. */
+#define _GNU_SOURCE
+#include <dlfcn.h>
+#include <errno.h>
+#include <stddef.h>
+#include <stdlib.h>
+#include <unistd.h>
+
+typedef int (*main_function)(int, char **, char **);
+
+extern void *__libc_malloc(size_t);
+extern void *__libc_calloc(size_t, size_t);
+extern void *__libc_realloc(void *, size_t);
+extern void *__libc_memalign(size_t, size_t);
+
+static main_function its_main;
+static unsigned long calls_left;
+static int tells = -1;
+
+static int is_refused(void) {
+    if (calls_left == 0 || --calls_left != 0)
+        return 0;
+    if (write(tells, "r", 1) != 1)
+        abort();
+    return 1;
+}
+
+void *malloc(size_t size) {
+    if (is_refused()) {
+        errno = ENOMEM;
+        return NULL;
+    }
+    return __libc_malloc(size);
+}
+
+void *calloc(size_t count, size_t size) {
+    if (is_refused()) {
+        errno = ENOMEM;
+        return NULL;
+    }
+    return __libc_calloc(count, size);
+}
+
+void *realloc(void *block, size_t size) {
+    if (is_refused()) {
+        errno = ENOMEM;
+        return NULL;
+    }
+    return __libc_realloc(block, size);
+}
+
+void *aligned_alloc(size_t alignment, size_t size) {
+    if (is_refused()) {
+        errno = ENOMEM;
+        return NULL;
+    }
+    return __libc_memalign(alignment, size);
+}
+
+int posix_memalign(void **block, size_t alignment, size_t size) {
+    if (is_refused())
+        return ENOMEM;
+    *block = __libc_memalign(alignment, size);
+    return *block == NULL ? ENOMEM : 0;
+}
+
+static int counted_main(int count, char **words, char **environment) {
+    const char *number = getenv("REFUSED_GROWTH");
+    const char *descriptor = getenv("REFUSED_TELLS");
+    if (number == NULL || descriptor == NULL)
+        abort();
+    tells = atoi(descriptor);
+    calls_left = strtoul(number, NULL, 10);
+    return its_main(count, words, environment);
+}
+
+/* What the C library begins a program with: its main becomes the counted one. */
+int __libc_start_main(main_function main, int count, char **words, void (*begin)(void), void (*end)(void),
+                      void (*linker_end)(void), void *stack_end) {
+    int (*real)(main_function, int, char **, void (*)(void), void (*)(void), void (*)(void), void *) =
+        dlsym(RTLD_NEXT, "__libc_start_main");
+    its_main = main;
+    return real(counted_main, count, words, begin, end, linker_end, stack_end);
+}
