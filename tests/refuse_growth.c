@@ -1,7 +1,7 @@
 /* Refuses one growth of memory: tests/run preloads it into the program.
  *
  * Counted from the start of main, the call number REFUSED_GROWTH of malloc, calloc, realloc, aligned_alloc and
- * posix_memalign is answered as where there is no memory left, and a byte is written to the descriptor REFUSED_TELLS. */
+ * posix_memalign is answered as where no memory is left, and a byte is written to the descriptor REFUSED_TELLS. */
 #define _GNU_SOURCE
 #include <dlfcn.h>
 #include <errno.h>
