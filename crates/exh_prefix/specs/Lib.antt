@@ -1,5 +1,6 @@
 pub mod Bits
 pub mod BitLemmas
 pub mod Prefix
+pub mod Version
 pub mod PrefixLemmas
 pub mod Laws
