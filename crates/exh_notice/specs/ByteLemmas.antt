@@ -1,16 +1,13 @@
 -- Numbers of any width in bytes, from the bytes to the number and back.
-use Rattle.std.proofs.Common.{◌≡◌, ℕ, zero, suc, ◌+◌, ◌*◌, ◌/◌, ◌%◌, ◌^◌, ◌<◌, ◌≤◌, ◌-◌, List, [], ◌∷◌, length, drop, slice_index, refl, sym, ap, ◌∙◌, subst, arith}
+use Rattle.std.proofs.Common.{◌≡◌, ℕ, zero, suc, ◌+◌, ◌*◌, ◌/◌, ◌%◌, ◌^◌, ◌<◌, ◌≤◌, ◌-◌, List, [], ◌∷◌, ◌++◌, length, replicate, drop, slice_index, refl, sym, ap, ◌∙◌, subst, arith}
 use Rattle.std.proofs.Math.Nat.{div-one, mod-eq_of_lt, mul-add-div_right, mul-add-mod_self_right, one-le-pow, pow-suc}
 use Rattle.std.proofs.lemmas.List.{get_or-drop}
 use Rattle.std.proofs.lemmas.Nat.{div-mul-add, pow-add}
 use Rattle.std.specs.Int.{byte_at, bytes_high_first}
+use Rattle.std.specs.List.{AllByRecursion}
 use Rattle.byteorder.specs.Endian.{big_from}
 use Rattle.byteorder.specs.Numbers.{big_from-lt}
-
--- n items of a list, from place i on
-abbrev pub items : ℕ → ℕ → List ℕ → List ℕ
-items i zero bytes = []
-items i (suc n) bytes = slice_index bytes i ∷ items (suc i) n bytes
+use Rattle.exh_notice.specs.Images.{items}
 
 items-cons : (i n : ℕ) (byte : ℕ) (bytes : List ℕ) → items (suc i) n (byte ∷ bytes) ≡ items i n bytes
 items-cons i zero byte bytes = refl
@@ -22,6 +19,49 @@ items_all zero [] len = refl
 items_all zero (byte ∷ bytes) len = absurd (omega (arith, len))
 items_all (suc n) [] len = absurd (omega (arith, len))
 items_all (suc n) (byte ∷ bytes) len = ap (λ rest. byte ∷ rest) (items-cons 0 n byte bytes ∙ items_all n bytes (omega (arith, len)))
+
+pub length-items : (i n : ℕ) (bytes : List ℕ) → length (items i n bytes) ≡ n
+length-items i zero bytes = refl
+length-items i (suc n) bytes = ap suc (length-items (suc i) n bytes)
+
+-- items of the rest of a list are read from their places
+pub items-drop : (i j n : ℕ) (bytes : List ℕ) → items j n (drop i bytes) ≡ items (i + j) n bytes
+items-drop i j zero bytes = refl
+items-drop i j (suc n) bytes =
+    let place : i + suc j ≡ suc (i + j) = omega arith in
+    let rest : items (suc j) n (drop i bytes) ≡ items (suc (i + j)) n bytes = items-drop i (suc j) n bytes ∙ ap (λ i. items i n bytes) place in
+    rw (get_or-drop i bytes j 0, rest) refl
+
+-- items, and then others
+pub items-add : (i m n : ℕ) (bytes : List ℕ) → items i (m + n) bytes ≡ items i m bytes ++ items (i + m) n bytes
+items-add i zero n bytes =
+    let count : 0 + n ≡ n = omega arith in
+    let place : i ≡ i + 0 = omega arith in
+    ap (λ count. items i count bytes) count ∙ ap (λ i. items i n bytes) place
+items-add i (suc m) n bytes =
+    let count : suc m + n ≡ suc (m + n) = omega arith in
+    let place : suc i + m ≡ i + suc m = omega arith in
+    ap (λ count. items i count bytes) count
+    ∙ ap (λ rest. slice_index bytes i ∷ rest) (items-add (suc i) m n bytes ∙ ap (λ place. items (suc i) m bytes ++ items place n bytes) place)
+
+-- the first items of two lists
+pub items-front : (n : ℕ) (front back : List ℕ) → length front ≡ n → items 0 n (front ++ back) ≡ front
+items-front zero [] back len = refl
+items-front zero (byte ∷ front) back len = absurd (omega (arith, len))
+items-front (suc n) [] back len = absurd (omega (arith, len))
+items-front (suc n) (byte ∷ front) back len =
+    ap (λ rest. byte ∷ rest) (items-cons 0 n byte (front ++ back) ∙ items-front n front back (omega (arith, len)))
+
+pub zeros_are_zero : (n : ℕ) → AllByRecursion (λ (byte : ℕ). byte ≡ 0) (replicate n 0)
+zeros_are_zero zero = tt
+zeros_are_zero (suc n) = (refl, zeros_are_zero n)
+
+pub zeros_from : (n : ℕ) (bytes : List ℕ) → length bytes ≡ n → AllByRecursion (λ (byte : ℕ). byte ≡ 0) bytes → bytes ≡ replicate n 0
+zeros_from zero [] len zeros = refl
+zeros_from zero (byte ∷ bytes) len zeros = absurd (omega (arith, len))
+zeros_from (suc n) [] len zeros = absurd (omega (arith, len))
+zeros_from (suc n) (byte ∷ bytes) len zeros =
+    ap (λ byte. byte ∷ bytes) zeros.0 ∙ ap (λ rest. 0 ∷ rest) (zeros_from n bytes (omega (arith, len)) zeros.1)
 
 power_positive : (n : ℕ) → 0 < 256 ^ n
 power_positive n = let one = one-le-pow n 256 (omega arith) in omega (arith, one)

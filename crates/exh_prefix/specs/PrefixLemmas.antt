@@ -7,7 +7,7 @@ use Rattle.std.proofs.lemmas.Cmp.{nat_cmp_total, on_total, then_total}
 use Rattle.std.proofs.lemmas.List.{length-append, length-replicate, length-drop, length-take-le, take_at, drop_at, take-append-drop, take-take, append_assoc, take_more, length_push, same_from_push}
 use Rattle.std.proofs.lemmas.Map.Lookups.{CmpEqualImpliesEq, exact_pairs, exact_unsigned}
 use Rattle.std.proofs.lemmas.Nat.{pow-add, pow_pos, mod-mul-add, shl-shr}
-use Rattle.std.proofs.Math.Nat.{pow-suc, zero-mul, mul-le-mul_right, mul-lt-mul_of_pos_right, le-mul_of_pos_right}
+use Rattle.std.proofs.Math.Nat.{mul_assoc, pow-suc, zero-mul, mul-le-mul_right, mul-lt-mul_of_pos_right, le-mul_of_pos_right}
 use Rattle.exh_prefix.specs.declared.prefix.TheConstants.{LIMIT}
 use Rattle.exh_prefix.specs.Bits.{number_of, bits_of, word_bits, lowest_cleared, has_one, without_last_one}
 use Rattle.exh_prefix.specs.Prefix.{zeros, IsFront, Begins, same_bit, is_front, begins, low_of, prefix_cmp, HasPrefix, HasPrefixUpTo}
@@ -52,6 +52,13 @@ word_bits-low_of prefix short = word_bits-number_of _ (length-filled prefix _ sh
 pub low_of-product : (prefix : List Bool) → low_of prefix ≡ number_of prefix * 2 ^ (64 - length prefix)
 unfolding low_of
 low_of-product prefix = rw (number_of-append prefix (zeros (64 - length prefix)), number_of-zeros (64 - length prefix), length-replicate (64 - length prefix) false) (omega arith)
+
+-- a prefix that stands in the highest bits of a word, and so in its low bound
+pub low_of-places : (prefix : List Bool) (bits : ℕ) → length prefix ≤ bits → bits ≤ 64 → low_of prefix ≡ number_of prefix * 2 ^ (bits - length prefix) * 2 ^ (64 - bits)
+low_of-places prefix bits short word =
+    let places : 64 - length prefix ≡ bits - length prefix + (64 - bits) = omega (arith, short, word) in
+    low_of-product prefix ∙ ap (λ n. number_of prefix * n) (ap (λ n. 2 ^ n) places ∙ pow-add 2 (bits - length prefix) (64 - bits))
+    ∙ sym (mul_assoc (number_of prefix) (2 ^ (bits - length prefix)) (2 ^ (64 - bits)))
 
 -- the first bits of a number that has a prefix spell its low bound, whatever the limit
 pub low_of-up_to : (limit len bits : ℕ) → limit ≤ 64 → bits < 2 ^ 64 → HasPrefixUpTo limit len bits → low_of (take len (word_bits bits)) ≡ bits
