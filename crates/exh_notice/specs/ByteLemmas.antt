@@ -52,6 +52,18 @@ items-front (suc n) [] back len = absurd (omega (arith, len))
 items-front (suc n) (byte ∷ front) back len =
     ap (λ rest. byte ∷ rest) (items-cons 0 n byte (front ++ back) ∙ items-front n front back (omega (arith, len)))
 
+-- lists that agree as far as they are read have the same items,
+pub items-agree : (i n m : ℕ) (one other : List ℕ) → i + n ≤ m → ((k : ℕ) → k < m → slice_index one k ≡ slice_index other k) → items i n one ≡ items i n other
+items-agree i zero m one other within agree = refl
+items-agree i (suc n) m one other within agree =
+    rw (agree i (omega (arith, within)), items-agree (suc i) n m one other (omega (arith, within)) agree) refl
+
+-- and the same numbers
+pub big_from-agree : (i n m : ℕ) (one other : List ℕ) → i + n ≤ m → ((k : ℕ) → k < m → slice_index one k ≡ slice_index other k) → big_from i n one ≡ big_from i n other
+big_from-agree i zero m one other within agree = refl
+big_from-agree i (suc n) m one other within agree =
+    rw (agree i (omega (arith, within)), big_from-agree (suc i) n m one other (omega (arith, within)) agree) refl
+
 pub zeros_are_zero : (n : ℕ) → AllByRecursion (λ (byte : ℕ). byte ≡ 0) (replicate n 0)
 zeros_are_zero zero = tt
 zeros_are_zero (suc n) = (refl, zeros_are_zero n)

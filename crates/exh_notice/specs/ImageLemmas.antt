@@ -2,7 +2,8 @@
 use Rattle.std.proofs.Common.{◌≡◌, ℕ, ◌+◌, ◌*◌, ◌/◌, ◌-◌, ◌^◌, ◌<◌, ◌≤◌, ◌⊎◌, inl, inr, Bool, false, List, [], ◌∷◌, ◌++◌, append_assoc, length, replicate, take, drop, slice_index, Result, Ok, Err, IfOk, IfErr, refl, sym, ap, ◌∙◌, subst, arith}
 use Rattle.std.proofs.Math.Nat.{mul-lt-mul_of_pos_right}
 use Rattle.std.proofs.lemmas.Nat.{pow-add, pow_pos, shl-shr}
-use Rattle.std.proofs.lemmas.List.{length-append, length-drop, get_or-drop, take-append-drop, take_at, drop_at, length-replicate}
+use Rattle.std.proofs.lemmas.Bool.{cases_lt}
+use Rattle.std.proofs.lemmas.List.{length-append, length-drop, length-take, length-take-le, get_or_past, get_or-drop, get_or-take, take-append-drop, take_at, drop_at, length-replicate}
 use Rattle.std.specs.List.{AllByRecursion}
 use Rattle.byteorder.specs.Endian.{big_bytes, big_from}
 use Rattle.byteorder.specs.Numbers.{big_from-lt, big_number-reads_back, length-bytes_high_first}
@@ -17,8 +18,8 @@ use Rattle.exh_notice.specs.declared.entry.Kind.TheVariants.{Merge, Split}
 use Rattle.exh_notice.specs.declared.notice.Notice.{Notice}
 use Rattle.exh_notice.specs.declared.notice_fault.NoticeFault.{NoticeFault}
 use Rattle.exh_notice.specs.declared.notice_fault.NoticeFault.TheVariants as fault
-use Rattle.exh_notice.specs.ByteLemmas.{items_all, items-drop, items-add, items-front, length-items, zeros_are_zero, zeros_from, bytes_of_number, big_from-drop}
-use Rattle.exh_notice.specs.Images.{items, kind_byte, right_field, prefix_field, entry_image, notice_image, IsEntryImage, HasKind, IsPadded, HasPrefixField, FailsFirst, IsNoticeImage}
+use Rattle.exh_notice.specs.ByteLemmas.{items_all, items-drop, items-add, items-front, items-agree, big_from-agree, length-items, zeros_are_zero, zeros_from, bytes_of_number, big_from-drop}
+use Rattle.exh_notice.specs.Images.{items, kind_byte, right_field, prefix_field, entry_image, notice_image, IsEntryImage, HasKind, IsPadded, HasPrefixField, FailsFirst, PassesAll, IsNoticeImage}
 use Rattle.exh_notice.specs.Entry.{entry_of}
 
 -- the bytes of a kind, and its right page, tell which it is
@@ -119,7 +120,7 @@ module _ (version : Version) (fits : Fits 4 version) where
       ap (λ (back : List ℕ). ward ∷ kind_byte entry.kind ∷ length prefix ∷ 0 ∷ back)
       (append_assoc (field_bytes prefix) (big_bytes 4 entry.number) (big_bytes 4 (right_field entry.kind)))
 
-  length-entry_image : (ward : ℕ) (prefix : List Bool) (entry : Entry) → length (entry_image version ward prefix entry) ≡ 16
+  pub length-entry_image : (ward : ℕ) (prefix : List Bool) (entry : Entry) → length (entry_image version ward prefix entry) ≡ 16
   length-entry_image ward prefix entry =
       let back : length (field_bytes prefix ++ entry_back entry) ≡ 12 = omega (arith, length-append (field_bytes prefix) (entry_back entry), length-field_bytes prefix) in
       omega (arith, ap length (image_parts ward prefix entry), back)
@@ -295,3 +296,48 @@ module _ (version : Version) (fits : Fits 4 version) where
         index = subst (λ n. n < 2 ^ 64) (sym index_is) (big_from-lt 0 8 back back_small);
         bytes = sym (take-append-drop 16 image) ∙ (λ i. (sym front_is ∙ is.bytes) i ++ (sym back_is ∙ index_bytes) i);
       }
+
+  -- ---- bytes that pass the tests are a notice's image
+
+  -- the tests read the first 16 bytes alone
+  tests_agree : (one other : List ℕ) → ((k : ℕ) → k < 16 → slice_index one k ≡ slice_index other k) → PassesAll version one → PassesAll version other
+  tests_agree one other agree passed =
+      let byte = λ (k : ℕ) (within : k < 16). sym (agree k within) in
+      let kind : slice_index other 1 ≡ slice_index one 1 = byte 1 (omega arith) in
+      let prefix_len : slice_index one 2 ≡ slice_index other 2 = agree 2 (omega arith) in
+      let zeros = items-agree (4 + version.bytes) (4 - version.bytes) 16 one other (omega (arith, fits.bytes)) agree in
+      let right : big_from 12 4 other ≡ big_from 12 4 one = sym (big_from-agree 12 4 16 one other (omega arith) agree) in
+      let field : big_from 4 version.bytes one ≡ big_from 4 version.bytes other = big_from-agree 4 version.bytes 16 one other (omega (arith, fits.bytes)) agree in
+      let padded : IsPadded version other = record {
+        after_length = byte 3 (omega arith) ∙ passed.1.after_length;
+        after_prefix = subst (AllByRecursion (λ (byte : ℕ). byte ≡ 0)) zeros passed.1.after_prefix;
+        after_merge = λ merge. right ∙ passed.1.after_merge (sym kind ∙ merge);
+      } in
+      let stored : HasPrefixUpTo version.limit (slice_index other 2) (field_low version (big_from 4 version.bytes other)) =
+      subst (λ (len : ℕ). HasPrefixUpTo version.limit len (field_low version (big_from 4 version.bytes other))) prefix_len
+      (subst (λ (n : ℕ). HasPrefixUpTo version.limit (slice_index one 2) (field_low version n)) field passed.2.1) in
+      (subst HasKindByte (sym kind) passed.0, padded, (omega (arith, prefix_len, passed.2.0), stored))
+    where
+      HasKindByte : ℕ → Type 0
+      HasKindByte byte = (byte ≡ 1) ⊎ (byte ≡ 2)
+
+  pub entry_passes : {ward : ℕ} {prefix : List Bool} {entry : Entry} {image : List ℕ} → IsEntryImage version ward prefix entry image → PassesAll version image
+  entry_passes is = (image_has_kind is, image_is_padded is, image_has_prefix is)
+
+  pub notice_passes : {notice : Notice} {image : List ℕ} → IsNoticeImage version notice image → PassesAll version image
+  notice_passes {image = image} is = tests_agree (take 16 image) image (λ k within. get_or-take 16 image k 0 within) (entry_passes (entry_image_of is))
+
+  pub notice_from_tests : (image : List ℕ) → length image ≡ 24 → ((k : ℕ) → slice_index image k < 256) → PassesAll version image → (notice : Notice) × IsNoticeImage version notice image
+  notice_from_tests image len small passed =
+      let front = take 16 image in
+      let same = λ (k : ℕ) (within : k < 16). get_or-take 16 image k 0 within in
+      let tests = tests_agree image front (λ k within. sym (same k within)) passed in
+      let front_len : length front ≡ 16 = length-take-le 16 image (omega (arith, len)) in
+      let entry = image_from_tests front front_len (take_small image small) tests.0 tests.1 tests.2 in
+      (_, notice_from_parts image front (drop 16 image) (slice_index front 0) (big_from 0 8 (drop 16 image)) entry.0 entry.1 len small refl refl entry.2 refl)
+    where
+      take_small : (image : List ℕ) → ((k : ℕ) → slice_index image k < 256) → (k : ℕ) → slice_index (take 16 image) k < 256
+      take_small image small k = elim (cases_lt k 16) [
+        | inl within ↦ rw (get_or-take 16 image k 0 within) (small k)
+        | inr past ↦ rw (get_or_past (take 16 image) k 0 (omega (arith, past, length-take 16 image))) (omega arith)
+      ]

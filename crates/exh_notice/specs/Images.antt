@@ -75,3 +75,7 @@ abbrev pub FailsFirst : Version → NoticeFault → List ℕ → Type 0
 FailsFirst version fault.Kind image = ¬ (HasKind image)
 FailsFirst version fault.Padding image = HasKind image × ¬ (IsPadded version image)
 FailsFirst version fault.Prefix image = HasKind image × IsPadded version image × ¬ (HasPrefixField version image)
+
+-- the bytes pass all of them
+abbrev pub PassesAll : Version → List ℕ → Type 0
+PassesAll version image = HasKind image × IsPadded version image × HasPrefixField version image
