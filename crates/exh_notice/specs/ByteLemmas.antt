@@ -1,12 +1,13 @@
 -- Numbers of any width in bytes, from the bytes to the number and back.
 use Rattle.std.proofs.Common.{◌≡◌, ℕ, zero, suc, ◌+◌, ◌*◌, ◌/◌, ◌%◌, ◌^◌, ◌<◌, ◌≤◌, ◌-◌, List, [], ◌∷◌, ◌++◌, length, replicate, drop, slice_index, refl, sym, ap, ◌∙◌, subst, arith}
-use Rattle.std.proofs.Math.Nat.{div-one, mod-eq_of_lt, mul-add-div_right, mul-add-mod_self_right, one-le-pow, pow-suc}
+use Rattle.std.proofs.Math.Nat.{mod-eq_of_lt}
 use Rattle.std.proofs.lemmas.List.{get_or-drop}
-use Rattle.std.proofs.lemmas.Nat.{div-mul-add, pow-add}
+use Rattle.std.proofs.lemmas.Nat.{div-mul-add}
 use Rattle.std.specs.Int.{byte_at, bytes_high_first}
 use Rattle.std.specs.List.{AllByRecursion}
 use Rattle.byteorder.specs.Endian.{big_from}
 use Rattle.byteorder.specs.Numbers.{big_from-lt}
+use Rattle.exh_prefix.specs.ByteLemmas.{byte_at-div, low_bytes}
 use Rattle.exh_notice.specs.Images.{items}
 
 items-cons : (i n : ℕ) (byte : ℕ) (bytes : List ℕ) → items (suc i) n (byte ∷ bytes) ≡ items i n bytes
@@ -74,32 +75,6 @@ zeros_from zero (byte ∷ bytes) len zeros = absurd (omega (arith, len))
 zeros_from (suc n) [] len zeros = absurd (omega (arith, len))
 zeros_from (suc n) (byte ∷ bytes) len zeros =
     ap (λ byte. byte ∷ bytes) zeros.0 ∙ ap (λ rest. 0 ∷ rest) (zeros_from n bytes (omega (arith, len)) zeros.1)
-
-power_positive : (n : ℕ) → 0 < 256 ^ n
-power_positive n = let one = one-le-pow n 256 (omega arith) in omega (arith, one)
-
-byte_at-div : (k x : ℕ) → byte_at k x ≡ x / 256 ^ k % 256
-byte_at-div zero x = ap (λ y. y % 256) (sym (div-one x))
-byte_at-div (suc k) x = refl
-
--- a byte doesn't see what stands above it
-byte_at-lower : (k m high low : ℕ) → byte_at k (high * 256 ^ (m + suc k) + low) ≡ byte_at k low
-byte_at-lower k m high low =
-    let place = 256 ^ k in
-    let above : high * 256 ^ (m + suc k) ≡ (high * 256 ^ m * 256) * place =
-    ap (λ n. high * n) (pow-add 256 m (suc k) ∙ ap (λ n. 256 ^ m * n) (pow-suc 256 k)) ∙ (omega arith) in
-    byte_at-div k (high * 256 ^ (m + suc k) + low) ∙ ap (λ n. (n + low) / place % 256) above
-    ∙ ap (λ n. n % 256) (mul-add-div_right (power_positive k) (high * 256 ^ m * 256) low)
-    ∙ mul-add-mod_self_right (high * 256 ^ m) 256 (low / place) ∙ sym (byte_at-div k low)
-
--- the low bytes of a number don't see what stands above them
-low_bytes : (k n high low : ℕ) → k ≤ n → bytes_high_first k (high * 256 ^ n + low) ≡ bytes_high_first k low
-low_bytes zero n high low fits = refl
-low_bytes (suc k) n high low fits =
-    let rest : n - suc k + suc k ≡ n = omega (arith, fits) in
-    let byte : byte_at k (high * 256 ^ n + low) ≡ byte_at k low = subst (λ n. byte_at k (high * 256 ^ n + low) ≡ byte_at k low) rest (byte_at-lower k (n - suc k) high low) in
-    let fewer : k ≤ n = omega (arith, fits) in
-    rw (byte, low_bytes k n high low fewer) refl
 
 -- the bytes of the number that n bytes spell are those bytes
 pub bytes_of_number : (i n : ℕ) (bytes : List ℕ) → ((k : ℕ) → slice_index bytes k < 256) → bytes_high_first n (big_from i n bytes) ≡ items i n bytes

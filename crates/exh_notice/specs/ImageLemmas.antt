@@ -8,7 +8,8 @@ use Rattle.std.specs.List.{AllByRecursion}
 use Rattle.byteorder.specs.Endian.{big_bytes, big_from}
 use Rattle.byteorder.specs.Numbers.{big_from-lt, big_number-reads_back, length-bytes_high_first}
 use Rattle.exh_prefix.specs.Bits.{number_of, word_bits}
-use Rattle.exh_prefix.specs.BitLemmas.{number_of-lt, number_of-append, number_of-zeros, power_of_bytes}
+use Rattle.exh_prefix.specs.BitLemmas.{number_of-lt, number_of-append, number_of-zeros}
+use Rattle.exh_prefix.specs.ByteLemmas.{power_of_bytes}
 use Rattle.exh_prefix.specs.Prefix.{zeros, HasPrefixUpTo, low_of}
 use Rattle.exh_prefix.specs.PrefixLemmas.{low_of-places, low_of-up_to, length-up_to, same_prefix, up_to-low_of}
 use Rattle.exh_prefix.specs.Version.{Version, first_version, Fits, field_low}

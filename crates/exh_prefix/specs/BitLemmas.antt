@@ -15,13 +15,6 @@ unfolding bits_of
 length-bits_of zero number = refl
 length-bits_of (suc n) number = ap suc (length-bits_of n _)
 
--- n bytes are 8 * n bits
-pub power_of_bytes : (n : ℕ) → 256 ^ n ≡ 2 ^ (8 * n)
-power_of_bytes zero = refl
-power_of_bytes (suc n) =
-    let places : 8 * suc n ≡ 8 * n + 8 = omega arith in
-    omega (arith, pow-suc 256 n, power_of_bytes n, pow-add 2 (8 * n) 8, ap (λ m. 2 ^ m) places)
-
 -- what a bit at the place of weight w adds, at most w
 bit_weight : (bit : Bool) (w : ℕ) → (cond bit w 0) ≤ w
 bit_weight true w = omega arith
