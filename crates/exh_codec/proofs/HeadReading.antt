@@ -31,22 +31,6 @@ pub fourth_is_zero : (head : Head) (tail : List ℕ) → slice_index (head_bytes
 unfolding head_bytes
 fourth_is_zero head tail = refl
 
--- a number whose lowest six bytes are zero
-low_byte : (m k : ℕ) → k < 6 → byte_at k (m * 2 ^ 48) ≡ 0
-low_byte m zero lt = omega arith
-low_byte m (suc zero) lt = omega arith
-low_byte m (suc (suc zero)) lt = omega arith
-low_byte m (suc (suc (suc zero))) lt = omega arith
-low_byte m (suc (suc (suc (suc zero)))) lt = omega arith
-low_byte m (suc (suc (suc (suc (suc zero))))) lt = omega arith
-low_byte m (suc (suc (suc (suc (suc (suc k)))))) lt = absurd (omega (arith, lt))
-
-pub past_low_is_zero : (head : Head) (tail : List ℕ) (m : ℕ) → head.low ≡ m * 2 ^ 48 → AreZero (slice_range (head_bytes head ++ tail) 10 16)
-unfolding head_bytes
-past_low_is_zero head tail m is =
-    let byte = λ (k : ℕ) (lt : k < 6). ap (byte_at k) is ∙ low_byte m k lt in
-    (byte 5 (omega arith), (byte 4 (omega arith), (byte 3 (omega arith), (byte 2 (omega arith), (byte 1 (omega arith), (byte 0 (omega arith), tt))))))
-
 -- ---- back
 
 pub AreBytes-drop : (n : ℕ) (bytes : List ℕ) → AreBytes bytes → AreBytes (drop n bytes)
