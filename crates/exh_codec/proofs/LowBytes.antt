@@ -1,12 +1,12 @@
 -- The bytes of a low bound in an image, in every version whose bytes fit.
 use Rattle.std.proofs.Common.{◌≡◌, ℕ, zero, suc, ◌+◌, ◌-◌, ◌*◌, ◌^◌, ◌≤◌, List, [], ◌∷◌, ◌++◌, length, replicate, take, drop, slice_range, refl, sym, ap, ◌∙◌, subst, arith}
-use Rattle.std.proofs.Math.Nat.{add-mul, add_assoc, mul_assoc}
+use Rattle.std.proofs.Math.Nat.{add-mul, mul_assoc}
 use Rattle.std.proofs.lemmas.List.{length-drop, length-replicate, drop-drop, drop-append-le, take_at}
 use Rattle.std.proofs.lemmas.Nat.{pow-add}
 use Rattle.byteorder.specs.Endian.{big_bytes, big_from, big_number}
 use Rattle.byteorder.specs.Numbers.{big_from-cons, length-bytes_high_first}
 use Rattle.exh_prefix.specs.ByteLemmas.{power_of_bytes, drop-high_bytes, bytes_of_multiple}
-use Rattle.exh_prefix.specs.Version.{Version, first_version, Fits, field_low}
+use Rattle.exh_prefix.specs.Version.{Version, first_version, Fits}
 use Rattle.exh_codec.specs.declared.head.Head.{Head}
 use Rattle.exh_codec.specs.Block.{AreZero}
 use Rattle.exh_codec.specs.Head.{head_bytes}

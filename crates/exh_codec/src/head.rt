@@ -10,7 +10,7 @@ pub(crate) const HEAD_LEN: usize = 16;
 /// Where the bytes of a prefix or low bound begin (exhash profile).
 pub(crate) const LOW_START: usize = 8;
 
-/// How many bytes a prefix or low bound has (exhash profile).
+/// How many bytes a prefix or low bound has in the first version (exhash profile).
 const LOW_LEN: usize = 2;
 
 /// Where these bytes end.
