@@ -1,6 +1,5 @@
 -- A head as bytes and back.
-use Rattle.std.proofs.Common.{inl, inr, ◌≡◌, ℕ, zero, suc, ◌+◌, ◌*◌, ◌^◌, ◌<◌, ◌≤◌, List, [], ◌∷◌, ◌++◌, length, take, drop, get_or, slice_index, slice_range, refl, sym, ap, ◌∙◌, arith}
-use Rattle.std.specs.Int.{byte_at}
+use Rattle.std.proofs.Common.{inl, inr, ◌≡◌, ℕ, ◌+◌, ◌^◌, ◌<◌, ◌≤◌, List, [], ◌∷◌, ◌++◌, length, take, drop, get_or, slice_index, refl, sym, ap, ◌∙◌, arith}
 use Rattle.std.proofs.Math.Seq.{take-add}
 use Rattle.std.proofs.lemmas.Bool.{cases_lt}
 use Rattle.std.proofs.lemmas.List.{get_or_past, get_or-take, get_or-drop, length-take, length-drop, length-take-le, drop-drop}
@@ -11,7 +10,6 @@ use Rattle.exh_codec.specs.declared.head.Head.{Head}
 use Rattle.exh_codec.specs.declared.kind.Kind.{Kind}
 use Rattle.exh_codec.specs.declared.kind.Kind.TheVariants.{Live, Forward}
 use Rattle.exh_codec.specs.Head.{head_bytes, IsReadHead, kind_byte}
-use Rattle.exh_codec.specs.Block.{AreZero}
 
 abbrev pub AreBytes : List ℕ → Type 0
 AreBytes bytes = (i : ℕ) → get_or bytes i 0 < 256
@@ -30,22 +28,6 @@ reads_head head tail link_fits low_fits = record {
 pub fourth_is_zero : (head : Head) (tail : List ℕ) → slice_index (head_bytes head ++ tail) 3 ≡ 0
 unfolding head_bytes
 fourth_is_zero head tail = refl
-
--- a number whose lowest six bytes are zero
-low_byte : (m k : ℕ) → k < 6 → byte_at k (m * 2 ^ 48) ≡ 0
-low_byte m zero lt = omega arith
-low_byte m (suc zero) lt = omega arith
-low_byte m (suc (suc zero)) lt = omega arith
-low_byte m (suc (suc (suc zero))) lt = omega arith
-low_byte m (suc (suc (suc (suc zero)))) lt = omega arith
-low_byte m (suc (suc (suc (suc (suc zero))))) lt = omega arith
-low_byte m (suc (suc (suc (suc (suc (suc k)))))) lt = absurd (omega (arith, lt))
-
-pub past_low_is_zero : (head : Head) (tail : List ℕ) (m : ℕ) → head.low ≡ m * 2 ^ 48 → AreZero (slice_range (head_bytes head ++ tail) 10 16)
-unfolding head_bytes
-past_low_is_zero head tail m is =
-    let byte = λ (k : ℕ) (lt : k < 6). ap (byte_at k) is ∙ low_byte m k lt in
-    (byte 5 (omega arith), (byte 4 (omega arith), (byte 3 (omega arith), (byte 2 (omega arith), (byte 1 (omega arith), (byte 0 (omega arith), tt))))))
 
 -- ---- back
 

@@ -3,6 +3,7 @@ pub mod PutPairs
 pub mod Elements
 pub mod UsedBytes
 pub mod Rising
+pub mod LowBytes
 pub mod HeadReading
 pub mod LaidOut
 pub mod TestsPassed

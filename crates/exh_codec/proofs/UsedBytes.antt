@@ -3,7 +3,7 @@ use Rattle.std.proofs.Common.{◌≡◌, ℕ, ◌*◌, ◌^◌, ◌<◌, ◌≤�
 use Rattle.std.specs.Prelude.{IfSome}
 use Rattle.std.specs.List.{AllByRecursion, flat_map}
 use Rattle.std.proofs.lemmas.List.{length-append, length-map, length-replicate}
-use Rattle.exh_prefix.specs.declared.prefix.TheConstants.{LIMIT}
+use Rattle.exh_prefix.specs.Version.{Version}
 use Rattle.exh_page.specs.declared.page.Page.{Page}
 use Rattle.exh_page.specs.declared.page.Page.TheVariants.{Live, Forward}
 use Rattle.exh_page.specs.declared.record.Record.{Record}
@@ -24,17 +24,17 @@ length-pairs [] sized = omega arith
 length-pairs (p ∷ pairs) sized =
     omega (arith, length-append (pair_image p) (flat_map pair_image pairs), length-pair_image p, sized.0.key, sized.0.value, length-pairs pairs sized.1)
 
-pub sized_records : (page : Page) → IsInRange page → AllByRecursion IsSized (map pair_of (records_of page))
-sized_records (Live prefix right records) in_range = in_range.2
-sized_records (Forward low target) in_range = tt
+pub sized_records : (version : Version) (page : Page) → IsInRange version page → AllByRecursion IsSized (map pair_of (records_of page))
+sized_records version (Live prefix right records) in_range = in_range.2
+sized_records version (Forward low target) in_range = tt
 
-pub length-used_of : (page : Page) → IsInRange page → length (records_of page) ≤ 16 → length (used_of page) ≤ 3120
-length-used_of page in_range few =
+pub length-used_of : (version : Version) (page : Page) → IsInRange version page → length (records_of page) ≤ 16 → length (used_of page) ≤ 3120
+length-used_of version page in_range few =
     omega (
       arith,
       length-append (head_bytes (head_of page)) (flat_map pair_image (map pair_of (records_of page))),
       length-head_bytes (head_of page),
-      length-pairs (map pair_of (records_of page)) (sized_records page in_range),
+      length-pairs (map pair_of (records_of page)) (sized_records version page in_range),
       length-map (records_of page) pair_of,
       few,
     )
@@ -44,22 +44,22 @@ link_in_range None small = tt
 link_in_range (Some page) small = small
 
 -- the numbers of a live page are in range where those of its head are
-pub live_in_range : (prefix : List Bool) (right : Option ℕ) (records : List Record) (head : Head) → head ≡ head_of (Live prefix right records) → head.prefix_len ≤ LIMIT → head.link < 2 ^ 32
-    → AllByRecursion IsSized (map pair_of records) → IsInRange (Live prefix right records)
-live_in_range prefix right records head is short small sized =
-    (subst (λ (h : Head). h.prefix_len ≤ LIMIT) is short, link_in_range right (subst (λ (h : Head). h.link < 2 ^ 32) is small), sized)
+pub live_in_range : (version : Version) (prefix : List Bool) (right : Option ℕ) (records : List Record) (head : Head) → head ≡ head_of (Live prefix right records) → head.prefix_len ≤ version.limit → head.link < 2 ^ 32
+    → AllByRecursion IsSized (map pair_of records) → IsInRange version (Live prefix right records)
+live_in_range version prefix right records head is short small sized =
+    (subst (λ (h : Head). h.prefix_len ≤ version.limit) is short, link_in_range right (subst (λ (h : Head). h.link < 2 ^ 32) is small), sized)
 
-few_records : (pseudo : List ℕ → ℕ) (page : Page) → IsPage pseudo page → length (records_of page) ≤ 16
-few_records pseudo (Live prefix right records) page = page.formed.1
-few_records pseudo (Forward low target) page = omega arith
+few_records : (version : Version) (pseudo : List ℕ → ℕ) (page : Page) → IsPage version pseudo page → length (records_of page) ≤ 16
+few_records version pseudo (Live prefix right records) page = page.formed.1
+few_records version pseudo (Forward low target) page = omega arith
 
 -- a content fills a block up to its digest
-pub length-content_of : (pseudo : List ℕ → ℕ) (page : Page) → IsPage pseudo page → length (content_of page) ≡ 4064
+pub length-content_of : (version : Version) (pseudo : List ℕ → ℕ) (page : Page) → IsPage version pseudo page → length (content_of page) ≡ 4064
 unfolding content_of
-length-content_of pseudo page valid =
+length-content_of version pseudo page valid =
     omega (
       arith,
       length-append (used_of page) (replicate (4064 - length (used_of page)) 0),
       length-replicate {A = ℕ} (4064 - length (used_of page)) 0,
-      length-used_of page valid.in_range (few_records pseudo page valid),
+      length-used_of version page valid.in_range (few_records version pseudo page valid),
     )

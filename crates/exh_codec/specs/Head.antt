@@ -24,8 +24,8 @@ head_of (pages.Live prefix right records) =
     record { kind = Live; prefix_len = length prefix; count = length records; link = link_number right; low = low_of prefix }
 head_of (pages.Forward low target) = record { kind = Forward; prefix_len = 0; count = 0; link = target; low = low }
 
--- its bytes: kind, length of the prefix, number of records, a zero, four of the link, eight of the low bound, whose bytes past LOW_END are zero
--- since a low bound has only zeros after its first LIMIT bits
+-- its bytes, in every version: kind, length of the prefix, number of records, a zero, four of the link, eight of the low bound. Of these eight
+-- the version's first ones say it, and the others are zero, since a low bound has only zeros after the bits of the longest prefix
 unfoldable pub head_bytes : Head → List ℕ
 head_bytes head = kind_byte head.kind ∷ head.prefix_len ∷ head.count ∷ 0 ∷ big_bytes 4 head.link ++ big_bytes 8 head.low
 

@@ -1,15 +1,15 @@
--- The tests of an image, each over the whole block, and the first that fails.
-use Rattle.std.specs.Prelude.{◌≡◌, ◌≢◌, ⊤, ℕ, ◌≤◌, List, [], ◌∷◌, ◌++◌, map, take, drop, slice_index, slice_range}
+-- The tests of an image in each version of the page file, each over the whole block, and the first that fails.
+use Rattle.std.specs.Prelude.{◌≡◌, ◌≢◌, ⊤, ℕ, ◌+◌, ◌≤◌, List, [], ◌∷◌, ◌++◌, map, take, drop, slice_index, slice_range}
 use Rattle.std.specs.List.{AllByRecursion}
 use Rattle.byteorder.specs.Endian.{big_number}
 use Rattle.exh_prefix.specs.Bits.{word_bits}
-use Rattle.exh_prefix.specs.Prefix.{Begins, HasPrefix}
-use Rattle.exh_prefix.specs.declared.prefix.TheConstants.{LIMIT}
+use Rattle.exh_prefix.specs.Prefix.{Begins, HasPrefixUpTo}
+use Rattle.exh_prefix.specs.Version.{Version, field_low}
 use Rattle.exh_page.specs.declared.page.TheConstants.{CAP_LIMIT}
 use Rattle.exh_page.specs.declared.record.Record.{Record}
 use Rattle.exh_page.specs.Records.{IsRising}
 use Rattle.exh_codec.specs.declared.block.TheConstants.{CONTENT_LEN}
-use Rattle.exh_codec.specs.declared.head.TheConstants.{HEAD_LEN, LOW_END}
+use Rattle.exh_codec.specs.declared.head.TheConstants.{HEAD_LEN, LOW_START}
 use Rattle.exh_codec.specs.declared.image_fault.ImageFault.{ImageFault}
 use Rattle.exh_codec.specs.declared.image_fault.ImageFault.TheVariants as faults
 use Rattle.exh_codec.specs.declared.kind.Kind.{Kind}
@@ -29,9 +29,9 @@ prefix_len_of block = slice_index block 1
 abbrev pub count_of : List ℕ → ℕ
 count_of block = slice_index block 2
 
--- the eight bytes whose first are the low bound's
-abbrev pub low_in : List ℕ → ℕ
-low_in block = big_number 8 (drop 8 block)
+-- the low bound whose bytes stand there
+abbrev pub low_in : Version → List ℕ → ℕ
+low_in version block = field_low version (big_number version.bytes (drop LOW_START block))
 
 -- the block's records are these pairs, and then come the other bytes of its content
 abbrev pub HasCells : List ℕ → List Pair → List ℕ → Type 0
@@ -54,25 +54,25 @@ pub record HasLengths (block : List ℕ) : Type 0 where
   pub cells : (pairs : List Pair) × (rest : List ℕ) × HasCells block pairs rest
 
 -- the bytes outside the fields and the records are zero
-pub record IsPadded (block : List ℕ) : Type 0 where
+pub record IsPadded (version : Version) (block : List ℕ) : Type 0 where
   pub fourth : slice_index block 3 ≡ 0
-  pub head : AreZero (slice_range block LOW_END HEAD_LEN)
+  pub head : AreZero (slice_range block (LOW_START + version.bytes) HEAD_LEN)
   pub tail : (pairs : List Pair) (rest : List ℕ) → HasCells block pairs rest → AreZero rest
 
 -- a live page's prefix is one, and begins the pseudokey of each record
-pub record IsBegun (pseudo : List ℕ → ℕ) (block : List ℕ) : Type 0 where
-  pub prefix : HasPrefix (prefix_len_of block) (low_in block)
+pub record IsBegun (version : Version) (pseudo : List ℕ → ℕ) (block : List ℕ) : Type 0 where
+  pub prefix : HasPrefixUpTo version.limit (prefix_len_of block) (low_in version block)
   pub begun : (pairs : List Pair) (rest : List ℕ) → HasCells block pairs rest
-      → AllByRecursion (λ pair. Begins (take (prefix_len_of block) (word_bits (low_in block))) (pseudo pair.0)) pairs
+      → AllByRecursion (λ pair. Begins (take (prefix_len_of block) (word_bits (low_in version block))) (pseudo pair.0)) pairs
 
 -- a forwarding page has no length of a prefix, and a low bound that is one and isn't zero
-pub record IsLowBound (block : List ℕ) : Type 0 where
+pub record IsLowBound (version : Version) (block : List ℕ) : Type 0 where
   pub none : prefix_len_of block ≡ 0
-  pub some : low_in block ≢ 0
-  pub limit : HasPrefix LIMIT (low_in block)
+  pub some : low_in version block ≢ 0
+  pub limit : HasPrefixUpTo version.limit version.limit (low_in version block)
 
-abbrev pub HasBound : (List ℕ → ℕ) → List ℕ → Type 0
-HasBound pseudo block = (IsOfKind Live block → IsBegun pseudo block) × (IsOfKind Forward block → IsLowBound block)
+abbrev pub HasBound : Version → (List ℕ → ℕ) → List ℕ → Type 0
+HasBound version pseudo block = (IsOfKind Live block → IsBegun version pseudo block) × (IsOfKind Forward block → IsLowBound version block)
 
 -- the records rise strictly
 abbrev pub IsOrdered : (List ℕ → ℕ) → List ℕ → Type 0
@@ -81,14 +81,14 @@ IsOrdered pseudo block = (pairs : List Pair) (rest : List ℕ) → HasCells bloc
 -- ---- their order
 
 -- the block passes the test that a fault is named after
-abbrev pub Passes : (List ℕ → ℕ) → List ℕ → ImageFault → Type 0
-Passes pseudo block faults.Memory = ⊤
-Passes pseudo block faults.Digest = IsSealed block
-Passes pseudo block faults.Kind = HasKind block
-Passes pseudo block faults.Length = HasLengths block
-Passes pseudo block faults.Padding = IsPadded block
-Passes pseudo block faults.Prefix = HasBound pseudo block
-Passes pseudo block faults.Order = IsOrdered pseudo block
+abbrev pub Passes : Version → (List ℕ → ℕ) → List ℕ → ImageFault → Type 0
+Passes version pseudo block faults.Memory = ⊤
+Passes version pseudo block faults.Digest = IsSealed block
+Passes version pseudo block faults.Kind = HasKind block
+Passes version pseudo block faults.Length = HasLengths block
+Passes version pseudo block faults.Padding = IsPadded version block
+Passes version pseudo block faults.Prefix = HasBound version pseudo block
+Passes version pseudo block faults.Order = IsOrdered pseudo block
 
 -- the tests of a content, in their order, and those of an image
 abbrev pub content_tests : List ImageFault

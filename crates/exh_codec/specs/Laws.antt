@@ -1,6 +1,7 @@
--- Laws of images, for the crates above.
+-- Laws of images, for the crates above: in every version of the page file, or in each whose bytes are room for its limit and fit into eight.
 use Rattle.std.specs.Prelude.{◌≡◌, ◌<◌, ℕ, ◌↔◌, List, length, slice_index}
 use Rattle.std.specs.List.{AllByRecursion}
+use Rattle.exh_prefix.specs.Version.{Version, Fits}
 use Rattle.exh_page.specs.declared.page.Page.{Page}
 use Rattle.exh_codec.specs.declared.block.TheConstants.{BLOCK_LEN}
 use Rattle.exh_codec.specs.Block.{IsSealed}
@@ -8,23 +9,25 @@ use Rattle.exh_codec.specs.ImageTests.{Passes, image_tests}
 use Rattle.exh_codec.specs.PageImage.{IsPage, IsImage, IsLaidOut}
 
 -- the block is the page's image, and no other is
-pub record IsOneImage (pseudo : List ℕ → ℕ) (page : Page) (block : List ℕ) : Type 0 where
-  pub image : IsImage pseudo page block
-  pub only : (other : List ℕ) → IsImage pseudo page other → other ≡ block
+pub record IsOneImage (version : Version) (pseudo : List ℕ → ℕ) (page : Page) (block : List ℕ) : Type 0 where
+  pub image : IsImage version pseudo page block
+  pub only : (other : List ℕ) → IsImage version pseudo page other → other ≡ block
 
 -- a page that any file may have has exactly one image
 abbrev pub OneImage : Type 0
-OneImage = (pseudo : List ℕ → ℕ) (page : Page) → IsPage pseudo page → (block : List ℕ) × IsOneImage pseudo page block
+OneImage = (version : Version) (pseudo : List ℕ → ℕ) (page : Page) → IsPage version pseudo page → (block : List ℕ) × IsOneImage version pseudo page block
 
 -- an image is that of one page
 abbrev pub OnePage : Type 0
-OnePage = (pseudo : List ℕ → ℕ) (block : List ℕ) (one other : Page) → IsImage pseudo one block → IsImage pseudo other block → one ≡ other
+OnePage = (version : Version) → Fits 8 version → (pseudo : List ℕ → ℕ) (block : List ℕ) (one other : Page)
+    → IsImage version pseudo one block → IsImage version pseudo other block → one ≡ other
 
 -- a block of bytes is the image of a page exactly where it passes all tests
 abbrev pub ImagesPass : Type 0
-ImagesPass = (pseudo : List ℕ → ℕ) (block : List ℕ) → length block ≡ BLOCK_LEN → ((i : ℕ) → slice_index block i < 256)
-    → ((page : Page) × IsImage pseudo page block) ↔ AllByRecursion (Passes pseudo block) image_tests
+ImagesPass = (version : Version) → Fits 8 version → (pseudo : List ℕ → ℕ) (block : List ℕ) → length block ≡ BLOCK_LEN → ((i : ℕ) → slice_index block i < 256)
+    → ((page : Page) × IsImage version pseudo page block) ↔ AllByRecursion (Passes version pseudo block) image_tests
 
 -- a block is a page's image exactly where it was laid out for the page and is sealed
 abbrev pub ImagesAreSealed : Type 0
-ImagesAreSealed = (pseudo : List ℕ → ℕ) (page : Page) (block : List ℕ) → IsImage pseudo page block ↔ (IsLaidOut pseudo page block × IsSealed block)
+ImagesAreSealed = (version : Version) (pseudo : List ℕ → ℕ) (page : Page) (block : List ℕ)
+    → IsImage version pseudo page block ↔ (IsLaidOut version pseudo page block × IsSealed block)

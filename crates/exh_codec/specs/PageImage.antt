@@ -1,10 +1,10 @@
--- The image of a page.
+-- The image of a page, in each version of the page file.
 use Rattle.std.specs.Prelude.{◌≡◌, ℕ, ◌-◌, ◌^◌, ◌<◌, ◌≤◌, List, ◌++◌, length, map, replicate, take, IfSome}
 use Rattle.std.specs.List.{AllByRecursion, flat_map}
-use Rattle.exh_prefix.specs.declared.prefix.TheConstants.{LIMIT}
+use Rattle.exh_prefix.specs.Version.{Version}
 use Rattle.exh_page.specs.declared.page.Page.{Page}
 use Rattle.exh_page.specs.declared.page.Page.TheVariants.{Live, Forward}
-use Rattle.exh_page.specs.Page.{IsWellFormed, records_of}
+use Rattle.exh_page.specs.Page.{IsFormedUpTo, records_of}
 use Rattle.exh_codec.specs.declared.block.TheConstants.{CONTENT_LEN}
 use Rattle.exh_codec.specs.Block.{sealed}
 use Rattle.exh_codec.specs.Cells.{IsSized, pair_image, pair_of}
@@ -22,22 +22,22 @@ used_of page = head_bytes (head_of page) ++ flat_map pair_image (map pair_of (re
 unfoldable pub content_of : Page → List ℕ
 content_of page = padded CONTENT_LEN (used_of page)
 
--- the numbers and lengths in the page are those that its types hold
-abbrev pub IsInRange : Page → Type 0
-IsInRange (Live prefix right records) = (length prefix ≤ LIMIT) × IfSome right (λ page. page < 2 ^ 32) × AllByRecursion IsSized (map pair_of records)
-IsInRange (Forward low target) = (low < 2 ^ 64) × (target < 2 ^ 32)
+-- the numbers and lengths in the page are those that its types and the version hold
+abbrev pub IsInRange : Version → Page → Type 0
+IsInRange version (Live prefix right records) = (length prefix ≤ version.limit) × IfSome right (λ page. page < 2 ^ 32) × AllByRecursion IsSized (map pair_of records)
+IsInRange version (Forward low target) = (low < 2 ^ 64) × (target < 2 ^ 32)
 
--- a page that any file may have, under a keyer's pseudokeys
-pub record IsPage (pseudo : List ℕ → ℕ) (page : Page) : Type 0 where
-  pub in_range : IsInRange page
-  pub formed : IsWellFormed pseudo page
+-- a page that any file of the version may have, under a keyer's pseudokeys
+pub record IsPage (version : Version) (pseudo : List ℕ → ℕ) (page : Page) : Type 0 where
+  pub in_range : IsInRange version page
+  pub formed : IsFormedUpTo version.limit pseudo page
 
 -- the block's content is that of the page, which is well formed; its digest bytes may be any
-pub record IsLaidOut (pseudo : List ℕ → ℕ) (page : Page) (block : List ℕ) : Type 0 where
-  pub valid : IsPage pseudo page
+pub record IsLaidOut (version : Version) (pseudo : List ℕ → ℕ) (page : Page) (block : List ℕ) : Type 0 where
+  pub valid : IsPage version pseudo page
   pub content : take CONTENT_LEN block ≡ content_of page
 
 -- the block is the image of the page, which is well formed
-pub record IsImage (pseudo : List ℕ → ℕ) (page : Page) (block : List ℕ) : Type 0 where
-  pub valid : IsPage pseudo page
+pub record IsImage (version : Version) (pseudo : List ℕ → ℕ) (page : Page) (block : List ℕ) : Type 0 where
+  pub valid : IsPage version pseudo page
   pub whole : block ≡ sealed (content_of page)

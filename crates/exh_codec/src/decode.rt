@@ -1,5 +1,6 @@
 ghost use Rattle.std.specs.Prelude.{◌≡◌, ◌≢◌, ◌↔◌, IsTrue, MatchResult, IfOk, IfErr};
 ghost use Rattle.exh_codec.specs.Block.{AreZero};
+ghost use Rattle.exh_prefix.specs.Version.{first_version};
 ghost use Rattle.exh_page.specs.declared.page.Page.{Page};
 ghost use Rattle.exh_codec.specs.PageImage.{IsImage, IsLaidOut};
 ghost use Rattle.exh_codec.specs.ReadPages.{GivesPage};
@@ -24,11 +25,11 @@ pub fn decode_page<K: Keyer>(
     keyer: &K,
     block: &[u8; BLOCK_LEN],
 ) -> Result<Page, ImageFault>
-    ensures page { IfOk result (λ page. IsImage (K.pseudokey_of keyer.now) page block.now) }
-    ensures only { (page : Page) → IsImage (K.pseudokey_of keyer.now) page block.now
+    ensures page { IfOk result (λ page. IsImage first_version (K.pseudokey_of keyer.now) page block.now) }
+    ensures only { (page : Page) → IsImage first_version (K.pseudokey_of keyer.now) page block.now
         → MatchResult result (λ found. found ≡ page) (λ fault. fault ≡ ImageFault.Memory) }
     ensures fault { IfErr result (λ fault. fault ≢ ImageFault.Memory
-        → IsFirst (Passes (K.pseudokey_of keyer.now) block.now) image_tests fault) }
+        → IsFirst (Passes first_version (K.pseudokey_of keyer.now) block.now) image_tests fault) }
 {
     if !is_sealed(block) {
         return Err(ImageFault::Digest);
@@ -44,11 +45,11 @@ pub fn decode_content<K: Keyer>(
     keyer: &K,
     block: &[u8; BLOCK_LEN],
 ) -> Result<Page, ImageFault>
-    ensures page { IfOk result (λ page. IsLaidOut (K.pseudokey_of keyer.now) page block.now) }
-    ensures only { (page : Page) → IsLaidOut (K.pseudokey_of keyer.now) page block.now
+    ensures page { IfOk result (λ page. IsLaidOut first_version (K.pseudokey_of keyer.now) page block.now) }
+    ensures only { (page : Page) → IsLaidOut first_version (K.pseudokey_of keyer.now) page block.now
         → MatchResult result (λ found. found ≡ page) (λ fault. fault ≡ ImageFault.Memory) }
     ensures fault { IfErr result (λ fault. fault ≢ ImageFault.Memory
-        → IsFirst (Passes (K.pseudokey_of keyer.now) block.now) content_tests fault) }
+        → IsFirst (Passes first_version (K.pseudokey_of keyer.now) block.now) content_tests fault) }
 {
     read_content(alloc, keyer, block)
 }
@@ -59,7 +60,7 @@ fn read_content<K: Keyer>(
     keyer: &K,
     block: &[u8; BLOCK_LEN],
 ) -> Result<Page, ImageFault>
-    ensures { GivesPage (K.pseudokey_of keyer.now) block.now result }
+    ensures { GivesPage first_version (K.pseudokey_of keyer.now) block.now result }
 {
     let Some(head) = Head::from_bytes(block) else {
         return Err(ImageFault::Kind);

@@ -1,5 +1,6 @@
 ghost use Rattle.std.specs.Prelude.{◌≡◌, ◌≤◌, ◌*◌, ◌++◌, length, map, take, drop, replicate};
 ghost use Rattle.std.specs.List.{AllByRecursion, flat_map};
+ghost use Rattle.exh_prefix.specs.Version.{first_version};
 ghost use Rattle.exh_page.specs.declared.page.TheConstants.{CAP_LIMIT};
 ghost use Rattle.exh_page.specs.Page.{records_of};
 ghost use Rattle.exh_codec.specs.declared.block.TheConstants.{BLOCK_LEN, CONTENT_LEN};
@@ -18,7 +19,7 @@ const RECORD_LEN: usize = 2 + KEY_LIMIT + VALUE_LIMIT;
 /// The image of a page that is well formed under a keyer. It takes no memory.
 pub fn encode_page<K: Keyer>(keyer: &K, page: &Page) -> [u8; BLOCK_LEN]
     requires { IsWellFormed (K.pseudokey_of keyer.now) page.now }
-    ensures { IsImage (K.pseudokey_of keyer.now) page.now result }
+    ensures { IsImage first_version (K.pseudokey_of keyer.now) page.now result }
 {
     let mut block = lay_out(page);
     seal(&mut block);
@@ -32,7 +33,7 @@ pub fn lay_out(page: &Page) -> [u8; BLOCK_LEN]
     ensures content { take CONTENT_LEN result ≡ content_of page.now }
     ensures digest { drop CONTENT_LEN result ≡ replicate 32 0 }
     // The types of a page hold no others.
-    ensures in_range { IsInRange page.now }
+    ensures in_range { IsInRange first_version page.now }
 {
     let mut block = [0; BLOCK_LEN];
     put_page(&mut block, page);
@@ -44,7 +45,7 @@ fn put_page(block: &mut [u8], page: &Page)
     requires len { length block.old ≡ BLOCK_LEN }
     requires few { length (records_of page.now) ≤ CAP_LIMIT }
     ensures used { block.new ≡ used_of page.now ++ drop (length (used_of page.now)) block.old }
-    ensures in_range { IsInRange page.now }
+    ensures in_range { IsInRange first_version page.now }
 {
     let head = Head::of(page).to_bytes();
     block[..HEAD_LEN].copy_from_slice(&head);

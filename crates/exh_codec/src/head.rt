@@ -7,8 +7,14 @@ use exh_page::{Page, PageNo};
 /// How many bytes of an image stand before its records (exhash profile).
 pub(crate) const HEAD_LEN: usize = 16;
 
-/// Where the bytes of a prefix or low bound end (exhash profile).
-pub(crate) const LOW_END: usize = 10;
+/// Where the bytes of a prefix or low bound begin (exhash profile).
+pub(crate) const LOW_START: usize = 8;
+
+/// How many bytes a prefix or low bound has in the first version (exhash profile).
+const LOW_LEN: usize = 2;
+
+/// Where these bytes end.
+pub(crate) const LOW_END: usize = LOW_START + LOW_LEN;
 
 /// The link that an image of a page without a right link has (exhash profile).
 pub(crate) const NO_LINK: PageNo = PageNo::MAX;

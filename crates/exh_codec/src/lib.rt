@@ -1,5 +1,5 @@
-//! Pages as blocks of 4,096 bytes and back (exhash profile). A well-formed page has exactly one
-//! image, and an image is that of one page.
+//! Pages as blocks of 4,096 bytes and back, in the first version of the page file (exhash profile).
+//! A well-formed page has exactly one image, and an image is that of one page.
 #![tactic(auto)]
 
 pub use block::{BLOCK_LEN, CONTENT_LEN, is_sealed, seal};

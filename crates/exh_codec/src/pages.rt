@@ -1,6 +1,7 @@
 ghost use Rattle.std.specs.Prelude.{◌≡◌, ◌≢◌, ◌^◌, ◌≤◌, ◌-◌, ◌↔◌, ℕ, List, length, map, Some, IsTrue, IfSome, IfNone, IfOk};
 ghost use Rattle.std.specs.List.{AllByRecursion};
 ghost use Rattle.exh_prefix.specs.Prefix.{Begins};
+ghost use Rattle.exh_prefix.specs.Version.{first_version};
 ghost use Rattle.exh_page.specs.Records.{IsRising};
 ghost use Rattle.exh_codec.specs.Cells.{record_in, IsSized, pair_of, pair_in};
 ghost use Rattle.exh_codec.specs.Head.{link_number};
@@ -28,7 +29,7 @@ pub(crate) fn live_page<K: Keyer>(
 ) -> Result<Page, ImageFault>
     requires few { length cells.now ≤ CAP_LIMIT }
     requires sized { AllByRecursion IsSized (map pair_in cells.now) }
-    ensures { GivesLive (K.pseudokey_of keyer.now) head (map pair_in cells.now) result }
+    ensures { GivesLive first_version (K.pseudokey_of keyer.now) head (map pair_in cells.now) result }
 {
     let Some(prefix) = Prefix::new(head.prefix_len, head.low) else {
         return Err(ImageFault::Prefix);
@@ -48,7 +49,7 @@ pub(crate) fn live_page<K: Keyer>(
 
 /// The forwarding page of a head: `Prefix` where its low bound is none.
 pub(crate) fn forward_page(head: Head) -> Result<Page, ImageFault>
-    ensures { GivesForward head result }
+    ensures { GivesForward first_version head result }
 {
     if head.prefix_len != 0 || head.low == 0 || Prefix::new(LIMIT, head.low).is_none() {
         return Err(ImageFault::Prefix);

@@ -1,5 +1,6 @@
 ghost use Rattle.std.specs.Prelude.{◌≤◌, length, IfOk};
 ghost use Rattle.exh_codec.specs.declared.block.TheConstants.{CONTENT_LEN};
+ghost use Rattle.exh_prefix.specs.Version.{first_version};
 ghost use Rattle.exh_codec.specs.PageImage.{IsImage};
 
 use crate::{
@@ -29,7 +30,7 @@ fn sealed(front: &[u8]) -> [u8; BLOCK_LEN]
 // A decode, tried once more where memory is refused: under `rt try --test --fail-alloc N`, for any
 // N, a growth is refused once, and all is answered the same.
 fn decoded<K: Keyer>(alloc: Global, keyer: &K, block: &[u8; BLOCK_LEN]) -> Result<Page, ImageFault>
-    ensures { IfOk result (λ page. IsImage (K.pseudokey_of keyer.now) page block.now) }
+    ensures { IfOk result (λ page. IsImage first_version (K.pseudokey_of keyer.now) page block.now) }
 {
     match decode_page(alloc, keyer, block) {
         Err(ImageFault::Memory) => decode_page(alloc, keyer, block),

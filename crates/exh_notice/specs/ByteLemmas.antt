@@ -1,16 +1,14 @@
 -- Numbers of any width in bytes, from the bytes to the number and back.
-use Rattle.std.proofs.Common.{◌≡◌, ℕ, zero, suc, ◌+◌, ◌*◌, ◌/◌, ◌%◌, ◌^◌, ◌<◌, ◌≤◌, ◌-◌, List, [], ◌∷◌, length, drop, slice_index, refl, sym, ap, ◌∙◌, subst, arith}
-use Rattle.std.proofs.Math.Nat.{div-one, mod-eq_of_lt, mul-add-div_right, mul-add-mod_self_right, one-le-pow, pow-suc}
+use Rattle.std.proofs.Common.{◌≡◌, ℕ, zero, suc, ◌+◌, ◌*◌, ◌%◌, ◌^◌, ◌<◌, ◌≤◌, List, [], ◌∷◌, ◌++◌, length, replicate, drop, slice_index, refl, ap, ◌∙◌, arith}
+use Rattle.std.proofs.Math.Nat.{mod-eq_of_lt}
 use Rattle.std.proofs.lemmas.List.{get_or-drop}
-use Rattle.std.proofs.lemmas.Nat.{div-mul-add, pow-add}
+use Rattle.std.proofs.lemmas.Nat.{div-mul-add}
 use Rattle.std.specs.Int.{byte_at, bytes_high_first}
+use Rattle.std.specs.List.{AllByRecursion}
 use Rattle.byteorder.specs.Endian.{big_from}
 use Rattle.byteorder.specs.Numbers.{big_from-lt}
-
--- n items of a list, from place i on
-abbrev pub items : ℕ → ℕ → List ℕ → List ℕ
-items i zero bytes = []
-items i (suc n) bytes = slice_index bytes i ∷ items (suc i) n bytes
+use Rattle.exh_prefix.specs.ByteLemmas.{byte_at-div, low_bytes}
+use Rattle.exh_notice.specs.Images.{items}
 
 items-cons : (i n : ℕ) (byte : ℕ) (bytes : List ℕ) → items (suc i) n (byte ∷ bytes) ≡ items i n bytes
 items-cons i zero byte bytes = refl
@@ -23,31 +21,60 @@ items_all zero (byte ∷ bytes) len = absurd (omega (arith, len))
 items_all (suc n) [] len = absurd (omega (arith, len))
 items_all (suc n) (byte ∷ bytes) len = ap (λ rest. byte ∷ rest) (items-cons 0 n byte bytes ∙ items_all n bytes (omega (arith, len)))
 
-power_positive : (n : ℕ) → 0 < 256 ^ n
-power_positive n = let one = one-le-pow n 256 (omega arith) in omega (arith, one)
+pub length-items : (i n : ℕ) (bytes : List ℕ) → length (items i n bytes) ≡ n
+length-items i zero bytes = refl
+length-items i (suc n) bytes = ap suc (length-items (suc i) n bytes)
 
-byte_at-div : (k x : ℕ) → byte_at k x ≡ x / 256 ^ k % 256
-byte_at-div zero x = ap (λ y. y % 256) (sym (div-one x))
-byte_at-div (suc k) x = refl
+-- items of the rest of a list are read from their places
+pub items-drop : (i j n : ℕ) (bytes : List ℕ) → items j n (drop i bytes) ≡ items (i + j) n bytes
+items-drop i j zero bytes = refl
+items-drop i j (suc n) bytes =
+    let place : i + suc j ≡ suc (i + j) = omega arith in
+    let rest : items (suc j) n (drop i bytes) ≡ items (suc (i + j)) n bytes = items-drop i (suc j) n bytes ∙ ap (λ i. items i n bytes) place in
+    rw (get_or-drop i bytes j 0, rest) refl
 
--- a byte doesn't see what stands above it
-byte_at-lower : (k m high low : ℕ) → byte_at k (high * 256 ^ (m + suc k) + low) ≡ byte_at k low
-byte_at-lower k m high low =
-    let place = 256 ^ k in
-    let above : high * 256 ^ (m + suc k) ≡ (high * 256 ^ m * 256) * place =
-    ap (λ n. high * n) (pow-add 256 m (suc k) ∙ ap (λ n. 256 ^ m * n) (pow-suc 256 k)) ∙ (omega arith) in
-    byte_at-div k (high * 256 ^ (m + suc k) + low) ∙ ap (λ n. (n + low) / place % 256) above
-    ∙ ap (λ n. n % 256) (mul-add-div_right (power_positive k) (high * 256 ^ m * 256) low)
-    ∙ mul-add-mod_self_right (high * 256 ^ m) 256 (low / place) ∙ sym (byte_at-div k low)
+-- items, and then others
+pub items-add : (i m n : ℕ) (bytes : List ℕ) → items i (m + n) bytes ≡ items i m bytes ++ items (i + m) n bytes
+items-add i zero n bytes =
+    let count : 0 + n ≡ n = omega arith in
+    let place : i ≡ i + 0 = omega arith in
+    ap (λ count. items i count bytes) count ∙ ap (λ i. items i n bytes) place
+items-add i (suc m) n bytes =
+    let count : suc m + n ≡ suc (m + n) = omega arith in
+    let place : suc i + m ≡ i + suc m = omega arith in
+    ap (λ count. items i count bytes) count
+    ∙ ap (λ rest. slice_index bytes i ∷ rest) (items-add (suc i) m n bytes ∙ ap (λ place. items (suc i) m bytes ++ items place n bytes) place)
 
--- the low bytes of a number don't see what stands above them
-low_bytes : (k n high low : ℕ) → k ≤ n → bytes_high_first k (high * 256 ^ n + low) ≡ bytes_high_first k low
-low_bytes zero n high low fits = refl
-low_bytes (suc k) n high low fits =
-    let rest : n - suc k + suc k ≡ n = omega (arith, fits) in
-    let byte : byte_at k (high * 256 ^ n + low) ≡ byte_at k low = subst (λ n. byte_at k (high * 256 ^ n + low) ≡ byte_at k low) rest (byte_at-lower k (n - suc k) high low) in
-    let fewer : k ≤ n = omega (arith, fits) in
-    rw (byte, low_bytes k n high low fewer) refl
+-- the first items of two lists
+pub items-front : (n : ℕ) (front back : List ℕ) → length front ≡ n → items 0 n (front ++ back) ≡ front
+items-front zero [] back len = refl
+items-front zero (byte ∷ front) back len = absurd (omega (arith, len))
+items-front (suc n) [] back len = absurd (omega (arith, len))
+items-front (suc n) (byte ∷ front) back len =
+    ap (λ rest. byte ∷ rest) (items-cons 0 n byte (front ++ back) ∙ items-front n front back (omega (arith, len)))
+
+-- lists that agree as far as they are read have the same items,
+pub items-agree : (i n m : ℕ) (one other : List ℕ) → i + n ≤ m → ((k : ℕ) → k < m → slice_index one k ≡ slice_index other k) → items i n one ≡ items i n other
+items-agree i zero m one other within agree = refl
+items-agree i (suc n) m one other within agree =
+    rw (agree i (omega (arith, within)), items-agree (suc i) n m one other (omega (arith, within)) agree) refl
+
+-- and the same numbers
+pub big_from-agree : (i n m : ℕ) (one other : List ℕ) → i + n ≤ m → ((k : ℕ) → k < m → slice_index one k ≡ slice_index other k) → big_from i n one ≡ big_from i n other
+big_from-agree i zero m one other within agree = refl
+big_from-agree i (suc n) m one other within agree =
+    rw (agree i (omega (arith, within)), big_from-agree (suc i) n m one other (omega (arith, within)) agree) refl
+
+pub zeros_are_zero : (n : ℕ) → AllByRecursion (λ (byte : ℕ). byte ≡ 0) (replicate n 0)
+zeros_are_zero zero = tt
+zeros_are_zero (suc n) = (refl, zeros_are_zero n)
+
+pub zeros_from : (n : ℕ) (bytes : List ℕ) → length bytes ≡ n → AllByRecursion (λ (byte : ℕ). byte ≡ 0) bytes → bytes ≡ replicate n 0
+zeros_from zero [] len zeros = refl
+zeros_from zero (byte ∷ bytes) len zeros = absurd (omega (arith, len))
+zeros_from (suc n) [] len zeros = absurd (omega (arith, len))
+zeros_from (suc n) (byte ∷ bytes) len zeros =
+    ap (λ byte. byte ∷ bytes) zeros.0 ∙ ap (λ rest. 0 ∷ rest) (zeros_from n bytes (omega (arith, len)) zeros.1)
 
 -- the bytes of the number that n bytes spell are those bytes
 pub bytes_of_number : (i n : ℕ) (bytes : List ℕ) → ((k : ℕ) → slice_index bytes k < 256) → bytes_high_first n (big_from i n bytes) ≡ items i n bytes

@@ -1,7 +1,7 @@
-pub mod ByteLemmas
 pub mod Entry
 pub mod EntryLemmas
 pub mod Fault
 pub mod Images
+pub mod ByteLemmas
 pub mod ImageLemmas
 pub mod Laws

@@ -1,6 +1,7 @@
 ghost use Rattle.std.specs.Prelude.{◌≡◌, ℕ, ◌*◌, ◌^◌, ◌<◌, ◌≤◌, Bool, List, length, slice_index, IfOk, IfErr, Ok};
 ghost use Rattle.byteorder.specs.Endian.{big_from};
 ghost use Rattle.exh_prefix.specs.declared.prefix.TheConstants.{LIMIT};
+ghost use Rattle.exh_prefix.specs.Version.{first_version};
 ghost use Rattle.exh_notice.specs.declared.entry.Entry.{Entry as EntryValue};
 ghost use Rattle.exh_notice.specs.Images.{kind_byte, right_field, prefix_field, entry_image, IsEntryImage, IsPadded, HasPrefixField, FailsFirst};
 
@@ -15,7 +16,7 @@ impl Entry {
     /// The image of the entry at a prefix, in a ward (exhash profile). It takes no memory.
     pub fn to_image(&self, ward: u8, prefix: Prefix) -> [u8; ENTRY_IMAGE_LEN]
         requires { length prefix < LIMIT }
-        ensures { result ≡ entry_image ward prefix self.now }
+        ensures { result ≡ entry_image first_version ward prefix self.now }
     {
         let mut image = [0; ENTRY_IMAGE_LEN];
         image[0] = ward;
@@ -31,9 +32,9 @@ impl Entry {
     /// the first test that the bytes fail, of their kind, their padding and their prefix. It takes no
     /// memory.
     pub fn from_image(image: &[u8; ENTRY_IMAGE_LEN]) -> Result<(u8, Prefix, Entry), NoticeFault>
-        ensures ok { IfOk result (λ read. IsEntryImage read.0 read.1 read.2 image.now) }
-        ensures every { (ward : ℕ) (prefix : List Bool) (entry : EntryValue) → IsEntryImage ward prefix entry image.now → result ≡ Ok (ward, prefix, entry) }
-        ensures err { IfErr result (λ fault. FailsFirst fault image.now) }
+        ensures ok { IfOk result (λ read. IsEntryImage first_version read.0 read.1 read.2 image.now) }
+        ensures every { (ward : ℕ) (prefix : List Bool) (entry : EntryValue) → IsEntryImage first_version ward prefix entry image.now → result ≡ Ok (ward, prefix, entry) }
+        ensures err { IfErr result (λ fault. FailsFirst first_version fault image.now) }
     {
         let kind = read_kind(image)?;
         let prefix = read_prefix(image)?;
@@ -62,7 +63,7 @@ fn right_field(kind: Kind) -> u32
 
 fn prefix_field(prefix: Prefix) -> u16
     requires { length prefix < LIMIT }
-    ensures { result ≡ prefix_field prefix }
+    ensures { result ≡ prefix_field first_version prefix }
 {
     (prefix.low() >> 48) as u16
 }
@@ -71,8 +72,8 @@ fn prefix_field(prefix: Prefix) -> u16
 fn read_kind(image: &[u8; ENTRY_IMAGE_LEN]) -> Result<Kind, NoticeFault>
     ensures byte { IfOk result (λ kind. slice_index image.now 1 ≡ kind_byte kind) }
     ensures right { IfOk result (λ kind. big_from 12 4 image.now ≡ right_field kind) }
-    ensures padded { IfOk result (λ _. IsPadded image.now) }
-    ensures err { IfErr result (λ fault. FailsFirst fault image.now) }
+    ensures padded { IfOk result (λ _. IsPadded first_version image.now) }
+    ensures err { IfErr result (λ fault. FailsFirst first_version fault image.now) }
 {
     let right = BigEndian::read_u32(&image[12..]);
     let kind = match image[1] {
@@ -91,9 +92,9 @@ fn read_kind(image: &[u8; ENTRY_IMAGE_LEN]) -> Result<Kind, NoticeFault>
 fn read_prefix(image: &[u8; ENTRY_IMAGE_LEN]) -> Result<Prefix, NoticeFault>
     ensures shorter { IfOk result (λ prefix. length prefix < LIMIT) }
     ensures len { IfOk result (λ prefix. slice_index image.now 2 ≡ length prefix) }
-    ensures field { IfOk result (λ prefix. big_from 4 2 image.now ≡ prefix_field prefix) }
+    ensures field { IfOk result (λ prefix. big_from 4 2 image.now ≡ prefix_field first_version prefix) }
     ensures fault { IfErr result (λ fault. fault ≡ NoticeFault.Prefix) }
-    ensures err { IfErr result (λ _. ¬ (HasPrefixField image.now)) }
+    ensures err { IfErr result (λ _. ¬ (HasPrefixField first_version image.now)) }
 {
     let len = image[2];
     if len >= LIMIT {

@@ -1,5 +1,6 @@
 ghost use Rattle.std.specs.Prelude.{◌≡◌, ◌<◌, length, IfOk, IfErr, Ok};
 ghost use Rattle.exh_prefix.specs.declared.prefix.TheConstants.{LIMIT};
+ghost use Rattle.exh_prefix.specs.Version.{first_version};
 ghost use Rattle.exh_notice.specs.declared.notice.Notice.{Notice as NoticeValue};
 ghost use Rattle.exh_notice.specs.Images.{notice_image, IsNoticeImage, FailsFirst};
 
@@ -13,7 +14,7 @@ impl Notice {
     /// The image of the notice (exhash profile): its entry's, then its index. It takes no memory.
     pub fn to_image(&self) -> [u8; NOTICE_IMAGE_LEN]
         requires { length self.now.prefix < LIMIT }
-        ensures { result ≡ notice_image self.now }
+        ensures { result ≡ notice_image first_version self.now }
     {
         let mut image = [0; NOTICE_IMAGE_LEN];
         image[..ENTRY_IMAGE_LEN].copy_from_slice(&self.entry().to_image(self.ward, self.prefix));
@@ -24,9 +25,9 @@ impl Notice {
     /// The notice that has this image (exhash profile): a `NoticeFault` as `Entry::from_image` gives
     /// it for the first 16 bytes. It takes no memory.
     pub fn from_image(image: &[u8; NOTICE_IMAGE_LEN]) -> Result<Notice, NoticeFault>
-        ensures ok { IfOk result (λ notice. IsNoticeImage notice image.now) }
-        ensures every { (notice : NoticeValue) → IsNoticeImage notice image.now → result ≡ Ok notice }
-        ensures err { IfErr result (λ fault. FailsFirst fault image.now) }
+        ensures ok { IfOk result (λ notice. IsNoticeImage first_version notice image.now) }
+        ensures every { (notice : NoticeValue) → IsNoticeImage first_version notice image.now → result ≡ Ok notice }
+        ensures err { IfErr result (λ fault. FailsFirst first_version fault image.now) }
     {
         let (front, back) = image.split_first_chunk::<ENTRY_IMAGE_LEN>().unwrap();
         let (ward, prefix, Entry { number, kind }) = Entry::from_image(front)?;

@@ -1,7 +1,7 @@
 -- Pages: buckets of records, and forwarding pages.
 use Rattle.std.specs.Prelude.{◌≡◌, ⊤, ◌≢◌, ℕ, ◌-◌, ◌^◌, ◌<◌, ◌≤◌, Bool, List, [], ◌∷◌, ◌++◌, length, filter, Some}
 use Rattle.std.specs.List.{AllByRecursion}
-use Rattle.exh_prefix.specs.Prefix.{Begins, begins, low_of, HasPrefix}
+use Rattle.exh_prefix.specs.Prefix.{Begins, begins, low_of, HasPrefixUpTo}
 use Rattle.exh_prefix.specs.declared.prefix.TheConstants.{LIMIT}
 use Rattle.exh_page.specs.declared.page.Page.{Page}
 use Rattle.exh_page.specs.declared.page.Page.TheVariants.{Live, Forward}
@@ -48,7 +48,11 @@ abbrev pub share_of : Bool → Page → List Record
 share_of bit (Live prefix right records) = begun_by (prefix ++ bit ∷ []) records
 share_of bit (Forward low target) = []
 
--- well formed under a keyer's pseudokeys, which is what every page of any file is
+-- well formed under a keyer's pseudokeys, where a prefix has up to `limit` bits
+abbrev pub IsFormedUpTo : ℕ → (List ℕ → ℕ) → Page → Type 0
+IsFormedUpTo limit pseudo (Live prefix right records) = AreRecordsOf pseudo prefix records × (length records ≤ CAP_LIMIT) × (right ≢ Some (2 ^ 32 - 1))
+IsFormedUpTo limit pseudo (Forward low target) = (low ≢ 0) × HasPrefixUpTo limit limit low
+
+-- the same up to LIMIT, which is what every page of any file is
 abbrev pub IsWellFormed : (List ℕ → ℕ) → Page → Type 0
-IsWellFormed pseudo (Live prefix right records) = AreRecordsOf pseudo prefix records × (length records ≤ CAP_LIMIT) × (right ≢ Some (2 ^ 32 - 1))
-IsWellFormed pseudo (Forward low target) = (low ≢ 0) × HasPrefix LIMIT low
+IsWellFormed pseudo page = IsFormedUpTo LIMIT pseudo page

@@ -46,9 +46,12 @@ prefix_cmp = then_cmp (on low_of nat_cmp) (on length nat_cmp)
 abbrev pub AreBuddies : List Bool → List Bool → Type 0
 AreBuddies one other = (parent : List Bool) × (bit : Bool) × (one ≡ parent ++ bit ∷ []) × (other ≡ parent ++ not bit ∷ [])
 
--- the first `len` bits of a number, of which every bit past them is zero
+-- the first `len` bits of a number, at most `limit` of them, of which every bit past them is zero
+abbrev pub HasPrefixUpTo : ℕ → ℕ → ℕ → Type 0
+HasPrefixUpTo limit len bits = (len ≤ limit) × (word_bits bits ≡ take len (word_bits bits) ++ zeros (64 - len))
+
 abbrev pub HasPrefix : ℕ → ℕ → Type 0
-HasPrefix len bits = (len ≤ LIMIT) × (word_bits bits ≡ take len (word_bits bits) ++ zeros (64 - len))
+HasPrefix len bits = HasPrefixUpTo LIMIT len bits
 
 -- the digit of a bit
 abbrev pub bit_digit : Bool → ℕ

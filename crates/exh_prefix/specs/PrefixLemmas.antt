@@ -7,10 +7,10 @@ use Rattle.std.proofs.lemmas.Cmp.{nat_cmp_total, on_total, then_total}
 use Rattle.std.proofs.lemmas.List.{length-append, length-replicate, length-drop, length-take-le, take_at, drop_at, take-append-drop, take-take, append_assoc, take_more, length_push, same_from_push}
 use Rattle.std.proofs.lemmas.Map.Lookups.{CmpEqualImpliesEq, exact_pairs, exact_unsigned}
 use Rattle.std.proofs.lemmas.Nat.{pow-add, pow_pos, mod-mul-add, shl-shr}
-use Rattle.std.proofs.Math.Nat.{pow-suc, zero-mul, mul-le-mul_right, mul-lt-mul_of_pos_right, le-mul_of_pos_right}
+use Rattle.std.proofs.Math.Nat.{mul_assoc, pow-suc, zero-mul, mul-le-mul_right, mul-lt-mul_of_pos_right, le-mul_of_pos_right}
 use Rattle.exh_prefix.specs.declared.prefix.TheConstants.{LIMIT}
 use Rattle.exh_prefix.specs.Bits.{number_of, bits_of, word_bits, lowest_cleared, has_one, without_last_one}
-use Rattle.exh_prefix.specs.Prefix.{zeros, IsFront, Begins, same_bit, is_front, begins, low_of, prefix_cmp, HasPrefix}
+use Rattle.exh_prefix.specs.Prefix.{zeros, IsFront, Begins, same_bit, is_front, begins, low_of, prefix_cmp, HasPrefix, HasPrefixUpTo}
 use Rattle.exh_prefix.specs.BitLemmas.{length-bits_of, number_of-lt, number_of-bits_of, bits_of-number_of, number_of-append, number_of-zeros, same_bits, zeros_from_number, number_of-without_last_one}
 
 last_bit : (bit : Bool) (n w : ℕ) → (n * 2 ^ length (bit ∷ []) + number_of (bit ∷ [])) * w ≡ n * (w * 2) + cond bit w 0
@@ -53,22 +53,43 @@ pub low_of-product : (prefix : List Bool) → low_of prefix ≡ number_of prefix
 unfolding low_of
 low_of-product prefix = rw (number_of-append prefix (zeros (64 - length prefix)), number_of-zeros (64 - length prefix), length-replicate (64 - length prefix) false) (omega arith)
 
--- the first bits of a number that has a prefix spell its low bound
-pub low_of-stored : (len bits : ℕ) → bits < 2 ^ 64 → HasPrefix len bits → low_of (take len (word_bits bits)) ≡ bits
+-- a prefix that stands in the highest bits of a word, and so in its low bound
+pub low_of-places : (prefix : List Bool) (bits : ℕ) → length prefix ≤ bits → bits ≤ 64 → low_of prefix ≡ number_of prefix * 2 ^ (bits - length prefix) * 2 ^ (64 - bits)
+low_of-places prefix bits short word =
+    let places : 64 - length prefix ≡ bits - length prefix + (64 - bits) = omega (arith, short, word) in
+    low_of-product prefix ∙ ap (λ n. number_of prefix * n) (ap (λ n. 2 ^ n) places ∙ pow-add 2 (bits - length prefix) (64 - bits))
+    ∙ sym (mul_assoc (number_of prefix) (2 ^ (bits - length prefix)) (2 ^ (64 - bits)))
+
+-- the first bits of a number that has a prefix spell its low bound, whatever the limit
+pub low_of-up_to : (limit len bits : ℕ) → limit ≤ 64 → bits < 2 ^ 64 → HasPrefixUpTo limit len bits → low_of (take len (word_bits bits)) ≡ bits
 unfolding low_of
-low_of-stored len bits small stored =
-    let within : length (take len (word_bits bits)) ≡ len = length-take-le len (word_bits bits) (omega (arith, stored.0, length-word_bits bits)) in
+low_of-up_to limit len bits word small stored =
+    let within : length (take len (word_bits bits)) ≡ len = length-take-le len (word_bits bits) (omega (arith, word, stored.0, length-word_bits bits)) in
     rw (within, ← stored.1) (number_of-word_bits bits small)
 
+pub low_of-stored : (len bits : ℕ) → bits < 2 ^ 64 → HasPrefix len bits → low_of (take len (word_bits bits)) ≡ bits
+low_of-stored len bits small stored = low_of-up_to LIMIT len bits (omega arith) small stored
+
+pub length-up_to : (limit len bits : ℕ) → limit ≤ 64 → HasPrefixUpTo limit len bits → length (take len (word_bits bits)) ≡ len
+length-up_to limit len bits word stored = length-take-le len (word_bits bits) (omega (arith, word, stored.0, length-word_bits bits))
+
 pub length-stored : (len bits : ℕ) → HasPrefix len bits → length (take len (word_bits bits)) ≡ len
-length-stored len bits stored = length-take-le len (word_bits bits) (omega (arith, stored.0, length-word_bits bits))
+length-stored len bits stored = length-up_to LIMIT len bits (omega arith) stored
+
+pub take-low_of-word : (prefix : List Bool) → length prefix ≤ 64 → take (length prefix) (word_bits (low_of prefix)) ≡ prefix
+take-low_of-word prefix short = ap (take (length prefix)) (word_bits-low_of prefix short) ∙ take_at prefix (zeros (64 - length prefix)) (length prefix) refl
 
 pub take-low_of : (prefix : List Bool) → length prefix ≤ LIMIT → take (length prefix) (word_bits (low_of prefix)) ≡ prefix
-take-low_of prefix short = ap (take (length prefix)) (word_bits-low_of prefix (omega arith)) ∙ take_at prefix (zeros (64 - length prefix)) (length prefix) refl
+take-low_of prefix short = take-low_of-word prefix (omega arith)
 
 -- a prefix's low bound has the prefix
+pub up_to-low_of : (limit : ℕ) (prefix : List Bool) → limit ≤ 64 → length prefix ≤ limit → HasPrefixUpTo limit (length prefix) (low_of prefix)
+up_to-low_of limit prefix word short =
+    let whole : length prefix ≤ 64 = omega (arith, word, short) in
+    (short, word_bits-low_of prefix whole ∙ ap (λ front. front ++ zeros (64 - length prefix)) (sym (take-low_of-word prefix whole)))
+
 pub HasPrefix-low_of : (prefix : List Bool) → length prefix ≤ LIMIT → HasPrefix (length prefix) (low_of prefix)
-HasPrefix-low_of prefix short = (short, word_bits-low_of prefix (omega arith) ∙ ap (λ front. front ++ zeros (64 - length prefix)) (sym (take-low_of prefix short)))
+HasPrefix-low_of prefix short = up_to-low_of LIMIT prefix (omega arith) short
 
 -- a prefix's low bound and length are what is stored of it
 pub stored_low : (prefix : List Bool) (len bits : ℕ) → take len (word_bits bits) ≡ prefix → HasPrefix len bits × (bits < 2 ^ 64) → low_of prefix ≡ bits

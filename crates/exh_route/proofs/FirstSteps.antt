@@ -171,9 +171,9 @@ module _ (ward : List Bool) (pages : List Page) (linked : AreLinked ward (bare p
       let bound_is : live_between pages bound pseudokey ≡ live_between pages (low_bound found.0) pseudokey = ap (λ low. live_between pages low pseudokey) low_is in
       (next, bound, is, omega (arith, counted.3, last_is, less, bound_is))
 
-  pub between_few : PagesAreFew → (low pseudokey : ℕ) → live_between pages low pseudokey ≤ 2 ^ 16
+  pub between_few : PagesAreFew → (low pseudokey : ℕ) → live_between pages low pseudokey ≤ 2 ^ LIMIT
   between_few pages_few low pseudokey =
       let few = pages_few ward pages (ward_few ward pages linked) linked in
-      let short : LIMIT - length ward ≤ 16 = omega arith in
-      let most : 2 ^ (LIMIT - length ward) ≤ 2 ^ 16 = pow_mono short in
+      let short : LIMIT - length ward ≤ LIMIT = omega arith in
+      let most : 2 ^ (LIMIT - length ward) ≤ 2 ^ LIMIT = pow_mono short in
       omega (arith, few, most, count_by-le-length (is_live_between low pseudokey) pages)

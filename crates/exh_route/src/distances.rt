@@ -1,4 +1,5 @@
 ghost use Rattle.std.specs.Prelude.{◌≡◌, ◌≤◌, ◌^◌, ℕ, Option, IfOk, IfErr, OnErr};
+ghost use Rattle.exh_prefix.specs.declared.prefix.TheConstants.{LIMIT};
 ghost use Rattle.exh_page.specs.declared.page.Page.{Page};
 ghost use Rattle.exh_legal.specs.Pages.{IsAt};
 ghost use Rattle.exh_ward.specs.SplitStep.{PageRefused};
@@ -92,7 +93,7 @@ fn count_beyond<P: Pages + Drop, K: Keyer>(
     requires live { (number : ℕ) × IsLivePage ward.old.pages number first.low first.right }
     requires sound { IsSoundWard K.pseudokey_of ward.old }
     ensures count { IfOk result (λ count. count ≡ live_between ward.old.pages first.low pseudokey) }
-    ensures few { IfOk result (λ count. count ≤ 2 ^ 16) }
+    ensures few { IfOk result (λ count. count ≤ 2 ^ LIMIT) }
     ensures fault { IfErr result IsStoreFault }
     ensures ok { IfOk result (λ _. ward.new ≡ ward.old) }
     ensures err { OnErr result (IsUnchanged ward.old ward.new) }

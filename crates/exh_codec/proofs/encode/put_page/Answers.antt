@@ -1,3 +1,4 @@
+use Rattle.exh_prefix.specs.Version.{first_version}
 use Rattle.std.proofs.Common.{◌≡◌, ◌++◌, length, map, drop, ℕ, List, sym, ap, ◌∙◌, subst, refl}
 use Rattle.std.specs.List.{flat_map}
 use Rattle.exh_page.specs.declared.record.Record.{Record}
@@ -23,6 +24,6 @@ returns-in-Live-clause-used c =
 
 pub returns-in-Live-clause-in_range : goal.returns-in-Live-clause-in_range
 returns-in-Live-clause-in_range c =
-    subst IsInRange (sym c.in-Live.is)
-    (live_in_range c.in-Live.prefix c.in-Live.right c.in-Live.records c.of.result (c.of.ensures.head ∙ ap head_of c.in-Live.is) c.of.ensures.prefix c.of.ensures.link
+    subst (IsInRange first_version) (sym c.in-Live.is)
+    (live_in_range first_version c.in-Live.prefix c.in-Live.right c.in-Live.records c.of.result (c.of.ensures.head ∙ ap head_of c.in-Live.is) c.of.ensures.prefix c.of.ensures.link
     c.put_records.ensures.sized)

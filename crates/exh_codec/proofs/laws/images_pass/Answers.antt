@@ -4,7 +4,7 @@ use Rattle.exh_codec.proofs.PassedTests.{page_from_tests}
 use Rattle.exh_codec.proofs.laws.images_pass.Goals as goal
 
 pub returns : goal.returns
-returns c pseudo block len fits = (
-  λ (page, image). let parts = image_parts pseudo page block image in (parts.1, passes_content pseudo page block parts.0),
-  λ passed. page_from_tests pseudo block len fits passed,
+returns c version fits pseudo block len small = (
+  λ (page, image). let parts = image_parts version pseudo page block image in (parts.1, passes_content version fits pseudo page block parts.0),
+  λ passed. page_from_tests version fits pseudo block len small passed,
 )

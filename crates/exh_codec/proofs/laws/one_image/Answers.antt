@@ -4,4 +4,4 @@ use Rattle.exh_codec.specs.PageImage.{content_of}
 use Rattle.exh_codec.proofs.laws.one_image.Goals as goal
 
 pub returns : goal.returns
-returns c pseudo page valid = (sealed (content_of page), record { image = record { valid = valid; whole = refl }; only = λ other image. image.whole })
+returns c version pseudo page valid = (sealed (content_of page), record { image = record { valid = valid; whole = refl }; only = λ other image. image.whole })

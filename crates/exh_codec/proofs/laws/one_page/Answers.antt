@@ -3,4 +3,4 @@ use Rattle.exh_codec.proofs.TestsPassed.{one_page_laid}
 use Rattle.exh_codec.proofs.laws.one_page.Goals as goal
 
 pub returns : goal.returns
-returns c pseudo block one other first second = one_page_laid pseudo block one other (image_parts pseudo one block first).0 (image_parts pseudo other block second).0
+returns c version fits pseudo block one other first second = one_page_laid version fits pseudo block one other (image_parts version pseudo one block first).0 (image_parts version pseudo other block second).0

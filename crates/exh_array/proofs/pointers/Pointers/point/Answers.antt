@@ -2,6 +2,7 @@ use Rattle.std.proofs.Common.{◌≡◌, ℕ, ◌+◌, ◌-◌, ◌*◌, ◌%◌
 use Rattle.std.proofs.Math.ListN.{set}
 use Rattle.std.proofs.Math.Pow.{pow_mono}
 use Rattle.exh_prefix.specs.Prefix.{low_of}
+use Rattle.exh_prefix.specs.declared.prefix.TheConstants.{LIMIT}
 use Rattle.exh_table.specs.Directory.{leading}
 use Rattle.exh_array.specs.Pointers.{PointerArray, pointer_to}
 use Rattle.exh_array.specs.Within.{IsKept}
@@ -15,15 +16,15 @@ record IsRange (array : PointerArray) (prefix : List Bool) (from to : ℕ) : Typ
   within : to ≤ length array.pointers
   deep : array.depth ≤ 64
   full : length array.pointers ≡ 2 ^ array.depth
-  small : to ≤ 65536
+  small : to ≤ 2 ^ LIMIT
 
 -- as they are computed
 range_of : (array : PointerArray) (deepest : ℕ) → IsKept deepest array → (depth len from low to : ℕ) (prefix : List Bool) → depth ≡ array.depth → len ≡ length prefix → low ≡ low_of prefix → from ≡ leading depth low
     → length prefix ≤ array.depth → to ≡ from + 1 * 2 ^ (depth - len) % 18446744073709551616 → IsRange array prefix from to
 range_of array deepest kept depth len from low to prefix depth_is len_is low_is from_is short to_is =
-    let few : array.depth - length prefix ≤ 16 = omega (arith, kept.limit) in
-    let most : 2 ^ (array.depth - length prefix) ≤ 2 ^ 16 = pow_mono few in
-    let whole : 2 ^ array.depth ≤ 2 ^ 16 = pow_mono kept.limit in
+    let few : array.depth - length prefix ≤ LIMIT = omega (arith, kept.limit) in
+    let most : 2 ^ (array.depth - length prefix) ≤ 2 ^ LIMIT = pow_mono few in
+    let whole : 2 ^ array.depth ≤ 2 ^ LIMIT = pow_mono kept.limit in
     let same : 2 ^ (depth - len) ≡ room array.depth prefix = ap (λ n. 2 ^ (depth - n)) len_is ∙ ap (λ n. 2 ^ (n - length prefix)) depth_is in
     let first : from ≡ leading array.depth (low_of prefix) = from_is ∙ ap (leading depth) low_is ∙ ap (λ n. leading n (low_of prefix)) depth_is in
     let last : to ≡ from + room array.depth prefix = omega (arith, same) in

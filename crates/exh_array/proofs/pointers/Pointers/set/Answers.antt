@@ -4,6 +4,7 @@ use Rattle.std.proofs.Math.Pow.{pow_mono}
 use Rattle.std.proofs.lemmas.List.{length-set}
 use Rattle.std.proofs.lemmas.List.Elements.{All-set}
 use Rattle.std.proofs.lemmas.Bool.{ne_eqb}
+use Rattle.exh_prefix.specs.declared.prefix.TheConstants.{LIMIT}
 use Rattle.exh_array.specs.declared.pointer.Pointer.{Pointer}
 use Rattle.exh_array.specs.declared.pointers.Pointers.TheInside.{Inside}
 use Rattle.exh_array.specs.contracts.pointers.Pointers.{the_view}
@@ -13,9 +14,9 @@ use Rattle.exh_array.proofs.Counts.{length-filter_le, length-filter_set}
 use Rattle.exh_array.proofs.pointers.Pointers.set.Goals as goal
 use Rattle.exh_array.proofs.pointers.Pointers.set.Goals.{then-index-self, else-index-self, then-pointer-self, else-pointer-self}
 
-few : (deepest : ℕ) (array : PointerArray) → IsKept deepest array → deepest ≤ 65536
+few : (deepest : ℕ) (array : PointerArray) → IsKept deepest array → deepest ≤ 2 ^ LIMIT
 few deepest array kept =
-    let most : 2 ^ array.depth ≤ 2 ^ 16 = pow_mono (kept.limit) in
+    let most : 2 ^ array.depth ≤ 2 ^ LIMIT = pow_mono (kept.limit) in
     omega (arith, kept.counted, kept.full, length-filter_le (is_deep array.depth) array.pointers)
 
 -- 1 for a pointer to a leaf of that length, else 0

@@ -1,0 +1,19 @@
+-- Versions of the page file, in which a prefix may have other lengths and stands in other numbers of bytes.
+use Rattle.std.specs.Prelude.{ℕ, ◌*◌, ◌-◌, ◌^◌, ◌≤◌}
+
+-- the greatest length of a prefix, and how many bytes a prefix or low bound has in an image
+pub record Version : Type 0 where
+  pub limit : ℕ
+  pub bytes : ℕ
+
+abbrev pub first_version : Version
+first_version = record { limit = 16; bytes = 2 }
+
+-- the bytes hold every prefix, and there is room for them in an image
+pub record Fits (room : ℕ) (version : Version) : Type 0 where
+  pub limit : version.limit ≤ 8 * version.bytes
+  pub bytes : version.bytes ≤ room
+
+-- the low bound whose highest bits are those of such bytes: these bits, then zeros to 64
+abbrev pub field_low : Version → ℕ → ℕ
+field_low version field = field * 2 ^ (64 - 8 * version.bytes)
