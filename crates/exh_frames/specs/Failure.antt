@@ -1,5 +1,6 @@
 -- The one failure of a store that fails on purpose.
-use Rattle.std.specs.Prelude.{◌≡◌, ℕ, zero, suc, Option, Some, None}
+use Rattle.std.specs.Prelude.{◌≡◌, ℕ, zero, suc, List, Option, Some, None}
+use Rattle.exh_page.specs.declared.page.Page.{Page}
 use Rattle.exh_frames.specs.declared.failing_pages.Failure.{Failure}
 use Rattle.exh_frames.specs.declared.failing_pages.Failure.TheVariants.{After, Past, Never}
 use Rattle.exh_frames.specs.declared.pages_call.PagesCall.{PagesCall}
@@ -31,3 +32,8 @@ abbrev pub failure_count : Failure → ℕ
 failure_count (After before) = 0
 failure_count (Past failed) = 1
 failure_count Never = 0
+
+-- what is seen of the store
+pub record FailingStore : Type 0 where
+  pub pages : List Page
+  pub failure : Failure

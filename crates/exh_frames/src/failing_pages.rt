@@ -4,6 +4,7 @@ ghost use Rattle.exh_frames.specs.PageStore.{CountsFaults};
 
 use crate::{Pages, PagesCall, PagesFault, PlainPages};
 use exh_page::{Key, Page, PageNo, Record, Value};
+use std::marker::Model;
 
 /// Pages in memory of which one call fails, for tests of what stands on a store (exhash profile).
 #[derive(Drop)]
@@ -23,13 +24,20 @@ enum Failure {
     Never,
 }
 
+impl Model for FailingPages {
+    ghost use Rattle.exh_frames.specs.Failure.{FailingStore};
+
+    ghost Value = { FailingStore };
+
+    ghost view = { λ store. record { pages = store.inner; failure = store.failure } };
+}
+
 impl FailingPages {
     /// The store, of which the `at`-th call (1, 2, ..) of those that answer a `Result` will answer a
     /// page fault, change nothing and count one failure more, whichever call it is; 0 fails none. It
     /// takes no memory.
     pub fn new(inner: PlainPages, at: u64) -> FailingPages
-        ensures pages { ⟦<FailingPages as Pages>⟧.pages result ≡ inner }
-        ensures failures { ⟦<FailingPages as Pages>⟧.failures result ≡ 0 }
+        ensures pages { result.pages ≡ inner }
         ensures failure { result.failure ≡ failure_at at }
     {
         let failure = match at.checked_sub(1) {
@@ -51,7 +59,7 @@ impl FailingPages {
 
     // Begins a call, which fails where it is due.
     fn enter(&mut self, call: PagesCall) -> Result<(), PagesFault>
-        ensures inner { self.new.inner ≡ self.old.inner }
+        ensures pages { self.new.pages ≡ self.old.pages }
         ensures counted { self.new.failure ≡ after_call call self.old.failure }
         ensures due { IsErrOf result PagesFault.Page ↔ IsDue self.old.failure }
         ensures fault { IfErr result (λ fault. fault ≡ PagesFault.Page) }
@@ -80,7 +88,7 @@ impl Pages for FailingPages {
     ghost use Rattle.exh_frames.specs.PageStore.{IfPage, LeavesBehind, TakesTheSame};
     ghost use Rattle.exh_frames.specs.contracts.failing_pages.FailingPages.{the_row};
 
-    ghost pages = { λ store. store.inner };
+    ghost pages = { λ store. store.pages };
 
     ghost takes = { λ _ _. ⊤ };
 
@@ -95,9 +103,9 @@ impl Pages for FailingPages {
     }
 
     fn get(&mut self, number: PageNo) -> Result<Page, PagesFault>
-        requires { number < length self.old.inner }
-        ensures page { IfOk result (λ page. slice_get self.old.inner number ≡ Some page) }
-        ensures pages { self.new.inner ≡ self.old.inner }
+        requires { number < length self.old.pages }
+        ensures page { IfOk result (λ page. slice_get self.old.pages number ≡ Some page) }
+        ensures pages { self.new.pages ≡ self.old.pages }
         ensures failures { CountsFaults result (failure_count self.old.failure) (failure_count self.new.failure) }
         ensures due { IsErrOf result PagesFault.Page ↔ IsDue self.old.failure }
         ensures counted { self.new.failure ≡ after_call PagesCall.Get self.old.failure }
@@ -107,9 +115,9 @@ impl Pages for FailingPages {
     }
 
     fn lend(&mut self, number: PageNo) -> Result<&Page, PagesFault>
-        requires { number < length self.old.inner }
-        ensures page { IfOk result (λ page. slice_get self.old.inner number ≡ Some page.now) }
-        ensures* store { sem 𝓛 (LeavesBehind the_row self.entry (λ left. (left.inner ≡ self.old.inner) × CountsFaults result (failure_count self.old.failure) (failure_count left.failure) × TakesTheSame (λ _ _. ⊤) self.old left × (left.failure ≡ after_call PagesCall.Lend self.old.failure))) }
+        requires { number < length self.old.pages }
+        ensures page { IfOk result (λ page. slice_get self.old.pages number ≡ Some page.now) }
+        ensures* store { sem 𝓛 (LeavesBehind the_row self.entry (λ left. (left.pages ≡ self.old.pages) × CountsFaults result (failure_count self.old.failure) (failure_count left.failure) × TakesTheSame (λ _ _. ⊤) self.old left × (left.failure ≡ after_call PagesCall.Lend self.old.failure))) }
         ensures due { IsErrOf result PagesFault.Page ↔ IsDue self.old.failure }
     {
         self.enter(PagesCall::Lend)?;
@@ -117,11 +125,11 @@ impl Pages for FailingPages {
     }
 
     fn put(&mut self, number: PageNo, item: Record) -> Result<Option<Value>, PagesFault>
-        requires there { number < length self.old.inner }
-        requires live { IfPage self.old.inner number IsLive }
-        ensures old { IfOk result (λ old. IfPage self.old.inner number (λ page. old ≡ value_at (place_of item) (records_of page))) }
-        ensures ok { OnOk result (IfPage self.old.inner number (λ page. self.new.inner ≡ slice_set self.old.inner number (with_records (with_record item (records_of page)) page))) }
-        ensures err { OnErr result (self.new.inner ≡ self.old.inner) }
+        requires there { number < length self.old.pages }
+        requires live { IfPage self.old.pages number IsLive }
+        ensures old { IfOk result (λ old. IfPage self.old.pages number (λ page. old ≡ value_at (place_of item) (records_of page))) }
+        ensures ok { OnOk result (IfPage self.old.pages number (λ page. self.new.pages ≡ slice_set self.old.pages number (with_records (with_record item (records_of page)) page))) }
+        ensures err { OnErr result (self.new.pages ≡ self.old.pages) }
         ensures failures { CountsFaults result (failure_count self.old.failure) (failure_count self.new.failure) }
         ensures due { IsErrOf result PagesFault.Page ↔ IsDue self.old.failure }
         ensures counted { self.new.failure ≡ after_call PagesCall.Put self.old.failure }
@@ -136,11 +144,11 @@ impl Pages for FailingPages {
         pseudokey: u64,
         key: &Key,
     ) -> Result<Option<Value>, PagesFault>
-        requires there { number < length self.old.inner }
-        requires live { IfPage self.old.inner number IsLive }
-        ensures old { IfOk result (λ old. IfPage self.old.inner number (λ page. old ≡ value_at (pseudokey, key.now) (records_of page))) }
-        ensures ok { OnOk result (IfPage self.old.inner number (λ page. self.new.inner ≡ slice_set self.old.inner number (with_records (without_place (pseudokey, key.now) (records_of page)) page))) }
-        ensures err { OnErr result (self.new.inner ≡ self.old.inner) }
+        requires there { number < length self.old.pages }
+        requires live { IfPage self.old.pages number IsLive }
+        ensures old { IfOk result (λ old. IfPage self.old.pages number (λ page. old ≡ value_at (pseudokey, key.now) (records_of page))) }
+        ensures ok { OnOk result (IfPage self.old.pages number (λ page. self.new.pages ≡ slice_set self.old.pages number (with_records (without_place (pseudokey, key.now) (records_of page)) page))) }
+        ensures err { OnErr result (self.new.pages ≡ self.old.pages) }
         ensures failures { CountsFaults result (failure_count self.old.failure) (failure_count self.new.failure) }
         ensures due { IsErrOf result PagesFault.Page ↔ IsDue self.old.failure }
         ensures counted { self.new.failure ≡ after_call PagesCall.Remove self.old.failure }
@@ -150,9 +158,9 @@ impl Pages for FailingPages {
     }
 
     fn set(&mut self, number: PageNo, page: Page) -> Result<(), PagesFault>
-        requires { number < length self.old.inner }
-        ensures ok { OnOk result (self.new.inner ≡ slice_set self.old.inner number page) }
-        ensures err { OnErr result (self.new.inner ≡ self.old.inner) }
+        requires { number < length self.old.pages }
+        ensures ok { OnOk result (self.new.pages ≡ slice_set self.old.pages number page) }
+        ensures err { OnErr result (self.new.pages ≡ self.old.pages) }
         ensures failures { CountsFaults result (failure_count self.old.failure) (failure_count self.new.failure) }
         ensures due { IsErrOf result PagesFault.Page ↔ IsDue self.old.failure }
         ensures counted { self.new.failure ≡ after_call PagesCall.Set self.old.failure }
@@ -168,11 +176,11 @@ impl Pages for FailingPages {
         other: PageNo,
         twin: Page,
     ) -> Result<(), PagesFault>
-        requires there { number < length self.old.inner }
-        requires other_there { other < length self.old.inner }
+        requires there { number < length self.old.pages }
+        requires other_there { other < length self.old.pages }
         requires apart { number ≢ other }
-        ensures ok { OnOk result (self.new.inner ≡ slice_set (slice_set self.old.inner number page) other twin) }
-        ensures err { OnErr result (self.new.inner ≡ self.old.inner) }
+        ensures ok { OnOk result (self.new.pages ≡ slice_set (slice_set self.old.pages number page) other twin) }
+        ensures err { OnErr result (self.new.pages ≡ self.old.pages) }
         ensures failures { CountsFaults result (failure_count self.old.failure) (failure_count self.new.failure) }
         ensures due { IsErrOf result PagesFault.Page ↔ IsDue self.old.failure }
         ensures counted { self.new.failure ≡ after_call PagesCall.SetTwo self.old.failure }
@@ -182,10 +190,10 @@ impl Pages for FailingPages {
     }
 
     fn grow_and_set(&mut self, new: Page, number: PageNo, page: Page) -> Result<(), PagesFault>
-        requires there { number < length self.old.inner }
-        requires room { length self.old.inner < 2 ^ 32 - 1 }
-        ensures ok { OnOk result (self.new.inner ≡ slice_set self.old.inner number page ++ new ∷ []) }
-        ensures err { OnErr result (self.new.inner ≡ self.old.inner) }
+        requires there { number < length self.old.pages }
+        requires room { length self.old.pages < 2 ^ 32 - 1 }
+        ensures ok { OnOk result (self.new.pages ≡ slice_set self.old.pages number page ++ new ∷ []) }
+        ensures err { OnErr result (self.new.pages ≡ self.old.pages) }
         ensures failures { CountsFaults result (failure_count self.old.failure) (failure_count self.new.failure) }
         ensures due { IsErrOf result PagesFault.Page ↔ IsDue self.old.failure }
         ensures counted { self.new.failure ≡ after_call PagesCall.GrowAndSet self.old.failure }

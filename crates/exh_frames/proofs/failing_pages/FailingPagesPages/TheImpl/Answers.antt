@@ -1,11 +1,11 @@
 -- What a lend leaves by its own clause is what the trait asks, and more.
-use mathlib.Core.List.{List, [], ◌∷◌}
+use mathlib.Core.List.{[], ◌∷◌}
 use mathlib.Core.Option.{Option}
 use seplogic.Ra.Ura.{Ura}
 use base.Stored.{Gv}
 use base.Fml.{GName}
 use base.Logic.{SProp, ent, ex_e, ex_i, id⊢, mono_r, sep, via, fst∗}
-use contract.Monad.{fact, fact_i}
+use contract.Monad.{fact_i}
 use types.Logic.{Logic, sem}
 use denote.Follow.{follows_by, such_by}
 use denote.Triple.Clauses.{AtExit}
