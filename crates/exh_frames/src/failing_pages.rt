@@ -1,82 +1,140 @@
-use crate::{Pages, PagesFault, PlainPages};
+ghost use Rattle.std.specs.Prelude.{◌≡◌, ◌↔◌, IsErrOf, IfErr};
+ghost use Rattle.exh_frames.specs.Failure.{IsDue, after_call, failed_call, failure_at, failure_count};
+ghost use Rattle.exh_frames.specs.PageStore.{CountsFaults};
+
+use crate::{Pages, PagesCall, PagesFault, PlainPages};
 use exh_page::{Key, Page, PageNo, Record, Value};
+use std::marker::Model;
 
 /// Pages in memory of which one call fails, for tests of what stands on a store (exhash profile).
 #[derive(Drop)]
 pub struct FailingPages {
     inner: PlainPages,
-    /// How many calls are left until the one that fails, itself among them; 0 where none will.
-    left: u64,
-    failures: u64,
+    failure: Failure,
+}
+
+// The one failure of a store.
+#[derive(Clone, Copy)]
+enum Failure {
+    /// It comes after so many calls.
+    After(u64),
+    /// This call failed.
+    Past(PagesCall),
+    /// None comes.
+    Never,
+}
+
+impl Model for FailingPages {
+    ghost use Rattle.exh_frames.specs.Failure.{FailingStore};
+
+    ghost Value = { FailingStore };
+
+    ghost view = { λ store. record { pages = store.inner; failure = store.failure } };
 }
 
 impl FailingPages {
-    ghost use Rattle.std.specs.Prelude.{◌≡◌, ◌-◌, ◌^◌, ◌<◌, ◌↔◌, IsErr};
-    ghost use Rattle.exh_frames.specs.PageStore.{CountsFaults};
-
     /// The store, of which the `at`-th call (1, 2, ..) of those that answer a `Result` will answer a
-    /// page fault, change nothing and count one failure more; 0 fails none. A count at its greatest
-    /// value never fails. It takes no memory.
+    /// page fault, change nothing and count one failure more, whichever call it is; 0 fails none. It
+    /// takes no memory.
     pub fn new(inner: PlainPages, at: u64) -> FailingPages
-        ensures pages { ⟦<FailingPages as Pages>⟧.pages result ≡ inner }
-        ensures failures { ⟦<FailingPages as Pages>⟧.failures result ≡ 0 }
-        ensures left { result.left ≡ at }
+        ensures pages { result.pages ≡ inner }
+        ensures failure { result.failure ≡ failure_at at }
     {
-        FailingPages {
-            inner,
-            left: at,
-            failures: 0,
+        let failure = match at.checked_sub(1) {
+            Some(before) => Failure::After(before),
+            None => Failure::Never,
+        };
+        FailingPages { inner, failure }
+    }
+
+    /// The call that failed, or `None` where none has failed yet.
+    pub fn failed(&self) -> Option<PagesCall>
+        ensures { result ≡ failed_call self.now.failure }
+    {
+        match self.failure {
+            Failure::Past(call) => Some(call),
+            Failure::After(_) | Failure::Never => None,
         }
     }
 
-    // Begins a call, which fails where it is the last of those that are left.
-    fn enter(&mut self) -> Result<(), PagesFault>
-        ensures inner { self.new.inner ≡ self.old.inner }
-        ensures counts { CountsFaults result self.old.failures self.new.failures }
-        ensures left { self.new.left ≡ self.old.left - 1 }
-        ensures last { IsErr result ↔ ((self.old.left ≡ 1) × (self.old.failures < 2 ^ 64 - 1)) }
+    // Begins a call, which fails where it is due.
+    fn enter(&mut self, call: PagesCall) -> Result<(), PagesFault>
+        ensures pages { self.new.pages ≡ self.old.pages }
+        ensures counted { self.new.failure ≡ after_call call self.old.failure }
+        ensures due { IsErrOf result PagesFault.Page ↔ IsDue self.old.failure }
+        ensures fault { IfErr result (λ fault. fault ≡ PagesFault.Page) }
+        ensures failures { CountsFaults result (failure_count self.old.failure) (failure_count self.new.failure) }
     {
-        if self.left == 0 {
-            return Ok(());
+        match self.failure {
+            Failure::After(0) => {
+                self.failure = Failure::Past(call);
+                Err(PagesFault::Page)
+            }
+            Failure::After(before) => {
+                self.failure = Failure::After(before - 1);
+                Ok(())
+            }
+            Failure::Past(_) | Failure::Never => Ok(()),
         }
-        self.left -= 1;
-        if self.left > 0 || self.failures == u64::MAX {
-            return Ok(());
-        }
-        self.failures += 1;
-        Err(PagesFault::Page)
     }
 }
 
 impl Pages for FailingPages {
-    ghost use Rattle.std.specs.Prelude.{⊤};
+    ghost use Rattle.std.specs.Prelude.{⊤, ◌≢◌, ◌<◌, ◌-◌, ◌^◌, slice_get, slice_set, length, Some, IfOk, OnOk, OnErr, ◌++◌, ◌∷◌, []};
+    ghost use Rattle.std.specs.Borrow.{sem};
+    ghost use Rattle.exh_page.specs.Page.{IsLive, records_of, with_records};
+    ghost use Rattle.exh_page.specs.Place.{place_of};
+    ghost use Rattle.exh_page.specs.Records.{value_at, with_record, without_place};
+    ghost use Rattle.exh_frames.specs.PageStore.{IfPage, LeavesBehind, TakesTheSame};
+    ghost use Rattle.exh_frames.specs.contracts.failing_pages.FailingPages.{the_row};
 
-    ghost pages = { λ store. store.inner };
+    ghost pages = { λ store. store.pages };
 
     ghost takes = { λ _ _. ⊤ };
 
-    ghost failures = { λ store. store.failures };
+    ghost failures = { λ store. failure_count store.failure };
 
     fn count(&self) -> PageNo {
         self.inner.count()
     }
 
     fn failures(&self) -> u64 {
-        self.failures
+        u64::from(self.failed().is_some())
     }
 
-    fn get(&mut self, number: PageNo) -> Result<Page, PagesFault> {
-        self.enter()?;
+    fn get(&mut self, number: PageNo) -> Result<Page, PagesFault>
+        requires { number < length self.old.pages }
+        ensures page { IfOk result (λ page. slice_get self.old.pages number ≡ Some page) }
+        ensures pages { self.new.pages ≡ self.old.pages }
+        ensures failures { CountsFaults result (failure_count self.old.failure) (failure_count self.new.failure) }
+        ensures due { IsErrOf result PagesFault.Page ↔ IsDue self.old.failure }
+        ensures counted { self.new.failure ≡ after_call PagesCall.Get self.old.failure }
+    {
+        self.enter(PagesCall::Get)?;
         self.inner.get(number)
     }
 
-    fn lend(&mut self, number: PageNo) -> Result<&Page, PagesFault> {
-        self.enter()?;
+    fn lend(&mut self, number: PageNo) -> Result<&Page, PagesFault>
+        requires { number < length self.old.pages }
+        ensures page { IfOk result (λ page. slice_get self.old.pages number ≡ Some page.now) }
+        ensures* store { sem 𝓛 (LeavesBehind the_row self.entry (λ left. (left.pages ≡ self.old.pages) × CountsFaults result (failure_count self.old.failure) (failure_count left.failure) × TakesTheSame (λ _ _. ⊤) self.old left × (left.failure ≡ after_call PagesCall.Lend self.old.failure))) }
+        ensures due { IsErrOf result PagesFault.Page ↔ IsDue self.old.failure }
+    {
+        self.enter(PagesCall::Lend)?;
         self.inner.lend(number)
     }
 
-    fn put(&mut self, number: PageNo, item: Record) -> Result<Option<Value>, PagesFault> {
-        self.enter()?;
+    fn put(&mut self, number: PageNo, item: Record) -> Result<Option<Value>, PagesFault>
+        requires there { number < length self.old.pages }
+        requires live { IfPage self.old.pages number IsLive }
+        ensures old { IfOk result (λ old. IfPage self.old.pages number (λ page. old ≡ value_at (place_of item) (records_of page))) }
+        ensures ok { OnOk result (IfPage self.old.pages number (λ page. self.new.pages ≡ slice_set self.old.pages number (with_records (with_record item (records_of page)) page))) }
+        ensures err { OnErr result (self.new.pages ≡ self.old.pages) }
+        ensures failures { CountsFaults result (failure_count self.old.failure) (failure_count self.new.failure) }
+        ensures due { IsErrOf result PagesFault.Page ↔ IsDue self.old.failure }
+        ensures counted { self.new.failure ≡ after_call PagesCall.Put self.old.failure }
+    {
+        self.enter(PagesCall::Put)?;
         self.inner.put(number, item)
     }
 
@@ -85,13 +143,29 @@ impl Pages for FailingPages {
         number: PageNo,
         pseudokey: u64,
         key: &Key,
-    ) -> Result<Option<Value>, PagesFault> {
-        self.enter()?;
+    ) -> Result<Option<Value>, PagesFault>
+        requires there { number < length self.old.pages }
+        requires live { IfPage self.old.pages number IsLive }
+        ensures old { IfOk result (λ old. IfPage self.old.pages number (λ page. old ≡ value_at (pseudokey, key.now) (records_of page))) }
+        ensures ok { OnOk result (IfPage self.old.pages number (λ page. self.new.pages ≡ slice_set self.old.pages number (with_records (without_place (pseudokey, key.now) (records_of page)) page))) }
+        ensures err { OnErr result (self.new.pages ≡ self.old.pages) }
+        ensures failures { CountsFaults result (failure_count self.old.failure) (failure_count self.new.failure) }
+        ensures due { IsErrOf result PagesFault.Page ↔ IsDue self.old.failure }
+        ensures counted { self.new.failure ≡ after_call PagesCall.Remove self.old.failure }
+    {
+        self.enter(PagesCall::Remove)?;
         self.inner.remove(number, pseudokey, key)
     }
 
-    fn set(&mut self, number: PageNo, page: Page) -> Result<(), PagesFault> {
-        self.enter()?;
+    fn set(&mut self, number: PageNo, page: Page) -> Result<(), PagesFault>
+        requires { number < length self.old.pages }
+        ensures ok { OnOk result (self.new.pages ≡ slice_set self.old.pages number page) }
+        ensures err { OnErr result (self.new.pages ≡ self.old.pages) }
+        ensures failures { CountsFaults result (failure_count self.old.failure) (failure_count self.new.failure) }
+        ensures due { IsErrOf result PagesFault.Page ↔ IsDue self.old.failure }
+        ensures counted { self.new.failure ≡ after_call PagesCall.Set self.old.failure }
+    {
+        self.enter(PagesCall::Set)?;
         self.inner.set(number, page)
     }
 
@@ -101,13 +175,30 @@ impl Pages for FailingPages {
         page: Page,
         other: PageNo,
         twin: Page,
-    ) -> Result<(), PagesFault> {
-        self.enter()?;
+    ) -> Result<(), PagesFault>
+        requires there { number < length self.old.pages }
+        requires other_there { other < length self.old.pages }
+        requires apart { number ≢ other }
+        ensures ok { OnOk result (self.new.pages ≡ slice_set (slice_set self.old.pages number page) other twin) }
+        ensures err { OnErr result (self.new.pages ≡ self.old.pages) }
+        ensures failures { CountsFaults result (failure_count self.old.failure) (failure_count self.new.failure) }
+        ensures due { IsErrOf result PagesFault.Page ↔ IsDue self.old.failure }
+        ensures counted { self.new.failure ≡ after_call PagesCall.SetTwo self.old.failure }
+    {
+        self.enter(PagesCall::SetTwo)?;
         self.inner.set_two(number, page, other, twin)
     }
 
-    fn grow_and_set(&mut self, new: Page, number: PageNo, page: Page) -> Result<(), PagesFault> {
-        self.enter()?;
+    fn grow_and_set(&mut self, new: Page, number: PageNo, page: Page) -> Result<(), PagesFault>
+        requires there { number < length self.old.pages }
+        requires room { length self.old.pages < 2 ^ 32 - 1 }
+        ensures ok { OnOk result (self.new.pages ≡ slice_set self.old.pages number page ++ new ∷ []) }
+        ensures err { OnErr result (self.new.pages ≡ self.old.pages) }
+        ensures failures { CountsFaults result (failure_count self.old.failure) (failure_count self.new.failure) }
+        ensures due { IsErrOf result PagesFault.Page ↔ IsDue self.old.failure }
+        ensures counted { self.new.failure ≡ after_call PagesCall.GrowAndSet self.old.failure }
+    {
+        self.enter(PagesCall::GrowAndSet)?;
         self.inner.grow_and_set(new, number, page)
     }
 }

@@ -4,11 +4,13 @@
 
 pub use failing_pages::FailingPages;
 pub use pages::Pages;
+pub use pages_call::PagesCall;
 pub use pages_fault::PagesFault;
 pub use plain_pages::PlainPages;
 
 mod failing_pages;
 mod pages;
+mod pages_call;
 mod pages_fault;
 mod plain_pages;
 #[cfg(test)]

@@ -1,0 +1,18 @@
+/// A call of a store of pages that answers a `Result`.
+#[derive(Clone, Copy, Debug, PartialEq, Eq)]
+pub enum PagesCall {
+    /// `Pages::get`.
+    Get,
+    /// `Pages::lend`.
+    Lend,
+    /// `Pages::put`.
+    Put,
+    /// `Pages::remove`.
+    Remove,
+    /// `Pages::set`.
+    Set,
+    /// `Pages::set_two`.
+    SetTwo,
+    /// `Pages::grow_and_set`.
+    GrowAndSet,
+}
