@@ -1,11 +1,12 @@
--- A table that fits the pages of a ward.
-use Rattle.std.specs.Prelude.{◌≡◌, ◌↔◌, ℕ, ◌<◌, ◌≤◌, ◌%◌, Bool, true, List, [], ◌∷◌, ◌++◌, length, Some}
+-- A table that fits the pages of a ward, and notices that are true of them.
+use Rattle.std.specs.Prelude.{◌≡◌, ◌↔◌, ℕ, ◌<◌, ◌≤◌, ◌%◌, Bool, true, List, [], ◌∷◌, ◌++◌, length, Some, Contains}
 use Rattle.std.specs.FinMap.{get}
 use Rattle.exh_prefix.specs.declared.prefix.TheConstants.{LIMIT}
 use Rattle.exh_prefix.specs.Prefix.{IsFront, low_of}
 use Rattle.exh_notice.specs.declared.entry.Entry.{Entry}
 use Rattle.exh_notice.specs.declared.entry.Kind.{Kind}
 use Rattle.exh_notice.specs.declared.entry.Kind.TheVariants.{Split, Merge}
+use Rattle.exh_notice.specs.declared.notice.Notice.{Notice}
 use Rattle.exh_table.specs.Table.{TableMap}
 use Rattle.exh_table.specs.Walk.{split_at}
 use Rattle.exh_page.specs.declared.page.Page.{Page}
@@ -45,3 +46,11 @@ pub record FitsPages (ward : List Bool) (table : TableMap) (pages : List Page) :
   pub merges : (prefix : List Bool) → IsMergeAt table prefix ↔ ((length prefix < LIMIT) × ((number : ℕ) × IsForwardOf pages (low_of (prefix ++ true ∷ [])) number))
   -- a split's right page is the page of the right child's low bound
   pub rights : (prefix : List Bool) (right : ℕ) → split_at table prefix ≡ Some right → IsPageOf pages (low_of (prefix ++ true ∷ [])) right
+
+-- a notice of the ward that is true of the pages: a split's right page is the page of the right child's low bound
+pub record IsTrueNotice (ward : List Bool) (pages : List Page) (notice : Notice) : Type 0 where
+  pub within : IsFront ward notice.prefix
+  pub right : (right : ℕ) → notice.kind ≡ Split right → IsPageOf pages (low_of (notice.prefix ++ true ∷ [])) right
+
+abbrev pub AreTrueNotices : List Bool → List Page → List Notice → Type 0
+AreTrueNotices ward pages notices = (notice : Notice) → Contains notices notice → IsTrueNotice ward pages notice

@@ -18,7 +18,7 @@ use Rattle.exh_page.specs.Page.{low_bound}
 use Rattle.exh_legal.specs.Pages.{IsAt, map_of, bare, AreLinked}
 use Rattle.exh_legal.specs.Change.{IsForwardOf, IsSplit, IsMerge}
 use Rattle.exh_legal.specs.Growth.{IsLiveAt, IsPageOf, IsLegalSince}
-use Rattle.exh_legal.specs.Fit.{FitsPages}
+use Rattle.exh_legal.specs.Fit.{FitsPages, IsTrueNotice}
 use Rattle.exh_legal.specs.Numbers.{number_at, index_of}
 
 -- ---- changes
@@ -27,10 +27,11 @@ use Rattle.exh_legal.specs.Numbers.{number_at, index_of}
 abbrev pub KeepsPlaces : List Page → List Page → Type 0
 KeepsPlaces pages new = (number : ℕ) (page : Page) → IsAt pages number page → (after : Page) × IsAt new number after × (low_bound after ≡ low_bound page)
 
--- the pages after a change are legal, with its notice among the changes, and hold the same map; the table with the notice fits them
+-- the pages after a change are legal, with its notice among the changes, and hold the same map; the table with the notice fits them, and the notice is true of them
 pub record IsChanged (cap : ℕ) (pseudo : List ℕ → ℕ) (ward : List Bool) (start : TableMap) (changes : List Notice) (table : TableMap) (pages : List Page) (notice : Notice) (new : List Page) : Type 0 where
   pub legal : IsLegalSince cap pseudo ward start (changes ++ notice ∷ []) new
   pub fits : FitsPages ward (table_with table notice) (bare new)
+  pub told : IsTrueNotice ward new notice
   pub map : map_of new ≡ map_of pages
   pub places : KeepsPlaces pages new
   pub index : index_of (table_with table notice) ≡ index_of table + 1

@@ -8,3 +8,4 @@ pub mod Laws
 pub mod LowLemmas
 pub mod BareLemmas
 pub mod MapLemmas
+pub mod NoticeLemmas

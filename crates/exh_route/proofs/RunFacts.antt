@@ -10,7 +10,7 @@ use Rattle.exh_ward.specs.History.{IsHistory, map_left}
 use Rattle.exh_ward.specs.Laws.{AnswersKeepLegal, HistoriesGoOn}
 use Rattle.exh_ward.specs.WardState.{WardState, IsSoundWard}
 use Rattle.exh_ward.specs.declared.journal_entry.JournalEntry.{JournalEntry}
-use Rattle.exh_route.specs.Laws.{IsLegalWard, LeavesMap, IsOneMaps, IsCounted}
+use Rattle.exh_route.specs.Laws.{IsLegalWard, LeavesMap, IsOneMaps}
 use Rattle.exh_route.specs.WardRun.{WardMoment, IsWardRun, answered_by, answered_in, changes_by, changes_in}
 use Rattle.exh_route.proofs.StepFacts.{MapGoes, IsStepped, stepped}
 
@@ -35,13 +35,10 @@ unmoved_by pseudokey_of old new entries goes none = subst (λ entries. MapGoes p
 module _ {K : Type 0} (pseudokey_of : K → List ℕ → ℕ) (words : (keyer : K) → AreOfWords (pseudokey_of keyer)) (splits : SplitsKeepLegal) (merges : MergesKeepLegal) (answers : AnswersKeepLegal) (goes_on : HistoriesGoOn) where
   -- ---- sound wards
 
-  pub run_sound : (start : WardState K) (moments : List (WardMoment K)) (end : WardState K) → IsSoundWard pseudokey_of start → IsCounted start → IsWardRun pseudokey_of start moments end → IsSoundWard pseudokey_of end × IsCounted end
-  run_sound start [] end sound counted run =
-      let P : WardState K → Type 0 = λ ward. IsSoundWard pseudokey_of ward × IsCounted ward in
-      subst P (sym run) (sound, counted)
-  run_sound start (moment ∷ moments) end sound counted run =
-      let next = (stepped pseudokey_of words splits merges answers goes_on start moment.after moment.event run.1).sound sound counted in
-      run_sound moment.after moments end next.0 next.1 run.2
+  pub run_sound : (start : WardState K) (moments : List (WardMoment K)) (end : WardState K) → IsSoundWard pseudokey_of start → IsWardRun pseudokey_of start moments end → IsSoundWard pseudokey_of end
+  run_sound start [] end sound run = subst (IsSoundWard pseudokey_of) (sym run) sound
+  run_sound start (moment ∷ moments) end sound run =
+      run_sound moment.after moments end ((stepped pseudokey_of words splits merges answers goes_on start moment.after moment.event run.1).sound sound) run.2
 
   -- ---- one map
 

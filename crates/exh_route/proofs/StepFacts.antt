@@ -13,6 +13,7 @@ use Rattle.exh_page.specs.Laws.{AreOfWords}
 use Rattle.exh_legal.specs.Fit.{FitsPages}
 use Rattle.exh_legal.specs.Growth.{IsGrown}
 use Rattle.exh_legal.specs.Laws.{IsChanged, SplitsKeepLegal, MergesKeepLegal}
+use Rattle.exh_legal.specs.NoticeLemmas.{one_true_more, places_by_bare, still_true}
 use Rattle.exh_legal.specs.Numbers.{AreNumbered, index_of}
 use Rattle.exh_legal.specs.Pages.{IsLegal, bare, map_of}
 use Rattle.exh_ward.specs.HopTable.{HopOf}
@@ -26,7 +27,7 @@ use Rattle.exh_ward.specs.declared.hop.Hop.{Hop}
 use Rattle.exh_ward.specs.declared.hop.Hop.TheVariants.{Done, Moved, MustSplit, Stray}
 use Rattle.exh_ward.specs.declared.journal_entry.JournalEntry.{JournalEntry}
 use Rattle.exh_ward.specs.declared.reply.Reply.{Reply}
-use Rattle.exh_route.specs.Laws.{IsLegalWard, IsCounted}
+use Rattle.exh_route.specs.Laws.{IsLegalWard}
 use Rattle.exh_route.specs.WardRun.{WardEvent, HopAt, SplitAt, MergeAt, WardStep, answered_by, changes_by}
 use Rattle.exh_route.proofs.AnsweredPages.{bare_answered}
 
@@ -74,7 +75,7 @@ pub record IsStepped {K : Type 0} (pseudokey_of : K → List ℕ → ℕ) (old :
   pub journal : new.journal ≡ old.journal ++ answered_by event
   pub goes : MapGoes pseudokey_of old (answered_by event) new
   pub legal : IsLegalWard pseudokey_of old → IsLegalWard pseudokey_of new
-  pub sound : IsSoundWard pseudokey_of old → IsCounted old → IsSoundWard pseudokey_of new × IsCounted new
+  pub sound : IsSoundWard pseudokey_of old → IsSoundWard pseudokey_of new
 
 module _ {K : Type 0} (pseudokey_of : K → List ℕ → ℕ) (words : (keyer : K) → AreOfWords (pseudokey_of keyer)) (splits : SplitsKeepLegal) (merges : MergesKeepLegal) (answers : AnswersKeepLegal) (goes_on : HistoriesGoOn) (old new : WardState K) where
   -- ---- nothing but the count of failures changed
@@ -86,7 +87,15 @@ module _ {K : Type 0} (pseudokey_of : K → List ℕ → ℕ) (words : (keyer : 
     journal = sym (append-nil old.journal) ∙ ap (λ more. old.journal ++ more) (sym no_answer);
     goes = subst (λ entries. MapGoes pseudokey_of old entries (record old { failures = failures })) (sym no_answer) refl;
     legal = λ legal. legal;
-    sound = λ sound counted. (record { legal = sound.legal; since = sound.since; numbered = sound.numbered; history = sound.history; left = sound.left }, counted);
+    sound = λ sound. record {
+      legal = sound.legal;
+      since = sound.since;
+      numbered = sound.numbered;
+      counted = sound.counted;
+      notices = sound.notices;
+      history = sound.history;
+      left = sound.left;
+    };
   }
 
   unchanged : (event : WardEvent) → answered_by event ≡ [] → changes_by event ≡ [] → IsUnchanged old new → IsStepped pseudokey_of old event new
@@ -102,18 +111,18 @@ module _ {K : Type 0} (pseudokey_of : K → List ℕ → ℕ) (words : (keyer : 
 
   module _ (notice : Notice) (pages : List Page) (event : WardEvent) (no_answer : answered_by event ≡ []) (one_change : changes_by event ≡ notice ∷ []) (ward_is : notice.ward ≡ old.number) (index_is : notice.index ≡ index_of old.table + 1) (same_map : map_of pages ≡ map_of old.pages)
       (changed : IsLegalWard pseudokey_of old → IsChanged old.cap (pseudokey_of old.keyer) (own_prefix old) old.start old.notices old.table old.pages notice pages) where
-    told_sound : IsSoundWard pseudokey_of old → IsCounted old → IsSoundWard pseudokey_of (told notice pages) × IsCounted (told notice pages)
-    told_sound sound counted =
-        let is = changed sound.legal in (
-          record {
-            legal = record { legal = is.legal; fits = is.fits };
-            since = table_since_more old.start old.notices old.table notice sound.since;
-            numbered = numbered_more old.number old.start old.table old.notices notice sound.numbered counted ward_is index_is;
-            history = sound.history;
-            left = same_map ∙ sound.left;
-          },
-          omega (arith, is.index, counted, length-append old.notices (notice ∷ [])),
-        )
+    told_sound : IsSoundWard pseudokey_of old → IsSoundWard pseudokey_of (told notice pages)
+    told_sound sound =
+        let is = changed sound.legal in
+        record {
+          legal = record { legal = is.legal; fits = is.fits };
+          since = table_since_more old.start old.notices old.table notice sound.since;
+          numbered = numbered_more old.number old.start old.table old.notices notice sound.numbered sound.counted ward_is index_is;
+          counted = omega (arith, is.index, sound.counted, length-append old.notices (notice ∷ []));
+          notices = one_true_more (own_prefix old) pages old.notices notice (λ other there. still_true (own_prefix old) old.pages pages is.places other (sound.notices other there)) is.told;
+          history = sound.history;
+          left = same_map ∙ sound.left;
+        }
 
     told_stepped : IsStepped pseudokey_of old event (told notice pages)
     told_stepped = record {
@@ -173,6 +182,8 @@ module _ {K : Type 0} (pseudokey_of : K → List ℕ → ℕ) (words : (keyer : 
           legal = answered_legal sound.legal;
           since = sound.since;
           numbered = sound.numbered;
+          counted = sound.counted;
+          notices = λ notice there. still_true (own_prefix old) old.pages new.pages (places_by_bare old.pages new.pages same_bare) notice (sound.notices notice there);
           history = longer.history;
           left = answered.map ∙ ap (λ m. map_after old.cap (pseudokey_of old.keyer) m call) sound.left ∙ sym longer.left;
         }
@@ -184,7 +195,7 @@ module _ {K : Type 0} (pseudokey_of : K → List ℕ → ℕ) (words : (keyer : 
       journal = refl;
       goes = (hop.4, answered.map);
       legal = answered_legal;
-      sound = λ sound counted. (answered_sound sound, counted);
+      sound = answered_sound;
     }
 
   hop_stepped : (at client : ℕ) (call : Call) (hop : Hop) → HopOf old.cap (pseudokey_of old.keyer) old.pages at call hop → LeavesAfter pseudokey_of old at client call hop new → IsStepped pseudokey_of old (HopAt at client call (Ok hop)) new

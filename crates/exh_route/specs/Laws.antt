@@ -1,11 +1,10 @@
 -- Laws of runs of one ward.
-use Rattle.std.specs.Prelude.{◌≡◌, ℕ, suc, ◌+◌, ◌^◌, ◌<◌, ◌≤◌, Bool, List, [], ◌++◌, length, All}
+use Rattle.std.specs.Prelude.{◌≡◌, ℕ, suc, ◌+◌, ◌^◌, ◌<◌, ◌≤◌, Bool, List, [], ◌++◌, All}
 use Rattle.exh_prefix.specs.declared.prefix.TheConstants.{LIMIT}
 use Rattle.exh_prefix.specs.Prefix.{Begins}
 use Rattle.exh_page.specs.declared.page.Page.{Page}
 use Rattle.exh_page.specs.Page.{low_bound}
 use Rattle.exh_legal.specs.Laws.{KeepsPlaces, IsWard}
-use Rattle.exh_legal.specs.Numbers.{index_of}
 use Rattle.exh_legal.specs.Pages.{IsAt, AreLinked, bare, map_of}
 use Rattle.exh_ward.specs.Call.{key_of}
 use Rattle.exh_ward.specs.History.{IsHistory, map_left}
@@ -47,14 +46,10 @@ abbrev pub RunsAreOneMaps : {K : Type 0} → (K → List ℕ → ℕ) → Type 0
 RunsAreOneMaps {K} pseudokey_of = (start : WardState K) (moments : List (WardMoment K)) (end : WardState K)
     → IsLegalWard pseudokey_of start → IsWardRun pseudokey_of start moments end → IsOneMaps pseudokey_of start moments end
 
--- the table's index goes on from the start table's by one for each notice, as that of each new ward does
-abbrev pub IsCounted : {K : Type 0} → WardState K → Type 0
-IsCounted ward = index_of ward.table ≡ index_of ward.start + length ward.notices
-
 -- and from a sound ward to one
 abbrev pub RunsKeepWardsSound : {K : Type 0} → (K → List ℕ → ℕ) → Type 0
 RunsKeepWardsSound {K} pseudokey_of = (start : WardState K) (moments : List (WardMoment K)) (end : WardState K)
-    → IsSoundWard pseudokey_of start → IsCounted start → IsWardRun pseudokey_of start moments end → IsSoundWard pseudokey_of end × IsCounted end
+    → IsSoundWard pseudokey_of start → IsWardRun pseudokey_of start moments end → IsSoundWard pseudokey_of end
 
 -- ---- pages stay
 

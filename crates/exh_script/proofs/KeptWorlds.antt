@@ -3,7 +3,7 @@ use Rattle.std.proofs.Common.{◌≡◌, ℕ, List, [], ◌∷◌, ◌++◌, map
 use Rattle.std.specs.List.{AllByRecursion}
 use Rattle.exh_keyer.specs.declared.any_keyer.AnyKeyer.{AnyKeyer}
 use Rattle.exh_keyer.specs.Pseudokey.{any_pseudokey}
-use Rattle.exh_route.specs.Laws.{IsCounted, RunsKeepWardsSound}
+use Rattle.exh_route.specs.Laws.{RunsKeepWardsSound}
 use Rattle.exh_text.specs.declared.line_fault.LineFault.{LineFault}
 use Rattle.exh_ward.specs.WardState.{WardState, IsSoundWard}
 use Rattle.exh_world.specs.Laws.{AreWardsSound, StepsHaveOutcomes, StepsKeepWorldsSound}
@@ -27,7 +27,6 @@ pub record WorldLaws : Type 0 where
 
 pub record IsKept (ward_bits : ℕ) (keyer : AnyKeyer) (world : ScriptWorld) : Type 0 where
   pub sound : IsSoundWorld any_pseudokey world
-  pub counted : (number : ℕ) (ward : WardState AnyKeyer) → slice_get world.wards number ≡ Some ward → IsCounted ward
   pub bits_are : world.ward_bits ≡ ward_bits
   pub keyer_is : world.keyer ≡ keyer
 
@@ -44,15 +43,14 @@ module _ (laws : WorldLaws) (ward_bits : ℕ) (keyer : AnyKeyer) where
     pub step_left : AreWardsLeft old (map entry_of (answered_at old event (result_of any_pseudokey old event))) new
     step_left = wards_left old laws.wards is.sound event (result_of any_pseudokey old event) new (laws.outcomes old event is.sound)
 
-    step_wards : (number : ℕ) (ward : WardState AnyKeyer) → slice_get new.wards number ≡ Some ward → IsSoundWard any_pseudokey ward × IsCounted ward
+    step_wards : (number : ℕ) (ward : WardState AnyKeyer) → slice_get new.wards number ≡ Some ward → IsSoundWard any_pseudokey ward
     step_wards number ward there =
         let left = step_left.wards number ward there in
-        left.kept (is.sound.wards number left.before left.there).sound (is.counted number left.before left.there)
+        left.kept (is.sound.wards number left.before left.there).sound
 
     pub step_kept : Kept new
     step_kept = record {
-      sound = laws.keep_sound old event (result_of any_pseudokey old event) new is.sound (laws.outcomes old event is.sound) (λ number ward there. (step_wards number ward there).0);
-      counted = λ number ward there. (step_wards number ward there).1;
+      sound = laws.keep_sound old event (result_of any_pseudokey old event) new is.sound (laws.outcomes old event is.sound) step_wards;
       bits_are = step_left.bits ∙ is.bits_are;
       keyer_is = step_left.keyer ∙ is.keyer_is;
     }

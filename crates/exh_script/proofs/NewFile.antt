@@ -10,7 +10,6 @@ use Rattle.exh_keyer.specs.Pseudokey.{any_pseudokey}
 use Rattle.exh_page.specs.Page.{records_of}
 use Rattle.exh_page.specs.declared.page.TheConstants.{CAP_LIMIT}
 use Rattle.exh_page.specs.declared.record.Record.{Record}
-use Rattle.exh_route.specs.Laws.{IsCounted}
 use Rattle.exh_text.specs.LineFault.{ranged}
 use Rattle.exh_text.specs.Lines.{words_of}
 use Rattle.exh_text.specs.Numbers.{◌>>=◌}
@@ -68,13 +67,9 @@ module _ (file : Config AnyKeyer) where
   pub new_journal : (number : ℕ) (ward : WardState AnyKeyer) → slice_get (new_world file).wards number ≡ Some ward → ward.journal ≡ []
   new_journal number ward is = ap (λ (w : WardState AnyKeyer). w.journal) (mapped_is (new_ward file) (2 ^ file.ward_bits) number ward is).1
 
-  new_counted : (number : ℕ) → IsCounted (new_ward file number)
-  new_counted number = omega arith
-
   pub new_kept : NewWorldsAreSound any_pseudokey → file.ward_bits ≤ WARD_BITS_LIMIT → IsKept file.ward_bits file.keyer (new_world file)
   new_kept law few = record {
     sound = law file few;
-    counted = λ number ward is. subst IsCounted (sym (mapped_is (new_ward file) (2 ^ file.ward_bits) number ward is).1) (new_counted number);
     bits_are = refl;
     keyer_is = refl;
   }

@@ -18,7 +18,7 @@ use Rattle.exh_ward.specs.WardState.{WardState, IsSoundWard}
 use Rattle.exh_ward.specs.declared.hop.Hop.{Hop as HopOutcome}
 use Rattle.exh_ward.specs.declared.hop.Hop.TheVariants.{Done, Moved, MustSplit, Stray}
 use Rattle.exh_ward.specs.declared.journal_entry.JournalEntry.{JournalEntry}
-use Rattle.exh_route.specs.Laws.{IsCounted, RunsKeepWardsSound}
+use Rattle.exh_route.specs.Laws.{RunsKeepWardsSound}
 use Rattle.exh_route.specs.WardRun.{WardEvent, HopAt, SplitAt, MergeAt, WardStep}
 use Rattle.exh_world.specs.InFlight.{request_named}
 use Rattle.exh_world.specs.Run.{answered_by, answered_at, entry_of}
@@ -45,7 +45,7 @@ is_in_ward ward_bits keyer number entry = ward_of ward_bits (any_pseudokey keyer
 pub record IsWardLeft (old : ScriptWorld) (entries : List JournalEntry) (number : ℕ) (ward : WardState AnyKeyer) : Type 0 where
   pub before : WardState AnyKeyer
   pub there : slice_get old.wards number ≡ Some before
-  pub kept : IsSoundWard any_pseudokey before → IsCounted before → IsSoundWard any_pseudokey ward × IsCounted ward
+  pub kept : IsSoundWard any_pseudokey before → IsSoundWard any_pseudokey ward
   pub journal : ward.journal ≡ before.journal ++ filter (is_in_ward old.ward_bits old.keyer number) entries
 
 pub record AreWardsLeft (old : ScriptWorld) (entries : List JournalEntry) (new : ScriptWorld) : Type 0 where
@@ -60,7 +60,7 @@ module _ (old : ScriptWorld) where
   untouched entries number ward there none = record {
     before = ward;
     there = there;
-    kept = λ sound counted. (sound, counted);
+    kept = λ sound. sound;
     journal = sym (append-nil ward.journal) ∙ ap (λ own. ward.journal ++ own) (sym none);
   }
 
@@ -92,8 +92,8 @@ module _ (old : ScriptWorld) where
   -- ---- by a step of the ward
 
   module _ (law : RunsKeepWardsSound any_pseudokey) where
-    by_step : (before left : WardState AnyKeyer) (event : WardEvent) → WardStep any_pseudokey before event left → IsSoundWard any_pseudokey before → IsCounted before → IsSoundWard any_pseudokey left × IsCounted left
-    by_step before left event step sound counted = law before (record { before = before; event = event; after = left } ∷ []) left sound counted (refl, step, refl)
+    by_step : (before left : WardState AnyKeyer) (event : WardEvent) → WardStep any_pseudokey before event left → IsSoundWard any_pseudokey before → IsSoundWard any_pseudokey left
+    by_step before left event step sound = law before (record { before = before; event = event; after = left } ∷ []) left sound (refl, step, refl)
 
     changed_wards : (Changes : WardState AnyKeyer → ℕ → _ → WardState AnyKeyer → Type 0) (event : ℕ → _ → WardEvent)
         → ((before : WardState AnyKeyer) (page : ℕ) (notice : _) (left : WardState AnyKeyer) → Changes before page notice left → WardStep any_pseudokey before (event page notice) left × (left.journal ≡ before.journal))
@@ -141,7 +141,7 @@ module _ (old : ScriptWorld) where
         wards_are : new.wards ≡ slice_set old.wards has.request.ward has.left
         wards_are = ap (λ (w : ScriptWorld). w.wards) has.after ∙ ap (λ n. slice_set old.wards n has.left) has.ward_is
 
-        kept : IsSoundWard any_pseudokey has.before → IsCounted has.before → IsSoundWard any_pseudokey has.left × IsCounted has.left
+        kept : IsSoundWard any_pseudokey has.before → IsSoundWard any_pseudokey has.left
         kept = by_step has.before has.left (HopAt has.request.page has.request.client has.request.call (Ok hop)) (outcome, has.leaves)
 
         abbrev Leaves : List JournalEntry → Type 0

@@ -17,12 +17,13 @@ use Rattle.exh_page.specs.Page.{low_bound}
 use Rattle.exh_legal.specs.Growth.{IsPageOf}
 use Rattle.exh_legal.specs.Laws.{KeepsPlaces}
 use Rattle.exh_legal.specs.MapLemmas.{tie_of}
+use Rattle.exh_legal.specs.NoticeLemmas.{one_true_more, still_true}
 use Rattle.exh_legal.specs.Numbers.{index_of, AreNumbered}
 use Rattle.exh_legal.specs.Pages.{IsAt, bare}
 use Rattle.exh_ward.specs.Kept.{IsKept}
 use Rattle.exh_ward.specs.PageIndex.{IndexMap, IsIndexOf}
 use Rattle.exh_ward.specs.Told.{IsChangedTo, IsNextNotice}
-use Rattle.exh_ward.specs.WardState.{WardState, IsSound}
+use Rattle.exh_ward.specs.WardState.{WardState, IsSound, own_prefix}
 use Rattle.exh_ward.proofs.HalvesSteps.{full_page_of, bare_page_of}
 use Rattle.exh_ward.proofs.KeptSteps.{kept_read}
 use Rattle.exh_ward.proofs.Sights.{same_there}
@@ -182,7 +183,7 @@ module _ {K : Type 0} {pseudo : List ℕ → ℕ} {takes : Page → Type 0} {own
           let same : notice ≡ other = cc in
           let index_is : notice.index ≡ index_of w.table + 1 = ap (λ (n : Notice). n.index) next in (
             sym (ap (λ (n : Notice). n.ward) same) ∙ ap (λ (n : Notice). n.ward) next,
-            omega (arith, ap (λ (n : Notice). n.index) same, index_is, kept.counted, kept.told_is, here),
+            omega (arith, ap (λ (n : Notice). n.index) same, index_is, kept.sound.counted, here),
           )
     ]
 
@@ -191,6 +192,8 @@ module _ {K : Type 0} {pseudo : List ℕ → ℕ} {takes : Page → Type 0} {own
       legal = record { legal = changed.legal; fits = changed.fits };
       since = IsTableSince-push w.start w.notices w.table notice kept.sound.since;
       numbered = numbered_more;
+      counted = omega (arith, kept.sound.counted, changed.index, length-append w.notices (notice ∷ []));
+      notices = one_true_more (own_prefix w) new w.notices notice (λ told there. still_true (own_prefix w) w.pages new changed.places told (kept.sound.notices told there)) changed.told;
       history = kept.sound.history;
       left = changed.map ∙ kept.sound.left;
     }
@@ -211,7 +214,6 @@ module _ {K : Type 0} {pseudo : List ℕ → ℕ} {takes : Page → Type 0} {own
           indexed = indexed;
           told_is = kept.told_is;
           told_few = kept.told_few;
-          counted = omega (arith, kept.counted, changed.index, length-append w.notices (notice ∷ []));
         })))
 
 -- ---- as the ward is seen

@@ -14,6 +14,7 @@ use Rattle.exh_legal.specs.Fit.{FitsPages}
 use Rattle.exh_legal.specs.Laws.{IsWard}
 use Rattle.exh_legal.specs.BareLemmas.{bare_at}
 use Rattle.exh_legal.specs.MapLemmas.{place_of_key}
+use Rattle.exh_legal.specs.NoticeLemmas.{places_by_bare, still_true}
 use Rattle.exh_legal.specs.Pages.{map_of, IsAt, IsRightLink, AreLinked, bare}
 use Rattle.exh_ward.specs.Call.{key_of}
 use Rattle.exh_ward.specs.Kept.{IsKept}
@@ -41,7 +42,15 @@ well_formed pages linked few most at prefix link records left is legal =
 
 module _ {K : Type 0} {pseudo : List ℕ → ℕ} {takes : Page → Type 0} {own : List Bool} {index : IndexMap} {told : ℕ} {w : WardState K} (kept : IsKept pseudo takes own index told w) (takes_now : Page → Type 0) (same_takes : (page : Page) → takes page ↔ takes_now page) where
   sound_counted : (failures : ℕ) → IsSound pseudo (record w { failures = failures })
-  sound_counted failures = record { legal = kept.sound.legal; since = kept.sound.since; numbered = kept.sound.numbered; history = kept.sound.history; left = kept.sound.left }
+  sound_counted failures = record {
+    legal = kept.sound.legal;
+    since = kept.sound.since;
+    numbered = kept.sound.numbered;
+    counted = kept.sound.counted;
+    notices = kept.sound.notices;
+    history = kept.sound.history;
+    left = kept.sound.left;
+  }
 
   kept_counted : (failures : ℕ) → IsKept pseudo takes_now own index told (record w { failures = failures })
   kept_counted failures = record {
@@ -54,7 +63,6 @@ module _ {K : Type 0} {pseudo : List ℕ → ℕ} {takes : Page → Type 0} {own
     indexed = kept.indexed;
     told_is = kept.told_is;
     told_few = kept.told_few;
-    counted = kept.counted;
   }
 
   -- the store was read, or refused to write
@@ -87,6 +95,8 @@ module _ {K : Type 0} {pseudo : List ℕ → ℕ} {takes : Page → Type 0} {own
         legal = answered_ward;
         since = kept.sound.since;
         numbered = kept.sound.numbered;
+        counted = kept.sound.counted;
+        notices = λ notice there. still_true (own_prefix w) w.pages new (places_by_bare w.pages new (sym (same_bare fit home))) notice (kept.sound.notices notice there);
         history = IsHistory-push w.cap pseudo w.base w.journal entry kept.sound.history (replied ∙ ap (λ m. reply_of w.cap pseudo m call) kept.sound.left);
         left = new_map fit home ∙ ap (λ m. map_after w.cap pseudo m call) kept.sound.left ∙ sym (map_left-push w.cap pseudo w.base w.journal entry);
       }
@@ -105,5 +115,4 @@ module _ {K : Type 0} {pseudo : List ℕ → ℕ} {takes : Page → Type 0} {own
             indexed = subst (IsIndexOf index) (sym (same_bare fit home)) kept.indexed;
             told_is = kept.told_is;
             told_few = kept.told_few;
-            counted = kept.counted;
           }))

@@ -23,4 +23,5 @@ pub mod MergeFunction
 pub mod SplitOutcome
 pub mod MergeOutcome
 pub mod Worn
+pub mod NoticesAbove
 pub mod Journals

@@ -70,6 +70,8 @@ module _ {K : Type 0} (law : LonePagesAreLegal) {pseudo : List ℕ → ℕ} {tak
       legal = law cap pseudo (ward_prefix ward_bits number) (omega (arith, bits, length-bits_of ward_bits number));
       since = since_nothing;
       numbered = λ place notice is. cc;
+      counted = omega arith;
+      notices = λ notice there. absurd (omega (arith, there.1));
       history = tt;
       left = refl;
     };
@@ -81,7 +83,6 @@ module _ {K : Type 0} (law : LonePagesAreLegal) {pseudo : List ℕ → ℕ} {tak
     indexed = no_pages _;
     told_is = sym no_index;
     told_few = lit< tt;
-    counted = omega (arith, no_index);
   }
 
   module _ {pages : List Page} {base : KeyMap} {journal : List JournalEntry} {start table : TableMap} {notices : List Notice} {index : IndexMap} {own : List Bool} where

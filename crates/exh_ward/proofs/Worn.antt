@@ -284,6 +284,8 @@ module _ (pseudo : List ℕ → ℕ) (lone : LonePagesAreLegal) (splits : Splits
           legal = subst (λ own. IsWard cap pseudo own (told number) [] (told number) halves) (sym root_is_own) (worn_legal cap);
           since = since;
           numbered = λ place notice is. cc;
+          counted = omega arith;
+          notices = λ notice there. absurd (omega (arith, there.1));
           history = tt;
           left = refl;
         };
@@ -295,7 +297,6 @@ module _ (pseudo : List ℕ → ℕ) (lone : LonePagesAreLegal) (splits : Splits
         indexed = indexed;
         told_is = sym (index_told number);
         told_few = few;
-        counted = omega (arith, index_told number);
       }
 
       module _ {pages : List Page} {base : KeyMap} {journal : List JournalEntry} {start table : TableMap} {notices : List Notice} {index : IndexMap} {own : List Bool} where

@@ -1,5 +1,5 @@
 -- What a ward keeps of its fields.
-use Rattle.std.specs.Prelude.{◌≡◌, ℕ, ◌+◌, ◌<◌, ◌≤◌, ◌^◌, Bool, List, length}
+use Rattle.std.specs.Prelude.{◌≡◌, ℕ, ◌<◌, ◌≤◌, ◌^◌, Bool, List}
 use Rattle.exh_page.specs.declared.page.TheConstants.{CAP_LIMIT}
 use Rattle.exh_page.specs.declared.page.Page.{Page}
 use Rattle.exh_page.specs.Page.{IsWellFormed}
@@ -20,7 +20,6 @@ pub record IsKept {K : Type 0} (pseudo : List ℕ → ℕ) (takes : Page → Typ
   pub takes_all : (page : Page) → IsWellFormed pseudo page → takes page
   -- the index is that of the pages
   pub indexed : IsIndexOf index (bare ward.pages)
-  -- the count of changes that the start table tells of, and that of all
+  -- the count of changes that the start table tells of
   pub told_is : told ≡ index_of ward.start
   pub told_few : told < 2 ^ 62
-  pub counted : told + length ward.notices ≡ index_of ward.table

@@ -1,10 +1,11 @@
 -- A ward as a value, and what its steps leave of it.
-use Rattle.std.specs.Prelude.{◌≡◌, ℕ, Bool, List, ◌++◌, ◌∷◌, []}
+use Rattle.std.specs.Prelude.{◌≡◌, ℕ, ◌+◌, nat_lt, Bool, List, ◌++◌, ◌∷◌, [], length, filter}
 use Rattle.exh_notice.specs.declared.notice.Notice.{Notice}
 use Rattle.exh_table.specs.Table.{TableMap, IsTableSince}
 use Rattle.exh_page.specs.declared.page.Page.{Page}
+use Rattle.exh_legal.specs.Fit.{AreTrueNotices}
 use Rattle.exh_legal.specs.KeyMap.{KeyMap}
-use Rattle.exh_legal.specs.Numbers.{AreNumbered}
+use Rattle.exh_legal.specs.Numbers.{AreNumbered, index_of}
 use Rattle.exh_legal.specs.Laws.{IsWard}
 use Rattle.exh_legal.specs.Pages.{map_of, ward_prefix}
 use Rattle.exh_ward.specs.History.{IsHistory, map_left}
@@ -35,16 +36,23 @@ abbrev pub own_prefix : {K : Type 0} → WardState K → List Bool
 own_prefix ward = ward_prefix ward.ward_bits ward.number
 
 -- the pages are a legal ward for the start table and the notices since, and the table fits them; it is that of the start and the notices;
--- and the pages hold the map that the journal, which is a history, leaves of the base
+-- each notice is true of the pages, and has the count of the changes so far as its index; and the pages hold the map that the journal, which is a
+-- history, leaves of the base
 pub record IsSound {K : Type 0} (pseudo : List ℕ → ℕ) (ward : WardState K) : Type 0 where
   pub legal : IsWard ward.cap pseudo (own_prefix ward) ward.start ward.notices ward.table ward.pages
   pub since : IsTableSince ward.start ward.notices ward.table
   pub numbered : AreNumbered ward.number ward.start ward.notices
+  pub counted : index_of ward.table ≡ index_of ward.start + length ward.notices
+  pub notices : AreTrueNotices (own_prefix ward) ward.pages ward.notices
   pub history : IsHistory ward.cap pseudo ward.base ward.journal
   pub left : map_of ward.pages ≡ map_left ward.cap pseudo ward.base ward.journal
 
 abbrev pub IsSoundWard : {K : Type 0} → (K → List ℕ → ℕ) → WardState K → Type 0
 IsSoundWard pseudokey_of ward = IsSound (pseudokey_of ward.keyer) ward
+
+-- the notices whose index is above a number, in order
+abbrev pub notices_above : ℕ → List Notice → List Notice
+notices_above n notices = filter (λ notice. nat_lt n notice.index) notices
 
 -- ---- hops
 

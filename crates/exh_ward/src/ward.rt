@@ -1,4 +1,4 @@
-ghost use Rattle.std.specs.Prelude.{◌≡◌, ◌≢◌, ◌-◌, ◌^◌, ◌<◌, ◌≤◌, ◌↔◌, ℕ, List, [], ◌∷◌, ◌++◌, true, length, drop, slice_set, IsTrue, IfOk, IfErr, OnOk, OnErr, MatchOption, None};
+ghost use Rattle.std.specs.Prelude.{◌≡◌, ◌≢◌, ◌-◌, ◌^◌, ◌<◌, ◌≤◌, ◌↔◌, ℕ, List, [], ◌∷◌, ◌++◌, true, length, slice_set, IsTrue, IfOk, IfErr, OnOk, OnErr, MatchOption, None};
 ghost use Rattle.std.specs.FinMap as map;
 ghost use Rattle.exh_prefix.specs.Prefix.{Begins, low_of};
 ghost use Rattle.exh_prefix.specs.declared.prefix.TheConstants.{LIMIT};
@@ -17,7 +17,7 @@ ghost use Rattle.exh_ward.specs.Sight.{SightIn};
 ghost use Rattle.exh_ward.specs.SplitStep.{AreHalvesOf, IsSplitStep, PageRefused, SplitRefused};
 ghost use Rattle.exh_ward.specs.Told.{IsChangedTo, IsNextNotice, IsStoreFault, IsTold};
 ghost use Rattle.exh_ward.specs.WardFault.{CountsFailures};
-ghost use Rattle.exh_ward.specs.WardState.{IsSoundWard, IsUnchanged, LeavesAfter, own_prefix};
+ghost use Rattle.exh_ward.specs.WardState.{IsSoundWard, IsUnchanged, LeavesAfter, notices_above, own_prefix};
 ghost use Rattle.exh_ward.specs.declared.ward.TheConstants.{WARD_BITS_LIMIT};
 
 use crate::answer::answer;
@@ -337,14 +337,16 @@ impl<P: Pages + Drop, K: Keyer> Ward<P, K> {
         Ok(())
     }
 
-    /// The pages' notices after the first `n` of those since the start, in order. It takes no
-    /// memory.
-    pub fn notices_after(&self, n: usize) -> &[Notice]
-        ensures notices { result.now ≡ drop n self.now.notices }
+    /// The notices whose index is above `n`, in order: what a caller whose last index is `n` lacks.
+    /// It takes no memory.
+    pub fn notices_after(&self, n: u64) -> &[Notice]
+        ensures notices { result.now ≡ notices_above n self.now.notices }
         ensures sound { IsSoundWard K.pseudokey_of self.now }
     {
-        if n < self.notices.len() {
-            &self.notices[n..]
+        // The start table tells of the changes before the first notice.
+        let known = n.saturating_sub(self.told);
+        if known < self.notices.len() as u64 {
+            &self.notices[known as usize..]
         } else {
             &[]
         }

@@ -11,6 +11,7 @@ use Rattle.exh_page.specs.declared.page.Page.{Page}
 use Rattle.exh_page.specs.declared.page.Page.TheVariants.{Live}
 use Rattle.exh_page.specs.declared.record.Record.{Record}
 use Rattle.exh_page.specs.Page.{begun_by}
+use Rattle.exh_legal.specs.Fit.{IsTrueNotice}
 use Rattle.exh_legal.specs.BareLemmas.{bare_at}
 use Rattle.exh_legal.specs.Laws.{KeepsPlaces}
 use Rattle.exh_legal.specs.Pages.{IsAt, ward_prefix}
@@ -18,7 +19,7 @@ use Rattle.exh_ward.specs.WardState.{WardState, IsSoundWard, own_prefix}
 use Rattle.exh_table.specs.Table.{table_with}
 use Rattle.exh_ward.specs.MergeStep.{IsMergeStep}
 use Rattle.exh_ward.specs.SplitStep.{IsSplitStep}
-use Rattle.exh_world.specs.Sound.{IsTrueNotice, IsWardOf, IsSoundWorld}
+use Rattle.exh_world.specs.Sound.{IsWardOf, IsSoundWorld}
 use Rattle.exh_world.specs.World.{WorldState}
 use Rattle.exh_world.specs.ListLemmas.{drop_push}
 use Rattle.exh_world.specs.RequestLemmas.{all_weaker}

@@ -1,13 +1,14 @@
 -- What becomes of the copies of a world's directory, and of the tables sent between them.
-use Rattle.std.proofs.Common.{◌≡◌, ◌≢◌, ℕ, suc, ◌-◌, ◌^◌, ◌<◌, List, [], ◌∷◌, ◌++◌, length, Some, Result, Ok, Err, inl, inr, refl, sym, ap, ◌∙◌, subst, arith, IsErr, IsErrAnd}
+use Rattle.std.proofs.Common.{◌≡◌, ◌≢◌, ℕ, zero, suc, cond, ◌-◌, ◌^◌, ◌<◌, List, [], ◌∷◌, ◌++◌, length, Some, Result, Ok, Err, inl, inr, refl, sym, ap, ◌∙◌, subst, arith, IsErr, IsErrAnd}
 use Rattle.std.specs.Prelude.{slice_get, slice_set, slice_index_or, Contains, IsSome, is_some, map}
 use Rattle.std.specs.Option.{option_map_or}
+use Rattle.std.proofs.lemmas.Bool.{lt-ltb}
 use Rattle.std.proofs.lemmas.Option.{slice_get_read}
 use Rattle.exh_notice.specs.declared.notice.Notice.{Notice}
 use Rattle.exh_table.specs.Table.{TableMap, table_with}
 use Rattle.exh_table.specs.TableOrder.{table_join}
 use Rattle.exh_legal.specs.Numbers.{index_of}
-use Rattle.exh_ward.specs.WardState.{WardState, IsSoundWard}
+use Rattle.exh_ward.specs.WardState.{WardState, IsSoundWard, notices_above}
 use Rattle.exh_ward.specs.declared.ward_fault.WardFault.TheVariants.{Memory}
 use Rattle.exh_world.specs.Kept.{IsKept, IsPlaceOf, HaveIndexesInTurn, uncounted}
 use Rattle.exh_world.specs.Laws.{StepsKeepWorldsSound}
@@ -25,6 +26,16 @@ use Rattle.exh_world.proofs.UncountedWards.{map_there}
 -- notices of a sound ward
 pub indexes_in_turn : {K : Type 0} (pseudokey_of : K → List ℕ → ℕ) (ward : WardState K) → IsSoundWard pseudokey_of ward → HaveIndexesInTurn ward.notices
 indexes_in_turn pseudokey_of ward sound = (suc (index_of ward.start), λ place notice is. let index = (sound.numbered place notice is).1 in omega (arith, index))
+
+-- all have an index above 0
+above_none : (notices : List Notice) → ((place : ℕ) (notice : Notice) → slice_get notices place ≡ Some notice → 0 < notice.index) → notices_above 0 notices ≡ notices
+above_none [] some = refl
+above_none (notice ∷ notices) some =
+    ap (λ b. cond b (notice ∷ notices_above 0 notices) (notices_above 0 notices)) (lt-ltb 0 notice.index (some zero notice refl))
+    ∙ ap (λ later. notice ∷ later) (above_none notices (λ place other is. some (suc place) other is))
+
+pub all_above : {K : Type 0} (pseudokey_of : K → List ℕ → ℕ) (ward : WardState K) → IsSoundWard pseudokey_of ward → notices_above 0 ward.notices ≡ ward.notices
+all_above pseudokey_of ward sound = above_none ward.notices (λ place notice is. omega (arith, (sound.numbered place notice is).1))
 
 -- an item that is there, as it is lent
 pub lent_there : {A : Type 0} (items : List A) (number at : ℕ) (item : A) → IsPlaceOf items number at → item ≡ slice_index_or items at item → slice_get items at ≡ Some item

@@ -28,3 +28,4 @@ pub mod BeginSteps
 pub mod HopSteps
 pub mod StepFunction
 pub mod StepOutcome
+pub mod MadeAnew

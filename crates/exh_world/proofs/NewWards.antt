@@ -34,6 +34,8 @@ module _ {K : Type 0} (pseudokey_of : K → List ℕ → ℕ) (law : LonePagesAr
     legal = law config.cap (pseudokey_of config.keyer) (ward_prefix config.ward_bits number) (omega (arith, bits, length-bits_of config.ward_bits number));
     since = since_nothing;
     numbered = λ place notice is. cc;
+    counted = omega arith;
+    notices = λ notice there. absurd (omega (arith, there.1));
     history = tt;
     left = refl;
   }

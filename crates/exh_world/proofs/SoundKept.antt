@@ -9,12 +9,13 @@ use Rattle.exh_notice.specs.declared.notice.Notice.{Notice}
 use Rattle.exh_table.specs.Leaves.{PrefixSet, after_kind, leaves_after}
 use Rattle.exh_table.specs.Table.{TableMap}
 use Rattle.exh_page.specs.declared.page.Page.{Page}
+use Rattle.exh_legal.specs.Fit.{IsTrueNotice}
 use Rattle.exh_legal.specs.Growth.{IsPageOf}
 use Rattle.exh_legal.specs.Laws.{KeepsPlaces}
 use Rattle.exh_legal.specs.Pages.{ward_prefix}
 use Rattle.exh_ward.specs.WardState.{WardState}
 use Rattle.exh_world.specs.InFlight.{Requests}
-use Rattle.exh_world.specs.Sound.{IsBelow, LeadsRight, IsTrueNotice, IsWardOf, LeadsRightIn, IsOnTheWay, IsSoundWorld}
+use Rattle.exh_world.specs.Sound.{IsBelow, LeadsRight, IsWardOf, LeadsRightIn, IsOnTheWay, IsSoundWorld}
 use Rattle.exh_world.specs.World.{WorldState}
 use Rattle.exh_world.specs.declared.request.Request.{Request}
 use Rattle.exh_world.specs.ListLemmas.{length_set, set_here, set_else, set_is, one_there}

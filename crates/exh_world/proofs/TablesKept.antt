@@ -14,8 +14,9 @@ use Rattle.exh_table.specs.TableLemmas.{joined, get-table_join, same_from_tie}
 use Rattle.exh_table.specs.TableOrder.{table_join}
 use Rattle.exh_table.specs.Walk.{right_of_kind, right_of}
 use Rattle.exh_page.specs.declared.page.Page.{Page}
+use Rattle.exh_legal.specs.Fit.{IsTrueNotice}
 use Rattle.exh_legal.specs.Growth.{IsPageOf}
-use Rattle.exh_world.specs.Sound.{LeadsRight, IsTrueNotice}
+use Rattle.exh_world.specs.Sound.{LeadsRight}
 
 -- the greater of two entries is one of them
 one_of : (b : Bool) (old new : Entry) → (cond b new old ≡ old) ⊎ (cond b new old ≡ new)

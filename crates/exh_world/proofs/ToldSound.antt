@@ -9,9 +9,10 @@ use Rattle.std.proofs.lemmas.Option.{slice_get_within}
 use Rattle.exh_notice.specs.declared.notice.Notice.{Notice}
 use Rattle.exh_table.specs.Table.{TableMap, table_with}
 use Rattle.exh_table.specs.TableOrder.{table_join}
+use Rattle.exh_legal.specs.Fit.{IsTrueNotice}
 use Rattle.exh_legal.specs.Pages.{ward_prefix}
 use Rattle.exh_ward.specs.WardState.{WardState}
-use Rattle.exh_world.specs.Sound.{IsTrueNotice, IsWardOf, LeadsRightIn, IsOnTheWay, IsSoundWorld}
+use Rattle.exh_world.specs.Sound.{IsWardOf, LeadsRightIn, IsOnTheWay, IsSoundWorld}
 use Rattle.exh_world.specs.World.{WorldState, numbered, issued_in}
 use Rattle.exh_world.specs.declared.request.Request.{Request}
 use Rattle.exh_world.specs.ListLemmas.{numbered_push, numbered_set}

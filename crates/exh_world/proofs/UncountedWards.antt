@@ -32,7 +32,15 @@ module _ {K : Type 0} where
       map-set uncounted wards at new ∙ ap (slice_set (map uncounted wards) at) (ap uncounted is) ∙ set_same (map uncounted wards) at (uncounted old) (map_there uncounted wards at old there)
 
   pub sound_shown : (pseudokey_of : K → List ℕ → ℕ) (ward : WardState K) → IsSoundWard pseudokey_of ward → IsSoundWard pseudokey_of (uncounted ward)
-  sound_shown pseudokey_of ward is = record { legal = is.legal; since = is.since; numbered = is.numbered; history = is.history; left = is.left }
+  sound_shown pseudokey_of ward is = record {
+    legal = is.legal;
+    since = is.since;
+    numbered = is.numbered;
+    counted = is.counted;
+    notices = is.notices;
+    history = is.history;
+    left = is.left;
+  }
 
   answered_shown : (pseudokey_of : K → List ℕ → ℕ) (old : WardState K) (at client : ℕ) (call : Call) (reply : Reply) (new : WardState K) → IsAnswered pseudokey_of old at client call reply new
       → IsAnswered pseudokey_of (uncounted old) at client call reply (uncounted new)

@@ -9,6 +9,7 @@ use Rattle.std.proofs.lemmas.Option.{slice_get_within}
 use Rattle.exh_prefix.specs.Prefix.{IsFront, prefix_cmp, low_of}
 use Rattle.exh_prefix.specs.PrefixLemmas.{front_of_front}
 use Rattle.exh_notice.specs.declared.entry.Entry.{Entry}
+use Rattle.exh_notice.specs.declared.notice.Notice.{Notice}
 use Rattle.exh_table.specs.declared.leaf.Leaf.{Leaf}
 use Rattle.exh_table.specs.Leaves.{ward_leaves}
 use Rattle.exh_table.specs.Table.{TableMap}
@@ -17,16 +18,18 @@ use Rattle.exh_table.specs.TableOrder.{table_join}
 use Rattle.exh_table.specs.Walk.{right_of, split_at, step, walk_on, walk_in}
 use Rattle.exh_page.specs.Page.{low_bound}
 use Rattle.exh_legal.specs.BareLemmas.{at_bare, bare_low}
+use Rattle.exh_legal.specs.Fit.{AreTrueNotices}
 use Rattle.exh_legal.specs.Laws.{IsWard, WalksNameHomes}
 use Rattle.exh_legal.specs.LowLemmas.{own_front, front_shorter, front_of_longer, low_of-small, begins_own_low}
 use Rattle.exh_legal.specs.Pages.{ward_prefix}
-use Rattle.exh_ward.specs.WardState.{WardState, IsSoundWard}
+use Rattle.exh_ward.specs.WardState.{WardState, IsSoundWard, notices_above}
 use Rattle.exh_ward.specs.declared.ward.TheConstants.{WARD_BITS_LIMIT}
 use Rattle.exh_world.specs.declared.config.Config.{Config}
 use Rattle.exh_world.specs.InFlight.{Requests}
 use Rattle.exh_world.specs.Kept.{IsKept, uncounted}
 use Rattle.exh_world.specs.NewWorld.{IsWardFor, AreWardsFor, tables_joined, world_of_wards}
 use Rattle.exh_world.specs.Sound.{LeadsRight, LeadsRightIn, IsWardOf}
+use Rattle.exh_world.proofs.CopySteps.{all_above}
 use Rattle.exh_world.proofs.FreshWorld.{AreSoundWards, made_of, numbered_is, numbered_none}
 use Rattle.exh_world.specs.ListLemmas.{push_is}
 use Rattle.exh_world.proofs.MapsOfWards.{one_front}
@@ -153,7 +156,7 @@ module _ {K : Type 0} (pseudokey_of : K → List ℕ → ℕ) (config : Config K
       number_is = suits.number_is;
       keyer = suits.keyer;
       sound = sound_shown pseudokey_of ward (sound number ward is);
-      notices = suits.notices;
+      notices = subst (λ prefix. AreTrueNotices prefix ward.pages ward.notices) (λ i. ward_prefix (suits.bits i) (suits.number_is i)) (sound number ward is).notices;
       before = length ward.notices;
       noticed = map_there (λ (w : WardState K). length w.notices) wards number ward is;
       first = omega arith;
@@ -192,6 +195,14 @@ module _ {K : Type 0} where
 
   one_taken : (wards : List (WardState K)) (count : ℕ) (ward : WardState K) → count < length wards → ward ≡ get_or wards count ward → take (count + 1) wards ≡ take count wards ++ ward ∷ []
   one_taken wards count ward room read = take_more wards count ward room ∙ ap (λ w. take count wards ++ w ∷ []) (sym read)
+
+  -- one count more: all notices of a ward have an index above 0
+  pub one_more_counted : (pseudokey_of : K → List ℕ → ℕ) (wards : List (WardState K)) (count : ℕ) (ward : WardState K) (notices : List Notice) (counts after : List ℕ) → count < length wards → ward ≡ get_or wards count ward → IsSoundWard pseudokey_of ward
+      → notices ≡ notices_above 0 ward.notices → counts ≡ map (λ (w : WardState K). length w.notices) (take count wards) → after ≡ counts ++ length notices ∷ [] → after ≡ map (λ (w : WardState K). length w.notices) (take (count + 1) wards)
+  one_more_counted pseudokey_of wards count ward notices counts after room read sound all are pushed =
+      let many : WardState K → ℕ = λ w. length w.notices in
+      pushed ∙ ap (λ ns. counts ++ length ns ∷ []) (all ∙ all_above pseudokey_of ward sound) ∙ ap (λ cs. cs ++ length ward.notices ∷ []) are
+      ∙ sym (ap (map many) (one_taken wards count ward room read) ∙ map-append many (take count wards) (ward ∷ []))
 
   -- the first wards are sound, and the table is theirs together
   pub record AreJoined (pseudokey_of : K → List ℕ → ℕ) (wards : List (WardState K)) (count : ℕ) (table : TableMap) : Type 0 where

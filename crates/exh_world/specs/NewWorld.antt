@@ -1,16 +1,14 @@
 -- The world of a new file, and that of given wards.
-use Rattle.std.specs.Prelude.{◌≡◌, ℕ, ◌^◌, List, [], ◌∷◌, length, map, fold, replicate, slice_get, Some, None, Contains}
+use Rattle.std.specs.Prelude.{◌≡◌, ℕ, ◌^◌, List, [], ◌∷◌, length, map, fold, replicate, slice_get, Some, None}
 use Rattle.std.specs.List.{range_with_len}
 use Rattle.std.specs.FinMap.{empty}
-use Rattle.exh_notice.specs.declared.notice.Notice.{Notice}
 use Rattle.exh_table.specs.Table.{TableMap}
 use Rattle.exh_table.specs.TableOrder.{table_join}
 use Rattle.exh_page.specs.declared.page.Page.TheVariants.{Live}
 use Rattle.exh_legal.specs.Pages.{ward_prefix}
 use Rattle.exh_ward.specs.WardState.{WardState}
 use Rattle.exh_world.specs.Kept.{uncounted}
-use Rattle.exh_world.specs.Sound.{IsTrueNotice}
-use Rattle.exh_world.specs.World.{WorldState}
+use Rattle.exh_world.specs.World.{WorldState, changes_in, issued_in}
 use Rattle.exh_world.specs.declared.config.Config.{Config}
 
 -- a ward of a new file: one page, of all its keys, with no record
@@ -45,13 +43,12 @@ new_world config = record {
 
 -- ---- of given wards
 
--- a ward that can be the one of a number: of the world's cap, ward bits and keyer, and with no notice that its pages belie
+-- a ward that can be the one of a number: of the world's cap, ward bits and keyer
 pub record IsWardFor {K : Type 0} (config : Config K) (number : ℕ) (ward : WardState K) : Type 0 where
   pub cap : ward.cap ≡ config.cap
   pub bits : ward.ward_bits ≡ config.ward_bits
   pub number_is : ward.number ≡ number
   pub keyer : ward.keyer ≡ config.keyer
-  pub notices : (notice : Notice) → Contains ward.notices notice → IsTrueNotice (ward_prefix config.ward_bits number) ward.pages notice
 
 -- each at the place of its number
 abbrev pub AreWardsFor : {K : Type 0} → Config K → List (WardState K) → Type 0
@@ -74,3 +71,21 @@ world_of_wards config wards = record {
   sent = [];
   in_flight = [];
 }
+
+-- ---- taken apart and made anew
+
+-- a world's settings, with a count of copies
+abbrev pub settings_of : {K : Type 0} → WorldState K → ℕ → Config K
+settings_of world count = record { cap = world.cap; ward_bits = world.ward_bits; keyer = world.keyer; copies = count }
+
+-- a world of the same wards with so many copies, each at the start table, which is the wards' tables together: their notices all count as issued, and
+-- none as a change; nothing was sent or begun
+pub record IsMadeAnew {K : Type 0} (old : WorldState K) (count : ℕ) (new : WorldState K) : Type 0 where
+  pub settings : settings_of new count ≡ settings_of old count
+  pub wards : new.wards ≡ old.wards
+  pub start : new.start ≡ tables_joined old.wards
+  pub copies : new.copies ≡ replicate count new.start
+  pub issued : (number : ℕ) → issued_in new number ≡ issued_in old number
+  pub changes : (number : ℕ) → changes_in new number ≡ []
+  pub sent : new.sent ≡ []
+  pub in_flight : new.in_flight ≡ []

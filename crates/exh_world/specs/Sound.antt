@@ -3,13 +3,13 @@ use Rattle.std.specs.Prelude.{◌≡◌, ◌↔◌, ℕ, ◌^◌, ◌<◌, ◌�
 use Rattle.std.specs.List.{AllByRecursion}
 use Rattle.exh_prefix.specs.declared.prefix.TheConstants.{LIMIT}
 use Rattle.exh_prefix.specs.Prefix.{IsFront, Begins, low_of}
-use Rattle.exh_notice.specs.declared.entry.Kind.TheVariants.{Split}
 use Rattle.exh_notice.specs.declared.notice.Notice.{Notice}
 use Rattle.exh_table.specs.Leaves.{ward_leaves}
 use Rattle.exh_table.specs.Table.{TableMap}
 use Rattle.exh_table.specs.Walk.{split_at}
 use Rattle.exh_page.specs.declared.page.Page.{Page}
 use Rattle.exh_page.specs.Page.{low_bound}
+use Rattle.exh_legal.specs.Fit.{IsTrueNotice}
 use Rattle.exh_legal.specs.Growth.{IsPageOf}
 use Rattle.exh_legal.specs.Pages.{IsAt, ward_prefix}
 use Rattle.exh_ward.specs.Call.{key_of}
@@ -24,11 +24,6 @@ IsBelow pages number pseudokey = (page : Page) × IsAt pages number page × (low
 -- each split of the table in the ward has the page of its right child's low bound
 abbrev pub LeadsRight : List Bool → List Page → TableMap → Type 0
 LeadsRight ward pages table = (prefix : List Bool) (right : ℕ) → IsFront ward prefix → split_at table prefix ≡ Some right → IsPageOf pages (low_of (prefix ++ true ∷ [])) right
-
--- so does each split that a notice tells of
-pub record IsTrueNotice (ward : List Bool) (pages : List Page) (notice : Notice) : Type 0 where
-  pub within : IsFront ward notice.prefix
-  pub right : (right : ℕ) → notice.kind ≡ Split right → IsPageOf pages (low_of (notice.prefix ++ true ∷ [])) right
 
 -- the ward of a number: sound, and of the world's cap, keyer and ward bits
 pub record IsWardOf {K : Type 0} (pseudokey_of : K → List ℕ → ℕ) (world : WorldState K) (number : ℕ) (ward : WardState K) : Type 0 where

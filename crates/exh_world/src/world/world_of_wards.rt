@@ -1,7 +1,8 @@
 ghost use Rattle.std.specs.Prelude.{◌≡◌, ℕ, ◌^◌, ◌≤◌, length, map, slice_get, Some, IfOk};
 ghost use Rattle.exh_ward.specs.WardState.{WardState, IsSoundWard};
 ghost use Rattle.exh_ward.specs.declared.ward.TheConstants.{WARD_BITS_LIMIT};
-ghost use Rattle.exh_world.specs.NewWorld.{AreWardsFor, tables_joined, world_of_wards};
+ghost use Rattle.exh_world.specs.Kept.{uncounted};
+ghost use Rattle.exh_world.specs.NewWorld.{AreWardsFor, IsMadeAnew, settings_of, tables_joined, world_of_wards};
 ghost use Rattle.exh_world.specs.Sound.{IsSoundWorld};
 
 use super::World;
@@ -48,6 +49,20 @@ impl<P: Pages + Drop, K: Keyer> World<P, K> {
             sent: Vec::new(alloc),
             in_flight: InFlight::new(alloc),
         })
+    }
+
+    /// The world's wards as they stand, in the order of their numbers. Its copies, its sent tables and
+    /// its requests in flight are dropped. A world of these wards (`from_wards`) has the copies that it
+    /// is made with, and each notice of this one can be delivered to them (exhash profile). It takes
+    /// no memory.
+    pub fn into_wards(self) -> Vec<Ward<P, K>>
+        ensures wards { map uncounted result.items ≡ self.wards }
+        ensures bits { self.ward_bits ≤ WARD_BITS_LIMIT }
+        ensures count { length result.items ≡ 2 ^ self.ward_bits }
+        ensures each { (copies : ℕ) → AreWardsFor (settings_of self copies) result.items }
+        ensures anew { (copies : ℕ) → IsMadeAnew self copies (world_of_wards (settings_of self copies) result.items) }
+    {
+        self.wards
     }
 }
 

@@ -1,4 +1,6 @@
-use Rattle.std.proofs.Common.{◌<◌, sym, ap, ◌∙◌, [], arith}
+use Rattle.std.proofs.Common.{◌≡◌, ◌<◌, sym, ap, ◌∙◌, subst, [], arith}
+use Rattle.exh_prefix.specs.Prefix.{IsFront}
+use Rattle.exh_notice.specs.declared.entry.Kind.TheVariants.{Merge, Split}
 use Rattle.exh_page.specs.Page.{low_bound, with_records}
 use Rattle.exh_legal.specs.BareLemmas.{bare_at, at_bare, bare_low}
 use Rattle.exh_legal.specs.Numbers.{number_at}
@@ -14,9 +16,14 @@ returns c cap pseudo ward start changes table pages at prefix new notice words i
     let legal = is.legal.legal in
     let joined = bare_joined words legal merge in
     let later : number_at table notice.prefix < notice.number = omega (arith, numbered, ap (number_at table) at_prefix) in
+    let left = merge_legal words legal merge in
     record {
-      legal = record { legal = merge_legal words legal merge; grown = merge_grown legal.linked joined is.legal.grown notice at_prefix kind };
+      legal = record { legal = left; grown = merge_grown legal.linked joined is.legal.grown notice at_prefix kind };
       fits = merge_fits legal.linked joined is.fits notice at_prefix numbered kind;
+      told = record {
+        within = subst (IsFront ward) (sym at_prefix) (left.linked.within at _ (bare_at new at _ merge.merged)).0;
+        right = λ right is_split. let both : Merge ≡ Split right = sym kind ∙ is_split in cc;
+      };
       map = merge_map words legal merge;
       places = λ number page is_at.
           let kept = stays legal.linked joined number (with_records [] page) (bare_at pages number page is_at) in

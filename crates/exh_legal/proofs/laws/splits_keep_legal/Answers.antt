@@ -1,6 +1,9 @@
-use Rattle.std.proofs.Common.{◌<◌, sym, ap, ◌∙◌, [], arith}
+use Rattle.std.proofs.Common.{◌≡◌, ◌<◌, true, refl, sym, ap, ◌∙◌, subst, [], ◌∷◌, ◌++◌, arith}
+use Rattle.exh_prefix.specs.Prefix.{IsFront, low_of}
+use Rattle.exh_notice.specs.declared.entry.Kind.TheVariants.{Split}
 use Rattle.exh_page.specs.Page.{low_bound, with_records}
 use Rattle.exh_legal.specs.BareLemmas.{bare_at, at_bare, bare_low}
+use Rattle.exh_legal.specs.Growth.{IsPageOf}
 use Rattle.exh_legal.specs.Numbers.{number_at}
 use Rattle.exh_legal.proofs.SplitLinks.{stays}
 use Rattle.exh_legal.proofs.SplitLegal.{bare_parted, split_legal, split_map}
@@ -17,6 +20,13 @@ returns c cap pseudo ward start changes table pages at prefix right new notice i
     record {
       legal = record { legal = split_legal legal split; grown = split_grown legal.linked parted is.legal.grown notice at_prefix kind };
       fits = split_fits legal.linked parted is.fits notice at_prefix numbered kind;
+      told = record {
+        within = subst (IsFront ward) (sym at_prefix) (legal.linked.within at _ (bare_at pages at _ split.there)).0;
+        right = λ other is_split.
+            let both : Split right ≡ Split other = sym kind ∙ is_split in
+            let same : right ≡ other = cc in
+            subst (λ p. IsPageOf new (low_of (p ++ true ∷ [])) other) (sym at_prefix) (subst (IsPageOf new (low_of (prefix ++ true ∷ []))) same (_, split.right_half, refl));
+      };
       map = split_map legal split;
       places = λ number page is_at.
           let kept = stays legal.linked parted number (with_records [] page) (bare_at pages number page is_at) in

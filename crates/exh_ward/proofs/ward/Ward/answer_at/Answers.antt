@@ -17,6 +17,9 @@ answer-requires-clause-taken g c =
 pub invariant_of-self-in_err-reply : goal.invariant_of-self-in_err-reply
 invariant_of-self-in_err-reply g c = kept_read c.self.invariant _ c.answer.ensures.takes _ _ _ c.in_err-reply.ensures.err c.reserve.ensures.entries
 
+pub returns-in_err-reply-clause-sound : goal.returns-in_err-reply-clause-sound
+returns-in_err-reply-clause-sound g c = (invariant_of-self-in_err-reply g c).sound
+
 pub invariant_of-self-2 : goal.invariant_of-self-2
 invariant_of-self-2 g c =
     let pseudokey_of = g.K.Keyer.pseudokey_of in

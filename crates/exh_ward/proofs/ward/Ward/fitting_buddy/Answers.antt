@@ -16,6 +16,9 @@ failed_with (Err other) fault P is refused = subst P (sym is) refused
 pub invariant_of-self : goal.invariant_of-self
 invariant_of-self g c = kept_read c.self.invariant _ c.lend.follows.holds-at-none.2 _ _ _ c.lend.follows.holds-at-none.0 refl
 
+pub returns-in_err-lend-clause-sound : goal.returns-in_err-lend-clause-sound
+returns-in_err-lend-clause-sound g c = (invariant_of-self g c).sound
+
 pub of-requires : goal.of-requires
 of-requires g c = own_in_front c.self.invariant c.args.page c.in_ok-lend.field-0.now c.in_ok-lend.ensures.page
 
@@ -39,6 +42,9 @@ pub invariant_of-self-in_err-lend-2 : goal.invariant_of-self-in_err-lend-2
 invariant_of-self-in_err-lend-2 g c =
     let read = kept_read c.self.invariant _ c.lend.follows.holds-at-none.2 _ _ (g.P.Pages.failures c.lend.follows.lender-at-none) c.lend.follows.holds-at-none.0 refl in
     kept_read read _ c.lend-2.follows.holds-at-none.2 _ _ _ c.lend-2.follows.holds-at-none.0 refl
+
+pub returns-in_err-lend-2-clause-sound : goal.returns-in_err-lend-2-clause-sound
+returns-in_err-lend-2-clause-sound g c = (invariant_of-self-in_err-lend-2 g c).sound
 
 pub test_buddy-requires-clause-few : goal.test_buddy-requires-clause-few
 test_buddy-requires-clause-few g c = few_left c.self.invariant c.args.page c.in_ok-lend.ensures.page c.in_ok-half.ensures.ok

@@ -5,5 +5,8 @@ use Rattle.exh_ward.proofs.ward.Ward.page.Goals as goal
 pub invariant_of-self : goal.invariant_of-self
 invariant_of-self g c = kept_read c.self.invariant _ c.get.ensures.takes _ _ _ c.get.ensures.pages refl
 
+pub returns-in_err-get-clause-sound : goal.returns-in_err-get-clause-sound
+returns-in_err-get-clause-sound g c = (invariant_of-self g c).sound
+
 pub invariant_of-self-2 : goal.invariant_of-self-2
 invariant_of-self-2 g c = kept_read c.self.invariant _ c.get.ensures.takes _ _ _ c.get.ensures.pages refl

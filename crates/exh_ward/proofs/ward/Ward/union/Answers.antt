@@ -16,6 +16,9 @@ get-requires g c =
 pub invariant_of-self : goal.invariant_of-self
 invariant_of-self g c = kept_read c.self.invariant _ c.get.ensures.takes _ _ _ c.get.ensures.pages refl
 
+pub returns-in_err-left-clause-sound : goal.returns-in_err-left-clause-sound
+returns-in_err-left-clause-sound g c = (invariant_of-self g c).sound
+
 pub lend-requires : goal.lend-requires
 lend-requires g c =
     let P : WardState g.row.K.Denot → Type 0 = λ w. FitTogether w c.args.page c.args.parent c.args.right in
@@ -26,6 +29,9 @@ pub invariant_of-self-in_err-lend : goal.invariant_of-self-in_err-lend
 invariant_of-self-in_err-lend g c =
     let read = kept_read c.self.invariant _ c.get.ensures.takes _ _ (g.P.Pages.failures c.get.new.self) c.get.ensures.pages refl in
     kept_read read _ c.lend.follows.holds-at-none.2 _ _ _ c.lend.follows.holds-at-none.0 refl
+
+pub returns-in_err-lend-clause-sound : goal.returns-in_err-lend-clause-sound
+returns-in_err-lend-clause-sound g c = (invariant_of-self-in_err-lend g c).sound
 
 pub union_of-requires-clause-rising : goal.union_of-requires-clause-rising
 union_of-requires-clause-rising g c =

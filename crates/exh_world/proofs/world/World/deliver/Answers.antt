@@ -1,17 +1,19 @@
 use Rattle.std.specs.Prelude.{slice_get}
 use Rattle.std.proofs.lemmas.Option.{slice_get_read}
 use Rattle.exh_ward.specs.WardState.{WardState}
-use Rattle.std.proofs.Common.{◌≡◌, Some, refl, List, sym, subst, Ok}
+use Rattle.std.proofs.Common.{◌≡◌, Some, refl, List, sym, ◌∙◌, subst, Ok}
 use Rattle.exh_table.specs.Table.{TableMap}
 use Rattle.exh_world.specs.Kept.{IsPlaceOf, HaveIndexesInTurn}
 use Rattle.exh_world.specs.declared.event.Event.TheVariants.{Deliver}
 use Rattle.exh_world.specs.declared.outcome.Outcome.TheVariants.{Taken}
-use Rattle.exh_world.proofs.CopySteps.{kept_after, has_taken, refused_same, same_copy, lent_there, indexes_in_turn, no_notice}
+use Rattle.exh_world.proofs.CopySteps.{all_above, kept_after, has_taken, refused_same, same_copy, lent_there, indexes_in_turn, no_notice}
 use Rattle.exh_world.specs.ListLemmas.{within_there}
 use Rattle.exh_world.proofs.world.World.deliver.Goals as goal
 
 pub notice_of-requires : goal.notice_of-requires
-notice_of-requires g c = subst HaveIndexesInTurn (sym c.notices_after.ensures.notices) (indexes_in_turn g.K.Keyer.pseudokey_of c.in-Some-get.teller.now c.notices_after.ensures.sound)
+notice_of-requires g c =
+    let all = c.notices_after.ensures.notices ∙ all_above g.K.Keyer.pseudokey_of c.in-Some-get.teller.now c.notices_after.ensures.sound in
+    subst HaveIndexesInTurn (sym all) (indexes_in_turn g.K.Keyer.pseudokey_of c.in-Some-get.teller.now c.notices_after.ensures.sound)
 
 pub returns-in_default-notice_of-clause-step : goal.returns-in_default-notice_of-clause-step
 returns-in_default-notice_of-clause-step g c =
@@ -19,7 +21,7 @@ returns-in_default-notice_of-clause-step g c =
     let there = subst (λ (wards : List (WardState g.row.K.Denot)). slice_get wards c.args.ward ≡ Some c.in-Some-get.teller.now) c.deref-2.ensures.value (slice_get_read c.deref-2.result.now _ c.args.ward c.in-Some-get.teller.now refl lookup.3.0 lookup.1) in
     let placed = subst (λ (items : List TableMap). IsPlaceOf items c.args.copy c.in-Some.at) c.deref.ensures.value c.in-Some.ensures.some in
     let own = within_there c.self.inside.copies.items c.in-Some.at placed.1 in
-    no_notice c.self.view_is c.self.invariant c.args.copy c.in-Some.at placed own.0 own.1 c.args.ward c.args.index c.self.inside.wards.items refl c.in-Some-get.teller.now there c.notices_after.result.now c.notices_after.ensures.notices c.in_default-notice_of.ensures.none
+    no_notice c.self.view_is c.self.invariant c.args.copy c.in-Some.at placed own.0 own.1 c.args.ward c.args.index c.self.inside.wards.items refl c.in-Some-get.teller.now there c.notices_after.result.now (c.notices_after.ensures.notices ∙ all_above g.K.Keyer.pseudokey_of c.in-Some-get.teller.now c.notices_after.ensures.sound) c.in_default-notice_of.ensures.none
 
 pub returns-in_err-take-clause-step : goal.returns-in_err-take-clause-step
 returns-in_err-take-clause-step g c =
@@ -33,7 +35,7 @@ returns-clause-step g c =
     let own_at = lent_there c.self.inside.copies.items c.args.copy c.in-Some.at c.index_mut.result.now placed c.index_mut.ensures.value in
     let lookup = c.in-Some-get.ensures.lookup in
     let there = subst (λ (wards : List (WardState g.row.K.Denot)). slice_get wards c.args.ward ≡ Some c.in-Some-get.teller.now) c.deref-2.ensures.value (slice_get_read c.deref-2.result.now _ c.args.ward c.in-Some-get.teller.now refl lookup.3.0 lookup.1) in
-    has_taken c.self.view_is c.self.invariant c.args.copy c.in-Some.at placed c.index_mut.result.now own_at c.args.ward c.args.index c.self.inside.wards.items refl c.in-Some-get.teller.now there c.notices_after.result.now c.notices_after.ensures.notices c.in-Some-notice_of.notice c.take.new.self c.in-Some-notice_of.ensures.some.0 c.in-Some-notice_of.ensures.some.1 c.in_ok-take.ensures.ok
+    has_taken c.self.view_is c.self.invariant c.args.copy c.in-Some.at placed c.index_mut.result.now own_at c.args.ward c.args.index c.self.inside.wards.items refl c.in-Some-get.teller.now there c.notices_after.result.now (c.notices_after.ensures.notices ∙ all_above g.K.Keyer.pseudokey_of c.in-Some-get.teller.now c.notices_after.ensures.sound) c.in-Some-notice_of.notice c.take.new.self c.in-Some-notice_of.ensures.some.0 c.in-Some-notice_of.ensures.some.1 c.in_ok-take.ensures.ok
 
 pub invariant_of-self-2 : goal.invariant_of-self-2
 invariant_of-self-2 g c = kept_after c.self.view_is c.self.invariant c.steps_keep_worlds_sound.ensures (Deliver c.args.copy c.args.ward c.args.index) (Ok (Taken c.in-Some-notice_of.notice)) _ (returns-clause-step g c) refl refl c.self.invariant.few_sent
