@@ -7,7 +7,6 @@ ghost use Rattle.exh_join.specs.GreaterLemmas.{greater_laws};
 
 use crate::{Greatest, Join, PairOf, Replica, join_all, joins_are_least, replicas_agree};
 use std::alloc::AllocError;
-use std::test::Fail;
 
 fn greatest(number: u64) -> Greatest {
     Greatest { number }
@@ -62,81 +61,131 @@ fn unlucky_pair(first: u64, second: u64) -> PairOf<Unlucky, Unlucky> {
     }
 }
 
-#[test]
-fn greatest_of_a_slice(rt: HostRuntime) -> Result<(), Fail> {
+// The joins of slices: 5 of 3, 5 and 4, and half by half of pairs.
+fn joins_are_greatest() -> Option<bool> {
     let none: [Greatest; 0] = [];
-    assert_eq!(rt; join_all(&none)?, None);
-    assert_eq!(rt; join_all(&[greatest(7)])?, Some(greatest(7)));
     let values = [greatest(3), greatest(5), greatest(4)];
-    assert_eq!(rt; join_all(&values)?, Some(greatest(5)));
     let pairs = [pair(1, 9), pair(4, 2), pair(3, 3)];
-    assert_eq!(rt; join_all(&pairs)?, Some(pair(4, 9)));
+    Some(
+        join_all(&none).ok()?.is_none()
+            && join_all(&[greatest(7)]).ok()? == Some(greatest(7))
+            && join_all(&values).ok()? == Some(greatest(5))
+            && join_all(&pairs).ok()? == Some(pair(4, 9)),
+    )
+}
+
+#[test]
+fn greatest_of_a_slice(rt: HostRuntime) {
     joins_are_least::<Greatest>();
-    Ok(())
+    assert_eq!(rt; joins_are_greatest(), Some(true));
+}
+
+// Two pairs, and whether the first is at most the second, and the second at most the first.
+const ORDERS: [((u64, u64), (u64, u64), bool, bool); 4] = [
+    ((1, 2), (1, 2), true, true),
+    ((1, 2), (3, 2), true, false),
+    // The second halves stand the other way round.
+    ((1, 9), (4, 2), false, false),
+    ((3, 3), (4, 3), true, false),
+];
+
+fn wrong_order() -> Option<(u64, u64)> {
+    for (one, other, up, down) in ORDERS {
+        let (first, second) = (pair(one.0, one.1), pair(other.0, other.1));
+        if first.at_most(&second) != up || second.at_most(&first) != down {
+            return Some(one);
+        }
+    }
+    None
 }
 
 #[test]
 fn orders_of_numbers_and_pairs(rt: HostRuntime) {
-    assert!(rt; greatest(3).at_most(&greatest(3)));
-    assert!(rt; greatest(3).at_most(&greatest(4)));
-    assert!(rt; !greatest(4).at_most(&greatest(3)));
-    assert!(rt; pair(1, 2).at_most(&pair(1, 2)));
-    assert!(rt; pair(1, 2).at_most(&pair(3, 2)));
-    assert!(rt; !pair(1, 9).at_most(&pair(4, 2)), "the second halves");
-    assert!(rt; !pair(4, 2).at_most(&pair(1, 9)), "the first halves");
+    assert_eq!(rt; wrong_order(), None);
 }
 
-#[test]
-fn replicas_in_any_order(rt: HostRuntime) -> Result<(), Fail> {
+// A replica takes a pair, and another the same set by another way: twice, through a third.
+fn replicas_meet() -> Option<bool> {
     let mut one = Replica::new(pair(1, 9));
-    one.take(&pair(4, 2))?;
-    assert_eq!(rt; *one.value(), pair(4, 9));
-    // The same set by another way: twice, and through another replica.
     let mut other = Replica::new(pair(1, 9));
     let mut third = Replica::new(pair(1, 9));
-    third.take(&pair(4, 2))?;
-    third.take(&pair(4, 2))?;
-    other.combine(&third)?;
-    other.combine(&third)?;
-    assert_eq!(rt; *other.value(), pair(4, 9));
-    assert_eq!(rt; *third.value(), pair(4, 9));
+    for replica in [&mut one, &mut third] {
+        replica.take(&pair(4, 2)).ok()?;
+    }
+    third.take(&pair(4, 2)).ok()?;
+    other.combine(&third).ok()?;
+    other.combine(&third).ok()?;
+    let want = pair(4, 9);
+    Some(*one.value() == want && *other.value() == want && *third.value() == want)
+}
+
+#[test]
+fn replicas_in_any_order(rt: HostRuntime) {
     replicas_agree::<PairOf<Greatest, Greatest>>();
-    Ok(())
+    assert_eq!(rt; replicas_meet(), Some(true));
+}
+
+// A pair, what it is joined with, and what it is then: as before where a half is refused.
+const REFUSED: [((u64, u64), (u64, u64), Option<(u64, u64)>); 5] = [
+    // The second half, the first half and the first half's clone.
+    ((1, 2), (5, 13), None),
+    ((1, 2), (13, 5), None),
+    ((13, 2), (20, 20), None),
+    ((13, 2), (5, 1), None),
+    ((1, 2), (5, 1), Some((5, 2))),
+];
+
+type Unluckies = PairOf<Unlucky, Unlucky>;
+
+// Whether a join went as wanted, and left what it must.
+fn is_left(
+    joined: Result<(), AllocError>,
+    left: &Unluckies,
+    start: &Unluckies,
+    want: Option<(u64, u64)>,
+) -> bool {
+    match want {
+        Some((first, second)) => joined.is_ok() && *left == unlucky_pair(first, second),
+        None => joined.is_err() && left == start,
+    }
+}
+
+// Whether a pair, a replica with a value, a replica with another one, and a slice are so joined.
+fn is_joined(start: Unluckies, other: Unluckies, want: Option<(u64, u64)>) -> bool {
+    let mut value = start;
+    let joined = value.join_in(&other);
+    let mut replica = Replica::new(start);
+    let taken = replica.take(&other);
+    let mut second = Replica::new(start);
+    let combined = second.combine(&Replica::new(other));
+    is_left(joined, &value, &start, want)
+        && is_left(taken, replica.value(), &start, want)
+        && is_left(combined, second.value(), &start, want)
+        && join_all(&[start, other]).ok()
+            == want.map(|(first, second)| Some(unlucky_pair(first, second)))
+}
+
+fn wrong_join() -> Option<((u64, u64), (u64, u64))> {
+    for (start, other, want) in REFUSED {
+        if !is_joined(
+            unlucky_pair(start.0, start.1),
+            unlucky_pair(other.0, other.1),
+            want,
+        ) {
+            return Some((start, other));
+        }
+    }
+    None
 }
 
 #[test]
-fn a_refused_pair_is_as_before(rt: HostRuntime) -> Result<(), Fail> {
-    let mut value = unlucky_pair(1, 2);
-    // The second half, the first half and the first half's clone are refused.
-    assert_eq!(rt; value.join_in(&unlucky_pair(5, 13)), Err(AllocError));
-    assert_eq!(rt; value, unlucky_pair(1, 2));
-    assert_eq!(rt; value.join_in(&unlucky_pair(13, 5)), Err(AllocError));
-    assert_eq!(rt; value, unlucky_pair(1, 2));
-    let mut stuck = unlucky_pair(13, 2);
-    assert_eq!(rt; stuck.join_in(&unlucky_pair(20, 20)), Err(AllocError));
-    assert_eq!(rt; stuck, unlucky_pair(13, 2));
-    assert_eq!(rt; stuck.try_clone(), Err(AllocError));
-    assert_eq!(rt; unlucky_pair(2, 13).try_clone(), Err(AllocError));
-    value.join_in(&unlucky_pair(5, 1))?;
-    assert_eq!(rt; value.try_clone()?, unlucky_pair(5, 2));
-    Ok(())
+fn what_is_refused_is_as_before(rt: HostRuntime) {
+    assert_eq!(rt; wrong_join(), None);
 }
 
 #[test]
-fn a_refused_replica_is_as_before(rt: HostRuntime) -> Result<(), Fail> {
-    let mut replica = Replica::new(unlucky_pair(1, 2));
-    assert_eq!(rt; replica.take(&unlucky_pair(5, 13)), Err(AllocError));
-    assert_eq!(rt; *replica.value(), unlucky_pair(1, 2));
-    let other = Replica::new(unlucky_pair(13, 5));
-    assert_eq!(rt; replica.combine(&other), Err(AllocError));
-    assert_eq!(rt; *replica.value(), unlucky_pair(1, 2));
-    assert_eq!(rt;
-        join_all(&[unlucky_pair(1, 2), unlucky_pair(5, 13)]),
-        Err(AllocError)
-    );
-    assert_eq!(rt;
-        join_all(&[unlucky_pair(13, 2), unlucky_pair(5, 1)]),
-        Err(AllocError)
-    );
-    Ok(())
+fn clones_of_pairs(rt: HostRuntime) {
+    let (first, second) = (unlucky_pair(13, 2), unlucky_pair(2, 13));
+    assert!(rt; first.try_clone().is_err() && second.try_clone().is_err());
+    assert!(rt; unlucky_pair(5, 2).try_clone() == Ok(unlucky_pair(5, 2)));
 }

@@ -1,304 +1,415 @@
-use crate::stored_record::StoredRecord;
+//! Limits, places and pages worked out by hand: a table a subject, and functions that walk it and
+//! answer whether, or where not, it holds. They borrow what they walk, and a test asserts once.
+
+ghost use Rattle.std.specs.Prelude.{◌≡◌, ◌<◌, [], ◌∷◌, IfSome};
+ghost use Rattle.exh_page.specs.Page.{IsDivisible};
+
 use crate::{CAP_LIMIT, KEY_LIMIT, Key, Page, Record, Records, SizeFault, VALUE_LIMIT, Value};
 use exh_prefix::Prefix;
-use std::alloc::{AllocError, Global};
+use std::alloc::Global;
 use std::cmp::Ordering;
 use std::test::Fail;
 
-fn record(pseudokey: u64, key: &[u8], value: &[u8]) -> Result<Record, SizeFault> {
-    Ok(Record {
+// A record, as pseudokey, key and value.
+type Row = (u64, &'static [u8], &'static [u8]);
+
+// A record whose key and value are one byte so many times each: long literals are dear to prove.
+type Filled = (u64, (u8, usize), (u8, usize));
+
+fn record(pseudokey: u64, key: &[u8], value: &[u8]) -> Option<Record> {
+    Some(Record {
         pseudokey,
-        key: Key::from_bytes(key)?,
-        value: Value::from_bytes(value)?,
+        key: Key::from_bytes(key).ok()?,
+        value: Value::from_bytes(value).ok()?,
     })
 }
 
-// The records, in their order.
-fn listed(records: &Records, alloc: Global) -> Result<Vec<Record>, AllocError> {
-    let mut list = Vec::new(alloc);
-    for item in records.iter() {
-        list.push(item)?;
+fn filled(item: Filled) -> Option<Record> {
+    let (pseudokey, (key, key_len), (value, value_len)) = item;
+    let (keys, values) = ([key; 64], [value; 128]);
+    record(pseudokey, keys.get(..key_len)?, values.get(..value_len)?)
+}
+
+// Whether the records are these, in this order.
+fn are(records: &Records, want: &[Row]) -> bool {
+    for (at, (pseudokey, key, value)) in want.iter().enumerate() {
+        if records.get(at) != record(*pseudokey, key, value) {
+            return false;
+        }
     }
-    Ok(list)
+    records.len() == want.len() && records.get(want.len()).is_none()
 }
 
-#[test]
-fn keys_of_allowed_lengths(rt: HostRuntime) -> Result<(), Fail> {
-    assert_eq!(rt; Key::from_bytes(&[]), Err(SizeFault));
-    assert_eq!(rt; Key::from_bytes(&[7; 65]), Err(SizeFault));
-    assert_eq!(rt; Key::from_bytes(&[7])?.as_bytes(), [7].as_slice());
-    assert_eq!(rt; Key::from_bytes(&[7; 64])?.as_bytes(), [7; 64].as_slice());
-    Ok(())
+fn are_filled(records: &Records, want: &[Filled]) -> bool {
+    for (at, item) in want.iter().enumerate() {
+        if records.get(at) != filled(*item) {
+            return false;
+        }
+    }
+    records.len() == want.len() && records.is_empty() == want.is_empty()
 }
 
-#[test]
-fn values_of_allowed_lengths(rt: HostRuntime) -> Result<(), Fail> {
-    assert_eq!(rt; Value::from_bytes(&[7; 129]), Err(SizeFault));
-    assert_eq!(rt; Value::from_bytes(&[])?.as_bytes(), [].as_slice());
-    assert_eq!(rt;
-        Value::from_bytes(&[7; 128])?.as_bytes(),
-        [7; 128].as_slice()
-    );
-    assert_ne!(rt; Value::from_bytes(b"a")?, Value::from_bytes(b"a\0")?);
-    Ok(())
+// How many bytes, whether they make a key, and whether they make a value.
+const SIZES: [(usize, bool, bool); 6] = [
+    (0, false, true),
+    (1, true, true),
+    (64, true, true),
+    (65, false, true),
+    (128, false, true),
+    (129, false, false),
+];
+
+fn is_key(bytes: &[u8]) -> bool {
+    match Key::from_bytes(bytes) {
+        Ok(key) => key.as_bytes() == bytes,
+        Err(SizeFault) => false,
+    }
+}
+
+fn is_value(bytes: &[u8]) -> bool {
+    match Value::from_bytes(bytes) {
+        Ok(value) => value.as_bytes() == bytes,
+        Err(SizeFault) => false,
+    }
+}
+
+// The size that is taken where it must not be, or the other way round.
+fn wrong_size(bytes: &[u8]) -> Option<usize> {
+    for (len, key, value) in SIZES {
+        match bytes.get(..len) {
+            Some(front) if is_key(front) == key && is_value(front) == value => {}
+            _ => return Some(len),
+        }
+    }
+    None
 }
 
 #[test]
 fn limits(rt: HostRuntime) -> Result<(), Fail> {
-    assert_eq!(rt; (CAP_LIMIT, KEY_LIMIT, VALUE_LIMIT), (16, 64, 128));
+    assert!(rt; (CAP_LIMIT, KEY_LIMIT, VALUE_LIMIT) == (16, 64, 128));
+    let bytes = [7; 129];
+    assert_eq!(rt; wrong_size(&bytes), None);
+    assert!(rt; Value::from_bytes(b"a")? != Value::from_bytes(b"a\0")?);
     Ok(())
 }
 
 #[test]
-fn size_refusal(rt: HostRuntime) -> Result<(), Fail> {
-    assert_eq!(rt; SizeFault::NUMBER, 12);
+fn the_refusal(rt: HostRuntime) -> Result<(), Fail> {
+    assert!(rt; SizeFault::NUMBER == 12);
     let text = SizeFault.to_string(rt.alloc())?;
-    assert_eq!(rt;
-        text.as_str(),
-        "a key has 1 to 64 bytes, and a value at most 128"
-    );
+    assert!(rt; text.as_str() == "a key has 1 to 64 bytes, and a value at most 128");
     Ok(())
 }
 
-#[test]
-fn keys_are_ordered_as_bytes(rt: HostRuntime) -> Result<(), Fail> {
-    let rising: [(&[u8], &[u8]); 5] = [
-        (b"a", b"ab"),
-        (b"ab", b"b"),
-        (b"a", b"a\0"),
-        (b"aaa", b"b"),
-        (b"\x7f", b"\x80"),
-    ];
-    for (less, more) in rising {
-        let (less, more) = (Key::from_bytes(less)?, Key::from_bytes(more)?);
-        assert!(rt; less < more, "{less:?} and {more:?}");
-        assert_eq!(rt; more.cmp(&less), Ordering::Greater);
-        assert_ne!(rt; less, more);
-        assert_eq!(rt; less.cmp(&less), Ordering::Equal);
-        assert_eq!(rt; less, less);
+// Places that rise: by pseudokey, and under one pseudokey as bytes.
+const RISING: [Row; 17] = [
+    (1, b"z", b"1"),
+    (2, b"a", b"2"),
+    (2, b"b", b"3"),
+    (4, b"z", b""),
+    (5, b"j", b""),
+    (5, b"k", b""),
+    (5, b"ka", b""),
+    (6, b"a", b""),
+    (7, b"a", b""),
+    (7, b"a\0", b""),
+    (7, b"aaa", b""),
+    (7, b"ab", b""),
+    (7, b"b", b""),
+    (7, b"\x7f", b""),
+    (7, b"\x80", b""),
+    (9, b"\0", b""),
+    (9, b"\0\0", b""),
+];
+
+// Whether one key is before another in each of the ways to ask.
+fn is_before(less: &[u8], more: &[u8]) -> Option<bool> {
+    let (less, more) = (Key::from_bytes(less).ok()?, Key::from_bytes(more).ok()?);
+    Some(
+        less < more
+            && less != more
+            && more.cmp(&less) == Ordering::Greater
+            && less.cmp(&less) == Ordering::Equal,
+    )
+}
+
+// The key under one pseudokey with its neighbour that isn't before it.
+fn wrong_key() -> Option<&'static [u8]> {
+    for (less, more) in RISING.iter().zip(&RISING[1..]) {
+        if less.0 == more.0 && is_before(less.1, more.1) != Some(true) {
+            return Some(less.1);
+        }
     }
-    Ok(())
+    None
 }
 
-#[test]
-fn places_by_pseudokey_and_key(rt: HostRuntime) -> Result<(), Fail> {
-    let stored = StoredRecord {
-        pseudokey: 5,
-        key_len: 1,
-        value_len: 2,
-    };
-    let places: [(u64, &[u8], Ordering); 5] = [
-        (5, b"k", Ordering::Equal),
-        (5, b"j", Ordering::Greater),
-        (5, b"ka", Ordering::Less),
-        (4, b"z", Ordering::Greater),
-        (6, b"a", Ordering::Less),
-    ];
-    for (pseudokey, key, want) in places {
-        let key = Key::from_bytes(key)?;
-        assert_eq!(rt; stored.cmp_place(b"kvk", pseudokey, &key), want);
+// Puts every fifth of them, round and round.
+fn put_mixed(records: &mut Records) -> Option<()> {
+    for at in 0..17 {
+        let (pseudokey, key, value) = RISING[at * 5 % 17];
+        let old = records.put(record(pseudokey, key, value)?).ok()?;
+        if old.is_some() {
+            return None;
+        }
     }
-    Ok(())
+    Some(())
 }
 
 #[test]
-fn records_in_their_order(rt: HostRuntime) -> Result<(), Fail> {
-    let (low, tied, high) = (
-        record(1, b"z", b"1")?,
-        record(2, b"a", b"2")?,
-        record(2, b"b", b"3")?,
-    );
+fn places_rise(rt: HostRuntime) {
+    assert!(rt; wrong_key().is_none());
     let mut records = Records::new(rt.alloc());
-    assert!(rt; records.is_empty());
-    for item in [high, low, tied] {
-        assert_eq!(rt; records.put(item)?, None);
-    }
-    assert_eq!(rt;
-        listed(&records, rt.alloc())?.as_slice(),
-        [low, tied, high].as_slice()
-    );
-    assert_eq!(rt; records.len(), 3);
-    assert!(rt; !records.is_empty());
-    Ok(())
+    assert!(rt; put_mixed(&mut records).is_some());
+    assert!(rt; are(&records, &RISING));
 }
 
-#[test]
-fn a_copy_of_records(rt: HostRuntime) -> Result<(), Fail> {
-    let (item, other) = (record(2, b"a", b"1")?, record(2, b"a", b"other")?);
-    let mut records = Records::new(rt.alloc());
-    records.put(item)?;
-    let copy = records.try_clone()?;
-    assert_eq!(rt; records.put(other)?, Some(item.value));
-    assert_eq!(rt;
-        listed(&records, rt.alloc())?.as_slice(),
-        [other].as_slice()
-    );
-    assert_eq!(rt; listed(&copy, rt.alloc())?.as_slice(), [item].as_slice());
-    Ok(())
+enum Call {
+    Find,
+    Put,
+    Remove,
 }
 
-#[test]
-fn records_by_their_index(rt: HostRuntime) -> Result<(), Fail> {
-    let (low, high) = (record(1, b"z", b"1")?, record(2, b"a", b"2")?);
-    let mut records = Records::new(rt.alloc());
-    for item in [low, high] {
-        assert_eq!(rt; records.put(item)?, None);
-    }
-    assert_eq!(rt;
-        listed(&records, rt.alloc())?.as_slice(),
-        [low, high].as_slice()
-    );
-    assert_eq!(rt; records.get(1), Some(high));
-    assert_eq!(rt; records.get(2), None);
-    Ok(())
-}
+use Call::{Find, Put, Remove};
 
-#[test]
-fn values_of_other_lengths(rt: HostRuntime) -> Result<(), Fail> {
+const ONE: Filled = (9, (0, 1), (b'1', 1));
+
+const OTHER: Filled = (9, (0, 2), (b'2', 1));
+
+const LOW: Filled = (1, (b'l', 3), (b'f', 5));
+
+const HIGH: Filled = (3, (b'h', 1), (9, 128));
+
+// A middle record with this value.
+const EMPTY: Filled = (2, (5, 64), (0, 0));
+
+const SHORT: Filled = (2, (5, 64), (b'v', 1));
+
+const LONG: Filled = (2, (5, 64), (7, 128));
+
+const TWO: Filled = (2, (5, 64), (b'v', 2));
+
+const OTHER_TWO: Filled = (2, (5, 64), (b'w', 2));
+
+// A call for a record, or for its place; the record whose value is answered; and the records of the
+// page after it.
+type Step = (Call, Filled, Option<Filled>, &'static [Filled]);
+
+const STEPS: [Step; 22] = [
+    // Two keys of one pseudokey.
+    (Put, OTHER, None, &[OTHER]),
+    (Put, ONE, None, &[ONE, OTHER]),
+    (Find, ONE, Some(ONE), &[ONE, OTHER]),
+    (Find, OTHER, Some(OTHER), &[ONE, OTHER]),
+    (Find, (9, (0, 3), (0, 0)), None, &[ONE, OTHER]),
+    (Find, (8, (0, 1), (0, 0)), None, &[ONE, OTHER]),
+    (Remove, (9, (0, 3), (0, 0)), None, &[ONE, OTHER]),
+    (Remove, ONE, Some(ONE), &[OTHER]),
+    (Remove, ONE, None, &[OTHER]),
+    (Put, OTHER, Some(OTHER), &[OTHER]),
+    (Remove, OTHER, Some(OTHER), &[]),
+    (Find, OTHER, None, &[]),
     // Three records of which the middle one grows, shrinks to nothing, grows again and goes.
-    let (low, high) = (record(1, b"low", b"first")?, record(3, b"h", &[9; 128])?);
-    let mut records = Records::new(rt.alloc());
-    assert_eq!(rt; records.put(high)?, None);
-    assert_eq!(rt; records.put(low)?, None);
-    let mut before = None;
-    let values: [&[u8]; 5] = [b"v", &[7; 128], b"", b"vv", b"ww"];
-    for value in values {
-        let item = record(2, &[5; 64], value)?;
-        assert_eq!(rt; records.put(item)?, before);
-        assert_eq!(rt;
-            listed(&records, rt.alloc())?.as_slice(),
-            [low, item, high].as_slice()
-        );
-        assert_eq!(rt; records.find(3, &high.key), Some(high.value));
-        before = Some(item.value);
+    (Put, HIGH, None, &[HIGH]),
+    (Put, LOW, None, &[LOW, HIGH]),
+    (Put, SHORT, None, &[LOW, SHORT, HIGH]),
+    (Put, LONG, Some(SHORT), &[LOW, LONG, HIGH]),
+    (Put, EMPTY, Some(LONG), &[LOW, EMPTY, HIGH]),
+    (Put, TWO, Some(EMPTY), &[LOW, TWO, HIGH]),
+    (Put, OTHER_TWO, Some(TWO), &[LOW, OTHER_TWO, HIGH]),
+    (Find, HIGH, Some(HIGH), &[LOW, OTHER_TWO, HIGH]),
+    (Remove, OTHER_TWO, Some(OTHER_TWO), &[LOW, HIGH]),
+    (Find, OTHER_TWO, None, &[LOW, HIGH]),
+];
+
+// What a live page answers. `None` where it isn't live, or memory is refused.
+fn put(page: &mut Page, item: Record) -> Option<Option<Value>> {
+    if page.is_live() {
+        page.put(item).ok()
+    } else {
+        None
     }
-    assert_eq!(rt; records.remove(2, &Key::from_bytes(&[5; 64])?), before);
-    assert_eq!(rt;
-        listed(&records, rt.alloc())?.as_slice(),
-        [low, high].as_slice()
-    );
-    Ok(())
 }
 
-#[test]
-fn records_of_one_pseudokey(rt: HostRuntime) -> Result<(), Fail> {
-    let (one, other) = (record(9, b"\0", b"1")?, record(9, b"\0\0", b"2")?);
-    let absent = Key::from_bytes(b"\0\0\0")?;
-    let mut records = Records::new(rt.alloc());
-    assert_eq!(rt; records.put(other)?, None);
-    assert_eq!(rt; records.put(one)?, None);
-    assert_eq!(rt; records.find(9, &one.key), Some(one.value));
-    assert_eq!(rt; records.find(9, &other.key), Some(other.value));
-    assert_eq!(rt; records.find(9, &absent), None);
-    assert_eq!(rt; records.find(8, &one.key), None);
+fn remove(page: &mut Page, item: &Record) -> Option<Option<Value>> {
+    if page.is_live() {
+        Some(page.remove(item.pseudokey, &item.key))
+    } else {
+        None
+    }
+}
 
-    assert_eq!(rt; records.remove(9, &absent), None);
-    assert_eq!(rt; records.remove(9, &one.key), Some(one.value));
-    assert_eq!(rt; records.remove(9, &one.key), None);
-    assert_eq!(rt;
-        listed(&records, rt.alloc())?.as_slice(),
-        [other].as_slice()
+fn answer(page: &mut Page, call: &Call, item: Record) -> Option<Option<Value>> {
+    match call {
+        Find => Some(page.find(item.pseudokey, &item.key)),
+        Put => put(page, item),
+        Remove => remove(page, &item),
+    }
+}
+
+fn is_value_of(value: Option<Value>, want: Option<Filled>) -> bool {
+    match (value, want) {
+        (Some(value), Some(item)) => filled(item).is_some_and(|item| item.value == value),
+        (None, None) => true,
+        _ => false,
+    }
+}
+
+// Whether a page has the prefix 10, the right link 1 and these records.
+fn holds(page: &Page, want: &[Filled]) -> bool {
+    match page {
+        Page::Live {
+            prefix,
+            right,
+            records,
+        } => {
+            prefix.len() == 2
+                && prefix.low() == 1 << 63
+                && *right == Some(1)
+                && are_filled(records, want)
+        }
+        Page::Forward { .. } => false,
+    }
+}
+
+fn is_done(page: &mut Page, step: &Step) -> Option<bool> {
+    let (call, item, want, after) = step;
+    let value = answer(page, call, filled(*item)?)?;
+    Some(is_value_of(value, *want) && holds(page, after))
+}
+
+// The first step that answers or leaves something else.
+fn wrong_step(page: &mut Page) -> Option<usize> {
+    for (at, step) in STEPS.iter().enumerate() {
+        if is_done(page, step) != Some(true) {
+            return Some(at);
+        }
+    }
+    None
+}
+
+// Whether a copy of the page after the steps is equal, and stays so where the page changes.
+fn is_copied(page: &mut Page) -> Option<bool> {
+    let copy = page.try_clone().ok()?;
+    let is_equal = holds(&copy, &[LOW, HIGH]);
+    let is_put = is_done(
+        page,
+        &(
+            Put,
+            (1, (b'l', 3), (b'o', 5)),
+            Some(LOW),
+            &[(1, (b'l', 3), (b'o', 5)), HIGH],
+        ),
     );
-    Ok(())
+    Some(is_equal && is_put == Some(true) && holds(&copy, &[LOW, HIGH]))
 }
 
 #[test]
 fn a_live_page(rt: HostRuntime) -> Result<(), Fail> {
-    let prefix = Prefix::new(2, 0b10 << 62).ok_or("two bits")?;
-    let item = record(1 << 63, b"\x80", b"b")?;
+    let prefix = Prefix::new(2, 1 << 63).ok_or("two bits")?;
     let mut page = Page::Live {
         prefix,
         right: Some(1),
         records: Records::new(rt.alloc()),
     };
-    assert!(rt; page.is_live());
-    assert_eq!(rt; page.low(), 1 << 63);
-    assert_eq!(rt; page.put(item)?, None);
-    assert_eq!(rt; page.put(item)?, Some(item.value));
-    assert_eq!(rt; page.find(1 << 63, &item.key), Some(item.value));
-    let copy = page.try_clone()?;
-    assert_eq!(rt; page.remove(1 << 63, &item.key), Some(item.value));
-    assert_eq!(rt; page.find(1 << 63, &item.key), None);
-    match copy {
-        Page::Live {
-            prefix: same,
-            right,
-            records,
-        } => {
-            assert_eq!(rt; same, prefix);
-            assert_eq!(rt; right, Some(1));
-            assert_eq!(rt; listed(&records, rt.alloc())?.as_slice(), [item].as_slice());
-        }
-        Page::Forward { .. } => return Err("a copy that forwards".into()),
-    }
+    assert!(rt; page.low() == 1 << 63);
+    assert_eq!(rt; wrong_step(&mut page), None);
+    assert_eq!(rt; is_copied(&mut page), Some(true));
     Ok(())
+}
+
+// Of the prefix 10 the left child begins 0x80 to 0x9f, the right one 0xa0 to 0xbf.
+const SHARED: [Row; 4] = [
+    (0x80 << 56, b"f", b"1"),
+    ((0xa0 << 56) - 1, b"e", b"2"),
+    (0xa0 << 56, b"d", b"3"),
+    (0xbf << 56, b"c", b"4"),
+];
+
+fn put_all(records: &mut Records, rows: &[Row]) -> Option<()> {
+    for (pseudokey, key, value) in rows {
+        records.put(record(*pseudokey, key, value)?).ok()?;
+    }
+    Some(())
+}
+
+fn has_share(page: &Page, bit: bool, want: &[Row]) -> bool
+    requires { IsDivisible page.now }
+{
+    match page.divide(bit) {
+        Ok(share) => are(&share, want),
+        Err(_) => false,
+    }
 }
 
 #[test]
 fn a_page_is_divided(rt: HostRuntime) -> Result<(), Fail> {
-    // Of the prefix 10 the left child begins 0x80 to 0x9f, the right one 0xa0 to 0xbf.
-    let (first, second) = (
-        record(0x80 << 56, b"f", b"1")?,
-        record((0xa0 << 56) - 1, b"e", b"2")?,
-    );
-    let (third, fourth) = (
-        record(0xa0 << 56, b"d", b"3")?,
-        record(0xbf << 56, b"c", b"4")?,
-    );
+    let prefix = Prefix::new(2, 1 << 63).ok_or("two bits")?;
     let mut records = Records::new(rt.alloc());
-    for item in [fourth, second, first, third] {
-        assert_eq!(rt; records.put(item)?, None);
-    }
+    assert!(rt; put_all(&mut records, &SHARED).is_some());
     let page = Page::Live {
-        prefix: Prefix::new(2, 1 << 63).ok_or("two bits")?,
+        prefix,
         right: None,
         records,
     };
-    let left = page.divide(false)?;
-    assert_eq!(rt;
-        listed(&left, rt.alloc())?.as_slice(),
-        [first, second].as_slice()
-    );
-    let right = page.divide(true)?;
-    assert_eq!(rt;
-        listed(&right, rt.alloc())?.as_slice(),
-        [third, fourth].as_slice()
-    );
+    assert!(rt; has_share(&page, false, &SHARED[..2]) && has_share(&page, true, &SHARED[2..]));
     Ok(())
 }
 
-#[test]
-fn a_page_absorbs_its_buddy(rt: HostRuntime) -> Result<(), Fail> {
-    let low = Record {
-        pseudokey: 7,
-        key: Key::from_bytes(b"l")?,
-        value: Value::from_bytes(b"1")?,
-    };
-    let high = Record {
-        pseudokey: 1 << 63,
-        key: Key::from_bytes(b"h")?,
-        value: Value::from_bytes(b"2")?,
-    };
-    let mut records = Records::new(rt.alloc());
-    assert_eq!(rt; records.put(low)?, None);
+// The only records of two pages, of the prefixes 0 and 1.
+const BUDDIES: [Row; 2] = [(7, b"l", b"1"), (1 << 63, b"h", b"2")];
+
+fn one_record(alloc: Global, item: &Record) -> Option<Records>
+    ensures { IfSome result (λ records. records ≡ item.now ∷ []) }
+{
+    let mut records = Records::new(alloc);
+    match records.push(item) {
+        Ok(()) => Some(records),
+        Err(_) => None,
+    }
+}
+
+// Whether the union of two buddies with one record each has both.
+fn buddies_unite(alloc: Global, first: &Record, second: &Record) -> Option<bool>
+    requires { first.now.pseudokey < second.now.pseudokey }
+{
     let left = Page::Live {
-        prefix: Prefix::new(1, 0).ok_or("one bit")?,
+        prefix: Prefix::new(1, 0)?,
         right: Some(4),
-        records,
+        records: one_record(alloc, first)?,
     };
-    let mut records = Records::new(rt.alloc());
-    assert_eq!(rt; records.put(high)?, None);
     let right = Page::Live {
-        prefix: Prefix::new(1, 1 << 63).ok_or("one bit")?,
+        prefix: Prefix::new(1, 1 << 63)?,
         right: None,
-        records,
+        records: one_record(alloc, second)?,
     };
-    let all = left.absorb(&right)?;
-    assert_eq!(rt;
-        listed(&all, rt.alloc())?.as_slice(),
-        [low, high].as_slice()
-    );
-    Ok(())
+    match left.absorb(&right) {
+        Ok(all) => Some(are(&all, &BUDDIES)),
+        Err(_) => None,
+    }
+}
+
+fn absorbs(alloc: Global) -> Option<bool> {
+    let first = record(7, b"l", b"1")?;
+    let second = record(1 << 63, b"h", b"2")?;
+    if first.pseudokey < second.pseudokey {
+        buddies_unite(alloc, &first, &second)
+    } else {
+        None
+    }
+}
+
+#[test]
+fn a_page_absorbs_its_buddy(rt: HostRuntime) {
+    assert_eq!(rt; absorbs(rt.alloc()), Some(true));
+}
+
+fn forwards(page: &Page) -> bool {
+    match page {
+        Page::Forward { low, target } => {
+            *low == 3 << 62 && *target == 2 && page.low() == 3 << 62 && !page.is_live()
+        }
+        Page::Live { .. } => false,
+    }
 }
 
 #[test]
@@ -307,12 +418,7 @@ fn a_forwarding_page(rt: HostRuntime) -> Result<(), Fail> {
         low: 3 << 62,
         target: 2,
     };
-    assert!(rt; !page.is_live());
-    assert_eq!(rt; page.low(), 3 << 62);
-    assert_eq!(rt; page.find(3 << 62, &Key::from_bytes(b"\xc0")?), None);
-    match page.try_clone()? {
-        Page::Forward { low, target } => assert_eq!(rt; (low, target), (3 << 62, 2)),
-        Page::Live { .. } => return Err("a live copy".into()),
-    }
+    assert!(rt; forwards(&page) && forwards(&page.try_clone()?));
+    assert!(rt; page.find(3 << 62, &Key::from_bytes(b"\xc0")?).is_none());
     Ok(())
 }

@@ -179,57 +179,80 @@ mod tests {
         output.finish()
     }
 
+    // The most bytes of a write, and how many writes 20,000 bytes take.
+    const WRITES: [(usize, u32); 3] = [(1, 20_000), (5000, 5), (8192, 3)];
+
+    fn is_sent(writer: &mut FakeWriter, text: &[u8], writes: u32) -> bool {
+        let is_ok = send(&mut Output::new(writer), text).is_ok();
+        is_ok && writer.taken.as_slice() == text && writer.writes == writes
+    }
+
+    fn wrong_writes(alloc: Global, text: &[u8]) -> Option<usize> {
+        for (most, writes) in WRITES {
+            if !is_sent(&mut writer(alloc, most), text, writes) {
+                return Some(most);
+            }
+        }
+        None
+    }
+
     #[test]
     fn writes_all_in_blocks(rt: HostRuntime) -> Result<(), Fail> {
         let text = vec![in rt.alloc(); b'x'; 20_000]?;
-        for (most, writes) in [(1, 20_000), (5000, 5), (8192, 3)] {
-            let mut writer = writer(rt.alloc(), most);
-            let mut output = Output::new(&mut writer);
-            send(&mut output, text.as_slice())?;
-            assert!(rt; writer.taken == text, "in writes of {most}");
-            assert_eq!(rt; writer.writes, writes);
-        }
+        assert_eq!(rt; wrong_writes(rt.alloc(), text.as_slice()), None);
         Ok(())
+    }
+
+    // Whether after a push of this text so many bytes are written, in so many writes.
+    fn holds_back(writer: &mut FakeWriter, text: &[u8], written: usize, writes: u32) -> bool {
+        let is_ok = Output::new(writer).push(text).is_ok();
+        is_ok && writer.taken.len() == written && writer.writes == writes
     }
 
     #[test]
     fn holds_back_a_block_of_8192_bytes(rt: HostRuntime) -> Result<(), Fail> {
         let text = vec![in rt.alloc(); b'x'; 8193]?;
-        for (len, written, writes) in [(8192, 0, 0), (8193, 8192, 1)] {
-            let mut writer = writer(rt.alloc(), 10_000);
-            let mut output = Output::new(&mut writer);
-            output.push(text.get(..len).ok_or("short")?)?;
-            assert_eq!(rt; writer.writes, writes, "after {len} bytes");
-            assert_eq!(rt; writer.taken.len(), written, "after {len} bytes");
-        }
+        let front = text.get(..8192).ok_or("short")?;
+        assert!(rt; holds_back(&mut writer(rt.alloc(), 10_000), front, 0, 0));
+        assert!(rt; holds_back(&mut writer(rt.alloc(), 10_000), text.as_slice(), 8192, 1));
         Ok(())
+    }
+
+    const REFUSALS: [WriteRefusal; 3] = [
+        WriteRefusal::Error(ErrorKind::Other),
+        WriteRefusal::Error(ErrorKind::Interrupted),
+        WriteRefusal::NoBytes,
+    ];
+
+    // Whether a writer with this room gets that much, and is asked no more after it refused: one
+    // write that took all, or up to the room, for each block begun, and the refused one.
+    fn is_closed(writer: &mut FakeWriter, text: &[u8], room: usize) -> bool {
+        let mut output = Output::new(writer);
+        let are_refused = send(&mut output, text).is_err()
+            && output.push(b"more").is_err()
+            && output.finish().is_err();
+        are_refused
+            && writer.taken.len() == room
+            && writer.writes as usize == room.div_ceil(8192) + 1
+    }
+
+    fn wrong_room(alloc: Global, text: &[u8], refusal: WriteRefusal) -> Option<usize> {
+        for room in [0, 1, 8191, 8192, 8193, 19_999] {
+            let mut writer = writer(alloc, 8192);
+            writer.room = Some(room);
+            writer.refusal = refusal;
+            if !is_closed(&mut writer, text, room) {
+                return Some(room);
+            }
+        }
+        None
     }
 
     #[test]
     fn writes_nothing_after_a_fault(rt: HostRuntime) -> Result<(), Fail> {
         let text = vec![in rt.alloc(); b'x'; 20_000]?;
-        let refusals = [
-            WriteRefusal::Error(ErrorKind::Other),
-            WriteRefusal::Error(ErrorKind::Interrupted),
-            WriteRefusal::NoBytes,
-        ];
-        for refusal in refusals {
-            for room in [0, 1, 8191, 8192, 8193, 19_999] {
-                let mut writer = writer(rt.alloc(), 8192);
-                writer.room = Some(room);
-                writer.refusal = refusal;
-                let mut output = Output::new(&mut writer);
-                assert!(rt; send(&mut output, text.as_slice()).is_err(), "after {room}");
-                assert!(rt; output.push(b"more").is_err(), "after {room}");
-                assert!(rt; output.finish().is_err(), "after {room}");
-                assert_eq!(rt; writer.taken.len(), room);
-                // One write that took all, or up to the room, for each block begun, and the refused one.
-                assert_eq!(rt;
-                    writer.writes as usize,
-                    room.div_ceil(8192) + 1,
-                    "after {room}"
-                );
-            }
+        for refusal in REFUSALS {
+            assert_eq!(rt; wrong_room(rt.alloc(), text.as_slice(), refusal), None);
         }
         Ok(())
     }

@@ -128,6 +128,7 @@ impl<'r, R: Read> Source<'r, R> {
 mod tests {
     use super::*;
     use crate::FakeReader;
+    use std::alloc::AllocError;
     use std::io::ErrorKind;
     use std::test::Fail;
 
@@ -140,86 +141,126 @@ mod tests {
         }
     }
 
-    #[test]
-    fn fills_blocks_in_any_pieces(rt: HostRuntime) -> Result<(), Fail> {
-        for (most, reads) in [(1, 11), (3, 6), (9, 4)] {
-            let mut reader = reader(b"abcdefghij", most);
-            let mut source = Source::new(&mut reader);
-            let mut block = [0; 4];
-            assert_eq!(rt; source.fill(&mut block)?, 4);
-            assert_eq!(rt; block, *b"abcd", "in reads of {most}");
-            assert_eq!(rt; source.fill(&mut block)?, 4);
-            assert_eq!(rt; block, *b"efgh", "in reads of {most}");
-            assert_eq!(rt; source.fill(&mut block)?, 2);
-            assert_eq!(rt; block, *b"ijgh", "in reads of {most}");
-            assert_eq!(rt; source.fill(&mut block[..0])?, 0);
-            assert_eq!(rt; reader.reads, reads, "in reads of {most}");
+    // The most bytes of a read, and how many reads ten bytes take in blocks of four.
+    const BLOCKS: [(usize, u32); 3] = [(1, 11), (3, 6), (9, 4)];
+
+    fn fills_with(
+        source: &mut Source<'_, FakeReader>,
+        count: usize,
+        want: &[u8; 4],
+        block: &mut [u8; 4],
+    ) -> bool {
+        source.fill(block) == Ok(count) && *block == *want
+    }
+
+    fn is_filled(reader: &mut FakeReader, reads: u32) -> bool {
+        let mut source = Source::new(reader);
+        let mut block = [0; 4];
+        let are_right = fills_with(&mut source, 4, b"abcd", &mut block)
+            && fills_with(&mut source, 4, b"efgh", &mut block)
+            && fills_with(&mut source, 2, b"ijgh", &mut block)
+            && source.fill(&mut block[..0]) == Ok(0);
+        are_right && reader.reads == reads
+    }
+
+    fn wrong_blocks() -> Option<usize> {
+        for (most, reads) in BLOCKS {
+            if !is_filled(&mut reader(b"abcdefghij", most), reads) {
+                return Some(most);
+            }
         }
-        Ok(())
+        None
+    }
+
+    #[test]
+    fn fills_blocks_in_any_pieces(rt: HostRuntime) {
+        assert_eq!(rt; wrong_blocks(), None);
+    }
+
+    // Whether a reader that faults at a read is asked no more.
+    fn is_closed(reader: &mut FakeReader, alloc: Global, at: u32) -> bool {
+        let mut source = Source::new(reader);
+        let first = source.read_whole(alloc, 10).err();
+        let filled = source.fill(&mut [0; 4]);
+        let again = source.read_whole(alloc, 10).err();
+        first == Some(InputFault::Read)
+            && filled == Err(ReadFault)
+            && again == Some(InputFault::Read)
+            && reader.reads == at
+    }
+
+    fn wrong_fault(alloc: Global, kind: ErrorKind) -> Option<u32> {
+        for at in [1, 2, 3, 4] {
+            let mut reader = reader(b"abc", 1);
+            reader.fault = Some((at, kind));
+            if !is_closed(&mut reader, alloc, at) {
+                return Some(at);
+            }
+        }
+        None
     }
 
     #[test]
     fn reads_nothing_after_a_fault(rt: HostRuntime) {
         for kind in [ErrorKind::Other, ErrorKind::Interrupted] {
-            for at in [1, 2, 3, 4] {
-                let mut reader = reader(b"abc", 1);
-                reader.fault = Some((at, kind));
-                let mut source = Source::new(&mut reader);
-                let fault = source.read_whole(rt.alloc(), 10).err();
-                assert_eq!(rt; fault, Some(InputFault::Read), "at read {at}");
-                assert_eq!(rt; source.fill(&mut [0; 4]), Err(ReadFault), "at read {at}");
-                let fault = source.read_whole(rt.alloc(), 10).err();
-                assert_eq!(rt; fault, Some(InputFault::Read), "at read {at}");
-                assert_eq!(rt; reader.reads, at);
+            assert_eq!(rt; wrong_fault(rt.alloc(), kind), None);
+        }
+    }
+
+    // A limit, how many bytes there are, the most bytes of a read, and how many reads there are.
+    type Row = (usize, usize, usize, u32);
+
+    const WHOLES: [Row; 12] = [
+        // A whole input in any pieces.
+        (31, 31, 1, 32),
+        (31, 31, 7, 6),
+        (31, 31, 31, 2),
+        (31, 31, 8192, 2),
+        // No more than the limit, and one byte more.
+        (0, 0, 8192, 1),
+        (0, 1, 8192, 1),
+        (10_000, 10_000, 1, 10_001),
+        (10_000, 10_001, 1, 10_001),
+        (10_000, 10_000, 8192, 3),
+        (10_000, 10_001, 8192, 2),
+        // It asks for 8,192 bytes.
+        (100_000, 8192, 10_000, 2),
+        (100_000, 8193, 10_000, 3),
+    ];
+
+    // Whether exactly these bytes are read, or refused where they are too many.
+    fn is_read(reader: &mut FakeReader, alloc: Global, bytes: &[u8], limit: usize) -> bool {
+        match Source::new(reader).read_whole(alloc, limit) {
+            Ok(whole) => bytes.len() <= limit && whole.as_slice() == bytes,
+            Err(fault) => bytes.len() > limit && fault == InputFault::TooLong,
+        }
+    }
+
+    fn wrong_whole(alloc: Global, bytes: &[u8]) -> Option<Row> {
+        for (limit, len, most, reads) in WHOLES {
+            let front = bytes.get(..len)?;
+            let mut reader = reader(front, most);
+            if !is_read(&mut reader, alloc, front, limit) || reader.reads != reads {
+                return Some((limit, len, most, reads));
             }
         }
+        None
+    }
+
+    // Bytes of which neighbours differ.
+    fn counted(alloc: Global) -> Result<Vec<u8>, AllocError> {
+        let mut bytes = Vec::new(alloc);
+        for at in 0..10_001u32 {
+            bytes.push((at % 251) as u8)?;
+        }
+        Ok(bytes)
     }
 
     #[test]
-    fn reads_whole_in_any_pieces(rt: HostRuntime) -> Result<(), Fail> {
-        let text = b"a whole input, of 31 bytes, say";
-        for (most, reads) in [(1, 32), (7, 6), (31, 2), (8192, 2)] {
-            let mut reader = reader(text, most);
-            let whole = Source::new(&mut reader).read_whole(rt.alloc(), 31)?;
-            assert_eq!(rt; whole.as_slice(), text.as_slice(), "in reads of {most}");
-            assert_eq!(rt; reader.reads, reads, "in reads of {most}");
-        }
-        Ok(())
-    }
-
-    #[test]
-    fn reads_up_to_a_limit(rt: HostRuntime) -> Result<(), Fail> {
-        let bytes = vec![in rt.alloc(); b'x'; 10_001]?;
-        for (limit, len, most, reads) in [
-            (0, 0, 8192, 1),
-            (0, 1, 8192, 1),
-            (10_000, 10_000, 1, 10_001),
-            (10_000, 10_001, 1, 10_001),
-            (10_000, 10_000, 8192, 3),
-            (10_000, 10_001, 8192, 2),
-        ] {
-            let mut reader = reader(bytes.get(..len).ok_or("short")?, most);
-            match Source::new(&mut reader).read_whole(rt.alloc(), limit) {
-                Ok(whole) => assert!(rt; len <= limit && whole.len() == len, "{len} by {most}"),
-                Err(fault) => assert!(rt;
-                    len > limit && fault == InputFault::TooLong,
-                    "{len} by {most}"
-                ),
-            }
-            assert_eq!(rt; reader.reads, reads, "{len} by {most}");
-        }
-        Ok(())
-    }
-
-    #[test]
-    fn asks_for_8192_bytes(rt: HostRuntime) -> Result<(), Fail> {
-        let bytes = vec![in rt.alloc(); b'x'; 8193]?;
-        for (len, reads) in [(8192, 2), (8193, 3)] {
-            let mut reader = reader(bytes.get(..len).ok_or("short")?, 10_000);
-            let whole = Source::new(&mut reader).read_whole(rt.alloc(), 100_000)?;
-            assert_eq!(rt; whole.len(), len);
-            assert_eq!(rt; reader.reads, reads, "of {len} bytes");
-        }
+    fn reads_whole_up_to_a_limit(rt: HostRuntime) -> Result<(), Fail> {
+        let bytes = counted(rt.alloc())?;
+        assert_eq!(rt; bytes.len(), 10_001);
+        assert_eq!(rt; wrong_whole(rt.alloc(), bytes.as_slice()), None);
         Ok(())
     }
 }

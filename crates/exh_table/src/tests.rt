@@ -1,3 +1,5 @@
+//! Tables worked out by hand: stories of notices, joins, and what is put back.
+
 ghost use Rattle.std.specs.Prelude.{◌≤◌};
 ghost use Rattle.exh_prefix.specs.declared.prefix.TheConstants.{LIMIT};
 
@@ -8,76 +10,68 @@ use crate::{
 };
 use exh_join::{Join, Replica, join_all};
 use exh_notice::{Entry, Kind, Notice};
-use exh_prefix::{PageNo, Prefix};
-use std::alloc::AllocError;
-use std::process::Abort;
-use std::test::Fail;
+use exh_prefix::{LIMIT, PageNo, Prefix};
+use std::alloc::{AllocError, Global};
 
-fn prefix_of(rt: &impl Abort, len: u8, bits: u64) -> Prefix {
-    Prefix::new(len, bits).expect(rt, "a bit past the length is set")
-}
+// A prefix, as its length and bits.
+type Place = (u8, u64);
 
-fn entry(number: u32, kind: Kind) -> Entry {
+// An entry, as its number and a split's right page.
+type Row = (u32, Option<PageNo>);
+
+const ROOT: Place = (0, 0);
+
+const LEFT: Place = (1, 0);
+
+const HALF: u64 = 0x8000_0000_0000_0000;
+
+const QUARTER: u64 = 0x4000_0000_0000_0000;
+
+const RIGHT: Place = (1, HALF);
+
+fn entry(row: Row) -> Entry {
+    let (number, right) = row;
+    let kind = match right {
+        Some(right) => Kind::Split { right },
+        None => Kind::Merge,
+    };
     Entry { number, kind }
 }
 
-fn split(number: u32, right: PageNo) -> Entry {
-    entry(number, Kind::Split { right })
+fn prefix_of(place: Place) -> Option<Prefix> {
+    Prefix::new(place.0, place.1)
 }
 
-fn notice(index: u64, prefix: Prefix, told: Entry) -> Notice {
-    Notice {
+fn notice(place: Place, row: Row) -> Option<Notice> {
+    let told = entry(row);
+    Some(Notice {
         ward: 0,
-        index,
-        prefix,
+        index: 1,
+        prefix: prefix_of(place)?,
         number: told.number,
         kind: told.kind,
-    }
+    })
 }
 
-// Takes a notice, once more where memory is refused: then the table is as before.
-fn take_again(
-    rt: &impl Abort,
-    table: &mut Table,
-    notice: &Notice,
-) -> Result<Option<Entry>, AllocError> {
-    let stood = table.get(notice.prefix);
+// Takes a notice, once more where memory is refused: then the table is as before, and an entry that
+// stands needs no memory.
+fn take_again(table: &mut Table, notice: &Notice) -> Option<Option<Entry>> {
     match table.take(notice) {
+        Ok(stood) => Some(stood),
         Err(AllocError) => {
-            assert_eq!(rt; table.get(notice.prefix), stood);
-            assert_eq!(rt; stood, None, "an entry that stands needs no memory");
-            table.take(notice)
+            if table.get(notice.prefix).is_some() {
+                return None;
+            }
+            table.take(notice).ok()
         }
-        taken => taken,
     }
 }
 
 // A clone, made once more where memory is refused.
-fn clone_again(table: &Table) -> Result<Table, AllocError> {
+fn clone_again(table: &Table) -> Option<Table> {
     match table.try_clone() {
-        Err(AllocError) => table.try_clone(),
-        copy => copy,
-    }
-}
-
-// Joins a table, once more where memory is refused: then the first is as before.
-fn join_again(rt: &impl Abort, table: &mut Table, other: &Table) -> Result<(), AllocError> {
-    let before = clone_again(table)?;
-    match table.join_in(other) {
-        Err(AllocError) => {
-            assert!(rt; same(table, &before));
-            table.join_in(other)
-        }
-        joined => joined,
-    }
-}
-
-fn leaves_again(table: &Table, ward_bits: u8) -> Result<Vec<Leaf>, AllocError>
-    requires { ward_bits ≤ LIMIT }
-{
-    match table.leaves(ward_bits) {
-        Err(AllocError) => table.leaves(ward_bits),
-        leaves => leaves,
+        Err(AllocError) => table.try_clone().ok(),
+        Ok(copy) => Some(copy),
     }
 }
 
@@ -85,234 +79,362 @@ fn same(one: &Table, other: &Table) -> bool {
     one.at_most(other) && other.at_most(one)
 }
 
-fn assert_entries(rt: &impl Abort, table: &Table, want: &[(Prefix, Entry)]) {
-    let mut entries = table.entries();
-    for (prefix, entry) in want {
-        let next = entries.next().map(|(prefix, entry)| (*prefix, *entry));
-        assert_eq!(rt; next, Some((*prefix, *entry)));
+// Joins a table, once more where memory is refused: then the first is as before.
+fn join_again(table: &mut Table, other: &Table, before: &Table) -> Option<()> {
+    match table.join_in(other) {
+        Ok(()) => Some(()),
+        Err(AllocError) => {
+            if !same(table, before) {
+                return None;
+            }
+            table.join_in(other).ok()
+        }
     }
-    assert!(rt; entries.next().is_none());
 }
 
-fn assert_leaves(
-    rt: &impl Abort,
-    table: &Table,
-    ward_bits: u8,
-    want: &[(Prefix, PageNo)],
-) -> Result<(), AllocError>
+fn leaves_again(table: &Table, ward_bits: u8) -> Option<Vec<Leaf>>
     requires { ward_bits ≤ LIMIT }
 {
+    match table.leaves(ward_bits) {
+        Err(AllocError) => table.leaves(ward_bits).ok(),
+        Ok(leaves) => Some(leaves),
+    }
+}
+
+fn has_entries(table: &Table, want: &[(Place, Row)]) -> bool {
+    let mut entries = table.entries();
+    for (place, row) in want {
+        match entries.next() {
+            Some((prefix, told)) => {
+                if Some(*prefix) != prefix_of(*place) || *told != entry(*row) {
+                    return false;
+                }
+            }
+            None => return false,
+        }
+    }
+    entries.next().is_none()
+}
+
+fn are_leaves(table: &Table, ward_bits: u8, leaves: &[Leaf], want: &[(Place, PageNo)]) -> bool
+    requires { ward_bits ≤ LIMIT }
+{
+    for (leaf, (place, page)) in leaves.iter().zip(want) {
+        if Some(leaf.prefix) != prefix_of(*place)
+            || leaf.page != *page
+            || table.walk(ward_bits, leaf.prefix.low()) != *page
+        {
+            return false;
+        }
+    }
+    leaves.len() == want.len()
+}
+
+fn has_walks(table: &Table, ward_bits: u8, walks: &[(u64, PageNo)]) -> bool
+    requires { ward_bits ≤ LIMIT }
+{
+    for (pseudokey, page) in walks {
+        if table.walk(ward_bits, *pseudokey) != *page {
+            return false;
+        }
+    }
+    true
+}
+
+// A notice, and the entry that stood at its prefix.
+type Told = (Place, Row, Option<Row>);
+
+// The ward bits, what is told, and what the table is then: entries, depth, leaves, and walks beside
+// those to the leaves' low bounds.
+type Story = (
+    u8,
+    &'static [Told],
+    &'static [(Place, Row)],
+    u8,
+    &'static [(Place, PageNo)],
+    &'static [(u64, PageNo)],
+);
+
+const FOUR_WARDS: &[(Place, PageNo)] = &[
+    ((2, 0), 0),
+    ((2, QUARTER), 0),
+    ((2, HALF), 0),
+    ((2, HALF + QUARTER), 0),
+];
+
+const STORIES: [Story; 9] = [
+    (0, &[], &[], 0, &[(ROOT, 0)], &[(u64::MAX, 0)]),
+    (
+        0,
+        &[(ROOT, (1, Some(1)), None)],
+        &[(ROOT, (1, Some(1)))],
+        1,
+        &[(LEFT, 0), (RIGHT, 1)],
+        &[],
+    ),
+    // A split at the root and then a merge there, in either order, and the first of them twice.
+    (
+        0,
+        &[(ROOT, (1, Some(1)), None), (ROOT, (2, None), Some((1, Some(1))))],
+        &[(ROOT, (2, None))],
+        0,
+        &[(ROOT, 0)],
+        &[],
+    ),
+    (
+        0,
+        &[
+            (ROOT, (2, None), None),
+            (ROOT, (1, Some(1)), Some((2, None))),
+            (ROOT, (1, Some(1)), Some((2, None))),
+        ],
+        &[(ROOT, (2, None))],
+        0,
+        &[(ROOT, 0)],
+        &[],
+    ),
+    // The split at `0` is told before the split at the root: until then no walk comes to it.
+    (
+        0,
+        &[(LEFT, (1, Some(2)), None)],
+        &[(LEFT, (1, Some(2)))],
+        0,
+        &[(ROOT, 0)],
+        &[(QUARTER, 0)],
+    ),
+    (
+        0,
+        &[(LEFT, (1, Some(2)), None), (ROOT, (1, Some(1)), None)],
+        &[(ROOT, (1, Some(1))), (LEFT, (1, Some(2)))],
+        2,
+        &[((2, 0), 0), ((2, QUARTER), 2), (RIGHT, 1)],
+        &[(u64::MAX, 1)],
+    ),
+    // Four wards begin with page 0 each. A split above them is none of a walk's.
+    (2, &[], &[], 2, FOUR_WARDS, &[]),
+    (
+        2,
+        &[(RIGHT, (1, Some(7)), None)],
+        &[(RIGHT, (1, Some(7)))],
+        2,
+        FOUR_WARDS,
+        &[],
+    ),
+    (
+        2,
+        &[(RIGHT, (1, Some(7)), None), ((2, HALF + QUARTER), (1, Some(1)), None)],
+        &[(RIGHT, (1, Some(7))), ((2, HALF + QUARTER), (1, Some(1)))],
+        3,
+        &[
+            ((2, 0), 0),
+            ((2, QUARTER), 0),
+            ((2, HALF), 0),
+            ((3, HALF + QUARTER), 0),
+            ((3, 0xe000_0000_0000_0000), 1),
+        ],
+        &[(u64::MAX, 1), (0xbfff_ffff_ffff_ffff, 0)],
+    ),
+];
+
+// Whether what is told stood as wanted.
+fn tell(table: &mut Table, told: &[Told]) -> Option<bool> {
+    for (place, row, stood) in told {
+        let notice = notice(*place, *row)?;
+        let before = table.get(notice.prefix);
+        if take_again(table, &notice)? != before || before != stood.map(entry) {
+            return Some(false);
+        }
+    }
+    Some(true)
+}
+
+fn has_directory(table: &Table, story: &Story) -> Option<bool> {
+    let (ward_bits, _, _, depth, want, walks) = *story;
+    if ward_bits > LIMIT {
+        return None;
+    }
     let leaves = leaves_again(table, ward_bits)?;
-    assert_eq!(rt; leaves.len(), want.len());
-    for (leaf, (prefix, page)) in leaves.iter().zip(want) {
-        assert_eq!(rt; leaf.prefix, *prefix);
-        assert_eq!(rt; leaf.page, *page);
-        assert_eq!(rt; table.walk(ward_bits, leaf.prefix.low()), *page);
+    Some(
+        table.depth(ward_bits) == depth
+            && are_leaves(table, ward_bits, leaves.as_slice(), want)
+            && has_walks(table, ward_bits, walks),
+    )
+}
+
+fn is_told(table: &mut Table, story: &Story) -> bool {
+    tell(table, story.1) == Some(true)
+        && has_entries(table, story.2)
+        && has_directory(table, story) == Some(true)
+}
+
+fn wrong_story(alloc: Global) -> Option<usize> {
+    for (at, story) in STORIES.iter().enumerate() {
+        if !is_told(&mut Table::new(alloc), story) {
+            return Some(at);
+        }
     }
-    Ok(())
-}
-
-const HALF: u64 = 0x8000_0000_0000_0000;
-
-const QUARTER: u64 = 0x4000_0000_0000_0000;
-
-#[test]
-fn a_new_table_names_page_0(rt: HostRuntime) -> Result<(), Fail> {
-    let table = Table::new(rt.alloc());
-    let empty = prefix_of(&rt, 0, 0);
-    assert_eq!(rt; table.get(empty), None);
-    assert_entries(&rt, &table, &[]);
-    assert_eq!(rt; table.depth(0), 0);
-    assert_leaves(&rt, &table, 0, &[(empty, 0)])?;
-    assert_eq!(rt; table.walk(0, u64::MAX), 0);
-    Ok(())
-}
-
-// A split at `-` and then a merge there, taken in either order, and the first of them twice.
-#[test]
-fn the_greater_number_stays(rt: HostRuntime) -> Result<(), Fail> {
-    let empty = prefix_of(&rt, 0, 0);
-    let first = notice(1, empty, split(1, 1));
-    let second = notice(2, empty, entry(2, Kind::Merge));
-    let mut early = Table::new(rt.alloc());
-    assert_eq!(rt; take_again(&rt, &mut early, &first)?, None);
-    assert_eq!(rt; early.depth(0), 1);
-    let halves = [(prefix_of(&rt, 1, 0), 0), (prefix_of(&rt, 1, HALF), 1)];
-    assert_leaves(&rt, &early, 0, &halves)?;
-    assert_eq!(rt; take_again(&rt, &mut early, &second)?, Some(split(1, 1)));
-    let mut late = Table::new(rt.alloc());
-    assert_eq!(rt; take_again(&rt, &mut late, &second)?, None);
-    let stood = Some(entry(2, Kind::Merge));
-    assert_eq!(rt; take_again(&rt, &mut late, &first)?, stood);
-    assert_eq!(rt; take_again(&rt, &mut late, &first)?, stood);
-    for table in [&early, &late] {
-        assert_entries(&rt, table, &[(empty, entry(2, Kind::Merge))]);
-        assert_eq!(rt; table.depth(0), 0);
-        assert_leaves(&rt, table, 0, &[(empty, 0)])?;
-    }
-    assert!(rt; same(&early, &late));
-    Ok(())
-}
-
-// The split at `0` is told before the split at `-`: until then no walk comes to it.
-#[test]
-fn a_split_is_met_after_the_one_above(rt: HostRuntime) -> Result<(), Fail> {
-    let empty = prefix_of(&rt, 0, 0);
-    let left = prefix_of(&rt, 1, 0);
-    let mut table = Table::new(rt.alloc());
-    take_again(&rt, &mut table, &notice(2, left, split(1, 2)))?;
-    assert_eq!(rt; table.walk(0, QUARTER), 0);
-    assert_leaves(&rt, &table, 0, &[(empty, 0)])?;
-    take_again(&rt, &mut table, &notice(1, empty, split(1, 1)))?;
-    assert_eq!(rt; table.walk(0, QUARTER), 2);
-    assert_eq!(rt; table.walk(0, 0), 0);
-    assert_eq!(rt; table.walk(0, u64::MAX), 1);
-    assert_entries(&rt, &table, &[(empty, split(1, 1)), (left, split(1, 2))]);
-    assert_eq!(rt; table.depth(0), 2);
-    let leaves = [
-        (prefix_of(&rt, 2, 0), 0),
-        (prefix_of(&rt, 2, QUARTER), 2),
-        (prefix_of(&rt, 1, HALF), 1),
-    ];
-    assert_leaves(&rt, &table, 0, &leaves)?;
-    Ok(())
-}
-
-// A late table takes nothing back, whichever joins the other.
-#[test]
-fn a_late_table_takes_nothing_back(rt: HostRuntime) -> Result<(), Fail> {
-    let empty = prefix_of(&rt, 0, 0);
-    let right = prefix_of(&rt, 1, HALF);
-    let mut late = Table::new(rt.alloc());
-    take_again(&rt, &mut late, &notice(1, empty, split(1, 1)))?;
-    take_again(&rt, &mut late, &notice(2, right, split(1, 2)))?;
-    let mut table = Table::new(rt.alloc());
-    take_again(&rt, &mut table, &notice(3, empty, entry(2, Kind::Merge)))?;
-    assert!(rt; !table.at_most(&late) && !late.at_most(&table));
-    let mut other = clone_again(&late)?;
-    assert!(rt; same(&other, &late));
-    join_again(&rt, &mut other, &table)?;
-    join_again(&rt, &mut table, &late)?;
-    let want = [(empty, entry(2, Kind::Merge)), (right, split(1, 2))];
-    for joined in [&table, &other] {
-        assert_entries(&rt, joined, &want);
-        assert!(rt; late.at_most(joined));
-        assert_eq!(rt; joined.depth(0), 0);
-    }
-    assert_entries(&rt, &late, &[(empty, split(1, 1)), (right, split(1, 2))]);
-    Ok(())
-}
-
-// At equal numbers a merge stands before a split, and splits are ordered by right page.
-#[test]
-fn equal_numbers_go_by_kind(rt: HostRuntime) -> Result<(), Fail> {
-    let empty = prefix_of(&rt, 0, 0);
-    let rising = [entry(3, Kind::Merge), split(3, 0), split(3, 2)];
-    for (less, more) in rising.iter().zip(&rising[1..]) {
-        let mut up = Table::new(rt.alloc());
-        take_again(&rt, &mut up, &notice(1, empty, *less))?;
-        let mut down = Table::new(rt.alloc());
-        take_again(&rt, &mut down, &notice(1, empty, *more))?;
-        assert!(rt; up.at_most(&down) && !down.at_most(&up));
-        join_again(&rt, &mut down, &up)?;
-        assert_entries(&rt, &down, &[(empty, *more)]);
-        join_again(&rt, &mut up, &down)?;
-        assert_entries(&rt, &up, &[(empty, *more)]);
-    }
-    Ok(())
+    None
 }
 
 #[test]
-fn what_stood_is_put_back(rt: HostRuntime) -> Result<(), Fail> {
-    let empty = prefix_of(&rt, 0, 0);
-    let left = prefix_of(&rt, 1, 0);
-    let mut table = Table::new(rt.alloc());
-    take_again(&rt, &mut table, &notice(1, empty, split(1, 1)))?;
-    take_again(&rt, &mut table, &notice(2, empty, entry(2, Kind::Merge)))?;
-    take_again(&rt, &mut table, &notice(3, left, split(1, 2)))?;
-    assert!(rt; table.get(empty).is_some());
-    table.put_back(empty, Some(split(1, 1)));
-    assert_entries(&rt, &table, &[(empty, split(1, 1)), (left, split(1, 2))]);
-    assert!(rt; table.get(left).is_some());
-    table.put_back(left, None);
-    assert_entries(&rt, &table, &[(empty, split(1, 1))]);
-    Ok(())
-}
-
-// Four wards begin with page 0 each; the last of them is split.
-#[test]
-fn walks_begin_at_their_ward(rt: HostRuntime) -> Result<(), Fail> {
-    let mut table = Table::new(rt.alloc());
-    let wards = [
-        (prefix_of(&rt, 2, 0), 0),
-        (prefix_of(&rt, 2, QUARTER), 0),
-        (prefix_of(&rt, 2, HALF), 0),
-        (prefix_of(&rt, 2, HALF + QUARTER), 0),
-    ];
-    assert_leaves(&rt, &table, 2, &wards)?;
-    assert_eq!(rt; table.depth(2), 2);
-    // A split above the wards is none of a walk's.
-    take_again(
-        &rt,
-        &mut table,
-        &notice(1, prefix_of(&rt, 1, HALF), split(1, 7)),
-    )?;
-    assert_leaves(&rt, &table, 2, &wards)?;
-    take_again(
-        &rt,
-        &mut table,
-        &notice(1, prefix_of(&rt, 2, HALF + QUARTER), split(1, 1)),
-    )?;
-    assert_eq!(rt; table.depth(2), 3);
-    assert_eq!(rt; table.walk(2, u64::MAX), 1);
-    assert_eq!(rt; table.walk(2, 0xc000_0000_0000_0000), 0);
-    assert_eq!(rt; table.walk(2, 0xbfff_ffff_ffff_ffff), 0);
-    Ok(())
+fn stories_of_notices(rt: HostRuntime) {
+    assert_eq!(rt; wrong_story(rt.alloc()), None);
 }
 
 // Splits at 0 to 15 zeros are passed, one at 16 zeros isn't.
-#[test]
-fn walks_stop_at_16_bits(rt: HostRuntime) -> Result<(), Fail> {
-    let mut table = Table::new(rt.alloc());
+fn stops_at_16_bits(table: &mut Table) -> Option<bool> {
     for len in 0..17u8 {
-        let told = split(1, PageNo::from(len) + 1);
-        take_again(&rt, &mut table, &notice(1, prefix_of(&rt, len, 0), told))?;
+        take_again(table, &notice((len, 0), (1, Some(PageNo::from(len) + 1)))?)?;
     }
-    assert_eq!(rt; table.depth(0), 16);
-    assert_eq!(rt; leaves_again(&table, 0)?.len(), 17);
-    assert_eq!(rt; table.walk(0, 0x0001_0000_0000_0000), 16);
-    assert_eq!(rt; table.walk(0, 0x0000_8000_0000_0000), 0);
-    assert_eq!(rt; table.walk(0, 0), 0);
-    assert_eq!(rt; table.walk(0, HALF), 1);
-    Ok(())
+    let walks = [
+        (0x0001_0000_0000_0000, 16),
+        (0x0000_8000_0000_0000, 0),
+        (0, 0),
+        (HALF, 1),
+    ];
+    let count = leaves_again(table, 0)?.len();
+    Some(table.depth(0) == 16 && count == 17 && has_walks(table, 0, &walks))
 }
 
 #[test]
-fn replicas_of_tables(rt: HostRuntime) -> Result<(), Fail> {
-    let empty = prefix_of(&rt, 0, 0);
-    let mut first = Table::new(rt.alloc());
-    take_again(&rt, &mut first, &notice(1, empty, split(1, 1)))?;
-    let mut second = Table::new(rt.alloc());
-    take_again(
-        &rt,
-        &mut second,
-        &notice(2, prefix_of(&rt, 1, 0), split(1, 2)),
-    )?;
-    let mut replica = Replica::new(Table::new(rt.alloc()));
-    for table in [&second, &first] {
+fn walks_stop_at_16_bits(rt: HostRuntime) {
+    let mut table = Table::new(rt.alloc());
+    assert_eq!(rt; stops_at_16_bits(&mut table), Some(true));
+}
+
+// The entries of two tables, whether the first is at most the second, and their join's entries with
+// its depth.
+type Union = (
+    &'static [(Place, Row)],
+    &'static [(Place, Row)],
+    bool,
+    &'static [(Place, Row)],
+    u8,
+);
+
+const UNIONS: [Union; 4] = [
+    // A late table takes nothing back, whichever joins the other.
+    (
+        &[(ROOT, (1, Some(1))), (RIGHT, (1, Some(2)))],
+        &[(ROOT, (2, None))],
+        false,
+        &[(ROOT, (2, None)), (RIGHT, (1, Some(2)))],
+        0,
+    ),
+    // At equal numbers a merge stands before a split, and splits are ordered by right page.
+    (
+        &[(ROOT, (3, None))],
+        &[(ROOT, (3, Some(0)))],
+        true,
+        &[(ROOT, (3, Some(0)))],
+        1,
+    ),
+    (
+        &[(ROOT, (3, Some(0)))],
+        &[(ROOT, (3, Some(2)))],
+        true,
+        &[(ROOT, (3, Some(2)))],
+        1,
+    ),
+    // Each has what the other lacks.
+    (
+        &[(ROOT, (1, Some(1)))],
+        &[(LEFT, (1, Some(2)))],
+        false,
+        &[(ROOT, (1, Some(1))), (LEFT, (1, Some(2)))],
+        2,
+    ),
+];
+
+fn fill(table: &mut Table, entries: &[(Place, Row)]) -> Option<()> {
+    for (place, row) in entries {
+        take_again(table, &notice(*place, *row)?)?;
+    }
+    Some(())
+}
+
+// Whether a table joins another to these entries, of this depth, and stands below the join.
+fn joins_to(one: &Table, other: &Table, want: &[(Place, Row)], depth: u8) -> Option<bool> {
+    let mut joined = clone_again(one)?;
+    join_again(&mut joined, other, one)?;
+    Some(has_entries(&joined, want) && joined.depth(0) == depth && one.at_most(&joined))
+}
+
+fn takes_both(replica: &mut Replica<Table>, one: &Table, other: &Table) -> Option<()> {
+    for table in [other, one] {
         if replica.take(table).is_err() {
-            replica.take(table)?;
+            replica.take(table).ok()?;
         }
     }
-    let tables = [first, second];
+    Some(())
+}
+
+// Whether a replica that takes both, and `join_all`, come to these entries.
+fn replicas_meet(alloc: Global, one: &Table, other: &Table, want: &[(Place, Row)]) -> Option<bool> {
+    let mut replica = Replica::new(Table::new(alloc));
+    takes_both(&mut replica, one, other)?;
+    let tables = [clone_again(one)?, clone_again(other)?];
     let joined = match join_all(&tables) {
-        Err(AllocError) => join_all(&tables)?,
-        joined => joined?,
+        Err(AllocError) => join_all(&tables).ok()?,
+        Ok(joined) => joined,
     };
-    let joined = joined.ok_or("no table")?;
-    assert!(rt; same(replica.value(), &joined));
-    assert_eq!(rt; joined.depth(0), 2);
-    Ok(())
+    Some(has_entries(replica.value(), want) && has_entries(&joined?, want))
+}
+
+fn is_union(alloc: Global, one: &mut Table, other: &mut Table, union: &Union) -> Option<bool> {
+    let (first, second, is_below, want, depth) = *union;
+    fill(one, first)?;
+    fill(other, second)?;
+    Some(
+        one.at_most(other) == is_below
+            && !other.at_most(one)
+            && joins_to(one, other, want, depth)?
+            && joins_to(other, one, want, depth)?
+            && replicas_meet(alloc, one, other, want)?
+            && has_entries(one, first)
+            && has_entries(other, second),
+    )
+}
+
+fn wrong_union(alloc: Global) -> Option<usize> {
+    for (at, union) in UNIONS.iter().enumerate() {
+        if is_union(alloc, &mut Table::new(alloc), &mut Table::new(alloc), union) != Some(true) {
+            return Some(at);
+        }
+    }
+    None
+}
+
+#[test]
+fn joins_both_ways_round(rt: HostRuntime) {
+    assert_eq!(rt; wrong_union(rt.alloc()), None);
+}
+
+// Puts back what stood, if there is an entry to give way.
+fn put_back(table: &mut Table, place: Place, stood: Option<Row>) -> Option<()> {
+    let prefix = prefix_of(place)?;
+    if table.get(prefix).is_none() {
+        return None;
+    }
+    table.put_back(prefix, stood.map(entry));
+    Some(())
+}
+
+fn is_put_back(table: &mut Table) -> Option<bool> {
+    fill(
+        table,
+        &[(ROOT, (1, Some(1))), (ROOT, (2, None)), (LEFT, (1, Some(2)))],
+    )?;
+    put_back(table, ROOT, Some((1, Some(1))))?;
+    let is_first = has_entries(table, &[(ROOT, (1, Some(1))), (LEFT, (1, Some(2)))]);
+    put_back(table, LEFT, None)?;
+    Some(is_first && has_entries(table, &[(ROOT, (1, Some(1)))]))
+}
+
+#[test]
+fn what_stood_is_put_back(rt: HostRuntime) {
+    let mut table = Table::new(rt.alloc());
+    assert_eq!(rt; is_put_back(&mut table), Some(true));
 }
 
 #[test]
