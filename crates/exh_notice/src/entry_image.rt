@@ -13,7 +13,8 @@ use exh_prefix::{LIMIT, Prefix};
 pub const ENTRY_IMAGE_LEN: usize = 16;
 
 impl Entry {
-    /// The image of the entry at a prefix, in a ward (exhash profile). It takes no memory.
+    /// The image of the entry at a prefix, in a ward, in the first version of the page file (exhash
+    /// profile). It takes no memory.
     pub fn to_image(&self, ward: u8, prefix: Prefix) -> [u8; ENTRY_IMAGE_LEN]
         requires { length prefix < LIMIT }
         ensures { result ≡ entry_image first_version ward prefix self.now }
@@ -28,9 +29,9 @@ impl Entry {
         image
     }
 
-    /// The ward, the prefix and the entry that have this image (exhash profile): a `NoticeFault` by
-    /// the first test that the bytes fail, of their kind, their padding and their prefix. It takes no
-    /// memory.
+    /// The ward, the prefix and the entry that have this image in the first version (exhash profile):
+    /// a `NoticeFault` by the first test that the bytes fail, of their kind, their padding and their
+    /// prefix. It takes no memory.
     pub fn from_image(image: &[u8; ENTRY_IMAGE_LEN]) -> Result<(u8, Prefix, Entry), NoticeFault>
         ensures ok { IfOk result (λ read. IsEntryImage first_version read.0 read.1 read.2 image.now) }
         ensures every { (ward : ℕ) (prefix : List Bool) (entry : EntryValue) → IsEntryImage first_version ward prefix entry image.now → result ≡ Ok (ward, prefix, entry) }

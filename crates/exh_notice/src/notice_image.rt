@@ -11,7 +11,8 @@ use byteorder::{BigEndian, ByteOrder};
 pub const NOTICE_IMAGE_LEN: usize = 24;
 
 impl Notice {
-    /// The image of the notice (exhash profile): its entry's, then its index. It takes no memory.
+    /// The image of the notice in the first version of the page file (exhash profile): its entry's,
+    /// then its index. It takes no memory.
     pub fn to_image(&self) -> [u8; NOTICE_IMAGE_LEN]
         requires { length self.now.prefix < LIMIT }
         ensures { result ≡ notice_image first_version self.now }
@@ -22,7 +23,7 @@ impl Notice {
         image
     }
 
-    /// The notice that has this image (exhash profile): a `NoticeFault` as `Entry::from_image` gives
+    /// The notice that has this image in the first version (exhash profile): a `NoticeFault` as `Entry::from_image` gives
     /// it for the first 16 bytes. It takes no memory.
     pub fn from_image(image: &[u8; NOTICE_IMAGE_LEN]) -> Result<Notice, NoticeFault>
         ensures ok { IfOk result (λ notice. IsNoticeImage first_version notice image.now) }
