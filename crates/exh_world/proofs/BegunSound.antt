@@ -74,7 +74,6 @@ module _ {K : Type 0} (pseudokey_of : K → List ℕ → ℕ) (old : WorldState 
     number_is = is.number_is;
     keyer = is.keyer;
     sound = is.sound;
-    notices = is.notices;
     before = is.before;
     noticed = is.noticed;
     first = is.first;

@@ -103,7 +103,6 @@ module _ {K : Type 0} (pseudokey_of : K → List ℕ → ℕ) where
       number_is = refl;
       keyer = refl;
       sound = is;
-      notices = λ notice member. absurd (let none : ⊥ = omega (arith, member.1) in none);
       before = 0;
       noticed = replicate_there (2 ^ config.ward_bits) 0 number within;
       first = omega arith;

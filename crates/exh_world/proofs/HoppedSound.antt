@@ -1,6 +1,6 @@
 -- A world stays sound where a request hops, and no hop of a sound world strays.
 use Rattle.std.proofs.Common.{◌≡◌, ℕ, List, length, drop, slice_get, Option, None, Some, inl, inr, refl, sym, ap, ◌∙◌, subst, arith}
-use Rattle.std.specs.Prelude.{slice_set, Contains, ◌↔◌}
+use Rattle.std.specs.Prelude.{slice_set, ◌↔◌}
 use Rattle.std.specs.Option.{option_map_or}
 use Rattle.std.proofs.lemmas.Bool.{cases_eq}
 use Rattle.exh_prefix.specs.Prefix.{Begins}
@@ -24,7 +24,7 @@ use Rattle.exh_world.specs.World.{WorldState}
 use Rattle.exh_world.specs.declared.request.Request.{Request}
 use Rattle.exh_world.specs.ListLemmas.{set_here, set_else, set_same, one_there}
 use Rattle.exh_world.specs.RequestLemmas.{AllRequests, all_weaker, all_without, all_moved}
-use Rattle.exh_world.proofs.SoundKept.{notice_kept, after, way_kept, sound_after}
+use Rattle.exh_world.proofs.SoundKept.{after, way_kept, sound_after}
 use Rattle.exh_world.proofs.BegunSound.{requests_sound}
 
 -- ---- a page with other records keeps its place
@@ -128,7 +128,6 @@ module _ {K : Type 0} (pseudokey_of : K → List ℕ → ℕ) (old : WorldState 
           number_is = ap (λ (w : WardState K). w.number) answered.others ∙ is_own.number_is;
           keyer = ap (λ (w : WardState K). w.keyer) answered.others ∙ is_own.keyer;
           sound = left_sound;
-          notices = λ told is. notice_kept before.pages left.pages places own told (is_own.notices told (subst (λ ns. Contains ns told) notices_are is));
           before = is_own.before;
           noticed = is_own.noticed;
           first = omega (arith, is_own.first, ap length notices_are);

@@ -9,7 +9,6 @@ use Rattle.exh_notice.specs.declared.notice.Notice.{Notice}
 use Rattle.exh_table.specs.Leaves.{PrefixSet, after_kind, leaves_after}
 use Rattle.exh_table.specs.Table.{TableMap}
 use Rattle.exh_page.specs.declared.page.Page.{Page}
-use Rattle.exh_legal.specs.Fit.{IsTrueNotice}
 use Rattle.exh_legal.specs.Growth.{IsPageOf}
 use Rattle.exh_legal.specs.Laws.{KeepsPlaces}
 use Rattle.exh_legal.specs.Pages.{ward_prefix}
@@ -32,9 +31,6 @@ module _ (pages new : List Page) (places : KeepsPlaces pages new) where
 
   pub leads_kept : (ward : List Bool) (table : TableMap) → LeadsRight ward pages table → LeadsRight ward new table
   leads_kept ward table leads prefix right front split = page_kept (low_of (prefix ++ true ∷ [])) right (leads prefix right front split)
-
-  pub notice_kept : (ward : List Bool) (notice : Notice) → IsTrueNotice ward pages notice → IsTrueNotice ward new notice
-  notice_kept ward notice is = record { within = is.within; right = λ right kind. page_kept (low_of (notice.prefix ++ true ∷ [])) right (is.right right kind) }
 
 -- ---- leaves after one change more
 
@@ -75,7 +71,6 @@ module _ {K : Type 0} (pseudokey_of : K → List ℕ → ℕ) (old : WorldState 
     number_is = is.number_is;
     keyer = is.keyer;
     sound = is.sound;
-    notices = is.notices;
     before = is.before;
     noticed = is.noticed;
     first = is.first;

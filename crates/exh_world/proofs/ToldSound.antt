@@ -32,7 +32,6 @@ module _ {K : Type 0} (pseudokey_of : K → List ℕ → ℕ) (old : WorldState 
       number_is = is.number_is;
       keyer = is.keyer;
       sound = is.sound;
-      notices = is.notices;
       before = is.before;
       noticed = is.noticed;
       first = is.first;
@@ -85,7 +84,8 @@ module _ {K : Type 0} (pseudokey_of : K → List ℕ → ℕ) (old : WorldState 
   pub notice_leads : (number : ℕ) (notice : Notice) (table : TableMap) → Contains (issued_in old number) notice → LeadsRightIn old table → LeadsRightIn old (table_with table notice)
   notice_leads number notice table issued leads other ward is =
       let from = issued_by number notice (slice_get old.wards number) refl issued in
-      let holds = (sound.wards number from.0 from.1).notices notice from.2 in
+      let of = sound.wards number from.0 from.1 in
+      let holds = subst (λ own. IsTrueNotice own from.0.pages notice) (λ i. ward_prefix (of.bits i) (of.number_is i)) (of.sound.notices notice from.2) in
       leads_with (ward_prefix old.ward_bits other) ward.pages table (leads other ward is) notice (λ front.
       let same = one_ward number other notice.prefix (within number from.0 from.1) (within other ward is) holds.within front in
       let twin : ward ≡ from.0 = let both : Some ward ≡ Some from.0 = sym is ∙ ap (slice_get old.wards) (sym same) ∙ from.1 in cc in

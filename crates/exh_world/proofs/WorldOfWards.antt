@@ -18,7 +18,6 @@ use Rattle.exh_table.specs.TableOrder.{table_join}
 use Rattle.exh_table.specs.Walk.{right_of, split_at, step, walk_on, walk_in}
 use Rattle.exh_page.specs.Page.{low_bound}
 use Rattle.exh_legal.specs.BareLemmas.{at_bare, bare_low}
-use Rattle.exh_legal.specs.Fit.{AreTrueNotices}
 use Rattle.exh_legal.specs.Laws.{IsWard, WalksNameHomes}
 use Rattle.exh_legal.specs.LowLemmas.{own_front, front_shorter, front_of_longer, low_of-small, begins_own_low}
 use Rattle.exh_legal.specs.Pages.{ward_prefix}
@@ -156,7 +155,6 @@ module _ {K : Type 0} (pseudokey_of : K → List ℕ → ℕ) (config : Config K
       number_is = suits.number_is;
       keyer = suits.keyer;
       sound = sound_shown pseudokey_of ward (sound number ward is);
-      notices = subst (λ prefix. AreTrueNotices prefix ward.pages ward.notices) (λ i. ward_prefix (suits.bits i) (suits.number_is i)) (sound number ward is).notices;
       before = length ward.notices;
       noticed = map_there (λ (w : WardState K). length w.notices) wards number ward is;
       first = omega arith;

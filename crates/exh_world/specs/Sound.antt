@@ -1,15 +1,13 @@
 -- What every world keeps.
-use Rattle.std.specs.Prelude.{◌≡◌, ◌↔◌, ℕ, ◌^◌, ◌<◌, ◌≤◌, Bool, true, List, [], ◌∷◌, ◌++◌, length, drop, slice_get, Some, Contains}
+use Rattle.std.specs.Prelude.{◌≡◌, ◌↔◌, ℕ, ◌^◌, ◌<◌, ◌≤◌, Bool, true, List, [], ◌∷◌, ◌++◌, length, drop, slice_get, Some}
 use Rattle.std.specs.List.{AllByRecursion}
 use Rattle.exh_prefix.specs.declared.prefix.TheConstants.{LIMIT}
 use Rattle.exh_prefix.specs.Prefix.{IsFront, Begins, low_of}
-use Rattle.exh_notice.specs.declared.notice.Notice.{Notice}
 use Rattle.exh_table.specs.Leaves.{ward_leaves}
 use Rattle.exh_table.specs.Table.{TableMap}
 use Rattle.exh_table.specs.Walk.{split_at}
 use Rattle.exh_page.specs.declared.page.Page.{Page}
 use Rattle.exh_page.specs.Page.{low_bound}
-use Rattle.exh_legal.specs.Fit.{IsTrueNotice}
 use Rattle.exh_legal.specs.Growth.{IsPageOf}
 use Rattle.exh_legal.specs.Pages.{IsAt, ward_prefix}
 use Rattle.exh_ward.specs.Call.{key_of}
@@ -32,7 +30,6 @@ pub record IsWardOf {K : Type 0} (pseudokey_of : K → List ℕ → ℕ) (world 
   pub number_is : ward.number ≡ number
   pub keyer : ward.keyer ≡ world.keyer
   pub sound : IsSoundWard pseudokey_of ward
-  pub notices : (notice : Notice) → Contains ward.notices notice → IsTrueNotice (ward_prefix world.ward_bits number) ward.pages notice
   -- the notices that it had when the world was made are its first ones
   pub before : ℕ
   pub noticed : slice_get world.noticed number ≡ Some before
