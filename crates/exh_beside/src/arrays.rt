@@ -6,7 +6,7 @@ ghost use Rattle.exh_prefix.specs.declared.prefix.TheConstants.{LIMIT};
 
 use crate::again::again;
 use crate::dice::Dice;
-use crate::difference::{Difference, same};
+use crate::difference::{Difference, Part, same};
 use crate::job::USUAL_ROUNDS;
 use crate::lie::Lie;
 use crate::notices::{add, merge, split};
@@ -17,23 +17,11 @@ use exh_prefix::{PageNo, Prefix};
 use exh_table::{Leaf, Table};
 use std::alloc::{AllocError, Global};
 
-// The notices of a round.
-const NOTICES: u32 = 2;
-
-// The runs of each number of ward bits.
-const RUNS: u32 = 5;
-
 /// Tells directories of one ward and of four.
 pub(crate) fn run(run: &mut Run) -> Result<(), Difference> {
     for ward_bits in [0, 2] {
-        let mut has_changed = false;
-        for _ in 0..RUNS {
-            has_changed |= run_directory(run, ward_bits)?;
-        }
-        run.tally.check(same(
-            has_changed || run.rounds < USUAL_ROUNDS,
-            "an array that is doubled and halved",
-        ));
+        let has_changed = run_directory(run, ward_bits)?;
+        run.tally.check(same(has_changed || run.rounds < USUAL_ROUNDS, Part::Seldom));
     }
     Ok(())
 }
@@ -65,13 +53,12 @@ pub(crate) fn take(directory: &mut Directory, notice: &Notice) -> Result<(), All
     Ok(())
 }
 
+// A notice each round.
 fn next_notices(run: &mut Run) -> Result<Vec<Notice>, Difference> {
     let mut notices = Vec::new(run.alloc);
     for round in 0..run.rounds {
-        for _ in 0..NOTICES {
-            let notice = next_notice(&mut run.dice, round);
-            add(&mut notices, &notice.ok_or(Difference::Apart("no notice"))?)?;
-        }
+        let notice = next_notice(&mut run.dice, round);
+        add(&mut notices, &notice.ok_or(Difference::Apart(Part::Run))?)?;
     }
     Ok(notices)
 }
@@ -80,7 +67,7 @@ fn next_notices(run: &mut Run) -> Result<Vec<Notice>, Difference> {
 // a lower one may come after a higher.
 fn next_notice(dice: &mut Dice, round: u32) -> Option<Notice> {
     let prefix = next_prefix(dice)?;
-    let number = (round / 25).saturating_add(u32::try_from(dice.roll(3)).ok()?);
+    let number = (round / 50).saturating_add(u32::try_from(dice.roll(3)).ok()?);
     let number = number.saturating_add(1);
     if number % 2 == 0 {
         return Some(merge(1, prefix, number));
@@ -135,16 +122,16 @@ fn is_array(directory: &Directory, ward_bits: u8, lie: &mut Lie) -> Result<(), D
     let leaves = leaves_of(table, ward_bits)?;
     let depth = table.depth(ward_bits);
     let is_depth = directory.depth(ward_bits) == depth && directory.pointers().depth() == depth;
-    same(is_depth, "the depth of an array")?;
+    same(is_depth, Part::Depth)?;
     for leading in 0..64u64 {
         let pseudokey = leading << 58;
         let leaf = leaves.iter().find(|leaf| leaf.prefix.begins(pseudokey));
-        let leaf = leaf.ok_or(Difference::Apart("no leaf"))?;
+        let leaf = leaf.ok_or(Difference::Apart(Part::Pointer))?;
         let page = lie.number(table.walk(ward_bits, pseudokey));
         points_to(directory, ward_bits, pseudokey, page)?;
-        same(leaf.page == page, "the page of a leaf")?;
+        same(leaf.page == page, Part::Pointer)?;
         let local_depth = directory.pointers().local_depth(pseudokey);
-        same(local_depth == leaf.prefix.len(), "a local depth")?;
+        same(local_depth == leaf.prefix.len(), Part::Depth)?;
     }
     Ok(())
 }
@@ -168,7 +155,7 @@ fn points_to(
     let is_walk = directory.walk(ward_bits, pseudokey) == page;
     same(
         is_walk && directory.pointers().page(pseudokey) == page,
-        "the page that an array names",
+        Part::Pointer,
     )
 }
 
@@ -203,7 +190,7 @@ fn is_joined(
     again!(Err(AllocError) => joined.join_in(other.table()))?;
     same(
         joined.table().entries().eq(all.table().entries()),
-        "the entries of joined tables",
+        Part::Entries,
     )?;
     is_array(joined, ward_bits, lie)
 }

@@ -4,7 +4,7 @@ use exh_page::{Key, SizeFault, Value};
 use exh_ward::Call;
 
 /// A call: its key, and of a put the value.
-#[derive(Clone, Copy, Debug)]
+#[derive(Clone, Copy)]
 pub(crate) enum Asked<'a> {
     Get(&'a [u8]),
     Put(&'a [u8], &'a [u8]),

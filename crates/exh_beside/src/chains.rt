@@ -2,7 +2,7 @@
 
 use crate::again::again;
 use crate::arrays::{new_directory, take};
-use crate::difference::{Difference, same};
+use crate::difference::{Difference, Part, same};
 use crate::notices::{merge, split};
 use crate::run::Run;
 use exh_array::{Directory, Pointers};
@@ -22,7 +22,7 @@ pub(crate) fn run(run: &mut Run) -> Result<(), Difference> {
 
 // The prefix of so many zeros.
 fn zeros_of(zeros: u8) -> Result<Prefix, Difference> {
-    Prefix::new(zeros, 0).ok_or(Difference::Apart("no prefix"))
+    Prefix::new(zeros, 0).ok_or(Difference::Apart(Part::Run))
 }
 
 // Splits at so many zeros, to the page after their number. The directory is then so deep.
@@ -30,7 +30,7 @@ fn split_zeros(directory: &mut Directory, zeros: u8, depth: u8) -> Result<(), Di
     let right = PageNo::from(zeros) + 1;
     let notice = split(1, zeros_of(zeros)?, 1, right);
     take(directory, &notice)?;
-    same(directory.depth(0) == depth, "the depth after a split")
+    same(directory.depth(0) == depth, Part::Depth)
 }
 
 // Merges at so many zeros. The directory is then so deep, and its first pointer too.
@@ -38,16 +38,13 @@ fn merge_zeros(directory: &mut Directory, zeros: u8) -> Result<(), Difference> {
     let notice = merge(1, zeros_of(zeros)?, 2);
     take(directory, &notice)?;
     let is_depth = directory.depth(0) == zeros && directory.pointers().local_depth(0) == zeros;
-    same(
-        is_depth && directory.walk(0, 0) == 0,
-        "an array after a merge",
-    )
+    same(is_depth && directory.walk(0, 0) == 0, Part::Pointer)
 }
 
 // The splits at 0 to 15 zeros: where the first 1 of a pseudokey comes after fewer than 16 zeros, it
 // is on the page after their number, and else on page 0.
 fn is_chain(directory: &Directory) -> Result<(), Difference> {
-    same(directory.pointers().depth() == 16, "the depth of a chain")?;
+    same(directory.pointers().depth() == 16, Part::Depth)?;
     for zeros in 0..16u8 {
         for pseudokey in [0x8000_0000_0000_0000 >> zeros, u64::MAX >> zeros] {
             is_at(directory, pseudokey, PageNo::from(zeros) + 1, zeros + 1)?;
@@ -70,7 +67,7 @@ fn is_at(
     let is_page = pointers.page(pseudokey) == page;
     same(
         is_page && pointers.local_depth(pseudokey) == local_depth,
-        "a pointer of a chain",
+        Part::Pointer,
     )
 }
 
@@ -118,20 +115,20 @@ fn run_merge_at_the_root(run: &mut Run) -> Result<(), Difference> {
     split_from_the_shortest(run, &mut directory);
     run.tally.step(merge_zeros(&mut directory, 0));
     let is_root = directory.walk(0, u64::MAX) == 0;
-    run.tally.check(same(is_root, "the page after the merge"));
+    run.tally.check(same(is_root, Part::Pointer));
     Ok(())
 }
 
 // As many wards as there may be: none of them can be split.
 fn has_most_wards(run: &Run) -> Result<(), Difference> {
     let pointers = again!(Err(AllocError) => Pointers::new(run.alloc, 16))?;
-    same(pointers.depth() == 16, "the depth of the most wards")?;
+    same(pointers.depth() == 16, Part::Depth)?;
     for leading in 0..0x1_0000_u64 {
         let pseudokey = leading << 48;
         let is_page = pointers.page(pseudokey) == 0;
         same(
             is_page && pointers.local_depth(pseudokey) == 16,
-            "a pointer of the most wards",
+            Part::Pointer,
         )?;
     }
     Ok(())

@@ -2,7 +2,7 @@
 ghost use Rattle.std.specs.Prelude.{◌<◌};
 
 /// Numbers that look random, the same ones for a seed: those of a linear congruence mod 2^64.
-#[derive(Clone, Copy, Debug)]
+#[derive(Clone, Copy)]
 pub(crate) struct Dice {
     state: u64,
 }

@@ -4,7 +4,7 @@ use crate::kind::RunKind;
 
 /// What the program's words ask for: the seed of the dice, how long the random runs are, the one kind
 /// of run that is made where not all are, and whether the slow code gives one wrong answer in each.
-#[derive(Clone, Copy, Debug)]
+#[derive(Clone, Copy)]
 pub(crate) struct Job {
     pub(crate) seed: u64,
     pub(crate) rounds: u32,
@@ -16,7 +16,7 @@ pub(crate) struct Job {
 pub(crate) const USAGE: &str = "usage: exh_beside [SEED ROUNDS [all|KIND [wrong]]]";
 
 /// The rounds of a run with no words. As many are enough for all that may come up in a run.
-pub(crate) const USUAL_ROUNDS: u32 = 100;
+pub(crate) const USUAL_ROUNDS: u32 = 1200;
 
 impl Job {
     /// All kinds of run, at their usual length.

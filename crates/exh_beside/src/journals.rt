@@ -3,7 +3,7 @@
 
 use crate::again::again;
 use crate::calls::Asked;
-use crate::difference::{Difference, same};
+use crate::difference::{Difference, Part, same};
 use crate::notices::{prefix, split};
 use crate::run::Run;
 use crate::small_ward::{PlainWard, first_store};
@@ -22,14 +22,13 @@ type Line = (u32, Call, Reply);
 /// Takes the calls and the steps.
 pub(crate) fn run(run: &mut Run) -> Result<(), Difference> {
     let lines = lines()?;
-    let root = prefix("").ok_or(Difference::Apart("no prefix"))?;
+    let root = prefix("").ok_or(Difference::Apart(Part::Run))?;
     let steps = steps(root)?;
     run_journal(run, &lines)?;
     run_strays(run, &steps)?;
     run_covers(run)?;
-    let refusals = refusals();
-    for (fault, number, text) in refusals {
-        run.tally.step(has_text(run.alloc, fault, number, text));
+    for (fault, number, text) in &REFUSALS {
+        run.tally.step(has_text(run.alloc, *fault, *number, text));
     }
     Ok(())
 }
@@ -72,7 +71,7 @@ fn run_journal(run: &mut Run, lines: &[Line]) -> Result<(), Difference> {
 fn take_call(ward: &mut PlainWard, line: &Line, lies: bool) -> Result<(), Difference> {
     let (client, call, reply) = line;
     let hop = hop_of(ward, 0, *client, call)?;
-    same((hop == Hop::Done(*reply)) != lies, "a reply of a ward")
+    same((hop == Hop::Done(*reply)) != lies, Part::Reply)
 }
 
 // The journal has the entry at a place, and none after it.
@@ -82,7 +81,7 @@ fn has_entry(ward: &PlainWard, at: usize, line: &Line) -> Result<(), Difference>
     let is_entry = journal.get(at) == Some(JournalEntry::new(*client, call, reply));
     same(
         is_entry && journal.len() == at.saturating_add(1),
-        "an entry of a journal",
+        Part::Journal,
     )
 }
 
@@ -90,13 +89,13 @@ fn has_entry(ward: &PlainWard, at: usize, line: &Line) -> Result<(), Difference>
 fn has_journal(ward: &PlainWard, lines: &[Line]) -> Result<(), Difference> {
     let journal = ward.journal();
     let entries = lines.iter().map(|(client, call, reply)| JournalEntry::new(*client, call, reply));
-    same(journal.iter().eq(entries), "the entries of a journal")?;
+    same(journal.iter().eq(entries), Part::Journal)?;
     let is_end = journal.get(lines.len()).is_none() && journal.get(usize::MAX).is_none();
     same(
         is_end && journal.is_empty() == lines.is_empty(),
-        "the end of a journal",
+        Part::Journal,
     )?;
-    same(ward.base().pairs().is_empty(), "the map before a journal")
+    same(ward.base().pairs().is_empty(), Part::Journal)
 }
 
 // A key is turned away where two have its 16 leading bits, and the journal says so.
@@ -105,19 +104,19 @@ fn has_full_entry(ward: &mut PlainWard) -> Result<(), Difference> {
     let third = Asked::Put(b"\0\0\0", b"c").call()?;
     same(
         hop_of(ward, 0, 1, &second)? == Hop::Done(Reply::New),
-        "a reply of a ward",
+        Part::Reply,
     )?;
     for _ in 0..16 {
         let hop = hop_of(ward, 0, 1, &third)?;
-        same(hop == Hop::MustSplit, "a put that waits")?;
+        same(hop == Hop::MustSplit, Part::Reply)?;
         split_page(ward, 0)?;
     }
     let hop = hop_of(ward, 0, 1, &third)?;
-    same(hop == Hop::Done(Reply::Full), "a put that is turned away")?;
+    same(hop == Hop::Done(Reply::Full), Part::Reply)?;
     let last = ward.journal().iter().last();
     same(
         last == Some(JournalEntry::new(1, &third, &Reply::Full)),
-        "the entry of a put that is turned away",
+        Part::Journal,
     )
 }
 
@@ -148,7 +147,7 @@ fn run_strays(run: &mut Run, steps: &[WardStep]) -> Result<(), Difference> {
     let mut ward = plain_ward(run.alloc)?;
     for step in steps {
         let is_right = step.take(&mut ward) == Ok(true);
-        run.tally.step(same(is_right, "what a step comes to"));
+        run.tally.step(same(is_right, Part::Step));
     }
     Ok(())
 }
@@ -173,50 +172,47 @@ fn run_covers(run: &mut Run) -> Result<(), Difference> {
     let ward = Ward::new(run.alloc, store, 2, 2, 1, PlainKeyer);
     take_covers(run, &ward, &second);
     let is_empty = Base::new(run.alloc).pairs().is_empty();
-    run.tally.check(same(is_empty, "the map of no keys"));
+    run.tally.check(same(is_empty, Part::Map));
     Ok(())
 }
 
 fn take_covers(run: &mut Run, ward: &PlainWard, pseudokeys: &[(u64, bool)]) {
     for (pseudokey, want) in pseudokeys {
         let is_covered = ward.covers(*pseudokey);
-        run.tally
-            .step(same(is_covered == *want, "what a ward covers"));
+        run.tally.step(same(is_covered == *want, Part::Covered));
     }
 }
 
 // The refusals of a ward, with their numbers and texts.
-fn refusals() -> [(WardFault, u8, &'static str); 10] {
-    [
-        (WardFault::NoPage, 1, "no such page"),
-        (WardFault::NotLive, 3, "the page isn't live"),
-        (WardFault::NotFull, 4, "the page isn't full"),
-        (
-            WardFault::AtLimit,
-            5,
-            "the page's prefix has the greatest length",
-        ),
-        (WardFault::NoBuddy, 6, "the page is no left half"),
-        (WardFault::BuddySplit, 7, "the page's right buddy was split"),
-        (
-            WardFault::TooMany(17),
-            8,
-            "both pages have 17 records together",
-        ),
-        (
-            WardFault::Worn,
-            9,
-            "the number at the parent is the greatest",
-        ),
-        (WardFault::Memory, 10, "out of memory"),
-        (WardFault::Page, 11, "a page is out of reach"),
-    ]
-}
+const REFUSALS: [(WardFault, u8, &str); 10] = [
+    (WardFault::NoPage, 1, "no such page"),
+    (WardFault::NotLive, 3, "the page isn't live"),
+    (WardFault::NotFull, 4, "the page isn't full"),
+    (
+        WardFault::AtLimit,
+        5,
+        "the page's prefix has the greatest length",
+    ),
+    (WardFault::NoBuddy, 6, "the page is no left half"),
+    (WardFault::BuddySplit, 7, "the page's right buddy was split"),
+    (
+        WardFault::TooMany(17),
+        8,
+        "both pages have 17 records together",
+    ),
+    (
+        WardFault::Worn,
+        9,
+        "the number at the parent is the greatest",
+    ),
+    (WardFault::Memory, 10, "out of memory"),
+    (WardFault::Page, 11, "a page is out of reach"),
+];
 
 fn has_text(alloc: Global, fault: WardFault, number: u8, text: &str) -> Result<(), Difference> {
     let shown = again!(Err(AllocError) => fault.to_string(alloc))?;
     same(
         fault.number() == number && shown.as_str() == text,
-        "a refusal's number or text",
+        Part::Text,
     )
 }

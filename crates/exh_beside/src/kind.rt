@@ -12,7 +12,7 @@ use std::alloc::Global;
 use std::fmt;
 
 /// A kind of run.
-#[derive(Clone, Copy, Debug, PartialEq, Eq)]
+#[derive(Clone, Copy, PartialEq, Eq)]
 pub(crate) enum RunKind {
     /// The slow map machine, beside replies by hand.
     Machines,

@@ -3,7 +3,7 @@
 ghost use Rattle.std.specs.Prelude.{◌≤◌};
 ghost use Rattle.exh_prefix.specs.declared.prefix.TheConstants.{LIMIT};
 
-use crate::difference::{Difference, same};
+use crate::difference::{Difference, Part, same};
 use exh_keyer::{Keyer, PlainKeyer};
 use exh_model::MapMachine;
 use exh_page::{Key, Page, PageNo, Records};
@@ -21,26 +21,23 @@ pub(crate) fn are_linked(pages: &[Page], own: Prefix) -> Result<(), Difference> 
     let mut next = Some(0);
     let mut low = own.low();
     for _ in pages.iter().filter(|page| page.is_live()) {
-        let at: PageNo = next.ok_or(Difference::Apart("a live page that no right link leads to"))?;
+        let at: PageNo = next.ok_or(Difference::Apart(Part::Links))?;
         let (prefix, right) = live_at(pages, at)?;
-        same(prefix.low() == low, "the low bounds of live pages")?;
+        same(prefix.low() == low, Part::Links)?;
         let is_last = last_of(prefix) == last_of(own);
-        same(right.is_none() == is_last, "the last live page")?;
+        same(right.is_none() == is_last, Part::Links)?;
         low = last_of(prefix).wrapping_add(1);
         next = right;
     }
-    same(next.is_none(), "a right link of the last live page")?;
-    same(
-        low == last_of(own).wrapping_add(1),
-        "where the live pages end",
-    )
+    same(next.is_none(), Part::Links)?;
+    same(low == last_of(own).wrapping_add(1), Part::Links)
 }
 
 // The prefix and the right link of the live page of a number.
 fn live_at(pages: &[Page], at: PageNo) -> Result<(Prefix, Option<PageNo>), Difference> {
     match pages.get(at as usize) {
         Some(Page::Live { prefix, right, .. }) => Ok((*prefix, *right)),
-        _ => Err(Difference::Apart("a right link to a page that isn't live")),
+        _ => Err(Difference::Apart(Part::Links)),
     }
 }
 
@@ -48,7 +45,7 @@ fn live_at(pages: &[Page], at: PageNo) -> Result<(Prefix, Option<PageNo>), Diffe
 pub(crate) fn are_forwarded(pages: &[Page]) -> Result<(), Difference> {
     for page in pages {
         let equal = pages.iter().filter(|other| other.low() == page.low());
-        same(equal.count() == 1, "two pages of one low bound")?;
+        same(equal.count() == 1, Part::Forwards)?;
         if let Page::Forward { low, target } = page {
             is_forwarded(pages, *low, *target)?;
         }
@@ -60,17 +57,11 @@ pub(crate) fn are_forwarded(pages: &[Page]) -> Result<(), Difference> {
 fn is_forwarded(pages: &[Page], low: u64, target: PageNo) -> Result<(), Difference> {
     let to = pages
         .get(target as usize)
-        .ok_or(Difference::Apart("no page at a target"))?;
-    same(
-        to.low() == Prefix::clear_lowest(low),
-        "the low bound of a target",
-    )?;
-    same(to.low() < low, "a target that stands higher")?;
-    let live = live_from(pages, target).ok_or(Difference::Apart("no live page at the end"))?;
-    same(
-        live.low() <= low,
-        "the live page at the end of forwarding pages",
-    )
+        .ok_or(Difference::Apart(Part::Forwards))?;
+    same(to.low() == Prefix::clear_lowest(low), Part::Forwards)?;
+    same(to.low() < low, Part::Forwards)?;
+    let live = live_from(pages, target).ok_or(Difference::Apart(Part::Forwards))?;
+    same(live.low() <= low, Part::Forwards)
 }
 
 // The live page at the end of a chain of forwarding pages.
@@ -100,15 +91,12 @@ pub(crate) fn have_records(
             ..
         } = page
         {
-            same(records.len() <= cap, "a page of too many records")?;
+            same(records.len() <= cap, Part::Records)?;
             are_placed(*prefix, records, machine)?;
             sum = sum.saturating_add(records.len());
         }
     }
-    same(
-        sum == machine.map().pairs().len(),
-        "how many records there are",
-    )
+    same(sum == machine.map().pairs().len(), Part::Records)
 }
 
 // A page's records are in order, under its prefix, and the machine has their values.
@@ -119,14 +107,14 @@ fn are_placed(
 ) -> Result<(), Difference> {
     for (item, next) in records.iter().zip(records.iter().skip(1)) {
         let is_rising = (item.pseudokey, item.key) < (next.pseudokey, next.key);
-        same(is_rising, "the order of a page's records")?;
+        same(is_rising, Part::Records)?;
     }
     for item in records.iter() {
         let pseudokey = PlainKeyer.pseudo(item.key.as_bytes());
-        same(item.pseudokey == pseudokey, "a record's pseudokey")?;
-        same(prefix.begins(pseudokey), "the page of a record")?;
+        same(item.pseudokey == pseudokey, Part::Records)?;
+        same(prefix.begins(pseudokey), Part::Records)?;
         let value = machine.map().get(&item.key);
-        same(value == Some(item.value), "a record's value")?;
+        same(value == Some(item.value), Part::Records)?;
     }
     Ok(())
 }
@@ -145,5 +133,5 @@ pub(crate) fn walks_home(
         Some(Page::Live { prefix, .. }) => prefix.begins(pseudokey),
         Some(Page::Forward { .. }) | None => false,
     };
-    same(is_home, "the page at a walk's end")
+    same(is_home, Part::Walk)
 }

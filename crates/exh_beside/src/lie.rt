@@ -3,7 +3,7 @@
 use exh_ward::{Hop, Reply};
 
 /// Whether the next answer of the slow code is replaced by a wrong one. It happens once at most.
-#[derive(Clone, Copy, Debug)]
+#[derive(Clone, Copy)]
 pub(crate) struct Lie {
     waits: bool,
 }

@@ -2,13 +2,13 @@
 
 use crate::again::again;
 use crate::calls::Asked;
-use crate::difference::{Difference, same};
+use crate::difference::{Difference, Part, same};
 use crate::run::Run;
 use crate::slow_ward::answer;
 use exh_keyer::{AnyKeyer, Keyer, PlainKeyer};
 use exh_model::{MapMachine, PairMap};
 use exh_page::{Key, SizeFault, Value};
-use exh_ward::Reply;
+use exh_ward::{Call, Reply};
 use std::alloc::AllocError;
 
 /// Calls of one key with each keyer, calls of keys that share their leading bits, and a map.
@@ -20,39 +20,39 @@ pub(crate) fn run(run: &mut Run) -> Result<(), Difference> {
     run_map(run)
 }
 
-fn one_key() -> Result<[(Asked<'static>, Reply); 10], SizeFault> {
+fn one_key() -> Result<[(Call, Reply); 10], SizeFault> {
     let v = Value::from_bytes(b"v")?;
     let w = Value::from_bytes(b"w")?;
     Ok([
-        (Asked::Get(b"k"), Reply::None),
-        (Asked::Put(b"k", b"v"), Reply::New),
-        (Asked::Get(b"k"), Reply::Is(v)),
-        (Asked::Get(b"l"), Reply::None),
-        (Asked::Put(b"l", b""), Reply::New),
-        (Asked::Put(b"k", b"w"), Reply::Was(v)),
-        (Asked::Get(b"k"), Reply::Is(w)),
-        (Asked::Del(b"k"), Reply::Was(w)),
-        (Asked::Get(b"k"), Reply::None),
-        (Asked::Del(b"k"), Reply::None),
+        (Asked::Get(b"k").call()?, Reply::None),
+        (Asked::Put(b"k", b"v").call()?, Reply::New),
+        (Asked::Get(b"k").call()?, Reply::Is(v)),
+        (Asked::Get(b"l").call()?, Reply::None),
+        (Asked::Put(b"l", b"").call()?, Reply::New),
+        (Asked::Put(b"k", b"w").call()?, Reply::Was(v)),
+        (Asked::Get(b"k").call()?, Reply::Is(w)),
+        (Asked::Del(b"k").call()?, Reply::Was(w)),
+        (Asked::Get(b"k").call()?, Reply::None),
+        (Asked::Del(b"k").call()?, Reply::None),
     ])
 }
 
 // Two keys a page. The third key that shares sixteen bits is turned away, one that shares fifteen is
 // not, and neither is one that is present.
-fn equal_leading_bits() -> Result<[(Asked<'static>, Reply); 10], SizeFault> {
+fn equal_leading_bits() -> Result<[(Call, Reply); 10], SizeFault> {
     let a = Value::from_bytes(b"a")?;
     let b = Value::from_bytes(b"b")?;
     Ok([
-        (Asked::Put(b"\0\0", b"a"), Reply::New),
-        (Asked::Put(b"\0\0\0", b"b"), Reply::New),
-        (Asked::Put(b"\0\0\0\0", b"c"), Reply::Full),
-        (Asked::Put(b"\0\0\xff", b"c"), Reply::Full),
-        (Asked::Put(b"\0\x01", b"c"), Reply::New),
-        (Asked::Get(b"\0\0\0\0"), Reply::None),
-        (Asked::Put(b"\0\0", b"d"), Reply::Was(a)),
-        (Asked::Del(b"\0\0\0"), Reply::Was(b)),
-        (Asked::Put(b"\0\0\0\0", b"c"), Reply::New),
-        (Asked::Put(b"\0\0\0", b"c"), Reply::Full),
+        (Asked::Put(b"\0\0", b"a").call()?, Reply::New),
+        (Asked::Put(b"\0\0\0", b"b").call()?, Reply::New),
+        (Asked::Put(b"\0\0\0\0", b"c").call()?, Reply::Full),
+        (Asked::Put(b"\0\0\xff", b"c").call()?, Reply::Full),
+        (Asked::Put(b"\0\x01", b"c").call()?, Reply::New),
+        (Asked::Get(b"\0\0\0\0").call()?, Reply::None),
+        (Asked::Put(b"\0\0", b"d").call()?, Reply::Was(a)),
+        (Asked::Del(b"\0\0\0").call()?, Reply::Was(b)),
+        (Asked::Put(b"\0\0\0\0", b"c").call()?, Reply::New),
+        (Asked::Put(b"\0\0\0", b"c").call()?, Reply::Full),
     ])
 }
 
@@ -62,8 +62,7 @@ fn run_one_key<K: Keyer>(run: &mut Run, keyer: K) -> Result<(), Difference> {
     let mut machine = MapMachine::new(run.alloc, 2, keyer);
     take_calls(run, &mut machine, &calls);
     let is_left = machine.map().pairs() == left.as_slice();
-    run.tally
-        .check(same(is_left, "the map that the calls leave"));
+    run.tally.check(same(is_left, Part::Map));
     Ok(())
 }
 
@@ -73,29 +72,24 @@ fn run_equal_leading_bits(run: &mut Run) -> Result<(), Difference> {
     let mut machine = MapMachine::from_map(2, PlainKeyer, map);
     take_calls(run, &mut machine, &calls);
     let has_three = machine.map().pairs().len() == 3;
-    run.tally
-        .check(same(has_three, "how many keys the calls leave"));
+    run.tally.check(same(has_three, Part::Map));
     Ok(())
 }
 
-fn take_calls<K: Keyer>(
-    run: &mut Run,
-    machine: &mut MapMachine<K>,
-    calls: &[(Asked<'static>, Reply)],
-) {
-    for (asked, want) in calls {
+fn take_calls<K: Keyer>(run: &mut Run, machine: &mut MapMachine<K>, calls: &[(Call, Reply)]) {
+    for (call, want) in calls {
         let want = run.lie.reply(*want);
-        run.tally.step(take_call(machine, asked, &want));
+        run.tally.step(take_call(machine, call, &want));
     }
 }
 
 fn take_call<K: Keyer>(
     machine: &mut MapMachine<K>,
-    asked: &Asked<'_>,
+    call: &Call,
     want: &Reply,
 ) -> Result<(), Difference> {
-    let reply = answer(machine, &asked.call()?)?;
-    same(reply == *want, "a reply of the machine")
+    let reply = answer(machine, call)?;
+    same(reply == *want, Part::Reply)
 }
 
 // Of two pairs of one key the first counts.
@@ -109,7 +103,7 @@ fn run_map(run: &mut Run) -> Result<(), Difference> {
 }
 
 fn take_pairs(run: &mut Run, map: &mut PairMap, k: Key, v: Value, other: (Key, Value)) {
-    let what = "what a map answers";
+    let what = Part::Map;
     run.tally.step(same(map.pairs().len() == 2, what));
     run.tally.step(same(map.get(&k) == Some(v), what));
     run.tally

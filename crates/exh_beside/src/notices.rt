@@ -37,7 +37,7 @@ pub(crate) fn merge(index: u64, prefix: Prefix, number: u32) -> Notice {
 }
 
 /// A notice that somebody of a number knows.
-#[derive(Clone, Copy, Debug, PartialEq, Eq)]
+#[derive(Clone, Copy, PartialEq, Eq)]
 pub(crate) struct Known {
     pub(crate) by: u32,
     pub(crate) notice: Notice,

@@ -8,7 +8,7 @@ use std::alloc::Global;
 
 /// What a run carries along: the memory that it takes, its dice, how long it is, the wrong answer
 /// that is due, and the count of its steps.
-#[derive(Clone, Copy, Debug)]
+#[derive(Clone, Copy)]
 pub(crate) struct Run {
     pub(crate) alloc: Global,
     pub(crate) dice: Dice,

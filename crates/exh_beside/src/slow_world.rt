@@ -1,6 +1,6 @@
 //! What a world of four wards is compared with.
 
-use crate::difference::{Difference, same};
+use crate::difference::{Difference, Part, same};
 use crate::lie::Lie;
 use crate::notices::{Known, add, known_by, learn, note, prefix};
 use crate::slow_ward::answer;
@@ -19,7 +19,7 @@ use std::alloc::{AllocError, Global};
 pub(crate) const NAMES: usize = 6;
 
 /// A request in flight: its call, its ward, and the page that it has come to.
-#[derive(Clone, Copy, Debug)]
+#[derive(Clone, Copy)]
 pub(crate) struct Flight {
     pub(crate) call: Call,
     pub(crate) ward: u8,
@@ -27,7 +27,7 @@ pub(crate) struct Flight {
 }
 
 /// How often the rarer outcomes came.
-#[derive(Clone, Copy, Debug)]
+#[derive(Clone, Copy)]
 pub(crate) struct Met {
     pub(crate) moved: u32,
     pub(crate) full: u32,
@@ -56,7 +56,7 @@ impl SlowWorld {
     pub(crate) fn new(alloc: Global, cap: usize) -> Result<SlowWorld, Difference> {
         let wards = ["00", "01", "10", "11"].map(prefix);
         let [Some(first), Some(second), Some(third), Some(last)] = wards else {
-            return Err(Difference::Apart("no prefix"));
+            return Err(Difference::Apart(Part::Run));
         };
         let leaves = leaf_set(alloc, &[first, second, third, last])?;
         Ok(SlowWorld {
@@ -104,7 +104,7 @@ impl SlowWorld {
         flight: Option<Flight>,
     ) -> Result<(), Difference> {
         let slot = self.flights.get_mut(name as usize);
-        *slot.ok_or(Difference::Apart("a request's name"))? = flight;
+        *slot.ok_or(Difference::Apart(Part::Run))? = flight;
         Ok(())
     }
 
@@ -119,7 +119,7 @@ impl SlowWorld {
             self.met.full = self.met.full.saturating_add(1);
         }
         let want = answer(&mut self.machine, call)?;
-        same(*reply == lie.reply(want), "a reply")
+        same(*reply == lie.reply(want), Part::Reply)
     }
 
     /// The prefix that the directory names for a call's key.
@@ -143,7 +143,7 @@ impl SlowWorld {
 
     /// A copy takes a notice that was issued.
     pub(crate) fn deliver(&mut self, copy: u32, notice: &Notice) -> Result<(), Difference> {
-        same(self.issued.contains(notice), "a notice that wasn't issued")?;
+        same(self.issued.contains(notice), Part::Taken)?;
         Ok(learn(&mut self.taken, copy, notice)?)
     }
 
@@ -154,7 +154,7 @@ impl SlowWorld {
         for notice in known_by(self.alloc, &self.taken, copy)? {
             note(&mut self.sent, Known { by, notice })?;
         }
-        same(number == self.tables, "the number of a sent table")
+        same(number == self.tables, Part::Sent)
     }
 
     /// A copy joins a sent table.

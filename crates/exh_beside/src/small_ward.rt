@@ -7,7 +7,7 @@ ghost use Rattle.exh_page.specs.declared.page.Page.TheVariants.{Live};
 ghost use Rattle.exh_ward.specs.declared.ward.TheConstants.{WARD_BITS_LIMIT};
 
 use crate::again::again;
-use crate::difference::{Difference, same};
+use crate::difference::{Difference, Part, same};
 use crate::slow_ward::{Told, answer};
 use crate::ward_calls::page;
 use exh_frames::PlainPages;
@@ -96,7 +96,7 @@ impl SmallWard {
         answer_journal(&self.ward, &mut again)?;
         same(
             again.map().pairs() == self.machine.map().pairs(),
-            "the map that the journal leaves",
+            Part::Journal,
         )
     }
 }
@@ -112,7 +112,7 @@ fn answer_journal(
 ) -> Result<(), Difference> {
     for entry in ward.journal().iter() {
         let reply = answer(machine, &entry.call)?;
-        same(reply == entry.reply, "a reply of the journal")?;
+        same(reply == entry.reply, Part::Journal)?;
     }
     Ok(())
 }

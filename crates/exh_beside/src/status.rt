@@ -6,7 +6,7 @@ ghost use Rattle.exh_beside.specs.Status.{code_of};
 use std::process::ExitCode;
 
 /// How the program ended.
-#[derive(Clone, Copy, Debug, PartialEq, Eq)]
+#[derive(Clone, Copy)]
 pub(crate) enum Status {
     /// No step differed: 0.
     Same,

@@ -2,7 +2,7 @@
 
 use crate::again::again;
 use crate::dice::Dice;
-use crate::difference::{Difference, same};
+use crate::difference::{Difference, Part, same};
 use crate::job::USUAL_ROUNDS;
 use crate::notices::add;
 use crate::run::Run;
@@ -12,11 +12,8 @@ use exh_prefix::{LIMIT, Prefix};
 use exh_table::{Leaf, Table};
 use std::alloc::{AllocError, Global};
 
-// The changes of a round.
-const CHANGES: u32 = 10;
-
 // After how many rounds a table is told.
-const ROUNDS: u32 = 25;
+const ROUNDS: u32 = 300;
 
 /// Changes the leaves of one ward, and tells tables of it.
 pub(crate) fn run(run: &mut Run) -> Result<(), Difference> {
@@ -39,7 +36,7 @@ pub(crate) fn leaves_after(
     changes: &[Notice],
 ) -> Result<LeafSet, Difference> {
     if changes.iter().any(|change| change.prefix.len() >= LIMIT) {
-        return Err(Difference::Apart("a change at a prefix that is too long"));
+        return Err(Difference::Apart(Part::Run));
     }
     Ok(again!(Err(AllocError) => LeafSet::after(alloc, start, changes))?)
 }
@@ -52,7 +49,7 @@ pub(crate) fn prefixes(leaves: &LeafSet) -> Result<Vec<Prefix>, AllocError> {
 /// Changes the leaves by a notice at a prefix shorter than `LIMIT`.
 pub(crate) fn change(leaves: &mut LeafSet, notice: &Notice) -> Result<(), Difference> {
     if notice.prefix.len() >= LIMIT {
-        return Err(Difference::Apart("a change at a prefix that is too long"));
+        return Err(Difference::Apart(Part::Run));
     }
     match leaves.change(notice) {
         Err(AllocError) => Ok(leaves.change(notice)?),
@@ -60,13 +57,11 @@ pub(crate) fn change(leaves: &mut LeafSet, notice: &Notice) -> Result<(), Differ
     }
 }
 
-// Takes each change, and tells a table of all after some rounds, and at the end.
+// Takes a change each round, and tells a table of all after some rounds, and at the end.
 fn take_changes(run: &mut Run, leaves: &mut LeafSet, changes: &mut Vec<Notice>) {
     for round in 1..=run.rounds {
-        for _ in 0..CHANGES {
-            let outcome = take_change(run, leaves, changes);
-            run.tally.step(outcome);
-        }
+        let outcome = take_change(run, leaves, changes);
+        run.tally.step(outcome);
         if round % ROUNDS == 0 || round == run.rounds {
             let outcome = tell(run, changes, leaves);
             run.tally.check(outcome);
@@ -82,7 +77,7 @@ fn take_change(
 ) -> Result<(), Difference> {
     let listed = prefixes(leaves)?;
     let notice = next_change(&mut run.dice, &listed, changes);
-    let notice = notice.ok_or(Difference::Apart("no change"))?;
+    let notice = notice.ok_or(Difference::Apart(Part::Run))?;
     change(leaves, &notice)?;
     Ok(add(changes, &notice)?)
 }
@@ -120,7 +115,7 @@ fn tell(run: &mut Run, changes: &[Notice], leaves: &LeafSet) -> Result<(), Diffe
     has_leaves(run, &table, leaves)?;
     let lies = run.lie.is_due();
     let has_depth = Some(table.depth(0)) == leaves.depth();
-    same(has_depth != lies, "a table's depth")
+    same(has_depth != lies, Part::Depth)
 }
 
 // Some of the notices, in any order, some more than once, and then all of them backwards.
@@ -151,12 +146,9 @@ pub(crate) fn has_entries(alloc: Global, table: &Table, told: &[Notice]) -> Resu
     let entries = again!(Err(AllocError) => greatest_of(alloc, told))?;
     let mut listed = entries.iter();
     for (prefix, entry) in table.entries() {
-        same(
-            listed.next() == Some(&(*prefix, *entry)),
-            "an entry of a table",
-        )?;
+        same(listed.next() == Some(&(*prefix, *entry)), Part::Entries)?;
     }
-    same(listed.next().is_none(), "the entries that a table lacks")
+    same(listed.next().is_none(), Part::Entries)
 }
 
 // The leaves of a table.
@@ -172,16 +164,13 @@ fn has_leaves(run: &mut Run, table: &Table, leaves: &LeafSet) -> Result<(), Diff
         .iter()
         .map(|leaf| leaf.prefix)
         .eq(listed.iter().copied());
-    same(are_same, "a table's leaves")?;
+    same(are_same, Part::Leaves)?;
     for _ in 0..100 {
         let pseudokey = run.dice.word();
         let name = leaves.name(pseudokey);
         let leaf = table_leaves.iter().find(|leaf| Some(leaf.prefix) == name);
         let page = leaf.map(|leaf| leaf.page);
-        same(
-            page == Some(table.walk(0, pseudokey)),
-            "the page of a table's walk",
-        )?;
+        same(page == Some(table.walk(0, pseudokey)), Part::Walk)?;
     }
     Ok(())
 }
@@ -190,7 +179,7 @@ fn has_leaves(run: &mut Run, table: &Table, leaves: &LeafSet) -> Result<(), Diff
 fn are_same_leaves(run: &Run, leaves: &LeafSet, after: &LeafSet) -> Result<(), Difference> {
     let one_by_one = prefixes(leaves)?;
     let together = prefixes(after)?;
-    same(one_by_one == together, "the leaves after all changes")?;
+    same(one_by_one == together, Part::Leaves)?;
     let is_long = run.rounds >= USUAL_ROUNDS;
-    same(together.len() > 10 || !is_long, "more leaves than ten")
+    same(together.len() > 10 || !is_long, Part::Seldom)
 }

@@ -6,7 +6,7 @@ use std::fmt;
 
 /// How many steps a run took, how often it differed from the slow code, and where first. A count at
 /// its greatest value stays there.
-#[derive(Clone, Copy, Debug)]
+#[derive(Clone, Copy)]
 pub(crate) struct Tally {
     steps: u32,
     differed: u32,

@@ -3,7 +3,7 @@
 //! as one that met no fault.
 
 use crate::calls::Asked;
-use crate::difference::{Difference, same};
+use crate::difference::{Difference, Part, same};
 use crate::notices::{merge, prefix, split};
 use crate::run::Run;
 use crate::same_pages::are_same;
@@ -43,10 +43,7 @@ pub(crate) fn run(run: &mut Run) -> Result<(), Difference> {
     run_beside(run, &steps, &mut seen)?;
     seen.is_right[0] = !run.lie.is_due() && seen.is_right[0];
     for (refused, is_right) in seen.refused.iter().zip(&seen.is_right) {
-        run.tally.step(same(
-            *refused && *is_right,
-            "a step that is refused, and made then",
-        ));
+        run.tally.step(same(*refused && *is_right, Part::Fault));
     }
     Ok(())
 }
@@ -54,8 +51,8 @@ pub(crate) fn run(run: &mut Run) -> Result<(), Difference> {
 // Steps of a ward of pages of two records, each of which reaches a page: hops that come to anything
 // but `Stray`, splits that grow or revive a page, merges, also refused ones.
 fn steps() -> Result<[WardStep; STEPS], Difference> {
-    let root = prefix("").ok_or(Difference::Apart("no prefix"))?;
-    let right = prefix("1").ok_or(Difference::Apart("no prefix"))?;
+    let root = prefix("").ok_or(Difference::Apart(Part::Run))?;
+    let right = prefix("1").ok_or(Difference::Apart(Part::Run))?;
     Ok(steps_at(root, right)?)
 }
 
@@ -115,7 +112,7 @@ fn take_plain(
             return Ok(());
         }
     }
-    Err(Difference::Apart("each run met a fault"))
+    Err(Difference::Apart(Part::Healed))
 }
 
 // Runs a ward whose access of this number is refused. Answers whether there is one of this number.
@@ -161,12 +158,9 @@ fn take_failing(ward: &mut FailingWard, steps: &[WardStep], seen: &mut Seen) -> 
 fn are_alike(ward: &mut FailingWard, other: &mut PlainWard) -> Result<(), Difference> {
     for number in 0..page_count(other) {
         let is_same = are_same(&page(ward, number)?, &page(other, number)?);
-        same(is_same, "a page after a fault")?;
+        same(is_same, Part::Healed)?;
     }
-    same(
-        are_told_alike(ward, other),
-        "what a ward tells after a fault",
-    )
+    same(are_told_alike(ward, other), Part::Healed)
 }
 
 fn page_count(ward: &PlainWard) -> PageNo {

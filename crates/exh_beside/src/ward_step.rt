@@ -8,7 +8,7 @@ use exh_page::PageNo;
 use exh_ward::{Call, Hop, Ward, WardFault};
 
 /// A step of a ward at a page, and what it comes to, also where that is a refusal.
-#[derive(Clone, Copy, Debug)]
+#[derive(Clone, Copy)]
 pub(crate) enum WardStep {
     /// A call of client 1 makes a hop.
     Hop(PageNo, Call, Hop),

@@ -7,7 +7,7 @@ ghost use Rattle.exh_ward.specs.declared.ward.TheConstants.{WARD_BITS_LIMIT};
 
 use crate::calls::Asked;
 use crate::dice::Dice;
-use crate::difference::{Difference, same};
+use crate::difference::{Difference, Part, same};
 use crate::job::USUAL_ROUNDS;
 use crate::legality::{are_forwarded, are_linked, have_records, walks_home};
 use crate::routes::moves_from;
@@ -20,9 +20,6 @@ use exh_notice::{Kind, Notice};
 use exh_page::{Key, Page, PageNo, SizeFault};
 use exh_prefix::{LIMIT, Prefix};
 use exh_ward::{Call, Hop, Reply, WardFault};
-
-// The steps of a ward in a round.
-const STEPS: u32 = 12;
 
 // What came up in the runs.
 #[derive(Clone, Copy)]
@@ -79,7 +76,7 @@ pub(crate) fn run(run: &mut Run) -> Result<(), Difference> {
         run_three(run, cap, &mut met)?;
     }
     let is_long = run.rounds >= USUAL_ROUNDS;
-    same(met.is_all() || !is_long, "an outcome that never came")
+    same(met.is_all() || !is_long, Part::Seldom)
 }
 
 // Runs a whole file, the right half of one and the second quarter of one, each a ward.
@@ -107,19 +104,17 @@ fn run_ward(
     requires bits { ward_bits ≤ WARD_BITS_LIMIT }
     requires number { number < 2 ^ ward_bits }
 {
-    let own = Prefix::new(ward_bits, low).ok_or(Difference::Apart("no prefix"))?;
+    let own = Prefix::new(ward_bits, low).ok_or(Difference::Apart(Part::Run))?;
     let mut small = SmallWard::new(run.alloc, cap, ward_bits, number, own)?;
     take_steps(run, &mut small, met);
     Ok(())
 }
 
-// Steps of a ward, by turns while it grows and while it shrinks.
+// A step of a ward each round, by turns while it grows and while it shrinks.
 fn take_steps(run: &mut Run, small: &mut SmallWard, met: &mut Met) {
     for round in 0..run.rounds {
-        for _ in 0..STEPS {
-            let outcome = step(run, small, round % 33 < 21, met);
-            run.tally.step(outcome);
-        }
+        let outcome = step(run, small, round % 400 < 250, met);
+        run.tally.step(outcome);
     }
     run.tally.check(small.has_journal(run.alloc));
 }
@@ -172,7 +167,7 @@ fn next_call(dice: &mut Dice, key: &[u8]) -> Result<Call, SizeFault> {
 // The page that the ward's table names for a pseudokey.
 fn home_of(small: &SmallWard, pseudokey: u64) -> Result<PageNo, Difference> {
     if small.ward_bits > LIMIT {
-        return Err(Difference::Apart("too many ward bits"));
+        return Err(Difference::Apart(Part::Run));
     }
     Ok(small.ward.table().walk(small.ward_bits, pseudokey))
 }
@@ -189,7 +184,7 @@ fn hop_beside(
     let want = hop_at(&pages, small.cap, at, call, &mut small.machine)?;
     let hop = hop(&mut small.ward, at, call)?;
     met.note_hop(&hop);
-    same(hop == run.lie.hop(want), "what a hop comes to")?;
+    same(hop == run.lie.hop(want), Part::Hop)?;
     let after = small.pages(run.alloc)?;
     have_records(&after, small.cap, &small.machine)
 }
@@ -203,31 +198,53 @@ fn change(
     met: &mut Met,
 ) -> Result<(), Difference> {
     let pages = small.pages(run.alloc)?;
-    let want = if splits {
-        split_at(&pages, &small.told(), at)
+    let want = wanted_change(small, &pages, at, splits);
+    let changed = make_change(small, at, splits);
+    let after = small.pages(run.alloc)?;
+    let has_grown = after.len() > pages.len();
+    if let Ok(notice) = &changed {
+        met.note_change(notice, has_grown);
+    }
+    let lies = run.lie.is_due();
+    same((changed == want) != lies, Part::Change)?;
+    same(changed.is_ok() || !has_grown, Part::Kept)?;
+    are_kept(&pages, &after)?;
+    is_legal(small, &after)?;
+    is_far(small, &after, at, run.dice.word())
+}
+
+// What a split or a merge comes to, by the tables.
+fn wanted_change(
+    small: &SmallWard,
+    pages: &[Page],
+    at: PageNo,
+    splits: bool,
+) -> Result<Notice, WardFault> {
+    let told = small.told();
+    if splits {
+        split_at(pages, &told, at)
     } else {
-        merge_at(&pages, &small.told(), at)
-    };
-    let changed = if splits {
+        merge_at(pages, &told, at)
+    }
+}
+
+fn make_change(small: &mut SmallWard, at: PageNo, splits: bool) -> Result<Notice, WardFault> {
+    if splits {
         split(&mut small.ward, at)
     } else {
         merge(&mut small.ward, at)
-    };
-    let after = small.pages(run.alloc)?;
-    let has_grown = after.len() > pages.len();
-    match changed {
-        Err(_) => same(!has_grown, "a page after a refusal")?,
-        Ok(notice) => met.note_change(&notice, has_grown),
     }
-    let lies = run.lie.is_due();
-    same((changed == want) != lies, "what a change comes to")?;
-    are_kept(&pages, &after)?;
-    is_legal(small, &after)?;
-    let pseudokey = run.dice.word();
-    same(
-        moves_from(&mut small.ward, at, pseudokey) == moves_at(&after, at, pseudokey),
-        "how far a page is from an answer",
-    )
+}
+
+// A page is as far from the answer for a pseudokey as the list of pages says.
+fn is_far(
+    small: &mut SmallWard,
+    pages: &[Page],
+    at: PageNo,
+    pseudokey: u64,
+) -> Result<(), Difference> {
+    let moves = moves_from(&mut small.ward, at, pseudokey);
+    same(moves == moves_at(pages, at, pseudokey), Part::Far)
 }
 
 // Each page keeps its number and low bound.
@@ -236,10 +253,7 @@ fn are_kept(pages: &[Page], after: &[Page]) -> Result<(), Difference> {
         .iter()
         .zip(after)
         .all(|(page, kept)| page.low() == kept.low());
-    same(
-        pages.len() <= after.len() && are_same,
-        "a page's low bound after a change",
-    )
+    same(pages.len() <= after.len() && are_same, Part::Kept)
 }
 
 // Links, forwarding pages and records are as in a legal ward, the records are the machine's map,
@@ -249,7 +263,7 @@ fn is_legal(small: &SmallWard, pages: &[Page]) -> Result<(), Difference> {
     are_forwarded(pages)?;
     have_records(pages, small.cap, &small.machine)?;
     if small.ward_bits > LIMIT {
-        return Err(Difference::Apart("too many ward bits"));
+        return Err(Difference::Apart(Part::Run));
     }
     let [first, ..] = small.own.low().to_be_bytes();
     for key in [[first, 0, 0], [first, 0x80, 3], [first | 0x10, 0, 1]] {

@@ -4,7 +4,7 @@
 
 use crate::again::again;
 use crate::calls::Asked;
-use crate::difference::{Difference, same};
+use crate::difference::{Difference, Part, same};
 use crate::notices::{merge, prefix, split};
 use crate::run::Run;
 use crate::same_pages::are_same;
@@ -57,10 +57,7 @@ pub(crate) fn run(run: &mut Run) -> Result<(), Difference> {
     seen.is_right[0] = !run.lie.is_due() && seen.is_right[0];
     let noted = seen.refused.iter().zip(&seen.is_right);
     for ((event, _), (refused, is_right)) in lines.iter().zip(noted) {
-        run.tally.step(same(
-            *refused == reaches_a_page(event) && *is_right,
-            "an event that is refused, and made then",
-        ));
+        run.tally.step(same(*refused == reaches_a_page(event) && *is_right, Part::Fault));
     }
     Ok(())
 }
@@ -73,7 +70,7 @@ fn reaches_a_page(event: &Event) -> bool {
 }
 
 fn lines() -> Result<[Line; EVENTS], Difference> {
-    let root = prefix("").ok_or(Difference::Apart("no prefix"))?;
+    let root = prefix("").ok_or(Difference::Apart(Part::Run))?;
     Ok(lines_at(root)?)
 }
 
@@ -157,13 +154,13 @@ fn take_all(
     seen: &mut Seen,
 ) -> Result<(), Difference> {
     let met = take(unhurt, lines, seen);
-    same(!met, "a fault where none was made")?;
+    same(!met, Part::Healed)?;
     for at in 1..MOST {
         if !run_failing(alloc, at, unhurt, lines, seen)? {
             return Ok(());
         }
     }
-    Err(Difference::Apart("each run met a fault"))
+    Err(Difference::Apart(Part::Healed))
 }
 
 // Runs a world whose access of this number is refused. Answers whether there is one of this number.
@@ -213,17 +210,11 @@ fn page(world: &mut FailingWorld, number: PageNo) -> Result<Page, StepFault> {
 fn are_alike(world: &mut FailingWorld, other: &mut FailingWorld) -> Result<(), Difference> {
     for number in 0..PAGES {
         let is_same = are_same(&page(world, number)?, &page(other, number)?);
-        same(is_same, "a page after a fault")?;
+        same(is_same, Part::Healed)?;
     }
     let no_page = Some(StepFault::Ward(WardFault::NoPage));
-    same(
-        page(world, PAGES).err() == no_page,
-        "how many pages there are",
-    )?;
-    same(
-        world.in_flight().eq(other.in_flight()),
-        "the requests in flight after a fault",
-    )?;
+    same(page(world, PAGES).err() == no_page, Part::Healed)?;
+    same(world.in_flight().eq(other.in_flight()), Part::Healed)?;
     for copy in 1..=COPIES {
         have_same_copy(world, other, copy)?;
     }
@@ -234,6 +225,6 @@ fn have_same_copy(world: &FailingWorld, other: &FailingWorld, copy: u32) -> Resu
     let entries = world.copy(copy)?.table().entries();
     same(
         entries.eq(other.copy(copy)?.table().entries()),
-        "a copy after a fault",
+        Part::Healed,
     )
 }

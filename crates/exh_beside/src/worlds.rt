@@ -7,7 +7,7 @@ ghost use Rattle.exh_page.specs.declared.page.TheConstants.{CAP_LIMIT};
 use crate::again::again;
 use crate::calls::Asked;
 use crate::dice::Dice;
-use crate::difference::{Difference, same};
+use crate::difference::{Difference, Part, same};
 use crate::job::USUAL_ROUNDS;
 use crate::run::Run;
 use crate::slow_world::{Flight, Met, NAMES, SlowWorld};
@@ -25,7 +25,7 @@ type PlainWorld = World<PlainPages, PlainKeyer>;
 const COPIES: u32 = 8;
 
 // The events of a round.
-const EVENTS: u32 = 200;
+const EVENTS: u32 = 17;
 
 /// Runs worlds whose pages hold one to three records.
 pub(crate) fn run(run: &mut Run) -> Result<(), Difference> {
@@ -76,10 +76,7 @@ fn take_events(run: &mut Run, world: &mut PlainWorld, slow: &mut SlowWorld) {
     for copy in 1..=COPIES {
         run.tally.check(has_table(world, slow, copy));
     }
-    run.tally.check(same(
-        run.rounds < USUAL_ROUNDS || is_met(&slow.met),
-        "an outcome that came too seldom",
-    ));
+    run.tally.check(same(run.rounds < USUAL_ROUNDS || is_met(&slow.met), Part::Seldom));
 }
 
 // Whether the rarer outcomes came up often.
@@ -96,7 +93,7 @@ fn take_event(
     let event = next_event(&mut run.dice, slow)?;
     match step(world, &event) {
         Ok(outcome) => step_beside(run, world, slow, &event, &outcome),
-        Err(fault) => same(slow.expects(&event, fault), "a refusal"),
+        Err(fault) => same(slow.expects(&event, fault), Part::Refusal),
     }
 }
 
@@ -207,16 +204,14 @@ fn hop_beside(
     name: u32,
     hop: &Hop,
 ) -> Result<(), Difference> {
-    let flight = slow
-        .flight(name)
-        .ok_or(Difference::Apart("a hop of no request"))?;
+    let flight = slow.flight(name).ok_or(Difference::Apart(Part::Outcome))?;
     match hop {
         Hop::Done(reply) => {
             slow.put_flight(name, None)?;
             slow.answer(&flight.call, reply, &mut run.lie)?;
             let named = slow.name(&flight.call);
             let at = prefix_at(world, flight.ward, flight.page)?;
-            same(named.is_some() && at == named, "the page of an answer")
+            same(named.is_some() && at == named, Part::Answering)
         }
         Hop::Moved(page) => {
             slow.met.moved = slow.met.moved.saturating_add(1);
@@ -224,7 +219,7 @@ fn hop_beside(
             slow.put_flight(name, Some(Flight { page, ..flight }))
         }
         Hop::MustSplit => Ok(()),
-        Hop::Stray => Err(Difference::Apart("a stray")),
+        Hop::Stray => Err(Difference::Apart(Part::Outcome)),
     }
 }
 
@@ -250,7 +245,7 @@ fn copy_beside(
     match (event, outcome) {
         (Event::Deliver { copy, ward, index }, Outcome::Taken(notice)) => {
             let is_it = u32::from(notice.ward) == *ward && notice.index == *index;
-            same(is_it, "the notice that was taken")?;
+            same(is_it, Part::Taken)?;
             slow.deliver(*copy, notice)?;
             has_table(world, slow, *copy)
         }
@@ -263,7 +258,7 @@ fn copy_beside(
             slow.restart(*copy);
             has_table(world, slow, *copy)
         }
-        _ => Err(Difference::Apart("an outcome of another event")),
+        _ => Err(Difference::Apart(Part::Outcome)),
     }
 }
 
