@@ -1,0 +1,218 @@
+//! Journals of wards, the pseudokeys that wards cover, and strays, beside what was worked out by hand:
+//! what no script can say.
+
+use crate::again::again;
+use crate::calls::Asked;
+use crate::difference::{Difference, Part, same};
+use crate::notices::{prefix, split};
+use crate::run::Run;
+use crate::small_ward::{PlainWard, first_store};
+use crate::ward_calls::{hop_of, split as split_page};
+use crate::ward_faults::plain_ward;
+use crate::ward_step::WardStep;
+use exh_keyer::PlainKeyer;
+use exh_page::{SizeFault, Value};
+use exh_prefix::Prefix;
+use exh_ward::{Base, Call, Hop, JournalEntry, Reply, Ward, WardFault};
+use std::alloc::{AllocError, Global};
+
+// A call at page 0 of a client, and its reply.
+type Line = (u32, Call, Reply);
+
+/// Takes the calls and the steps.
+pub(crate) fn run(run: &mut Run) -> Result<(), Difference> {
+    let lines = lines()?;
+    let root = prefix("").ok_or(Difference::Apart(Part::Run))?;
+    let steps = steps(root)?;
+    run_journal(run, &lines)?;
+    run_strays(run, &steps)?;
+    run_covers(run)?;
+    for (fault, number, text) in &REFUSALS {
+        run.tally.step(has_text(run.alloc, *fault, *number, text));
+    }
+    Ok(())
+}
+
+// A call of each kind with each of its replies but `Full`: the longest key, the longest and the empty
+// value, the least and the greatest client.
+fn lines() -> Result<[Line; 10], SizeFault> {
+    let (key, last) = ([5; 64], [255; 64]);
+    let (six, seven) = (Value::from_bytes(&[6; 128])?, Value::from_bytes(&[7; 128])?);
+    let empty = Value::from_bytes(b"")?;
+    Ok([
+        (0, Asked::Get(b"a").call()?, Reply::None),
+        (1, Asked::Put(&key, &[6; 128]).call()?, Reply::New),
+        (1, Asked::Put(&key, &[7; 128]).call()?, Reply::Was(six)),
+        (u32::MAX, Asked::Put(b"\0", b"").call()?, Reply::New),
+        (2, Asked::Get(b"\0").call()?, Reply::Is(empty)),
+        (3, Asked::Get(&key).call()?, Reply::Is(seven)),
+        (3, Asked::Put(b"\0", b"value").call()?, Reply::Was(empty)),
+        (3, Asked::Del(&key).call()?, Reply::Was(seven)),
+        (4, Asked::Del(&last).call()?, Reply::None),
+        (4, Asked::Get(&key).call()?, Reply::None),
+    ])
+}
+
+// Who owns a ward has few exits, for the prover's sake: each drops it.
+fn run_journal(run: &mut Run, lines: &[Line]) -> Result<(), Difference> {
+    let mut ward = plain_ward(run.alloc)?;
+    run.tally.check(has_journal(&ward, &[]));
+    for (at, line) in lines.iter().enumerate() {
+        let outcome = take_call(&mut ward, line, run.lie.is_due());
+        run.tally.step(outcome);
+        run.tally.check(has_entry(&ward, at, line));
+    }
+    run.tally.check(has_journal(&ward, lines));
+    run.tally.check(has_full_entry(&mut ward));
+    Ok(())
+}
+
+// A call at page 0 has this reply, or another.
+fn take_call(ward: &mut PlainWard, line: &Line, lies: bool) -> Result<(), Difference> {
+    let (client, call, reply) = line;
+    let hop = hop_of(ward, 0, *client, call)?;
+    same((hop == Hop::Done(*reply)) != lies, Part::Reply)
+}
+
+// The journal has the entry at a place, and none after it.
+fn has_entry(ward: &PlainWard, at: usize, line: &Line) -> Result<(), Difference> {
+    let journal = ward.journal();
+    let (client, call, reply) = line;
+    let is_entry = journal.get(at) == Some(JournalEntry::new(*client, call, reply));
+    same(
+        is_entry && journal.len() == at.saturating_add(1),
+        Part::Journal,
+    )
+}
+
+// The journal has these entries and no others, and begins with no key.
+fn has_journal(ward: &PlainWard, lines: &[Line]) -> Result<(), Difference> {
+    let journal = ward.journal();
+    let entries = lines.iter().map(|(client, call, reply)| JournalEntry::new(*client, call, reply));
+    same(journal.iter().eq(entries), Part::Journal)?;
+    let is_end = journal.get(lines.len()).is_none() && journal.get(usize::MAX).is_none();
+    same(
+        is_end && journal.is_empty() == lines.is_empty(),
+        Part::Journal,
+    )?;
+    same(ward.base().pairs().is_empty(), Part::Journal)
+}
+
+// A key is turned away where two have its 16 leading bits, and the journal says so.
+fn has_full_entry(ward: &mut PlainWard) -> Result<(), Difference> {
+    let second = Asked::Put(b"\0\0", b"b").call()?;
+    let third = Asked::Put(b"\0\0\0", b"c").call()?;
+    same(
+        hop_of(ward, 0, 1, &second)? == Hop::Done(Reply::New),
+        Part::Reply,
+    )?;
+    for _ in 0..16 {
+        let hop = hop_of(ward, 0, 1, &third)?;
+        same(hop == Hop::MustSplit, Part::Reply)?;
+        split_page(ward, 0)?;
+    }
+    let hop = hop_of(ward, 0, 1, &third)?;
+    same(hop == Hop::Done(Reply::Full), Part::Reply)?;
+    let last = ward.journal().iter().last();
+    same(
+        last == Some(JournalEntry::new(1, &third, &Reply::Full)),
+        Part::Journal,
+    )
+}
+
+// The three keys, and gets that go astray: at a page for greater pseudokeys, and at one that isn't
+// there. The last page answers.
+fn steps(root: Prefix) -> Result<[WardStep; 12], SizeFault> {
+    let new = Hop::Done(Reply::New);
+    let b = Value::from_bytes(b"b")?;
+    let third = Asked::Put(b"\x40", b"x").call()?;
+    let (first, right) = (Asked::Get(b"\0").call()?, Asked::Get(b"\x80").call()?);
+    Ok([
+        WardStep::Split(0, Err(WardFault::NotFull)),
+        WardStep::Split(1, Err(WardFault::NoPage)),
+        WardStep::Hop(0, Asked::Put(b"\0", b"a").call()?, new),
+        WardStep::Hop(0, Asked::Put(b"\x80", b"b").call()?, new),
+        WardStep::Hop(0, third, Hop::MustSplit),
+        WardStep::Split(0, Ok(split(1, root, 1, 1))),
+        WardStep::Hop(0, third, new),
+        WardStep::Hop(1, first, Hop::Stray),
+        WardStep::Hop(2, first, Hop::Stray),
+        WardStep::Hop(0, right, Hop::Moved(1)),
+        WardStep::Hop(1, right, Hop::Done(Reply::Is(b))),
+        WardStep::Look(2, Err(WardFault::NoPage)),
+    ])
+}
+
+fn run_strays(run: &mut Run, steps: &[WardStep]) -> Result<(), Difference> {
+    let mut ward = plain_ward(run.alloc)?;
+    for step in steps {
+        let is_right = step.take(&mut ward) == Ok(true);
+        run.tally.step(same(is_right, Part::Step));
+    }
+    Ok(())
+}
+
+// The greatest number of wards, and the second of four.
+fn run_covers(run: &mut Run) -> Result<(), Difference> {
+    let last = [
+        (0xf000_0000_0000_0000, true),
+        (u64::MAX, true),
+        (0xefff_ffff_ffff_ffff, false),
+    ];
+    let second = [
+        (0x3fff_ffff_ffff_ffff, false),
+        (0x4000_0000_0000_0000, true),
+        (0x7fff_ffff_ffff_ffff, true),
+        (0x8000_0000_0000_0000, false),
+    ];
+    let store = first_store(run.alloc, 4, 15)?;
+    let ward = Ward::new(run.alloc, store, 2, 4, 15, PlainKeyer);
+    take_covers(run, &ward, &last);
+    let store = first_store(run.alloc, 2, 1)?;
+    let ward = Ward::new(run.alloc, store, 2, 2, 1, PlainKeyer);
+    take_covers(run, &ward, &second);
+    let is_empty = Base::new(run.alloc).pairs().is_empty();
+    run.tally.check(same(is_empty, Part::Map));
+    Ok(())
+}
+
+fn take_covers(run: &mut Run, ward: &PlainWard, pseudokeys: &[(u64, bool)]) {
+    for (pseudokey, want) in pseudokeys {
+        let is_covered = ward.covers(*pseudokey);
+        run.tally.step(same(is_covered == *want, Part::Covered));
+    }
+}
+
+// The refusals of a ward, with their numbers and texts.
+const REFUSALS: [(WardFault, u8, &str); 10] = [
+    (WardFault::NoPage, 1, "no such page"),
+    (WardFault::NotLive, 3, "the page isn't live"),
+    (WardFault::NotFull, 4, "the page isn't full"),
+    (
+        WardFault::AtLimit,
+        5,
+        "the page's prefix has the greatest length",
+    ),
+    (WardFault::NoBuddy, 6, "the page is no left half"),
+    (WardFault::BuddySplit, 7, "the page's right buddy was split"),
+    (
+        WardFault::TooMany(17),
+        8,
+        "both pages have 17 records together",
+    ),
+    (
+        WardFault::Worn,
+        9,
+        "the number at the parent is the greatest",
+    ),
+    (WardFault::Memory, 10, "out of memory"),
+    (WardFault::Page, 11, "a page is out of reach"),
+];
+
+fn has_text(alloc: Global, fault: WardFault, number: u8, text: &str) -> Result<(), Difference> {
+    let shown = again!(Err(AllocError) => fault.to_string(alloc))?;
+    same(
+        fault.number() == number && shown.as_str() == text,
+        Part::Text,
+    )
+}

@@ -1,0 +1,230 @@
+//! Page faults in a world: each access of a page that a list of events makes is refused in turn, and
+//! the refused event is made once more. Each event that reaches a page must have been refused, and
+//! the world is in the end as one that met no fault.
+
+use crate::again::again;
+use crate::calls::Asked;
+use crate::difference::{Difference, Part, same};
+use crate::notices::{merge, prefix, split};
+use crate::run::Run;
+use crate::same_pages::are_same;
+use crate::small_ward::first_store;
+use exh_frames::FailingPages;
+use exh_keyer::PlainKeyer;
+use exh_page::{Page, PageNo, SizeFault, Value};
+use exh_prefix::Prefix;
+use exh_ward::{Hop, Reply, Ward, WardFault};
+use exh_world::{Config, Event, Outcome, StepFault, World};
+use std::alloc::{AllocError, Global};
+
+type FailingWorld = World<FailingPages, PlainKeyer>;
+
+const EVENTS: usize = 25;
+
+// More accesses than the events make.
+const MOST: u64 = 1000;
+
+const COPIES: u32 = 2;
+
+// The pages that the events leave.
+const PAGES: PageNo = 2;
+
+const CONFIG: Config<PlainKeyer> = Config {
+    cap: 2,
+    ward_bits: 0,
+    copies: COPIES,
+    keyer: PlainKeyer,
+};
+
+// An event, and what it comes to.
+type Line = (Event, Outcome);
+
+/// Which events of a list were refused, and which came to what they should each time.
+#[derive(Clone, Copy)]
+struct Seen {
+    refused: [bool; EVENTS],
+    is_right: [bool; EVENTS],
+}
+
+/// Runs the events, without a fault and then with a fault at each access.
+pub(crate) fn run(run: &mut Run) -> Result<(), Difference> {
+    let lines = lines()?;
+    let mut seen = Seen {
+        refused: [false; EVENTS],
+        is_right: [true; EVENTS],
+    };
+    run_beside(run, &lines, &mut seen)?;
+    seen.is_right[0] = !run.lie.is_due() && seen.is_right[0];
+    let noted = seen.refused.iter().zip(&seen.is_right);
+    for ((event, _), (refused, is_right)) in lines.iter().zip(noted) {
+        run.tally.step(same(*refused == reaches_a_page(event) && *is_right, Part::Fault));
+    }
+    Ok(())
+}
+
+fn reaches_a_page(event: &Event) -> bool {
+    matches!(
+        event,
+        Event::Hop { .. } | Event::Split { .. } | Event::Merge { .. }
+    )
+}
+
+fn lines() -> Result<[Line; EVENTS], Difference> {
+    let root = prefix("").ok_or(Difference::Apart(Part::Run))?;
+    Ok(lines_at(root)?)
+}
+
+fn begin(name: u32, copy: u32, asked: Asked<'_>, page: PageNo) -> Result<Line, SizeFault> {
+    let call = asked.call()?;
+    let event = Event::Begin {
+        name,
+        client: 1,
+        copy,
+        call,
+    };
+    Ok((event, Outcome::Begun { ward: 0, page }))
+}
+
+fn hop(name: u32, hop: Hop) -> Line {
+    (Event::Hop { name }, Outcome::Hopped { ward: 0, hop })
+}
+
+// The three keys, a table that is late, a copy that restarts and a page that is live again: events of
+// each kind, of a file of one ward, pages of two records and two copies.
+fn lines_at(root: Prefix) -> Result<[Line; EVENTS], SizeFault> {
+    let new = Hop::Done(Reply::New);
+    let x = Value::from_bytes(b"x")?;
+    let b = Value::from_bytes(b"b")?;
+    let first = split(1, root, 1, 1);
+    let merged = merge(2, root, 2);
+    let split_root = Event::Split { ward: 0, page: 0 };
+    let told = |copy: u32, index: u64| Event::Deliver {
+        copy,
+        ward: 0,
+        index,
+    };
+    Ok([
+        begin(1, 1, Asked::Put(b"\0", b"a"), 0)?,
+        hop(1, new),
+        begin(2, 1, Asked::Put(b"\x80", b"b"), 0)?,
+        hop(2, new),
+        begin(3, 1, Asked::Put(b"\x40", b"x"), 0)?,
+        hop(3, Hop::MustSplit),
+        (split_root, Outcome::Changed(first)),
+        hop(3, new),
+        (told(1, 1), Outcome::Taken(first)),
+        (Event::Send { copy: 1 }, Outcome::Sent(1)),
+        begin(4, 1, Asked::Del(b"\x40"), 0)?,
+        hop(4, Hop::Done(Reply::Was(x))),
+        (Event::Merge { ward: 0, page: 0 }, Outcome::Changed(merged)),
+        (told(2, 2), Outcome::Taken(merged)),
+        (Event::Combine { copy: 2, table: 1 }, Outcome::Joined),
+        (Event::Restart { copy: 2 }, Outcome::Restarted),
+        (split_root, Outcome::Changed(split(3, root, 3, 1))),
+        begin(5, 2, Asked::Get(b"\x80"), 0)?,
+        hop(5, Hop::Moved(1)),
+        hop(5, Hop::Done(Reply::Is(b))),
+        (Event::Combine { copy: 2, table: 1 }, Outcome::Joined),
+        begin(6, 2, Asked::Get(b"\x80"), 1)?,
+        begin(7, 1, Asked::Put(b"\xc0", b"y"), 1)?,
+        hop(7, new),
+        (Event::Send { copy: 2 }, Outcome::Sent(2)),
+    ])
+}
+
+// Who owns a world has few exits, for the prover's sake: each drops it.
+fn run_beside(run: &Run, lines: &[Line], seen: &mut Seen) -> Result<(), Difference> {
+    let mut unhurt = again!(Err(AllocError) => failing_world(run.alloc, 0))?;
+    take_all(run.alloc, &mut unhurt, lines, seen)
+}
+
+// The world of an empty file, whose access of this number is refused.
+fn failing_world(alloc: Global, at: u64) -> Result<FailingWorld, AllocError> {
+    let mut wards = Vec::new(alloc);
+    wards.reserve(1)?;
+    let store = FailingPages::new(first_store(alloc, 0, 0)?, at);
+    wards.push_reserved(Ward::new(alloc, store, 2, 0, 0, PlainKeyer));
+    World::from_wards(alloc, &CONFIG, wards)
+}
+
+fn take_all(
+    alloc: Global,
+    unhurt: &mut FailingWorld,
+    lines: &[Line],
+    seen: &mut Seen,
+) -> Result<(), Difference> {
+    let met = take(unhurt, lines, seen);
+    same(!met, Part::Healed)?;
+    for at in 1..MOST {
+        if !run_failing(alloc, at, unhurt, lines, seen)? {
+            return Ok(());
+        }
+    }
+    Err(Difference::Apart(Part::Healed))
+}
+
+// Runs a world whose access of this number is refused. Answers whether there is one of this number.
+fn run_failing(
+    alloc: Global,
+    at: u64,
+    unhurt: &mut FailingWorld,
+    lines: &[Line],
+    seen: &mut Seen,
+) -> Result<bool, Difference> {
+    let mut world = again!(Err(AllocError) => failing_world(alloc, at))?;
+    let met = take(&mut world, lines, seen);
+    if met {
+        are_alike(&mut world, unhurt)?;
+    }
+    Ok(met)
+}
+
+// Takes the events, each once more where it is refused. Answers whether a page was out of reach.
+fn take(world: &mut FailingWorld, lines: &[Line], seen: &mut Seen) -> bool {
+    let mut met = false;
+    let noted = seen.refused.iter_mut().zip(seen.is_right.iter_mut());
+    for ((event, outcome), (refused, is_right)) in lines.iter().zip(noted) {
+        let answer = match step(world, event) {
+            Err(StepFault::Ward(WardFault::Page)) => {
+                *refused = true;
+                met = true;
+                step(world, event)
+            }
+            answer => answer,
+        };
+        *is_right &= answer == Ok(*outcome);
+    }
+    met
+}
+
+// The calls of a world, made once more where memory was refused.
+fn step(world: &mut FailingWorld, event: &Event) -> Result<Outcome, StepFault> {
+    again!(Err(StepFault::Ward(WardFault::Memory)) => world.step(event))
+}
+
+fn page(world: &mut FailingWorld, number: PageNo) -> Result<Page, StepFault> {
+    again!(Err(StepFault::Ward(WardFault::Memory)) => world.page(0, number))
+}
+
+// The readers of two worlds show the same.
+fn are_alike(world: &mut FailingWorld, other: &mut FailingWorld) -> Result<(), Difference> {
+    for number in 0..PAGES {
+        let is_same = are_same(&page(world, number)?, &page(other, number)?);
+        same(is_same, Part::Healed)?;
+    }
+    let no_page = Some(StepFault::Ward(WardFault::NoPage));
+    same(page(world, PAGES).err() == no_page, Part::Healed)?;
+    same(world.in_flight().eq(other.in_flight()), Part::Healed)?;
+    for copy in 1..=COPIES {
+        have_same_copy(world, other, copy)?;
+    }
+    Ok(())
+}
+
+fn have_same_copy(world: &FailingWorld, other: &FailingWorld, copy: u32) -> Result<(), Difference> {
+    let entries = world.copy(copy)?.table().entries();
+    same(
+        entries.eq(other.copy(copy)?.table().entries()),
+        Part::Healed,
+    )
+}
