@@ -1,38 +1,131 @@
-//! Arrays worked out by hand, arrays beside slow walks, and growths that are refused.
+//! Directories worked out by hand: stories of notices, joins and copies. With any one growth
+//! refused, a directory is as before, and the second try succeeds.
 
 ghost use Rattle.std.specs.Prelude.{◌≤◌};
 ghost use Rattle.exh_prefix.specs.declared.prefix.TheConstants.{LIMIT};
 
 use crate::{Directory, Pointers};
-use exh_notice::{Kind, Notice};
-use exh_prefix::{PageNo, Prefix};
-use std::process::Abort;
+use exh_notice::{Entry, Kind, Notice};
+use exh_prefix::{LIMIT, PageNo, Prefix};
+use exh_table::Table;
+use std::alloc::{AllocError, Global};
 
-mod beside_walks;
-mod by_hand;
-mod chains;
-mod growth_refused;
+// A prefix, as its length and bits.
+type Place = (u8, u64);
 
-fn prefix_of(rt: &impl Abort, len: u8, bits: u64) -> Prefix {
-    Prefix::new(len, bits).expect(rt, "a bit past the length is set")
+// An entry, as its number and a split's right page.
+type Row = (u32, Option<PageNo>);
+
+// A notice, and the entry that stood at its prefix.
+type Told = (Place, Row, Option<Row>);
+
+// Pages of pointers with their local depths.
+type Pages = &'static [(PageNo, u8)];
+
+const ROOT: Place = (0, 0);
+
+const LEFT: Place = (1, 0);
+
+const RIGHT: Place = (1, 0x8000_0000_0000_0000);
+
+const WARD_1: Place = (2, 0x4000_0000_0000_0000);
+
+const NO_NOTICE: Pages = &[(0, 0)];
+
+const ROOT_SPLIT: Pages = &[(0, 1), (1, 1)];
+
+const ROOT_AND_LEFT_SPLIT: Pages = &[(0, 2), (2, 2), (1, 1), (1, 1)];
+
+const FOUR_WARDS: Pages = &[(0, 2), (0, 2), (0, 2), (0, 2)];
+
+const WARD_1_SPLIT: Pages = &[
+    (0, 2),
+    (0, 2),
+    (0, 3),
+    (1, 3),
+    (0, 2),
+    (0, 2),
+    (0, 2),
+    (0, 2),
+];
+
+// The splits at the root to page 1, at `0` to page 2, at `00` to page 3 and at `1` to page 4.
+const FOUR_SPLITS: Pages = &[
+    (0, 3),
+    (3, 3),
+    (2, 2),
+    (2, 2),
+    (1, 2),
+    (1, 2),
+    (4, 2),
+    (4, 2),
+];
+
+// The ward bits, what is told, and the depth and pointers then.
+const STORIES: [(u8, &[Told], u8, Pages); 10] = [
+    (0, &[], 0, NO_NOTICE),
+    (0, &[(ROOT, (1, Some(1)), None)], 1, ROOT_SPLIT),
+    // The split at `0` is told before the split at the root: until then no walk comes to it.
+    (0, &[(LEFT, (1, Some(2)), None)], 0, NO_NOTICE),
+    (
+        0,
+        &[(LEFT, (1, Some(2)), None), (ROOT, (1, Some(1)), None)],
+        2,
+        ROOT_AND_LEFT_SPLIT,
+    ),
+    (
+        0,
+        &[
+            (ROOT, (1, Some(1)), None),
+            (ROOT, (2, None), Some((1, Some(1)))),
+        ],
+        0,
+        NO_NOTICE,
+    ),
+    // A ward is split at its own prefix; a split above the wards is none of a walk's.
+    (2, &[], 2, FOUR_WARDS),
+    (2, &[(ROOT, (1, Some(1)), None)], 2, FOUR_WARDS),
+    (2, &[(LEFT, (1, Some(7)), None)], 2, FOUR_WARDS),
+    (
+        2,
+        &[(LEFT, (1, Some(7)), None), (WARD_1, (1, Some(1)), None)],
+        3,
+        WARD_1_SPLIT,
+    ),
+    // The array is doubled once, halved, and doubled three times at once where a merge stood.
+    (
+        0,
+        &[
+            ((2, 0), (1, Some(3)), None),
+            (ROOT, (1, Some(1)), None),
+            (ROOT, (2, None), Some((1, Some(1)))),
+            (LEFT, (1, Some(2)), None),
+            (ROOT, (3, Some(1)), Some((2, None))),
+            (RIGHT, (1, Some(4)), None),
+        ],
+        3,
+        FOUR_SPLITS,
+    ),
+];
+
+fn entry(row: Row) -> Entry {
+    let (number, right) = row;
+    let kind = match right {
+        Some(right) => Kind::Split { right },
+        None => Kind::Merge,
+    };
+    Entry { number, kind }
 }
 
-fn told(prefix: Prefix, number: u32, kind: Kind) -> Notice {
-    Notice {
+fn notice(place: Place, row: Row) -> Option<Notice> {
+    let told = entry(row);
+    Some(Notice {
         ward: 0,
         index: 1,
-        prefix,
-        number,
-        kind,
-    }
-}
-
-fn split(prefix: Prefix, number: u32, right: PageNo) -> Notice {
-    told(prefix, number, Kind::Split { right })
-}
-
-fn merge(prefix: Prefix, number: u32) -> Notice {
-    told(prefix, number, Kind::Merge)
+        prefix: Prefix::new(place.0, place.1)?,
+        number: told.number,
+        kind: told.kind,
+    })
 }
 
 // The first pseudokey whose leading bits, so many, are the number.
@@ -42,45 +135,228 @@ fn pseudokey_of(depth: u8, leading: u64) -> u64
     (leading << 1) << (63 - depth)
 }
 
-// The pointers are these pages with their local depths, in the order of so many leading bits: each
-// at the first and the last pseudokey that begins with them.
-fn assert_pointers(rt: &impl Abort, pointers: &Pointers, depth: u8, want: &[(PageNo, u8)])
+fn points(pointers: &Pointers, pseudokey: u64, page: PageNo, local_depth: u8) -> bool {
+    pointers.page(pseudokey) == page && pointers.local_depth(pseudokey) == local_depth
+}
+
+// Whether the pointers are these pages, in the order of so many leading bits: each at the first and
+// the last pseudokey that begins with them.
+fn has_pointers(pointers: &Pointers, depth: u8, want: &[(PageNo, u8)]) -> bool
     requires { depth ≤ LIMIT }
 {
-    assert_eq!(rt; pointers.depth(), depth);
-    assert_eq!(rt; want.len(), 1 << depth);
     for (leading, (page, local_depth)) in want.iter().enumerate() {
         let first = pseudokey_of(depth, leading as u64);
-        for pseudokey in [first, first | u64::MAX >> depth] {
-            assert_eq!(rt; pointers.page(pseudokey), *page, "{pseudokey:x}");
-            assert_eq!(rt;
-                pointers.local_depth(pseudokey),
-                *local_depth,
-                "{pseudokey:x}"
-            );
+        let last = first | u64::MAX >> depth;
+        if !points(pointers, first, *page, *local_depth)
+            || !points(pointers, last, *page, *local_depth)
+        {
+            return false;
+        }
+    }
+    pointers.depth() == depth && want.len() == 1 << depth
+}
+
+// Whether a directory answers the same for its own ward bits as its array.
+fn has_walks(directory: &Directory, ward_bits: u8, depth: u8, want: &[(PageNo, u8)]) -> bool
+    requires ward_bits { ward_bits ≤ LIMIT }
+    requires depth { depth ≤ LIMIT }
+{
+    for (leading, (page, _)) in want.iter().enumerate() {
+        let pseudokey = pseudokey_of(depth, leading as u64);
+        if directory.walk(ward_bits, pseudokey) != *page {
+            return false;
+        }
+    }
+    directory.depth(ward_bits) == depth
+}
+
+fn is_directory(directory: &Directory, ward_bits: u8, depth: u8, want: &[(PageNo, u8)]) -> bool {
+    ward_bits <= LIMIT
+        && depth <= LIMIT
+        && has_pointers(directory.pointers(), depth, want)
+        && has_walks(directory, ward_bits, depth, want)
+}
+
+// Whether two directories of one ward have the same table and the same pointers at each list of
+// four leading bits.
+fn same(directory: &Directory, other: &Directory) -> bool {
+    for leading in 0..16 {
+        let pseudokey = pseudokey_of(4, leading);
+        let pointers = other.pointers();
+        let (page, local_depth) = (pointers.page(pseudokey), pointers.local_depth(pseudokey));
+        if !points(directory.pointers(), pseudokey, page, local_depth) {
+            return false;
+        }
+    }
+    directory.depth(0) == other.depth(0) && directory.table().entries().eq(other.table().entries())
+}
+
+// What follows is tried once more where memory is refused.
+fn new_again(alloc: Global, ward_bits: u8) -> Option<Directory>
+    requires { ward_bits ≤ LIMIT }
+{
+    match Directory::new(alloc, ward_bits) {
+        Err(AllocError) => Directory::new(alloc, ward_bits).ok(),
+        Ok(directory) => Some(directory),
+    }
+}
+
+fn clone_again(directory: &Directory) -> Option<Directory> {
+    match directory.try_clone() {
+        Err(AllocError) => directory.try_clone().ok(),
+        Ok(copy) => Some(copy),
+    }
+}
+
+fn pointers_again(pointers: &Pointers) -> Option<Pointers> {
+    match pointers.try_clone() {
+        Err(AllocError) => pointers.try_clone().ok(),
+        Ok(copy) => Some(copy),
+    }
+}
+
+fn take_again(
+    directory: &mut Directory,
+    before: &Directory,
+    notice: &Notice,
+) -> Option<Option<Entry>> {
+    match directory.take(notice) {
+        Ok(stood) => Some(stood),
+        Err(AllocError) => {
+            if !same(directory, before) {
+                return None;
+            }
+            directory.take(notice).ok()
         }
     }
 }
 
-// A directory answers the same for so many ward bits as its array.
-fn assert_directory(
-    rt: &impl Abort,
-    directory: &Directory,
-    ward_bits: u8,
-    depth: u8,
-    want: &[(PageNo, u8)],
-)
-    requires ward_bits { ward_bits ≤ LIMIT }
-    requires depth { depth ≤ LIMIT }
-{
-    assert_pointers(rt, directory.pointers(), depth, want);
-    assert_eq!(rt; directory.depth(ward_bits), depth);
-    for (leading, (page, _)) in want.iter().enumerate() {
-        let pseudokey = pseudokey_of(depth, leading as u64);
-        assert_eq!(rt;
-            directory.walk(ward_bits, pseudokey),
-            *page,
-            "{pseudokey:x}"
-        );
+fn join_again(directory: &mut Directory, before: &Directory, other: &Table) -> Option<()> {
+    match directory.join_in(other) {
+        Ok(()) => Some(()),
+        Err(AllocError) => {
+            if !same(directory, before) {
+                return None;
+            }
+            directory.join_in(other).ok()
+        }
+    }
+}
+
+// Whether what stood at a notice's prefix is as wanted.
+fn tell_one(directory: &mut Directory, told: &Told) -> Option<bool> {
+    let (place, row, stood) = told;
+    let before = clone_again(directory)?;
+    let taken = take_again(directory, &before, &notice(*place, *row)?)?;
+    Some(taken == stood.map(entry))
+}
+
+fn tell(directory: &mut Directory, told: &[Told]) -> bool {
+    for one in told {
+        if tell_one(directory, one) != Some(true) {
+            return false;
+        }
+    }
+    true
+}
+
+fn wrong_story(alloc: Global) -> Option<usize> {
+    for (at, (ward_bits, told, depth, want)) in STORIES.iter().enumerate() {
+        if !is_story(alloc, *ward_bits, told, *depth, want) {
+            return Some(at);
+        }
+    }
+    None
+}
+
+fn is_story(alloc: Global, ward_bits: u8, told: &[Told], depth: u8, want: &[(PageNo, u8)]) -> bool {
+    if ward_bits > LIMIT {
+        return false;
+    }
+    match new_again(alloc, ward_bits) {
+        Some(mut directory) => {
+            tell(&mut directory, told) && is_directory(&directory, ward_bits, depth, want)
+        }
+        None => false,
+    }
+}
+
+#[test]
+fn stories_of_notices(rt: HostRuntime) {
+    assert_eq!(rt; wrong_story(rt.alloc()), None);
+}
+
+// With other ward bits than its own a directory walks through its table.
+fn walks_of_one_ward(directory: &mut Directory) -> bool {
+    tell(directory, &[(ROOT, (1, Some(1)), None)])
+        && directory.depth(0) == 1
+        && directory.walk(0, u64::MAX) == 1
+        && directory.walk(2, u64::MAX) == 0
+}
+
+#[test]
+fn other_ward_bits(rt: HostRuntime) {
+    match new_again(rt.alloc(), 2) {
+        Some(mut directory) => assert!(rt; walks_of_one_ward(&mut directory)),
+        None => assert!(rt; false, "no directory"),
+    }
+}
+
+// A copy of a directory and of its pointers is the same, and stays so after a merge.
+fn is_copied(directory: &mut Directory) -> Option<bool> {
+    let is_split = tell(directory, &[(ROOT, (1, Some(1)), None)]);
+    let copy = clone_again(directory)?;
+    let pointers = pointers_again(directory.pointers())?;
+    let is_same = same(&copy, directory);
+    let is_merged = tell(directory, &[(ROOT, (2, None), Some((1, Some(1))))]);
+    Some(
+        is_split
+            && is_same
+            && is_merged
+            && is_directory(directory, 0, 0, NO_NOTICE)
+            && is_directory(&copy, 0, 1, ROOT_SPLIT)
+            && has_pointers(&pointers, 1, ROOT_SPLIT),
+    )
+}
+
+#[test]
+fn copies(rt: HostRuntime) {
+    match new_again(rt.alloc(), 0) {
+        Some(mut directory) => assert_eq!(rt; is_copied(&mut directory), Some(true)),
+        None => assert!(rt; false, "no directory"),
+    }
+}
+
+// Each of two directories has an entry that the other needs to go deeper.
+fn is_joined(one: &mut Directory, other: &mut Directory) -> Option<bool> {
+    let are_told = tell(
+        one,
+        &[
+            ((2, 0), (1, Some(3)), None),
+            (ROOT, (1, Some(1)), None),
+            (RIGHT, (1, Some(4)), None),
+        ],
+    ) && tell(
+        other,
+        &[
+            (LEFT, (1, Some(2)), None),
+            (ROOT, (2, None), None),
+            (ROOT, (3, Some(1)), Some((2, None))),
+        ],
+    );
+    let (first, second) = (clone_again(one)?, clone_again(other)?);
+    join_again(one, &first, other.table())?;
+    let is_deep = is_directory(one, 0, 3, FOUR_SPLITS);
+    join_again(other, &second, one.table())?;
+    Some(are_told && is_deep && same(one, other))
+}
+
+#[test]
+fn joins(rt: HostRuntime) {
+    match (new_again(rt.alloc(), 0), new_again(rt.alloc(), 0)) {
+        (Some(mut one), Some(mut other)) => {
+            assert_eq!(rt; is_joined(&mut one, &mut other), Some(true));
+        }
+        _ => assert!(rt; false, "no directory"),
     }
 }

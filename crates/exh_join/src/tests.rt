@@ -109,9 +109,8 @@ fn replicas_meet() -> Option<bool> {
     let mut one = Replica::new(pair(1, 9));
     let mut other = Replica::new(pair(1, 9));
     let mut third = Replica::new(pair(1, 9));
-    for replica in [&mut one, &mut third] {
-        replica.take(&pair(4, 2)).ok()?;
-    }
+    one.take(&pair(4, 2)).ok()?;
+    third.take(&pair(4, 2)).ok()?;
     third.take(&pair(4, 2)).ok()?;
     other.combine(&third).ok()?;
     other.combine(&third).ok()?;

@@ -84,13 +84,16 @@ fn wrong_size(bytes: &[u8]) -> Option<usize> {
     None
 }
 
+fn ends_in_zero_or_not() -> Option<bool> {
+    Some(Value::from_bytes(b"a").ok()? != Value::from_bytes(b"a\0").ok()?)
+}
+
 #[test]
-fn limits(rt: HostRuntime) -> Result<(), Fail> {
+fn limits(rt: HostRuntime) {
     assert!(rt; (CAP_LIMIT, KEY_LIMIT, VALUE_LIMIT) == (16, 64, 128));
     let bytes = [7; 129];
     assert_eq!(rt; wrong_size(&bytes), None);
-    assert!(rt; Value::from_bytes(b"a")? != Value::from_bytes(b"a\0")?);
-    Ok(())
+    assert_eq!(rt; ends_in_zero_or_not(), Some(true));
 }
 
 #[test]
@@ -143,14 +146,18 @@ fn wrong_key() -> Option<&'static [u8]> {
     None
 }
 
+fn put_row(records: &mut Records, row: &Row) -> Option<()> {
+    let (pseudokey, key, value) = row;
+    match records.put(record(*pseudokey, key, value)?) {
+        Ok(None) => Some(()),
+        _ => None,
+    }
+}
+
 // Puts every fifth of them, round and round.
-fn put_mixed(records: &mut Records) -> Option<()> {
+fn put_mixed(records: &mut Records, rows: &[Row]) -> Option<()> {
     for at in 0..17 {
-        let (pseudokey, key, value) = RISING[at * 5 % 17];
-        let old = records.put(record(pseudokey, key, value)?).ok()?;
-        if old.is_some() {
-            return None;
-        }
+        put_row(records, rows.get(at * 5 % 17)?)?;
     }
     Some(())
 }
@@ -159,7 +166,7 @@ fn put_mixed(records: &mut Records) -> Option<()> {
 fn places_rise(rt: HostRuntime) {
     assert!(rt; wrong_key().is_none());
     let mut records = Records::new(rt.alloc());
-    assert!(rt; put_mixed(&mut records).is_some());
+    assert!(rt; put_mixed(&mut records, &RISING).is_some());
     assert!(rt; are(&records, &RISING));
 }
 
@@ -246,9 +253,13 @@ fn answer(page: &mut Page, call: &Call, item: Record) -> Option<Option<Value>> {
     }
 }
 
+fn value_of(item: Filled) -> Option<Value> {
+    Some(filled(item)?.value)
+}
+
 fn is_value_of(value: Option<Value>, want: Option<Filled>) -> bool {
     match (value, want) {
-        (Some(value), Some(item)) => filled(item).is_some_and(|item| item.value == value),
+        (Some(value), Some(item)) => value_of(item) == Some(value),
         (None, None) => true,
         _ => false,
     }
@@ -326,8 +337,8 @@ const SHARED: [Row; 4] = [
 ];
 
 fn put_all(records: &mut Records, rows: &[Row]) -> Option<()> {
-    for (pseudokey, key, value) in rows {
-        records.put(record(*pseudokey, key, value)?).ok()?;
+    for row in rows {
+        put_row(records, row)?;
     }
     Some(())
 }
@@ -362,8 +373,8 @@ fn one_record(alloc: Global, item: &Record) -> Option<Records>
     ensures { IfSome result (λ records. records ≡ item.now ∷ []) }
 {
     let mut records = Records::new(alloc);
-    match records.push(item) {
-        Ok(()) => Some(records),
+    match records.put(*item) {
+        Ok(_) => Some(records),
         Err(_) => None,
     }
 }

@@ -44,12 +44,6 @@ fn wrong_new() -> Option<Row> {
     None
 }
 
-#[test]
-fn lengths_and_bits(rt: HostRuntime) {
-    assert!(rt; LIMIT == 16);
-    assert_eq!(rt; wrong_new(), None);
-}
-
 // A prefix, a pseudokey, and whether the one begins the other.
 const BEGUN: [(Row, u64, bool); 10] = [
     ((0, 0), 0, true),
@@ -74,115 +68,6 @@ fn wrong_begins() -> Option<(Row, u64)> {
     None
 }
 
-#[test]
-fn begins_both_ends_of_its_range(rt: HostRuntime) {
-    assert_eq!(rt; wrong_begins(), None);
-}
-
-// A prefix, its children, its parent and its buddy, and whether it is a right child.
-type Family = (Row, Option<(Row, Row)>, Option<Row>, Option<Row>, bool);
-
-const FAMILIES: [Family; 5] = [
-    (
-        (0, 0),
-        Some(((1, 0), (1, 0x8000_0000_0000_0000))),
-        None,
-        None,
-        false,
-    ),
-    (
-        (3, 0x6000_0000_0000_0000),
-        Some(((4, 0x6000_0000_0000_0000), (4, 0x7000_0000_0000_0000))),
-        Some((2, 0x4000_0000_0000_0000)),
-        Some((3, 0x4000_0000_0000_0000)),
-        true,
-    ),
-    (
-        (4, 0x6000_0000_0000_0000),
-        Some(((5, 0x6000_0000_0000_0000), (5, 0x6800_0000_0000_0000))),
-        Some((3, 0x6000_0000_0000_0000)),
-        Some((4, 0x7000_0000_0000_0000)),
-        false,
-    ),
-    (
-        (4, 0x7000_0000_0000_0000),
-        Some(((5, 0x7000_0000_0000_0000), (5, 0x7800_0000_0000_0000))),
-        Some((3, 0x6000_0000_0000_0000)),
-        Some((4, 0x6000_0000_0000_0000)),
-        true,
-    ),
-    (
-        (15, 0xfffe_0000_0000_0000),
-        Some(((16, 0xfffe_0000_0000_0000), (16, 0xffff_0000_0000_0000))),
-        Some((14, 0xfffc_0000_0000_0000)),
-        Some((15, 0xfffc_0000_0000_0000)),
-        true,
-    ),
-];
-
-// The longest prefixes have no child.
-const LONGEST: [Family; 2] = [
-    (
-        (16, 0),
-        None,
-        Some((15, 0)),
-        Some((16, 0x0001_0000_0000_0000)),
-        false,
-    ),
-    (
-        (16, 0xffff_0000_0000_0000),
-        None,
-        Some((15, 0xfffe_0000_0000_0000)),
-        Some((16, 0xfffe_0000_0000_0000)),
-        true,
-    ),
-];
-
-fn is_row(prefix: Option<Prefix>, want: Option<Row>) -> bool {
-    match (prefix, want) {
-        (Some(prefix), Some((len, bits))) => prefix.len() == len && prefix.low() == bits,
-        (None, None) => true,
-        _ => false,
-    }
-}
-
-fn has_children(prefix: Prefix, want: Option<(Row, Row)>) -> bool {
-    let (left, right) = match want {
-        Some((left, right)) => (Some(left), Some(right)),
-        None => (None, None),
-    };
-    is_row(prefix.child(false), left) && is_row(prefix.child(true), right)
-}
-
-fn is_family(family: &Family) -> bool {
-    let ((len, bits), children, parent, buddy, is_right) = *family;
-    match Prefix::new(len, bits) {
-        Some(prefix) => {
-            has_children(prefix, children)
-                && is_row(prefix.parent(), parent)
-                && is_row(prefix.buddy(), buddy)
-                && prefix.is_right_child() == is_right
-                && prefix.is_empty() == (len == 0)
-        }
-        None => false,
-    }
-}
-
-fn wrong_family(families: &[Family]) -> Option<Row> {
-    for family in families {
-        if !is_family(family) {
-            return Some(family.0);
-        }
-    }
-    None
-}
-
-#[test]
-fn children_parents_and_buddies(rt: HostRuntime) {
-    assert_eq!(rt; wrong_family(&FAMILIES), None);
-    assert_eq!(rt; wrong_family(&LONGEST), None);
-}
-
 // A word, and the word with its lowest set bit cleared.
 const CLEARED: [(u64, u64); 4] = [
     (0, 0),
@@ -201,18 +86,19 @@ fn wrong_clear() -> Option<u64> {
 }
 
 #[test]
-fn clear_lowest_clears_one_bit(rt: HostRuntime) {
-    assert_eq!(rt; wrong_clear(), None);
+fn bits_of_prefixes(rt: HostRuntime) {
+    assert!(rt; LIMIT == 16);
+    assert_eq!(rt; wrong_new(), None);
+    assert!(rt; wrong_begins().is_none() && wrong_clear().is_none());
 }
 
 // By low bound, then by length.
-const RISING: [Row; 6] = [
-    (0, 0),
-    (1, 0),
-    (2, 0),
-    (2, 0x4000_0000_0000_0000),
-    (1, 0x8000_0000_0000_0000),
-    (2, 0x8000_0000_0000_0000),
+const RISING: [(Row, Row); 5] = [
+    ((0, 0), (1, 0)),
+    ((1, 0), (2, 0)),
+    ((2, 0), (2, 0x4000_0000_0000_0000)),
+    ((2, 0x4000_0000_0000_0000), (1, 0x8000_0000_0000_0000)),
+    ((1, 0x8000_0000_0000_0000), (2, 0x8000_0000_0000_0000)),
 ];
 
 fn are_rising(prefix: Prefix, next: Prefix) -> bool {
@@ -222,18 +108,13 @@ fn are_rising(prefix: Prefix, next: Prefix) -> bool {
 }
 
 fn wrong_order() -> Option<Row> {
-    for ((len, bits), (next_len, next_bits)) in RISING.iter().zip(&RISING[1..]) {
-        match (Prefix::new(*len, *bits), Prefix::new(*next_len, *next_bits)) {
+    for ((len, bits), (next_len, next_bits)) in RISING {
+        match (Prefix::new(len, bits), Prefix::new(next_len, next_bits)) {
             (Some(prefix), Some(next)) if are_rising(prefix, next) => {}
-            _ => return Some((*len, *bits)),
+            _ => return Some((len, bits)),
         }
     }
     None
-}
-
-#[test]
-fn ordered_by_low_bound_then_length(rt: HostRuntime) {
-    assert_eq!(rt; wrong_order(), None);
 }
 
 const TEXTS: [(Row, &str); 4] = [
@@ -248,18 +129,19 @@ fn prints(alloc: Global, len: u8, bits: u64, want: &str) -> Option<bool> {
     Some(text.as_str() == want)
 }
 
-fn wrong_text(alloc: Global) -> Option<&'static str> {
+fn wrong_text(alloc: Global) -> Option<Row> {
     for ((len, bits), text) in TEXTS {
         if prints(alloc, len, bits, text) != Some(true) {
-            return Some(text);
+            return Some((len, bits));
         }
     }
     None
 }
 
 #[test]
-fn prints_its_bits(rt: HostRuntime) {
-    assert!(rt; wrong_text(rt.alloc()).is_none());
+fn ordered_and_printed(rt: HostRuntime) {
+    assert_eq!(rt; wrong_order(), None);
+    assert_eq!(rt; wrong_text(rt.alloc()), None);
 }
 
 // At 011 and its children, and a pseudokey that the right one begins.
@@ -273,13 +155,13 @@ fn laws_hold(parent: Prefix, left: Prefix, right: Prefix, pseudokey: u64) -> boo
     order_is_by_low_bound();
     order_is_total();
     right.begins(pseudokey)
-        && parent.begins(pseudokey)
         && !left.begins(pseudokey)
+        && parent.child(true) == Some(right)
+        && right.parent() == Some(parent)
+        && right.buddy() == Some(left)
         && Prefix::clear_lowest(right.low()) == parent.low()
         && left.low() == parent.low()
-        && left != parent
-        && left.cmp(&parent) == Ordering::Greater
-        && parent.cmp(&left) == Ordering::Less
+        && parent < left
 }
 
 fn laws_at_011() -> Option<bool> {
