@@ -1,1 +1,2 @@
 pub mod ParserLemmas
+pub mod RunLemmas

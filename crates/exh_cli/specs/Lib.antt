@@ -2,3 +2,4 @@ pub mod Fault
 pub mod Job
 pub mod Parser
 pub mod Status
+pub mod Run

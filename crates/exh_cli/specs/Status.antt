@@ -1,7 +1,23 @@
 -- The program's exit status.
-use Rattle.std.specs.Prelude.{ℕ}
+use Rattle.std.specs.Prelude.{ℕ, Result, Ok, Err}
+use Rattle.exh_script.specs.declared.ended.Ended.{Ended}
+use Rattle.exh_script.specs.declared.ended.Ended.TheVariants as ended
+use Rattle.exh_script.specs.declared.serve_fault.ServeFault.{ServeFault}
+use Rattle.exh_cli.specs.declared.fault.CliFault.{CliFault}
+use Rattle.exh_cli.specs.declared.fault.CliFault.TheVariants as fault
 use Rattle.exh_cli.specs.declared.status.Status.{Status}
 use Rattle.exh_cli.specs.declared.status.Status.TheVariants.{Done, Refused, WrongWords}
+
+-- after the run of a script: done, or refused as a whole, or cut off by the writer or by want of memory
+abbrev pub run_status : Result Ended ServeFault → Status
+run_status (Ok ended.Done) = Done
+run_status (Ok ended.Refused) = Refused
+run_status (Err stopped) = Refused
+
+-- where the command line gives no job
+abbrev pub fault_status : CliFault → Status
+fault_status (fault.Wrong error) = WrongWords
+fault_status fault.Memory = Refused
 
 abbrev pub code_of : Status → ℕ
 code_of Done = 0

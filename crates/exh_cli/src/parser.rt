@@ -41,7 +41,18 @@ line begins or ends with one.
   KEY, VALUE  1 to 64 and 0 to 128 bytes: characters ! to ~, the first not #; or
               # and for each byte two digits of 0 to 9 and a to f
 
-A line that can't be done prints `refused` and a number, and changes nothing.
+A script is read to its end before anything is printed. A line that can't be
+done prints `refused` and a number, and changes nothing:
+   1  no such page                     20  no such copy
+   3  the page only forwards           21  no request of this name in flight
+   4  the page isn't full              22  no such notice
+   5  the page's prefix is longest     23  no such table
+   6  the page is no left buddy        24  no such ward
+   7  its right buddy isn't live       25  a request of this name is in flight
+   8  too many records together        60  no line of a script
+   9  too many changes at a prefix     61  a number, key or value out of range
+These stand alone or come last, and the run ends: 60 or 61 for the `file` line,
+62 for a script that is too long, 41 where reading fails, 10 where memory ends.
 
 Example, with what its lines print:
   file cap=1 wards=0 copies=1 keyer=plain
@@ -50,7 +61,17 @@ Example, with what its lines print:
   split 0 0                  notice 0/1 prefix - number 1 split right 1
   deliver 1 0 1              copy 1 took 0/1
   begin r2 c1 1 get #80      r2 at 0/1
-  hop r2                     r2 is x";
+  hop r2                     r2 is x
+
+Exit status: 0 where the run is done, also with refused lines; 1 where it is
+refused or breaks off; 2 where the command line is wrong or asks for help.
+The formats are in docs/FORMATS.md.";
+
+// What holds of every command.
+const ENDS: &str = "\
+Exit status: 0 where the run is done, also with refused lines; 1 where it is
+refused or breaks off; 2 where the command line is wrong or asks for help.
+`exhash serve --help` has the lines of a script, docs/FORMATS.md the formats.";
 
 /// The parser of the program's command line.
 pub fn parser<'a>(alloc: Global) -> Result<Command<'a>, AllocError>
@@ -62,6 +83,7 @@ pub fn parser<'a>(alloc: Global) -> Result<Command<'a>, AllocError>
         .override_usage(USAGE);
     let exhash = Command::new(alloc, "exhash")
         .about("An extendible hash file whose directory is copied to several nodes")
+        .after_help(ENDS)
         .override_usage(USAGE)
         .subcommand_required(true)
         .arg_required_else_help(true)

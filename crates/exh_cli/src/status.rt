@@ -1,8 +1,9 @@
 //! The program's exit status.
-ghost use Rattle.std.specs.Prelude.{◌≡◌, ◌≢◌, ◌↔◌, Ok};
+ghost use Rattle.std.specs.Prelude.{◌≡◌};
 ghost use Rattle.std.specs.Process.{exit_status};
-ghost use Rattle.exh_cli.specs.Status.{code_of};
+ghost use Rattle.exh_cli.specs.Status.{code_of, fault_status, run_status};
 
+use crate::fault::CliFault;
 use exh_script::{Ended, ServeFault};
 use std::process::ExitCode;
 
@@ -20,12 +21,21 @@ pub enum Status {
 impl Status {
     /// The status of a script's run.
     pub fn of_run(outcome: Result<Ended, ServeFault>) -> Status
-        ensures done { (result ≡ Status.Done) ↔ (outcome ≡ Ok Ended.Done) }
-        ensures refused { outcome ≢ Ok Ended.Done → result ≡ Status.Refused }
+        ensures { result ≡ run_status outcome }
     {
         match outcome {
             Ok(Ended::Done) => Status::Done,
             Ok(Ended::Refused) | Err(_) => Status::Refused,
+        }
+    }
+
+    /// The status where the command line gives no job.
+    pub fn of_fault(fault: &CliFault) -> Status
+        ensures { result ≡ fault_status fault.now }
+    {
+        match fault {
+            CliFault::Wrong(_) => Status::WrongWords,
+            CliFault::Memory => Status::Refused,
         }
     }
 

@@ -1,0 +1,36 @@
+-- What a run printed, from what the server and the last line printed.
+use Rattle.std.proofs.Common.{ℕ, List, [], ◌++◌, Option, Result, Ok, Err, OnErr, refl, sym, subst, inl, inr}
+use Rattle.std.specs.Prelude.{◌≡◌, ◌⊎◌, IsErr, IsErrAnd}
+use Rattle.std.specs.Io.KnownBytes.{Appends}
+use Rattle.exh_stream.specs.Output.{AppendsBeginning}
+use Rattle.exh_stream.specs.OutputLemmas.{AppendsBeginning-after}
+use Rattle.exh_script.specs.Served.{PrintsFront, PrintsLines}
+use Rattle.exh_script.specs.declared.ended.Ended.{Ended}
+use Rattle.exh_script.specs.declared.serve_fault.ServeFault.{ServeFault}
+use Rattle.exh_script.specs.declared.serve_fault.ServeFault.TheVariants.{Write}
+use Rattle.exh_cli.specs.Run.{RunPrints, memory_line}
+
+-- what holds at an error, from what implies it
+pub OnErr-weaker : {T E P Q : Type 0} (r : Result T E) → (P → Q) → OnErr r P → OnErr r Q
+OnErr-weaker (Ok x) f p = tt
+OnErr-weaker (Err e) f p = f p
+
+module _ {P Q : List ℕ → Type 0} (more : (text : List ℕ) → P text → Q text) where
+  front_more : (lines : List (List ℕ)) → PrintsFront P lines → PrintsFront Q lines
+  front_more lines h = record { first = h.first; front = h.front; rest = h.rest; split = h.split; text = more _ h.text }
+
+  either_more : (A : Type 0) (lines : List (List ℕ)) → P [] ⊎ (A × PrintsFront P lines) → Q [] ⊎ (A × PrintsFront Q lines)
+  either_more A lines (inl none) = inl (more [] none)
+  either_more A lines (inr some) = inr (some.0, front_more lines some.1)
+
+  pub lines_more : {known : Option (List ℕ)} → PrintsLines P known → PrintsLines Q known
+  lines_more h = record { script = h.script; read = h.read; lines = either_more _ _ h.lines }
+
+-- the last line was cut
+pub line_cut : (old mid new unread : Option (List ℕ)) → PrintsLines (Appends old mid) unread → AppendsBeginning mid new memory_line → RunPrints old new unread (Err Write)
+line_cut old mid new unread lines line = inr (lines_more (λ text held. AppendsBeginning-after (record { front = text; gone = held; split = refl }) line) lines)
+
+pub write_fault : (old new unread : Option (List ℕ)) (outcome : Result Ended ServeFault) → IsErr outcome × IsErrAnd outcome (λ fault. fault ≡ Write)
+    → RunPrints old new unread (Err Write) → RunPrints old new unread outcome
+write_fault old new unread (Ok ended) is printed = absurd is.1
+write_fault old new unread (Err fault) is printed = subst (λ f. RunPrints old new unread (Err f)) (sym is.1) printed

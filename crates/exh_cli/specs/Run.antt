@@ -1,0 +1,31 @@
+-- What a run of a script prints, and with which status the program then ends.
+use Rattle.std.specs.Prelude.{◌≡◌, ◌⊎◌, ℕ, List, [], ◌∷◌, ◌++◌, codes, Option, Result, Ok, Err}
+use Rattle.std.specs.Io.KnownBytes.{Appends}
+use Rattle.exh_stream.specs.Output.{AppendsBeginning}
+use Rattle.exh_script.specs.Served.{PrintsLines, PrintsText, PrintsUnread, PrintsWhole, unread_text}
+use Rattle.exh_script.specs.declared.ended.Ended.{Ended}
+use Rattle.exh_script.specs.declared.serve_fault.ServeFault.{ServeFault}
+use Rattle.exh_script.specs.declared.serve_fault.ServeFault.TheVariants.{Write, Memory}
+use Rattle.exh_cli.specs.Status.{run_status}
+use Rattle.exh_cli.specs.declared.status.Status.{Status}
+
+-- the last line of a program that memory ended
+abbrev pub memory_line : List ℕ
+memory_line = codes "refused 10" ++ 10 ∷ []
+
+-- Of a writer that held `old` bytes before a run and `new` ones after it, where these are known, and of a reader that had
+-- `unread` bytes left.
+module _ (old new unread : Option (List ℕ)) where
+  -- what was printed: the script's text, or the line of a reader that failed; after want of memory the text of a beginning
+  -- of the script's lines, and the last line; after a fault of the writer a beginning of one of these
+  abbrev pub RunPrints : Result Ended ServeFault → Type 0
+  RunPrints (Ok ended) = PrintsWhole (Appends old new) unread ended ⊎ PrintsUnread (Appends old new) ended
+  RunPrints (Err Memory) = PrintsLines (λ text. Appends old new (text ++ memory_line)) unread
+  RunPrints (Err Write) = (PrintsText (AppendsBeginning old new) unread ⊎ AppendsBeginning old new unread_text)
+      ⊎ PrintsLines (λ text. AppendsBeginning old new (text ++ memory_line)) unread
+
+  -- the status is that of a run that printed so
+  pub record EndsWith (status : Status) : Type 0 where
+    pub outcome : Result Ended ServeFault
+    pub printed : RunPrints outcome
+    pub status_of_run : status ≡ run_status outcome
