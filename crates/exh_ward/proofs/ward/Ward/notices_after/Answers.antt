@@ -1,6 +1,5 @@
-use Rattle.std.proofs.Common.{◌≡◌, ◌-◌, List, [], length, take, drop, sym, ap, ◌∙◌, arith, length-drop}
+use Rattle.std.proofs.Common.{◌-◌, drop, sym, ap, ◌∙◌, arith, length-drop}
 use Rattle.std.proofs.lemmas.List.{drop_all, take_all}
-use Rattle.exh_notice.specs.declared.notice.Notice.{Notice}
 use Rattle.exh_ward.specs.WardState.{WardState, notices_above}
 use Rattle.exh_ward.proofs.NoticesAbove.{above_is_drop}
 use Rattle.exh_ward.proofs.ward.Ward.notices_after.Goals as goal
