@@ -18,6 +18,8 @@ pub mod FreshWorld
 pub mod NewWards
 pub mod WorldOfWards
 pub mod HeadlineOf
+pub mod CopiesTold
+pub mod RunWords
 pub mod UncountedWards
 pub mod WardsLeft
 pub mod UncountedChanges
