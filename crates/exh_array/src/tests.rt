@@ -62,7 +62,7 @@ fn assert_pointers(rt: &impl Abort, pointers: &Pointers, depth: u8, want: &[(Pag
     }
 }
 
-// A directory answers the same for so many ward bits as its array.
+// A directory of so many ward bits answers the same as its array.
 fn assert_directory(
     rt: &impl Abort,
     directory: &Directory,
@@ -74,13 +74,10 @@ fn assert_directory(
     requires depth { depth ≤ LIMIT }
 {
     assert_pointers(rt, directory.pointers(), depth, want);
-    assert_eq!(rt; directory.depth(ward_bits), depth);
+    assert_eq!(rt; directory.ward_bits(), ward_bits);
+    assert_eq!(rt; directory.depth(), depth);
     for (leading, (page, _)) in want.iter().enumerate() {
         let pseudokey = pseudokey_of(depth, leading as u64);
-        assert_eq!(rt;
-            directory.walk(ward_bits, pseudokey),
-            *page,
-            "{pseudokey:x}"
-        );
+        assert_eq!(rt; directory.walk(pseudokey), *page, "{pseudokey:x}");
     }
 }

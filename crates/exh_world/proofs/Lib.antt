@@ -23,6 +23,7 @@ pub mod RunWords
 pub mod UncountedWards
 pub mod WardsLeft
 pub mod UncountedChanges
+pub mod CopyArrays
 pub mod CopySteps
 pub mod WardNumber
 pub mod InsideWorld

@@ -60,14 +60,14 @@ fn assert_beside(rt: &impl Abort, directory: &Directory, ward_bits: u8) -> Resul
     let table = directory.table();
     let pointers = directory.pointers();
     let leaves = table.leaves(ward_bits)?;
-    assert_eq!(rt; directory.depth(ward_bits), table.depth(ward_bits));
+    assert_eq!(rt; directory.depth(), table.depth(ward_bits));
     assert_eq!(rt; pointers.depth(), table.depth(ward_bits));
     for leading in 0..64u64 {
         let pseudokey = leading << 58;
         let leaf = leaves.iter().find(|leaf| leaf.prefix.begins(pseudokey));
         let leaf = leaf.ok_or("no leaf")?;
         let page = table.walk(ward_bits, pseudokey);
-        assert_eq!(rt; directory.walk(ward_bits, pseudokey), page);
+        assert_eq!(rt; directory.walk(pseudokey), page);
         assert_eq!(rt; pointers.page(pseudokey), page);
         assert_eq!(rt; leaf.page, page);
         assert_eq!(rt; pointers.local_depth(pseudokey), leaf.prefix.len());
@@ -97,11 +97,11 @@ fn take_beside(
     let mut is_doubled = false;
     let mut is_halved = false;
     for notice in notices {
-        let depth = directory.depth(ward_bits);
+        let depth = directory.depth();
         directory.take(notice)?;
         assert_beside(rt, directory, ward_bits)?;
-        is_doubled |= directory.depth(ward_bits) > depth;
-        is_halved |= directory.depth(ward_bits) < depth;
+        is_doubled |= directory.depth() > depth;
+        is_halved |= directory.depth() < depth;
     }
     Ok(is_doubled && is_halved)
 }

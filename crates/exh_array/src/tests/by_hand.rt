@@ -114,15 +114,3 @@ fn four_wards(rt: HostRuntime) -> Result<(), Fail> {
     assert_directory(&rt, &directory, 2, 3, &WARD_1_SPLIT);
     Ok(())
 }
-
-// With other ward bits than its own a directory walks through its table.
-#[test]
-fn other_ward_bits(rt: HostRuntime) -> Result<(), Fail> {
-    let mut directory = Directory::new(rt.alloc(), 2)?;
-    directory.take(&split(prefix_of(&rt, 0, 0), 1, 1))?;
-    assert_directory(&rt, &directory, 2, 2, &FOUR_WARDS);
-    assert_eq!(rt; directory.depth(0), 1);
-    assert_eq!(rt; directory.walk(0, u64::MAX), 1);
-    assert_eq!(rt; directory.walk(2, u64::MAX), 0);
-    Ok(())
-}

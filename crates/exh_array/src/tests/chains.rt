@@ -36,7 +36,7 @@ fn assert_chain(rt: &impl Abort, directory: &Directory) {
 fn splits_from_the_shortest(rt: HostRuntime) -> Result<(), Fail> {
     let mut directory = Directory::new(rt.alloc(), 0)?;
     for zeros in 0..16 {
-        assert_eq!(rt; directory.depth(0), zeros);
+        assert_eq!(rt; directory.depth(), zeros);
         split_zeros(&rt, &mut directory, zeros)?;
     }
     assert_chain(&rt, &directory);
@@ -51,7 +51,7 @@ fn splits_from_the_shortest(rt: HostRuntime) -> Result<(), Fail> {
 fn splits_from_the_longest(rt: HostRuntime) -> Result<(), Fail> {
     let mut directory = Directory::new(rt.alloc(), 0)?;
     for zeros in (0..16).rev() {
-        assert_eq!(rt; directory.depth(0), 0);
+        assert_eq!(rt; directory.depth(), 0);
         split_zeros(&rt, &mut directory, zeros)?;
     }
     assert_chain(&rt, &directory);
@@ -66,8 +66,8 @@ fn merges_from_the_longest(rt: HostRuntime) -> Result<(), Fail> {
     }
     for zeros in (0..16).rev() {
         directory.take(&merge(prefix_of(&rt, zeros, 0), 2))?;
-        assert_eq!(rt; directory.depth(0), zeros);
-        assert_eq!(rt; directory.walk(0, 0), 0);
+        assert_eq!(rt; directory.depth(), zeros);
+        assert_eq!(rt; directory.walk(0), 0);
         assert_eq!(rt; directory.pointers().local_depth(0), zeros);
     }
     Ok(())
@@ -81,8 +81,8 @@ fn a_merge_at_the_root(rt: HostRuntime) -> Result<(), Fail> {
         split_zeros(&rt, &mut directory, zeros)?;
     }
     directory.take(&merge(prefix_of(&rt, 0, 0), 2))?;
-    assert_eq!(rt; directory.depth(0), 0);
-    assert_eq!(rt; directory.walk(0, u64::MAX), 0);
+    assert_eq!(rt; directory.depth(), 0);
+    assert_eq!(rt; directory.walk(u64::MAX), 0);
     assert_eq!(rt; directory.pointers().local_depth(0), 0);
     Ok(())
 }

@@ -13,14 +13,14 @@ fn answers_of(directory: &Directory) -> [(PageNo, u8); 16] {
     for (leading, answer) in answers.iter_mut().enumerate() {
         let pseudokey = pseudokey_of(4, leading as u64);
         let local_depth = directory.pointers().local_depth(pseudokey);
-        *answer = (directory.walk(0, pseudokey), local_depth);
+        *answer = (directory.walk(pseudokey), local_depth);
     }
     answers
 }
 
 fn assert_same(rt: &impl Abort, directory: &Directory, other: &Directory) {
     assert!(rt; directory.table().entries().eq(other.table().entries()));
-    assert_eq!(rt; directory.depth(0), other.depth(0));
+    assert_eq!(rt; directory.depth(), other.depth());
     assert_eq!(rt; answers_of(directory), answers_of(other));
 }
 

@@ -80,7 +80,7 @@ fn assert_leaves(
     want: &[Leaf],
 ) -> Result<(), Fail> {
     let directory = world.copy(copy)?;
-    assert_eq!(rt; directory.depth(0), depth);
+    assert_eq!(rt; directory.depth(), depth);
     let leaves = directory.table().leaves(0)?;
     assert_eq!(rt; leaves.as_slice(), want);
     Ok(())
