@@ -41,13 +41,13 @@ impl Caller {
     /// The page that the table names for a key.
     pub(crate) fn home(&self, key: &Key) -> PageNo {
         let pseudokey = self.keyer.pseudo(key.as_bytes());
-        self.directory.walk(0, pseudokey)
+        self.directory.walk(pseudokey)
     }
 
     /// Makes a call, from the page that the table names.
     pub(crate) fn call(&mut self, call: &Call) -> anyhow::Result<Reply> {
         let pseudokey = self.keyer.pseudo(call.key().as_bytes());
-        let at = self.directory.walk(0, pseudokey);
+        let at = self.directory.walk(pseudokey);
         self.follow(at, call, pseudokey)
     }
 
@@ -61,7 +61,7 @@ impl Caller {
     /// is of, as long as they fit.
     pub(crate) fn delete(&mut self, key: &Key) -> anyhow::Result<Reply> {
         let pseudokey = self.keyer.pseudo(key.as_bytes());
-        let at = self.directory.walk(0, pseudokey);
+        let at = self.directory.walk(pseudokey);
         let reply = self.follow(at, &Call::Del { key: *key }, pseudokey)?;
         for _ in 0..LIMIT {
             if !self.merge(pseudokey)? {

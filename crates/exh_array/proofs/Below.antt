@@ -11,7 +11,8 @@ use Rattle.exh_table.specs.Walk.{step}
 use Rattle.exh_table.specs.Below.{splits_above, depth_below}
 use Rattle.exh_table.specs.WalkLemmas.{walk_on-step, IsOnWalk, on_walk_step, on_walk_end}
 use Rattle.exh_array.specs.Pointers.{PointerArray, pointer_to}
-use Rattle.exh_array.specs.Within.{pointer_at, walk_from, IsPointedBelow}
+use Rattle.exh_array.specs.Pointers.{pointer_at}
+use Rattle.exh_array.specs.Within.{walk_from, IsPointedBelow}
 use Rattle.exh_array.proofs.Walks.{depth_below-walk}
 
 module _ (at : Leaf) (right : ℕ) (short : length at.prefix < LIMIT) where

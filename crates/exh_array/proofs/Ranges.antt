@@ -13,7 +13,7 @@ use Rattle.exh_table.specs.Directory.{leading}
 use Rattle.exh_table.specs.LeafLemmas.{low_of-small}
 use Rattle.exh_array.specs.declared.pointer.Pointer.{Pointer}
 use Rattle.exh_array.specs.Pointers.{PointerArray}
-use Rattle.exh_array.specs.Within.{pointer_at}
+use Rattle.exh_array.specs.Pointers.{pointer_at}
 use Rattle.exh_array.proofs.Pieces.{slice_get-set_same, slice_get-set_other}
 use Rattle.exh_array.proofs.Leading.{leading-lt, leading-quotient, leading-fewer, leading-of_begun, begins-from_leading}
 

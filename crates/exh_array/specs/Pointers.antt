@@ -1,5 +1,5 @@
 -- The doubled array of pointers of a table.
-use Rattle.std.specs.Prelude.{◌≡◌, ◌≢◌, ℕ, ◌<◌, ◌^◌, Bool, List, length, slice_get, Some}
+use Rattle.std.specs.Prelude.{◌≡◌, ◌≢◌, ℕ, ◌<◌, ◌^◌, Bool, List, length, slice_get, Option, Some}
 use Rattle.std.specs.FinMap.{get}
 use Rattle.exh_table.specs.declared.leaf.Leaf.{Leaf}
 use Rattle.exh_table.specs.Table.{TableMap}
@@ -24,6 +24,20 @@ pub record IsArrayOf (table : TableMap) (array : PointerArray) : Type 0 where
   pub depth : IsDepth (leaves_of table array.ward_bits) array.depth
   pub full : length array.pointers ≡ 2 ^ array.depth
   pub each : (pseudokey : ℕ) → pseudokey < 2 ^ 64 → slice_get array.pointers (leading array.depth pseudokey) ≡ Some (pointer_to (walk_of table array.ward_bits pseudokey))
+
+-- the pointer that stands at a pseudokey's leading bits
+abbrev pub pointer_at : PointerArray → ℕ → Option Pointer
+pointer_at array pseudokey = slice_get array.pointers (leading array.depth pseudokey)
+
+-- a copy of the directory: a table, and an array of pointers
+pub record DirectoryState : Type 0 where
+  pub table : TableMap
+  pub pointers : PointerArray
+
+-- the pointers are the table's array, in a file of so many ward bits
+pub record HasArrayOf (ward_bits : ℕ) (directory : DirectoryState) : Type 0 where
+  pub bits : directory.pointers.ward_bits ≡ ward_bits
+  pub array : IsArrayOf directory.table directory.pointers
 
 -- the tables have the same entries but at that prefix
 abbrev pub DifferAtMostAt : List Bool → TableMap → TableMap → Type 0

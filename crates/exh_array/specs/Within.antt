@@ -1,5 +1,5 @@
 -- Arrays on the way from one table to another, which may be deeper than a table's directory.
-use Rattle.std.specs.Prelude.{◌≡◌, ℕ, ◌<◌, ◌≤◌, ◌^◌, nat_eq, Bool, List, [], length, take, drop, filter, slice_get, All, Option, Some, None}
+use Rattle.std.specs.Prelude.{◌≡◌, ℕ, ◌<◌, ◌≤◌, ◌^◌, nat_eq, Bool, List, [], length, take, drop, filter, All, Option, Some, None}
 use Rattle.exh_prefix.specs.Bits.{word_bits}
 use Rattle.exh_prefix.specs.Prefix.{Begins}
 use Rattle.exh_prefix.specs.declared.prefix.TheConstants.{LIMIT}
@@ -7,9 +7,8 @@ use Rattle.exh_table.specs.declared.leaf.Leaf.{Leaf}
 use Rattle.exh_table.specs.Table.{TableMap}
 use Rattle.exh_table.specs.Walk.{walk_on, walk_of}
 use Rattle.exh_table.specs.Below.{splits_above}
-use Rattle.exh_table.specs.Directory.{leading}
 use Rattle.exh_array.specs.declared.pointer.Pointer.{Pointer}
-use Rattle.exh_array.specs.Pointers.{PointerArray, pointer_to}
+use Rattle.exh_array.specs.Pointers.{PointerArray, pointer_to, pointer_at}
 
 -- whether a pointer is to a leaf of that length
 abbrev pub is_deep : ℕ → Pointer → Bool
@@ -22,10 +21,6 @@ pub record IsKept (deepest : ℕ) (array : PointerArray) : Type 0 where
   pub full : length array.pointers ≡ 2 ^ array.depth
   pub within : All (λ pointer. pointer.local_depth ≤ array.depth) array.pointers
   pub counted : deepest ≡ length (filter (is_deep array.depth) array.pointers)
-
--- the pointer that stands at a pseudokey's leading bits
-abbrev pub pointer_at : PointerArray → ℕ → Option Pointer
-pointer_at array pseudokey = slice_get array.pointers (leading array.depth pseudokey)
 
 -- the array has the table's leaves, and is deep enough for each of them
 pub record HasLeavesOf (table : TableMap) (array : PointerArray) : Type 0 where

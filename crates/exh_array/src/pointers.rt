@@ -1,4 +1,4 @@
-ghost use Rattle.std.specs.Prelude.{◌≡◌, ℕ, ◌-◌, ◌<◌, ◌≤◌, ◌^◌, [], length, filter, max, slice_set, Some, IfOk, OnOk, OnErr};
+ghost use Rattle.std.specs.Prelude.{◌≡◌, ℕ, ◌-◌, ◌<◌, ◌≤◌, ◌^◌, [], length, filter, max, option_map, slice_set, Some, IfOk, OnOk, OnErr};
 ghost use Rattle.std.specs.FinMap as map;
 ghost use Rattle.exh_prefix.specs.declared.prefix.TheConstants.{LIMIT};
 ghost use Rattle.exh_prefix.specs.Prefix.{Begins};
@@ -6,8 +6,8 @@ ghost use Rattle.exh_table.specs.Table.{TableMap};
 ghost use Rattle.exh_table.specs.Walk.{walk_of};
 ghost use Rattle.exh_table.specs.Below.{splits_above, depth_below, depth_of};
 ghost use Rattle.exh_table.specs.Directory.{leading};
-ghost use Rattle.exh_array.specs.Pointers.{IsArrayOf, DifferAtMostAt, pointer_to};
-ghost use Rattle.exh_array.specs.Within.{is_deep, pointer_at, HasLeavesOf, IsPlaceIn, PointTheSame, IsPointedBelow};
+ghost use Rattle.exh_array.specs.Pointers.{IsArrayOf, DifferAtMostAt, pointer_at, pointer_to};
+ghost use Rattle.exh_array.specs.Within.{is_deep, HasLeavesOf, IsPlaceIn, PointTheSame, IsPointedBelow};
 
 use crate::pointer::Pointer;
 use exh_prefix::{LIMIT, PageNo, Prefix};
@@ -62,9 +62,18 @@ impl Pointers {
         })
     }
 
+    /// The file's ward bits, at most `LIMIT`. It takes no memory.
+    pub fn ward_bits(&self) -> u8
+        ensures bits { result ≡ self.now.ward_bits }
+        ensures limit { result ≤ LIMIT }
+    {
+        self.ward_bits
+    }
+
     /// The page that the table names for a pseudokey. It takes no memory.
     pub fn page(&self, pseudokey: u64) -> PageNo
-        ensures { (table : TableMap) → IsArrayOf table self.now → result ≡ (walk_of table self.now.ward_bits pseudokey).page }
+        ensures pointer { option_map (λ pointer. pointer.page) (pointer_at self.now pseudokey) ≡ Some result }
+        ensures page { (table : TableMap) → IsArrayOf table self.now → result ≡ (walk_of table self.now.ward_bits pseudokey).page }
     {
         self.pointer(pseudokey).page
     }

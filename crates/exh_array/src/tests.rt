@@ -156,25 +156,24 @@ fn has_pointers(pointers: &Pointers, depth: u8, want: &[(PageNo, u8)]) -> bool
     pointers.depth() == depth && want.len() == 1 << depth
 }
 
-// Whether a directory answers the same for its own ward bits as its array.
-fn has_walks(directory: &Directory, ward_bits: u8, depth: u8, want: &[(PageNo, u8)]) -> bool
-    requires ward_bits { ward_bits ≤ LIMIT }
-    requires depth { depth ≤ LIMIT }
+// Whether a directory answers the same as its array.
+fn has_walks(directory: &Directory, depth: u8, want: &[(PageNo, u8)]) -> bool
+    requires { depth ≤ LIMIT }
 {
     for (leading, (page, _)) in want.iter().enumerate() {
         let pseudokey = pseudokey_of(depth, leading as u64);
-        if directory.walk(ward_bits, pseudokey) != *page {
+        if directory.walk(pseudokey) != *page {
             return false;
         }
     }
-    directory.depth(ward_bits) == depth
+    directory.depth() == depth
 }
 
 fn is_directory(directory: &Directory, ward_bits: u8, depth: u8, want: &[(PageNo, u8)]) -> bool {
     ward_bits <= LIMIT
         && depth <= LIMIT
         && has_pointers(directory.pointers(), depth, want)
-        && has_walks(directory, ward_bits, depth, want)
+        && has_walks(directory, depth, want)
 }
 
 // Whether two directories of one ward have the same table and the same pointers at each list of
@@ -188,7 +187,7 @@ fn same(directory: &Directory, other: &Directory) -> bool {
             return false;
         }
     }
-    directory.depth(0) == other.depth(0) && directory.table().entries().eq(other.table().entries())
+    directory.depth() == other.depth() && directory.table().entries().eq(other.table().entries())
 }
 
 // What follows is tried once more where memory is refused.
@@ -284,22 +283,6 @@ fn is_story(alloc: Global, ward_bits: u8, told: &[Told], depth: u8, want: &[(Pag
 #[test]
 fn stories_of_notices(rt: HostRuntime) {
     assert_eq!(rt; wrong_story(rt.alloc()), None);
-}
-
-// With other ward bits than its own a directory walks through its table.
-fn walks_of_one_ward(directory: &mut Directory) -> bool {
-    tell(directory, &[(ROOT, (1, Some(1)), None)])
-        && directory.depth(0) == 1
-        && directory.walk(0, u64::MAX) == 1
-        && directory.walk(2, u64::MAX) == 0
-}
-
-#[test]
-fn other_ward_bits(rt: HostRuntime) {
-    match new_again(rt.alloc(), 2) {
-        Some(mut directory) => assert!(rt; walks_of_one_ward(&mut directory)),
-        None => assert!(rt; false, "no directory"),
-    }
 }
 
 // A copy of a directory and of its pointers is the same, and stays so after a merge.

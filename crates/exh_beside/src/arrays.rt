@@ -93,11 +93,11 @@ fn take_all(run: &mut Run, directory: &mut Directory, ward_bits: u8, notices: &[
     let mut is_doubled = false;
     let mut is_halved = false;
     for notice in notices {
-        let depth = directory.depth(ward_bits);
+        let depth = directory.depth();
         let outcome = take_beside(directory, ward_bits, notice, &mut run.lie);
         run.tally.step(outcome);
-        is_doubled |= directory.depth(ward_bits) > depth;
-        is_halved |= directory.depth(ward_bits) < depth;
+        is_doubled |= directory.depth() > depth;
+        is_halved |= directory.depth() < depth;
     }
     is_doubled && is_halved
 }
@@ -121,7 +121,7 @@ fn is_array(directory: &Directory, ward_bits: u8, lie: &mut Lie) -> Result<(), D
     let table = directory.table();
     let leaves = leaves_of(table, ward_bits)?;
     let depth = table.depth(ward_bits);
-    let is_depth = directory.depth(ward_bits) == depth && directory.pointers().depth() == depth;
+    let is_depth = directory.depth() == depth && directory.pointers().depth() == depth;
     same(is_depth, Part::Depth)?;
     for leading in 0..64u64 {
         let pseudokey = leading << 58;
@@ -152,7 +152,7 @@ fn points_to(
 ) -> Result<(), Difference>
     requires { ward_bits ≤ LIMIT }
 {
-    let is_walk = directory.walk(ward_bits, pseudokey) == page;
+    let is_walk = directory.walk(pseudokey) == page;
     same(
         is_walk && directory.pointers().page(pseudokey) == page,
         Part::Pointer,

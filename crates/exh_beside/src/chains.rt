@@ -30,15 +30,15 @@ fn split_zeros(directory: &mut Directory, zeros: u8, depth: u8) -> Result<(), Di
     let right = PageNo::from(zeros) + 1;
     let notice = split(1, zeros_of(zeros)?, 1, right);
     take(directory, &notice)?;
-    same(directory.depth(0) == depth, Part::Depth)
+    same(directory.depth() == depth, Part::Depth)
 }
 
 // Merges at so many zeros. The directory is then so deep, and its first pointer too.
 fn merge_zeros(directory: &mut Directory, zeros: u8) -> Result<(), Difference> {
     let notice = merge(1, zeros_of(zeros)?, 2);
     take(directory, &notice)?;
-    let is_depth = directory.depth(0) == zeros && directory.pointers().local_depth(0) == zeros;
-    same(is_depth && directory.walk(0, 0) == 0, Part::Pointer)
+    let is_depth = directory.depth() == zeros && directory.pointers().local_depth(0) == zeros;
+    same(is_depth && directory.walk(0) == 0, Part::Pointer)
 }
 
 // The splits at 0 to 15 zeros: where the first 1 of a pseudokey comes after fewer than 16 zeros, it
@@ -114,7 +114,7 @@ fn run_merge_at_the_root(run: &mut Run) -> Result<(), Difference> {
     let mut directory = new_directory(run.alloc, 0)?;
     split_from_the_shortest(run, &mut directory);
     run.tally.step(merge_zeros(&mut directory, 0));
-    let is_root = directory.walk(0, u64::MAX) == 0;
+    let is_root = directory.walk(u64::MAX) == 0;
     run.tally.check(same(is_root, Part::Pointer));
     Ok(())
 }

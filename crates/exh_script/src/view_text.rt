@@ -23,12 +23,13 @@ pub(crate) fn push_shown(
     copy: u32,
     directory: &Directory,
 ) -> Result<(), AllocError>
-    requires { ward_bits ≤ WARD_BITS_LIMIT }
-    ensures { OnOk result (out.new.items ≡ out.old.items ++ shown_text ward_bits copy directory.now) }
+    requires most { ward_bits ≤ WARD_BITS_LIMIT }
+    requires own { directory.now.pointers.ward_bits ≡ ward_bits }
+    ensures { OnOk result (out.new.items ≡ out.old.items ++ shown_text ward_bits copy directory.now.table) }
 {
     push_copy(out, copy)?;
     push_text(out, " depth ")?;
-    push_number(out, u64::from(directory.depth(ward_bits)))?;
+    push_number(out, u64::from(directory.depth()))?;
     push_text(out, "\n")?;
     push_entries(out, directory.table())?;
     push_leaves(out, ward_bits, directory.table())

@@ -6,7 +6,7 @@ use Rattle.exh_table.specs.Walk.{walk_of}
 use Rattle.exh_ward.specs.Call.{key_of}
 use Rattle.exh_ward.specs.declared.call.Call.{Call}
 use Rattle.exh_world.specs.InFlight.{Requests, request_named}
-use Rattle.exh_world.specs.Kept.{IsKept}
+use Rattle.exh_world.specs.Kept.{IsKept, tables_of}
 use Rattle.exh_world.specs.Step.{HasBegun}
 use Rattle.exh_world.specs.World.{WorldState, numbered, ward_of}
 use Rattle.exh_world.specs.declared.request.Request.{Request}
@@ -22,7 +22,7 @@ abbrev pub with_requests : {P K : Type 0} → Inside P K → Requests → WorldS
 with_requests i requests = record (world_of i) { in_flight = requests }
 
 module _ {P K : Type 0} (pseudokey_of : K → List ℕ → ℕ) (i : Inside P K) (name client copy : ℕ) (call : Call) where
-  pub begun : (free : request_named name i.in_flight ≡ None) (table : TableMap) (there : numbered i.copies.items copy ≡ Some table) (bytes : List ℕ) → bytes ≡ key_of call → (pseudokey ward page : ℕ) → pseudokey ≡ pseudokey_of i.keyer bytes
+  pub begun : (free : request_named name i.in_flight ≡ None) (table : TableMap) (there : numbered (tables_of i.copies.items) copy ≡ Some table) (bytes : List ℕ) → bytes ≡ key_of call → (pseudokey ward page : ℕ) → pseudokey ≡ pseudokey_of i.keyer bytes
       → ward ≡ ward_of i.ward_bits pseudokey → page ≡ (walk_of table i.ward_bits pseudokey).page
       → (requests : Requests) → requests ≡ i.in_flight ++ (name, record { client = client; call = call; pseudokey = pseudokey; ward = ward; page = page }) ∷ []
       → HasBegun pseudokey_of (world_of i) name client copy call ward page (with_requests i requests)

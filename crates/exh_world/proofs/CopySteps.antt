@@ -4,13 +4,14 @@ use Rattle.std.specs.Prelude.{slice_get, slice_set, slice_index_or, Contains, Is
 use Rattle.std.specs.Option.{option_map_or}
 use Rattle.std.proofs.lemmas.Bool.{lt-ltb}
 use Rattle.std.proofs.lemmas.Option.{slice_get_read}
+use Rattle.exh_array.specs.Pointers.{DirectoryState}
 use Rattle.exh_notice.specs.declared.notice.Notice.{Notice}
 use Rattle.exh_table.specs.Table.{TableMap, table_with}
 use Rattle.exh_table.specs.TableOrder.{table_join}
 use Rattle.exh_legal.specs.Numbers.{index_of}
 use Rattle.exh_ward.specs.WardState.{WardState, IsSoundWard, notices_above}
 use Rattle.exh_ward.specs.declared.ward_fault.WardFault.TheVariants.{Memory}
-use Rattle.exh_world.specs.Kept.{IsKept, IsPlaceOf, HaveIndexesInTurn, uncounted}
+use Rattle.exh_world.specs.Kept.{IsKept, IsPlaceOf, HaveIndexesInTurn, tables_of, uncounted}
 use Rattle.exh_world.specs.Laws.{StepsKeepWorldsSound}
 use Rattle.exh_world.specs.Sound.{IsSoundWorld}
 use Rattle.exh_world.specs.Step.{Step, HasTaken, HasSent, HasJoined, HasRestarted}
@@ -20,7 +21,8 @@ use Rattle.exh_world.specs.declared.outcome.Outcome.{Outcome}
 use Rattle.exh_world.specs.declared.step_fault.StepFault.{StepFault}
 use Rattle.exh_world.specs.declared.step_fault.StepFault.TheVariants.{Ward, NoNotice}
 use Rattle.exh_world.specs.declared.event.Event.TheVariants.{Deliver}
-use Rattle.exh_world.specs.ListLemmas.{set_same}
+use Rattle.exh_world.specs.ListLemmas.{within_there}
+use Rattle.exh_world.proofs.CopyArrays.{table_placed, table_there, tables_set, tables_same}
 use Rattle.exh_world.proofs.UncountedWards.{map_there}
 
 -- notices of a sound ward
@@ -45,6 +47,10 @@ lent_there items number at item placed lent = slice_get_read items (length items
 pub issued_shown : {K : Type 0} (world : WorldState K) (wards : List (WardState K)) (number : ℕ) (ward : WardState K) → world.wards ≡ map uncounted wards → slice_get wards number ≡ Some ward → issued_in world number ≡ ward.notices
 issued_shown world wards number ward shows there = ap (λ found. option_map_or (λ (w : WardState _). w.notices) found []) (ap (λ ws. slice_get ws number) shows ∙ map_there uncounted wards number ward there)
 
+-- the copy is there where it has a place
+pub is_copy : (copies : List DirectoryState) (number at : ℕ) → IsPlaceOf copies number at → IsSome (numbered (tables_of copies) number)
+is_copy copies number at placed = let own = within_there copies at placed.1 in ap is_some ((table_placed copies number at placed).2 ∙ table_there copies at own.0 own.1)
+
 -- a world as it is shown, and a copy that it has
 module _ {K : Type 0} {pseudokey_of : K → List ℕ → ℕ} {world now : WorldState K} (view_is : world ≡ now) (kept : IsKept pseudokey_of world) where
   -- a step that leaves the wards
@@ -63,8 +69,13 @@ module _ {K : Type 0} {pseudokey_of : K → List ℕ → ℕ} {world now : World
   abbrev pub with_copy : ℕ → TableMap → WorldState K
   with_copy at table = record world { copies = slice_set world.copies at table }
 
-  pub same_copy : (at : ℕ) (own table : TableMap) → slice_get world.copies at ≡ Some own → table ≡ own → with_copy at table ≡ world
-  same_copy at own table is same = ap (λ copies. record world { copies = copies }) (ap (slice_set world.copies at) same ∙ set_same world.copies at own is)
+  -- the world that shows the tables of the copies, one of which was written
+  module _ (copies : List DirectoryState) (shows : world.copies ≡ tables_of copies) (at : ℕ) (new : DirectoryState) where
+    pub with_tables : (P : WorldState K → Type 0) → P (with_copy at new.table) → P (record world { copies = tables_of (slice_set copies at new) })
+    with_tables P has = subst (λ tables. P (record world { copies = tables })) (ap (λ tables. slice_set tables at new.table) shows ∙ sym (tables_set copies at new)) has
+
+  pub same_copies : (copies : List DirectoryState) (shows : world.copies ≡ tables_of copies) (at : ℕ) (old new : DirectoryState) → slice_get copies at ≡ Some old → new ≡ old → record world { copies = tables_of (slice_set copies at new) } ≡ world
+  same_copies copies shows at old new there same = ap (λ tables. record world { copies = tables }) (tables_same copies at old new there same ∙ sym shows)
 
   module _ (copy at : ℕ) (placed : IsPlaceOf world.copies copy at) (own : TableMap) (own_at : slice_get world.copies at ≡ Some own) where
     own_there : numbered world.copies copy ≡ Some own

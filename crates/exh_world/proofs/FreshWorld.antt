@@ -20,7 +20,7 @@ use Rattle.exh_world.specs.InFlight.{Requests}
 use Rattle.exh_world.specs.declared.config.Config.{Config}
 use Rattle.exh_world.specs.ListLemmas.{mapped_is, push_is}
 
-replicate_is : {A : Type 0} (n : ℕ) (x y : A) (at : ℕ) → slice_get (replicate n x) at ≡ Some y → y ≡ x
+pub replicate_is : {A : Type 0} (n : ℕ) (x y : A) (at : ℕ) → slice_get (replicate n x) at ≡ Some y → y ≡ x
 replicate_is n x y at is =
     let within = subst (λ length. at < length) (length-replicate n x) (slice_get_within (replicate n x) at y is) in
     sym (get_or_from_slice_get (replicate n x) at y x is) ∙ get_or-replicate n at x x within

@@ -18,9 +18,12 @@ pub mod FreshWorld
 pub mod NewWards
 pub mod WorldOfWards
 pub mod HeadlineOf
+pub mod CopiesTold
+pub mod RunWords
 pub mod UncountedWards
 pub mod WardsLeft
 pub mod UncountedChanges
+pub mod CopyArrays
 pub mod CopySteps
 pub mod WardNumber
 pub mod InsideWorld

@@ -1,9 +1,9 @@
 -- What holds of wards holds of them as a world shows them, without their counts of failures.
-use Rattle.std.proofs.Common.{◌≡◌, ℕ, zero, suc, List, [], ◌∷◌, map, slice_get, Some, refl, ap, ◌∙◌}
+use Rattle.std.proofs.Common.{◌≡◌, ℕ, zero, suc, ◌≤◌, List, [], ◌∷◌, length, map, slice_get, Some, None, refl, ap, ◌∙◌}
 use Rattle.std.specs.Prelude.{slice_set}
 use Rattle.std.specs.Option.{option_map}
 use Rattle.std.proofs.lemmas.List.{map-set}
-use Rattle.std.proofs.lemmas.Option.{slice_get-map}
+use Rattle.std.proofs.lemmas.Option.{slice_get-map, slice_get_past}
 use Rattle.exh_ward.specs.WardState.{WardState, IsSoundWard, IsAnswered, IsUnchanged, LeavesAfter}
 use Rattle.exh_ward.specs.declared.call.Call.{Call}
 use Rattle.exh_ward.specs.declared.hop.Hop.{Hop}
@@ -26,6 +26,9 @@ module _ {A B : Type 0} (f : A → B) where
 -- ---- wards
 
 module _ {K : Type 0} where
+  pub none_shown : (wards : List (WardState K)) (at : ℕ) → length wards ≤ at → slice_get (map uncounted wards) at ≡ None
+  none_shown wards at past = slice_get-map uncounted wards at ∙ ap (option_map uncounted) (slice_get_past wards at past)
+
   -- a ward that a refused step leaves is shown as before
   pub unchanged_shown : (wards : List (WardState K)) (at : ℕ) (old new : WardState K) → slice_get wards at ≡ Some old → IsUnchanged old new → map uncounted (slice_set wards at new) ≡ map uncounted wards
   unchanged_shown wards at old new there is =

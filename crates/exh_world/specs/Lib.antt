@@ -4,6 +4,7 @@ pub mod Step
 pub mod StepFunction
 pub mod Run
 pub mod Headline
+pub mod HeadlineLaws
 pub mod Sound
 pub mod Laws
 pub mod StepFault

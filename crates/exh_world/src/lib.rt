@@ -4,6 +4,11 @@
 
 pub use config::Config;
 pub use event::Event;
+pub use headline_laws::{
+    answers_come_from_the_one_leaf, combines_give_the_join, copies_take_notices, hops_lead_on,
+    only_answers_change_the_map, replies_follow_the_answers_before, runs_go_step_by_step,
+    same_notices_give_same_tables,
+};
 pub use laws::{
     new_worlds_are_sound, runs_carry_the_headline, steps_are_computed, steps_have_outcomes,
     steps_keep_worlds_sound,
@@ -17,6 +22,7 @@ pub use world::ward_number::ward_number;
 
 mod config;
 mod event;
+mod headline_laws;
 mod in_flight;
 mod laws;
 mod outcome;

@@ -4,7 +4,7 @@ ghost use Rattle.exh_world.specs.declared.event.Event.TheVariants.{Deliver, Send
 
 use super::World;
 use super::notice_of::notice_of;
-use super::place::place_in;
+use super::place::{copy_in, place_in};
 use crate::laws::steps_keep_worlds_sound;
 use crate::{Outcome, StepFault};
 use exh_frames::Pages;
@@ -20,7 +20,7 @@ impl<P: Pages + Drop, K: Keyer> World<P, K> {
         ensures sound { IsSoundWorld K.pseudokey_of self.new }
     {
         steps_keep_worlds_sound::<K>();
-        let Some(at) = place_in(&self.copies, copy) else {
+        let Some(at) = copy_in(&self.copies, copy) else {
             return Err(StepFault::NoCopy);
         };
         let Some(teller) = self.wards.get(ward as usize) else {
@@ -41,7 +41,7 @@ impl<P: Pages + Drop, K: Keyer> World<P, K> {
         ensures sound { IsSoundWorld K.pseudokey_of self.new }
     {
         steps_keep_worlds_sound::<K>();
-        let Some(at) = place_in(&self.copies, copy) else {
+        let Some(at) = copy_in(&self.copies, copy) else {
             return Err(StepFault::NoCopy);
         };
         let Ok(number) = u32::try_from(self.sent.len() + 1) else {
@@ -60,7 +60,7 @@ impl<P: Pages + Drop, K: Keyer> World<P, K> {
         ensures sound { IsSoundWorld K.pseudokey_of self.new }
     {
         steps_keep_worlds_sound::<K>();
-        let Some(at) = place_in(&self.copies, copy) else {
+        let Some(at) = copy_in(&self.copies, copy) else {
             return Err(StepFault::NoCopy);
         };
         let Some(other) = place_in(&self.sent, table) else {
@@ -77,7 +77,7 @@ impl<P: Pages + Drop, K: Keyer> World<P, K> {
         ensures sound { IsSoundWorld K.pseudokey_of self.new }
     {
         steps_keep_worlds_sound::<K>();
-        let Some(at) = place_in(&self.copies, copy) else {
+        let Some(at) = copy_in(&self.copies, copy) else {
             return Err(StepFault::NoCopy);
         };
         let start = self.start.try_clone()?;

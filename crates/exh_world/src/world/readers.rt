@@ -1,5 +1,6 @@
 ghost use Rattle.std.specs.Prelude.{◌≡◌, ◌≤◌, ℕ, slice_get, Some, None, IfOk, IfErr};
 ghost use Rattle.std.specs.Map.Iter.{ShowsInOrder, deref_pair};
+ghost use Rattle.exh_array.specs.Pointers.{HasArrayOf};
 ghost use Rattle.exh_legal.specs.Pages.{IsAt};
 ghost use Rattle.exh_ward.specs.WardState.{WardState};
 ghost use Rattle.exh_ward.specs.SplitStep.{PageRefused};
@@ -10,7 +11,7 @@ ghost use Rattle.exh_world.specs.World.{numbered};
 ghost use Rattle.exh_world.specs.declared.request.Request.{Request as RequestType};
 
 use super::World;
-use super::place::place_in;
+use super::place::copy_in;
 use crate::{Request, StepFault};
 use exh_array::Directory;
 use exh_frames::Pages;
@@ -28,12 +29,14 @@ impl<P: Pages + Drop, K: Keyer> World<P, K> {
         self.ward_bits
     }
 
-    /// A copy, which lends its table. Copies are numbered from 1 on. It takes no memory. Refused: `NoCopy`.
+    /// A copy, whose array is of its table at the world's ward bits. Copies are numbered from 1 on. It
+    /// takes no memory. Refused: `NoCopy`.
     pub fn copy(&self, number: u32) -> Result<&Directory, StepFault>
-        ensures copy { IfOk result (λ copy. numbered self.now.copies number ≡ Some copy.now) }
+        ensures copy { IfOk result (λ copy. numbered self.now.copies number ≡ Some copy.now.table) }
+        ensures array { IfOk result (λ copy. HasArrayOf self.now.ward_bits copy.now) }
         ensures refused { IfErr result (λ fault. (fault ≡ StepFault.NoCopy) × (numbered self.now.copies number ≡ None)) }
     {
-        let Some(at) = place_in(&self.copies, number) else {
+        let Some(at) = copy_in(&self.copies, number) else {
             return Err(StepFault::NoCopy);
         };
         Ok(&self.copies[at])

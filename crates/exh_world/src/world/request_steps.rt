@@ -3,7 +3,7 @@ ghost use Rattle.exh_world.specs.Step.{Step};
 ghost use Rattle.exh_world.specs.declared.event.Event.TheVariants.{Begin, Hop as HopOn};
 
 use super::World;
-use super::place::place_in;
+use super::place::copy_in;
 use super::ward_number::ward_number;
 use crate::laws::steps_keep_worlds_sound;
 use crate::{Outcome, Request, StepFault};
@@ -28,12 +28,12 @@ impl<P: Pages + Drop, K: Keyer> World<P, K> {
         if self.in_flight.get(name).is_some() {
             return Err(StepFault::NameTaken);
         }
-        let Some(at) = place_in(&self.copies, copy) else {
+        let Some(at) = copy_in(&self.copies, copy) else {
             return Err(StepFault::NoCopy);
         };
         let pseudokey = self.keyer.pseudo(call.key().as_bytes());
         let ward = ward_number(self.ward_bits, pseudokey);
-        let page = self.copies[at].walk(self.ward_bits, pseudokey);
+        let page = self.copies[at].walk(pseudokey);
         let request = Request {
             client,
             call: *call,

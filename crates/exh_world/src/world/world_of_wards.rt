@@ -1,4 +1,5 @@
 ghost use Rattle.std.specs.Prelude.{◌≡◌, ℕ, ◌^◌, ◌≤◌, length, map, slice_get, Some, IfOk};
+ghost use Rattle.exh_array.specs.Pointers.{HasArrayOf};
 ghost use Rattle.exh_ward.specs.WardState.{WardState, IsSoundWard};
 ghost use Rattle.exh_ward.specs.declared.ward.TheConstants.{WARD_BITS_LIMIT};
 ghost use Rattle.exh_world.specs.Kept.{uncounted};
@@ -73,7 +74,8 @@ fn joined_tables<P: Pages + Drop, K: Keyer>(
     wards: &[Ward<P, K>],
 ) -> Result<Directory, AllocError>
     requires { ward_bits ≤ WARD_BITS_LIMIT }
-    ensures table { IfOk result (λ directory. directory ≡ tables_joined wards.now) }
+    ensures table { IfOk result (λ directory. directory.table ≡ tables_joined wards.now) }
+    ensures array { IfOk result (HasArrayOf ward_bits) }
     ensures sound { IfOk result (λ _. (number : ℕ) (ward : WardState K) → slice_get wards.now number ≡ Some ward → IsSoundWard K.pseudokey_of ward) }
 {
     let mut directory = Directory::new(alloc, ward_bits)?;

@@ -1,20 +1,31 @@
-use Rattle.std.proofs.Common.{ap, ◌∙◌, sym}
+use Rattle.std.proofs.Common.{ap, ◌∙◌, refl, sym, subst}
 use Rattle.exh_table.specs.Table.{TableMap}
 use Rattle.exh_table.specs.TableOrder.{table_join}
 use Rattle.exh_table.specs.RaisedLemmas.{raised_all, raised_entries-join}
+use Rattle.exh_array.specs.Pointers.{DirectoryState, HasArrayOf}
 use Rattle.exh_array.proofs.directory.Directory.join_in.Goals as goal
 
 pub loop-prefix-init : goal.loop-prefix-init
-loop-prefix-init c =
-    ap (raised_all c.in_ok-joined.joined) (c.into_iter-prefix-iterator.ensures.into_iter_gives ∙ c.entries-prefix-items.ensures)
-    ∙ raised_entries-join c.in_ok-joined.joined c.args.other.now
-    ∙ ap (λ (table : TableMap). table_join table c.args.other.now) c.in_ok-joined.ensures
+loop-prefix-init c = record {
+  rest = ap (raised_all c.in_ok-joined.joined.table) (c.into_iter-prefix-iterator.ensures.into_iter_gives ∙ c.entries-prefix-items.ensures)
+      ∙ raised_entries-join c.in_ok-joined.joined.table c.args.other.now
+      ∙ ap (λ (directory : DirectoryState). table_join directory.table c.args.other.now) c.in_ok-joined.ensures;
+  array = subst (HasArrayOf c.args.self.now.pointers.ward_bits) (sym c.in_ok-joined.ensures)
+      (subst (λ (directory : DirectoryState). HasArrayOf directory.pointers.ward_bits directory) c.self.view_is record { bits = refl; array = c.self.invariant.0 });
+}
 
 pub loop-prefix-preserved : goal.loop-prefix-preserved
-loop-prefix-preserved c =
-    ap (λ (table : TableMap). raised_all table c.next.new.self) c.in_ok-put_greater.ensures.ok
-    ∙ ap (raised_all c.loop-prefix.joined) (sym c.in-Some.ensures.steps)
-    ∙ c.loop-prefix.invariant
+loop-prefix-preserved c = record {
+  rest = ap (λ (table : TableMap). raised_all table c.next.new.self) c.in_ok-put_greater.ensures.ok
+      ∙ ap (raised_all c.loop-prefix.joined.table) (sym c.in-Some.ensures.steps)
+      ∙ c.loop-prefix.invariant.rest;
+  array = subst (λ n. HasArrayOf n c.put_greater.new.self) c.loop-prefix.invariant.array.bits c.put_greater.ensures.array;
+}
 
 pub returns-clause-ok : goal.returns-clause-ok
-returns-clause-ok c = ap (raised_all c.loop-prefix.joined) (sym c.in-None.ensures.steps.0) ∙ c.loop-prefix.invariant
+returns-clause-ok c =
+    ap (λ (directory : DirectoryState). directory.table) c.joined-2.view_is
+    ∙ ap (raised_all c.loop-prefix.joined.table) (sym c.in-None.ensures.steps.0) ∙ c.loop-prefix.invariant.rest
+
+pub returns-clause-array : goal.returns-clause-array
+returns-clause-array c = subst (HasArrayOf c.args.self.now.pointers.ward_bits) (sym c.joined-2.view_is) c.loop-prefix.invariant.array

@@ -4,7 +4,7 @@ use Rattle.exh_prefix.specs.declared.prefix.TheConstants.{LIMIT}
 use Rattle.exh_table.specs.Table.{TableMap, table_at}
 use Rattle.exh_table.specs.SetLemmas.{put_back}
 use Rattle.exh_table.specs.RaisedLemmas.{raised_here, raised_elsewhere}
-use Rattle.exh_array.specs.Pointers.{PointerArray, IsArrayOf}
+use Rattle.exh_array.specs.Pointers.{PointerArray, IsArrayOf, DirectoryState, HasArrayOf}
 use Rattle.exh_array.proofs.directory.Directory.put_greater.Goals as goal
 
 pub update-requires : goal.update-requires
@@ -27,10 +27,22 @@ undone c =
     ∙ ap (table_at _ c.args.prefix) c.in_ok-stood.ensures.stood
     ∙ put_back c.self.inside.table c.args.prefix c.args.entry
 
+-- so is the directory
+undone_all : (c : goal.After-put_back) → record { table = c.put_back.new.self; pointers = c.update.new.self } ≡ c.args.self.now
+undone_all c =
+    let both : record { table = c.put_back.new.self; pointers = c.update.new.self } ≡ record { table = c.self.inside.table; pointers = c.self.inside.pointers } =
+    λ i. record { table = undone c i; pointers = c.in-Err.ensures.err i } in
+    both ∙ c.self.view_is
+
 pub invariant_of-self-in-Err : goal.invariant_of-self-in-Err
 invariant_of-self-in-Err c =
-    let P : TableMap → PointerArray → Type 0 = λ table array. IsArrayOf table array × (array.ward_bits ≡ c.self.inside.ward_bits) × (c.self.inside.ward_bits ≤ LIMIT) in
+    let P : TableMap → PointerArray → Type 0 = λ table array. IsArrayOf table array × (array.ward_bits ≤ LIMIT) in
     subst (P c.put_back.new.self) (sym c.in-Err.ensures.err) (subst (λ table. P table c.self.inside.pointers) (sym (undone c)) c.self.invariant)
 
 pub returns-in-Err-clause-err : goal.returns-in-Err-clause-err
-returns-in-Err-clause-err c = undone c ∙ c.self.view_is
+returns-in-Err-clause-err c = undone_all c
+
+pub returns-in-Err-clause-array : goal.returns-in-Err-clause-array
+returns-in-Err-clause-array c =
+    subst (HasArrayOf c.args.self.now.pointers.ward_bits) (sym (undone_all c))
+    (subst (λ (directory : DirectoryState). HasArrayOf directory.pointers.ward_bits directory) c.self.view_is record { bits = refl; array = c.self.invariant.0 })

@@ -13,7 +13,8 @@ use Rattle.exh_table.specs.LeafLemmas.{root, low_of-small}
 use Rattle.exh_table.specs.Below.{splits_above}
 use Rattle.exh_array.specs.declared.pointer.Pointer.{Pointer}
 use Rattle.exh_array.specs.Pointers.{PointerArray, pointer_to}
-use Rattle.exh_array.specs.Within.{HasLeavesOf, pointer_at, walk_along}
+use Rattle.exh_array.specs.Pointers.{pointer_at}
+use Rattle.exh_array.specs.Within.{HasLeavesOf, walk_along}
 use Rattle.exh_array.proofs.Walks.{walk_on-append, walk_on-longer, walk_on-cases, walk_on-zeros}
 use Rattle.exh_array.proofs.pointers.Pointers.place.Goals as goal
 

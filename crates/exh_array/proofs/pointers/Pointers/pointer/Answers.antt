@@ -3,7 +3,7 @@ use Rattle.std.proofs.lemmas.Option.{slice_get-get_or}
 use Rattle.exh_table.specs.Directory.{leading}
 use Rattle.exh_array.specs.declared.pointer.Pointer.{Pointer}
 use Rattle.exh_array.specs.Pointers.{PointerArray}
-use Rattle.exh_array.specs.Within.{pointer_at}
+use Rattle.exh_array.specs.Pointers.{pointer_at}
 use Rattle.exh_array.proofs.Leading.{leading-lt}
 use Rattle.exh_array.proofs.pointers.Pointers.pointer.Goals as goal
 

@@ -17,7 +17,7 @@ pub returns-clause-headline : goal.returns-clause-headline
 returns-clause-headline g c =
     let pseudokey_of = g.K.Keyer.pseudokey_of in
     headline_of pseudokey_of c.runs_carry_the_headline.ensures c.args.self.now _ c.loop-event.turns.items c.loop-event.self
-    (subst (IsSoundWorld pseudokey_of) c.self.view_is c.self.invariant.sound) c.loop-event.invariant.has_run
+    (subst (IsSoundWorld pseudokey_of) c.self.view_is c.self.invariant.0.sound) c.loop-event.invariant.has_run
 
 pub returns-clause-equal : goal.returns-clause-equal
 returns-clause-equal g c = (returns-clause-headline g c).equal
