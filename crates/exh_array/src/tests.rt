@@ -170,7 +170,7 @@ fn has_walks(directory: &Directory, depth: u8, want: &[(PageNo, u8)]) -> bool
 }
 
 fn is_directory(directory: &Directory, ward_bits: u8, depth: u8, want: &[(PageNo, u8)]) -> bool {
-    ward_bits <= LIMIT
+    directory.ward_bits() == ward_bits
         && depth <= LIMIT
         && has_pointers(directory.pointers(), depth, want)
         && has_walks(directory, depth, want)

@@ -128,7 +128,7 @@ fn is_array(directory: &Directory, ward_bits: u8, lie: &mut Lie) -> Result<(), D
         let leaf = leaves.iter().find(|leaf| leaf.prefix.begins(pseudokey));
         let leaf = leaf.ok_or(Difference::Apart(Part::Pointer))?;
         let page = lie.number(table.walk(ward_bits, pseudokey));
-        points_to(directory, ward_bits, pseudokey, page)?;
+        points_to(directory, pseudokey, page)?;
         same(leaf.page == page, Part::Pointer)?;
         let local_depth = directory.pointers().local_depth(pseudokey);
         same(local_depth == leaf.prefix.len(), Part::Depth)?;
@@ -144,14 +144,7 @@ fn leaves_of(table: &Table, ward_bits: u8) -> Result<Vec<Leaf>, AllocError>
 }
 
 // A directory and its pointers name this page for a pseudokey.
-fn points_to(
-    directory: &Directory,
-    ward_bits: u8,
-    pseudokey: u64,
-    page: PageNo,
-) -> Result<(), Difference>
-    requires { ward_bits ≤ LIMIT }
-{
+fn points_to(directory: &Directory, pseudokey: u64, page: PageNo) -> Result<(), Difference> {
     let is_walk = directory.walk(pseudokey) == page;
     same(
         is_walk && directory.pointers().page(pseudokey) == page,
