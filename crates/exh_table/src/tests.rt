@@ -175,7 +175,10 @@ const STORIES: [Story; 9] = [
     // A split at the root and then a merge there, in either order, and the first of them twice.
     (
         0,
-        &[(ROOT, (1, Some(1)), None), (ROOT, (2, None), Some((1, Some(1))))],
+        &[
+            (ROOT, (1, Some(1)), None),
+            (ROOT, (2, None), Some((1, Some(1)))),
+        ],
         &[(ROOT, (2, None))],
         0,
         &[(ROOT, 0)],
@@ -222,7 +225,10 @@ const STORIES: [Story; 9] = [
     ),
     (
         2,
-        &[(RIGHT, (1, Some(7)), None), ((2, HALF + QUARTER), (1, Some(1)), None)],
+        &[
+            (RIGHT, (1, Some(7)), None),
+            ((2, HALF + QUARTER), (1, Some(1)), None),
+        ],
         &[(RIGHT, (1, Some(7))), ((2, HALF + QUARTER), (1, Some(1)))],
         3,
         &[
@@ -360,19 +366,18 @@ fn joins_to(one: &Table, other: &Table, want: &[(Place, Row)], depth: u8) -> Opt
     Some(has_entries(&joined, want) && joined.depth(0) == depth && one.at_most(&joined))
 }
 
-fn takes_both(replica: &mut Replica<Table>, one: &Table, other: &Table) -> Option<()> {
-    for table in [other, one] {
-        if replica.take(table).is_err() {
-            replica.take(table).ok()?;
-        }
+fn take_table(replica: &mut Replica<Table>, table: &Table) -> Option<()> {
+    match replica.take(table) {
+        Err(AllocError) => replica.take(table).ok(),
+        Ok(()) => Some(()),
     }
-    Some(())
 }
 
 // Whether a replica that takes both, and `join_all`, come to these entries.
 fn replicas_meet(alloc: Global, one: &Table, other: &Table, want: &[(Place, Row)]) -> Option<bool> {
     let mut replica = Replica::new(Table::new(alloc));
-    takes_both(&mut replica, one, other)?;
+    take_table(&mut replica, other)?;
+    take_table(&mut replica, one)?;
     let tables = [clone_again(one)?, clone_again(other)?];
     let joined = match join_all(&tables) {
         Err(AllocError) => join_all(&tables).ok()?,
@@ -405,8 +410,23 @@ fn wrong_union(alloc: Global) -> Option<usize> {
     None
 }
 
+// The laws have no code: that they are called costs nothing.
+fn call_laws() {
+    own_entries_give_the_table();
+    one_notice_more_is_taken();
+    union_is_join();
+    members_decide();
+    put_back_undoes();
+    walks_are_paths();
+    leaves_part();
+    walks_name_leaves();
+    one_directory();
+    changes_keep_names();
+}
+
 #[test]
 fn joins_both_ways_round(rt: HostRuntime) {
+    call_laws();
     assert_eq!(rt; wrong_union(rt.alloc()), None);
 }
 
@@ -423,7 +443,11 @@ fn put_back(table: &mut Table, place: Place, stood: Option<Row>) -> Option<()> {
 fn is_put_back(table: &mut Table) -> Option<bool> {
     fill(
         table,
-        &[(ROOT, (1, Some(1))), (ROOT, (2, None)), (LEFT, (1, Some(2)))],
+        &[
+            (ROOT, (1, Some(1))),
+            (ROOT, (2, None)),
+            (LEFT, (1, Some(2))),
+        ],
     )?;
     put_back(table, ROOT, Some((1, Some(1))))?;
     let is_first = has_entries(table, &[(ROOT, (1, Some(1))), (LEFT, (1, Some(2)))]);
@@ -435,18 +459,4 @@ fn is_put_back(table: &mut Table) -> Option<bool> {
 fn what_stood_is_put_back(rt: HostRuntime) {
     let mut table = Table::new(rt.alloc());
     assert_eq!(rt; is_put_back(&mut table), Some(true));
-}
-
-#[test]
-fn laws_cost_nothing() {
-    own_entries_give_the_table();
-    one_notice_more_is_taken();
-    union_is_join();
-    members_decide();
-    put_back_undoes();
-    walks_are_paths();
-    leaves_part();
-    walks_name_leaves();
-    one_directory();
-    changes_keep_names();
 }
