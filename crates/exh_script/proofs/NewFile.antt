@@ -1,5 +1,5 @@
 -- The world of a script's first line.
-use Rattle.std.proofs.Common.{◌≡◌, ℕ, ◌^◌, ◌≤◌, List, [], ◌∷◌, leb, map, flat_map, slice_get, Bool, true, false, cond, Option, Some, None, Result, Ok, Err, refl, sym, ap, subst, arith}
+use Rattle.std.proofs.Common.{◌≡◌, ℕ, ◌^◌, ◌≤◌, List, [], ◌∷◌, leb, map, flat_map, slice_get, Bool, true, false, cond, Option, Some, None, Result, Ok, Err, refl, ap, subst}
 use Rattle.std.specs.Prelude.{◌&&◌}
 use Rattle.std.specs.Int.{is_in_range}
 use Rattle.std.specs.FinMap.{empty, from_entries}
