@@ -5,8 +5,8 @@ use crate::job::Job;
 use crate::run::Run;
 use crate::tally::Tally;
 use crate::{
-    arrays, chains, journals, leaves, machines, routes, tables, ward_faults, wards, world_faults,
-    worlds,
+    anew, arrays, chains, journals, leaves, machines, routes, tables, ward_faults, wards,
+    world_faults, worlds,
 };
 use std::alloc::Global;
 use std::fmt;
@@ -32,6 +32,8 @@ pub(crate) enum RunKind {
     Routes,
     /// Journals, strays and refusals of wards, beside values by hand.
     Journals,
+    /// Worlds made anew of the wards of others, beside values by hand.
+    Anew,
     /// Page faults in a ward.
     WardFaults,
     /// Page faults in a world.
@@ -40,7 +42,7 @@ pub(crate) enum RunKind {
 
 impl RunKind {
     /// All kinds, in the order in which they are run.
-    pub(crate) const ALL: [RunKind; 11] = [
+    pub(crate) const ALL: [RunKind; 12] = [
         RunKind::Machines,
         RunKind::Leaves,
         RunKind::Wards,
@@ -50,6 +52,7 @@ impl RunKind {
         RunKind::Chains,
         RunKind::Routes,
         RunKind::Journals,
+        RunKind::Anew,
         RunKind::WardFaults,
         RunKind::WorldFaults,
     ];
@@ -70,6 +73,7 @@ impl RunKind {
             RunKind::Chains => "chains",
             RunKind::Routes => "routes",
             RunKind::Journals => "journals",
+            RunKind::Anew => "anew",
             RunKind::WardFaults => "ward-faults",
             RunKind::WorldFaults => "world-faults",
         }
@@ -94,6 +98,7 @@ impl RunKind {
             RunKind::Chains => chains::run(run),
             RunKind::Routes => routes::run(run),
             RunKind::Journals => journals::run(run),
+            RunKind::Anew => anew::run(run),
             RunKind::WardFaults => ward_faults::run(run),
             RunKind::WorldFaults => world_faults::run(run),
         }

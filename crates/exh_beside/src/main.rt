@@ -6,6 +6,7 @@
 #![tactic(auto)]
 
 mod again;
+mod anew;
 mod arrays;
 mod calls;
 mod chains;
@@ -17,6 +18,7 @@ mod kind;
 mod leaves;
 mod legality;
 mod lie;
+mod lives;
 mod machines;
 mod notices;
 mod routes;
