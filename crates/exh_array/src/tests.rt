@@ -1,4 +1,4 @@
-//! Arrays worked out by hand, arrays beside slow walks, and growths that are refused.
+//! Arrays worked out by hand, and growths that are refused.
 
 ghost use Rattle.std.specs.Prelude.{◌≤◌};
 ghost use Rattle.exh_prefix.specs.declared.prefix.TheConstants.{LIMIT};
@@ -8,9 +8,7 @@ use exh_notice::{Kind, Notice};
 use exh_prefix::{PageNo, Prefix};
 use std::process::Abort;
 
-mod beside_walks;
 mod by_hand;
-mod chains;
 mod growth_refused;
 
 fn prefix_of(rt: &impl Abort, len: u8, bits: u64) -> Prefix {
