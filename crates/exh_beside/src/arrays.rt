@@ -124,16 +124,30 @@ fn is_array(directory: &Directory, ward_bits: u8, lie: &mut Lie) -> Result<(), D
     let is_depth = directory.depth() == depth && directory.pointers().depth() == depth;
     same(is_depth, Part::Depth)?;
     for leading in 0..64u64 {
-        let pseudokey = leading << 58;
-        let leaf = leaves.iter().find(|leaf| leaf.prefix.begins(pseudokey));
-        let leaf = leaf.ok_or(Difference::Apart(Part::Pointer))?;
-        let page = lie.number(table.walk(ward_bits, pseudokey));
-        points_to(directory, pseudokey, page)?;
-        same(leaf.page == page, Part::Pointer)?;
-        let local_depth = directory.pointers().local_depth(pseudokey);
-        same(local_depth == leaf.prefix.len(), Part::Depth)?;
+        has_pointer(directory, ward_bits, &leaves, leading << 58, lie)?;
     }
     Ok(())
+}
+
+// A pseudokey's page and local depth are those of its leaf and of its walk.
+fn has_pointer(
+    directory: &Directory,
+    ward_bits: u8,
+    leaves: &[Leaf],
+    pseudokey: u64,
+    lie: &mut Lie,
+) -> Result<(), Difference>
+    requires { ward_bits ≤ LIMIT }
+{
+    let leaf = leaves.iter().find(|leaf| leaf.prefix.begins(pseudokey));
+    let leaf = leaf.ok_or(Difference::Apart(Part::Pointer))?;
+    let page = lie.number(directory.table().walk(ward_bits, pseudokey));
+    points_to(directory, pseudokey, page)?;
+    let local_depth = directory.pointers().local_depth(pseudokey);
+    same(
+        leaf.page == page && local_depth == leaf.prefix.len(),
+        Part::Pointer,
+    )
 }
 
 // The leaves of a table.
@@ -152,7 +166,8 @@ fn points_to(directory: &Directory, pseudokey: u64, page: PageNo) -> Result<(), 
     )
 }
 
-// The directories of some notices and of others join to the one that took all.
+// The directories of some notices and of others join to the one that took all. Who owns a directory
+// has few exits, for the prover's sake: each drops it.
 fn join(
     run: &mut Run,
     all: &Directory,
@@ -164,9 +179,21 @@ fn join(
 {
     let mut joined = new_directory(run.alloc, ward_bits)?;
     take_all(run, &mut joined, ward_bits, first);
+    join_other(run, &mut joined, all, ward_bits, second)
+}
+
+fn join_other(
+    run: &mut Run,
+    joined: &mut Directory,
+    all: &Directory,
+    ward_bits: u8,
+    second: &[Notice],
+) -> Result<(), Difference>
+    requires { ward_bits ≤ LIMIT }
+{
     let mut other = new_directory(run.alloc, ward_bits)?;
     take_all(run, &mut other, ward_bits, second);
-    let outcome = is_joined(&mut joined, &other, all, ward_bits, &mut run.lie);
+    let outcome = is_joined(joined, &other, all, ward_bits, &mut run.lie);
     run.tally.step(outcome);
     Ok(())
 }

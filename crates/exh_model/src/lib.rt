@@ -12,5 +12,3 @@ mod greatest;
 mod leaf_set;
 mod map_machine;
 mod pair_map;
-#[cfg(test)]
-mod tests;

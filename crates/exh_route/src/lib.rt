@@ -10,5 +10,3 @@ pub use laws::{
 
 mod distances;
 mod laws;
-#[cfg(test)]
-mod tests;
