@@ -17,21 +17,21 @@ module _ {K : Type 0} (pseudokey_of : K → List ℕ → ℕ) (old : WorldState 
       → HasEffect pseudokey_of old event outcome new → HasSettings new
   effect_keeps = on_effect pseudokey_of old (λ event outcome new. HasSettings new) record {
     begun = λ name client copy call ward page new has.
-      subst HasSettings (sym has.after) (record { cap = is.cap; bits = is.bits });
+        subst HasSettings (sym has.after) (record { cap = is.cap; bits = is.bits });
     hopped = λ name ward hop new has.
-      subst HasSettings (sym has.after) (record { cap = is.cap; bits = is.bits });
+        subst HasSettings (sym has.after) (record { cap = is.cap; bits = is.bits });
     split = λ ward page notice new has.
-      subst HasSettings (sym has.after) (record { cap = is.cap; bits = is.bits });
+        subst HasSettings (sym has.after) (record { cap = is.cap; bits = is.bits });
     merge = λ ward page notice new has.
-      subst HasSettings (sym has.after) (record { cap = is.cap; bits = is.bits });
+        subst HasSettings (sym has.after) (record { cap = is.cap; bits = is.bits });
     taken = λ copy ward index notice new has.
-      subst HasSettings (sym has.after) (record { cap = is.cap; bits = is.bits });
+        subst HasSettings (sym has.after) (record { cap = is.cap; bits = is.bits });
     sent = λ copy number new has.
-      subst HasSettings (sym has.after) (record { cap = is.cap; bits = is.bits });
+        subst HasSettings (sym has.after) (record { cap = is.cap; bits = is.bits });
     joined = λ copy table new has.
-      subst HasSettings (sym has.after) (record { cap = is.cap; bits = is.bits });
+        subst HasSettings (sym has.after) (record { cap = is.cap; bits = is.bits });
     restarted = λ copy new has.
-      subst HasSettings (sym has.after) (record { cap = is.cap; bits = is.bits });
+        subst HasSettings (sym has.after) (record { cap = is.cap; bits = is.bits });
   }
 
   pub step_keeps : (event : Event) (result : Result Outcome StepFault) (new : WorldState K)

@@ -6,7 +6,7 @@ ghost use Rattle.exh_beside.specs.Anew.{AreItsWards, HasSettings};
 
 use crate::again::again;
 use crate::difference::{Difference, Part, same};
-use crate::lives::{COPIES, Life, Line, Story, deliver};
+use crate::lives::{COPIES, Life, Line, deliver, first_lines, journal, notices};
 use crate::run::Run;
 use exh_frames::PlainPages;
 use exh_keyer::PlainKeyer;
@@ -25,31 +25,34 @@ const WANT: StepFault = StepFault::Ward(WardFault::Memory);
 /// Takes a story's steps. Where memory is refused for a world of wards, these are gone: so the story
 /// begins once more.
 pub(crate) fn run(run: &mut Run) -> Result<(), Difference> {
-    let story = Story::new()?;
     let start = *run;
-    match run_story(run, &story) {
+    match run_once(run) {
         Err(Difference::Memory(_)) => {
             *run = start;
-            run_story(run, &story)
+            run_once(run)
         }
         outcome => outcome,
     }
 }
 
-fn run_story(run: &mut Run, story: &Story) -> Result<(), Difference> {
-    run_lives(run, story)?;
-    run_at_once(run, story)
+fn run_once(run: &mut Run) -> Result<(), Difference> {
+    let notices = notices()?;
+    run_lives(run, &notices)?;
+    run_at_once(run, &notices)
 }
 
 // Three worlds, of which the second and third are made of the wards of the one before.
-fn run_lives(run: &mut Run, story: &Story) -> Result<(), Difference> {
-    let (notices, journal) = (&story.notices, &story.journal);
-    let wards = first_life(run, &story.first)?;
+fn run_lives(run: &mut Run, notices: &[Notice; 7]) -> Result<(), Difference> {
+    let second = Life::new(notices[2], notices[3], notices[4])?;
+    let third = Life::new(notices[4], notices[5], notices[6])?;
+    let journal = journal()?;
+    let lines = first_lines(notices)?;
+    let wards = first_life(run, &lines)?;
     have_told(run, &wards, &notices[..3], &journal[..6]);
-    let wards = next_life(run, wards, &notices[..3], &story.second)?;
+    let wards = next_life(run, wards, &notices[..3], &second)?;
     have_told(run, &wards, &notices[..5], &journal[..14]);
-    let wards = next_life(run, wards, &notices[..5], &story.third)?;
-    have_told(run, &wards, notices, journal);
+    let wards = next_life(run, wards, &notices[..5], &third)?;
+    have_told(run, &wards, notices, &journal);
     Ok(())
 }
 
@@ -196,8 +199,9 @@ fn has_tables(ward: &PlainWard, notices: &[Notice]) -> Result<(), Difference> {
 }
 
 // A new world runs the first world's events at once. Its turns are those that another one takes.
-fn run_at_once(run: &mut Run, story: &Story) -> Result<(), Difference> {
-    let events = events_of(run.alloc, &story.first)?;
+fn run_at_once(run: &mut Run, notices: &[Notice; 7]) -> Result<(), Difference> {
+    let lines = first_lines(notices)?;
+    let events = events_of(run.alloc, &lines)?;
     let turns = turns_of(run.alloc, &events)?;
     let is_each = turns
         .iter()

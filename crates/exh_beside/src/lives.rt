@@ -6,7 +6,6 @@ use crate::difference::{Difference, Part};
 use crate::notices::{merge, prefix, split};
 use exh_notice::Notice;
 use exh_page::{PageNo, SizeFault, Value};
-use exh_prefix::Prefix;
 use exh_ward::{Hop, JournalEntry, Reply};
 use exh_world::{Event, Outcome, StepFault, Turn};
 
@@ -36,38 +35,11 @@ pub(crate) struct Life {
     pub(crate) goes_on: [Line; 27],
 }
 
-/// A file of one ward, of pages of two records, in three worlds: the notices of all, the journal, what
-/// happens in the first, and the lives of the second and third.
-#[derive(Clone, Copy)]
-pub(crate) struct Story {
-    pub(crate) notices: [Notice; 7],
-    pub(crate) journal: [JournalEntry; 22],
-    pub(crate) first: [Line; 22],
-    pub(crate) second: Life,
-    pub(crate) third: Life,
-}
-
-impl Story {
-    /// The story.
-    pub(crate) fn new() -> Result<Story, Difference> {
-        let root = prefix("").ok_or(Difference::Apart(Part::Run))?;
-        let notices = notices(root);
-        let first = first_lines(&notices)?;
-        let second = Life::new(notices[2], notices[3], notices[4])?;
-        let third = Life::new(notices[4], notices[5], notices[6])?;
-        Ok(Story {
-            notices,
-            journal: journal()?,
-            first,
-            second,
-            third,
-        })
-    }
-}
-
-// All are at the root, so indexes and numbers rise together. Page 1 is there from the first split on.
-fn notices(root: Prefix) -> [Notice; 7] {
-    [
+/// The notices of all three worlds, of a file of one ward, of pages of two records. All are at the root,
+/// so indexes and numbers rise together. Page 1 is there from the first split on.
+pub(crate) fn notices() -> Result<[Notice; 7], Difference> {
+    let root = prefix("").ok_or(Difference::Apart(Part::Run))?;
+    Ok([
         split(1, root, 1, 1),
         merge(2, root, 2),
         split(3, root, 3, 1),
@@ -75,11 +47,11 @@ fn notices(root: Prefix) -> [Notice; 7] {
         split(5, root, 5, 1),
         merge(6, root, 6),
         split(7, root, 7, 1),
-    ]
+    ])
 }
 
-// The answers of the first world, and of two more lives.
-fn journal() -> Result<[JournalEntry; 22], SizeFault> {
+/// The answers of the first world, and of two more lives.
+pub(crate) fn journal() -> Result<[JournalEntry; 22], SizeFault> {
     let new = Reply::New;
     let get_a = entry(Asked::Get(b"\0"), Reply::Is(Value::from_bytes(b"a")?))?;
     let get_b = entry(Asked::Get(b"\x80"), Reply::Is(Value::from_bytes(b"b")?))?;
@@ -101,8 +73,8 @@ fn entry(asked: Asked<'_>, reply: Reply) -> Result<JournalEntry, SizeFault> {
     Ok(JournalEntry::new(1, &asked.call()?, &reply))
 }
 
-// The three keys, a merge and a page that is live again; a request is left at page 1.
-fn first_lines(notices: &[Notice; 7]) -> Result<[Line; 22], SizeFault> {
+/// The first world: the three keys, a merge and a page that is live again; a request is left at page 1.
+pub(crate) fn first_lines(notices: &[Notice; 7]) -> Result<[Line; 22], SizeFault> {
     let new = Hop::Done(Reply::New);
     let x = Value::from_bytes(b"x")?;
     let b = Value::from_bytes(b"b")?;
@@ -133,8 +105,8 @@ fn first_lines(notices: &[Notice; 7]) -> Result<[Line; 22], SizeFault> {
 }
 
 impl Life {
-    // The last notice so far, and those of the next merge and split.
-    fn new(last: Notice, merged: Notice, split: Notice) -> Result<Life, SizeFault> {
+    /// A life by the last notice so far, and those of the next merge and split.
+    pub(crate) fn new(last: Notice, merged: Notice, split: Notice) -> Result<Life, SizeFault> {
         Ok(Life {
             last,
             begins: first_of_life(last)?,
