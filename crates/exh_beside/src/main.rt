@@ -77,7 +77,8 @@ fn run_all(rt: &(impl Print + Eprint + AllocGlobal), job: &Job) -> Status {
     for kind in RunKind::ALL {
         if job.kind.is_none_or(|only| only == kind) {
             let tally = kind.run(rt.alloc(), job);
-            has_differed |= tally.has_differed() || print(rt, kind, &tally).is_err();
+            let printed = print(rt, kind, &tally);
+            has_differed |= tally.has_differed() || printed.is_err();
         }
     }
     Status::of_runs(has_differed)

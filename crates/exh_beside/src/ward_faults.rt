@@ -107,6 +107,21 @@ fn take_plain(
     for (is_right, step) in seen.is_right.iter_mut().zip(steps) {
         *is_right &= step.take(plain)?;
     }
+    run_each_access(alloc, plain, steps, seen)?;
+    // A refused growth puts off the accesses after it, so that one may be left out: but not twice.
+    if seen.refused.contains(&false) {
+        run_each_access(alloc, plain, steps, seen)?;
+    }
+    Ok(())
+}
+
+// Runs wards whose first access is refused, the second, and so on.
+fn run_each_access(
+    alloc: Global,
+    plain: &mut PlainWard,
+    steps: &[WardStep],
+    seen: &mut Seen,
+) -> Result<(), Difference> {
     for at in 1..MOST {
         if !run_failing(alloc, at, plain, steps, seen)? {
             return Ok(());
