@@ -236,11 +236,10 @@ fn stories_of_notices(rt: HostRuntime) {
     assert!(rt; are_stories(rt.alloc()));
 }
 
-// A copy of a directory and of its pointers is the same, and stays so after a merge.
+// A copy of a directory is the same, and stays so after a merge.
 fn is_copied(directory: &mut Directory) -> Option<bool> {
     let is_split = tell(directory, &[(ROOT, (1, Some(1)), None)]);
     let copy = directory.try_clone().ok()?;
-    let pointers = directory.pointers().try_clone().ok()?;
     let is_same = same(&copy, directory);
     let is_merged = tell(directory, &[(ROOT, (2, None), Some((1, Some(1))))]);
     Some(
@@ -248,17 +247,18 @@ fn is_copied(directory: &mut Directory) -> Option<bool> {
             && is_same
             && is_merged
             && is_directory(directory, 0, 0, NO_NOTICE)
-            && is_directory(&copy, 0, 1, ROOT_SPLIT)
-            && has_pointers(&pointers, 1, ROOT_SPLIT),
+            && is_directory(&copy, 0, 1, ROOT_SPLIT),
     )
+}
+
+fn copies_stay(alloc: Global) -> Option<bool> {
+    let mut directory = Directory::new(alloc, 0).ok()?;
+    is_copied(&mut directory)
 }
 
 #[test]
 fn copies(rt: HostRuntime) {
-    match Directory::new(rt.alloc(), 0) {
-        Ok(mut directory) => assert_eq!(rt; is_copied(&mut directory), Some(true)),
-        Err(_) => assert!(rt; false, "no directory"),
-    }
+    assert_eq!(rt; copies_stay(rt.alloc()), Some(true));
 }
 
 // Each of two directories has an entry that the other needs to go deeper.
@@ -284,12 +284,17 @@ fn is_joined(one: &mut Directory, other: &mut Directory) -> Option<bool> {
     Some(are_told && is_deep && same(one, other))
 }
 
+fn join_another(alloc: Global, one: &mut Directory) -> Option<bool> {
+    let mut other = Directory::new(alloc, 0).ok()?;
+    is_joined(one, &mut other)
+}
+
+fn directories_meet(alloc: Global) -> Option<bool> {
+    let mut one = Directory::new(alloc, 0).ok()?;
+    join_another(alloc, &mut one)
+}
+
 #[test]
 fn joins(rt: HostRuntime) {
-    match (Directory::new(rt.alloc(), 0), Directory::new(rt.alloc(), 0)) {
-        (Ok(mut one), Ok(mut other)) => {
-            assert_eq!(rt; is_joined(&mut one, &mut other), Some(true));
-        }
-        _ => assert!(rt; false, "no directory"),
-    }
+    assert_eq!(rt; directories_meet(rt.alloc()), Some(true));
 }
