@@ -1,10 +1,12 @@
 ghost use Rattle.std.specs.Prelude.{◌≡◌, ◌≢◌, ℕ, ◌<◌, ◌^◌, ◌-◌, ◌++◌, ◌∷◌, [], length, slice_get, slice_set, Some, IfOk, OnOk, OnErr};
-ghost use Rattle.exh_page.specs.Page.{low_bound, IsLive};
+ghost use Rattle.exh_page.specs.Page.{low_bound, records_of, IsLive};
+ghost use Rattle.exh_page.specs.Place.{place_of};
+ghost use Rattle.exh_page.specs.Search.{IsSought};
 ghost use Rattle.exh_page.specs.declared.page.Page.{Page};
 ghost use Rattle.exh_frames.specs.PageStore.{CountsFaults, IfPage};
 
 use crate::{FailingPages, Pages, PagesCall, PagesFault, PlainPages};
-use exh_page::{Key, Page, PageNo, Record, Records, Value};
+use exh_page::{Key, Page, PageNo, Record, Records, Spot, Value};
 use exh_prefix::Prefix;
 use std::alloc::Global;
 use std::process::Abort;
@@ -43,10 +45,15 @@ fn put_where_live<P: Pages>(
     ensures forwards { IfPage (P.pages store.old) number (λ page. (IsLive page → ⊥) → P.pages store.new ≡ P.pages store.old) }
     ensures err { OnErr result (P.pages store.new ≡ P.pages store.old) }
 {
-    if number >= store.count() || !store.lend(number)?.is_live() {
+    if number >= store.count() {
         return Ok(None);
     }
-    store.put(number, item)
+    let Page::Live { records, .. } = store.lend(number)? else {
+        return Ok(None);
+    };
+    let (spot, old) = records.seek(item.pseudokey, &item.key);
+    store.put_at(number, spot, item.pseudokey, &item.key, &item.value)?;
+    Ok(old)
 }
 
 fn remove_where_live<P: Pages>(
@@ -58,10 +65,17 @@ fn remove_where_live<P: Pages>(
     requires { (page : Page) → P.takes store.old page }
     ensures { OnErr result (P.pages store.new ≡ P.pages store.old) }
 {
-    if number >= store.count() || !store.lend(number)?.is_live() {
+    if number >= store.count() {
         return Ok(None);
     }
-    store.remove(number, pseudokey, key)
+    let Page::Live { records, .. } = store.lend(number)? else {
+        return Ok(None);
+    };
+    let (spot, old) = records.seek(pseudokey, key);
+    if let Ok(spot) = spot {
+        store.remove_at(number, spot)?;
+    }
+    Ok(old)
 }
 
 fn record(pseudokey: u64, key: &[u8], value: &[u8]) -> Result<Record, Fail> {
@@ -122,15 +136,25 @@ fn pages_come_last_and_change_together(rt: HostRuntime) -> Result<(), Fail> {
     grow_and_swap(&rt, &mut store, rt.alloc())
 }
 
-// Pages of the prefixes 0 and 1.
+// Pages of the prefixes 0 and 1, the first with a record.
 fn two_pages(alloc: Global) -> Result<PlainPages, Fail>
     ensures two { IfOk result (λ store. length store ≡ 2) }
     ensures live { IfOk result (λ store. IfPage store 0 IsLive) }
 {
     let mut store = PlainPages::new(alloc, live(alloc, 0, 0, None)?)?;
-    let (left, right) = (live(alloc, 1, 0, Some(1))?, live(alloc, 1, 1 << 63, None)?);
-    store.grow_and_set(right, 0, left)?;
+    let left = Page::Live {
+        prefix: Prefix::new(1, 0).ok_or("a prefix")?,
+        right: Some(1),
+        records: one_record(alloc)?,
+    };
+    store.grow_and_set(live(alloc, 1, 1 << 63, None)?, 0, left)?;
     Ok(store)
+}
+
+fn one_record(alloc: Global) -> Result<Records, Fail> {
+    let mut records = Records::new(alloc);
+    records.put(record(0, b"k", b"a")?)?;
+    Ok(records)
 }
 
 fn grow_and_swap(rt: &impl Abort, store: &mut PlainPages, alloc: Global) -> Result<(), Fail>
@@ -159,22 +183,38 @@ fn assert_lows(rt: &impl Abort, store: &mut PlainPages, lows: [u64; 3]) -> Resul
     Ok(())
 }
 
+// Where a record stands in the first page, or would.
+fn spot_of(store: &mut PlainPages, item: &Record) -> Result<Result<Spot, Spot>, Fail>
+    requires { 0 < length store.old }
+    ensures spot { IfOk result (λ spot. IfPage store.old 0 (λ page. IsSought (place_of item.now) (records_of page) spot)) }
+    ensures pages { store.new ≡ store.old }
+{
+    match store.lend(0)? {
+        Page::Live { records, .. } => Ok(records.seek(item.pseudokey, &item.key).0),
+        Page::Forward { .. } => Err("a live page".into()),
+    }
+}
+
 // The answer to one call of a kind.
 fn answer(
     store: &mut FailingPages,
     alloc: Global,
     call: PagesCall,
+    item: &Record,
+    spot: Result<Spot, Spot>,
 ) -> Result<Option<PagesFault>, Fail>
     requires two { length (store.old).pages ≡ 2 }
     requires live { IfPage (store.old).pages 0 IsLive }
+    requires sought { IfPage (store.old).pages 0 (λ page. IsSought (place_of item.now) (records_of page) spot) }
 {
-    let item = record(0, b"k", b"a")?;
     let (page, twin) = (live(alloc, 2, 0, None)?, live(alloc, 2, 1 << 62, None)?);
     Ok(match call {
         PagesCall::Get => store.get(0).err(),
         PagesCall::Lend => store.lend(0).err(),
-        PagesCall::Put => store.put(0, item).err(),
-        PagesCall::Remove => store.remove(0, item.pseudokey, &item.key).err(),
+        PagesCall::Put => store
+            .put_at(0, spot, item.pseudokey, &item.key, &item.value)
+            .err(),
+        PagesCall::Remove => store.remove_at(0, spot.ok().ok_or("a record")?).err(),
         PagesCall::Set => store.set(0, page).err(),
         PagesCall::SetTwo => store.set_two(0, page, 1, twin).err(),
         PagesCall::GrowAndSet => store.grow_and_set(page, 0, twin).err(),
@@ -187,8 +227,11 @@ fn answers(
     call: PagesCall,
     at: u64,
 ) -> Result<(Option<PagesFault>, Option<PagesCall>, u64), Fail> {
-    let mut store = FailingPages::new(two_pages(alloc)?, at);
-    let answer = answer(&mut store, alloc, call)?;
+    let item = record(0, b"k", b"b")?;
+    let mut pages = two_pages(alloc)?;
+    let spot = spot_of(&mut pages, &item)?;
+    let mut store = FailingPages::new(pages, at);
+    let answer = answer(&mut store, alloc, call, &item, spot)?;
     Ok((answer, store.failed(), store.failures()))
 }
 
