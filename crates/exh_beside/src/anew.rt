@@ -12,7 +12,8 @@ use exh_frames::PlainPages;
 use exh_keyer::PlainKeyer;
 use exh_notice::Notice;
 use exh_table::Table;
-use exh_ward::{JournalEntry, Ward, WardFault};
+use exh_calls::JournalEntry;
+use exh_ward::{Ward, WardFault};
 use exh_world::{Config, Event, Outcome, StepFault, Turn, World};
 use std::alloc::{AllocError, Global};
 

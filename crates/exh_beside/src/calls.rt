@@ -1,7 +1,7 @@
 //! Calls by the bytes of their keys and values.
 
 use exh_page::{Key, SizeFault, Value};
-use exh_ward::Call;
+use exh_calls::Call;
 
 /// A call: its key, and of a put the value.
 #[derive(Clone, Copy)]

@@ -16,7 +16,8 @@ use crate::ward_step::WardStep;
 use exh_keyer::PlainKeyer;
 use exh_page::{SizeFault, Value};
 use exh_prefix::Prefix;
-use exh_ward::{Call, Hop, JournalEntry, Reply, Ward, WardFault};
+use exh_calls::{Call, JournalEntry, Reply};
+use exh_ward::{Hop, Ward, WardFault};
 use std::alloc::{AllocError, Global};
 
 // A call at page 0 of a client, and its reply.

@@ -1,6 +1,7 @@
 //! One wrong answer of the slow code.
 
-use exh_ward::{Hop, Reply};
+use exh_calls::Reply;
+use exh_ward::Hop;
 
 /// Whether the next answer of the slow code is replaced by a wrong one. It happens once at most.
 #[derive(Clone, Copy)]

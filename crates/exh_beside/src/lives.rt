@@ -6,7 +6,8 @@ use crate::difference::{Difference, Part};
 use crate::notices::{merge, prefix, split};
 use exh_notice::Notice;
 use exh_page::{PageNo, SizeFault, Value};
-use exh_ward::{Hop, JournalEntry, Reply};
+use exh_calls::{JournalEntry, Reply};
+use exh_ward::Hop;
 use exh_world::{Event, Outcome, StepFault, Turn};
 
 /// The copies of a world that is made of wards. The first world has one less.

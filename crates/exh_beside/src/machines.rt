@@ -8,7 +8,7 @@ use crate::slow_ward::answer;
 use exh_keyer::{AnyKeyer, Keyer, PlainKeyer};
 use exh_model::{MapMachine, PairMap};
 use exh_page::{Key, SizeFault, Value};
-use exh_ward::{Call, Reply};
+use exh_calls::{Call, Reply};
 use std::alloc::AllocError;
 
 /// Calls of one key with each keyer, calls of keys that share their leading bits, and a map.

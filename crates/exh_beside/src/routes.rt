@@ -10,7 +10,8 @@ use crate::ward_calls::{hop, merge, split};
 use crate::ward_faults::plain_ward;
 use exh_page::PageNo;
 use exh_route::distance;
-use exh_ward::{Hop, Reply, WardFault};
+use exh_calls::Reply;
+use exh_ward::{Hop, WardFault};
 
 // The pseudokeys of the keys #40, #80 and #c0.
 const FORTY: u64 = 0x4000_0000_0000_0000;

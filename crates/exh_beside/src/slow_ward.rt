@@ -7,7 +7,8 @@ use exh_model::MapMachine;
 use exh_notice::{Kind, Notice};
 use exh_page::{Page, PageNo};
 use exh_prefix::{LIMIT, Prefix};
-use exh_ward::{Call, Hop, Reply, WardFault};
+use exh_calls::{Call, Reply};
+use exh_ward::{Hop, WardFault};
 use std::alloc::AllocError;
 
 /// A ward's settings and notices.

@@ -11,7 +11,8 @@ use exh_notice::{Kind, Notice};
 use exh_page::PageNo;
 use exh_prefix::Prefix;
 use exh_table::Table;
-use exh_ward::{Call, Reply, WardFault};
+use exh_calls::{Call, Reply};
+use exh_ward::WardFault;
 use exh_world::{Event, StepFault};
 use std::alloc::{AllocError, Global};
 

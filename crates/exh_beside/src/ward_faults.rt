@@ -14,7 +14,8 @@ use exh_frames::FailingPages;
 use exh_keyer::PlainKeyer;
 use exh_page::{PageNo, SizeFault, Value};
 use exh_prefix::Prefix;
-use exh_ward::{Hop, Reply, Ward, WardFault};
+use exh_calls::Reply;
+use exh_ward::{Hop, Ward, WardFault};
 use std::alloc::{AllocError, Global};
 
 type FailingWard = Ward<FailingPages, PlainKeyer>;

@@ -19,7 +19,8 @@ use exh_keyer::{Keyer, PlainKeyer};
 use exh_notice::{Kind, Notice};
 use exh_page::{Key, Page, PageNo, SizeFault};
 use exh_prefix::{LIMIT, Prefix};
-use exh_ward::{Call, Hop, Reply, WardFault};
+use exh_calls::{Call, Reply};
+use exh_ward::{Hop, WardFault};
 
 // What came up in the runs.
 #[derive(Clone, Copy)]

@@ -13,7 +13,8 @@ use exh_frames::FailingPages;
 use exh_keyer::PlainKeyer;
 use exh_page::{Page, PageNo, SizeFault, Value};
 use exh_prefix::Prefix;
-use exh_ward::{Hop, Reply, Ward, WardFault};
+use exh_calls::Reply;
+use exh_ward::{Hop, Ward, WardFault};
 use exh_world::{Config, Event, Outcome, StepFault, World};
 use std::alloc::{AllocError, Global};
 

@@ -16,7 +16,8 @@ use exh_keyer::PlainKeyer;
 use exh_notice::Notice;
 use exh_page::{Page, PageNo, SizeFault};
 use exh_prefix::Prefix;
-use exh_ward::{Call, Hop, WardFault};
+use exh_calls::Call;
+use exh_ward::{Hop, WardFault};
 use exh_world::{Config, Event, Outcome, StepFault, World};
 use std::alloc::{AllocError, Global};
 

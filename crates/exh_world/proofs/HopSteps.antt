@@ -5,7 +5,7 @@ use Rattle.std.proofs.lemmas.List.{map-set}
 use Rattle.std.proofs.lemmas.Option.{slice_get_within, slice_get_read}
 use Rattle.exh_prefix.specs.Prefix.{Begins}
 use Rattle.exh_legal.specs.Pages.{ward_prefix}
-use Rattle.exh_ward.specs.Call.{key_of}
+use Rattle.exh_calls.specs.Call.{key_of}
 use Rattle.exh_ward.specs.HopTable.{HopOf}
 use Rattle.exh_ward.specs.Told.{IsStoreFault}
 use Rattle.exh_ward.specs.WardState.{WardState, IsSoundWard, IsUnchanged, LeavesAfter, own_prefix}

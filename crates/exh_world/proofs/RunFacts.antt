@@ -5,9 +5,9 @@ use Rattle.std.specs.FinMap.{entries}
 use Rattle.std.specs.List.{AllByRecursion}
 use Rattle.std.proofs.lemmas.List.{map-append}
 use Rattle.exh_table.specs.Laws.{OwnEntries, OneNoticeMore, UnionIsJoin}
-use Rattle.exh_ward.specs.History.{IsHistory, map_left}
-use Rattle.exh_ward.specs.declared.journal_entry.JournalEntry.{JournalEntry}
-use Rattle.exh_ward.specs.Laws.{SharersBegin}
+use Rattle.exh_calls.specs.History.{IsHistory, map_left}
+use Rattle.exh_calls.specs.declared.journal_entry.JournalEntry.{JournalEntry}
+use Rattle.exh_calls.specs.Laws.{SharersBegin}
 use Rattle.exh_world.specs.Headline.{IsNamed}
 use Rattle.exh_world.specs.Run.{Moment, IsRun, Told, Knowledge, known_after, known_at_end, answered_at, answered_in, entry_of}
 use Rattle.exh_world.specs.Sound.{IsSoundWorld}

@@ -17,13 +17,13 @@ use Rattle.exh_table.specs.TableOrder.{table_join}
 use Rattle.exh_page.specs.declared.page.Page.{Page}
 use Rattle.exh_page.specs.declared.page.Page.TheVariants.{Live, Forward}
 use Rattle.exh_legal.specs.Pages.{IsAt, IsHome, ward_prefix}
-use Rattle.exh_ward.specs.History.{IsHistory, map_left}
-use Rattle.exh_ward.specs.KeyMap.{KeyMap}
-use Rattle.exh_ward.specs.MapMachine.{reply_of, map_after}
+use Rattle.exh_calls.specs.History.{IsHistory, map_left}
+use Rattle.exh_page.specs.KeyMap.{KeyMap}
+use Rattle.exh_calls.specs.MapMachine.{reply_of, map_after}
 use Rattle.exh_ward.specs.declared.hop.Hop.{Hop as HopOutcome}
 use Rattle.exh_ward.specs.declared.hop.Hop.TheVariants.{Done, Moved, MustSplit, Stray}
-use Rattle.exh_ward.specs.declared.journal_entry.JournalEntry.{JournalEntry}
-use Rattle.exh_ward.specs.declared.reply.Reply.{Reply}
+use Rattle.exh_calls.specs.declared.journal_entry.JournalEntry.{JournalEntry}
+use Rattle.exh_calls.specs.declared.reply.Reply.{Reply}
 use Rattle.exh_world.specs.EffectLemmas.{on_effect}
 use Rattle.exh_world.specs.Headline.{CombinesLeast, IsNamed, DoesNotStray, AreTablesOfTaken}
 use Rattle.exh_world.specs.HeadlineLaws.{AreWorldsOf, RunsGoStepByStep, LeavesToNotices, notices_taken, IsTableWithNotices, CopiesTakeNotices, SameNoticesSameTables, CombinesJoin, IsAtTheOneLeaf, Answers, AnswersComeFromTheOneLeaf, HopsLeadOn, OnlyAnswersChangeTheMap, RepliesFollowTheAnswersBefore}

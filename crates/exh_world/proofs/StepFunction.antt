@@ -15,7 +15,7 @@ use Rattle.exh_ward.specs.SplitFunction.{split_of, ward_after_split}
 use Rattle.exh_ward.specs.SplitStep.{IsSplitStep, SplitRefused}
 use Rattle.exh_ward.specs.Told.{IsStoreFault}
 use Rattle.exh_ward.specs.WardState.{WardState, LeavesAfter}
-use Rattle.exh_ward.specs.declared.call.Call.{Call}
+use Rattle.exh_calls.specs.declared.call.Call.{Call}
 use Rattle.exh_ward.specs.declared.hop.Hop.{Hop}
 use Rattle.exh_ward.specs.declared.hop.Hop.TheVariants.{Done, Moved, MustSplit, Stray}
 use Rattle.exh_ward.specs.declared.ward_fault.WardFault.{WardFault}

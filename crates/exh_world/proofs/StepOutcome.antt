@@ -10,13 +10,13 @@ use Rattle.exh_table.specs.Table.{TableMap, table_with}
 use Rattle.exh_table.specs.TableOrder.{table_join}
 use Rattle.exh_page.specs.Laws.{AreOfWords}
 use Rattle.exh_legal.specs.Pages.{IsLegal, ward_prefix}
-use Rattle.exh_ward.specs.Call.{key_of}
+use Rattle.exh_calls.specs.Call.{key_of}
 use Rattle.exh_ward.specs.HopTable.{HopOf, hop_of}
 use Rattle.exh_ward.specs.Laws.{HopsHaveOutcomes, AnswersKeepLegal, SplitsHaveOutcomes, MergesHaveOutcomes, IsSplitOutcome, IsMergeOutcome}
 use Rattle.exh_ward.specs.MergeFunction.{merge_of, ward_after_merge}
 use Rattle.exh_ward.specs.SplitFunction.{split_of, ward_after_split}
 use Rattle.exh_ward.specs.WardState.{WardState, LeavesAfter, own_prefix}
-use Rattle.exh_ward.specs.declared.call.Call.{Call}
+use Rattle.exh_calls.specs.declared.call.Call.{Call}
 use Rattle.exh_ward.specs.declared.hop.Hop.{Hop}
 use Rattle.exh_ward.specs.declared.hop.Hop.TheVariants.{Done, Moved, MustSplit, Stray}
 use Rattle.exh_ward.specs.declared.ward_fault.WardFault.{WardFault}

@@ -3,7 +3,7 @@ use Rattle.std.proofs.Common.{ℕ, List}
 use Rattle.exh_notice.specs.declared.notice.Notice.{Notice}
 use Rattle.exh_ward.specs.MergeStep.{IsMergeStep}
 use Rattle.exh_ward.specs.SplitStep.{IsSplitStep}
-use Rattle.exh_ward.specs.declared.call.Call.{Call}
+use Rattle.exh_calls.specs.declared.call.Call.{Call}
 use Rattle.exh_ward.specs.declared.hop.Hop.{Hop as HopOutcome}
 use Rattle.exh_world.specs.Step.{HasBegun, HasHopped, HasChanged, HasTaken, HasSent, HasJoined, HasRestarted, HasEffect}
 use Rattle.exh_world.specs.World.{WorldState}

@@ -4,12 +4,12 @@ use Rattle.exh_notice.specs.declared.notice.Notice.{Notice}
 use Rattle.exh_table.specs.Table.{TableMap, table_with}
 use Rattle.exh_table.specs.TableOrder.{table_join}
 use Rattle.exh_table.specs.Walk.{walk_of}
-use Rattle.exh_ward.specs.Call.{key_of}
+use Rattle.exh_calls.specs.Call.{key_of}
 use Rattle.exh_ward.specs.HopTable.{HopOf}
 use Rattle.exh_ward.specs.WardState.{WardState, LeavesAfter}
 use Rattle.exh_ward.specs.MergeStep.{IsMergeStep, MergeRefused}
 use Rattle.exh_ward.specs.SplitStep.{IsSplitStep, SplitRefused}
-use Rattle.exh_ward.specs.declared.call.Call.{Call}
+use Rattle.exh_calls.specs.declared.call.Call.{Call}
 use Rattle.exh_ward.specs.declared.hop.Hop.{Hop}
 use Rattle.exh_ward.specs.declared.ward_fault.WardFault.{WardFault}
 use Rattle.exh_ward.specs.declared.ward_fault.WardFault.TheVariants.{Memory, Page}

@@ -41,7 +41,7 @@ pub struct World<P: Pages + Drop, K: Keyer> {
 impl<P: Pages + Drop, K: Keyer> Model for World<P, K> {
     ghost use Rattle.std.specs.Prelude.{◌≤◌, ◌<◌, ◌^◌, length, map};
     ghost use Rattle.std.specs.Coded.{codes};
-    ghost use Rattle.exh_legal.specs.KeyMap.{coded_key_map};
+    ghost use Rattle.exh_page.specs.KeyMap.{coded_key_map};
     ghost use Rattle.exh_table.specs.Table.{coded_table};
     ghost use Rattle.exh_world.specs.Kept.{HaveArrays, IsKept, tables_of, uncounted};
     ghost use Rattle.exh_world.specs.World.{WorldState};
