@@ -3,7 +3,7 @@ ghost use Rattle.exh_frames.specs.Failure.{IsDue, after_call, failed_call, failu
 ghost use Rattle.exh_frames.specs.PageStore.{CountsFaults};
 
 use crate::{Pages, PagesCall, PagesFault, PlainPages};
-use exh_page::{Key, Page, PageNo, Record, Value};
+use exh_page::{Key, Page, PageNo, Spot, Value};
 use std::marker::Model;
 
 /// Pages in memory of which one call fails, for tests of what stands on a store (exhash profile).
@@ -80,11 +80,11 @@ impl FailingPages {
 }
 
 impl Pages for FailingPages {
-    ghost use Rattle.std.specs.Prelude.{⊤, ◌≢◌, ◌<◌, ◌-◌, ◌^◌, slice_get, slice_set, length, Some, IfOk, OnOk, OnErr, ◌++◌, ◌∷◌, []};
+    ghost use Rattle.std.specs.Prelude.{⊤, ◌≢◌, ◌<◌, ◌-◌, ◌^◌, slice_get, slice_set, length, remove, Some, IfOk, OnOk, OnErr, ◌++◌, ◌∷◌, []};
     ghost use Rattle.std.specs.Borrow.{sem};
     ghost use Rattle.exh_page.specs.Page.{IsLive, records_of, with_records};
-    ghost use Rattle.exh_page.specs.Place.{place_of};
-    ghost use Rattle.exh_page.specs.Records.{value_at, with_record, without_place};
+    ghost use Rattle.exh_page.specs.Records.{with_record};
+    ghost use Rattle.exh_page.specs.Search.{IsSought, IsSpot};
     ghost use Rattle.exh_frames.specs.PageStore.{IfPage, LeavesBehind, TakesTheSame};
     ghost use Rattle.exh_frames.specs.contracts.failing_pages.FailingPages.{the_row};
 
@@ -124,37 +124,39 @@ impl Pages for FailingPages {
         self.inner.lend(number)
     }
 
-    fn put(&mut self, number: PageNo, item: Record) -> Result<Option<Value>, PagesFault>
+    fn put_at(
+        &mut self,
+        number: PageNo,
+        spot: Result<Spot, Spot>,
+        pseudokey: u64,
+        key: &Key,
+        value: &Value,
+    ) -> Result<(), PagesFault>
         requires there { number < length self.old.pages }
         requires live { IfPage self.old.pages number IsLive }
-        ensures old { IfOk result (λ old. IfPage self.old.pages number (λ page. old ≡ value_at (place_of item) (records_of page))) }
-        ensures ok { OnOk result (IfPage self.old.pages number (λ page. self.new.pages ≡ slice_set self.old.pages number (with_records (with_record item (records_of page)) page))) }
+        requires sought { IfPage self.old.pages number (λ page. IsSought (pseudokey, key.now) (records_of page) spot) }
+        ensures ok { OnOk result (IfPage self.old.pages number (λ page. self.new.pages ≡ slice_set self.old.pages number (with_records (with_record (record { pseudokey = pseudokey; key = key.now; value = value.now }) (records_of page)) page))) }
         ensures err { OnErr result (self.new.pages ≡ self.old.pages) }
         ensures failures { CountsFaults result (failure_count self.old.failure) (failure_count self.new.failure) }
         ensures due { IsErrOf result PagesFault.Page ↔ IsDue self.old.failure }
         ensures counted { self.new.failure ≡ after_call PagesCall.Put self.old.failure }
     {
         self.enter(PagesCall::Put)?;
-        self.inner.put(number, item)
+        self.inner.put_at(number, spot, pseudokey, key, value)
     }
 
-    fn remove(
-        &mut self,
-        number: PageNo,
-        pseudokey: u64,
-        key: &Key,
-    ) -> Result<Option<Value>, PagesFault>
+    fn remove_at(&mut self, number: PageNo, spot: Spot) -> Result<(), PagesFault>
         requires there { number < length self.old.pages }
         requires live { IfPage self.old.pages number IsLive }
-        ensures old { IfOk result (λ old. IfPage self.old.pages number (λ page. old ≡ value_at (pseudokey, key.now) (records_of page))) }
-        ensures ok { OnOk result (IfPage self.old.pages number (λ page. self.new.pages ≡ slice_set self.old.pages number (with_records (without_place (pseudokey, key.now) (records_of page)) page))) }
+        requires spot { IfPage self.old.pages number (λ page. (spot.index < length (records_of page)) × IsSpot (records_of page) spot) }
+        ensures ok { OnOk result (IfPage self.old.pages number (λ page. self.new.pages ≡ slice_set self.old.pages number (with_records (remove (records_of page) spot.index) page))) }
         ensures err { OnErr result (self.new.pages ≡ self.old.pages) }
         ensures failures { CountsFaults result (failure_count self.old.failure) (failure_count self.new.failure) }
         ensures due { IsErrOf result PagesFault.Page ↔ IsDue self.old.failure }
         ensures counted { self.new.failure ≡ after_call PagesCall.Remove self.old.failure }
     {
         self.enter(PagesCall::Remove)?;
-        self.inner.remove(number, pseudokey, key)
+        self.inner.remove_at(number, spot)
     }
 
     fn set(&mut self, number: PageNo, page: Page) -> Result<(), PagesFault>

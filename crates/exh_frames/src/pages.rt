@@ -1,13 +1,13 @@
-ghost use Rattle.std.specs.Prelude.{◌≡◌, ◌≢◌, ℕ, ◌-◌, ◌^◌, ◌<◌, List, [], ◌∷◌, ◌++◌, length, slice_get, slice_set, Some, IfOk, OnOk, OnErr};
+ghost use Rattle.std.specs.Prelude.{◌≡◌, ◌≢◌, ℕ, ◌-◌, ◌^◌, ◌<◌, List, [], ◌∷◌, ◌++◌, length, remove, slice_get, slice_set, Some, IfOk, OnOk, OnErr};
 ghost use Rattle.std.specs.Borrow.{sem};
 ghost use Rattle.exh_page.specs.Page.{IsLive, records_of, with_records};
-ghost use Rattle.exh_page.specs.Place.{place_of};
-ghost use Rattle.exh_page.specs.Records.{value_at, with_record, without_place};
+ghost use Rattle.exh_page.specs.Records.{with_record};
+ghost use Rattle.exh_page.specs.Search.{IsSought, IsSpot};
 ghost use Rattle.exh_page.specs.declared.page.Page.{Page};
 ghost use Rattle.exh_frames.specs.PageStore.{IfPage, CountsFaults, TakesTheSame, LeavesBehind};
 
 use crate::PagesFault;
-use exh_page::{Key, Page, PageNo, Record, Value};
+use exh_page::{Key, Page, PageNo, Spot, Value};
 
 /// A store of pages, numbered from 0 on in the order in which they came (exhash profile). Each call
 /// that answers a `Result` may be refused: `PagesFault::Page` where a page couldn't be reached, which
@@ -44,31 +44,33 @@ pub trait Pages {
         ensures page { IfOk result (λ page. slice_get (pages self.old) number ≡ Some page.now) }
         ensures* store { sem 𝓛 (LeavesBehind Self.row self.entry (λ left. (pages left ≡ pages self.old) × CountsFaults result (failures self.old) (failures left) × TakesTheSame takes self.old left)) };
 
-    /// Puts a record into a live page in place, and answers the value that it replaces, or `None`
-    /// where it is new. The page with the record is one that the store takes.
-    fn put(&mut self, number: PageNo, item: Record) -> Result<Option<Value>, PagesFault>
+    /// Puts a record into a live page in place, at the spot that a search of its records for the key
+    /// came to. The page with the record is one that the store takes.
+    fn put_at(
+        &mut self,
+        number: PageNo,
+        spot: Result<Spot, Spot>,
+        pseudokey: u64,
+        key: &Key,
+        value: &Value,
+    ) -> Result<(), PagesFault>
         requires there { number < length (pages self.old) }
         requires live { IfPage (pages self.old) number IsLive }
-        requires taken { IfPage (pages self.old) number (λ page. takes self.old (with_records (with_record item (records_of page)) page)) }
-        ensures old { IfOk result (λ old. IfPage (pages self.old) number (λ page. old ≡ value_at (place_of item) (records_of page))) }
-        ensures ok { OnOk result (IfPage (pages self.old) number (λ page. pages self.new ≡ slice_set (pages self.old) number (with_records (with_record item (records_of page)) page))) }
+        requires sought { IfPage (pages self.old) number (λ page. IsSought (pseudokey, key.now) (records_of page) spot) }
+        requires taken { IfPage (pages self.old) number (λ page. takes self.old (with_records (with_record (record { pseudokey = pseudokey; key = key.now; value = value.now }) (records_of page)) page)) }
+        ensures ok { OnOk result (IfPage (pages self.old) number (λ page. pages self.new ≡ slice_set (pages self.old) number (with_records (with_record (record { pseudokey = pseudokey; key = key.now; value = value.now }) (records_of page)) page))) }
         ensures err { OnErr result (pages self.new ≡ pages self.old) }
         ensures failures { CountsFaults result (failures self.old) (failures self.new) }
         ensures takes { TakesTheSame takes self.old self.new };
 
-    /// Takes the record of a key with this pseudokey out of a live page in place, and answers its
-    /// value, or `None` where there is none. The page without it is one that the store takes.
-    fn remove(
-        &mut self,
-        number: PageNo,
-        pseudokey: u64,
-        key: &Key,
-    ) -> Result<Option<Value>, PagesFault>
+    /// Takes the record of a spot out of a live page in place. The page without it is one that the
+    /// store takes.
+    fn remove_at(&mut self, number: PageNo, spot: Spot) -> Result<(), PagesFault>
         requires there { number < length (pages self.old) }
         requires live { IfPage (pages self.old) number IsLive }
-        requires taken { IfPage (pages self.old) number (λ page. takes self.old (with_records (without_place (pseudokey, key.now) (records_of page)) page)) }
-        ensures old { IfOk result (λ old. IfPage (pages self.old) number (λ page. old ≡ value_at (pseudokey, key.now) (records_of page))) }
-        ensures ok { OnOk result (IfPage (pages self.old) number (λ page. pages self.new ≡ slice_set (pages self.old) number (with_records (without_place (pseudokey, key.now) (records_of page)) page))) }
+        requires spot { IfPage (pages self.old) number (λ page. (spot.index < length (records_of page)) × IsSpot (records_of page) spot) }
+        requires taken { IfPage (pages self.old) number (λ page. takes self.old (with_records (remove (records_of page) spot.index) page)) }
+        ensures ok { OnOk result (IfPage (pages self.old) number (λ page. pages self.new ≡ slice_set (pages self.old) number (with_records (remove (records_of page) spot.index) page))) }
         ensures err { OnErr result (pages self.new ≡ pages self.old) }
         ensures failures { CountsFaults result (failures self.old) (failures self.new) }
         ensures takes { TakesTheSame takes self.old self.new };

@@ -5,9 +5,9 @@ pub enum PagesCall {
     Get,
     /// `Pages::lend`.
     Lend,
-    /// `Pages::put`.
+    /// `Pages::put_at`.
     Put,
-    /// `Pages::remove`.
+    /// `Pages::remove_at`.
     Remove,
     /// `Pages::set`.
     Set,

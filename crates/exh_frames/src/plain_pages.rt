@@ -1,7 +1,7 @@
 ghost use Rattle.std.specs.Prelude.{◌≡◌, [], ◌∷◌, IfOk};
 
 use crate::{Pages, PagesFault};
-use exh_page::{Key, Page, PageNo, Record, Value};
+use exh_page::{Key, Page, PageNo, Spot, Value};
 use std::alloc::{AllocError, Global};
 use std::marker::Model;
 
@@ -58,17 +58,20 @@ impl Pages for PlainPages {
         Ok(&self.pages[number as usize])
     }
 
-    fn put(&mut self, number: PageNo, item: Record) -> Result<Option<Value>, PagesFault> {
-        Ok(self.pages[number as usize].put(item)?)
-    }
-
-    fn remove(
+    fn put_at(
         &mut self,
         number: PageNo,
+        spot: Result<Spot, Spot>,
         pseudokey: u64,
         key: &Key,
-    ) -> Result<Option<Value>, PagesFault> {
-        Ok(self.pages[number as usize].remove(pseudokey, key))
+        value: &Value,
+    ) -> Result<(), PagesFault> {
+        Ok(self.pages[number as usize].put_at(spot, pseudokey, key, value)?)
+    }
+
+    fn remove_at(&mut self, number: PageNo, spot: Spot) -> Result<(), PagesFault> {
+        self.pages[number as usize].remove_at(spot);
+        Ok(())
     }
 
     fn set(&mut self, number: PageNo, page: Page) -> Result<(), PagesFault> {

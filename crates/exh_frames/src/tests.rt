@@ -1,9 +1,11 @@
-ghost use Rattle.std.specs.Prelude.{◌≡◌, length, IfSome};
-ghost use Rattle.exh_page.specs.Page.{IsLive};
+ghost use Rattle.std.specs.Prelude.{◌≡◌, ◌<◌, length, IfSome};
+ghost use Rattle.exh_page.specs.Page.{records_of, IsLive};
+ghost use Rattle.exh_page.specs.Place.{place_of};
+ghost use Rattle.exh_page.specs.Search.{IsSought};
 ghost use Rattle.exh_frames.specs.PageStore.{IfPage};
 
 use crate::{FailingPages, Pages, PagesCall, PagesFault, PlainPages};
-use exh_page::{Key, Page, PageNo, Record, Records, Value};
+use exh_page::{Key, Page, PageNo, Record, Records, Spot, Value};
 use exh_prefix::Prefix;
 use std::alloc::Global;
 
@@ -54,17 +56,29 @@ fn found(store: &mut PlainPages, item: &Record) -> Result<Option<Value>, PagesFa
 }
 
 fn put(store: &mut PlainPages, item: &Record) -> Result<Option<Value>, PagesFault> {
-    if store.count() == 0 || !store.lend(0)?.is_live() {
+    if store.count() == 0 {
         return Err(PagesFault::Page);
     }
-    store.put(0, *item)
+    let Page::Live { records, .. } = store.lend(0)? else {
+        return Err(PagesFault::Page);
+    };
+    let (spot, old) = records.seek(item.pseudokey, &item.key);
+    store.put_at(0, spot, item.pseudokey, &item.key, &item.value)?;
+    Ok(old)
 }
 
 fn removed(store: &mut PlainPages, item: &Record) -> Result<Option<Value>, PagesFault> {
-    if store.count() == 0 || !store.lend(0)?.is_live() {
+    if store.count() == 0 {
         return Err(PagesFault::Page);
     }
-    store.remove(0, item.pseudokey, &item.key)
+    let Page::Live { records, .. } = store.lend(0)? else {
+        return Err(PagesFault::Page);
+    };
+    let (spot, old) = records.seek(item.pseudokey, &item.key);
+    if let Ok(spot) = spot {
+        store.remove_at(0, spot)?;
+    }
+    Ok(old)
 }
 
 fn is_answer(answer: Result<Option<Value>, PagesFault>, want: Option<Value>) -> bool {
@@ -95,12 +109,19 @@ fn a_page_is_read_and_changed(rt: HostRuntime) {
     assert_eq!(rt; reads_and_changes(rt.alloc()), Some(true));
 }
 
-// Pages of the prefixes 0 and 1.
+// Pages of the prefixes 0 and 1, the first with a record of the key `k`.
 fn two_pages(alloc: Global) -> Option<PlainPages>
     ensures two { IfSome result (λ store. length store ≡ 2) }
     ensures live { IfSome result (λ store. IfPage store 0 IsLive) }
 {
-    let (left, right) = (live(alloc, 1, 0, Some(1))?, live(alloc, 1, 1 << 63, None)?);
+    let mut records = Records::new(alloc);
+    records.put(record(b"a")?).ok()?;
+    let left = Page::Live {
+        prefix: Prefix::new(1, 0)?,
+        right: Some(1),
+        records,
+    };
+    let right = live(alloc, 1, 1 << 63, None)?;
     let mut store = PlainPages::new(alloc, live(alloc, 0, 0, None)?).ok()?;
     store.grow_and_set(right, 0, left).ok()?;
     Some(store)
@@ -156,16 +177,36 @@ fn pages_come_last_and_change_together(rt: HostRuntime) {
     }
 }
 
+// Where a record stands in the first page, or would.
+fn spot_of(store: &mut PlainPages, item: &Record) -> Option<Result<Spot, Spot>>
+    requires { 0 < length store.old }
+    ensures spot { IfSome result (λ spot. IfPage store.old 0 (λ page. IsSought (place_of item.now) (records_of page) spot)) }
+    ensures pages { store.new ≡ store.old }
+{
+    match store.lend(0).ok()? {
+        Page::Live { records, .. } => Some(records.seek(item.pseudokey, &item.key).0),
+        Page::Forward { .. } => None,
+    }
+}
+
 // The answer to one call of a kind.
-fn answer(store: &mut FailingPages, call: PagesCall, item: Record) -> Option<PagesFault>
+fn answer(
+    store: &mut FailingPages,
+    call: PagesCall,
+    item: &Record,
+    spot: Result<Spot, Spot>,
+) -> Option<PagesFault>
     requires two { length (store.old).pages ≡ 2 }
     requires live { IfPage (store.old).pages 0 IsLive }
+    requires sought { IfPage (store.old).pages 0 (λ page. IsSought (place_of item.now) (records_of page) spot) }
 {
     match call {
         PagesCall::Get => store.get(0).err(),
         PagesCall::Lend => store.lend(0).err(),
-        PagesCall::Put => store.put(0, item).err(),
-        PagesCall::Remove => store.remove(0, item.pseudokey, &item.key).err(),
+        PagesCall::Put => store
+            .put_at(0, spot, item.pseudokey, &item.key, &item.value)
+            .err(),
+        PagesCall::Remove => store.remove_at(0, spot.ok()?).err(),
         PagesCall::Set => store.set(0, forward(0)).err(),
         PagesCall::SetTwo => store.set_two(0, forward(0), 1, forward(1)).err(),
         PagesCall::GrowAndSet => store.grow_and_set(forward(2), 0, forward(0)).err(),
@@ -177,8 +218,10 @@ type Answers = (Option<PagesFault>, Option<PagesCall>, u64);
 
 fn answers(alloc: Global, call: PagesCall, at: u64) -> Option<Answers> {
     let item = record(b"a")?;
-    let mut store = FailingPages::new(two_pages(alloc)?, at);
-    let answer = answer(&mut store, call, item);
+    let mut pages = two_pages(alloc)?;
+    let spot = spot_of(&mut pages, &item)?;
+    let mut store = FailingPages::new(pages, at);
+    let answer = answer(&mut store, call, &item, spot);
     Some((answer, store.failed(), store.failures()))
 }
 

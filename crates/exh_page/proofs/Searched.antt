@@ -102,9 +102,11 @@ longer item {searched} {i} found refused P value read le =
     let fits : length (text_of item) ≤ length (text_of r) = omega (arith, length-append item.key item.value, length-append r.key r.value, ap length key, ap length is) in
     absurd (false≢true (subst (λ o. IfSome o (λ r. length (text_of item) ≤ length (text_of r) → false ≡ true)) found.at refused fits))
 
-pub refused_found : (item : Record) {searched records : List Record} {i : ℕ} (P : Type 0) (value : List ℕ) → IsFound (place_of item) searched i → searched ≡ records → IfSome (slice_get searched i) (λ r. value ≡ r.value)
+pub refused_found : (item : Record) {searched records : List Record} {i : ℕ} (P : Type 0) → IsFound (place_of item) searched i → searched ≡ records
     → IfSome (slice_get searched i) (λ r. length (text_of item) ≤ length (text_of r) → false ≡ true) → IfSome (value_at (place_of item) records) (λ old. length item.value ≤ length old → P)
-refused_found item {searched} {records} {i} P value found same read refused =
+refused_found item {searched} {records} {i} P found same refused =
+    let value : List ℕ = found.found.value in
+    let read : IfSome (slice_get searched i) (λ r. value ≡ r.value) = subst (λ o. IfSome o (λ r. value ≡ r.value)) (sym found.at) refl in
     subst (λ o. IfSome o (λ old. length item.value ≤ length old → P)) (value_found found same read) (longer item found refused P value read)
 
 pub refused_at_gap : (item : Record) {searched records : List Record} {i : ℕ} (P : Type 0) → IsGap (place_of item) searched i → searched ≡ records → IfSome (value_at (place_of item) records) (λ old. length item.value ≤ length old → P)

@@ -1,5 +1,5 @@
 -- Rising records, cut at a place.
-use Rattle.std.proofs.Common.{◌≡◌, ℕ, zero, suc, Bool, true, false, not, cond, List, [], ◌∷◌, ◌++◌, drop, filter, find, Option, None, Some, Ordering, refl, sym, ap, ◌∙◌}
+use Rattle.std.proofs.Common.{◌≡◌, ℕ, zero, suc, Bool, true, false, not, cond, List, [], ◌∷◌, ◌++◌, drop, filter, find, remove, Option, None, Some, Ordering, refl, sym, ap, ◌∙◌}
 use Rattle.std.specs.declared.cmp.Ordering.TheVariants.{Less, Equal, Greater}
 use Rattle.std.specs.Cmp.{IsTotalOrder}
 use Rattle.std.specs.List.{AllByRecursion}
@@ -190,3 +190,17 @@ beyond place r s order later =
 -- what follows a record that isn't before a place stands after the place
 pub after_later : (place : Place) (r : Record) (rest : List Record) → IsRising (r ∷ rest) → is_lt (place_cmp (place_of r) place) ≡ false → AllAfter place rest
 after_later place r rest rising later = AllByRecursion-weaker _ _ (λ s order. beyond place r s order later) rest rising.0
+
+-- ---- one record is taken out
+
+all_left : (P : Record → Type 0) (records : List Record) (i : ℕ) → AllByRecursion P records → AllByRecursion P (remove records i)
+all_left P [] zero all = tt
+all_left P [] (suc i) all = tt
+all_left P (r ∷ records) zero all = all.1
+all_left P (r ∷ records) (suc i) all = (all.0, all_left P records i all.1)
+
+pub IsRising-remove : (records : List Record) (i : ℕ) → IsRising records → IsRising (remove records i)
+IsRising-remove [] zero rising = tt
+IsRising-remove [] (suc i) rising = tt
+IsRising-remove (r ∷ records) zero rising = rising.1
+IsRising-remove (r ∷ records) (suc i) rising = (all_left _ records i rising.0, IsRising-remove records i rising.1)

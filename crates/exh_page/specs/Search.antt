@@ -1,6 +1,9 @@
 -- What a search for a place finds in rising records.
-use Rattle.std.specs.Prelude.{◌≡◌, ℕ, ◌+◌, ◌<◌, ◌≤◌, List, length, take, drop, slice_get, Some, None}
+use Rattle.std.specs.Prelude.{◌≡◌, ℕ, ◌+◌, ◌<◌, ◌≤◌, List, length, take, drop, slice_get, Some, None, Result, Ok, Err}
+use Rattle.std.specs.List.{flat_map}
 use Rattle.exh_page.specs.declared.record.Record.{Record}
+use Rattle.exh_page.specs.declared.spot.Spot.{Spot}
+use Rattle.exh_page.specs.PackedRecords.{text_of}
 use Rattle.exh_page.specs.Place.{Place}
 use Rattle.exh_page.specs.RecordsLemmas.{IsCut}
 
@@ -15,3 +18,12 @@ pub record IsFound (place : Place) (records : List Record) (i : ℕ) : Type 0 wh
 pub record IsGap (place : Place) (records : List Record) (i : ℕ) : Type 0 where
   pub within : i ≤ length records
   pub cut : IsCut place records (take i records) None (drop i records)
+
+-- the spot counts the bytes of the records before it
+abbrev pub IsSpot : List Record → Spot → Type 0
+IsSpot records spot = spot.start ≡ length (flat_map text_of (take spot.index records))
+
+-- what a search for a place answers: the spot of its record, or else the spot where one would stand
+abbrev pub IsSought : Place → List Record → Result Spot Spot → Type 0
+IsSought place records (Ok spot) = IsSpot records spot × IsFound place records spot.index
+IsSought place records (Err spot) = IsSpot records spot × IsGap place records spot.index

@@ -44,6 +44,17 @@ impl Key {
         }
     }
 
+    /// The key of these bytes.
+    pub(crate) fn of(bytes: &[u8]) -> Key
+        requires some { 1 ≤ length bytes.now }
+        requires limit { length bytes.now ≤ KEY_LIMIT }
+        ensures { result ≡ bytes.now }
+    {
+        Key {
+            bytes: ShortBytes::of(bytes),
+        }
+    }
+
     /// The key's bytes, 1 to 64 of them.
     pub fn as_bytes(&self) -> &[u8]
         ensures bytes { result.now ≡ self.now }

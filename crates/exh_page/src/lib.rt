@@ -9,6 +9,7 @@ pub use page::{CAP_LIMIT, Page};
 pub use record::Record;
 pub use records::{Records, RecordsIter};
 pub use size_fault::SizeFault;
+pub use spot::Spot;
 pub use value::{VALUE_LIMIT, Value};
 
 mod key;
@@ -19,6 +20,7 @@ mod record;
 mod records;
 mod short_bytes;
 mod size_fault;
+mod spot;
 mod stored_record;
 #[cfg(test)]
 mod tests;

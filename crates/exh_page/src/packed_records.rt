@@ -5,10 +5,10 @@ ghost use Rattle.exh_page.specs.declared.value.TheConstants.{VALUE_LIMIT};
 ghost use Rattle.exh_page.specs.PackedRecords.{text_of};
 ghost use Rattle.exh_page.specs.Page.{begun_by};
 ghost use Rattle.exh_page.specs.Records.{IsRising};
-ghost use Rattle.exh_page.specs.Search.{IsFound, IsGap};
+ghost use Rattle.exh_page.specs.Search.{IsSought, IsSpot};
 
 use crate::stored_record::StoredRecord;
-use crate::{Key, Record, Value};
+use crate::{Key, Record, Spot, Value};
 use exh_prefix::Prefix;
 use std::alloc::{AllocError, Global};
 use std::cmp::Ordering;
@@ -56,85 +56,146 @@ impl PackedRecords {
     pub(crate) fn get(&self, at: usize) -> Option<Record>
         ensures { result ≡ slice_get self.now at }
     {
-        let stored = self.stored.get(at).copied()?;
-        let text = self.text_from(at);
-        let key = Key::from_bytes(&text[..usize::from(stored.key_len)]).unwrap();
-        let value = &text[usize::from(stored.key_len)..stored.text_len()];
-        Some(Record {
-            pseudokey: stored.pseudokey,
-            key,
-            value: Value::from_bytes(value).unwrap(),
-        })
+        if at >= self.stored.len() {
+            return None;
+        }
+        Some(self.record(Spot {
+            index: at,
+            start: self.start_of(at),
+        }))
     }
 
-    /// The value of the record at a place that has one. It takes no memory.
-    pub(crate) fn value(&self, at: usize) -> Value
-        requires { at < length self.now }
-        ensures { IfSome (slice_get self.now at) (λ r. result ≡ r.value) }
+    /// The spot of the first record, or where it would stand.
+    pub(crate) fn first(&self) -> Spot
+        ensures spot { IsSpot self.now result }
+        ensures index { result.index ≡ 0 }
     {
-        let stored = self.stored[at];
-        let text = self.text_from(at);
-        Value::from_bytes(&text[usize::from(stored.key_len)..stored.text_len()]).unwrap()
+        Spot { index: 0, start: 0 }
+    }
+
+    /// The spot after all records.
+    pub(crate) fn end(&self) -> Spot
+        ensures spot { IsSpot self.now result }
+        ensures index { result.index ≡ length self.now }
+    {
+        Spot {
+            index: self.stored.len(),
+            start: self.texts.len(),
+        }
+    }
+
+    /// The spot after that of a record.
+    pub(crate) fn after(&self, spot: Spot) -> Spot
+        requires there { spot.index < length self.now }
+        requires spot { IsSpot self.now spot }
+        ensures spot { IsSpot self.now result }
+        ensures index { result.index ≡ spot.index + 1 }
+    {
+        let len = self.stored[spot.index].text_len();
+        Spot {
+            index: spot.index + 1,
+            start: spot.start + len,
+        }
+    }
+
+    /// The record of a spot. It takes no memory.
+    pub(crate) fn record(&self, spot: Spot) -> Record
+        requires there { spot.index < length self.now }
+        requires spot { IsSpot self.now spot }
+        ensures { slice_get self.now spot.index ≡ Some result }
+    {
+        let stored = self.stored[spot.index];
+        let text = self.text_from(spot);
+        let value = &text[usize::from(stored.key_len)..stored.text_len()];
+        Record {
+            pseudokey: stored.pseudokey,
+            key: Key::of(&text[..usize::from(stored.key_len)]),
+            value: Value::of(value),
+        }
+    }
+
+    /// The value of the record of a spot. It takes no memory.
+    pub(crate) fn value(&self, spot: Spot) -> Value
+        requires there { spot.index < length self.now }
+        requires spot { IsSpot self.now spot }
+        ensures { IfSome (slice_get self.now spot.index) (λ r. result ≡ r.value) }
+    {
+        let stored = self.stored[spot.index];
+        let text = self.text_from(spot);
+        Value::of(&text[usize::from(stored.key_len)..stored.text_len()])
     }
 
     /// Where the record of a key stands among rising records, or where it would.
-    pub(crate) fn search(&self, pseudokey: u64, key: &Key) -> Result<usize, usize>
+    pub(crate) fn search(&self, pseudokey: u64, key: &Key) -> Result<Spot, Spot>
         requires { IsRising self.now }
-        ensures found { IfOk result (IsFound (pseudokey, key.now) self.now) }
-        ensures gap { IfErr result (IsGap (pseudokey, key.now) self.now) }
+        ensures { IsSought (pseudokey, key.now) self.now result }
     {
         let mut start = 0;
         for (i, stored) in self.stored.iter().enumerate() {
             match stored.cmp_place(&self.texts[start..], pseudokey, key) {
                 Ordering::Less => {}
-                Ordering::Equal => return Ok(i),
-                Ordering::Greater => return Err(i),
+                Ordering::Equal => return Ok(Spot { index: i, start }),
+                Ordering::Greater => return Err(Spot { index: i, start }),
             }
             start += stored.text_len();
         }
-        Err(self.stored.len())
+        Err(self.end())
     }
 
-    /// Puts a record at a place, before those from there on. It takes memory: where that is refused,
+    /// Puts a record at a spot, before those from there on. It takes memory: where that is refused,
     /// an `AllocError`, the records are as before.
-    pub(crate) fn insert(&mut self, at: usize, item: &Record) -> Result<(), AllocError>
-        requires { at ≤ length self.old }
-        ensures ok { OnOk result (self.new ≡ insert self.old at item.now) }
+    pub(crate) fn insert(
+        &mut self,
+        spot: Spot,
+        pseudokey: u64,
+        key: &Key,
+        value: &Value,
+    ) -> Result<(), AllocError>
+        requires within { spot.index ≤ length self.old }
+        requires spot { IsSpot self.old spot }
+        ensures ok { OnOk result (self.new ≡ insert self.old spot.index (record { pseudokey = pseudokey; key = key.now; value = value.now })) }
         ensures err { OnErr result (self.new ≡ self.old) }
     {
         self.stored.reserve(1)?;
-        let start = self.start_of(at);
-        let (key, value) = (item.key.as_bytes(), item.value.as_bytes());
-        put_text(&mut self.texts, start, start, key, value)?;
+        let (key, value) = (key.as_bytes(), value.as_bytes());
+        put_text(&mut self.texts, spot.start, spot.start, key, value)?;
         // There is room for it.
-        self.stored.insert(at, StoredRecord::of(item)).unwrap();
+        self.stored
+            .insert(spot.index, StoredRecord::of(pseudokey, key, value))
+            .unwrap();
         Ok(())
     }
 
-    /// Puts a record in place of the one at a place. Only one of more bytes may need memory: where
+    /// Puts a record in place of the one of a spot. Only one of more bytes may need memory: where
     /// that is refused, an `AllocError`, the records are as before.
-    pub(crate) fn replace(&mut self, at: usize, item: &Record) -> Result<(), AllocError>
-        requires { at < length self.old }
-        ensures ok { OnOk result (self.new ≡ set self.old at item.now) }
+    pub(crate) fn replace(
+        &mut self,
+        spot: Spot,
+        pseudokey: u64,
+        key: &Key,
+        value: &Value,
+    ) -> Result<(), AllocError>
+        requires there { spot.index < length self.old }
+        requires spot { IsSpot self.old spot }
+        ensures ok { OnOk result (self.new ≡ set self.old spot.index (record { pseudokey = pseudokey; key = key.now; value = value.now })) }
         ensures err { OnErr result (self.new ≡ self.old) }
-        ensures fits { IfSome (slice_get self.old at) (λ r. length (text_of item.now) ≤ length (text_of r) → IsOk result) }
+        ensures fits { IfSome (slice_get self.old spot.index) (λ r. length (key.now ++ value.now) ≤ length (text_of r) → IsOk result) }
     {
-        let start = self.start_of(at);
-        let end = start + self.stored[at].text_len();
-        let (key, value) = (item.key.as_bytes(), item.value.as_bytes());
-        put_text(&mut self.texts, start, end, key, value)?;
-        self.stored[at] = StoredRecord::of(item);
+        let end = spot.start + self.stored[spot.index].text_len();
+        let (key, value) = (key.as_bytes(), value.as_bytes());
+        put_text(&mut self.texts, spot.start, end, key, value)?;
+        self.stored[spot.index] = StoredRecord::of(pseudokey, key, value);
         Ok(())
     }
 
-    /// Takes out the record at a place. It takes no memory.
-    pub(crate) fn remove(&mut self, at: usize)
-        requires { at < length self.old }
-        ensures { self.new ≡ remove self.old at }
+    /// Takes out the record of a spot. It takes no memory.
+    pub(crate) fn remove(&mut self, spot: Spot)
+        requires there { spot.index < length self.old }
+        requires spot { IsSpot self.old spot }
+        ensures { self.new ≡ remove self.old spot.index }
     {
-        let start = self.start_of(at);
-        let end = start + self.stored.remove(at).text_len();
-        cut_text(&mut self.texts, start, end);
+        let end = spot.start + self.stored.remove(spot.index).text_len();
+        cut_text(&mut self.texts, spot.start, end);
     }
 
     /// The records whose pseudokeys a prefix begins, in their order. It takes memory, room for as
@@ -179,12 +240,12 @@ impl PackedRecords {
         })
     }
 
-    // The bytes of the records from a place on.
-    fn text_from(&self, at: usize) -> &[u8]
-        requires { at ≤ length self.now }
-        ensures { result.now ≡ flat_map text_of (drop at self.now) }
+    // The bytes of the records from a spot on.
+    fn text_from(&self, spot: Spot) -> &[u8]
+        requires { IsSpot self.now spot }
+        ensures { result.now ≡ flat_map text_of (drop spot.index self.now) }
     {
-        &self.texts[self.start_of(at)..]
+        &self.texts[spot.start..]
     }
 
     // How many bytes the records before a place have.

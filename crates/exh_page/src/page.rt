@@ -1,6 +1,6 @@
 ghost use Rattle.std.specs.Prelude.{◌≡◌, ℕ, ◌≤◌, ◌↔◌, length, IsTrue, IsOk, IfSome, IfOk, OnErr};
 
-use crate::{Key, Record, Records, Value};
+use crate::{Key, Records, Spot, Value};
 use exh_prefix::{PageNo, Prefix};
 use std::alloc::AllocError;
 
@@ -26,9 +26,9 @@ pub enum Page {
 }
 
 impl Page {
-    ghost use Rattle.std.specs.Prelude.{◌≡◌, ◌≤◌, ◌++◌, ◌↔◌, length, IsTrue, IsOk, IfSome, IfOk, OnErr};
-    ghost use Rattle.exh_page.specs.Place.{place_of};
-    ghost use Rattle.exh_page.specs.Records.{IsRising, value_at, with_record, without_place};
+    ghost use Rattle.std.specs.Prelude.{◌≡◌, ◌<◌, ◌≤◌, ◌++◌, ◌↔◌, length, remove, IsTrue, IsOk, IfSome, IfOk, OnOk, OnErr};
+    ghost use Rattle.exh_page.specs.Records.{IsRising, value_at, with_record};
+    ghost use Rattle.exh_page.specs.Search.{IsSought, IsSpot};
     ghost use Rattle.exh_page.specs.Page.{low_bound, records_of, share_of, with_records, IsDivisible, IsLive};
 
     /// The low bound: the least pseudokey that the page is for (exhash profile).
@@ -62,32 +62,38 @@ impl Page {
         }
     }
 
-    /// Puts a record into a live page, and answers the value that it replaces, or `None` where it
-    /// is new. Neither the number of records nor the prefix is tested. Only a new record, or a value
-    /// longer than the one it replaces, may need memory: where that is refused, an `AllocError`, the
-    /// page is as before.
-    pub fn put(&mut self, item: Record) -> Result<Option<Value>, AllocError>
-        requires { IsLive self.old }
-        ensures old { IfOk result (λ old. old ≡ value_at (place_of item) (records_of self.old)) }
-        ensures ok { IfOk result (λ _. self.new ≡ with_records (with_record item (records_of self.old)) self.old) }
+    /// Puts a record into a live page, at the spot that a search of its records for the key came to.
+    /// Neither the number of records nor the prefix is tested. Only a new record, or a value longer
+    /// than the one it replaces, may need memory: where that is refused, an `AllocError`, the page is
+    /// as before.
+    pub fn put_at(
+        &mut self,
+        spot: Result<Spot, Spot>,
+        pseudokey: u64,
+        key: &Key,
+        value: &Value,
+    ) -> Result<(), AllocError>
+        requires live { IsLive self.old }
+        requires sought { IsSought (pseudokey, key.now) (records_of self.old) spot }
+        ensures ok { OnOk result (self.new ≡ with_records (with_record (record { pseudokey = pseudokey; key = key.now; value = value.now }) (records_of self.old)) self.old) }
         ensures err { OnErr result (self.new ≡ self.old) }
-        ensures replaces { IfSome (value_at (place_of item) (records_of self.old)) (λ old. length item.value ≤ length old → IsOk result) }
+        ensures replaces { IfSome (value_at (pseudokey, key.now) (records_of self.old)) (λ old. length value.now ≤ length old → IsOk result) }
     {
         match self {
-            Page::Live { records, .. } => records.put(item),
+            Page::Live { records, .. } => records.put_at(spot, pseudokey, key, value),
             Page::Forward { .. } => unreachable!(),
         }
     }
 
-    /// Takes the record of a key with this pseudokey out of a live page, and answers its value, or
-    /// `None` where there is none. It takes no memory.
-    pub fn remove(&mut self, pseudokey: u64, key: &Key) -> Option<Value>
-        requires { IsLive self.old }
-        ensures old { result ≡ value_at (pseudokey, key.now) (records_of self.old) }
-        ensures others { self.new ≡ with_records (without_place (pseudokey, key.now) (records_of self.old)) self.old }
+    /// Takes the record of a spot out of a live page. It takes no memory.
+    pub fn remove_at(&mut self, spot: Spot)
+        requires live { IsLive self.old }
+        requires there { spot.index < length (records_of self.old) }
+        requires spot { IsSpot (records_of self.old) spot }
+        ensures { self.new ≡ with_records (remove (records_of self.old) spot.index) self.old }
     {
         match self {
-            Page::Live { records, .. } => records.remove(pseudokey, key),
+            Page::Live { records, .. } => records.remove_at(spot),
             Page::Forward { .. } => unreachable!(),
         }
     }

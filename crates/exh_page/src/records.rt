@@ -1,11 +1,12 @@
-ghost use Rattle.std.specs.Prelude.{◌≡◌, ◌≤◌, [], ◌∷◌, ◌++◌, ◌↔◌, length, slice_get, IsTrue, IsOk, IfSome, IfOk, OnOk, OnErr};
+ghost use Rattle.std.specs.Prelude.{◌≡◌, ◌<◌, ◌≤◌, [], ◌∷◌, ◌++◌, ◌↔◌, length, remove, slice_get, IsTrue, IsOk, IfSome, IfOk, OnOk, OnErr};
 ghost use Rattle.std.specs.Iterator.{YieldsFirst, item_count};
 ghost use Rattle.exh_page.specs.Place.{place_of};
-ghost use Rattle.exh_page.specs.Records.{IsRising, value_at, with_record, without_place};
+ghost use Rattle.exh_page.specs.Records.{IsRising, value_at, with_record};
 ghost use Rattle.exh_page.specs.Page.{begun_by};
+ghost use Rattle.exh_page.specs.Search.{IsSought, IsSpot};
 
 use crate::packed_records::PackedRecords;
-use crate::{Key, Record, Value};
+use crate::{Key, Record, Spot, Value};
 use exh_prefix::Prefix;
 use std::alloc::{AllocError, Global};
 use std::marker::Model;
@@ -46,7 +47,8 @@ impl Records {
         ensures ok { OnOk result (self.new ≡ self.old ++ item.now ∷ []) }
         ensures err { OnErr result (self.new ≡ self.old) }
     {
-        self.packed.insert(self.packed.len(), item)
+        self.packed
+            .insert(self.packed.end(), item.pseudokey, &item.key, &item.value)
     }
 
     /// How many records there are.
@@ -77,7 +79,7 @@ impl Records {
     {
         RecordsIter {
             packed: &self.packed,
-            next: 0,
+            next: self.packed.first(),
         }
     }
 
@@ -86,9 +88,18 @@ impl Records {
     pub fn find(&self, pseudokey: u64, key: &Key) -> Option<Value>
         ensures { result ≡ value_at (pseudokey, key.now) self.now }
     {
+        self.seek(pseudokey, key).1
+    }
+
+    /// The spot of the record of a key with this pseudokey, and its value. Where no record has both,
+    /// `Err` of the spot where it would stand, and `None`. It takes no memory.
+    pub fn seek(&self, pseudokey: u64, key: &Key) -> (Result<Spot, Spot>, Option<Value>)
+        ensures spot { IsSought (pseudokey, key.now) self.now result.0 }
+        ensures value { result.1 ≡ value_at (pseudokey, key.now) self.now }
+    {
         match self.packed.search(pseudokey, key) {
-            Ok(at) => Some(self.packed.value(at)),
-            Err(_) => None,
+            Ok(spot) => (Ok(spot), Some(self.packed.value(spot))),
+            Err(spot) => (Err(spot), None),
         }
     }
 
@@ -101,33 +112,40 @@ impl Records {
         ensures err { OnErr result (self.new ≡ self.old) }
         ensures replaces { IfSome (value_at (place_of item) self.old) (λ old. length item.value ≤ length old → IsOk result) }
     {
-        match self.packed.search(item.pseudokey, &item.key) {
-            Ok(at) => {
-                let old = self.packed.value(at);
-                self.packed.replace(at, &item)?;
-                Ok(Some(old))
-            }
-            Err(at) => {
-                self.packed.insert(at, &item)?;
-                Ok(None)
-            }
-        }
+        let (spot, old) = self.seek(item.pseudokey, &item.key);
+        self.put_at(spot, item.pseudokey, &item.key, &item.value)?;
+        Ok(old)
     }
 
-    /// Takes out the record of a key with this pseudokey, and answers its value, or `None` where
-    /// there is none. It takes no memory.
-    pub fn remove(&mut self, pseudokey: u64, key: &Key) -> Option<Value>
-        ensures old { result ≡ value_at (pseudokey, key.now) self.old }
-        ensures others { self.new ≡ without_place (pseudokey, key.now) self.old }
+    /// Puts a record at the spot that a search for its key came to, without searching again. Only a
+    /// new record, or a value longer than the one it replaces, may need memory: where that is
+    /// refused, an `AllocError`, the records are as before.
+    pub fn put_at(
+        &mut self,
+        spot: Result<Spot, Spot>,
+        pseudokey: u64,
+        key: &Key,
+        value: &Value,
+    ) -> Result<(), AllocError>
+        requires { IsSought (pseudokey, key.now) self.old spot }
+        ensures ok { OnOk result (self.new ≡ with_record (record { pseudokey = pseudokey; key = key.now; value = value.now }) self.old) }
+        ensures err { OnErr result (self.new ≡ self.old) }
+        ensures replaces { IfSome (value_at (pseudokey, key.now) self.old) (λ old. length value.now ≤ length old → IsOk result) }
     {
-        match self.packed.search(pseudokey, key) {
-            Ok(at) => {
-                let old = self.packed.value(at);
-                self.packed.remove(at);
-                Some(old)
-            }
-            Err(_) => None,
+        match spot {
+            Ok(spot) => self.packed.replace(spot, pseudokey, key, value)?,
+            Err(spot) => self.packed.insert(spot, pseudokey, key, value)?,
         }
+        Ok(())
+    }
+
+    /// Takes out the record of a spot. It takes no memory.
+    pub fn remove_at(&mut self, spot: Spot)
+        requires there { spot.index < length self.old }
+        requires spot { IsSpot self.old spot }
+        ensures { self.new ≡ remove self.old spot.index }
+    {
+        self.packed.remove(spot);
     }
 
     /// The records whose pseudokeys a prefix begins, in their order (Fagin et al. 1979). It takes
@@ -165,16 +183,19 @@ impl Records {
 #[derive(Drop)]
 pub struct RecordsIter<'a> {
     packed: &'a PackedRecords,
-    next: usize,
+    next: Spot,
 }
 
 impl<'a> Model for RecordsIter<'a> {
     ghost use Rattle.std.specs.Prelude.{List, drop};
     ghost use Rattle.exh_page.specs.declared.record.Record.{Record};
+    ghost use Rattle.exh_page.specs.Search.{IsSpot};
 
     ghost Value = { List Record };
 
-    ghost view = { λ a. drop a.next a.packed.now };
+    ghost view = { λ a. drop a.next.index a.packed.now };
+
+    ghost invariant = { λ a. IsSpot a.packed.now a.next };
 }
 
 impl<'a> Iterator for RecordsIter<'a> {
@@ -185,11 +206,11 @@ impl<'a> Iterator for RecordsIter<'a> {
     ghost remaining = { item_count (λ records. records) };
 
     fn next(&mut self) -> Option<Record> {
-        if self.next >= self.packed.len() {
+        if self.next.index >= self.packed.len() {
             return None;
         }
-        let item = self.packed.get(self.next);
-        self.next += 1;
-        item
+        let item = self.packed.record(self.next);
+        self.next = self.packed.after(self.next);
+        Some(item)
     }
 }

@@ -38,12 +38,20 @@ impl<const N: usize> ShortBytes<N> {
         if bytes.len() > N {
             return None;
         }
+        Some(ShortBytes::of(bytes))
+    }
+
+    /// These bytes.
+    pub(crate) fn of(bytes: &[u8]) -> ShortBytes<N>
+        requires { length bytes.now ≤ N }
+        ensures { result ≡ bytes.now }
+    {
         let mut array = [0; N];
         array[..bytes.len()].copy_from_slice(bytes);
-        Some(ShortBytes {
+        ShortBytes {
             len: bytes.len(),
             bytes: array,
-        })
+        }
     }
 
     pub(crate) fn as_slice(&self) -> &[u8]

@@ -1,8 +1,10 @@
 ghost use Rattle.std.specs.Prelude.{◌≡◌, ◌≤◌, length, take};
+ghost use Rattle.exh_page.specs.declared.key.TheConstants.{KEY_LIMIT};
+ghost use Rattle.exh_page.specs.declared.value.TheConstants.{VALUE_LIMIT};
 ghost use Rattle.exh_page.specs.Place.{place_cmp};
 ghost use Rattle.exh_page.specs.PackedRecords.{stored_of, text_len};
 
-use crate::{Key, Record};
+use crate::Key;
 use std::cmp::Ordering;
 
 /// What is kept of a record beside its bytes: its pseudokey, and how long its key and value are.
@@ -15,13 +17,15 @@ pub(crate) struct StoredRecord {
 
 impl StoredRecord {
     /// What is kept of a record.
-    pub(crate) fn of(item: &Record) -> StoredRecord
-        ensures { result ≡ stored_of item.now }
+    pub(crate) fn of(pseudokey: u64, key: &[u8], value: &[u8]) -> StoredRecord
+        requires key { length key.now ≤ KEY_LIMIT }
+        requires value { length value.now ≤ VALUE_LIMIT }
+        ensures { result ≡ stored_of (record { pseudokey = pseudokey; key = key.now; value = value.now }) }
     {
         StoredRecord {
-            pseudokey: item.pseudokey,
-            key_len: item.key.as_bytes().len() as u8,
-            value_len: item.value.as_bytes().len() as u8,
+            pseudokey,
+            key_len: key.len() as u8,
+            value_len: value.len() as u8,
         }
     }
 
@@ -31,6 +35,7 @@ impl StoredRecord {
     {
         usize::from(self.key_len) + usize::from(self.value_len)
     }
+
     /// How the record's place compares with another: by pseudokey, then by key (exhash profile). The
     /// text begins with the record's bytes.
     pub(crate) fn cmp_place(&self, text: &[u8], pseudokey: u64, key: &Key) -> Ordering

@@ -228,21 +228,26 @@ const STEPS: [Step; 22] = [
     (Find, OTHER_TWO, None, &[LOW, HIGH]),
 ];
 
-// What a live page answers. `None` where it isn't live, or memory is refused.
+// What stood in a live page. `None` where it isn't live, or memory is refused.
 fn put(page: &mut Page, item: Record) -> Option<Option<Value>> {
-    if page.is_live() {
-        page.put(item).ok()
-    } else {
-        None
-    }
+    let Page::Live { records, .. } = page else {
+        return None;
+    };
+    let (spot, old) = records.seek(item.pseudokey, &item.key);
+    page.put_at(spot, item.pseudokey, &item.key, &item.value)
+        .ok()?;
+    Some(old)
 }
 
 fn remove(page: &mut Page, item: &Record) -> Option<Option<Value>> {
-    if page.is_live() {
-        Some(page.remove(item.pseudokey, &item.key))
-    } else {
-        None
+    let Page::Live { records, .. } = page else {
+        return None;
+    };
+    let (spot, old) = records.seek(item.pseudokey, &item.key);
+    if let Ok(spot) = spot {
+        page.remove_at(spot);
     }
+    Some(old)
 }
 
 fn answer(page: &mut Page, call: &Call, item: Record) -> Option<Option<Value>> {

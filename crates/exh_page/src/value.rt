@@ -40,6 +40,16 @@ impl Value {
         }
     }
 
+    /// The value of these bytes.
+    pub(crate) fn of(bytes: &[u8]) -> Value
+        requires { length bytes.now ≤ VALUE_LIMIT }
+        ensures { result ≡ bytes.now }
+    {
+        Value {
+            bytes: ShortBytes::of(bytes),
+        }
+    }
+
     /// The value's bytes, 0 to 128 of them.
     pub fn as_bytes(&self) -> &[u8]
         ensures bytes { result.now ≡ self.now }

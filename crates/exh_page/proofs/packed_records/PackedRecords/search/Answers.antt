@@ -1,4 +1,4 @@
-use Rattle.std.proofs.Common.{◌+◌, length, ap, subst, arith}
+use Rattle.std.proofs.Common.{◌+◌, length, sym, ap, subst, arith}
 use Rattle.exh_page.specs.Search.{IsGap}
 use Rattle.exh_page.proofs.PackedReads.{as_many, before_packed, bytes_from, found_packed, gap_packed, key_inside, packed_as, start_added, start_inside}
 use Rattle.exh_page.proofs.Searched.{gap_at_end}
@@ -17,17 +17,17 @@ cmp_place-requires c =
     let text = bytes_from packed c.deref.result.now c.loop-i.i c.loop-i.start c.deref.ensures.value c.loop-i.invariant.start_of in
     key_inside packed c.deref-stored-items.result.now c.loop-i.i _ _ c.deref-stored-items.ensures.value c.loop-i-test.true text
 
-pub returns-in-Equal-clause-found : goal.returns-in-Equal-clause-found
-returns-in-Equal-clause-found c =
+pub returns-in-Equal : goal.returns-in-Equal
+returns-in-Equal c =
     let packed = packed_as c.self.invariant c.self.view_is in
     let text = bytes_from packed c.deref.result.now c.loop-i.i c.loop-i.start c.deref.ensures.value c.loop-i.invariant.start_of in
-    found_packed packed _ _ c.loop-i.i _ _ c.deref-stored-items.ensures.value c.loop-i-test.true text c.loop-i.invariant.before c.requires c.in-Equal.ensures
+    (c.loop-i.invariant.start_of, found_packed packed _ _ c.loop-i.i _ _ c.deref-stored-items.ensures.value c.loop-i-test.true text c.loop-i.invariant.before c.requires c.in-Equal.ensures)
 
-pub returns-in-Greater-clause-gap : goal.returns-in-Greater-clause-gap
-returns-in-Greater-clause-gap c =
+pub returns-in-Greater : goal.returns-in-Greater
+returns-in-Greater c =
     let packed = packed_as c.self.invariant c.self.view_is in
     let text = bytes_from packed c.deref.result.now c.loop-i.i c.loop-i.start c.deref.ensures.value c.loop-i.invariant.start_of in
-    gap_packed packed _ _ c.loop-i.i _ _ c.deref-stored-items.ensures.value c.loop-i-test.true text c.loop-i.invariant.before c.requires c.in-Greater.ensures
+    (c.loop-i.invariant.start_of, gap_packed packed _ _ c.loop-i.i _ _ c.deref-stored-items.ensures.value c.loop-i-test.true text c.loop-i.invariant.before c.requires c.in-Greater.ensures)
 
 pub overflow_add-start : goal.overflow_add-start
 overflow_add-start c =
@@ -44,9 +44,9 @@ loop-i-preserved c =
       before = before_packed packed _ _ c.loop-i.i _ _ c.deref-stored-items.ensures.value c.loop-i-test.true text c.loop-i.invariant.before c.in-Less.ensures;
     }
 
-pub returns-clause-gap : goal.returns-clause-gap
-returns-clause-gap c =
+pub returns : goal.returns
+returns c =
     let packed = packed_as c.self.invariant c.self.view_is in
     let many = as_many packed in
     let same = ap length c.deref-stored-items.ensures.value in
-    subst (IsGap _ c.args.self.now) (omega arith) (gap_at_end _ c.args.self.now c.loop-i.i (omega arith) c.loop-i.invariant.before)
+    (c.end.ensures.spot, subst (IsGap _ c.args.self.now) (sym c.end.ensures.index) (gap_at_end _ c.args.self.now c.loop-i.i (omega arith) c.loop-i.invariant.before))

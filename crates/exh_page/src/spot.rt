@@ -1,0 +1,8 @@
+/// Where a record stands among others, or where it would.
+#[derive(Clone, Copy, Debug, PartialEq, Eq)]
+pub struct Spot {
+    /// How many records stand before it.
+    pub(crate) index: usize,
+    /// How many bytes the keys and values of these have.
+    pub(crate) start: usize,
+}
