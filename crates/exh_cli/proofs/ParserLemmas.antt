@@ -1,6 +1,6 @@
 -- Which words the program's parser takes, and which command it then meets.
-use Rattle.std.proofs.Common.{◌≡◌, ◌∙◌, ℕ, Bool, true, false, List, [], ◌∷◌, Option, Some, None, refl, sym, ap, subst, codes, length, cond, slice_index_or, is_some}
-use Rattle.std.specs.Prelude.{Box, fold, slice_get, option_map, ◌↔◌, IsSome}
+use Rattle.std.proofs.Common.{◌≡◌, ◌∙◌, ℕ, Bool, true, false, List, [], ◌∷◌, Option, Some, None, Result, Ok, Err, IfErr, refl, sym, ap, subst, codes, length, cond, slice_index_or, is_some, inl, inr}
+use Rattle.std.specs.Prelude.{◌⊎◌, ◌≢◌, Box, IsErrAnd, find, fold, slice_get, option_map, ◌↔◌, IsSome}
 use Rattle.std.specs.Box.{box_value}
 use Rattle.std.specs.Option.{option_map_or}
 use Rattle.std.specs.Str.{bytes_eq, chars}
@@ -8,17 +8,21 @@ use Rattle.std.proofs.lemmas.Slice.Eq.{bytes_eq-Decides}
 use Rattle.clap.specs.declared.parser.matches.ArgMatches.{ArgMatches}
 use Rattle.clap.specs.declared.parser.matches.SubCommand.{SubCommand}
 use Rattle.clap.specs.declared.parser.matches.ArgMatches.TheViews.{out-ArgMatches, out-SubCommand}
-use Rattle.clap.specs.Words.{App, HasMatchesOf, Kinds, Rule, Shape, Text, fault_of, is_simple, is_simple_and_free, new_app, subcommand_name_of, subcommand_of, subcommand_rows, with_subcommand}
+use Rattle.clap.specs.Words.{App, HasKind, HasMatchesOf, IsAmong, Kinds, Rule, Shape, Text, fault_of, is_simple, is_simple_and_free, kind_of, new_app, subcommand_name_of, subcommand_of, subcommand_rows, with_subcommand}
 use Rattle.clap.specs.Kinds.{or_else}
 use Rattle.clap.specs.Lexer.{long_of, short_of}
-use Rattle.clap.specs.Simple.{built, entered, filled_from, help_rule, names_of, new_shape, on_top}
-use Rattle.clap.specs.Walk.{Held, Names, Walk, after_flag, bundle_met, bundle_step, finished, has_long, has_short, idle, long_or_other, nothing_held, plain, settled, short_or_plain, subcommand_met, subcommand_or_other, value, walk_from, walked}
+use Rattle.clap.specs.Simple.{built, entered, filled_from, help_rule, names_of, new_shape, on_top, version_rule}
+use Rattle.clap.specs.Walk.{Held, Names, Walk, after_flag, arg_by_index, arg_by_long, arg_by_short, bundle_met, bundle_step, finished, idle, long_or_other, nothing_held, plain, settled, short_or_plain, subcommand_met, subcommand_or_other, value, walk_from, walked}
 use Rattle.clap.specs.Faults.{built_fault, bundle_fault, bundle_step_fault, check_fault, defaults_fault, entered_fault, flag_word_fault, flags_fault, level_fault, long_fault, other_fault, settle_fault, short_fault, step_fault, turn_fault}
+use Rattle.clap.specs.declared.error.Error.{Error}
+use Rattle.clap.specs.declared.error.kind.ErrorKind.TheVariants as kind
 use Rattle.clap.proofs.OnLiterals.{clap_on_literals}
 use Rattle.clap.proofs.WalkLemmas.{both, walk_stopped}
 use Rattle.clap.proofs.FaultLemmas.{stopped_fault}
-use Rattle.exh_cli.specs.Job.{command_of, job_named, serve_named}
+use Rattle.exh_cli.specs.Fault.{IsFaultOf, TellsVersion}
+use Rattle.exh_cli.specs.Job.{AskForVersion, command_of, job_named, serve_named}
 use Rattle.exh_cli.specs.Parser.{ReadsJobs}
+use Rattle.exh_cli.specs.declared.fault.CliFault.{CliFault}
 use Rattle.exh_cli.specs.declared.job.Job.{Job}
 use Rattle.exh_cli.specs.declared.job.Job.TheVariants.{Serve}
 
@@ -28,7 +32,7 @@ abbrev pub serve : Shape
 serve = new_shape (codes "serve")
 
 abbrev pub bare_program : App
-bare_program = on_top (λ s. record s { subcommand_required = true; arg_required_else_help = true }) (new_app (codes "exhash"))
+bare_program = on_top (λ s. record s { has_version = true; subcommand_required = true; arg_required_else_help = true }) (new_app (codes "exhash"))
 
 abbrev pub program : App
 program = with_subcommand bare_program serve
@@ -36,6 +40,19 @@ program = with_subcommand bare_program serve
 is_exact : is_simple_and_free program ≡ true
 unfolding clap_on_literals
 is_exact = refl
+
+-- its flags, and those of `serve`
+abbrev flags : List Rule
+flags = filled_from 1 (help_rule ∷ version_rule ∷ [])
+
+abbrev serve_flags : List Rule
+serve_flags = filled_from 1 (help_rule ∷ [])
+
+abbrev help : Rule
+help = slice_index_or flags 0 help_rule
+
+abbrev version : Rule
+version = slice_index_or flags 1 version_rule
 
 -- ---- errors
 
@@ -62,15 +79,13 @@ agreed None [] h = absurd h
 agreed None (k ∷ ks) h = (λ none. cc, λ some. cc)
 agreed (Some job) kinds h = (λ none. refl, λ some. h)
 
--- ---- a word at a command whose one argument is the help flag
+-- ---- a word at a command whose flags ask for help or for the version
 
-abbrev flags : List Rule
-flags = filled_from 1 (help_rule ∷ [])
+-- what a name may stand for among them
+abbrev IsAsking : Option Rule → Type 0
+IsAsking found = (found ≡ None) ⊎ (found ≡ Some help) ⊎ (found ≡ Some version)
 
-abbrev help : Rule
-help = slice_index_or flags 0 help_rule
-
-module _ (s : Shape) (word : Text) where
+module _ (s : Shape) (flags : List Rule) (asking : (p : Rule → Bool) → IsAsking (find p flags)) (none_placed : arg_by_index flags 1 ≡ None) (word : Text) where
   abbrev level : Shape
   level = record s { rules = flags }
 
@@ -100,22 +115,25 @@ module _ (s : Shape) (word : Text) where
 
   -- a word that is no flag is one too many
   stray_fails : (leaf : Bool) → s.is_leaf ≡ leaf → Fails (step_fault level 1 nothing_held value)
-  stray_fails true e = rw e tt
-  stray_fails false e = rw e tt
+  stray_fails true e = rw (none_placed, e) tt
+  stray_fails false e = rw (none_placed, e) tt
 
-  -- a flag is unknown, or calls for help
-  long_fails : (known : Bool) (v : Option Text) → Fails (long_fault flags s.args_override_self (cond known (Some help) None) v nothing_held)
-  long_fails true (Some v) = tt
-  long_fails true None = tt
-  long_fails false v = tt
+  -- a flag is unknown, or asks for help or the version
+  long_fails : (v : Option Text) (found : Option Rule) → IsAsking found → Fails (long_fault flags s.args_override_self found v nothing_held)
+  long_fails v found (inl none) = subst (λ f. Fails (long_fault flags s.args_override_self f v nothing_held)) (sym none) tt
+  long_fails (Some v) found (inr (inl asks)) = subst (λ f. Fails (long_fault flags s.args_override_self f (Some v) nothing_held)) (sym asks) tt
+  long_fails None found (inr (inl asks)) = subst (λ f. Fails (long_fault flags s.args_override_self f None nothing_held)) (sym asks) tt
+  long_fails (Some v) found (inr (inr asks)) = subst (λ f. Fails (long_fault flags s.args_override_self f (Some v) nothing_held)) (sym asks) tt
+  long_fails None found (inr (inr asks)) = subst (λ f. Fails (long_fault flags s.args_override_self f None nothing_held)) (sym asks) tt
 
-  short_fails : (known : Bool) (rest : Text) (next : Held → Kinds) → Fails (short_fault flags s.args_override_self (cond known (Some help) None) rest nothing_held next)
-  short_fails true rest next = tt
-  short_fails false rest next = tt
+  short_fails : (rest : Text) (next : Held → Kinds) (found : Option Rule) → IsAsking found → Fails (short_fault flags s.args_override_self found rest nothing_held next)
+  short_fails rest next found (inl none) = subst (λ f. Fails (short_fault flags s.args_override_self f rest nothing_held next)) (sym none) tt
+  short_fails rest next found (inr (inl asks)) = subst (λ f. Fails (short_fault flags s.args_override_self f rest nothing_held next)) (sym asks) tt
+  short_fails rest next found (inr (inr asks)) = subst (λ f. Fails (short_fault flags s.args_override_self f rest nothing_held next)) (sym asks) tt
 
   by_char_fails : (x : ℕ) (xs : Text) (first : Option ℕ) → Fails (by_char (x ∷ xs) first)
   by_char_fails x xs None = stray_fails s.is_leaf refl
-  by_char_fails x xs (Some c) = first_fails _ _ (short_fails (has_short help c) _ _)
+  by_char_fails x xs (Some c) = first_fails _ _ (short_fails _ _ (arg_by_short flags c) (asking _))
 
   by_short_fails : (short : Option Text) → Fails (by_short short)
   unfolding flags_fault bundle_met
@@ -124,7 +142,7 @@ module _ (s : Shape) (word : Text) where
   by_short_fails (Some (x ∷ xs)) = by_char_fails x xs (slice_get (chars (x ∷ xs)) 0)
 
   by_long_fails : (long : Option (Text × Option Text)) → Fails (by_long long)
-  by_long_fails (Some p) = first_fails _ _ (long_fails (has_long help p.0) p.1)
+  by_long_fails (Some p) = first_fails _ _ (long_fails p.1 (arg_by_long flags p.0) (asking _))
   by_long_fails None = by_short_fails (short_of word)
 
   -- any word fails but `--` and the name of a subcommand
@@ -144,6 +162,13 @@ is_name name word same = (bytes_eq-Decides name word).0 same
 abbrev leaf : Shape
 leaf = slice_index_or (built program).subs 0 serve
 
+serve_asking : (p : Rule → Bool) → IsAsking (find p serve_flags)
+serve_asking p = go (p help)
+  where
+    go : (is_help : Bool) → IsAsking (cond is_help (Some help) None)
+    go true = inr (inl refl)
+    go false = inl refl
+
 abbrev leaf_kinds : List Text → Kinds
 leaf_kinds words = level_fault leaf [] nothing_held words false []
 
@@ -151,13 +176,13 @@ one_agrees : (word : Text) (ends : Bool) → bytes_eq word (codes "--") ≡ ends
     → Agrees (cond ends (Some Serve) None) (leaf_kinds (word ∷ []))
 unfolding clap_on_literals
 one_agrees word true e = subst (λ w. leaf_kinds (w ∷ []) ≡ []) (is_end word e) refl
-one_agrees word false e = first_fails _ _ (first_fails _ _ (word_fails leaf word [] refl e))
+one_agrees word false e = first_fails _ _ (first_fails _ _ (word_fails leaf serve_flags serve_asking refl word [] refl e))
 
 two_fail : (word next : Text) (rest : List Text) (ends : Bool) → bytes_eq word (codes "--") ≡ ends
     → Fails (leaf_kinds (word ∷ next ∷ rest))
 unfolding clap_on_literals
 two_fail word next rest true e = subst (λ w. Fails (leaf_kinds (w ∷ next ∷ rest))) (is_end word e) tt
-two_fail word next rest false e = first_fails _ _ (first_fails _ _ (word_fails leaf word [] refl e))
+two_fail word next rest false e = first_fails _ _ (first_fails _ _ (word_fails leaf serve_flags serve_asking refl word [] refl e))
 
 leaf_agrees : (words : List Text) → Agrees (serve_named words) (leaf_kinds words)
 unfolding clap_on_literals
@@ -172,6 +197,14 @@ top = (built program).top
 
 abbrev names : Names
 names = names_of (built program)
+
+asking : (p : Rule → Bool) → IsAsking (find p flags)
+asking p = go (p help) (p version)
+  where
+    go : (is_help is_version : Bool) → IsAsking (cond is_help (Some help) (cond is_version (Some version) None))
+    go true is_version = inr (inl refl)
+    go false true = inr (inr refl)
+    go false false = inl refl
 
 abbrev top_kinds : List Text → Kinds
 top_kinds words = built_fault (built program) nothing_held words
@@ -213,7 +246,7 @@ unfolding clap_on_literals
 other_fails word rest true ends no_serve help e = subst (λ w. Fails (top_kinds (w ∷ rest))) (is_name (codes "help") word help) (help_fails rest)
 other_fails word rest false true no_serve no_help end = subst (λ w. Fails (top_kinds (w ∷ rest))) (is_end word end) (end_fails rest)
 other_fails word rest false false no_serve no_help no_end =
-    first_fails _ _ (first_fails _ _ (word_fails top word names (unnamed word no_serve no_help) no_end))
+    first_fails _ _ (first_fails _ _ (word_fails top flags asking refl word names (unnamed word no_serve no_help) no_end))
 
 command_agrees : (word : Text) (rest : List Text) (serves : Bool) → bytes_eq (codes "serve") word ≡ serves
     → Agrees (cond serves (serve_named rest) None) (top_kinds (word ∷ rest))
@@ -248,12 +281,19 @@ job_met [] job named = cc
 job_met (name ∷ []) job named = cc
 job_met (name ∷ command ∷ rest) job named = command_met name command rest (bytes_eq (codes "serve") command) job refl named
 
+-- ---- the version
+
+version_asked : (name : Text) → fault_of program (name ∷ codes "--version" ∷ []) ≡ kind.DisplayVersion ∷ []
+unfolding clap_on_literals
+version_asked name = refl
+
 -- the program's parser takes just the words that name a job
 pub program_reads : ReadsJobs program
 program_reads = record {
   exact = is_exact;
   takes = λ words. agreed (job_named words) (fault_of program words) (words_agree words);
   meets = job_met;
+  version = version_asked;
 }
 
 -- ---- a parse that succeeds
@@ -281,3 +321,26 @@ parse_meets parser words m reads passed matches = go (job_named words) refl ((re
     go : (job : Option Job) → job_named words ≡ job → IsSome job → (job : Job) × IsJobMet words m job
     go None named some = cc
     go (Some job) named some = (job, (named, met job named))
+
+-- ---- a parse that fails
+
+module _ (parser : App) (words : List Text) (error : Error) (reads : ReadsJobs parser) (kinds : HasKind (fault_of parser words) error) where
+  is_told : IsAmong (kind_of error) (fault_of parser words) → AskForVersion words → kind_of error ≡ kind.DisplayVersion
+  is_told among asked = elim (subst (IsAmong (kind_of error)) (ap (fault_of parser) asked.1 ∙ reads.version asked.0) among) [ inl same ↦ same | inr none ↦ absurd none ]
+
+  fault_tells : (fault : CliFault) → IsFaultOf error fault → AskForVersion words → TellsVersion fault
+  fault_tells fault is asked = go kinds
+    where
+      apart : kind.DisplayVersion ≢ kind.OutOfMemory
+      apart same = cc
+
+      go : HasKind (fault_of parser words) error → TellsVersion fault
+      go (inl memory) = subst TellsVersion (sym (is.memory memory)) tt
+      go (inr among) =
+          let told = is_told among asked in
+          subst TellsVersion (sym (is.wrong (λ memory. apart (sym told ∙ memory)))) told
+
+  -- words that ask for the version are told it
+  pub version_told : {T : Type 0} (result : Result T CliFault) → IsErrAnd result (IsFaultOf error) → IfErr result (λ fault. AskForVersion words → TellsVersion fault)
+  version_told (Ok x) is = tt
+  version_told (Err fault) is = fault_tells fault is

@@ -1,5 +1,5 @@
 -- What a run printed, from what the server and the last line printed.
-use Rattle.std.proofs.Common.{ℕ, List, [], ◌++◌, Option, Result, Ok, Err, OnErr, refl, sym, subst, inl, inr}
+use Rattle.std.proofs.Common.{ℕ, List, [], Option, Result, Ok, Err, OnErr, refl, sym, subst, inl, inr}
 use Rattle.std.specs.Prelude.{◌≡◌, ◌⊎◌, IsErr, IsErrAnd}
 use Rattle.std.specs.Io.KnownBytes.{Appends}
 use Rattle.exh_stream.specs.Output.{AppendsBeginning}

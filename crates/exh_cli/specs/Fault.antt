@@ -2,7 +2,7 @@
 use Rattle.std.specs.Prelude.{◌≡◌, ◌≢◌, ⊤}
 use Rattle.clap.specs.Words.{kind_of}
 use Rattle.clap.specs.declared.error.Error.{Error}
-use Rattle.clap.specs.declared.error.kind.ErrorKind.TheVariants.{OutOfMemory}
+use Rattle.clap.specs.declared.error.kind.ErrorKind.TheVariants.{DisplayVersion, OutOfMemory}
 use Rattle.exh_cli.specs.declared.fault.CliFault.{CliFault}
 use Rattle.exh_cli.specs.declared.fault.CliFault.TheVariants.{Wrong, Memory}
 
@@ -10,6 +10,11 @@ use Rattle.exh_cli.specs.declared.fault.CliFault.TheVariants.{Wrong, Memory}
 abbrev pub IsWrong : CliFault → Type 0
 IsWrong (Wrong error) = ⊤
 IsWrong Memory = ⊥
+
+-- the program's version is told, want of memory aside
+abbrev pub TellsVersion : CliFault → Type 0
+TellsVersion (Wrong error) = kind_of error ≡ DisplayVersion
+TellsVersion Memory = ⊤
 
 -- the fault is the parser's error, where that is no want of memory
 pub record IsFaultOf (error : Error) (fault : CliFault) : Type 0 where

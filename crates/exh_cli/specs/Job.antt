@@ -1,5 +1,5 @@
 -- The job that a command line names.
-use Rattle.std.specs.Prelude.{ℕ, List, [], ◌∷◌, Option, Some, None, codes, if◌then◌else◌}
+use Rattle.std.specs.Prelude.{◌≡◌, ℕ, List, [], ◌∷◌, Option, Some, None, codes, if◌then◌else◌}
 use Rattle.std.specs.Str.{bytes_eq}
 use Rattle.exh_cli.specs.declared.job.Job.{Job}
 use Rattle.exh_cli.specs.declared.job.Job.TheVariants.{Serve}
@@ -17,6 +17,10 @@ job_named [] = None
 job_named (program ∷ []) = None
 job_named (program ∷ command ∷ rest) =
     if bytes_eq (codes "serve") command then serve_named rest else None
+
+-- words that ask for the program's version and name no job: `--version` alone behind its name
+abbrev pub AskForVersion : List (List ℕ) → Type 0
+AskForVersion words = (program : List ℕ) × (words ≡ program ∷ codes "--version" ∷ [])
 
 -- the command that asks for a job
 abbrev pub command_of : Job → List ℕ

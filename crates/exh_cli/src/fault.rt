@@ -10,7 +10,8 @@ use thiserror::Error;
 /// Why a command line gives no job.
 #[derive(Debug, Drop, Error)]
 pub enum CliFault {
-    /// The words name no job, or call for help. The text says how to write one.
+    /// The words name no job, or call for help or the version. The text says how to write one, or
+    /// tells the version.
     #[error("{0}")]
     Wrong(clap::Error),
     /// Memory ran out before the words were read.

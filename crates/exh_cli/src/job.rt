@@ -1,7 +1,7 @@
 //! What a command line asks for.
 ghost use Rattle.std.specs.Prelude.{◌≡◌, Some, None, map, IfOk, IfErr};
-ghost use Rattle.exh_cli.specs.Fault.{IsWrong};
-ghost use Rattle.exh_cli.specs.Job.{job_named};
+ghost use Rattle.exh_cli.specs.Fault.{IsWrong, TellsVersion};
+ghost use Rattle.exh_cli.specs.Job.{AskForVersion, job_named};
 
 use crate::fault::CliFault;
 use crate::parser::{SERVE, parser};
@@ -19,12 +19,14 @@ pub enum Job {
 ///
 /// # Errors
 ///
-/// `CliFault::Wrong` only where the words name no job, as in a call for help. `CliFault::Memory`
-/// may come at any words.
+/// `CliFault::Wrong` only where the words name no job, as in a call for help, or for the version,
+/// which its text then tells. `CliFault::Memory` may come at any words.
 pub fn job_of<S: AsStr>(alloc: Global, words: &[S]) -> Result<Job, CliFault>
     ensures named { IfOk result (λ job. job_named (map S.text words.now) ≡ Some job) }
     ensures wrong { IfErr result (λ fault.
         IsWrong fault → job_named (map S.text words.now) ≡ None) }
+    ensures version { IfErr result (λ fault.
+        AskForVersion (map S.text words.now) → TellsVersion fault) }
 {
     let matches = parser(alloc)?.try_get_matches_from(words)?;
     match matches.subcommand_name() {

@@ -10,6 +10,9 @@ use std::alloc::{AllocError, Global};
 /// The command that answers a script.
 pub const SERVE: &str = "serve";
 
+// The program's own, which says nothing of the formats'.
+const VERSION: &str = "0.1.0";
+
 const USAGE: &str = "exhash serve < SCRIPT
 
 Example:
@@ -64,13 +67,15 @@ Example, with what its lines print:
   hop r2                     r2 is x
 
 Exit status: 0 where the run is done, also with refused lines; 1 where it is
-refused or breaks off; 2 where the command line is wrong or asks for help.
+refused or breaks off; 2 where the command line is wrong, or asks for help or
+for the version.
 The formats are in docs/FORMATS.md.";
 
 // What holds of every command.
 const ENDS: &str = "\
 Exit status: 0 where the run is done, also with refused lines; 1 where it is
-refused or breaks off; 2 where the command line is wrong or asks for help.
+refused or breaks off; 2 where the command line is wrong, or asks for help or
+for the version.
 `exhash serve --help` has the lines of a script, docs/FORMATS.md the formats.";
 
 /// The parser of the program's command line.
@@ -83,6 +88,7 @@ pub fn parser<'a>(alloc: Global) -> Result<Command<'a>, AllocError>
         .override_usage(USAGE);
     let exhash = Command::new(alloc, "exhash")
         .about("An extendible hash file whose directory is copied to several nodes")
+        .version(VERSION)
         .after_help(ENDS)
         .override_usage(USAGE)
         .subcommand_required(true)

@@ -4,7 +4,7 @@ use Rattle.clap.specs.Words.{app_of}
 use Rattle.exh_cli.specs.Job.{command_of}
 use Rattle.exh_cli.specs.declared.job.Job.{Job}
 use Rattle.exh_cli.specs.declared.job.Job.TheVariants.{Serve}
-use Rattle.exh_cli.proofs.ParserLemmas.{parse_meets}
+use Rattle.exh_cli.proofs.ParserLemmas.{parse_meets, version_told}
 use Rattle.exh_cli.proofs.job.job_of.Goals as goal
 use Rattle.exh_cli.proofs.job.job_of.Goals.{in_default-via-in-Some+in_default, in_default-via-in_default}
 
@@ -25,3 +25,10 @@ returns-clause-named g c =
     let parse = c.in_ok-matches.ensures in
     let met = parse_meets (app_of parser) (map g.S.AsStr.text c.args.words.now) c.in_ok-matches.matches c.in_ok-parser.ensures (parse.kinds c.in_ok-parser.ensures.exact) parse.matches in
     met.1.0 ∙ ap (λ job. Some job) (only_serve met.0)
+
+pub returns-in_err-matches-clause-version : goal.returns-in_err-matches-clause-version
+returns-in_err-matches-clause-version g c =
+    let parser = c.in_ok-parser.field-0 in
+    let words = map g.S.AsStr.text c.args.words.now in
+    version_told (app_of parser) words c.in_err-matches.field-0.0 c.in_ok-parser.ensures (c.in_err-matches.ensures.kinds c.in_ok-parser.ensures.exact)
+    c.from_residual-in_err-matches.result c.from_residual-in_err-matches.ensures.1
