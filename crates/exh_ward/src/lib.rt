@@ -11,6 +11,7 @@ pub use laws::{
     hops_have_outcomes, merges_are_computed, merges_have_outcomes, one_hop, sharers_begin,
     splits_are_computed, splits_have_outcomes,
 };
+pub use page_line::PageLine;
 pub use reply::Reply;
 pub use ward::{WARD_BITS_LIMIT, Ward, first_page};
 pub use ward_fault::WardFault;
@@ -25,6 +26,7 @@ mod journal_entry;
 mod laws;
 mod left_half;
 mod page_index;
+mod page_line;
 mod reply;
 mod sight;
 mod stored_entry;
