@@ -2,6 +2,7 @@ ghost use Rattle.std.specs.Prelude.{◌≡◌, ◌≤◌, ◌^◌, ℕ, Option, 
 ghost use Rattle.exh_prefix.specs.declared.prefix.TheConstants.{LIMIT};
 ghost use Rattle.exh_page.specs.declared.page.Page.{Page};
 ghost use Rattle.exh_legal.specs.Pages.{IsAt};
+ghost use Rattle.exh_ward.specs.PageLine.{line_of_page};
 ghost use Rattle.exh_ward.specs.SplitStep.{PageRefused};
 ghost use Rattle.exh_ward.specs.Told.{IsStoreFault};
 ghost use Rattle.exh_ward.specs.WardFault.{CountsFailures};
@@ -12,8 +13,8 @@ ghost use Rattle.exh_route.specs.FirstLive.{lead_of, IsFirstLive, IsLivePage};
 use exh_frames::Pages;
 use exh_keyer::Keyer;
 use exh_legal::pages_are_few;
-use exh_page::{Page, PageNo};
-use exh_ward::{Ward, WardFault};
+use exh_page::PageNo;
+use exh_ward::{PageLine, Ward, WardFault};
 
 // Where a page leads on to.
 #[derive(Clone, Copy)]
@@ -35,8 +36,8 @@ struct FirstLive {
 
 /// How many moves a page is from the answer for a pseudokey: the forwarding pages on the way to the
 /// first live page, and the live pages whose low bound is above that one's and at most the pseudokey
-/// (exhash profile). It reads those pages and two more at most. Refused: `NoPage`; at any point
-/// `Memory` and `Page`. The ward is as before.
+/// (exhash profile). It reads those pages and two more at most, and copies none. Refused: `NoPage`;
+/// at any point `Memory` and `Page`. The ward is as before.
 pub fn distance<P: Pages + Drop, K: Keyer>(
     ward: &mut Ward<P, K>,
     page: PageNo,
@@ -145,18 +146,19 @@ fn read_lead<P: Pages + Drop, K: Keyer>(
     ensures failures { CountsFailures result ward.old.failures ward.new.failures }
     ensures sound { IsSoundWard K.pseudokey_of ward.new }
 {
-    let page = ward.page(number)?;
-    Ok(lead_from(&page))
+    let line = ward.page_line(number)?;
+    Ok(lead_from(&line))
 }
 
-fn lead_from(page: &Page) -> Lead
-    ensures { result ≡ lead_of page.now }
+// Where a page with this line leads on to.
+fn lead_from(line: &PageLine) -> Lead
+    ensures { (page : Page) → line.now ≡ line_of_page page → result ≡ lead_of page }
 {
-    match page {
-        Page::Live { prefix, right, .. } => Lead::Right {
+    match line {
+        PageLine::Live { prefix, right, .. } => Lead::Right {
             low: prefix.low(),
             right: *right,
         },
-        Page::Forward { target, .. } => Lead::Target(*target),
+        PageLine::Forward { target, .. } => Lead::Target(*target),
     }
 }

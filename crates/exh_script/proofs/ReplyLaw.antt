@@ -23,7 +23,7 @@ use Rattle.exh_world.specs.declared.outcome.Outcome.{Outcome}
 use Rattle.exh_world.specs.declared.outcome.Outcome.TheVariants as outcomes
 use Rattle.exh_world.specs.declared.request.Request.{Request}
 use Rattle.exh_world.specs.declared.step_fault.StepFault.{StepFault}
-use Rattle.exh_world.specs.EffectLemmas.{on_effect}
+use Rattle.exh_world.specs.EffectLemmas.{on_effect, on_refusal}
 use Rattle.exh_script.specs.Answer.{hop_answer, outcome_answer, step_answer}
 use Rattle.exh_script.specs.Grammar.{line_of}
 use Rattle.exh_script.specs.Replies.{Turn, turns_from, is_about, IsBegunLast, Enters, EnterInOrder}
@@ -131,7 +131,8 @@ module _ (world : ScriptWorld) (before : List Turn) (all : AreBegunLast before w
   goes_step event (Ok outcome) new step parsed = goes_effect event outcome new step parsed
   goes_step event (Err fault) new step parsed =
       let P : List _ → Type 0 = λ answered. Goes (Said (step_answer event (Err fault))) (map entry_of answered) new in
-      subst P (sym (none_answered world event fault)) (goes_quiet _ (λ name. refl) refl new (ap (λ (w : ScriptWorld). w.in_flight) step.0))
+      let same = on_refusal any_pseudokey world (λ w. w.in_flight ≡ world.in_flight) refl (λ number before failures found. refl) event fault new step in
+      subst P (sym (none_answered world event fault)) (goes_quiet _ (λ name. refl) refl new same)
 
   -- ---- views
 

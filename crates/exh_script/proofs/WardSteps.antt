@@ -18,6 +18,7 @@ use Rattle.exh_ward.specs.WardState.{WardState, IsSoundWard}
 use Rattle.exh_ward.specs.declared.hop.Hop.{Hop as HopOutcome}
 use Rattle.exh_ward.specs.declared.hop.Hop.TheVariants.{Done, Moved, MustSplit, Stray}
 use Rattle.exh_calls.specs.declared.journal_entry.JournalEntry.{JournalEntry}
+use Rattle.exh_ward.specs.declared.ward_fault.WardFault.TheVariants.{Page}
 use Rattle.exh_route.specs.Laws.{RunsKeepWardsSound}
 use Rattle.exh_route.specs.WardRun.{WardEvent, HopAt, SplitAt, MergeAt, WardStep}
 use Rattle.exh_world.specs.InFlight.{request_named}
@@ -31,7 +32,7 @@ use Rattle.exh_world.specs.declared.outcome.Outcome.{Outcome}
 use Rattle.exh_world.specs.declared.outcome.Outcome.TheVariants.{Hopped}
 use Rattle.exh_world.specs.declared.request.Request.{Request}
 use Rattle.exh_world.specs.declared.step_fault.StepFault.{StepFault}
-use Rattle.exh_world.specs.EffectLemmas.{on_effect}
+use Rattle.exh_world.specs.EffectLemmas.{on_effect, on_refusal}
 use Rattle.exh_world.specs.ListLemmas.{set_is}
 use Rattle.exh_world.specs.RequestLemmas.{all_named}
 use Rattle.exh_script.specs.Text.{ScriptWorld}
@@ -105,6 +106,17 @@ module _ (old : ScriptWorld) where
           there = has.found;
           kept = by_step has.before has.left (event page notice) step.0;
           journal = step.1 ∙ sym (append-nil has.before.journal);
+        }) (λ number else. refl)
+
+    -- a ward counts a page out of reach
+    failure_counted : (at : ℕ) (before : WardState AnyKeyer) (failures : ℕ) → slice_get old.wards at ≡ Some before → AreWardsLeft old [] (record old { wards = slice_set old.wards at (record before { failures = failures }) })
+    failure_counted at before failures found =
+        let left : WardState AnyKeyer = record before { failures = failures } in
+        one_ward at before left found (record old { wards = slice_set old.wards at left }) refl refl refl [] (record {
+          before = before;
+          there = found;
+          kept = by_step before left (SplitAt 0 (Err Page)) refl;
+          journal = sym (append-nil before.journal);
         }) (λ number else. refl)
 
     -- ---- hops
@@ -197,4 +209,6 @@ module _ (old : ScriptWorld) where
 
       pub wards_left : (event : Event) (result : Result Outcome StepFault) (new : ScriptWorld) → Step any_pseudokey old event result new → AreWardsLeft old (map entry_of (answered_at old event result)) new
       wards_left event (Ok outcome) new step = by_effect event outcome new step
-      wards_left event (Err fault) new step = subst (AreWardsLeft old (map entry_of (answered_at old event (Err fault)))) (sym step.0) (subst (λ answered. AreWardsLeft old (map entry_of answered) old) (sym (none_answered old event fault)) itself)
+      wards_left event (Err fault) new step =
+          let P : List _ → ScriptWorld → Type 0 = λ answered. AreWardsLeft old (map entry_of answered) in
+          subst (λ answered. P answered new) (sym (none_answered old event fault)) (on_refusal any_pseudokey old (P []) itself failure_counted event fault new step)

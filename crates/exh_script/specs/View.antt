@@ -9,10 +9,12 @@ use Rattle.exh_table.specs.Below.{depth_of, leaves_listed}
 use Rattle.exh_table.specs.Table.{TableMap}
 use Rattle.exh_table.specs.declared.leaf.Leaf.{Leaf}
 use Rattle.exh_page.specs.declared.page.Page.{Page}
-use Rattle.exh_page.specs.declared.page.Page.TheVariants.{Live, Forward}
 use Rattle.exh_text.specs.Lines.{newline}
 use Rattle.exh_text.specs.Printing.{place_text}
 use Rattle.exh_ward.specs.declared.ward_fault.WardFault.TheVariants.{NoPage}
+use Rattle.exh_ward.specs.PageLine.{line_of_page}
+use Rattle.exh_ward.specs.declared.page_line.PageLine.{PageLine}
+use Rattle.exh_ward.specs.declared.page_line.PageLine.TheVariants.{Live, Forward}
 use Rattle.exh_world.specs.InFlight.{Requests}
 use Rattle.exh_world.specs.World.{WorldState, numbered, ward_of}
 use Rattle.exh_world.specs.declared.request.Request.{Request}
@@ -51,13 +53,16 @@ right_text None = codes "none"
 right_text (Some right) = decimal right
 
 -- what a page of a ward holds, or where it sends callers on to
-abbrev pub content_text : ℕ → Page → List ℕ
-content_text ward (Live prefix right records) =
-    codes " live prefix " ++ (prefix_text prefix ++ (codes " right " ++ (right_text right ++ (codes " records " ++ decimal (length records)))))
+abbrev pub content_text : ℕ → PageLine → List ℕ
+content_text ward (Live prefix right count) =
+    codes " live prefix " ++ (prefix_text prefix ++ (codes " right " ++ (right_text right ++ (codes " records " ++ decimal count))))
 content_text ward (Forward low target) = codes " forward " ++ place_text ward target
 
+abbrev pub page_line_text : ℕ → ℕ → PageLine → List ℕ
+page_line_text ward number line = on_line (codes "page " ++ (place_text ward number ++ content_text ward line))
+
 abbrev pub page_text : ℕ → ℕ → Page → List ℕ
-page_text ward number page = on_line (codes "page " ++ (place_text ward number ++ content_text ward page))
+page_text ward number page = page_line_text ward number (line_of_page page)
 
 -- ---- the requests in flight
 

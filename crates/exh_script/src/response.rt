@@ -110,11 +110,11 @@ fn push_page_shown(
     page: PageNo,
 ) -> Result<(), AllocError>
     ensures text { OnOk result (out.new.items ≡ out.old.items ++ response_text (response_to world.old (Seen (Page ward page)))) }
-    ensures same { world.new ≡ world.old }
+    ensures same { OnOk result (world.new ≡ world.old) }
     ensures sound { IsSoundWorld any_pseudokey world.new }
 {
-    match world.page(ward, page) {
-        Ok(content) => push_page(out, ward, page, &content),
+    match world.page_line(ward, page) {
+        Ok(line) => push_page(out, ward, page, &line),
         Err(StepFault::Ward(WardFault::Memory | WardFault::Page)) => Err(AllocError),
         Err(fault) => push_refusal(out, fault.into()),
     }

@@ -4,15 +4,16 @@ ghost use Rattle.exh_ward.specs.declared.ward.TheConstants.{WARD_BITS_LIMIT};
 ghost use Rattle.exh_prefix.specs.Prefix.{low_of};
 ghost use Rattle.exh_table.specs.Below.{leaves_listed};
 ghost use Rattle.exh_world.specs.World.{ward_of};
-ghost use Rattle.exh_script.specs.View.{content_text, entry_line, in_flight_text, leaf_line, page_text, request_line, right_text, shown_text};
+ghost use Rattle.exh_script.specs.View.{content_text, entry_line, in_flight_text, leaf_line, page_line_text, request_line, right_text, shown_text};
 
 use crate::answer_text::{push_copy, push_entry, push_request};
 use exh_array::Directory;
 use exh_frames::PlainPages;
 use exh_keyer::AnyKeyer;
-use exh_page::{Page, PageNo};
+use exh_page::PageNo;
 use exh_table::Table;
 use exh_text::{push_number, push_place, push_prefix, push_text};
+use exh_ward::PageLine;
 use exh_world::{World, ward_number};
 use std::alloc::AllocError;
 
@@ -70,33 +71,33 @@ pub(crate) fn push_page(
     out: &mut Vec<u8>,
     ward: u32,
     number: PageNo,
-    page: &Page,
+    line: &PageLine,
 ) -> Result<(), AllocError>
-    ensures { OnOk result (out.new.items ≡ out.old.items ++ page_text ward number page.now) }
+    ensures { OnOk result (out.new.items ≡ out.old.items ++ page_line_text ward number line.now) }
 {
     push_text(out, "page ")?;
     push_place(out, ward, u64::from(number))?;
-    push_content(out, ward, page)?;
+    push_content(out, ward, line)?;
     push_text(out, "\n")
 }
 
-fn push_content(out: &mut Vec<u8>, ward: u32, page: &Page) -> Result<(), AllocError>
-    ensures { OnOk result (out.new.items ≡ out.old.items ++ content_text ward page.now) }
+fn push_content(out: &mut Vec<u8>, ward: u32, line: &PageLine) -> Result<(), AllocError>
+    ensures { OnOk result (out.new.items ≡ out.old.items ++ content_text ward line.now) }
 {
-    match page {
-        Page::Live {
+    match line {
+        PageLine::Live {
             prefix,
             right,
-            records,
+            count,
         } => {
             push_text(out, " live prefix ")?;
             push_prefix(out, prefix)?;
             push_text(out, " right ")?;
             push_right(out, *right)?;
             push_text(out, " records ")?;
-            push_number(out, records.len() as u64)
+            push_number(out, *count as u64)
         }
-        Page::Forward { target, .. } => {
+        PageLine::Forward { target, .. } => {
             push_text(out, " forward ")?;
             push_place(out, ward, u64::from(*target))
         }

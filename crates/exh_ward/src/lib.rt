@@ -6,6 +6,7 @@ pub use laws::{
     answers_keep_legal, hops_are_computed, hops_have_outcomes, merges_are_computed,
     merges_have_outcomes, one_hop, splits_are_computed, splits_have_outcomes,
 };
+pub use page_line::PageLine;
 pub use ward::{WARD_BITS_LIMIT, Ward, first_page};
 pub use ward_fault::WardFault;
 
@@ -15,6 +16,7 @@ mod hop;
 mod laws;
 mod left_half;
 mod page_index;
+mod page_line;
 mod sight;
 #[cfg(test)]
 mod tests;

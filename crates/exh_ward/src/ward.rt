@@ -13,6 +13,7 @@ ghost use Rattle.exh_legal.specs.Numbers.{number_at, next_notice};
 ghost use Rattle.exh_legal.specs.Pages.{IsAt, ward_prefix};
 ghost use Rattle.exh_calls.specs.Call.{key_of};
 ghost use Rattle.exh_ward.specs.HopTable.{HopOf};
+ghost use Rattle.exh_ward.specs.PageLine.{line_of_page};
 ghost use Rattle.exh_ward.specs.Sight.{SightIn};
 ghost use Rattle.exh_ward.specs.SplitStep.{AreHalvesOf, IsSplitStep, PageRefused, SplitRefused};
 ghost use Rattle.exh_ward.specs.Told.{IsChangedTo, IsNextNotice, IsStoreFault, IsTold};
@@ -24,7 +25,7 @@ use crate::answer::answer;
 use crate::halves::Halves;
 use crate::page_index::PageIndex;
 use crate::sight::Sight;
-use crate::{Hop, WardFault};
+use crate::{Hop, PageLine, WardFault};
 use exh_calls::{Base, Call, Journal};
 use exh_frames::Pages;
 use exh_keyer::Keyer;
@@ -394,6 +395,22 @@ impl<P: Pages + Drop, K: Keyer> Ward<P, K> {
             return Err(WardFault::NoPage);
         }
         Ok(self.store.get(number)?)
+    }
+
+    /// What is told of the page of this number, which is read in place. Refused: `NoPage`; at any
+    /// point `Memory` and `Page`. Then the ward is as before.
+    pub fn page_line(&mut self, number: PageNo) -> Result<PageLine, WardFault>
+        ensures line { IfOk result (λ line. (page : Page) × IsAt self.old.pages number page × (line ≡ line_of_page page)) }
+        ensures refused { IfErr result (PageRefused self.old.pages number) }
+        ensures ok { IfOk result (λ _. self.new ≡ self.old) }
+        ensures err { OnErr result (IsUnchanged self.old self.new) }
+        ensures failures { CountsFailures result self.old.failures self.new.failures }
+        ensures sound { IsSoundWard K.pseudokey_of self.new }
+    {
+        if number >= self.store.count() {
+            return Err(WardFault::NoPage);
+        }
+        Ok(PageLine::of(self.store.lend(number)?))
     }
 
     /// The calls that were answered, in order, with their callers and replies: a history from the

@@ -23,6 +23,7 @@ pub mod RunWords
 pub mod MappedLists
 pub mod WardsLeft
 pub mod FailureCounted
+pub mod FaultsCounted
 pub mod WardChanges
 pub mod CopyArrays
 pub mod CopySteps

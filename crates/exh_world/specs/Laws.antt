@@ -1,5 +1,5 @@
 -- Laws of worlds.
-use Rattle.std.specs.Prelude.{◌≡◌, ⊤, ◌⊎◌, ℕ, ◌^◌, ◌<◌, ◌≤◌, List, map, slice_get, Some, All, Result, Ok, Err}
+use Rattle.std.specs.Prelude.{◌≡◌, ◌≢◌, ⊤, ◌⊎◌, ℕ, ◌^◌, ◌<◌, ◌≤◌, List, map, slice_get, Some, All, Result, Ok, Err}
 use Rattle.exh_ward.specs.WardState.{WardState, IsSoundWard}
 use Rattle.exh_ward.specs.declared.ward.TheConstants.{WARD_BITS_LIMIT}
 use Rattle.exh_ward.specs.declared.ward_fault.WardFault.TheVariants.{Memory, Page}
@@ -25,6 +25,18 @@ AreWardsSound {K} pseudokey_of world = (number : ℕ) (ward : WardState K) → s
 abbrev pub StepsKeepWorldsSound : {K : Type 0} → (K → List ℕ → ℕ) → Type 0
 StepsKeepWorldsSound {K} pseudokey_of = (old : WorldState K) (event : Event) (result : Result Outcome StepFault) (new : WorldState K)
     → IsSoundWorld pseudokey_of old → Step pseudokey_of old event result new → AreWardsSound pseudokey_of new → IsSoundWorld pseudokey_of new
+
+-- how often each ward couldn't reach a page
+abbrev pub failures_in : {K : Type 0} → WorldState K → List ℕ
+failures_in world = map (λ ward. ward.failures) world.wards
+
+-- a page out of reach is answered only where the ward that the event reaches into counts it, and no other answer comes with another count
+pub record IsCounted {K : Type 0} (old : WorldState K) (event : Event) (result : Result Outcome StepFault) (new : WorldState K) : Type 0 where
+  pub real : result ≡ Err (Ward Page) → (number : ℕ) × ReachesInto old event number × CountsFailure old number new
+  pub only : result ≢ Err (Ward Page) → failures_in new ≡ failures_in old
+
+abbrev pub PageFaultsAreCounted : {K : Type 0} → (K → List ℕ → ℕ) → Type 0
+PageFaultsAreCounted {K} pseudokey_of = (old : WorldState K) (event : Event) (result : Result Outcome StepFault) (new : WorldState K) → Step pseudokey_of old event result new → IsCounted old event result new
 
 -- a notice that the step issued has a number of 32 bits
 abbrev pub HasNumberOfWord : Result Outcome StepFault → Type 0

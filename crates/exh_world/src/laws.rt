@@ -1,6 +1,6 @@
 //! What holds of every step and every run of a world. Each function does nothing.
 
-ghost use Rattle.exh_world.specs.Laws.{NewWorldsAreSound, RunsCarryTheHeadline, StepsAreComputed, StepsHaveOutcomes, StepsKeepWorldsSound};
+ghost use Rattle.exh_world.specs.Laws.{NewWorldsAreSound, PageFaultsAreCounted, RunsCarryTheHeadline, StepsAreComputed, StepsHaveOutcomes, StepsKeepWorldsSound};
 
 use exh_calls::sharers_begin;
 use exh_keyer::Keyer;
@@ -21,8 +21,14 @@ pub fn steps_keep_worlds_sound<K: Keyer>()
     targets_lead_on();
 }
 
+/// A step answers that a page is out of reach only where the ward that its event reaches into counts it;
+/// only hops, splits and merges reach into one. No other step changes a ward's count.
+pub fn page_faults_are_counted<K: Keyer>()
+    ensures { PageFaultsAreCounted K.pseudokey_of }
+{}
+
 /// A step of a sound world, as a function, gives what it is as a relation, unless it is refused for want
-/// of memory or of a page.
+/// of memory, or of a page, which its ward has counted.
 pub fn steps_are_computed<K: Keyer>()
     ensures { StepsAreComputed K.pseudokey_of }
 {

@@ -10,8 +10,8 @@ pub use headline_laws::{
     same_notices_give_same_tables,
 };
 pub use laws::{
-    new_worlds_are_sound, runs_carry_the_headline, steps_are_computed, steps_have_outcomes,
-    steps_keep_worlds_sound,
+    new_worlds_are_sound, page_faults_are_counted, runs_carry_the_headline, steps_are_computed,
+    steps_have_outcomes, steps_keep_worlds_sound,
 };
 pub use outcome::Outcome;
 pub use request::Request;

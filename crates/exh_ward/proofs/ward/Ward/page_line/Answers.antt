@@ -1,0 +1,12 @@
+use Rattle.std.proofs.Common.{refl}
+use Rattle.exh_ward.proofs.KeptSteps.{kept_read}
+use Rattle.exh_ward.proofs.ward.Ward.page_line.Goals as goal
+
+pub invariant_of-self : goal.invariant_of-self
+invariant_of-self g c = kept_read c.self.invariant _ c.lend.follows.holds-at-none.2 _ _ _ c.lend.follows.holds-at-none.0 refl
+
+pub returns-in_err-lend-clause-sound : goal.returns-in_err-lend-clause-sound
+returns-in_err-lend-clause-sound g c = (invariant_of-self g c).sound
+
+pub invariant_of-self-2 : goal.invariant_of-self-2
+invariant_of-self-2 g c = kept_read c.self.invariant _ c.lend.follows.holds-at-none.2 _ _ _ c.lend.follows.holds-at-none.0 refl
