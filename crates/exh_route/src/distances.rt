@@ -2,9 +2,7 @@ ghost use Rattle.std.specs.Prelude.{◌≡◌, ◌≤◌, ◌^◌, ℕ, Option, 
 ghost use Rattle.exh_prefix.specs.declared.prefix.TheConstants.{LIMIT};
 ghost use Rattle.exh_page.specs.declared.page.Page.{Page};
 ghost use Rattle.exh_legal.specs.Pages.{IsAt};
-ghost use Rattle.exh_ward.specs.SplitStep.{PageRefused};
-ghost use Rattle.exh_ward.specs.Told.{IsStoreFault};
-ghost use Rattle.exh_ward.specs.WardFault.{CountsFailures};
+ghost use Rattle.exh_ward.specs.WardFault.{PageRefused, IsStoreFault, CountsFailures};
 ghost use Rattle.exh_ward.specs.WardState.{IsSoundWard, IsUnchanged};
 ghost use Rattle.exh_route.specs.Distance.{IsDistance, live_between};
 ghost use Rattle.exh_route.specs.FirstLive.{lead_of, IsFirstLive, IsLivePage};

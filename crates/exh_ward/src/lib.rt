@@ -9,15 +9,10 @@ pub use laws::{
 pub use ward::{WARD_BITS_LIMIT, Ward, first_page};
 pub use ward_fault::WardFault;
 
-mod answer;
-mod halves;
 mod hop;
 mod laws;
-mod left_half;
 mod page_index;
-mod sight;
 #[cfg(test)]
 mod tests;
-mod union;
 mod ward;
 mod ward_fault;

@@ -7,7 +7,7 @@ use Rattle.exh_prefix.specs.Prefix.{Begins}
 use Rattle.exh_legal.specs.Pages.{ward_prefix}
 use Rattle.exh_calls.specs.Call.{key_of}
 use Rattle.exh_ward.specs.HopTable.{HopOf}
-use Rattle.exh_ward.specs.Told.{IsStoreFault}
+use Rattle.exh_ward.specs.WardFault.{IsStoreFault}
 use Rattle.exh_ward.specs.WardState.{WardState, IsSoundWard, IsUnchanged, LeavesAfter, own_prefix}
 use Rattle.exh_ward.specs.declared.hop.Hop.{Hop}
 use Rattle.exh_ward.specs.declared.ward_fault.WardFault.{WardFault}

@@ -6,7 +6,8 @@ use Rattle.std.proofs.lemmas.Option.{slice_get_read}
 use Rattle.exh_notice.specs.declared.notice.Notice.{Notice}
 use Rattle.exh_page.specs.declared.record.Record.{Record}
 use Rattle.exh_ward.specs.WardState.{WardState, IsSoundWard, IsUnchanged}
-use Rattle.exh_ward.specs.MergeStep.{IsLeftChild, IsMergeStep, MergeRefused}
+use Rattle.exh_ward.specs.MergeStep.{IsLeftChild, IsMergeStep}
+use Rattle.exh_ward.specs.WardFault.{MergeRefused}
 use Rattle.exh_ward.specs.SplitStep.{IsSplitStep}
 use Rattle.exh_ward.specs.declared.ward_fault.WardFault.{WardFault}
 use Rattle.exh_ward.specs.declared.ward_fault.WardFault.TheVariants.{NoPage, NotLive, NotFull, AtLimit, NoBuddy, BuddySplit, TooMany, Worn, Memory, Page}

@@ -3,7 +3,7 @@ ghost use Rattle.std.specs.Map.Iter.{ShowsInOrder, deref_pair};
 ghost use Rattle.exh_array.specs.Pointers.{HasArrayOf};
 ghost use Rattle.exh_legal.specs.Pages.{IsAt};
 ghost use Rattle.exh_ward.specs.WardState.{WardState};
-ghost use Rattle.exh_ward.specs.SplitStep.{PageRefused};
+ghost use Rattle.exh_ward.specs.WardFault.{PageRefused};
 ghost use Rattle.exh_ward.specs.declared.ward.TheConstants.{WARD_BITS_LIMIT};
 ghost use Rattle.exh_world.specs.Sound.{IsSoundWorld};
 ghost use Rattle.exh_world.specs.Step.{IsChangeRefused};

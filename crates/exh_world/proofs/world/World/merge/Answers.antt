@@ -1,5 +1,6 @@
 use Rattle.std.proofs.Common.{◌≡◌, None, slice_get, inl, refl, subst, Ok}
-use Rattle.exh_ward.specs.MergeStep.{IsMergeStep, MergeRefused}
+use Rattle.exh_ward.specs.MergeStep.{IsMergeStep}
+use Rattle.exh_ward.specs.WardFault.{MergeRefused}
 use Rattle.exh_world.specs.declared.event.Event.TheVariants.{Merge}
 use Rattle.exh_world.specs.declared.outcome.Outcome.TheVariants.{Changed}
 use Rattle.exh_world.specs.World.{WorldState}

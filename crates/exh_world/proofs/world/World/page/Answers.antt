@@ -1,6 +1,6 @@
 use Rattle.std.proofs.Common.{◌≡◌, ◌∙◌, None, slice_get, refl, sym, subst, Result, Ok, Err}
 use Rattle.std.specs.Prelude.{IfErr, IsErr, IsErrAnd}
-use Rattle.exh_ward.specs.SplitStep.{PageRefused}
+use Rattle.exh_ward.specs.WardFault.{PageRefused}
 use Rattle.exh_ward.specs.WardState.{WardState}
 use Rattle.exh_world.specs.Kept.{uncounted}
 use Rattle.exh_world.specs.Step.{IsChangeRefused}

@@ -1,5 +1,6 @@
 use Rattle.std.proofs.Common.{◌≡◌, None, slice_get, inl, refl, subst, Ok}
-use Rattle.exh_ward.specs.SplitStep.{IsSplitStep, SplitRefused}
+use Rattle.exh_ward.specs.SplitStep.{IsSplitStep}
+use Rattle.exh_ward.specs.WardFault.{SplitRefused}
 use Rattle.exh_ward.specs.WardState.{WardState}
 use Rattle.exh_world.specs.declared.event.Event.TheVariants.{Split}
 use Rattle.exh_world.specs.declared.outcome.Outcome.TheVariants.{Changed}
