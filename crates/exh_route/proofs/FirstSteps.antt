@@ -11,7 +11,7 @@ use Rattle.exh_page.specs.declared.page.Page.TheVariants.{Live, Forward}
 use Rattle.exh_page.specs.Page.{IsLive, low_bound}
 use Rattle.exh_legal.specs.Laws.{PagesAreFew}
 use Rattle.exh_legal.specs.Pages.{IsAt, AreLinked, bare}
-use Rattle.exh_ward.specs.SplitStep.{PageRefused}
+use Rattle.exh_ward.specs.WardFault.{PageRefused}
 use Rattle.exh_ward.specs.WardState.{WardState, IsSound, IsUnchanged, own_prefix}
 use Rattle.exh_ward.specs.declared.ward_fault.WardFault.{WardFault}
 use Rattle.exh_ward.specs.declared.ward_fault.WardFault.TheVariants.{NoPage, Memory, Page as OutOfReach}

@@ -1,23 +1,32 @@
-pub mod HopFunction
-pub mod StoredPages
-pub mod IndexSeen
-pub mod RecordCount
-pub mod Home
-pub mod HomeAfter
-pub mod OwnPrefix
-pub mod KeptSteps
-pub mod Sights
-pub mod AnswerSteps
-pub mod NewWard
-pub mod HalvesSteps
-pub mod TableSince
-pub mod ChangeSteps
-pub mod SplitSteps
-pub mod MergeSteps
-pub mod PlacedPages
-pub mod SplitFunction
-pub mod MergeFunction
-pub mod SplitOutcome
-pub mod MergeOutcome
+-- a new ward is sound
+pub mod NewWardsAreSound
 pub mod Worn
+-- a ward's own prefix, the index of its pages, the notices above an index
+pub mod OwnPrefix
+pub mod IndexSeen
 pub mod NoticesAbove
+-- hops: a call's home answers what the map machine does, and its pages stay legal
+pub mod StoredPages
+pub mod RecordCount
+pub mod HomeReplies
+pub mod AnswersKeepLegal
+-- hops: what a call meets is what its hop comes to, and what an answer leaves
+pub mod SightsAreHops
+pub mod AnswersAreLeft
+pub mod HopsAreComputed
+-- each step keeps the ward sound, and what a ward keeps of its fields
+pub mod StepsKeepSound
+-- splits and merges: a change of pages is told by its notice
+pub mod TableSince
+pub mod ChangesAreTold
+-- splits
+pub mod HalvesOfPages
+pub mod SplitsAreSteps
+-- merges
+pub mod MergesAreSteps
+-- splits and merges as functions
+pub mod PlacedPages
+pub mod SplitsAreComputed
+pub mod MergesAreComputed
+pub mod SplitsHaveOutcomes
+pub mod MergesHaveOutcomes

@@ -40,8 +40,8 @@ use Rattle.exh_ward.specs.Kept.{IsKept}
 use Rattle.exh_ward.specs.PageIndex.{IndexMap, IsIndexOf}
 use Rattle.exh_ward.specs.WardState.{WardState}
 use Rattle.exh_calls.specs.declared.journal_entry.JournalEntry.{JournalEntry}
-use Rattle.exh_ward.proofs.ChangeSteps.{index_grown}
-use Rattle.exh_ward.proofs.NewWard.{no_entries, no_pages}
+use Rattle.exh_ward.proofs.ChangesAreTold.{index_grown}
+use Rattle.exh_ward.proofs.NewWardsAreSound.{no_entries, no_pages}
 
 -- ---- the prefixes
 

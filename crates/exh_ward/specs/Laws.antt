@@ -11,11 +11,11 @@ use Rattle.exh_calls.specs.MapMachine.{leading, reply_of, map_after}
 use Rattle.exh_calls.specs.History.{IsHistory, map_left}
 use Rattle.exh_ward.specs.HopTable.{HopOf, hop_of, pages_after}
 use Rattle.exh_ward.specs.MergeFunction.{merge_of, ward_after_merge}
-use Rattle.exh_ward.specs.MergeStep.{IsMergeStep, MergeRefused}
+use Rattle.exh_ward.specs.MergeStep.{IsMergeStep}
+use Rattle.exh_ward.specs.WardFault.{MergeRefused, SplitRefused, IsStoreFault}
 use Rattle.exh_legal.specs.Pages.{IsLegal, map_of}
 use Rattle.exh_ward.specs.SplitFunction.{split_of, ward_after_split}
-use Rattle.exh_ward.specs.SplitStep.{IsSplitStep, SplitRefused}
-use Rattle.exh_ward.specs.Told.{IsStoreFault}
+use Rattle.exh_ward.specs.SplitStep.{IsSplitStep}
 use Rattle.exh_ward.specs.WardState.{WardState, IsSoundWard}
 use Rattle.exh_calls.specs.declared.call.Call.{Call}
 use Rattle.exh_ward.specs.declared.hop.Hop.{Hop}

@@ -1,17 +1,15 @@
 -- What a merge of a ward's page comes to.
-use Rattle.std.specs.Prelude.{◌≡◌, ⊤, ◌⊎◌, ℕ, ◌+◌, ◌-◌, ◌^◌, ◌<◌, ◌≤◌, Bool, true, false, List, [], ◌∷◌, ◌++◌, length, Option}
+use Rattle.std.specs.Prelude.{◌≡◌, ◌⊎◌, ℕ, ◌≤◌, Bool, true, false, List, [], ◌∷◌, ◌++◌, length, Option}
 use Rattle.exh_notice.specs.declared.entry.Kind.TheVariants.{Merge}
 use Rattle.exh_notice.specs.declared.notice.Notice.{Notice}
 use Rattle.exh_table.specs.Table.{table_with}
-use Rattle.exh_page.specs.declared.page.Page.TheVariants.{Live, Forward}
+use Rattle.exh_page.specs.declared.page.Page.TheVariants.{Live}
 use Rattle.exh_page.specs.declared.record.Record.{Record}
 use Rattle.exh_legal.specs.Change.{IsMerge}
 use Rattle.exh_legal.specs.Laws.{KeepsPlaces}
-use Rattle.exh_legal.specs.Numbers.{next_notice, number_at}
+use Rattle.exh_legal.specs.Numbers.{next_notice}
 use Rattle.exh_legal.specs.Pages.{IsAt, map_of}
 use Rattle.exh_ward.specs.WardState.{WardState, own_prefix}
-use Rattle.exh_ward.specs.declared.ward_fault.WardFault.{WardFault}
-use Rattle.exh_ward.specs.declared.ward_fault.WardFault.TheVariants.{NoPage, NotLive, NoBuddy, BuddySplit, TooMany, Worn, Memory, Page as OutOfReach}
 
 -- the page at a number is the live left child of a prefix, which is no shorter than the ward's
 pub record IsLeftChild {K : Type 0} (ward : WardState K) (at : ℕ) (prefix : List Bool) (records : List Record) : Type 0 where
@@ -26,18 +24,6 @@ IsBuddy ward prefix records = (number : ℕ) × (link : Option ℕ) × IsAt ward
 -- the live page can't be a left half: its prefix is the ward's own, or ends in 1
 abbrev pub HasNoBuddy : {K : Type 0} → WardState K → List Bool → Type 0
 HasNoBuddy ward prefix = (prefix ≡ own_prefix ward) ⊎ ((parent : List Bool) × (prefix ≡ parent ++ true ∷ []))
-
--- the refusals of a merge, each where it comes, which is where those before it in this order don't; memory and a page out of reach at any point
-abbrev pub MergeRefused : {K : Type 0} → WardState K → ℕ → WardFault → Type 0
-MergeRefused ward at NoPage = length ward.pages ≤ at
-MergeRefused ward at NotLive = (low target : ℕ) × IsAt ward.pages at (Forward low target)
-MergeRefused ward at NoBuddy = (prefix : List Bool) × (link : Option ℕ) × (records : List Record) × IsAt ward.pages at (Live prefix link records) × HasNoBuddy ward prefix
-MergeRefused ward at BuddySplit = (prefix : List Bool) × (records : List Record) × IsLeftChild ward at prefix records × ((others : List Record) → IsBuddy ward prefix others → ⊥)
-MergeRefused ward at (TooMany sum) = (prefix : List Bool) × (records others : List Record) × IsLeftChild ward at prefix records × IsBuddy ward prefix others × (sum ≡ length records + length others) × (ward.cap < sum)
-MergeRefused ward at Worn = (prefix : List Bool) × (records others : List Record) × IsLeftChild ward at prefix records × IsBuddy ward prefix others × (length records + length others ≤ ward.cap) × (number_at ward.table prefix ≡ 2 ^ 32 - 1)
-MergeRefused ward at Memory = ⊤
-MergeRefused ward at OutOfReach = ⊤
-MergeRefused ward at fault = ⊥
 
 -- the page took in its right buddy, and its notice is the next at their parent; nothing else changed
 pub record IsMergeStep {K : Type 0} (old : WardState K) (at : ℕ) (notice : Notice) (new : WardState K) : Type 0 where

@@ -9,8 +9,8 @@ use Rattle.exh_ward.specs.HopTable.{IsReached, LeadsTo}
 use Rattle.exh_ward.specs.PageAnswer.{OverflowsPage}
 use Rattle.exh_legal.specs.Pages.{IsAt, IsHome}
 use Rattle.exh_calls.specs.declared.call.Call.{Call}
-use Rattle.exh_ward.specs.declared.sight.Sight.{Sight}
-use Rattle.exh_ward.specs.declared.sight.Sight.TheVariants.{Beyond, Leads, NoWay, Overflows, Home}
+use Rattle.exh_ward.specs.declared.ward.hop.sight.Sight.{Sight}
+use Rattle.exh_ward.specs.declared.ward.hop.sight.Sight.TheVariants.{Beyond, Leads, NoWay, Overflows, Home}
 
 -- a live page that isn't the pseudokey's home, and has no right link
 abbrev pub IsDeadEnd : Page → ℕ → Type 0

@@ -1,13 +1,11 @@
 -- A change of a ward's pages and the notice that tells of it.
-use Rattle.std.specs.Prelude.{◌≡◌, ⊤, ℕ, List, ◌++◌, ◌∷◌, []}
+use Rattle.std.specs.Prelude.{◌≡◌, ℕ, List, ◌++◌, ◌∷◌, []}
 use Rattle.exh_notice.specs.declared.notice.Notice.{Notice}
 use Rattle.exh_table.specs.Table.{table_with}
 use Rattle.exh_page.specs.declared.page.Page.{Page}
 use Rattle.exh_legal.specs.Laws.{IsChanged}
 use Rattle.exh_legal.specs.Numbers.{next_notice}
 use Rattle.exh_ward.specs.WardState.{WardState, own_prefix}
-use Rattle.exh_ward.specs.declared.ward_fault.WardFault.{WardFault}
-use Rattle.exh_ward.specs.declared.ward_fault.WardFault.TheVariants.{Memory, Page as OutOfReach}
 
 -- the ward's next notice, at its prefix and of its kind
 abbrev pub IsNextNotice : {K : Type 0} → WardState K → Notice → Type 0
@@ -20,9 +18,3 @@ IsChangedTo pseudo ward notice pages = IsChanged ward.cap pseudo (own_prefix war
 -- the ward with these pages and the notice
 abbrev pub IsTold : {K : Type 0} → WardState K → Notice → List Page → WardState K → Type 0
 IsTold old notice pages new = new ≡ record old { pages = pages; notices = old.notices ++ notice ∷ []; table = table_with old.table notice }
-
--- the refusals that may come at any point
-abbrev pub IsStoreFault : WardFault → Type 0
-IsStoreFault Memory = ⊤
-IsStoreFault OutOfReach = ⊤
-IsStoreFault fault = ⊥

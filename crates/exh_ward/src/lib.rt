@@ -10,16 +10,11 @@ pub use page_line::PageLine;
 pub use ward::{WARD_BITS_LIMIT, Ward, first_page};
 pub use ward_fault::WardFault;
 
-mod answer;
-mod halves;
 mod hop;
 mod laws;
-mod left_half;
 mod page_index;
 mod page_line;
-mod sight;
 #[cfg(test)]
 mod tests;
-mod union;
 mod ward;
 mod ward_fault;

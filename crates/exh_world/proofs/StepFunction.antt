@@ -10,10 +10,10 @@ use Rattle.exh_table.specs.TableOrder.{table_join}
 use Rattle.exh_legal.specs.Numbers.{AreNumbered}
 use Rattle.exh_ward.specs.Laws.{HopsAreComputed, SplitsAreComputed, MergesAreComputed}
 use Rattle.exh_ward.specs.MergeFunction.{merge_of, ward_after_merge}
-use Rattle.exh_ward.specs.MergeStep.{IsMergeStep, MergeRefused}
+use Rattle.exh_ward.specs.MergeStep.{IsMergeStep}
+use Rattle.exh_ward.specs.WardFault.{MergeRefused, SplitRefused, IsStoreFault}
 use Rattle.exh_ward.specs.SplitFunction.{split_of, ward_after_split}
-use Rattle.exh_ward.specs.SplitStep.{IsSplitStep, SplitRefused}
-use Rattle.exh_ward.specs.Told.{IsStoreFault}
+use Rattle.exh_ward.specs.SplitStep.{IsSplitStep}
 use Rattle.exh_ward.specs.WardState.{WardState, LeavesAfter}
 use Rattle.exh_calls.specs.declared.call.Call.{Call}
 use Rattle.exh_ward.specs.declared.hop.Hop.{Hop}

@@ -3,8 +3,7 @@ use Rattle.std.proofs.Common.{◌≡◌, ℕ, ◌<◌, List, length, slice_get, 
 use Rattle.std.specs.Prelude.{◌≢◌, slice_set, slice_index_or, IsErr, IsErrAnd}
 use Rattle.std.proofs.lemmas.Option.{slice_get_read}
 use Rattle.exh_notice.specs.declared.notice.Notice.{Notice}
-use Rattle.exh_ward.specs.Told.{IsStoreFault}
-use Rattle.exh_ward.specs.WardFault.{CountsFailures}
+use Rattle.exh_ward.specs.WardFault.{IsStoreFault, CountsFailures}
 use Rattle.exh_ward.specs.WardState.{WardState, IsSoundWard, IsUnchanged}
 use Rattle.exh_ward.specs.declared.ward_fault.WardFault.{WardFault}
 use Rattle.exh_ward.specs.declared.ward_fault.WardFault.TheVariants.{Memory, Page}

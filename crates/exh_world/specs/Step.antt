@@ -7,8 +7,9 @@ use Rattle.exh_table.specs.Walk.{walk_of}
 use Rattle.exh_calls.specs.Call.{key_of}
 use Rattle.exh_ward.specs.HopTable.{HopOf}
 use Rattle.exh_ward.specs.WardState.{WardState, LeavesAfter}
-use Rattle.exh_ward.specs.MergeStep.{IsMergeStep, MergeRefused}
-use Rattle.exh_ward.specs.SplitStep.{IsSplitStep, SplitRefused}
+use Rattle.exh_ward.specs.MergeStep.{IsMergeStep}
+use Rattle.exh_ward.specs.WardFault.{MergeRefused, SplitRefused}
+use Rattle.exh_ward.specs.SplitStep.{IsSplitStep}
 use Rattle.exh_calls.specs.declared.call.Call.{Call}
 use Rattle.exh_ward.specs.declared.hop.Hop.{Hop}
 use Rattle.exh_ward.specs.declared.ward_fault.WardFault.{WardFault}

@@ -1,20 +1,22 @@
 ghost use Rattle.std.specs.Prelude.{◌≡◌, IfOk, IfErr, OnErr};
-ghost use Rattle.exh_ward.specs.MergeStep.{IsMergeStep, MergeRefused};
-ghost use Rattle.exh_ward.specs.Told.{IsStoreFault};
-ghost use Rattle.exh_ward.specs.Union.{FitTogether, AreUnited};
-ghost use Rattle.exh_ward.specs.WardFault.{CountsFailures};
+ghost use Rattle.exh_ward.specs.MergeStep.{IsMergeStep};
+ghost use Rattle.exh_ward.specs.WardFault.{MergeRefused, IsStoreFault, CountsFailures};
+ghost use Rattle.exh_ward.specs.JoinedPage.{FitTogether, AreJoined};
 ghost use Rattle.exh_ward.specs.WardState.{IsSoundWard, IsUnchanged};
 
+use self::joined_page::{forward_from_right, join_pages};
+use self::left_half::LeftHalf;
 use super::Ward;
 use crate::WardFault;
-use crate::left_half::LeftHalf;
-use crate::union::{forward_from_right, union_of};
 use exh_frames::Pages;
 use exh_keyer::Keyer;
 use exh_legal::{left_children_link_to_siblings, merges_keep_legal, pages_are_few};
 use exh_notice::{Kind, Notice};
 use exh_page::{Page, PageNo, buddies_unite};
 use exh_prefix::Prefix;
+
+mod joined_page;
+mod left_half;
 
 impl<P: Pages + Drop, K: Keyer> Ward<P, K> {
     /// Merges a live page, the left half of its parent, with the live page of the right half, and
@@ -35,7 +37,7 @@ impl<P: Pages + Drop, K: Keyer> Ward<P, K> {
         if self.number_at(parent) == u32::MAX {
             return Err(WardFault::Worn);
         }
-        let merged = self.union(page, parent, right)?;
+        let merged = self.join(page, parent, right)?;
         let forward = forward_from_right(parent, page);
         let notice = self.next_notice(parent, Kind::Merge);
         self.change_two(page, merged, right, forward, &notice)?;
@@ -66,9 +68,9 @@ impl<P: Pages + Drop, K: Keyer> Ward<P, K> {
     }
 
     // The page of the parent that a merge makes of a page and its right buddy.
-    fn union(&mut self, page: PageNo, parent: Prefix, right: PageNo) -> Result<Page, WardFault>
+    fn join(&mut self, page: PageNo, parent: Prefix, right: PageNo) -> Result<Page, WardFault>
         requires { FitTogether self.old page parent right }
-        ensures united { IfOk result (AreUnited self.old (K.pseudokey_of self.old.keyer) page parent right) }
+        ensures united { IfOk result (AreJoined self.old (K.pseudokey_of self.old.keyer) page parent right) }
         ensures ok { IfOk result (λ _. self.new ≡ self.old) }
         ensures err { OnErr result (IsUnchanged self.old self.new) }
         ensures fault { IfErr result IsStoreFault }
@@ -78,6 +80,6 @@ impl<P: Pages + Drop, K: Keyer> Ward<P, K> {
         buddies_unite();
         pages_are_few();
         let left = self.store.get(page)?;
-        Ok(union_of(&left, self.store.lend(right)?, parent)?)
+        Ok(join_pages(&left, self.store.lend(right)?, parent)?)
     }
 }

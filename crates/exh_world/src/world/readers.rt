@@ -5,7 +5,7 @@ ghost use Rattle.exh_legal.specs.Pages.{IsAt};
 ghost use Rattle.exh_page.specs.declared.page.Page.{Page};
 ghost use Rattle.exh_ward.specs.PageLine.{line_of_page};
 ghost use Rattle.exh_ward.specs.WardState.{WardState};
-ghost use Rattle.exh_ward.specs.SplitStep.{PageRefused};
+ghost use Rattle.exh_ward.specs.WardFault.{PageRefused};
 ghost use Rattle.exh_ward.specs.declared.ward.TheConstants.{WARD_BITS_LIMIT};
 ghost use Rattle.exh_world.specs.Sound.{IsSoundWorld};
 ghost use Rattle.exh_world.specs.Step.{IsChangeRefused, LeavesRefused};

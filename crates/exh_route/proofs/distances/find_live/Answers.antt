@@ -1,5 +1,5 @@
 use Rattle.std.proofs.Common.{◌≡◌, refl, ◌∙◌, subst, arith, rules}
-use Rattle.exh_ward.specs.SplitStep.{PageRefused}
+use Rattle.exh_ward.specs.WardFault.{PageRefused}
 use Rattle.exh_route.proofs.FirstSteps.{pages_same, pages_unchanged, lead_before, linked_before, forwarded_few, refused_from, first_found, goes_forward}
 use Rattle.exh_route.proofs.distances.find_live.Goals as goal
 

@@ -15,9 +15,9 @@ use Rattle.exh_ward.specs.PageAnswer.{records_after}
 use Rattle.exh_calls.specs.declared.call.Call.{Call}
 use Rattle.exh_ward.specs.declared.hop.Hop.TheVariants.{Done}
 use Rattle.exh_calls.specs.declared.reply.Reply.{Reply}
-use Rattle.exh_ward.proofs.Home.{AtHome, Fit, reply_is}
-use Rattle.exh_ward.proofs.HomeAfter.{left_by, records_after-left, new_legal, new_map}
-use Rattle.exh_ward.proofs.Sights.{home_live, over_by_map}
+use Rattle.exh_ward.proofs.HomeReplies.{AtHome, Fit, reply_is}
+use Rattle.exh_ward.proofs.AnswersKeepLegal.{left_by, records_after-left, new_legal, new_map}
+use Rattle.exh_ward.proofs.SightsAreHops.{home_live, over_by_map}
 use Rattle.exh_ward.proofs.laws.answers_keep_legal.Goals as goal
 
 module _ (cap : ℕ) (pseudo : List ℕ → ℕ) (ward : List Bool) (pages : List Page) (at : ℕ) (call : Call) (reply : Reply) (fit : Fit pseudo) (legal : IsLegal cap pseudo ward pages) where

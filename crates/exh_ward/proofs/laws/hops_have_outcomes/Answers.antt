@@ -1,4 +1,4 @@
-use Rattle.exh_ward.proofs.HopFunction.{has_outcome}
+use Rattle.exh_ward.proofs.HopsAreComputed.{has_outcome}
 use Rattle.exh_ward.proofs.laws.hops_have_outcomes.Goals as goal
 
 pub returns : goal.returns

@@ -1,4 +1,4 @@
-use Rattle.exh_ward.proofs.MergeFunction.{merge_refused, merge_is}
+use Rattle.exh_ward.proofs.MergesAreComputed.{merge_refused, merge_is}
 use Rattle.exh_ward.proofs.laws.merges_are_computed.Goals as goal
 
 pub returns : goal.returns

@@ -1,4 +1,4 @@
-use Rattle.exh_ward.proofs.MergeOutcome.{merge_outcome}
+use Rattle.exh_ward.proofs.MergesHaveOutcomes.{merge_outcome}
 use Rattle.exh_ward.proofs.laws.merges_have_outcomes.Goals as goal
 
 pub returns : goal.returns

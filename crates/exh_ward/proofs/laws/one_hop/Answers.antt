@@ -1,5 +1,5 @@
 use Rattle.std.proofs.Common.{sym, ◌∙◌}
-use Rattle.exh_ward.proofs.HopFunction.{hop_is_hop_of}
+use Rattle.exh_ward.proofs.HopsAreComputed.{hop_is_hop_of}
 use Rattle.exh_ward.proofs.laws.one_hop.Goals as goal
 
 pub returns : goal.returns

@@ -1,4 +1,4 @@
-use Rattle.exh_ward.proofs.SplitFunction.{split_refused, split_is}
+use Rattle.exh_ward.proofs.SplitsAreComputed.{split_refused, split_is}
 use Rattle.exh_ward.proofs.laws.splits_are_computed.Goals as goal
 
 pub returns : goal.returns

@@ -1,4 +1,4 @@
-use Rattle.exh_ward.proofs.SplitOutcome.{split_outcome}
+use Rattle.exh_ward.proofs.SplitsHaveOutcomes.{split_outcome}
 use Rattle.exh_ward.proofs.laws.splits_have_outcomes.Goals as goal
 
 pub returns : goal.returns

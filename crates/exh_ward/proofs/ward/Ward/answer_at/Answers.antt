@@ -3,8 +3,8 @@ use Rattle.exh_ward.specs.HopTable.{HopOf}
 use Rattle.exh_ward.specs.WardState.{WardState}
 use Rattle.exh_ward.specs.declared.hop.Hop.TheVariants.{Done}
 use Rattle.exh_calls.specs.declared.journal_entry.JournalEntry.{JournalEntry}
-use Rattle.exh_ward.proofs.AnswerSteps.{few_pages, answers_here, written_taken, replied, pages_are, hop_is_done, answered_seen}
-use Rattle.exh_ward.proofs.KeptSteps.{kept_read, kept_answered}
+use Rattle.exh_ward.proofs.AnswersAreLeft.{few_pages, answers_here, written_taken, replied, pages_are, hop_is_done, answered_seen}
+use Rattle.exh_ward.proofs.StepsKeepSound.{kept_read, kept_answered}
 use Rattle.exh_ward.proofs.ward.Ward.answer_at.Goals as goal
 
 pub answer-requires-clause-taken : goal.answer-requires-clause-taken

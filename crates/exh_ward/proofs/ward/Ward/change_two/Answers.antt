@@ -6,7 +6,7 @@ use Rattle.exh_notice.specs.declared.notice.Notice.{Notice}
 use Rattle.exh_table.specs.Table.{TableMap, table_at}
 use Rattle.exh_ward.specs.Told.{IsChangedTo, IsNextNotice}
 use Rattle.exh_ward.specs.WardState.{WardState}
-use Rattle.exh_ward.proofs.ChangeSteps.{kept_told, kept_undone, index_kept, taken_back, stands, unchanged_seen}
+use Rattle.exh_ward.proofs.ChangesAreTold.{kept_told, kept_undone, index_kept, taken_back, stands, unchanged_seen}
 use Rattle.exh_ward.proofs.ward.Ward.change_two.Goals as goal
 
 pub put_back-requires : goal.put_back-requires

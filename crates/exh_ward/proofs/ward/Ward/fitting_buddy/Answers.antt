@@ -1,12 +1,12 @@
 use Rattle.std.proofs.Common.{◌≡◌, ◌<◌, length, List, Result, Ok, Err, IfErr, IsErrAnd, refl, sym, subst}
 use Rattle.exh_page.specs.declared.page.Page.{Page}
 use Rattle.exh_legal.specs.Pages.{IsAt}
-use Rattle.exh_ward.specs.MergeStep.{MergeRefused}
-use Rattle.exh_ward.specs.Union.{FitTogether}
+use Rattle.exh_ward.specs.WardFault.{MergeRefused}
+use Rattle.exh_ward.specs.JoinedPage.{FitTogether}
 use Rattle.exh_ward.specs.WardState.{WardState}
 use Rattle.exh_ward.specs.declared.ward_fault.WardFault.{WardFault}
-use Rattle.exh_ward.proofs.KeptSteps.{kept_read}
-use Rattle.exh_ward.proofs.MergeSteps.{few_at, few_left, halves_fit, no_left_half, not_beside, own_in_front, right_within}
+use Rattle.exh_ward.proofs.StepsKeepSound.{kept_read}
+use Rattle.exh_ward.proofs.MergesAreSteps.{few_at, few_left, halves_fit, no_left_half, not_beside, own_in_front, right_within}
 use Rattle.exh_ward.proofs.ward.Ward.fitting_buddy.Goals as goal
 
 failed_with : {T : Type 0} (r : Result T WardFault) (fault : WardFault) (P : WardFault → Type 0) → IsErrAnd r (λ e. e ≡ fault) → P fault → IfErr r P

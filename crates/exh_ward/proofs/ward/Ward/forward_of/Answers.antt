@@ -8,7 +8,7 @@ use Rattle.exh_legal.specs.Change.{IsForwardOf}
 use Rattle.exh_legal.specs.Growth.{IsLiveAt}
 use Rattle.exh_legal.specs.Pages.{IsAt}
 use Rattle.exh_ward.specs.WardState.{WardState}
-use Rattle.exh_ward.proofs.HalvesSteps.{found_forward}
+use Rattle.exh_ward.proofs.HalvesOfPages.{found_forward}
 use Rattle.exh_ward.proofs.ward.Ward.forward_of.Goals as goal
 
 pub returns : goal.returns

@@ -10,8 +10,8 @@ use Rattle.exh_legal.specs.Pages.{IsAt, bare}
 use Rattle.exh_ward.specs.PageIndex.{IndexMap, IsIndexOf}
 use Rattle.exh_ward.specs.Told.{IsChangedTo, IsNextNotice}
 use Rattle.exh_ward.specs.WardState.{WardState}
-use Rattle.exh_ward.proofs.AnswerSteps.{few_pages}
-use Rattle.exh_ward.proofs.ChangeSteps.{kept_told, kept_undone, index_grown, index_back, taken_back, stands, unchanged_seen, absent}
+use Rattle.exh_ward.proofs.AnswersAreLeft.{few_pages}
+use Rattle.exh_ward.proofs.ChangesAreTold.{kept_told, kept_undone, index_grown, index_back, taken_back, stands, unchanged_seen, absent}
 use Rattle.exh_ward.proofs.ward.Ward.grow.Goals as goal
 
 pub invariant_of-self-in-Err : goal.invariant_of-self-in-Err

@@ -1,11 +1,11 @@
 use Rattle.std.proofs.Common.{IfOk, IfErr, refl, subst}
 use Rattle.exh_page.specs.declared.page.Page.{Page}
 use Rattle.exh_legal.specs.Pages.{IsAt}
-use Rattle.exh_ward.specs.SplitStep.{AreHalvesOf, SplitRefused}
-use Rattle.exh_ward.specs.WardFault.{CountsFailures}
+use Rattle.exh_ward.specs.SplitStep.{AreHalvesOf}
+use Rattle.exh_ward.specs.WardFault.{SplitRefused, CountsFailures}
 use Rattle.exh_ward.specs.WardState.{WardState}
-use Rattle.exh_ward.proofs.HalvesSteps.{halves_in, refused_in, counts_same}
-use Rattle.exh_ward.proofs.KeptSteps.{kept_read}
+use Rattle.exh_ward.proofs.HalvesOfPages.{halves_in, refused_in, counts_same}
+use Rattle.exh_ward.proofs.StepsKeepSound.{kept_read}
 use Rattle.exh_ward.proofs.ward.Ward.halves.Goals as goal
 
 pub invariant_of-self : goal.invariant_of-self

@@ -2,8 +2,8 @@ use Rattle.std.proofs.Common.{ℕ, IfOk, subst}
 use Rattle.exh_ward.specs.HopTable.{HopOf}
 use Rattle.exh_ward.specs.Sight.{SightIn}
 use Rattle.exh_ward.specs.WardState.{WardState, IsSoundWard}
-use Rattle.exh_ward.specs.declared.sight.Sight.TheVariants.{Overflows}
-use Rattle.exh_ward.proofs.Sights.{hop_waits, no_dead_end}
+use Rattle.exh_ward.specs.declared.ward.hop.sight.Sight.TheVariants.{Overflows}
+use Rattle.exh_ward.proofs.SightsAreHops.{hop_waits, no_dead_end}
 use Rattle.exh_ward.proofs.ward.Ward.hop_hashed.Goals as goal
 
 pub unreachable-requires : goal.unreachable-requires

@@ -1,8 +1,8 @@
 use Rattle.std.proofs.Common.{refl, subst}
 use Rattle.exh_ward.specs.Sight.{SightIn}
 use Rattle.exh_ward.specs.WardState.{WardState}
-use Rattle.exh_ward.proofs.KeptSteps.{kept_read}
-use Rattle.exh_ward.proofs.Sights.{sight_in}
+use Rattle.exh_ward.proofs.StepsKeepSound.{kept_read}
+use Rattle.exh_ward.proofs.SightsAreHops.{sight_in}
 use Rattle.exh_ward.proofs.ward.Ward.look.Goals as goal
 
 pub invariant_of-self : goal.invariant_of-self

@@ -1,4 +1,4 @@
-use Rattle.exh_ward.proofs.NewWard.{kept_new}
+use Rattle.exh_ward.proofs.NewWardsAreSound.{kept_new}
 use Rattle.exh_ward.proofs.ward.Ward.new.Goals as goal
 
 pub invariant_of-result : goal.invariant_of-result

@@ -1,7 +1,7 @@
 use Rattle.std.proofs.Common.{ℕ, ◌-◌, ◌≤◌, ◌^◌, sym, subst}
 use Rattle.exh_prefix.specs.declared.prefix.TheConstants.{LIMIT}
 use Rattle.exh_ward.specs.WardState.{WardState}
-use Rattle.exh_ward.proofs.AnswerSteps.{most_pages}
+use Rattle.exh_ward.proofs.AnswersAreLeft.{most_pages}
 use Rattle.exh_ward.proofs.ward.Ward.page_count.Goals as goal
 
 pub returns-clause-limit : goal.returns-clause-limit

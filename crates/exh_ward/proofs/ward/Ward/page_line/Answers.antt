@@ -1,5 +1,5 @@
 use Rattle.std.proofs.Common.{refl}
-use Rattle.exh_ward.proofs.KeptSteps.{kept_read}
+use Rattle.exh_ward.proofs.StepsKeepSound.{kept_read}
 use Rattle.exh_ward.proofs.ward.Ward.page_line.Goals as goal
 
 pub invariant_of-self : goal.invariant_of-self

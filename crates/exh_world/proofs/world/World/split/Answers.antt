@@ -1,7 +1,8 @@
 use Rattle.std.proofs.Common.{◌≡◌, None, slice_get, inl, refl, subst, Ok}
 use Rattle.std.proofs.lemmas.Option.{slice_get_past}
 use Rattle.exh_notice.specs.declared.notice.Notice.{Notice}
-use Rattle.exh_ward.specs.SplitStep.{IsSplitStep, SplitRefused}
+use Rattle.exh_ward.specs.SplitStep.{IsSplitStep}
+use Rattle.exh_ward.specs.WardFault.{SplitRefused}
 use Rattle.exh_ward.specs.WardState.{WardState}
 use Rattle.exh_world.specs.Step.{IsRefused, ReachesInto, Step}
 use Rattle.exh_world.specs.World.{WorldState}

@@ -6,9 +6,9 @@ use Rattle.exh_calls.specs.declared.call.Call.{Call}
 use Rattle.exh_ward.specs.PageAnswer.{records_written, records_after, reply_by}
 use Rattle.exh_calls.specs.declared.call.Call.TheVariants.{Put, Del}
 use Rattle.exh_page.specs.declared.record.Record.{Record}
-use Rattle.exh_ward.proofs.HomeAfter.{records_after-left, put_left}
+use Rattle.exh_ward.proofs.AnswersKeepLegal.{records_after-left, put_left}
 use Rattle.exh_ward.proofs.StoredPages.{records_kept}
-use Rattle.exh_ward.proofs.answer.answer.Goals as goal
+use Rattle.exh_ward.proofs.ward.hop.answer.answer.Goals as goal
 
 pub returns-then-branch-clause-pages : goal.returns-then-branch-clause-pages
 returns-then-branch-clause-pages g c page is = c.turns_away.ensures.pages ∙ sym (records_kept _ _ page is)

@@ -24,9 +24,9 @@ use Rattle.exh_legal.specs.Pages.{IsAt, IsLegalPage}
 use Rattle.exh_ward.specs.SplitStep.{AreHalvesOf, IsSplitStep}
 use Rattle.exh_ward.specs.Told.{IsChangedTo, IsTold}
 use Rattle.exh_ward.specs.WardState.{WardState, IsSound, own_prefix}
-use Rattle.exh_ward.specs.declared.halves.Halves.{Halves}
+use Rattle.exh_ward.specs.declared.ward.split.halves.Halves.{Halves}
 use Rattle.exh_ward.specs.declared.ward.TheConstants.{WARD_BITS_LIMIT}
-use Rattle.exh_ward.proofs.KeptSteps.{well_formed}
+use Rattle.exh_ward.proofs.StepsKeepSound.{well_formed}
 use Rattle.exh_ward.proofs.StoredPages.{set_here, set_else}
 
 page_front : (front back : List Page) (place : ℕ) → place < length front → slice_get (front ++ back) place ≡ slice_get front place

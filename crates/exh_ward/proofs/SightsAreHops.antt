@@ -17,9 +17,9 @@ use Rattle.exh_calls.specs.declared.call.Call.{Call}
 use Rattle.exh_calls.specs.declared.call.Call.TheVariants.{Get, Put, Del}
 use Rattle.exh_ward.specs.declared.hop.Hop.TheVariants.{Done, MustSplit}
 use Rattle.exh_calls.specs.declared.reply.Reply.{Reply}
-use Rattle.exh_ward.specs.declared.sight.Sight.{Sight}
-use Rattle.exh_ward.specs.declared.sight.Sight.TheVariants.{Beyond, Leads, NoWay, Overflows as MustWait, Home}
-use Rattle.exh_ward.proofs.Home.{AtHome, Fit}
+use Rattle.exh_ward.specs.declared.ward.hop.sight.Sight.{Sight}
+use Rattle.exh_ward.specs.declared.ward.hop.sight.Sight.TheVariants.{Beyond, Leads, NoWay, Overflows as MustWait, Home}
+use Rattle.exh_ward.proofs.HomeReplies.{AtHome, Fit}
 
 pub same_there : (pages : List Page) (at : ℕ) (one other : Page) → IsAt pages at one → IsAt pages at other → one ≡ other
 same_there pages at one other is too = let both : Some one ≡ Some other = sym is ∙ too in cc

@@ -25,11 +25,11 @@ use Rattle.exh_calls.specs.declared.call.Call.{Call}
 use Rattle.exh_ward.specs.declared.hop.Hop.TheVariants.{Done}
 use Rattle.exh_calls.specs.declared.journal_entry.JournalEntry.{JournalEntry}
 use Rattle.exh_calls.specs.declared.reply.Reply.{Reply}
-use Rattle.exh_ward.specs.declared.sight.Sight.TheVariants.{Home}
-use Rattle.exh_ward.proofs.Home.{AtHome, Fit, reply_is}
-use Rattle.exh_ward.proofs.HomeAfter.{left_by, records_after-left, left_legal, new_map}
-use Rattle.exh_ward.proofs.KeptSteps.{well_formed}
-use Rattle.exh_ward.proofs.Sights.{same_there, answers_at, hop_done}
+use Rattle.exh_ward.specs.declared.ward.hop.sight.Sight.TheVariants.{Home}
+use Rattle.exh_ward.proofs.HomeReplies.{AtHome, Fit, reply_is}
+use Rattle.exh_ward.proofs.AnswersKeepLegal.{left_by, records_after-left, left_legal, new_map}
+use Rattle.exh_ward.proofs.StepsKeepSound.{well_formed}
+use Rattle.exh_ward.proofs.SightsAreHops.{same_there, answers_at, hop_done}
 
 pub most_pages : {K : Type 0} {pseudo : List ℕ → ℕ} {takes : Page → Type 0} {own : List Bool} {index : IndexMap} {told : ℕ} {w : WardState K} → PagesAreFew → IsKept pseudo takes own index told w → length w.pages ≤ 2 ^ (LIMIT - w.ward_bits)
 most_pages {w = w} law kept =

@@ -19,14 +19,15 @@ use Rattle.exh_legal.specs.Numbers.{next_notice, number_at}
 use Rattle.exh_legal.specs.Pages.{IsAt, AreLinked, bare}
 use Rattle.exh_ward.specs.Laws.{IsMergeOutcome}
 use Rattle.exh_ward.specs.MergeFunction.{is_live_of, buddy_number, merge_of, merged, ward_after_merge}
-use Rattle.exh_ward.specs.MergeStep.{IsLeftChild, IsBuddy, HasNoBuddy, MergeRefused, IsMergeStep}
+use Rattle.exh_ward.specs.MergeStep.{IsLeftChild, IsBuddy, HasNoBuddy, IsMergeStep}
+use Rattle.exh_ward.specs.WardFault.{MergeRefused}
 use Rattle.exh_ward.specs.PlacedPages.{with_page, ward_after}
 use Rattle.exh_ward.specs.WardState.{WardState, IsSound, own_prefix}
 use Rattle.exh_ward.specs.declared.ward_fault.WardFault.{WardFault}
 use Rattle.exh_ward.specs.declared.ward_fault.WardFault.TheVariants.{NoPage, NotLive, NoBuddy, BuddySplit, TooMany, Worn}
-use Rattle.exh_ward.proofs.MergeFunction.{last_is, live_passes, passes_live, at_page, no_page, no_left_child, split_buddy, many, worn, noticed, pages_are}
+use Rattle.exh_ward.proofs.MergesAreComputed.{last_is, live_passes, passes_live, at_page, no_page, no_left_child, split_buddy, many, worn, noticed, pages_are}
 use Rattle.exh_ward.proofs.PlacedPages.{put_here, put_else, put_length, is_first}
-use Rattle.exh_ward.proofs.SplitOutcome.{past_last}
+use Rattle.exh_ward.proofs.SplitsHaveOutcomes.{past_last}
 
 -- ---- prefixes
 

@@ -20,12 +20,13 @@ use Rattle.exh_legal.specs.Pages.{IsAt}
 use Rattle.exh_ward.specs.Laws.{IsSplitOutcome}
 use Rattle.exh_ward.specs.PlacedPages.{with_page, ward_after}
 use Rattle.exh_ward.specs.SplitFunction.{right_number, left_half, right_half, split_of, halved, ward_after_split}
-use Rattle.exh_ward.specs.SplitStep.{SplitRefused, IsSplitStep}
+use Rattle.exh_ward.specs.WardFault.{SplitRefused}
+use Rattle.exh_ward.specs.SplitStep.{IsSplitStep}
 use Rattle.exh_ward.specs.WardState.{WardState, IsSound, own_prefix}
 use Rattle.exh_ward.specs.declared.ward_fault.WardFault.{WardFault}
 use Rattle.exh_ward.specs.declared.ward_fault.WardFault.TheVariants.{NoPage, NotLive, NotFull, AtLimit}
 use Rattle.exh_ward.proofs.PlacedPages.{put_here, put_else, put_length, put_last, IsFirst, is_first}
-use Rattle.exh_ward.proofs.SplitFunction.{at_page, no_page}
+use Rattle.exh_ward.proofs.SplitsAreComputed.{at_page, no_page}
 
 -- no page is past the last
 pub past_last : {A : Type 0} (xs : List A) (number : ℕ) → slice_get xs number ≡ None → length xs ≤ number

@@ -17,8 +17,8 @@ use Rattle.exh_legal.specs.Numbers.{next_notice}
 use Rattle.exh_legal.specs.Pages.{IsAt, AreLinked, bare}
 use Rattle.exh_ward.specs.PlacedPages.{with_page, ward_after}
 use Rattle.exh_ward.specs.SplitFunction.{right_number, left_half, right_half, split_of_page, split_of, halved, ward_after_split}
-use Rattle.exh_ward.specs.SplitStep.{SplitRefusedAt, SplitRefused, IsSplitStep}
-use Rattle.exh_ward.specs.Told.{IsStoreFault}
+use Rattle.exh_ward.specs.WardFault.{SplitRefusedAt, SplitRefused, IsStoreFault}
+use Rattle.exh_ward.specs.SplitStep.{IsSplitStep}
 use Rattle.exh_ward.specs.WardState.{WardState, own_prefix}
 use Rattle.exh_ward.specs.declared.ward_fault.WardFault.{WardFault}
 use Rattle.exh_ward.specs.declared.ward_fault.WardFault.TheVariants.{NoPage, NotLive, NotFull, AtLimit, Memory, Page as OutOfReach}

@@ -1,7 +1,8 @@
 ghost use Rattle.std.specs.Prelude.{◌≡◌, ◌<◌, ◌++◌, ◌∷◌, [], length, true, false, IfOk, IfErr, Some};
 ghost use Rattle.exh_prefix.specs.declared.prefix.TheConstants.{LIMIT};
 ghost use Rattle.exh_page.specs.declared.page.Page.TheVariants.{Live};
-ghost use Rattle.exh_ward.specs.SplitStep.{AreHalvesOf, SplitRefusedAt};
+ghost use Rattle.exh_ward.specs.SplitStep.{AreHalvesOf};
+ghost use Rattle.exh_ward.specs.WardFault.{SplitRefusedAt};
 
 use crate::WardFault;
 use exh_page::{Page, PageNo, Records};

@@ -28,7 +28,7 @@ pub record IsUnionOf (left buddy : PageType) (parent : List Bool) (union : PageT
   pub is : union ≡ Live parent link (records_of left ++ others)
 
 -- the page of the halves' parent, as the store takes it
-pub record AreUnited {K : Type 0} (ward : WardState K) (pseudo : List ℕ → ℕ) (at : ℕ) (parent : List Bool) (right : ℕ) (union : PageType) : Type 0 where
+pub record AreJoined {K : Type 0} (ward : WardState K) (pseudo : List ℕ → ℕ) (at : ℕ) (parent : List Bool) (right : ℕ) (union : PageType) : Type 0 where
   pub halves : FitTogether ward at parent right
   pub is : union ≡ Live parent halves.link (halves.records ++ halves.others)
   pub formed : IsWellFormed pseudo union

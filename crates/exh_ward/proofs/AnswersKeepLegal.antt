@@ -30,7 +30,7 @@ use Rattle.exh_ward.specs.PageAnswer.{page_reply, records_after}
 use Rattle.exh_calls.specs.declared.call.Call.{Call}
 use Rattle.exh_calls.specs.declared.call.Call.TheVariants.{Get, Put, Del}
 use Rattle.exh_ward.proofs.StoredPages.{set_here, set_else, bare_set}
-use Rattle.exh_ward.proofs.Home.{AtHome, Fit, IsPut, same_test_turned, get_key, full_alike, at_limit}
+use Rattle.exh_ward.proofs.HomeReplies.{AtHome, Fit, IsPut, same_test_turned, get_key, full_alike, at_limit}
 
 -- the records after a call, by whether the page is full and the value that it has
 abbrev pub left_by : ℕ → Call → Bool → Option (List ℕ) → List Record → List Record

@@ -18,14 +18,14 @@ use Rattle.exh_legal.specs.Change.{IsMerge}
 use Rattle.exh_legal.specs.Numbers.{next_notice, number_at}
 use Rattle.exh_legal.specs.Pages.{IsAt, AreLinked, bare}
 use Rattle.exh_ward.specs.MergeFunction.{parent_of, is_left_child, is_live_of, buddy_number, merge_of_both, merge_of_page, merge_of, united, merged, ward_after_merge}
-use Rattle.exh_ward.specs.MergeStep.{IsBuddy, HasNoBuddy, MergeRefused, IsMergeStep}
+use Rattle.exh_ward.specs.MergeStep.{IsBuddy, HasNoBuddy, IsMergeStep}
+use Rattle.exh_ward.specs.WardFault.{MergeRefused, IsStoreFault}
 use Rattle.exh_ward.specs.PlacedPages.{with_page, ward_after}
-use Rattle.exh_ward.specs.Told.{IsStoreFault}
 use Rattle.exh_ward.specs.WardState.{WardState, own_prefix}
 use Rattle.exh_ward.specs.declared.ward_fault.WardFault.{WardFault}
 use Rattle.exh_ward.specs.declared.ward_fault.WardFault.TheVariants.{NoPage, NotLive, NoBuddy, BuddySplit, TooMany, Worn, Memory, Page as OutOfReach}
 use Rattle.exh_ward.proofs.PlacedPages.{both_put, number_of_one, number_of_none}
-use Rattle.exh_ward.proofs.SplitFunction.{one_of_low}
+use Rattle.exh_ward.proofs.SplitsAreComputed.{one_of_low}
 
 and_false : (b : Bool) → (b && false) ≡ false
 and_false true = refl

@@ -25,8 +25,8 @@ use Rattle.exh_calls.specs.declared.call.Call.{Call}
 use Rattle.exh_calls.specs.declared.journal_entry.JournalEntry.{JournalEntry}
 use Rattle.exh_calls.specs.declared.reply.Reply.{Reply}
 use Rattle.exh_calls.specs.HistoryLemmas.{IsHistory-push, map_left-push}
-use Rattle.exh_ward.proofs.Home.{AtHome, Fit}
-use Rattle.exh_ward.proofs.HomeAfter.{left_by, new_legal, new_map, same_bare}
+use Rattle.exh_ward.proofs.HomeReplies.{AtHome, Fit}
+use Rattle.exh_ward.proofs.AnswersKeepLegal.{left_by, new_legal, new_map, same_bare}
 
 linked_fits : (pages : List Page) (page : Page) (link : Option ℕ) → length pages < 2 ^ 32 - 1 → IsRightLink (bare pages) page link → link ≡ Some (2 ^ 32 - 1) → ⊥
 linked_fits pages page None few is so = cc

@@ -24,9 +24,9 @@ use Rattle.exh_ward.specs.Kept.{IsKept}
 use Rattle.exh_ward.specs.PageIndex.{IndexMap, IsIndexOf}
 use Rattle.exh_ward.specs.Told.{IsChangedTo, IsNextNotice}
 use Rattle.exh_ward.specs.WardState.{WardState, IsSound, own_prefix}
-use Rattle.exh_ward.proofs.HalvesSteps.{full_page_of, bare_page_of}
-use Rattle.exh_ward.proofs.KeptSteps.{kept_read}
-use Rattle.exh_ward.proofs.Sights.{same_there}
+use Rattle.exh_ward.proofs.HalvesOfPages.{full_page_of, bare_page_of}
+use Rattle.exh_ward.proofs.StepsKeepSound.{kept_read}
+use Rattle.exh_ward.proofs.SightsAreHops.{same_there}
 use Rattle.exh_ward.proofs.TableSince.{IsTableSince-push}
 
 -- ---- what is undone

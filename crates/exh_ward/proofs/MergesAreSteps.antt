@@ -22,17 +22,18 @@ use Rattle.exh_legal.specs.MapLemmas.{page_at}
 use Rattle.exh_legal.specs.Numbers.{next_notice}
 use Rattle.exh_legal.specs.Pages.{IsAt, IsLegalPage, IsWithin}
 use Rattle.exh_ward.specs.Kept.{IsKept}
-use Rattle.exh_ward.specs.MergeStep.{IsLeftChild, HasNoBuddy, MergeRefused, IsMergeStep}
+use Rattle.exh_ward.specs.MergeStep.{IsLeftChild, HasNoBuddy, IsMergeStep}
+use Rattle.exh_ward.specs.WardFault.{MergeRefused, NoLeftHalf, NotBeside}
 use Rattle.exh_ward.specs.PageIndex.{IndexMap}
 use Rattle.exh_ward.specs.Told.{IsChangedTo, IsTold}
-use Rattle.exh_ward.specs.LeftHalf.{FitsBeside, IsLeftHalf, NoLeftHalf, NotBeside}
-use Rattle.exh_ward.specs.Union.{FitTogether, IsUnionOf, AreUnited}
+use Rattle.exh_ward.specs.LeftHalf.{FitsBeside, IsLeftHalf}
+use Rattle.exh_ward.specs.JoinedPage.{FitTogether, IsUnionOf, AreJoined}
 use Rattle.exh_ward.specs.WardState.{WardState, IsSound, own_prefix}
-use Rattle.exh_ward.specs.declared.left_half.LeftHalf.{LeftHalf}
+use Rattle.exh_ward.specs.declared.ward.merge.left_half.LeftHalf.{LeftHalf}
 use Rattle.exh_ward.specs.declared.ward_fault.WardFault.{WardFault}
 use Rattle.exh_ward.specs.declared.ward_fault.WardFault.TheVariants.{NoPage, NotLive, NotFull, AtLimit, NoBuddy, BuddySplit, TooMany, Worn, Memory, Page as OutOfReach}
-use Rattle.exh_ward.proofs.KeptSteps.{well_formed}
-use Rattle.exh_ward.proofs.Sights.{same_there}
+use Rattle.exh_ward.proofs.StepsKeepSound.{well_formed}
+use Rattle.exh_ward.proofs.SightsAreHops.{same_there}
 use Rattle.exh_ward.proofs.StoredPages.{set_here, set_else}
 
 forwards : (page : Page) → (IsLive page → ⊥) → (low target : ℕ) × (page ≡ Forward low target)
@@ -173,14 +174,14 @@ module _ {K : Type 0} {pseudo : List ℕ → ℕ} {takes : Page → Type 0} {own
             let others : halves.others ≡ is.others = cc in
             is.is ∙ ap (λ link. Live parent link (records_of left ++ is.others)) (sym link) ∙ ap (λ others. Live parent halves.link (records_of left ++ others)) (sym others) ∙ ap (λ page. Live parent halves.link (records_of page ++ halves.others)) left_is
 
-        pub united : length w.pages < 2 ^ 32 - 1 → (union : Page) → IsUnionOf left buddy parent union → AreUnited w pseudo at parent right union
+        pub united : length w.pages < 2 ^ 32 - 1 → (union : Page) → IsUnionOf left buddy parent union → AreJoined w pseudo at parent right union
         united few union is =
             let same = union_is union is in
             record { halves = halves; is = same; formed = subst (IsWellFormed pseudo) (sym same) (well_merged few) }
 
 -- ---- the pages that it leaves
 
-module _ {K : Type 0} {w : WardState K} {pseudo : List ℕ → ℕ} {at : ℕ} {parent : List Bool} {twin : ℕ} {merged : Page} (is : AreUnited w pseudo at parent twin merged) where
+module _ {K : Type 0} {w : WardState K} {pseudo : List ℕ → ℕ} {at : ℕ} {parent : List Bool} {twin : ℕ} {merged : Page} (is : AreJoined w pseudo at parent twin merged) where
   abbrev halves : FitTogether w at parent twin
   halves = is.halves
 
@@ -260,7 +261,7 @@ module _ {K : Type 0} {w : WardState K} {pseudo : List ℕ → ℕ} {at : ℕ} {
       twin_formed = subst (IsWellFormed pseudo) (sym is_forward) forward_formed
 
 -- the union, where the ward is as it was
-pub still_united : {K : Type 0} (pseudokey_of : K → List ℕ → ℕ) {w now : WardState K} → w ≡ now → {at : ℕ} {parent : List Bool} {twin : ℕ} {union : Page} → AreUnited now (pseudokey_of now.keyer) at parent twin union → AreUnited w (pseudokey_of w.keyer) at parent twin union
+pub still_united : {K : Type 0} (pseudokey_of : K → List ℕ → ℕ) {w now : WardState K} → w ≡ now → {at : ℕ} {parent : List Bool} {twin : ℕ} {union : Page} → AreJoined now (pseudokey_of now.keyer) at parent twin union → AreJoined w (pseudokey_of w.keyer) at parent twin union
 still_united {K = K} pseudokey_of same {at = at} {parent = parent} {twin = twin} {union = union} is =
-    let P : WardState K → Type 0 = λ w. AreUnited w (pseudokey_of w.keyer) at parent twin union in
+    let P : WardState K → Type 0 = λ w. AreJoined w (pseudokey_of w.keyer) at parent twin union in
     subst P (sym same) is

@@ -1,12 +1,12 @@
 use Rattle.std.proofs.Common.{◌<◌, length, List, refl, sym, subst}
 use Rattle.exh_page.specs.declared.page.Page.{Page}
 use Rattle.exh_legal.specs.Pages.{IsAt}
-use Rattle.exh_ward.specs.Union.{FitTogether, AreUnited}
+use Rattle.exh_ward.specs.JoinedPage.{FitTogether, AreJoined}
 use Rattle.exh_ward.specs.WardState.{WardState}
-use Rattle.exh_ward.proofs.AnswerSteps.{few_pages}
-use Rattle.exh_ward.proofs.KeptSteps.{kept_read}
-use Rattle.exh_ward.proofs.MergeSteps.{buddy_within, left_within, rising, united}
-use Rattle.exh_ward.proofs.ward.Ward.union.Goals as goal
+use Rattle.exh_ward.proofs.AnswersAreLeft.{few_pages}
+use Rattle.exh_ward.proofs.StepsKeepSound.{kept_read}
+use Rattle.exh_ward.proofs.MergesAreSteps.{buddy_within, left_within, rising, united}
+use Rattle.exh_ward.proofs.ward.Ward.join.Goals as goal
 
 pub get-requires : goal.get-requires
 get-requires g c =
@@ -33,14 +33,14 @@ invariant_of-self-in_err-lend g c =
 pub returns-in_err-lend-clause-sound : goal.returns-in_err-lend-clause-sound
 returns-in_err-lend-clause-sound g c = (invariant_of-self-in_err-lend g c).sound
 
-pub union_of-requires-clause-rising : goal.union_of-requires-clause-rising
-union_of-requires-clause-rising g c =
+pub join_pages-requires-clause-rising : goal.join_pages-requires-clause-rising
+join_pages-requires-clause-rising g c =
     let P : WardState g.row.K.Denot → Type 0 = λ w. FitTogether w c.args.page c.args.parent c.args.right in
     let L : List Page → Type 0 = λ pages. IsAt pages c.args.right c.in_ok-lend.field-0.now in
     rising c.self.invariant (subst P (sym c.self.view_is) c.requires) c.in_ok-left.ensures.page (subst L c.get.ensures.pages c.in_ok-lend.ensures.page) (g.met.K.Keyer.pseudokey_fits c.self.inside.keyer) c.buddies_unite.ensures
 
-pub invariant_of-self-in_err-union_of : goal.invariant_of-self-in_err-union_of
-invariant_of-self-in_err-union_of g c =
+pub invariant_of-self-in_err-join_pages : goal.invariant_of-self-in_err-join_pages
+invariant_of-self-in_err-join_pages g c =
     let read = kept_read c.self.invariant _ c.get.ensures.takes _ _ (g.P.Pages.failures c.get.new.self) c.get.ensures.pages refl in
     kept_read read _ c.lend.follows.holds-at-none.2 _ _ _ c.lend.follows.holds-at-none.0 refl
 
@@ -54,6 +54,6 @@ returns-clause-united g c =
     let pseudokey_of = g.K.Keyer.pseudokey_of in
     let P : WardState g.row.K.Denot → Type 0 = λ w. FitTogether w c.args.page c.args.parent c.args.right in
     let L : List Page → Type 0 = λ pages. IsAt pages c.args.right c.in_ok-lend.field-0.now in
-    let Q : WardState g.row.K.Denot → Type 0 = λ w. AreUnited w (pseudokey_of w.keyer) c.args.page c.args.parent c.args.right c.in_ok-union_of.field-0 in
+    let Q : WardState g.row.K.Denot → Type 0 = λ w. AreJoined w (pseudokey_of w.keyer) c.args.page c.args.parent c.args.right c.in_ok-join_pages.field-0 in
     subst Q c.self.view_is (united c.self.invariant (subst P (sym c.self.view_is) c.requires) c.in_ok-left.ensures.page (subst L c.get.ensures.pages c.in_ok-lend.ensures.page) (g.met.K.Keyer.pseudokey_fits c.self.inside.keyer) c.buddies_unite.ensures
-    (few_pages c.pages_are_few.ensures c.self.invariant) c.in_ok-union_of.field-0 c.in_ok-union_of.ensures)
+    (few_pages c.pages_are_few.ensures c.self.invariant) c.in_ok-join_pages.field-0 c.in_ok-join_pages.ensures)

@@ -5,7 +5,8 @@ ghost use Rattle.exh_page.specs.Page.{records_of};
 ghost use Rattle.exh_page.specs.declared.page.Page.TheVariants.{Live};
 ghost use Rattle.exh_page.specs.declared.page.TheConstants.{CAP_LIMIT};
 ghost use Rattle.exh_page.specs.declared.record.Record.{Record};
-ghost use Rattle.exh_ward.specs.LeftHalf.{FitsBeside, IsLeftHalf, NoLeftHalf, NotBeside};
+ghost use Rattle.exh_ward.specs.LeftHalf.{FitsBeside, IsLeftHalf};
+ghost use Rattle.exh_ward.specs.WardFault.{NoLeftHalf, NotBeside};
 
 use crate::WardFault;
 use exh_page::{Page, PageNo};

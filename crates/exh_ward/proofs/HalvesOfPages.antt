@@ -16,10 +16,10 @@ use Rattle.exh_legal.specs.Numbers.{number_at}
 use Rattle.exh_legal.specs.Pages.{IsAt, bare}
 use Rattle.exh_ward.specs.Kept.{IsKept}
 use Rattle.exh_ward.specs.PageIndex.{IndexMap}
-use Rattle.exh_ward.specs.SplitStep.{SplitRefusedAt, SplitRefused, AreHalvesOf}
-use Rattle.exh_ward.specs.WardFault.{CountsFailures}
+use Rattle.exh_ward.specs.WardFault.{SplitRefusedAt, SplitRefused, CountsFailures}
+use Rattle.exh_ward.specs.SplitStep.{AreHalvesOf}
 use Rattle.exh_ward.specs.WardState.{WardState, own_prefix}
-use Rattle.exh_ward.specs.declared.halves.Halves.{Halves}
+use Rattle.exh_ward.specs.declared.ward.split.halves.Halves.{Halves}
 use Rattle.exh_ward.specs.declared.ward_fault.WardFault.{WardFault}
 use Rattle.exh_ward.specs.declared.ward_fault.WardFault.TheVariants.{NoPage, NotLive, NotFull, AtLimit, NoBuddy, BuddySplit, TooMany, Worn, Memory, Page as OutOfReach}
 

@@ -1,0 +1,108 @@
+ghost use Rattle.std.specs.Prelude.{◌≡◌, IfOk, IfErr, OnErr};
+ghost use Rattle.exh_prefix.specs.Prefix.{Begins};
+ghost use Rattle.exh_calls.specs.Call.{key_of};
+ghost use Rattle.exh_ward.specs.HopTable.{HopOf};
+ghost use Rattle.exh_ward.specs.Sight.{SightIn};
+ghost use Rattle.exh_ward.specs.WardFault.{IsStoreFault, CountsFailures};
+ghost use Rattle.exh_ward.specs.WardState.{IsSoundWard, IsUnchanged, LeavesAfter, own_prefix};
+
+use self::answer::answer;
+use self::sight::Sight;
+use super::Ward;
+use crate::{Hop, WardFault};
+use exh_calls::Call;
+use exh_frames::Pages;
+use exh_keyer::Keyer;
+use exh_legal::{pages_are_few, right_links_lead_on};
+use exh_page::PageNo;
+
+mod answer;
+mod sight;
+
+impl<P: Pages + Drop, K: Keyer> Ward<P, K> {
+    /// One hop of a client's call, at the page of number `at`. The ward covers the call's key. What
+    /// the hop comes to, and what it leaves, is the hop table's (exhash profile; Fagin et al. 1979
+    /// for buckets that overflow): only `Done` changes the ward, by the call's change of the map and
+    /// one entry of the journal. Where it is refused, `WardFault::Memory` or `WardFault::Page`, the
+    /// ward is as before.
+    pub fn hop(&mut self, at: PageNo, client: u32, call: &Call) -> Result<Hop, WardFault>
+        requires { Begins (own_prefix self.old) (K.pseudokey_of self.old.keyer (key_of call.now)) }
+        ensures hop { IfOk result (HopOf self.old.cap (K.pseudokey_of self.old.keyer) self.old.pages at call.now) }
+        ensures leaves { IfOk result (λ hop. LeavesAfter K.pseudokey_of self.old at client call.now hop self.new) }
+        ensures err { OnErr result (IsUnchanged self.old self.new) }
+        ensures fault { IfErr result IsStoreFault }
+        ensures failures { CountsFailures result self.old.failures self.new.failures }
+        ensures sound { IsSoundWard K.pseudokey_of self.new }
+    {
+        let pseudokey = self.keyer.pseudo(call.key().as_bytes());
+        self.hop_hashed(at, client, call, pseudokey)
+    }
+
+    /// The same hop, for a caller that has the pseudokey of the call's key at hand.
+    pub fn hop_hashed(
+        &mut self,
+        at: PageNo,
+        client: u32,
+        call: &Call,
+        pseudokey: u64,
+    ) -> Result<Hop, WardFault>
+        requires hashed { pseudokey ≡ K.pseudokey_of self.old.keyer (key_of call.now) }
+        requires covered { Begins (own_prefix self.old) pseudokey }
+        ensures hop { IfOk result (HopOf self.old.cap (K.pseudokey_of self.old.keyer) self.old.pages at call.now) }
+        ensures leaves { IfOk result (λ hop. LeavesAfter K.pseudokey_of self.old at client call.now hop self.new) }
+        ensures err { OnErr result (IsUnchanged self.old self.new) }
+        ensures fault { IfErr result IsStoreFault }
+        ensures failures { CountsFailures result self.old.failures self.new.failures }
+        ensures sound { IsSoundWard K.pseudokey_of self.new }
+    {
+        right_links_lead_on();
+        match self.look(at, call, pseudokey)? {
+            Sight::Beyond => Ok(Hop::Stray),
+            Sight::Leads(next) => Ok(Hop::Moved(next)),
+            Sight::NoWay => unreachable!(),
+            Sight::Overflows => Ok(Hop::MustSplit),
+            Sight::Home { full } => self.answer_at(at, client, call, pseudokey, full),
+        }
+    }
+
+    // Answers a call at its home page. `full`: the page has as many records as a page may.
+    fn answer_at(
+        &mut self,
+        at: PageNo,
+        client: u32,
+        call: &Call,
+        pseudokey: u64,
+        full: bool,
+    ) -> Result<Hop, WardFault>
+        requires hashed { pseudokey ≡ K.pseudokey_of self.old.keyer (key_of call.now) }
+        requires home { SightIn self.old.cap pseudokey self.old.pages at call.now (Sight.Home full) }
+        ensures hop { IfOk result (HopOf self.old.cap (K.pseudokey_of self.old.keyer) self.old.pages at call.now) }
+        ensures leaves { IfOk result (λ hop. LeavesAfter K.pseudokey_of self.old at client call.now hop self.new) }
+        ensures err { OnErr result (IsUnchanged self.old self.new) }
+        ensures fault { IfErr result IsStoreFault }
+        ensures failures { CountsFailures result self.old.failures self.new.failures }
+        ensures sound { IsSoundWard K.pseudokey_of self.new }
+    {
+        pages_are_few();
+        // Room for the entry first: nothing may fail once the page has changed.
+        self.journal.reserve()?;
+        let reply = answer(&mut self.store, at, pseudokey, call, full)?;
+        self.journal.push_reserved(client, call, &reply);
+        Ok(Hop::Done(reply))
+    }
+
+    // What a call meets at a page.
+    fn look(&mut self, at: PageNo, call: &Call, pseudokey: u64) -> Result<Sight, WardFault>
+        ensures sight { IfOk result (SightIn self.old.cap pseudokey self.old.pages at call.now) }
+        ensures ok { IfOk result (λ _. self.new ≡ self.old) }
+        ensures err { OnErr result (IsUnchanged self.old self.new) }
+        ensures fault { IfErr result IsStoreFault }
+        ensures failures { CountsFailures result self.old.failures self.new.failures }
+        ensures sound { IsSoundWard K.pseudokey_of self.new }
+    {
+        if at >= self.store.count() {
+            return Ok(Sight::Beyond);
+        }
+        Ok(Sight::of(self.store.lend(at)?, self.cap, pseudokey, call))
+    }
+}

@@ -1,0 +1,111 @@
+ghost use Rattle.std.specs.Prelude.{◌≡◌, ◌-◌, ◌^◌, ◌<◌, ◌≤◌, ℕ, [], length, IfOk, IfErr, OnErr};
+ghost use Rattle.exh_prefix.specs.Prefix.{Begins};
+ghost use Rattle.exh_prefix.specs.declared.prefix.TheConstants.{LIMIT};
+ghost use Rattle.exh_page.specs.declared.page.Page.{Page};
+ghost use Rattle.exh_legal.specs.Laws.{NamesHome};
+ghost use Rattle.exh_legal.specs.Pages.{IsAt};
+ghost use Rattle.exh_ward.specs.PageLine.{line_of_page};
+ghost use Rattle.exh_ward.specs.WardFault.{PageRefused, CountsFailures};
+ghost use Rattle.exh_ward.specs.WardState.{IsSoundWard, IsUnchanged, notices_above, own_prefix};
+
+use super::Ward;
+use crate::{PageLine, WardFault};
+use exh_calls::{Base, Journal};
+use exh_frames::Pages;
+use exh_keyer::Keyer;
+use exh_legal::{pages_are_few, walks_name_homes};
+use exh_notice::Notice;
+use exh_page::{Page, PageNo};
+use exh_table::Table;
+
+impl<P: Pages + Drop, K: Keyer> Ward<P, K> {
+    /// The notices whose index is above `n`, in order: what a caller whose last index is `n` lacks.
+    /// It takes no memory.
+    pub fn notices_after(&self, n: u64) -> &[Notice]
+        ensures notices { result.now ≡ notices_above n self.now.notices }
+        ensures sound { IsSoundWard K.pseudokey_of self.now }
+    {
+        // The start table tells of the changes before the first notice.
+        let known = n.saturating_sub(self.told);
+        if known < self.notices.len() as u64 {
+            &self.notices[known as usize..]
+        } else {
+            &[]
+        }
+    }
+
+    /// What the ward tells of its pages: the table of its start table and its notices. It takes no
+    /// memory.
+    pub fn table(&self) -> &Table
+        ensures table { result.now ≡ self.now.table }
+        ensures sound { IsSoundWard K.pseudokey_of self.now }
+        ensures walks { (pseudokey : ℕ) → pseudokey < 2 ^ 64 → Begins (own_prefix self.now) pseudokey → NamesHome (own_prefix self.now) self.now.start self.now.notices self.now.table self.now.pages pseudokey }
+    {
+        walks_name_homes();
+        &self.table
+    }
+
+    /// The table that the ward began with. It takes no memory.
+    pub fn start(&self) -> &Table
+        ensures { result.now ≡ self.now.start }
+    {
+        &self.start
+    }
+
+    /// How many pages the ward has. It takes no memory.
+    pub fn page_count(&self) -> PageNo
+        ensures count { result ≡ length self.now.pages }
+        ensures limit { result ≤ 2 ^ (LIMIT - self.now.ward_bits) }
+    {
+        pages_are_few();
+        self.store.count()
+    }
+
+    /// A page equal to the one of this number. Refused: `NoPage`; at any point `Memory` and `Page`.
+    /// Then the ward is as before.
+    pub fn page(&mut self, number: PageNo) -> Result<Page, WardFault>
+        ensures page { IfOk result (λ page. IsAt self.old.pages number page) }
+        ensures refused { IfErr result (PageRefused self.old.pages number) }
+        ensures ok { IfOk result (λ _. self.new ≡ self.old) }
+        ensures err { OnErr result (IsUnchanged self.old self.new) }
+        ensures failures { CountsFailures result self.old.failures self.new.failures }
+        ensures sound { IsSoundWard K.pseudokey_of self.new }
+    {
+        if number >= self.store.count() {
+            return Err(WardFault::NoPage);
+        }
+        Ok(self.store.get(number)?)
+    }
+
+    /// What is told of the page of this number, which is read in place. Refused: `NoPage`; at any
+    /// point `Memory` and `Page`. Then the ward is as before.
+    pub fn page_line(&mut self, number: PageNo) -> Result<PageLine, WardFault>
+        ensures line { IfOk result (λ line. (page : Page) × IsAt self.old.pages number page × (line ≡ line_of_page page)) }
+        ensures refused { IfErr result (PageRefused self.old.pages number) }
+        ensures ok { IfOk result (λ _. self.new ≡ self.old) }
+        ensures err { OnErr result (IsUnchanged self.old self.new) }
+        ensures failures { CountsFailures result self.old.failures self.new.failures }
+        ensures sound { IsSoundWard K.pseudokey_of self.new }
+    {
+        if number >= self.store.count() {
+            return Err(WardFault::NoPage);
+        }
+        Ok(PageLine::of(self.store.lend(number)?))
+    }
+
+    /// The calls that were answered, in order, with their callers and replies: a history from the
+    /// base, which leaves the map of the pages. It takes no memory.
+    pub fn journal(&self) -> &Journal
+        ensures entries { result.now.entries ≡ self.now.journal }
+        ensures sound { IsSoundWard K.pseudokey_of self.now }
+    {
+        &self.journal
+    }
+
+    /// The map that the history begins with. It takes no memory.
+    pub fn base(&self) -> &Base
+        ensures { result.now ≡ self.now.base }
+    {
+        &self.base
+    }
+}
