@@ -6,7 +6,8 @@ use exh_frames::PlainPages;
 use exh_keyer::{AnyKeyer, Keyer};
 use exh_page::{CAP_LIMIT, Key, PageNo};
 use exh_prefix::LIMIT;
-use exh_ward::{Call, Hop, Reply, Ward, WardFault, first_page};
+use exh_calls::{Call, Reply};
+use exh_ward::{Hop, Ward, WardFault, first_page};
 use std::alloc::Global;
 
 // More hops than a call may need.
@@ -26,7 +27,7 @@ pub(crate) struct Caller {
 impl Caller {
     ghost use Rattle.std.specs.Prelude.{◌≡◌};
     ghost use Rattle.exh_keyer.specs.Pseudokey.{any_pseudokey};
-    ghost use Rattle.exh_ward.specs.Call.{key_of};
+    ghost use Rattle.exh_calls.specs.Call.{key_of};
 
     /// The caller of a new ward of the greatest cap.
     pub(crate) fn new(alloc: Global, keyer: AnyKeyer) -> anyhow::Result<Caller> {

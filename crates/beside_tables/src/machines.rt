@@ -1,11 +1,11 @@
 //! The slow map machine and its map, beside replies that were worked out by hand.
 
+use exh_calls::{Call, Reply};
 use exh_fixtures::{Asked, key, told_reply, value};
 use exh_keyer::{AnyKeyer, Keyer, PlainKeyer};
 use exh_model::{MapMachine, PairMap};
 use exh_page::{Key, Value};
 use exh_runs::{Difference, Part, Run, again, same};
-use exh_ward::{Call, Reply};
 use std::alloc::AllocError;
 
 /// Calls of one key with each keyer, calls of keys that share their leading bits, and a map.

@@ -6,10 +6,11 @@ ghost use Rattle.exh_ward.specs.declared.ward.TheConstants.{WARD_BITS_LIMIT};
 
 use crate::plain_ward::{PlainWard, plain_ward};
 use crate::ward_step::WardStep;
+use exh_calls::{Call, JournalEntry, Reply};
 use exh_fixtures::{Asked, first_store, hop_of, prefix, refused, split, split_page, value};
 use exh_keyer::PlainKeyer;
 use exh_runs::{Difference, Part, Run, again, same};
-use exh_ward::{Call, Hop, JournalEntry, Reply, Ward, WardFault};
+use exh_ward::{Hop, Ward, WardFault};
 use std::alloc::{AllocError, Global};
 
 // A call at page 0 of a client, and its reply.

@@ -1,11 +1,12 @@
 //! How far pages are from answers, beside what was worked out by hand.
 
 use crate::plain_ward::{PlainWard, plain_ward};
+use exh_calls::Reply;
 use exh_fixtures::{Asked, hop, merge_page, refused, split_page};
 use exh_page::PageNo;
 use exh_route::distance;
 use exh_runs::{Difference, Lie, Part, Run, again, same};
-use exh_ward::{Hop, Reply, WardFault};
+use exh_ward::{Hop, WardFault};
 
 // The pseudokeys of the keys #40, #80 and #c0.
 const FORTY: u64 = 0x4000_0000_0000_0000;

@@ -1,13 +1,14 @@
 //! What a hop, a split or a merge comes to, told over a list of a ward's pages as the tables of
 //! docs/DEFINITIONS.md say.
 
+use exh_calls::{Call, Reply};
 use exh_keyer::{Keyer, PlainKeyer};
 use exh_model::MapMachine;
 use exh_notice::{Kind, Notice};
 use exh_page::{Page, PageNo};
 use exh_prefix::{LIMIT, Prefix};
 use exh_runs::again;
-use exh_ward::{Call, Hop, Reply, WardFault};
+use exh_ward::{Hop, WardFault};
 use std::alloc::AllocError;
 
 /// A ward's settings and notices.

@@ -8,6 +8,7 @@ ghost use Rattle.exh_ward.specs.declared.ward.TheConstants.{WARD_BITS_LIMIT};
 use crate::legality::{are_forwarded, are_linked, have_records, walks_home};
 use crate::slow_ward::{hop_at, merge_at, moves_at, split_at};
 use crate::small_ward::SmallWard;
+use exh_calls::{Call, Reply};
 use exh_fixtures::{Asked, hop, key, merge_page, refused, split_page};
 use exh_keyer::{Keyer, PlainKeyer};
 use exh_notice::{Kind, Notice};
@@ -15,7 +16,7 @@ use exh_page::{Page, PageNo};
 use exh_prefix::{LIMIT, Prefix};
 use exh_route::distance;
 use exh_runs::{Dice, Difference, Lie, Part, Run, again, same};
-use exh_ward::{Call, Hop, Reply, WardFault};
+use exh_ward::{Hop, WardFault};
 
 // What came up in the runs.
 #[derive(Clone, Copy)]

@@ -6,11 +6,12 @@ ghost use Rattle.beside_world_events.specs.Anew.{AreItsWards, HasSettings};
 
 use crate::line::{Line, deliver, done, has_entry};
 use crate::lives::{COPIES, Life, first_lines, journal, notices};
+use exh_calls::JournalEntry;
 use exh_frames::PlainPages;
 use exh_keyer::PlainKeyer;
 use exh_notice::Notice;
 use exh_runs::{Difference, Part, Run, again, push, same};
-use exh_ward::{JournalEntry, Ward, WardFault};
+use exh_ward::{Ward, WardFault};
 use exh_world::{Config, Event, Outcome, StepFault, Turn, World};
 use std::alloc::{AllocError, Global};
 

@@ -3,12 +3,13 @@
 //! the world is in the end as one that met no fault.
 
 use crate::line::{Line, begin, deliver, done, hop};
+use exh_calls::Reply;
 use exh_fixtures::{Asked, are_same, first_store, merge, prefix, split, value};
 use exh_frames::FailingPages;
 use exh_keyer::PlainKeyer;
 use exh_page::{Page, PageNo};
 use exh_runs::{Difference, Part, Run, again, same};
-use exh_ward::{Hop, Reply, Ward, WardFault};
+use exh_ward::{Hop, Ward, WardFault};
 use exh_world::{Config, Event, Outcome, StepFault, World};
 use std::alloc::{AllocError, Global};
 

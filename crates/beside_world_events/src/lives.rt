@@ -2,10 +2,11 @@
 //! hand.
 
 use crate::line::{Line, begin, deliver, done, hop, refused};
+use exh_calls::{JournalEntry, Reply};
 use exh_fixtures::{Asked, merge, prefix, split, value};
 use exh_notice::Notice;
 use exh_runs::Difference;
-use exh_ward::{Hop, JournalEntry, Reply};
+use exh_ward::Hop;
 use exh_world::{Event, Outcome, StepFault};
 
 /// The copies of a world that is made of wards. The first world has one less.

@@ -1,6 +1,7 @@
 //! What a world of four wards is compared with.
 
 use crate::known::{Known, known_by, learn};
+use exh_calls::{Call, Reply};
 use exh_fixtures::{prefix, told_reply};
 use exh_keyer::{Keyer, PlainKeyer};
 use exh_model::{LeafSet, MapMachine, greatest_of};
@@ -9,7 +10,7 @@ use exh_page::PageNo;
 use exh_prefix::{LIMIT, Prefix};
 use exh_runs::{Difference, Lie, Part, again, push, same};
 use exh_table::Table;
-use exh_ward::{Call, Reply, WardFault};
+use exh_ward::WardFault;
 use exh_world::{Event, StepFault};
 use std::alloc::{AllocError, Global};
 

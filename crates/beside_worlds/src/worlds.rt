@@ -5,6 +5,7 @@ ghost use Rattle.std.specs.Prelude.{◌≤◌};
 ghost use Rattle.exh_page.specs.declared.page.TheConstants.{CAP_LIMIT};
 
 use crate::slow_world::{Flight, Met, NAMES, SlowWorld};
+use exh_calls::Call;
 use exh_fixtures::Asked;
 use exh_frames::PlainPages;
 use exh_keyer::PlainKeyer;
@@ -12,7 +13,7 @@ use exh_notice::Notice;
 use exh_page::{Page, PageNo};
 use exh_prefix::Prefix;
 use exh_runs::{Dice, Difference, Part, Run, again, same};
-use exh_ward::{Call, Hop, WardFault};
+use exh_ward::{Hop, WardFault};
 use exh_world::{Config, Event, Outcome, StepFault, World};
 use std::alloc::{AllocError, Global};
 

@@ -1,5 +1,4 @@
-//! Directories worked out by hand: stories of notices, joins and copies. With any one growth
-//! refused, a directory is as before, and the second try succeeds.
+//! Directories worked out by hand: stories of notices, joins and copies.
 
 ghost use Rattle.std.specs.Prelude.{◌≤◌};
 ghost use Rattle.exh_prefix.specs.declared.prefix.TheConstants.{LIMIT};
@@ -8,7 +7,7 @@ use crate::{Directory, Pointers};
 use exh_notice::{Entry, Kind, Notice};
 use exh_prefix::{LIMIT, PageNo, Prefix};
 use exh_table::Table;
-use std::alloc::{AllocError, Global};
+use std::alloc::Global;
 
 // A prefix, as its length and bits.
 type Place = (u8, u64);
@@ -62,7 +61,9 @@ const FOUR_SPLITS: Pages = &[
 ];
 
 // The ward bits, what is told, and the depth and pointers then.
-const STORIES: [(u8, &[Told], u8, Pages); 10] = [
+type Story = (u8, &'static [Told], u8, Pages);
+
+const STORIES: [Story; 10] = [
     (0, &[], 0, NO_NOTICE),
     (0, &[(ROOT, (1, Some(1)), None)], 1, ROOT_SPLIT),
     // The split at `0` is told before the split at the root: until then no walk comes to it.
@@ -190,63 +191,10 @@ fn same(directory: &Directory, other: &Directory) -> bool {
     directory.depth() == other.depth() && directory.table().entries().eq(other.table().entries())
 }
 
-// What follows is tried once more where memory is refused.
-fn new_again(alloc: Global, ward_bits: u8) -> Option<Directory>
-    requires { ward_bits ≤ LIMIT }
-{
-    match Directory::new(alloc, ward_bits) {
-        Err(AllocError) => Directory::new(alloc, ward_bits).ok(),
-        Ok(directory) => Some(directory),
-    }
-}
-
-fn clone_again(directory: &Directory) -> Option<Directory> {
-    match directory.try_clone() {
-        Err(AllocError) => directory.try_clone().ok(),
-        Ok(copy) => Some(copy),
-    }
-}
-
-fn pointers_again(pointers: &Pointers) -> Option<Pointers> {
-    match pointers.try_clone() {
-        Err(AllocError) => pointers.try_clone().ok(),
-        Ok(copy) => Some(copy),
-    }
-}
-
-fn take_again(
-    directory: &mut Directory,
-    before: &Directory,
-    notice: &Notice,
-) -> Option<Option<Entry>> {
-    match directory.take(notice) {
-        Ok(stood) => Some(stood),
-        Err(AllocError) => {
-            if !same(directory, before) {
-                return None;
-            }
-            directory.take(notice).ok()
-        }
-    }
-}
-
-fn join_again(directory: &mut Directory, before: &Directory, other: &Table) -> Option<()> {
-    match directory.join_in(other) {
-        Ok(()) => Some(()),
-        Err(AllocError) => {
-            if !same(directory, before) {
-                return None;
-            }
-            directory.join_in(other).ok()
-        }
-    }
-}
-
 // Whether what stood at a notice's prefix is as wanted.
 fn tell_one(directory: &mut Directory, told: &Told) -> Option<bool> {
     let (place, row, stood) = told;
-    let before = clone_again(directory)?;
-    let taken = take_again(directory, &before, &notice(*place, *row)?)?;
+    let taken = directory.take(&notice(*place, *row)?).ok()?;
     Some(taken == stood.map(entry))
 }
 
@@ -259,37 +207,39 @@ fn tell(directory: &mut Directory, told: &[Told]) -> bool {
     true
 }
 
-fn wrong_story(alloc: Global) -> Option<usize> {
-    for (at, (ward_bits, told, depth, want)) in STORIES.iter().enumerate() {
-        if !is_story(alloc, *ward_bits, told, *depth, want) {
-            return Some(at);
-        }
-    }
-    None
+fn is_told(directory: &mut Directory, story: &Story) -> bool {
+    let (ward_bits, told, depth, want) = *story;
+    tell(directory, told) && is_directory(directory, ward_bits, depth, want)
 }
 
-fn is_story(alloc: Global, ward_bits: u8, told: &[Told], depth: u8, want: &[(PageNo, u8)]) -> bool {
-    if ward_bits > LIMIT {
+fn is_story(alloc: Global, story: &Story) -> bool {
+    if story.0 > LIMIT {
         return false;
     }
-    match new_again(alloc, ward_bits) {
-        Some(mut directory) => {
-            tell(&mut directory, told) && is_directory(&directory, ward_bits, depth, want)
-        }
-        None => false,
+    match Directory::new(alloc, story.0) {
+        Ok(mut directory) => is_told(&mut directory, story),
+        Err(_) => false,
     }
+}
+
+fn are_stories(alloc: Global) -> bool {
+    for story in &STORIES {
+        if !is_story(alloc, story) {
+            return false;
+        }
+    }
+    true
 }
 
 #[test]
 fn stories_of_notices(rt: HostRuntime) {
-    assert_eq!(rt; wrong_story(rt.alloc()), None);
+    assert!(rt; are_stories(rt.alloc()));
 }
 
-// A copy of a directory and of its pointers is the same, and stays so after a merge.
+// A copy of a directory is the same, and stays so after a merge.
 fn is_copied(directory: &mut Directory) -> Option<bool> {
     let is_split = tell(directory, &[(ROOT, (1, Some(1)), None)]);
-    let copy = clone_again(directory)?;
-    let pointers = pointers_again(directory.pointers())?;
+    let copy = directory.try_clone().ok()?;
     let is_same = same(&copy, directory);
     let is_merged = tell(directory, &[(ROOT, (2, None), Some((1, Some(1))))]);
     Some(
@@ -297,17 +247,18 @@ fn is_copied(directory: &mut Directory) -> Option<bool> {
             && is_same
             && is_merged
             && is_directory(directory, 0, 0, NO_NOTICE)
-            && is_directory(&copy, 0, 1, ROOT_SPLIT)
-            && has_pointers(&pointers, 1, ROOT_SPLIT),
+            && is_directory(&copy, 0, 1, ROOT_SPLIT),
     )
+}
+
+fn copies_stay(alloc: Global) -> Option<bool> {
+    let mut directory = Directory::new(alloc, 0).ok()?;
+    is_copied(&mut directory)
 }
 
 #[test]
 fn copies(rt: HostRuntime) {
-    match new_again(rt.alloc(), 0) {
-        Some(mut directory) => assert_eq!(rt; is_copied(&mut directory), Some(true)),
-        None => assert!(rt; false, "no directory"),
-    }
+    assert_eq!(rt; copies_stay(rt.alloc()), Some(true));
 }
 
 // Each of two directories has an entry that the other needs to go deeper.
@@ -327,19 +278,23 @@ fn is_joined(one: &mut Directory, other: &mut Directory) -> Option<bool> {
             (ROOT, (3, Some(1)), Some((2, None))),
         ],
     );
-    let (first, second) = (clone_again(one)?, clone_again(other)?);
-    join_again(one, &first, other.table())?;
+    one.join_in(other.table()).ok()?;
     let is_deep = is_directory(one, 0, 3, FOUR_SPLITS);
-    join_again(other, &second, one.table())?;
+    other.join_in(one.table()).ok()?;
     Some(are_told && is_deep && same(one, other))
+}
+
+fn join_another(alloc: Global, one: &mut Directory) -> Option<bool> {
+    let mut other = Directory::new(alloc, 0).ok()?;
+    is_joined(one, &mut other)
+}
+
+fn directories_meet(alloc: Global) -> Option<bool> {
+    let mut one = Directory::new(alloc, 0).ok()?;
+    join_another(alloc, &mut one)
 }
 
 #[test]
 fn joins(rt: HostRuntime) {
-    match (new_again(rt.alloc(), 0), new_again(rt.alloc(), 0)) {
-        (Some(mut one), Some(mut other)) => {
-            assert_eq!(rt; is_joined(&mut one, &mut other), Some(true));
-        }
-        _ => assert!(rt; false, "no directory"),
-    }
+    assert_eq!(rt; directories_meet(rt.alloc()), Some(true));
 }

@@ -7,7 +7,7 @@ use crate::{
     BLOCK_LEN, CONTENT_LEN, ImageFault, decode_content, decode_page, encode_page,
     images_are_sealed, images_pass, is_sealed, lay_out, one_image, one_page, seal,
 };
-use exh_keyer::{AnyKeyer, Keyer, PlainKeyer, ShaKeyer};
+use exh_keyer::{AnyKeyer, Keyer, PlainKeyer};
 use exh_page::{CAP_LIMIT, Key, Page, PageNo, Record, Records, Value};
 use exh_prefix::Prefix;
 use std::alloc::Global;
@@ -36,67 +36,34 @@ fn decoded<K: Keyer>(alloc: Global, keyer: &K, block: &[u8; BLOCK_LEN]) -> Resul
     }
 }
 
-// Puts these pairs, under a keyer, each once more where memory is refused.
-fn fill<K: Keyer>(records: &mut Records, keyer: &K, pairs: &[(&[u8], &[u8])]) -> Option<()> {
+// Puts these pairs, under the keyer plain.
+fn fill(records: &mut Records, pairs: &[(&[u8], &[u8])]) -> Option<()> {
     for (key, value) in pairs {
         let item = Record {
-            pseudokey: keyer.pseudo(key),
+            pseudokey: PlainKeyer.pseudo(key),
             key: Key::from_bytes(key).ok()?,
             value: Value::from_bytes(value).ok()?,
         };
-        if records.put(item).is_err() {
-            records.put(item).ok()?;
-        }
+        records.put(item).ok()?;
     }
     Some(())
 }
 
-// A live page with these pairs, under a keyer.
-fn live<K: Keyer>(
+// A live page with these pairs, under the keyer plain.
+fn live(
     alloc: Global,
-    keyer: &K,
     prefix: Prefix,
     right: Option<PageNo>,
     pairs: &[(&[u8], &[u8])],
 ) -> Option<Page> {
     let mut records = Records::new(alloc);
-    match fill(&mut records, keyer, pairs) {
+    match fill(&mut records, pairs) {
         Some(()) => Some(Page::Live {
             prefix,
             right,
             records,
         }),
         None => None,
-    }
-}
-
-// Whether two pages are the same.
-fn are_same(one: &Page, other: &Page) -> bool {
-    match (one, other) {
-        (
-            Page::Live {
-                prefix,
-                right,
-                records,
-            },
-            Page::Live {
-                prefix: other_prefix,
-                right: other_right,
-                records: other_records,
-            },
-        ) => {
-            prefix == other_prefix
-                && right == other_right
-                && records.iter().eq(other_records.iter())
-        }
-        (
-            Page::Forward { low, target },
-            Page::Forward {
-                low: other_low,
-                target: other_target,
-            },
-        ) => low == other_low && target == other_target,
-        _ => false,
     }
 }
 
@@ -121,11 +88,19 @@ fn is_laid_out(page: &Page, front: &[u8]) -> bool {
         && !is_sealed(&block)
 }
 
-// Whether a block is read as this page, and is the image of what is read.
-fn is_read(alloc: Global, page: &Page, block: &[u8; BLOCK_LEN]) -> bool {
+// Whether a block is read, and is the image of what is read.
+fn is_read(alloc: Global, block: &[u8; BLOCK_LEN]) -> bool {
     match decoded(alloc, &PlainKeyer, block) {
-        Ok(read) => are_same(&read, page) && encode_page(&PlainKeyer, &read) == *block,
+        Ok(read) => encode_page(&PlainKeyer, &read) == *block,
         Err(_) => false,
+    }
+}
+
+// Whether a block is answered with this fault.
+fn has_fault(alloc: Global, block: &[u8; BLOCK_LEN], want: ImageFault) -> bool {
+    match decoded(alloc, &PlainKeyer, block) {
+        Ok(_) => false,
+        Err(fault) => fault == want,
     }
 }
 
@@ -138,7 +113,7 @@ fn is_imaged(alloc: Global, page: &Page, front: &[u8], digest: &[u8; 32]) -> boo
     is_laid_out(page, front)
         && is_sealed(&block)
         && block.get(CONTENT_LEN..) == Some(digest.as_slice())
-        && is_read(alloc, page, &block)
+        && is_read(alloc, &block)
 }
 
 // A live page under the keyer plain: prefix, right link and pairs; its image's bytes up to the
@@ -200,7 +175,7 @@ const IMAGES: [Image; 3] = [
 fn is_image(alloc: Global, image: &Image) -> Option<bool> {
     let (place, right, pairs, front, digest) = image;
     let prefix = Prefix::new(place.0, place.1)?;
-    let page = live(alloc, &PlainKeyer, prefix, *right, pairs)?;
+    let page = live(alloc, prefix, *right, pairs)?;
     Some(is_imaged(alloc, &page, front, digest))
 }
 
@@ -225,7 +200,7 @@ const FORWARD_DIGEST: [u8; 32] = [
 
 #[test]
 fn images_of_pages(rt: HostRuntime) {
-    assert_eq!(rt; wrong_image(rt.alloc()), None);
+    assert!(rt; wrong_image(rt.alloc()).is_none());
     let page = Page::Forward {
         low: 1 << 63,
         target: 0,
@@ -255,44 +230,40 @@ const HASHED: [u8; 26] = [
     3, 1, b'a', b'b', b'c', b'1', 1, 1, b'a', b'2',
 ];
 
-fn is_hashed<K: Keyer>(alloc: Global, keyer: &K, block: &[u8; BLOCK_LEN]) -> Option<bool> {
-    let prefix = Prefix::new(1, 1 << 63)?;
-    let page = live(alloc, keyer, prefix, None, &[(b"a", b"2"), (b"abc", b"1")])?;
-    match decoded(alloc, keyer, block) {
-        Ok(read) => Some(are_same(&read, &page) && encode_page(keyer, &read) == *block),
-        Err(_) => None,
+fn is_hashed(alloc: Global, block: &[u8; BLOCK_LEN]) -> bool {
+    match decoded(alloc, &AnyKeyer::Sha, block) {
+        Ok(read) => encode_page(&AnyKeyer::Sha, &read) == *block,
+        Err(_) => false,
     }
 }
 
 #[test]
 fn the_keyer_decides_the_order(rt: HostRuntime) {
     let block = sealed(&HASHED);
-    assert_eq!(rt; is_hashed(rt.alloc(), &ShaKeyer, &block), Some(true));
-    assert_eq!(rt; is_hashed(rt.alloc(), &AnyKeyer::Sha, &block), Some(true));
+    assert!(rt; is_hashed(rt.alloc(), &block));
     // Both keys begin 0110 0001 as they stand.
-    let fault = decoded(rt.alloc(), &PlainKeyer, &block).err();
-    assert!(rt; fault == Some(ImageFault::Prefix));
+    assert!(rt; has_fault(rt.alloc(), &block, ImageFault::Prefix));
 }
 
 // Whether content is read whatever the digest, which `decode_page` alone asks.
-fn is_content(alloc: Global, page: &Page, block: &[u8; BLOCK_LEN]) -> bool {
-    let is_wrong = decoded(alloc, &PlainKeyer, block).err() == Some(ImageFault::Digest);
+fn is_content(alloc: Global, block: &[u8; BLOCK_LEN]) -> bool {
     match decode_content(alloc, &PlainKeyer, block) {
-        Ok(read) => is_wrong && are_same(&read, page),
-        Err(_) => false,
+        Ok(Page::Forward { low, target }) => {
+            low == 3 << 62 && target == 7 && has_fault(alloc, block, ImageFault::Digest)
+        }
+        _ => false,
     }
 }
 
 #[test]
 fn content_is_read_whatever_the_digest(rt: HostRuntime) {
-    let page = Page::Forward {
+    let mut block = lay_out(&Page::Forward {
         low: 3 << 62,
         target: 7,
-    };
-    let mut block = lay_out(&page);
+    });
     for digit in [0, 1, 0xff] {
         block[BLOCK_LEN - 1] = digit;
-        assert!(rt; is_content(rt.alloc(), &page, &block), "with {digit}");
+        assert!(rt; is_content(rt.alloc(), &block), "with {digit}");
     }
 }
 
@@ -328,7 +299,7 @@ fn numbers_of_faults(rt: HostRuntime) {
     one_image();
     one_page();
     images_pass();
-    assert_eq!(rt; wrong_number(), None);
+    assert!(rt; wrong_number().is_none());
     assert!(rt;
         prints(
             rt.alloc(),

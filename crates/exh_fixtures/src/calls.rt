@@ -1,8 +1,8 @@
 //! Calls by the bytes of their keys and values.
 
+use exh_calls::Call;
 use exh_page::{Key, Value};
 use exh_runs::{Difference, Part};
-use exh_ward::Call;
 
 /// A call: its key, and of a put the value.
 #[derive(Clone, Copy)]

@@ -1,11 +1,12 @@
 //! The calls of a ward over any store, each made once more where memory was refused.
 
+use exh_calls::Call;
 use exh_frames::Pages;
 use exh_keyer::{Keyer, PlainKeyer};
 use exh_notice::Notice;
 use exh_page::{Page, PageNo};
 use exh_runs::{Difference, again};
-use exh_ward::{Call, Hop, Ward, WardFault};
+use exh_ward::{Hop, Ward, WardFault};
 
 // These make a call once, and need nothing of the ward: what calls them is proved with less.
 fn hop_once<P: Pages + Drop>(

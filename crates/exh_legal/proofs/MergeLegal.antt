@@ -18,7 +18,8 @@ use Rattle.exh_page.specs.ShareLemmas.{AreRecordsOf-buddies}
 use Rattle.exh_legal.specs.Pages.{map_of, IsAt, IsHome, IsLegalPage, IsLegal, bare}
 use Rattle.exh_legal.specs.Change.{IsMerge}
 use Rattle.exh_legal.specs.BareLemmas.{bare_at, bare_same}
-use Rattle.exh_legal.specs.MapLemmas.{place_of_key, same_maps, found_at, found_alike, none_of_others, page_at, all_pages, get-map_of_pages, found_at_home, none_elsewhere, skip, or_none}
+use Rattle.exh_page.specs.KeyMapLemmas.{same_maps}
+use Rattle.exh_legal.specs.MapLemmas.{place_of_key, found_at, found_alike, none_of_others, page_at, all_pages, get-map_of_pages, found_at_home, none_elsewhere, skip, or_none}
 use Rattle.exh_legal.proofs.MergeLinks.{IsJoined, joined_linked, short}
 
 module _ {cap : ℕ} {pseudo : List ℕ → ℕ} {ward : List Bool} {pages : List Page} {at : ℕ} {prefix : List Bool} {new : List Page} (words : AreOfWords pseudo) (legal : IsLegal cap pseudo ward pages) (merge : IsMerge cap pages at prefix new) where

@@ -18,7 +18,8 @@ use Rattle.exh_page.specs.RecordsLemmas.{AllByRecursion-filter, IsRising-filter,
 use Rattle.exh_legal.specs.Pages.{map_of, IsAt, IsHome, IsLegalPage, IsLegal, bare}
 use Rattle.exh_legal.specs.Change.{IsRevived, IsFresh, IsSplit}
 use Rattle.exh_legal.specs.BareLemmas.{bare_at, at_bare, bare_low, bare_same}
-use Rattle.exh_legal.specs.MapLemmas.{place_of_key, same_maps, found_at, found_alike, found_in_begun, page_at, all_pages, get-map_of_pages, found_at_home, none_elsewhere}
+use Rattle.exh_page.specs.KeyMapLemmas.{same_maps}
+use Rattle.exh_legal.specs.MapLemmas.{place_of_key, found_at, found_alike, found_in_begun, page_at, all_pages, get-map_of_pages, found_at_home, none_elsewhere}
 use Rattle.exh_legal.proofs.SplitLinks.{IsParted, parted_linked}
 
 -- the records that a prefix begins are records of it

@@ -1,4 +1,3 @@
-pub mod KeyMap
 pub mod Pages
 pub mod Change
 pub mod Growth

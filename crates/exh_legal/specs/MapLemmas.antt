@@ -20,7 +20,7 @@ use Rattle.exh_page.specs.Page.{records_of, begun_by, with_records}
 use Rattle.exh_page.specs.Place.{Place, place_cmp, place_of}
 use Rattle.exh_page.specs.Records.{is_at, value_at}
 use Rattle.exh_page.specs.RecordsLemmas.{place_cmp-total, place_cmp-exact, AllByRecursion-append}
-use Rattle.exh_legal.specs.KeyMap.{KeyMap}
+use Rattle.exh_page.specs.KeyMap.{KeyMap}
 use Rattle.exh_legal.specs.Pages.{pair_of, map_of, IsAt, IsHome, IsLegalPage, IsLegal}
 use Rattle.exh_legal.specs.BareLemmas.{bare_at}
 
@@ -78,9 +78,6 @@ found_in_pairs pseudo (r ∷ records) key hashed =
 -- what the map of the records has at a key
 pub get-map_of_records : (pseudo : List ℕ → ℕ) (records : List Record) (key : List ℕ) → AreHashed pseudo records → fin.get (map_of_records records) key ≡ value_at (place_of_key pseudo key) records
 get-map_of_records pseudo records key hashed = fin.get-from_entries nat_list_cmp_total (map pair_of records) key ∙ found_in_pairs pseudo records key hashed
-
-pub same_maps : (m n : KeyMap) → ((key : List ℕ) → fin.get m key ≡ fin.get n key) → m ≡ n
-same_maps m n same = fin.same_map nat_list_cmp_total (fin.slice_cmp-IsAntisymmetric fin.nat_cmp-IsAntisymmetric) m n same
 
 -- ---- what is found in the records of several pages
 

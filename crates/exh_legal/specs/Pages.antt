@@ -9,7 +9,7 @@ use Rattle.exh_page.specs.declared.page.Page.{Page}
 use Rattle.exh_page.specs.declared.page.Page.TheVariants.{Live, Forward}
 use Rattle.exh_page.specs.declared.record.Record.{Record}
 use Rattle.exh_page.specs.Page.{AreRecordsOf, IsLive, low_bound, records_of, with_records}
-use Rattle.exh_legal.specs.KeyMap.{KeyMap}
+use Rattle.exh_page.specs.KeyMap.{KeyMap}
 
 -- ---- what the pages hold
 

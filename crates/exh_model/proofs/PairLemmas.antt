@@ -12,7 +12,8 @@ use Rattle.std.proofs.lemmas.List.{drop_more, take_more, take-append-drop, take_
 use Rattle.std.proofs.lemmas.List.Sorted.{IsPermutation-refl, IsPermutation-sym, IsPermutation-trans, IsPermutation-cons, IsPermutation-middle, sum_by-IsPermutation}
 use Rattle.std.proofs.lemmas.List.Sums.{sum_by-cons}
 use Rattle.std.proofs.lemmas.Map.Lookups.{exact_bytes}
-use Rattle.exh_ward.specs.KeyMap.{KeyMap}
+use Rattle.exh_page.specs.KeyMap.{KeyMap}
+use Rattle.exh_page.specs.KeyMapLemmas.{same_maps}
 use Rattle.exh_model.specs.Pairs.{AreApart}
 
 abbrev pub Pair : Type 0
@@ -75,9 +76,6 @@ find-without_itself key pairs = find-without key key pairs ∙ ap (λ o. cond (n
 turned : {A : Type 0} (b : Bool) (x y : A) → cond (not b) x y ≡ cond b y x
 turned true x y = refl
 turned false x y = refl
-
-same_maps : (m n : KeyMap) → ((key : List ℕ) → fin.get m key ≡ fin.get n key) → m ≡ n
-same_maps m n same = fin.same_map nat_list_cmp_total (fin.slice_cmp-IsAntisymmetric fin.nat_cmp-IsAntisymmetric) m n same
 
 pub from_entries-without : (key : List ℕ) (pairs : List Pair) → fin.from_entries {R = by_bytes} (without key pairs) ≡ fin.remove (fin.from_entries pairs) key
 from_entries-without key pairs =

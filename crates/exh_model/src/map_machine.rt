@@ -1,12 +1,12 @@
 ghost use Rattle.std.specs.Prelude.{◌≡◌, ◌↔◌, IsTrue, IfOk, OnErr};
 ghost use Rattle.std.specs.FinMap as map;
-ghost use Rattle.exh_ward.specs.MapMachine.{leading, sharing, is_full, reply_of, map_after};
+ghost use Rattle.exh_calls.specs.MapMachine.{leading, sharing, is_full, reply_of, map_after};
 
 use crate::PairMap;
+use exh_calls::{Call, Reply};
 use exh_keyer::Keyer;
 use exh_page::Key;
 use exh_prefix::LIMIT;
-use exh_ward::{Call, Reply};
 use std::alloc::{AllocError, Global};
 use std::marker::Model;
 
@@ -20,7 +20,7 @@ pub struct MapMachine<K: Keyer> {
 
 impl<K: Keyer> Model for MapMachine<K> {
     ghost use Rattle.std.specs.Coded.{codes};
-    ghost use Rattle.exh_ward.specs.KeyMap.{coded_key_map};
+    ghost use Rattle.exh_page.specs.KeyMap.{coded_key_map};
     ghost use Rattle.exh_model.specs.MachineState.{MachineState};
 
     ghost Value = { MachineState K };

@@ -7,11 +7,11 @@ use Rattle.exh_page.specs.declared.page.Page.TheVariants.{Live, Forward}
 use Rattle.exh_page.specs.declared.record.Record.{Record}
 use Rattle.exh_page.specs.Page.{records_of, with_records}
 use Rattle.exh_legal.specs.Pages.{IsAt, bare}
-use Rattle.exh_ward.specs.Call.{key_of}
+use Rattle.exh_calls.specs.Call.{key_of}
 use Rattle.exh_ward.specs.HopTable.{pages_after}
 use Rattle.exh_ward.specs.PageAnswer.{records_after}
-use Rattle.exh_ward.specs.declared.call.Call.{Call}
-use Rattle.exh_ward.specs.declared.reply.Reply.{Reply}
+use Rattle.exh_calls.specs.declared.call.Call.{Call}
+use Rattle.exh_calls.specs.declared.reply.Reply.{Reply}
 
 bare_with : (records : List Record) (page : Page) → with_records [] (with_records records page) ≡ with_records [] page
 bare_with records (Live prefix right old) = refl

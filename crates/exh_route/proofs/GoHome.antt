@@ -10,10 +10,10 @@ use Rattle.exh_page.specs.declared.record.Record.{Record}
 use Rattle.exh_page.specs.Page.{IsLive, low_bound}
 use Rattle.exh_legal.specs.Laws.{RightLinksLeadOn}
 use Rattle.exh_legal.specs.Pages.{IsAt, IsHome, AreLinked, bare}
-use Rattle.exh_ward.specs.Call.{key_of}
+use Rattle.exh_calls.specs.Call.{key_of}
 use Rattle.exh_ward.specs.HopTable.{IsReached, LeadsTo, HopOf}
 use Rattle.exh_ward.specs.Laws.{OneHop}
-use Rattle.exh_ward.specs.declared.call.Call.{Call}
+use Rattle.exh_calls.specs.declared.call.Call.{Call}
 use Rattle.exh_ward.specs.declared.hop.Hop.{Hop}
 use Rattle.exh_ward.specs.declared.hop.Hop.TheVariants.{Moved}
 use Rattle.exh_route.specs.Distance.{IsDistance, live_between}

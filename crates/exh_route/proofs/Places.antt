@@ -9,14 +9,14 @@ use Rattle.exh_page.specs.declared.record.Record.{Record}
 use Rattle.exh_page.specs.Page.{low_bound, records_of, with_records}
 use Rattle.exh_legal.specs.Laws.{KeepsPlaces}
 use Rattle.exh_legal.specs.Pages.{IsAt}
-use Rattle.exh_ward.specs.Call.{key_of}
+use Rattle.exh_calls.specs.Call.{key_of}
 use Rattle.exh_ward.specs.HopTable.{pages_after}
 use Rattle.exh_ward.specs.PageAnswer.{records_after}
 use Rattle.exh_ward.specs.WardState.{WardState, LeavesAfter, IsUnchanged}
-use Rattle.exh_ward.specs.declared.call.Call.{Call}
+use Rattle.exh_calls.specs.declared.call.Call.{Call}
 use Rattle.exh_ward.specs.declared.hop.Hop.{Hop}
 use Rattle.exh_ward.specs.declared.hop.Hop.TheVariants.{Done, Moved, MustSplit, Stray}
-use Rattle.exh_ward.specs.declared.reply.Reply.{Reply}
+use Rattle.exh_calls.specs.declared.reply.Reply.{Reply}
 use Rattle.exh_route.specs.WardRun.{WardEvent, HopAt, SplitAt, MergeAt, WardStep}
 
 -- ---- one place of a list written

@@ -3,13 +3,14 @@ use Rattle.std.proofs.Common.{◌≡◌, ℕ, List, [], ◌∷◌, ◌++◌, ref
 use Rattle.std.proofs.lemmas.List.{append_assoc, append-nil}
 use Rattle.std.proofs.lemmas.List.Elements.{All-cons, All-from_recursion}
 use Rattle.exh_page.specs.Laws.{AreOfWords}
-use Rattle.exh_legal.specs.KeyMap.{KeyMap}
+use Rattle.exh_page.specs.KeyMap.{KeyMap}
 use Rattle.exh_legal.specs.Laws.{SplitsKeepLegal, MergesKeepLegal}
 use Rattle.exh_legal.specs.Pages.{map_of}
-use Rattle.exh_ward.specs.History.{IsHistory, map_left}
-use Rattle.exh_ward.specs.Laws.{AnswersKeepLegal, HistoriesGoOn}
+use Rattle.exh_calls.specs.History.{IsHistory, map_left}
+use Rattle.exh_calls.specs.Laws.{HistoriesGoOn}
+use Rattle.exh_ward.specs.Laws.{AnswersKeepLegal}
 use Rattle.exh_ward.specs.WardState.{WardState, IsSoundWard}
-use Rattle.exh_ward.specs.declared.journal_entry.JournalEntry.{JournalEntry}
+use Rattle.exh_calls.specs.declared.journal_entry.JournalEntry.{JournalEntry}
 use Rattle.exh_route.specs.Laws.{IsLegalWard, LeavesMap, IsOneMaps}
 use Rattle.exh_route.specs.WardRun.{WardMoment, IsWardRun, answered_by, answered_in, changes_by, changes_in}
 use Rattle.exh_route.proofs.StepFacts.{MapGoes, IsStepped, stepped}

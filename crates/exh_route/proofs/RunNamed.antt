@@ -11,9 +11,10 @@ use Rattle.exh_page.specs.Laws.{AreOfWords}
 use Rattle.exh_legal.specs.Laws.{KeepsPlaces, SplitsKeepLegal, MergesKeepLegal}
 use Rattle.exh_legal.specs.Pages.{IsAt, AreLinked, bare}
 use Rattle.exh_ward.specs.HopTable.{HopOf, LeadsTo}
-use Rattle.exh_ward.specs.Laws.{AnswersKeepLegal, HistoriesGoOn}
+use Rattle.exh_calls.specs.Laws.{HistoriesGoOn}
+use Rattle.exh_ward.specs.Laws.{AnswersKeepLegal}
 use Rattle.exh_ward.specs.WardState.{WardState, LeavesAfter, own_prefix}
-use Rattle.exh_ward.specs.declared.call.Call.{Call}
+use Rattle.exh_calls.specs.declared.call.Call.{Call}
 use Rattle.exh_ward.specs.declared.hop.Hop.{Hop}
 use Rattle.exh_ward.specs.declared.hop.Hop.TheVariants.{Done, Moved, MustSplit, Stray}
 use Rattle.exh_route.specs.Laws.{IsLegalWard, IsKeptPage}

@@ -17,16 +17,17 @@ use Rattle.exh_legal.specs.NoticeLemmas.{one_true_more, places_by_bare, still_tr
 use Rattle.exh_legal.specs.Numbers.{AreNumbered, index_of}
 use Rattle.exh_legal.specs.Pages.{IsLegal, bare, map_of}
 use Rattle.exh_ward.specs.HopTable.{HopOf}
-use Rattle.exh_ward.specs.Laws.{AnswersKeepLegal, HistoriesGoOn}
-use Rattle.exh_ward.specs.MapMachine.{reply_of, map_after}
+use Rattle.exh_calls.specs.Laws.{HistoriesGoOn}
+use Rattle.exh_ward.specs.Laws.{AnswersKeepLegal}
+use Rattle.exh_calls.specs.MapMachine.{reply_of, map_after}
 use Rattle.exh_ward.specs.MergeStep.{IsMergeStep}
 use Rattle.exh_ward.specs.SplitStep.{IsSplitStep}
 use Rattle.exh_ward.specs.WardState.{WardState, IsSoundWard, IsAnswered, LeavesAfter, IsUnchanged, own_prefix}
-use Rattle.exh_ward.specs.declared.call.Call.{Call}
+use Rattle.exh_calls.specs.declared.call.Call.{Call}
 use Rattle.exh_ward.specs.declared.hop.Hop.{Hop}
 use Rattle.exh_ward.specs.declared.hop.Hop.TheVariants.{Done, Moved, MustSplit, Stray}
-use Rattle.exh_ward.specs.declared.journal_entry.JournalEntry.{JournalEntry}
-use Rattle.exh_ward.specs.declared.reply.Reply.{Reply}
+use Rattle.exh_calls.specs.declared.journal_entry.JournalEntry.{JournalEntry}
+use Rattle.exh_calls.specs.declared.reply.Reply.{Reply}
 use Rattle.exh_route.specs.Laws.{IsLegalWard}
 use Rattle.exh_route.specs.WardRun.{WardEvent, HopAt, SplitAt, MergeAt, WardStep, answered_by, changes_by}
 use Rattle.exh_route.proofs.AnsweredPages.{bare_answered}

@@ -6,13 +6,13 @@ use Rattle.exh_page.specs.declared.page.Page.{Page}
 use Rattle.exh_page.specs.Page.{low_bound}
 use Rattle.exh_legal.specs.Laws.{KeepsPlaces, IsWard}
 use Rattle.exh_legal.specs.Pages.{IsAt, AreLinked, bare, map_of}
-use Rattle.exh_ward.specs.Call.{key_of}
-use Rattle.exh_ward.specs.History.{IsHistory, map_left}
+use Rattle.exh_calls.specs.Call.{key_of}
+use Rattle.exh_calls.specs.History.{IsHistory, map_left}
 use Rattle.exh_ward.specs.HopTable.{HopOf, Overflows}
-use Rattle.exh_ward.specs.MapMachine.{reply_of}
+use Rattle.exh_calls.specs.MapMachine.{reply_of}
 use Rattle.exh_ward.specs.WardState.{WardState, IsSoundWard, own_prefix}
-use Rattle.exh_ward.specs.declared.call.Call.{Call}
-use Rattle.exh_ward.specs.declared.call.Call.TheVariants.{Get}
+use Rattle.exh_calls.specs.declared.call.Call.{Call}
+use Rattle.exh_calls.specs.declared.call.Call.TheVariants.{Get}
 use Rattle.exh_ward.specs.declared.hop.Hop.TheVariants.{Done, Moved, MustSplit}
 use Rattle.exh_route.specs.Distance.{IsDistance, live_pages}
 use Rattle.exh_route.specs.Moves.{AreMoves, GoesHome}

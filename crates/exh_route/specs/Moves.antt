@@ -1,10 +1,10 @@
 -- The moves of a call: where its hops send it on to.
 use Rattle.std.specs.Prelude.{◌≡◌, ◌≢◌, ℕ, List, [], ◌∷◌, length}
 use Rattle.exh_page.specs.declared.page.Page.{Page}
-use Rattle.exh_ward.specs.Call.{key_of}
+use Rattle.exh_calls.specs.Call.{key_of}
 use Rattle.exh_ward.specs.HopTable.{HopOf}
-use Rattle.exh_ward.specs.Pages.{IsAt, IsHome}
-use Rattle.exh_ward.specs.declared.call.Call.{Call}
+use Rattle.exh_legal.specs.Pages.{IsAt, IsHome}
+use Rattle.exh_calls.specs.declared.call.Call.{Call}
 use Rattle.exh_ward.specs.declared.hop.Hop.{Hop}
 use Rattle.exh_ward.specs.declared.hop.Hop.TheVariants.{Moved}
 use Rattle.exh_route.specs.Distance.{IsDistance}

@@ -3,9 +3,10 @@
 
 ghost use Rattle.exh_route.specs.Laws.{PagesStay, NamedPagesStay, RunsAreOneMaps, RunsKeepWardsSound, GetsGoHome, CallsGoHome, MovesAreOfPseudokeys, MovesComeNearer, OneDistance, DistancesAreFew};
 
+use exh_calls::histories_go_on;
 use exh_keyer::Keyer;
 use exh_legal::{merges_keep_legal, right_links_lead_on, splits_keep_legal};
-use exh_ward::{answers_keep_legal, histories_go_on, one_hop};
+use exh_ward::{answers_keep_legal, one_hop};
 
 /// Over every list of hops, splits and merges of a ward, it is legal for its start table and all
 /// changes; the replies are one map's, from the map at the start; and a split or merge leaves the map

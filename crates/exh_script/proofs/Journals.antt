@@ -6,12 +6,12 @@ use Rattle.std.proofs.lemmas.List.Elements.{filter-append}
 use Rattle.exh_keyer.specs.declared.any_keyer.AnyKeyer.{AnyKeyer}
 use Rattle.exh_text.specs.declared.line_fault.LineFault.{LineFault}
 use Rattle.exh_ward.specs.WardState.{WardState}
-use Rattle.exh_ward.specs.declared.journal_entry.JournalEntry.{JournalEntry}
+use Rattle.exh_calls.specs.declared.journal_entry.JournalEntry.{JournalEntry}
 use Rattle.exh_script.specs.Grammar.{line_of}
 use Rattle.exh_script.specs.Replies.{world_left}
 use Rattle.exh_script.specs.Text.{ScriptWorld, after_parsed, after_line}
 use Rattle.exh_script.specs.declared.line.Line.{Line}
-use Rattle.exh_script.specs.declared.line.Line.TheVariants.{Step, Show, Page, InFlight}
+use Rattle.exh_script.specs.declared.line.Line.TheVariants.{Step, View}
 use Rattle.exh_script.proofs.KeptWorlds.{WorldLaws, IsKept, step_left, line_kept}
 use Rattle.exh_script.proofs.LineMoments.{parsed_entries, entries_from}
 use Rattle.exh_script.proofs.WardSteps.{is_in_ward}
@@ -39,9 +39,7 @@ module _ (laws : WorldLaws) (ward_bits : ℕ) (keyer : AnyKeyer) (number : ℕ) 
         journal = left.journal ∙ ap (λ bits. left.before.journal ++ filter (is_in_ward bits world.keyer number) entries) is.bits_are
             ∙ ap (λ k. left.before.journal ++ filter (is_in_ward ward_bits k number) entries) is.keyer_is;
       }
-  parsed_more world is (Ok (Show copy)) ward there = has_none world ward there
-  parsed_more world is (Ok (Page place page)) ward there = has_none world ward there
-  parsed_more world is (Ok InFlight) ward there = has_none world ward there
+  parsed_more world is (Ok (View view)) ward there = has_none world ward there
   parsed_more world is (Err fault) ward there = has_none world ward there
 
   line_more : (world : ScriptWorld) → IsKept ward_bits keyer world → (line : List ℕ) (ward : WardState AnyKeyer) → slice_get (after_line world line).wards number ≡ Some ward → HasMore world (parsed_entries world (line_of line)) ward

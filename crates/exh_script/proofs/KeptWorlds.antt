@@ -15,7 +15,7 @@ use Rattle.exh_script.specs.Grammar.{line_of}
 use Rattle.exh_script.specs.Replies.{world_left}
 use Rattle.exh_script.specs.Text.{ScriptWorld, after_parsed, after_line}
 use Rattle.exh_script.specs.declared.line.Line.{Line}
-use Rattle.exh_script.specs.declared.line.Line.TheVariants.{Step, Show, Page, InFlight}
+use Rattle.exh_script.specs.declared.line.Line.TheVariants.{Step, View}
 use Rattle.exh_script.proofs.LineMoments.{parsed_moments, moments_from}
 use Rattle.exh_script.proofs.WardSteps.{AreWardsLeft, wards_left}
 
@@ -59,9 +59,7 @@ module _ (laws : WorldLaws) (ward_bits : ℕ) (keyer : AnyKeyer) where
 
   parsed_kept : (world : ScriptWorld) → Kept world → (parsed : Result Line LineFault) → Kept (after_parsed world parsed)
   parsed_kept world is (Ok (Step event)) = step_kept world is event
-  parsed_kept world is (Ok (Show copy)) = is
-  parsed_kept world is (Ok (Page ward page)) = is
-  parsed_kept world is (Ok InFlight) = is
+  parsed_kept world is (Ok (View view)) = is
   parsed_kept world is (Err fault) = is
 
   pub line_kept : (world : ScriptWorld) → Kept world → (line : List ℕ) → Kept (after_line world line)
@@ -80,9 +78,7 @@ module _ (laws : WorldLaws) (ward_bits : ℕ) (keyer : AnyKeyer) where
     parsed_run : (world : ScriptWorld) → Kept world → (parsed : Result Line LineFault) → RunsOn (after_parsed world parsed) moments → RunsOn world (parsed_moments world parsed ++ moments)
     parsed_run world is (Ok (Step event)) rest =
         ((refl, laws.outcomes world event is.sound, rest.0), (λ number ward there. ((step_kept world is event).sound.wards number ward there).sound, rest.1))
-    parsed_run world is (Ok (Show copy)) rest = rest
-    parsed_run world is (Ok (Page ward page)) rest = rest
-    parsed_run world is (Ok InFlight) rest = rest
+    parsed_run world is (Ok (View view)) rest = rest
     parsed_run world is (Err fault) rest = rest
 
     line_run : (world : ScriptWorld) → Kept world → (line : List ℕ) → RunsOn (after_line world line) moments → RunsOn world (parsed_moments world (line_of line) ++ moments)

@@ -5,7 +5,7 @@ use Rattle.std.proofs.lemmas.List.{map-append, append-nil}
 use Rattle.exh_keyer.specs.declared.any_keyer.AnyKeyer.{AnyKeyer}
 use Rattle.exh_keyer.specs.Pseudokey.{any_pseudokey}
 use Rattle.exh_text.specs.declared.line_fault.LineFault.{LineFault}
-use Rattle.exh_ward.specs.declared.journal_entry.JournalEntry.{JournalEntry}
+use Rattle.exh_calls.specs.declared.journal_entry.JournalEntry.{JournalEntry}
 use Rattle.exh_world.specs.Run.{Moment, Answered, answered_at, answered_in, entry_of}
 use Rattle.exh_world.specs.StepFunction.{result_of, world_after}
 use Rattle.exh_world.specs.declared.event.Event.{Event}
@@ -15,7 +15,7 @@ use Rattle.exh_script.specs.Grammar.{line_of}
 use Rattle.exh_script.specs.Replies.{parsed_steps, steps_from}
 use Rattle.exh_script.specs.Text.{ScriptWorld, after_line}
 use Rattle.exh_script.specs.declared.line.Line.{Line}
-use Rattle.exh_script.specs.declared.line.Line.TheVariants.{Step, Show, Page, InFlight}
+use Rattle.exh_script.specs.declared.line.Line.TheVariants.{Step, View}
 
 -- ---- moments
 
@@ -33,9 +33,7 @@ moments_from world (line ∷ lines) = parsed_moments world (line_of line) ++ mom
 
 turns_parsed : (world : ScriptWorld) (parsed : Result Line LineFault) → map (λ (moment : Moment AnyKeyer). moment.turn) (parsed_moments world parsed) ≡ parsed_steps world parsed
 turns_parsed world (Ok (Step event)) = refl
-turns_parsed world (Ok (Show copy)) = refl
-turns_parsed world (Ok (Page ward page)) = refl
-turns_parsed world (Ok InFlight) = refl
+turns_parsed world (Ok (View view)) = refl
 turns_parsed world (Err fault) = refl
 
 -- their turns are the steps that the lines ask for
@@ -73,9 +71,7 @@ none_answered world (events.Restart copy) fault = refl
 
 entries_parsed : (world : ScriptWorld) (parsed : Result Line LineFault) → map entry_of (answered_in (parsed_moments world parsed)) ≡ parsed_entries world parsed
 entries_parsed world (Ok (Step event)) = ap (map entry_of) (append-nil (answered_at world event (result_of any_pseudokey world event)))
-entries_parsed world (Ok (Show copy)) = refl
-entries_parsed world (Ok (Page ward page)) = refl
-entries_parsed world (Ok InFlight) = refl
+entries_parsed world (Ok (View view)) = refl
 entries_parsed world (Err fault) = refl
 
 abbrev answered_by_moment : Moment AnyKeyer → List Answered

@@ -1,5 +1,5 @@
 -- What holds of lines in every sound world: their text is their responses, and each reply among these is to the last accepted begin of its name.
-use Rattle.std.proofs.Common.{◌≡◌, ℕ, List, [], ◌∷◌, ◌++◌, map, flat_map, slice_get, Option, Some, None, IsFalse, Result, Ok, Err, refl, sym, ap, ◌∙◌, subst}
+use Rattle.std.proofs.Common.{◌≡◌, ℕ, List, [], ◌∷◌, ◌++◌, map, flat_map, IsFalse, Result, Ok, Err, refl, sym, ap, ◌∙◌, subst}
 use Rattle.std.specs.Prelude.{nat_eq}
 use Rattle.std.specs.List.{IsDistinct}
 use Rattle.std.specs.Option.{option_map_or}
@@ -8,29 +8,27 @@ use Rattle.exh_keyer.specs.declared.any_keyer.AnyKeyer.{AnyKeyer}
 use Rattle.exh_keyer.specs.Pseudokey.{any_pseudokey}
 use Rattle.exh_text.specs.declared.line_fault.LineFault.{LineFault}
 use Rattle.exh_ward.specs.WardState.{WardState}
-use Rattle.exh_ward.specs.declared.call.Call.{Call}
+use Rattle.exh_calls.specs.declared.call.Call.{Call}
 use Rattle.exh_ward.specs.declared.hop.Hop.{Hop as HopOutcome}
 use Rattle.exh_ward.specs.declared.hop.Hop.TheVariants as hops
-use Rattle.exh_ward.specs.declared.journal_entry.JournalEntry.{JournalEntry}
+use Rattle.exh_calls.specs.declared.journal_entry.JournalEntry.{JournalEntry}
 use Rattle.exh_ward.specs.declared.ward_fault.WardFault.TheVariants.{NoPage}
 use Rattle.exh_world.specs.InFlight.{Requests}
 use Rattle.exh_world.specs.Run.{answered_by, answered_at, entry_of}
 use Rattle.exh_world.specs.Step.{pseudokey_in, HasBegun, HasHopped, HasEffect, Step}
 use Rattle.exh_world.specs.StepFunction.{result_of, world_after}
-use Rattle.exh_world.specs.World.{numbered}
 use Rattle.exh_world.specs.declared.event.Event.{Event}
 use Rattle.exh_world.specs.declared.event.Event.TheVariants as events
 use Rattle.exh_world.specs.declared.outcome.Outcome.{Outcome}
 use Rattle.exh_world.specs.declared.outcome.Outcome.TheVariants as outcomes
 use Rattle.exh_world.specs.declared.request.Request.{Request}
 use Rattle.exh_world.specs.declared.step_fault.StepFault.{StepFault}
-use Rattle.exh_world.specs.declared.step_fault.StepFault.TheVariants.{NoCopy, NoWard, Ward}
 use Rattle.exh_world.specs.EffectLemmas.{on_effect}
 use Rattle.exh_script.specs.Answer.{hop_answer, outcome_answer, step_answer}
 use Rattle.exh_script.specs.Grammar.{line_of}
 use Rattle.exh_script.specs.Replies.{Turn, turns_from, is_about, IsBegunLast, Enters, EnterInOrder}
-use Rattle.exh_script.specs.Text.{ScriptWorld, Response, Said, shown_or_refused, refused_step, parsed_response, line_response, response_text, after_parsed, after_line, text_from}
-use Rattle.exh_script.specs.View.{shown_text, page_text}
+use Rattle.exh_script.specs.Text.{ScriptWorld, Response, Said, view_response, parsed_response, line_response, response_text, after_parsed, after_line, text_from}
+use Rattle.exh_script.specs.View.{view_result}
 use Rattle.exh_script.specs.declared.answer.Answer.TheVariants.{Begun, Replied, Moved}
 use Rattle.exh_script.specs.declared.line.Line.{Line}
 use Rattle.exh_script.specs.declared.line.Line.TheVariants as lines
@@ -137,22 +135,16 @@ module _ (world : ScriptWorld) (before : List Turn) (all : AreBegunLast before w
 
   -- ---- views
 
-  goes_shown : {A : Type 0} (fault : StepFault) (text : A → List ℕ) (found : Option A) → Goes (shown_or_refused fault text found) [] world
-  goes_shown fault text None = goes_quiet _ (λ name. refl) refl world refl
-  goes_shown fault text (Some found) = goes_quiet _ (λ name. refl) refl world refl
-
-  goes_page : (ward page : ℕ) (found : Option (WardState AnyKeyer)) → Goes (option_map_or (λ state. shown_or_refused (Ward NoPage) (page_text ward page) (slice_get state.pages page)) found (refused_step NoWard)) [] world
-  goes_page ward page None = goes_quiet _ (λ name. refl) refl world refl
-  goes_page ward page (Some state) = goes_shown (Ward NoPage) (page_text ward page) (slice_get state.pages page)
+  goes_view : (shown : Result (List ℕ) StepFault) → Goes (view_response shown) [] world
+  goes_view (Ok text) = goes_quiet _ (λ name. refl) refl world refl
+  goes_view (Err fault) = goes_quiet _ (λ name. refl) refl world refl
 
   -- ---- a line
 
   module _ (laws : WorldLaws) (ward_bits : ℕ) (keyer : AnyKeyer) (is : IsKept ward_bits keyer world) where
     goes_parsed : (parsed : Result Line LineFault) → line_of line ≡ parsed → Goes (parsed_response world parsed) (parsed_entries world parsed) (after_parsed world parsed)
     goes_parsed (Ok (lines.Step event)) parsed = goes_step event (result_of any_pseudokey world event) (world_after any_pseudokey world event) (laws.outcomes world event is.sound) parsed
-    goes_parsed (Ok (lines.Show copy)) parsed = goes_shown NoCopy (shown_text world.ward_bits copy) (numbered world.copies copy)
-    goes_parsed (Ok (lines.Page ward page)) parsed = goes_page ward page (slice_get world.wards ward)
-    goes_parsed (Ok lines.InFlight) parsed = goes_quiet _ (λ name. refl) refl world refl
+    goes_parsed (Ok (lines.View view)) parsed = goes_view (view_result world view)
     goes_parsed (Err fault) parsed = goes_quiet _ (λ name. refl) refl world refl
 
     goes : Goes (line_response world line) (parsed_entries world (line_of line)) (after_line world line)

@@ -1,29 +1,24 @@
 -- No hop of a script strays, where none of its world's does.
-use Rattle.std.proofs.Common.{ℕ, List, [], ◌∷◌, ◌++◌, slice_get, Option, Some, None, Result, Ok, Err, refl}
+use Rattle.std.proofs.Common.{ℕ, List, [], ◌∷◌, ◌++◌, Result, Ok, Err, refl}
 use Rattle.std.specs.Prelude.{◌≢◌}
 use Rattle.std.specs.List.{All, AllByRecursion}
-use Rattle.std.specs.Option.{option_map_or}
 use Rattle.std.proofs.lemmas.List.Elements.{All-from_recursion, recursion_from_All}
 use Rattle.exh_keyer.specs.declared.any_keyer.AnyKeyer.{AnyKeyer}
 use Rattle.exh_keyer.specs.Pseudokey.{any_pseudokey}
 use Rattle.exh_text.specs.declared.line_fault.LineFault.{LineFault}
-use Rattle.exh_ward.specs.WardState.{WardState}
 use Rattle.exh_ward.specs.declared.hop.Hop.TheVariants as hops
-use Rattle.exh_ward.specs.declared.ward_fault.WardFault.TheVariants.{NoPage}
 use Rattle.exh_world.specs.Headline.{DoesNotStray as KeepsCourse}
 use Rattle.exh_world.specs.Run.{Moment}
 use Rattle.exh_world.specs.StepFunction.{result_of}
-use Rattle.exh_world.specs.World.{numbered}
 use Rattle.exh_world.specs.declared.event.Event.{Event}
 use Rattle.exh_world.specs.declared.outcome.Outcome.{Outcome}
 use Rattle.exh_world.specs.declared.outcome.Outcome.TheVariants as outcomes
 use Rattle.exh_world.specs.declared.step_fault.StepFault.{StepFault}
-use Rattle.exh_world.specs.declared.step_fault.StepFault.TheVariants.{NoCopy, NoWard, Ward}
 use Rattle.exh_script.specs.Answer.{step_answer}
 use Rattle.exh_script.specs.Grammar.{line_of}
 use Rattle.exh_script.specs.Replies.{turns_from, DoesNotStray}
-use Rattle.exh_script.specs.Text.{ScriptWorld, Said, shown_or_refused, refused_step, parsed_response, line_response, after_line}
-use Rattle.exh_script.specs.View.{shown_text, page_text}
+use Rattle.exh_script.specs.Text.{ScriptWorld, Said, view_response, parsed_response, line_response, after_line}
+use Rattle.exh_script.specs.View.{view_result}
 use Rattle.exh_script.specs.declared.answer.Answer.TheVariants.{Stray}
 use Rattle.exh_script.specs.declared.line.Line.{Line}
 use Rattle.exh_script.specs.declared.line.Line.TheVariants as lines
@@ -42,22 +37,16 @@ strays_never event (Ok (outcomes.Sent number)) none name same = cc
 strays_never event (Ok outcomes.Joined) none name same = cc
 strays_never event (Ok outcomes.Restarted) none name same = cc
 
-shown_never : {A : Type 0} (fault : StepFault) (text : A → List ℕ) (found : Option A) (name : ℕ) → shown_or_refused fault text found ≢ Said (Stray name)
-shown_never fault text None name same = cc
-shown_never fault text (Some found) name same = cc
-
-page_never : (ward page : ℕ) (found : Option (WardState AnyKeyer)) (name : ℕ) → option_map_or (λ state. shown_or_refused (Ward NoPage) (page_text ward page) (slice_get state.pages page)) found (refused_step NoWard) ≢ Said (Stray name)
-page_never ward page None name same = cc
-page_never ward page (Some state) name same = shown_never (Ward NoPage) (page_text ward page) (slice_get state.pages page) name same
+view_never : (shown : Result (List ℕ) StepFault) (name : ℕ) → view_response shown ≢ Said (Stray name)
+view_never (Ok text) name same = cc
+view_never (Err fault) name same = cc
 
 abbrev AllKeepCourse : List (Moment AnyKeyer) → Type 0
 AllKeepCourse moments = AllByRecursion (λ (moment : Moment AnyKeyer). KeepsCourse moment) moments
 
 parsed_never : (world : ScriptWorld) (parsed : Result Line LineFault) → AllKeepCourse (parsed_moments world parsed) → (name : ℕ) → parsed_response world parsed ≢ Said (Stray name)
 parsed_never world (Ok (lines.Step event)) all name same = strays_never event (result_of any_pseudokey world event) all.0 name same
-parsed_never world (Ok (lines.Show copy)) all name same = shown_never NoCopy (shown_text world.ward_bits copy) (numbered world.copies copy) name same
-parsed_never world (Ok (lines.Page ward page)) all name same = page_never ward page (slice_get world.wards ward) name same
-parsed_never world (Ok lines.InFlight) all name same = cc
+parsed_never world (Ok (lines.View view)) all name same = view_never (view_result world view) name same
 parsed_never world (Err fault) all name same = cc
 
 line_never : (world : ScriptWorld) (line : List ℕ) → AllKeepCourse (parsed_moments world (line_of line)) → (name : ℕ) → line_response world line ≢ Said (Stray name)

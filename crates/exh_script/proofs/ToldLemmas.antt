@@ -17,8 +17,8 @@ use Rattle.exh_text.specs.Printing.{printed, place_text}
 use Rattle.exh_text.specs.TextLemmas.{number_again, printed_again, prefix_again, decimal_graphic, prefix_graphic, printed_graphic, place_graphic, prefix_of_text, parts_at-word, parts_at-place, one_part}
 use Rattle.exh_text.specs.declared.line_fault.LineFault.TheVariants.{Syntax, Range}
 use Rattle.exh_ward.specs.WardFault.{fault_number}
-use Rattle.exh_ward.specs.declared.reply.Reply.{Reply}
-use Rattle.exh_ward.specs.declared.reply.Reply.TheVariants.{Is, None as Absent, New, Was, Full}
+use Rattle.exh_calls.specs.declared.reply.Reply.{Reply}
+use Rattle.exh_calls.specs.declared.reply.Reply.TheVariants.{Is, None as Absent, New, Was, Full}
 use Rattle.exh_ward.specs.declared.ward_fault.WardFault.{WardFault}
 use Rattle.exh_ward.specs.declared.ward_fault.WardFault.TheVariants.{NoPage, NotLive, NotFull, AtLimit, NoBuddy, BuddySplit, TooMany, Worn, Memory, Page}
 use Rattle.exh_world.specs.StepFault.{step_fault_number}

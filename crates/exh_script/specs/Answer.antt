@@ -8,8 +8,8 @@ use Rattle.exh_text.specs.Lines.{newline}
 use Rattle.exh_text.specs.Printing.{printed, place_text, refused_text}
 use Rattle.exh_ward.specs.declared.hop.Hop.{Hop}
 use Rattle.exh_ward.specs.declared.hop.Hop.TheVariants as hops
-use Rattle.exh_ward.specs.declared.reply.Reply.{Reply}
-use Rattle.exh_ward.specs.declared.reply.Reply.TheVariants.{Is, None as Absent, New, Was, Full}
+use Rattle.exh_calls.specs.declared.reply.Reply.{Reply}
+use Rattle.exh_calls.specs.declared.reply.Reply.TheVariants.{Is, None as Absent, New, Was, Full}
 use Rattle.exh_world.specs.declared.event.Event.{Event}
 use Rattle.exh_world.specs.declared.event.Event.TheVariants as events
 use Rattle.exh_world.specs.declared.outcome.Outcome.{Outcome}

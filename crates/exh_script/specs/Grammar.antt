@@ -11,15 +11,17 @@ use Rattle.exh_text.specs.LineFault.{ranged}
 use Rattle.exh_text.specs.Lines.{words_of}
 use Rattle.exh_text.specs.Numbers.{◌>>=◌, after_prefix, index_of, number_after, number_of}
 use Rattle.exh_text.specs.declared.line_fault.LineFault.{LineFault}
-use Rattle.exh_ward.specs.declared.call.Call.{Call}
-use Rattle.exh_ward.specs.declared.call.Call.TheVariants.{Get, Put, Del}
+use Rattle.exh_calls.specs.declared.call.Call.{Call}
+use Rattle.exh_calls.specs.declared.call.Call.TheVariants.{Get, Put, Del}
 use Rattle.exh_ward.specs.declared.ward.TheConstants.{WARD_BITS_LIMIT}
 use Rattle.exh_world.specs.declared.config.Config.{Config}
 use Rattle.exh_world.specs.declared.event.Event.{Event}
 use Rattle.exh_world.specs.declared.event.Event.TheVariants.{Begin, Hop, Split, Merge, Deliver, Send, Combine, Restart}
 use Rattle.exh_script.specs.declared.file_line.TheConstants.{COPIES_LIMIT}
 use Rattle.exh_script.specs.declared.line.Line.{Line}
-use Rattle.exh_script.specs.declared.line.Line.TheVariants.{Step, Show, Page, InFlight}
+use Rattle.exh_script.specs.declared.line.Line.TheVariants.{Step, View as Seen}
+use Rattle.exh_script.specs.declared.view.View.{View}
+use Rattle.exh_script.specs.declared.view.View.TheVariants.{Copy, Page, InFlight}
 
 -- ---- the lines that words spell, whatever their numbers and lengths are
 
@@ -70,14 +72,14 @@ spelled_deliver (copy ∷ ward ∷ index ∷ []) = do
 spelled_deliver words = None
 
 -- no word more
-unfoldable pub spelled_in_flight : List (List ℕ) → Option Line
+unfoldable pub spelled_in_flight : List (List ℕ) → Option View
 spelled_in_flight [] = Some InFlight
 spelled_in_flight words = None
 
 -- views: `show COPY`, `page WARD PAGE`, `inflight`
-unfoldable pub spelled_view : List ℕ → List (List ℕ) → Option Line
+unfoldable pub spelled_view : List ℕ → List (List ℕ) → Option View
 spelled_view keyword words =
-    if bytes_eq keyword (codes "show") then (spelled_number words >>= λ copy. Some (Show copy))
+    if bytes_eq keyword (codes "show") then (spelled_number words >>= λ copy. Some (Copy copy))
     else (if bytes_eq keyword (codes "page") then (spelled_pair_of_numbers words >>= λ place. Some (Page place.0 place.1))
     else (if bytes_eq keyword (codes "inflight") then spelled_in_flight words else None))
 
@@ -88,7 +90,7 @@ spelled_copy_step keyword words =
     else (if bytes_eq keyword (codes "send") then (spelled_number words >>= λ copy. Some (Step (Send copy)))
     else (if bytes_eq keyword (codes "combine") then (spelled_pair_of_numbers words >>= λ sent. Some (Step (Combine sent.0 sent.1)))
     else (if bytes_eq keyword (codes "restart") then (spelled_number words >>= λ copy. Some (Step (Restart copy)))
-    else spelled_view keyword words)))
+    else (spelled_view keyword words >>= λ view. Some (Seen view)))))
 
 -- changes of pages: `split WARD PAGE`, `merge WARD PAGE`; or one of those above
 unfoldable pub spelled_change : List ℕ → List (List ℕ) → Option Line

@@ -5,11 +5,11 @@ use Rattle.exh_keyer.specs.declared.any_keyer.AnyKeyer.{AnyKeyer}
 use Rattle.exh_keyer.specs.Pseudokey.{any_pseudokey}
 use Rattle.exh_table.specs.Table.{TableMap}
 use Rattle.exh_text.specs.Lines.{lines_of}
-use Rattle.exh_ward.specs.Call.{key_of}
-use Rattle.exh_ward.specs.History.{IsHistory, map_left}
+use Rattle.exh_calls.specs.Call.{key_of}
+use Rattle.exh_calls.specs.History.{IsHistory, map_left}
 use Rattle.exh_ward.specs.WardState.{WardState}
-use Rattle.exh_ward.specs.declared.call.Call.{Call}
-use Rattle.exh_ward.specs.declared.journal_entry.JournalEntry.{JournalEntry}
+use Rattle.exh_calls.specs.declared.call.Call.{Call}
+use Rattle.exh_calls.specs.declared.journal_entry.JournalEntry.{JournalEntry}
 use Rattle.exh_world.specs.Headline.{IsHeadline, IsSameSet, taken_by}
 use Rattle.exh_world.specs.NewWorld.{new_world}
 use Rattle.exh_world.specs.Run.{Told, answered_in, entry_of}

@@ -1,21 +1,18 @@
 -- The text of a script: a fold over its lines.
-use Rattle.std.specs.Prelude.{ℕ, List, [], ◌∷◌, ◌++◌, length, nat_le, slice_get, if◌then◌else◌, Option, Some, None, Result, Ok, Err}
-use Rattle.std.specs.Option.{option_map_or}
+use Rattle.std.specs.Prelude.{ℕ, List, [], ◌∷◌, ◌++◌, length, nat_le, if◌then◌else◌, Result, Ok, Err}
 use Rattle.exh_keyer.specs.declared.any_keyer.AnyKeyer.{AnyKeyer}
 use Rattle.exh_keyer.specs.Pseudokey.{any_pseudokey}
 use Rattle.exh_text.specs.Lines.{lines_of}
 use Rattle.exh_text.specs.declared.line_fault.LineFault.{LineFault}
 use Rattle.exh_text.specs.declared.line_fault.LineFault.TheVariants.{Syntax}
-use Rattle.exh_ward.specs.declared.ward_fault.WardFault.TheVariants.{NoPage}
 use Rattle.exh_world.specs.NewWorld.{new_world}
 use Rattle.exh_world.specs.StepFunction.{result_of, world_after}
-use Rattle.exh_world.specs.World.{WorldState, numbered}
+use Rattle.exh_world.specs.World.{WorldState}
 use Rattle.exh_world.specs.declared.config.Config.{Config}
 use Rattle.exh_world.specs.declared.step_fault.StepFault.{StepFault}
-use Rattle.exh_world.specs.declared.step_fault.StepFault.TheVariants.{NoCopy, NoWard, Ward}
 use Rattle.exh_script.specs.Answer.{answer_text, step_answer}
 use Rattle.exh_script.specs.Grammar.{file_line_of, line_of}
-use Rattle.exh_script.specs.View.{in_flight_text, page_text, shown_text}
+use Rattle.exh_script.specs.View.{view_result}
 use Rattle.exh_script.specs.declared.answer.Answer.{Answer}
 use Rattle.exh_script.specs.declared.answer.Answer.TheVariants.{Refused}
 use Rattle.exh_script.specs.declared.ended.Ended.{Ended}
@@ -37,25 +34,19 @@ pub data Response : Type 0 where
   Said : Answer → Response
   Shown : List ℕ → Response
 
-abbrev pub refused_step : StepFault → Response
-refused_step fault = Said (Refused (StepRefusal fault))
-
--- the text of what was found, else a refusal
-abbrev pub shown_or_refused : {A : Type 0} → StepFault → (A → List ℕ) → Option A → Response
-shown_or_refused fault text None = refused_step fault
-shown_or_refused fault text (Some found) = Shown (text found)
+-- what a view shows, or its refusal
+abbrev pub view_response : Result (List ℕ) StepFault → Response
+view_response (Ok text) = Shown text
+view_response (Err fault) = Said (Refused (StepRefusal fault))
 
 abbrev pub response_to : ScriptWorld → Line → Response
 response_to world (lines.Step event) = Said (step_answer event (result_of any_pseudokey world event))
-response_to world (lines.Show copy) = shown_or_refused NoCopy (shown_text world.ward_bits copy) (numbered world.copies copy)
-response_to world (lines.Page ward page) =
-    option_map_or (λ state. shown_or_refused (Ward NoPage) (page_text ward page) (slice_get state.pages page)) (slice_get world.wards ward) (refused_step NoWard)
-response_to world lines.InFlight = Shown (in_flight_text world.in_flight)
+response_to world (lines.View view) = view_response (view_result world view)
 
 -- only a step changes the world
 abbrev pub after_asked : ScriptWorld → Line → ScriptWorld
 after_asked world (lines.Step event) = world_after any_pseudokey world event
-after_asked world line = world
+after_asked world (lines.View view) = world
 
 abbrev pub parsed_response : ScriptWorld → Result Line LineFault → Response
 parsed_response world (Ok line) = response_to world line

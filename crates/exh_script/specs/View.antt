@@ -1,6 +1,8 @@
--- What is printed of a copy's table, of a page and of the requests in flight.
-use Rattle.std.specs.Prelude.{ℕ, Bool, List, [], ◌∷◌, ◌++◌, length, flat_map, Option, Some, None, decimal, codes}
+-- What a view of the world shows: a copy's table, a page, or the requests in flight.
+use Rattle.std.specs.Prelude.{ℕ, Bool, List, [], ◌∷◌, ◌++◌, length, flat_map, slice_get, Option, Some, None, Result, Ok, Err, decimal, codes}
 use Rattle.std.specs.FinMap.{entries}
+use Rattle.std.specs.Option.{option_map_or}
+use Rattle.exh_keyer.specs.declared.any_keyer.AnyKeyer.{AnyKeyer}
 use Rattle.exh_prefix.specs.Prefix.{low_of, prefix_text}
 use Rattle.exh_notice.specs.declared.entry.Entry.{Entry}
 use Rattle.exh_table.specs.Below.{depth_of, leaves_listed}
@@ -10,10 +12,15 @@ use Rattle.exh_page.specs.declared.page.Page.{Page}
 use Rattle.exh_page.specs.declared.page.Page.TheVariants.{Live, Forward}
 use Rattle.exh_text.specs.Lines.{newline}
 use Rattle.exh_text.specs.Printing.{place_text}
+use Rattle.exh_ward.specs.declared.ward_fault.WardFault.TheVariants.{NoPage}
 use Rattle.exh_world.specs.InFlight.{Requests}
-use Rattle.exh_world.specs.World.{ward_of}
+use Rattle.exh_world.specs.World.{WorldState, numbered, ward_of}
 use Rattle.exh_world.specs.declared.request.Request.{Request}
+use Rattle.exh_world.specs.declared.step_fault.StepFault.{StepFault}
+use Rattle.exh_world.specs.declared.step_fault.StepFault.TheVariants.{NoCopy, NoWard, Ward}
 use Rattle.exh_script.specs.Answer.{copy_text, entry_text, request_text}
+use Rattle.exh_script.specs.declared.view.View.{View}
+use Rattle.exh_script.specs.declared.view.View.TheVariants as views
 
 -- a line of its own
 abbrev pub on_line : List ℕ → List ℕ
@@ -60,3 +67,17 @@ request_line named = on_line (request_text named.0 ++ (codes " at " ++ place_tex
 -- how many there are, and each in the order begun
 abbrev pub in_flight_text : Requests → List ℕ
 in_flight_text requests = on_line (codes "inflight " ++ decimal (length requests)) ++ flat_map request_line requests
+
+-- ---- a view
+
+-- the text of what was found, else a refusal
+abbrev pub found_or : {A : Type 0} → StepFault → (A → List ℕ) → Option A → Result (List ℕ) StepFault
+found_or fault text None = Err fault
+found_or fault text (Some found) = Ok (text found)
+
+-- what a view shows of a world, or why it shows nothing
+abbrev pub view_result : WorldState AnyKeyer → View → Result (List ℕ) StepFault
+view_result world (views.Copy copy) = found_or NoCopy (shown_text world.ward_bits copy) (numbered world.copies copy)
+view_result world (views.Page ward page) =
+    option_map_or (λ state. found_or (Ward NoPage) (page_text ward page) (slice_get state.pages page)) (slice_get world.wards ward) (Err NoWard)
+view_result world views.InFlight = Ok (in_flight_text world.in_flight)

@@ -2,9 +2,10 @@ ghost use Rattle.std.specs.Prelude.{◌≡◌};
 ghost use Rattle.exh_script.specs.Answer.{copy_in, hop_answer, outcome_answer, request_in, table_in};
 
 use crate::Refusal;
+use exh_calls::Reply;
 use exh_notice::Notice;
 use exh_page::PageNo;
-use exh_ward::{Hop, Reply};
+use exh_ward::Hop;
 use exh_world::{Event, Outcome};
 
 /// What a line of a script is answered, unless it asks for a view. Each variant is one printed line.

@@ -3,10 +3,10 @@ ghost use Rattle.exh_script.specs.Answer.{answer_text, copy_text, entry_text, ki
 ghost use Rattle.exh_script.specs.declared.answer.Answer.TheVariants.{Refused};
 
 use crate::{Answer, Refusal};
+use exh_calls::Reply;
 use exh_notice::{Kind, Notice};
 use exh_prefix::Prefix;
 use exh_text::{push_number, push_place, push_prefix, push_refused, push_text, push_value};
-use exh_ward::Reply;
 use std::alloc::AllocError;
 
 /// Adds the line that an answer prints.

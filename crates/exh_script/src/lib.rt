@@ -8,6 +8,7 @@ use line::Line;
 use refusal::Refusal;
 pub use serve_fault::ServeFault;
 pub use server::serve;
+use view::View;
 
 mod answer;
 mod answer_text;
@@ -20,4 +21,5 @@ mod respond;
 mod response;
 mod serve_fault;
 mod server;
+mod view;
 mod view_text;

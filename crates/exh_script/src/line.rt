@@ -2,11 +2,11 @@ ghost use Rattle.std.specs.Prelude.{◌≡◌};
 ghost use Rattle.exh_text.specs.LineFault.{ranged};
 ghost use Rattle.exh_script.specs.Grammar.{call_in_range, line_in_range, line_of, spelled_begin, spelled_call, spelled_change, spelled_copy_step, spelled_deliver, spelled_hop, spelled_in_flight, spelled_number, spelled_pair_of_numbers, spelled_view};
 
-use exh_page::PageNo;
+use crate::View;
+use exh_calls::Call;
 use exh_text::{
     LineFault, Parts, parse_key, parse_pair, parse_u32, parse_u32_after, parse_u64, split_words,
 };
-use exh_ward::Call;
 use exh_world::Event;
 
 /// A line of a script after its first, its numbers, key and value in their ranges (exhash profile). There may be no such
@@ -15,12 +15,8 @@ use exh_world::Event;
 pub(crate) enum Line {
     /// `begin`, `hop`, `split`, `merge`, `deliver`, `send`, `combine` or `restart`.
     Step(Event),
-    /// `show COPY`
-    Show { copy: u32 },
-    /// `page WARD PAGE`
-    Page { ward: u32, page: PageNo },
-    /// `inflight`
-    InFlight,
+    /// `show`, `page` or `inflight`.
+    View(View),
 }
 
 /// Reads a later line, without its newline. A line outside the grammar is `Syntax`, whatever its numbers are; one in it
@@ -117,27 +113,28 @@ fn parse_copy_step(keyword: &[u8], words: Parts<'_>) -> Result<Line, LineFault>
             copy: parse_one(words).ok_or(LineFault::Syntax)?,
         }));
     }
-    parse_view(keyword, words)
+    let view = parse_view(keyword, words).ok_or(LineFault::Syntax)?;
+    Ok(Line::View(view))
 }
 
 // A view of the world.
 #[tactic(auto, unfolding(crate::specs::Grammar::spelled_view))]
-fn parse_view(keyword: &[u8], words: Parts<'_>) -> Result<Line, LineFault>
-    ensures { result ≡ ranged line_in_range (spelled_view keyword.now words.entry) }
+fn parse_view(keyword: &[u8], words: Parts<'_>) -> Option<View>
+    ensures { result ≡ spelled_view keyword.now words.entry }
 {
     if keyword == b"show".as_slice() {
-        return Ok(Line::Show {
-            copy: parse_one(words).ok_or(LineFault::Syntax)?,
+        return Some(View::Copy {
+            copy: parse_one(words)?,
         });
     }
     if keyword == b"page".as_slice() {
-        let (ward, page) = parse_two(words).ok_or(LineFault::Syntax)?;
-        return Ok(Line::Page { ward, page });
+        let (ward, page) = parse_two(words)?;
+        return Some(View::Page { ward, page });
     }
     if keyword == b"inflight".as_slice() {
         return parse_in_flight(words);
     }
-    Err(LineFault::Syntax)
+    None
 }
 
 // A number alone.
@@ -185,12 +182,12 @@ fn parse_deliver(mut words: Parts<'_>) -> Result<Line, LineFault>
 
 // No word more.
 #[tactic(auto, unfolding(crate::specs::Grammar::spelled_in_flight))]
-fn parse_in_flight(mut words: Parts<'_>) -> Result<Line, LineFault>
-    ensures { result ≡ ranged line_in_range (spelled_in_flight words.entry) }
+fn parse_in_flight(mut words: Parts<'_>) -> Option<View>
+    ensures { result ≡ spelled_in_flight words.entry }
 {
     match words.next() {
-        Some(_) => Err(LineFault::Syntax),
-        None => Ok(Line::InFlight),
+        Some(_) => None,
+        None => Some(View::InFlight),
     }
 }
 

@@ -4,12 +4,13 @@ ghost use Rattle.exh_world.specs.Sound.{IsSoundWorld};
 ghost use Rattle.exh_world.specs.StepFunction.{result_of, world_after};
 ghost use Rattle.exh_script.specs.Answer.{step_answer};
 ghost use Rattle.exh_script.specs.Text.{after_asked, after_line, line_response, response_text, response_to};
-ghost use Rattle.exh_script.specs.declared.line.Line.TheVariants.{Page, Show, Step};
+ghost use Rattle.exh_script.specs.declared.line.Line.TheVariants.{Step, View as Seen};
+ghost use Rattle.exh_script.specs.declared.view.View.TheVariants.{Copy, Page};
 
 use crate::answer_text::{push_answer, push_refusal};
 use crate::line::parse_line;
 use crate::view_text::{push_in_flight, push_page, push_shown};
-use crate::{Answer, Line};
+use crate::{Answer, Line, View};
 use exh_frames::PlainPages;
 use exh_keyer::AnyKeyer;
 use exh_page::PageNo;
@@ -32,9 +33,7 @@ pub(crate) fn push_response(
 {
     match parse_line(line) {
         Ok(Line::Step(event)) => push_event(out, world, &event),
-        Ok(Line::Show { copy }) => push_copy_shown(out, world, copy),
-        Ok(Line::Page { ward, page }) => push_page_shown(out, world, ward, page),
-        Ok(Line::InFlight) => push_in_flight(out, world),
+        Ok(Line::View(view)) => push_view(out, world, view),
         Err(fault) => push_refusal(out, fault.into()),
     }
 }
@@ -73,12 +72,30 @@ fn answer_event(
     }
 }
 
+// A view, or its refusal, and the world as it was.
+fn push_view(
+    out: &mut Vec<u8>,
+    world: &mut World<PlainPages, AnyKeyer>,
+    view: View,
+) -> Result<(), AllocError>
+    requires { IsSoundWorld any_pseudokey world.old }
+    ensures text { OnOk result (out.new.items ≡ out.old.items ++ response_text (response_to world.old (Seen view))) }
+    ensures world { OnOk result (world.new ≡ world.old) }
+    ensures sound { IsSoundWorld any_pseudokey world.new }
+{
+    match view {
+        View::Copy { copy } => push_copy_shown(out, world, copy),
+        View::Page { ward, page } => push_page_shown(out, world, ward, page),
+        View::InFlight => push_in_flight(out, world),
+    }
+}
+
 fn push_copy_shown(
     out: &mut Vec<u8>,
     world: &World<PlainPages, AnyKeyer>,
     copy: u32,
 ) -> Result<(), AllocError>
-    ensures { OnOk result (out.new.items ≡ out.old.items ++ response_text (response_to world.now (Show copy))) }
+    ensures { OnOk result (out.new.items ≡ out.old.items ++ response_text (response_to world.now (Seen (Copy copy)))) }
 {
     match world.copy(copy) {
         Ok(directory) => push_shown(out, world.ward_bits(), copy, directory),
@@ -92,7 +109,7 @@ fn push_page_shown(
     ward: u32,
     page: PageNo,
 ) -> Result<(), AllocError>
-    ensures text { OnOk result (out.new.items ≡ out.old.items ++ response_text (response_to world.old (Page ward page))) }
+    ensures text { OnOk result (out.new.items ≡ out.old.items ++ response_text (response_to world.old (Seen (Page ward page)))) }
     ensures same { world.new ≡ world.old }
     ensures sound { IsSoundWorld any_pseudokey world.new }
 {

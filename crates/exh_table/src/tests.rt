@@ -8,10 +8,10 @@ use crate::{
     one_notice_more_is_taken, own_entries_give_the_table, put_back_undoes, union_is_join,
     walks_are_paths, walks_name_leaves,
 };
-use exh_join::{Join, Replica, join_all};
+use exh_join::Join;
 use exh_notice::{Entry, Kind, Notice};
 use exh_prefix::{LIMIT, PageNo, Prefix};
-use std::alloc::{AllocError, Global};
+use std::alloc::Global;
 
 // A prefix, as its length and bits.
 type Place = (u8, u64);
@@ -51,54 +51,6 @@ fn notice(place: Place, row: Row) -> Option<Notice> {
         number: told.number,
         kind: told.kind,
     })
-}
-
-// Takes a notice, once more where memory is refused: then the table is as before, and an entry that
-// stands needs no memory.
-fn take_again(table: &mut Table, notice: &Notice) -> Option<Option<Entry>> {
-    match table.take(notice) {
-        Ok(stood) => Some(stood),
-        Err(AllocError) => {
-            if table.get(notice.prefix).is_some() {
-                return None;
-            }
-            table.take(notice).ok()
-        }
-    }
-}
-
-// A clone, made once more where memory is refused.
-fn clone_again(table: &Table) -> Option<Table> {
-    match table.try_clone() {
-        Err(AllocError) => table.try_clone().ok(),
-        Ok(copy) => Some(copy),
-    }
-}
-
-fn same(one: &Table, other: &Table) -> bool {
-    one.at_most(other) && other.at_most(one)
-}
-
-// Joins a table, once more where memory is refused: then the first is as before.
-fn join_again(table: &mut Table, other: &Table, before: &Table) -> Option<()> {
-    match table.join_in(other) {
-        Ok(()) => Some(()),
-        Err(AllocError) => {
-            if !same(table, before) {
-                return None;
-            }
-            table.join_in(other).ok()
-        }
-    }
-}
-
-fn leaves_again(table: &Table, ward_bits: u8) -> Option<Vec<Leaf>>
-    requires { ward_bits ≤ LIMIT }
-{
-    match table.leaves(ward_bits) {
-        Err(AllocError) => table.leaves(ward_bits).ok(),
-        Ok(leaves) => Some(leaves),
-    }
 }
 
 fn has_entries(table: &Table, want: &[(Place, Row)]) -> bool {
@@ -247,7 +199,7 @@ fn tell(table: &mut Table, told: &[Told]) -> Option<bool> {
     for (place, row, stood) in told {
         let notice = notice(*place, *row)?;
         let before = table.get(notice.prefix);
-        if take_again(table, &notice)? != before || before != stood.map(entry) {
+        if table.take(&notice).ok()? != before || before != stood.map(entry) {
             return Some(false);
         }
     }
@@ -259,7 +211,7 @@ fn has_directory(table: &Table, story: &Story) -> Option<bool> {
     if ward_bits > LIMIT {
         return None;
     }
-    let leaves = leaves_again(table, ward_bits)?;
+    let leaves = table.leaves(ward_bits).ok()?;
     Some(
         table.depth(ward_bits) == depth
             && are_leaves(table, ward_bits, leaves.as_slice(), want)
@@ -273,24 +225,25 @@ fn is_told(table: &mut Table, story: &Story) -> bool {
         && has_directory(table, story) == Some(true)
 }
 
-fn wrong_story(alloc: Global) -> Option<usize> {
-    for (at, story) in STORIES.iter().enumerate() {
+fn are_told(alloc: Global) -> bool {
+    for story in &STORIES {
         if !is_told(&mut Table::new(alloc), story) {
-            return Some(at);
+            return false;
         }
     }
-    None
+    true
 }
 
 #[test]
 fn stories_of_notices(rt: HostRuntime) {
-    assert_eq!(rt; wrong_story(rt.alloc()), None);
+    assert!(rt; are_told(rt.alloc()));
 }
 
 // Splits at 0 to 15 zeros are passed, one at 16 zeros isn't.
 fn stops_at_16_bits(table: &mut Table) -> Option<bool> {
     for len in 0..17u8 {
-        take_again(table, &notice((len, 0), (1, Some(PageNo::from(len) + 1)))?)?;
+        let notice = notice((len, 0), (1, Some(PageNo::from(len) + 1)))?;
+        table.take(&notice).ok()?;
     }
     let walks = [
         (0x0001_0000_0000_0000, 16),
@@ -298,7 +251,7 @@ fn stops_at_16_bits(table: &mut Table) -> Option<bool> {
         (0, 0),
         (HALF, 1),
     ];
-    let count = leaves_again(table, 0)?.len();
+    let count = table.leaves(0).ok()?.len();
     Some(table.depth(0) == 16 && count == 17 && has_walks(table, 0, &walks))
 }
 
@@ -354,39 +307,19 @@ const UNIONS: [Union; 4] = [
 
 fn fill(table: &mut Table, entries: &[(Place, Row)]) -> Option<()> {
     for (place, row) in entries {
-        take_again(table, &notice(*place, *row)?)?;
+        table.take(&notice(*place, *row)?).ok()?;
     }
     Some(())
 }
 
 // Whether a table joins another to these entries, of this depth, and stands below the join.
 fn joins_to(one: &Table, other: &Table, want: &[(Place, Row)], depth: u8) -> Option<bool> {
-    let mut joined = clone_again(one)?;
-    join_again(&mut joined, other, one)?;
+    let mut joined = one.try_clone().ok()?;
+    joined.join_in(other).ok()?;
     Some(has_entries(&joined, want) && joined.depth(0) == depth && one.at_most(&joined))
 }
 
-fn take_table(replica: &mut Replica<Table>, table: &Table) -> Option<()> {
-    match replica.take(table) {
-        Err(AllocError) => replica.take(table).ok(),
-        Ok(()) => Some(()),
-    }
-}
-
-// Whether a replica that takes both, and `join_all`, come to these entries.
-fn replicas_meet(alloc: Global, one: &Table, other: &Table, want: &[(Place, Row)]) -> Option<bool> {
-    let mut replica = Replica::new(Table::new(alloc));
-    take_table(&mut replica, other)?;
-    take_table(&mut replica, one)?;
-    let tables = [clone_again(one)?, clone_again(other)?];
-    let joined = match join_all(&tables) {
-        Err(AllocError) => join_all(&tables).ok()?,
-        Ok(joined) => joined,
-    };
-    Some(has_entries(replica.value(), want) && has_entries(&joined?, want))
-}
-
-fn is_union(alloc: Global, one: &mut Table, other: &mut Table, union: &Union) -> Option<bool> {
+fn is_union(one: &mut Table, other: &mut Table, union: &Union) -> Option<bool> {
     let (first, second, is_below, want, depth) = *union;
     fill(one, first)?;
     fill(other, second)?;
@@ -395,19 +328,18 @@ fn is_union(alloc: Global, one: &mut Table, other: &mut Table, union: &Union) ->
             && !other.at_most(one)
             && joins_to(one, other, want, depth)?
             && joins_to(other, one, want, depth)?
-            && replicas_meet(alloc, one, other, want)?
             && has_entries(one, first)
             && has_entries(other, second),
     )
 }
 
-fn wrong_union(alloc: Global) -> Option<usize> {
-    for (at, union) in UNIONS.iter().enumerate() {
-        if is_union(alloc, &mut Table::new(alloc), &mut Table::new(alloc), union) != Some(true) {
-            return Some(at);
+fn are_unions(alloc: Global) -> bool {
+    for union in &UNIONS {
+        if is_union(&mut Table::new(alloc), &mut Table::new(alloc), union) != Some(true) {
+            return false;
         }
     }
-    None
+    true
 }
 
 // The laws have no code: that they are called costs nothing.
@@ -427,7 +359,7 @@ fn call_laws() {
 #[test]
 fn joins_both_ways_round(rt: HostRuntime) {
     call_laws();
-    assert_eq!(rt; wrong_union(rt.alloc()), None);
+    assert!(rt; are_unions(rt.alloc()));
 }
 
 // Puts back what stood, if there is an entry to give way.

@@ -13,18 +13,18 @@ use Rattle.exh_page.specs.Records.{value_at}
 use Rattle.exh_legal.specs.Laws.{PagesAreFew}
 use Rattle.exh_legal.specs.MapLemmas.{place_of_key}
 use Rattle.exh_legal.specs.Pages.{map_of, IsAt}
-use Rattle.exh_ward.specs.Call.{key_of}
+use Rattle.exh_calls.specs.Call.{key_of}
 use Rattle.exh_ward.specs.HopTable.{HopOf, pages_after}
 use Rattle.exh_ward.specs.Kept.{IsKept}
-use Rattle.exh_ward.specs.MapMachine.{reply_of, map_after}
+use Rattle.exh_calls.specs.MapMachine.{reply_of, map_after}
 use Rattle.exh_ward.specs.PageAnswer.{reply_by, page_reply, records_after}
 use Rattle.exh_ward.specs.PageIndex.{IndexMap}
 use Rattle.exh_ward.specs.Sight.{SightIn}
 use Rattle.exh_ward.specs.WardState.{WardState, IsAnswered, own_prefix}
-use Rattle.exh_ward.specs.declared.call.Call.{Call}
+use Rattle.exh_calls.specs.declared.call.Call.{Call}
 use Rattle.exh_ward.specs.declared.hop.Hop.TheVariants.{Done}
-use Rattle.exh_ward.specs.declared.journal_entry.JournalEntry.{JournalEntry}
-use Rattle.exh_ward.specs.declared.reply.Reply.{Reply}
+use Rattle.exh_calls.specs.declared.journal_entry.JournalEntry.{JournalEntry}
+use Rattle.exh_calls.specs.declared.reply.Reply.{Reply}
 use Rattle.exh_ward.specs.declared.sight.Sight.TheVariants.{Home}
 use Rattle.exh_ward.proofs.Home.{AtHome, Fit, reply_is}
 use Rattle.exh_ward.proofs.HomeAfter.{left_by, records_after-left, left_legal, new_map}

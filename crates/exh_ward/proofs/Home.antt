@@ -15,18 +15,18 @@ use Rattle.exh_page.specs.Page.{AreRecordsOf}
 use Rattle.exh_page.specs.Place.{place_cmp}
 use Rattle.exh_page.specs.Records.{value_at}
 use Rattle.exh_page.specs.RecordsLemmas.{place_cmp-total}
-use Rattle.exh_legal.specs.KeyMap.{KeyMap}
+use Rattle.exh_page.specs.KeyMap.{KeyMap}
 use Rattle.exh_legal.specs.Pages.{map_of, IsAt, IsLegalPage, IsLegal}
 use Rattle.exh_legal.specs.BareLemmas.{bare_at}
 use Rattle.exh_legal.specs.MapLemmas.{map_of_records, place_of_key, same_test, get-map_of, get-map_of_records, none_of_others, page_at}
-use Rattle.exh_ward.specs.Call.{key_of}
-use Rattle.exh_ward.specs.MapMachine.{sharing, is_full, get_reply, put_reply, del_reply, reply_of}
+use Rattle.exh_calls.specs.Call.{key_of}
+use Rattle.exh_calls.specs.MapMachine.{sharing, is_full, get_reply, put_reply, del_reply, reply_of}
 use Rattle.exh_ward.specs.PageAnswer.{page_reply, OverflowsPage}
-use Rattle.exh_ward.specs.declared.call.Call.{Call}
-use Rattle.exh_ward.specs.declared.call.Call.TheVariants.{Get, Put, Del}
-use Rattle.exh_ward.proofs.Sharing.{shares, sharing_same, sharing_all, sharing-le}
+use Rattle.exh_calls.specs.declared.call.Call.{Call}
+use Rattle.exh_calls.specs.declared.call.Call.TheVariants.{Get, Put, Del}
+use Rattle.exh_calls.specs.SharingLemmas.{shares, sharing_same, sharing_all, sharing-le}
 use Rattle.exh_ward.proofs.RecordCount.{len-map_of_records-le, len-map_of_records}
-use Rattle.exh_ward.proofs.LeadingBits.{begins_by-sharing, shared_begins}
+use Rattle.exh_calls.specs.LeadingLemmas.{begins_by-sharing, shared_begins}
 
 -- a key and the key of a test, the other way round
 pub same_test_turned : (pseudo : List ℕ → ℕ) (one other : List ℕ) → is_eq (place_cmp (place_of_key pseudo one) (place_of_key pseudo other)) ≡ eq_by_cmp (slice_cmp nat_cmp) one other

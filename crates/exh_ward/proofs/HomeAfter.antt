@@ -20,14 +20,15 @@ use Rattle.exh_page.specs.Place.{Place}
 use Rattle.exh_page.specs.Records.{is_at, value_at, with_record, without_place}
 use Rattle.exh_page.specs.RecordsLemmas.{AllByRecursion-filter, IsRising-filter, IsRising-with_record}
 use Rattle.exh_page.specs.Values.{value_at-with_record, value_at-without_place, AllByRecursion-with_record, length-with_record_old, length-with_record_le, length-without_place}
-use Rattle.exh_legal.specs.KeyMap.{KeyMap}
+use Rattle.exh_page.specs.KeyMap.{KeyMap}
 use Rattle.exh_legal.specs.Pages.{map_of, IsAt, IsHome, IsLegalPage, IsLegal, AreLinked, bare}
-use Rattle.exh_legal.specs.MapLemmas.{tie_of, place_of_key, same_maps, get-map_of, get-map_of_pages, found_at, found_alike, none_elsewhere, page_at, all_pages}
-use Rattle.exh_ward.specs.Call.{key_of}
-use Rattle.exh_ward.specs.MapMachine.{is_full, put_leaves, map_after}
+use Rattle.exh_page.specs.KeyMapLemmas.{same_maps}
+use Rattle.exh_legal.specs.MapLemmas.{tie_of, place_of_key, get-map_of, get-map_of_pages, found_at, found_alike, none_elsewhere, page_at, all_pages}
+use Rattle.exh_calls.specs.Call.{key_of}
+use Rattle.exh_calls.specs.MapMachine.{is_full, put_leaves, map_after}
 use Rattle.exh_ward.specs.PageAnswer.{page_reply, records_after}
-use Rattle.exh_ward.specs.declared.call.Call.{Call}
-use Rattle.exh_ward.specs.declared.call.Call.TheVariants.{Get, Put, Del}
+use Rattle.exh_calls.specs.declared.call.Call.{Call}
+use Rattle.exh_calls.specs.declared.call.Call.TheVariants.{Get, Put, Del}
 use Rattle.exh_ward.proofs.StoredPages.{set_here, set_else, bare_set}
 use Rattle.exh_ward.proofs.Home.{AtHome, Fit, IsPut, same_test_turned, get_key, full_alike, at_limit}
 

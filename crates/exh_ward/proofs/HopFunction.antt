@@ -14,13 +14,13 @@ use Rattle.exh_page.specs.Page.{low_bound}
 use Rattle.exh_page.specs.declared.record.Record.{Record}
 use Rattle.exh_legal.specs.Laws.{RightLinksLeadOn}
 use Rattle.exh_prefix.specs.Prefix.{Begins, is_front}
-use Rattle.exh_ward.specs.Call.{key_of}
-use Rattle.exh_ward.specs.KeyMap.{KeyMap}
-use Rattle.exh_ward.specs.MapMachine.{reply_of}
-use Rattle.exh_ward.specs.Pages.{IsHome, IsLegal, map_of}
+use Rattle.exh_calls.specs.Call.{key_of}
+use Rattle.exh_page.specs.KeyMap.{KeyMap}
+use Rattle.exh_calls.specs.MapMachine.{reply_of}
+use Rattle.exh_legal.specs.Pages.{IsHome, IsLegal, map_of}
 use Rattle.exh_ward.specs.HopTable.{overflows, hop_at, hop_of, IsReached, LeadsTo, Overflows, HopOf}
-use Rattle.exh_ward.specs.declared.call.Call.{Call}
-use Rattle.exh_ward.specs.declared.call.Call.TheVariants.{Get, Put, Del}
+use Rattle.exh_calls.specs.declared.call.Call.{Call}
+use Rattle.exh_calls.specs.declared.call.Call.TheVariants.{Get, Put, Del}
 use Rattle.exh_ward.specs.declared.hop.Hop.{Hop}
 use Rattle.exh_ward.specs.declared.hop.Hop.TheVariants.{Done, Moved, MustSplit, Stray}
 

@@ -1,10 +1,7 @@
 pub mod HopFunction
-pub mod Histories
 pub mod StoredPages
 pub mod IndexSeen
-pub mod Sharing
 pub mod RecordCount
-pub mod LeadingBits
 pub mod Home
 pub mod HomeAfter
 pub mod OwnPrefix
@@ -24,4 +21,3 @@ pub mod SplitOutcome
 pub mod MergeOutcome
 pub mod Worn
 pub mod NoticesAbove
-pub mod Journals

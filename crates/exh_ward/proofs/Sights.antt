@@ -8,15 +8,15 @@ use Rattle.exh_page.specs.Page.{low_bound, records_of}
 use Rattle.exh_legal.specs.Laws.{RightLinksLeadOn}
 use Rattle.exh_legal.specs.MapLemmas.{get-map_of}
 use Rattle.exh_legal.specs.Pages.{map_of, IsAt, IsHome, IsLegal}
-use Rattle.exh_ward.specs.Call.{key_of}
+use Rattle.exh_calls.specs.Call.{key_of}
 use Rattle.exh_ward.specs.HopTable.{Overflows, HopOf}
 use Rattle.exh_ward.specs.PageAnswer.{OverflowsPage}
 use Rattle.exh_ward.specs.Sight.{SightOf, SightIn}
-use Rattle.exh_ward.specs.MapMachine.{reply_of}
-use Rattle.exh_ward.specs.declared.call.Call.{Call}
-use Rattle.exh_ward.specs.declared.call.Call.TheVariants.{Get, Put, Del}
+use Rattle.exh_calls.specs.MapMachine.{reply_of}
+use Rattle.exh_calls.specs.declared.call.Call.{Call}
+use Rattle.exh_calls.specs.declared.call.Call.TheVariants.{Get, Put, Del}
 use Rattle.exh_ward.specs.declared.hop.Hop.TheVariants.{Done, MustSplit}
-use Rattle.exh_ward.specs.declared.reply.Reply.{Reply}
+use Rattle.exh_calls.specs.declared.reply.Reply.{Reply}
 use Rattle.exh_ward.specs.declared.sight.Sight.{Sight}
 use Rattle.exh_ward.specs.declared.sight.Sight.TheVariants.{Beyond, Leads, NoWay, Overflows as MustWait, Home}
 use Rattle.exh_ward.proofs.Home.{AtHome, Fit}

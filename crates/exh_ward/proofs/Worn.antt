@@ -27,7 +27,7 @@ use Rattle.exh_page.specs.declared.page.Page.{Page}
 use Rattle.exh_page.specs.declared.page.Page.TheVariants.{Live}
 use Rattle.exh_page.specs.Page.{IsWellFormed, low_bound}
 use Rattle.exh_page.specs.declared.page.TheConstants.{CAP_LIMIT}
-use Rattle.exh_legal.specs.KeyMap.{KeyMap}
+use Rattle.exh_page.specs.KeyMap.{KeyMap}
 use Rattle.exh_legal.specs.Change.{IsSplit}
 use Rattle.exh_legal.specs.Fit.{FitsPages, IsMergeAt, IsWardEntry}
 use Rattle.exh_legal.specs.Growth.{HasEntryEver, IsGrown, IsLiveAt}
@@ -39,7 +39,7 @@ use Rattle.exh_legal.specs.Pages.{IsAt, ward_prefix}
 use Rattle.exh_ward.specs.Kept.{IsKept}
 use Rattle.exh_ward.specs.PageIndex.{IndexMap, IsIndexOf}
 use Rattle.exh_ward.specs.WardState.{WardState}
-use Rattle.exh_ward.specs.declared.journal_entry.JournalEntry.{JournalEntry}
+use Rattle.exh_calls.specs.declared.journal_entry.JournalEntry.{JournalEntry}
 use Rattle.exh_ward.proofs.ChangeSteps.{index_grown}
 use Rattle.exh_ward.proofs.NewWard.{no_entries, no_pages}
 

@@ -7,16 +7,16 @@ use Rattle.exh_prefix.specs.Prefix.{Begins, begins}
 use Rattle.exh_page.specs.declared.page.Page.{Page}
 use Rattle.exh_page.specs.declared.page.Page.TheVariants.{Live, Forward}
 use Rattle.exh_page.specs.Page.{low_bound, records_of, with_records}
-use Rattle.exh_ward.specs.KeyMap.{KeyMap}
-use Rattle.exh_ward.specs.Call.{key_of}
-use Rattle.exh_ward.specs.MapMachine.{reply_of}
+use Rattle.exh_page.specs.KeyMap.{KeyMap}
+use Rattle.exh_calls.specs.Call.{key_of}
+use Rattle.exh_calls.specs.MapMachine.{reply_of}
 use Rattle.exh_ward.specs.PageAnswer.{records_after}
-use Rattle.exh_ward.specs.Pages.{IsAt, IsHome, map_of}
-use Rattle.exh_ward.specs.declared.call.Call.{Call}
-use Rattle.exh_ward.specs.declared.call.Call.TheVariants.{Put}
+use Rattle.exh_legal.specs.Pages.{IsAt, IsHome, map_of}
+use Rattle.exh_calls.specs.declared.call.Call.{Call}
+use Rattle.exh_calls.specs.declared.call.Call.TheVariants.{Put}
 use Rattle.exh_ward.specs.declared.hop.Hop.{Hop}
 use Rattle.exh_ward.specs.declared.hop.Hop.TheVariants.{Done, Moved, MustSplit, Stray}
-use Rattle.exh_ward.specs.declared.reply.Reply.{Reply}
+use Rattle.exh_calls.specs.declared.reply.Reply.{Reply}
 
 -- the page is there, and its low bound isn't above the pseudokey
 pub record IsReached (pages : List Page) (at pseudokey : ℕ) (page : Page) : Type 0 where

@@ -6,12 +6,12 @@ use Rattle.exh_page.specs.declared.page.Page.TheVariants.{Live}
 use Rattle.exh_page.specs.declared.record.Record.{Record}
 use Rattle.exh_page.specs.Records.{value_at, with_record, without_place}
 use Rattle.exh_page.specs.Page.{records_of}
-use Rattle.exh_ward.specs.Call.{key_of}
-use Rattle.exh_ward.specs.MapMachine.{get_reply, put_reply, del_reply}
-use Rattle.exh_ward.specs.declared.call.Call.{Call}
-use Rattle.exh_ward.specs.declared.call.Call.TheVariants.{Get, Put, Del}
-use Rattle.exh_ward.specs.declared.reply.Reply.{Reply}
-use Rattle.exh_ward.specs.declared.reply.Reply.TheVariants.{Full}
+use Rattle.exh_calls.specs.Call.{key_of}
+use Rattle.exh_calls.specs.MapMachine.{get_reply, put_reply, del_reply}
+use Rattle.exh_calls.specs.declared.call.Call.{Call}
+use Rattle.exh_calls.specs.declared.call.Call.TheVariants.{Get, Put, Del}
+use Rattle.exh_calls.specs.declared.reply.Reply.{Reply}
+use Rattle.exh_calls.specs.declared.reply.Reply.TheVariants.{Full}
 
 -- the reply, by whether the page is full and the value that it has for the key
 abbrev pub page_reply : Bool → Call → Option (List ℕ) → Reply

@@ -7,8 +7,8 @@ use Rattle.exh_page.specs.declared.record.Record.{Record}
 use Rattle.exh_page.specs.Page.{low_bound, records_of}
 use Rattle.exh_ward.specs.HopTable.{IsReached, LeadsTo}
 use Rattle.exh_ward.specs.PageAnswer.{OverflowsPage}
-use Rattle.exh_ward.specs.Pages.{IsAt, IsHome}
-use Rattle.exh_ward.specs.declared.call.Call.{Call}
+use Rattle.exh_legal.specs.Pages.{IsAt, IsHome}
+use Rattle.exh_calls.specs.declared.call.Call.{Call}
 use Rattle.exh_ward.specs.declared.sight.Sight.{Sight}
 use Rattle.exh_ward.specs.declared.sight.Sight.TheVariants.{Beyond, Leads, NoWay, Overflows, Home}
 

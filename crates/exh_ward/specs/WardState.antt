@@ -4,18 +4,18 @@ use Rattle.exh_notice.specs.declared.notice.Notice.{Notice}
 use Rattle.exh_table.specs.Table.{TableMap, IsTableSince}
 use Rattle.exh_page.specs.declared.page.Page.{Page}
 use Rattle.exh_legal.specs.Fit.{AreTrueNotices}
-use Rattle.exh_legal.specs.KeyMap.{KeyMap}
+use Rattle.exh_page.specs.KeyMap.{KeyMap}
 use Rattle.exh_legal.specs.Numbers.{AreNumbered, index_of}
 use Rattle.exh_legal.specs.Laws.{IsWard}
 use Rattle.exh_legal.specs.Pages.{map_of, ward_prefix}
-use Rattle.exh_ward.specs.History.{IsHistory, map_left}
+use Rattle.exh_calls.specs.History.{IsHistory, map_left}
 use Rattle.exh_ward.specs.HopTable.{pages_after}
-use Rattle.exh_ward.specs.MapMachine.{map_after}
-use Rattle.exh_ward.specs.declared.journal_entry.JournalEntry.{JournalEntry}
-use Rattle.exh_ward.specs.declared.call.Call.{Call}
+use Rattle.exh_calls.specs.MapMachine.{map_after}
+use Rattle.exh_calls.specs.declared.journal_entry.JournalEntry.{JournalEntry}
+use Rattle.exh_calls.specs.declared.call.Call.{Call}
 use Rattle.exh_ward.specs.declared.hop.Hop.{Hop}
 use Rattle.exh_ward.specs.declared.hop.Hop.TheVariants.{Done, Moved, MustSplit, Stray}
-use Rattle.exh_ward.specs.declared.reply.Reply.{Reply}
+use Rattle.exh_calls.specs.declared.reply.Reply.{Reply}
 
 pub record WardState (K : Type 0) : Type 0 where
   pub pages : List Page

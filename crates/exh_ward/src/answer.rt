@@ -4,7 +4,7 @@ ghost use Rattle.exh_page.specs.Page.{IsLive, records_of, with_records};
 ghost use Rattle.exh_page.specs.Records.{value_at};
 ghost use Rattle.exh_ward.specs.PageAnswer.{reply_by, records_after};
 
-use crate::{Call, Reply};
+use exh_calls::{Call, Reply};
 use exh_frames::{Pages, PagesFault};
 use exh_page::{Key, PageNo, Record, Value};
 

@@ -1,4 +1,4 @@
-use crate::Reply;
+use exh_calls::Reply;
 use exh_page::PageNo;
 
 /// What one hop of a request comes to (exhash profile). Only `Done` changes a ward.

@@ -1,7 +1,7 @@
-//! What holds of the hop table, of splits and merges, and of all histories, for the proofs of callers.
-//! Each function does nothing.
+//! What holds of the hop table, and of splits and merges, for the proofs of callers. Each function does
+//! nothing.
 
-ghost use Rattle.exh_ward.specs.Laws.{OneHop, HopsAreComputed, HopsHaveOutcomes, SplitsAreComputed, SplitsHaveOutcomes, MergesAreComputed, MergesHaveOutcomes, AnswersKeepLegal, SharersBegin, HistoriesGoOn, HistoryIsDetermined};
+ghost use Rattle.exh_ward.specs.Laws.{OneHop, HopsAreComputed, HopsHaveOutcomes, SplitsAreComputed, SplitsHaveOutcomes, MergesAreComputed, MergesHaveOutcomes, AnswersKeepLegal};
 
 use exh_keyer::Keyer;
 use exh_legal::{live_pages_split, merges_keep_legal, right_links_lead_on, splits_keep_legal};
@@ -54,21 +54,4 @@ pub fn merges_have_outcomes<K: Keyer>()
 /// An answer at legal pages leaves them legal, with the map machine's map.
 pub fn answers_keep_legal()
     ensures { AnswersKeepLegal }
-{}
-
-/// A history goes on with the map machine's reply over the map that it leaves, and then leaves the
-/// map machine's map.
-pub fn histories_go_on()
-    ensures { HistoriesGoOn }
-{}
-
-/// The calls of a history decide its replies and the map that it leaves.
-pub fn history_is_determined()
-    ensures { HistoryIsDetermined }
-{}
-
-/// A prefix that begins a pseudokey begins all that share its leading bits as `Full` counts them, and
-/// one of `LIMIT` bits begins no others.
-pub fn sharers_begin()
-    ensures { SharersBegin }
 {}

@@ -2,7 +2,7 @@ ghost use Rattle.std.specs.Prelude.{◌≡◌, ◌↔◌, IsTrue};
 ghost use Rattle.exh_ward.specs.PageAnswer.{OverflowsPage};
 ghost use Rattle.exh_ward.specs.Sight.{SightOf};
 
-use crate::Call;
+use exh_calls::Call;
 use exh_page::{Page, PageNo};
 use exh_prefix::LIMIT;
 

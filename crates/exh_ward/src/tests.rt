@@ -1,13 +1,12 @@
-//! What only this crate sees: a merge that no number is left for, and the bytes of an entry.
+//! What only this crate sees: a merge that no number is left for.
 
-use crate::stored_entry::StoredEntry;
 use crate::ward::worn::worn_ward;
-use crate::{Call, Hop, Reply, Ward, WardFault};
+use crate::{Hop, Ward, WardFault};
+use exh_calls::{Call, Reply};
 use exh_frames::PlainPages;
 use exh_keyer::{Keyer, PlainKeyer};
 use exh_page::{Key, PageNo, Value};
 use exh_prefix::Prefix;
-use std::mem::size_of;
 use std::process::Abort;
 use std::test::Fail;
 
@@ -63,9 +62,4 @@ fn assert_worn(rt: &impl Abort, ward: &mut PlainWard) -> Result<(), Fail> {
 fn a_worn_merge(rt: HostRuntime) -> Result<(), Fail> {
     let mut ward = worn_ward(rt.alloc())?;
     assert_worn(&rt, &mut ward)
-}
-
-#[test]
-fn the_bytes_of_an_entry(rt: HostRuntime) {
-    assert_eq!(rt; size_of::<StoredEntry>(), 24);
 }

@@ -11,7 +11,7 @@ ghost use Rattle.exh_legal.specs.Growth.{IsLiveAt};
 ghost use Rattle.exh_legal.specs.Laws.{NamesHome};
 ghost use Rattle.exh_legal.specs.Numbers.{number_at, next_notice};
 ghost use Rattle.exh_legal.specs.Pages.{IsAt, ward_prefix};
-ghost use Rattle.exh_ward.specs.Call.{key_of};
+ghost use Rattle.exh_calls.specs.Call.{key_of};
 ghost use Rattle.exh_ward.specs.HopTable.{HopOf};
 ghost use Rattle.exh_ward.specs.Sight.{SightIn};
 ghost use Rattle.exh_ward.specs.SplitStep.{AreHalvesOf, IsSplitStep, PageRefused, SplitRefused};
@@ -24,7 +24,8 @@ use crate::answer::answer;
 use crate::halves::Halves;
 use crate::page_index::PageIndex;
 use crate::sight::Sight;
-use crate::{Base, Call, Hop, Journal, WardFault};
+use crate::{Hop, WardFault};
+use exh_calls::{Base, Call, Journal};
 use exh_frames::Pages;
 use exh_keyer::Keyer;
 use exh_legal::{
@@ -69,7 +70,7 @@ impl<P: Pages + Drop, K: Keyer> Model for Ward<P, K> {
     ghost use Rattle.std.specs.Prelude.{◌≤◌, ◌+◌, ◌<◌, ◌^◌, length};
     ghost use Rattle.std.specs.Coded.{codes};
     ghost use Rattle.exh_page.specs.declared.page.TheConstants.{CAP_LIMIT};
-    ghost use Rattle.exh_legal.specs.KeyMap.{coded_key_map};
+    ghost use Rattle.exh_page.specs.KeyMap.{coded_key_map};
     ghost use Rattle.exh_legal.specs.Numbers.{index_of};
     ghost use Rattle.exh_legal.specs.Pages.{bare, ward_prefix};
     ghost use Rattle.exh_ward.specs.PageIndex.{IsIndexOf};

@@ -3,8 +3,8 @@ use Rattle.std.proofs.Common.{◌≡◌, ℕ, List, [], ◌∷◌, ◌++◌, Opt
 use Rattle.std.specs.Prelude.{is_some}
 use Rattle.exh_table.specs.Table.{TableMap}
 use Rattle.exh_table.specs.Walk.{walk_of}
-use Rattle.exh_ward.specs.Call.{key_of}
-use Rattle.exh_ward.specs.declared.call.Call.{Call}
+use Rattle.exh_calls.specs.Call.{key_of}
+use Rattle.exh_calls.specs.declared.call.Call.{Call}
 use Rattle.exh_world.specs.InFlight.{Requests, request_named}
 use Rattle.exh_world.specs.Kept.{IsKept, tables_of}
 use Rattle.exh_world.specs.Step.{HasBegun}

@@ -10,9 +10,9 @@ use Rattle.exh_table.specs.Walk.{walk_in, walk_of}
 use Rattle.exh_legal.specs.BareLemmas.{at_bare, bare_low}
 use Rattle.exh_legal.specs.Pages.{ward_prefix}
 use Rattle.exh_page.specs.Page.{low_bound}
-use Rattle.exh_ward.specs.Call.{key_of}
+use Rattle.exh_calls.specs.Call.{key_of}
 use Rattle.exh_ward.specs.WardState.{WardState, own_prefix}
-use Rattle.exh_ward.specs.declared.call.Call.{Call}
+use Rattle.exh_calls.specs.declared.call.Call.{Call}
 use Rattle.exh_world.specs.InFlight.{Requests}
 use Rattle.exh_world.specs.Sound.{IsBelow, IsWardOf, LeadsRightIn, IsOnTheWay, IsSoundWorld}
 use Rattle.exh_world.specs.Step.{pseudokey_in}

@@ -1,6 +1,6 @@
 -- What becomes of the copies of a world's directory, and of the tables sent between them.
 use Rattle.std.proofs.Common.{◌≡◌, ◌≢◌, ℕ, zero, suc, cond, ◌-◌, ◌^◌, ◌<◌, List, [], ◌∷◌, ◌++◌, length, Some, Result, Ok, Err, inl, inr, refl, sym, ap, ◌∙◌, subst, arith, IsErr, IsErrAnd}
-use Rattle.std.specs.Prelude.{slice_get, slice_set, slice_index_or, Contains, IsSome, is_some, map}
+use Rattle.std.specs.Prelude.{slice_get, slice_set, slice_index_or, Contains, IsSome, is_some}
 use Rattle.std.specs.Option.{option_map_or}
 use Rattle.std.proofs.lemmas.Bool.{lt-ltb}
 use Rattle.std.proofs.lemmas.Option.{slice_get_read}
@@ -11,7 +11,7 @@ use Rattle.exh_table.specs.TableOrder.{table_join}
 use Rattle.exh_legal.specs.Numbers.{index_of}
 use Rattle.exh_ward.specs.WardState.{WardState, IsSoundWard, notices_above}
 use Rattle.exh_ward.specs.declared.ward_fault.WardFault.TheVariants.{Memory}
-use Rattle.exh_world.specs.Kept.{IsKept, IsPlaceOf, HaveIndexesInTurn, tables_of, uncounted}
+use Rattle.exh_world.specs.Kept.{IsKept, IsPlaceOf, HaveIndexesInTurn, tables_of}
 use Rattle.exh_world.specs.Laws.{StepsKeepWorldsSound}
 use Rattle.exh_world.specs.Sound.{IsSoundWorld}
 use Rattle.exh_world.specs.Step.{Step, HasTaken, HasSent, HasJoined, HasRestarted}
@@ -23,7 +23,6 @@ use Rattle.exh_world.specs.declared.step_fault.StepFault.TheVariants.{Ward, NoNo
 use Rattle.exh_world.specs.declared.event.Event.TheVariants.{Deliver}
 use Rattle.exh_world.specs.ListLemmas.{within_there}
 use Rattle.exh_world.proofs.CopyArrays.{table_placed, table_there, tables_set, tables_same}
-use Rattle.exh_world.proofs.UncountedWards.{map_there}
 
 -- notices of a sound ward
 pub indexes_in_turn : {K : Type 0} (pseudokey_of : K → List ℕ → ℕ) (ward : WardState K) → IsSoundWard pseudokey_of ward → HaveIndexesInTurn ward.notices
@@ -44,8 +43,8 @@ pub lent_there : {A : Type 0} (items : List A) (number at : ℕ) (item : A) → 
 lent_there items number at item placed lent = slice_get_read items (length items) at item refl placed.1 lent
 
 -- the notices issued by a ward
-pub issued_shown : {K : Type 0} (world : WorldState K) (wards : List (WardState K)) (number : ℕ) (ward : WardState K) → world.wards ≡ map uncounted wards → slice_get wards number ≡ Some ward → issued_in world number ≡ ward.notices
-issued_shown world wards number ward shows there = ap (λ found. option_map_or (λ (w : WardState _). w.notices) found []) (ap (λ ws. slice_get ws number) shows ∙ map_there uncounted wards number ward there)
+pub issued_by : {K : Type 0} (world : WorldState K) (number : ℕ) (ward : WardState K) → slice_get world.wards number ≡ Some ward → issued_in world number ≡ ward.notices
+issued_by world number ward there = ap (λ found. option_map_or (λ (w : WardState _). w.notices) found []) there
 
 -- the copy is there where it has a place
 pub is_copy : (copies : List DirectoryState) (number at : ℕ) → IsPlaceOf copies number at → IsSome (numbered (tables_of copies) number)
@@ -64,7 +63,7 @@ module _ {K : Type 0} {pseudokey_of : K → List ℕ → ℕ} {world now : World
   -- a refusal for want of memory, after which the copy is as before
   pub refused_same : (event : Event) (result : Result Outcome StepFault) (after : WorldState K) → after ≡ world → IsErr result × IsErrAnd result (λ f. f ≡ Ward Memory) → Step pseudokey_of now event result after
   refused_same event (Ok outcome) after same is = absurd is.1
-  refused_same event (Err fault) after same is = (same ∙ view_is, inr (inl is.1))
+  refused_same event (Err fault) after same is = inl (same ∙ view_is, inr is.1)
 
   abbrev pub with_copy : ℕ → TableMap → WorldState K
   with_copy at table = record world { copies = slice_set world.copies at table }
@@ -90,24 +89,24 @@ module _ {K : Type 0} {pseudokey_of : K → List ℕ → ℕ} {world now : World
     pub has_joined : (table : ℕ) (other joined : TableMap) → numbered world.sent table ≡ Some other → joined ≡ table_join own other → HasJoined now copy table (with_copy at joined)
     has_joined table other joined sent is = subst (λ old. HasJoined old copy table (with_copy at joined)) view_is record { own = own; there = own_there; other = other; sent = sent; after = at_copy joined ∙ ap (λ t. record world { copies = slice_set world.copies (copy - 1) t }) is }
 
-    pub has_taken : (ward index : ℕ) (wards : List (WardState K)) → world.wards ≡ map uncounted wards → (teller : WardState K) → slice_get wards ward ≡ Some teller → (notices : List Notice) → notices ≡ teller.notices
+    pub has_taken : (ward index : ℕ) (teller : WardState K) → slice_get world.wards ward ≡ Some teller → (notices : List Notice) → notices ≡ teller.notices
         → (notice : Notice) (table : TableMap) → Contains notices notice → notice.index ≡ index → table ≡ table_with own notice → HasTaken now copy ward index notice (with_copy at table)
-    has_taken ward index wards shows teller there notices notices_are notice table contains index_is is =
-        let issued = subst (λ list. Contains list notice) (notices_are ∙ sym (issued_shown world wards ward teller shows there)) contains in
+    has_taken ward index teller there notices notices_are notice table contains index_is is =
+        let issued = subst (λ list. Contains list notice) (notices_are ∙ sym (issued_by world ward teller there)) contains in
         subst (λ old. HasTaken old copy ward index notice (with_copy at table)) view_is record { table = own; there = own_there; issued = issued; index_is = index_is; after = at_copy table ∙ ap (λ t. record world { copies = slice_set world.copies (copy - 1) t }) is }
 
     pub has_sent : (number : ℕ) (table : TableMap) (sent : List TableMap) → number ≡ suc (length world.sent) → table ≡ own → sent ≡ world.sent ++ table ∷ [] → HasSent now copy number (record world { sent = sent })
     has_sent number table sent number_is is sent_is = subst (λ old. HasSent old copy number (record world { sent = sent })) view_is record { table = own; there = own_there; number_is = number_is; after = ap (λ s. record world { sent = s }) (sent_is ∙ ap (λ t. world.sent ++ t ∷ []) is) }
 
     -- the ward issued no notice of the index
-    pub no_notice : (ward index : ℕ) (wards : List (WardState K)) → world.wards ≡ map uncounted wards → (teller : WardState K) → slice_get wards ward ≡ Some teller → (notices : List Notice) → notices ≡ teller.notices
+    pub no_notice : (ward index : ℕ) (teller : WardState K) → slice_get world.wards ward ≡ Some teller → (notices : List Notice) → notices ≡ teller.notices
         → ((notice : Notice) → Contains notices notice → notice.index ≢ index) → Step pseudokey_of now (Deliver copy ward index) (Err NoNotice) now
-    no_notice ward index wards shows teller there notices is none =
-        let issued : issued_in world ward ≡ notices = issued_shown world wards ward teller shows there ∙ sym is in (
+    no_notice ward index teller there notices is none =
+        let issued : issued_in world ward ≡ notices = issued_by world ward teller there ∙ sym is in inl (
           refl,
           inl (subst (λ old. IsSome (numbered old.copies copy) × IsSome (slice_get old.wards ward) × ((notice : Notice) → Contains (issued_in old ward) notice → notice.index ≢ index)) view_is (
             ap is_some own_there,
-            ap is_some (ap (λ ws. slice_get ws ward) shows ∙ map_there uncounted wards ward teller there),
+            ap is_some there,
             λ notice contains. none notice (subst (λ list. Contains list notice) issued contains),
           )),
         )

@@ -12,7 +12,7 @@ use Rattle.exh_table.specs.Walk.{right_of}
 use Rattle.exh_legal.specs.Pages.{ward_prefix}
 use Rattle.exh_ward.specs.WardState.{WardState, IsSoundWard}
 use Rattle.exh_ward.specs.declared.ward.TheConstants.{WARD_BITS_LIMIT}
-use Rattle.exh_world.specs.Kept.{IsKept, uncounted}
+use Rattle.exh_world.specs.Kept.{IsKept}
 use Rattle.exh_world.specs.NewWorld.{new_ward, new_world}
 use Rattle.exh_world.specs.Sound.{LeadsRight, LeadsRightIn, IsWardOf, IsSoundWorld}
 use Rattle.exh_world.specs.World.{WorldState, numbered}
@@ -40,11 +40,6 @@ replicate_there n x at within =
 no_splits : (ward : List Bool) (pages : List _) → LeadsRight ward pages fin.empty
 no_splits ward pages prefix right within split = let none : None ≡ Some right = sym (ap right_of (fin.get-empty prefix_cmp prefix)) ∙ split in cc
 
--- a world shows the wards of a new file as they are
-none_counted : {K : Type 0} (config : Config K) (numbers : List ℕ) → map uncounted (map (new_ward config) numbers) ≡ map (new_ward config) numbers
-none_counted config [] = refl
-none_counted config (number ∷ numbers) = ap (λ wards. new_ward config number ∷ wards) (none_counted config numbers)
-
 pub none_noticed : (n k count : ℕ) (before noticed : List ℕ) → n ≡ count → before ≡ [] → k ≡ 0 → noticed ≡ take n before ++ replicate (n - k) 0 → noticed ≡ replicate count 0
 none_noticed n k count before noticed n_is none k_is is =
     is ∙ ap (λ ns. take n ns ++ replicate (n - k) 0) none ∙ ap (λ ns. ns ++ replicate (n - k) 0) (take-nil n) ∙ ap (λ m. replicate m 0) (let m : n - k ≡ count = omega (arith, n_is, k_is) in m)
@@ -55,7 +50,7 @@ module _ {K : Type 0} (config : Config K) where
     cap = config.cap;
     ward_bits = config.ward_bits;
     keyer = config.keyer;
-    wards = map uncounted wards;
+    wards = wards;
     start = start;
     noticed = noticed;
     copies = copies;
@@ -74,7 +69,6 @@ module _ {K : Type 0} (config : Config K) where
       ∙ ap (λ cs. made_of new.wards fin.empty new.noticed cs sent in_flight) is_copies
       ∙ ap (λ ss. made_of new.wards fin.empty new.noticed new.copies ss in_flight) is_sent
       ∙ ap (λ rs. made_of new.wards fin.empty new.noticed new.copies [] rs) is_in_flight
-      ∙ ap (λ ws. let w : WorldState K = record new { wards = ws } in w) (none_counted config (range_with_len 0 (2 ^ config.ward_bits)))
 
 module _ {K : Type 0} (pseudokey_of : K → List ℕ → ℕ) where
   abbrev pub AreSoundWards : List (WardState K) → Type 0

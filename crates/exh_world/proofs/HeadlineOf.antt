@@ -9,7 +9,7 @@ use Rattle.exh_table.specs.Table.{IsTableOf}
 use Rattle.exh_table.specs.TableLemmas.{table_laws}
 use Rattle.exh_table.specs.TableOrder.{table_join}
 use Rattle.exh_ward.specs.declared.hop.Hop.TheVariants.{Stray}
-use Rattle.exh_ward.specs.Laws.{SharersBegin}
+use Rattle.exh_calls.specs.Laws.{SharersBegin}
 use Rattle.exh_world.specs.Headline.{AreTablesOfTaken, AreEqualCopies, IsCombined, CombinesLeast, IsNamed, DoesNotStray, IsHeadline}
 use Rattle.exh_world.specs.Laws.{AreWardsSound, StepsKeepWorldsSound}
 use Rattle.exh_world.specs.Run.{Moment, IsRun, known_by, known_at_end, answered_in}

@@ -1,51 +1,30 @@
 -- What a hop of a request needs of the ward that the request is in, and what it leaves of the world.
-use Rattle.std.proofs.Common.{◌≡◌, ℕ, ◌<◌, List, length, get_or, map, slice_get, Some, Result, Ok, Err, inl, inr, refl, sym, ap, ◌∙◌, subst, arith}
-use Rattle.std.specs.Prelude.{slice_set, IsErr, IsErrAnd}
-use Rattle.std.proofs.lemmas.List.{map-set}
+use Rattle.std.proofs.Common.{◌≡◌, ℕ, ◌<◌, List, length, get_or, slice_get, Some, Ok, refl, sym, ap, ◌∙◌, subst, arith}
+use Rattle.std.specs.Prelude.{slice_set}
 use Rattle.std.proofs.lemmas.Option.{slice_get_within, slice_get_read}
 use Rattle.exh_prefix.specs.Prefix.{Begins}
 use Rattle.exh_legal.specs.Pages.{ward_prefix}
-use Rattle.exh_ward.specs.Call.{key_of}
+use Rattle.exh_calls.specs.Call.{key_of}
 use Rattle.exh_ward.specs.HopTable.{HopOf}
-use Rattle.exh_ward.specs.Told.{IsStoreFault}
-use Rattle.exh_ward.specs.WardState.{WardState, IsSoundWard, IsUnchanged, LeavesAfter, own_prefix}
+use Rattle.exh_ward.specs.WardState.{WardState, IsSoundWard, LeavesAfter, own_prefix}
 use Rattle.exh_ward.specs.declared.hop.Hop.{Hop}
-use Rattle.exh_ward.specs.declared.ward_fault.WardFault.{WardFault}
-use Rattle.exh_ward.specs.declared.ward_fault.WardFault.TheVariants.{Memory, Page}
 use Rattle.exh_world.specs.InFlight.{Requests, request_named, requests_after}
-use Rattle.exh_world.specs.Kept.{IsKept, uncounted}
+use Rattle.exh_world.specs.Kept.{IsKept}
 use Rattle.exh_world.specs.Laws.{StepsKeepWorldsSound}
 use Rattle.exh_world.specs.Sound.{IsWardOf, IsOnTheWay}
-use Rattle.exh_world.specs.Step.{HasHopped, IsWant, Step}
+use Rattle.exh_world.specs.Step.{HasHopped, ReachesInto}
 use Rattle.exh_world.specs.World.{WorldState}
-use Rattle.exh_world.specs.declared.event.Event.{Event}
 use Rattle.exh_world.specs.declared.event.Event.TheVariants.{Hop as HopOn}
-use Rattle.exh_world.specs.declared.outcome.Outcome.{Outcome}
 use Rattle.exh_world.specs.declared.outcome.Outcome.TheVariants.{Hopped}
 use Rattle.exh_world.specs.declared.request.Request.{Request}
-use Rattle.exh_world.specs.declared.step_fault.StepFault.{StepFault}
-use Rattle.exh_world.specs.declared.step_fault.StepFault.TheVariants.{Ward as OfWard}
 use Rattle.exh_world.specs.declared.world.World.TheInside.{Inside}
 use Rattle.exh_world.proofs.InsideWorld.{world_of}
 use Rattle.exh_world.specs.RequestLemmas.{all_named}
-use Rattle.exh_world.proofs.UncountedWards.{map_there, map_from, unchanged_shown, leaves_shown}
 use Rattle.exh_world.proofs.WardsLeft.{wards_left}
-
--- ---- a refusal for want
-
-pub want_of : (given : StepFault) (fault : WardFault) → given ≡ OfWard fault → IsStoreFault fault → IsWant given
-want_of given Memory is want = inl is
-want_of given Page is want = inr is
-want_of given _ is want = absurd want
-
-pub refused_step : {K : Type 0} (pseudokey_of : K → List ℕ → ℕ) (old new : WorldState K) (event : Event) (fault : WardFault) (result : Result Outcome StepFault) → IsErr result × IsErrAnd result (λ given. given ≡ OfWard fault) → IsStoreFault fault → new ≡ old
-    → Step pseudokey_of old event result new
-refused_step pseudokey_of old new event fault (Ok outcome) is want same = absurd is.1
-refused_step pseudokey_of old new event fault (Err given) is want same = (same, inr (want_of given fault is.1 want))
 
 -- the world that a struct holds, with one ward left so by a step
 abbrev pub with_ward : {P K : Type 0} → Inside P K → ℕ → WardState K → Requests → WorldState K
-with_ward i at left requests = record (world_of i) { wards = map uncounted (slice_set i.wards.items at left); in_flight = requests }
+with_ward i at left requests = record (world_of i) { wards = slice_set i.wards.items at left; in_flight = requests }
 
 -- ---- a request's ward
 
@@ -54,7 +33,15 @@ module _ {P K : Type 0} (pseudokey_of : K → List ℕ → ℕ) (i : Inside P K)
   way = all_named (IsOnTheWay pseudokey_of (world_of i)) name i.in_flight request kept.sound.requests named
 
   pub ward_within : request.ward < length i.wards.items
-  ward_within = slice_get_within i.wards.items request.ward _ (map_from uncounted i.wards.items request.ward way.ward way.there).1
+  ward_within = slice_get_within i.wards.items request.ward way.ward way.there
+
+  module _ (at : ℕ) (at_is : at ≡ request.ward) where
+    pub at_within : at < length i.wards.items
+    at_within = omega (arith, at_is, ward_within)
+
+    -- the hop reaches into the ward
+    pub reaches : (now : WorldState K) → world_of i ≡ now → ReachesInto now (HopOn name) at
+    reaches now view_is = (request, ap (λ (w : WorldState K). request_named name w.in_flight) (sym view_is) ∙ named, at_is)
 
   module _ (at : ℕ) (at_is : at ≡ request.ward) (ward : WardState K) (ward_is : ward ≡ get_or i.wards.items at ward) where
     there_at : slice_get i.wards.items at ≡ Some ward
@@ -63,8 +50,8 @@ module _ {P K : Type 0} (pseudokey_of : K → List ℕ → ℕ) (i : Inside P K)
     there : slice_get i.wards.items request.ward ≡ Some ward
     there = subst (λ n. slice_get i.wards.items n ≡ Some ward) at_is there_at
 
-    own : IsWardOf pseudokey_of (world_of i) request.ward (uncounted ward)
-    own = kept.sound.wards request.ward (uncounted ward) (map_there uncounted i.wards.items request.ward ward there)
+    own : IsWardOf pseudokey_of (world_of i) request.ward ward
+    own = kept.sound.wards request.ward ward there
 
     pub hashed : request.pseudokey ≡ pseudokey_of ward.keyer (key_of request.call)
     hashed = way.pseudokey_is ∙ ap (λ keyer. pseudokey_of keyer (key_of request.call)) (sym own.keyer)
@@ -73,10 +60,6 @@ module _ {P K : Type 0} (pseudokey_of : K → List ℕ → ℕ) (i : Inside P K)
     covered = subst (λ p. Begins p request.pseudokey) (sym (ap (λ bits. ward_prefix bits ward.number) own.bits ∙ ap (ward_prefix i.ward_bits) own.number_is)) way.begins
 
     module _ (left : WardState K) where
-      -- a hop that is refused leaves the world as it was
-      pub refused : IsUnchanged ward left → with_ward i at left i.in_flight ≡ world_of i
-      refused same = ap (λ (wards : List (WardState K)). record (world_of i) { wards = wards }) (unchanged_shown i.wards.items at ward left there_at same)
-
       module _ (hop : Hop) (outcome : HopOf ward.cap (pseudokey_of ward.keyer) ward.pages request.page request.call hop)
           (leaves : LeavesAfter pseudokey_of ward request.page request.client request.call hop left) (requests : Requests) (requests_are : requests ≡ requests_after name hop i.in_flight) where
         outcome_is : HopOf i.cap (pseudokey_of i.keyer) ward.pages request.page request.call hop
@@ -84,27 +67,26 @@ module _ {P K : Type 0} (pseudokey_of : K → List ℕ → ℕ) (i : Inside P K)
             subst (λ cap. HopOf cap (pseudokey_of i.keyer) ward.pages request.page request.call hop) own.cap
             (subst (λ (keyer : K). HopOf ward.cap (pseudokey_of keyer) ward.pages request.page request.call hop) own.keyer outcome)
 
-        new_is : with_ward i at left requests ≡ record (world_of i) { wards = slice_set (world_of i).wards request.ward (uncounted left); in_flight = requests_after name hop i.in_flight }
+        new_is : with_ward i at left requests ≡ record (world_of i) { wards = slice_set (world_of i).wards request.ward left; in_flight = requests_after name hop i.in_flight }
         new_is =
             ap (λ n. with_ward i n left requests) at_is ∙ ap (with_ward i request.ward left) requests_are
-            ∙ ap (λ (wards : List (WardState K)). record (world_of i) { wards = wards; in_flight = requests_after name hop i.in_flight }) (map-set uncounted i.wards.items request.ward left)
 
         pub hopped : HasHopped pseudokey_of (world_of i) name request.ward hop (with_ward i at left requests)
         hopped = record {
           request = request;
           there = named;
           ward_is = refl;
-          before = uncounted ward;
-          found = map_there uncounted i.wards.items request.ward ward there;
+          before = ward;
+          found = there;
           outcome = outcome_is;
-          left = uncounted left;
-          leaves = leaves_shown pseudokey_of ward request.page request.client request.call hop left leaves;
+          left = left;
+          leaves = leaves;
           after = new_is;
         }
 
         pub hopped_kept : StepsKeepWorldsSound pseudokey_of → IsSoundWard pseudokey_of left → IsKept pseudokey_of (with_ward i at left requests)
         hopped_kept steps sound =
-            let wards = wards_left pseudokey_of (world_of i) (with_ward i at left requests) i.wards.items at ward left kept.sound refl refl there_at sound in
+            let wards = wards_left pseudokey_of (world_of i) (with_ward i at left requests) at ward left kept.sound refl there_at sound in
             record {
               sound = steps (world_of i) (HopOn name) (Ok (Hopped request.ward hop)) (with_ward i at left requests) kept.sound hopped wards;
               few_wards = kept.few_wards;

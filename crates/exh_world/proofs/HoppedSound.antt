@@ -11,13 +11,13 @@ use Rattle.exh_page.specs.declared.record.Record.{Record}
 use Rattle.exh_page.specs.Page.{low_bound, records_of, with_records}
 use Rattle.exh_legal.specs.Laws.{KeepsPlaces, RightLinksLeadOn, TargetsLeadOn}
 use Rattle.exh_legal.specs.Pages.{IsAt, ward_prefix}
-use Rattle.exh_ward.specs.Call.{key_of}
+use Rattle.exh_calls.specs.Call.{key_of}
 use Rattle.exh_ward.specs.HopTable.{IsReached, LeadsTo, HopOf, pages_after}
 use Rattle.exh_ward.specs.PageAnswer.{records_after}
 use Rattle.exh_ward.specs.WardState.{WardState, IsSoundWard, IsAnswered, own_prefix}
-use Rattle.exh_ward.specs.declared.call.Call.{Call}
+use Rattle.exh_calls.specs.declared.call.Call.{Call}
 use Rattle.exh_ward.specs.declared.hop.Hop.TheVariants.{Done, Moved, Stray}
-use Rattle.exh_ward.specs.declared.reply.Reply.{Reply}
+use Rattle.exh_calls.specs.declared.reply.Reply.{Reply}
 use Rattle.exh_world.specs.InFlight.{Requests, request_named, requests_after}
 use Rattle.exh_world.specs.Sound.{IsBelow, IsWardOf, IsOnTheWay, IsSoundWorld}
 use Rattle.exh_world.specs.World.{WorldState}

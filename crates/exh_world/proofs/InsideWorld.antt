@@ -1,8 +1,7 @@
 -- The world that its struct holds.
-use Rattle.std.proofs.Common.{map}
-use Rattle.exh_world.specs.Kept.{tables_of, uncounted}
+use Rattle.exh_world.specs.Kept.{tables_of}
 use Rattle.exh_world.specs.World.{WorldState}
 use Rattle.exh_world.specs.declared.world.World.TheInside.{Inside}
 
 abbrev pub world_of : {P K : Type 0} → Inside P K → WorldState K
-world_of i = record { cap = i.cap; ward_bits = i.ward_bits; keyer = i.keyer; wards = map uncounted i.wards.items; start = i.start.table; noticed = i.noticed.items; copies = tables_of i.copies.items; sent = i.sent.items; in_flight = i.in_flight }
+world_of i = record { cap = i.cap; ward_bits = i.ward_bits; keyer = i.keyer; wards = i.wards.items; start = i.start.table; noticed = i.noticed.items; copies = tables_of i.copies.items; sent = i.sent.items; in_flight = i.in_flight }

@@ -11,11 +11,11 @@ use Rattle.std.proofs.lemmas.Cmp.{nat_list_cmp_total}
 use Rattle.std.proofs.lemmas.List.Sums.{sum_by-cons}
 use Rattle.std.proofs.lemmas.Map.Lookups.{exact_bytes}
 use Rattle.exh_legal.specs.MapLemmas.{tie_of}
-use Rattle.exh_legal.specs.KeyMap.{KeyMap}
-use Rattle.exh_ward.specs.Call.{key_of}
-use Rattle.exh_ward.specs.MapMachine.{leading, is_full, get_reply, put_reply, del_reply, put_leaves, reply_of, map_after}
-use Rattle.exh_ward.specs.declared.call.Call.{Call}
-use Rattle.exh_ward.specs.declared.call.Call.TheVariants.{Get, Put, Del}
+use Rattle.exh_page.specs.KeyMap.{KeyMap}
+use Rattle.exh_calls.specs.Call.{key_of}
+use Rattle.exh_calls.specs.MapMachine.{leading, is_full, get_reply, put_reply, del_reply, put_leaves, reply_of, map_after}
+use Rattle.exh_calls.specs.declared.call.Call.{Call}
+use Rattle.exh_calls.specs.declared.call.Call.TheVariants.{Get, Put, Del}
 
 -- the test by which a key counts
 abbrev pub shares : (List ℕ → ℕ) → List ℕ → List ℕ → Bool

@@ -1,13 +1,15 @@
 -- What every run does to the map, to what copies know, and what it answers.
 use Rattle.std.proofs.Common.{◌≡◌, ℕ, List, [], ◌∷◌, ◌++◌, map, refl, sym, ap, ◌∙◌, subst}
-use Rattle.std.specs.Prelude.{Result, Ok, Err}
+use Rattle.std.specs.Prelude.{Result, Ok, Err, slice_set}
 use Rattle.std.specs.FinMap.{entries}
 use Rattle.std.specs.List.{AllByRecursion}
 use Rattle.std.proofs.lemmas.List.{map-append}
 use Rattle.exh_table.specs.Laws.{OwnEntries, OneNoticeMore, UnionIsJoin}
-use Rattle.exh_ward.specs.History.{IsHistory, map_left}
-use Rattle.exh_ward.specs.declared.journal_entry.JournalEntry.{JournalEntry}
-use Rattle.exh_ward.specs.Laws.{SharersBegin}
+use Rattle.exh_calls.specs.History.{IsHistory, map_left}
+use Rattle.exh_calls.specs.declared.journal_entry.JournalEntry.{JournalEntry}
+use Rattle.exh_calls.specs.Laws.{SharersBegin}
+use Rattle.exh_ward.specs.WardState.{WardState}
+use Rattle.exh_world.specs.EffectLemmas.{on_refusal}
 use Rattle.exh_world.specs.Headline.{IsNamed}
 use Rattle.exh_world.specs.Run.{Moment, IsRun, Told, Knowledge, known_after, known_at_end, answered_at, answered_in, entry_of}
 use Rattle.exh_world.specs.Sound.{IsSoundWorld}
@@ -18,6 +20,7 @@ use Rattle.exh_world.specs.declared.event.Event.TheVariants.{Begin, Hop as HopOn
 use Rattle.exh_world.specs.declared.outcome.Outcome.{Outcome}
 use Rattle.exh_world.specs.declared.step_fault.StepFault.{StepFault}
 use Rattle.exh_world.specs.declared.turn.Turn.{Turn}
+use Rattle.exh_world.proofs.FailureCounted.{counted_map}
 use Rattle.exh_world.proofs.Known.{IsKnown}
 use Rattle.exh_world.proofs.StepFacts.{IsOf, MapGoes, stepped}
 
@@ -70,11 +73,13 @@ pub record IsTurned {K : Type 0} (pseudokey_of : K → List ℕ → ℕ) (old : 
   pub named_all : AllByRecursion (IsNamed old.start old.ward_bits) (answered_at old turn.event turn.result)
 
 module _ {K : Type 0} (pseudokey_of : K → List ℕ → ℕ) (own : OwnEntries) (more : OneNoticeMore) (union : UnionIsJoin) (sharers : SharersBegin) where
-  refused : (old new : WorldState K) (event : Event) (fault : StepFault) → new ≡ old → IsTurned pseudokey_of old (record { event = event; result = Err fault }) new
-  refused old new event fault is = subst (IsTurned pseudokey_of old (record { event = event; result = Err fault })) (sym is) record {
+  -- whatever the wards are left as, if they hold the same map
+  refused : (old : WorldState K) (wards : List (WardState K)) (event : Event) (fault : StepFault) → map_in (record old { wards = wards }) ≡ map_in old
+      → IsTurned pseudokey_of old (record { event = event; result = Err fault }) (record old { wards = wards })
+  refused old wards event fault same = record {
     same = record { cap = refl; bits = refl; keyer = refl; start = refl };
     known = λ known are. subst (λ k. IsKnown k old.copies old.sent) (sym (known_refused (entries old.start) known event fault)) are;
-    goes = subst (λ answered. MapGoes pseudokey_of old (map entry_of answered) old) (sym (answered_refused old event fault)) refl;
+    goes = subst (λ answered. MapGoes pseudokey_of old (map entry_of answered) (record old { wards = wards })) (sym (answered_refused old event fault)) same;
     named_all = subst (AllByRecursion (IsNamed old.start old.ward_bits)) (sym (answered_refused old event fault)) tt;
   }
 
@@ -83,7 +88,9 @@ module _ {K : Type 0} (pseudokey_of : K → List ℕ → ℕ) (own : OwnEntries)
   turned_by old new sound new_sound event (Ok outcome) step =
       let is = stepped pseudokey_of old sound own more union sharers event outcome new step new_sound in
       record { same = is.same; known = is.known; goes = is.goes; named_all = is.named_all }
-  turned_by old new sound new_sound event (Err fault) step = refused old new event fault step.0
+  turned_by old new sound new_sound event (Err fault) step =
+      on_refusal pseudokey_of old (IsTurned pseudokey_of old (record { event = event; result = Err fault })) (refused old old.wards event fault refl)
+      (λ number before failures found. refused old (slice_set old.wards number (record before { failures = failures })) event fault (counted_map old number before failures found)) event fault new step
 
   -- ---- a run
 

@@ -17,14 +17,14 @@ use Rattle.exh_table.specs.TableOrder.{table_join}
 use Rattle.exh_page.specs.declared.page.Page.{Page}
 use Rattle.exh_page.specs.declared.page.Page.TheVariants.{Live, Forward}
 use Rattle.exh_legal.specs.Pages.{IsAt, IsHome, ward_prefix}
-use Rattle.exh_ward.specs.History.{IsHistory, map_left}
-use Rattle.exh_ward.specs.KeyMap.{KeyMap}
-use Rattle.exh_ward.specs.MapMachine.{reply_of, map_after}
+use Rattle.exh_calls.specs.History.{IsHistory, map_left}
+use Rattle.exh_page.specs.KeyMap.{KeyMap}
+use Rattle.exh_calls.specs.MapMachine.{reply_of, map_after}
 use Rattle.exh_ward.specs.declared.hop.Hop.{Hop as HopOutcome}
 use Rattle.exh_ward.specs.declared.hop.Hop.TheVariants.{Done, Moved, MustSplit, Stray}
-use Rattle.exh_ward.specs.declared.journal_entry.JournalEntry.{JournalEntry}
-use Rattle.exh_ward.specs.declared.reply.Reply.{Reply}
-use Rattle.exh_world.specs.EffectLemmas.{on_effect}
+use Rattle.exh_calls.specs.declared.journal_entry.JournalEntry.{JournalEntry}
+use Rattle.exh_calls.specs.declared.reply.Reply.{Reply}
+use Rattle.exh_world.specs.EffectLemmas.{on_effect, on_refusal}
 use Rattle.exh_world.specs.Headline.{CombinesLeast, IsNamed, DoesNotStray, AreTablesOfTaken}
 use Rattle.exh_world.specs.HeadlineLaws.{AreWorldsOf, RunsGoStepByStep, LeavesToNotices, notices_taken, IsTableWithNotices, CopiesTakeNotices, SameNoticesSameTables, CombinesJoin, IsAtTheOneLeaf, Answers, AnswersComeFromTheOneLeaf, HopsLeadOn, OnlyAnswersChangeTheMap, RepliesFollowTheAnswersBefore}
 use Rattle.exh_world.specs.Run.{Moment, IsRun, Told, known_by, known_at_end, Answered, answered_by, answered_at, answered_in, prefix_of, prefix_at, entry_of}
@@ -162,7 +162,7 @@ module _ {K : Type 0} (pseudokey_of : K → List ℕ → ℕ) where
 
   settings_step : (old : WorldState K) (event : Event) (result : Result Outcome StepFault) (new : WorldState K) → Step pseudokey_of old event result new → SameSettings old new
   settings_step old event (Ok outcome) new step = settings_kept old event outcome new step
-  settings_step old event (Err fault) new step = subst (SameSettings old) (sym step.0) (refl, refl)
+  settings_step old event (Err fault) new step = on_refusal pseudokey_of old (SameSettings old) (refl, refl) (λ number before failures found. (refl, refl)) event fault new step
 
   module _ (first : TableMap) (bits : ℕ) (moment : Moment K) (first_is : moment.before.start ≡ first) (bits_is : moment.before.ward_bits ≡ bits)
       (step : Step pseudokey_of moment.before moment.turn.event moment.turn.result moment.after)

@@ -10,15 +10,15 @@ use Rattle.exh_table.specs.Directory.{IsName}
 use Rattle.exh_table.specs.Laws.{OwnEntries, OneNoticeMore, UnionIsJoin}
 use Rattle.exh_table.specs.Leaves.{ward_leaves}
 use Rattle.exh_legal.specs.Pages.{ward_prefix, map_of}
-use Rattle.exh_ward.specs.Call.{key_of}
-use Rattle.exh_ward.specs.MapMachine.{reply_of, map_after}
+use Rattle.exh_calls.specs.Call.{key_of}
+use Rattle.exh_calls.specs.MapMachine.{reply_of, map_after}
 use Rattle.exh_ward.specs.WardState.{WardState}
 use Rattle.exh_ward.specs.MergeStep.{IsMergeStep}
 use Rattle.exh_ward.specs.SplitStep.{IsSplitStep}
 use Rattle.exh_ward.specs.declared.hop.Hop.{Hop as HopOutcome}
 use Rattle.exh_ward.specs.declared.hop.Hop.TheVariants.{Done, Moved, MustSplit, Stray}
-use Rattle.exh_ward.specs.declared.journal_entry.JournalEntry.{JournalEntry}
-use Rattle.exh_ward.specs.Laws.{SharersBegin}
+use Rattle.exh_calls.specs.declared.journal_entry.JournalEntry.{JournalEntry}
+use Rattle.exh_calls.specs.Laws.{SharersBegin}
 use Rattle.exh_world.specs.Headline.{IsNamed}
 use Rattle.exh_world.specs.Run.{Knowledge, known_after, answered_by, answered_at, entry_of}
 use Rattle.exh_world.specs.Sound.{IsOnTheWay, IsSoundWorld}

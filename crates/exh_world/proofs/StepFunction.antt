@@ -1,6 +1,6 @@
 -- A step as a relation gives what it gives as a function.
 use Rattle.std.proofs.Common.{◌≡◌, ◌⊎◌, ℕ, zero, suc, Bool, true, false, List, [], ◌∷◌, ◌++◌, length, find, slice_get, Option, None, Some, Result, Ok, Err, inl, inr, refl, sym, ap, ◌∙◌, subst, arith}
-use Rattle.std.specs.Prelude.{Contains, IsSome, nat_eq, slice_set}
+use Rattle.std.specs.Prelude.{◌≢◌, Contains, IsSome, nat_eq, slice_set}
 use Rattle.std.specs.Option.{option_map_or}
 use Rattle.std.proofs.lemmas.Bool.{eq-eqb, eqb-true, false_from_ne_true}
 use Rattle.std.proofs.lemmas.Option.{slice_get_read, slice_get_within, get_or_from_slice_get}
@@ -15,14 +15,15 @@ use Rattle.exh_ward.specs.SplitFunction.{split_of, ward_after_split}
 use Rattle.exh_ward.specs.SplitStep.{IsSplitStep, SplitRefused}
 use Rattle.exh_ward.specs.Told.{IsStoreFault}
 use Rattle.exh_ward.specs.WardState.{WardState, LeavesAfter}
-use Rattle.exh_ward.specs.declared.call.Call.{Call}
+use Rattle.exh_calls.specs.declared.call.Call.{Call}
 use Rattle.exh_ward.specs.declared.hop.Hop.{Hop}
 use Rattle.exh_ward.specs.declared.hop.Hop.TheVariants.{Done, Moved, MustSplit, Stray}
 use Rattle.exh_ward.specs.declared.ward_fault.WardFault.{WardFault}
+use Rattle.exh_ward.specs.declared.ward_fault.WardFault.TheVariants.{Memory, Page}
 use Rattle.exh_world.specs.InFlight.{requests_after}
 use Rattle.exh_world.specs.Laws.{HasNumberOfWord, IsComputed}
 use Rattle.exh_world.specs.Sound.{IsSoundWorld}
-use Rattle.exh_world.specs.Step.{IsRefused, IsWant, HasBegun, HasHopped, HasChanged, HasTaken, HasSent, HasJoined, HasRestarted, HasEffect, Step}
+use Rattle.exh_world.specs.Step.{IsRefused, HasBegun, HasHopped, HasChanged, HasTaken, HasSent, HasJoined, HasRestarted, HasEffect, Step}
 use Rattle.exh_world.specs.StepFunction.{Stepped, request_from, begun, ward_after_hop, hopped, changed, with_copy, step_of, result_of, world_after}
 use Rattle.exh_world.specs.World.{WorldState, numbered, issued_in}
 use Rattle.exh_world.specs.declared.event.Event.{Event}
@@ -33,7 +34,7 @@ use Rattle.exh_world.specs.declared.request.Request.{Request}
 use Rattle.exh_world.specs.declared.step_fault.StepFault.{StepFault}
 use Rattle.exh_world.specs.declared.step_fault.StepFault.TheVariants.{NameTaken, NoCopy, NoRequest, NoWard, NoNotice, NoTable, Ward}
 use Rattle.exh_world.specs.EffectLemmas.{on_effect}
-use Rattle.exh_world.proofs.HopSteps.{want_of}
+use Rattle.exh_world.proofs.WardChanges.{memory_of}
 
 -- ---- what is found
 
@@ -163,10 +164,10 @@ module _ {K : Type 0} (pseudokey_of : K → List ℕ → ℕ) (old : WorldState 
   changed_is event ward notice left made new result computed is after =
       is_step event (changed old ward (Ok notice) left) (computed ∙ ap (λ result. changed old ward result made) is.0 ∙ ap (changed old ward (Ok notice)) (sym is.1)) (Ok (Changed notice)) new refl after
 
-  refusal_is : (event : Event) (ward : ℕ) (made : WardState K) (fault : WardFault) (result : Result Notice WardFault) → step_of pseudokey_of old event ≡ changed old ward result made → IsStoreFault fault ⊎ (result ≡ Err fault)
-      → IsWant (Ward fault) ⊎ (step_of pseudokey_of old event ≡ (Err (Ward fault), old))
-  refusal_is event ward made fault result computed (inl want) = inl (want_of (Ward fault) fault refl want)
-  refusal_is event ward made fault result computed (inr is) = inr (computed ∙ ap (λ result. changed old ward result made) is)
+  refusal_is : (event : Event) (ward : ℕ) (made : WardState K) (fault : WardFault) (result : Result Notice WardFault) → step_of pseudokey_of old event ≡ changed old ward result made → IsStoreFault fault ⊎ (result ≡ Err fault) → fault ≢ Page
+      → (Ward fault ≡ Ward Memory) ⊎ (step_of pseudokey_of old event ≡ (Err (Ward fault), old))
+  refusal_is event ward made fault result computed (inl want) other = inl (ap Ward (memory_of fault want other))
+  refusal_is event ward made fault result computed (inr is) other = inr (computed ∙ ap (λ result. changed old ward result made) is)
 
   module _ (sound : IsSoundWorld pseudokey_of old) (splits : SplitsAreComputed pseudokey_of) (merges : MergesAreComputed pseudokey_of) where
     split_is : (ward page : ℕ) (notice : Notice) (new : WorldState K) → HasChanged IsSplitStep old ward page notice new → Is (Split ward page) (Ok (Changed notice)) new
@@ -182,15 +183,15 @@ module _ {K : Type 0} (pseudokey_of : K → List ℕ → ℕ) (old : WorldState 
     -- ---- refusals
 
     abbrev IsRefusal : Event → StepFault → Type 0
-    IsRefusal event fault = IsWant fault ⊎ (step_of pseudokey_of old event ≡ (Err fault, old))
+    IsRefusal event fault = (fault ≡ Ward Memory) ⊎ (step_of pseudokey_of old event ≡ (Err fault, old))
 
-    split_refusal : (ward page : ℕ) (fault : WardFault) (before : WardState K) → slice_get old.wards ward ≡ Some before → SplitRefused before.cap before.pages page fault → IsRefusal (Split ward page) (Ward fault)
-    split_refusal ward page fault before found is =
-        refusal_is (Split ward page) ward (ward_after_split before page) fault (split_of before page) (split_computed ward page before found) ((splits before page (sound.wards ward before found).sound).refused fault is)
+    split_refusal : (ward page : ℕ) (fault : WardFault) (before : WardState K) → slice_get old.wards ward ≡ Some before → SplitRefused before.cap before.pages page fault → fault ≢ Page → IsRefusal (Split ward page) (Ward fault)
+    split_refusal ward page fault before found is other =
+        refusal_is (Split ward page) ward (ward_after_split before page) fault (split_of before page) (split_computed ward page before found) ((splits before page (sound.wards ward before found).sound).refused fault is) other
 
-    merge_refusal : (ward page : ℕ) (fault : WardFault) (before : WardState K) → slice_get old.wards ward ≡ Some before → MergeRefused before page fault → IsRefusal (Merge ward page) (Ward fault)
-    merge_refusal ward page fault before found is =
-        refusal_is (Merge ward page) ward (ward_after_merge before page) fault (merge_of before page) (merge_computed ward page before found) ((merges before page (sound.wards ward before found).sound).refused fault is)
+    merge_refusal : (ward page : ℕ) (fault : WardFault) (before : WardState K) → slice_get old.wards ward ≡ Some before → MergeRefused before page fault → fault ≢ Page → IsRefusal (Merge ward page) (Ward fault)
+    merge_refusal ward page fault before found is other =
+        refusal_is (Merge ward page) ward (ward_after_merge before page) fault (merge_of before page) (merge_computed ward page before found) ((merges before page (sound.wards ward before found).sound).refused fault is) other
 
     no_notice : (copy ward index : ℕ) → IsRefused old (Deliver copy ward index) NoNotice → step_of pseudokey_of old (Deliver copy ward index) ≡ (Err NoNotice, old)
     unfolding step_of
@@ -222,9 +223,9 @@ module _ {K : Type 0} (pseudokey_of : K → List ℕ → ℕ) (old : WorldState 
     refused_is (Begin name client copy call) NoCopy is = inr (rw (is.0, is.1) refl)
     refused_is (HopOn name) NoRequest is = inr (rw is refl)
     refused_is (Split ward page) NoWard is = inr (rw is refl)
-    refused_is (Split ward page) (Ward fault) is = split_refusal ward page fault is.0 is.1 is.2
+    refused_is (Split ward page) (Ward fault) is = split_refusal ward page fault is.0 is.1 is.2 is.3
     refused_is (Merge ward page) NoWard is = inr (rw is refl)
-    refused_is (Merge ward page) (Ward fault) is = merge_refusal ward page fault is.0 is.1 is.2
+    refused_is (Merge ward page) (Ward fault) is = merge_refusal ward page fault is.0 is.1 is.2 is.3
     refused_is (Deliver copy ward index) NoCopy is = inr (rw is refl)
     refused_is (Deliver copy ward index) NoWard is = inr (no_ward copy ward index is)
     refused_is (Deliver copy ward index) NoNotice is = inr (no_notice copy ward index is)
@@ -249,12 +250,11 @@ module _ {K : Type 0} (pseudokey_of : K → List ℕ → ℕ) (old : WorldState 
     }
 
     refusal_computed : (event : Event) (fault : StepFault) (new : WorldState K) → new ≡ old → IsRefusal event fault → IsComputed pseudokey_of old event (Err fault) new
-    refusal_computed event fault new same (inl want) = inl (fault, refl, want, same)
-    refusal_computed event fault new same (inr is) = inr (is_step event (Err fault, old) is (Err fault) new refl same)
+    refusal_computed event fault new same (inl want) = inl (ap Err want, same)
+    refusal_computed event fault new same (inr is) = inr (inr (is_step event (Err fault, old) is (Err fault) new refl same))
 
     pub step_computed : HopsAreComputed → (event : Event) (result : Result Outcome StepFault) (new : WorldState K) → HasNumberOfWord result → Step pseudokey_of old event result new → IsComputed pseudokey_of old event result new
-    step_computed hops event (Ok outcome) new fits step = inr (effect_is hops event outcome new step fits)
-    step_computed hops event (Err fault) new fits step = elim step.1 [
-      | inl is ↦ refusal_computed event fault new step.0 (refused_is event fault is)
-      | inr want ↦ refusal_computed event fault new step.0 (inl want)
-    ]
+    step_computed hops event (Ok outcome) new fits step = inr (inr (effect_is hops event outcome new step fits))
+    step_computed hops event (Err fault) new fits (inl (same, inl is)) = refusal_computed event fault new same (refused_is event fault is)
+    step_computed hops event (Err fault) new fits (inl (same, inr memory)) = refusal_computed event fault new same (inl memory)
+    step_computed hops event (Err fault) new fits (inr (page, number, reaches, counted)) = inr (inl (ap Err page, number, reaches, counted))

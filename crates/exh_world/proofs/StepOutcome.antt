@@ -1,6 +1,6 @@
 -- What a step is computed to be is what the relation gives.
 use Rattle.std.proofs.Common.{◌≡◌, ℕ, zero, suc, Bool, true, false, List, [], ◌∷◌, ◌++◌, length, find, slice_get, Option, None, Some, Result, Ok, Err, inl, refl, sym, ap, ◌∙◌, subst}
-use Rattle.std.specs.Prelude.{Contains, nat_eq, is_some}
+use Rattle.std.specs.Prelude.{◌≢◌, Contains, nat_eq, is_some}
 use Rattle.std.specs.Option.{option_map_or}
 use Rattle.std.proofs.lemmas.Bool.{eq-eqb, eqb-true, false≢true}
 use Rattle.std.proofs.lemmas.Option.{slice_get_within, get_or_from_slice_get}
@@ -10,16 +10,17 @@ use Rattle.exh_table.specs.Table.{TableMap, table_with}
 use Rattle.exh_table.specs.TableOrder.{table_join}
 use Rattle.exh_page.specs.Laws.{AreOfWords}
 use Rattle.exh_legal.specs.Pages.{IsLegal, ward_prefix}
-use Rattle.exh_ward.specs.Call.{key_of}
+use Rattle.exh_calls.specs.Call.{key_of}
 use Rattle.exh_ward.specs.HopTable.{HopOf, hop_of}
 use Rattle.exh_ward.specs.Laws.{HopsHaveOutcomes, AnswersKeepLegal, SplitsHaveOutcomes, MergesHaveOutcomes, IsSplitOutcome, IsMergeOutcome}
 use Rattle.exh_ward.specs.MergeFunction.{merge_of, ward_after_merge}
 use Rattle.exh_ward.specs.SplitFunction.{split_of, ward_after_split}
 use Rattle.exh_ward.specs.WardState.{WardState, LeavesAfter, own_prefix}
-use Rattle.exh_ward.specs.declared.call.Call.{Call}
+use Rattle.exh_calls.specs.declared.call.Call.{Call}
 use Rattle.exh_ward.specs.declared.hop.Hop.{Hop}
 use Rattle.exh_ward.specs.declared.hop.Hop.TheVariants.{Done, Moved, MustSplit, Stray}
 use Rattle.exh_ward.specs.declared.ward_fault.WardFault.{WardFault}
+use Rattle.exh_ward.specs.declared.ward_fault.WardFault.TheVariants.{Page}
 use Rattle.exh_world.specs.InFlight.{request_named}
 use Rattle.exh_world.specs.Sound.{IsWardOf, IsOnTheWay, IsSoundWorld}
 use Rattle.exh_world.specs.Step.{Step}
@@ -31,6 +32,7 @@ use Rattle.exh_world.specs.declared.outcome.Outcome.TheVariants.{Taken, Sent, Jo
 use Rattle.exh_world.specs.declared.request.Request.{Request}
 use Rattle.exh_world.specs.declared.step_fault.StepFault.TheVariants.{NameTaken, NoCopy, NoRequest, NoWard, NoNotice, NoTable}
 use Rattle.exh_world.specs.RequestLemmas.{all_named}
+use Rattle.exh_world.proofs.PagesReached.{split_reached, merge_reached}
 use Rattle.exh_world.proofs.StepFunction.{place_of, split_computed, merge_computed}
 
 -- ---- what a search finds
@@ -66,7 +68,7 @@ module _ {K : Type 0} (pseudokey_of : K → List ℕ → ℕ) (old : WorldState 
 
   begun_by : (name client copy : ℕ) (call : Call) → request_named name old.in_flight ≡ None → (found : Option TableMap) → numbered old.copies copy ≡ found → Comes (Begin name client copy call)
   unfolding step_of
-  begun_by name client copy call free None is = comes (Begin name client copy call) (Err NoCopy, old) (rw (free, is) refl) (refl, inl (free, is))
+  begun_by name client copy call free None is = comes (Begin name client copy call) (Err NoCopy, old) (rw (free, is) refl) (inl (refl, inl (free, is)))
   begun_by name client copy call free (Some table) is =
       comes (Begin name client copy call) (begun old name (request_from pseudokey_of old client call table)) (rw (free, is) refl)
       (record { free = free; table = table; there = is; ward_is = refl; page_is = refl; after = refl })
@@ -74,28 +76,28 @@ module _ {K : Type 0} (pseudokey_of : K → List ℕ → ℕ) (old : WorldState 
   begin_comes : (name client copy : ℕ) (call : Call) (found : Option Request) → request_named name old.in_flight ≡ found → Comes (Begin name client copy call)
   unfolding step_of
   begin_comes name client copy call None is = begun_by name client copy call is (numbered old.copies copy) refl
-  begin_comes name client copy call (Some request) is = comes (Begin name client copy call) (Err NameTaken, old) (rw is refl) (refl, inl (ap is_some is))
+  begin_comes name client copy call (Some request) is = comes (Begin name client copy call) (Err NameTaken, old) (rw is refl) (inl (refl, inl (ap is_some is)))
 
   send_comes : (copy : ℕ) (found : Option TableMap) → numbered old.copies copy ≡ found → Comes (Send copy)
   unfolding step_of
-  send_comes copy None is = comes (Send copy) (Err NoCopy, old) (rw is refl) (refl, inl is)
+  send_comes copy None is = comes (Send copy) (Err NoCopy, old) (rw is refl) (inl (refl, inl is))
   send_comes copy (Some table) is =
       comes (Send copy) (Ok (Sent (suc (length old.sent))), record old { sent = old.sent ++ table ∷ [] }) (rw is refl) (record { table = table; there = is; number_is = refl; after = refl })
 
   restart_comes : (copy : ℕ) (found : Option TableMap) → numbered old.copies copy ≡ found → Comes (Restart copy)
   unfolding step_of
-  restart_comes copy None is = comes (Restart copy) (Err NoCopy, old) (rw is refl) (refl, inl is)
+  restart_comes copy None is = comes (Restart copy) (Err NoCopy, old) (rw is refl) (inl (refl, inl is))
   restart_comes copy (Some own) is = comes (Restart copy) (Ok Restarted, with_copy old copy old.start) (rw is refl) (record { own = own; there = is; after = refl })
 
   joined_by : (copy table : ℕ) (own : TableMap) → numbered old.copies copy ≡ Some own → (found : Option TableMap) → numbered old.sent table ≡ found → Comes (Combine copy table)
   unfolding step_of
-  joined_by copy table own there None is = comes (Combine copy table) (Err NoTable, old) (rw (there, is) refl) (refl, inl (ap is_some there, is))
+  joined_by copy table own there None is = comes (Combine copy table) (Err NoTable, old) (rw (there, is) refl) (inl (refl, inl (ap is_some there, is)))
   joined_by copy table own there (Some other) is =
       comes (Combine copy table) (Ok Joined, with_copy old copy (table_join own other)) (rw (there, is) refl) (record { own = own; there = there; other = other; sent = is; after = refl })
 
   combine_comes : (copy table : ℕ) (found : Option TableMap) → numbered old.copies copy ≡ found → Comes (Combine copy table)
   unfolding step_of
-  combine_comes copy table None is = comes (Combine copy table) (Err NoCopy, old) (rw is refl) (refl, inl is)
+  combine_comes copy table None is = comes (Combine copy table) (Err NoCopy, old) (rw is refl) (inl (refl, inl is))
   combine_comes copy table (Some own) is = joined_by copy table own is (numbered old.sent table) refl
 
   module _ (copy ward index : ℕ) where
@@ -110,7 +112,7 @@ module _ {K : Type 0} (pseudokey_of : K → List ℕ → ℕ) (old : WorldState 
         told_by : (found : Option Notice) → find has_index teller.notices ≡ found → IsFound has_index teller.notices found → Comes (Deliver copy ward index)
         unfolding step_of
         told_by None is none =
-            comes (Deliver copy ward index) (Err NoNotice, old) (rw (there, found_teller, is) refl) (
+            comes (Deliver copy ward index) (Err NoNotice, old) (rw (there, found_teller, is) refl) (inl (
               refl,
               inl (
                 ap is_some there,
@@ -119,7 +121,7 @@ module _ {K : Type 0} (pseudokey_of : K → List ℕ → ℕ) (old : WorldState 
                     let place = place_of teller.notices notice (subst (λ notices. Contains notices notice) issued contains) in
                     none place.0 notice place.1 (eq-eqb notice.index index same),
               ),
-            )
+            ))
         told_by (Some notice) is found =
             let contained : Contains teller.notices notice = (found.0, slice_get_within teller.notices found.0 notice found.1, get_or_from_slice_get teller.notices found.0 notice notice found.1) in
             comes (Deliver copy ward index) (Ok (Taken notice), with_copy old copy (table_with own notice)) (rw (there, found_teller, is) refl) (record {
@@ -132,12 +134,12 @@ module _ {K : Type 0} (pseudokey_of : K → List ℕ → ℕ) (old : WorldState 
 
       by_teller : (found : Option (WardState K)) → slice_get old.wards ward ≡ found → Comes (Deliver copy ward index)
       unfolding step_of
-      by_teller None is = comes (Deliver copy ward index) (Err NoWard, old) (rw (there, is) refl) (refl, inl (ap is_some there, is))
+      by_teller None is = comes (Deliver copy ward index) (Err NoWard, old) (rw (there, is) refl) (inl (refl, inl (ap is_some there, is)))
       by_teller (Some teller) is = told_by teller is (find has_index teller.notices) refl (is_found has_index teller.notices)
 
     deliver_comes : (found : Option TableMap) → numbered old.copies copy ≡ found → Comes (Deliver copy ward index)
     unfolding step_of
-    deliver_comes None is = comes (Deliver copy ward index) (Err NoCopy, old) (rw is refl) (refl, inl is)
+    deliver_comes None is = comes (Deliver copy ward index) (Err NoCopy, old) (rw is refl) (inl (refl, inl is))
     deliver_comes (Some own) is = by_teller own is (slice_get old.wards ward) refl
 
   module _ (sound : IsSoundWorld pseudokey_of old) where
@@ -205,36 +207,36 @@ module _ {K : Type 0} (pseudokey_of : K → List ℕ → ℕ) (old : WorldState 
 
       hop_comes : (found : Option Request) → request_named name old.in_flight ≡ found → Comes (HopOn name)
       unfolding step_of
-      hop_comes None is = comes (HopOn name) (Err NoRequest, old) (rw is refl) (refl, inl is)
+      hop_comes None is = comes (HopOn name) (Err NoRequest, old) (rw is refl) (inl (refl, inl is))
       hop_comes (Some request) is = hopped_comes request is
 
     -- ---- splits and merges
 
     module _ (ward page : ℕ) where
-      split_by : (before : WardState K) → slice_get old.wards ward ≡ Some before → (result : Result Notice WardFault) (left : WardState K) → IsSplitOutcome before page result left
+      split_by : (before : WardState K) → slice_get old.wards ward ≡ Some before → (result : Result Notice WardFault) (left : WardState K) → result ≢ Err Page → IsSplitOutcome before page result left
           → Step pseudokey_of old (Split ward page) (changed old ward result left).0 (changed old ward result left).1
-      split_by before found (Ok notice) left change = record { before = before; found = found; left = left; change = change; after = refl }
-      split_by before found (Err fault) left refusal = (refl, inl (before, found, refusal.0))
+      split_by before found (Ok notice) left other change = record { before = before; found = found; left = left; change = change; after = refl }
+      split_by before found (Err fault) left other refusal = inl (refl, inl (before, found, refusal.0, λ same. other (ap Err same)))
 
       split_comes : SplitsHaveOutcomes pseudokey_of → (found : Option (WardState K)) → slice_get old.wards ward ≡ found → Comes (Split ward page)
       unfolding step_of
-      split_comes splits None is = comes (Split ward page) (Err NoWard, old) (rw is refl) (refl, inl is)
+      split_comes splits None is = comes (Split ward page) (Err NoWard, old) (rw is refl) (inl (refl, inl is))
       split_comes splits (Some before) is =
           comes (Split ward page) (changed old ward (split_of before page) (ward_after_split before page)) (split_computed pseudokey_of old ward page before is)
-          (split_by before is (split_of before page) (ward_after_split before page) (splits before page (sound.wards ward before is).sound))
+          (split_by before is (split_of before page) (ward_after_split before page) (split_reached before page) (splits before page (sound.wards ward before is).sound))
 
-      merge_by : (before : WardState K) → slice_get old.wards ward ≡ Some before → (result : Result Notice WardFault) (left : WardState K) → IsMergeOutcome before page result left
+      merge_by : (before : WardState K) → slice_get old.wards ward ≡ Some before → (result : Result Notice WardFault) (left : WardState K) → result ≢ Err Page → IsMergeOutcome before page result left
           → Step pseudokey_of old (Merge ward page) (changed old ward result left).0 (changed old ward result left).1
-      merge_by before found (Ok notice) left change = record { before = before; found = found; left = left; change = change; after = refl }
-      merge_by before found (Err fault) left refusal = (refl, inl (before, found, refusal.0))
+      merge_by before found (Ok notice) left other change = record { before = before; found = found; left = left; change = change; after = refl }
+      merge_by before found (Err fault) left other refusal = inl (refl, inl (before, found, refusal.0, λ same. other (ap Err same)))
 
       merge_comes : MergesHaveOutcomes pseudokey_of → (found : Option (WardState K)) → slice_get old.wards ward ≡ found → Comes (Merge ward page)
       unfolding step_of
-      merge_comes merges None is = comes (Merge ward page) (Err NoWard, old) (rw is refl) (refl, inl is)
+      merge_comes merges None is = comes (Merge ward page) (Err NoWard, old) (rw is refl) (inl (refl, inl is))
       merge_comes merges (Some before) is =
           let own = sound.wards ward before is in
           comes (Merge ward page) (changed old ward (merge_of before page) (ward_after_merge before page)) (merge_computed pseudokey_of old ward page before is)
-          (merge_by before is (merge_of before page) (ward_after_merge before page) (merges before page (words_of ward before own) own.sound))
+          (merge_by before is (merge_of before page) (ward_after_merge before page) (merge_reached before page) (merges before page (words_of ward before own) own.sound))
 
     -- ---- every step
 

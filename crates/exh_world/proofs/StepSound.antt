@@ -7,7 +7,7 @@ use Rattle.exh_ward.specs.HopTable.{HopOf}
 use Rattle.exh_ward.specs.WardState.{WardState, IsSoundWard, LeavesAfter}
 use Rattle.exh_ward.specs.MergeStep.{IsMergeStep}
 use Rattle.exh_ward.specs.SplitStep.{IsSplitStep}
-use Rattle.exh_ward.specs.declared.call.Call.{Call}
+use Rattle.exh_calls.specs.declared.call.Call.{Call}
 use Rattle.exh_ward.specs.declared.hop.Hop.{Hop}
 use Rattle.exh_ward.specs.declared.hop.Hop.TheVariants.{Done, Moved, MustSplit, Stray}
 use Rattle.exh_world.specs.InFlight.{Requests, request_named, requests_after}
@@ -19,12 +19,13 @@ use Rattle.exh_world.specs.declared.event.Event.{Event}
 use Rattle.exh_world.specs.declared.outcome.Outcome.{Outcome}
 use Rattle.exh_world.specs.declared.request.Request.{Request}
 use Rattle.exh_world.specs.declared.step_fault.StepFault.{StepFault}
-use Rattle.exh_world.specs.EffectLemmas.{on_effect}
+use Rattle.exh_world.specs.EffectLemmas.{on_effect, on_refusal}
 use Rattle.exh_world.specs.ListLemmas.{set_here}
 use Rattle.exh_world.specs.RequestLemmas.{all_named}
 use Rattle.exh_world.proofs.BegunSound.{begun_sound}
 use Rattle.exh_world.proofs.HoppedSound.{same_sound, moved_sound, answered_sound, no_stray}
 use Rattle.exh_world.proofs.ChangedSound.{split_sound, merge_sound}
+use Rattle.exh_world.proofs.FailureCounted.{counted_sound}
 use Rattle.exh_world.proofs.ToldSound.{copy_sound, notice_leads, join_leads, sent_sound}
 
 module _ {K : Type 0} (pseudokey_of : K → List ℕ → ℕ) (old : WorldState K) (sound : IsSoundWorld pseudokey_of old) (new : WorldState K) where
@@ -116,4 +117,4 @@ module _ {K : Type 0} (pseudokey_of : K → List ℕ → ℕ) (old : WorldState 
 
   pub step_sound : (event : Event) (result : Result Outcome StepFault) (new : WorldState K) → Step pseudokey_of old event result new → AreWardsSound pseudokey_of new → IsSoundWorld pseudokey_of new
   step_sound event (Ok outcome) new step wards = effect_sound event outcome new step wards
-  step_sound event (Err fault) new step wards = subst (IsSoundWorld pseudokey_of) (sym step.0) sound
+  step_sound event (Err fault) new step wards = on_refusal pseudokey_of old (IsSoundWorld pseudokey_of) sound (λ number before failures found. counted_sound pseudokey_of old sound number before found failures) event fault new step

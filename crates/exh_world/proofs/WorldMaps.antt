@@ -12,13 +12,14 @@ use Rattle.exh_prefix.specs.declared.prefix.TheConstants.{LIMIT}
 use Rattle.exh_prefix.specs.BitLemmas.{length-bits_of}
 use Rattle.exh_prefix.specs.Prefix.{Begins}
 use Rattle.exh_page.specs.declared.page.Page.{Page}
-use Rattle.exh_legal.specs.MapLemmas.{tie_of, same_maps}
+use Rattle.exh_page.specs.KeyMapLemmas.{same_maps}
+use Rattle.exh_legal.specs.MapLemmas.{tie_of}
 use Rattle.exh_legal.specs.Pages.{map_of, ward_prefix, IsLegal}
-use Rattle.exh_ward.specs.Call.{key_of}
-use Rattle.exh_ward.specs.Laws.{SharersBegin}
-use Rattle.exh_ward.specs.MapMachine.{leading, reply_of, map_after}
+use Rattle.exh_calls.specs.Call.{key_of}
+use Rattle.exh_calls.specs.Laws.{SharersBegin}
+use Rattle.exh_calls.specs.MapMachine.{leading, reply_of, map_after}
 use Rattle.exh_ward.specs.WardState.{WardState, own_prefix}
-use Rattle.exh_ward.specs.declared.call.Call.{Call}
+use Rattle.exh_calls.specs.declared.call.Call.{Call}
 use Rattle.exh_world.specs.Sound.{IsSoundWorld}
 use Rattle.exh_world.specs.World.{WorldState, ward_of, map_in}
 use Rattle.exh_world.proofs.BegunSound.{ward_begins, ward_there}

@@ -3,7 +3,7 @@ use Rattle.std.proofs.Common.{◌≡◌, ℕ, zero, suc, ◌↔◌, ◌+◌, ◌
 use Rattle.std.specs.FinMap as fin
 use Rattle.std.specs.List.{fold}
 use Rattle.std.specs.Option.{option_map_or}
-use Rattle.std.proofs.lemmas.List.{drop_all, length-map, take_all, take_more, map-append}
+use Rattle.std.proofs.lemmas.List.{drop_all, take_all, take_more, map-append}
 use Rattle.std.proofs.lemmas.List.Sums.{fold_push}
 use Rattle.std.proofs.lemmas.Option.{slice_get_within}
 use Rattle.exh_prefix.specs.Prefix.{IsFront, prefix_cmp, low_of}
@@ -25,14 +25,14 @@ use Rattle.exh_ward.specs.WardState.{WardState, IsSoundWard, notices_above}
 use Rattle.exh_ward.specs.declared.ward.TheConstants.{WARD_BITS_LIMIT}
 use Rattle.exh_world.specs.declared.config.Config.{Config}
 use Rattle.exh_world.specs.InFlight.{Requests}
-use Rattle.exh_world.specs.Kept.{IsKept, uncounted}
+use Rattle.exh_world.specs.Kept.{IsKept}
 use Rattle.exh_world.specs.NewWorld.{IsWardFor, AreWardsFor, tables_joined, world_of_wards}
 use Rattle.exh_world.specs.Sound.{LeadsRight, LeadsRightIn, IsWardOf}
 use Rattle.exh_world.proofs.CopySteps.{all_above}
 use Rattle.exh_world.proofs.FreshWorld.{AreSoundWards, made_of, numbered_is, numbered_none}
 use Rattle.exh_world.specs.ListLemmas.{push_is}
 use Rattle.exh_world.proofs.MapsOfWards.{one_front}
-use Rattle.exh_world.proofs.UncountedWards.{map_there, map_from, sound_shown}
+use Rattle.exh_world.proofs.MappedLists.{map_there, map_from}
 
 -- ---- tables joined one after another
 
@@ -148,13 +148,13 @@ module _ {K : Type 0} (pseudokey_of : K → List ℕ → ℕ) (config : Config K
         let same : prefix ≡ home.leaf.prefix = home.name.only prefix is_named begins in
         (home.leaf.page, (pseudokey, small, ward_begins, same_walk pseudokey ∙ home.walk ∙ (λ i. record { prefix = sym same i; page = home.leaf.page })))
 
-    pub is_ward_of : IsWardOf pseudokey_of (world_of_wards config wards) number (uncounted ward)
+    pub is_ward_of : IsWardOf pseudokey_of (world_of_wards config wards) number ward
     is_ward_of = let suits = each number ward is in record {
       cap = suits.cap;
       bits = suits.bits;
       number_is = suits.number_is;
       keyer = suits.keyer;
-      sound = sound_shown pseudokey_of ward (sound number ward is);
+      sound = sound number ward is;
       before = length ward.notices;
       noticed = map_there (λ (w : WardState K). length w.notices) wards number ward is;
       first = omega arith;
@@ -162,19 +162,15 @@ module _ {K : Type 0} (pseudokey_of : K → List ℕ → ℕ) (config : Config K
     }
 
   leads_in : LeadsRightIn (world_of_wards config wards) (tables_joined wards)
-  leads_in number shown is =
-      let of = map_from uncounted wards number shown is in
-      subst (λ (w : WardState K). LeadsRight (prefix_of number) w.pages (tables_joined wards)) (sym of.2) (leads_right number of.0 of.1)
+  leads_in number ward is = leads_right number ward is
 
   pub wards_world_kept : IsKept pseudokey_of (world_of_wards config wards)
   wards_world_kept = record {
     sound = record {
       bits = omega (arith, bits);
       words = words config.keyer;
-      count = length-map wards uncounted ∙ count;
-      wards = λ number shown is.
-          let of = map_from uncounted wards number shown is in
-          subst (IsWardOf pseudokey_of (world_of_wards config wards) number) (sym of.2) (is_ward_of number of.0 of.1);
+      count = count;
+      wards = λ number ward is. is_ward_of number ward is;
       start = leads_in;
       copies = λ copy table is. subst (LeadsRightIn (world_of_wards config wards)) (sym (numbered_is config.copies (tables_joined wards) table copy is)) leads_in;
       sent = λ number table is. absurd (numbered_none number table is);

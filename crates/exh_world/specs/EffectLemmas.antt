@@ -1,16 +1,19 @@
--- What holds of each effect holds of every step that isn't refused.
-use Rattle.std.proofs.Common.{ℕ, List}
+-- What holds of each effect holds of every step that isn't refused; what holds of a world whose wards count more failures, too, of every other.
+use Rattle.std.proofs.Common.{◌≡◌, ℕ, List, slice_get, Some, Err, inl, inr, sym, subst}
+use Rattle.std.specs.Prelude.{slice_set}
 use Rattle.exh_notice.specs.declared.notice.Notice.{Notice}
 use Rattle.exh_ward.specs.MergeStep.{IsMergeStep}
 use Rattle.exh_ward.specs.SplitStep.{IsSplitStep}
-use Rattle.exh_ward.specs.declared.call.Call.{Call}
+use Rattle.exh_calls.specs.declared.call.Call.{Call}
 use Rattle.exh_ward.specs.declared.hop.Hop.{Hop as HopOutcome}
-use Rattle.exh_world.specs.Step.{HasBegun, HasHopped, HasChanged, HasTaken, HasSent, HasJoined, HasRestarted, HasEffect}
+use Rattle.exh_ward.specs.WardState.{WardState}
+use Rattle.exh_world.specs.Step.{HasBegun, HasHopped, HasChanged, HasTaken, HasSent, HasJoined, HasRestarted, HasEffect, Step}
 use Rattle.exh_world.specs.World.{WorldState}
 use Rattle.exh_world.specs.declared.event.Event.{Event}
 use Rattle.exh_world.specs.declared.event.Event.TheVariants.{Begin, Hop as HopOn, Split, Merge, Deliver, Send, Combine, Restart}
 use Rattle.exh_world.specs.declared.outcome.Outcome.{Outcome}
 use Rattle.exh_world.specs.declared.outcome.Outcome.TheVariants.{Begun, Hopped, Changed, Taken, Sent, Joined, Restarted}
+use Rattle.exh_world.specs.declared.step_fault.StepFault.{StepFault}
 
 module _ {K : Type 0} (pseudokey_of : K → List ℕ → ℕ) (old : WorldState K) (P : Event → Outcome → WorldState K → Type 0) where
   pub record ForEach : Type 0 where
@@ -33,3 +36,12 @@ module _ {K : Type 0} (pseudokey_of : K → List ℕ → ℕ) (old : WorldState 
   on_effect each (Combine copy table) Joined new has = each.joined copy table new has
   on_effect each (Restart copy) Restarted new has = each.restarted copy new has
   on_effect each event outcome new has = absurd has
+
+-- a refused event leaves the world as it was, but for one ward's count of failures
+pub on_refusal : {K : Type 0} (pseudokey_of : K → List ℕ → ℕ) (old : WorldState K) (P : WorldState K → Type 0) → P old
+    → ((number : ℕ) (before : WardState K) (failures : ℕ) → slice_get old.wards number ≡ Some before → P (record old { wards = slice_set old.wards number (record before { failures = failures }) }))
+    → (event : Event) (fault : StepFault) (new : WorldState K) → Step pseudokey_of old event (Err fault) new → P new
+on_refusal pseudokey_of old P same counted event fault new step = elim step [
+  | inl is ↦ subst P (sym is.0) same
+  | inr is ↦ subst P (sym is.3.after) (counted is.1 is.3.before is.3.failures is.3.found)
+]

@@ -7,7 +7,7 @@ use Rattle.exh_table.specs.Leaves.{ward_leaves}
 use Rattle.exh_table.specs.Table.{TableMap, IsTableOf}
 use Rattle.exh_table.specs.TableOrder.{IsTableUpTo}
 use Rattle.exh_legal.specs.Pages.{ward_prefix}
-use Rattle.exh_ward.specs.History.{IsHistory, map_left}
+use Rattle.exh_calls.specs.History.{IsHistory, map_left}
 use Rattle.exh_ward.specs.declared.hop.Hop.TheVariants.{Stray}
 use Rattle.exh_world.specs.Run.{Moment, IsRun, Told, known_by, known_at_end, Answered, answered_in, entry_of}
 use Rattle.exh_world.specs.World.{WorldState, numbered, map_in}

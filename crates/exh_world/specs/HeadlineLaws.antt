@@ -7,12 +7,12 @@ use Rattle.exh_table.specs.TableOrder.{table_join}
 use Rattle.exh_page.specs.declared.page.Page.TheVariants.{Live}
 use Rattle.exh_page.specs.declared.record.Record.{Record}
 use Rattle.exh_legal.specs.Pages.{IsAt}
-use Rattle.exh_ward.specs.MapMachine.{reply_of}
-use Rattle.exh_ward.specs.History.{map_left}
+use Rattle.exh_calls.specs.MapMachine.{reply_of}
+use Rattle.exh_calls.specs.History.{map_left}
 use Rattle.exh_ward.specs.WardState.{WardState}
 use Rattle.exh_ward.specs.declared.hop.Hop.{Hop as HopOutcome}
 use Rattle.exh_ward.specs.declared.hop.Hop.TheVariants.{Done, Moved, MustSplit}
-use Rattle.exh_ward.specs.declared.reply.Reply.{Reply}
+use Rattle.exh_calls.specs.declared.reply.Reply.{Reply}
 use Rattle.exh_world.specs.Headline.{IsHeadline}
 use Rattle.exh_world.specs.InFlight.{request_named}
 use Rattle.exh_world.specs.Run.{Moment, answered_in, entry_of}

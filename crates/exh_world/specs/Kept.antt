@@ -1,16 +1,11 @@
--- What a world keeps beside being sound, and how it shows its wards.
+-- What a world keeps beside being sound, and how it shows its copies.
 use Rattle.std.specs.Prelude.{◌≡◌, ℕ, ◌+◌, ◌-◌, ◌^◌, ◌<◌, ◌≤◌, List, length, map, slice_get, Some}
 use Rattle.exh_array.specs.Pointers.{DirectoryState, HasArrayOf}
 use Rattle.exh_notice.specs.declared.notice.Notice.{Notice}
 use Rattle.exh_table.specs.Table.{TableMap}
-use Rattle.exh_ward.specs.WardState.{WardState}
 use Rattle.exh_ward.specs.declared.ward.TheConstants.{WARD_BITS_LIMIT}
 use Rattle.exh_world.specs.Sound.{IsSoundWorld}
 use Rattle.exh_world.specs.World.{WorldState, numbered}
-
--- a world doesn't show how often its wards couldn't reach a page
-abbrev pub uncounted : {K : Type 0} → WardState K → WardState K
-uncounted ward = record ward { failures = 0 }
 
 -- the world is sound, and its numbers have room
 pub record IsKept {K : Type 0} (pseudokey_of : K → List ℕ → ℕ) (world : WorldState K) : Type 0 where

@@ -2,11 +2,12 @@
 use Rattle.std.specs.Prelude.{◌≡◌, ⊤, ◌⊎◌, ℕ, ◌^◌, ◌<◌, ◌≤◌, List, map, slice_get, Some, All, Result, Ok, Err}
 use Rattle.exh_ward.specs.WardState.{WardState, IsSoundWard}
 use Rattle.exh_ward.specs.declared.ward.TheConstants.{WARD_BITS_LIMIT}
+use Rattle.exh_ward.specs.declared.ward_fault.WardFault.TheVariants.{Memory, Page}
 use Rattle.exh_world.specs.Headline.{IsHeadline}
 use Rattle.exh_world.specs.NewWorld.{new_world}
 use Rattle.exh_world.specs.Run.{Moment, IsRun}
 use Rattle.exh_world.specs.Sound.{IsSoundWorld}
-use Rattle.exh_world.specs.Step.{IsWant, Step}
+use Rattle.exh_world.specs.Step.{CountsFailure, ReachesInto, Step}
 use Rattle.exh_world.specs.StepFunction.{result_of, world_after}
 use Rattle.exh_world.specs.World.{WorldState}
 use Rattle.exh_world.specs.declared.config.Config.{Config}
@@ -14,6 +15,7 @@ use Rattle.exh_world.specs.declared.event.Event.{Event}
 use Rattle.exh_world.specs.declared.outcome.Outcome.{Outcome}
 use Rattle.exh_world.specs.declared.outcome.Outcome.TheVariants.{Changed}
 use Rattle.exh_world.specs.declared.step_fault.StepFault.{StepFault}
+use Rattle.exh_world.specs.declared.step_fault.StepFault.TheVariants.{Ward}
 
 -- each ward of the world is sound, which is what a ward's own calls promise
 abbrev pub AreWardsSound : {K : Type 0} → (K → List ℕ → ℕ) → WorldState K → Type 0
@@ -29,10 +31,12 @@ abbrev pub HasNumberOfWord : Result Outcome StepFault → Type 0
 HasNumberOfWord (Ok (Changed notice)) = notice.number < 2 ^ 32
 HasNumberOfWord result = ⊤
 
--- the step was refused for want of memory or a page, or it is what the function computes
+-- the step was refused for want of memory, or for a page out of reach, which its ward has counted, or it is what the function computes
 abbrev pub IsComputed : {K : Type 0} → (K → List ℕ → ℕ) → WorldState K → Event → Result Outcome StepFault → WorldState K → Type 0
 IsComputed pseudokey_of old event result new =
-    ((fault : StepFault) × (result ≡ Err fault) × IsWant fault × (new ≡ old)) ⊎ ((result ≡ result_of pseudokey_of old event) × (new ≡ world_after pseudokey_of old event))
+    ((result ≡ Err (Ward Memory)) × (new ≡ old))
+    ⊎ ((result ≡ Err (Ward Page)) × (number : ℕ) × ReachesInto old event number × CountsFailure old number new)
+    ⊎ ((result ≡ result_of pseudokey_of old event) × (new ≡ world_after pseudokey_of old event))
 
 abbrev pub StepsAreComputed : {K : Type 0} → (K → List ℕ → ℕ) → Type 0
 StepsAreComputed {K} pseudokey_of = (old : WorldState K) (event : Event) (result : Result Outcome StepFault) (new : WorldState K)

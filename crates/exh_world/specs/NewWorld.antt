@@ -7,7 +7,6 @@ use Rattle.exh_table.specs.TableOrder.{table_join}
 use Rattle.exh_page.specs.declared.page.Page.TheVariants.{Live}
 use Rattle.exh_legal.specs.Pages.{ward_prefix}
 use Rattle.exh_ward.specs.WardState.{WardState}
-use Rattle.exh_world.specs.Kept.{uncounted}
 use Rattle.exh_world.specs.World.{WorldState, changes_in, issued_in}
 use Rattle.exh_world.specs.declared.config.Config.{Config}
 
@@ -64,7 +63,7 @@ world_of_wards config wards = record {
   cap = config.cap;
   ward_bits = config.ward_bits;
   keyer = config.keyer;
-  wards = map uncounted wards;
+  wards = wards;
   start = tables_joined wards;
   noticed = map (λ ward. length ward.notices) wards;
   copies = replicate config.copies (tables_joined wards);

@@ -8,8 +8,8 @@ use Rattle.exh_table.specs.Table.{told_by}
 use Rattle.exh_page.specs.declared.page.Page.{Page}
 use Rattle.exh_page.specs.declared.page.Page.TheVariants.{Live, Forward}
 use Rattle.exh_ward.specs.declared.hop.Hop.TheVariants.{Done}
-use Rattle.exh_ward.specs.declared.reply.Reply.{Reply}
-use Rattle.exh_ward.specs.declared.journal_entry.JournalEntry.{JournalEntry}
+use Rattle.exh_calls.specs.declared.reply.Reply.{Reply}
+use Rattle.exh_calls.specs.declared.journal_entry.JournalEntry.{JournalEntry}
 use Rattle.exh_world.specs.InFlight.{request_named}
 use Rattle.exh_world.specs.Step.{Step}
 use Rattle.exh_world.specs.World.{WorldState, numbered, changes_in}

@@ -1,15 +1,15 @@
 -- One step of a world: an event, its outcome or refusal, and the world after it.
-use Rattle.std.specs.Prelude.{◌≡◌, ◌≢◌, ◌⊎◌, IsSome, ℕ, suc, ◌-◌, List, [], ◌∷◌, ◌++◌, length, slice_get, slice_set, Contains, Some, None, Result, Ok, Err}
+use Rattle.std.specs.Prelude.{◌≡◌, ◌≢◌, ◌<◌, ◌⊎◌, IsSome, ℕ, suc, ◌-◌, List, [], ◌∷◌, ◌++◌, length, slice_get, slice_set, Contains, Some, None, Result, Ok, Err}
 use Rattle.exh_notice.specs.declared.notice.Notice.{Notice}
 use Rattle.exh_table.specs.Table.{TableMap, table_with}
 use Rattle.exh_table.specs.TableOrder.{table_join}
 use Rattle.exh_table.specs.Walk.{walk_of}
-use Rattle.exh_ward.specs.Call.{key_of}
+use Rattle.exh_calls.specs.Call.{key_of}
 use Rattle.exh_ward.specs.HopTable.{HopOf}
 use Rattle.exh_ward.specs.WardState.{WardState, LeavesAfter}
 use Rattle.exh_ward.specs.MergeStep.{IsMergeStep, MergeRefused}
 use Rattle.exh_ward.specs.SplitStep.{IsSplitStep, SplitRefused}
-use Rattle.exh_ward.specs.declared.call.Call.{Call}
+use Rattle.exh_calls.specs.declared.call.Call.{Call}
 use Rattle.exh_ward.specs.declared.hop.Hop.{Hop}
 use Rattle.exh_ward.specs.declared.ward_fault.WardFault.{WardFault}
 use Rattle.exh_ward.specs.declared.ward_fault.WardFault.TheVariants.{Memory, Page}
@@ -29,10 +29,10 @@ pseudokey_in pseudokey_of world call = pseudokey_of world.keyer (key_of call)
 
 -- ---- refusals: each comes where its condition holds and those before it in the event's order don't
 
--- a split or merge of a page of a ward: there is no such ward, or the ward refuses
+-- a split or merge of a page of a ward: there is no such ward, or the ward refuses, and not for a page out of reach
 abbrev pub IsChangeRefused : {K : Type 0} → WorldState K → (WardState K → ℕ → WardFault → Type 0) → ℕ → ℕ → StepFault → Type 0
 IsChangeRefused world Refuses ward page NoWard = slice_get world.wards ward ≡ None
-IsChangeRefused world Refuses ward page (Ward fault) = (before : WardState _) × (slice_get world.wards ward ≡ Some before) × Refuses before page fault
+IsChangeRefused world Refuses ward page (Ward fault) = (before : WardState _) × (slice_get world.wards ward ≡ Some before) × Refuses before page fault × (fault ≢ Page)
 IsChangeRefused world Refuses ward page fault = ⊥
 
 abbrev pub IsRefused : {K : Type 0} → WorldState K → Event → StepFault → Type 0
@@ -51,9 +51,28 @@ IsRefused world (Combine copy table) NoTable = IsSome (numbered world.copies cop
 IsRefused world (Restart copy) NoCopy = numbered world.copies copy ≡ None
 IsRefused world event fault = ⊥
 
--- want of memory, or a page out of reach: these may stand at any event
-abbrev pub IsWant : StepFault → Type 0
-IsWant fault = (fault ≡ Ward Memory) ⊎ (fault ≡ Ward Page)
+-- ---- pages out of reach
+
+-- a page of the ward couldn't be reached: the ward counts more failures, and nothing else differs
+pub record CountsFailure {K : Type 0} (old : WorldState K) (ward : ℕ) (new : WorldState K) : Type 0 where
+  pub before : WardState K
+  pub found : slice_get old.wards ward ≡ Some before
+  pub failures : ℕ
+  pub more : before.failures < failures
+  pub after : new ≡ record old { wards = slice_set old.wards ward (record before { failures = failures }) }
+
+-- the ward whose pages an event reaches for: that of a request that hops, and that of a split or merge; no other event reaches for one
+abbrev pub ReachesInto : {K : Type 0} → WorldState K → Event → ℕ → Type 0
+ReachesInto world (HopOn name) number = (request : Request) × (request_named name world.in_flight ≡ Some request) × (number ≡ request.ward)
+ReachesInto world (Split ward page) number = number ≡ ward
+ReachesInto world (Merge ward page) number = number ≡ ward
+ReachesInto world event number = ⊥
+
+-- What a refusal leaves: for a reason that holds, and for want of memory, which may stand at any call, the world as it was. That a page is out of
+-- reach is answered only where a ward that the call reaches into counts it.
+abbrev pub LeavesRefused : {K : Type 0} → (ℕ → Type 0) → (StepFault → Type 0) → WorldState K → StepFault → WorldState K → Type 0
+LeavesRefused Reaches Reason old fault new =
+    ((new ≡ old) × (Reason fault ⊎ (fault ≡ Ward Memory))) ⊎ ((fault ≡ Ward Page) × (number : ℕ) × Reaches number × CountsFailure old number new)
 
 -- ---- effects: the outcome, what it asks of the world before, and the world after, in which all else is equal
 
@@ -128,7 +147,6 @@ HasEffect pseudokey_of old event outcome new = ⊥
 
 -- ---- the step
 
--- a refused event leaves the world as it was
 abbrev pub Step : {K : Type 0} → (K → List ℕ → ℕ) → WorldState K → Event → Result Outcome StepFault → WorldState K → Type 0
 Step pseudokey_of old event (Ok outcome) new = HasEffect pseudokey_of old event outcome new
-Step pseudokey_of old event (Err fault) new = (new ≡ old) × (IsRefused old event fault ⊎ IsWant fault)
+Step pseudokey_of old event (Err fault) new = LeavesRefused (ReachesInto old event) (IsRefused old event) old fault new

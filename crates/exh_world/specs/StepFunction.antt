@@ -9,7 +9,7 @@ use Rattle.exh_ward.specs.HopTable.{hop_of, pages_after}
 use Rattle.exh_ward.specs.MergeFunction.{merge_of, ward_after_merge}
 use Rattle.exh_ward.specs.SplitFunction.{split_of, ward_after_split}
 use Rattle.exh_ward.specs.WardState.{WardState}
-use Rattle.exh_ward.specs.declared.call.Call.{Call}
+use Rattle.exh_calls.specs.declared.call.Call.{Call}
 use Rattle.exh_ward.specs.declared.hop.Hop.{Hop}
 use Rattle.exh_ward.specs.declared.hop.Hop.TheVariants.{Done}
 use Rattle.exh_ward.specs.declared.ward_fault.WardFault.{WardFault}

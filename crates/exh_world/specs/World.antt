@@ -5,7 +5,7 @@ use Rattle.exh_prefix.specs.Bits.{number_of, word_bits}
 use Rattle.exh_notice.specs.declared.notice.Notice.{Notice}
 use Rattle.exh_table.specs.Table.{TableMap}
 use Rattle.exh_table.specs.Leaves.{PrefixSet, ward_leaves}
-use Rattle.exh_legal.specs.KeyMap.{KeyMap}
+use Rattle.exh_page.specs.KeyMap.{KeyMap}
 use Rattle.exh_legal.specs.Pages.{map_of, ward_prefix}
 use Rattle.exh_ward.specs.WardState.{WardState}
 use Rattle.exh_world.specs.InFlight.{Requests}

@@ -1,5 +1,5 @@
+use exh_calls::Call;
 use exh_prefix::PageNo;
-use exh_ward::Call;
 
 /// What a scheduler, the network or bad luck may do to a world, in any order (exhash profile).
 #[derive(Clone, Copy, Debug, PartialEq, Eq)]

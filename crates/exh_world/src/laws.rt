@@ -2,6 +2,7 @@
 
 ghost use Rattle.exh_world.specs.Laws.{NewWorldsAreSound, RunsCarryTheHeadline, StepsAreComputed, StepsHaveOutcomes, StepsKeepWorldsSound};
 
+use exh_calls::sharers_begin;
 use exh_keyer::Keyer;
 use exh_legal::{lone_pages_are_legal, right_links_lead_on, targets_lead_on};
 use exh_table::{
@@ -9,7 +10,7 @@ use exh_table::{
 };
 use exh_ward::{
     answers_keep_legal, hops_are_computed, hops_have_outcomes, merges_are_computed,
-    merges_have_outcomes, sharers_begin, splits_are_computed, splits_have_outcomes,
+    merges_have_outcomes, splits_are_computed, splits_have_outcomes,
 };
 
 /// A step leaves a sound world sound, as far as the ward that it changes is.

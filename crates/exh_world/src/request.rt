@@ -1,5 +1,5 @@
+use exh_calls::Call;
 use exh_prefix::PageNo;
-use exh_ward::Call;
 
 /// A request in flight: who asks what, and the page that it has come to (exhash profile).
 #[derive(Clone, Copy, Debug, PartialEq, Eq)]

@@ -7,7 +7,8 @@ use exh_ward::WardFault;
 use std::alloc::AllocError;
 use thiserror::Error;
 
-/// Why a world refused an event (exhash profile). It is as it was before the event.
+/// Why a world refused an event (exhash profile). It is as it was before the event, but that a ward
+/// whose page was out of reach has counted that.
 #[derive(Clone, Copy, Debug, PartialEq, Eq, Error)]
 pub enum StepFault {
     /// There is no copy of this number: number 20.

@@ -39,18 +39,18 @@ pub struct World<P: Pages + Drop, K: Keyer> {
 }
 
 impl<P: Pages + Drop, K: Keyer> Model for World<P, K> {
-    ghost use Rattle.std.specs.Prelude.{◌≤◌, ◌<◌, ◌^◌, length, map};
+    ghost use Rattle.std.specs.Prelude.{◌≤◌, ◌<◌, ◌^◌, length};
     ghost use Rattle.std.specs.Coded.{codes};
-    ghost use Rattle.exh_legal.specs.KeyMap.{coded_key_map};
+    ghost use Rattle.exh_page.specs.KeyMap.{coded_key_map};
     ghost use Rattle.exh_table.specs.Table.{coded_table};
-    ghost use Rattle.exh_world.specs.Kept.{HaveArrays, IsKept, tables_of, uncounted};
+    ghost use Rattle.exh_world.specs.Kept.{HaveArrays, IsKept, tables_of};
     ghost use Rattle.exh_world.specs.World.{WorldState};
 
     ghost Value = { WorldState K };
 
     ghost coded = { Prim.hlevel (codes, coded_key_map, coded_table) };
 
-    ghost view = { λ a. record { cap = a.cap; ward_bits = a.ward_bits; keyer = a.keyer; wards = map uncounted a.wards.items; start = a.start.table; noticed = a.noticed.items; copies = tables_of a.copies.items; sent = a.sent.items; in_flight = a.in_flight } };
+    ghost view = { λ a. record { cap = a.cap; ward_bits = a.ward_bits; keyer = a.keyer; wards = a.wards.items; start = a.start.table; noticed = a.noticed.items; copies = tables_of a.copies.items; sent = a.sent.items; in_flight = a.in_flight } };
 
-    ghost invariant = { λ a. IsKept K.pseudokey_of (record { cap = a.cap; ward_bits = a.ward_bits; keyer = a.keyer; wards = map uncounted a.wards.items; start = a.start.table; noticed = a.noticed.items; copies = tables_of a.copies.items; sent = a.sent.items; in_flight = a.in_flight }) × HaveArrays a.ward_bits a.start a.copies.items };
+    ghost invariant = { λ a. IsKept K.pseudokey_of (record { cap = a.cap; ward_bits = a.ward_bits; keyer = a.keyer; wards = a.wards.items; start = a.start.table; noticed = a.noticed.items; copies = tables_of a.copies.items; sent = a.sent.items; in_flight = a.in_flight }) × HaveArrays a.ward_bits a.start a.copies.items };
 }

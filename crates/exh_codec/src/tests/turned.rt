@@ -162,28 +162,16 @@ fn wrong_content(
 
 #[test]
 fn bytes_of_a_live_page(rt: HostRuntime) {
-    assert_eq!(rt;
-        wrong_sealed(rt.alloc(), &sealed(&LIVE), 0x80, &LIVE_HIGHEST),
-        None
-    );
+    assert!(rt; wrong_sealed(rt.alloc(), &sealed(&LIVE), 0x80, &LIVE_HIGHEST).is_none());
 }
 
 #[test]
 fn bytes_of_a_forwarding_page(rt: HostRuntime) {
-    assert_eq!(rt;
-        wrong_sealed(rt.alloc(), &sealed(&FORWARD), 0x80, &FORWARD_HIGHEST),
-        None
-    );
+    assert!(rt; wrong_sealed(rt.alloc(), &sealed(&FORWARD), 0x80, &FORWARD_HIGHEST).is_none());
 }
 
 #[test]
 fn lowest_digits(rt: HostRuntime) {
-    assert_eq!(rt;
-        wrong_content(rt.alloc(), &sealed(&LIVE), 0x01, &LIVE_LOWEST),
-        None
-    );
-    assert_eq!(rt;
-        wrong_content(rt.alloc(), &sealed(&FORWARD), 0x01, &FORWARD_LOWEST),
-        None
-    );
+    assert!(rt; wrong_content(rt.alloc(), &sealed(&LIVE), 0x01, &LIVE_LOWEST).is_none());
+    assert!(rt; wrong_content(rt.alloc(), &sealed(&FORWARD), 0x01, &FORWARD_LOWEST).is_none());
 }

@@ -3,8 +3,9 @@ ghost use Rattle.exh_notice.specs.declared.entry.Kind.TheVariants.{Split};
 ghost use Rattle.exh_page.specs.declared.page.Page.TheVariants.{Live};
 
 use super::{Ward, first_page, own_prefix};
+use crate::WardFault;
 use crate::page_index::PageIndex;
-use crate::{Base, Journal, WardFault};
+use exh_calls::{Base, Journal};
 use exh_frames::{Pages, PlainPages};
 use exh_keyer::PlainKeyer;
 use exh_legal::{lone_pages_are_legal, splits_keep_legal, walks_name_homes};

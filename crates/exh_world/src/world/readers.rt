@@ -1,4 +1,4 @@
-ghost use Rattle.std.specs.Prelude.{◌≡◌, ◌≤◌, ℕ, slice_get, Some, None, IfOk, IfErr};
+ghost use Rattle.std.specs.Prelude.{◌≡◌, ◌≤◌, ℕ, slice_get, Some, None, IfOk, IfErr, OnOk};
 ghost use Rattle.std.specs.Map.Iter.{ShowsInOrder, deref_pair};
 ghost use Rattle.exh_array.specs.Pointers.{HasArrayOf};
 ghost use Rattle.exh_legal.specs.Pages.{IsAt};
@@ -6,7 +6,7 @@ ghost use Rattle.exh_ward.specs.WardState.{WardState};
 ghost use Rattle.exh_ward.specs.SplitStep.{PageRefused};
 ghost use Rattle.exh_ward.specs.declared.ward.TheConstants.{WARD_BITS_LIMIT};
 ghost use Rattle.exh_world.specs.Sound.{IsSoundWorld};
-ghost use Rattle.exh_world.specs.Step.{IsChangeRefused};
+ghost use Rattle.exh_world.specs.Step.{IsChangeRefused, LeavesRefused};
 ghost use Rattle.exh_world.specs.World.{numbered};
 ghost use Rattle.exh_world.specs.declared.request.Request.{Request as RequestType};
 
@@ -51,11 +51,12 @@ impl<P: Pages + Drop, K: Keyer> World<P, K> {
     }
 
     /// A page equal to the one of this number in a ward; both are numbered from 0 on. Refused in
-    /// this order: `NoWard`, `NoPage`; at any point `Memory` and `Page`. The world stays as it was.
+    /// this order: `NoWard`, `NoPage`; at any point `Memory` and `Page`. The world stays as it was, but
+    /// that at `Page` the ward has counted it.
     pub fn page(&mut self, ward: u32, page: PageNo) -> Result<Page, StepFault>
         ensures page { IfOk result (λ content. (state : WardState K) × (slice_get self.old.wards ward ≡ Some state) × IsAt state.pages page content) }
-        ensures refused { IfErr result (IsChangeRefused self.old (λ state. PageRefused state.pages) ward page) }
-        ensures same { self.new ≡ self.old }
+        ensures ok { OnOk result (self.new ≡ self.old) }
+        ensures refused { IfErr result (λ fault. LeavesRefused (λ number. number ≡ ward) (IsChangeRefused self.old (λ state. PageRefused state.pages) ward page) self.old fault self.new) }
         ensures sound { IsSoundWorld K.pseudokey_of self.new }
     {
         let Some(state) = self.wards.get_mut(ward as usize) else {

@@ -7,9 +7,9 @@ use super::place::copy_in;
 use super::ward_number::ward_number;
 use crate::laws::steps_keep_worlds_sound;
 use crate::{Outcome, Request, StepFault};
+use exh_calls::Call;
 use exh_frames::Pages;
 use exh_keyer::Keyer;
-use exh_ward::Call;
 
 impl<P: Pages + Drop, K: Keyer> World<P, K> {
     /// Begins a request of a name that no request in flight has: it stands at the page that the
@@ -48,7 +48,7 @@ impl<P: Pages + Drop, K: Keyer> World<P, K> {
     /// One hop of a request: what it comes to is the hop table's (exhash profile). An answered request
     /// is no longer in flight, and a moved one stands at the page that it was led to. Refused:
     /// `NoRequest`; at any point `StepFault::Ward(Memory)` or `StepFault::Ward(Page)`. Then the world
-    /// is as before.
+    /// is as before, but that at `Page` the ward has counted it.
     pub fn hop(&mut self, name: u32) -> Result<Outcome, StepFault>
         ensures step { Step K.pseudokey_of self.old (HopOn name) result self.new }
         ensures sound { IsSoundWorld K.pseudokey_of self.new }

@@ -12,7 +12,7 @@ use std::alloc::AllocError;
 
 impl<P: Pages + Drop, K: Keyer> World<P, K> {
     /// Does what an event asks, as the event's own method says. Where that refuses it, the world is
-    /// as before.
+    /// as before, but that a ward whose page was out of reach has counted that.
     pub fn step(&mut self, event: &Event) -> Result<Outcome, StepFault>
         ensures step { Step K.pseudokey_of self.old event.now result self.new }
         ensures sound { IsSoundWorld K.pseudokey_of self.new }

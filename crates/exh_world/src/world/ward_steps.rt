@@ -13,7 +13,7 @@ impl<P: Pages + Drop, K: Keyer> World<P, K> {
     /// Splits a page of a ward, and issues the notice (Fagin et al. 1979; the notice is exhash
     /// profile). Refused in this order: `NoWard`, then as the ward refuses: `NoPage`, `NotLive`,
     /// `NotFull`, `AtLimit`; at any point `StepFault::Ward(Memory)` and `StepFault::Ward(Page)`. Then
-    /// the world is as before.
+    /// the world is as before, but that at `Page` the ward has counted it.
     pub fn split(&mut self, ward: u32, page: PageNo) -> Result<Outcome, StepFault>
         ensures step { Step K.pseudokey_of self.old (Split ward page) result self.new }
         ensures sound { IsSoundWorld K.pseudokey_of self.new }
@@ -29,7 +29,8 @@ impl<P: Pages + Drop, K: Keyer> World<P, K> {
     /// Merges a live page of a ward with its right buddy, and issues the notice (Fagin et al. 1979;
     /// the notice is exhash profile). Refused in this order: `NoWard`, then as the ward refuses:
     /// `NoPage`, `NotLive`, `NoBuddy`, `BuddySplit`, `TooMany`, `Worn`; at any point
-    /// `StepFault::Ward(Memory)` and `StepFault::Ward(Page)`. Then the world is as before.
+    /// `StepFault::Ward(Memory)` and `StepFault::Ward(Page)`. Then the world is as before, but that at
+    /// `Page` the ward has counted it.
     pub fn merge(&mut self, ward: u32, page: PageNo) -> Result<Outcome, StepFault>
         ensures step { Step K.pseudokey_of self.old (Merge ward page) result self.new }
         ensures sound { IsSoundWorld K.pseudokey_of self.new }

@@ -2,7 +2,6 @@ ghost use Rattle.std.specs.Prelude.{◌≡◌, ℕ, ◌^◌, ◌≤◌, length, 
 ghost use Rattle.exh_array.specs.Pointers.{HasArrayOf};
 ghost use Rattle.exh_ward.specs.WardState.{WardState, IsSoundWard};
 ghost use Rattle.exh_ward.specs.declared.ward.TheConstants.{WARD_BITS_LIMIT};
-ghost use Rattle.exh_world.specs.Kept.{uncounted};
 ghost use Rattle.exh_world.specs.NewWorld.{AreWardsFor, IsMadeAnew, settings_of, tables_joined, world_of_wards};
 ghost use Rattle.exh_world.specs.Sound.{IsSoundWorld};
 
@@ -57,7 +56,7 @@ impl<P: Pages + Drop, K: Keyer> World<P, K> {
     /// is made with, and each notice of this one can be delivered to them (exhash profile). It takes
     /// no memory.
     pub fn into_wards(self) -> Vec<Ward<P, K>>
-        ensures wards { map uncounted result.items ≡ self.wards }
+        ensures wards { result.items ≡ self.wards }
         ensures bits { self.ward_bits ≤ WARD_BITS_LIMIT }
         ensures count { length result.items ≡ 2 ^ self.ward_bits }
         ensures each { (copies : ℕ) → AreWardsFor (settings_of self copies) result.items }

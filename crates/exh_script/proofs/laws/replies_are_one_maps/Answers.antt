@@ -7,10 +7,10 @@ use Rattle.exh_keyer.specs.declared.any_keyer.AnyKeyer.{AnyKeyer}
 use Rattle.exh_keyer.specs.Pseudokey.{any_pseudokey}
 use Rattle.exh_text.specs.Lines.{lines_of}
 use Rattle.exh_text.specs.declared.line_fault.LineFault.TheVariants.{Syntax}
-use Rattle.exh_ward.specs.History.{IsHistory, map_left}
-use Rattle.exh_ward.specs.KeyMap.{KeyMap}
+use Rattle.exh_calls.specs.History.{IsHistory, map_left}
+use Rattle.exh_page.specs.KeyMap.{KeyMap}
 use Rattle.exh_ward.specs.WardState.{WardState}
-use Rattle.exh_ward.specs.declared.journal_entry.JournalEntry.{JournalEntry}
+use Rattle.exh_calls.specs.declared.journal_entry.JournalEntry.{JournalEntry}
 use Rattle.exh_ward.specs.declared.ward.TheConstants.{WARD_BITS_LIMIT}
 use Rattle.exh_world.specs.Headline.{IsHeadline, DoesNotStray as KeepsCourse}
 use Rattle.exh_world.specs.Laws.{AreWardsSound, NewWorldsAreSound, RunsCarryTheHeadline}

@@ -2,9 +2,9 @@ use Rattle.std.proofs.Common.{sym, ap, ◌∙◌, subst, List, slice_get}
 use Rattle.std.specs.Prelude.{slice_set}
 use Rattle.exh_page.specs.Page.{records_of, with_records}
 use Rattle.exh_page.specs.Records.{with_record, value_at}
-use Rattle.exh_ward.specs.declared.call.Call.{Call}
+use Rattle.exh_calls.specs.declared.call.Call.{Call}
 use Rattle.exh_ward.specs.PageAnswer.{records_written, records_after, reply_by}
-use Rattle.exh_ward.specs.declared.call.Call.TheVariants.{Put, Del}
+use Rattle.exh_calls.specs.declared.call.Call.TheVariants.{Put, Del}
 use Rattle.exh_page.specs.declared.record.Record.{Record}
 use Rattle.exh_ward.proofs.HomeAfter.{records_after-left, put_left}
 use Rattle.exh_ward.proofs.StoredPages.{records_kept}

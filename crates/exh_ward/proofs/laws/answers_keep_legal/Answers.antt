@@ -7,14 +7,14 @@ use Rattle.exh_page.specs.Page.{with_records}
 use Rattle.exh_page.specs.Records.{value_at}
 use Rattle.exh_legal.specs.MapLemmas.{place_of_key}
 use Rattle.exh_legal.specs.Pages.{map_of, IsAt, IsHome, IsLegal}
-use Rattle.exh_ward.specs.Call.{key_of}
+use Rattle.exh_calls.specs.Call.{key_of}
 use Rattle.exh_ward.specs.HopTable.{Overflows, HopOf, pages_after}
 use Rattle.exh_ward.specs.Laws.{IsLegalAnswer}
-use Rattle.exh_ward.specs.MapMachine.{reply_of}
+use Rattle.exh_calls.specs.MapMachine.{reply_of}
 use Rattle.exh_ward.specs.PageAnswer.{records_after}
-use Rattle.exh_ward.specs.declared.call.Call.{Call}
+use Rattle.exh_calls.specs.declared.call.Call.{Call}
 use Rattle.exh_ward.specs.declared.hop.Hop.TheVariants.{Done}
-use Rattle.exh_ward.specs.declared.reply.Reply.{Reply}
+use Rattle.exh_calls.specs.declared.reply.Reply.{Reply}
 use Rattle.exh_ward.proofs.Home.{AtHome, Fit, reply_is}
 use Rattle.exh_ward.proofs.HomeAfter.{left_by, records_after-left, new_legal, new_map}
 use Rattle.exh_ward.proofs.Sights.{home_live, over_by_map}

@@ -1,6 +1,6 @@
 use Rattle.std.proofs.Common.{◌≡◌, ◌==◌, count_by, rules, sym, ap, ◌∙◌}
 use Rattle.std.specs.FinMap as map
-use Rattle.exh_ward.specs.MapMachine.{leading, sharing}
+use Rattle.exh_calls.specs.MapMachine.{leading, sharing}
 use Rattle.exh_model.specs.MachineState.{MachineState}
 use Rattle.exh_model.proofs.PairLemmas.{Pair, count_by-keys}
 use Rattle.exh_model.proofs.map_machine.MapMachine.sharing.Goals as goal

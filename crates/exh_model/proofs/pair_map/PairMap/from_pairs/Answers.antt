@@ -1,6 +1,6 @@
 use Rattle.std.proofs.Common.{not, sym, ap, ◌∙◌, arith}
 use Rattle.std.specs.FinMap as map
-use Rattle.exh_ward.specs.KeyMap.{KeyMap}
+use Rattle.exh_page.specs.KeyMap.{KeyMap}
 use Rattle.exh_model.proofs.PairLemmas.{from_entries_again, from_entries_new, none_there, some_there}
 use Rattle.exh_model.proofs.pair_map.PairMap.from_pairs.Goals as goal
 use Rattle.exh_model.proofs.pair_map.PairMap.from_pairs.Goals.{then-is_none+in_ok-insert, else-is_none}

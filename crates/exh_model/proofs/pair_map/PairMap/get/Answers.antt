@@ -1,6 +1,6 @@
 use Rattle.std.proofs.Common.{List, sym, ap, ◌∙◌, arith}
 use Rattle.std.specs.FinMap as map
-use Rattle.exh_ward.specs.KeyMap.{KeyMap}
+use Rattle.exh_page.specs.KeyMap.{KeyMap}
 use Rattle.exh_model.proofs.PairLemmas.{Pair, by_bytes, has_key-code, find_here, find_more, find_all, get_found}
 use Rattle.exh_model.proofs.pair_map.PairMap.get.Goals as goal
 

@@ -2,7 +2,7 @@ use Rattle.std.proofs.Common.{List, sym, subst}
 use Rattle.std.specs.FinMap as map
 use Rattle.std.specs.List.Sorted.{IsPermutation}
 use Rattle.std.proofs.lemmas.List.Sorted.{IsPermutation-sym}
-use Rattle.exh_ward.specs.KeyMap.{KeyMap}
+use Rattle.exh_page.specs.KeyMap.{KeyMap}
 use Rattle.exh_model.proofs.PairLemmas.{Pair, by_bytes, entries_permuted}
 use Rattle.exh_model.proofs.pair_map.PairMap.pairs.Goals as goal
 

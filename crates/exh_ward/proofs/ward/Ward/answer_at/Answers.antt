@@ -2,7 +2,7 @@ use Rattle.std.proofs.Common.{◌++◌, ◌∷◌, [], ap, ◌∙◌, subst}
 use Rattle.exh_ward.specs.HopTable.{HopOf}
 use Rattle.exh_ward.specs.WardState.{WardState}
 use Rattle.exh_ward.specs.declared.hop.Hop.TheVariants.{Done}
-use Rattle.exh_ward.specs.declared.journal_entry.JournalEntry.{JournalEntry}
+use Rattle.exh_calls.specs.declared.journal_entry.JournalEntry.{JournalEntry}
 use Rattle.exh_ward.proofs.AnswerSteps.{few_pages, answers_here, written_taken, replied, pages_are, hop_is_done, answered_seen}
 use Rattle.exh_ward.proofs.KeptSteps.{kept_read, kept_answered}
 use Rattle.exh_ward.proofs.ward.Ward.answer_at.Goals as goal

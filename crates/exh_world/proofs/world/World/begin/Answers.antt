@@ -45,7 +45,7 @@ begin-requires g c = sym c.get.ensures ∙ none_there c.get.result (sym c.is_som
 pub returns-in_default-clause-step : goal.returns-in_default-clause-step
 returns-in_default-clause-step g c =
     let free : request_named c.args.name c.self.inside.in_flight ≡ None = sym c.get.ensures ∙ none_there c.get.result (sym c.is_some.ensures ∙ c.if-is_some.false) in
-    let none = subst (λ (items : List DirectoryState). numbered (tables_of items) c.args.copy ≡ None) c.deref.ensures.value c.in_default.ensures.none in (
+    let none = subst (λ (items : List DirectoryState). numbered (tables_of items) c.args.copy ≡ None) c.deref.ensures.value c.in_default.ensures.none in inl (
       refl,
       inl (
         subst (λ (w : WorldState g.row.K.Denot). request_named c.args.name w.in_flight ≡ None) c.self.view_is free,

@@ -45,7 +45,7 @@ returns-clause-sound g c = (invariant_of-self-2 g c).0.sound
 pub returns-in_default-place_in-clause-step : goal.returns-in_default-place_in-clause-step
 returns-in_default-place_in-clause-step g c =
     let placed = subst (λ (items : List DirectoryState). IsPlaceOf items c.args.copy c.in-Some.at) c.deref.ensures.value c.in-Some.ensures.some in
-    let none = subst (λ (items : List TableMap). numbered items c.args.table ≡ None) c.deref-2.ensures.value c.in_default-place_in.ensures.none in (
+    let none = subst (λ (items : List TableMap). numbered items c.args.table ≡ None) c.deref-2.ensures.value c.in_default-place_in.ensures.none in inl (
       refl,
       inl (
         subst (λ (w : WorldState g.row.K.Denot). IsSome (numbered w.copies c.args.copy)) c.self.view_is (is_copy c.self.inside.copies.items c.args.copy c.in-Some.at placed),

@@ -1,5 +1,5 @@
 use Rattle.std.specs.Prelude.{slice_get}
-use Rattle.std.proofs.lemmas.Option.{slice_get_read}
+use Rattle.std.proofs.lemmas.Option.{slice_get_read, slice_get_past}
 use Rattle.exh_ward.specs.WardState.{WardState}
 use Rattle.std.proofs.Common.{◌≡◌, ◌≤◌, length, None, Some, IsSome, inl, refl, List, sym, ◌∙◌, subst, Ok}
 use Rattle.exh_array.specs.Pointers.{DirectoryState}
@@ -11,7 +11,6 @@ use Rattle.exh_world.specs.declared.outcome.Outcome.TheVariants.{Taken}
 use Rattle.exh_world.proofs.CopyArrays.{table_placed, table_there, arrays_kept}
 use Rattle.exh_world.proofs.CopySteps.{all_above, kept_after, is_copy, has_taken, with_tables, refused_same, same_copies, lent_there, indexes_in_turn, no_notice}
 use Rattle.exh_world.specs.ListLemmas.{within_there}
-use Rattle.exh_world.proofs.UncountedWards.{none_shown}
 use Rattle.exh_world.proofs.world.World.deliver.Given as Given
 use Rattle.exh_world.proofs.world.World.deliver.Goals as goal
 
@@ -27,7 +26,7 @@ returns-in_default-notice_of-clause-step g c =
     let placed = subst (λ (items : List DirectoryState). IsPlaceOf items c.args.copy c.in-Some.at) c.deref.ensures.value c.in-Some.ensures.some in
     let table_at = table_placed c.self.inside.copies.items c.args.copy c.in-Some.at placed in
     let own = within_there c.self.inside.copies.items c.in-Some.at placed.1 in
-    no_notice c.self.view_is c.self.invariant.0 c.args.copy c.in-Some.at table_at own.0.table (table_there c.self.inside.copies.items c.in-Some.at own.0 own.1) c.args.ward c.args.index c.self.inside.wards.items refl c.in-Some-get.teller.now there c.notices_after.result.now (c.notices_after.ensures.notices ∙ all_above g.K.Keyer.pseudokey_of c.in-Some-get.teller.now c.notices_after.ensures.sound) c.in_default-notice_of.ensures.none
+    no_notice c.self.view_is c.self.invariant.0 c.args.copy c.in-Some.at table_at own.0.table (table_there c.self.inside.copies.items c.in-Some.at own.0 own.1) c.args.ward c.args.index c.in-Some-get.teller.now there c.notices_after.result.now (c.notices_after.ensures.notices ∙ all_above g.K.Keyer.pseudokey_of c.in-Some-get.teller.now c.notices_after.ensures.sound) c.in_default-notice_of.ensures.none
 
 pub returns-in_err-take-clause-step : goal.returns-in_err-take-clause-step
 returns-in_err-take-clause-step g c =
@@ -47,7 +46,7 @@ returns-clause-step g c =
     let lookup = c.in-Some-get.ensures.lookup in
     let there = subst (λ (wards : List (WardState g.row.K.Denot)). slice_get wards c.args.ward ≡ Some c.in-Some-get.teller.now) c.deref-2.ensures.value (slice_get_read c.deref-2.result.now _ c.args.ward c.in-Some-get.teller.now refl lookup.3.0 lookup.1) in
     with_tables c.self.view_is c.self.invariant.0 c.self.inside.copies.items refl c.in-Some.at c.take.new.self (HasTakenHere g c)
-    (has_taken c.self.view_is c.self.invariant.0 c.args.copy c.in-Some.at table_at c.index_mut.result.now.table (table_there c.self.inside.copies.items c.in-Some.at c.index_mut.result.now own_at) c.args.ward c.args.index c.self.inside.wards.items refl c.in-Some-get.teller.now there c.notices_after.result.now (c.notices_after.ensures.notices ∙ all_above g.K.Keyer.pseudokey_of c.in-Some-get.teller.now c.notices_after.ensures.sound) c.in-Some-notice_of.notice c.take.new.self.table c.in-Some-notice_of.ensures.some.0 c.in-Some-notice_of.ensures.some.1 c.in_ok-take.ensures.ok)
+    (has_taken c.self.view_is c.self.invariant.0 c.args.copy c.in-Some.at table_at c.index_mut.result.now.table (table_there c.self.inside.copies.items c.in-Some.at c.index_mut.result.now own_at) c.args.ward c.args.index c.in-Some-get.teller.now there c.notices_after.result.now (c.notices_after.ensures.notices ∙ all_above g.K.Keyer.pseudokey_of c.in-Some-get.teller.now c.notices_after.ensures.sound) c.in-Some-notice_of.notice c.take.new.self.table c.in-Some-notice_of.ensures.some.0 c.in-Some-notice_of.ensures.some.1 c.in_ok-take.ensures.ok)
 
 pub invariant_of-self-2 : goal.invariant_of-self-2
 invariant_of-self-2 g c =
@@ -75,10 +74,10 @@ returns-in_err-take-clause-sound g c = (invariant_of-self g c).0.sound
 pub returns-in_default-get-clause-step : goal.returns-in_default-get-clause-step
 returns-in_default-get-clause-step g c =
     let placed = subst (λ (items : List DirectoryState). IsPlaceOf items c.args.copy c.in-Some.at) c.deref.ensures.value c.in-Some.ensures.some in
-    let past = subst (λ (wards : List (WardState g.row.K.Denot)). length wards ≤ c.args.ward) c.deref-2.ensures.value c.in_default-get.ensures.lookup.3 in (
+    let past = subst (λ (wards : List (WardState g.row.K.Denot)). length wards ≤ c.args.ward) c.deref-2.ensures.value c.in_default-get.ensures.lookup.3 in inl (
       refl,
       inl (
         subst (λ (w : WorldState g.row.K.Denot). IsSome (numbered w.copies c.args.copy)) c.self.view_is (is_copy c.self.inside.copies.items c.args.copy c.in-Some.at placed),
-        subst (λ (w : WorldState g.row.K.Denot). slice_get w.wards c.args.ward ≡ None) c.self.view_is (none_shown c.self.inside.wards.items c.args.ward past),
+        subst (λ (w : WorldState g.row.K.Denot). slice_get w.wards c.args.ward ≡ None) c.self.view_is (slice_get_past c.self.inside.wards.items c.args.ward past),
       ),
     )

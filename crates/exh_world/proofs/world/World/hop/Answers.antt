@@ -1,9 +1,10 @@
-use Rattle.std.proofs.Common.{sym, ◌∙◌, subst, arith}
-use Rattle.exh_world.specs.Kept.{IsKept}
-use Rattle.exh_world.specs.Step.{HasHopped}
+use Rattle.std.proofs.Common.{inr, sym, ◌∙◌, subst, arith}
+use Rattle.exh_ward.specs.declared.hop.Hop.{Hop}
+use Rattle.exh_world.specs.Step.{HasHopped, IsRefused, ReachesInto, Step}
 use Rattle.exh_world.specs.World.{WorldState}
 use Rattle.exh_world.specs.declared.event.Event.TheVariants.{Hop as HopOn}
-use Rattle.exh_world.proofs.HopSteps.{with_ward, refused_step, ward_within, hashed, covered, refused, hopped, hopped_kept}
+use Rattle.exh_world.proofs.HopSteps.{with_ward, ward_within, at_within, reaches, hashed, covered, hopped, hopped_kept}
+use Rattle.exh_world.proofs.WardChanges.{after, leaves_refused, memory_of, of_refusal, same_kept}
 use Rattle.exh_world.proofs.world.World.hop.Goals as goal
 
 pub index_mut-ward-requires : goal.index_mut-ward-requires
@@ -25,15 +26,22 @@ hop_hashed-requires-clause-covered g c =
 pub invariant_of-self : goal.invariant_of-self
 invariant_of-self g c =
     let named = sym c.get.ensures ∙ c.in-Some.is in
-    let same = refused g.K.Keyer.pseudokey_of c.self.inside c.self.invariant.0 c.args.name c.in-Some.request named c.from.result c.from.ensures _ c.index_mut-ward.ensures.value c.hop_hashed.new.self c.in_err-hop.ensures.err in
-    (subst (IsKept g.K.Keyer.pseudokey_of) (sym same) c.self.invariant.0, c.self.invariant.1)
+    let fits = at_within g.K.Keyer.pseudokey_of c.self.inside c.self.invariant.0 c.args.name c.in-Some.request named c.from.result c.from.ensures in
+    (same_kept c.self.view_is c.self.invariant.0 fits c.index_mut-ward.ensures.value c.hop_hashed.new.self c.in_err-hop.ensures.err, c.self.invariant.1)
 
 pub returns-in_err-hop-clause-step : goal.returns-in_err-hop-clause-step
 returns-in_err-hop-clause-step g c =
     let pseudokey_of = g.K.Keyer.pseudokey_of in
+    let old = c.args.self.now in
+    let event = HopOn c.args.name in
+    let fault = c.in_err-hop.field-0.0 in
     let named = sym c.get.ensures ∙ c.in-Some.is in
-    let same = refused pseudokey_of c.self.inside c.self.invariant.0 c.args.name c.in-Some.request named c.from.result c.from.ensures _ c.index_mut-ward.ensures.value c.hop_hashed.new.self c.in_err-hop.ensures.err in
-    refused_step pseudokey_of c.args.self.now _ (HopOn c.args.name) _ c.from_residual.result c.from_residual.ensures c.in_err-hop.ensures.fault (same ∙ c.self.view_is)
+    let fits = at_within pseudokey_of c.self.inside c.self.invariant.0 c.args.name c.in-Some.request named c.from.result c.from.ensures in
+    let new = after c.self.view_is c.self.invariant.0 fits c.index_mut-ward.ensures.value c.hop_hashed.new.self in
+    of_refusal (λ result. Step pseudokey_of old event result new) c.from_residual.result fault c.from_residual.ensures
+    (leaves_refused c.self.view_is c.self.invariant.0 fits c.index_mut-ward.ensures.value c.hop_hashed.new.self c.in_err-hop.ensures.err (ReachesInto old event) (IsRefused old event)
+    (reaches pseudokey_of c.self.inside c.self.invariant.0 c.args.name c.in-Some.request named c.from.result c.from.ensures old c.self.view_is) Hop fault c.in_err-hop.ensures.failures
+    (λ other. inr (memory_of fault c.in_err-hop.ensures.fault other)))
 
 pub returns-in_err-hop-clause-sound : goal.returns-in_err-hop-clause-sound
 returns-in_err-hop-clause-sound g c = (invariant_of-self g c).0.sound

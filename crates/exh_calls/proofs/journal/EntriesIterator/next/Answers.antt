@@ -1,0 +1,8 @@
+use Rattle.std.proofs.Common.{add-one, arith}
+use Rattle.exh_calls.proofs.Journals.{first_left}
+use Rattle.exh_calls.proofs.journal.EntriesIterator.next.Goals as goal
+
+pub returns-clause-steps : goal.returns-clause-steps
+returns-clause-steps c =
+    let inside = c.self.inside in
+    rw (← c.self.view_is, add-one inside.next) (first_left inside.journal.now.entries inside.next c.get-entry.result (omega arith) c.get-entry.ensures)

@@ -1,0 +1,184 @@
+ghost use Rattle.std.specs.Prelude.{◌≡◌, ◌+◌, ◌≤◌, ◌↔◌, [], ◌∷◌, ◌++◌, length, slice_get, IsTrue, OnOk};
+ghost use Rattle.std.specs.Iterator.{YieldsFirst, item_count};
+ghost use Rattle.exh_page.specs.declared.value.TheConstants.{VALUE_LIMIT};
+ghost use Rattle.exh_calls.specs.Journal.{bytes_at, value_given, value_told};
+
+use crate::stored_entry::{CallKind, ReplyKind, StoredEntry};
+use crate::{Call, JournalEntry, Reply};
+use exh_page::{KEY_LIMIT, Key, VALUE_LIMIT, Value};
+use std::alloc::{AllocError, Global};
+use std::marker::Model;
+
+/// The most bytes of an entry: a key, a call's value and a reply's value.
+const ENTRY_LIMIT: usize = KEY_LIMIT + VALUE_LIMIT + VALUE_LIMIT;
+
+/// The calls that were answered, in order, with their callers and replies (exhash profile). An
+/// entry takes the bytes of its key and values, and 24 more.
+#[derive(Debug, Drop)]
+pub struct Journal {
+    texts: Vec<u8>,
+    stored: Vec<StoredEntry>,
+}
+
+impl Model for Journal {
+    ghost use Rattle.std.specs.Prelude.{vec_capacity, vec_len};
+    ghost use Rattle.exh_calls.specs.Journal.{AreWithin, JournalState, entries_in, has_room};
+
+    ghost Value = { JournalState };
+
+    ghost view = { λ a. record { entries = entries_in a.texts.items a.stored.items; room = has_room (vec_len a.stored) (vec_capacity a.stored) (vec_len a.texts) (vec_capacity a.texts) } };
+
+    ghost invariant = { λ a. AreWithin a.texts.items a.stored.items };
+}
+
+impl Journal {
+    /// The journal of no calls. It takes no memory.
+    pub fn new(alloc: Global) -> Journal
+        ensures { result.entries ≡ [] }
+    {
+        Journal {
+            texts: Vec::new(alloc),
+            stored: Vec::new(alloc),
+        }
+    }
+
+    /// Makes room for one more entry of any size. The entries are the same, whatever the result: an
+    /// `AllocError` where a growth is refused.
+    pub fn reserve(&mut self) -> Result<(), AllocError>
+        ensures ok { OnOk result (IsTrue self.new.room) }
+        ensures entries { self.new.entries ≡ self.old.entries }
+    {
+        self.stored.reserve(1)?;
+        self.texts.reserve(ENTRY_LIMIT)
+    }
+
+    /// Adds an entry, for which there is room. It takes no memory.
+    pub fn push_reserved(&mut self, client: u32, call: &Call, reply: &Reply)
+        requires { IsTrue self.old.room }
+        ensures { self.new.entries ≡ self.old.entries ++ record { client = client; call = call.now; reply = reply.now } ∷ [] }
+    {
+        let key = call.key().as_bytes();
+        let value = value_given(call);
+        let told = value_told(reply);
+        self.stored.push_reserved(StoredEntry {
+            client,
+            start: self.texts.len(),
+            key_len: key.len() as u8,
+            value_len: value.len() as u8,
+            reply_len: told.len() as u8,
+            call: CallKind::of(call),
+            reply: ReplyKind::of(reply),
+        });
+        // There is room for these bytes.
+        self.texts.extend_from_slice(key).unwrap();
+        self.texts.extend_from_slice(value).unwrap();
+        self.texts.extend_from_slice(told).unwrap();
+    }
+
+    /// How many entries there are.
+    pub fn len(&self) -> usize
+        ensures { result ≡ length self.now.entries }
+    {
+        self.stored.len()
+    }
+
+    /// Whether there is no entry.
+    pub fn is_empty(&self) -> bool
+        ensures { IsTrue result ↔ (self.now.entries ≡ []) }
+    {
+        self.stored.is_empty()
+    }
+
+    /// The entry at a place, from 0 on; `None` past the last. It takes no memory.
+    pub fn get(&self, at: usize) -> Option<JournalEntry>
+        ensures { result ≡ slice_get self.now.entries at }
+    {
+        let stored = self.stored.get(at).copied()?;
+        let value_start = stored.start + usize::from(stored.key_len);
+        let reply_start = value_start + usize::from(stored.value_len);
+        let key = bytes_at(&self.texts, stored.start, stored.key_len);
+        let value = bytes_at(&self.texts, value_start, stored.value_len);
+        let told = bytes_at(&self.texts, reply_start, stored.reply_len);
+        let key = Key::from_bytes(key).unwrap();
+        let value = Value::from_bytes(value).unwrap();
+        let told = Value::from_bytes(told).unwrap();
+        Some(JournalEntry {
+            client: stored.client,
+            call: stored.call.call(key, value),
+            reply: stored.reply.reply(told),
+        })
+    }
+
+    /// The entries, in order. It takes no memory.
+    pub fn iter(&self) -> Entries<'_>
+        ensures { result ≡ self.now.entries }
+    {
+        Entries {
+            journal: self,
+            next: 0,
+        }
+    }
+}
+
+/// The entries of a journal, from one on.
+#[derive(Drop)]
+pub struct Entries<'a> {
+    journal: &'a Journal,
+    next: usize,
+}
+
+impl<'a> Model for Entries<'a> {
+    ghost use Rattle.std.specs.Prelude.{List, drop};
+    ghost use Rattle.exh_calls.specs.declared.journal_entry.JournalEntry.{JournalEntry};
+
+    ghost Value = { List JournalEntry };
+
+    ghost view = { λ a. drop a.next a.journal.now.entries };
+}
+
+impl<'a> Iterator for Entries<'a> {
+    type Item = JournalEntry;
+
+    ghost next_gives = { YieldsFirst (λ entries. entries) };
+
+    ghost remaining = { item_count (λ entries. entries) };
+
+    fn next(&mut self) -> Option<JournalEntry> {
+        if self.next >= self.journal.len() {
+            return None;
+        }
+        let entry = self.journal.get(self.next);
+        self.next += 1;
+        entry
+    }
+}
+
+// The bytes of this length from `start` on.
+fn bytes_at(texts: &[u8], start: usize, len: u8) -> &[u8]
+    requires { start + len ≤ length texts.now }
+    ensures { result.now ≡ bytes_at texts.now start len }
+{
+    &texts[start..start + usize::from(len)]
+}
+
+// The bytes of the value that a call gives, none where it gives none.
+fn value_given(call: &Call) -> &[u8]
+    ensures value { result.now ≡ value_given call.now }
+    ensures limit { length result.now ≤ VALUE_LIMIT }
+{
+    match call {
+        Call::Put { value, .. } => value.as_bytes(),
+        Call::Get { .. } | Call::Del { .. } => &[],
+    }
+}
+
+// The bytes of the value that a reply tells, none where it tells none.
+fn value_told(reply: &Reply) -> &[u8]
+    ensures value { result.now ≡ value_told reply.now }
+    ensures limit { length result.now ≤ VALUE_LIMIT }
+{
+    match reply {
+        Reply::Is(value) | Reply::Was(value) => value.as_bytes(),
+        Reply::None | Reply::New | Reply::Full => &[],
+    }
+}

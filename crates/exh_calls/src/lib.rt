@@ -1,0 +1,19 @@
+//! Calls on a map from keys to values: what each is answered, and the histories of answered calls.
+#![tactic(auto)]
+
+pub use base::Base;
+pub use call::Call;
+pub use journal::{Entries, Journal};
+pub use journal_entry::JournalEntry;
+pub use laws::{histories_go_on, history_is_determined, sharers_begin};
+pub use reply::Reply;
+
+mod base;
+mod call;
+mod journal;
+mod journal_entry;
+mod laws;
+mod reply;
+mod stored_entry;
+#[cfg(test)]
+mod tests;
