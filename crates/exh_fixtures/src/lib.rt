@@ -1,0 +1,17 @@
+//! What runs are made of: calls by the bytes of their keys and values, notices, a ward's first store,
+//! and the calls of wards, each made once more where memory was refused.
+#![tactic(auto)]
+
+pub use calls::{Asked, key, value};
+pub use new_ward::first_store;
+pub use notices::{merge, prefix, split};
+pub use replies::told_reply;
+pub use same_pages::are_same;
+pub use ward_calls::{hop, hop_of, merge_page, page, refused, split_page};
+
+mod calls;
+mod new_ward;
+mod notices;
+mod replies;
+mod same_pages;
+mod ward_calls;

@@ -1,0 +1,93 @@
+//! The calls of a ward over any store, each made once more where memory was refused.
+
+use exh_calls::Call;
+use exh_frames::Pages;
+use exh_keyer::{Keyer, PlainKeyer};
+use exh_notice::Notice;
+use exh_page::{Page, PageNo};
+use exh_runs::{Difference, again};
+use exh_ward::{Hop, Ward, WardFault};
+
+// These make a call once, and need nothing of the ward: what calls them is proved with less.
+fn hop_once<P: Pages + Drop>(
+    ward: &mut Ward<P, PlainKeyer>,
+    at: PageNo,
+    client: u32,
+    call: &Call,
+) -> Result<Hop, WardFault> {
+    let pseudokey = PlainKeyer.pseudo(call.key().as_bytes());
+    if ward.covers(pseudokey) {
+        ward.hop_hashed(at, client, call, pseudokey)
+    } else {
+        Err(WardFault::NoPage)
+    }
+}
+
+fn split_once<P: Pages + Drop>(
+    ward: &mut Ward<P, PlainKeyer>,
+    page: PageNo,
+) -> Result<Notice, WardFault> {
+    ward.split(page)
+}
+
+fn merge_once<P: Pages + Drop>(
+    ward: &mut Ward<P, PlainKeyer>,
+    page: PageNo,
+) -> Result<Notice, WardFault> {
+    ward.merge(page)
+}
+
+fn page_once<P: Pages + Drop>(
+    ward: &mut Ward<P, PlainKeyer>,
+    number: PageNo,
+) -> Result<Page, WardFault> {
+    ward.page(number)
+}
+
+/// A hop of client 1. Refused as `Ward::hop`, and `NoPage` where the ward doesn't cover the key.
+pub fn hop<P: Pages + Drop>(
+    ward: &mut Ward<P, PlainKeyer>,
+    at: PageNo,
+    call: &Call,
+) -> Result<Hop, WardFault> {
+    hop_of(ward, at, 1, call)
+}
+
+/// A hop of a client. Refused as `hop`.
+pub fn hop_of<P: Pages + Drop>(
+    ward: &mut Ward<P, PlainKeyer>,
+    at: PageNo,
+    client: u32,
+    call: &Call,
+) -> Result<Hop, WardFault> {
+    again!(Err(WardFault::Memory) => hop_once(ward, at, client, call))
+}
+
+/// A split. Refused as `Ward::split`.
+pub fn split_page<P: Pages + Drop>(
+    ward: &mut Ward<P, PlainKeyer>,
+    page: PageNo,
+) -> Result<Notice, WardFault> {
+    again!(Err(WardFault::Memory) => split_once(ward, page))
+}
+
+/// A merge. Refused as `Ward::merge`.
+pub fn merge_page<P: Pages + Drop>(
+    ward: &mut Ward<P, PlainKeyer>,
+    page: PageNo,
+) -> Result<Notice, WardFault> {
+    again!(Err(WardFault::Memory) => merge_once(ward, page))
+}
+
+/// A page equal to the one of this number. Refused as `Ward::page`.
+pub fn page<P: Pages + Drop>(
+    ward: &mut Ward<P, PlainKeyer>,
+    number: PageNo,
+) -> Result<Page, WardFault> {
+    again!(Err(WardFault::Memory) => page_once(ward, number))
+}
+
+/// What is left to say where a ward should not have refused.
+pub fn refused(fault: WardFault) -> Difference {
+    Difference::Refused(fault.number())
+}

@@ -1,0 +1,24 @@
+//! What programs share that run something beside slow plain code, or beside values by hand, and
+//! print for each kind of run how many steps it took, and how many of them differed.
+#![tactic(auto)]
+
+pub use dice::Dice;
+pub use difference::{Difference, Part, same};
+pub use kind::RunKind;
+pub use lie::Lie;
+pub use list::push;
+pub use program::run_program;
+pub use run::Run;
+pub use tally::Tally;
+
+mod again;
+mod dice;
+mod difference;
+mod job;
+mod kind;
+mod lie;
+mod list;
+mod program;
+mod run;
+mod status;
+mod tally;
