@@ -2,11 +2,11 @@ ghost use Rattle.std.specs.Prelude.{◌≡◌};
 
 use anyhow::bail;
 use exh_array::Directory;
+use exh_calls::{Call, Reply};
 use exh_frames::PlainPages;
 use exh_keyer::{AnyKeyer, Keyer};
 use exh_page::{CAP_LIMIT, Key, PageNo};
 use exh_prefix::LIMIT;
-use exh_calls::{Call, Reply};
 use exh_ward::{Hop, Ward, WardFault, first_page};
 use std::alloc::Global;
 

@@ -1,8 +1,8 @@
 use crate::caller::Caller;
 use crate::pairs::{RoundKeys, key_of, value_of};
+use exh_calls::{Call, Reply};
 use exh_keyer::AnyKeyer;
 use exh_page::PageNo;
-use exh_calls::{Call, Reply};
 use std::fmt;
 use std::time::{Clock, Instant};
 
