@@ -1,4 +1,4 @@
-//! Tables worked out by hand: stories of notices, joins, and what is put back.
+//! Tables worked out by hand: stories of notices, and joins.
 
 ghost use Rattle.std.specs.Prelude.{◌≤◌};
 ghost use Rattle.exh_prefix.specs.declared.prefix.TheConstants.{LIMIT};
@@ -258,7 +258,7 @@ fn stops_at_16_bits(table: &mut Table) -> Option<bool> {
 #[test]
 fn walks_stop_at_16_bits(rt: HostRuntime) {
     let mut table = Table::new(rt.alloc());
-    assert_eq!(rt; stops_at_16_bits(&mut table), Some(true));
+    assert!(rt; stops_at_16_bits(&mut table) == Some(true));
 }
 
 // The entries of two tables, whether the first is at most the second, and their join's entries with
@@ -360,35 +360,4 @@ fn call_laws() {
 fn joins_both_ways_round(rt: HostRuntime) {
     call_laws();
     assert!(rt; are_unions(rt.alloc()));
-}
-
-// Puts back what stood, if there is an entry to give way.
-fn put_back(table: &mut Table, place: Place, stood: Option<Row>) -> Option<()> {
-    let prefix = prefix_of(place)?;
-    if table.get(prefix).is_none() {
-        return None;
-    }
-    table.put_back(prefix, stood.map(entry));
-    Some(())
-}
-
-fn is_put_back(table: &mut Table) -> Option<bool> {
-    fill(
-        table,
-        &[
-            (ROOT, (1, Some(1))),
-            (ROOT, (2, None)),
-            (LEFT, (1, Some(2))),
-        ],
-    )?;
-    put_back(table, ROOT, Some((1, Some(1))))?;
-    let is_first = has_entries(table, &[(ROOT, (1, Some(1))), (LEFT, (1, Some(2)))]);
-    put_back(table, LEFT, None)?;
-    Some(is_first && has_entries(table, &[(ROOT, (1, Some(1)))]))
-}
-
-#[test]
-fn what_stood_is_put_back(rt: HostRuntime) {
-    let mut table = Table::new(rt.alloc());
-    assert_eq!(rt; is_put_back(&mut table), Some(true));
 }
