@@ -7,13 +7,12 @@ use crate::calls::Asked;
 use crate::difference::{Difference, Part, same};
 use crate::notices::{merge, prefix, split};
 use crate::run::Run;
-use crate::same_pages::are_same;
 use crate::small_ward::first_store;
 use exh_frames::FailingPages;
 use exh_keyer::PlainKeyer;
-use exh_page::{Page, PageNo, SizeFault, Value};
+use exh_page::{PageNo, SizeFault, Value};
 use exh_prefix::Prefix;
-use exh_ward::{Hop, Reply, Ward, WardFault};
+use exh_ward::{Hop, PageLine, Reply, Ward, WardFault};
 use exh_world::{Config, Event, Outcome, StepFault, World};
 use std::alloc::{AllocError, Global};
 
@@ -223,18 +222,18 @@ fn step(world: &mut FailingWorld, event: &Event) -> Result<Outcome, StepFault> {
     again!(Err(StepFault::Ward(WardFault::Memory)) => world.step(event))
 }
 
-fn page(world: &mut FailingWorld, number: PageNo) -> Result<Page, StepFault> {
-    again!(Err(StepFault::Ward(WardFault::Memory)) => world.page(0, number))
+fn page_line(world: &mut FailingWorld, number: PageNo) -> Result<PageLine, StepFault> {
+    again!(Err(StepFault::Ward(WardFault::Memory)) => world.page_line(0, number))
 }
 
 // The readers of two worlds show the same.
 fn are_alike(world: &mut FailingWorld, other: &mut FailingWorld) -> Result<(), Difference> {
     for number in 0..PAGES {
-        let is_same = are_same(&page(world, number)?, &page(other, number)?);
-        same(is_same, Part::Healed)?;
+        let line = page_line(world, number)?;
+        same(line == page_line(other, number)?, Part::Healed)?;
     }
     let no_page = Some(StepFault::Ward(WardFault::NoPage));
-    same(page(world, PAGES).err() == no_page, Part::Healed)?;
+    same(page_line(world, PAGES).err() == no_page, Part::Healed)?;
     same(world.in_flight().eq(other.in_flight()), Part::Healed)?;
     for copy in 1..=COPIES {
         have_same_copy(world, other, copy)?;
