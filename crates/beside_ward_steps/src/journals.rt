@@ -19,6 +19,7 @@ type Line = (u32, Call, Reply);
 /// Takes the calls and the steps.
 pub(crate) fn run(run: &mut Run) -> Result<(), Difference> {
     take_lines(run)?;
+    take_many(run)?;
     take_strays(run)?;
     run_cover(run, 4, 15, &LAST_OF_16)?;
     run_cover(run, 2, 1, &SECOND_OF_4)?;
@@ -99,6 +100,33 @@ fn has_journal(ward: &PlainWard, lines: &[Line]) -> Result<(), Difference> {
         Part::Journal,
     )?;
     same(ward.base().pairs().is_empty(), Part::Journal)
+}
+
+// More calls than 16 bits count, each of a client of its own.
+const MANY: u32 = 65_538;
+
+fn take_many(run: &mut Run) -> Result<(), Difference> {
+    let get = Asked::Get(b"a").call()?;
+    run_many(run, &get)
+}
+
+fn run_many(run: &mut Run, get: &Call) -> Result<(), Difference> {
+    let mut ward = plain_ward(run.alloc)?;
+    run.tally.step(ask_many(&mut ward, get));
+    Ok(())
+}
+
+// The journal has an entry of each call, in order.
+fn ask_many(ward: &mut PlainWard, get: &Call) -> Result<(), Difference> {
+    for client in 0..MANY {
+        let hop = hop_of(ward, 0, client, get)?;
+        same(hop == Hop::Done(Reply::None), Part::Reply)?;
+    }
+    let journal = ward.journal();
+    let entries = (0..MANY).map(|client| JournalEntry::new(client, get, &Reply::None));
+    same(journal.iter().eq(entries), Part::Journal)?;
+    let past = JournalEntry::new(65_536, get, &Reply::None);
+    same(journal.get(65_536) == Some(past), Part::Journal)
 }
 
 // A key is turned away where two have its 16 leading bits, and the journal says so.

@@ -2,7 +2,7 @@
 use Rattle.std.proofs.Common.{◌≡◌, ℕ, ◌^◌, List, length, Result, Ok, Err, refl, sym, subst, ap, ◌∙◌}
 use Rattle.exh_keyer.specs.declared.plain_keyer.PlainKeyer.{PlainKeyer}
 use Rattle.exh_ward.specs.WardState.{WardState}
-use Rattle.exh_world.specs.EffectLemmas.{on_effect}
+use Rattle.exh_world.specs.EffectLemmas.{on_effect, on_refusal}
 use Rattle.exh_world.specs.NewWorld.{AreWardsFor, settings_of}
 use Rattle.exh_world.specs.Step.{HasEffect, Step}
 use Rattle.exh_world.specs.World.{WorldState}
@@ -37,7 +37,8 @@ module _ {K : Type 0} (pseudokey_of : K → List ℕ → ℕ) (old : WorldState 
   pub step_keeps : (event : Event) (result : Result Outcome StepFault) (new : WorldState K)
       → Step pseudokey_of old event result new → HasSettings new
   step_keeps event (Ok outcome) new step = effect_keeps event outcome new step
-  step_keeps event (Err fault) new step = subst HasSettings (sym step.0) is
+  step_keeps event (Err fault) new step = on_refusal pseudokey_of old HasSettings is
+      (λ number before failures found. record { cap = is.cap; bits = is.bits }) event fault new step
 
 -- a world with the settings gives its wards
 pub wards_given : {K : Type 0} (world : WorldState K) (wards : List (WardState K)) → HasSettings world

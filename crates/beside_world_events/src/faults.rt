@@ -4,12 +4,12 @@
 
 use crate::line::{Line, begin, deliver, done, hop};
 use exh_calls::Reply;
-use exh_fixtures::{Asked, are_same, first_store, merge, prefix, split, value};
+use exh_fixtures::{Asked, first_store, merge, prefix, split, value};
 use exh_frames::FailingPages;
 use exh_keyer::PlainKeyer;
-use exh_page::{Page, PageNo};
+use exh_page::PageNo;
 use exh_runs::{Difference, Part, Run, again, same};
-use exh_ward::{Hop, Ward, WardFault};
+use exh_ward::{Hop, PageLine, Ward, WardFault};
 use exh_world::{Config, Event, Outcome, StepFault, World};
 use std::alloc::{AllocError, Global};
 
@@ -191,8 +191,8 @@ fn take(world: &mut FailingWorld, lines: &[Line], seen: &mut Seen) -> bool {
     met
 }
 
-fn page(world: &mut FailingWorld, number: PageNo) -> Result<Page, StepFault> {
-    again!(Err(StepFault::Ward(WardFault::Memory)) => world.page(0, number))
+fn page_line(world: &mut FailingWorld, number: PageNo) -> Result<PageLine, StepFault> {
+    again!(Err(StepFault::Ward(WardFault::Memory)) => world.page_line(0, number))
 }
 
 // What is left to say where a world should not have refused.
@@ -203,12 +203,11 @@ fn refused(fault: StepFault) -> Difference {
 // The readers of two worlds show the same.
 fn are_alike(world: &mut FailingWorld, other: &mut FailingWorld) -> Result<(), Difference> {
     for number in 0..PAGES {
-        let healed = page(world, number).map_err(refused)?;
-        let unhurt = page(other, number).map_err(refused)?;
-        same(are_same(&healed, &unhurt), Part::Healed)?;
+        let line = page_line(world, number).map_err(refused)?;
+        same(line == page_line(other, number).map_err(refused)?, Part::Healed)?;
     }
     let no_page = Some(StepFault::Ward(WardFault::NoPage));
-    same(page(world, PAGES).err() == no_page, Part::Healed)?;
+    same(page_line(world, PAGES).err() == no_page, Part::Healed)?;
     same(world.in_flight().eq(other.in_flight()), Part::Healed)?;
     for copy in 1..=COPIES {
         have_same_copy(world, other, copy)?;

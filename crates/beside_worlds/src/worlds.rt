@@ -10,10 +10,10 @@ use exh_fixtures::Asked;
 use exh_frames::PlainPages;
 use exh_keyer::PlainKeyer;
 use exh_notice::Notice;
-use exh_page::{Page, PageNo};
+use exh_page::PageNo;
 use exh_prefix::Prefix;
 use exh_runs::{Dice, Difference, Part, Run, again, same};
-use exh_ward::{Hop, WardFault};
+use exh_ward::{Hop, PageLine, WardFault};
 use exh_world::{Config, Event, Outcome, StepFault, World};
 use std::alloc::{AllocError, Global};
 
@@ -110,8 +110,8 @@ fn step(world: &mut PlainWorld, event: &Event) -> Result<Outcome, StepFault> {
     again!(Err(StepFault::Ward(WardFault::Memory)) => world.step(event))
 }
 
-fn page(world: &mut PlainWorld, ward: u8, number: PageNo) -> Result<Page, StepFault> {
-    again!(Err(StepFault::Ward(WardFault::Memory)) => world.page(u32::from(ward), number))
+fn page_line(world: &mut PlainWorld, ward: u8, number: PageNo) -> Result<PageLine, StepFault> {
+    again!(Err(StepFault::Ward(WardFault::Memory)) => world.page_line(u32::from(ward), number))
 }
 
 // What is left to say where a world should not have refused.
@@ -242,9 +242,9 @@ fn prefix_at(
     ward: u8,
     number: PageNo,
 ) -> Result<Option<Prefix>, StepFault> {
-    match page(world, ward, number)? {
-        Page::Live { prefix, .. } => Ok(Some(prefix)),
-        Page::Forward { .. } => Ok(None),
+    match page_line(world, ward, number)? {
+        PageLine::Live { prefix, .. } => Ok(Some(prefix)),
+        PageLine::Forward { .. } => Ok(None),
     }
 }
 
