@@ -1,8 +1,10 @@
 pub mod Call
+pub mod Effect
 pub mod MapMachine
 pub mod History
 pub mod Journal
 pub mod Laws
+pub mod EffectLemmas
 pub mod HistoryLemmas
 pub mod SharingLemmas
 pub mod LeadingLemmas

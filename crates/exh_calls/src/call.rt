@@ -16,6 +16,7 @@ pub enum Call {
 impl Call {
     ghost use Rattle.std.specs.Prelude.{◌≡◌};
     ghost use Rattle.exh_calls.specs.Call.{key_of};
+    ghost use Rattle.exh_calls.specs.Effect.{sets_new};
 
     /// The key that the call is about. It takes no memory.
     pub fn key(&self) -> &Key
@@ -23,6 +24,16 @@ impl Call {
     {
         match self {
             Call::Get { key } | Call::Put { key, .. } | Call::Del { key } => key,
+        }
+    }
+
+    /// Whether the call gives a key that has no value one. It takes no memory.
+    pub fn sets_new(&self) -> bool
+        ensures { result ≡ sets_new self.now }
+    {
+        match self {
+            Call::Put { .. } => true,
+            Call::Get { .. } | Call::Del { .. } => false,
         }
     }
 }

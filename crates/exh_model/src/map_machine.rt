@@ -74,10 +74,13 @@ impl<K: Keyer> MapMachine<K> {
                     None => Reply::New,
                 })
             }
-            Call::Del { key } => Ok(match self.map.remove(key) {
-                Some(old) => Reply::Was(old),
-                None => Reply::None,
-            }),
+            Call::Del { key } => match self.map.get(key) {
+                Some(old) => {
+                    self.map.remove(key);
+                    Ok(Reply::Was(old))
+                }
+                None => Ok(Reply::None),
+            },
         }
     }
 

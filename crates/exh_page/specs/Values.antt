@@ -134,3 +134,13 @@ length-without_place place (r ∷ records) = omega (arith, length-without_place 
 -- what holds of a record and of others holds of them all
 pub AllByRecursion-with_record : (P : Record → Type 0) (r : Record) (records : List Record) → P r → AllByRecursion P records → AllByRecursion P (with_record r records)
 AllByRecursion-with_record P r records new all = AllByRecursion-append P _ _ (AllByRecursion-filter _ P records all) (new, AllByRecursion-filter _ P records all)
+
+others_stay : (place : Place) (r : Record) (records : List Record) (here : Bool) → option_map (λ r. r.value) (cond here (Some r) (find (is_at place) records)) ≡ None
+    → (value_at place records ≡ None → without_place place records ≡ records) → cond (not here) (r ∷ without_place place records) (without_place place records) ≡ r ∷ records
+others_stay place r records true none rest = cc
+others_stay place r records false none rest = ap (λ others. r ∷ others) (rest none)
+
+-- where no record stands at the place, nothing goes
+pub without_place-absent : (place : Place) (records : List Record) → value_at place records ≡ None → without_place place records ≡ records
+without_place-absent place [] none = refl
+without_place-absent place (r ∷ records) none = others_stay place r records (is_at place r) none (without_place-absent place records)

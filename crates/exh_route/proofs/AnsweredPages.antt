@@ -1,6 +1,6 @@
 -- An answer changes the records of one page alone.
-use Rattle.std.proofs.Common.{◌≡◌, ℕ, zero, suc, List, [], ◌∷◌, slice_get, Option, None, Some, refl, sym, ap, ◌∙◌}
-use Rattle.std.specs.Prelude.{slice_set}
+use Rattle.std.proofs.Common.{◌≡◌, ℕ, zero, suc, List, [], ◌∷◌, length, slice_get, Option, None, Some, refl, sym, ap, ◌∙◌}
+use Rattle.std.specs.Prelude.{nat_le, slice_set}
 use Rattle.std.specs.Option.{option_map_or}
 use Rattle.exh_page.specs.declared.page.Page.{Page}
 use Rattle.exh_page.specs.declared.page.Page.TheVariants.{Live, Forward}
@@ -11,7 +11,6 @@ use Rattle.exh_calls.specs.Call.{key_of}
 use Rattle.exh_ward.specs.HopTable.{pages_after}
 use Rattle.exh_ward.specs.PageAnswer.{records_after}
 use Rattle.exh_calls.specs.declared.call.Call.{Call}
-use Rattle.exh_calls.specs.declared.reply.Reply.{Reply}
 
 bare_with : (records : List Record) (page : Page) → with_records [] (with_records records page) ≡ with_records [] page
 bare_with records (Live prefix right old) = refl
@@ -28,6 +27,6 @@ bare_found : (pages : List Page) (at : ℕ) (records : Page → List Record) (fo
 bare_found pages at records None is = refl
 bare_found pages at records (Some page) is = bare_set pages at page (records page) is
 
-pub bare_answered : (pseudo : List ℕ → ℕ) (pages : List Page) (at : ℕ) (call : Call) (reply : Reply) → bare (pages_after pseudo pages at call reply) ≡ bare pages
+pub bare_answered : (cap : ℕ) (pseudo : List ℕ → ℕ) (pages : List Page) (at : ℕ) (call : Call) → bare (pages_after cap pseudo pages at call) ≡ bare pages
 unfolding pages_after
-bare_answered pseudo pages at call reply = bare_found pages at (λ page. records_after (pseudo (key_of call)) call reply (records_of page)) (slice_get pages at) refl
+bare_answered cap pseudo pages at call = bare_found pages at (λ page. records_after (nat_le cap (length (records_of page))) (pseudo (key_of call)) call (records_of page)) (slice_get pages at) refl

@@ -1,6 +1,6 @@
 -- Pages keep their numbers and low bounds.
-use Rattle.std.proofs.Common.{◌≡◌, ℕ, zero, suc, List, [], ◌∷◌, slice_get, Option, None, Some, Ok, Err, inl, inr, refl, sym, ap, ◌∙◌, subst}
-use Rattle.std.specs.Prelude.{slice_set}
+use Rattle.std.proofs.Common.{◌≡◌, ℕ, zero, suc, List, [], ◌∷◌, length, slice_get, Option, None, Some, Ok, Err, inl, inr, refl, sym, ap, ◌∙◌, subst}
+use Rattle.std.specs.Prelude.{nat_le, slice_set}
 use Rattle.std.specs.Option.{option_map_or}
 use Rattle.std.proofs.lemmas.Bool.{cases_eq}
 use Rattle.exh_page.specs.declared.page.Page.{Page}
@@ -69,15 +69,15 @@ places_found : (pages : List Page) (at : ℕ) (records : Page → List Record) (
 places_found pages at records None is = places_same pages
 places_found pages at records (Some page) is = places_set pages at page (records page) is
 
-places_answered : (pseudo : List ℕ → ℕ) (pages : List Page) (at : ℕ) (call : Call) (reply : Reply) → KeepsPlaces pages (pages_after pseudo pages at call reply)
+places_answered : (cap : ℕ) (pseudo : List ℕ → ℕ) (pages : List Page) (at : ℕ) (call : Call) → KeepsPlaces pages (pages_after cap pseudo pages at call)
 unfolding pages_after
-places_answered pseudo pages at call reply = places_found pages at (λ page. records_after (pseudo (key_of call)) call reply (records_of page)) (slice_get pages at) refl
+places_answered cap pseudo pages at call = places_found pages at (λ page. records_after (nat_le cap (length (records_of page))) (pseudo (key_of call)) call (records_of page)) (slice_get pages at) refl
 
 -- ---- a step
 
 module _ {K : Type 0} (pseudokey_of : K → List ℕ → ℕ) (old new : WardState K) where
   places_left : (at client : ℕ) (call : Call) (hop : Hop) → LeavesAfter pseudokey_of old at client call hop new → KeepsPlaces old.pages new.pages
-  places_left at client call (Done reply) left = subst (KeepsPlaces old.pages) (sym left.pages) (places_answered (pseudokey_of old.keyer) old.pages at call reply)
+  places_left at client call (Done reply) left = subst (KeepsPlaces old.pages) (sym left.pages) (places_answered old.cap (pseudokey_of old.keyer) old.pages at call)
   places_left at client call (Moved next) left = places_from old.pages new.pages (ap (λ (w : WardState K). w.pages) left)
   places_left at client call MustSplit left = places_from old.pages new.pages (ap (λ (w : WardState K). w.pages) left)
   places_left at client call Stray left = places_from old.pages new.pages (ap (λ (w : WardState K). w.pages) left)

@@ -162,7 +162,7 @@ module _ {K : Type 0} (pseudokey_of : K → List ℕ → ℕ) (words : (keyer : 
     new_is = answered.others ∙ ap (λ journal. let w : WardState K = record old { pages = new.pages; journal = journal } in w) answered.journal
 
     same_bare : bare old.pages ≡ bare new.pages
-    same_bare = sym (ap bare answered.pages ∙ bare_answered (pseudokey_of old.keyer) old.pages at call reply)
+    same_bare = sym (ap bare answered.pages ∙ bare_answered old.cap (pseudokey_of old.keyer) old.pages at call)
 
     answered_legal : IsLegalWard pseudokey_of old → IsLegalWard pseudokey_of (left_by new.pages)
     answered_legal legal =

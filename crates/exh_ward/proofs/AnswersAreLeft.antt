@@ -9,15 +9,13 @@ use Rattle.exh_page.specs.declared.page.Page.{Page}
 use Rattle.exh_page.specs.declared.page.Page.TheVariants.{Live}
 use Rattle.exh_page.specs.declared.record.Record.{Record}
 use Rattle.exh_page.specs.Page.{records_of, with_records}
-use Rattle.exh_page.specs.Records.{value_at}
 use Rattle.exh_legal.specs.Laws.{PagesAreFew}
-use Rattle.exh_legal.specs.MapLemmas.{place_of_key}
 use Rattle.exh_legal.specs.Pages.{map_of, IsAt}
 use Rattle.exh_calls.specs.Call.{key_of}
 use Rattle.exh_ward.specs.HopTable.{HopOf, pages_after}
 use Rattle.exh_ward.specs.Kept.{IsKept}
 use Rattle.exh_calls.specs.MapMachine.{reply_of, map_after}
-use Rattle.exh_ward.specs.PageAnswer.{reply_by, page_reply, records_after}
+use Rattle.exh_ward.specs.PageAnswer.{effect_at, reply_by, records_after}
 use Rattle.exh_ward.specs.PageIndex.{IndexMap}
 use Rattle.exh_ward.specs.Sight.{SightIn}
 use Rattle.exh_ward.specs.WardState.{WardState, IsAnswered, own_prefix}
@@ -27,7 +25,7 @@ use Rattle.exh_calls.specs.declared.journal_entry.JournalEntry.{JournalEntry}
 use Rattle.exh_calls.specs.declared.reply.Reply.{Reply}
 use Rattle.exh_ward.specs.declared.ward.hop.sight.Sight.TheVariants.{Home}
 use Rattle.exh_ward.proofs.HomeReplies.{AtHome, Fit, reply_is}
-use Rattle.exh_ward.proofs.AnswersKeepLegal.{left_by, records_after-left, left_legal, new_map}
+use Rattle.exh_ward.proofs.AnswersKeepLegal.{left_legal, new_map}
 use Rattle.exh_ward.proofs.StepsKeepSound.{well_formed}
 use Rattle.exh_ward.proofs.SightsAreHops.{same_there, answers_at, hop_done}
 
@@ -74,44 +72,36 @@ module _ {K : Type 0} {pseudo : List ℕ → ℕ} {takes : Page → Type 0} {own
   page = Live answers.prefix answers.link answers.records
 
   abbrev left : List Record
-  left = left_by (pseudo (key_of call)) call (leb w.cap (length answers.records)) (value_at (place_of_key pseudo (key_of call)) answers.records) answers.records
+  left = records_after (leb w.cap (length answers.records)) (pseudo (key_of call)) call answers.records
 
   -- the page as the store writes it
-  written : with_records (records_after pseudokey call (reply_by full pseudokey call page) answers.records) page ≡ Live answers.prefix answers.link left
+  written : with_records (records_after full pseudokey call answers.records) page ≡ Live answers.prefix answers.link left
   written =
-      ap (λ k. Live answers.prefix answers.link (records_after k call (page_reply full call (value_at (k, key_of call) answers.records)) answers.records)) answers.hashed
-      ∙ ap (λ full. Live answers.prefix answers.link (records_after (pseudo (key_of call)) call (page_reply full call (value_at (pseudo (key_of call), key_of call) answers.records)) answers.records)) answers.full_is
-      ∙ ap (Live answers.prefix answers.link) (records_after-left (pseudo (key_of call)) call (leb w.cap (length answers.records)) (value_at (pseudo (key_of call), key_of call) answers.records) answers.records)
+      ap (λ k. Live answers.prefix answers.link (records_after full k call answers.records)) answers.hashed
+      ∙ ap (λ full. Live answers.prefix answers.link (records_after full (pseudo (key_of call)) call answers.records)) answers.full_is
 
   there_is : (other : Page) → IsAt w.pages at other → other ≡ page
   there_is other is = same_there w.pages at other page is answers.home.there
 
-  pub written_taken : length w.pages < 2 ^ 32 - 1 → (other : Page) → IsAt w.pages at other → takes (with_records (records_after pseudokey call (reply_by full pseudokey call other) (records_of other)) other)
+  pub written_taken : length w.pages < 2 ^ 32 - 1 → (other : Page) → IsAt w.pages at other → takes (with_records (records_after full pseudokey call (records_of other)) other)
   written_taken few other is =
       let formed = well_formed w.pages kept.sound.legal.legal.legal.linked few kept.most at answers.prefix answers.link answers.records left answers.home.there (left_legal fit answers.home) in
-      let P : Page → Type 0 = λ other. takes (with_records (records_after pseudokey call (reply_by full pseudokey call other) (records_of other)) other) in
+      let P : Page → Type 0 = λ other. takes (with_records (records_after full pseudokey call (records_of other)) other) in
       subst P (sym (there_is other is)) (subst takes (sym written) (kept.takes_all _ formed))
 
   pub replied : (reply : Reply) → ((other : Page) → IsAt w.pages at other → reply ≡ reply_by full pseudokey call other) → reply ≡ reply_of w.cap pseudo (map_of w.pages) call
   replied reply by_page =
       by_page page answers.home.there
-      ∙ ap (λ k. page_reply full call (value_at (k, key_of call) answers.records)) answers.hashed
-      ∙ ap (λ full. page_reply full call (value_at (pseudo (key_of call), key_of call) answers.records)) answers.full_is
+      ∙ ap (λ k. (effect_at full k call answers.records).reply) answers.hashed
+      ∙ ap (λ full. (effect_at full (pseudo (key_of call)) call answers.records).reply) answers.full_is
       ∙ reply_is fit answers.home
 
-  pub pages_are : (reply : Reply) (pages : List Page) → ((other : Page) → IsAt w.pages at other → reply ≡ reply_by full pseudokey call other)
-      → ((other : Page) → IsAt w.pages at other → pages ≡ slice_set w.pages at (with_records (records_after pseudokey call reply (records_of other)) other)) → pages ≡ slice_set w.pages at (Live answers.prefix answers.link left)
-  pages_are reply pages by_page by_store =
-      by_store page answers.home.there
-      ∙ ap (λ reply. slice_set w.pages at (with_records (records_after pseudokey call reply answers.records) page)) (by_page page answers.home.there)
-      ∙ ap (slice_set w.pages at) written
+  pub pages_are : (pages : List Page) → ((other : Page) → IsAt w.pages at other → pages ≡ slice_set w.pages at (with_records (records_after full pseudokey call (records_of other)) other)) → pages ≡ slice_set w.pages at (Live answers.prefix answers.link left)
+  pages_are pages by_store = by_store page answers.home.there ∙ ap (slice_set w.pages at) written
 
-  pub after_is : (reply : Reply) (pages : List Page) → ((other : Page) → IsAt w.pages at other → pages ≡ slice_set w.pages at (with_records (records_after pseudokey call reply (records_of other)) other)) → pages ≡ pages_after pseudo w.pages at call reply
+  pub after_is : (pages : List Page) → ((other : Page) → IsAt w.pages at other → pages ≡ slice_set w.pages at (with_records (records_after full pseudokey call (records_of other)) other)) → pages ≡ pages_after w.cap pseudo w.pages at call
   unfolding pages_after
-  after_is reply pages by_store =
-      by_store page answers.home.there
-      ∙ ap (λ k. slice_set w.pages at (with_records (records_after k call reply answers.records) page)) answers.hashed
-      ∙ rw answers.home.there refl
+  after_is pages by_store = pages_are pages by_store ∙ rw answers.home.there refl
 
   pub map_is : (pages : List Page) → pages ≡ slice_set w.pages at (Live answers.prefix answers.link left) → map_of pages ≡ map_after w.cap pseudo (map_of w.pages) call
   map_is pages is = ap map_of is ∙ new_map fit answers.home
@@ -122,15 +112,14 @@ module _ {K : Type 0} {pseudo : List ℕ → ℕ} {takes : Page → Type 0} {own
 -- an answer, as the ward is seen
 pub answered_seen : {K : Type 0} (pseudokey_of : K → List ℕ → ℕ) {takes : Page → Type 0} {own : List Bool} {index : IndexMap} {told : ℕ} {w now : WardState K} → w ≡ now → Fit (pseudokey_of w.keyer) → IsKept (pseudokey_of w.keyer) takes own index told w
     → {at : ℕ} {call : Call} {pseudokey : ℕ} {full : Bool} → Answers (pseudokey_of w.keyer) w at call pseudokey full → (client : ℕ) (reply : Reply) (pages : List Page) (journal : List JournalEntry) (failures : ℕ)
-    → ((other : Page) → IsAt w.pages at other → reply ≡ reply_by full pseudokey call other)
-    → ((other : Page) → IsAt w.pages at other → pages ≡ slice_set w.pages at (with_records (records_after pseudokey call reply (records_of other)) other))
+    → ((other : Page) → IsAt w.pages at other → pages ≡ slice_set w.pages at (with_records (records_after full pseudokey call (records_of other)) other))
     → journal ≡ w.journal ++ record { client = client; call = call; reply = reply } ∷ [] → failures ≡ w.failures
     → IsAnswered pseudokey_of now at client call reply (record w { pages = pages; journal = journal; failures = failures })
-answered_seen {K = K} pseudokey_of {w = w} {now = now} seen fit kept {at = at} {call = call} answers client reply pages journal failures by_page by_store pushed same =
+answered_seen {K = K} pseudokey_of {w = w} {now = now} seen fit kept {at = at} {call = call} answers client reply pages journal failures by_store pushed same =
     let P : WardState K → Type 0 = λ old. IsAnswered pseudokey_of old at client call reply (record w { pages = pages; journal = journal; failures = failures }) in
     subst P seen (record {
-      pages = after_is fit kept answers reply pages by_store;
-      map = map_is fit kept answers pages (pages_are fit kept answers reply pages by_page by_store);
+      pages = after_is fit kept answers pages by_store;
+      map = map_is fit kept answers pages (pages_are fit kept answers pages by_store);
       journal = pushed;
       others = same_failures w pages journal failures same;
     })

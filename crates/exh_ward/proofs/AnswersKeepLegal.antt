@@ -25,42 +25,28 @@ use Rattle.exh_legal.specs.Pages.{map_of, IsAt, IsHome, IsLegalPage, IsLegal, Ar
 use Rattle.exh_page.specs.KeyMapLemmas.{same_maps}
 use Rattle.exh_legal.specs.MapLemmas.{tie_of, place_of_key, get-map_of, get-map_of_pages, found_at, found_alike, none_elsewhere, page_at, all_pages}
 use Rattle.exh_calls.specs.Call.{key_of}
-use Rattle.exh_calls.specs.MapMachine.{is_full, put_leaves, map_after}
-use Rattle.exh_ward.specs.PageAnswer.{page_reply, records_after}
+use Rattle.exh_calls.specs.Effect.{Change, Keep, Set, Remove, Effect, effect_of}
+use Rattle.exh_calls.specs.EffectLemmas.{full_sets_nothing}
+use Rattle.exh_calls.specs.MapMachine.{effect_in, changed, map_after}
+use Rattle.exh_ward.specs.PageAnswer.{records_changed, records_after}
 use Rattle.exh_calls.specs.declared.call.Call.{Call}
-use Rattle.exh_calls.specs.declared.call.Call.TheVariants.{Get, Put, Del}
 use Rattle.exh_ward.proofs.StoredPages.{set_here, set_else, bare_set}
-use Rattle.exh_ward.proofs.HomeReplies.{AtHome, Fit, IsPut, same_test_turned, get_key, full_alike, at_limit}
+use Rattle.exh_ward.proofs.HomeReplies.{AtHome, Fit, same_test_turned, effect_is}
 
--- the records after a call, by whether the page is full and the value that it has
-abbrev pub left_by : ℕ → Call → Bool → Option (List ℕ) → List Record → List Record
-left_by k (Get key) full value records = records
-left_by k (Del key) full value records = without_place (k, key) records
-left_by k (Put key new) full (Some old) records = with_record (record { pseudokey = k; key = key; value = new }) records
-left_by k (Put key new) full None records = cond full records (with_record (record { pseudokey = k; key = key; value = new }) records)
-
-pub records_after-left : (k : ℕ) (call : Call) (full : Bool) (value : Option (List ℕ)) (records : List Record) → records_after k call (page_reply full call value) records ≡ left_by k call full value records
-records_after-left k (Get key) full None records = refl
-records_after-left k (Get key) full (Some v) records = refl
-records_after-left k (Del key) full None records = refl
-records_after-left k (Del key) full (Some v) records = refl
-records_after-left k (Put key new) full (Some old) records = refl
-records_after-left k (Put key new) true None records = refl
-records_after-left k (Put key new) false None records = refl
-
--- a put that isn't turned away leaves its record
-pub put_left : (k : ℕ) (key new : List ℕ) (full : Bool) (value : Option (List ℕ)) (records : List Record) (away : Bool) → away ≡ false → (IsTrue away ↔ (IsTrue full × (value ≡ None)))
-    → left_by k (Put key new) full value records ≡ with_record (record { pseudokey = k; key = key; value = new }) records
-put_left k key new full (Some old) records away not is = refl
-put_left k key new true None records away not is = absurd (false≢true (sym not ∙ is.1 (refl, refl)))
-put_left k key new false None records away not is = refl
-
--- a page with the records that a call leaves is legal
-legal_left : (cap : ℕ) (pseudo : List ℕ → ℕ) (prefix : List Bool) (records : List Record) (call : Call) (full : Bool) (value : Option (List ℕ)) → AreRecordsOf pseudo prefix records × (length records ≤ cap)
-    → Begins prefix (pseudo (key_of call)) → leb cap (length records) ≡ full → value_at (place_of_key pseudo (key_of call)) records ≡ value
-    → AreRecordsOf pseudo prefix (left_by (pseudo (key_of call)) call full value records) × (length (left_by (pseudo (key_of call)) call full value records) ≤ cap)
-legal_left cap pseudo prefix records (Get key) full value legal begins few found = legal
-legal_left cap pseudo prefix records (Del key) full value legal begins few found = (
+-- a page with the records that a change leaves is legal, where what is set has room
+legal_changed : (cap : ℕ) (pseudo : List ℕ → ℕ) (prefix : List Bool) (records : List Record) (change : Change) (key : List ℕ) → AreRecordsOf pseudo prefix records × (length records ≤ cap) → Begins prefix (pseudo key)
+    → ((value : List ℕ) → change ≡ Set value → length (with_record (record { pseudokey = pseudo key; key = key; value = value }) records) ≤ cap)
+    → AreRecordsOf pseudo prefix (records_changed change (pseudo key) key records) × (length (records_changed change (pseudo key) key records) ≤ cap)
+legal_changed cap pseudo prefix records Keep key legal begins room = legal
+legal_changed cap pseudo prefix records (Set value) key legal begins room = (
+  record {
+    rising = IsRising-with_record _ records legal.0.rising;
+    hashed = AllByRecursion-with_record _ _ records refl legal.0.hashed;
+    begun = AllByRecursion-with_record _ _ records begins legal.0.begun;
+  },
+  room value refl,
+)
+legal_changed cap pseudo prefix records Remove key legal begins room = (
   record {
     rising = IsRising-filter _ records legal.0.rising;
     hashed = AllByRecursion-filter _ _ records legal.0.hashed;
@@ -68,23 +54,13 @@ legal_left cap pseudo prefix records (Del key) full value legal begins few found
   },
   omega (arith, legal.1, length-without_place (place_of_key pseudo key) records),
 )
-legal_left cap pseudo prefix records (Put key new) full (Some old) legal begins few found = (
-  record {
-    rising = IsRising-with_record _ records legal.0.rising;
-    hashed = AllByRecursion-with_record _ _ records refl legal.0.hashed;
-    begun = AllByRecursion-with_record _ _ records begins legal.0.begun;
-  },
-  omega (arith, legal.1, length-with_record_old (record { pseudokey = pseudo key; key = key; value = new }) records old found),
-)
-legal_left cap pseudo prefix records (Put key new) true None legal begins few found = legal
-legal_left cap pseudo prefix records (Put key new) false None legal begins few found = (
-  record {
-    rising = IsRising-with_record _ records legal.0.rising;
-    hashed = AllByRecursion-with_record _ _ records refl legal.0.hashed;
-    begun = AllByRecursion-with_record _ _ records begins legal.0.begun;
-  },
-  omega (arith, leb-false cap (length records) few, length-with_record_le (record { pseudokey = pseudo key; key = key; value = new }) records),
-)
+
+-- what a call sets has room: the key was there, or the page isn't full
+room_for : (cap : ℕ) (k : ℕ) (call : Call) (records : List Record) (full : Bool) (found : Option (List ℕ)) → length records ≤ cap → leb cap (length records) ≡ full → value_at (k, key_of call) records ≡ found
+    → (value : List ℕ) → (effect_of call full found).change ≡ Set value → length (with_record (record { pseudokey = k; key = key_of call; value = value }) records) ≤ cap
+room_for cap k call records full (Some old) few is found value set = omega (arith, few, length-with_record_old (record { pseudokey = k; key = key_of call; value = value }) records old found)
+room_for cap k call records true None few is found value set = absurd (full_sets_nothing call value set)
+room_for cap k call records false None few is found value set = omega (arith, leb-false cap (length records) is, length-with_record_le (record { pseudokey = k; key = key_of call; value = value }) records)
 
 -- ---- the map
 
@@ -96,39 +72,22 @@ put_here pseudo key value records m other found =
     ∙ ap (cond (eq_by_cmp (slice_cmp nat_cmp) other key) (Some value)) (sym found)
     ∙ sym (fin.get-insert nat_list_cmp_total m key value other)
 
--- what the page has after the call is what the map has
-left_here : (cap : ℕ) (pseudo : List ℕ → ℕ) (records : List Record) (m : KeyMap) (call : Call) (full : Bool) (value : Option (List ℕ)) → fin.get m (key_of call) ≡ value → (IsPut call → value ≡ None → full ≡ is_full cap pseudo m (key_of call))
-    → (other : List ℕ) → fin.get m other ≡ value_at (place_of_key pseudo other) records → value_at (place_of_key pseudo other) (left_by (pseudo (key_of call)) call full value records) ≡ fin.get (map_after cap pseudo m call) other
-left_here cap pseudo records m (Get key) full value had alike other found = sym found
-left_here cap pseudo records m (Del key) full value had alike other found =
+-- what the page has after a change is what the map has
+left_here : (pseudo : List ℕ → ℕ) (records : List Record) (m : KeyMap) (change : Change) (key other : List ℕ) → fin.get m other ≡ value_at (place_of_key pseudo other) records
+    → value_at (place_of_key pseudo other) (records_changed change (pseudo key) key records) ≡ fin.get (changed change key m) other
+left_here pseudo records m Keep key other found = sym found
+left_here pseudo records m (Set value) key other found = put_here pseudo key value records m other found
+left_here pseudo records m Remove key other found =
     value_at-without_place (place_of_key pseudo other) (place_of_key pseudo key) records
     ∙ ap (λ b. cond b None (value_at (place_of_key pseudo other) records)) (same_test_turned pseudo other key)
     ∙ ap (cond (eq_by_cmp (slice_cmp nat_cmp) other key) None) (sym found)
     ∙ sym (fin.get-remove nat_list_cmp_total m key other)
-left_here cap pseudo records m (Put key new) full (Some old) had alike other found =
-    put_here pseudo key new records m other found
-    ∙ ap (λ value. fin.get (put_leaves (is_full cap pseudo m key) value m (fin.insert m key new)) other) (sym had)
-left_here cap pseudo records m (Put key new) true None had alike other found =
-    sym found
-    ∙ ap (λ full. fin.get (cond full m (fin.insert m key new)) other) (alike tt refl)
-    ∙ ap (λ value. fin.get (put_leaves (is_full cap pseudo m key) value m (fin.insert m key new)) other) (sym had)
-left_here cap pseudo records m (Put key new) false None had alike other found =
-    put_here pseudo key new records m other found
-    ∙ ap (λ full. fin.get (cond full m (fin.insert m key new)) other) (alike tt refl)
-    ∙ ap (λ value. fin.get (put_leaves (is_full cap pseudo m key) value m (fin.insert m key new)) other) (sym had)
 
 -- another key has what it had
-put_leaves_else : (full : Bool) (value found : Option (List ℕ)) (m n : KeyMap) (other : List ℕ) → fin.get m other ≡ found → fin.get n other ≡ found → fin.get (put_leaves full value m n) other ≡ found
-put_leaves_else full (Some v) found m n other one two = two
-put_leaves_else true None found m n other one two = one
-put_leaves_else false None found m n other one two = two
-
-left_else : (cap : ℕ) (pseudo : List ℕ → ℕ) (m : KeyMap) (call : Call) (other : List ℕ) → eq_by_cmp (slice_cmp nat_cmp) other (key_of call) ≡ false → fin.get (map_after cap pseudo m call) other ≡ fin.get m other
-left_else cap pseudo m (Get key) other differ = refl
-left_else cap pseudo m (Del key) other differ = fin.get-remove nat_list_cmp_total m key other ∙ ap (λ b. cond b None (fin.get m other)) differ
-left_else cap pseudo m (Put key new) other differ =
-    put_leaves_else (is_full cap pseudo m key) (fin.get m key) (fin.get m other) m (fin.insert m key new) other refl
-    (fin.get-insert nat_list_cmp_total m key new other ∙ ap (λ b. cond b (Some new) (fin.get m other)) differ)
+left_else : (m : KeyMap) (change : Change) (key other : List ℕ) → eq_by_cmp (slice_cmp nat_cmp) other key ≡ false → fin.get (changed change key m) other ≡ fin.get m other
+left_else m Keep key other differ = refl
+left_else m (Set value) key other differ = fin.get-insert nat_list_cmp_total m key value other ∙ ap (λ b. cond b (Some value) (fin.get m other)) differ
+left_else m Remove key other differ = fin.get-remove nat_list_cmp_total m key other ∙ ap (λ b. cond b None (fin.get m other)) differ
 
 module _ {cap : ℕ} {pseudo : List ℕ → ℕ} {ward : List Bool} {pages : List Page} {at : ℕ} {prefix : List Bool} {link : Option ℕ} {records : List Record} {call : Call} (fit : Fit pseudo) (is : AtHome cap pseudo ward pages at prefix link records call) where
   abbrev key : List ℕ
@@ -144,7 +103,7 @@ module _ {cap : ℕ} {pseudo : List ℕ → ℕ} {ward : List Bool} {pages : Lis
   value = value_at (place_of_key pseudo (key_of call)) records
 
   abbrev left : List Record
-  left = left_by (pseudo (key_of call)) call (leb cap (length records)) (value_at (place_of_key pseudo (key_of call)) records) records
+  left = records_after (leb cap (length records)) (pseudo (key_of call)) call records
 
   abbrev new : List Page
   new = slice_set pages at (Live prefix link left)
@@ -153,7 +112,7 @@ module _ {cap : ℕ} {pseudo : List ℕ → ℕ} {ward : List Bool} {pages : Lis
   home_legal = page_at (IsLegalPage cap pseudo) pages at _ is.legal.each is.there
 
   pub left_legal : IsLegalPage cap pseudo (Live prefix link left)
-  left_legal = legal_left cap pseudo prefix records call full value home_legal is.home refl refl
+  left_legal = legal_changed cap pseudo prefix records (effect_of call full value).change key home_legal is.home (room_for cap k call records full value home_legal.1 refl refl)
 
   new_here : IsAt new at (Live prefix link left)
   new_here = set_here pages at _ _ is.there
@@ -194,15 +153,15 @@ module _ {cap : ℕ} {pseudo : List ℕ → ℕ} {ward : List Bool} {pages : Lis
     | inl passes ↦
         let begun = IsFront-from_test prefix (word_bits (pseudo other)) passes in
         get-map_of cap pseudo ward new at _ other new_legal new_here begun
-        ∙ left_here cap pseudo records (map_of pages) call full value (get_key fit is) (λ put absent. full_alike fit is absent (at_limit fit is call is.none absent put)) other
-        (get-map_of cap pseudo ward pages at _ other is.legal is.there begun)
+        ∙ left_here pseudo records (map_of pages) (effect_of call full value).change key other (get-map_of cap pseudo ward pages at _ other is.legal is.there begun)
+        ∙ ap (λ (effect : Effect). fin.get (changed effect.change key (map_of pages)) other) (effect_is fit is)
     | inr fails ↦
         let not : Begins prefix (pseudo other) → ⊥ = λ begun. (let passes = is_front-true prefix (word_bits (pseudo other)) begun in cc) in
         let differ = false_from_ne_true (eq_by_cmp (slice_cmp nat_cmp) other key) (λ tied. not (subst (λ k. Begins prefix (pseudo k)) (sym (exact_bytes other key (tie_of _ tied))) is.home)) in
         get-map_of_pages cap pseudo new other new_legal.each
         ∙ ap (option_map (λ r. r.value)) (found_alike (is_at (place_of_key pseudo other)) new pages (found_else (place_of_key pseudo other) not))
         ∙ sym (get-map_of_pages cap pseudo pages other is.legal.each)
-        ∙ sym (left_else cap pseudo (map_of pages) call other differ)
+        ∙ sym (left_else (map_of pages) (effect_in cap pseudo (map_of pages) call).change key other differ)
   ]
 
   pub new_map : map_of new ≡ map_after cap pseudo (map_of pages) call

@@ -20,10 +20,11 @@ use Rattle.exh_legal.specs.Pages.{map_of, IsAt, IsLegalPage, IsLegal}
 use Rattle.exh_legal.specs.BareLemmas.{bare_at}
 use Rattle.exh_legal.specs.MapLemmas.{map_of_records, place_of_key, same_test, get-map_of, get-map_of_records, none_of_others, page_at}
 use Rattle.exh_calls.specs.Call.{key_of}
-use Rattle.exh_calls.specs.MapMachine.{sharing, is_full, get_reply, put_reply, del_reply, reply_of}
-use Rattle.exh_ward.specs.PageAnswer.{page_reply, OverflowsPage}
+use Rattle.exh_calls.specs.Effect.{Effect, effect_of, sets_new}
+use Rattle.exh_calls.specs.EffectLemmas.{same_effect}
+use Rattle.exh_calls.specs.MapMachine.{sharing, is_full, effect_in, reply_of}
+use Rattle.exh_ward.specs.PageAnswer.{effect_at, OverflowsPage}
 use Rattle.exh_calls.specs.declared.call.Call.{Call}
-use Rattle.exh_calls.specs.declared.call.Call.TheVariants.{Get, Put, Del}
 use Rattle.exh_calls.specs.SharingLemmas.{shares, sharing_same, sharing_all, sharing-le}
 use Rattle.exh_ward.proofs.RecordCount.{len-map_of_records-le, len-map_of_records}
 use Rattle.exh_calls.specs.LeadingLemmas.{begins_by-sharing, shared_begins}
@@ -31,11 +32,6 @@ use Rattle.exh_calls.specs.LeadingLemmas.{begins_by-sharing, shared_begins}
 -- a key and the key of a test, the other way round
 pub same_test_turned : (pseudo : List ℕ → ℕ) (one other : List ℕ) → is_eq (place_cmp (place_of_key pseudo one) (place_of_key pseudo other)) ≡ eq_by_cmp (slice_cmp nat_cmp) one other
 same_test_turned pseudo one other = (eq_by_cmp_equiv place_cmp-total).symm (place_of_key pseudo one) (place_of_key pseudo other) ∙ sym (same_test pseudo one other)
-
-abbrev pub IsPut : Call → Type 0
-IsPut (Put k v) = Unit {0}
-IsPut (Get k) = ⊥
-IsPut (Del k) = ⊥
 
 -- every pseudokey is a number of 64 bits
 abbrev pub Fit : (List ℕ → ℕ) → Type 0
@@ -92,42 +88,25 @@ module _ {cap : ℕ} {pseudo : List ℕ → ℕ} {ward : List Bool} {pages : Lis
       (λ begins. let same = eq-eqb _ _ ((begins_by-sharing prefix (pseudo key) (pseudo q) long (fit key) (fit q) is.home).0 begins) in true≢false (sym same ∙ apart))))
       ∙ len-map_of_records pseudo records page_legal.0.rising page_legal.0.hashed
 
-  -- a put of a new key finds the page full exactly where the map machine turns it away
+  -- a page that lacks the key is full exactly where the map machine turns new keys away
   pub full_alike : (value_at (place_of_key pseudo key) records ≡ None) → (cap ≤ length records → length prefix ≡ LIMIT) → full ≡ is_full cap pseudo m key
   full_alike absent limit = elim (cases_lt (length records) cap) [
     | inl room ↦ lt-leb cap (length records) room ∙ sym (lt-leb cap (sharing pseudo m key) (omega (arith, sharing_few, room)))
     | inr few ↦ le-leb cap (length records) few ∙ sym (le-leb cap (sharing pseudo m key) (omega (arith, sharing_most (limit few), few)))
   ]
 
-  -- the reply of the page is the map machine's
-  reply_alike : (call : Call) (value : Option (List ℕ)) → (value ≡ None → full ≡ is_full cap pseudo m (key_of call)) → fin.get m (key_of call) ≡ value
-      → page_reply full call value ≡ reply_of cap pseudo m call
-  reply_alike (Get k) value alike found = ap get_reply (sym found)
-  reply_alike (Del k) value alike found = ap del_reply (sym found)
-  reply_alike (Put k v) (Some old) alike found = ap (put_reply (is_full cap pseudo m k)) (sym found)
-  reply_alike (Put k v) None alike found = ap (λ full. put_reply full None) (alike refl) ∙ ap (put_reply (is_full cap pseudo m k)) (sym found)
-
-  -- a full page at which a put of a new key doesn't overflow has a prefix as long as can be
-  pub at_limit : (call : Call) → (OverflowsPage cap (pseudo (key_of call)) (Live prefix link records) call → ⊥) → value_at (place_of_key pseudo (key_of call)) records ≡ None → IsPut call → cap ≤ length records → length prefix ≡ LIMIT
-  at_limit (Put k v) none absent put few = elim (cases_lt (length prefix) LIMIT) [
-    | inl shorter ↦ absurd (none (few, shorter, absent))
+  -- a full page at which a call that sets a new key doesn't overflow has a prefix as long as can be
+  at_limit : sets_new call ≡ true → value_at (place_of_key pseudo key) records ≡ None → cap ≤ length records → length prefix ≡ LIMIT
+  at_limit sets absent few = elim (cases_lt (length prefix) LIMIT) [
+    | inl shorter ↦ absurd (is.none (few, shorter, absent, sets))
     | inr long ↦ omega (arith, long, short)
   ]
-  at_limit (Get k) none absent put few = absurd put
-  at_limit (Del k) none absent put few = absurd put
 
-  decide_put : (call : Call) → IsPut call ⊎ (IsPut call → ⊥)
-  decide_put (Put k v) = inl tt
-  decide_put (Get k) = inr (λ put. put)
-  decide_put (Del k) = inr (λ put. put)
+  -- the call does to its key at the page what it does by the map machine
+  pub effect_is : effect_at full (pseudo key) call records ≡ effect_in cap pseudo m call
+  effect_is =
+      same_effect call full (is_full cap pseudo m key) (value_at (place_of_key pseudo key) records) (λ sets absent. full_alike absent (at_limit sets absent))
+      ∙ ap (effect_of call (is_full cap pseudo m key)) (sym get_key)
 
-  not_put_reply : (call : Call) (value : Option (List ℕ)) → (IsPut call → ⊥) → fin.get m (key_of call) ≡ value → page_reply full call value ≡ reply_of cap pseudo m call
-  not_put_reply (Get k) value not found = ap get_reply (sym found)
-  not_put_reply (Del k) value not found = ap del_reply (sym found)
-  not_put_reply (Put k v) value not found = absurd (not tt)
-
-  pub reply_is : page_reply full call (value_at (place_of_key pseudo key) records) ≡ reply_of cap pseudo m call
-  reply_is = elim (decide_put call) [
-    | inl put ↦ reply_alike call _ (λ absent. full_alike absent (at_limit call is.none absent put)) get_key
-    | inr not ↦ not_put_reply call _ not get_key
-  ]
+  pub reply_is : (effect_at full (pseudo key) call records).reply ≡ reply_of cap pseudo m call
+  reply_is = ap (λ (effect : Effect). effect.reply) effect_is

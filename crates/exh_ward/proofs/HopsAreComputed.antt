@@ -20,7 +20,6 @@ use Rattle.exh_calls.specs.MapMachine.{reply_of}
 use Rattle.exh_legal.specs.Pages.{IsHome, IsLegal, map_of}
 use Rattle.exh_ward.specs.HopTable.{overflows, hop_at, hop_of, IsReached, LeadsTo, Overflows, HopOf}
 use Rattle.exh_calls.specs.declared.call.Call.{Call}
-use Rattle.exh_calls.specs.declared.call.Call.TheVariants.{Get, Put, Del}
 use Rattle.exh_ward.specs.declared.hop.Hop.{Hop}
 use Rattle.exh_ward.specs.declared.hop.Hop.TheVariants.{Done, Moved, MustSplit, Stray}
 
@@ -40,19 +39,16 @@ key_absent None is = refl
 key_absent (Some x) is = cc
 
 pub overflows-true : (cap : ℕ) (m : KeyMap) (page : Page) (call : Call) → Overflows cap m page call → overflows cap m page call ≡ true
-overflows-true cap m (Live prefix right records) (Put key value) over =
-    rw (no_key m key over.0, le-leb cap (length records) over.1, le-leb (suc (length prefix)) LIMIT over.2) refl
-overflows-true cap m (Live prefix right records) (Get key) over = absurd over
-overflows-true cap m (Live prefix right records) (Del key) over = absurd over
+overflows-true cap m (Live prefix right records) call over =
+    rw (no_key m (key_of call) over.0, le-leb cap (length records) over.1, le-leb (suc (length prefix)) LIMIT over.2, over.3) refl
 overflows-true cap m (Forward low target) call over = absurd over
 
 pub Overflows-from_test : (cap : ℕ) (m : KeyMap) (page : Page) (call : Call) → overflows cap m page call ≡ true → Overflows cap m page call
-Overflows-from_test cap m (Live prefix right records) (Put key value) is =
+Overflows-from_test cap m (Live prefix right records) call is =
     let first = and_true _ _ is in
     let second = and_true _ _ first.1 in
-    (key_absent (map.get m key) first.0, leb-true _ _ second.0, leb-true _ _ second.1)
-Overflows-from_test cap m (Live prefix right records) (Get key) is = cc
-Overflows-from_test cap m (Live prefix right records) (Del key) is = cc
+    let third = and_true _ _ second.1 in
+    (key_absent (map.get m (key_of call)) first.0, leb-true _ _ second.0, leb-true _ _ third.0, third.1)
 Overflows-from_test cap m (Forward low target) call is = cc
 
 no_overflow : (cap : ℕ) (m : KeyMap) (page : Page) (call : Call) → (Overflows cap m page call → ⊥) → overflows cap m page call ≡ false

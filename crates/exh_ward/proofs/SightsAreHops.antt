@@ -14,7 +14,6 @@ use Rattle.exh_ward.specs.PageAnswer.{OverflowsPage}
 use Rattle.exh_ward.specs.Sight.{SightOf, SightIn}
 use Rattle.exh_calls.specs.MapMachine.{reply_of}
 use Rattle.exh_calls.specs.declared.call.Call.{Call}
-use Rattle.exh_calls.specs.declared.call.Call.TheVariants.{Get, Put, Del}
 use Rattle.exh_ward.specs.declared.hop.Hop.TheVariants.{Done, MustSplit}
 use Rattle.exh_calls.specs.declared.reply.Reply.{Reply}
 use Rattle.exh_ward.specs.declared.ward.hop.sight.Sight.{Sight}
@@ -43,15 +42,11 @@ module _ {cap : ℕ} {pseudo : List ℕ → ℕ} {ward : List Bool} {pages : Lis
   -- an overflow by the page's records is one by the map
   pub over_by_map : (call : Call) (prefix : List Bool) (link : Option ℕ) (records : List Record) → IsAt pages at (Live prefix link records) → Begins prefix (pseudo (key_of call)) → OverflowsPage cap (pseudo (key_of call)) (Live prefix link records) call
       → Overflows cap (map_of pages) (Live prefix link records) call
-  over_by_map (Put key value) prefix link records is begins over = (get-map_of cap pseudo ward pages at _ key legal is begins ∙ over.2, over.0, over.1)
-  over_by_map (Get key) prefix link records is begins over = over
-  over_by_map (Del key) prefix link records is begins over = over
+  over_by_map call prefix link records is begins over = (get-map_of cap pseudo ward pages at _ (key_of call) legal is begins ∙ over.2, over.0, over.1, over.3)
 
   over_by_page : (call : Call) (prefix : List Bool) (link : Option ℕ) (records : List Record) → IsAt pages at (Live prefix link records) → Begins prefix (pseudo (key_of call)) → Overflows cap (map_of pages) (Live prefix link records) call
       → OverflowsPage cap (pseudo (key_of call)) (Live prefix link records) call
-  over_by_page (Put key value) prefix link records is begins over = (over.1, over.2, sym (get-map_of cap pseudo ward pages at _ key legal is begins) ∙ over.0)
-  over_by_page (Get key) prefix link records is begins over = over
-  over_by_page (Del key) prefix link records is begins over = over
+  over_by_page call prefix link records is begins over = (over.1, over.2, sym (get-map_of cap pseudo ward pages at _ (key_of call) legal is begins) ∙ over.0, over.3)
 
   pub hop_waits : SightIn cap (pseudo (key_of call)) pages at call MustWait → HopOf cap pseudo pages at call MustSplit
   hop_waits sight =

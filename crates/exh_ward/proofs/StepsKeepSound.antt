@@ -8,17 +8,16 @@ use Rattle.exh_page.specs.declared.page.Page.{Page}
 use Rattle.exh_page.specs.declared.page.Page.TheVariants.{Live}
 use Rattle.exh_page.specs.declared.record.Record.{Record}
 use Rattle.exh_page.specs.Page.{AreRecordsOf, IsWellFormed, with_records}
-use Rattle.exh_page.specs.Records.{value_at}
 use Rattle.exh_legal.specs.Growth.{IsGrown}
 use Rattle.exh_legal.specs.Fit.{FitsPages}
 use Rattle.exh_legal.specs.Laws.{IsWard}
 use Rattle.exh_legal.specs.BareLemmas.{bare_at}
-use Rattle.exh_legal.specs.MapLemmas.{place_of_key}
 use Rattle.exh_legal.specs.NoticeLemmas.{places_by_bare, still_true}
 use Rattle.exh_legal.specs.Pages.{map_of, IsAt, IsRightLink, AreLinked, bare}
 use Rattle.exh_calls.specs.Call.{key_of}
 use Rattle.exh_ward.specs.Kept.{IsKept}
 use Rattle.exh_calls.specs.MapMachine.{reply_of, map_after}
+use Rattle.exh_ward.specs.PageAnswer.{records_after}
 use Rattle.exh_ward.specs.PageIndex.{IndexMap, IsIndexOf}
 use Rattle.exh_ward.specs.WardState.{WardState, IsSound, own_prefix}
 use Rattle.exh_calls.specs.declared.call.Call.{Call}
@@ -26,7 +25,7 @@ use Rattle.exh_calls.specs.declared.journal_entry.JournalEntry.{JournalEntry}
 use Rattle.exh_calls.specs.declared.reply.Reply.{Reply}
 use Rattle.exh_calls.specs.HistoryLemmas.{IsHistory-push, map_left-push}
 use Rattle.exh_ward.proofs.HomeReplies.{AtHome, Fit}
-use Rattle.exh_ward.proofs.AnswersKeepLegal.{left_by, new_legal, new_map, same_bare}
+use Rattle.exh_ward.proofs.AnswersKeepLegal.{new_legal, new_map, same_bare}
 
 linked_fits : (pages : List Page) (page : Page) (link : Option ℕ) → length pages < 2 ^ 32 - 1 → IsRightLink (bare pages) page link → link ≡ Some (2 ^ 32 - 1) → ⊥
 linked_fits pages page None few is so = cc
@@ -75,7 +74,7 @@ module _ {K : Type 0} {pseudo : List ℕ → ℕ} {takes : Page → Type 0} {own
   -- a call was answered at its home
   module _ (fit : Fit pseudo) {at : ℕ} {prefix : List Bool} {link : Option ℕ} {records : List Record} {call : Call} (home : AtHome w.cap pseudo (own_prefix w) w.pages at prefix link records call) (client : ℕ) where
     abbrev left : List Record
-    left = left_by (pseudo (key_of call)) call (leb w.cap (length records)) (value_at (place_of_key pseudo (key_of call)) records) records
+    left = records_after (leb w.cap (length records)) (pseudo (key_of call)) call records
 
     abbrev new : List Page
     new = slice_set w.pages at (Live prefix link left)

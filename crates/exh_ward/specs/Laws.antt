@@ -80,4 +80,4 @@ abbrev pub AnswersKeepLegal : Type 0
 AnswersKeepLegal =
     (cap : ℕ) (pseudo : List ℕ → ℕ) (ward : List Bool) (pages : List Page) (at : ℕ) (call : Call) (reply : Reply)
     → ((key : List ℕ) → pseudo key < 2 ^ 64) → IsLegal cap pseudo ward pages → HopOf cap pseudo pages at call (Done reply)
-    → IsLegalAnswer cap pseudo ward pages call (pages_after pseudo pages at call reply)
+    → IsLegalAnswer cap pseudo ward pages call (pages_after cap pseudo pages at call)

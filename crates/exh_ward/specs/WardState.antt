@@ -58,7 +58,7 @@ notices_above n notices = filter (λ notice. nat_lt n notice.index) notices
 
 -- an answered call changed the records of its home, so that the map is the map machine's, and is one entry more
 pub record IsAnswered {K : Type 0} (pseudokey_of : K → List ℕ → ℕ) (old : WardState K) (at client : ℕ) (call : Call) (reply : Reply) (new : WardState K) : Type 0 where
-  pub pages : new.pages ≡ pages_after (pseudokey_of old.keyer) old.pages at call reply
+  pub pages : new.pages ≡ pages_after old.cap (pseudokey_of old.keyer) old.pages at call
   pub map : map_of new.pages ≡ map_after old.cap (pseudokey_of old.keyer) (map_of old.pages) call
   pub journal : new.journal ≡ old.journal ++ record { client = client; call = call; reply = reply } ∷ []
   pub others : new ≡ record old { pages = new.pages; journal = new.journal }

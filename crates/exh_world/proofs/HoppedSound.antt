@@ -1,6 +1,6 @@
 -- A world stays sound where a request hops, and no hop of a sound world strays.
 use Rattle.std.proofs.Common.{◌≡◌, ℕ, List, length, drop, slice_get, Option, None, Some, inl, inr, refl, sym, ap, ◌∙◌, subst, arith}
-use Rattle.std.specs.Prelude.{slice_set, ◌↔◌}
+use Rattle.std.specs.Prelude.{nat_le, slice_set, ◌↔◌}
 use Rattle.std.specs.Option.{option_map_or}
 use Rattle.std.proofs.lemmas.Bool.{cases_eq}
 use Rattle.exh_prefix.specs.Prefix.{Begins}
@@ -48,9 +48,9 @@ keeps_found : (pages : List Page) (at : ℕ) (records : Page → List Record) (f
 keeps_found pages at records None is = keeps_all pages
 keeps_found pages at records (Some page) is = keeps_set pages at page (records page) is
 
-pub keeps_answered : (pseudo : List ℕ → ℕ) (pages : List Page) (at : ℕ) (call : Call) (reply : Reply) → KeepsPlaces pages (pages_after pseudo pages at call reply)
+pub keeps_answered : (cap : ℕ) (pseudo : List ℕ → ℕ) (pages : List Page) (at : ℕ) (call : Call) → KeepsPlaces pages (pages_after cap pseudo pages at call)
 unfolding pages_after
-keeps_answered pseudo pages at call reply = keeps_found pages at (λ page. records_after (pseudo (key_of call)) call reply (records_of page)) (slice_get pages at) refl
+keeps_answered cap pseudo pages at call = keeps_found pages at (λ page. records_after (nat_le cap (length (records_of page))) (pseudo (key_of call)) call (records_of page)) (slice_get pages at) refl
 
 module _ {K : Type 0} (pseudokey_of : K → List ℕ → ℕ) (old : WorldState K) (sound : IsSoundWorld pseudokey_of old) (request : Request) (way : IsOnTheWay pseudokey_of old request) (before : WardState K) (found : slice_get old.wards request.ward ≡ Some before) where
   abbrev pub is_own : IsWardOf pseudokey_of old request.ward before
@@ -111,7 +111,7 @@ module _ {K : Type 0} (pseudokey_of : K → List ℕ → ℕ) (old : WorldState 
   -- where the call was answered
   module _ (left : WardState K) (reply : Reply) (client : ℕ) (answered : IsAnswered pseudokey_of before request.page client request.call reply left) (left_sound : IsSoundWard pseudokey_of left) where
     pub places : KeepsPlaces before.pages left.pages
-    places = subst (KeepsPlaces before.pages) (sym answered.pages) (keeps_answered (pseudokey_of before.keyer) before.pages request.page request.call reply)
+    places = subst (KeepsPlaces before.pages) (sym answered.pages) (keeps_answered before.cap (pseudokey_of before.keyer) before.pages request.page request.call)
 
     notices_are : left.notices ≡ before.notices
     notices_are = ap (λ (w : WardState K). w.notices) answered.others

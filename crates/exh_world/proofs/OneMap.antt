@@ -13,9 +13,9 @@ use Rattle.std.proofs.lemmas.Map.Lookups.{exact_bytes}
 use Rattle.exh_legal.specs.MapLemmas.{tie_of}
 use Rattle.exh_page.specs.KeyMap.{KeyMap}
 use Rattle.exh_calls.specs.Call.{key_of}
-use Rattle.exh_calls.specs.MapMachine.{leading, is_full, get_reply, put_reply, del_reply, put_leaves, reply_of, map_after}
+use Rattle.exh_calls.specs.Effect.{Change, Keep, Set, Remove, Effect, effect_of}
+use Rattle.exh_calls.specs.MapMachine.{leading, is_full, effect_in, changed, reply_of, map_after}
 use Rattle.exh_calls.specs.declared.call.Call.{Call}
-use Rattle.exh_calls.specs.declared.call.Call.TheVariants.{Get, Put, Del}
 
 -- the test by which a key counts
 abbrev pub shares : (List ℕ → ℕ) → List ℕ → List ℕ → Bool
@@ -85,10 +85,13 @@ module _ (cap : ℕ) (pseudo : List ℕ → ℕ) (whole own : KeyMap) where
   same_here : (key : List ℕ) → AreAlike pseudo whole own key → fin.get whole key ≡ fin.get own key
   same_here key alike = alike key (own_shares key)
 
+  same_effect : (call : Call) → AreAlike pseudo whole own (key_of call) → effect_in cap pseudo whole call ≡ effect_in cap pseudo own call
+  same_effect call alike =
+      ap (effect_of call (is_full cap pseudo whole (key_of call))) (same_here (key_of call) alike)
+      ∙ ap (λ full. effect_of call full (fin.get own (key_of call))) (same_full (key_of call) alike)
+
   pub same_reply : (call : Call) → AreAlike pseudo whole own (key_of call) → reply_of cap pseudo whole call ≡ reply_of cap pseudo own call
-  same_reply (Get key) alike = ap get_reply (same_here key alike)
-  same_reply (Del key) alike = ap del_reply (same_here key alike)
-  same_reply (Put key value) alike = ap (put_reply (is_full cap pseudo whole key)) (same_here key alike) ∙ ap (λ full. put_reply full (fin.get own key)) (same_full key alike)
+  same_reply call alike = ap (λ (effect : Effect). effect.reply) (same_effect call alike)
 
   -- what isn't changed is the same, at the call's key by the part
   unchanged : (key other : List ℕ) → AreAlike pseudo whole own key → (tied : Bool) → eq_by_cmp (slice_cmp nat_cmp) other key ≡ tied → fin.get whole other ≡ cond tied (fin.get own other) (fin.get whole other)
@@ -106,22 +109,18 @@ module _ (cap : ℕ) (pseudo : List ℕ → ℕ) (whole own : KeyMap) where
       ∙ shadowed (eq_by_cmp (slice_cmp nat_cmp) other key) (Some value) (fin.get own other) (fin.get whole other)
       ∙ ap (λ found. cond (eq_by_cmp (slice_cmp nat_cmp) other key) found (fin.get whole other)) (sym (fin.get-insert nat_list_cmp_total own key value other))
 
-  left_put : (key value other : List ℕ) (full : Bool) (found : Option (List ℕ)) → AreAlike pseudo whole own key
-      → fin.get (put_leaves full found whole (fin.insert whole key value)) other
-      ≡ cond (eq_by_cmp (slice_cmp nat_cmp) other key) (fin.get (put_leaves full found own (fin.insert own key value)) other) (fin.get whole other)
-  left_put key value other full (Some old) alike = inserted key value other
-  left_put key value other true None alike = unchanged key other alike _ refl
-  left_put key value other false None alike = inserted key value other
+  left_by_change : (change : Change) (key other : List ℕ) → AreAlike pseudo whole own key
+      → fin.get (changed change key whole) other ≡ cond (eq_by_cmp (slice_cmp nat_cmp) other key) (fin.get (changed change key own) other) (fin.get whole other)
+  left_by_change Keep key other alike = unchanged key other alike _ refl
+  left_by_change (Set value) key other alike = inserted key value other
+  left_by_change Remove key other alike =
+      fin.get-remove nat_list_cmp_total whole key other
+      ∙ shadowed (eq_by_cmp (slice_cmp nat_cmp) other key) None (fin.get own other) (fin.get whole other)
+      ∙ ap (λ found. cond (eq_by_cmp (slice_cmp nat_cmp) other key) found (fin.get whole other)) (sym (fin.get-remove nat_list_cmp_total own key other))
 
   -- after a call each key has what it had, but the call's key what the part has then
   pub left_by_call : (call : Call) (other : List ℕ) → AreAlike pseudo whole own (key_of call)
       → fin.get (map_after cap pseudo whole call) other ≡ cond (eq_by_cmp (slice_cmp nat_cmp) other (key_of call)) (fin.get (map_after cap pseudo own call) other) (fin.get whole other)
-  left_by_call (Get key) other alike = unchanged key other alike _ refl
-  left_by_call (Del key) other alike =
-      fin.get-remove nat_list_cmp_total whole key other
-      ∙ shadowed (eq_by_cmp (slice_cmp nat_cmp) other key) None (fin.get own other) (fin.get whole other)
-      ∙ ap (λ found. cond (eq_by_cmp (slice_cmp nat_cmp) other key) found (fin.get whole other)) (sym (fin.get-remove nat_list_cmp_total own key other))
-  left_by_call (Put key value) other alike =
-      ap (λ found. fin.get (put_leaves (is_full cap pseudo whole key) found whole (fin.insert whole key value)) other) (same_here key alike)
-      ∙ ap (λ full. fin.get (put_leaves full (fin.get own key) whole (fin.insert whole key value)) other) (same_full key alike)
-      ∙ left_put key value other (is_full cap pseudo own key) (fin.get own key) alike
+  left_by_call call other alike =
+      ap (λ (effect : Effect). fin.get (changed effect.change (key_of call) whole) other) (same_effect call alike)
+      ∙ left_by_change (effect_in cap pseudo own call).change (key_of call) other alike

@@ -50,7 +50,7 @@ begun world name request = (Ok (Begun request.ward request.page), record world {
 -- an answer is written into the pages and the journal
 abbrev pub ward_after_hop : {K : Type 0} → (K → List ℕ → ℕ) → WardState K → Request → Hop → WardState K
 ward_after_hop pseudokey_of ward request (Done reply) = record ward {
-  pages = pages_after (pseudokey_of ward.keyer) ward.pages request.page request.call reply;
+  pages = pages_after ward.cap (pseudokey_of ward.keyer) ward.pages request.page request.call;
   journal = ward.journal ++ record { client = request.client; call = request.call; reply = reply } ∷ [];
 }
 ward_after_hop pseudokey_of ward request hop = ward

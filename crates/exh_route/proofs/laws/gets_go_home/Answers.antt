@@ -11,7 +11,7 @@ use Rattle.exh_route.proofs.GoHome.{ends_at_home}
 use Rattle.exh_route.proofs.laws.gets_go_home.Goals as goal
 
 get_fits : (cap : ℕ) (m : KeyMap) (page : Page) (key : List ℕ) → Overflows cap m page (Get key) → ⊥
-get_fits cap m (Live prefix right records) key over = over
+get_fits cap m (Live prefix right records) key over = let set = over.3 in cc
 get_fits cap m (Forward low target) key over = over
 
 moves_of_other : (cap : ℕ) (pseudo : List ℕ → ℕ) (pages : List Page) (from : ℕ) (call other : Call) (moves : List ℕ) (to : ℕ)

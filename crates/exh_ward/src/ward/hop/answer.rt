@@ -18,9 +18,9 @@ pub(crate) fn answer<P: Pages>(
 ) -> Result<Reply, PagesFault>
     requires there { at < length (P.pages store.old) }
     requires live { IfPage (P.pages store.old) at IsLive }
-    requires taken { IfPage (P.pages store.old) at (λ page. P.takes store.old (with_records (records_after pseudokey call.now (reply_by full pseudokey call.now page) (records_of page)) page)) }
+    requires taken { IfPage (P.pages store.old) at (λ page. P.takes store.old (with_records (records_after full pseudokey call.now (records_of page)) page)) }
     ensures reply { IfOk result (λ reply. IfPage (P.pages store.old) at (λ page. reply ≡ reply_by full pseudokey call.now page)) }
-    ensures pages { IfOk result (λ reply. IfPage (P.pages store.old) at (λ page. P.pages store.new ≡ slice_set (P.pages store.old) at (with_records (records_after pseudokey call.now reply (records_of page)) page))) }
+    ensures pages { IfOk result (λ _. IfPage (P.pages store.old) at (λ page. P.pages store.new ≡ slice_set (P.pages store.old) at (with_records (records_after full pseudokey call.now (records_of page)) page))) }
     ensures err { OnErr result (P.pages store.new ≡ P.pages store.old) }
     ensures failures { CountsFaults result (P.failures store.old) (P.failures store.new) }
     ensures takes { TakesTheSame P.takes store.old store.new }

@@ -61,14 +61,12 @@ fn overflows(page: &Page, cap: usize, pseudokey: u64, call: &Call) -> bool
             prefix,
             records,
             ..
-        } => match call {
-            Call::Put { key, .. } => {
-                records.len() >= cap
-                    && prefix.len() < LIMIT
-                    && records.find(pseudokey, key).is_none()
-            }
-            Call::Get { .. } | Call::Del { .. } => false,
-        },
+        } => {
+            records.len() >= cap
+                && prefix.len() < LIMIT
+                && call.sets_new()
+                && records.find(pseudokey, call.key()).is_none()
+        }
         Page::Forward { .. } => false,
     }
 }

@@ -29,7 +29,7 @@ invariant_of-self-2 g c =
     let entry : JournalEntry = record { client = c.args.client; call = c.args.call.now; reply = c.in_ok-reply.reply } in
     let pushed = c.push_reserved.ensures ∙ ap (λ entries. entries ++ entry ∷ []) c.reserve.ensures.entries in
     kept_answered c.self.invariant _ c.answer.ensures.takes fit answers.home c.args.client c.in_ok-reply.reply is_reply _ _ _
-    (pages_are fit c.self.invariant answers c.in_ok-reply.reply _ c.in_ok-reply.ensures.reply c.in_ok-reply.ensures.pages) pushed
+    (pages_are fit c.self.invariant answers _ c.in_ok-reply.ensures.pages) pushed
 
 pub returns-clause-hop : goal.returns-clause-hop
 returns-clause-hop g c =
@@ -47,7 +47,7 @@ returns-clause-leaves g c =
     let answers = answers_here pseudokey_of c.self.view_is c.self.invariant c.args.at c.args.call.now c.args.pseudokey c.args.full c.requires.hashed c.requires.home in
     let entry : JournalEntry = record { client = c.args.client; call = c.args.call.now; reply = c.in_ok-reply.reply } in
     let pushed = c.push_reserved.ensures ∙ ap (λ entries. entries ++ entry ∷ []) c.reserve.ensures.entries in
-    answered_seen pseudokey_of c.self.view_is fit c.self.invariant answers c.args.client c.in_ok-reply.reply _ _ _ c.in_ok-reply.ensures.reply c.in_ok-reply.ensures.pages pushed c.in_ok-reply.ensures.failures
+    answered_seen pseudokey_of c.self.view_is fit c.self.invariant answers c.args.client c.in_ok-reply.reply _ _ _ c.in_ok-reply.ensures.pages pushed c.in_ok-reply.ensures.failures
 
 pub returns-clause-sound : goal.returns-clause-sound
 returns-clause-sound g c = (invariant_of-self-2 g c).sound
