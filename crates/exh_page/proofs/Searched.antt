@@ -1,5 +1,5 @@
 -- Where a search of rising records stops.
-use Rattle.std.proofs.Common.{◌≡◌, ℕ, ◌+◌, ◌<◌, ◌≤◌, Bool, true, false, List, [], ◌∷◌, ◌++◌, length, take, drop, get_or, set, insert, remove, slice_get, None, Some, IfSome, refl, sym, ap, ◌∙◌, subst, arith}
+use Rattle.std.proofs.Common.{◌≡◌, ℕ, ◌+◌, ◌<◌, ◌≤◌, Bool, true, false, List, [], ◌∷◌, ◌++◌, length, take, drop, get_or, set, insert, slice_get, None, Some, IfSome, refl, sym, ap, ◌∙◌, subst, arith}
 use Rattle.std.specs.declared.cmp.Ordering.TheVariants.{Less, Equal, Greater}
 use Rattle.std.specs.List.{All}
 use Rattle.std.specs.Ordering.{is_lt}
@@ -10,10 +10,10 @@ use Rattle.std.proofs.lemmas.Option.{slice_get_read}
 use Rattle.std.proofs.Math.Numerals.{suc-eq-add-one}
 use Rattle.exh_page.specs.declared.record.Record.{Record}
 use Rattle.exh_page.specs.Place.{Place, place_cmp, place_of}
-use Rattle.exh_page.specs.Records.{IsRising, value_at, with_record, without_place}
+use Rattle.exh_page.specs.Records.{IsRising, value_at, with_record}
 use Rattle.exh_page.specs.PackedRecords.{text_of}
 use Rattle.exh_page.specs.Page.{begun_by}
-use Rattle.exh_page.specs.RecordsLemmas.{place_cmp-exact, AllBefore, AllAfter, IsRising-drop, IsRising-filter, IsRising-with_record, after_later, value_at-cut, with_record-cut, without_place-cut}
+use Rattle.exh_page.specs.RecordsLemmas.{place_cmp-exact, AllBefore, AllAfter, IsRising-drop, IsRising-filter, IsRising-with_record, after_later, value_at-cut, with_record-cut}
 use Rattle.exh_page.specs.Search.{IsFound, IsGap}
 
 -- the records from i on, of which the first is x
@@ -84,13 +84,6 @@ set_found {searched} {records} {i} item found same =
 pub insert_gap : {searched records : List Record} {i : ℕ} (item : Record) → IsGap (place_of item) searched i → searched ≡ records → insert searched i item ≡ with_record item records
 insert_gap {searched} {records} {i} item gap same = sym (with_record-cut item searched _ _ _ gap.cut) ∙ ap (with_record item) same
 
-pub remove_found : {place : Place} {searched records : List Record} {i : ℕ} → IsFound place searched i → searched ≡ records → remove searched i ≡ without_place place records
-remove_found {place} {searched} {records} {i} found same =
-    ap (λ n. take i searched ++ drop n searched) (suc-eq-add-one i) ∙ sym (without_place-cut place searched _ _ _ found.cut) ∙ ap (without_place place) same
-
-pub same_at_gap : {place : Place} {searched records : List Record} {i : ℕ} → IsGap place searched i → searched ≡ records → records ≡ without_place place records
-same_at_gap {place} {searched} {records} {i} gap same = sym same ∙ gap.cut.whole ∙ sym (without_place-cut place searched _ _ _ gap.cut) ∙ ap (without_place place) same
-
 -- ---- where memory was refused, the value was longer than the one that it was to replace, or there was none
 
 longer : (item : Record) {searched : List Record} {i : ℕ} → IsFound (place_of item) searched i → IfSome (slice_get searched i) (λ r. length (text_of item) ≤ length (text_of r) → false ≡ true)
@@ -116,9 +109,6 @@ refused_at_gap item {searched} {records} {i} P gap same = subst (λ o. IfSome o 
 
 pub rising_with : (item : Record) (records left : List Record) → left ≡ with_record item records → IsRising records → IsRising left
 rising_with item records left is rising = subst IsRising (sym is) (IsRising-with_record item records rising)
-
-pub rising_without : (place : Place) (records left : List Record) → left ≡ without_place place records → IsRising records → IsRising left
-rising_without place records left is rising = subst IsRising (sym is) (IsRising-filter _ records rising)
 
 pub rising_begun : (prefix : List Bool) (records found : List Record) → found ≡ begun_by prefix records → IsRising records → IsRising found
 rising_begun prefix records found is rising = subst IsRising (sym is) (IsRising-filter _ records rising)

@@ -1,5 +1,5 @@
 -- A table as its map of entries shows it.
-use Rattle.std.proofs.Common.{◌≡◌, Bool, cond, List, [], ◌∷◌, Option, Some, None, refl, sym, ap, subst, ◌∙◌, IsSome}
+use Rattle.std.proofs.Common.{◌≡◌, Bool, true, false, cond, List, [], ◌∷◌, Option, Some, None, refl, sym, ap, subst, ◌∙◌, IsSome}
 use Rattle.std.specs.BTreeMap.{BTreeMap, is_at, Updates}
 use Rattle.std.specs.Cmp.{eq_by_cmp_equiv}
 use Rattle.std.specs.FinMap.{from_entries, entries, get, insert, remove, get-from_entries, get-insert, get-remove, same_map, empty, len-entries, len-empty, entries-insert}
@@ -39,6 +39,20 @@ seen_at m n k w changes q =
 
 pub insert_seen : (m n : BTreeMap (List Bool) Entry) (k : List Bool) (v : Entry) → Updates prefix_cmp m n k (Some v) → from_entries {R = prefix_cmp} n.entries ≡ insert (from_entries m.entries) k v
 insert_seen m n k v changes = same_map prefix_cmp-total prefix_cmp-exact _ _ (λ q. seen_at m n k (Some v) changes q ∙ sym (get-insert prefix_cmp-total (from_entries m.entries) k v q))
+
+either : {X : Type 0} (b : Bool) (w x v y : X) → x ≡ cond b v y → cond b w x ≡ cond b w y
+either true w x v y is = refl
+either false w x v y is = is
+
+-- an entry that was put there stands there, and the last one counts
+pub insert_there : (m : TableMap) (k : List Bool) (v : Entry) → get (insert m k v) k ≡ Some v
+insert_there m k v = get-insert prefix_cmp-total m k v k ∙ ap (λ b. cond b (Some v) (get m k)) ((eq_by_cmp_equiv prefix_cmp-total).refl k)
+
+pub insert_twice : (m : TableMap) (k : List Bool) (v w : Entry) → insert (insert m k v) k w ≡ insert m k w
+insert_twice m k v w = same_map prefix_cmp-total prefix_cmp-exact _ _ (λ q.
+    get-insert prefix_cmp-total (insert m k v) k w q
+    ∙ either (eq_by_cmp prefix_cmp q k) (Some w) (get (insert m k v) q) (Some v) (get m q) (get-insert prefix_cmp-total m k v q)
+    ∙ sym (get-insert prefix_cmp-total m k w q))
 
 pub remove_seen : (m n : BTreeMap (List Bool) Entry) (k : List Bool) → Updates prefix_cmp m n k None → from_entries {R = prefix_cmp} n.entries ≡ remove (from_entries m.entries) k
 remove_seen m n k changes = same_map prefix_cmp-total prefix_cmp-exact _ _ (λ q. seen_at m n k None changes q ∙ sym (get-remove prefix_cmp-total (from_entries m.entries) k q))

@@ -1,4 +1,4 @@
-ghost use Rattle.std.specs.Prelude.{◌≡◌, None, IsSome, IfOk, OnOk, OnErr};
+ghost use Rattle.std.specs.Prelude.{◌≡◌, None, IsSome, IfOk, MatchOption, OnOk, OnErr};
 ghost use Rattle.std.specs.FinMap as map;
 ghost use Rattle.exh_table.specs.Table.{table_with, table_at, raised, greater_of};
 
@@ -75,10 +75,15 @@ impl Table {
         ensures err { OnErr result (self.new ≡ self.old) }
         ensures absent { OnErr result (map.get self.old prefix ≡ None) }
     {
-        let stood = self.get(prefix);
-        let greater = greater_of(stood, entry);
-        self.entries.insert(prefix, greater)?;
-        Ok(stood)
+        let stood = self.entries.insert(prefix, entry)?;
+        match kept_from(stood, entry) {
+            None => Ok(stood),
+            // Told late: what stood there counts on.
+            Some(greater) => {
+                self.put_back(prefix, Some(greater));
+                Ok(stood)
+            }
+        }
     }
 
     /// Puts the given entry, or none, where one stands. It takes no memory.
@@ -99,12 +104,12 @@ impl Table {
     }
 }
 
-// The greater of an entry and what stood at its prefix.
-fn greater_of(stood: Option<Entry>, entry: Entry) -> Entry
-    ensures { result ≡ greater_of stood entry }
+// What stood at a prefix, where an entry doesn't replace it.
+fn kept_from(stood: Option<Entry>, entry: Entry) -> Option<Entry>
+    ensures { MatchOption result (greater_of stood entry ≡ entry) (λ old. greater_of stood entry ≡ old) }
 {
     match stood {
-        Some(old) if old >= entry => old,
-        _ => entry,
+        Some(old) if old >= entry => Some(old),
+        _ => None,
     }
 }

@@ -1,4 +1,4 @@
-use Rattle.std.proofs.Common.{◌+◌, ap, length, arith}
+use Rattle.std.proofs.Common.{◌+◌, arith}
 use Rattle.exh_page.specs.PackedRecords.{ArePacked}
 use Rattle.exh_page.proofs.PackedReads.{as_many, packed_as, start_inside}
 use Rattle.exh_page.proofs.PackedEdits.{ended_at}

@@ -1,4 +1,4 @@
-use Rattle.std.proofs.Common.{ap, ◌∙◌}
+use Rattle.std.proofs.Common.{◌∙◌}
 use Rattle.exh_page.proofs.PackedReads.{kept_read, packed_as, part_inside, this_read, value_part, value_part_fits}
 use Rattle.exh_page.proofs.packed_records.PackedRecords.value.Goals as goal
 

@@ -1,4 +1,4 @@
-use Rattle.std.proofs.Common.{refl, sym, subst, ap, ◌∙◌, length}
+use Rattle.std.proofs.Common.{refl, sym, subst, ◌∙◌}
 use Rattle.exh_page.specs.Place.{place_of}
 use Rattle.exh_page.specs.Search.{IsFound, IsGap, IsSought}
 use Rattle.exh_page.specs.declared.record.Record.{Record}
