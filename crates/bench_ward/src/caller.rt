@@ -45,7 +45,9 @@ impl Caller {
         self.directory.walk(pseudokey)
     }
 
-    /// Makes a call, from the page that the table names.
+    /// Makes a call, from the page that the table names. It is kept a function of its own, so that its
+    /// instructions can be counted.
+    #[inline(never)]
     pub(crate) fn call(&mut self, call: &Call) -> anyhow::Result<Reply> {
         let pseudokey = self.keyer.pseudo(call.key().as_bytes());
         let at = self.directory.walk(pseudokey);

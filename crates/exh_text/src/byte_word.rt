@@ -6,7 +6,7 @@ ghost use Rattle.exh_text.specs.ByteWord.{bytes_of_word, hex_digit, hex_bytes, k
 ghost use Rattle.exh_text.specs.LineFault.{ranged};
 
 use crate::LineFault;
-use exh_page::{Key, VALUE_LIMIT, Value};
+use exh_page::{KEY_LIMIT, Key, VALUE_LIMIT, Value};
 use std::marker::Model;
 
 /// A word that stands for bytes, however many: a word of bytes 21 to 7e that doesn't begin with `#`, or `#` and
@@ -51,10 +51,14 @@ impl<'a> ByteWord<'a> {
     }
 
     /// The key of these bytes, `None` where there are none or more than 64. It takes no memory.
+    #[tactic(auto, using(crate::proofs::ByteWords::word_cases))]
     pub fn key(&self) -> Option<Key>
         ensures { SomeIff result ((1 ≤ length self.now) × (length self.now ≤ KEY_LIMIT)) self.now }
     {
-        Key::from_bytes(self.value()?.as_bytes()).ok()
+        match self.word {
+            [b'#', digits @ ..] => decode_hex_key(digits),
+            word => Key::from_bytes(word).ok(),
+        }
     }
 }
 
@@ -115,6 +119,20 @@ fn decode_hex(digits: &[u8]) -> Option<Value>
     }
     decode_into(digits, &mut bytes[..len]);
     Value::from_bytes(&bytes[..len]).ok()
+}
+
+// The key of lower-case hexadecimal digits, `None` where they spell no bytes or more than 64.
+fn decode_hex_key(digits: &[u8]) -> Option<Key>
+    requires { IsSome (hex_bytes digits.now) }
+    ensures { let bytes = unwrap_or (hex_bytes digits.now) [] in SomeIff result ((1 ≤ length bytes) × (length bytes ≤ KEY_LIMIT)) bytes }
+{
+    let mut bytes = [0; KEY_LIMIT];
+    let len = digits.len() / 2;
+    if len > KEY_LIMIT {
+        return None;
+    }
+    decode_into(digits, &mut bytes[..len]);
+    Key::from_bytes(&bytes[..len]).ok()
 }
 
 // Writes the bytes that lower-case hexadecimal digits spell.

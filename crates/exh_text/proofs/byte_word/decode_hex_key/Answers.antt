@@ -1,0 +1,15 @@
+use Rattle.std.proofs.Common.{◌≡◌, ◌/◌, [], length, unwrap_or, ℕ, refl, arith}
+use Rattle.std.proofs.lemmas.Grind.{common_steps}
+use Rattle.exh_text.specs.ByteWord.{hex_bytes}
+use Rattle.exh_text.proofs.Hexadecimal.{decode_sized-hex_bytes, decoded_into}
+use Rattle.exh_text.proofs.byte_word.decode_hex_key.Goals as goal
+
+pub returns-then-len-gt-KEY_LIMIT : goal.returns-then-len-gt-KEY_LIMIT
+returns-then-len-gt-KEY_LIMIT c =
+    let read = decode_sized-hex_bytes c.args.digits.now (length c.args.digits.now / 2) c.requires refl in
+    λ within. omega (arith, within.1, read.1)
+
+pub returns : goal.returns
+returns c =
+    let read = decode_sized-hex_bytes c.args.digits.now (length c.args.digits.now / 2) c.requires refl in
+    grind (arith, common_steps, read.1)
