@@ -223,9 +223,14 @@ impl PackedRecords {
     pub(crate) fn followed_by(&self, others: &PackedRecords) -> Result<PackedRecords, AllocError>
         ensures { IfOk result (λ records. records ≡ self.now ++ others.now) }
     {
-        let mut stored = self.stored.clone()?;
-        let mut texts = self.texts.clone()?;
+        let alloc = *self.stored.allocator();
+        let count = self.stored.len().saturating_add(others.stored.len());
+        let len = self.texts.len().saturating_add(others.texts.len());
+        let mut stored = Vec::with_capacity(alloc, count)?;
+        let mut texts = Vec::with_capacity(alloc, len)?;
+        stored.extend_from_slice(&self.stored)?;
         stored.extend_from_slice(&others.stored)?;
+        texts.extend_from_slice(&self.texts)?;
         texts.extend_from_slice(&others.texts)?;
         Ok(PackedRecords { stored, texts })
     }
