@@ -13,3 +13,5 @@ mod file_fault;
 mod header;
 mod laws;
 mod table_block;
+#[cfg(test)]
+mod tests;
