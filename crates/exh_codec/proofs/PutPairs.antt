@@ -1,8 +1,7 @@
 -- Pairs that are written one after the other.
-use Rattle.std.proofs.Common.{◌≡◌, ℕ, ◌+◌, ◌-◌, ◌≤◌, List, [], ◌∷◌, ◌++◌, length, take, drop, set, replicate, refl, sym, ap, ◌∙◌, append_assoc, append-nil, arith}
+use Rattle.std.proofs.Common.{◌≡◌, ℕ, ◌+◌, ◌-◌, ◌≤◌, List, [], ◌∷◌, ◌++◌, length, take, drop, set, refl, sym, ap, ◌∙◌, append_assoc, append-nil, arith}
 use borrow.Rule.Slice.PartMut.{put_mid}
-use Rattle.std.proofs.lemmas.List.{take_all, take_at, drop_at, drop_all, drop-drop, drop-replicate, take-replicate, length-append}
-use Rattle.std.proofs.Math.Seq.{take-append-add}
+use Rattle.std.proofs.lemmas.List.{take_all, take_at, drop_at, drop_all, drop-drop, length-append}
 use Rattle.exh_codec.specs.Cells.{Pair, pair_image}
 
 pub length-pair_image : (pair : Pair) → length (pair_image pair) ≡ 2 + length pair.0 + length pair.1
@@ -43,23 +42,3 @@ put_behind block head image new n k len room is =
     ap (λ (front : List ℕ). front ++ (new ++ drop k (drop n (head ++ rest)))) taken
     ∙ ap (λ (back : List ℕ). head ++ (new ++ back)) none ∙ ap (λ (back : List ℕ). head ++ back) (append-nil new ∙ part)
     ∙ sym (append_assoc head image (drop (length image) rest)) ∙ ap (λ (back : List ℕ). (head ++ image) ++ back) end
-
--- bytes that are written over zeros
-pub front_padded : (used : List ℕ) (content whole : ℕ) → length used ≤ content → content ≤ whole
-    → take content (used ++ drop (length used) (replicate whole 0)) ≡ used ++ replicate (content - length used) 0
-front_padded used content whole fits room =
-    let zeros : drop (length used) (replicate {A = ℕ} whole 0) ≡ replicate {A = ℕ} (whole - length used) 0 = drop-replicate {X = ℕ} (length used) whole 0 in
-    let some : content ≡ length used + (content - length used) = omega (arith, fits) in
-    ap (λ (back : List ℕ). take content (used ++ back)) zeros
-    ∙ ap (λ (n : ℕ). take n (used ++ replicate (whole - length used) 0)) some
-    ∙ take-append-add used (replicate (whole - length used) 0) (content - length used)
-    ∙ ap (λ (back : List ℕ). used ++ back) (take-replicate (content - length used) (whole - length used) 0 (omega (arith, room)))
-
-pub back_padded : (used : List ℕ) (content whole : ℕ) → length used ≤ content → content ≤ whole
-    → drop content (used ++ drop (length used) (replicate whole 0)) ≡ replicate (whole - content) 0
-back_padded used content whole fits room =
-    let some : content ≡ length used + (content - length used) = omega (arith, fits) in
-    let split : drop content (used ++ drop (length used) (replicate whole 0)) ≡ drop (content - length used) (drop (length used) (used ++ drop (length used) (replicate whole 0))) =
-    ap (λ (n : ℕ). drop n (used ++ drop (length used) (replicate whole 0))) some ∙ sym (drop-drop (content - length used) (length used) _) in
-    split ∙ ap (drop (content - length used)) (drop_at used (drop (length used) (replicate whole 0)) (length used) refl)
-    ∙ drop-drop (content - length used) (length used) (replicate whole 0) ∙ ap (λ (n : ℕ). drop n (replicate whole 0)) (sym some) ∙ drop-replicate content whole 0

@@ -77,8 +77,8 @@ fn read_content<K: Keyer>(
     }
 }
 
-// Whether all bytes are zero. There is no branch for a byte, so that many are tested at once.
-fn are_zero(bytes: &[u8]) -> bool
+/// Whether all bytes are zero. There is no branch for a byte, so that many are tested at once.
+pub fn are_zero(bytes: &[u8]) -> bool
     ensures { IsTrue result ↔ AreZero bytes.now }
 {
     let mut set = 0;

@@ -3,7 +3,7 @@
 #![tactic(auto)]
 
 pub use block::{BLOCK_LEN, CONTENT_LEN, is_sealed, seal};
-pub use decode::{decode_content, decode_page};
+pub use decode::{are_zero, decode_content, decode_page};
 pub use encode::{encode_page, lay_out};
 pub use image_fault::ImageFault;
 pub use laws::{images_are_sealed, images_pass, one_image, one_page};

@@ -1,7 +1,7 @@
 use Rattle.exh_prefix.specs.Version.{first_version}
 use Rattle.std.proofs.Common.{◌∙◌, ap, take, drop, arith}
 use Rattle.exh_codec.specs.PageImage.{content_of, used_of}
-use Rattle.exh_codec.proofs.PutPairs.{front_padded, back_padded}
+use Rattle.exh_codec.specs.BlockLemmas.{front_padded, back_padded}
 use Rattle.exh_codec.proofs.UsedBytes.{length-used_of}
 use Rattle.exh_codec.proofs.encode.lay_out.Goals as goal
 

@@ -1,0 +1,6 @@
+pub mod Elements
+pub mod HeaderBytes
+pub mod HeaderPassed
+pub mod TableBytes
+pub mod Rising
+pub mod TablePassed

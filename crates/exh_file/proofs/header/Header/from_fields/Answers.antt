@@ -1,0 +1,33 @@
+use Rattle.std.proofs.Common.{◌≡◌, ◌+◌, ◌*◌, ◌<◌, ℕ, length, slice_index, sym, ◌∙◌, subst, refl, arith}
+use Rattle.byteorder.specs.Endian.{big_from}
+use Rattle.exh_file.specs.FileVersion.{first_file}
+use Rattle.exh_file.specs.HeaderImage.{IsHeader}
+use Rattle.exh_file.proofs.HeaderBytes.{count_read, number_in, same_headers}
+use Rattle.exh_file.proofs.header.Header.from_fields.Goals as goal
+
+pub returns-then-is_in_range-clause-some : goal.returns-then-is_in_range-clause-some
+returns-then-is_in_range-clause-some c =
+    let entries : big_from 16 4 c.args.block.now ≡ c.read_u32.result = sym (c.read_u32.ensures ∙ number_in 16 4080 4 c.args.block.now (omega arith)) in
+    let sixteen : length c.read_u32_into.new.dst ≡ 16 = c.read_u32_into.auto.dst in
+    record {
+      cap = refl;
+      ward_bits = refl;
+      keyer = c.in_ok-keyer.ensures.some;
+      entries = entries;
+      counts = λ ward within. sym (c.read_u32_into.ensures ward (omega (arith, within, sixteen)) ∙ count_read c.args.block.now ward within);
+    }
+
+pub returns-else-is_in_range-clause-none : goal.returns-else-is_in_range-clause-none
+returns-else-is_in_range-clause-none c header read valid =
+    let entries : big_from 16 4 c.args.block.now ≡ c.read_u32.result = sym (c.read_u32.ensures ∙ number_in 16 4080 4 c.args.block.now (omega arith)) in
+    let sixteen : length c.read_u32_into.new.dst ≡ 16 = c.read_u32_into.auto.dst in
+    let same = same_headers c.args.block.now header _ valid.counts sixteen read (record {
+      cap = refl;
+      ward_bits = refl;
+      keyer = c.in_ok-keyer.ensures.some;
+      entries = entries;
+      counts = λ ward within. sym (c.read_u32_into.ensures ward (omega (arith, within, sixteen)) ∙ count_read c.args.block.now ward within);
+    }) in
+    let yes = c.is_in_range.ensures.1 (subst (IsHeader first_file) same valid) in
+    let no = c.if-is_in_range.false in
+    absurd cc

@@ -1,0 +1,9 @@
+pub mod FileVersion
+pub mod FirstFailing
+pub mod FileFault
+pub mod HeaderImage
+pub mod HeaderTests
+pub mod TableImage
+pub mod TableTests
+pub mod ReadEntries
+pub mod Laws

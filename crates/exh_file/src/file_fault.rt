@@ -1,0 +1,33 @@
+ghost use Rattle.std.specs.Prelude.{◌≡◌};
+ghost use Rattle.exh_file.specs.FileFault.{fault_number};
+
+use exh_codec::ImageFault;
+use thiserror::Error;
+
+/// Why bytes aren't a page file (exhash profile).
+#[derive(Clone, Copy, Debug, PartialEq, Eq, Error)]
+pub enum FileFault {
+    /// A block isn't the image that belongs at its place, the header's being 0: the number of its
+    /// fault, 30 to 35.
+    #[error("block {place}: {fault}")]
+    Block { place: u32, fault: ImageFault },
+    /// The file doesn't begin as a page file does: number 36.
+    #[error("the file doesn't begin as a page file does")]
+    Magic,
+    /// The file is of another version: number 37.
+    #[error("the page file is of another version")]
+    Version,
+}
+
+impl FileFault {
+    /// The refusal's number among all refusals (exhash profile).
+    pub fn number(self) -> u8
+        ensures { result ≡ fault_number self }
+    {
+        match self {
+            FileFault::Block { fault, .. } => fault.number(),
+            FileFault::Magic => 36,
+            FileFault::Version => 37,
+        }
+    }
+}

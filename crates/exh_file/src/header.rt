@@ -1,0 +1,235 @@
+ghost use Rattle.std.specs.Prelude.{◌≡◌, ◌≤◌, ◌-◌, ◌^◌, ◌↔◌, ◌++◌, ℕ, List, length, take, drop, slice_index, IsTrue, IfSome, IfNone, OnSome};
+ghost use Rattle.std.specs.Option.{SomeIff};
+ghost use Rattle.std.specs.List.{AllByRecursion};
+ghost use Rattle.exh_keyer.specs.declared.any_keyer.AnyKeyer.{AnyKeyer};
+ghost use Rattle.exh_file.specs.declared.header.TheConstants.{COUNTS_LEN};
+ghost use Rattle.exh_file.specs.HeaderImage.{IsPageCount, keyer_byte};
+ghost use Rattle.exh_file.specs.HeaderTests.{HasMagic};
+ghost use Rattle.exh_prefix.specs.Version.{first_version};
+
+use crate::FileFault;
+use byteorder::{BigEndian, ByteOrder};
+use exh_codec::{BLOCK_LEN, CONTENT_LEN, ImageFault, are_zero, is_sealed, seal};
+use exh_keyer::AnyKeyer;
+use exh_page::CAP_LIMIT;
+use exh_prefix::LIMIT;
+
+/// For how many wards a header counts pages (exhash profile).
+pub const COUNTS_LEN: usize = 16;
+
+/// How a page file begins (exhash profile).
+const MAGIC: [u8; 8] = *b"EXHASHPF";
+
+/// The number of the version that is written and read (exhash profile).
+const VERSION: u16 = 1;
+
+/// How many bytes of a header stand before the page counts (exhash profile).
+const FRONT_LEN: usize = 20;
+
+/// How many bytes of a header block say something (exhash profile).
+pub(crate) const HEADER_LEN: usize = FRONT_LEN + 4 * COUNTS_LEN;
+
+/// What the header block of a page file says (exhash profile).
+#[derive(Clone, Copy, Debug, PartialEq, Eq)]
+pub struct Header {
+    /// The most records of a page, 1 to 16.
+    pub cap: u8,
+    /// The logarithm of how many wards the file has, 0 to 4.
+    pub ward_bits: u8,
+    pub keyer: AnyKeyer,
+    /// How many entries the table has, 0 to 65,535.
+    pub entry_count: u32,
+    /// How many pages each ward has, ward 0 first: 1 to 2^(16 - `ward_bits`) for a ward of the file,
+    /// 0 for the others.
+    pub page_counts: [u32; COUNTS_LEN],
+}
+
+impl Header {
+    ghost use Rattle.std.specs.Prelude.{◌≡◌, ◌≤◌, ◌↔◌, ◌++◌, ℕ, List, length, drop, IsTrue, IfOk, IfErr, IfSome, IfNone, Ok};
+    ghost use Rattle.exh_file.specs.declared.header.TheConstants.{FRONT_LEN, HEADER_LEN};
+    ghost use Rattle.exh_file.specs.declared.header.Header.{Header as HeaderValue};
+    ghost use Rattle.exh_file.specs.FileVersion.{first_file};
+    ghost use Rattle.exh_file.specs.FirstFailing.{IsFirstFailing};
+    ghost use Rattle.exh_file.specs.HeaderImage.{IsHeader, IsHeaderImage, front_bytes, header_bytes};
+    ghost use Rattle.exh_file.specs.HeaderTests.{IsReadHeader, PassesHeader, header_tests};
+
+    /// Whether a page file may have this header: every field is in its range. It takes no memory.
+    pub fn is_in_range(&self) -> bool
+        ensures { IsTrue result ↔ IsHeader first_file self.now }
+    {
+        let Some(wards) = wards_of(self.ward_bits) else {
+            return false;
+        };
+        let (counts, others) = self.page_counts.split_at(wards);
+        1 <= self.cap
+            && self.cap as usize <= CAP_LIMIT
+            && self.entry_count < 1 << LIMIT
+            && are_page_counts(self.ward_bits, counts)
+            && are_none(others)
+    }
+
+    /// The header's block, its image in the first version of the page file. It takes no memory.
+    pub fn to_block(&self) -> [u8; BLOCK_LEN]
+        requires { IsHeader first_file self.now }
+        ensures { IsHeaderImage first_file self.now result }
+    {
+        let mut block = [0; BLOCK_LEN];
+        self.put(&mut block);
+        seal(&mut block);
+        block
+    }
+
+    /// The header that has this image in the first version. Where there is none, the fault is the
+    /// first of `Magic`, `Version` and, at place 0, `Digest`, `Length` (a field out of its range) and
+    /// `Padding` whose test the block fails, each test being over the whole block. It takes no memory.
+    pub fn from_block(block: &[u8; BLOCK_LEN]) -> Result<Header, FileFault>
+        ensures header { IfOk result (λ header. IsHeaderImage first_file header block.now) }
+        ensures every { (header : HeaderValue) → IsHeaderImage first_file header block.now → result ≡ Ok header }
+        ensures fault { IfErr result (IsFirstFailing (PassesHeader first_file block.now) header_tests) }
+    {
+        if !has_magic(block) {
+            return Err(FileFault::Magic);
+        }
+        if BigEndian::read_u16(&block[8..]) != VERSION {
+            return Err(FileFault::Version);
+        }
+        if !is_sealed(block) {
+            return Err(at_header(ImageFault::Digest));
+        }
+        let Some(header) = Header::from_fields(block) else {
+            return Err(at_header(ImageFault::Length));
+        };
+        if block[13] != 0
+            || block[14] != 0
+            || block[15] != 0
+            || !are_zero(&block[HEADER_LEN..CONTENT_LEN])
+        {
+            return Err(at_header(ImageFault::Padding));
+        }
+        Ok(header)
+    }
+
+    // Writes the header over the first bytes.
+    fn put(&self, block: &mut [u8])
+        requires len { HEADER_LEN ≤ length block.old }
+        requires counts { length self.now.page_counts ≡ COUNTS_LEN }
+        ensures { block.new ≡ header_bytes first_file self.now ++ drop HEADER_LEN block.old }
+    {
+        block[..FRONT_LEN].copy_from_slice(&self.front());
+        BigEndian::write_u32_into(&self.page_counts, &mut block[FRONT_LEN..HEADER_LEN]);
+    }
+
+    // The bytes before the page counts.
+    #[tactic(auto, unfolding(crate::specs::HeaderImage::front_bytes))]
+    fn front(&self) -> [u8; FRONT_LEN]
+        ensures { result ≡ front_bytes first_file self.now }
+    {
+        let mut bytes = [0; FRONT_LEN];
+        bytes[..8].copy_from_slice(&MAGIC);
+        BigEndian::write_u16(&mut bytes[8..], VERSION);
+        bytes[10] = self.cap;
+        bytes[11] = self.ward_bits;
+        bytes[12] = keyer_byte(self.keyer);
+        BigEndian::write_u32(&mut bytes[16..], self.entry_count);
+        bytes
+    }
+
+    // The header that the fields of a block say, `None` where one is out of its range.
+    fn from_fields(block: &[u8; BLOCK_LEN]) -> Option<Header>
+        ensures some { IfSome result (IsReadHeader block.now) }
+        ensures in_range { IfSome result (IsHeader first_file) }
+        ensures none { IfNone result ((header : HeaderValue) → IsReadHeader block.now header → IsHeader first_file header → ⊥) }
+    {
+        let keyer = keyer_of(block[12])?;
+        let mut page_counts = [0; COUNTS_LEN];
+        BigEndian::read_u32_into(&block[FRONT_LEN..HEADER_LEN], &mut page_counts);
+        let header = Header {
+            cap: block[10],
+            ward_bits: block[11],
+            keyer,
+            entry_count: BigEndian::read_u32(&block[16..]),
+            page_counts,
+        };
+        if header.is_in_range() {
+            Some(header)
+        } else {
+            None
+        }
+    }
+}
+
+// Whether a block begins as a page file does.
+fn has_magic(block: &[u8; BLOCK_LEN]) -> bool
+    ensures { IsTrue result ↔ HasMagic block.now }
+{
+    block[..8] == MAGIC[..]
+}
+
+// A fault of the header block, which is that of place 0.
+fn at_header(fault: ImageFault) -> FileFault
+    ensures { result ≡ FileFault.Block 0 fault }
+{
+    FileFault::Block { place: 0, fault }
+}
+
+fn keyer_byte(keyer: AnyKeyer) -> u8
+    ensures { result ≡ keyer_byte keyer }
+{
+    match keyer {
+        AnyKeyer::Sha => 1,
+        AnyKeyer::Plain => 2,
+    }
+}
+
+// The keyer of a byte, `None` where it is that of none.
+fn keyer_of(byte: u8) -> Option<AnyKeyer>
+    ensures some { IfSome result (λ keyer. byte ≡ keyer_byte keyer) }
+    ensures none { IfNone result ((keyer : AnyKeyer) → byte ≡ keyer_byte keyer → ⊥) }
+{
+    match byte {
+        1 => Some(AnyKeyer::Sha),
+        2 => Some(AnyKeyer::Plain),
+        _ => None,
+    }
+}
+
+// How many wards a file has, `None` where a header doesn't count so many.
+fn wards_of(ward_bits: u8) -> Option<usize>
+    ensures wards { SomeIff result (2 ^ ward_bits ≤ COUNTS_LEN) (2 ^ ward_bits) }
+    ensures few { OnSome result (ward_bits ≤ 4) }
+{
+    match ward_bits {
+        0 => Some(1),
+        1 => Some(2),
+        2 => Some(4),
+        3 => Some(8),
+        4 => Some(16),
+        _ => None,
+    }
+}
+
+// Whether each is the count of a ward's pages.
+fn are_page_counts(ward_bits: u8, counts: &[u32]) -> bool
+    requires { ward_bits ≤ 4 }
+    ensures { IsTrue result ↔ AllByRecursion (IsPageCount first_version.limit ward_bits) counts.now }
+{
+    let most = 1 << (LIMIT - ward_bits);
+    for count in counts {
+        if *count == 0 || *count > most {
+            return false;
+        }
+    }
+    true
+}
+
+// Whether all counts are 0.
+fn are_none(counts: &[u32]) -> bool
+    ensures { IsTrue result ↔ AllByRecursion (λ count. count ≡ 0) counts.now }
+{
+    for count in counts {
+        if *count != 0 {
+            return false;
+        }
+    }
+    true
+}

@@ -1,0 +1,17 @@
+//! The blocks of a page file that aren't pages: its header and its table, in the first version (exhash
+//! profile). Each value has exactly one image, and an image is that of one value.
+#![tactic(auto)]
+
+pub use file_entry::FileEntry;
+pub use file_fault::FileFault;
+pub use header::{COUNTS_LEN, Header};
+pub use laws::{images_pass, one_image, one_value};
+pub use table_block::{BLOCK_ENTRIES, decode_entries, encode_entries};
+
+mod file_entry;
+mod file_fault;
+mod header;
+mod laws;
+mod table_block;
+#[cfg(test)]
+mod tests;

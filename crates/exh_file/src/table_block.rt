@@ -1,0 +1,189 @@
+ghost use Rattle.std.specs.Prelude.{◌≡◌, ◌≢◌, ◌≤◌, ◌<◌, ◌*◌, ◌↔◌, ◌++◌, ℕ, List, length, drop, vec_len, [], ◌∷◌, IsTrue, IfOk, IfErr, OnOk, MatchResult};
+ghost use Rattle.std.specs.List.{AllByRecursion, flat_map};
+ghost use Rattle.std.specs.Option.{option_to_list};
+ghost use Rattle.exh_prefix.specs.declared.prefix.TheConstants.{LIMIT};
+ghost use Rattle.exh_prefix.specs.Version.{first_version};
+ghost use Rattle.exh_notice.specs.declared.entry_image.TheConstants.{ENTRY_IMAGE_LEN};
+ghost use Rattle.exh_notice.specs.declared.notice_fault.NoticeFault.{NoticeFault};
+ghost use Rattle.exh_notice.specs.Images.{right_field, FailsFirst};
+ghost use Rattle.exh_file.specs.declared.file_entry.FileEntry.{FileEntry as FileEntryValue};
+ghost use Rattle.exh_file.specs.declared.table_block.TheConstants.{BLOCK_ENTRIES};
+ghost use Rattle.exh_file.specs.TableImage.{AreEntries, AreRising, IsFileEntry, IsTableImage, image_of, prefixes_of};
+ghost use Rattle.exh_file.specs.ReadEntries.{FailsAtEntry, MayPrecede};
+ghost use Rattle.exh_file.specs.TableTests.{IsFirstFault, entry_fault};
+
+use crate::FileEntry;
+use exh_codec::{BLOCK_LEN, CONTENT_LEN, ImageFault, are_zero, is_sealed, seal};
+use exh_notice::{ENTRY_IMAGE_LEN, Entry, Kind, NoticeFault, PageNo};
+use exh_prefix::Prefix;
+use std::alloc::{AllocError, Global};
+use std::cmp::Ordering;
+
+/// The most entries of a table block (exhash profile).
+pub const BLOCK_ENTRIES: usize = CONTENT_LEN / ENTRY_IMAGE_LEN;
+
+/// The block of at most 254 entries, its image in the first version of the page file. It takes no
+/// memory.
+pub fn encode_entries(entries: &[FileEntry]) -> [u8; BLOCK_LEN]
+    requires few { length entries.now ≤ BLOCK_ENTRIES }
+    requires shorter { AllByRecursion (λ item. length item.prefix < LIMIT) entries.now }
+    ensures { IsTableImage first_version entries.now result }
+{
+    let mut block = [0; BLOCK_LEN];
+    put_entries(&mut block, entries);
+    seal(&mut block);
+    block
+}
+
+// Writes entries, one after the other, over the first bytes.
+fn put_entries(block: &mut [u8], entries: &[FileEntry])
+    requires room { ENTRY_IMAGE_LEN * length entries.now ≤ length block.old }
+    requires shorter { AllByRecursion (λ item. length item.prefix < LIMIT) entries.now }
+    ensures bytes { block.new ≡ flat_map (image_of first_version) entries.now ++ drop (ENTRY_IMAGE_LEN * length entries.now) block.old }
+    ensures valid { AllByRecursion (IsFileEntry first_version) entries.now }
+{
+    let mut end = 0;
+    for item in entries {
+        block[end..end + ENTRY_IMAGE_LEN].copy_from_slice(&image_of(item));
+        end += ENTRY_IMAGE_LEN;
+    }
+}
+
+// The image of an entry.
+fn image_of(item: &FileEntry) -> [u8; ENTRY_IMAGE_LEN]
+    requires { length item.now.prefix < LIMIT }
+    ensures image { result ≡ image_of first_version item.now }
+    ensures valid { IsFileEntry first_version item.now }
+{
+    let FileEntry {
+        ward,
+        prefix,
+        entry,
+    } = *item;
+    let _number = number_of(entry);
+    let _right = right_of(entry.kind);
+    entry.to_image(ward, prefix)
+}
+
+// The number in an entry's image.
+fn number_of(entry: Entry) -> u32
+    ensures { result ≡ entry.number }
+{
+    entry.number
+}
+
+// The page in an entry's image, 0 for a merge.
+fn right_of(kind: Kind) -> PageNo
+    ensures { result ≡ right_field kind }
+{
+    match kind {
+        Kind::Split { right } => right,
+        Kind::Merge => 0,
+    }
+}
+
+/// So many entries, at most 254, of which a block is the image in the first version, and whose
+/// prefixes rise from the one before them, if there is one. Where there are none, the fault is that
+/// of the first test that the block fails: `Digest`; of one entry after the other `Kind`, `Padding`
+/// and `Prefix`; `Padding` behind the last; `Order`. It takes memory for the entries, once the digest
+/// is right: `Memory` where that is refused.
+pub fn decode_entries(
+    alloc: Global,
+    block: &[u8; BLOCK_LEN],
+    count: usize,
+    before: Option<Prefix>,
+) -> Result<Vec<FileEntry>, ImageFault>
+    requires { count ≤ BLOCK_ENTRIES }
+    ensures image { IfOk result (λ entries. IsTableImage first_version entries.items block.now) }
+    ensures count { IfOk result (λ entries. vec_len entries ≡ count) }
+    ensures rising { IfOk result (λ entries. AreRising (option_to_list before ++ prefixes_of entries.items)) }
+    ensures every { (entries : List FileEntryValue) → IsTableImage first_version entries block.now → length entries ≡ count
+        → AreRising (option_to_list before ++ prefixes_of entries)
+        → MatchResult result (λ found. found.items ≡ entries) (λ fault. fault ≡ ImageFault.Memory) }
+    ensures fault { IfErr result (λ fault. fault ≢ ImageFault.Memory → IsFirstFault first_version count before block.now fault) }
+{
+    if !is_sealed(block) {
+        return Err(ImageFault::Digest);
+    }
+    let entries = entries_of(alloc, block, count)?;
+    if !are_zero(&block[ENTRY_IMAGE_LEN * count..CONTENT_LEN]) {
+        return Err(ImageFault::Padding);
+    }
+    if !are_rising(before, &entries) {
+        return Err(ImageFault::Order);
+    }
+    Ok(entries)
+}
+
+// So many entries whose images stand one after the other, or the fault of the first that none does.
+fn entries_of(alloc: Global, bytes: &[u8], count: usize) -> Result<Vec<FileEntry>, ImageFault>
+    requires { ENTRY_IMAGE_LEN * count ≤ length bytes.now }
+    ensures entries { IfOk result (λ entries.
+        AreEntries first_version count bytes.now entries.items (drop (ENTRY_IMAGE_LEN * count) bytes.now)) }
+    ensures fault { IfErr result (λ fault. fault ≢ ImageFault.Memory → FailsAtEntry first_version count bytes.now fault) }
+{
+    let mut entries = Vec::new(alloc);
+    for i in 0..count {
+        let start = ENTRY_IMAGE_LEN * i;
+        let image = bytes[start..].first_chunk::<ENTRY_IMAGE_LEN>().unwrap();
+        match Entry::from_image(image) {
+            Ok(read) => push(&mut entries, of_parts(read))?,
+            Err(fault) => return Err(entry_fault(fault)),
+        }
+    }
+    Ok(entries)
+}
+
+fn of_parts(read: (u8, Prefix, Entry)) -> FileEntry
+    ensures { result ≡ record { ward = read.0; prefix = read.1; entry = read.2 } }
+{
+    let (ward, prefix, entry) = read;
+    FileEntry {
+        ward,
+        prefix,
+        entry,
+    }
+}
+
+// Puts an entry behind the others.
+fn push(entries: &mut Vec<FileEntry>, item: FileEntry) -> Result<(), AllocError>
+    ensures { OnOk result (entries.new.items ≡ entries.old.items ++ item ∷ []) }
+{
+    entries.push(item)?;
+    Ok(())
+}
+
+// The fault of a block in which an entry's image has this one.
+fn entry_fault(fault: NoticeFault) -> ImageFault
+    ensures { result ≡ entry_fault fault }
+{
+    match fault {
+        NoticeFault::Kind => ImageFault::Kind,
+        NoticeFault::Padding => ImageFault::Padding,
+        NoticeFault::Prefix => ImageFault::Prefix,
+    }
+}
+
+// Whether the prefixes rise, from the one before them on, which is asked of neighbours.
+fn are_rising(before: Option<Prefix>, entries: &[FileEntry]) -> bool
+    ensures { IsTrue result ↔ AreRising (option_to_list before ++ prefixes_of entries.now) }
+{
+    let mut last = before;
+    for item in entries {
+        if !may_precede(last, item.prefix) {
+            return false;
+        }
+        last = Some(item.prefix);
+    }
+    true
+}
+
+// Whether a prefix comes before the next, as none does.
+fn may_precede(last: Option<Prefix>, next: Prefix) -> bool
+    ensures { IsTrue result ↔ MayPrecede last next }
+{
+    match last {
+        Some(last) => last.cmp(&next) == Ordering::Less,
+        None => true,
+    }
+}
