@@ -204,7 +204,10 @@ fn refused(fault: StepFault) -> Difference {
 fn are_alike(world: &mut FailingWorld, other: &mut FailingWorld) -> Result<(), Difference> {
     for number in 0..PAGES {
         let line = page_line(world, number).map_err(refused)?;
-        same(line == page_line(other, number).map_err(refused)?, Part::Healed)?;
+        same(
+            line == page_line(other, number).map_err(refused)?,
+            Part::Healed,
+        )?;
     }
     let no_page = Some(StepFault::Ward(WardFault::NoPage));
     same(page_line(world, PAGES).err() == no_page, Part::Healed)?;

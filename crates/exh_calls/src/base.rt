@@ -5,7 +5,7 @@ use exh_page::{Key, Value};
 use std::alloc::Global;
 use std::marker::Model;
 
-/// The map from keys to values that a history begins with (exhash profile).
+/// The map from keys to values that a history begins with.
 #[derive(Debug, Drop)]
 pub struct Base {
     pairs: Vec<(Key, Value)>,

@@ -2,7 +2,7 @@ ghost use Rattle.std.specs.Prelude.{◌≡◌};
 
 use exh_page::{Key, Value};
 
-/// A call on the map from keys to values (exhash profile). A copy takes no memory.
+/// A call on the map from keys to values. A copy takes no memory.
 #[derive(Clone, Copy, Debug, PartialEq, Eq)]
 pub enum Call {
     /// Asks for the key's value.

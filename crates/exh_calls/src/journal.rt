@@ -12,7 +12,7 @@ use std::marker::Model;
 /// The most bytes of an entry: a key, a call's value and a reply's value.
 const ENTRY_LIMIT: usize = KEY_LIMIT + VALUE_LIMIT + VALUE_LIMIT;
 
-/// The calls that were answered, in order, with their callers and replies (exhash profile). An
+/// The calls that were answered, in order, with their callers and replies. An
 /// entry takes the bytes of its key and values, and 24 more.
 #[derive(Debug, Drop)]
 pub struct Journal {

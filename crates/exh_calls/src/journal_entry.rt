@@ -2,7 +2,7 @@ ghost use Rattle.std.specs.Prelude.{◌≡◌};
 
 use crate::{Call, Reply};
 
-/// A call that was answered, with its caller and its reply (exhash profile).
+/// A call that was answered, with its caller and its reply.
 #[derive(Clone, Copy, Debug, PartialEq, Eq)]
 pub struct JournalEntry {
     /// The caller's number, which the ward doesn't test.

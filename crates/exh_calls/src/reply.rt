@@ -1,6 +1,6 @@
 use exh_page::Value;
 
-/// What a call is answered (exhash profile).
+/// What a call is answered.
 #[derive(Clone, Copy, Debug, PartialEq, Eq)]
 pub enum Reply {
     /// The value of the key asked for.

@@ -5,10 +5,10 @@ ghost use Rattle.exh_codec.specs.Block.{sealed, IsSealed};
 
 use sha2::{Digest, Sha256};
 
-/// The length of a block, in bytes (exhash profile).
+/// The length of a block, in bytes.
 pub const BLOCK_LEN: usize = 4096;
 
-/// How many bytes of a block stand before its digest (exhash profile).
+/// How many bytes of a block stand before its digest.
 pub const CONTENT_LEN: usize = 4064;
 
 /// Writes the digest of a block's content, the SHA-256 (FIPS 180-4) of bytes 0 to 4,064, over the

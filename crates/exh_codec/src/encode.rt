@@ -13,7 +13,7 @@ use crate::head::{HEAD_LEN, Head};
 use exh_keyer::Keyer;
 use exh_page::{KEY_LIMIT, Page, Record, Records, VALUE_LIMIT};
 
-/// The greatest length of a record in an image, in bytes (exhash profile).
+/// The greatest length of a record in an image, in bytes.
 const RECORD_LEN: usize = 2 + KEY_LIMIT + VALUE_LIMIT;
 
 /// The image of a page that is well formed under a keyer. It takes no memory.

@@ -4,22 +4,22 @@ use crate::kind::Kind;
 use byteorder::{BigEndian, ByteOrder};
 use exh_page::{Page, PageNo};
 
-/// How many bytes of an image stand before its records (exhash profile).
+/// How many bytes of an image stand before its records.
 pub(crate) const HEAD_LEN: usize = 16;
 
-/// Where the bytes of a prefix or low bound begin (exhash profile).
+/// Where the bytes of a prefix or low bound begin.
 pub(crate) const LOW_START: usize = 8;
 
-/// How many bytes a prefix or low bound has in the first version (exhash profile).
+/// How many bytes a prefix or low bound has in the first version.
 const LOW_LEN: usize = 2;
 
 /// Where these bytes end.
 pub(crate) const LOW_END: usize = LOW_START + LOW_LEN;
 
-/// The link that an image of a page without a right link has (exhash profile).
+/// The link that an image of a page without a right link has.
 pub(crate) const NO_LINK: PageNo = PageNo::MAX;
 
-/// What the first bytes of an image say (exhash profile).
+/// What the first bytes of an image say.
 #[derive(Clone, Copy, Debug, PartialEq, Eq)]
 pub(crate) struct Head {
     pub kind: Kind,

@@ -4,7 +4,7 @@ ghost use Rattle.exh_codec.specs.declared.image_fault.ImageFault.TheVariants.{Me
 use std::alloc::AllocError;
 use thiserror::Error;
 
-/// Why a block isn't the image of a page (exhash profile). Each fault but `Memory` is named after
+/// Why a block isn't the image of a page. Each fault but `Memory` is named after
 /// the test that fails.
 #[derive(Clone, Copy, Debug, PartialEq, Eq, Error)]
 pub enum ImageFault {
@@ -35,7 +35,7 @@ impl ImageFault {
     ghost use Rattle.std.specs.Prelude.{◌≡◌};
     ghost use Rattle.exh_codec.specs.ImageFault.{fault_number};
 
-    /// The refusal's number among all refusals (exhash profile).
+    /// The refusal's number among all refusals.
     pub fn number(self) -> u8
         ensures { result ≡ fault_number self }
     {

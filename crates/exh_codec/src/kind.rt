@@ -1,6 +1,6 @@
 ghost use Rattle.std.specs.Prelude.{◌≡◌, ℕ, IfSome, IfNone};
 
-/// The kinds of a page, with their bytes in an image (exhash profile).
+/// The kinds of a page, with their bytes in an image.
 #[derive(Clone, Copy, Debug, PartialEq, Eq)]
 pub(crate) enum Kind {
     Live = 1,

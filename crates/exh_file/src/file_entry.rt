@@ -1,7 +1,7 @@
 use exh_notice::Entry;
 use exh_prefix::Prefix;
 
-/// An entry of a page file's table, with its ward and its prefix (exhash profile).
+/// An entry of a page file's table, with its ward and its prefix.
 #[derive(Clone, Copy, Debug, PartialEq, Eq)]
 pub struct FileEntry {
     /// The ward, 0 to 15.

@@ -4,7 +4,7 @@ ghost use Rattle.exh_file.specs.FileFault.{fault_number};
 use exh_codec::ImageFault;
 use thiserror::Error;
 
-/// Why bytes aren't a page file (exhash profile).
+/// Why bytes aren't a page file.
 #[derive(Clone, Copy, Debug, PartialEq, Eq, Error)]
 pub enum FileFault {
     /// A block isn't the image that belongs at its place, the header's being 0: the number of its
@@ -20,7 +20,7 @@ pub enum FileFault {
 }
 
 impl FileFault {
-    /// The refusal's number among all refusals (exhash profile).
+    /// The refusal's number among all refusals.
     pub fn number(self) -> u8
         ensures { result ≡ fault_number self }
     {

@@ -14,22 +14,22 @@ use exh_keyer::AnyKeyer;
 use exh_page::CAP_LIMIT;
 use exh_prefix::LIMIT;
 
-/// For how many wards a header counts pages (exhash profile).
+/// For how many wards a header counts pages.
 pub const COUNTS_LEN: usize = 16;
 
-/// How a page file begins (exhash profile).
+/// How a page file begins.
 const MAGIC: [u8; 8] = *b"EXHASHPF";
 
-/// The number of the version that is written and read (exhash profile).
+/// The number of the version that is written and read.
 const VERSION: u16 = 1;
 
-/// How many bytes of a header stand before the page counts (exhash profile).
+/// How many bytes of a header stand before the page counts.
 const FRONT_LEN: usize = 20;
 
-/// How many bytes of a header block say something (exhash profile).
+/// How many bytes of a header block say something.
 pub(crate) const HEADER_LEN: usize = FRONT_LEN + 4 * COUNTS_LEN;
 
-/// What the header block of a page file says (exhash profile).
+/// What the header block of a page file says.
 #[derive(Clone, Copy, Debug, PartialEq, Eq)]
 pub struct Header {
     /// The most records of a page, 1 to 16.

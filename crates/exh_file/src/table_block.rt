@@ -19,7 +19,7 @@ use exh_prefix::Prefix;
 use std::alloc::{AllocError, Global};
 use std::cmp::Ordering;
 
-/// The most entries of a table block (exhash profile).
+/// The most entries of a table block.
 pub const BLOCK_ENTRIES: usize = CONTENT_LEN / ENTRY_IMAGE_LEN;
 
 /// The block of at most 254 entries, its image in the first version of the page file. It takes no

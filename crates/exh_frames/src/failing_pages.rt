@@ -6,7 +6,7 @@ use crate::{Pages, PagesCall, PagesFault, PlainPages};
 use exh_page::{Key, Page, PageNo, Spot, Value};
 use std::marker::Model;
 
-/// Pages in memory of which one call fails, for tests of what stands on a store (exhash profile).
+/// Pages in memory of which one call fails, for tests of what stands on a store.
 #[derive(Drop)]
 pub struct FailingPages {
     inner: PlainPages,

@@ -9,7 +9,7 @@ ghost use Rattle.exh_frames.specs.PageStore.{IfPage, CountsFaults, TakesTheSame,
 use crate::PagesFault;
 use exh_page::{Key, Page, PageNo, Spot, Value};
 
-/// A store of pages, numbered from 0 on in the order in which they came (exhash profile). Each call
+/// A store of pages, numbered from 0 on in the order in which they came. Each call
 /// that answers a `Result` may be refused: `PagesFault::Page` where a page couldn't be reached, which
 /// the store counts as a failure, else `PagesFault::Memory`. Its pages are then as before.
 pub trait Pages {

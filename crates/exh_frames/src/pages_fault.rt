@@ -4,7 +4,7 @@ ghost use Rattle.exh_frames.specs.declared.pages_fault.PagesFault.TheVariants.{M
 use std::alloc::AllocError;
 use thiserror::Error;
 
-/// Why a store of pages refused a call (exhash profile). Its pages are as they were before the call.
+/// Why a store of pages refused a call. Its pages are as they were before the call.
 #[derive(Clone, Copy, Debug, PartialEq, Eq, Error)]
 pub enum PagesFault {
     /// A growth was refused: number 10.
@@ -16,7 +16,7 @@ pub enum PagesFault {
 }
 
 impl PagesFault {
-    /// The refusal's number among all refusals (exhash profile).
+    /// The refusal's number among all refusals.
     pub fn number(self) -> u8
         ensures memory { self ≡ PagesFault.Memory → result ≡ 10 }
         ensures page { self ≡ PagesFault.Page → result ≡ 11 }

@@ -5,7 +5,7 @@ use exh_page::{Key, Page, PageNo, Spot, Value};
 use std::alloc::{AllocError, Global};
 use std::marker::Model;
 
-/// Pages in memory (exhash profile). It takes every page, and never answers a page fault.
+/// Pages in memory. It takes every page, and never answers a page fault.
 #[derive(Drop)]
 pub struct PlainPages {
     pages: Vec<Page>,

@@ -5,7 +5,7 @@ use crate::Join;
 use std::alloc::AllocError;
 use std::marker::Model;
 
-/// A value that takes other values by joining them to its own (exhash profile).
+/// A value that takes other values by joining them to its own.
 #[derive(Drop)]
 pub struct Replica<J> {
     value: J,

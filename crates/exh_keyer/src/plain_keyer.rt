@@ -5,7 +5,7 @@ ghost use Rattle.exh_keyer.specs.PseudokeyFits.{plain_pseudokey-lt};
 
 use crate::Keyer;
 
-/// The keyer `plain` (exhash profile): the key's first eight bytes as a big-endian number, with zero
+/// The keyer `plain`: the key's first eight bytes as a big-endian number, with zero
 /// bytes after a shorter key.
 #[derive(Clone, Copy, Debug, PartialEq, Eq)]
 pub struct PlainKeyer;

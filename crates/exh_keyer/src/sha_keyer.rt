@@ -7,7 +7,7 @@ ghost use Rattle.exh_keyer.specs.PseudokeyFits.{sha_pseudokey-lt};
 use crate::Keyer;
 use sha2::{Digest, Sha256};
 
-/// The keyer `sha` (exhash profile): the first eight bytes of the key's SHA-256 (FIPS 180-4) as a
+/// The keyer `sha`: the first eight bytes of the key's SHA-256 (FIPS 180-4) as a
 /// big-endian number.
 #[derive(Clone, Copy, Debug, PartialEq, Eq)]
 pub struct ShaKeyer;

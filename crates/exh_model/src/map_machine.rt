@@ -10,7 +10,7 @@ use exh_prefix::LIMIT;
 use std::alloc::{AllocError, Global};
 use std::marker::Model;
 
-/// A map that answers calls as the whole file answers them, one after another (exhash profile).
+/// A map that answers calls as the whole file answers them, one after another.
 #[derive(Drop)]
 pub struct MapMachine<K: Keyer> {
     cap: usize,
@@ -53,7 +53,7 @@ impl<K: Keyer> MapMachine<K> {
         &self.map
     }
 
-    /// Answers a call, by the map machine's table (exhash profile). Where a growth is refused, an
+    /// Answers a call, by the map machine's table. Where a growth is refused, an
     /// `AllocError`, the machine is as before.
     pub fn answer(&mut self, call: &Call) -> Result<Reply, AllocError>
         ensures reply { IfOk result (λ reply. reply ≡ reply_of self.old.cap (K.pseudokey_of self.old.keyer) self.old.map call.now) }

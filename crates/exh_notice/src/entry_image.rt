@@ -9,7 +9,7 @@ use crate::{Entry, Kind, NoticeFault};
 use byteorder::{BigEndian, ByteOrder};
 use exh_prefix::{LIMIT, Prefix};
 
-/// How many bytes the image of an entry has (exhash profile).
+/// How many bytes the image of an entry has.
 pub const ENTRY_IMAGE_LEN: usize = 16;
 
 impl Entry {
@@ -29,7 +29,7 @@ impl Entry {
         image
     }
 
-    /// The ward, the prefix and the entry that have this image in the first version (exhash profile):
+    /// The ward, the prefix and the entry that have this image in the first version:
     /// a `NoticeFault` by the first test that the bytes fail, of their kind, their padding and their
     /// prefix. It takes no memory.
     pub fn from_image(image: &[u8; ENTRY_IMAGE_LEN]) -> Result<(u8, Prefix, Entry), NoticeFault>

@@ -4,7 +4,7 @@ ghost use Rattle.exh_notice.specs.Entry.{entry_of};
 use crate::{Entry, Kind};
 use exh_prefix::Prefix;
 
-/// What a split or a merge tells every copy of the directory (exhash profile).
+/// What a split or a merge tells every copy of the directory.
 #[derive(Clone, Copy, Debug, PartialEq, Eq, Hash)]
 pub struct Notice {
     /// The ward, 0 to 15.

@@ -3,7 +3,7 @@ ghost use Rattle.exh_notice.specs.Fault.{fault_number};
 
 use thiserror::Error;
 
-/// Why bytes are no image of an entry or a notice (exhash profile).
+/// Why bytes are no image of an entry or a notice.
 #[derive(Clone, Copy, Debug, PartialEq, Eq, Error)]
 pub enum NoticeFault {
     /// The kind byte is neither a split's nor a merge's (refusal 30).
@@ -18,7 +18,7 @@ pub enum NoticeFault {
 }
 
 impl NoticeFault {
-    /// The refusal's number among all refusals (exhash profile).
+    /// The refusal's number among all refusals.
     pub fn number(self) -> u8
         ensures { result ≡ fault_number self }
     {

@@ -7,11 +7,11 @@ ghost use Rattle.exh_notice.specs.Images.{notice_image, IsNoticeImage, FailsFirs
 use crate::{ENTRY_IMAGE_LEN, Entry, Notice, NoticeFault};
 use byteorder::{BigEndian, ByteOrder};
 
-/// How many bytes the image of a notice has (exhash profile).
+/// How many bytes the image of a notice has.
 pub const NOTICE_IMAGE_LEN: usize = 24;
 
 impl Notice {
-    /// The image of the notice in the first version of the page file (exhash profile): its entry's,
+    /// The image of the notice in the first version of the page file: its entry's,
     /// then its index. It takes no memory.
     pub fn to_image(&self) -> [u8; NOTICE_IMAGE_LEN]
         requires { length self.now.prefix < LIMIT }
@@ -23,7 +23,7 @@ impl Notice {
         image
     }
 
-    /// The notice that has this image in the first version (exhash profile): a `NoticeFault` as `Entry::from_image` gives
+    /// The notice that has this image in the first version: a `NoticeFault` as `Entry::from_image` gives
     /// it for the first 16 bytes. It takes no memory.
     pub fn from_image(image: &[u8; NOTICE_IMAGE_LEN]) -> Result<Notice, NoticeFault>
         ensures ok { IfOk result (λ notice. IsNoticeImage first_version notice image.now) }

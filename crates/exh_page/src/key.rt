@@ -6,11 +6,11 @@ use crate::SizeFault;
 use crate::short_bytes::ShortBytes;
 use std::marker::Model;
 
-/// The greatest length of a key, in bytes (exhash profile).
+/// The greatest length of a key, in bytes.
 pub const KEY_LIMIT: usize = 64;
 
 /// A key: 1 to 64 bytes, ordered as lists of bytes: the first that differs decides, and a key that
-/// ends first is the lesser (exhash profile). A copy takes no memory.
+/// ends first is the lesser. A copy takes no memory.
 #[derive(Clone, Copy, Debug, PartialEq, Eq, PartialOrd, Ord)]
 pub struct Key {
     bytes: ShortBytes<KEY_LIMIT>,
@@ -30,7 +30,7 @@ impl Model for Key {
 }
 
 impl Key {
-    /// The key of 1 to 64 bytes (exhash profile). Any other length is a `SizeFault`. It takes no
+    /// The key of 1 to 64 bytes. Any other length is a `SizeFault`. It takes no
     /// memory.
     pub fn from_bytes(bytes: &[u8]) -> Result<Key, SizeFault>
         ensures { OkIff result ((1 ≤ length bytes.now) × (length bytes.now ≤ KEY_LIMIT)) bytes.now }

@@ -19,7 +19,7 @@ pub fn buddies_unite()
 {}
 
 /// A page of 16 records is well formed where they are, and none of 17; no right link is the greatest
-/// number of 32 bits (exhash profile).
+/// number of 32 bits.
 pub fn pages_have_limits()
     ensures { PagesHaveLimits }
 {}

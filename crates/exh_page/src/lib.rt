@@ -1,5 +1,5 @@
 //! Pages of an extendible hash file: buckets of records whose pseudokeys one prefix begins (Fagin
-//! et al. 1979), and the forwarding pages that merges leave behind (exhash profile).
+//! et al. 1979), and the forwarding pages that merges leave behind.
 #![tactic(auto)]
 
 pub use exh_prefix::PageNo;

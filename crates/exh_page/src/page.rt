@@ -4,7 +4,7 @@ use crate::{Key, Records, Spot, Value};
 use exh_prefix::{PageNo, Prefix};
 use std::alloc::AllocError;
 
-/// The most records that a page of any file holds (exhash profile).
+/// The most records that a page of any file holds.
 pub const CAP_LIMIT: usize = 16;
 
 /// A page: a bucket (Fagin et al. 1979), or what is left of one that was merged away (exhash
@@ -31,7 +31,7 @@ impl Page {
     ghost use Rattle.exh_page.specs.Search.{IsSought, IsSpot};
     ghost use Rattle.exh_page.specs.Page.{low_bound, records_of, share_of, with_records, IsDivisible, IsLive};
 
-    /// The low bound: the least pseudokey that the page is for (exhash profile).
+    /// The low bound: the least pseudokey that the page is for.
     pub fn low(&self) -> u64
         ensures { result ≡ low_bound self.now }
     {

@@ -36,7 +36,7 @@ impl StoredRecord {
         usize::from(self.key_len) + usize::from(self.value_len)
     }
 
-    /// How the record's place compares with another: by pseudokey, then by key (exhash profile). The
+    /// How the record's place compares with another: by pseudokey, then by key. The
     /// text begins with the record's bytes.
     pub(crate) fn cmp_place(&self, text: &[u8], pseudokey: u64, key: &Key) -> Ordering
         requires { self.now.key_len ≤ length text.now }

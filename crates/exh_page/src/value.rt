@@ -6,10 +6,10 @@ use crate::SizeFault;
 use crate::short_bytes::ShortBytes;
 use std::marker::Model;
 
-/// The greatest length of a value, in bytes (exhash profile).
+/// The greatest length of a value, in bytes.
 pub const VALUE_LIMIT: usize = 128;
 
-/// A value: 0 to 128 bytes (exhash profile). A copy takes no memory.
+/// A value: 0 to 128 bytes. A copy takes no memory.
 #[derive(Clone, Copy, Debug, PartialEq, Eq)]
 pub struct Value {
     bytes: ShortBytes<VALUE_LIMIT>,
@@ -29,7 +29,7 @@ impl Model for Value {
 }
 
 impl Value {
-    /// The value of 0 to 128 bytes (exhash profile). A longer one is a `SizeFault`. It takes no
+    /// The value of 0 to 128 bytes. A longer one is a `SizeFault`. It takes no
     /// memory.
     pub fn from_bytes(bytes: &[u8]) -> Result<Value, SizeFault>
         ensures { OkIff result (length bytes.now ≤ VALUE_LIMIT) bytes.now }

@@ -12,10 +12,10 @@ use std::marker::Model;
 #[cfg(test)]
 mod tests;
 
-/// The greatest length of a prefix, in bits (exhash profile).
+/// The greatest length of a prefix, in bits.
 pub const LIMIT: u8 = 16;
 
-/// A page's number in its ward, from 0 on (exhash profile).
+/// A page's number in its ward, from 0 on.
 pub type PageNo = u32;
 
 /// The leading bits of pseudokeys, 0 to `LIMIT` of them.

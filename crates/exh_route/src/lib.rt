@@ -1,5 +1,5 @@
 //! The ways of requests through one ward: what lists of hops, splits and merges keep of it, and how far a page is from
-//! a key's home (exhash profile).
+//! a key's home.
 #![tactic(auto)]
 
 pub use distances::distance;

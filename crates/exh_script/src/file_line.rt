@@ -8,7 +8,7 @@ use exh_text::{LineFault, Parts, parse_u32_after, split_words};
 use exh_ward::WARD_BITS_LIMIT;
 use exh_world::Config;
 
-/// The most copies of the directory that a file has (exhash profile).
+/// The most copies of the directory that a file has.
 pub(crate) const COPIES_LIMIT: u32 = 8;
 
 /// Reads the settings of the first line of a script, without its newline. What isn't a file line is `Syntax`; a file line with a number

@@ -9,7 +9,7 @@ use exh_text::{
 };
 use exh_world::Event;
 
-/// A line of a script after its first, its numbers, key and value in their ranges (exhash profile). There may be no such
+/// A line of a script after its first, its numbers, key and value in their ranges. There may be no such
 /// request, copy, table, ward or page.
 #[derive(Clone, Copy, Debug, PartialEq, Eq)]
 pub(crate) enum Line {

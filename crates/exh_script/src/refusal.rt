@@ -1,7 +1,7 @@
 use exh_text::LineFault;
 use exh_world::StepFault;
 
-/// Why a line, a script or a run of it is refused (exhash profile).
+/// Why a line, a script or a run of it is refused.
 #[derive(Clone, Copy, Debug, PartialEq, Eq)]
 pub(crate) enum Refusal {
     /// The line can't be read, or stands at the wrong place.

@@ -10,7 +10,7 @@ use exh_stream::{InputFault, Output, Source};
 use std::alloc::Global;
 use std::io::{Read, Write};
 
-/// Bytes that a script may have (exhash profile).
+/// Bytes that a script may have.
 pub(crate) const SCRIPT_LIMIT: usize = 1_048_576;
 
 /// Reads a whole script, and writes its text and nothing else. Where the reader fails, that is the line `refused 41`

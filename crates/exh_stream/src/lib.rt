@@ -6,7 +6,7 @@ pub use input_fault::InputFault;
 pub use output::{Output, WriteFault};
 pub use source::{ReadFault, Source};
 
-/// Bytes that are asked of a reader, or go to a writer, together (exhash profile).
+/// Bytes that are asked of a reader, or go to a writer, together.
 pub const BLOCK: usize = 8192;
 
 mod fakes;

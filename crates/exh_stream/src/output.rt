@@ -13,7 +13,7 @@ use thiserror::Error;
 pub struct WriteFault;
 
 /// Bytes on their way to a writer, which gets them in blocks, and nothing more once it has failed
-/// (exhash profile).
+///.
 #[derive(Drop)]
 pub struct Output<'w, W: Write> {
     writer: &'w mut W,

@@ -14,7 +14,7 @@ use thiserror::Error;
 pub struct ReadFault;
 
 /// A reader that is not read again once it has failed. Any error of the reader is a fault, an
-/// interrupted read too (exhash profile).
+/// interrupted read too.
 #[derive(Drop)]
 pub struct Source<'r, R: Read> {
     reader: &'r mut R,

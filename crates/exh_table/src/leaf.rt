@@ -39,7 +39,7 @@ impl Leaf {
     }
 
     /// One bit further over a split: the bit 1 leads to its right page, the bit 0 keeps the page
-    /// (exhash profile). The prefix is shorter than `LIMIT`.
+    ///. The prefix is shorter than `LIMIT`.
     pub fn step(&self, bit: bool, right: PageNo) -> Leaf
         requires { length self.now.prefix < LIMIT }
         ensures { result ≡ step self.now bit right }

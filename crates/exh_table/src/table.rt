@@ -10,7 +10,7 @@ use std::collections::btree_map::Iter;
 use std::marker::Model;
 
 /// What a copy of the directory knows: at each prefix the greatest entry that it was told, or none
-/// (exhash profile).
+///.
 #[derive(Drop)]
 pub struct Table {
     pub(crate) alloc: Global,

@@ -13,7 +13,7 @@ use std::alloc::AllocError;
 
 impl Table {
     /// The page that the table names for a pseudokey, in a file of so many ward bits, at most
-    /// `LIMIT` (exhash profile). It takes no memory.
+    /// `LIMIT`. It takes no memory.
     pub fn walk(&self, ward_bits: u8, pseudokey: u64) -> PageNo
         requires { ward_bits ≤ LIMIT }
         ensures { result ≡ (walk_of self.now ward_bits pseudokey).page }
@@ -48,7 +48,7 @@ impl Table {
     }
 
     /// The right page of the split over which walks go on from a place: none where they stop. Above
-    /// the wards, of so many bits, all go on with page 0 (exhash profile). It takes no memory.
+    /// the wards, of so many bits, all go on with page 0. It takes no memory.
     pub fn split_at(&self, ward_bits: u8, at: &Leaf) -> Option<PageNo>
         ensures { result ≡ (if nat_lt (length at.now.prefix) LIMIT then splits_above self.now ward_bits at.now.prefix else None) }
     {

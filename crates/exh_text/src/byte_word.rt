@@ -10,7 +10,7 @@ use exh_page::{KEY_LIMIT, Key, VALUE_LIMIT, Value};
 use std::marker::Model;
 
 /// A word that stands for bytes, however many: a word of bytes 21 to 7e that doesn't begin with `#`, or `#` and
-/// lower-case hexadecimal digits, two a byte (exhash profile). It keeps the word, and is seen as the bytes.
+/// lower-case hexadecimal digits, two a byte. It keeps the word, and is seen as the bytes.
 #[derive(Drop)]
 pub struct ByteWord<'a> {
     word: &'a [u8],

@@ -1,6 +1,6 @@
 use thiserror::Error;
 
-/// Why a line is refused before anything is done for it (exhash profile).
+/// Why a line is refused before anything is done for it.
 #[derive(Clone, Copy, Debug, PartialEq, Eq, Error)]
 pub enum LineFault {
     /// The line is outside the grammar (refusal 60).

@@ -5,7 +5,7 @@ ghost use Rattle.exh_text.specs.Lines.{lines_of, without_empty, words_of};
 use crate::Parts;
 use std::marker::Model;
 
-/// The lines of a text, from the first on. Empty ones are skipped (exhash profile).
+/// The lines of a text, from the first on. Empty ones are skipped.
 #[derive(Drop)]
 pub struct Lines<'a> {
     parts: Parts<'a>,
@@ -49,7 +49,7 @@ impl<'a> Iterator for Lines<'a> {
     }
 }
 
-/// The words of a line, which single spaces part. `None` where a word would be empty (exhash profile).
+/// The words of a line, which single spaces part. `None` where a word would be empty.
 pub fn split_words(line: &[u8]) -> Option<Parts<'_>>
     ensures { result ≡ words_of line.now }
 {

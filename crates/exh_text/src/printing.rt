@@ -24,7 +24,7 @@ pub fn push_number(out: &mut Vec<u8>, number: u64) -> Result<(), AllocError>
 }
 
 /// Adds a value or a key at the end: as it is where it is a word of bytes 21 to 7e that doesn't begin with `#`, else as
-/// `#` and two hexadecimal digits a byte (exhash profile). Where memory runs out, a beginning of that is added.
+/// `#` and two hexadecimal digits a byte. Where memory runs out, a beginning of that is added.
 #[tactic(auto, unfolding(crate::specs::Printing::printed))]
 pub fn push_value(out: &mut Vec<u8>, value: &[u8]) -> Result<(), AllocError>
     ensures ok { OnOk result (out.new.items ≡ out.old.items ++ printed value.now) }
@@ -52,14 +52,14 @@ fn is_plain(bytes: &[u8]) -> bool
     }
 }
 
-/// Adds a prefix at the end: its bits, the empty one as `-` (exhash profile).
+/// Adds a prefix at the end: its bits, the empty one as `-`.
 pub fn push_prefix(out: &mut Vec<u8>, prefix: &Prefix) -> Result<(), AllocError>
     ensures { OnOk result (out.new.items ≡ out.old.items ++ prefix_text prefix.now) }
 {
     write!(out, "{prefix}").map_err(|_| AllocError)
 }
 
-/// Adds a place at the end: a ward and the number of a page or of a notice of it (exhash profile).
+/// Adds a place at the end: a ward and the number of a page or of a notice of it.
 pub fn push_place(out: &mut Vec<u8>, ward: u32, number: u64) -> Result<(), AllocError>
     ensures { OnOk result (out.new.items ≡ out.old.items ++ place_text ward number) }
 {
@@ -68,7 +68,7 @@ pub fn push_place(out: &mut Vec<u8>, ward: u32, number: u64) -> Result<(), Alloc
     push_number(out, number)
 }
 
-/// Adds a refusal at the end, as `refused 60` (exhash profile).
+/// Adds a refusal at the end, as `refused 60`.
 pub fn push_refused(out: &mut Vec<u8>, number: u32) -> Result<(), AllocError>
     ensures { OnOk result (out.new.items ≡ out.old.items ++ refused_text number) }
 {

@@ -1,7 +1,7 @@
 use exh_calls::Reply;
 use exh_page::PageNo;
 
-/// What one hop of a request comes to (exhash profile). Only `Done` changes a ward.
+/// What one hop of a request comes to. Only `Done` changes a ward.
 #[derive(Clone, Copy, Debug, PartialEq, Eq)]
 pub enum Hop {
     /// The call is answered, as the map of all pages answers it.

@@ -4,7 +4,7 @@ ghost use Rattle.exh_ward.specs.PageLine.{line_of_page};
 use exh_page::{Page, PageNo};
 use exh_prefix::Prefix;
 
-/// What is told of a page without its records (exhash profile).
+/// What is told of a page without its records.
 #[derive(Clone, Copy, Debug, PartialEq, Eq)]
 pub enum PageLine {
     /// A live page: its prefix, its right link, and how many records it has.

@@ -29,12 +29,12 @@ mod split;
 #[cfg(test)]
 pub(crate) mod worn;
 
-/// The most leading bits by which a file is cut into wards (exhash profile).
+/// The most leading bits by which a file is cut into wards.
 pub const WARD_BITS_LIMIT: u8 = 4;
 
 /// A part of the file: the pages of all keys whose pseudokeys share the ward's leading bits, with
 /// the history of the calls that they answered, and the notices of the splits that they went
-/// through (exhash profile). Pages are numbered from 0 on.
+/// through. Pages are numbered from 0 on.
 #[derive(Drop)]
 pub struct Ward<P: Pages + Drop, K: Keyer> {
     cap: usize,
@@ -76,7 +76,7 @@ impl<P: Pages + Drop, K: Keyer> Model for Ward<P, K> {
 impl<P: Pages + Drop, K: Keyer> Ward<P, K> {
     /// Ward `number` of a new file, over a store of its first page alone (`first_page`). A page
     /// holds at most `cap` records, 1 to 16. The file is cut into 2^`ward_bits` wards, by 0 to 4
-    /// leading bits of pseudokeys, and `number` is those bits as a number (exhash profile). It takes
+    /// leading bits of pseudokeys, and `number` is those bits as a number. It takes
     /// no memory.
     pub fn new(
         alloc: Global,

@@ -7,7 +7,7 @@ use exh_frames::PagesFault;
 use std::alloc::AllocError;
 use thiserror::Error;
 
-/// Why a ward refused a step (exhash profile). It is as it was before the step.
+/// Why a ward refused a step. It is as it was before the step.
 #[derive(Clone, Copy, Debug, PartialEq, Eq, Error)]
 pub enum WardFault {
     /// There is no page of this number: number 1.
@@ -43,7 +43,7 @@ pub enum WardFault {
 }
 
 impl WardFault {
-    /// The refusal's number among all refusals (exhash profile).
+    /// The refusal's number among all refusals.
     pub fn number(self) -> u8
         ensures { result ≡ fault_number self }
     {

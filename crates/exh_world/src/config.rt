@@ -1,4 +1,4 @@
-/// The settings of a world (exhash profile): at most `cap` records a page, 1 to 16; 2^`ward_bits`
+/// The settings of a world: at most `cap` records a page, 1 to 16; 2^`ward_bits`
 /// wards, by 0 to 4 leading bits of pseudokeys; so many copies of the directory; and the keyer.
 #[derive(Clone, Copy, Debug)]
 pub struct Config<K> {

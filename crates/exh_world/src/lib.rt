@@ -1,5 +1,5 @@
 //! A world: the wards of an extendible hash file (Fagin et al. 1979), the copies of its directory, and the requests in
-//! flight, with whatever may happen to them as an event (exhash profile).
+//! flight, with whatever may happen to them as an event.
 #![tactic(auto)]
 
 pub use config::Config;

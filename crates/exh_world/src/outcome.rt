@@ -2,7 +2,7 @@ use exh_notice::Notice;
 use exh_prefix::PageNo;
 use exh_ward::Hop;
 
-/// What an event came to (exhash profile).
+/// What an event came to.
 #[derive(Clone, Copy, Debug, PartialEq, Eq)]
 pub enum Outcome {
     /// The request stands at a page of a ward.

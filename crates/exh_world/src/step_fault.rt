@@ -7,7 +7,7 @@ use exh_ward::WardFault;
 use std::alloc::AllocError;
 use thiserror::Error;
 
-/// Why a world refused an event (exhash profile). It is as it was before the event, but that a ward
+/// Why a world refused an event. It is as it was before the event, but that a ward
 /// whose page was out of reach has counted that.
 #[derive(Clone, Copy, Debug, PartialEq, Eq, Error)]
 pub enum StepFault {
@@ -35,7 +35,7 @@ pub enum StepFault {
 }
 
 impl StepFault {
-    /// The refusal's number among all refusals (exhash profile).
+    /// The refusal's number among all refusals.
     pub fn number(self) -> u8
         ensures { result ≡ step_fault_number self }
     {

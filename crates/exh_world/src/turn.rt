@@ -1,6 +1,6 @@
 use crate::{Event, Outcome, StepFault};
 
-/// An event with what it came to, or why it was refused (exhash profile).
+/// An event with what it came to, or why it was refused.
 #[derive(Clone, Copy, Debug, PartialEq, Eq)]
 pub struct Turn {
     pub event: Event,

@@ -23,7 +23,7 @@ mod ward_steps;
 mod world_of_wards;
 
 /// The wards of a file, the copies of its directory, the tables sent between them, and the requests
-/// in flight (exhash profile). Whatever happens to it is an `Event`.
+/// in flight. Whatever happens to it is an `Event`.
 #[derive(Drop)]
 pub struct World<P: Pages + Drop, K: Keyer> {
     alloc: Global,

@@ -18,7 +18,7 @@ use std::alloc::{AllocError, Global};
 
 impl<K: Keyer> World<PlainPages, K> {
     /// The world of a new file, with its pages in memory: each ward has one page of no record, no
-    /// copy was told of a split, and no request is in flight (exhash profile). An `AllocError` where
+    /// copy was told of a split, and no request is in flight. An `AllocError` where
     /// memory is refused.
     pub fn new(alloc: Global, config: &Config<K>) -> Result<World<PlainPages, K>, AllocError>
         requires some { 1 ≤ config.now.cap }

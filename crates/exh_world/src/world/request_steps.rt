@@ -45,7 +45,7 @@ impl<P: Pages + Drop, K: Keyer> World<P, K> {
         Ok(Outcome::Begun { ward, page })
     }
 
-    /// One hop of a request: what it comes to is the hop table's (exhash profile). An answered request
+    /// One hop of a request: what it comes to is the hop table's. An answered request
     /// is no longer in flight, and a moved one stands at the page that it was led to. Refused:
     /// `NoRequest`; at any point `StepFault::Ward(Memory)` or `StepFault::Ward(Page)`. Then the world
     /// is as before, but that at `Page` the ward has counted it.

@@ -20,7 +20,7 @@ impl<P: Pages + Drop, K: Keyer> World<P, K> {
     /// The world of given wards, one for each number, in order, each of the settings' `cap`,
     /// `ward_bits` and `keyer`: their tables together are the start table and that of each copy, and
     /// the changes are those that the wards make from now on, whatever notices they had before. No
-    /// table was sent, and no request is in flight (exhash profile). An `AllocError` where memory is
+    /// table was sent, and no request is in flight. An `AllocError` where memory is
     /// refused.
     pub fn from_wards(
         alloc: Global,
@@ -53,7 +53,7 @@ impl<P: Pages + Drop, K: Keyer> World<P, K> {
 
     /// The world's wards as they stand, in the order of their numbers. Its copies, its sent tables and
     /// its requests in flight are dropped. A world of these wards (`from_wards`) has the copies that it
-    /// is made with, and each notice of this one can be delivered to them (exhash profile). It takes
+    /// is made with, and each notice of this one can be delivered to them. It takes
     /// no memory.
     pub fn into_wards(self) -> Vec<Ward<P, K>>
         ensures wards { result.items ≡ self.wards }

@@ -28,7 +28,7 @@ pub(crate) fn join_pages(left: &Page, buddy: &Page, parent: Prefix) -> Result<Pa
     }
 }
 
-/// The page that sends the callers of a parent's right child on to the page `left` (exhash profile).
+/// The page that sends the callers of a parent's right child on to the page `left`.
 pub(crate) fn forward_from_right(parent: Prefix, left: PageNo) -> Page
     requires { length parent < LIMIT }
     ensures { result ≡ Forward (low_of (parent ++ true ∷ [])) left }
