@@ -18,6 +18,7 @@ use exh_page::PageNo;
 
 mod answer;
 mod sight;
+mod write;
 
 impl<P: Pages + Drop, K: Keyer> Ward<P, K> {
     /// One hop of a client's call, at the page of number `at`. The ward covers the call's key. What

@@ -4,6 +4,7 @@ ghost use Rattle.exh_page.specs.Page.{IsLive, records_of, with_records};
 ghost use Rattle.exh_page.specs.Records.{value_at};
 ghost use Rattle.exh_ward.specs.PageAnswer.{reply_by, records_after};
 
+use super::write::{put, remove};
 use exh_calls::{Call, Reply};
 use exh_frames::{Pages, PagesFault};
 use exh_page::{Key, PageNo, Record, Value};
@@ -39,12 +40,12 @@ pub(crate) fn answer<P: Pages>(
                 key: *key,
                 value: *value,
             };
-            match store.put(at, item)? {
+            match put(store, at, item)? {
                 Some(value) => Ok(Reply::Was(value)),
                 None => Ok(Reply::New),
             }
         }
-        Call::Del { key } => match store.remove(at, pseudokey, key)? {
+        Call::Del { key } => match remove(store, at, pseudokey, key)? {
             Some(value) => Ok(Reply::Was(value)),
             None => Ok(Reply::None),
         },
