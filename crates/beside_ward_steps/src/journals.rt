@@ -119,7 +119,7 @@ fn run_many(run: &mut Run, get: &Call) -> Result<(), Difference> {
 // The journal has an entry of each call, in order.
 fn ask_many(ward: &mut PlainWard, get: &Call) -> Result<(), Difference> {
     for client in 0..MANY {
-        let hop = hop_of(ward, 0, client, get)?;
+        let hop = hop_of(ward, 0, client, get).map_err(refused)?;
         same(hop == Hop::Done(Reply::None), Part::Reply)?;
     }
     let journal = ward.journal();
