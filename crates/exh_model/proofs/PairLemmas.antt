@@ -76,12 +76,9 @@ turned : {A : Type 0} (b : Bool) (x y : A) → cond (not b) x y ≡ cond b y x
 turned true x y = refl
 turned false x y = refl
 
-same_maps : (m n : KeyMap) → ((key : List ℕ) → fin.get m key ≡ fin.get n key) → m ≡ n
-same_maps m n same = fin.same_map nat_list_cmp_total (fin.slice_cmp-IsAntisymmetric fin.nat_cmp-IsAntisymmetric) m n same
-
 pub from_entries-without : (key : List ℕ) (pairs : List Pair) → fin.from_entries {R = by_bytes} (without key pairs) ≡ fin.remove (fin.from_entries pairs) key
 from_entries-without key pairs =
-    same_maps _ _ (λ other.
+    fin.same_map nat_list_cmp_total (fin.slice_cmp-IsAntisymmetric fin.nat_cmp-IsAntisymmetric) _ _ (λ other.
     get_found other (without key pairs) ∙ find-without key other pairs ∙ turned (eq_by_cmp by_bytes key other) _ _
     ∙ ap (λ b. cond b None (fin.find by_bytes other pairs)) ((eq_by_cmp_equiv nat_list_cmp_total).symm key other)
     ∙ ap (cond (eq_by_cmp by_bytes other key) None) (sym (get_found other pairs)) ∙ sym (fin.get-remove nat_list_cmp_total (fin.from_entries pairs) key other))
@@ -94,7 +91,7 @@ replaced false x y z = refl
 pub from_entries-with : (key value : List ℕ) (pairs : List Pair) → fin.from_entries {R = by_bytes} (without key pairs ++ (key, value) ∷ []) ≡ fin.insert (fin.from_entries pairs) key value
 from_entries-with key value pairs =
     fin.from_entries_push nat_list_cmp_total (fin.slice_cmp-IsAntisymmetric fin.nat_cmp-IsAntisymmetric) (without key pairs) key value (find-without_itself key pairs)
-    ∙ same_maps _ _ (λ other.
+    ∙ fin.same_map nat_list_cmp_total (fin.slice_cmp-IsAntisymmetric fin.nat_cmp-IsAntisymmetric) _ _ (λ other.
     fin.get-insert nat_list_cmp_total (fin.from_entries (without key pairs)) key value other
     ∙ ap (cond (eq_by_cmp by_bytes other key) (Some value)) (ap (λ (m : KeyMap). fin.get m other) (from_entries-without key pairs) ∙ fin.get-remove nat_list_cmp_total (fin.from_entries pairs) key other)
     ∙ replaced (eq_by_cmp by_bytes other key) (Some value) None (fin.get (fin.from_entries pairs) other)
@@ -187,7 +184,7 @@ find-again key value pairs old other None seen is =
 pub from_entries_again : (pairs : List Pair) (i : ℕ) (pair : Pair) (old : List ℕ) → i < length pairs → pair ≡ get_or pairs i pair → fin.get (fin.from_entries {R = by_bytes} (take i pairs)) pair.0 ≡ Some old
     → fin.from_entries {R = by_bytes} (take i pairs) ≡ fin.from_entries (take (i + 1) pairs)
 from_entries_again pairs i pair old within is seen =
-    same_maps _ _ (λ other. get_found other (take i pairs) ∙ sym (find-again pair.0 pair.1 (take i pairs) old other _ (sym (get_found pair.0 (take i pairs)) ∙ seen) refl)
+    fin.same_map nat_list_cmp_total (fin.slice_cmp-IsAntisymmetric fin.nat_cmp-IsAntisymmetric) _ _ (λ other. get_found other (take i pairs) ∙ sym (find-again pair.0 pair.1 (take i pairs) old other _ (sym (get_found pair.0 (take i pairs)) ∙ seen) refl)
     ∙ ap (fin.find by_bytes other) (sym (take_more pairs i pair within ∙ ap (λ p. take i pairs ++ p ∷ []) (sym is))) ∙ sym (get_found other (take (i + 1) pairs)))
 
 -- one pair more, whose key the map lacks

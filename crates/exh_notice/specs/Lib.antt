@@ -2,6 +2,4 @@ pub mod Entry
 pub mod EntryLemmas
 pub mod Fault
 pub mod Images
-pub mod ByteLemmas
-pub mod ImageLemmas
 pub mod Laws

@@ -5,6 +5,7 @@ use Rattle.std.proofs.Math.Pow.{pow_mono}
 use Rattle.exh_prefix.specs.declared.prefix.TheConstants.{LIMIT}
 use Rattle.exh_prefix.specs.BitLemmas.{length-bits_of}
 use Rattle.exh_prefix.specs.Prefix.{low_of}
+use Rattle.exh_prefix.specs.ListLemmas.{one_there}
 use Rattle.exh_page.specs.declared.page.Page.{Page}
 use Rattle.exh_page.specs.declared.page.Page.TheVariants.{Live}
 use Rattle.exh_page.specs.declared.record.Record.{Record}
@@ -29,7 +30,7 @@ use Rattle.exh_ward.specs.declared.sight.Sight.TheVariants.{Home}
 use Rattle.exh_ward.proofs.Home.{AtHome, Fit, reply_is}
 use Rattle.exh_ward.proofs.HomeAfter.{left_by, records_after-left, left_legal, new_map}
 use Rattle.exh_ward.proofs.KeptSteps.{well_formed}
-use Rattle.exh_ward.proofs.Sights.{same_there, answers_at, hop_done}
+use Rattle.exh_ward.proofs.Sights.{answers_at, hop_done}
 
 pub most_pages : {K : Type 0} {pseudo : List ℕ → ℕ} {takes : Page → Type 0} {own : List Bool} {index : IndexMap} {told : ℕ} {w : WardState K} → PagesAreFew → IsKept pseudo takes own index told w → length w.pages ≤ 2 ^ (LIMIT - w.ward_bits)
 most_pages {w = w} law kept =
@@ -84,7 +85,7 @@ module _ {K : Type 0} {pseudo : List ℕ → ℕ} {takes : Page → Type 0} {own
       ∙ ap (Live answers.prefix answers.link) (records_after-left (pseudo (key_of call)) call (leb w.cap (length answers.records)) (value_at (pseudo (key_of call), key_of call) answers.records) answers.records)
 
   there_is : (other : Page) → IsAt w.pages at other → other ≡ page
-  there_is other is = same_there w.pages at other page is answers.home.there
+  there_is other is = one_there w.pages at other page is answers.home.there
 
   pub written_taken : length w.pages < 2 ^ 32 - 1 → (other : Page) → IsAt w.pages at other → takes (with_records (records_after pseudokey call (reply_by full pseudokey call other) (records_of other)) other)
   written_taken few other is =

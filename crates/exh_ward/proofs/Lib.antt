@@ -4,16 +4,13 @@ pub mod StoredPages
 pub mod IndexSeen
 pub mod Sharing
 pub mod RecordCount
-pub mod LeadingBits
 pub mod Home
 pub mod HomeAfter
-pub mod OwnPrefix
 pub mod KeptSteps
 pub mod Sights
 pub mod AnswerSteps
 pub mod NewWard
 pub mod HalvesSteps
-pub mod TableSince
 pub mod ChangeSteps
 pub mod SplitSteps
 pub mod MergeSteps

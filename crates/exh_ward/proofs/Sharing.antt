@@ -7,12 +7,14 @@ use Rattle.std.specs.Cmp.Lexicographic.{slice_cmp}
 use Rattle.std.proofs.lemmas.List.{length-map}
 use Rattle.std.proofs.lemmas.List.Sums.{count_by-le-length, length-filter}
 use Rattle.std.proofs.lemmas.Map.Lookups.{exact_bytes}
+use Rattle.exh_prefix.specs.Leading.{leading}
+use Rattle.exh_prefix.specs.declared.prefix.TheConstants.{LIMIT}
 use Rattle.exh_legal.specs.KeyMap.{KeyMap}
 use Rattle.exh_legal.specs.MapLemmas.{same_maps}
-use Rattle.exh_ward.specs.MapMachine.{leading, sharing}
+use Rattle.exh_ward.specs.MapMachine.{sharing}
 
 abbrev pub shares : (List ℕ → ℕ) → List ℕ → List ℕ → Bool
-shares pseudo key other = leading (pseudo other) == leading (pseudo key)
+shares pseudo key other = leading LIMIT (pseudo other) == leading LIMIT (pseudo key)
 
 module _ (pseudo : List ℕ → ℕ) (key : List ℕ) where
   abbrev kept : List (List ℕ × List ℕ) → List (List ℕ × List ℕ)

@@ -2,12 +2,13 @@
 use Rattle.std.specs.Prelude.{◌≡◌, ◌⊎◌, ℕ, ◌<◌, ◌≤◌, ◌^◌, Bool, List, [], ◌∷◌, ◌++◌, length, map, Result, Ok, Err}
 use Rattle.exh_prefix.specs.declared.prefix.TheConstants.{LIMIT}
 use Rattle.exh_prefix.specs.Prefix.{Begins}
+use Rattle.exh_prefix.specs.Leading.{leading}
 use Rattle.exh_notice.specs.declared.notice.Notice.{Notice}
 use Rattle.exh_page.specs.declared.page.Page.{Page}
 use Rattle.exh_page.specs.Laws.{AreOfWords}
 use Rattle.exh_ward.specs.Call.{key_of}
 use Rattle.exh_ward.specs.KeyMap.{KeyMap}
-use Rattle.exh_ward.specs.MapMachine.{leading, reply_of, map_after}
+use Rattle.exh_ward.specs.MapMachine.{reply_of, map_after}
 use Rattle.exh_ward.specs.History.{IsHistory, map_left}
 use Rattle.exh_ward.specs.HopTable.{HopOf, hop_of, pages_after}
 use Rattle.exh_ward.specs.MergeFunction.{merge_of, ward_after_merge}
@@ -106,8 +107,8 @@ HistoryIsDetermined = (cap : ℕ) (pseudo : List ℕ → ℕ) (base : KeyMap) (o
 
 -- a prefix that begins a pseudokey begins all that share its leading bits, as Full counts them; and one of LIMIT bits begins no others
 pub record AreSharers (prefix : List Bool) (one other : ℕ) : Type 0 where
-  pub begun : Begins prefix one → leading other ≡ leading one → Begins prefix other
-  pub alone : length prefix ≡ LIMIT → Begins prefix one → Begins prefix other → leading other ≡ leading one
+  pub begun : Begins prefix one → leading LIMIT other ≡ leading LIMIT one → Begins prefix other
+  pub alone : length prefix ≡ LIMIT → Begins prefix one → Begins prefix other → leading LIMIT other ≡ leading LIMIT one
 
 abbrev pub SharersBegin : Type 0
 SharersBegin = (prefix : List Bool) (one other : ℕ) → length prefix ≤ LIMIT → one < 2 ^ 64 → other < 2 ^ 64 → AreSharers prefix one other

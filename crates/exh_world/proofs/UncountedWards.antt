@@ -4,13 +4,13 @@ use Rattle.std.specs.Prelude.{slice_set}
 use Rattle.std.specs.Option.{option_map}
 use Rattle.std.proofs.lemmas.List.{map-set}
 use Rattle.std.proofs.lemmas.Option.{slice_get-map, slice_get_past}
+use Rattle.exh_prefix.specs.ListLemmas.{set_same}
 use Rattle.exh_ward.specs.WardState.{WardState, IsSoundWard, IsAnswered, IsUnchanged, LeavesAfter}
 use Rattle.exh_ward.specs.declared.call.Call.{Call}
 use Rattle.exh_ward.specs.declared.hop.Hop.{Hop}
 use Rattle.exh_ward.specs.declared.hop.Hop.TheVariants.{Done, Moved, MustSplit, Stray}
 use Rattle.exh_ward.specs.declared.reply.Reply.{Reply}
 use Rattle.exh_world.specs.Kept.{uncounted}
-use Rattle.exh_world.specs.ListLemmas.{set_same}
 
 -- ---- lists
 

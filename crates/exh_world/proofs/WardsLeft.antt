@@ -2,12 +2,12 @@
 use Rattle.std.proofs.lemmas.List.{map-set}
 use Rattle.std.proofs.Common.{◌≡◌, ℕ, List, map, slice_get, Some, sym, ap, ◌∙◌, inl, inr, subst}
 use Rattle.std.specs.Prelude.{slice_set}
+use Rattle.exh_prefix.specs.ListLemmas.{set_is}
 use Rattle.exh_ward.specs.WardState.{WardState, IsSoundWard}
 use Rattle.exh_world.specs.Kept.{uncounted}
 use Rattle.exh_world.specs.Laws.{AreWardsSound}
 use Rattle.exh_world.specs.Sound.{IsSoundWorld}
 use Rattle.exh_world.specs.World.{WorldState}
-use Rattle.exh_world.specs.ListLemmas.{set_is}
 use Rattle.exh_world.proofs.UncountedWards.{map_there, sound_shown}
 
 -- both worlds show their wards without the counts of failures

@@ -9,7 +9,7 @@ use Rattle.exh_prefix.specs.Prefix.{HasPrefix}
 use Rattle.exh_prefix.specs.Version.{first_version}
 use Rattle.exh_notice.specs.declared.notice_fault.NoticeFault.{NoticeFault}
 use Rattle.exh_notice.specs.Images.{prefix_field}
-use Rattle.exh_notice.specs.ImageLemmas.{first_fits, prefix_field-read}
+use Rattle.exh_notice.proofs.ImagesRead.{first_fits, prefix_field-read}
 use Rattle.exh_notice.proofs.entry_image.read_prefix.Goals as goal
 
 made : (o : Option (List Bool)) (fault : NoticeFault) (len bits : ℕ) → bits < 2 ^ 16 → SomeIff o (HasPrefix len (bits * 2 ^ 48 % 2 ^ 64)) (take len (word_bits (bits * 2 ^ 48 % 2 ^ 64)))

@@ -1,5 +1,5 @@
 use Rattle.std.proofs.Common.{slice_index}
-use Rattle.exh_notice.specs.ImageLemmas.{entry_passes, notice_passes, image_from_tests, notice_from_tests}
+use Rattle.exh_notice.proofs.ImagesRead.{entry_passes, notice_passes, image_from_tests, notice_from_tests}
 use Rattle.exh_notice.proofs.laws.images_pass.Goals as goal
 
 pub returns-clause-entries : goal.returns-clause-entries

@@ -4,8 +4,8 @@ use Rattle.byteorder.specs.Endian.{big_bytes}
 use Rattle.byteorder.specs.Numbers.{length-bytes_high_first}
 use Rattle.exh_notice.specs.Entry.{entry_of}
 use Rattle.exh_notice.specs.Images.{IsEntryImage, IsNoticeImage, entry_image, notice_image}
-use Rattle.exh_notice.specs.ImageLemmas.{first_fits, length-entry_image}
-use Rattle.exh_notice.specs.ImageLemmas as lemmas
+use Rattle.exh_notice.proofs.ImagesRead.{first_fits, length-entry_image}
+use Rattle.exh_notice.proofs.ImagesRead as lemmas
 use Rattle.exh_notice.proofs.laws.one_value.Goals as goal
 
 pub returns-clause-entries : goal.returns-clause-entries

@@ -2,7 +2,7 @@ use Rattle.std.proofs.Common.{◌≡◌, arith}
 use Rattle.std.proofs.lemmas.Grind.{common_steps}
 use Rattle.byteorder.specs.Endian.{big_from}
 use Rattle.exh_prefix.specs.Version.{first_version}
-use Rattle.exh_notice.specs.ImageLemmas.{first_fits, image_from_fields, image_passes, image_has_prefix, reads_every}
+use Rattle.exh_notice.proofs.ImagesRead.{first_fits, image_from_fields, image_passes, image_has_prefix, reads_every}
 use Rattle.exh_notice.proofs.entry.Entry.from_image.Goals as goal
 
 pub returns-in_err-kind-clause-every : goal.returns-in_err-kind-clause-every

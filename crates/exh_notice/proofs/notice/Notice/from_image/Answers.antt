@@ -1,7 +1,7 @@
 use Rattle.std.proofs.Common.{Ok, ap, subst}
 use Rattle.exh_prefix.specs.Version.{first_version}
 use Rattle.exh_notice.specs.Images.{FailsFirst}
-use Rattle.exh_notice.specs.ImageLemmas.{first_fits, notice_from_parts, entry_image_of, one_notice, image_passes}
+use Rattle.exh_notice.proofs.ImagesRead.{first_fits, notice_from_parts, entry_image_of, one_notice, image_passes}
 use Rattle.exh_notice.proofs.notice.Notice.from_image.Goals as goal
 
 pub returns-in_err-ward-clause-every : goal.returns-in_err-ward-clause-every

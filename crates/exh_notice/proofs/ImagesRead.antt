@@ -19,7 +19,7 @@ use Rattle.exh_notice.specs.declared.entry.Kind.TheVariants.{Merge, Split}
 use Rattle.exh_notice.specs.declared.notice.Notice.{Notice}
 use Rattle.exh_notice.specs.declared.notice_fault.NoticeFault.{NoticeFault}
 use Rattle.exh_notice.specs.declared.notice_fault.NoticeFault.TheVariants as fault
-use Rattle.exh_notice.specs.ByteLemmas.{items_all, items-drop, items-add, items-front, items-agree, big_from-agree, length-items, zeros_are_zero, zeros_from, bytes_of_number, big_from-drop}
+use Rattle.exh_notice.proofs.ImageBytes.{items_all, items-drop, items-add, items-front, items-agree, big_from-agree, length-items, zeros_are_zero, zeros_from, bytes_of_number, big_from-drop}
 use Rattle.exh_notice.specs.Images.{items, kind_byte, right_field, prefix_field, entry_image, IsEntryImage, HasKind, IsPadded, HasPrefixField, FailsFirst, PassesAll, IsNoticeImage}
 use Rattle.exh_notice.specs.Entry.{entry_of}
 
