@@ -4,8 +4,8 @@ use anyhow::bail;
 use exh_array::Directory;
 use exh_frames::PlainPages;
 use exh_keyer::{AnyKeyer, Keyer};
-use exh_page::{CAP_LIMIT, Key, PageNo};
-use exh_prefix::LIMIT;
+use exh_page::{CAP_LIMIT, Key};
+use exh_prefix::{LIMIT, PageNo};
 use exh_ward::{Call, Hop, Reply, Ward, WardFault, first_page};
 use std::alloc::Global;
 

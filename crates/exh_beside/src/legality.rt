@@ -6,8 +6,8 @@ ghost use Rattle.exh_prefix.specs.declared.prefix.TheConstants.{LIMIT};
 use crate::difference::{Difference, Part, same};
 use exh_keyer::{Keyer, PlainKeyer};
 use exh_model::MapMachine;
-use exh_page::{Key, Page, PageNo, Records};
-use exh_prefix::Prefix;
+use exh_page::{Key, Page, Records};
+use exh_prefix::{PageNo, Prefix};
 use exh_table::Table;
 
 // The greatest pseudokey that a prefix begins.

@@ -5,7 +5,8 @@ use crate::calls::Asked;
 use crate::difference::{Difference, Part};
 use crate::notices::{merge, prefix, split};
 use exh_notice::Notice;
-use exh_page::{PageNo, SizeFault, Value};
+use exh_page::{SizeFault, Value};
+use exh_prefix::PageNo;
 use exh_ward::{Hop, JournalEntry, Reply};
 use exh_world::{Event, Outcome, StepFault, Turn};
 

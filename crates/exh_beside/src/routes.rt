@@ -8,7 +8,7 @@ use crate::run::Run;
 use crate::small_ward::PlainWard;
 use crate::ward_calls::{hop, merge, split};
 use crate::ward_faults::plain_ward;
-use exh_page::PageNo;
+use exh_prefix::PageNo;
 use exh_route::distance;
 use exh_ward::{Hop, Reply, WardFault};
 

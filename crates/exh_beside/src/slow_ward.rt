@@ -5,8 +5,8 @@ use crate::again::again;
 use exh_keyer::{Keyer, PlainKeyer};
 use exh_model::MapMachine;
 use exh_notice::{Kind, Notice};
-use exh_page::{Page, PageNo};
-use exh_prefix::{LIMIT, Prefix};
+use exh_page::Page;
+use exh_prefix::{LIMIT, PageNo, Prefix};
 use exh_ward::{Call, Hop, Reply, WardFault};
 use std::alloc::AllocError;
 

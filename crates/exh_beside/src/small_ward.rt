@@ -13,8 +13,8 @@ use crate::ward_calls::page;
 use exh_frames::PlainPages;
 use exh_keyer::PlainKeyer;
 use exh_model::MapMachine;
-use exh_page::{Page, PageNo};
-use exh_prefix::Prefix;
+use exh_page::Page;
+use exh_prefix::{PageNo, Prefix};
 use exh_ward::{Ward, first_page};
 use std::alloc::{AllocError, Global};
 

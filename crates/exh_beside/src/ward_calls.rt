@@ -4,7 +4,8 @@ use crate::again::again;
 use exh_frames::Pages;
 use exh_keyer::{Keyer, PlainKeyer};
 use exh_notice::Notice;
-use exh_page::{Page, PageNo};
+use exh_page::Page;
+use exh_prefix::PageNo;
 use exh_ward::{Call, Hop, Ward, WardFault};
 
 // These make a call once, and need nothing of the ward: what calls them is proved with less.

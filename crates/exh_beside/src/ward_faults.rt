@@ -12,8 +12,8 @@ use crate::ward_calls::page;
 use crate::ward_step::WardStep;
 use exh_frames::FailingPages;
 use exh_keyer::PlainKeyer;
-use exh_page::{PageNo, SizeFault, Value};
-use exh_prefix::Prefix;
+use exh_page::{SizeFault, Value};
+use exh_prefix::{PageNo, Prefix};
 use exh_ward::{Hop, Reply, Ward, WardFault};
 use std::alloc::{AllocError, Global};
 

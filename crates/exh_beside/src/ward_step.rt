@@ -4,7 +4,7 @@ use crate::ward_calls::{hop, merge, page, split};
 use exh_frames::Pages;
 use exh_keyer::PlainKeyer;
 use exh_notice::Notice;
-use exh_page::PageNo;
+use exh_prefix::PageNo;
 use exh_ward::{Call, Hop, Ward, WardFault};
 
 /// A step of a ward at a page, and what it comes to, also where that is a refusal.

@@ -17,8 +17,8 @@ use crate::small_ward::SmallWard;
 use crate::ward_calls::{hop, merge, split};
 use exh_keyer::{Keyer, PlainKeyer};
 use exh_notice::{Kind, Notice};
-use exh_page::{Key, Page, PageNo, SizeFault};
-use exh_prefix::{LIMIT, Prefix};
+use exh_page::{Key, Page, SizeFault};
+use exh_prefix::{LIMIT, PageNo, Prefix};
 use exh_ward::{Call, Hop, Reply, WardFault};
 
 // What came up in the runs.

@@ -4,8 +4,8 @@ ghost use Rattle.exh_page.specs.declared.page.Page.{Page};
 ghost use Rattle.exh_frames.specs.PageStore.{CountsFaults, IfPage};
 
 use crate::{FailingPages, Pages, PagesCall, PagesFault, PlainPages};
-use exh_page::{Key, Page, PageNo, Record, Records, Value};
-use exh_prefix::Prefix;
+use exh_page::{Key, Page, Record, Records, Value};
+use exh_prefix::{PageNo, Prefix};
 use std::alloc::Global;
 use std::process::Abort;
 use std::test::Fail;

@@ -2,7 +2,7 @@ ghost use Rattle.std.specs.Prelude.{◌≡◌};
 ghost use Rattle.exh_text.specs.LineFault.{ranged};
 ghost use Rattle.exh_script.specs.Grammar.{call_in_range, line_in_range, line_of, spelled_begin, spelled_call, spelled_change, spelled_copy_step, spelled_deliver, spelled_hop, spelled_in_flight, spelled_number, spelled_pair_of_numbers, spelled_view};
 
-use exh_page::PageNo;
+use exh_prefix::PageNo;
 use exh_text::{
     LineFault, Parts, parse_key, parse_pair, parse_u32, parse_u32_after, parse_u64, split_words,
 };

@@ -1,5 +1,5 @@
 use crate::Reply;
-use exh_page::PageNo;
+use exh_prefix::PageNo;
 
 /// What one hop of a request comes to (exhash profile). Only `Done` changes a ward.
 #[derive(Clone, Copy, Debug, PartialEq, Eq)]

@@ -8,8 +8,8 @@ ghost use Rattle.exh_page.specs.declared.record.Record.{Record};
 ghost use Rattle.exh_ward.specs.LeftHalf.{FitsBeside, IsLeftHalf, NoLeftHalf, NotBeside};
 
 use crate::WardFault;
-use exh_page::{Page, PageNo};
-use exh_prefix::Prefix;
+use exh_page::Page;
+use exh_prefix::{PageNo, Prefix};
 
 /// What a merge has to know of the left half of a parent before it copies a page (Fagin et al.
 /// 1979).

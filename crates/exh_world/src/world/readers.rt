@@ -16,7 +16,8 @@ use crate::{Request, StepFault};
 use exh_array::Directory;
 use exh_frames::Pages;
 use exh_keyer::Keyer;
-use exh_page::{Page, PageNo};
+use exh_page::Page;
+use exh_prefix::PageNo;
 use indexmap::map::Iter;
 
 impl<P: Pages + Drop, K: Keyer> World<P, K> {
