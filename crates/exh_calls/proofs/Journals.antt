@@ -1,5 +1,5 @@
 -- Bytes that are added to those of a journal leave its entries as they are, and are those of the entry added.
-use Rattle.std.proofs.Common.{◌≡◌, ℕ, zero, suc, ◌+◌, ◌<◌, ◌≤◌, List, [], ◌∷◌, ◌++◌, length, take, drop, slice_get, Option, MatchOption, refl, sym, ap, ◌∙◌, arith}
+use Rattle.std.proofs.Common.{◌≡◌, ℕ, ◌+◌, ◌≤◌, List, [], ◌∷◌, ◌++◌, length, take, drop, refl, sym, ap, ◌∙◌, arith}
 use Rattle.std.proofs.lemmas.List.{append_assoc, append-nil, drop-append-le, take-append-le, length-drop, map-append, length-append}
 use Rattle.std.proofs.lemmas.List.Elements.{All-head, All-tail}
 use Rattle.std.proofs.Math.Seq.{drop-append_seam, take-append_seam}
@@ -54,10 +54,3 @@ module _ (texts key value told : List ℕ) (client : ℕ) (call : CallKind) (rep
       let older = ap (λ texts. entries_in texts stored) whole ∙ entries_in-append texts (key ++ (value ++ told)) stored within in
       map-append (entry_in (((texts ++ key) ++ value) ++ told)) stored (added ∷ []) ∙ ap (λ older. older ++ entry_in (((texts ++ key) ++ value) ++ told) added ∷ []) older
       ∙ ap (λ newest. entries_in texts stored ++ newest ∷ []) entry_in-added
-
--- the entry at a place that is left is the first of those left there
-pub first_left : (entries : List JournalEntry) (next : ℕ) (taken : Option JournalEntry) → next < length entries → taken ≡ slice_get entries next
-    → MatchOption taken ((drop next entries ≡ []) × (drop (suc next) entries ≡ [])) (λ entry. drop next entries ≡ entry ∷ drop (suc next) entries)
-first_left [] next taken within is = absurd (omega arith)
-first_left (first ∷ others) zero taken within is = rw is refl
-first_left (first ∷ others) (suc next) taken within is = first_left others next taken (omega arith) is

@@ -13,7 +13,7 @@ use Rattle.exh_codec.specs.ImageTests.{Passes, IsFirst, content_tests, image_tes
 use Rattle.exh_codec.specs.PageImage.{IsLaidOut, IsImage, content_of}
 use Rattle.exh_codec.specs.ReadPages.{GivesPage}
 use Rattle.exh_codec.proofs.Elements.{all_back}
-use Rattle.exh_codec.proofs.TestsPassed.{passes_content, one_page_laid}
+use Rattle.exh_codec.proofs.ImagesPass.{passes_content, one_page_laid}
 use Rattle.exh_codec.proofs.UsedBytes.{length-content_of}
 
 -- where all tests pass, none is the first that fails

@@ -9,11 +9,11 @@ use Rattle.std.proofs.Math.Seq.{take-append_seam}
 use Rattle.exh_prefix.specs.Bits.{word_bits}
 use Rattle.exh_prefix.specs.Prefix.{Begins, begins}
 use Rattle.exh_prefix.specs.PrefixLemmas.{is_front-true, not_front}
+use Rattle.exh_prefix.specs.ListLemmas.{AllByRecursion-append}
 use Rattle.exh_page.specs.declared.record.Record.{Record}
 use Rattle.exh_page.specs.declared.stored_record.StoredRecord.{StoredRecord}
 use Rattle.exh_page.specs.PackedRecords.{ArePacked, IsSized, stored_of, text_of, text_len, records_in}
 use Rattle.exh_page.specs.Page.{begun_by}
-use Rattle.exh_page.specs.RecordsLemmas.{AllByRecursion-append}
 use Rattle.exh_page.proofs.Packed.{start_of, texts_from}
 use Rattle.exh_page.proofs.PackedReads.{as_many, kept_at, start_next, start_inside}
 

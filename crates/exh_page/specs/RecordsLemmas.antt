@@ -8,6 +8,7 @@ use Rattle.std.specs.Ordering.{is_lt, is_eq, is_gt, ordering_reverse, nat_cmp}
 use Rattle.std.proofs.lemmas.List.{append-nil}
 use Rattle.std.proofs.lemmas.Cmp.{nat_cmp_total, nat_list_cmp_total, on_total, then_total}
 use Rattle.std.proofs.lemmas.Map.Lookups.{CmpEqualImpliesEq, exact_pairs, exact_unsigned, exact_bytes}
+use Rattle.exh_prefix.specs.ListLemmas.{AllByRecursion-append}
 use Rattle.exh_page.specs.declared.record.Record.{Record}
 use Rattle.exh_page.specs.Place.{Place, place_cmp, place_of}
 use Rattle.exh_page.specs.Records.{IsRising, is_before, is_at, is_after, value_at, with_record, without_place}
@@ -128,10 +129,6 @@ filter-passes p P holds (r ∷ records) = elim (p r) as (λ b. p r ≡ b → All
   | true ↦ λ is. (holds r is, filter-passes p P holds records)
   | false ↦ λ is. filter-passes p P holds records
 ] refl
-
-pub AllByRecursion-append : (P : Record → Type 0) (front back : List Record) → AllByRecursion P front → AllByRecursion P back → AllByRecursion P (front ++ back)
-AllByRecursion-append P [] back fore aft = aft
-AllByRecursion-append P (r ∷ front) back fore aft = (fore.0, AllByRecursion-append P front back fore.1 aft)
 
 pub AllByRecursion-weaker : (P Q : Record → Type 0) → ((r : Record) → P r → Q r) → (records : List Record) → AllByRecursion P records → AllByRecursion Q records
 AllByRecursion-weaker P Q weaker [] all = tt

@@ -4,7 +4,7 @@ use Rattle.std.specs.Prelude.{◌&&◌}
 use Rattle.std.specs.Int.{is_in_range}
 use Rattle.std.specs.FinMap.{empty, from_entries}
 use Rattle.std.specs.List.{range_with_len}
-use Rattle.std.proofs.lemmas.Bool.{leb-true}
+use Rattle.std.proofs.lemmas.Bool.{leb-true, and_parts}
 use Rattle.exh_keyer.specs.declared.any_keyer.AnyKeyer.{AnyKeyer}
 use Rattle.exh_keyer.specs.Pseudokey.{any_pseudokey}
 use Rattle.exh_page.specs.Page.{records_of}
@@ -30,16 +30,12 @@ use Rattle.exh_script.proofs.KeptWorlds.{IsKept}
 
 -- ---- its settings are in their ranges
 
-both : (one other : Bool) → (one && other) ≡ true → (one ≡ true) × (other ≡ true)
-both true other is = (refl, is)
-both false other is = cc
-
 bits_in_range : (file : Config AnyKeyer) → file_in_range file ≡ true → file.ward_bits ≤ WARD_BITS_LIMIT
 bits_in_range file is =
     let cap = is_in_range 1 CAP_LIMIT file.cap in
     let bits = is_in_range 0 WARD_BITS_LIMIT file.ward_bits in
     let copies = is_in_range 1 COPIES_LIMIT file.copies in
-    leb-true file.ward_bits WARD_BITS_LIMIT (both (leb 0 file.ward_bits) (leb file.ward_bits WARD_BITS_LIMIT) (both cap bits (both (cap && bits) copies is).0).1).1
+    leb-true file.ward_bits WARD_BITS_LIMIT (and_parts (leb 0 file.ward_bits) (leb file.ward_bits WARD_BITS_LIMIT) (and_parts cap bits (and_parts (cap && bits) copies is).0).1).1
 
 by_range : (file read : Config AnyKeyer) (within : Bool) → file_in_range read ≡ within
     → (let settings : Result (Config AnyKeyer) Refusal = opened (cond within (Ok read) (Err Range)) in settings) ≡ Ok file → file.ward_bits ≤ WARD_BITS_LIMIT

@@ -7,6 +7,7 @@ use Rattle.std.proofs.lemmas.List.{append-nil}
 use Rattle.std.proofs.lemmas.Option.{slice_get_within}
 use Rattle.exh_prefix.specs.Bits.{number_of, word_bits}
 use Rattle.exh_prefix.specs.BitLemmas.{length-bits_of, number_of-bits_of}
+use Rattle.exh_prefix.specs.ListLemmas.{set_is}
 use Rattle.exh_keyer.specs.declared.any_keyer.AnyKeyer.{AnyKeyer}
 use Rattle.exh_keyer.specs.Pseudokey.{any_pseudokey}
 use Rattle.exh_calls.specs.Call.{key_of}
@@ -33,7 +34,6 @@ use Rattle.exh_world.specs.declared.outcome.Outcome.TheVariants.{Hopped}
 use Rattle.exh_world.specs.declared.request.Request.{Request}
 use Rattle.exh_world.specs.declared.step_fault.StepFault.{StepFault}
 use Rattle.exh_world.specs.EffectLemmas.{on_effect, on_refusal}
-use Rattle.exh_world.specs.ListLemmas.{set_is}
 use Rattle.exh_world.specs.RequestLemmas.{all_named}
 use Rattle.exh_script.specs.Text.{ScriptWorld}
 use Rattle.exh_script.proofs.LineMoments.{none_answered}

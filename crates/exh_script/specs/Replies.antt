@@ -81,8 +81,8 @@ EnterInOrder before [] entries = entries ≡ []
 EnterInOrder before (turn ∷ turns) entries =
     (here : List JournalEntry) × (rest : List JournalEntry) × (entries ≡ here ++ rest) × Enters before turn.line turn.response here × EnterInOrder (before ++ turn ∷ []) turns rest
 
-abbrev pub DoesNotStray : Turn → Type 0
-DoesNotStray turn = (name : ℕ) → turn.response ≢ Said (Stray name)
+abbrev pub SaysNoStray : Turn → Type 0
+SaysNoStray turn = (name : ℕ) → turn.response ≢ Said (Stray name)
 
 -- ---- the steps that lines ask for, as turns of the world
 
@@ -134,7 +134,7 @@ pub record RepliesAsMap (script : List ℕ) (file : Config AnyKeyer) (lines : Li
   -- copies that took the same are shown the same
   pub shows : ShowTheSame (new_world file) (steps_from (new_world file) lines) (world_left (new_world file) lines)
   -- no hop strays
-  pub no_stray : All DoesNotStray (turns_from (new_world file) lines)
+  pub no_stray : All SaysNoStray (turns_from (new_world file) lines)
 
 -- what a script prints, by how its run ends: where it is refused, that and no reply
 abbrev pub PrintsAs : List ℕ → Ended → Type 0

@@ -10,7 +10,7 @@ use crate::answer_text::{push_copy, push_entry, push_request};
 use exh_array::Directory;
 use exh_frames::PlainPages;
 use exh_keyer::AnyKeyer;
-use exh_page::PageNo;
+use exh_prefix::PageNo;
 use exh_table::Table;
 use exh_text::{push_number, push_place, push_prefix, push_text};
 use exh_ward::PageLine;

@@ -5,6 +5,7 @@ use Rattle.std.proofs.Math.Pow.{pow_mono}
 use Rattle.exh_prefix.specs.declared.prefix.TheConstants.{LIMIT}
 use Rattle.exh_prefix.specs.BitLemmas.{length-bits_of}
 use Rattle.exh_prefix.specs.Prefix.{low_of}
+use Rattle.exh_prefix.specs.ListLemmas.{one_there}
 use Rattle.exh_page.specs.declared.page.Page.{Page}
 use Rattle.exh_page.specs.declared.page.Page.TheVariants.{Live}
 use Rattle.exh_page.specs.declared.record.Record.{Record}
@@ -27,7 +28,7 @@ use Rattle.exh_ward.specs.declared.ward.hop.sight.Sight.TheVariants.{Home}
 use Rattle.exh_ward.proofs.HomeReplies.{AtHome, Fit, reply_is}
 use Rattle.exh_ward.proofs.AnswersKeepLegal.{left_legal, new_map}
 use Rattle.exh_ward.proofs.StepsKeepSound.{well_formed}
-use Rattle.exh_ward.proofs.SightsAreHops.{same_there, answers_at, hop_done}
+use Rattle.exh_ward.proofs.SightsAreHops.{answers_at, hop_done}
 
 pub most_pages : {K : Type 0} {pseudo : List ℕ → ℕ} {takes : Page → Type 0} {own : List Bool} {index : IndexMap} {told : ℕ} {w : WardState K} → PagesAreFew → IsKept pseudo takes own index told w → length w.pages ≤ 2 ^ (LIMIT - w.ward_bits)
 most_pages {w = w} law kept =
@@ -81,7 +82,7 @@ module _ {K : Type 0} {pseudo : List ℕ → ℕ} {takes : Page → Type 0} {own
       ∙ ap (λ full. Live answers.prefix answers.link (records_after full (pseudo (key_of call)) call answers.records)) answers.full_is
 
   there_is : (other : Page) → IsAt w.pages at other → other ≡ page
-  there_is other is = same_there w.pages at other page is answers.home.there
+  there_is other is = one_there w.pages at other page is answers.home.there
 
   pub written_taken : length w.pages < 2 ^ 32 - 1 → (other : Page) → IsAt w.pages at other → takes (with_records (records_after full pseudokey call (records_of other)) other)
   written_taken few other is =

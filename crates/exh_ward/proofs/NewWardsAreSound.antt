@@ -1,12 +1,12 @@
 -- A ward of a new file.
-use Rattle.std.proofs.Common.{◌≡◌, ℕ, zero, suc, ◌<◌, ◌≤◌, Bool, List, [], ◌∷◌, ◌++◌, lit<, None, Some, refl, sym, ap, ◌∙◌, subst, arith, Contains}
+use Rattle.std.proofs.Common.{◌≡◌, ℕ, zero, suc, ◌<◌, ◌≤◌, Bool, List, [], ◌∷◌, lit<, None, Some, refl, sym, ap, ◌∙◌, subst, arith}
 use Rattle.std.specs.FinMap as fin
 use Rattle.std.specs.List.{sum_by}
 use Rattle.exh_prefix.specs.BitLemmas.{length-bits_of}
-use Rattle.exh_prefix.specs.Prefix.{prefix_cmp}
 use Rattle.exh_notice.specs.declared.entry.Entry.{Entry}
 use Rattle.exh_notice.specs.declared.notice.Notice.{Notice}
-use Rattle.exh_table.specs.Table.{TableMap, IsEntryOf, IsTableSince}
+use Rattle.exh_table.specs.Table.{TableMap}
+use Rattle.exh_table.specs.SetLemmas.{no_entries, since_nothing}
 use Rattle.exh_page.specs.declared.page.TheConstants.{CAP_LIMIT}
 use Rattle.exh_page.specs.declared.page.Page.{Page}
 use Rattle.exh_page.specs.declared.page.Page.TheVariants.{Live}
@@ -21,24 +21,10 @@ use Rattle.exh_ward.specs.PageIndex.{IndexMap, IsIndexOf}
 use Rattle.exh_ward.specs.WardState.{WardState}
 use Rattle.exh_ward.specs.declared.ward.TheConstants.{WARD_BITS_LIMIT}
 use Rattle.exh_calls.specs.declared.journal_entry.JournalEntry.{JournalEntry}
-use Rattle.std.proofs.lemmas.List.{nil_from_length}
 use Rattle.std.specs.Ordering.{nat_cmp}
-
--- the table with no entry has no entries
-pub no_entries : fin.entries (let none : TableMap = fin.empty in none) ≡ []
-no_entries = nil_from_length (fin.entries (let none : TableMap = fin.empty in none)) (sym (fin.len-entries (let none : TableMap = fin.empty in none)) ∙ fin.len-empty prefix_cmp Entry)
 
 no_index : index_of fin.empty ≡ 0
 no_index = ap (sum_by (λ (e : List Bool × Entry). e.1.number)) no_entries
-
-nothing_in : (prefix : List Bool) (entry : Entry) → Contains (let none : List (List Bool × Entry) = [] in none) (prefix, entry) → ⊥
-nothing_in prefix entry member = omega (arith, member.1)
-
-since_nothing : IsTableSince fin.empty [] fin.empty
-since_nothing prefix =
-    let told : List (List Bool × Entry) = fin.entries (let none : TableMap = fin.empty in none) ++ [] in
-    let none : (entry : Entry) → Contains told (prefix, entry) → ⊥ = λ entry member. nothing_in prefix entry (subst (λ es. Contains (es ++ []) (prefix, entry)) no_entries member) in
-    subst (IsEntryOf told prefix) (sym (fin.get-empty prefix_cmp prefix)) none
 
 first_alone : (page : Page) (low number : ℕ) → 0 < number → IsPageOf (page ∷ []) low number → ⊥
 first_alone page low zero some is = omega arith

@@ -23,6 +23,7 @@ use Rattle.exh_table.specs.Leaves.{leaves_in}
 use Rattle.exh_table.specs.Laws.{OwnEntries}
 use Rattle.exh_table.specs.Table.{IsTableOf, IsTableSince, TableMap, greater_of, table_with}
 use Rattle.exh_table.specs.Walk.{right_of, split_at, step, walk_in, walk_on}
+use Rattle.exh_table.specs.SetLemmas.{no_entries}
 use Rattle.exh_page.specs.declared.page.Page.{Page}
 use Rattle.exh_page.specs.declared.page.Page.TheVariants.{Live}
 use Rattle.exh_page.specs.Page.{IsWellFormed, low_bound}
@@ -32,16 +33,17 @@ use Rattle.exh_legal.specs.Change.{IsSplit}
 use Rattle.exh_legal.specs.Fit.{FitsPages, IsMergeAt, IsWardEntry}
 use Rattle.exh_legal.specs.Growth.{HasEntryEver, IsGrown, IsLiveAt}
 use Rattle.exh_legal.specs.Laws.{IsChanged, IsWard, LonePagesAreLegal, NamesHome, SplitsKeepLegal, WalksNameHomes}
-use Rattle.exh_legal.specs.LowLemmas.{begins_own_low, low_of-small, right_above}
-use Rattle.exh_legal.specs.MapLemmas.{tie_of}
+use Rattle.exh_prefix.specs.LowLemmas.{begins_own_low, low_of-small, right_above}
+use Rattle.exh_prefix.specs.ListLemmas.{is_equal}
 use Rattle.exh_legal.specs.Numbers.{index_of, number_at}
 use Rattle.exh_legal.specs.Pages.{IsAt, ward_prefix}
+use Rattle.exh_legal.specs.PlaceLemmas.{only_at}
 use Rattle.exh_ward.specs.Kept.{IsKept}
 use Rattle.exh_ward.specs.PageIndex.{IndexMap, IsIndexOf}
 use Rattle.exh_ward.specs.WardState.{WardState}
 use Rattle.exh_calls.specs.declared.journal_entry.JournalEntry.{JournalEntry}
 use Rattle.exh_ward.proofs.ChangesAreTold.{index_grown}
-use Rattle.exh_ward.proofs.NewWardsAreSound.{no_entries, no_pages}
+use Rattle.exh_ward.proofs.NewWardsAreSound.{no_pages}
 
 -- ---- the prefixes
 
@@ -77,7 +79,7 @@ abbrev is_root : List Bool → Bool
 is_root prefix = eq_by_cmp prefix_cmp prefix []
 
 root_is : (prefix : List Bool) → is_root prefix ≡ true → prefix ≡ []
-root_is prefix tied = prefix_cmp-exact prefix [] (tie_of (prefix_cmp prefix []) tied)
+root_is prefix tied = prefix_cmp-exact prefix [] (is_equal (prefix_cmp prefix []) tied)
 
 get_told : (number : ℕ) (prefix : List Bool) → fin.get (told number) prefix ≡ cond (is_root prefix) (Some (entry_of (split_of number))) None
 get_told number prefix =
@@ -160,10 +162,6 @@ halves = Live (false ∷ []) (Some 1) [] ∷ Live (true ∷ []) None [] ∷ []
 
 short : length (let none : List Bool = [] in none) < LIMIT
 short = lit< tt
-
-only_at : (page other : Page) (number : ℕ) → IsAt (page ∷ []) number other → (number ≡ 0) × (other ≡ page)
-only_at page other zero is = (refl, cc)
-only_at page other (suc number) is = cc
 
 alone : (number : ℕ) (page : Page) → IsAt before number page → low_bound page ≡ low_of (true ∷ []) → ⊥
 alone number page is same = absurd (omega (arith, right_above [] short, same, ap low_bound (only_at (Live [] None []) page number is).1))

@@ -128,8 +128,7 @@ fn own_prefix(ward_bits: u8, number: u8) -> Prefix
     requires number { number < 2 ^ ward_bits }
     ensures { result ≡ ward_prefix ward_bits number }
 {
-    let low = (u64::from(number) << (64 - WARD_BITS_LIMIT)) << (WARD_BITS_LIMIT - ward_bits);
-    Prefix::new(ward_bits, low).unwrap()
+    Prefix::of_number(ward_bits, u64::from(number))
 }
 
 /// The first page of a ward of a new file: live, empty, of the ward's own prefix, with no right

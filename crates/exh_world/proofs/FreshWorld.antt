@@ -7,6 +7,7 @@ use Rattle.std.proofs.Math.Seq.{take-nil}
 use Rattle.std.proofs.lemmas.List.FromFn.{length-map-range_with_len, map-range_with_len_more}
 use Rattle.std.proofs.lemmas.Option.{get_or_from_slice_get, slice_get_within, slice_get-get_or}
 use Rattle.exh_prefix.specs.Prefix.{prefix_cmp}
+use Rattle.exh_prefix.specs.ListLemmas.{push_is}
 use Rattle.exh_table.specs.Table.{TableMap}
 use Rattle.exh_table.specs.Walk.{right_of}
 use Rattle.exh_legal.specs.Pages.{ward_prefix}
@@ -18,7 +19,7 @@ use Rattle.exh_world.specs.Sound.{LeadsRight, LeadsRightIn, IsWardOf, IsSoundWor
 use Rattle.exh_world.specs.World.{WorldState, numbered}
 use Rattle.exh_world.specs.InFlight.{Requests}
 use Rattle.exh_world.specs.declared.config.Config.{Config}
-use Rattle.exh_world.specs.ListLemmas.{mapped_is, push_is}
+use Rattle.exh_world.specs.ListLemmas.{mapped_is}
 
 pub replicate_is : {A : Type 0} (n : ℕ) (x y : A) (at : ℕ) → slice_get (replicate n x) at ≡ Some y → y ≡ x
 replicate_is n x y at is =

@@ -10,16 +10,18 @@ use Rattle.std.proofs.lemmas.Bool.{eq-eqb}
 use Rattle.std.proofs.lemmas.Cmp.{nat_list_cmp_total}
 use Rattle.std.proofs.lemmas.List.Sums.{sum_by-cons}
 use Rattle.std.proofs.lemmas.Map.Lookups.{exact_bytes}
-use Rattle.exh_legal.specs.MapLemmas.{tie_of}
 use Rattle.exh_page.specs.KeyMap.{KeyMap}
 use Rattle.exh_calls.specs.Call.{key_of}
 use Rattle.exh_calls.specs.Effect.{Change, Keep, Set, Remove, Effect, effect_of}
-use Rattle.exh_calls.specs.MapMachine.{leading, is_full, effect_in, changed, reply_of, map_after}
+use Rattle.exh_calls.specs.MapMachine.{is_full, effect_in, changed, reply_of, map_after}
 use Rattle.exh_calls.specs.declared.call.Call.{Call}
+use Rattle.exh_prefix.specs.declared.prefix.TheConstants.{LIMIT}
+use Rattle.exh_prefix.specs.Leading.{leading}
+use Rattle.exh_prefix.specs.ListLemmas.{is_equal}
 
 -- the test by which a key counts
 abbrev pub shares : (List ℕ → ℕ) → List ℕ → List ℕ → Bool
-shares pseudo key other = leading (pseudo other) == leading (pseudo key)
+shares pseudo key other = leading LIMIT (pseudo other) == leading LIMIT (pseudo key)
 
 count_here : (p : List ℕ → Bool) (e : List ℕ × List ℕ) (es : List (List ℕ × List ℕ)) (b : Bool) → p e.0 ≡ b → length (cond b (e ∷ where_key (slice_cmp nat_cmp) p es) (where_key (slice_cmp nat_cmp) p es)) ≡ cond b 1 0 + length (where_key (slice_cmp nat_cmp) p es)
 count_here p e es true is = omega arith
@@ -80,7 +82,7 @@ module _ (cap : ℕ) (pseudo : List ℕ → ℕ) (whole own : KeyMap) where
   same_full key alike = ap (nat_le cap) (same_count (shares pseudo key) whole own alike)
 
   own_shares : (key : List ℕ) → shares pseudo key key ≡ true
-  own_shares key = eq-eqb (leading (pseudo key)) (leading (pseudo key)) refl
+  own_shares key = eq-eqb (leading LIMIT (pseudo key)) (leading LIMIT (pseudo key)) refl
 
   same_here : (key : List ℕ) → AreAlike pseudo whole own key → fin.get whole key ≡ fin.get own key
   same_here key alike = alike key (own_shares key)
@@ -95,7 +97,7 @@ module _ (cap : ℕ) (pseudo : List ℕ → ℕ) (whole own : KeyMap) where
 
   -- what isn't changed is the same, at the call's key by the part
   unchanged : (key other : List ℕ) → AreAlike pseudo whole own key → (tied : Bool) → eq_by_cmp (slice_cmp nat_cmp) other key ≡ tied → fin.get whole other ≡ cond tied (fin.get own other) (fin.get whole other)
-  unchanged key other alike true is = let same = exact_bytes other key (tie_of (slice_cmp nat_cmp other key) is) in subst (λ k. fin.get whole k ≡ fin.get own k) (sym same) (same_here key alike)
+  unchanged key other alike true is = let same = exact_bytes other key (is_equal (slice_cmp nat_cmp other key) is) in subst (λ k. fin.get whole k ≡ fin.get own k) (sym same) (same_here key alike)
   unchanged key other alike false is = refl
 
   -- what is inserted or removed at the call's key is so in the part too

@@ -29,7 +29,7 @@ use Rattle.exh_world.specs.Headline.{CombinesLeast, IsNamed, DoesNotStray, AreTa
 use Rattle.exh_world.specs.HeadlineLaws.{AreWorldsOf, RunsGoStepByStep, LeavesToNotices, notices_taken, IsTableWithNotices, CopiesTakeNotices, SameNoticesSameTables, CombinesJoin, IsAtTheOneLeaf, Answers, AnswersComeFromTheOneLeaf, HopsLeadOn, OnlyAnswersChangeTheMap, RepliesFollowTheAnswersBefore}
 use Rattle.exh_world.specs.Run.{Moment, IsRun, Told, known_by, known_at_end, Answered, answered_by, answered_at, answered_in, prefix_of, prefix_at, entry_of}
 use Rattle.exh_world.specs.Step.{HasHopped, HasEffect, Step}
-use Rattle.exh_world.specs.World.{WorldState, numbered, leaves_in, changes_in, map_in}
+use Rattle.exh_world.specs.World.{WorldState, numbered, current_leaves, changes_in, map_in}
 use Rattle.exh_world.specs.declared.event.Event.{Event}
 use Rattle.exh_world.specs.declared.event.Event.TheVariants.{Hop as HopOn, Combine}
 use Rattle.exh_world.specs.declared.outcome.Outcome.{Outcome}
@@ -193,7 +193,7 @@ module _ {K : Type 0} (pseudokey_of : K → List ℕ → ℕ) where
     ward_there : slice_get moment.before.wards request.ward ≡ Some has.before
     ward_there = subst (λ (r : Request). slice_get moment.before.wards r.ward ≡ Some has.before) request_is (subst (λ n. slice_get moment.before.wards n ≡ Some has.before) has.ward_is has.found)
 
-    named_now : IsName (leaves_in moment.before request.ward) request.pseudokey (prefix_at moment.before request.ward request.page)
+    named_now : IsName (current_leaves moment.before request.ward) request.pseudokey (prefix_at moment.before request.ward request.page)
     named_now =
         subst (λ start. IsName (ward_leaves start (ward_prefix moment.before.ward_bits request.ward) (changes_in moment.before request.ward)) request.pseudokey (prefix_at moment.before request.ward request.page)) (sym first_is)
         (subst (λ n. IsName (ward_leaves first (ward_prefix n request.ward) (changes_in moment.before request.ward)) request.pseudokey (prefix_at moment.before request.ward request.page)) (sym bits_is) named_here)
@@ -202,7 +202,7 @@ module _ {K : Type 0} (pseudokey_of : K → List ℕ → ℕ) where
     at_page (Live prefix right records) pseudokey is home =
         let same : prefix_at moment.before request.ward request.page ≡ prefix =
         ap (λ w. option_map_or (λ state. option_map_or prefix_of (slice_get state.pages request.page) []) w []) ward_there ∙ ap (λ p. option_map_or prefix_of p []) is in
-        let name = subst (IsName (leaves_in moment.before request.ward) request.pseudokey) same named_now in
+        let name = subst (IsName (current_leaves moment.before request.ward) request.pseudokey) same named_now in
         record { ward = has.before; there = ward_there; prefix = prefix; right = right; records = records; live = is; begins = name.begins; leaf = name.leaf; only = name.only }
     at_page (Forward low target) pseudokey is home = absurd home
 

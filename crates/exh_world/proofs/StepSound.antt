@@ -1,6 +1,7 @@
 -- A step of a sound world leaves it sound, and no hop of it strays.
 use Rattle.std.proofs.Common.{◌≡◌, ℕ, List, [], ◌∷◌, ◌++◌, slice_get, Some, Result, Ok, Err, sym, ap, ◌∙◌, subst}
 use Rattle.std.specs.Prelude.{slice_set}
+use Rattle.exh_prefix.specs.ListLemmas.{set_here}
 use Rattle.exh_notice.specs.declared.notice.Notice.{Notice}
 use Rattle.exh_legal.specs.Laws.{RightLinksLeadOn, TargetsLeadOn}
 use Rattle.exh_ward.specs.HopTable.{HopOf}
@@ -20,7 +21,6 @@ use Rattle.exh_world.specs.declared.outcome.Outcome.{Outcome}
 use Rattle.exh_world.specs.declared.request.Request.{Request}
 use Rattle.exh_world.specs.declared.step_fault.StepFault.{StepFault}
 use Rattle.exh_world.specs.EffectLemmas.{on_effect, on_refusal}
-use Rattle.exh_world.specs.ListLemmas.{set_here}
 use Rattle.exh_world.specs.RequestLemmas.{all_named}
 use Rattle.exh_world.proofs.BegunSound.{begun_sound}
 use Rattle.exh_world.proofs.HoppedSound.{same_sound, moved_sound, answered_sound, no_stray}

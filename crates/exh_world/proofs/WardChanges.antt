@@ -9,7 +9,7 @@ use Rattle.exh_ward.specs.declared.ward_fault.WardFault.{WardFault}
 use Rattle.exh_ward.specs.declared.ward_fault.WardFault.TheVariants.{Memory, Page}
 use Rattle.exh_world.specs.Kept.{IsKept}
 use Rattle.exh_world.specs.Laws.{StepsKeepWorldsSound}
-use Rattle.exh_world.specs.ListLemmas.{set_same}
+use Rattle.exh_prefix.specs.ListLemmas.{set_same}
 use Rattle.exh_world.specs.Sound.{IsSoundWorld}
 use Rattle.exh_world.specs.Step.{HasChanged, CountsFailure, IsChangeRefused, LeavesRefused, Step}
 use Rattle.exh_world.specs.World.{WorldState}

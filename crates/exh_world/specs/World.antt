@@ -1,7 +1,7 @@
 -- A world: the wards of a file, the copies of its directory, the tables sent between them, and the requests in flight.
-use Rattle.std.specs.Prelude.{ℕ, zero, suc, List, [], drop, take, flat_map, slice_get, Option, None}
+use Rattle.std.specs.Prelude.{ℕ, zero, suc, List, [], drop, flat_map, slice_get, Option, None}
 use Rattle.std.specs.Option.{option_map_or}
-use Rattle.exh_prefix.specs.Bits.{number_of, word_bits}
+use Rattle.exh_prefix.specs.Leading.{leading}
 use Rattle.exh_notice.specs.declared.notice.Notice.{Notice}
 use Rattle.exh_table.specs.Table.{TableMap}
 use Rattle.exh_table.specs.Leaves.{PrefixSet, ward_leaves}
@@ -29,7 +29,7 @@ numbered items (suc number) = slice_get items number
 
 -- the ward of a pseudokey: its leading bits, as a number
 abbrev pub ward_of : ℕ → ℕ → ℕ
-ward_of ward_bits pseudokey = number_of (take ward_bits (word_bits pseudokey))
+ward_of ward_bits pseudokey = leading ward_bits pseudokey
 
 -- ---- what the world holds
 
@@ -42,8 +42,8 @@ abbrev pub changes_in : {K : Type 0} → WorldState K → ℕ → List Notice
 changes_in world number = option_map_or (λ noticed. drop noticed (issued_in world number)) (slice_get world.noticed number) []
 
 -- the leaves of the current directory that belong to a ward
-abbrev pub leaves_in : {K : Type 0} → WorldState K → ℕ → PrefixSet
-leaves_in world number = ward_leaves world.start (ward_prefix world.ward_bits number) (changes_in world number)
+abbrev pub current_leaves : {K : Type 0} → WorldState K → ℕ → PrefixSet
+current_leaves world number = ward_leaves world.start (ward_prefix world.ward_bits number) (changes_in world number)
 
 -- the map of all records of all wards
 abbrev pub map_in : {K : Type 0} → WorldState K → KeyMap

@@ -18,7 +18,7 @@ use crate::{Request, StepFault};
 use exh_array::Directory;
 use exh_frames::Pages;
 use exh_keyer::Keyer;
-use exh_page::PageNo;
+use exh_prefix::PageNo;
 use exh_ward::PageLine;
 use indexmap::map::Iter;
 

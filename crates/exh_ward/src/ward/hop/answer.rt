@@ -7,7 +7,8 @@ ghost use Rattle.exh_ward.specs.PageAnswer.{reply_by, records_after};
 use super::write::{put, remove};
 use exh_calls::{Call, Reply};
 use exh_frames::{Pages, PagesFault};
-use exh_page::{Key, PageNo, Record, Value};
+use exh_page::{Key, Record, Value};
+use exh_prefix::PageNo;
 
 /// Answers a call at its home page. `full`: the page has as many records as a page may.
 pub(crate) fn answer<P: Pages>(

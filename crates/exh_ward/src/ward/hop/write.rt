@@ -8,7 +8,8 @@ ghost use Rattle.exh_page.specs.Records.{value_at, with_record, without_place};
 ghost use Rattle.exh_page.specs.Search.{IsSought};
 
 use exh_frames::{Pages, PagesFault};
-use exh_page::{Key, Page, PageNo, Record, Spot, Value};
+use exh_page::{Key, Page, Record, Spot, Value};
+use exh_prefix::PageNo;
 
 /// Puts a record into a live page, and answers the value that it replaces, or `None` where it is
 /// new.

@@ -2,6 +2,7 @@ use Rattle.std.specs.Prelude.{slice_get}
 use Rattle.std.proofs.lemmas.Option.{slice_get_read, slice_get_past}
 use Rattle.exh_ward.specs.WardState.{WardState}
 use Rattle.std.proofs.Common.{◌≡◌, ◌≤◌, length, None, Some, IsSome, inl, refl, List, sym, ◌∙◌, subst, Ok}
+use Rattle.exh_prefix.specs.ListLemmas.{within_there}
 use Rattle.exh_array.specs.Pointers.{DirectoryState}
 use Rattle.exh_world.specs.Kept.{IsKept, IsPlaceOf, HaveIndexesInTurn}
 use Rattle.exh_world.specs.Step.{HasTaken}
@@ -10,7 +11,6 @@ use Rattle.exh_world.specs.declared.event.Event.TheVariants.{Deliver}
 use Rattle.exh_world.specs.declared.outcome.Outcome.TheVariants.{Taken}
 use Rattle.exh_world.proofs.CopyArrays.{table_placed, table_there, arrays_kept}
 use Rattle.exh_world.proofs.CopySteps.{all_above, kept_after, is_copy, has_taken, with_tables, refused_same, same_copies, lent_there, indexes_in_turn, no_notice}
-use Rattle.exh_world.specs.ListLemmas.{within_there}
 use Rattle.exh_world.proofs.world.World.deliver.Given as Given
 use Rattle.exh_world.proofs.world.World.deliver.Goals as goal
 

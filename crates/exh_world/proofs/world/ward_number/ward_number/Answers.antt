@@ -1,5 +1,10 @@
-use Rattle.exh_world.proofs.WardNumber.{ward_by_shifts}
+use Rattle.std.proofs.Common.{◌^◌, ◌≤◌, arith}
+use Rattle.std.proofs.Math.Pow.{pow_mono}
+use Rattle.exh_prefix.specs.LeadingLemmas.{leading-lt}
+use Rattle.exh_ward.specs.declared.ward.TheConstants.{WARD_BITS_LIMIT}
 use Rattle.exh_world.proofs.world.ward_number.ward_number.Goals as goal
 
-pub returns : goal.returns
-returns c = ward_by_shifts c.args.ward_bits c.args.pseudokey c.requires c.ranges.pseudokey.fits
+pub overflow_cast-result : goal.overflow_cast-result
+overflow_cast-result c =
+    let most : 2 ^ c.args.ward_bits ≤ 2 ^ WARD_BITS_LIMIT = pow_mono c.requires in
+    omega (arith, leading-lt c.args.ward_bits c.args.pseudokey (omega (arith, c.requires)), most, c.leading.ensures)

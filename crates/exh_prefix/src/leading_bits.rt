@@ -1,0 +1,28 @@
+ghost use Rattle.std.specs.Prelude.{◌≡◌, ◌^◌, ◌<◌, ◌≤◌};
+ghost use Rattle.exh_prefix.specs.Leading.{leading, first_pseudokey};
+
+/// The leading bits of a pseudokey, `count` of them, as a number. The number of a pseudokey's ward
+/// is that of its leading bits by which the file is cut.
+pub fn leading(count: u8, pseudokey: u64) -> u64
+    requires { count ≤ 64 }
+    ensures { result ≡ leading count pseudokey }
+{
+    // A shift by all 64 bits isn't defined.
+    if count == 0 {
+        return 0;
+    }
+    pseudokey >> (64 - count)
+}
+
+// The first pseudokey whose leading bits, `count` of them, are the number.
+pub(crate) fn first_pseudokey(count: u8, number: u64) -> u64
+    requires count { count ≤ 64 }
+    requires number { number < 2 ^ count }
+    ensures first { result ≡ first_pseudokey count number }
+    ensures leading { leading count result ≡ number }
+{
+    if count == 0 {
+        return 0;
+    }
+    number << (64 - count)
+}
