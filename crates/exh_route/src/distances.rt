@@ -11,7 +11,7 @@ ghost use Rattle.exh_route.specs.FirstLive.{lead_of, IsFirstLive, IsLivePage};
 use exh_frames::Pages;
 use exh_keyer::Keyer;
 use exh_legal::pages_are_few;
-use exh_page::PageNo;
+use exh_prefix::PageNo;
 use exh_ward::{PageLine, Ward, WardFault};
 
 // Where a page leads on to.

@@ -7,7 +7,7 @@ use Rattle.exh_page.specs.declared.page.Page.{Page}
 use Rattle.exh_page.specs.Laws.{AreOfWords}
 use Rattle.exh_calls.specs.Call.{key_of}
 use Rattle.exh_page.specs.KeyMap.{KeyMap}
-use Rattle.exh_calls.specs.MapMachine.{leading, reply_of, map_after}
+use Rattle.exh_calls.specs.MapMachine.{reply_of, map_after}
 use Rattle.exh_calls.specs.History.{IsHistory, map_left}
 use Rattle.exh_ward.specs.HopTable.{HopOf, hop_of, pages_after}
 use Rattle.exh_ward.specs.MergeFunction.{merge_of, ward_after_merge}
