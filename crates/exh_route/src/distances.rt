@@ -33,8 +33,8 @@ struct FirstLive {
 }
 
 /// How many moves a page is from the answer for a pseudokey: the forwarding pages on the way to the
-/// first live page, and the live pages whose low bound is above that one's and at most the pseudokey
-///. It reads those pages and two more at most, and copies none. Refused: `NoPage`;
+/// first live page, and the live pages whose low bound is above that one's and at most the pseudokey.
+/// It reads those pages and two more at most, and copies none. Refused: `NoPage`;
 /// at any point `Memory` and `Page`. The ward is as before.
 pub fn distance<P: Pages + Drop, K: Keyer>(
     ward: &mut Ward<P, K>,

@@ -1,8 +1,7 @@
 ghost use Rattle.std.specs.Prelude.{◌≡◌, ◌-◌, ◌^◌};
 ghost use Rattle.exh_text.specs.Numbers.{number_spelled, index_spelled, number_after, digits_up_to};
 
-/// The index that a word spells: `0`, or decimal digits without a leading zero, at most 18,446,744,073,709,551,615
-///.
+/// The index that a word spells: `0`, or decimal digits without a leading zero, at most 18,446,744,073,709,551,615.
 #[tactic(auto, using(crate::proofs::Numbers::numeral_cases))]
 pub fn parse_u64(word: &[u8]) -> Option<u64>
     ensures { result ≡ index_spelled word.now }
