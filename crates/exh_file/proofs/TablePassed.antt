@@ -1,5 +1,5 @@
 -- The tests of a table block: which fails first, and that images pass them.
-use Rattle.std.proofs.Common.{◌≡◌, ◌≢◌, ℕ, zero, suc, ◌+◌, ◌*◌, ◌-◌, ◌<◌, ◌≤◌, ◌⊎◌, inl, inr, Bool, List, [], ◌∷◌, ◌++◌, length, take, drop, slice_index, replicate, Option, Result, Ok, Err, refl, sym, ap, ◌∙◌, append_assoc, append-nil, subst, arith}
+use Rattle.std.proofs.Common.{◌≡◌, ◌≢◌, ℕ, zero, suc, ◌+◌, ◌*◌, ◌-◌, ◌<◌, ◌≤◌, inl, inr, Bool, List, [], ◌∷◌, ◌++◌, length, take, drop, slice_index, replicate, Option, Result, Ok, Err, refl, sym, ap, ◌∙◌, append_assoc, append-nil, subst, arith}
 use Rattle.std.specs.Prelude.{IsErrAnd, IfErr, MatchResult}
 use Rattle.std.specs.List.{AllByRecursion, flat_map}
 use Rattle.std.specs.Option.{option_to_list}
@@ -8,18 +8,17 @@ use Rattle.std.proofs.lemmas.List.{get_or-take, get_or-drop, get_or_past, length
 use Rattle.exh_prefix.specs.Version.{Version, Fits}
 use Rattle.exh_notice.specs.declared.notice_fault.NoticeFault.{NoticeFault}
 use Rattle.exh_notice.specs.declared.notice_fault.NoticeFault.TheVariants as entries
-use Rattle.exh_notice.specs.Images.{FailsFirst, PassesAll, HasKind, IsPadded}
+use Rattle.exh_notice.specs.Images.{FailsFirst, PassesAll}
 use Rattle.exh_notice.specs.ImageLemmas.{entry_passes, image_passes, image_from_tests}
 use Rattle.exh_codec.specs.declared.image_fault.ImageFault.{ImageFault}
 use Rattle.exh_codec.specs.declared.image_fault.ImageFault.TheVariants as images
-use Rattle.exh_codec.specs.Block.{IsSealed, AreZero}
+use Rattle.exh_codec.specs.Block.{IsSealed}
 use Rattle.exh_codec.specs.BlockLemmas.{length-padded, padded_front, padded_rest, padded_from, sealed_content, sealed_is_sealed, sealed_from}
 use Rattle.exh_codec.specs.PageImage.{padded}
 use Rattle.exh_file.specs.declared.file_entry.FileEntry.{FileEntry}
-use Rattle.exh_file.specs.FirstFailing.{IsFirstFailing}
 use Rattle.exh_file.specs.ReadEntries.{FailsAtEntry}
-use Rattle.exh_file.specs.TableImage.{AreEntries, AreRising, IsFileEntry, IsTableImage, image_of, prefixes_of}
-use Rattle.exh_file.specs.TableTests.{TableTest, Digest, OfEntry, Behind, Order, PassesTable, PassesEntry, IsPaddedBehind, IsFirstFault, IsOrdered, entry_bytes, entry_tests, table_tests, table_fault, entry_fault}
+use Rattle.exh_file.specs.TableImage.{AreEntries, AreRising, IsTableImage, image_of, prefixes_of}
+use Rattle.exh_file.specs.TableTests.{TableTest, Digest, OfEntry, Behind, Order, PassesTable, PassesEntry, IsPaddedBehind, IsFirstFault, IsOrdered, entry_bytes, entry_tests, table_tests}
 use Rattle.exh_file.specs.Laws.{IsOfTable}
 use Rattle.exh_prefix.specs.ListLemmas.{AllByRecursion-append_left, AllByRecursion-append_right, AllByRecursion-append}
 use Rattle.exh_file.proofs.TableBytes.{length-images, rest_behind, front_before, next_entry, entry_at, same_entries, same_padded}
