@@ -4,7 +4,7 @@ use super::{LIMIT, Prefix};
 use crate::{
     beginners_nest, begins_its_range, children_part, equality_is_of_bits, leading,
     leading_bits_tell, left_child_keeps_low, order_is_by_low_bound, order_is_total,
-    right_child_clears,
+    right_child_clears, ward_number,
 };
 use std::alloc::Global;
 use std::cmp::Ordering;
@@ -159,6 +159,7 @@ fn laws_hold(parent: Prefix, left: Prefix, right: Prefix, pseudokey: u64) -> boo
     right.begins(pseudokey)
         && !left.begins(pseudokey)
         && leading(4, pseudokey) == 7
+        && ward_number(3, pseudokey) == 3
         && Prefix::of_number(4, 7) == right
         && parent.child(true) == Some(right)
         && right.parent() == Some(parent)
