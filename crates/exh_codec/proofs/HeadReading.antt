@@ -9,7 +9,7 @@ use Rattle.byteorder.specs.Numbers.{big_number-reads_back}
 use Rattle.exh_codec.specs.declared.head.Head.{Head}
 use Rattle.exh_codec.specs.declared.kind.Kind.{Kind}
 use Rattle.exh_codec.specs.declared.kind.Kind.TheVariants.{Live, Forward}
-use Rattle.exh_codec.specs.Head.{head_bytes, IsReadHead, kind_byte}
+use Rattle.exh_codec.specs.Head.{head_bytes, IsReadHead, page_kind_byte}
 
 abbrev pub AreBytes : List ℕ → Type 0
 AreBytes bytes = (i : ℕ) → get_or bytes i 0 < 256
@@ -83,13 +83,13 @@ head_back block head long fits read fourth =
     ∙ ap (λ (front : List ℕ). front ++ take 8 (drop 8 block)) link ∙ ap (λ (back : List ℕ). big_bytes 4 head.link ++ back) low in
     take-add 4 12 block ∙ ap (λ (front : List ℕ). front ++ take 12 (drop 4 block)) (take_four block (omega (arith, long)))
     ∙ ap (λ (n : ℕ). n ∷ get_or block 1 0 ∷ get_or block 2 0 ∷ get_or block 3 0 ∷ take 12 (drop 4 block)) read.kind
-    ∙ ap (λ (n : ℕ). kind_byte head.kind ∷ n ∷ get_or block 2 0 ∷ get_or block 3 0 ∷ take 12 (drop 4 block)) read.prefix_len
-    ∙ ap (λ (n : ℕ). kind_byte head.kind ∷ head.prefix_len ∷ n ∷ get_or block 3 0 ∷ take 12 (drop 4 block)) read.count
-    ∙ ap (λ (n : ℕ). kind_byte head.kind ∷ head.prefix_len ∷ head.count ∷ n ∷ take 12 (drop 4 block)) fourth
-    ∙ ap (λ (back : List ℕ). kind_byte head.kind ∷ head.prefix_len ∷ head.count ∷ 0 ∷ back) later
+    ∙ ap (λ (n : ℕ). page_kind_byte head.kind ∷ n ∷ get_or block 2 0 ∷ get_or block 3 0 ∷ take 12 (drop 4 block)) read.prefix_len
+    ∙ ap (λ (n : ℕ). page_kind_byte head.kind ∷ head.prefix_len ∷ n ∷ get_or block 3 0 ∷ take 12 (drop 4 block)) read.count
+    ∙ ap (λ (n : ℕ). page_kind_byte head.kind ∷ head.prefix_len ∷ head.count ∷ n ∷ take 12 (drop 4 block)) fourth
+    ∙ ap (λ (back : List ℕ). page_kind_byte head.kind ∷ head.prefix_len ∷ head.count ∷ 0 ∷ back) later
 
 -- one block says one head
-same_kind : (one other : Kind) → kind_byte one ≡ kind_byte other → one ≡ other
+same_kind : (one other : Kind) → page_kind_byte one ≡ page_kind_byte other → one ≡ other
 same_kind Live Live same = refl
 same_kind Live Forward same = absurd (omega (arith, same))
 same_kind Forward Live same = absurd (omega (arith, same))

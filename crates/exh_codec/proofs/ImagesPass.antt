@@ -10,9 +10,10 @@ use Rattle.exh_page.specs.declared.page.Page.TheVariants.{Live, Forward}
 use Rattle.exh_page.specs.declared.record.Record.{Record}
 use Rattle.exh_page.specs.Records.{IsRising}
 use Rattle.exh_codec.specs.declared.head.Head.{Head}
-use Rattle.exh_codec.specs.Cells.{Pair, pair_of}
+use Rattle.exh_page.specs.KeyMap.{pair_of}
+use Rattle.exh_codec.specs.Cells.{Pair}
 use Rattle.exh_codec.specs.Head.{head_of, link_number}
-use Rattle.exh_codec.specs.ImageTests.{record_of, HasCells, HasKind, HasLengths, IsPadded, HasBound, IsOrdered, Passes, content_tests, prefix_len_of, low_in}
+use Rattle.exh_codec.specs.ImageTests.{record_of, HasCells, HasPageKind, HasLengths, IsPaddedPage, HasBound, HasRisingRecords, Passes, content_tests, prefix_len_of, low_in}
 use Rattle.exh_codec.specs.PageImage.{IsPage, IsLaidOut}
 use Rattle.exh_codec.specs.Block.{AreZero}
 use Rattle.exh_codec.proofs.HeadReading.{same_heads}
@@ -51,7 +52,7 @@ module _ (version : Version) (fits : Fits 8 version) where
     cells = (pairs_in (Forward low target), zeros_of (Forward low target), said.cells);
   }
 
-  passes_padding : (page : Page) (block : List ℕ) → Says version page block → IsPadded version block
+  passes_padding : (page : Page) (block : List ℕ) → Says version page block → IsPaddedPage version block
   passes_padding page block said = record {
     fourth = said.fourth;
     head = said.padding;
@@ -92,14 +93,14 @@ module _ (version : Version) (fits : Fits 8 version) where
   rising_pairs pseudo (Live prefix right records) page = subst IsRising (sym (records_of_pairs pseudo records page.formed.0.hashed)) page.formed.0.rising
   rising_pairs pseudo (Forward low target) page = tt
 
-  passes_order : (pseudo : List ℕ → ℕ) (page : Page) (block : List ℕ) → IsPage version pseudo page → Says version page block → IsOrdered pseudo block
+  passes_order : (pseudo : List ℕ → ℕ) (page : Page) (block : List ℕ) → IsPage version pseudo page → Says version page block → HasRisingRecords pseudo block
   passes_order pseudo page block valid said = of_its_pairs page block said (λ (pairs : List Pair). IsRising (map (record_of pseudo) pairs)) (rising_pairs pseudo page valid)
 
   -- a page's block passes the tests of a content
   pub passes_content : (pseudo : List ℕ → ℕ) (page : Page) (block : List ℕ) → IsLaidOut version pseudo page block → AllByRecursion (Passes version pseudo block) content_tests
   passes_content pseudo page block laid =
       let said = says version fits pseudo page block laid in
-      let kind : HasKind block = ((head_of page).kind, said.head.kind) in (
+      let kind : HasPageKind block = ((head_of page).kind, said.head.kind) in (
         kind,
         (passes_lengths pseudo page block laid.valid said, (passes_padding page block said, (passes_bound pseudo page block laid.valid said, (passes_order pseudo page block laid.valid said, tt)))),
       )

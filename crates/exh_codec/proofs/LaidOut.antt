@@ -11,7 +11,8 @@ use Rattle.exh_prefix.specs.Version.{Version, Fits}
 use Rattle.exh_page.specs.declared.page.Page.{Page}
 use Rattle.exh_page.specs.declared.page.Page.TheVariants.{Live, Forward}
 use Rattle.exh_page.specs.Page.{records_of}
-use Rattle.exh_codec.specs.Cells.{Pair, pair_image, pair_of}
+use Rattle.exh_page.specs.KeyMap.{pair_of}
+use Rattle.exh_codec.specs.Cells.{Pair, pair_image}
 use Rattle.exh_codec.specs.Head.{head_of, head_bytes, link_number, IsReadHead}
 use Rattle.exh_codec.specs.ImageTests.{HasCells, low_in}
 use Rattle.exh_codec.specs.PageImage.{IsInRange, IsPage, IsLaidOut, content_of, used_of}

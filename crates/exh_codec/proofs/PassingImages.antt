@@ -11,10 +11,10 @@ use Rattle.exh_page.specs.declared.page.Page.TheVariants as pages
 use Rattle.exh_codec.specs.declared.head.Head.{Head}
 use Rattle.exh_codec.specs.declared.kind.Kind.{Kind}
 use Rattle.exh_codec.specs.declared.kind.Kind.TheVariants.{Live, Forward}
-use Rattle.exh_codec.specs.Head.{link_number, kind_byte}
-use Rattle.exh_codec.specs.ImageTests.{record_of, HasLengths, IsPadded, HasBound, IsOrdered, IsOfKind, Passes, image_tests, count_of, prefix_len_of}
+use Rattle.exh_codec.specs.Head.{link_number, page_kind_byte}
+use Rattle.exh_codec.specs.ImageTests.{record_of, HasLengths, IsPaddedPage, HasBound, HasRisingRecords, IsOfKind, Passes, image_tests, count_of, prefix_len_of}
 use Rattle.exh_codec.specs.PageImage.{IsImage, IsLaidOut}
-use Rattle.exh_codec.specs.ReadPages.{IsLivePage, HasLow}
+use Rattle.exh_codec.specs.ReadPages.{IsReadLivePage, HasLow}
 use Rattle.exh_codec.proofs.FirstFault.{image_from_parts}
 use Rattle.exh_codec.proofs.HeadReading.{AreBytes}
 use Rattle.exh_codec.proofs.ReadBack.{IsReadBlock, low_said, begins_back, live_laid, forward_laid}
@@ -31,7 +31,7 @@ right_of link = elim (cases_eq link (2 ^ 32 - 1)) [
 ]
 
 module _ (version : Version) (fits : Fits 8 version) where
-  read_from_tests : (block : List ℕ) (kind : Kind) → length block ≡ 4096 → AreBytes block → IsOfKind kind block → (lengths : HasLengths block) → IsPadded version block
+  read_from_tests : (block : List ℕ) (kind : Kind) → length block ≡ 4096 → AreBytes block → IsOfKind kind block → (lengths : HasLengths block) → IsPaddedPage version block
       → IsReadBlock version block (head_in kind block) lengths.cells.0 lengths.cells.1
   unfolding head_in
   read_from_tests block kind len small is lengths padded = record {
@@ -39,14 +39,14 @@ module _ (version : Version) (fits : Fits 8 version) where
     fits = small;
     says = record { kind = is; prefix_len = refl; count = refl; link = refl; low = refl };
     few = lengths.few;
-    forward = λ forward. lengths.forward (is ∙ ap kind_byte forward);
+    forward = λ forward. lengths.forward (is ∙ ap page_kind_byte forward);
     cells = lengths.cells.2;
     fourth = padded.fourth;
     padding = padded.head;
     zeros = padded.tail lengths.cells.0 lengths.cells.1 lengths.cells.2;
   }
 
-  page_of_kind : (pseudo : List ℕ → ℕ) (block : List ℕ) (kind : Kind) → length block ≡ 4096 → AreBytes block → IsOfKind kind block → HasLengths block → IsPadded version block → HasBound version pseudo block → IsOrdered pseudo block
+  page_of_kind : (pseudo : List ℕ → ℕ) (block : List ℕ) (kind : Kind) → length block ≡ 4096 → AreBytes block → IsOfKind kind block → HasLengths block → IsPaddedPage version block → HasBound version pseudo block → HasRisingRecords pseudo block
       → (page : Page) × IsLaidOut version pseudo page block
   unfolding head_in
   page_of_kind pseudo block Live len small is lengths padded bound ordered =
@@ -56,7 +56,7 @@ module _ (version : Version) (fits : Fits 8 version) where
       let read = read_from_tests block Live len small is lengths padded in
       let right = right_of head.link in
       let page = pages.Live (take head.prefix_len (word_bits head.low)) right.0 (map (record_of pseudo) pairs) in
-      let live : IsLivePage version pseudo head pairs page = record {
+      let live : IsReadLivePage version pseudo head pairs page = record {
         begins = begins_back version fits pseudo block head pairs rest read refl bound;
         rising = ordered pairs rest lengths.cells.2;
         right = right.0;

@@ -15,11 +15,12 @@ use Rattle.exh_codec.specs.declared.image_fault.ImageFault.{ImageFault}
 use Rattle.exh_codec.specs.declared.image_fault.ImageFault.TheVariants as faults
 use Rattle.exh_codec.specs.declared.kind.Kind.{Kind}
 use Rattle.exh_codec.specs.declared.kind.Kind.TheVariants.{Live, Forward}
-use Rattle.exh_codec.specs.Cells.{Pair, IsSizedPair, AreCells, pair_image, pair_of}
-use Rattle.exh_codec.specs.Head.{head_of, head_bytes, link_number, IsReadHead, kind_byte}
-use Rattle.exh_codec.specs.ImageTests.{record_of, HasCells, HasKind, HasLengths, IsPadded, HasBound, IsOrdered, IsOfKind, Passes, IsFirst, content_tests, prefix_len_of, low_in}
+use Rattle.exh_page.specs.KeyMap.{pair_of}
+use Rattle.exh_codec.specs.Cells.{Pair, IsSizedPair, AreCells, pair_image}
+use Rattle.exh_codec.specs.Head.{head_of, head_bytes, link_number, IsReadHead, page_kind_byte}
+use Rattle.exh_codec.specs.ImageTests.{record_of, HasCells, HasPageKind, HasLengths, IsPaddedPage, HasBound, HasRisingRecords, IsOfKind, Passes, IsFirst, content_tests, prefix_len_of, low_in}
 use Rattle.exh_codec.specs.PageImage.{IsLaidOut, content_of, used_of}
-use Rattle.exh_codec.specs.ReadPages.{BeginsPairs, IsLivePage, GivesLive, HasLow, GivesForward, GivesPage}
+use Rattle.exh_codec.specs.ReadPages.{BeginsPairs, IsReadLivePage, GivesLive, HasLow, GivesForward, GivesPage}
 use Rattle.exh_codec.specs.Block.{AreZero}
 use Rattle.exh_codec.proofs.HeadReading.{AreBytes, AreBytes-drop, head_back}
 use Rattle.exh_codec.proofs.LowBytes.{low_in-eight}
@@ -80,7 +81,7 @@ module _ (version : Version) (fits : Fits 8 version) where
   begun_records pseudo prefix (pair ∷ pairs) begun = (begun.0, begun_records pseudo prefix pairs begun.1)
 
   pub live_laid : (pseudo : List ℕ → ℕ) (block : List ℕ) (head : Head) (pairs : List Pair) (rest : List ℕ) (page : Page) → IsReadBlock version block head pairs rest → head.kind ≡ Live
-      → IsLivePage version pseudo head pairs page → IsLaidOut version pseudo page block
+      → IsReadLivePage version pseudo head pairs page → IsLaidOut version pseudo page block
   live_laid pseudo block head pairs rest page read kind live =
       let link_fits = link_below block head pairs rest read in
       let low_fits = low_below block head pairs rest read in
@@ -131,13 +132,13 @@ module _ (version : Version) (fits : Fits 8 version) where
   cells_in_block : (block : List ℕ) (head : Head) (pairs : List Pair) (rest : List ℕ) → IsReadBlock version block head pairs rest → HasCells block pairs rest
   cells_in_block block head pairs rest read = subst (λ (n : ℕ). AreCells n (drop 16 (take 4064 block)) pairs rest) (sym read.says.count) read.cells
 
-  read_kind : (block : List ℕ) (head : Head) → IsReadHead block head → HasKind block
+  read_kind : (block : List ℕ) (head : Head) → IsReadHead block head → HasPageKind block
   read_kind block head read = (head.kind, read.kind)
 
-  kind_said : (block : List ℕ) (head : Head) (kind : Kind) → IsReadHead block head → IsOfKind kind block → kind_byte head.kind ≡ kind_byte kind
+  kind_said : (block : List ℕ) (head : Head) (kind : Kind) → IsReadHead block head → IsOfKind kind block → page_kind_byte head.kind ≡ page_kind_byte kind
   kind_said block head kind read is = sym read.kind ∙ is
 
-  forward_said : (kind : Kind) → kind_byte kind ≡ 2 → kind ≡ Forward
+  forward_said : (kind : Kind) → page_kind_byte kind ≡ 2 → kind ≡ Forward
   forward_said Live is = absurd (omega (arith, is))
   forward_said Forward is = refl
 
@@ -148,14 +149,14 @@ module _ (version : Version) (fits : Fits 8 version) where
     cells = (pairs, rest, cells);
   }
 
-  read_padded : (block : List ℕ) (head : Head) (pairs : List Pair) (rest : List ℕ) → IsReadBlock version block head pairs rest → IsPadded version block
+  read_padded : (block : List ℕ) (head : Head) (pairs : List Pair) (rest : List ℕ) → IsReadBlock version block head pairs rest → IsPaddedPage version block
   read_padded block head pairs rest read = record {
     fourth = read.fourth;
     head = read.padding;
     tail = λ others after cells. subst AreZero (same_cells _ _ pairs others rest after (cells_in_block block head pairs rest read) cells).1 read.zeros;
   }
 
-  pub kind_first : (pseudo : List ℕ → ℕ) (block : List ℕ) → ((kind : Kind) → slice_index block 0 ≡ kind_byte kind → ⊥) → IsFirst (Passes version pseudo block) content_tests faults.Kind
+  pub kind_first : (pseudo : List ℕ → ℕ) (block : List ℕ) → ((kind : Kind) → slice_index block 0 ≡ page_kind_byte kind → ⊥) → IsFirst (Passes version pseudo block) content_tests faults.Kind
   kind_first pseudo block none = record {
     before = [];
     after = faults.Length ∷ faults.Padding ∷ faults.Prefix ∷ faults.Order ∷ [];
@@ -173,7 +174,7 @@ module _ (version : Version) (fits : Fits 8 version) where
     stands = refl;
     passed = (read_kind block head read, tt);
     fails = λ lengths.
-        none (omega (arith, read.count, lengths.few)) (λ is. sym read.count ∙ lengths.forward (read.kind ∙ ap kind_byte is)) lengths.cells.0 lengths.cells.1
+        none (omega (arith, read.count, lengths.few)) (λ is. sym read.count ∙ lengths.forward (read.kind ∙ ap page_kind_byte is)) lengths.cells.0 lengths.cells.1
         (subst (λ (bytes : List ℕ). AreCells head.count bytes lengths.cells.0 lengths.cells.1) (drop-take 16 4048 block)
         (subst (λ (n : ℕ). AreCells n (drop 16 (take 4064 block)) lengths.cells.0 lengths.cells.1) read.count lengths.cells.2));
   }
@@ -183,7 +184,7 @@ module _ (version : Version) (fits : Fits 8 version) where
       subst (λ (n : ℕ). AreCells n (drop 16 (take 4064 block)) pairs rest) (sym read.count) (subst (λ (bytes : List ℕ). AreCells head.count bytes pairs rest) (sym (drop-take 16 4048 block)) cells)
 
   pub padding_first : (pseudo : List ℕ → ℕ) (block : List ℕ) (head : Head) (pairs : List Pair) (rest : List ℕ) → IsReadHead block head → head.count ≤ 16 → (head.kind ≡ Forward → head.count ≡ 0)
-      → AreCells head.count (take 4048 (drop 16 block)) pairs rest → (IsPadded version block → ⊥) → IsFirst (Passes version pseudo block) content_tests faults.Padding
+      → AreCells head.count (take 4048 (drop 16 block)) pairs rest → (IsPaddedPage version block → ⊥) → IsFirst (Passes version pseudo block) content_tests faults.Padding
   padding_first pseudo block head pairs rest read few forward cells fails = record {
     before = faults.Kind ∷ faults.Length ∷ [];
     after = faults.Prefix ∷ faults.Order ∷ [];
@@ -207,7 +208,7 @@ module _ (version : Version) (fits : Fits 8 version) where
     fails = fails;
   }
 
-  order_first : (pseudo : List ℕ → ℕ) (block : List ℕ) (head : Head) (pairs : List Pair) (rest : List ℕ) → IsReadBlock version block head pairs rest → HasBound version pseudo block → (IsOrdered pseudo block → ⊥)
+  order_first : (pseudo : List ℕ → ℕ) (block : List ℕ) (head : Head) (pairs : List Pair) (rest : List ℕ) → IsReadBlock version block head pairs rest → HasBound version pseudo block → (HasRisingRecords pseudo block → ⊥)
       → IsFirst (Passes version pseudo block) content_tests faults.Order
   order_first pseudo block head pairs rest read bound fails =
       let passed = passed_so_far pseudo block head pairs rest read in
@@ -232,14 +233,14 @@ module _ (version : Version) (fits : Fits 8 version) where
           begun = λ others after cells. subst (Begun (take (prefix_len_of block) (word_bits (low_in version block))))
               (same_cells _ _ pairs others rest after (cells_in_block block head pairs rest read) cells).0 (subst (λ (p : List Bool). Begun p pairs) bits begins.begun);
         },
-        λ forward. absurd (omega (arith, read.says.kind, forward, ap kind_byte kind)),
+        λ forward. absurd (omega (arith, read.says.kind, forward, ap page_kind_byte kind)),
       )
 
   pub begins_back : (pseudo : List ℕ → ℕ) (block : List ℕ) (head : Head) (pairs : List Pair) (rest : List ℕ) → IsReadBlock version block head pairs rest → head.kind ≡ Live → HasBound version pseudo block → BeginsPairs version pseudo head pairs
   begins_back pseudo block head pairs rest read kind bound =
       let len = read.says.prefix_len in
       let low = low_said block head pairs rest read in
-      let begun = bound.0 (read.says.kind ∙ ap kind_byte kind) in
+      let begun = bound.0 (read.says.kind ∙ ap page_kind_byte kind) in
       let bits : take (prefix_len_of block) (word_bits (low_in version block)) ≡ take head.prefix_len (word_bits head.low) =
       ap (λ (n : ℕ). take n (word_bits (low_in version block))) len ∙ ap (λ (n : ℕ). take head.prefix_len (word_bits n)) low in
       record {
@@ -266,7 +267,7 @@ module _ (version : Version) (fits : Fits 8 version) where
   forward_gives pseudo block head pairs rest (Ok page) read kind gives = subst (λ (p : Page). IsLaidOut version pseudo p block) (sym gives.1) (forward_laid pseudo block head pairs rest read kind gives.0)
   forward_gives pseudo block head pairs rest (Err faults.Prefix) read kind gives =
       prefix_first pseudo block head pairs rest read (λ bound.
-      let low = bound.1 (read.says.kind ∙ ap kind_byte kind) in
+      let low = bound.1 (read.says.kind ∙ ap page_kind_byte kind) in
       gives (record { none = sym read.says.prefix_len ∙ low.none; some = λ none. low.some (low_said block head pairs rest read ∙ none); limit = subst (HasPrefixUpTo version.limit version.limit) (low_said block head pairs rest read) low.limit }))
   forward_gives pseudo block head pairs rest (Err faults.Memory) read kind gives = absurd gives
   forward_gives pseudo block head pairs rest (Err faults.Order) read kind gives = absurd gives

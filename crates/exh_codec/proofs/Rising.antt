@@ -10,7 +10,8 @@ use Rattle.exh_page.specs.Place.{place_cmp, place_of}
 use Rattle.exh_page.specs.Records.{IsRising}
 use Rattle.exh_page.specs.RecordsLemmas.{IsRising-append_left, place_cmp-total}
 use Rattle.exh_codec.specs.declared.borrowed_record.BorrowedRecord.{BorrowedRecord}
-use Rattle.exh_codec.specs.Cells.{record_borrowed, Pair, IsSizedPair, pair_of, pair_in}
+use Rattle.exh_page.specs.KeyMap.{pair_of}
+use Rattle.exh_codec.specs.Cells.{record_borrowed, Pair, IsSizedPair, pair_in}
 use Rattle.exh_codec.specs.declared.cell.Cell.{Cell}
 use Rattle.exh_codec.specs.ImageTests.{record_of}
 use Rattle.exh_prefix.specs.ListLemmas.{AllByRecursion-push, AllByRecursion-append_right}

@@ -9,7 +9,8 @@ use Rattle.exh_page.specs.declared.page.Page.TheVariants.{Live, Forward}
 use Rattle.exh_page.specs.declared.record.Record.{Record}
 use Rattle.exh_page.specs.Page.{records_of}
 use Rattle.exh_codec.specs.declared.head.Head.{Head}
-use Rattle.exh_codec.specs.Cells.{Pair, IsSizedPair, pair_image, pair_of}
+use Rattle.exh_page.specs.KeyMap.{pair_of}
+use Rattle.exh_codec.specs.Cells.{Pair, IsSizedPair, pair_image}
 use Rattle.exh_codec.specs.Head.{head_of, head_bytes, link_number}
 use Rattle.exh_codec.specs.PageImage.{IsInRange, IsPage, used_of, content_of}
 use Rattle.exh_codec.proofs.PutPairs.{length-pair_image}

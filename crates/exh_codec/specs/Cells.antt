@@ -11,9 +11,6 @@ use Rattle.exh_codec.specs.declared.cell.Cell.{Cell}
 abbrev pub Pair : Type 0
 Pair = List ℕ × List ℕ
 
-abbrev pub pair_of : Record → Pair
-pair_of r = (r.key, r.value)
-
 -- the length of the key, the length of the value, the key, the value
 unfoldable pub pair_image : Pair → List ℕ
 pair_image pair = length pair.0 ∷ length pair.1 ∷ pair.0 ++ pair.1

@@ -9,9 +9,9 @@ use Rattle.exh_codec.specs.declared.kind.Kind.{Kind}
 use Rattle.exh_codec.specs.declared.kind.Kind.TheVariants.{Live, Forward}
 
 -- the byte of a page's kind
-abbrev pub kind_byte : Kind → ℕ
-kind_byte Live = 1
-kind_byte Forward = 2
+abbrev pub page_kind_byte : Kind → ℕ
+page_kind_byte Live = 1
+page_kind_byte Forward = 2
 
 -- the number that stands for a right link: all bits set for none
 abbrev pub link_number : Option ℕ → ℕ
@@ -27,11 +27,11 @@ head_of (pages.Forward low target) = record { kind = Forward; prefix_len = 0; co
 -- its bytes, in every version: kind, length of the prefix, number of records, a zero, four of the link, eight of the low bound. Of these eight
 -- the version's first ones say it, and the others are zero, since a low bound has only zeros after the bits of the longest prefix
 unfoldable pub head_bytes : Head → List ℕ
-head_bytes head = kind_byte head.kind ∷ head.prefix_len ∷ head.count ∷ 0 ∷ big_bytes 4 head.link ++ big_bytes 8 head.low
+head_bytes head = page_kind_byte head.kind ∷ head.prefix_len ∷ head.count ∷ 0 ∷ big_bytes 4 head.link ++ big_bytes 8 head.low
 
 -- the head is what some bytes say
 pub record IsReadHead (bytes : List ℕ) (head : Head) : Type 0 where
-  pub kind : slice_index bytes 0 ≡ kind_byte head.kind
+  pub kind : slice_index bytes 0 ≡ page_kind_byte head.kind
   pub prefix_len : slice_index bytes 1 ≡ head.prefix_len
   pub count : slice_index bytes 2 ≡ head.count
   pub link : big_number 4 (drop 4 bytes) ≡ head.link

@@ -16,12 +16,12 @@ use Rattle.exh_codec.specs.declared.kind.Kind.{Kind}
 use Rattle.exh_codec.specs.declared.kind.Kind.TheVariants.{Live, Forward}
 use Rattle.exh_codec.specs.Block.{IsSealed, AreZero}
 use Rattle.exh_codec.specs.Cells.{Pair, AreCells}
-use Rattle.exh_codec.specs.Head.{kind_byte}
+use Rattle.exh_codec.specs.Head.{page_kind_byte}
 
 -- ---- what a block says, read as an image
 
 abbrev pub IsOfKind : Kind → List ℕ → Type 0
-IsOfKind kind block = slice_index block 0 ≡ kind_byte kind
+IsOfKind kind block = slice_index block 0 ≡ page_kind_byte kind
 
 abbrev pub prefix_len_of : List ℕ → ℕ
 prefix_len_of block = slice_index block 1
@@ -44,8 +44,8 @@ record_of pseudo pair = record { pseudokey = pseudo pair.0; key = pair.0; value 
 -- ---- the tests
 
 -- the kind byte is that of a kind
-abbrev pub HasKind : List ℕ → Type 0
-HasKind block = (kind : Kind) × IsOfKind kind block
+abbrev pub HasPageKind : List ℕ → Type 0
+HasPageKind block = (kind : Kind) × IsOfKind kind block
 
 -- no more records than a page may have, none in a forwarding page, each with its lengths in their ranges
 pub record HasLengths (block : List ℕ) : Type 0 where
@@ -54,7 +54,7 @@ pub record HasLengths (block : List ℕ) : Type 0 where
   pub cells : (pairs : List Pair) × (rest : List ℕ) × HasCells block pairs rest
 
 -- the bytes outside the fields and the records are zero
-pub record IsPadded (version : Version) (block : List ℕ) : Type 0 where
+pub record IsPaddedPage (version : Version) (block : List ℕ) : Type 0 where
   pub fourth : slice_index block 3 ≡ 0
   pub head : AreZero (slice_range block (LOW_START + version.bytes) HEAD_LEN)
   pub tail : (pairs : List Pair) (rest : List ℕ) → HasCells block pairs rest → AreZero rest
@@ -75,8 +75,8 @@ abbrev pub HasBound : Version → (List ℕ → ℕ) → List ℕ → Type 0
 HasBound version pseudo block = (IsOfKind Live block → IsBegun version pseudo block) × (IsOfKind Forward block → IsLowBound version block)
 
 -- the records rise strictly
-abbrev pub IsOrdered : (List ℕ → ℕ) → List ℕ → Type 0
-IsOrdered pseudo block = (pairs : List Pair) (rest : List ℕ) → HasCells block pairs rest → IsRising (map (record_of pseudo) pairs)
+abbrev pub HasRisingRecords : (List ℕ → ℕ) → List ℕ → Type 0
+HasRisingRecords pseudo block = (pairs : List Pair) (rest : List ℕ) → HasCells block pairs rest → IsRising (map (record_of pseudo) pairs)
 
 -- ---- their order
 
@@ -84,11 +84,11 @@ IsOrdered pseudo block = (pairs : List Pair) (rest : List ℕ) → HasCells bloc
 abbrev pub Passes : Version → (List ℕ → ℕ) → List ℕ → ImageFault → Type 0
 Passes version pseudo block faults.Memory = ⊤
 Passes version pseudo block faults.Digest = IsSealed block
-Passes version pseudo block faults.Kind = HasKind block
+Passes version pseudo block faults.Kind = HasPageKind block
 Passes version pseudo block faults.Length = HasLengths block
-Passes version pseudo block faults.Padding = IsPadded version block
+Passes version pseudo block faults.Padding = IsPaddedPage version block
 Passes version pseudo block faults.Prefix = HasBound version pseudo block
-Passes version pseudo block faults.Order = IsOrdered pseudo block
+Passes version pseudo block faults.Order = HasRisingRecords pseudo block
 
 -- the tests of a content, in their order, and those of an image
 abbrev pub content_tests : List ImageFault

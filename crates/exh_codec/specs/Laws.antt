@@ -9,13 +9,13 @@ use Rattle.exh_codec.specs.ImageTests.{Passes, image_tests}
 use Rattle.exh_codec.specs.PageImage.{IsPage, IsImage, IsLaidOut}
 
 -- the block is the page's image, and no other is
-pub record IsOneImage (version : Version) (pseudo : List ℕ → ℕ) (page : Page) (block : List ℕ) : Type 0 where
+pub record IsOnePageImage (version : Version) (pseudo : List ℕ → ℕ) (page : Page) (block : List ℕ) : Type 0 where
   pub image : IsImage version pseudo page block
   pub only : (other : List ℕ) → IsImage version pseudo page other → other ≡ block
 
 -- a page that any file may have has exactly one image
 abbrev pub OneImage : Type 0
-OneImage = (version : Version) (pseudo : List ℕ → ℕ) (page : Page) → IsPage version pseudo page → (block : List ℕ) × IsOneImage version pseudo page block
+OneImage = (version : Version) (pseudo : List ℕ → ℕ) (page : Page) → IsPage version pseudo page → (block : List ℕ) × IsOnePageImage version pseudo page block
 
 -- an image is that of one page
 abbrev pub OnePage : Type 0

@@ -7,7 +7,8 @@ use Rattle.exh_page.specs.declared.page.Page.TheVariants.{Live, Forward}
 use Rattle.exh_page.specs.Page.{IsFormedUpTo, records_of}
 use Rattle.exh_codec.specs.declared.block.TheConstants.{CONTENT_LEN}
 use Rattle.exh_codec.specs.Block.{sealed}
-use Rattle.exh_codec.specs.Cells.{IsSizedPair, pair_image, pair_of}
+use Rattle.exh_page.specs.KeyMap.{pair_of}
+use Rattle.exh_codec.specs.Cells.{IsSizedPair, pair_image}
 use Rattle.exh_codec.specs.Head.{head_bytes, head_of}
 
 -- the bytes, with zeros after them up to a length

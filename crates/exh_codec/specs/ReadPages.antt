@@ -21,7 +21,7 @@ pub record BeginsPairs (version : Version) (pseudo : List ℕ → ℕ) (head : H
   pub begun : AllByRecursion (λ pair. Begins (take head.prefix_len (word_bits head.low)) (pseudo pair.0)) pairs
 
 -- the live page that they are, where they are one
-pub record IsLivePage (version : Version) (pseudo : List ℕ → ℕ) (head : Head) (pairs : List Pair) (page : Page) : Type 0 where
+pub record IsReadLivePage (version : Version) (pseudo : List ℕ → ℕ) (head : Head) (pairs : List Pair) (page : Page) : Type 0 where
   pub begins : BeginsPairs version pseudo head pairs
   pub rising : IsRising (map (record_of pseudo) pairs)
   pub right : Option ℕ
@@ -30,7 +30,7 @@ pub record IsLivePage (version : Version) (pseudo : List ℕ → ℕ) (head : He
   pub is : page ≡ Live (take head.prefix_len (word_bits head.low)) right (map (record_of pseudo) pairs)
 
 abbrev pub GivesLive : Version → (List ℕ → ℕ) → Head → List Pair → Result Page ImageFault → Type 0
-GivesLive version pseudo head pairs (Ok page) = IsLivePage version pseudo head pairs page
+GivesLive version pseudo head pairs (Ok page) = IsReadLivePage version pseudo head pairs page
 GivesLive version pseudo head pairs (Err faults.Memory) = ⊤
 GivesLive version pseudo head pairs (Err faults.Prefix) = BeginsPairs version pseudo head pairs → ⊥
 GivesLive version pseudo head pairs (Err faults.Order) = BeginsPairs version pseudo head pairs × (IsRising (map (record_of pseudo) pairs) → ⊥)

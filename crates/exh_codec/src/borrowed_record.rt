@@ -1,6 +1,7 @@
 ghost use Rattle.std.specs.Prelude.{◌≡◌};
 ghost use Rattle.exh_page.specs.Place.{place_cmp, place_of};
-ghost use Rattle.exh_codec.specs.Cells.{IsSizedPair, pair_of, record_borrowed};
+ghost use Rattle.exh_page.specs.KeyMap.{pair_of};
+ghost use Rattle.exh_codec.specs.Cells.{IsSizedPair, record_borrowed};
 
 use exh_page::{Key, Record, Value};
 use std::cmp::Ordering;

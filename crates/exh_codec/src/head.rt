@@ -38,7 +38,7 @@ impl Head {
     ghost use Rattle.std.specs.Prelude.{◌≡◌, ◌≤◌, ◌<◌, ◌^◌, ℕ, List, length, slice_index, IfSome, IfNone};
     ghost use Rattle.exh_codec.specs.declared.head.TheConstants.{HEAD_LEN};
     ghost use Rattle.exh_codec.specs.declared.kind.Kind.{Kind};
-    ghost use Rattle.exh_codec.specs.Head.{kind_byte, head_of, head_bytes, IsReadHead};
+    ghost use Rattle.exh_codec.specs.Head.{page_kind_byte, head_of, head_bytes, IsReadHead};
     ghost use Rattle.exh_prefix.specs.declared.prefix.TheConstants.{LIMIT};
     ghost use Rattle.exh_page.specs.declared.page.TheConstants.{CAP_LIMIT};
     ghost use Rattle.exh_page.specs.Page.{records_of};
@@ -90,7 +90,7 @@ impl Head {
     pub(crate) fn from_bytes(bytes: &[u8]) -> Option<Head>
         requires { HEAD_LEN ≤ length bytes.now }
         ensures some { IfSome result (IsReadHead bytes.now) }
-        ensures none { IfNone result ((kind : Kind) → slice_index bytes.now 0 ≡ kind_byte kind → ⊥) }
+        ensures none { IfNone result ((kind : Kind) → slice_index bytes.now 0 ≡ page_kind_byte kind → ⊥) }
     {
         let kind = Kind::from_byte(bytes[0])?;
         Some(Head {

@@ -10,12 +10,12 @@ pub(crate) enum Kind {
 impl Kind {
     ghost use Rattle.std.specs.Prelude.{◌≡◌, ℕ, IfSome, IfNone};
     ghost use Rattle.exh_codec.specs.declared.kind.Kind.{Kind};
-    ghost use Rattle.exh_codec.specs.Head.{kind_byte};
+    ghost use Rattle.exh_codec.specs.Head.{page_kind_byte};
 
     /// The kind of a byte, `None` where it is that of no kind.
     pub(crate) fn from_byte(byte: u8) -> Option<Kind>
-        ensures some { IfSome result (λ kind. byte ≡ kind_byte kind) }
-        ensures none { IfNone result ((kind : Kind) → byte ≡ kind_byte kind → ⊥) }
+        ensures some { IfSome result (λ kind. byte ≡ page_kind_byte kind) }
+        ensures none { IfNone result ((kind : Kind) → byte ≡ page_kind_byte kind → ⊥) }
     {
         match byte {
             1 => Some(Kind::Live),
@@ -26,7 +26,7 @@ impl Kind {
 
     /// The kind's byte.
     pub(crate) fn to_byte(self) -> u8
-        ensures { result ≡ kind_byte self }
+        ensures { result ≡ page_kind_byte self }
     {
         self as u8
     }

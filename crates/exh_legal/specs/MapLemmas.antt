@@ -21,8 +21,8 @@ use Rattle.exh_page.specs.Page.{records_of, begun_by, with_records}
 use Rattle.exh_page.specs.Place.{Place, place_cmp, place_of}
 use Rattle.exh_page.specs.Records.{is_at, value_at}
 use Rattle.exh_page.specs.RecordsLemmas.{place_cmp-total, place_cmp-exact}
-use Rattle.exh_page.specs.KeyMap.{KeyMap}
-use Rattle.exh_legal.specs.Pages.{pair_of, map_of, IsAt, IsHome, IsLegalPage, IsLegal}
+use Rattle.exh_page.specs.KeyMap.{KeyMap, pair_of}
+use Rattle.exh_legal.specs.Pages.{map_of, IsAt, IsHome, IsLegalPage, IsLegal}
 use Rattle.exh_legal.specs.BareLemmas.{bare_at}
 use Rattle.exh_legal.specs.PlaceLemmas.{home_bare}
 

@@ -7,14 +7,10 @@ use Rattle.exh_prefix.specs.Bits.{lowest_cleared}
 use Rattle.exh_prefix.specs.Prefix.{IsFront, Begins, HasPrefix, low_of}
 use Rattle.exh_page.specs.declared.page.Page.{Page}
 use Rattle.exh_page.specs.declared.page.Page.TheVariants.{Live, Forward}
-use Rattle.exh_page.specs.declared.record.Record.{Record}
 use Rattle.exh_page.specs.Page.{AreRecordsOf, IsLive, low_bound, records_of, with_records}
-use Rattle.exh_page.specs.KeyMap.{KeyMap}
+use Rattle.exh_page.specs.KeyMap.{KeyMap, pair_of}
 
 -- ---- what the pages hold
-
-abbrev pub pair_of : Record → List ℕ × List ℕ
-pair_of r = (r.key, r.value)
 
 -- the map of all records of the live pages
 abbrev pub map_of : List Page → KeyMap

@@ -13,7 +13,7 @@ use Rattle.exh_page.specs.declared.record.Record.{Record}
 use Rattle.exh_text.specs.LineFault.{ranged}
 use Rattle.exh_text.specs.Lines.{words_of}
 use Rattle.exh_text.specs.Numbers.{◌>>=◌}
-use Rattle.exh_legal.specs.Pages.{pair_of}
+use Rattle.exh_page.specs.KeyMap.{pair_of}
 use Rattle.exh_ward.specs.WardState.{WardState}
 use Rattle.exh_prefix.specs.declared.prefix.TheConstants.{WARD_BITS_LIMIT}
 use Rattle.exh_world.specs.Laws.{NewWorldsAreSound}

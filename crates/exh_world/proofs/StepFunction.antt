@@ -24,7 +24,7 @@ use Rattle.exh_world.specs.InFlight.{requests_after}
 use Rattle.exh_world.specs.Laws.{HasNumberOfWord, IsComputed}
 use Rattle.exh_world.specs.Sound.{IsSoundWorld}
 use Rattle.exh_world.specs.Step.{IsRefused, HasBegun, HasHopped, HasChanged, HasTaken, HasSent, HasJoined, HasRestarted, HasEffect, Step}
-use Rattle.exh_world.specs.StepFunction.{Stepped, request_from, begun, ward_after_hop, hopped, changed, with_copy, step_of, result_of, world_after}
+use Rattle.exh_world.specs.StepFunction.{Stepped, request_from, begun, ward_after_hop, hopped, after_change, with_copy, step_of, result_of, world_after}
 use Rattle.exh_world.specs.World.{WorldState, numbered, issued_in}
 use Rattle.exh_world.specs.declared.event.Event.{Event}
 use Rattle.exh_world.specs.declared.event.Event.TheVariants.{Begin, Hop as HopOn, Split, Merge, Deliver, Send, Combine, Restart}
@@ -150,24 +150,24 @@ module _ {K : Type 0} (pseudokey_of : K → List ℕ → ℕ) (old : WorldState 
 
   -- ---- splits and merges
 
-  pub split_computed : (ward page : ℕ) (before : WardState K) → slice_get old.wards ward ≡ Some before → step_of pseudokey_of old (Split ward page) ≡ changed old ward (split_of before page) (ward_after_split before page)
+  pub split_computed : (ward page : ℕ) (before : WardState K) → slice_get old.wards ward ≡ Some before → step_of pseudokey_of old (Split ward page) ≡ after_change old ward (split_of before page) (ward_after_split before page)
   unfolding step_of
   split_computed ward page before found = rw found refl
 
-  pub merge_computed : (ward page : ℕ) (before : WardState K) → slice_get old.wards ward ≡ Some before → step_of pseudokey_of old (Merge ward page) ≡ changed old ward (merge_of before page) (ward_after_merge before page)
+  pub merge_computed : (ward page : ℕ) (before : WardState K) → slice_get old.wards ward ≡ Some before → step_of pseudokey_of old (Merge ward page) ≡ after_change old ward (merge_of before page) (ward_after_merge before page)
   unfolding step_of
   merge_computed ward page before found = rw found refl
 
   -- a change that comes to what it is computed to be
-  changed_is : (event : Event) (ward : ℕ) (notice : Notice) (left made : WardState K) (new : WorldState K) (result : Result Notice WardFault) → step_of pseudokey_of old event ≡ changed old ward result made → (result ≡ Ok notice) × (left ≡ made)
+  changed_is : (event : Event) (ward : ℕ) (notice : Notice) (left made : WardState K) (new : WorldState K) (result : Result Notice WardFault) → step_of pseudokey_of old event ≡ after_change old ward result made → (result ≡ Ok notice) × (left ≡ made)
       → new ≡ record old { wards = slice_set old.wards ward left } → Is event (Ok (Changed notice)) new
   changed_is event ward notice left made new result computed is after =
-      is_step event (changed old ward (Ok notice) left) (computed ∙ ap (λ result. changed old ward result made) is.0 ∙ ap (changed old ward (Ok notice)) (sym is.1)) (Ok (Changed notice)) new refl after
+      is_step event (after_change old ward (Ok notice) left) (computed ∙ ap (λ result. after_change old ward result made) is.0 ∙ ap (after_change old ward (Ok notice)) (sym is.1)) (Ok (Changed notice)) new refl after
 
-  refusal_is : (event : Event) (ward : ℕ) (made : WardState K) (fault : WardFault) (result : Result Notice WardFault) → step_of pseudokey_of old event ≡ changed old ward result made → IsStoreFault fault ⊎ (result ≡ Err fault) → fault ≢ Page
+  refusal_is : (event : Event) (ward : ℕ) (made : WardState K) (fault : WardFault) (result : Result Notice WardFault) → step_of pseudokey_of old event ≡ after_change old ward result made → IsStoreFault fault ⊎ (result ≡ Err fault) → fault ≢ Page
       → (Ward fault ≡ Ward Memory) ⊎ (step_of pseudokey_of old event ≡ (Err (Ward fault), old))
   refusal_is event ward made fault result computed (inl want) other = inl (ap Ward (memory_of fault want other))
-  refusal_is event ward made fault result computed (inr is) other = inr (computed ∙ ap (λ result. changed old ward result made) is)
+  refusal_is event ward made fault result computed (inr is) other = inr (computed ∙ ap (λ result. after_change old ward result made) is)
 
   module _ (sound : IsSoundWorld pseudokey_of old) (splits : SplitsAreComputed pseudokey_of) (merges : MergesAreComputed pseudokey_of) where
     split_is : (ward page : ℕ) (notice : Notice) (new : WorldState K) → HasChanged IsSplitStep old ward page notice new → Is (Split ward page) (Ok (Changed notice)) new

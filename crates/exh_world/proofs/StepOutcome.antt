@@ -25,7 +25,7 @@ use Rattle.exh_ward.specs.declared.ward_fault.WardFault.TheVariants.{Page}
 use Rattle.exh_world.specs.InFlight.{request_named}
 use Rattle.exh_world.specs.Sound.{IsWardOf, IsOnTheWay, IsSoundWorld}
 use Rattle.exh_world.specs.Step.{Step}
-use Rattle.exh_world.specs.StepFunction.{Stepped, request_from, begun, ward_after_hop, hopped, changed, with_copy, step_of, result_of, world_after}
+use Rattle.exh_world.specs.StepFunction.{Stepped, request_from, begun, ward_after_hop, hopped, after_change, with_copy, step_of, result_of, world_after}
 use Rattle.exh_world.specs.World.{WorldState, numbered, issued_in}
 use Rattle.exh_world.specs.declared.event.Event.{Event}
 use Rattle.exh_world.specs.declared.event.Event.TheVariants.{Begin, Hop as HopOn, Split, Merge, Deliver, Send, Combine, Restart}
@@ -215,7 +215,7 @@ module _ {K : Type 0} (pseudokey_of : K → List ℕ → ℕ) (old : WorldState 
 
     module _ (ward page : ℕ) where
       split_by : (before : WardState K) → slice_get old.wards ward ≡ Some before → (result : Result Notice WardFault) (left : WardState K) → result ≢ Err Page → IsSplitOutcome before page result left
-          → Step pseudokey_of old (Split ward page) (changed old ward result left).0 (changed old ward result left).1
+          → Step pseudokey_of old (Split ward page) (after_change old ward result left).0 (after_change old ward result left).1
       split_by before found (Ok notice) left other change = record { before = before; found = found; left = left; change = change; after = refl }
       split_by before found (Err fault) left other refusal = inl (refl, inl (before, found, refusal.0, λ same. other (ap Err same)))
 
@@ -223,11 +223,11 @@ module _ {K : Type 0} (pseudokey_of : K → List ℕ → ℕ) (old : WorldState 
       unfolding step_of
       split_comes splits None is = comes (Split ward page) (Err NoWard, old) (rw is refl) (inl (refl, inl is))
       split_comes splits (Some before) is =
-          comes (Split ward page) (changed old ward (split_of before page) (ward_after_split before page)) (split_computed pseudokey_of old ward page before is)
+          comes (Split ward page) (after_change old ward (split_of before page) (ward_after_split before page)) (split_computed pseudokey_of old ward page before is)
           (split_by before is (split_of before page) (ward_after_split before page) (split_reached before page) (splits before page (sound.wards ward before is).sound))
 
       merge_by : (before : WardState K) → slice_get old.wards ward ≡ Some before → (result : Result Notice WardFault) (left : WardState K) → result ≢ Err Page → IsMergeOutcome before page result left
-          → Step pseudokey_of old (Merge ward page) (changed old ward result left).0 (changed old ward result left).1
+          → Step pseudokey_of old (Merge ward page) (after_change old ward result left).0 (after_change old ward result left).1
       merge_by before found (Ok notice) left other change = record { before = before; found = found; left = left; change = change; after = refl }
       merge_by before found (Err fault) left other refusal = inl (refl, inl (before, found, refusal.0, λ same. other (ap Err same)))
 
@@ -236,7 +236,7 @@ module _ {K : Type 0} (pseudokey_of : K → List ℕ → ℕ) (old : WorldState 
       merge_comes merges None is = comes (Merge ward page) (Err NoWard, old) (rw is refl) (inl (refl, inl is))
       merge_comes merges (Some before) is =
           let own = sound.wards ward before is in
-          comes (Merge ward page) (changed old ward (merge_of before page) (ward_after_merge before page)) (merge_computed pseudokey_of old ward page before is)
+          comes (Merge ward page) (after_change old ward (merge_of before page) (ward_after_merge before page)) (merge_computed pseudokey_of old ward page before is)
           (merge_by before is (merge_of before page) (ward_after_merge before page) (merge_reached before page) (merges before page (words_of ward before own) own.sound))
 
     -- ---- every step

@@ -63,9 +63,9 @@ hopped pseudokey_of world name request ward hop =
 -- ---- splits and merges
 
 -- what the ward's change came to, and the ward after it
-abbrev pub changed : {K : Type 0} → WorldState K → ℕ → Result Notice WardFault → WardState K → Stepped K
-changed world ward (Ok notice) left = (Ok (Changed notice), record world { wards = slice_set world.wards ward left })
-changed world ward (Err fault) left = (Err (Ward fault), world)
+abbrev pub after_change : {K : Type 0} → WorldState K → ℕ → Result Notice WardFault → WardState K → Stepped K
+after_change world ward (Ok notice) left = (Ok (Changed notice), record world { wards = slice_set world.wards ward left })
+after_change world ward (Err fault) left = (Err (Ward fault), world)
 
 -- ---- copies
 
@@ -84,8 +84,8 @@ step_of pseudokey_of world (HopOn name) =
     or_refused world NoRequest (request_named name world.in_flight) (λ request.
     or_refused world NoWard (slice_get world.wards request.ward) (λ ward.
     hopped pseudokey_of world name request ward (hop_of world.cap (pseudokey_of world.keyer) ward.pages request.page request.call)))
-step_of pseudokey_of world (Split ward page) = or_refused world NoWard (slice_get world.wards ward) (λ before. changed world ward (split_of before page) (ward_after_split before page))
-step_of pseudokey_of world (Merge ward page) = or_refused world NoWard (slice_get world.wards ward) (λ before. changed world ward (merge_of before page) (ward_after_merge before page))
+step_of pseudokey_of world (Split ward page) = or_refused world NoWard (slice_get world.wards ward) (λ before. after_change world ward (split_of before page) (ward_after_split before page))
+step_of pseudokey_of world (Merge ward page) = or_refused world NoWard (slice_get world.wards ward) (λ before. after_change world ward (merge_of before page) (ward_after_merge before page))
 step_of pseudokey_of world (Deliver copy ward index) =
     or_refused world NoCopy (numbered world.copies copy) (λ table.
     or_refused world NoWard (slice_get world.wards ward) (λ teller.

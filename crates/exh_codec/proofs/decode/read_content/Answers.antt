@@ -3,7 +3,7 @@ use Rattle.exh_codec.proofs.LowBytes.{first_fits}
 use Rattle.std.proofs.Common.{List, subst, map}
 use Rattle.exh_codec.specs.Cells.{pair_in}
 use Rattle.exh_codec.specs.declared.cell.Cell.{Cell}
-use Rattle.exh_codec.specs.ImageTests.{IsPadded}
+use Rattle.exh_codec.specs.ImageTests.{IsPaddedPage}
 use Rattle.exh_codec.specs.ReadPages.{GivesLive}
 use Rattle.exh_codec.proofs.ReadBack.{IsReadBlock, kind_first, length_first, padding_first, padding_read, body_cells, live_gives, forward_gives}
 use Rattle.exh_codec.proofs.decode.read_content.Goals as goal
@@ -23,7 +23,7 @@ returns-then-block-ne0 g c =
     let rest = c.in-Some-cells_of.rest.now in
     let said = c.in-Some-cells_of.ensures in
     let cells = body_cells first_version first_fits block c.in-Some.head pairs rest c.in-Some.ensures.some said.cells in
-    let fails : IsPadded first_version block → ⊥ = λ padded. elim c.then-block-ne0.branch [
+    let fails : IsPaddedPage first_version block → ⊥ = λ padded. elim c.then-block-ne0.branch [
       | then-block-ne0-via-then-block-ne0 w ↦ w.if-block-ne0.true padded.fourth
       | then-block-ne0-via-else-block-ne0+then-not-are_zero w ↦ let zero = w.are_zero.ensures.1 padded.head in let not_zero = w.if-not-are_zero.true in absurd cc
       | then-block-ne0-via-else-block-ne0+else-not-are_zero+then-not-are_zero-2 w ↦

@@ -3,7 +3,8 @@ use Rattle.std.proofs.Common.{◌≡◌, ◌++◌, length, map, drop, ℕ, List,
 use Rattle.std.specs.List.{flat_map}
 use Rattle.exh_page.specs.declared.record.Record.{Record}
 use Rattle.exh_page.specs.Page.{records_of}
-use Rattle.exh_codec.specs.Cells.{pair_image, pair_of}
+use Rattle.exh_page.specs.KeyMap.{pair_of}
+use Rattle.exh_codec.specs.Cells.{pair_image}
 use Rattle.exh_codec.specs.Head.{head_of, head_bytes}
 use Rattle.exh_codec.specs.PageImage.{used_of, IsInRange}
 use Rattle.exh_codec.proofs.PutPairs.{put_behind}

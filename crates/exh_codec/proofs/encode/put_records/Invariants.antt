@@ -1,6 +1,7 @@
 use Rattle.std.proofs.Common.{◌≡◌, ◌≤◌, ◌*◌, ◌++◌, length, map, drop}
 use Rattle.std.specs.List.{AllByRecursion, flat_map}
-use Rattle.exh_codec.specs.Cells.{IsSizedPair, pair_image, pair_of}
+use Rattle.exh_page.specs.KeyMap.{pair_of}
+use Rattle.exh_codec.specs.Cells.{IsSizedPair, pair_image}
 use Rattle.exh_codec.proofs.encode.put_records.Given as goal
 
 abbrev pub invariant-loop-item : goal.invariant-loop-item

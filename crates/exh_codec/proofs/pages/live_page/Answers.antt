@@ -5,7 +5,8 @@ use Rattle.exh_prefix.specs.Prefix.{Begins}
 use Rattle.exh_page.specs.declared.record.Record.{Record}
 use Rattle.exh_page.specs.declared.page.Page.TheVariants.{Live}
 use Rattle.exh_page.specs.Records.{IsRising}
-use Rattle.exh_codec.specs.Cells.{record_borrowed, Pair, IsSizedPair, pair_of, pair_in}
+use Rattle.exh_page.specs.KeyMap.{pair_of}
+use Rattle.exh_codec.specs.Cells.{record_borrowed, Pair, IsSizedPair, pair_in}
 use Rattle.exh_codec.specs.ImageTests.{record_of}
 use Rattle.exh_codec.proofs.Rising.{pairs_of_records}
 use Rattle.exh_codec.proofs.pages.live_page.Goals as goal
