@@ -16,7 +16,8 @@ use Rattle.exh_array.specs.Pointers.{PointerArray, pointer_to}
 use Rattle.exh_array.specs.Within.{is_deep, IsKeptArray, HasLeavesOf}
 use Rattle.exh_prefix.specs.LeadingLemmas.{length-leading_bits, leading-lt, leading-twice}
 use Rattle.exh_prefix.specs.PrefixLemmas.{low_of-word, take-word-low_of}
-use Rattle.exh_array.proofs.Pieces.{slice_get-set_same, slice_get-set_other, slice_get-take}
+use Rattle.exh_prefix.specs.ListLemmas.{set_else}
+use Rattle.exh_array.proofs.Pieces.{slice_get-set_same, slice_get-take}
 use Rattle.exh_array.proofs.Deeper.{deepened}
 
 -- ---- in place
@@ -34,9 +35,9 @@ pub moved_more : (n : ℕ) (pointers made : List Pointer) (next : Pointer) → A
 moved_more n pointers made next are within is = record {
   many = length-set made n next ∙ are.many;
   below = below_more _ n
-      (λ k before. slice_get-set_other made n k next (omega arith) (omega (arith, are.many)) ∙ are.below k before)
+      (λ k before. set_else made n k next (λ same. omega (arith, same)) ∙ are.below k before)
       (slice_get-set_same made n next (omega (arith, are.many)) ∙ sym is ∙ are.above (2 * n) (omega arith) within);
-  above = λ k behind before. slice_get-set_other made n k next (omega arith) (omega (arith, are.many)) ∙ are.above k (omega arith) before;
+  above = λ k behind before. set_else made n k next (λ same. omega (arith, same)) ∙ are.above k (omega arith) before;
 }
 
 -- ---- cut off

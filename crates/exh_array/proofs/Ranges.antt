@@ -13,7 +13,8 @@ use Rattle.exh_prefix.specs.Leading.{leading}
 use Rattle.exh_array.specs.declared.pointer.Pointer.{Pointer}
 use Rattle.exh_array.specs.Pointers.{PointerArray}
 use Rattle.exh_array.specs.Pointers.{pointer_at}
-use Rattle.exh_array.proofs.Pieces.{slice_get-set_same, slice_get-set_other}
+use Rattle.exh_prefix.specs.ListLemmas.{set_else}
+use Rattle.exh_array.proofs.Pieces.{slice_get-set_same}
 use Rattle.exh_prefix.specs.LeadingLemmas.{leading-lt, leading-quotient, leading-fewer, leading-of_begun, begins-from_leading}
 
 -- how many places the range of a prefix has
@@ -79,11 +80,11 @@ filled_more old new from to pointer begun within filled = record {
     | inl last ↦
         let here : k ≡ to = omega (arith, last.1) in
         ap (slice_get (set new.pointers to pointer)) here ∙ slice_get-set_same new.pointers to pointer (omega (arith, filled.full))
-    | inr before ↦ slice_get-set_other new.pointers to k pointer (λ same. omega (arith, before.1)) (omega (arith, before.1, filled.full)) ∙ filled.inside k above (omega (arith, before.1))
+    | inr before ↦ set_else new.pointers to k pointer (λ same. omega (arith, before.1)) ∙ filled.inside k above (omega (arith, before.1))
   ];
   outside = λ k there past. elim past [
-    | inl before ↦ slice_get-set_other new.pointers to k pointer (λ same. omega arith) (omega (arith, filled.full)) ∙ filled.outside k there (inl before)
-    | inr behind ↦ slice_get-set_other new.pointers to k pointer (λ same. omega arith) (omega (arith, filled.full)) ∙ filled.outside k there (inr (omega arith))
+    | inl before ↦ set_else new.pointers to k pointer (λ same. omega arith) ∙ filled.outside k there (inl before)
+    | inr behind ↦ set_else new.pointers to k pointer (λ same. omega arith) ∙ filled.outside k there (inr (omega arith))
   ];
 }
 

@@ -113,11 +113,6 @@ module _ {A : Type 0} where
 
   -- ---- one place written
 
-  pub length_set : (xs : List A) (at : ℕ) (x : A) → length (slice_set xs at x) ≡ length xs
-  length_set [] at x = refl
-  length_set (y ∷ xs) zero x = refl
-  length_set (y ∷ xs) (suc at) x = ap suc (length_set xs at x)
-
   pub set_here : (xs : List A) (at : ℕ) (old x : A) → slice_get xs at ≡ Some old → slice_get (slice_set xs at x) at ≡ Some x
   set_here [] at old x is = cc
   set_here (y ∷ xs) zero old x is = refl

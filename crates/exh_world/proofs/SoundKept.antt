@@ -2,8 +2,9 @@
 use Rattle.std.proofs.Common.{◌≡◌, ℕ, Bool, true, List, [], ◌∷◌, ◌++◌, slice_get, Some, inl, inr, sym, ◌∙◌, subst}
 use Rattle.std.specs.Prelude.{slice_set, ◌↔◌}
 use Rattle.std.proofs.lemmas.Bool.{cases_eq}
+use Rattle.std.proofs.lemmas.List.{length-set}
 use Rattle.exh_prefix.specs.Prefix.{low_of}
-use Rattle.exh_prefix.specs.ListLemmas.{length_set, set_here, set_else, set_is, one_there}
+use Rattle.exh_prefix.specs.ListLemmas.{set_here, set_else, set_is, one_there}
 use Rattle.exh_notice.specs.declared.entry.Kind.{Kind}
 use Rattle.exh_notice.specs.declared.entry.Kind.TheVariants.{Split, Merge}
 use Rattle.exh_notice.specs.declared.notice.Notice.{Notice}
@@ -94,7 +95,7 @@ module _ {K : Type 0} (pseudokey_of : K → List ℕ → ℕ) (old : WorldState 
   sound_after left_is on_the_way = record {
     bits = sound.bits;
     words = sound.words;
-    count = length_set old.wards at left ∙ sound.count;
+    count = length-set old.wards at left ∙ sound.count;
     wards = λ number ward is. elim (set_is old.wards at number before left ward found is) [
       | inl here ↦ subst (λ n. IsWardOf pseudokey_of after n ward) (sym here.0) (subst (λ w. IsWardOf pseudokey_of after at w) (sym here.1) left_is)
       | inr else ↦ other_ward number ward (sound.wards number ward else.1)
