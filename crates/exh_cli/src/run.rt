@@ -1,5 +1,5 @@
 //! The run of a script to the program's end: what it prints, and the status.
-ghost use Rattle.std.specs.Prelude.{◌≡◌, [], IsFalse, OnErr, OnOk};
+ghost use Rattle.std.specs.Prelude.{◌≡◌, ◌↔◌, [], IsErr, IsFalse, IsTrue, OnErr, OnOk};
 ghost use Rattle.std.specs.Io.KnownBytes.{Appends};
 ghost use Rattle.exh_stream.specs.Output.{AppendsBeginning, SameWriter, held, pending, writer_failed};
 ghost use Rattle.exh_cli.specs.Run.{EndsWith, RunPrints, memory_line};
@@ -30,28 +30,22 @@ fn run<R: Read, W: Write>(
 {
     match serve(alloc, reader, writer) {
         Err(ServeFault::Memory) => {
-            print_out_of_memory(writer)?;
+            print_out_of_memory(&mut Output::new(writer))?;
             Err(ServeFault::Memory)
         }
         outcome => outcome,
     }
 }
 
-/// Prints the last line of a program that memory ended, on a writer, or, where that fails, a beginning of it.
-pub fn print_out_of_memory<W: Write>(writer: &mut W) -> Result<(), WriteFault>
-    ensures ok { OnOk result (Appends (W.contents writer.old) (W.contents writer.new) memory_line) }
-    ensures err { OnErr result (AppendsBeginning (W.contents writer.old) (W.contents writer.new) memory_line) }
-{
-    print_line(&mut Output::new(writer))
-}
-
-// The same, on an output.
-fn print_line<W: Write>(output: &mut Output<'_, W>) -> Result<(), WriteFault>
+/// Prints the last line of a program that memory ended, on an output that holds nothing back and whose writer hasn't
+/// failed; or, where the writer fails, a beginning of it.
+pub fn print_out_of_memory<W: Write>(output: &mut Output<'_, W>) -> Result<(), WriteFault>
     requires open { IsFalse (writer_failed output.old) }
     requires empty { pending output.old ≡ [] }
     ensures same_writer { SameWriter output.old output.new }
     ensures ok { OnOk result (Appends (held W.contents output.old) (held W.contents output.new) memory_line) }
     ensures err { OnErr result (AppendsBeginning (held W.contents output.old) (held W.contents output.new) memory_line) }
+    ensures failed { IsErr result ↔ IsTrue (writer_failed output.new) }
 {
     output.push(OUT_OF_MEMORY)?;
     output.finish()
