@@ -9,6 +9,7 @@ pub mod Walks
 pub mod Lone
 pub mod RightLinks
 pub mod PageCount
+pub mod EntryCount
 pub mod SplitReady
 pub mod MergeFit
 pub mod MergeGrown

@@ -132,3 +132,7 @@ LonePagesAreLegal = (cap : ℕ) (pseudo : List ℕ → ℕ) (ward : List Bool) �
 -- a ward has at most as many pages as there are prefixes of LIMIT bits in it
 abbrev pub PagesAreFew : Type 0
 PagesAreFew = (ward : List Bool) (pages : List Page) → length ward ≤ LIMIT → AreLinked ward (bare pages) → length pages ≤ 2 ^ (LIMIT - length ward)
+
+-- and its table has fewer entries: there is a page for each, and page 0
+abbrev pub EntriesAreFew : Type 0
+EntriesAreFew = (ward : List Bool) (table : TableMap) (pages : List Page) → length ward ≤ LIMIT → AreLinked ward (bare pages) → FitsPages ward table (bare pages) → length (fin.entries table) < 2 ^ (LIMIT - length ward)
