@@ -40,7 +40,7 @@ since_nothing prefix =
     let none : (entry : Entry) → Contains told (prefix, entry) → ⊥ = λ entry member. nothing_in prefix entry (subst (λ es. Contains (es ++ []) (prefix, entry)) no_entries member) in
     subst (IsEntryOf told prefix) (sym (fin.get-empty prefix_cmp prefix)) none
 
-first_alone : (page : Page) (low number : ℕ) → 0 < number → IsPageOf (page ∷ []) low number → ⊥
+pub first_alone : (page : Page) (low number : ℕ) → 0 < number → IsPageOf (page ∷ []) low number → ⊥
 first_alone page low zero some is = omega arith
 first_alone page low (suc number) some is = cc
 

@@ -22,12 +22,11 @@ use std::alloc::Global;
 use std::marker::Model;
 
 mod change;
+mod from_pages;
 mod hop;
 mod merge;
 mod readers;
 mod split;
-#[cfg(test)]
-pub(crate) mod worn;
 
 /// The most leading bits by which a file is cut into wards.
 pub const WARD_BITS_LIMIT: u8 = 4;
