@@ -14,3 +14,4 @@ pub mod SplitReady
 pub mod MergeFit
 pub mod MergeGrown
 pub mod Siblings
+pub mod Begun
