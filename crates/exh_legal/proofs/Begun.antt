@@ -1,26 +1,25 @@
 -- Linked pages are what a table that fits them begins.
-use Rattle.std.proofs.Common.{◌≡◌, ◌≢◌, ℕ, zero, suc, ◌+◌, ◌-◌, ◌<◌, ◌≤◌, ◌^◌, Bool, true, false, List, [], ◌∷◌, ◌++◌, length, take, Option, None, Some, ◌⊎◌, inl, inr, refl, sym, ap, ◌∙◌, subst, arith}
+use Rattle.std.proofs.Common.{◌≡◌, ◌≢◌, ℕ, zero, suc, ◌<◌, ◌≤◌, Bool, true, false, List, [], ◌∷◌, ◌++◌, length, take, None, Some, ◌⊎◌, inl, inr, refl, sym, ap, ◌∙◌, subst, arith}
 use Rattle.std.specs.Prelude.{IsSome, is_some}
 use Rattle.std.specs.FinMap as fin
 use Rattle.std.proofs.lemmas.Bool.{cases_eq, false≢true}
-use Rattle.std.proofs.lemmas.List.{length_push, take-append-le}
+use Rattle.std.proofs.lemmas.List.{length_push}
 use Rattle.exh_prefix.specs.declared.prefix.TheConstants.{LIMIT}
 use Rattle.exh_prefix.specs.Bits.{word_bits}
-use Rattle.exh_prefix.specs.Prefix.{IsFront, Begins, HasPrefix, low_of}
+use Rattle.exh_prefix.specs.Prefix.{IsFront, Begins, low_of}
 use Rattle.exh_prefix.specs.PrefixLemmas.{begins_low, front_of_front, fronts_nest, last_split, length-stored, low_of-left_child, low_of-stored}
 use Rattle.exh_notice.specs.declared.entry.Entry.{Entry}
-use Rattle.exh_notice.specs.declared.entry.Kind.TheVariants.{Split, Merge}
-use Rattle.exh_table.specs.declared.leaf.Leaf.{Leaf}
+use Rattle.exh_notice.specs.declared.entry.Kind.TheVariants.{Merge}
 use Rattle.exh_table.specs.Table.{TableMap}
-use Rattle.exh_table.specs.Walk.{split_at, right_of, walk_in}
-use Rattle.exh_table.specs.Leaves.{leaves_in, ward_leaves}
+use Rattle.exh_table.specs.Walk.{split_at, right_of}
+use Rattle.exh_table.specs.Leaves.{leaves_in}
 use Rattle.exh_page.specs.declared.page.Page.{Page}
 use Rattle.exh_page.specs.declared.page.Page.TheVariants.{Live, Forward}
 use Rattle.exh_page.specs.Page.{IsLive, low_bound}
-use Rattle.exh_legal.specs.Fit.{IsSplitAt, IsMergeAt, FitsPages}
+use Rattle.exh_legal.specs.Fit.{FitsPages}
 use Rattle.exh_legal.specs.Growth.{IsLiveAt, IsPageOf, HasEntryEver, IsGrown}
 use Rattle.exh_legal.specs.LowLemmas.{begins_own_low, front_of_longer, front_shorter, low_of-small, own_front, right_above}
-use Rattle.exh_legal.specs.Pages.{IsAt, IsWithin, AreLinked}
+use Rattle.exh_legal.specs.Pages.{IsAt, AreLinked}
 use Rattle.exh_legal.proofs.SplitFit.{front_of_child, kind_of_entry, same_front, split_from_entry}
 use Rattle.exh_legal.proofs.SplitLinks.{same_page}
 use Rattle.exh_legal.proofs.Walks.{live_home, walk_ends}

@@ -1,12 +1,12 @@
 -- What a call at its home page leaves of the pages.
-use Rattle.std.proofs.Common.{◌≡◌, ℕ, ◌≤◌, Bool, true, false, cond, leb, List, length, find, slice_get, Option, None, Some, ◌↔◌, IsTrue, inl, inr, refl, sym, ap, ◌∙◌, subst, arith, nat_cmp}
+use Rattle.std.proofs.Common.{◌≡◌, ℕ, ◌≤◌, Bool, true, false, cond, leb, List, length, find, slice_get, Option, None, Some, inl, inr, refl, sym, ap, ◌∙◌, subst, arith, nat_cmp}
 use Rattle.std.specs.Prelude.{slice_set}
 use Rattle.std.specs.FinMap as fin
 use Rattle.std.specs.List.{AllByRecursion}
 use Rattle.std.specs.Option.{option_map, option_map_or}
 use Rattle.std.specs.Ordering.{eq_by_cmp}
 use Rattle.std.specs.Cmp.Lexicographic.{slice_cmp}
-use Rattle.std.proofs.lemmas.Bool.{cases_eq, cases_Bool, leb-false, false_from_ne_true, false≢true}
+use Rattle.std.proofs.lemmas.Bool.{cases_eq, cases_Bool, leb-false, false_from_ne_true}
 use Rattle.std.proofs.lemmas.Cmp.{nat_list_cmp_total}
 use Rattle.std.proofs.lemmas.Map.Lookups.{exact_bytes}
 use Rattle.exh_prefix.specs.Bits.{word_bits}
@@ -17,7 +17,7 @@ use Rattle.exh_page.specs.declared.page.Page.TheVariants.{Live}
 use Rattle.exh_page.specs.declared.record.Record.{Record}
 use Rattle.exh_page.specs.Page.{AreRecordsOf, records_of}
 use Rattle.exh_page.specs.Place.{Place}
-use Rattle.exh_page.specs.Records.{is_at, value_at, with_record, without_place}
+use Rattle.exh_page.specs.Records.{is_at, value_at, with_record}
 use Rattle.exh_page.specs.RecordsLemmas.{AllByRecursion-filter, IsRising-filter, IsRising-with_record}
 use Rattle.exh_page.specs.Values.{value_at-with_record, value_at-without_place, AllByRecursion-with_record, length-with_record_old, length-with_record_le, length-without_place}
 use Rattle.exh_page.specs.KeyMap.{KeyMap}

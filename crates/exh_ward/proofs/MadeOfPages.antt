@@ -1,5 +1,5 @@
 -- A ward that is made of pages.
-use Rattle.std.proofs.Common.{◌≡◌, ℕ, ◌-◌, ◌^◌, ◌<◌, ◌≤◌, Bool, List, [], ◌++◌, append-nil, length, refl, sym, ◌∙◌, subst, arith}
+use Rattle.std.proofs.Common.{◌≡◌, ℕ, ◌-◌, ◌^◌, ◌<◌, ◌≤◌, Bool, List, [], append-nil, length, refl, sym, ◌∙◌, subst, arith}
 use Rattle.std.specs.FinMap as fin
 use Rattle.std.proofs.Math.Nat.{pow-le-pow_right}
 use Rattle.exh_prefix.specs.BitLemmas.{length-bits_of}

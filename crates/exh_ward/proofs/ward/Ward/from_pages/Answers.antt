@@ -1,7 +1,5 @@
-use Rattle.std.proofs.Common.{◌<◌, ap, ◌∙◌, subst, arith}
+use Rattle.std.proofs.Common.{ap, ◌∙◌}
 use Rattle.std.specs.FinMap as fin
-use Rattle.std.specs.Prelude.{length}
-use Rattle.exh_page.specs.Page.{IsWellFormed}
 use Rattle.exh_legal.specs.Pages.{ward_prefix}
 use Rattle.exh_ward.proofs.MadeOfPages.{apart_from, few_entries, kept_made}
 use Rattle.exh_ward.proofs.ward.Ward.from_pages.Goals as goal
