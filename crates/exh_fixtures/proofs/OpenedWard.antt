@@ -1,5 +1,5 @@
 -- A ward of two empty pages, whose start table has a split at the ward's prefix, of whatever odd number, is legal.
-use Rattle.std.proofs.Common.{◌≡◌, ℕ, zero, suc, ◌+◌, ◌<◌, ◌≤◌, ◌%◌, ◌^◌, Bool, true, false, cond, List, [], ◌∷◌, ◌++◌, length, slice_get, Option, None, Some, inl, inr, refl, sym, ap, ◌∙◌, subst, arith}
+use Rattle.std.proofs.Common.{◌≡◌, ℕ, zero, suc, ◌+◌, ◌<◌, ◌%◌, Bool, true, false, cond, List, [], ◌∷◌, ◌++◌, length, slice_get, Option, None, Some, inl, inr, refl, sym, ap, ◌∙◌, subst, arith}
 use Rattle.std.specs.FinMap as fin
 use Rattle.std.specs.Option.{option_map_or}
 use Rattle.std.specs.Ordering.{is_eq, eq_by_cmp}
@@ -26,9 +26,13 @@ use Rattle.exh_legal.specs.Numbers.{number_at}
 use Rattle.exh_legal.specs.Pages.{IsAt}
 use Rattle.exh_fixtures.specs.OpenedWard.{entry_of_split, halves}
 
-is_merge : Kind → Bool
+abbrev is_merge : Kind → Bool
 is_merge (Split right) = false
 is_merge Merge = true
+
+abbrev is_some : Option Entry → Bool
+is_some None = false
+is_some (Some entry) = true
 
 tie_of : (o : Ordering) → is_eq o ≡ true → o ≡ Equal
 tie_of Less tied = cc
@@ -78,7 +82,7 @@ module _ (own : List Bool) where
         let both : Some (entry_of_split number) ≡ Some (record { number = merge.0; kind = Merge }) = sym (get_own number prefix tied) ∙ merge.1 in
         let entry_is : entry_of_split number ≡ record { number = merge.0; kind = Merge } = cc in
         absurd (false≢true (ap (λ (entry : Entry). is_merge entry.kind) entry_is))
-    | inr differs ↦ let none : None ≡ Some (record { number = merge.0; kind = Merge }) = sym (get_else number prefix differs) ∙ merge.1 in cc
+    | inr differs ↦ absurd (false≢true (ap is_some (sym (get_else number prefix differs) ∙ merge.1)))
   ]
 
 -- ---- the pages: those of a split of an empty page that may hold no record

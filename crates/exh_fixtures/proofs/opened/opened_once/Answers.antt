@@ -7,7 +7,7 @@ use Rattle.exh_table.specs.Table.{TableMap, raised}
 use Rattle.exh_page.specs.declared.page.Page.{Page}
 use Rattle.exh_legal.specs.Laws.{IsWard}
 use Rattle.exh_legal.specs.Pages.{ward_prefix}
-use Rattle.exh_fixtures.specs.OpenedWard.{entry_of_split, halves}
+use Rattle.exh_fixtures.specs.OpenedWard.{halves}
 use Rattle.exh_fixtures.proofs.OpenedWard.{opened_legal, told}
 use Rattle.exh_fixtures.proofs.opened.opened_once.Goals as goal
 
