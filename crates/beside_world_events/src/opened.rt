@@ -98,7 +98,7 @@ fn hop(ward: u8, hop: Hop) -> Line {
     done(Event::Hop { name: 1 }, Outcome::Hopped { ward, hop })
 }
 
-fn deliver(copy: u32, ward: u8, index: u64) -> Event {
+fn deliver(copy: u32, ward: u32, index: u64) -> Event {
     Event::Deliver { copy, ward, index }
 }
 
