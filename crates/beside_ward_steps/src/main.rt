@@ -7,6 +7,7 @@
 
 mod faults;
 mod journals;
+mod opened;
 mod plain_ward;
 mod routes;
 mod ward_step;
@@ -22,6 +23,8 @@ enum Kind {
     Journals,
     /// Page faults.
     WardFaults,
+    /// Wards as of files that were written.
+    OpenedWards,
 }
 
 impl RunKind for Kind {
@@ -30,6 +33,7 @@ impl RunKind for Kind {
             Kind::Routes => "routes",
             Kind::Journals => "journals",
             Kind::WardFaults => "ward-faults",
+            Kind::OpenedWards => "opened-wards",
         }
     }
 
@@ -38,11 +42,17 @@ impl RunKind for Kind {
             Kind::Routes => routes::run(run),
             Kind::Journals => journals::run(run),
             Kind::WardFaults => faults::run(run),
+            Kind::OpenedWards => opened::run(run),
         }
     }
 }
 
 fn main(rt: HostRuntime) -> ExitCode {
-    let kinds = [Kind::Routes, Kind::Journals, Kind::WardFaults];
+    let kinds = [
+        Kind::Routes,
+        Kind::Journals,
+        Kind::WardFaults,
+        Kind::OpenedWards,
+    ];
     run_program(&rt, "beside_ward_steps", &kinds)
 }

@@ -9,6 +9,7 @@ mod anew;
 mod faults;
 mod line;
 mod lives;
+mod opened;
 
 use exh_runs::{Difference, Run, RunKind, run_program};
 use std::process::ExitCode;
@@ -19,6 +20,8 @@ enum Kind {
     Anew,
     /// Page faults.
     WorldFaults,
+    /// Wards as of a file that was written.
+    OpenedWorlds,
 }
 
 impl RunKind for Kind {
@@ -26,6 +29,7 @@ impl RunKind for Kind {
         match self {
             Kind::Anew => "anew",
             Kind::WorldFaults => "world-faults",
+            Kind::OpenedWorlds => "opened-worlds",
         }
     }
 
@@ -33,10 +37,12 @@ impl RunKind for Kind {
         match self {
             Kind::Anew => anew::run(run),
             Kind::WorldFaults => faults::run(run),
+            Kind::OpenedWorlds => opened::run(run),
         }
     }
 }
 
 fn main(rt: HostRuntime) -> ExitCode {
-    run_program(&rt, "beside_world_events", &[Kind::Anew, Kind::WorldFaults])
+    let kinds = [Kind::Anew, Kind::WorldFaults, Kind::OpenedWorlds];
+    run_program(&rt, "beside_world_events", &kinds)
 }

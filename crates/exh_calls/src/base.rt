@@ -32,6 +32,13 @@ impl Base {
         }
     }
 
+    /// The map of pairs: of two pairs of one key the first counts. It takes no memory.
+    pub fn from_pairs(pairs: Vec<(Key, Value)>) -> Base
+        ensures { result ≡ map.from_entries pairs.items }
+    {
+        Base { pairs }
+    }
+
     /// The pairs of the map: of two pairs of one key the first counts. It takes no memory.
     pub fn pairs(&self) -> &[(Key, Value)]
         ensures { map.from_entries result.now ≡ self.now }

@@ -5,6 +5,7 @@
 pub use calls::{Asked, key, value};
 pub use new_ward::first_store;
 pub use notices::{merge, prefix, split};
+pub use opened::opened_ward;
 pub use replies::told_reply;
 pub use same_pages::are_same;
 pub use ward_calls::{hop, hop_of, merge_page, page, refused, split_page};
@@ -12,6 +13,7 @@ pub use ward_calls::{hop, hop_of, merge_page, page, refused, split_page};
 mod calls;
 mod new_ward;
 mod notices;
+mod opened;
 mod replies;
 mod same_pages;
 mod ward_calls;

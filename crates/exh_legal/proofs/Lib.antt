@@ -22,3 +22,7 @@ pub mod Siblings
 pub mod Lone
 -- of pages_are_few
 pub mod PageCount
+-- of entries_are_few
+pub mod EntryCount
+-- of fitting_tables_begin_wards
+pub mod Begun

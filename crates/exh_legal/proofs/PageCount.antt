@@ -1,4 +1,4 @@
--- A ward has no more pages than there are prefixes of LIMIT bits in it.
+-- Pages within a ward, no two of one low bound, are no more than there are prefixes of LIMIT bits in it.
 use Rattle.std.proofs.Common.{◌≡◌, ℕ, suc, ◌+◌, ◌-◌, ◌*◌, ◌/◌, ◌^◌, ◌<◌, ◌≤◌, Bool, true, false, eqb, List, [], ◌∷◌, length, take, map, inl, inr, refl, sym, ap, ◌∙◌, subst, arith}
 use Rattle.std.specs.List.{AllByRecursion, IsDistinct, list_any}
 use Rattle.std.proofs.lemmas.Bool.{ne_eqb, eqb-true, or_cases}
@@ -75,7 +75,8 @@ same_quotient a b (m, am) (n, bn) same =
 difference_whole : (a b : ℕ) → IsWhole a → IsWhole b → b ≤ a → IsWhole (a - b)
 difference_whole a b (m, am) (n, bn) less = (m - n, omega (arith, am, bn))
 
-module _ {ward : List Bool} {pages : List Page} (short : length ward ≤ LIMIT) (linked : AreLinked ward pages) where
+module _ {ward : List Bool} (pages : List Page) (short : length ward ≤ LIMIT) (all_within : (number : ℕ) (page : Page) → IsAt pages number page → IsWithin ward page)
+    (apart : (one other : ℕ) (page twin : Page) → IsAt pages one page → IsAt pages other twin → low_bound page ≡ low_bound twin → one ≡ other) where
   place : Page → ℕ
   place page = (low_bound page - low_of ward) / unit
 
@@ -84,7 +85,7 @@ module _ {ward : List Bool} {pages : List Page} (short : length ward ≤ LIMIT) 
 
   reach : (number : ℕ) (page : Page) → IsAt pages number page → (low_of ward ≤ low_bound page) × (low_bound page < low_of ward + 2 ^ (64 - length ward))
   reach number page is =
-      let begun = page_begun ward page (linked.within number page is) in
+      let begun = page_begun ward page (all_within number page is) in
       begins_low ward (low_bound page) (omega (arith, short)) begun.1 begun.0
 
   places_apart : (one other : ℕ) (page twin : Page) → IsAt pages one page → IsAt pages other twin → place page ≡ place twin → one ≡ other
@@ -92,9 +93,9 @@ module _ {ward : List Bool} {pages : List Page} (short : length ward ≤ LIMIT) 
   places_apart one other page twin is too same =
       let first = reach one page is in
       let second = reach other twin too in
-      let apart = same_quotient (low_bound page - low_of ward) (low_bound twin - low_of ward)
-      (difference_whole _ _ (page_whole ward page (linked.within one page is)) ward_whole first.0) (difference_whole _ _ (page_whole ward twin (linked.within other twin too)) ward_whole second.0) same in
-      linked.apart one other page twin is too (omega (arith, apart, first.0, second.0))
+      let same_low = same_quotient (low_bound page - low_of ward) (low_bound twin - low_of ward)
+      (difference_whole _ _ (page_whole ward page (all_within one page is)) ward_whole first.0) (difference_whole _ _ (page_whole ward twin (all_within other twin too)) ward_whole second.0) same in
+      apart one other page twin is too (omega (arith, same_low, first.0, second.0))
 
   places_below : (number : ℕ) (page : Page) → IsAt pages number page → place page < 2 ^ (LIMIT - length ward)
   unfolding place

@@ -53,7 +53,7 @@ no_inner ward pages linked prefix number is inner =
 
 -- ---- entries
 
-kind_of_entry : (entry : Entry) → (right_of (Some entry) ≡ None × (entry.kind ≡ Merge)) ⊎ ((right : ℕ) × (entry.kind ≡ Split right))
+pub kind_of_entry : (entry : Entry) → (right_of (Some entry) ≡ None × (entry.kind ≡ Merge)) ⊎ ((right : ℕ) × (entry.kind ≡ Split right))
 kind_of_entry entry = elim entry.kind as (λ kind. entry.kind ≡ kind → (right_of (Some entry) ≡ None × (entry.kind ≡ Merge)) ⊎ ((right : ℕ) × (entry.kind ≡ Split right))) [
   | Split right ↦ λ is. inr (right, is)
   | Merge ↦ λ is. inl (rw is refl, is)

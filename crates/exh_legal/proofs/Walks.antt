@@ -21,7 +21,7 @@ use Rattle.exh_prefix.specs.LowLemmas.{own_front, front_shorter, front_of_longer
 use Rattle.exh_prefix.specs.ListLemmas.{one_there}
 use Rattle.exh_legal.proofs.SplitFit.{same_front, no_inner}
 
-live_home : (pages : List Page) (number : ℕ) (page : Page) (pseudokey : ℕ) → IsAt pages number page → IsHome page pseudokey → (prefix : List Bool) × IsLiveAt pages prefix number × Begins prefix pseudokey
+pub live_home : (pages : List Page) (number : ℕ) (page : Page) (pseudokey : ℕ) → IsAt pages number page → IsHome page pseudokey → (prefix : List Bool) × IsLiveAt pages prefix number × Begins prefix pseudokey
 live_home pages number (Live prefix right records) pseudokey is home = (prefix, (right, records, is), home)
 live_home pages number (Forward low target) pseudokey is home = absurd home
 

@@ -15,7 +15,7 @@ use Rattle.exh_page.specs.declared.page.Page.TheVariants.{Live, Forward}
 use Rattle.exh_page.specs.declared.record.Record.{Record}
 use Rattle.exh_page.specs.Laws.{AreOfWords}
 use Rattle.exh_page.specs.Page.{low_bound}
-use Rattle.exh_legal.specs.Pages.{IsAt, map_of, bare, AreLinked}
+use Rattle.exh_legal.specs.Pages.{IsAt, IsLegal, map_of, bare, AreLinked}
 use Rattle.exh_legal.specs.Change.{IsForwardOf, IsSplit, IsMerge}
 use Rattle.exh_legal.specs.Growth.{IsLiveAt, IsPageOf, IsLegalSince}
 use Rattle.exh_legal.specs.Fit.{FitsPages, IsTrueNotice}
@@ -136,3 +136,12 @@ LonePagesAreLegal = (cap : ℕ) (pseudo : List ℕ → ℕ) (ward : List Bool) �
 -- a ward has at most as many pages as there are prefixes of LIMIT bits in it
 abbrev pub PagesAreFew : Type 0
 PagesAreFew = (ward : List Bool) (pages : List Page) → length ward ≤ LIMIT → AreLinked ward (bare pages) → length pages ≤ 2 ^ (LIMIT - length ward)
+
+-- and its table has fewer entries: there is a page for each, and page 0
+abbrev pub EntriesAreFew : Type 0
+EntriesAreFew = (ward : List Bool) (table : TableMap) (pages : List Page) → length ward ≤ LIMIT → AreLinked ward (bare pages) → FitsPages ward table (bare pages) → length (fin.entries table) < 2 ^ (LIMIT - length ward)
+
+-- a table that fits legal pages can be where they begin: they are a ward of that start, with no change since
+abbrev pub FittingTablesBeginWards : Type 0
+FittingTablesBeginWards =
+    (cap : ℕ) (pseudo : List ℕ → ℕ) (ward : List Bool) (table : TableMap) (pages : List Page) → IsLegal cap pseudo ward pages → FitsPages ward table (bare pages) → IsWard cap pseudo ward table [] table pages

@@ -1,6 +1,6 @@
 //! What holds of the pages of every ward, for the proofs of callers. Each function does nothing.
 
-ghost use Rattle.exh_legal.specs.Laws.{SplitsKeepLegal, MergesKeepLegal, LivePagesSplit, LiveLeftChildrenMerge, WalksNameHomes, RightLinksLeadOn, TargetsLeadOn, LeftChildrenLinkToSiblings, LonePagesAreLegal, PagesAreFew};
+ghost use Rattle.exh_legal.specs.Laws.{SplitsKeepLegal, MergesKeepLegal, LivePagesSplit, LiveLeftChildrenMerge, WalksNameHomes, RightLinksLeadOn, TargetsLeadOn, LeftChildrenLinkToSiblings, LonePagesAreLegal, PagesAreFew, EntriesAreFew, FittingTablesBeginWards};
 
 /// A split of a legal ward leaves it legal, for the changes with its notice, and leaves the map and
 /// each page's number and low bound as they were.
@@ -56,4 +56,14 @@ pub fn lone_pages_are_legal()
 /// A ward has at most 2^(`LIMIT` - s) pages, s being the bits by which the file is cut.
 pub fn pages_are_few()
     ensures { PagesAreFew }
+{}
+
+/// A ward's table has fewer than 2^(`LIMIT` - s) entries, s being the bits by which the file is cut.
+pub fn entries_are_few()
+    ensures { EntriesAreFew }
+{}
+
+/// Legal pages with a table that fits them are a legal ward that begins with that table.
+pub fn fitting_tables_begin_wards()
+    ensures { FittingTablesBeginWards }
 {}

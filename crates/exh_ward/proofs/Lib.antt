@@ -1,6 +1,8 @@
 -- a new ward is sound
 pub mod NewWardsAreSound
-pub mod Worn
+-- a ward of given pages is sound
+pub mod PagesRead
+pub mod MadeOfPages
 -- the index of its pages, the notices above an index
 pub mod IndexSeen
 pub mod NoticesAbove

@@ -26,7 +26,7 @@ use Rattle.std.specs.Ordering.{nat_cmp}
 no_index : index_of fin.empty ≡ 0
 no_index = ap (sum_by (λ (e : List Bool × Entry). e.1.number)) no_entries
 
-first_alone : (page : Page) (low number : ℕ) → 0 < number → IsPageOf (page ∷ []) low number → ⊥
+pub first_alone : (page : Page) (low number : ℕ) → 0 < number → IsPageOf (page ∷ []) low number → ⊥
 first_alone page low zero some is = omega arith
 first_alone page low (suc number) some is = cc
 

@@ -14,7 +14,5 @@ mod hop;
 mod laws;
 mod page_index;
 mod page_line;
-#[cfg(test)]
-mod tests;
 mod ward;
 mod ward_fault;

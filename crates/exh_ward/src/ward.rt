@@ -22,12 +22,11 @@ use std::alloc::Global;
 use std::marker::Model;
 
 mod change;
+mod from_pages;
 mod hop;
 mod merge;
 mod readers;
 mod split;
-#[cfg(test)]
-pub(crate) mod worn;
 
 /// A part of the file: the pages of all keys whose pseudokeys share the ward's leading bits, with
 /// the history of the calls that they answered, and the notices of the splits that they went

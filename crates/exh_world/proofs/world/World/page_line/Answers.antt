@@ -2,7 +2,6 @@ use Rattle.std.proofs.Common.{◌≡◌, None, slice_get, inl, refl, subst}
 use Rattle.std.specs.Prelude.{IfErr}
 use Rattle.std.proofs.lemmas.Option.{slice_get_past}
 use Rattle.exh_ward.specs.declared.page_line.PageLine.{PageLine}
-use Rattle.exh_page.specs.declared.page.Page.{Page}
 use Rattle.exh_ward.specs.WardFault.{PageRefused}
 use Rattle.exh_ward.specs.WardState.{WardState}
 use Rattle.exh_world.specs.Step.{IsChangeRefused, LeavesRefused}

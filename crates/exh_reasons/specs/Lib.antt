@@ -1,0 +1,3 @@
+pub mod FileParts
+pub mod Reasons
+pub mod Laws

@@ -1,0 +1,64 @@
+-- The six reasons for which a page file isn't legal: each a test of its own over the whole file.
+use Rattle.std.specs.Prelude.{◌≡◌, ℕ, ◌<◌, ◌≤◌, ◌^◌, Bool, List, length, Option, None, Some}
+use Rattle.exh_prefix.specs.Prefix.{Begins, low_of}
+use Rattle.exh_page.specs.declared.page.Page.{Page}
+use Rattle.exh_page.specs.declared.page.Page.TheVariants.{Live, Forward}
+use Rattle.exh_page.specs.declared.record.Record.{Record}
+use Rattle.exh_page.specs.Page.{IsLive, low_bound, records_of}
+use Rattle.exh_legal.specs.Fit.{FitsPages}
+use Rattle.exh_legal.specs.Growth.{IsLiveAt}
+use Rattle.exh_legal.specs.Pages.{IsAt, IsHome, IsRightLink, IsTarget}
+use Rattle.exh_reasons.specs.declared.reason.Reason.{Reason}
+use Rattle.exh_reasons.specs.declared.reason.Reason.TheVariants.{Cap, LowBounds, Leaves, Links, Forwards, Table}
+use Rattle.exh_reasons.specs.FileParts.{FileParts, OfEachWard, HasNoStrays}
+
+-- ---- the tests of a ward's pages
+
+-- no page has more than cap records
+abbrev pub KeepsCap : ℕ → List Page → Type 0
+KeepsCap cap pages = (number : ℕ) (page : Page) → IsAt pages number page → length (records_of page) ≤ cap
+
+-- page 0 is live and has the ward's low bound, each page's low bound is the ward's, and no two pages share one
+pub record HasLows (ward : List Bool) (pages : List Page) : Type 0 where
+  pub first : (page : Page) × IsAt pages 0 page × IsLive page × (low_bound page ≡ low_of ward)
+  pub within : (number : ℕ) (page : Page) → IsAt pages number page → Begins ward (low_bound page)
+  pub apart : (one other : ℕ) (page twin : Page) → IsAt pages one page → IsAt pages other twin → low_bound page ≡ low_bound twin → one ≡ other
+
+-- no live prefix is shorter than the ward's, and each pseudokey of the ward is begun by one live prefix and only one
+pub record HasLeaves (ward : List Bool) (pages : List Page) : Type 0 where
+  pub long : (prefix : List Bool) (number : ℕ) → IsLiveAt pages prefix number → length ward ≤ length prefix
+  pub home : (pseudokey : ℕ) → pseudokey < 2 ^ 64 → Begins ward pseudokey → (number : ℕ) × (page : Page) × IsAt pages number page × IsHome page pseudokey
+  pub one_home : (pseudokey : ℕ) → pseudokey < 2 ^ 64 → Begins ward pseudokey → (one other : ℕ) (page twin : Page) → IsAt pages one page → IsAt pages other twin → IsHome page pseudokey → IsHome twin pseudokey → one ≡ other
+
+-- a live page's right link is the live page with the next greater low bound, or none where there is no such page
+abbrev pub HasLinks : List Page → Type 0
+HasLinks pages = (number : ℕ) (prefix : List Bool) (right : Option ℕ) (records : List Record) → IsAt pages number (Live prefix right records) → IsRightLink pages (Live prefix right records) right
+
+-- a forwarding page's target is the page whose low bound is its own with the lowest set bit cleared
+abbrev pub HasTargets : List Page → Type 0
+HasTargets pages = (number low target : ℕ) → IsAt pages number (Forward low target) → IsTarget pages low target
+
+-- ---- the reasons of a file
+
+-- the reason doesn't hold of the file
+abbrev pub Passes : FileParts → Reason → Type 0
+Passes parts Cap = OfEachWard parts (λ ward table pages. KeepsCap parts.cap pages)
+Passes parts LowBounds = OfEachWard parts (λ ward table pages. HasLows ward pages)
+Passes parts Leaves = OfEachWard parts (λ ward table pages. HasLeaves ward pages)
+Passes parts Links = OfEachWard parts (λ ward table pages. HasLinks pages)
+Passes parts Forwards = OfEachWard parts (λ ward table pages. HasTargets pages)
+Passes parts Table = OfEachWard parts FitsPages × HasNoStrays parts
+
+-- the place of a reason in the order in which they are tested
+abbrev pub place_of : Reason → ℕ
+place_of Cap = 1
+place_of LowBounds = 2
+place_of Leaves = 3
+place_of Links = 4
+place_of Forwards = 5
+place_of Table = 6
+
+-- the first reason that holds, or none where none does
+abbrev pub IsFirstReason : FileParts → Option Reason → Type 0
+IsFirstReason parts None = (reason : Reason) → Passes parts reason
+IsFirstReason parts (Some reason) = (Passes parts reason → ⊥) × ((earlier : Reason) → place_of earlier < place_of reason → Passes parts earlier)

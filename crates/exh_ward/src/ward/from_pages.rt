@@ -1,0 +1,144 @@
+ghost use Rattle.std.specs.Prelude.{◌≡◌, ◌^◌, ◌<◌, ◌≤◌, ◌++◌, [], length, map, IfOk, IfErr, OnOk};
+ghost use Rattle.std.specs.FinMap as fin;
+ghost use Rattle.exh_prefix.specs.declared.prefix.TheConstants.{LIMIT, WARD_BITS_LIMIT};
+ghost use Rattle.exh_page.specs.declared.page.TheConstants.{CAP_LIMIT};
+ghost use Rattle.exh_page.specs.declared.page.Page.{Page};
+ghost use Rattle.exh_page.specs.Page.{IsWellFormed, records_of};
+ghost use Rattle.exh_frames.specs.PageStore.{TakesTheSame};
+ghost use Rattle.exh_legal.specs.Laws.{IsWard};
+ghost use Rattle.exh_legal.specs.Numbers.{index_of};
+ghost use Rattle.exh_legal.specs.Pages.{bare, map_of};
+ghost use Rattle.exh_page.specs.KeyMap.{pair_of};
+ghost use Rattle.exh_prefix.specs.Leading.{ward_prefix};
+ghost use Rattle.exh_ward.specs.FromPages.{AreApart, index_with, pairs_of};
+ghost use Rattle.exh_ward.specs.PageIndex.{IsIndexOf};
+ghost use Rattle.exh_ward.specs.WardFault.{CountsFailures, IsStoreFault};
+ghost use Rattle.exh_ward.specs.WardState.{IsSoundWard};
+ghost use Rattle.exh_ward.specs.declared.ward_fault.WardFault.TheVariants.{Page as OutOfReach};
+
+use super::{Ward, own_prefix};
+use crate::WardFault;
+use crate::page_index::PageIndex;
+use exh_calls::{Base, Journal};
+use exh_frames::Pages;
+use exh_join::Join;
+use exh_keyer::Keyer;
+use exh_legal::entries_are_few;
+use exh_page::{CAP_LIMIT, Key, Page, Records, Value};
+use exh_prefix::PageNo;
+use exh_table::{Table, own_entries_give_the_table};
+use std::alloc::{AllocError, Global};
+
+impl<P: Pages + Drop, K: Keyer> Ward<P, K> {
+    /// Ward `number` of a file that was written: its pages, and the table of the changes that they
+    /// went through, which is its start table. They are a legal ward for that table and no change
+    /// since. Its base is the map of its pages, its journal is empty, and its notices go on after the
+    /// changes that the table tells of. `cap`, `ward_bits` and `number` are as in `new`.
+    ///
+    /// It takes memory for a copy of the table, for each page but page 0 and for each record:
+    /// `WardFault::Memory` where that is refused. Each page is lent once, which the store may refuse
+    /// as it does. Nothing else is refused.
+    pub fn from_pages(
+        alloc: Global,
+        cap: usize,
+        ward_bits: u8,
+        number: u8,
+        pages: P,
+        table: Table,
+        keyer: K,
+    ) -> Result<Ward<P, K>, WardFault>
+        requires legal { IsWard cap (K.pseudokey_of keyer) (ward_prefix ward_bits number) table [] table (P.pages pages) }
+        requires takes { (page : Page) → IsWellFormed (K.pseudokey_of keyer) page → P.takes pages page }
+        requires some { 1 ≤ cap }
+        requires most { cap ≤ CAP_LIMIT }
+        requires bits { ward_bits ≤ WARD_BITS_LIMIT }
+        requires number { number < 2 ^ ward_bits }
+        ensures ward { IfOk result (λ ward. ward ≡ record { pages = P.pages pages; base = map_of (P.pages pages); journal = []; start = table; notices = []; table = table; failures = P.failures pages; cap = cap; ward_bits = ward_bits; number = number; keyer = keyer }) }
+        ensures sound { IfOk result (IsSoundWard K.pseudokey_of) }
+        ensures fault { IfErr result IsStoreFault }
+        ensures page_fault { IfErr result (λ fault. fault ≡ OutOfReach → (left : P) × (P.failures pages < P.failures left)) }
+    {
+        own_entries_give_the_table();
+        entries_are_few();
+        let mut store = pages;
+        let (index, pairs) = read_pages(alloc, &mut store)?;
+        let start = table.try_clone()?;
+        Ok(Ward {
+            cap,
+            ward_bits,
+            number,
+            keyer,
+            own: own_prefix(ward_bits, number),
+            store,
+            index,
+            base: Base::from_pairs(pairs),
+            journal: Journal::new(alloc),
+            start,
+            told: changes_of(&table),
+            notices: Vec::new(alloc),
+            table,
+        })
+    }
+}
+
+// The index of a store's pages, and the pairs of their records.
+fn read_pages<P: Pages>(
+    alloc: Global,
+    store: &mut P,
+) -> Result<(PageIndex, Vec<(Key, Value)>), WardFault>
+    requires apart { AreApart (P.pages store.old) }
+    ensures index { IfOk result (λ read. IsIndexOf read.0 (bare (P.pages store.old))) }
+    ensures pairs { IfOk result (λ read. read.1.items ≡ pairs_of (P.pages store.old)) }
+    ensures pages { P.pages store.new ≡ P.pages store.old }
+    ensures fault { IfErr result IsStoreFault }
+    ensures failures { CountsFailures result (P.failures store.old) (P.failures store.new) }
+    ensures takes { TakesTheSame P.takes store.old store.new }
+{
+    let mut index = PageIndex::new(alloc);
+    let mut pairs = Vec::new(alloc);
+    for number in 0..store.count() {
+        take_page(number, store.lend(number)?, &mut index, &mut pairs)?;
+    }
+    Ok((index, pairs))
+}
+
+// Takes a page's number and its records' pairs.
+fn take_page(
+    number: PageNo,
+    page: &Page,
+    index: &mut PageIndex,
+    pairs: &mut Vec<(Key, Value)>,
+) -> Result<(), AllocError>
+    ensures index { OnOk result (index.new ≡ index_with index.old number page.now) }
+    ensures pairs { OnOk result (pairs.new.items ≡ pairs.old.items ++ map pair_of (records_of page.now)) }
+{
+    if number > 0 {
+        index.insert(page.low(), number)?;
+    }
+    match page {
+        Page::Live { records, .. } => push_pairs(pairs, records),
+        Page::Forward { .. } => Ok(()),
+    }
+}
+
+fn push_pairs(pairs: &mut Vec<(Key, Value)>, records: &Records) -> Result<(), AllocError>
+    ensures { OnOk result (pairs.new.items ≡ pairs.old.items ++ map pair_of records.now) }
+{
+    for item in records.iter() {
+        pairs.push((item.key, item.value))?;
+    }
+    Ok(())
+}
+
+// How many changes a table tells of.
+fn changes_of(table: &Table) -> u64
+    requires { length (fin.entries table.now) < 2 ^ LIMIT }
+    ensures index { result ≡ index_of table.now }
+    ensures few { result < 2 ^ 62 }
+{
+    let mut told = 0;
+    for (_, entry) in table.entries() {
+        told += u64::from(entry.number);
+    }
+    told
+}
