@@ -1,7 +1,7 @@
 -- What holds of the effects of all calls, so that other proofs need not go through the calls.
-use Rattle.std.proofs.Common.{◌≡◌, ℕ, Bool, true, false, List, Option, Some, None, refl, ap}
+use Rattle.std.proofs.Common.{◌≡◌, ℕ, Bool, true, List, Option, Some, None, refl, ap}
 use Rattle.std.specs.Option.{is_some}
-use Rattle.exh_calls.specs.Effect.{Change, Set, Effect, on_none, new_value, effect_of, sets_new}
+use Rattle.exh_calls.specs.Effect.{Set, on_none, new_value, effect_of, sets_new}
 use Rattle.exh_calls.specs.declared.call.Call.{Call}
 
 same_on_none : (new : Option (List ℕ)) (one other : Bool) → (is_some new ≡ true → one ≡ other) → on_none new one ≡ on_none new other

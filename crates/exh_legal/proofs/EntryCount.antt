@@ -14,7 +14,7 @@ use Rattle.exh_prefix.specs.PrefixLemmas.{begins_low, front_of_front, prefix_cmp
 use Rattle.exh_notice.specs.declared.entry.Entry.{Entry}
 use Rattle.exh_notice.specs.declared.entry.Kind.{Kind}
 use Rattle.exh_notice.specs.declared.entry.Kind.TheVariants.{Split, Merge}
-use Rattle.exh_table.specs.SetLemmas.{first_part, second_part}
+use Rattle.exh_prefix.specs.ListLemmas.{first_part, is_equal, second_part}
 use Rattle.exh_table.specs.Table.{TableMap}
 use Rattle.exh_table.specs.Walk.{right_of, right_of_kind, split_at}
 use Rattle.exh_page.specs.declared.page.Page.{Page}
@@ -22,7 +22,6 @@ use Rattle.exh_page.specs.declared.page.Page.TheVariants.{Live}
 use Rattle.exh_page.specs.Page.{low_bound}
 use Rattle.exh_legal.specs.Fit.{FitsPages}
 use Rattle.exh_prefix.specs.LowLemmas.{begins_own_low, child_short, front_of_longer, front_shorter, low_of-small, own_front, right_above, right_tells_parent}
-use Rattle.exh_prefix.specs.ListLemmas.{is_equal}
 use Rattle.exh_legal.specs.Pages.{AreLinked, bare, IsAt, IsWithin}
 use Rattle.exh_legal.proofs.PageCount.{page_count}
 
