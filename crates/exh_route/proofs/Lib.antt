@@ -11,3 +11,7 @@ pub mod LiveCounts
 pub mod GoHome
 pub mod RunNamed
 pub mod FirstSteps
+pub mod CountsWithin
+pub mod ChangedDistances
+pub mod RunDistances
+pub mod WalkDistances

@@ -14,11 +14,11 @@ use Rattle.exh_legal.specs.LowLemmas.{front_shorter, begins_own_low}
 use Rattle.exh_legal.specs.Pages.{IsAt, IsHome, IsWithin, IsRightLink, AreLinked, bare}
 use Rattle.exh_route.proofs.Places.{one_there}
 
-live_full : (page : Page) → IsLive (with_records [] page) → IsLive page
+pub live_full : (page : Page) → IsLive (with_records [] page) → IsLive page
 live_full (Live prefix right records) live = live
 live_full (Forward low target) live = live
 
-live_bare : (page : Page) → IsLive page → IsLive (with_records [] page)
+pub live_bare : (page : Page) → IsLive page → IsLive (with_records [] page)
 live_bare (Live prefix right records) live = live
 live_bare (Forward low target) live = live
 
@@ -45,7 +45,7 @@ home_between ward (Live prefix right records) pseudokey between within small hom
 home_between ward (Forward low target) pseudokey between within small home above below = absurd home
 
 -- a live page begins its own low bound
-home_of_low : (ward : List Bool) (page : Page) → IsWithin ward page → IsLive page → IsHome page (low_bound page)
+pub home_of_low : (ward : List Bool) (page : Page) → IsWithin ward page → IsLive page → IsHome page (low_bound page)
 home_of_low ward (Live prefix right records) within live = begins_own_low prefix within.1
 home_of_low ward (Forward low target) within live = absurd live
 
@@ -65,7 +65,7 @@ module _ (ward : List Bool) (pages : List Page) (linked : AreLinked ward (bare p
   one_home pseudokey one other page twin is is_twin home home_twin =
       linked.one_home pseudokey one other (with_records [] page) (with_records [] twin) (bare_at pages one page is) (bare_at pages other twin is_twin) (home_bare page pseudokey home) (home_bare twin pseudokey home_twin)
 
-  within_at : (number : ℕ) (page : Page) → IsAt pages number page → IsWithin ward page
+  pub within_at : (number : ℕ) (page : Page) → IsAt pages number page → IsWithin ward page
   within_at number page is = within_full ward page (linked.within number (with_records [] page) (bare_at pages number page is))
 
   first_page : (page : Page) × IsAt pages 0 page × IsLive page × (low_bound page ≡ low_of ward)
