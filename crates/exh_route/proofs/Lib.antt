@@ -15,3 +15,7 @@ pub mod CountsWithin
 pub mod ChangedDistances
 pub mod RunDistances
 pub mod WalkDistances
+pub mod LaterNotices
+pub mod CoveredPages
+pub mod LateWalks
+pub mod LateTables

@@ -68,7 +68,7 @@ module _ (ward : List Bool) (pages : List Page) (linked : AreLinked ward (bare p
   pub within_at : (number : ℕ) (page : Page) → IsAt pages number page → IsWithin ward page
   within_at number page is = within_full ward page (linked.within number (with_records [] page) (bare_at pages number page is))
 
-  first_page : (page : Page) × IsAt pages 0 page × IsLive page × (low_bound page ≡ low_of ward)
+  pub first_page : (page : Page) × IsAt pages 0 page × IsLive page × (low_bound page ≡ low_of ward)
   first_page =
       let first = linked.first in
       let full = at_bare pages 0 first.0 first.1 in

@@ -16,7 +16,6 @@ use Rattle.exh_ward.specs.WardState.{WardState, LeavesAfter, IsUnchanged}
 use Rattle.exh_calls.specs.declared.call.Call.{Call}
 use Rattle.exh_ward.specs.declared.hop.Hop.{Hop}
 use Rattle.exh_ward.specs.declared.hop.Hop.TheVariants.{Done, Moved, MustSplit, Stray}
-use Rattle.exh_calls.specs.declared.reply.Reply.{Reply}
 use Rattle.exh_route.specs.WardRun.{WardEvent, HopAt, SplitAt, MergeAt, WardStep}
 
 -- ---- one place of a list written

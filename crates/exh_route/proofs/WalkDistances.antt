@@ -7,8 +7,7 @@ use Rattle.exh_table.specs.Table.{TableMap}
 use Rattle.exh_table.specs.Walk.{walk_in}
 use Rattle.exh_page.specs.declared.page.Page.{Page}
 use Rattle.exh_page.specs.declared.page.Page.TheVariants.{Live}
-use Rattle.exh_page.specs.Page.{IsLive, low_bound}
-use Rattle.exh_legal.specs.Growth.{IsLiveAt}
+use Rattle.exh_page.specs.Page.{low_bound}
 use Rattle.exh_legal.specs.Laws.{IsWard, WalksNameHomes}
 use Rattle.exh_legal.specs.Pages.{IsAt, IsHome, AreLinked, bare}
 use Rattle.exh_route.specs.Distance.{IsDistance, live_between}

@@ -1,11 +1,13 @@
 -- Laws of distances over changes.
-use Rattle.std.specs.Prelude.{◌≡◌, ◌⊎◌, ℕ, suc, ◌+◌, ◌^◌, ◌<◌, ◌≤◌, Bool, List, [], ◌∷◌, length, Ok}
-use Rattle.exh_prefix.specs.Prefix.{Begins}
+use Rattle.std.specs.Prelude.{◌≡◌, ◌⊎◌, ℕ, suc, ◌+◌, ◌-◌, ◌^◌, ◌<◌, ◌≤◌, Bool, true, List, [], ◌∷◌, ◌++◌, length, map, take, Some, Ok}
+use Rattle.std.specs.FinMap.{entries, get}
+use Rattle.exh_prefix.specs.Prefix.{IsFront, Begins, low_of}
 use Rattle.exh_notice.specs.declared.notice.Notice.{Notice}
-use Rattle.exh_table.specs.Table.{TableMap}
-use Rattle.exh_table.specs.Walk.{walk_in}
+use Rattle.exh_table.specs.Table.{TableMap, IsEntryOf, told_by}
+use Rattle.exh_table.specs.Walk.{split_at, walk_in}
 use Rattle.exh_page.specs.declared.page.Page.{Page}
 use Rattle.exh_legal.specs.Change.{IsSplit, IsMerge}
+use Rattle.exh_legal.specs.Growth.{IsPageOf}
 use Rattle.exh_legal.specs.Laws.{IsWard}
 use Rattle.exh_legal.specs.Pages.{AreLinked, bare}
 use Rattle.exh_calls.specs.Call.{key_of}
@@ -70,3 +72,17 @@ MovesAreBounded {K} pseudokey_of = (start : WardState K) (moments : List (WardMo
 abbrev pub WholeTablesNameHomes : Type 0
 WholeTablesNameHomes = (cap : ℕ) (pseudo : List ℕ → ℕ) (ward : List Bool) (start : TableMap) (changes : List Notice) (table : TableMap) (pages : List Page) (pseudokey : ℕ)
     → IsWard cap pseudo ward start changes table pages → pseudokey < 2 ^ 64 → Begins ward pseudokey → IsDistance pages (walk_in table ward pseudokey).page pseudokey 0
+
+-- in a ward, the table is that of a start table and notices since
+abbrev pub IsTableWithin : List Bool → TableMap → List Notice → TableMap → Type 0
+IsTableWithin ward start notices table = (prefix : List Bool) → IsFront ward prefix → IsEntryOf (entries start ++ map told_by notices) prefix (get table prefix)
+
+-- each split of the table in the ward names the page of its right child's low bound
+abbrev pub NamesPages : List Bool → List Page → TableMap → Type 0
+NamesPages ward pages table = (prefix : List Bool) (right : ℕ) → IsFront ward prefix → split_at table prefix ≡ Some right → IsPageOf pages (low_of (prefix ++ true ∷ [])) right
+
+-- of a table that is the start's and the first m of the changes, a walk names a page whose distance is at most the changes that it lacks
+abbrev pub LateTablesAreNear : Type 0
+LateTablesAreNear = (cap : ℕ) (pseudo : List ℕ → ℕ) (ward : List Bool) (start : TableMap) (changes : List Notice) (table : TableMap) (pages : List Page) (m : ℕ) (late : TableMap) (pseudokey : ℕ)
+    → IsWard cap pseudo ward start changes table pages → IsTableWithin ward start changes table → m ≤ length changes → IsTableWithin ward start (take m changes) late → NamesPages ward pages late
+    → pseudokey < 2 ^ 64 → Begins ward pseudokey → IsDistanceUpTo pages (walk_in late ward pseudokey).page pseudokey (length changes - m)

@@ -1,8 +1,8 @@
 //! What changes of a ward do to distances, and how far the pages are that walks name. Each function does nothing.
 
-ghost use Rattle.exh_route.specs.DistanceLaws.{ChangesAddOne, StepsAddChanges, MovesAreBounded, WholeTablesNameHomes};
+ghost use Rattle.exh_route.specs.DistanceLaws.{ChangesAddOne, StepsAddChanges, MovesAreBounded, WholeTablesNameHomes, LateTablesAreNear};
 
-use crate::laws::moves_come_nearer;
+use crate::laws::{gets_go_home, moves_come_nearer};
 use exh_calls::histories_go_on;
 use exh_keyer::Keyer;
 use exh_legal::{merges_keep_legal, right_links_lead_on, splits_keep_legal, walks_name_homes};
@@ -38,4 +38,12 @@ pub fn whole_tables_name_homes()
     ensures { WholeTablesNameHomes }
 {
     walks_name_homes();
+}
+
+/// Of a table that is a ward's start table and the first m of its n changes since, a walk names a
+/// page whose distance is at most n - m.
+pub fn late_tables_are_near()
+    ensures { LateTablesAreNear }
+{
+    gets_go_home();
 }

@@ -3,7 +3,8 @@
 #![tactic(auto)]
 
 pub use distance_laws::{
-    changes_add_one, moves_are_bounded, steps_add_changes, whole_tables_name_homes,
+    changes_add_one, late_tables_are_near, moves_are_bounded, steps_add_changes,
+    whole_tables_name_homes,
 };
 pub use distances::distance;
 pub use laws::{
