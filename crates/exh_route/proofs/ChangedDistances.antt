@@ -11,14 +11,15 @@ use Rattle.exh_page.specs.declared.page.Page.{Page}
 use Rattle.exh_page.specs.declared.page.Page.TheVariants.{Live, Forward}
 use Rattle.exh_page.specs.Page.{IsLive, low_bound, begun_by}
 use Rattle.exh_legal.specs.Change.{IsSplit, IsMerge}
-use Rattle.exh_legal.specs.LowLemmas.{left_keeps}
+use Rattle.exh_prefix.specs.LowLemmas.{left_keeps}
 use Rattle.exh_legal.specs.Pages.{IsAt, AreLinked, bare}
 use Rattle.exh_route.specs.Distance.{IsDistance, IsForwarded, is_live_between, live_between}
 use Rattle.exh_route.specs.DistanceLaws.{IsChange, IsDistanceUpTo}
 use Rattle.exh_route.proofs.CountsWithin.{count_within, count_within_but}
-use Rattle.exh_route.proofs.Links.{apart, one_home, within_at, home_of_low, target_below}
+use Rattle.exh_route.proofs.Links.{apart, one_home, within_at, target_below}
+use Rattle.exh_legal.specs.PlaceLemmas.{home_of_low}
 use Rattle.exh_route.proofs.LiveCounts.{is_between}
-use Rattle.exh_route.proofs.Places.{one_there}
+use Rattle.exh_prefix.specs.ListLemmas.{one_there}
 
 -- ---- what the test that counts live pages tells
 
@@ -268,7 +269,7 @@ module _ (ward : List Bool) (pages : List Page) (linked : AreLinked ward (bare p
     beyond_right number page is live else other above = elim (cases_lt (low_bound page) (low_of (prefix ++ true ∷ []))) [
       | inl below ↦
           let begun = left_begins (low_bound page) (omega (arith, above)) below in
-          let own = home_of_low ward page (within_at ward pages linked number page is) live in
+          let own = home_of_low page ward (within_at ward pages linked number page is) live in
           absurd (else (one_home ward pages linked (low_bound page) number at page left_old is merge.there own begun))
       | inr not ↦ elim (cases_eq (low_bound page) (low_of (prefix ++ true ∷ []))) [
         | inl same ↦ absurd (other (apart ward pages linked number merge.right page right_old is merge.buddy same))

@@ -23,18 +23,18 @@ use Rattle.exh_legal.specs.BareLemmas.{bare_at}
 use Rattle.exh_legal.specs.Change.{IsForwardOf}
 use Rattle.exh_legal.specs.Fit.{FitsPages, IsInner, IsMergeAt}
 use Rattle.exh_legal.specs.Growth.{IsGrown, IsLiveAt}
-use Rattle.exh_legal.specs.Laws.{IsWard}
-use Rattle.exh_legal.specs.LowLemmas.{begins_own_low, front_of_longer, front_shorter, left_keeps, own_front}
+use Rattle.exh_legal.specs.Laws.{IsBelow, IsWard}
+use Rattle.exh_prefix.specs.LowLemmas.{begins_own_low, front_of_longer, front_shorter, left_keeps, own_front}
 use Rattle.exh_legal.specs.Pages.{IsAt, IsHome, AreLinked, bare}
 use Rattle.exh_route.specs.Distance.{IsDistance, IsForwarded, is_live_between, live_between}
 use Rattle.exh_route.specs.DistanceLaws.{IsDistanceUpTo, IsTableWithin, NamesPages}
-use Rattle.exh_route.specs.Laws.{GetsGoHome, IsBelow}
+use Rattle.exh_route.specs.Laws.{GetsGoHome}
 use Rattle.exh_route.proofs.ChangedDistances.{between_tells}
 use Rattle.exh_route.proofs.CoveredPages.{count_covered, more_below}
 use Rattle.exh_route.proofs.LateWalks.{IsStop, walk_stops}
-use Rattle.exh_route.proofs.LaterNotices.{AnyNotice, IsChangeAt, IsSplitAt, any_such, told_later, same_front, split_above, leaves_after-append}
+use Rattle.exh_route.proofs.LaterNotices.{AnyNotice, IsChangeAt, IsSplitNotice, any_such, told_later, same_front, split_above, leaves_after-append}
 use Rattle.exh_route.proofs.Links.{apart, first_page, target_cleared, ward_few}
-use Rattle.exh_route.proofs.Places.{one_there}
+use Rattle.exh_prefix.specs.ListLemmas.{one_there}
 use Rattle.exh_route.proofs.WalkDistances.{none_from_home}
 
 -- ---- the right child whose low bound a prefix has
@@ -90,14 +90,14 @@ merge_no_split : (found : Option Entry) (number right : ℕ) → found ≡ Some 
 merge_no_split found number right merge split = let none : Some right ≡ None = sym split ∙ ap right_of merge in cc
 
 -- a live page, without its records
-record IsLivePage (page : Page) : Type 0 where
+record HasLivePrefix (page : Page) : Type 0 where
   prefix : List Bool
   link : Option ℕ
   bare_is : with_records [] page ≡ Live prefix link []
   low_is : low_bound page ≡ low_of prefix
   home : (pseudokey : ℕ) → Begins prefix pseudokey → IsHome page pseudokey
 
-live_page : (page : Page) → IsLive page → IsLivePage page
+live_page : (page : Page) → IsLive page → HasLivePrefix page
 live_page (Live prefix link records) live = record { prefix = prefix; link = link; bare_is = refl; low_is = refl; home = λ pseudokey begins. begins }
 live_page (Forward low target) live = absurd live
 
@@ -130,13 +130,13 @@ module _ (ward : List Bool) (start table late : TableMap) (taken later : List No
       any_such _ (IsChangeAt prefix) (λ notice is. ap (λ (t : List Bool × Entry). t.0) is) later told
 
   -- where the ward's has a split and the late one none, a split came later
-  split_later : (prefix : List Bool) (right : ℕ) → IsFront ward prefix → split_at late prefix ≡ None → split_at table prefix ≡ Some right → AnyNotice (IsSplitAt prefix right) later
+  split_later : (prefix : List Bool) (right : ℕ) → IsFront ward prefix → split_at late prefix ≡ None → split_at table prefix ≡ Some right → AnyNotice (IsSplitNotice prefix right) later
   split_later prefix right within none split =
-      (elim (get table prefix) as (λ found. IsEntryOf all prefix found → right_of found ≡ Some right → AnyNotice (IsSplitAt prefix right) later) [
+      (elim (get table prefix) as (λ found. IsEntryOf all prefix found → right_of found ≡ Some right → AnyNotice (IsSplitNotice prefix right) later) [
         | None ↦ λ _ split. cc
         | Some entry ↦ λ is split.
             let told = told_later start taken later prefix entry (get late prefix) is (then prefix within) (λ same. let clash : Some right ≡ None = sym split ∙ sym (ap right_of same) ∙ none in cc) in
-            any_such _ (IsSplitAt prefix right) (λ notice is. (ap (λ (t : List Bool × Entry). t.0) is, ap (λ (t : List Bool × Entry). right_of_kind t.1.kind) is ∙ split)) later told
+            any_such _ (IsSplitNotice prefix right) (λ notice is. (ap (λ (t : List Bool × Entry). t.0) is, ap (λ (t : List Bool × Entry). right_of_kind t.1.kind) is ∙ split)) later told
       ]) (now prefix within) split
 
   -- no leaf is a front of an inner prefix
@@ -162,7 +162,7 @@ module _ (ward : List Bool) (start table late : TableMap) (taken later : List No
       let split = (fits.splits at).1 (is_stop.within, inner_at) in
       let told = split_later at split.0 is_stop.within (is_stop.stops (omega (arith, short, shorter, inner.3.1))) split.1 in
       elim (cases_eq (length at) (length prefix)) [
-        | inl same ↦ any_such (IsSplitAt at split.0) (IsChangeAt prefix) (λ notice is. is.0 ∙ same_front at prefix front same) later told
+        | inl same ↦ any_such (IsSplitNotice at split.0) (IsChangeAt prefix) (λ notice is. is.0 ∙ same_front at prefix front same) later told
         | inr differs ↦ elim (split_above (leaves_after (leaves_in start ward) taken) later at prefix split.0 front (omega (arith, differs, shorter)) told) [
           | inl leaf ↦ absurd (no_leaf_above prefix leaf.0 inner (subst (λ set. set leaf.0) (sym (leaves_after-append (leaves_in start ward) taken later)) leaf.1) leaf.2)
           | inr found ↦ found

@@ -13,7 +13,7 @@ use Rattle.exh_table.specs.Table.{TableMap}
 use Rattle.exh_table.specs.Walk.{split_at, step, walk_in, walk_on}
 use Rattle.exh_page.specs.declared.page.Page.{Page}
 use Rattle.exh_legal.specs.Growth.{IsPageOf}
-use Rattle.exh_legal.specs.LowLemmas.{front_of_longer, front_shorter, left_keeps, own_front}
+use Rattle.exh_prefix.specs.LowLemmas.{front_of_longer, front_shorter, left_keeps, own_front}
 use Rattle.exh_route.specs.DistanceLaws.{NamesPages}
 use Rattle.exh_route.proofs.LaterNotices.{front_of_push, same_front}
 

@@ -14,7 +14,7 @@ use Rattle.exh_notice.specs.EntryLemmas.{entry_laws}
 use Rattle.exh_table.specs.Leaves.{PrefixSet, after_kind, leaves_after}
 use Rattle.exh_table.specs.Table.{TableMap, IsEntryOf, IsGreatest, told_by}
 use Rattle.exh_table.specs.Walk.{right_of_kind}
-use Rattle.exh_legal.specs.LowLemmas.{front_shorter, own_front}
+use Rattle.exh_prefix.specs.LowLemmas.{front_shorter, own_front}
 
 -- one of the notices is such a one
 abbrev pub AnyNotice : (Notice → Type 0) → List Notice → Type 0
@@ -30,8 +30,8 @@ abbrev pub IsChangeAt : List Bool → Notice → Type 0
 IsChangeAt prefix notice = notice.prefix ≡ prefix
 
 -- a split there, which an entry with this right page is of
-abbrev pub IsSplitAt : List Bool → ℕ → Notice → Type 0
-IsSplitAt prefix right notice = (notice.prefix ≡ prefix) × (right_of_kind notice.kind ≡ Some right)
+abbrev pub IsSplitNotice : List Bool → ℕ → Notice → Type 0
+IsSplitNotice prefix right notice = (notice.prefix ≡ prefix) × (right_of_kind notice.kind ≡ Some right)
 
 told_one : (notices : List Notice) (told : List Bool × Entry) (k : ℕ) → k < length (map told_by notices) → get_or (map told_by notices) k told ≡ told → AnyNotice (λ notice. told_by notice ≡ told) notices
 told_one [] told k within is = absurd (omega arith)
@@ -150,7 +150,7 @@ child_there leaves at (Split own) right bit is = inr (bit, refl)
 child_there leaves at Merge right bit is = cc
 
 -- so after a split above it
-pub split_above : (leaves : PrefixSet) (notices : List Notice) (above prefix : List Bool) (right : ℕ) → IsFront above prefix → length above < length prefix → AnyNotice (IsSplitAt above right) notices
+pub split_above : (leaves : PrefixSet) (notices : List Notice) (above prefix : List Bool) (right : ℕ) → IsFront above prefix → length above < length prefix → AnyNotice (IsSplitNotice above right) notices
     → HasFront (leaves_after leaves notices) prefix ⊎ AnyNotice (IsChangeAt prefix) notices
 split_above leaves [] above prefix right front less none = absurd none
 split_above leaves (notice ∷ notices) above prefix right front less (inl here) =

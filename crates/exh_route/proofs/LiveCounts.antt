@@ -20,7 +20,7 @@ above_same low next bound less least differs = elim (cases_lt low bound) [
   | inr below ↦ le-ltb low bound below ∙ sym (le-ltb next bound (omega (arith, below, less)))
 ]
 
-pub not_between : (low pseudokey : ℕ) (page : Page) → (IsLive page → low < low_bound page → low_bound page ≤ pseudokey → ⊥) → is_live_between low pseudokey page ≡ false
+not_between : (low pseudokey : ℕ) (page : Page) → (IsLive page → low < low_bound page → low_bound page ≤ pseudokey → ⊥) → is_live_between low pseudokey page ≡ false
 not_between low pseudokey (Forward bound target) none = refl
 not_between low pseudokey (Live prefix right records) none = elim (cases_lt low (low_of prefix)) [
   | inl above ↦ elim (cases_lt pseudokey (low_of prefix)) [

@@ -1,5 +1,5 @@
 -- What steps and runs of a ward make of a distance.
-use Rattle.std.proofs.Common.{◌≡◌, ◌≢◌, ℕ, suc, ◌+◌, ◌<◌, ◌≤◌, ◌^◌, Bool, List, [], ◌∷◌, ◌++◌, length, Ok, Err, inl, inr, refl, sym, ap, ◌∙◌, subst, arith}
+use Rattle.std.proofs.Common.{◌≡◌, ℕ, suc, ◌+◌, ◌<◌, ◌^◌, List, [], ◌∷◌, length, Ok, Err, inl, inr, refl, sym, ap, ◌∙◌, subst, arith}
 use Rattle.std.proofs.lemmas.List.{length-append, length-map}
 use Rattle.std.proofs.lemmas.Option.{slice_get_within}
 use Rattle.exh_prefix.specs.Prefix.{Begins}
@@ -9,27 +9,26 @@ use Rattle.exh_page.specs.declared.page.Page.TheVariants.{Live, Forward}
 use Rattle.exh_page.specs.Laws.{AreOfWords}
 use Rattle.exh_page.specs.Page.{IsLive, low_bound, with_records}
 use Rattle.exh_legal.specs.BareLemmas.{bare_at, at_bare, bare_low}
-use Rattle.exh_legal.specs.Laws.{SplitsKeepLegal, MergesKeepLegal, RightLinksLeadOn}
+use Rattle.exh_legal.specs.Laws.{IsBelow, SplitsKeepLegal, MergesKeepLegal, RightLinksLeadOn}
 use Rattle.exh_legal.specs.Pages.{IsAt, AreLinked, bare}
 use Rattle.exh_calls.specs.Call.{key_of}
 use Rattle.exh_calls.specs.Laws.{HistoriesGoOn}
 use Rattle.exh_calls.specs.declared.call.Call.{Call}
-use Rattle.exh_ward.specs.HopTable.{HopOf}
 use Rattle.exh_ward.specs.Laws.{AnswersKeepLegal}
 use Rattle.exh_ward.specs.WardState.{WardState, LeavesAfter, IsUnchanged, own_prefix}
 use Rattle.exh_ward.specs.declared.hop.Hop.{Hop}
 use Rattle.exh_ward.specs.declared.hop.Hop.TheVariants.{Done, Moved, MustSplit, Stray}
-use Rattle.exh_route.specs.Distance.{IsDistance, live_between}
-use Rattle.exh_route.specs.DistanceLaws.{IsDistanceUpTo, MovesOn, Goes, HasGone}
-use Rattle.exh_route.specs.Laws.{IsBelow, IsLegalWard, IsOnTheWay, MovesComeNearer}
-use Rattle.exh_route.specs.WardRun.{WardEvent, HopAt, SplitAt, MergeAt, WardStep, WardMoment, IsWardRun, changes_by, changes_in}
-use Rattle.exh_route.proofs.AnsweredPages.{bare_answered}
+use Rattle.exh_route.specs.Distance.{IsDistance}
+use Rattle.exh_route.specs.DistanceLaws.{IsDistanceUpTo, Goes, HasGone}
+use Rattle.exh_route.specs.Laws.{IsLegalWard, CanGoOn, MovesComeNearer}
+use Rattle.exh_route.specs.WardRun.{WardEvent, HopAt, SplitAt, MergeAt, WardStep, WardMoment, IsWardRun, changes_by, changes_over}
+use Rattle.exh_ward.specs.AnswerLemmas.{bare_answered}
 use Rattle.exh_route.proofs.ChangedDistances.{AreKeptBut, cut_or_kept, none_more_counted, stayed, split_adds_one, merge_adds_one}
 use Rattle.exh_route.proofs.GoHome.{moved_below}
 use Rattle.exh_route.proofs.Links.{live_full, live_bare}
-use Rattle.exh_route.proofs.Places.{step_places}
-use Rattle.exh_route.proofs.RunPlaces.{below_kept}
-use Rattle.exh_route.proofs.StepFacts.{stepped}
+use Rattle.exh_route.proofs.StepPlaces.{step_places}
+use Rattle.exh_legal.specs.PlaceLemmas.{below_kept}
+use Rattle.exh_route.proofs.StepOneMap.{stepped}
 
 -- ---- records don't matter
 
@@ -118,7 +117,7 @@ module _ {K : Type 0} (pseudokey_of : K → List ℕ → ℕ) (nearer : MovesCom
       → IsMoved start next to (pseudokey_of start.keyer (key_of call)) distance []
   move_of start next from to client call distance ready below is step =
       let linked = ready.0.legal.legal.linked in
-      let on : IsOnTheWay (own_prefix start) start.pages from (pseudokey_of start.keyer (key_of call)) = record { linked = linked; word = ready.1; covered = ready.2; below = below } in
+      let on : CanGoOn (own_prefix start) start.pages from (pseudokey_of start.keyer (key_of call)) = record { linked = linked; word = ready.1; covered = ready.2; below = below } in
       let on_from_there = nearer start.cap (pseudokey_of start.keyer) (own_prefix start) start.pages from call to distance on is step.0 in
       let same : next.pages ≡ start.pages = ap (λ (w : WardState K). w.pages) step.1 in
       let k = pseudokey_of start.keyer (key_of call) in
@@ -145,7 +144,7 @@ module _ {K : Type 0} (pseudokey_of : K → List ℕ → ℕ) (nearer : MovesCom
         (facts.legal ready.0, ready.1, subst (λ ward. Begins ward pseudokey) (sym (ap (λ (w : WardState K). own_prefix w) facts.others)) ready.2)
 
     pub gone : (start : WardState K) (moments : List (WardMoment K)) (end : WardState K) (pseudokey from to moves distance : ℕ) → IsReady pseudokey_of start pseudokey → IsWardRun pseudokey_of start moments end → IsBelow start.pages from pseudokey
-        → Goes pseudokey_of pseudokey from moments to moves → IsDistance start.pages from pseudokey distance → HasGone (length (changes_in moments)) end.pages pseudokey to moves distance
+        → Goes pseudokey_of pseudokey from moments to moves → IsDistance start.pages from pseudokey distance → HasGone (length (changes_over moments)) end.pages pseudokey to moves distance
     gone start [] end pseudokey from to moves distance ready run below goes is =
         let pages : start.pages ≡ end.pages = sym (ap (λ (w : WardState K). w.pages) run) in
         record {
@@ -157,7 +156,7 @@ module _ {K : Type 0} (pseudokey_of : K → List ℕ → ℕ) (nearer : MovesCom
     gone start (moment ∷ moments) end pseudokey from to moves distance ready run below goes is =
         let next = moment.after in
         let ready_then = ready_after start next moment.event pseudokey ready run.1 in
-        let count : length (changes_in (moment ∷ moments)) ≡ length (changes_by moment.event) + length (changes_in moments) = length-append (changes_by moment.event) (changes_in moments) in
+        let count : length (changes_over (moment ∷ moments)) ≡ length (changes_by moment.event) + length (changes_over moments) = length-append (changes_by moment.event) (changes_over moments) in
         elim goes [
           | inl stays ↦
               let after = step_adds pseudokey_of start next from pseudokey distance is ready.0.legal.legal.linked moment.event run.1 in

@@ -8,15 +8,15 @@ use Rattle.exh_table.specs.Walk.{split_at, walk_in}
 use Rattle.exh_page.specs.declared.page.Page.{Page}
 use Rattle.exh_legal.specs.Change.{IsSplit, IsMerge}
 use Rattle.exh_legal.specs.Growth.{IsPageOf}
-use Rattle.exh_legal.specs.Laws.{IsWard}
+use Rattle.exh_legal.specs.Laws.{IsBelow, IsWard}
 use Rattle.exh_legal.specs.Pages.{AreLinked, bare}
 use Rattle.exh_calls.specs.Call.{key_of}
 use Rattle.exh_calls.specs.declared.call.Call.{Call}
 use Rattle.exh_ward.specs.WardState.{WardState, own_prefix}
 use Rattle.exh_ward.specs.declared.hop.Hop.TheVariants.{Moved}
 use Rattle.exh_route.specs.Distance.{IsDistance}
-use Rattle.exh_route.specs.Laws.{IsBelow, IsLegalWard}
-use Rattle.exh_route.specs.WardRun.{HopAt, WardEvent, WardMoment, WardStep, IsWardRun, changes_by, changes_in}
+use Rattle.exh_route.specs.Laws.{IsLegalWard}
+use Rattle.exh_route.specs.WardRun.{HopAt, WardEvent, WardMoment, WardStep, IsWardRun, changes_by, changes_over}
 
 -- the page has a distance, and it is at most so much
 abbrev pub IsDistanceUpTo : List Page → ℕ → ℕ → ℕ → Type 0
@@ -64,18 +64,24 @@ abbrev pub MovesAreBounded : {K : Type 0} → (K → List ℕ → ℕ) → Type 
 MovesAreBounded {K} pseudokey_of = (start : WardState K) (moments : List (WardMoment K)) (end : WardState K) (pseudokey from to moves distance : ℕ)
     → IsLegalWard pseudokey_of start → IsWardRun pseudokey_of start moments end → pseudokey < 2 ^ 64 → Begins (own_prefix start) pseudokey → IsBelow start.pages from pseudokey
     → Goes pseudokey_of pseudokey from moments to moves → IsDistance start.pages from pseudokey distance
-    → HasGone (length (changes_in moments)) end.pages pseudokey to moves distance
+    → HasGone (length (changes_over moments)) end.pages pseudokey to moves distance
 
 -- ---- walks
+
+-- in a ward, the table is that of a start table and notices since
+abbrev pub IsTableWithin : List Bool → TableMap → List Notice → TableMap → Type 0
+IsTableWithin ward start notices table = (prefix : List Bool) → IsFront ward prefix → IsEntryOf (entries start ++ map told_by notices) prefix (get table prefix)
 
 -- the page that a walk of a ward's table names is at the distance 0
 abbrev pub WholeTablesNameHomes : Type 0
 WholeTablesNameHomes = (cap : ℕ) (pseudo : List ℕ → ℕ) (ward : List Bool) (start : TableMap) (changes : List Notice) (table : TableMap) (pages : List Page) (pseudokey : ℕ)
     → IsWard cap pseudo ward start changes table pages → pseudokey < 2 ^ 64 → Begins ward pseudokey → IsDistance pages (walk_in table ward pseudokey).page pseudokey 0
 
--- in a ward, the table is that of a start table and notices since
-abbrev pub IsTableWithin : List Bool → TableMap → List Notice → TableMap → Type 0
-IsTableWithin ward start notices table = (prefix : List Bool) → IsFront ward prefix → IsEntryOf (entries start ++ map told_by notices) prefix (get table prefix)
+-- and so is the page that a walk names of any table which is, in the ward, that of the start table and all changes
+abbrev pub WholeCopiesNameHomes : Type 0
+WholeCopiesNameHomes = (cap : ℕ) (pseudo : List ℕ → ℕ) (ward : List Bool) (start : TableMap) (changes : List Notice) (table : TableMap) (pages : List Page) (copy : TableMap) (pseudokey : ℕ)
+    → IsWard cap pseudo ward start changes table pages → IsTableWithin ward start changes table → IsTableWithin ward start changes copy → pseudokey < 2 ^ 64 → Begins ward pseudokey
+    → IsDistance pages (walk_in copy ward pseudokey).page pseudokey 0
 
 -- each split of the table in the ward names the page of its right child's low bound
 abbrev pub NamesPages : List Bool → List Page → TableMap → Type 0

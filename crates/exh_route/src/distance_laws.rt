@@ -1,6 +1,6 @@
 //! What changes of a ward do to distances, and how far the pages are that walks name. Each function does nothing.
 
-ghost use Rattle.exh_route.specs.DistanceLaws.{ChangesAddOne, StepsAddChanges, MovesAreBounded, WholeTablesNameHomes, LateTablesAreNear};
+ghost use Rattle.exh_route.specs.DistanceLaws.{ChangesAddOne, StepsAddChanges, MovesAreBounded, WholeTablesNameHomes, WholeCopiesNameHomes, LateTablesAreNear};
 
 use crate::laws::{gets_go_home, moves_come_nearer};
 use exh_calls::histories_go_on;
@@ -33,9 +33,11 @@ pub fn moves_are_bounded<K: Keyer>()
     histories_go_on();
 }
 
-/// From the page that a walk of a ward's table names there is no way to go: the distance is 0.
+/// From the page that a walk of a ward's table names there is no way to go: the distance is 0. So it
+/// is for any table that is, in the ward, that of the start table and all changes since.
 pub fn whole_tables_name_homes()
-    ensures { WholeTablesNameHomes }
+    ensures own { WholeTablesNameHomes }
+    ensures copies { WholeCopiesNameHomes }
 {
     walks_name_homes();
 }
