@@ -15,3 +15,12 @@ pub mod OneDistance
 pub mod DistancesFew
 -- of distances: the first live page, and the count from there
 pub mod FirstSteps
+-- of distance_laws
+pub mod CountsWithin
+pub mod ChangedDistances
+pub mod RunDistances
+pub mod WalkDistances
+pub mod LaterNotices
+pub mod CoveredPages
+pub mod LateWalks
+pub mod LateTables

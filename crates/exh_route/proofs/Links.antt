@@ -15,11 +15,11 @@ use Rattle.exh_legal.specs.Pages.{IsAt, IsHome, IsWithin, IsRightLink, AreLinked
 use Rattle.exh_legal.specs.PlaceLemmas.{home_bare, home_between, home_of_low}
 use Rattle.exh_prefix.specs.ListLemmas.{one_there}
 
-live_full : (page : Page) → IsLive (with_records [] page) → IsLive page
+pub live_full : (page : Page) → IsLive (with_records [] page) → IsLive page
 live_full (Live prefix right records) live = live
 live_full (Forward low target) live = live
 
-live_bare : (page : Page) → IsLive page → IsLive (with_records [] page)
+pub live_bare : (page : Page) → IsLive page → IsLive (with_records [] page)
 live_bare (Live prefix right records) live = live
 live_bare (Forward low target) live = live
 
@@ -47,10 +47,10 @@ module _ (ward : List Bool) (pages : List Page) (linked : AreLinked ward (bare p
   one_home pseudokey one other page twin is is_twin home home_twin =
       linked.one_home pseudokey one other (with_records [] page) (with_records [] twin) (bare_at pages one page is) (bare_at pages other twin is_twin) (home_bare page pseudokey home) (home_bare twin pseudokey home_twin)
 
-  within_at : (number : ℕ) (page : Page) → IsAt pages number page → IsWithin ward page
+  pub within_at : (number : ℕ) (page : Page) → IsAt pages number page → IsWithin ward page
   within_at number page is = within_full ward page (linked.within number (with_records [] page) (bare_at pages number page is))
 
-  first_page : (page : Page) × IsAt pages 0 page × IsLive page × (low_bound page ≡ low_of ward)
+  pub first_page : (page : Page) × IsAt pages 0 page × IsLive page × (low_bound page ≡ low_of ward)
   first_page =
       let first = linked.first in
       let full = at_bare pages 0 first.0 first.1 in

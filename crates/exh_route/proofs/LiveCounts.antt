@@ -30,7 +30,7 @@ not_between low pseudokey (Live prefix right records) none = elim (cases_lt low 
   | inr below ↦ ap (λ b. b && nat_le (low_of prefix) pseudokey) (le-ltb low (low_of prefix) below)
 ]
 
-is_between : (low pseudokey : ℕ) (page : Page) → IsLive page → low < low_bound page → low_bound page ≤ pseudokey → is_live_between low pseudokey page ≡ true
+pub is_between : (low pseudokey : ℕ) (page : Page) → IsLive page → low < low_bound page → low_bound page ≤ pseudokey → is_live_between low pseudokey page ≡ true
 is_between low pseudokey (Live prefix right records) live above within = ap (λ b. b && nat_le (low_of prefix) pseudokey) (lt-ltb low (low_of prefix) above) ∙ le-leb (low_of prefix) pseudokey within
 is_between low pseudokey (Forward bound target) live above within = absurd live
 

@@ -3,3 +3,4 @@ pub mod Distance
 pub mod Moves
 pub mod FirstLive
 pub mod Laws
+pub mod DistanceLaws
