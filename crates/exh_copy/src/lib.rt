@@ -19,5 +19,7 @@ mod published;
 mod reader;
 mod rule;
 mod start;
+#[cfg(test)]
+mod tests;
 mod told;
 mod writer;
