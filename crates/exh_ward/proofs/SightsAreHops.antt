@@ -1,34 +1,33 @@
 -- What a call meets, and what its hop comes to.
-use Rattle.std.proofs.Common.{◌≡◌, ℕ, ◌<◌, ◌≤◌, ◌^◌, Bool, leb, List, length, slice_get, Option, None, Some, refl, sym, ap, ◌∙◌, subst, arith}
+use Rattle.std.proofs.Common.{◌≡◌, ℕ, ◌<◌, ◌≤◌, ◌^◌, Bool, List, slice_get, Option, None, Some, refl, sym, ap, ◌∙◌, subst, arith}
 use Rattle.exh_prefix.specs.Prefix.{Begins, low_of}
+use Rattle.exh_prefix.specs.ListLemmas.{one_there}
 use Rattle.exh_page.specs.declared.page.Page.{Page}
 use Rattle.exh_page.specs.declared.page.Page.TheVariants.{Live, Forward}
 use Rattle.exh_page.specs.declared.record.Record.{Record}
-use Rattle.exh_page.specs.Page.{low_bound, records_of}
+use Rattle.exh_page.specs.Page.{low_bound}
 use Rattle.exh_legal.specs.Laws.{RightLinksLeadOn}
 use Rattle.exh_legal.specs.MapLemmas.{get-map_of}
 use Rattle.exh_legal.specs.Pages.{map_of, IsAt, IsHome, IsLegal}
 use Rattle.exh_calls.specs.Call.{key_of}
 use Rattle.exh_ward.specs.HopTable.{Overflows, HopOf}
 use Rattle.exh_ward.specs.PageAnswer.{OverflowsPage}
-use Rattle.exh_ward.specs.Sight.{SightOf, SightIn}
+use Rattle.exh_ward.specs.Sight.{IsSeenAt, SightOf, SightIn}
 use Rattle.exh_calls.specs.MapMachine.{reply_of}
 use Rattle.exh_calls.specs.declared.call.Call.{Call}
 use Rattle.exh_ward.specs.declared.hop.Hop.TheVariants.{Done, MustSplit}
 use Rattle.exh_calls.specs.declared.reply.Reply.{Reply}
+use Rattle.exh_ward.specs.declared.ward.hop.home_sight.HomeSight.{HomeSight}
 use Rattle.exh_ward.specs.declared.ward.hop.sight.Sight.{Sight}
 use Rattle.exh_ward.specs.declared.ward.hop.sight.Sight.TheVariants.{Beyond, Leads, NoWay, Overflows as MustWait, Home}
 use Rattle.exh_ward.proofs.HomeReplies.{AtHome, Fit}
 
-pub same_there : (pages : List Page) (at : ℕ) (one other : Page) → IsAt pages at one → IsAt pages at other → one ≡ other
-same_there pages at one other is too = let both : Some one ≡ Some other = sym is ∙ too in cc
-
 pub sight_in : (cap pseudokey : ℕ) (pages : List Page) (at : ℕ) (call : Call) (sight : Sight) (page : Page) → IsAt pages at page → SightOf cap pseudokey page call sight → SightIn cap pseudokey pages at call sight
-sight_in cap pseudokey pages at call Beyond page is sight = λ other reached. let same = same_there pages at page other is reached.there in omega (arith, reached.below, sight, ap low_bound same)
+sight_in cap pseudokey pages at call Beyond page is sight = λ other reached. let same = one_there pages at page other is reached.there in omega (arith, reached.below, sight, ap low_bound same)
 sight_in cap pseudokey pages at call (Leads next) page is sight = (page, is, sight)
 sight_in cap pseudokey pages at call NoWay page is sight = (page, is, sight)
 sight_in cap pseudokey pages at call MustWait page is sight = (page, is, sight)
-sight_in cap pseudokey pages at call (Home full) page is sight = (page, is, sight)
+sight_in cap pseudokey pages at call (Home home) page is sight = (page, is, sight)
 
 -- no page is there
 pub nothing_in : (cap pseudokey : ℕ) (pages : List Page) (at : ℕ) (call : Call) → (slice_get pages at ≡ None) → SightIn cap pseudokey pages at call Beyond
@@ -59,8 +58,9 @@ module _ {cap : ℕ} {pseudo : List ℕ → ℕ} {ward : List Bool} {pages : Lis
       (Live live.0 live.1 live.2, record { there = there; below = subst P page_is sight.2.0 }, home, over_by_map call live.0 live.1 live.2 there home over)
 
   -- the page that answers, written out
-  pub answers_at : (full : Bool) → SightIn cap (pseudo (key_of call)) pages at call (Home full) → (prefix : List Bool) × (link : Option ℕ) × (records : List Record) × AtHome cap pseudo ward pages at prefix link records call × (low_of prefix ≤ pseudo (key_of call)) × (full ≡ leb cap (length records))
-  answers_at full sight =
+  pub answers_at : (home : HomeSight) → SightIn cap (pseudo (key_of call)) pages at call (Home home) → (prefix : List Bool) × (link : Option ℕ) × (records : List Record) × AtHome cap pseudo ward pages at prefix link records call × (low_of prefix ≤ pseudo (key_of call))
+      × IsSeenAt cap (pseudo (key_of call)) (Live prefix link records) call home
+  answers_at home sight =
       let live = home_live sight.0 (pseudo (key_of call)) sight.2.1 in
       let page_is = live.3 in
       let P : Page → Type 0 = λ page. low_bound page ≤ pseudo (key_of call) in
@@ -70,7 +70,7 @@ module _ {cap : ℕ} {pseudo : List ℕ → ℕ} {ward : List Bool} {pages : Lis
         live.2,
         record { legal = legal; there = sight.1 ∙ ap Some page_is; home = subst (λ page. IsHome page (pseudo (key_of call))) page_is sight.2.1; none = subst Q page_is sight.2.2 },
         subst P page_is sight.2.0,
-        sight.2.3 ∙ ap (λ page. leb cap (length (records_of page))) page_is,
+        subst (λ page. IsSeenAt cap (pseudo (key_of call)) page call home) page_is sight.2.3,
       )
 
   pub hop_done : Fit pseudo → (prefix : List Bool) (link : Option ℕ) (records : List Record) (reply : Reply) → AtHome cap pseudo ward pages at prefix link records call → low_of prefix ≤ pseudo (key_of call) → reply ≡ reply_of cap pseudo (map_of pages) call

@@ -1,6 +1,6 @@
 ghost use Rattle.std.specs.Prelude.{◌≡◌};
 ghost use Rattle.exh_frames.specs.declared.pages_fault.PagesFault.{PagesFault};
-ghost use Rattle.exh_ward.specs.WardFault.{fault_of, fault_number};
+ghost use Rattle.exh_ward.specs.WardFault.{fault_of, ward_fault_number};
 ghost use Rattle.exh_ward.specs.declared.ward_fault.WardFault.TheVariants.{Memory};
 
 use exh_frames::PagesFault;
@@ -45,7 +45,7 @@ pub enum WardFault {
 impl WardFault {
     /// The refusal's number among all refusals.
     pub fn number(self) -> u8
-        ensures { result ≡ fault_number self }
+        ensures { result ≡ ward_fault_number self }
     {
         match self {
             WardFault::NoPage => 1,

@@ -7,6 +7,7 @@ ghost use Rattle.exh_ward.specs.WardFault.{IsStoreFault, CountsFailures};
 ghost use Rattle.exh_ward.specs.WardState.{IsSoundWard, IsUnchanged, LeavesAfter, own_prefix};
 
 use self::answer::answer;
+use self::home_sight::HomeSight;
 use self::sight::Sight;
 use super::Ward;
 use crate::{Hop, WardFault};
@@ -14,11 +15,11 @@ use exh_calls::Call;
 use exh_frames::Pages;
 use exh_keyer::Keyer;
 use exh_legal::{pages_are_few, right_links_lead_on};
-use exh_page::PageNo;
+use exh_prefix::PageNo;
 
 mod answer;
+mod home_sight;
 mod sight;
-mod write;
 
 impl<P: Pages + Drop, K: Keyer> Ward<P, K> {
     /// One hop of a client's call, at the page of number `at`. The ward covers the call's key. What
@@ -62,21 +63,21 @@ impl<P: Pages + Drop, K: Keyer> Ward<P, K> {
             Sight::Leads(next) => Ok(Hop::Moved(next)),
             Sight::NoWay => unreachable!(),
             Sight::Overflows => Ok(Hop::MustSplit),
-            Sight::Home { full } => self.answer_at(at, client, call, pseudokey, full),
+            Sight::Home(home) => self.answer_at(at, client, call, pseudokey, home),
         }
     }
 
-    // Answers a call at its home page. `full`: the page has as many records as a page may.
+    // Answers a call at its home page, which has `home` for it.
     fn answer_at(
         &mut self,
         at: PageNo,
         client: u32,
         call: &Call,
         pseudokey: u64,
-        full: bool,
+        home: HomeSight,
     ) -> Result<Hop, WardFault>
         requires hashed { pseudokey ≡ K.pseudokey_of self.old.keyer (key_of call.now) }
-        requires home { SightIn self.old.cap pseudokey self.old.pages at call.now (Sight.Home full) }
+        requires home { SightIn self.old.cap pseudokey self.old.pages at call.now (Sight.Home home) }
         ensures hop { IfOk result (HopOf self.old.cap (K.pseudokey_of self.old.keyer) self.old.pages at call.now) }
         ensures leaves { IfOk result (λ hop. LeavesAfter K.pseudokey_of self.old at client call.now hop self.new) }
         ensures err { OnErr result (IsUnchanged self.old self.new) }
@@ -87,7 +88,7 @@ impl<P: Pages + Drop, K: Keyer> Ward<P, K> {
         pages_are_few();
         // Room for the entry first: nothing may fail once the page has changed.
         self.journal.reserve()?;
-        let reply = answer(&mut self.store, at, pseudokey, call, full)?;
+        let reply = answer(&mut self.store, at, pseudokey, call, home)?;
         self.journal.push_reserved(client, call, &reply);
         Ok(Hop::Done(reply))
     }

@@ -12,8 +12,8 @@ use exh_frames::Pages;
 use exh_keyer::Keyer;
 use exh_legal::{left_children_link_to_siblings, merges_keep_legal, pages_are_few};
 use exh_notice::{Kind, Notice};
-use exh_page::{Page, PageNo, buddies_unite};
-use exh_prefix::Prefix;
+use exh_page::{Page, buddies_unite};
+use exh_prefix::{PageNo, Prefix};
 
 mod joined_page;
 mod left_half;

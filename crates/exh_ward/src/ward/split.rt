@@ -18,8 +18,7 @@ use exh_frames::Pages;
 use exh_keyer::Keyer;
 use exh_legal::{live_pages_split, pages_are_few, splits_keep_legal};
 use exh_notice::{Kind, Notice};
-use exh_page::PageNo;
-use exh_prefix::Prefix;
+use exh_prefix::{PageNo, Prefix};
 
 mod halves;
 

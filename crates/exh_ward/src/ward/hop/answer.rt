@@ -1,89 +1,74 @@
-ghost use Rattle.std.specs.Prelude.{◌≡◌, ◌<◌, ◌↔◌, IsTrue, length, slice_set, IfOk, OnErr, None};
+ghost use Rattle.std.specs.Prelude.{◌≡◌, ◌<◌, length, slice_set, IfOk, OnErr};
+ghost use Rattle.exh_calls.specs.Call.{key_of};
+ghost use Rattle.exh_calls.specs.Effect.{effect_of};
 ghost use Rattle.exh_frames.specs.PageStore.{CountsFaults, IfPage, TakesTheSame};
 ghost use Rattle.exh_page.specs.Page.{IsLive, records_of, with_records};
 ghost use Rattle.exh_page.specs.Records.{value_at};
+ghost use Rattle.exh_page.specs.Search.{IsSought};
 ghost use Rattle.exh_ward.specs.PageAnswer.{reply_by, records_after};
 
-use super::write::{put, remove};
+use super::home_sight::HomeSight;
 use exh_calls::{Call, Reply};
 use exh_frames::{Pages, PagesFault};
-use exh_page::{Key, PageNo, Record, Value};
+use exh_page::Value;
+use exh_prefix::PageNo;
 
-/// Answers a call at its home page. `full`: the page has as many records as a page may.
+/// Answers a call at its home page, which has `home` for it.
 pub(crate) fn answer<P: Pages>(
     store: &mut P,
     at: PageNo,
     pseudokey: u64,
     call: &Call,
-    full: bool,
+    home: HomeSight,
 ) -> Result<Reply, PagesFault>
     requires there { at < length (P.pages store.old) }
     requires live { IfPage (P.pages store.old) at IsLive }
-    requires taken { IfPage (P.pages store.old) at (λ page. P.takes store.old (with_records (records_after full pseudokey call.now (records_of page)) page)) }
-    ensures reply { IfOk result (λ reply. IfPage (P.pages store.old) at (λ page. reply ≡ reply_by full pseudokey call.now page)) }
-    ensures pages { IfOk result (λ _. IfPage (P.pages store.old) at (λ page. P.pages store.new ≡ slice_set (P.pages store.old) at (with_records (records_after full pseudokey call.now (records_of page)) page))) }
+    requires sought { IfPage (P.pages store.old) at (λ page. IsSought (pseudokey, key_of call.now) (records_of page) home.spot) }
+    requires stood { IfPage (P.pages store.old) at (λ page. home.stood ≡ value_at (pseudokey, key_of call.now) (records_of page)) }
+    requires taken { IfPage (P.pages store.old) at (λ page. P.takes store.old (with_records (records_after home.full pseudokey call.now (records_of page)) page)) }
+    ensures reply { IfOk result (λ reply. IfPage (P.pages store.old) at (λ page. reply ≡ reply_by home.full pseudokey call.now page)) }
+    ensures pages { IfOk result (λ _. IfPage (P.pages store.old) at (λ page. P.pages store.new ≡ slice_set (P.pages store.old) at (with_records (records_after home.full pseudokey call.now (records_of page)) page))) }
     ensures err { OnErr result (P.pages store.new ≡ P.pages store.old) }
     ensures failures { CountsFaults result (P.failures store.old) (P.failures store.new) }
     ensures takes { TakesTheSame P.takes store.old store.new }
 {
+    let reply = reply_to(call, home.full, home.stood);
     match call {
-        Call::Get { key } => match find(store, at, pseudokey, key)? {
-            Some(value) => Ok(Reply::Is(value)),
-            None => Ok(Reply::None),
-        },
+        Call::Get { .. } => Ok(reply),
         Call::Put { key, value } => {
-            if turns_away(store, at, pseudokey, key, full)? {
-                return Ok(Reply::Full);
+            if home.full && home.stood.is_none() {
+                return Ok(reply);
             }
-            let item = Record {
-                pseudokey,
-                key: *key,
-                value: *value,
-            };
-            match put(store, at, item)? {
-                Some(value) => Ok(Reply::Was(value)),
-                None => Ok(Reply::New),
-            }
+            store.put_at(at, home.spot, pseudokey, key, value)?;
+            Ok(reply)
         }
-        Call::Del { key } => match remove(store, at, pseudokey, key)? {
-            Some(value) => Ok(Reply::Was(value)),
-            None => Ok(Reply::None),
+        Call::Del { .. } => match home.spot {
+            Ok(spot) => {
+                store.remove_at(at, spot)?;
+                Ok(reply)
+            }
+            Err(_) => Ok(reply),
         },
     }
 }
 
-// The value of a key at a page.
-fn find<P: Pages>(
-    store: &mut P,
-    at: PageNo,
-    pseudokey: u64,
-    key: &Key,
-) -> Result<Option<Value>, PagesFault>
-    requires { at < length (P.pages store.old) }
-    ensures value { IfOk result (λ value. IfPage (P.pages store.old) at (λ page. value ≡ value_at (pseudokey, key.now) (records_of page))) }
-    ensures pages { P.pages store.new ≡ P.pages store.old }
-    ensures failures { CountsFaults result (P.failures store.old) (P.failures store.new) }
-    ensures takes { TakesTheSame P.takes store.old store.new }
+// The reply to a call whose key has this value. `full`: its home page has as many records as a page
+// may.
+fn reply_to(call: &Call, full: bool, stood: Option<Value>) -> Reply
+    ensures { result ≡ (effect_of call.now full stood).reply }
 {
-    Ok(store.lend(at)?.find(pseudokey, key))
-}
-
-// Whether a put of the key is turned away: the page is full and lacks the key.
-fn turns_away<P: Pages>(
-    store: &mut P,
-    at: PageNo,
-    pseudokey: u64,
-    key: &Key,
-    full: bool,
-) -> Result<bool, PagesFault>
-    requires { at < length (P.pages store.old) }
-    ensures away { IfOk result (λ away. IfPage (P.pages store.old) at (λ page. IsTrue away ↔ (IsTrue full × (value_at (pseudokey, key.now) (records_of page) ≡ None)))) }
-    ensures pages { P.pages store.new ≡ P.pages store.old }
-    ensures failures { CountsFaults result (P.failures store.old) (P.failures store.new) }
-    ensures takes { TakesTheSame P.takes store.old store.new }
-{
-    if !full {
-        return Ok(false);
+    match call {
+        Call::Get { .. } => match stood {
+            Some(value) => Reply::Is(value),
+            None => Reply::None,
+        },
+        Call::Put { .. } => match stood {
+            Some(value) => Reply::Was(value),
+            None => { if full { Reply::Full } else { Reply::New } }
+        },
+        Call::Del { .. } => match stood {
+            Some(value) => Reply::Was(value),
+            None => Reply::None,
+        },
     }
-    Ok(find(store, at, pseudokey, key)?.is_none())
 }

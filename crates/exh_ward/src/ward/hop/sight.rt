@@ -1,10 +1,11 @@
 ghost use Rattle.std.specs.Prelude.{◌≡◌, ◌↔◌, IsTrue};
-ghost use Rattle.exh_ward.specs.PageAnswer.{OverflowsPage};
+ghost use Rattle.exh_ward.specs.PageAnswer.{OverflowsWith};
 ghost use Rattle.exh_ward.specs.Sight.{SightOf};
 
+use super::home_sight::HomeSight;
 use exh_calls::Call;
-use exh_page::{Page, PageNo};
-use exh_prefix::LIMIT;
+use exh_page::{Page, Value};
+use exh_prefix::{LIMIT, PageNo};
 
 /// What a call meets at a page.
 pub(crate) enum Sight {
@@ -16,12 +17,12 @@ pub(crate) enum Sight {
     NoWay,
     /// The page is the key's home, and has to be split before it takes the key.
     Overflows,
-    /// The page is the key's home, and answers. `full`: it has as many records as a page may.
-    Home { full: bool },
+    /// The page is the key's home, and answers.
+    Home(HomeSight),
 }
 
 impl Sight {
-    /// What a call of a key with this pseudokey meets at the page.
+    /// What a call of a key with this pseudokey meets at the page. The key is searched once.
     pub(crate) fn of(page: &Page, cap: usize, pseudokey: u64, call: &Call) -> Sight
         ensures { SightOf cap pseudokey page.now call.now result }
     {
@@ -36,37 +37,32 @@ impl Sight {
                 records,
             } => {
                 if !prefix.begins(pseudokey) {
-                    match right {
+                    return match right {
                         Some(next) => Sight::Leads(*next),
                         None => Sight::NoWay,
-                    }
-                } else if overflows(page, cap, pseudokey, call) {
-                    Sight::Overflows
-                } else {
-                    Sight::Home {
-                        full: records.len() >= cap,
-                    }
+                    };
                 }
+                let (spot, stood) = records.seek(pseudokey, call.key());
+                if overflows(page, cap, call, &stood) {
+                    return Sight::Overflows;
+                }
+                let full = records.len() >= cap;
+                Sight::Home(HomeSight { full, spot, stood })
             }
         }
     }
 }
 
-// Whether the call has to wait until its home page is split.
-fn overflows(page: &Page, cap: usize, pseudokey: u64, call: &Call) -> bool
-    ensures { IsTrue result ↔ OverflowsPage cap pseudokey page.now call.now }
+// Whether the call has to wait until its home page is split. `stood`: the value that its key has.
+fn overflows(page: &Page, cap: usize, call: &Call, stood: &Option<Value>) -> bool
+    ensures { IsTrue result ↔ OverflowsWith cap page.now call.now stood.now }
 {
     match page {
         Page::Live {
             prefix,
             records,
             ..
-        } => {
-            records.len() >= cap
-                && prefix.len() < LIMIT
-                && call.sets_new()
-                && records.find(pseudokey, call.key()).is_none()
-        }
+        } => { records.len() >= cap && prefix.len() < LIMIT && call.sets_new() && stood.is_none() }
         Page::Forward { .. } => false,
     }
 }

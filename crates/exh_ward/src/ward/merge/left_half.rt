@@ -9,8 +9,8 @@ ghost use Rattle.exh_ward.specs.LeftHalf.{FitsBeside, IsLeftHalf};
 ghost use Rattle.exh_ward.specs.WardFault.{NoLeftHalf, NotBeside};
 
 use crate::WardFault;
-use exh_page::{Page, PageNo};
-use exh_prefix::Prefix;
+use exh_page::Page;
+use exh_prefix::{PageNo, Prefix};
 
 /// What a merge has to know of the left half of a parent before it copies a page (Fagin et al.
 /// 1979).

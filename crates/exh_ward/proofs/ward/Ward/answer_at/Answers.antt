@@ -3,7 +3,7 @@ use Rattle.exh_ward.specs.HopTable.{HopOf}
 use Rattle.exh_ward.specs.WardState.{WardState}
 use Rattle.exh_ward.specs.declared.hop.Hop.TheVariants.{Done}
 use Rattle.exh_calls.specs.declared.journal_entry.JournalEntry.{JournalEntry}
-use Rattle.exh_ward.proofs.AnswersAreLeft.{few_pages, answers_here, written_taken, replied, pages_are, hop_is_done, answered_seen}
+use Rattle.exh_ward.proofs.AnswersAreLeft.{few_pages, answers_here, sought_there, stood_there, written_taken, replied, pages_are, hop_is_done, answered_seen}
 use Rattle.exh_ward.proofs.StepsKeepSound.{kept_read, kept_answered}
 use Rattle.exh_ward.proofs.ward.Ward.answer_at.Goals as goal
 
@@ -11,8 +11,22 @@ pub answer-requires-clause-taken : goal.answer-requires-clause-taken
 answer-requires-clause-taken g c =
     let pseudokey_of = g.K.Keyer.pseudokey_of in
     let fit = g.met.K.Keyer.pseudokey_fits c.self.inside.keyer in
-    let answers = answers_here pseudokey_of c.self.view_is c.self.invariant c.args.at c.args.call.now c.args.pseudokey c.args.full c.requires.hashed c.requires.home in
+    let answers = answers_here pseudokey_of c.self.view_is c.self.invariant c.args.at c.args.call.now c.args.pseudokey c.args.home c.requires.hashed c.requires.home in
     written_taken fit c.self.invariant answers (few_pages c.pages_are_few.ensures c.self.invariant)
+
+pub answer-requires-clause-sought : goal.answer-requires-clause-sought
+answer-requires-clause-sought g c =
+    let pseudokey_of = g.K.Keyer.pseudokey_of in
+    let fit = g.met.K.Keyer.pseudokey_fits c.self.inside.keyer in
+    let answers = answers_here pseudokey_of c.self.view_is c.self.invariant c.args.at c.args.call.now c.args.pseudokey c.args.home c.requires.hashed c.requires.home in
+    sought_there fit c.self.invariant answers
+
+pub answer-requires-clause-stood : goal.answer-requires-clause-stood
+answer-requires-clause-stood g c =
+    let pseudokey_of = g.K.Keyer.pseudokey_of in
+    let fit = g.met.K.Keyer.pseudokey_fits c.self.inside.keyer in
+    let answers = answers_here pseudokey_of c.self.view_is c.self.invariant c.args.at c.args.call.now c.args.pseudokey c.args.home c.requires.hashed c.requires.home in
+    stood_there fit c.self.invariant answers
 
 pub invariant_of-self-in_err-reply : goal.invariant_of-self-in_err-reply
 invariant_of-self-in_err-reply g c = kept_read c.self.invariant _ c.answer.ensures.takes _ _ _ c.in_err-reply.ensures.err c.reserve.ensures.entries
@@ -24,7 +38,7 @@ pub invariant_of-self-2 : goal.invariant_of-self-2
 invariant_of-self-2 g c =
     let pseudokey_of = g.K.Keyer.pseudokey_of in
     let fit = g.met.K.Keyer.pseudokey_fits c.self.inside.keyer in
-    let answers = answers_here pseudokey_of c.self.view_is c.self.invariant c.args.at c.args.call.now c.args.pseudokey c.args.full c.requires.hashed c.requires.home in
+    let answers = answers_here pseudokey_of c.self.view_is c.self.invariant c.args.at c.args.call.now c.args.pseudokey c.args.home c.requires.hashed c.requires.home in
     let is_reply = replied fit c.self.invariant answers c.in_ok-reply.reply c.in_ok-reply.ensures.reply in
     let entry : JournalEntry = record { client = c.args.client; call = c.args.call.now; reply = c.in_ok-reply.reply } in
     let pushed = c.push_reserved.ensures ∙ ap (λ entries. entries ++ entry ∷ []) c.reserve.ensures.entries in
@@ -35,7 +49,7 @@ pub returns-clause-hop : goal.returns-clause-hop
 returns-clause-hop g c =
     let pseudokey_of = g.K.Keyer.pseudokey_of in
     let fit = g.met.K.Keyer.pseudokey_fits c.self.inside.keyer in
-    let answers = answers_here pseudokey_of c.self.view_is c.self.invariant c.args.at c.args.call.now c.args.pseudokey c.args.full c.requires.hashed c.requires.home in
+    let answers = answers_here pseudokey_of c.self.view_is c.self.invariant c.args.at c.args.call.now c.args.pseudokey c.args.home c.requires.hashed c.requires.home in
     let is_reply = replied fit c.self.invariant answers c.in_ok-reply.reply c.in_ok-reply.ensures.reply in
     let P : WardState g.row.K.Denot → Type 0 = λ w. HopOf w.cap (pseudokey_of w.keyer) w.pages c.args.at c.args.call.now (Done c.in_ok-reply.reply) in
     subst P c.self.view_is (hop_is_done fit c.self.invariant answers c.in_ok-reply.reply is_reply)
@@ -44,7 +58,7 @@ pub returns-clause-leaves : goal.returns-clause-leaves
 returns-clause-leaves g c =
     let pseudokey_of = g.K.Keyer.pseudokey_of in
     let fit = g.met.K.Keyer.pseudokey_fits c.self.inside.keyer in
-    let answers = answers_here pseudokey_of c.self.view_is c.self.invariant c.args.at c.args.call.now c.args.pseudokey c.args.full c.requires.hashed c.requires.home in
+    let answers = answers_here pseudokey_of c.self.view_is c.self.invariant c.args.at c.args.call.now c.args.pseudokey c.args.home c.requires.hashed c.requires.home in
     let entry : JournalEntry = record { client = c.args.client; call = c.args.call.now; reply = c.in_ok-reply.reply } in
     let pushed = c.push_reserved.ensures ∙ ap (λ entries. entries ++ entry ∷ []) c.reserve.ensures.entries in
     answered_seen pseudokey_of c.self.view_is fit c.self.invariant answers c.args.client c.in_ok-reply.reply _ _ _ c.in_ok-reply.ensures.pages pushed c.in_ok-reply.ensures.failures
