@@ -1,0 +1,27 @@
+-- Laws of copies that readers look at.
+use Rattle.std.specs.Prelude.{◌≡◌, ◌↔◌, ℕ, ◌<◌, ◌^◌, Bool, List, ◌++◌, flat_map, option_map, Some, Contains}
+use Rattle.std.specs.FinMap.{entries}
+use Rattle.exh_notice.specs.declared.entry.Entry.{Entry}
+use Rattle.exh_table.specs.Table.{TableMap, IsTableOf}
+use Rattle.exh_table.specs.TableOrder.{IsTableUpTo}
+use Rattle.exh_table.specs.Walk.{walk_of}
+use Rattle.exh_array.specs.Pointers.{DirectoryState, HasArrayOf, pointer_at}
+use Rattle.exh_copy.specs.declared.addition.Addition.{Addition}
+use Rattle.exh_copy.specs.Additions.{BeginsWith, table_after, told_in}
+
+-- who holds more of the published list is no lower in the order of tables
+abbrev pub CopiesNeverGoBack : Type 0
+CopiesNeverGoBack = (start : TableMap) (longer shorter : List Addition) → BeginsWith longer shorter → IsTableUpTo (table_after start shorter) (table_after start longer)
+
+-- a copy's table is that of the set of all that it was told: the start table's entries, and those of the list's notices and tables
+abbrev pub CopiesAreTablesOfTheirSets : Type 0
+CopiesAreTablesOfTheirSets = (start : TableMap) (additions : List Addition) → IsTableOf (entries start ++ flat_map told_in additions) (table_after start additions)
+
+-- A directory with its array, as a copy in a world is, that took a set of entries: where the list of a look tells the same
+-- set, in whatever order and however often, the look names the page to which the directory's pointer is.
+abbrev pub LooksAreWalksOfCopies : Type 0
+LooksAreWalksOfCopies = (start : TableMap) (ward_bits : ℕ) (additions : List Addition) (directory : DirectoryState) (taken : List (List Bool × Entry)) (pseudokey : ℕ)
+    → HasArrayOf ward_bits directory → IsTableOf taken directory.table
+    → ((pair : List Bool × Entry) → Contains taken pair ↔ Contains (entries start ++ flat_map told_in additions) pair)
+    → pseudokey < 2 ^ 64
+    → option_map (λ pointer. pointer.page) (pointer_at directory.pointers pseudokey) ≡ Some (walk_of (table_after start additions) ward_bits pseudokey).page

@@ -1,0 +1,4 @@
+pub mod AdditionLemmas
+pub mod Additions
+pub mod Laws
+pub mod Rule

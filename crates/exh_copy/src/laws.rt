@@ -1,0 +1,18 @@
+//! What holds of all copies that are looked at, for the proofs of callers. Each function does nothing.
+
+ghost use Rattle.exh_copy.specs.Laws.{CopiesNeverGoBack, CopiesAreTablesOfTheirSets, LooksAreWalksOfCopies};
+
+/// Who holds more of the published list is no lower in the order of tables.
+pub fn copies_never_go_back()
+    ensures { CopiesNeverGoBack }
+{}
+
+/// A copy's table is that of the set of all that it was told.
+pub fn copies_are_tables_of_their_sets()
+    ensures { CopiesAreTablesOfTheirSets }
+{}
+
+/// A look names the page at which a copy in a world that was told the same would begin a request.
+pub fn looks_are_walks_of_copies()
+    ensures { LooksAreWalksOfCopies }
+{}
