@@ -1,4 +1,4 @@
-use exh_page::{Spot, Value};
+use exh_page::Spot;
 
 /// What a call's home page has for it, looked up once.
 #[derive(Clone, Copy)]
@@ -7,6 +7,4 @@ pub(crate) struct HomeSight {
     pub(crate) full: bool,
     /// Where the record of the key stands, or where it would.
     pub(crate) spot: Result<Spot, Spot>,
-    /// The key's value, if it has one.
-    pub(crate) stood: Option<Value>,
 }
