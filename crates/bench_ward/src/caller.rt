@@ -5,8 +5,8 @@ use exh_array::Directory;
 use exh_calls::{Call, Reply};
 use exh_frames::PlainPages;
 use exh_keyer::{AnyKeyer, Keyer};
-use exh_page::{CAP_LIMIT, Key, PageNo};
-use exh_prefix::LIMIT;
+use exh_page::{CAP_LIMIT, Key};
+use exh_prefix::{LIMIT, PageNo};
 use exh_ward::{Hop, Ward, WardFault, first_page};
 use std::alloc::Global;
 

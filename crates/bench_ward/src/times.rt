@@ -2,7 +2,7 @@ use crate::caller::Caller;
 use crate::pairs::{RoundKeys, key_of, value_of};
 use exh_calls::{Call, Reply};
 use exh_keyer::AnyKeyer;
-use exh_page::PageNo;
+use exh_prefix::PageNo;
 use std::fmt;
 use std::time::{Clock, Instant};
 

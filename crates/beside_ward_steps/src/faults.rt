@@ -8,7 +8,7 @@ use exh_calls::Reply;
 use exh_fixtures::{Asked, are_same, first_store, merge, page, prefix, refused, split, value};
 use exh_frames::FailingPages;
 use exh_keyer::PlainKeyer;
-use exh_page::PageNo;
+use exh_prefix::PageNo;
 use exh_runs::{Difference, Part, Run, same};
 use exh_ward::{Hop, Ward, WardFault};
 use std::alloc::{AllocError, Global};

@@ -3,7 +3,7 @@
 use crate::plain_ward::{PlainWard, plain_ward};
 use exh_calls::Reply;
 use exh_fixtures::{Asked, hop, merge_page, refused, split_page};
-use exh_page::PageNo;
+use exh_prefix::PageNo;
 use exh_route::distance;
 use exh_runs::{Difference, Lie, Part, Run, again, same};
 use exh_ward::{Hop, WardFault};

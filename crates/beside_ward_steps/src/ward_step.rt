@@ -5,7 +5,7 @@ use exh_fixtures::{hop, merge_page, page, split_page};
 use exh_frames::Pages;
 use exh_keyer::PlainKeyer;
 use exh_notice::Notice;
-use exh_page::PageNo;
+use exh_prefix::PageNo;
 use exh_ward::{Hop, Ward, WardFault};
 
 /// A step of a ward at a page, and what it comes to, also where that is a refusal.

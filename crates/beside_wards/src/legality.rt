@@ -5,8 +5,8 @@ ghost use Rattle.exh_prefix.specs.declared.prefix.TheConstants.{LIMIT};
 
 use exh_keyer::{Keyer, PlainKeyer};
 use exh_model::MapMachine;
-use exh_page::{Key, Page, PageNo, Records};
-use exh_prefix::Prefix;
+use exh_page::{Key, Page, Records};
+use exh_prefix::{PageNo, Prefix};
 use exh_runs::{Difference, Part, same};
 use exh_table::Table;
 

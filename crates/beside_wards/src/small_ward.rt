@@ -2,15 +2,15 @@
 
 ghost use Rattle.std.specs.Prelude.{◌<◌, ◌≤◌, ◌^◌};
 ghost use Rattle.exh_page.specs.declared.page.TheConstants.{CAP_LIMIT};
-ghost use Rattle.exh_ward.specs.declared.ward.TheConstants.{WARD_BITS_LIMIT};
+ghost use Rattle.exh_prefix.specs.declared.prefix.TheConstants.{WARD_BITS_LIMIT};
 
 use crate::slow_ward::{Told, answer};
 use exh_fixtures::{first_store, page, refused};
 use exh_frames::PlainPages;
 use exh_keyer::PlainKeyer;
 use exh_model::MapMachine;
-use exh_page::{Page, PageNo};
-use exh_prefix::Prefix;
+use exh_page::Page;
+use exh_prefix::{PageNo, Prefix};
 use exh_runs::{Difference, Part, push, same};
 use exh_ward::Ward;
 use std::alloc::{AllocError, Global};

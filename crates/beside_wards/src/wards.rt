@@ -3,7 +3,7 @@
 
 ghost use Rattle.std.specs.Prelude.{◌<◌, ◌≤◌, ◌^◌};
 ghost use Rattle.exh_page.specs.declared.page.TheConstants.{CAP_LIMIT};
-ghost use Rattle.exh_ward.specs.declared.ward.TheConstants.{WARD_BITS_LIMIT};
+ghost use Rattle.exh_prefix.specs.declared.prefix.TheConstants.{WARD_BITS_LIMIT};
 
 use crate::legality::{are_forwarded, are_linked, have_records, walks_home};
 use crate::slow_ward::{hop_at, merge_at, moves_at, split_at};
@@ -12,8 +12,8 @@ use exh_calls::{Call, Reply};
 use exh_fixtures::{Asked, hop, key, merge_page, refused, split_page};
 use exh_keyer::{Keyer, PlainKeyer};
 use exh_notice::{Kind, Notice};
-use exh_page::{Page, PageNo};
-use exh_prefix::{LIMIT, Prefix};
+use exh_page::Page;
+use exh_prefix::{LIMIT, PageNo, Prefix};
 use exh_route::distance;
 use exh_runs::{Dice, Difference, Lie, Part, Run, again, same};
 use exh_ward::{Hop, WardFault};

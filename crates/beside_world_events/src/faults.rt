@@ -7,7 +7,7 @@ use exh_calls::Reply;
 use exh_fixtures::{Asked, first_store, merge, prefix, split, value};
 use exh_frames::FailingPages;
 use exh_keyer::PlainKeyer;
-use exh_page::PageNo;
+use exh_prefix::PageNo;
 use exh_runs::{Difference, Part, Run, again, same};
 use exh_ward::{Hop, PageLine, Ward, WardFault};
 use exh_world::{Config, Event, Outcome, StepFault, World};

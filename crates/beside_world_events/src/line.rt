@@ -5,7 +5,7 @@ use exh_fixtures::Asked;
 use exh_frames::Pages;
 use exh_keyer::PlainKeyer;
 use exh_notice::Notice;
-use exh_page::PageNo;
+use exh_prefix::PageNo;
 use exh_runs::{Difference, again};
 use exh_table::Table;
 use exh_ward::{Hop, WardFault};

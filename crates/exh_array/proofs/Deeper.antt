@@ -6,12 +6,13 @@ use Rattle.std.proofs.lemmas.List.{length_push}
 use Rattle.std.proofs.lemmas.List.Elements.{All-head, All-tail}
 use Rattle.std.proofs.lemmas.Option.{slice_get-get_or, get_or_from_slice_get}
 use Rattle.exh_prefix.specs.declared.prefix.TheConstants.{LIMIT}
-use Rattle.exh_table.specs.Directory.{leading}
+use Rattle.exh_prefix.specs.Leading.{leading}
 use Rattle.exh_array.specs.declared.pointer.Pointer.{Pointer}
 use Rattle.exh_array.specs.Pointers.{PointerArray}
-use Rattle.exh_array.specs.Within.{is_deep, IsKept, PointTheSame}
-use Rattle.exh_array.proofs.Leading.{leading-lt, leading-fewer}
-use Rattle.exh_array.proofs.Pieces.{slice_get-before_push, slice_get-at_push}
+use Rattle.exh_array.specs.Within.{is_deep, IsKeptArray, PointTheSame}
+use Rattle.exh_prefix.specs.LeadingLemmas.{leading-lt, leading-fewer}
+use Rattle.exh_prefix.specs.ListLemmas.{at_front}
+use Rattle.exh_array.proofs.Pieces.{slice_get-at_push}
 
 -- the first n of the pointers, of which each is repeated so many times
 pub record AreRepeated (times n : ℕ) (pointers made : List Pointer) : Type 0 where
@@ -24,7 +25,7 @@ repeated_none times pointers = record { many = refl; each = λ k below. absurd (
 pub repeated_more : (times n : ℕ) (pointers made : List Pointer) (next : Pointer) → AreRepeated times n pointers made → slice_get pointers (n / times) ≡ Some next → AreRepeated times (n + 1) pointers (made ++ next ∷ [])
 repeated_more times n pointers made next are is = record {
   many = omega (arith, length_push made next, are.many);
-  each = below_more _ n (λ k below. slice_get-before_push made next k (omega (arith, are.many)) ∙ are.each k below) (slice_get-at_push made next n are.many ∙ sym is);
+  each = below_more _ n (λ k below. at_front made (next ∷ []) k (omega (arith, are.many)) ∙ are.each k below) (slice_get-at_push made next n are.many ∙ sym is);
 }
 
 -- a full array has as many pointers as one that is deeper, shifted
@@ -57,7 +58,7 @@ module _ (array : PointerArray) (depth more : ℕ) (made : List Pointer) (is : a
       are.each (leading depth pseudokey) (leading-lt depth pseudokey (omega (arith, short))) ∙ ap (slice_get array.pointers) fewer
 
   -- no pointer is as deep as the array
-  shorter : (deepest : ℕ) → IsKept deepest array → 0 < more → All (λ (pointer : Pointer). pointer.local_depth < depth) made
+  shorter : (deepest : ℕ) → IsKeptArray deepest array → 0 < more → All (λ (pointer : Pointer). pointer.local_depth < depth) made
   shorter deepest kept some k d within =
       let place = k / 2 ^ more in
       let many : 2 ^ depth ≡ 2 ^ array.depth * 2 ^ more = ap (λ n. 2 ^ n) (sym is) ∙ pow-add 2 array.depth more in
@@ -67,7 +68,7 @@ module _ (array : PointerArray) (depth more : ℕ) (made : List Pointer) (is : a
       let fits : (get_or array.pointers place d).local_depth ≤ array.depth = kept.within place d before in
       subst (λ (pointer : Pointer). pointer.local_depth < depth) (sym same) (omega (arith, fits, is, some))
 
-  pub deeper_kept : (deepest : ℕ) → IsKept deepest array → 0 < more → IsKept 0 (deepened array depth made)
+  pub deeper_kept : (deepest : ℕ) → IsKeptArray deepest array → 0 < more → IsKeptArray 0 (deepened array depth made)
   deeper_kept deepest kept some = record {
     ward_bits = kept.ward_bits;
     limit = short;

@@ -9,11 +9,11 @@ use Rattle.exh_table.specs.declared.leaf.Leaf.{Leaf}
 use Rattle.exh_table.specs.Table.{TableMap}
 use Rattle.exh_table.specs.Walk.{walk_of}
 use Rattle.exh_table.specs.Leaves.{leaves_of}
-use Rattle.exh_table.specs.LeafLemmas.{low_of-small}
 use Rattle.exh_table.specs.Directory.{IsDepth}
 use Rattle.exh_array.specs.Pointers.{PointerArray, pointer_to, IsArrayOf}
-use Rattle.exh_array.specs.Within.{is_deep, IsKept, HasLeavesOf}
-use Rattle.exh_array.proofs.Leading.{leading-of_place}
+use Rattle.exh_array.specs.Within.{is_deep, IsKeptArray, HasLeavesOf}
+use Rattle.exh_prefix.specs.LeadingLemmas.{leading-of_place}
+use Rattle.exh_prefix.specs.PrefixLemmas.{low_of-word}
 
 -- where some pass a test, there is a place of one
 some_passes : {X : Type 0} (test : X → Bool) (xs : List X) → 0 < length (filter test xs) → (place : ℕ) × (x : X) × (slice_get xs place ≡ Some x) × (test x ≡ true)
@@ -24,7 +24,7 @@ some_passes {X} test (x ∷ xs) some =
       | false ↦ λ is some. let rest = some_passes test xs some in (suc rest.0, rest.1, rest.2, rest.3)
     ] refl some
 
-module _ (deepest : ℕ) (array : PointerArray) (kept : IsKept deepest array) (table : TableMap) (has : HasLeavesOf table array) where
+module _ (deepest : ℕ) (array : PointerArray) (kept : IsKeptArray deepest array) (table : TableMap) (has : HasLeavesOf table array) where
   -- as deep as some leaf, with the pseudokey whose leaf it is
   depth_at : (pseudokey : ℕ) → pseudokey < 2 ^ 64 → array.depth ≤ length (walk_of table array.ward_bits pseudokey).prefix → IsDepth (leaves_of table array.ward_bits) array.depth
   depth_at pseudokey small long = record {
@@ -49,7 +49,7 @@ module _ (deepest : ℕ) (array : PointerArray) (kept : IsKept deepest array) (t
       let pointer = found.1 in
       let within : place < 2 ^ array.depth = omega (arith, slice_get_within array.pointers place pointer found.2, kept.full) in
       let bits = bits_of array.depth place in
-      let small : low_of bits < 2 ^ 64 = low_of-small bits (omega (arith, length-bits_of array.depth place, kept.limit)) in
+      let small : low_of bits < 2 ^ 64 = low_of-word bits (omega (arith, length-bits_of array.depth place, kept.limit)) in
       let stands : Some pointer ≡ Some (pointer_to (walk_of table array.ward_bits (low_of bits))) =
       sym found.2 ∙ ap (slice_get array.pointers) (sym (leading-of_place array.depth place (omega (arith, kept.limit)) within)) ∙ has.each (low_of bits) small in
       let is : pointer.local_depth ≡ length (walk_of table array.ward_bits (low_of bits)).prefix = cc in

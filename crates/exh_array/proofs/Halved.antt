@@ -9,13 +9,13 @@ use Rattle.exh_prefix.specs.Bits.{word_bits}
 use Rattle.exh_prefix.specs.Prefix.{low_of}
 use Rattle.exh_table.specs.Table.{TableMap}
 use Rattle.exh_table.specs.Walk.{walk_of}
-use Rattle.exh_table.specs.Directory.{leading}
-use Rattle.exh_table.specs.LeafLemmas.{low_of-small, take-word-low_of}
+use Rattle.exh_prefix.specs.Leading.{leading}
 use Rattle.exh_table.specs.DirectoryLemmas.{same_leaf}
 use Rattle.exh_array.specs.declared.pointer.Pointer.{Pointer}
 use Rattle.exh_array.specs.Pointers.{PointerArray, pointer_to}
-use Rattle.exh_array.specs.Within.{is_deep, IsKept, HasLeavesOf}
-use Rattle.exh_array.proofs.Leading.{length-leading_bits, leading-lt, leading-twice}
+use Rattle.exh_array.specs.Within.{is_deep, IsKeptArray, HasLeavesOf}
+use Rattle.exh_prefix.specs.LeadingLemmas.{length-leading_bits, leading-lt, leading-twice}
+use Rattle.exh_prefix.specs.PrefixLemmas.{low_of-word, take-word-low_of}
 use Rattle.exh_array.proofs.Pieces.{slice_get-set_same, slice_get-set_other, slice_get-take}
 use Rattle.exh_array.proofs.Deeper.{deepened}
 
@@ -62,7 +62,7 @@ none_passes test (x ∷ xs) none =
       | false ↦ λ is none. All-cons (λ x. test x ≡ false) x xs is (none_passes test xs none)
     ] refl none
 
-module _ (deepest : ℕ) (array : PointerArray) (kept : IsKept deepest array) (flat : filter (is_deep array.depth) array.pointers ≡ []) where
+module _ (deepest : ℕ) (array : PointerArray) (kept : IsKeptArray deepest array) (flat : filter (is_deep array.depth) array.pointers ≡ []) where
   shorter : (place : ℕ) (pointer : Pointer) → slice_get array.pointers place ≡ Some pointer → pointer.local_depth < array.depth
   shorter place pointer stands =
       let within : place < length array.pointers = slice_get_within array.pointers place pointer stands in
@@ -72,7 +72,7 @@ module _ (deepest : ℕ) (array : PointerArray) (kept : IsKept deepest array) (f
       omega (arith, fits, eqb-false pointer.local_depth array.depth differs)
 
   module _ (depth : ℕ) (less : array.depth ≡ suc depth) (made : List Pointer) (are : AreEveryOther (2 ^ depth) array.pointers made) where
-    pub halved_kept : IsKept (length (filter (is_deep depth) made)) (deepened array depth made)
+    pub halved_kept : IsKeptArray (length (filter (is_deep depth) made)) (deepened array depth made)
     halved_kept = record {
       ward_bits = kept.ward_bits;
       limit = omega (arith, kept.limit, less);
@@ -95,7 +95,7 @@ module _ (deepest : ℕ) (array : PointerArray) (kept : IsKept deepest array) (f
           let front = take depth (word_bits pseudokey) in
           let many : length front ≡ depth = length-leading_bits depth pseudokey (omega (arith, kept.limit, less)) in
           let first = low_of front in
-          let first_small : first < 2 ^ 64 = low_of-small front (omega (arith, many, kept.limit, less)) in
+          let first_small : first < 2 ^ 64 = low_of-word front (omega (arith, many, kept.limit, less)) in
           let twice : 2 * leading depth pseudokey ≡ leading array.depth first = sym (leading-twice depth pseudokey (omega (arith, kept.limit, less))) ∙ ap (λ n. leading n first) (sym less) in
           let same : walk_of table array.ward_bits first ≡ walk_of table array.ward_bits pseudokey =
           same_leaf table array.ward_bits kept.ward_bits depth pseudokey first (leaf_short table has pseudokey small) small (sym (take-word-low_of front depth many (omega (arith, kept.limit, less)))) in

@@ -2,23 +2,19 @@
 use Rattle.std.proofs.Common.{◌≡◌, ℕ, ◌+◌, ◌-◌, ◌*◌, ◌/◌, ◌^◌, ◌<◌, ◌≤◌, ◌⊎◌, inl, inr, Bool, List, length, slice_get, Some, refl, sym, ap, ◌∙◌, arith}
 use Rattle.std.proofs.Math.ListN.{set}
 use Rattle.std.proofs.lemmas.Bool.Decides.{leb_tells}
-use Rattle.std.proofs.Math.Nat.{mul-le-mul_right}
+use Rattle.std.proofs.Math.Nat.{mul_assoc, mul-le-mul_right}
 use Rattle.std.proofs.lemmas.List.{length-set}
 use Rattle.std.proofs.lemmas.Nat.{pow-add, pow_pos, shl-shr, div-mul-add}
 use Rattle.exh_prefix.specs.Bits.{number_of}
 use Rattle.exh_prefix.specs.BitLemmas.{number_of-lt}
 use Rattle.exh_prefix.specs.Prefix.{Begins, low_of}
-use Rattle.exh_prefix.specs.PrefixLemmas.{low_of-product}
-use Rattle.exh_table.specs.Directory.{leading}
-use Rattle.exh_table.specs.LeafLemmas.{low_of-small}
+use Rattle.exh_prefix.specs.PrefixLemmas.{low_of-product, low_of-word}
+use Rattle.exh_prefix.specs.Leading.{leading}
 use Rattle.exh_array.specs.declared.pointer.Pointer.{Pointer}
 use Rattle.exh_array.specs.Pointers.{PointerArray}
 use Rattle.exh_array.specs.Pointers.{pointer_at}
 use Rattle.exh_array.proofs.Pieces.{slice_get-set_same, slice_get-set_other}
-use Rattle.exh_array.proofs.Leading.{leading-lt, leading-quotient, leading-fewer, leading-of_begun, begins-from_leading}
-
-product : (a b c : ℕ) → a * (b * c) ≡ (a * b) * c
-product a b c = omega arith
+use Rattle.exh_prefix.specs.LeadingLemmas.{leading-lt, leading-quotient, leading-fewer, leading-of_begun, begins-from_leading}
 
 -- how many places the range of a prefix has
 abbrev pub room : ℕ → List Bool → ℕ
@@ -29,8 +25,8 @@ module _ (depth : ℕ) (prefix : List Bool) (short : length prefix ≤ depth) (s
   first_place : leading depth (low_of prefix) ≡ number_of prefix * room depth prefix
   first_place =
       let parts : 64 - length prefix ≡ (depth - length prefix) + (64 - depth) = omega arith in
-      sym (leading-quotient depth (low_of prefix) small (low_of-small prefix (omega arith)))
-      ∙ ap (λ n. n / 2 ^ (64 - depth)) (low_of-product prefix ∙ ap (λ n. number_of prefix * 2 ^ n) parts ∙ ap (λ n. number_of prefix * n) (pow-add 2 (depth - length prefix) (64 - depth)) ∙ product (number_of prefix) (room depth prefix) (2 ^ (64 - depth)))
+      sym (leading-quotient depth (low_of prefix) small (low_of-word prefix (omega arith)))
+      ∙ ap (λ n. n / 2 ^ (64 - depth)) (low_of-product prefix ∙ ap (λ n. number_of prefix * 2 ^ n) parts ∙ ap (λ n. number_of prefix * n) (pow-add 2 (depth - length prefix) (64 - depth)) ∙ sym (mul_assoc (number_of prefix) (room depth prefix) (2 ^ (64 - depth))))
       ∙ shl-shr (number_of prefix * room depth prefix) (64 - depth)
 
   -- its end is within the array

@@ -13,11 +13,12 @@ use Rattle.exh_table.specs.declared.leaf.Leaf.{Leaf}
 use Rattle.exh_table.specs.Walk.{right_of, split_at, walk_of}
 use Rattle.exh_table.specs.WalkLemmas.{walk_on-stop}
 use Rattle.exh_table.specs.Leaves.{leaves_of}
-use Rattle.exh_table.specs.Directory.{IsDepth, leading}
+use Rattle.exh_prefix.specs.Leading.{leading}
+use Rattle.exh_table.specs.Directory.{IsDepth}
 use Rattle.exh_array.specs.declared.pointer.Pointer.{Pointer}
 use Rattle.exh_array.specs.Pointers.{PointerArray, IsArrayOf, pointer_to}
-use Rattle.exh_array.specs.Within.{is_deep, IsKept}
-use Rattle.exh_array.proofs.Leading.{length-leading_bits, leading-lt}
+use Rattle.exh_array.specs.Within.{is_deep, IsKeptArray}
+use Rattle.exh_prefix.specs.LeadingLemmas.{length-leading_bits, leading-lt}
 
 abbrev pub start : ℕ → PointerArray
 start ward_bits = record { ward_bits = ward_bits; depth = ward_bits; pointers = replicate (2 ^ ward_bits) (record { page = 0; local_depth = ward_bits }) }
@@ -26,7 +27,7 @@ all_pass : {X : Type 0} (test : X → Bool) (n : ℕ) (x : X) → test x ≡ tru
 all_pass test zero x passes = refl
 all_pass test (suc n) x passes = rw passes (ap suc (all_pass test n x passes))
 
-pub start_is_kept : (ward_bits : ℕ) → ward_bits ≤ LIMIT → IsKept (2 ^ ward_bits) (start ward_bits)
+pub start_is_kept : (ward_bits : ℕ) → ward_bits ≤ LIMIT → IsKeptArray (2 ^ ward_bits) (start ward_bits)
 start_is_kept ward_bits short = record {
   ward_bits = short;
   limit = short;

@@ -1,10 +1,9 @@
 -- Arrays of tables that differ at most at one prefix.
-use Rattle.std.proofs.Common.{◌≡◌, ◌≢◌, ℕ, ◌-◌, ◌<◌, ◌≤◌, ◌⊎◌, inl, inr, Bool, true, false, if◌then◌else◌, nat_lt, List, length, take, drop, max, Some, None, refl, sym, ap, ◌∙◌, subst, arith}
-use Rattle.std.proofs.lemmas.Bool.{false≢true}
+use Rattle.std.proofs.Common.{◌≡◌, ◌≢◌, ℕ, ◌-◌, ◌<◌, ◌≤◌, inl, inr, Bool, if◌then◌else◌, nat_lt, List, length, take, drop, max, Some, None, refl, sym, ap, ◌∙◌, subst, arith}
 use Rattle.std.proofs.lemmas.List.{length-drop, length-take-le, take-take}
 use Rattle.exh_prefix.specs.Bits.{word_bits}
 use Rattle.exh_prefix.specs.Prefix.{Begins, begins}
-use Rattle.exh_prefix.specs.PrefixLemmas.{length-word_bits, is_front-true, IsFront-from_test}
+use Rattle.exh_prefix.specs.PrefixLemmas.{length-word_bits, begins_or_not}
 use Rattle.exh_prefix.specs.declared.prefix.TheConstants.{LIMIT}
 use Rattle.exh_table.specs.declared.leaf.Leaf.{Leaf}
 use Rattle.exh_table.specs.Table.{TableMap}
@@ -16,13 +15,6 @@ use Rattle.exh_table.specs.LeafLemmas.{root}
 use Rattle.exh_array.specs.Pointers.{PointerArray, pointer_to, IsArrayOf, DifferAtMostAt}
 use Rattle.exh_array.specs.Within.{walk_along, walk_from, HasLeavesOf, IsPlaceIn, PointTheSame, IsPointedBelow}
 use Rattle.exh_array.proofs.Walks.{walk_on-append, walk_on-cases, depth_below-walk, same_walk_to, same_walk_past}
-
-begins_or_not : (prefix : List Bool) (pseudokey : ℕ) → Begins prefix pseudokey ⊎ (Begins prefix pseudokey → ⊥)
-begins_or_not prefix pseudokey =
-    elim (begins prefix pseudokey) as (λ passes. begins prefix pseudokey ≡ passes → Begins prefix pseudokey ⊎ (Begins prefix pseudokey → ⊥)) [
-      | true ↦ λ passes. inl (IsFront-from_test prefix (word_bits pseudokey) passes)
-      | false ↦ λ fails. inr (λ is. false≢true (sym fails ∙ is_front-true prefix (word_bits pseudokey) is))
-    ] refl
 
 -- the bits that follow a prefix in a pseudokey, up to LIMIT
 abbrev rest_of : List Bool → ℕ → List Bool

@@ -1,11 +1,12 @@
 -- The doubled array of pointers of a table.
 use Rattle.std.specs.Prelude.{◌≡◌, ◌≢◌, ℕ, ◌<◌, ◌^◌, Bool, List, length, slice_get, Option, Some}
 use Rattle.std.specs.FinMap.{get}
+use Rattle.exh_prefix.specs.Leading.{leading}
 use Rattle.exh_table.specs.declared.leaf.Leaf.{Leaf}
 use Rattle.exh_table.specs.Table.{TableMap}
 use Rattle.exh_table.specs.Walk.{walk_of}
 use Rattle.exh_table.specs.Leaves.{leaves_of}
-use Rattle.exh_table.specs.Directory.{IsDepth, leading}
+use Rattle.exh_table.specs.Directory.{IsDepth}
 use Rattle.exh_array.specs.declared.pointer.Pointer.{Pointer}
 
 -- a file's ward bits, the depth of its directory, and the pointers in the order of the leading bits

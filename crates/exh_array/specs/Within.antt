@@ -15,7 +15,7 @@ abbrev pub is_deep : ℕ → Pointer → Bool
 is_deep depth pointer = nat_eq pointer.local_depth depth
 
 -- what holds of each array: how many pointers there are, how deep they may be, and how many are as deep as the array
-pub record IsKept (deepest : ℕ) (array : PointerArray) : Type 0 where
+pub record IsKeptArray (deepest : ℕ) (array : PointerArray) : Type 0 where
   pub ward_bits : array.ward_bits ≤ LIMIT
   pub limit : array.depth ≤ LIMIT
   pub full : length array.pointers ≡ 2 ^ array.depth

@@ -5,12 +5,11 @@ ghost use Rattle.exh_prefix.specs.Prefix.{Begins};
 ghost use Rattle.exh_table.specs.Table.{TableMap};
 ghost use Rattle.exh_table.specs.Walk.{walk_of};
 ghost use Rattle.exh_table.specs.Below.{splits_above, depth_below, depth_of};
-ghost use Rattle.exh_table.specs.Directory.{leading};
 ghost use Rattle.exh_array.specs.Pointers.{IsArrayOf, DifferAtMostAt, pointer_at, pointer_to};
 ghost use Rattle.exh_array.specs.Within.{is_deep, HasLeavesOf, IsPlaceIn, PointTheSame, IsPointedBelow};
 
 use crate::pointer::Pointer;
-use exh_prefix::{LIMIT, PageNo, Prefix};
+use exh_prefix::{LIMIT, PageNo, Prefix, leading};
 use exh_table::{Leaf, Table};
 use std::alloc::{AllocError, Global};
 use std::marker::Model;
@@ -30,7 +29,7 @@ pub struct Pointers {
 impl Model for Pointers {
     ghost use Rattle.std.specs.Coded.{codes};
     ghost use Rattle.exh_array.specs.Pointers.{PointerArray};
-    ghost use Rattle.exh_array.specs.Within.{IsKept};
+    ghost use Rattle.exh_array.specs.Within.{IsKeptArray};
 
     ghost Value = { PointerArray };
 
@@ -38,7 +37,7 @@ impl Model for Pointers {
 
     ghost view = { λ a. record { ward_bits = a.ward_bits; depth = a.depth; pointers = a.pointers.items } };
 
-    ghost invariant = { λ a. IsKept a.deepest (record { ward_bits = a.ward_bits; depth = a.depth; pointers = a.pointers.items }) };
+    ghost invariant = { λ a. IsKeptArray a.deepest (record { ward_bits = a.ward_bits; depth = a.depth; pointers = a.pointers.items }) };
 }
 
 impl Pointers {
@@ -132,7 +131,7 @@ impl Pointers {
         ensures at { pointer_at self.now pseudokey ≡ Some result }
         ensures limit { result.local_depth ≤ LIMIT }
     {
-        self.pointers[leading(self.depth, pseudokey)]
+        self.pointers[leading(self.depth, pseudokey) as usize]
     }
 
     // The place of a prefix, where walks come to it. Over zeros alone they stay on its page.
@@ -197,7 +196,7 @@ impl Pointers {
         ensures inside { (pseudokey : ℕ) → pseudokey < 2 ^ 64 → Begins leaf.now.prefix pseudokey → pointer_at self.new pseudokey ≡ Some (pointer_to leaf.now) }
         ensures outside { (pseudokey : ℕ) → pseudokey < 2 ^ 64 → (Begins leaf.now.prefix pseudokey → ⊥) → pointer_at self.new pseudokey ≡ pointer_at self.old pseudokey }
     {
-        let from = leading(self.depth, leaf.prefix.low());
+        let from = leading(self.depth, leaf.prefix.low()) as usize;
         let to = from + (1 << (self.depth - leaf.prefix.len()));
         for at in from..to {
             self.set(
@@ -261,12 +260,4 @@ fn deepest_in(pointers: &[Pointer], depth: u8) -> usize
         .iter()
         .filter(|pointer| pointer.local_depth == depth)
         .count()
-}
-
-// The leading bits of a pseudokey, as a number.
-fn leading(depth: u8, pseudokey: u64) -> usize
-    requires { depth ≤ LIMIT }
-    ensures { result ≡ leading depth pseudokey }
-{
-    ((pseudokey >> 1) >> (63 - depth)) as usize
 }

@@ -1,9 +1,9 @@
 -- Bytes that are added to those of a journal leave its entries as they are, and are those of the entry added.
-use Rattle.std.proofs.Common.{◌≡◌, ℕ, zero, suc, ◌+◌, ◌<◌, ◌≤◌, List, [], ◌∷◌, ◌++◌, length, take, drop, slice_get, Option, MatchOption, refl, sym, ap, ◌∙◌, arith}
+use Rattle.std.proofs.Common.{◌≡◌, ℕ, ◌+◌, ◌≤◌, List, [], ◌∷◌, ◌++◌, length, take, drop, refl, sym, ap, ◌∙◌, arith}
 use Rattle.std.proofs.lemmas.List.{append_assoc, append-nil, drop-append-le, take-append-le, length-drop, map-append, length-append}
 use Rattle.std.proofs.lemmas.List.Elements.{All-head, All-tail}
 use Rattle.std.proofs.Math.Seq.{drop-append_seam, take-append_seam}
-use Rattle.exh_calls.specs.Journal.{bytes_at, call_as, reply_as, entry_in, entries_in, IsWithin, AreWithin}
+use Rattle.exh_calls.specs.Journal.{bytes_at, call_as, reply_as, entry_in, entries_in, IsStoredWithin, AreWithin}
 use Rattle.exh_calls.specs.declared.journal_entry.JournalEntry.{JournalEntry}
 use Rattle.exh_calls.specs.declared.stored_entry.CallKind.{CallKind}
 use Rattle.exh_calls.specs.declared.stored_entry.ReplyKind.{ReplyKind}
@@ -13,7 +13,7 @@ bytes_at-append : (texts more : List ℕ) (start len : ℕ) → start + len ≤ 
 bytes_at-append texts more start len there =
     ap (take len) (drop-append-le start texts more (omega arith)) ∙ take-append-le len (drop start texts) more (omega (arith, length-drop start texts))
 
-entry_in-append : (texts more : List ℕ) (stored : StoredEntry) → IsWithin texts stored → entry_in (texts ++ more) stored ≡ entry_in texts stored
+entry_in-append : (texts more : List ℕ) (stored : StoredEntry) → IsStoredWithin texts stored → entry_in (texts ++ more) stored ≡ entry_in texts stored
 entry_in-append texts more stored within =
     let key = bytes_at-append texts more stored.start stored.key_len (omega (arith, within.there)) in
     let value = bytes_at-append texts more (stored.start + stored.key_len) stored.value_len (omega (arith, within.there)) in
@@ -23,8 +23,8 @@ entry_in-append texts more stored within =
 entries_in-append : (texts more : List ℕ) (stored : List StoredEntry) → AreWithin texts stored → entries_in (texts ++ more) stored ≡ entries_in texts stored
 entries_in-append texts more [] within = refl
 entries_in-append texts more (first ∷ others) within =
-    let here = entry_in-append texts more first (All-head (IsWithin texts) first others within) in
-    let there = entries_in-append texts more others (All-tail (IsWithin texts) first others within) in
+    let here = entry_in-append texts more first (All-head (IsStoredWithin texts) first others within) in
+    let there = entries_in-append texts more others (All-tail (IsStoredWithin texts) first others within) in
     cc
 
 -- the bytes between two lists
@@ -54,10 +54,3 @@ module _ (texts key value told : List ℕ) (client : ℕ) (call : CallKind) (rep
       let older = ap (λ texts. entries_in texts stored) whole ∙ entries_in-append texts (key ++ (value ++ told)) stored within in
       map-append (entry_in (((texts ++ key) ++ value) ++ told)) stored (added ∷ []) ∙ ap (λ older. older ++ entry_in (((texts ++ key) ++ value) ++ told) added ∷ []) older
       ∙ ap (λ newest. entries_in texts stored ++ newest ∷ []) entry_in-added
-
--- the entry at a place that is left is the first of those left there
-pub first_left : (entries : List JournalEntry) (next : ℕ) (taken : Option JournalEntry) → next < length entries → taken ≡ slice_get entries next
-    → MatchOption taken ((drop next entries ≡ []) × (drop (suc next) entries ≡ [])) (λ entry. drop next entries ≡ entry ∷ drop (suc next) entries)
-first_left [] next taken within is = absurd (omega arith)
-first_left (first ∷ others) zero taken within is = rw is refl
-first_left (first ∷ others) (suc next) taken within is = first_left others next taken (omega arith) is

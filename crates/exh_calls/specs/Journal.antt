@@ -71,7 +71,7 @@ abbrev pub entry_in : List ℕ → StoredEntry → JournalEntry
 entry_in texts stored = record { client = stored.client; call = call_as stored.call (key_in texts stored) (value_in texts stored); reply = reply_as stored.reply (reply_value_in texts stored) }
 
 -- the bytes are there, as many as a key and two values have
-pub record IsWithin (texts : List ℕ) (stored : StoredEntry) : Type 0 where
+pub record IsStoredWithin (texts : List ℕ) (stored : StoredEntry) : Type 0 where
   pub there : end_of stored ≤ length texts
   pub some : 1 ≤ stored.key_len
   pub key : stored.key_len ≤ KEY_LIMIT
@@ -79,7 +79,7 @@ pub record IsWithin (texts : List ℕ) (stored : StoredEntry) : Type 0 where
   pub reply : stored.reply_len ≤ VALUE_LIMIT
 
 abbrev pub AreWithin : List ℕ → List StoredEntry → Type 0
-AreWithin texts stored = All (IsWithin texts) stored
+AreWithin texts stored = All (IsStoredWithin texts) stored
 
 abbrev pub entries_in : List ℕ → List StoredEntry → List JournalEntry
 entries_in texts stored = map (entry_in texts) stored

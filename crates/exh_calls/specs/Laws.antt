@@ -2,9 +2,10 @@
 use Rattle.std.specs.Prelude.{◌≡◌, ℕ, ◌<◌, ◌≤◌, ◌^◌, Bool, List, [], ◌∷◌, ◌++◌, length, map}
 use Rattle.exh_prefix.specs.declared.prefix.TheConstants.{LIMIT}
 use Rattle.exh_prefix.specs.Prefix.{Begins}
+use Rattle.exh_prefix.specs.Leading.{leading}
 use Rattle.exh_page.specs.KeyMap.{KeyMap}
 use Rattle.exh_calls.specs.History.{IsHistory, map_left}
-use Rattle.exh_calls.specs.MapMachine.{leading, reply_of, map_after}
+use Rattle.exh_calls.specs.MapMachine.{reply_of, map_after}
 use Rattle.exh_calls.specs.declared.call.Call.{Call}
 use Rattle.exh_calls.specs.declared.journal_entry.JournalEntry.{JournalEntry}
 use Rattle.exh_calls.specs.declared.reply.Reply.{Reply}
@@ -33,8 +34,8 @@ HistoryIsDetermined = (cap : ℕ) (pseudo : List ℕ → ℕ) (base : KeyMap) (o
 
 -- a prefix that begins a pseudokey begins all that share its leading bits, as Full counts them; and one of LIMIT bits begins no others
 pub record AreSharers (prefix : List Bool) (one other : ℕ) : Type 0 where
-  pub begun : Begins prefix one → leading other ≡ leading one → Begins prefix other
-  pub alone : length prefix ≡ LIMIT → Begins prefix one → Begins prefix other → leading other ≡ leading one
+  pub begun : Begins prefix one → leading LIMIT other ≡ leading LIMIT one → Begins prefix other
+  pub alone : length prefix ≡ LIMIT → Begins prefix one → Begins prefix other → leading LIMIT other ≡ leading LIMIT one
 
 abbrev pub SharersBegin : Type 0
 SharersBegin = (prefix : List Bool) (one other : ℕ) → length prefix ≤ LIMIT → one < 2 ^ 64 → other < 2 ^ 64 → AreSharers prefix one other

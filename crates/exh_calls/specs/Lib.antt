@@ -7,4 +7,3 @@ pub mod Laws
 pub mod EffectLemmas
 pub mod HistoryLemmas
 pub mod SharingLemmas
-pub mod LeadingLemmas

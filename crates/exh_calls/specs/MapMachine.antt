@@ -1,20 +1,17 @@
 -- The map machine: what a call is answered over a finite map, and the map that it leaves.
-use Rattle.std.specs.Prelude.{◌==◌, ℕ, ◌-◌, ◌/◌, ◌^◌, Bool, List, count_by, nat_le}
+use Rattle.std.specs.Prelude.{◌==◌, ℕ, Bool, List, count_by, nat_le}
 use Rattle.std.specs.FinMap as map
 use Rattle.exh_prefix.specs.declared.prefix.TheConstants.{LIMIT}
+use Rattle.exh_prefix.specs.Leading.{leading}
 use Rattle.exh_page.specs.KeyMap.{KeyMap}
 use Rattle.exh_calls.specs.declared.call.Call.{Call}
 use Rattle.exh_calls.specs.declared.reply.Reply.{Reply}
 use Rattle.exh_calls.specs.Call.{key_of}
 use Rattle.exh_calls.specs.Effect.{Change, Keep, Set, Remove, Effect, effect_of}
 
--- the number that the LIMIT leading bits of a pseudokey spell
-abbrev pub leading : ℕ → ℕ
-leading pseudokey = pseudokey / 2 ^ (64 - LIMIT)
-
--- how many keys of the map share their leading bits with this one
+-- how many keys of the map share their LIMIT leading bits with this one
 abbrev pub sharing : (List ℕ → ℕ) → KeyMap → List ℕ → ℕ
-sharing pseudo m key = count_by (λ other. leading (pseudo other) == leading (pseudo key)) (map.keys m)
+sharing pseudo m key = count_by (λ other. leading LIMIT (pseudo other) == leading LIMIT (pseudo key)) (map.keys m)
 
 -- whether a new key is turned away, since a page of the greatest length can't hold it
 abbrev pub is_full : ℕ → (List ℕ → ℕ) → KeyMap → List ℕ → Bool

@@ -9,10 +9,12 @@ use Rattle.std.proofs.lemmas.List.Sums.{count_by-le-length, length-filter}
 use Rattle.std.proofs.lemmas.Map.Lookups.{exact_bytes}
 use Rattle.exh_page.specs.KeyMap.{KeyMap}
 use Rattle.exh_page.specs.KeyMapLemmas.{same_maps}
-use Rattle.exh_calls.specs.MapMachine.{leading, sharing}
+use Rattle.exh_calls.specs.MapMachine.{sharing}
+use Rattle.exh_prefix.specs.Leading.{leading}
+use Rattle.exh_prefix.specs.declared.prefix.TheConstants.{LIMIT}
 
 abbrev pub shares : (List ℕ → ℕ) → List ℕ → List ℕ → Bool
-shares pseudo key other = leading (pseudo other) == leading (pseudo key)
+shares pseudo key other = leading LIMIT (pseudo other) == leading LIMIT (pseudo key)
 
 module _ (pseudo : List ℕ → ℕ) (key : List ℕ) where
   abbrev kept : List (List ℕ × List ℕ) → List (List ℕ × List ℕ)

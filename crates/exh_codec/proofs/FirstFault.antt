@@ -12,13 +12,13 @@ use Rattle.exh_codec.specs.Block.{sealed, IsSealed}
 use Rattle.exh_codec.specs.ImageTests.{Passes, IsFirst, content_tests, image_tests}
 use Rattle.exh_codec.specs.PageImage.{IsLaidOut, IsImage, content_of}
 use Rattle.exh_codec.specs.ReadPages.{GivesPage}
-use Rattle.exh_codec.proofs.Elements.{all_back}
-use Rattle.exh_codec.proofs.TestsPassed.{passes_content, one_page_laid}
+use Rattle.exh_prefix.specs.ListLemmas.{AllByRecursion-append_right}
+use Rattle.exh_codec.proofs.ImagesPass.{passes_content, one_page_laid}
 use Rattle.exh_codec.proofs.UsedBytes.{length-content_of}
 
 -- where all tests pass, none is the first that fails
 none_first : (Pass : ImageFault → Type 0) (tests : List ImageFault) (fault : ImageFault) → AllByRecursion Pass tests → IsFirst Pass tests fault → ⊥
-none_first Pass tests fault all first = first.fails (all_back Pass first.before (fault ∷ first.after) (subst (AllByRecursion Pass) first.stands all)).0
+none_first Pass tests fault all first = first.fails (AllByRecursion-append_right Pass first.before (fault ∷ first.after) (subst (AllByRecursion Pass) first.stands all)).0
 
 module _ (version : Version) (fits : Fits 8 version) where
   first_given : (pseudo : List ℕ → ℕ) (block : List ℕ) (fault : ImageFault) → GivesPage version pseudo block (Err fault) → fault ≢ faults.Memory → IsFirst (Passes version pseudo block) content_tests fault

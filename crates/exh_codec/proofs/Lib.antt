@@ -1,12 +1,16 @@
-pub mod PairImages
+-- of writing: put_record, put_page, lay_out
 pub mod PutPairs
-pub mod Elements
 pub mod UsedBytes
-pub mod Rising
+-- of reading: cells, the head, low bounds, zeros, rising records
+pub mod PairImages
 pub mod LowBytes
 pub mod HeadReading
+pub mod Rising
+-- from a page to its block and back: read_content, one_page
 pub mod LaidOut
-pub mod TestsPassed
 pub mod ReadBack
+-- of images_pass: a laid-out block passes the tests, and a block that passes is an image
+pub mod ImagesPass
+pub mod PassingImages
+-- of decode_page and images_are_sealed
 pub mod FirstFault
-pub mod PassedTests

@@ -3,7 +3,7 @@ use Rattle.std.proofs.Common.{◌≡◌, ℕ, ◌+◌, ◌-◌, ◌<◌, ◌≤�
 use Rattle.std.specs.List.{AllByRecursion, flat_map}
 use Rattle.std.proofs.lemmas.List.{take_all, take_at, drop_at, length-append, append-nil}
 use Rattle.std.proofs.lemmas.List.Concat.{flat_map-append}
-use Rattle.exh_codec.specs.Cells.{Pair, IsSized, AreCells, pair_image}
+use Rattle.exh_codec.specs.Cells.{Pair, IsSizedPair, AreCells, pair_image}
 
 -- two lists of one length, with something after them
 pub same_fronts : (one other rest after : List ℕ) → length one ≡ length other → one ++ rest ≡ other ++ after → (one ≡ other) × (rest ≡ after)
@@ -43,8 +43,8 @@ pub same_cells : (count : ℕ) (bytes : List ℕ) (one other : List Pair) (rest 
 same_cells count bytes one other rest after first second = same_pairs one other rest after (first.all ∙ sym second.all) (sym first.whole ∙ second.whole)
 
 -- behind fewer pairs than there are stands the next
-pub has_next : (front pairs : List Pair) (rest after : List ℕ) → length front < length pairs → AllByRecursion IsSized pairs → flat_map pair_image front ++ rest ≡ flat_map pair_image pairs ++ after
-    → (pair : Pair) × (more : List ℕ) × IsSized pair × (rest ≡ pair_image pair ++ more)
+pub has_next : (front pairs : List Pair) (rest after : List ℕ) → length front < length pairs → AllByRecursion IsSizedPair pairs → flat_map pair_image front ++ rest ≡ flat_map pair_image pairs ++ after
+    → (pair : Pair) × (more : List ℕ) × IsSizedPair pair × (rest ≡ pair_image pair ++ more)
 has_next [] [] rest after fewer sized same = absurd (omega (arith, fewer))
 has_next [] (q ∷ pairs) rest after fewer sized same = (q, flat_map pair_image pairs ++ after, sized.0, same ∙ next_pair q pairs after)
 has_next (p ∷ front) [] rest after fewer sized same = absurd (omega (arith, fewer))
@@ -54,18 +54,18 @@ has_next (p ∷ front) (q ∷ pairs) rest after fewer sized same =
 
 -- where no pair stands behind the first i, there are not more of them
 pub no_more_cells : (count i : ℕ) (bytes : List ℕ) (front : List Pair) (rest : List ℕ) → i < count → AreCells i bytes front rest
-    → ((pair : Pair) (more : List ℕ) → IsSized pair → rest ≡ pair_image pair ++ more → ⊥)
+    → ((pair : Pair) (more : List ℕ) → IsSizedPair pair → rest ≡ pair_image pair ++ more → ⊥)
     → (pairs : List Pair) (after : List ℕ) → AreCells count bytes pairs after → ⊥
 no_more_cells count i bytes front rest below cells none pairs after all =
     let next = has_next front pairs rest after (omega (arith, below, cells.all, all.all)) all.sized (sym cells.whole ∙ all.whole) in
     none next.0 next.1 next.2 next.3
 
-sized_push : (front : List Pair) (pair : Pair) → AllByRecursion IsSized front → IsSized pair → AllByRecursion IsSized (front ++ pair ∷ [])
+sized_push : (front : List Pair) (pair : Pair) → AllByRecursion IsSizedPair front → IsSizedPair pair → AllByRecursion IsSizedPair (front ++ pair ∷ [])
 sized_push [] pair all sized = (sized, tt)
 sized_push (p ∷ front) pair all sized = (all.0, sized_push front pair all.1 sized)
 
 -- one pair more
-pub more_cells : (i : ℕ) (bytes : List ℕ) (front : List Pair) (rest : List ℕ) (pair : Pair) (after : List ℕ) → AreCells i bytes front rest → IsSized pair → rest ≡ pair_image pair ++ after
+pub more_cells : (i : ℕ) (bytes : List ℕ) (front : List Pair) (rest : List ℕ) (pair : Pair) (after : List ℕ) → AreCells i bytes front rest → IsSizedPair pair → rest ≡ pair_image pair ++ after
     → AreCells (i + 1) bytes (front ++ pair ∷ []) after
 more_cells i bytes front rest pair after cells sized next = record {
   all = omega (arith, cells.all, length-append front (pair ∷ []));

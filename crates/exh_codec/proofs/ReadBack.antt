@@ -15,7 +15,7 @@ use Rattle.exh_codec.specs.declared.image_fault.ImageFault.{ImageFault}
 use Rattle.exh_codec.specs.declared.image_fault.ImageFault.TheVariants as faults
 use Rattle.exh_codec.specs.declared.kind.Kind.{Kind}
 use Rattle.exh_codec.specs.declared.kind.Kind.TheVariants.{Live, Forward}
-use Rattle.exh_codec.specs.Cells.{Pair, IsSized, AreCells, pair_image, pair_of}
+use Rattle.exh_codec.specs.Cells.{Pair, IsSizedPair, AreCells, pair_image, pair_of}
 use Rattle.exh_codec.specs.Head.{head_of, head_bytes, link_number, IsReadHead, kind_byte}
 use Rattle.exh_codec.specs.ImageTests.{record_of, HasCells, HasKind, HasLengths, IsPadded, HasBound, IsOrdered, IsOfKind, Passes, IsFirst, content_tests, prefix_len_of, low_in}
 use Rattle.exh_codec.specs.PageImage.{IsLaidOut, content_of, used_of}
@@ -100,7 +100,7 @@ module _ (version : Version) (fits : Fits 8 version) where
       let same = pairs_of_records pseudo pairs in
       let laid : IsLaidOut version pseudo (pages.Live prefix live.right records) block = record {
         valid = record {
-          in_range = (omega (arith, len, stored.0), link_in_range live.right (subst (λ (n : ℕ). n < 2 ^ 32) (sym live.link) link_fits), subst (AllByRecursion IsSized) (sym same) read.cells.sized);
+          in_range = (omega (arith, len, stored.0), link_in_range live.right (subst (λ (n : ℕ). n < 2 ^ 32) (sym live.link) link_fits), subst (AllByRecursion IsSizedPair) (sym same) read.cells.sized);
           formed = (
             record { rising = live.rising; hashed = hashed_records pseudo pairs; begun = begun_records pseudo prefix pairs live.begins.begun },
             omega (arith, count, read.few),

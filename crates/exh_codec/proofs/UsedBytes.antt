@@ -9,7 +9,7 @@ use Rattle.exh_page.specs.declared.page.Page.TheVariants.{Live, Forward}
 use Rattle.exh_page.specs.declared.record.Record.{Record}
 use Rattle.exh_page.specs.Page.{records_of}
 use Rattle.exh_codec.specs.declared.head.Head.{Head}
-use Rattle.exh_codec.specs.Cells.{Pair, IsSized, pair_image, pair_of}
+use Rattle.exh_codec.specs.Cells.{Pair, IsSizedPair, pair_image, pair_of}
 use Rattle.exh_codec.specs.Head.{head_of, head_bytes, link_number}
 use Rattle.exh_codec.specs.PageImage.{IsInRange, IsPage, used_of, content_of}
 use Rattle.exh_codec.proofs.PutPairs.{length-pair_image}
@@ -19,12 +19,12 @@ unfolding head_bytes
 length-head_bytes head = refl
 
 -- no pair takes more than 194 bytes
-pub length-pairs : (pairs : List Pair) → AllByRecursion IsSized pairs → length (flat_map pair_image pairs) ≤ 194 * length pairs
+pub length-pairs : (pairs : List Pair) → AllByRecursion IsSizedPair pairs → length (flat_map pair_image pairs) ≤ 194 * length pairs
 length-pairs [] sized = omega arith
 length-pairs (p ∷ pairs) sized =
     omega (arith, length-append (pair_image p) (flat_map pair_image pairs), length-pair_image p, sized.0.key, sized.0.value, length-pairs pairs sized.1)
 
-pub sized_records : (version : Version) (page : Page) → IsInRange version page → AllByRecursion IsSized (map pair_of (records_of page))
+pub sized_records : (version : Version) (page : Page) → IsInRange version page → AllByRecursion IsSizedPair (map pair_of (records_of page))
 sized_records version (Live prefix right records) in_range = in_range.2
 sized_records version (Forward low target) in_range = tt
 
@@ -45,7 +45,7 @@ link_in_range (Some page) small = small
 
 -- the numbers of a live page are in range where those of its head are
 pub live_in_range : (version : Version) (prefix : List Bool) (right : Option ℕ) (records : List Record) (head : Head) → head ≡ head_of (Live prefix right records) → head.prefix_len ≤ version.limit → head.link < 2 ^ 32
-    → AllByRecursion IsSized (map pair_of records) → IsInRange version (Live prefix right records)
+    → AllByRecursion IsSizedPair (map pair_of records) → IsInRange version (Live prefix right records)
 live_in_range version prefix right records head is short small sized =
     (subst (λ (h : Head). h.prefix_len ≤ version.limit) is short, link_in_range right (subst (λ (h : Head). h.link < 2 ^ 32) is small), sized)
 

@@ -19,7 +19,7 @@ unfoldable pub pair_image : Pair → List ℕ
 pair_image pair = length pair.0 ∷ length pair.1 ∷ pair.0 ++ pair.1
 
 -- the lengths are in their ranges
-pub record IsSized (pair : Pair) : Type 0 where
+pub record IsSizedPair (pair : Pair) : Type 0 where
   pub some : 1 ≤ length pair.0
   pub key : length pair.0 ≤ KEY_LIMIT
   pub value : length pair.1 ≤ VALUE_LIMIT
@@ -27,7 +27,7 @@ pub record IsSized (pair : Pair) : Type 0 where
 -- the bytes begin with so many pairs in their ranges, and then come the others
 pub record AreCells (count : ℕ) (bytes : List ℕ) (pairs : List Pair) (rest : List ℕ) : Type 0 where
   pub all : length pairs ≡ count
-  pub sized : AllByRecursion IsSized pairs
+  pub sized : AllByRecursion IsSizedPair pairs
   pub whole : bytes ≡ flat_map pair_image pairs ++ rest
 
 -- ---- what borrowed records hold
@@ -35,5 +35,5 @@ pub record AreCells (count : ℕ) (bytes : List ℕ) (pairs : List Pair) (rest :
 abbrev pub pair_in : Cell → Pair
 pair_in cell = (cell.key.now, cell.value.now)
 
-abbrev pub record_in : BorrowedRecord → Record
-record_in borrowed = record { pseudokey = borrowed.pseudokey; key = borrowed.key.now; value = borrowed.value.now }
+abbrev pub record_borrowed : BorrowedRecord → Record
+record_borrowed borrowed = record { pseudokey = borrowed.pseudokey; key = borrowed.key.now; value = borrowed.value.now }

@@ -7,7 +7,7 @@ use Rattle.exh_page.specs.declared.page.Page.TheVariants.{Live, Forward}
 use Rattle.exh_page.specs.Page.{IsFormedUpTo, records_of}
 use Rattle.exh_codec.specs.declared.block.TheConstants.{CONTENT_LEN}
 use Rattle.exh_codec.specs.Block.{sealed}
-use Rattle.exh_codec.specs.Cells.{IsSized, pair_image, pair_of}
+use Rattle.exh_codec.specs.Cells.{IsSizedPair, pair_image, pair_of}
 use Rattle.exh_codec.specs.Head.{head_bytes, head_of}
 
 -- the bytes, with zeros after them up to a length
@@ -24,7 +24,7 @@ content_of page = padded CONTENT_LEN (used_of page)
 
 -- the numbers and lengths in the page are those that its types and the version hold
 abbrev pub IsInRange : Version → Page → Type 0
-IsInRange version (Live prefix right records) = (length prefix ≤ version.limit) × IfSome right (λ page. page < 2 ^ 32) × AllByRecursion IsSized (map pair_of records)
+IsInRange version (Live prefix right records) = (length prefix ≤ version.limit) × IfSome right (λ page. page < 2 ^ 32) × AllByRecursion IsSizedPair (map pair_of records)
 IsInRange version (Forward low target) = (low < 2 ^ 64) × (target < 2 ^ 32)
 
 -- a page that any file of the version may have, under a keyer's pseudokeys

@@ -1,6 +1,6 @@
 ghost use Rattle.std.specs.Prelude.{◌≡◌};
 ghost use Rattle.exh_page.specs.Place.{place_cmp, place_of};
-ghost use Rattle.exh_codec.specs.Cells.{IsSized, pair_of, record_in};
+ghost use Rattle.exh_codec.specs.Cells.{IsSizedPair, pair_of, record_borrowed};
 
 use exh_page::{Key, Record, Value};
 use std::cmp::Ordering;
@@ -15,7 +15,7 @@ pub(crate) struct BorrowedRecord<'a> {
 
 /// How a record's place compares with another's.
 pub(crate) fn cmp_places(one: &BorrowedRecord<'_>, other: &BorrowedRecord<'_>) -> Ordering
-    ensures { result ≡ place_cmp (place_of (record_in one.now)) (place_of (record_in other.now)) }
+    ensures { result ≡ place_cmp (place_of (record_borrowed one.now)) (place_of (record_borrowed other.now)) }
 {
     one.pseudokey
         .cmp(&other.pseudokey)
@@ -24,8 +24,8 @@ pub(crate) fn cmp_places(one: &BorrowedRecord<'_>, other: &BorrowedRecord<'_>) -
 
 /// The record itself.
 pub(crate) fn to_record(item: &BorrowedRecord<'_>) -> Record
-    requires { IsSized (pair_of (record_in item.now)) }
-    ensures { result ≡ record_in item.now }
+    requires { IsSizedPair (pair_of (record_borrowed item.now)) }
+    ensures { result ≡ record_borrowed item.now }
 {
     Record {
         pseudokey: item.pseudokey,

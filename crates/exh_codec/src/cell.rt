@@ -1,5 +1,5 @@
 ghost use Rattle.std.specs.Prelude.{◌≡◌, ◌≤◌, ℕ, List, ◌++◌, length, map, IfSome, IfNone, OnSome};
-ghost use Rattle.exh_codec.specs.Cells.{Pair, IsSized, AreCells, pair_image, pair_in};
+ghost use Rattle.exh_codec.specs.Cells.{Pair, IsSizedPair, AreCells, pair_image, pair_in};
 ghost use Rattle.exh_page.specs.declared.page.TheConstants.{CAP_LIMIT};
 
 use crate::head::Head;
@@ -17,8 +17,8 @@ pub(crate) struct Cell<'a> {
 /// The record at the front of some bytes, and the bytes after it, `None` where there is none with
 /// its lengths in their ranges.
 pub(crate) fn split_cell(bytes: &[u8]) -> Option<(Cell<'_>, &[u8])>
-    ensures some { IfSome result (λ split. IsSized (pair_in split.0) × (bytes.now ≡ pair_image (pair_in split.0) ++ split.1.now)) }
-    ensures none { IfNone result ((pair : Pair) (rest : List ℕ) → IsSized pair → bytes.now ≡ pair_image pair ++ rest → ⊥) }
+    ensures some { IfSome result (λ split. IsSizedPair (pair_in split.0) × (bytes.now ≡ pair_image (pair_in split.0) ++ split.1.now)) }
+    ensures none { IfNone result ((pair : Pair) (rest : List ℕ) → IsSizedPair pair → bytes.now ≡ pair_image pair ++ rest → ⊥) }
 {
     let [key_len, value_len, rest @ ..] = bytes else {
         return None;

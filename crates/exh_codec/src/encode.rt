@@ -4,7 +4,7 @@ ghost use Rattle.exh_prefix.specs.Version.{first_version};
 ghost use Rattle.exh_page.specs.declared.page.TheConstants.{CAP_LIMIT};
 ghost use Rattle.exh_page.specs.Page.{records_of};
 ghost use Rattle.exh_codec.specs.declared.block.TheConstants.{BLOCK_LEN, CONTENT_LEN};
-ghost use Rattle.exh_codec.specs.Cells.{IsSized, pair_image, pair_of};
+ghost use Rattle.exh_codec.specs.Cells.{IsSizedPair, pair_image, pair_of};
 ghost use Rattle.exh_codec.specs.PageImage.{used_of, content_of, IsInRange, IsImage};
 ghost use Rattle.exh_page.specs.Page.{IsWellFormed};
 
@@ -58,7 +58,7 @@ fn put_page(block: &mut [u8], page: &Page)
 fn put_records(out: &mut [u8], records: &Records)
     requires { RECORD_LEN * length records.now ≤ length out.old }
     ensures bytes { let image = flat_map pair_image (map pair_of records.now) in out.new ≡ image ++ drop (length image) out.old }
-    ensures sized { AllByRecursion IsSized (map pair_of records.now) }
+    ensures sized { AllByRecursion IsSizedPair (map pair_of records.now) }
 {
     let mut end = 0;
     for item in records.iter() {
@@ -72,7 +72,7 @@ fn put_record(out: &mut [u8], item: &Record) -> usize
     ensures len { result ≡ length (pair_image (pair_of item.now)) }
     ensures limit { result ≤ RECORD_LEN }
     ensures bytes { out.new ≡ pair_image (pair_of item.now) ++ drop result out.old }
-    ensures sized { IsSized (pair_of item.now) }
+    ensures sized { IsSizedPair (pair_of item.now) }
 {
     let key = item.key.as_bytes();
     let value = item.value.as_bytes();

@@ -2,7 +2,8 @@ ghost use Rattle.std.specs.Prelude.{◌≡◌, ℕ, List, length, slice_index, I
 
 use crate::kind::Kind;
 use byteorder::{BigEndian, ByteOrder};
-use exh_page::{Page, PageNo};
+use exh_page::Page;
+use exh_prefix::PageNo;
 
 /// How many bytes of an image stand before its records.
 pub(crate) const HEAD_LEN: usize = 16;

@@ -33,11 +33,11 @@ pub enum ImageFault {
 
 impl ImageFault {
     ghost use Rattle.std.specs.Prelude.{◌≡◌};
-    ghost use Rattle.exh_codec.specs.ImageFault.{fault_number};
+    ghost use Rattle.exh_codec.specs.ImageFault.{image_fault_number};
 
     /// The refusal's number among all refusals.
     pub fn number(self) -> u8
-        ensures { result ≡ fault_number self }
+        ensures { result ≡ image_fault_number self }
     {
         match self {
             ImageFault::Memory => 10,

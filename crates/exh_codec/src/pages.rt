@@ -3,7 +3,7 @@ ghost use Rattle.std.specs.List.{AllByRecursion};
 ghost use Rattle.exh_prefix.specs.Prefix.{Begins};
 ghost use Rattle.exh_prefix.specs.Version.{first_version};
 ghost use Rattle.exh_page.specs.Records.{IsRising};
-ghost use Rattle.exh_codec.specs.Cells.{record_in, IsSized, pair_of, pair_in};
+ghost use Rattle.exh_codec.specs.Cells.{record_borrowed, IsSizedPair, pair_of, pair_in};
 ghost use Rattle.exh_codec.specs.Head.{link_number};
 ghost use Rattle.exh_codec.specs.ImageTests.{record_of};
 ghost use Rattle.exh_codec.specs.ReadPages.{GivesLive, GivesForward};
@@ -14,8 +14,8 @@ use crate::cell::Cell;
 use crate::head::{Head, NO_LINK};
 use arrayvec::ArrayVec;
 use exh_keyer::Keyer;
-use exh_page::{CAP_LIMIT, Page, PageNo, Records};
-use exh_prefix::{LIMIT, Prefix};
+use exh_page::{CAP_LIMIT, Page, Records};
+use exh_prefix::{LIMIT, PageNo, Prefix};
 use std::alloc::{AllocError, Global};
 use std::cmp::Ordering;
 
@@ -28,7 +28,7 @@ pub(crate) fn live_page<K: Keyer>(
     cells: &[Cell<'_>],
 ) -> Result<Page, ImageFault>
     requires few { length cells.now ≤ CAP_LIMIT }
-    requires sized { AllByRecursion IsSized (map pair_in cells.now) }
+    requires sized { AllByRecursion IsSizedPair (map pair_in cells.now) }
     ensures { GivesLive first_version (K.pseudokey_of keyer.now) head (map pair_in cells.now) result }
 {
     let Some(prefix) = Prefix::new(head.prefix_len, head.low) else {
@@ -75,7 +75,7 @@ fn begun_records<'a, K: Keyer>(
     cells: &[Cell<'a>],
 ) -> Option<ArrayVec<BorrowedRecord<'a>, CAP_LIMIT>>
     requires { length cells.now ≤ CAP_LIMIT }
-    ensures records { IfSome result (λ found. map record_in found.items ≡ map (record_of (K.pseudokey_of keyer.now)) (map pair_in cells.now)) }
+    ensures records { IfSome result (λ found. map record_borrowed found.items ≡ map (record_of (K.pseudokey_of keyer.now)) (map pair_in cells.now)) }
     ensures begun { IfSome result (λ _. AllByRecursion (λ pair. Begins prefix (K.pseudokey_of keyer.now pair.0)) (map pair_in cells.now)) }
     ensures none { IfNone result (AllByRecursion (λ pair. Begins prefix (K.pseudokey_of keyer.now pair.0)) (map pair_in cells.now) → ⊥) }
 {
@@ -96,7 +96,7 @@ fn begun_records<'a, K: Keyer>(
 
 // Whether the records rise strictly, which is asked of neighbours.
 fn are_rising(records: &[BorrowedRecord<'_>]) -> bool
-    ensures { IsTrue result ↔ IsRising (map record_in records.now) }
+    ensures { IsTrue result ↔ IsRising (map record_borrowed records.now) }
 {
     for i in 1..records.len() {
         if cmp_places(&records[i - 1], &records[i]) != Ordering::Less {
@@ -108,9 +108,9 @@ fn are_rising(records: &[BorrowedRecord<'_>]) -> bool
 
 // The records themselves, which rise.
 fn to_records(alloc: Global, records: &[BorrowedRecord<'_>]) -> Result<Records, AllocError>
-    requires sized { AllByRecursion IsSized (map pair_of (map record_in records.now)) }
-    requires rising { IsRising (map record_in records.now) }
-    ensures { IfOk result (λ owned. owned ≡ map record_in records.now) }
+    requires sized { AllByRecursion IsSizedPair (map pair_of (map record_borrowed records.now)) }
+    requires rising { IsRising (map record_borrowed records.now) }
+    ensures { IfOk result (λ owned. owned ≡ map record_borrowed records.now) }
 {
     let mut owned = Records::new(alloc);
     for item in records {

@@ -8,8 +8,8 @@ use crate::{
     images_are_sealed, images_pass, is_sealed, lay_out, one_image, one_page, seal,
 };
 use exh_keyer::{AnyKeyer, Keyer, PlainKeyer};
-use exh_page::{CAP_LIMIT, Key, Page, PageNo, Record, Records, Value};
-use exh_prefix::Prefix;
+use exh_page::{CAP_LIMIT, Key, Page, Record, Records, Value};
+use exh_prefix::{PageNo, Prefix};
 use std::alloc::Global;
 
 mod limits;

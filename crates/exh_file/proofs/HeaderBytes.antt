@@ -1,5 +1,5 @@
 -- The bytes of a header, from its fields and back.
-use Rattle.std.proofs.Common.{◌≡◌, ℕ, zero, suc, ◌+◌, ◌*◌, ◌-◌, ◌^◌, ◌<◌, ◌≤◌, List, [], ◌∷◌, ◌++◌, length, take, drop, slice_index, replicate, refl, sym, ap, ◌∙◌, append_assoc, subst, codes, arith}
+use Rattle.std.proofs.Common.{◌≡◌, ℕ, zero, suc, ◌+◌, ◌*◌, ◌-◌, ◌^◌, ◌<◌, ◌≤◌, List, [], ◌∷◌, ◌++◌, length, take, drop, slice_index, refl, sym, ap, ◌∙◌, append_assoc, codes, arith}
 use borrow.Rule.Slice.PartMut.{put_mid}
 use Rattle.std.proofs.Math.Seq.{take-add}
 use Rattle.std.proofs.lemmas.List.{take_at, drop_at, drop-drop, length-append, length-drop, length-take-le, get_or-take}
@@ -16,7 +16,8 @@ use Rattle.exh_file.specs.declared.header.Header.{Header}
 use Rattle.exh_file.specs.FileVersion.{FileVersion, FitsFile}
 use Rattle.exh_file.specs.HeaderImage.{IsHeader, IsPageCount, front_bytes, header_bytes, keyer_byte}
 use Rattle.exh_file.specs.HeaderTests.{HasMagic, IsOfVersion, IsReadHeader}
-use Rattle.exh_file.proofs.Elements.{all_of, all_parts, same_items}
+use Rattle.exh_prefix.specs.ListLemmas.{AllByRecursion-weaker}
+use Rattle.exh_file.proofs.Elements.{all_parts, same_items}
 
 -- bytes are put in front, and then others behind them
 pub put_behind : (front block back : List ℕ) (n k : ℕ) → length front ≡ n → put_mid n k (front ++ drop n block) back ≡ (front ++ back) ++ drop (n + k) block
@@ -90,8 +91,8 @@ small_counts : (version : FileVersion) (header : Header) → FitsFile version �
 small_counts version header fits valid =
     let power : 2 ^ (version.images.limit - header.ward_bits) < 2 ^ 32 = pow_below (version.images.limit - header.ward_bits) 32 (omega (arith, fits.limit)) in
     all_parts (λ (count : ℕ). count < 2 ^ 32) (2 ^ header.ward_bits) header.page_counts
-    (all_of (IsPageCount version.images.limit header.ward_bits) (λ (count : ℕ). count < 2 ^ 32) (take (2 ^ header.ward_bits) header.page_counts) (λ count is. omega (arith, is.1, power)) valid.pages)
-    (all_of (λ (count : ℕ). count ≡ 0) (λ (count : ℕ). count < 2 ^ 32) (drop (2 ^ header.ward_bits) header.page_counts) (λ count is. omega (arith, is)) valid.others)
+    (AllByRecursion-weaker (IsPageCount version.images.limit header.ward_bits) (λ (count : ℕ). count < 2 ^ 32) (λ count is. omega (arith, is.1, power)) (take (2 ^ header.ward_bits) header.page_counts) valid.pages)
+    (AllByRecursion-weaker (λ (count : ℕ). count ≡ 0) (λ (count : ℕ). count < 2 ^ 32) (λ count is. omega (arith, is)) (drop (2 ^ header.ward_bits) header.page_counts) valid.others)
 
 -- what a block says that begins with a header's bytes
 pub header_said : (version : FileVersion) (header : Header) (tail : List ℕ) → FitsFile version → IsHeader version header

@@ -1,7 +1,6 @@
 -- Prefixes of which each neighbour comes before the next.
-use Rattle.std.proofs.Common.{◌≡◌, ℕ, zero, suc, ◌+◌, ◌<◌, Bool, List, [], ◌∷◌, ◌++◌, append_assoc, append-nil, length, map, take, drop, get_or, Option, None, Some, refl, sym, ap, ◌∙◌, subst, arith}
+use Rattle.std.proofs.Common.{◌≡◌, ℕ, zero, suc, ◌+◌, ◌<◌, Bool, List, [], ◌∷◌, ◌++◌, length, take, drop, get_or, Option, None, Some, refl, sym, ap, ◌∙◌, subst, arith}
 use Rattle.std.specs.declared.cmp.Ordering.TheVariants.{Less}
-use Rattle.std.specs.List.{AllByRecursion}
 use Rattle.std.specs.Option.{option_to_list}
 use Rattle.std.proofs.lemmas.List.{map-append, take_more}
 use Rattle.exh_prefix.specs.Prefix.{prefix_cmp}
@@ -9,7 +8,7 @@ use Rattle.exh_prefix.specs.PrefixLemmas.{prefix_cmp-total}
 use Rattle.exh_file.specs.declared.file_entry.FileEntry.{FileEntry}
 use Rattle.exh_file.specs.ReadEntries.{MayPrecede}
 use Rattle.exh_file.specs.TableImage.{AreRising, prefixes_of}
-use Rattle.exh_file.proofs.Elements.{all_push, all_back}
+use Rattle.exh_prefix.specs.ListLemmas.{AllByRecursion-push, AllByRecursion-append_right}
 
 abbrev pub Comes : List Bool → List Bool → Type 0
 Comes one other = prefix_cmp one other ≡ Less
@@ -22,9 +21,9 @@ IsLast prefixes (Some last) = (front : List (List Bool)) × (prefixes ≡ front 
 rising_push : (front : List (List Bool)) (last next : List Bool) → AreRising (front ++ last ∷ []) → Comes last next → AreRising ((front ++ last ∷ []) ++ next ∷ [])
 rising_push [] last next rising comes = ((comes, tt), (tt, tt))
 rising_push (p ∷ front) last next rising comes =
-    let before : Comes p last = (all_back (Comes p) front (last ∷ []) rising.0).0 in
+    let before : Comes p last = (AllByRecursion-append_right (Comes p) front (last ∷ []) rising.0).0 in
     let far : Comes p next = prefix_cmp-total.trans p last next before comes in
-    (all_push (Comes p) (front ++ last ∷ []) next rising.0 far, rising_push front last next rising.1 comes)
+    (AllByRecursion-push (Comes p) (front ++ last ∷ []) next rising.0 far, rising_push front last next rising.1 comes)
 
 -- a prefix more, behind the last or where there is none
 pub rising_more : (prefixes : List (List Bool)) (last next : List Bool) → IsLast prefixes (Some last) → AreRising prefixes → Comes last next → AreRising (prefixes ++ next ∷ [])

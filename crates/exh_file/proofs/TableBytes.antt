@@ -1,5 +1,5 @@
 -- The images of entries, one after the other.
-use Rattle.std.proofs.Common.{◌≡◌, ℕ, zero, suc, ◌+◌, ◌*◌, ◌-◌, ◌<◌, ◌≤◌, Bool, List, [], ◌∷◌, ◌++◌, length, take, drop, replicate, slice_index, refl, sym, ap, ◌∙◌, append_assoc, append-nil, subst, arith}
+use Rattle.std.proofs.Common.{◌≡◌, ℕ, zero, suc, ◌+◌, ◌*◌, ◌-◌, ◌<◌, Bool, List, [], ◌∷◌, ◌++◌, length, take, drop, replicate, slice_index, refl, sym, ap, ◌∙◌, append_assoc, append-nil, subst, arith}
 use Rattle.std.specs.List.{AllByRecursion, flat_map}
 use Rattle.std.proofs.lemmas.List.{take_at, drop_at, drop-drop, take-append-drop, length-append}
 use Rattle.std.proofs.lemmas.List.Concat.{flat_map-append}
@@ -12,7 +12,7 @@ use Rattle.exh_notice.specs.ImageLemmas.{length-entry_image}
 use Rattle.exh_notice.specs.ImageLemmas as images
 use Rattle.exh_file.specs.declared.file_entry.FileEntry.{FileEntry}
 use Rattle.exh_file.specs.TableImage.{IsFileEntry, image_of, AreEntries}
-use Rattle.exh_file.proofs.Elements.{all_push}
+use Rattle.exh_prefix.specs.ListLemmas.{AllByRecursion-push}
 
 made : ℕ → List Bool → Entry → FileEntry
 made ward prefix entry = record { ward = ward; prefix = prefix; entry = entry }
@@ -50,7 +50,7 @@ module _ (version : Version) (fits : Fits 4 version) where
       let image = image_of version item in
       record {
         all = omega (arith, are.all, length-append items (item ∷ []));
-        valid = all_push (IsFileEntry version) items item are.valid valid;
+        valid = AllByRecursion-push (IsFileEntry version) items item are.valid valid;
         whole = are.whole ∙ ap (λ (bytes : List ℕ). flat_map (image_of version) items ++ bytes) next ∙ sym (append_assoc (flat_map (image_of version) items) image after)
             ∙ ap (λ (bytes : List ℕ). bytes ++ after) (ap (λ (image : List ℕ). flat_map (image_of version) items ++ image) (sym (append-nil image)) ∙ sym (flat_map-append (image_of version) items (item ∷ [])));
       }

@@ -1,5 +1,5 @@
 -- The tests of a table block: which fails first, and that images pass them.
-use Rattle.std.proofs.Common.{◌≡◌, ◌≢◌, ℕ, zero, suc, ◌+◌, ◌*◌, ◌-◌, ◌<◌, ◌≤◌, ◌⊎◌, inl, inr, Bool, List, [], ◌∷◌, ◌++◌, length, take, drop, slice_index, replicate, Option, Result, Ok, Err, refl, sym, ap, ◌∙◌, append_assoc, append-nil, subst, arith}
+use Rattle.std.proofs.Common.{◌≡◌, ◌≢◌, ℕ, zero, suc, ◌+◌, ◌*◌, ◌-◌, ◌<◌, ◌≤◌, inl, inr, Bool, List, [], ◌∷◌, ◌++◌, length, take, drop, slice_index, replicate, Option, Result, Ok, Err, refl, sym, ap, ◌∙◌, append_assoc, append-nil, subst, arith}
 use Rattle.std.specs.Prelude.{IsErrAnd, IfErr, MatchResult}
 use Rattle.std.specs.List.{AllByRecursion, flat_map}
 use Rattle.std.specs.Option.{option_to_list}
@@ -8,20 +8,19 @@ use Rattle.std.proofs.lemmas.List.{get_or-take, get_or-drop, get_or_past, length
 use Rattle.exh_prefix.specs.Version.{Version, Fits}
 use Rattle.exh_notice.specs.declared.notice_fault.NoticeFault.{NoticeFault}
 use Rattle.exh_notice.specs.declared.notice_fault.NoticeFault.TheVariants as entries
-use Rattle.exh_notice.specs.Images.{FailsFirst, PassesAll, HasKind, IsPadded}
+use Rattle.exh_notice.specs.Images.{FailsFirst, PassesAll}
 use Rattle.exh_notice.specs.ImageLemmas.{entry_passes, image_passes, image_from_tests}
 use Rattle.exh_codec.specs.declared.image_fault.ImageFault.{ImageFault}
 use Rattle.exh_codec.specs.declared.image_fault.ImageFault.TheVariants as images
-use Rattle.exh_codec.specs.Block.{IsSealed, AreZero}
+use Rattle.exh_codec.specs.Block.{IsSealed}
 use Rattle.exh_codec.specs.BlockLemmas.{length-padded, padded_front, padded_rest, padded_from, sealed_content, sealed_is_sealed, sealed_from}
 use Rattle.exh_codec.specs.PageImage.{padded}
 use Rattle.exh_file.specs.declared.file_entry.FileEntry.{FileEntry}
-use Rattle.exh_file.specs.FirstFailing.{IsFirstFailing}
 use Rattle.exh_file.specs.ReadEntries.{FailsAtEntry}
-use Rattle.exh_file.specs.TableImage.{AreEntries, AreRising, IsFileEntry, IsTableImage, image_of, prefixes_of}
-use Rattle.exh_file.specs.TableTests.{TableTest, Digest, OfEntry, Behind, Order, PassesTable, PassesEntry, IsPaddedBehind, IsFirstFault, IsOrdered, entry_bytes, entry_tests, table_tests, table_fault, entry_fault}
+use Rattle.exh_file.specs.TableImage.{AreEntries, AreRising, IsTableImage, image_of, prefixes_of}
+use Rattle.exh_file.specs.TableTests.{TableTest, Digest, OfEntry, Behind, Order, PassesTable, PassesEntry, IsPaddedBehind, IsFirstFault, IsOrdered, entry_bytes, entry_tests, table_tests}
 use Rattle.exh_file.specs.Laws.{IsOfTable}
-use Rattle.exh_file.proofs.Elements.{all_front, all_back, all_join}
+use Rattle.exh_prefix.specs.ListLemmas.{AllByRecursion-append_left, AllByRecursion-append_right, AllByRecursion-append}
 use Rattle.exh_file.proofs.TableBytes.{length-images, rest_behind, front_before, next_entry, entry_at, same_entries, same_padded}
 
 -- ---- tests of entries
@@ -61,7 +60,7 @@ module _ (version : Version) (fits : Fits 4 version) where
   entries_pass zero whole before bytes count items rest within are = tt
   entries_pass (suc number) whole before bytes count items rest within are =
       let passed = passes_at number bytes count items rest (omega arith) are in
-      all_join (PassesTable version whole before bytes) (entry_tests number) (tests_of number) (entries_pass number whole before bytes count items rest (omega arith) are) (passed.0, (passed.1, (passed.2, tt)))
+      AllByRecursion-append (PassesTable version whole before bytes) (entry_tests number) (tests_of number) (entries_pass number whole before bytes count items rest (omega arith) are) (passed.0, (passed.1, (passed.2, tt)))
 
   -- ---- the first that fails
 
@@ -109,7 +108,7 @@ module _ (version : Version) (fits : Fits 4 version) where
       split.1 ∙ ap (λ (tests : List TableTest). entry_tests number ++ (tests ++ split.0)) (stands_among number fails.first)
       ∙ ap (λ (tests : List TableTest). entry_tests number ++ tests) (append_assoc (before_fault number fails.first) (test ∷ after_fault number fails.first) split.0)
       ∙ sym (append_assoc (entry_tests number) (before_fault number fails.first) (test ∷ back)) in
-      let passed = all_join (PassesTable version count before block) (entry_tests number) (before_fault number fails.first)
+      let passed = AllByRecursion-append (PassesTable version count before block) (entry_tests number) (before_fault number fails.first)
       (entries_pass number count before block number fails.entries fails.rest (omega arith) fails.before) (passed_before count before block number fails.first fails.fails) in (
         test,
         record {
@@ -144,7 +143,7 @@ module _ (version : Version) (fits : Fits 4 version) where
       → (AreRising (option_to_list before ++ prefixes_of items) → ⊥) → IsFirstFault version count before block images.Order
   first_order count before block items rest is_sealed are padded_behind fails =
       let front = entry_tests count in
-      let passed = all_join (PassesTable version count before block) front (Behind ∷ []) (entries_pass count count before block count items rest (omega arith) are) (padded_behind, tt) in (
+      let passed = AllByRecursion-append (PassesTable version count before block) front (Behind ∷ []) (entries_pass count count before block count items rest (omega arith) are) (padded_behind, tt) in (
         Order,
         record {
           before = Digest ∷ front ++ Behind ∷ [];
@@ -214,8 +213,8 @@ module _ (version : Version) (fits : Fits 4 version) where
   entries_from zero whole before bytes room small passed = ([], record { all = refl; valid = tt; whole = refl })
   entries_from (suc number) whole before bytes room small passed =
       let Passes = PassesTable version whole before bytes in
-      let fewer = entries_from number whole before bytes (omega (arith, room)) small (all_front Passes (entry_tests number) (tests_of number) passed) in
-      let last = all_back Passes (entry_tests number) (tests_of number) passed in
+      let fewer = entries_from number whole before bytes (omega (arith, room)) small (AllByRecursion-append_left Passes (entry_tests number) (tests_of number) passed) in
+      let last = AllByRecursion-append_right Passes (entry_tests number) (tests_of number) passed in
       let image = take 16 (drop (16 * number) bytes) in
       let long : length image ≡ 16 = length-take-le 16 (drop (16 * number) bytes) (omega (arith, room, length-drop (16 * number) bytes)) in
       let found = image_from_tests version fits image long (small_part 16 (16 * number) bytes small) last.0 last.1.0 last.1.1.0 in
@@ -232,8 +231,8 @@ module _ (version : Version) (fits : Fits 4 version) where
       → AllByRecursion (PassesTable version count before block) (table_tests count) → (entries : List FileEntry) × IsOfTable version count before entries block
   table_from_tests count before block long small few passed =
       let Passes = PassesTable version count before block in
-      let found = entries_from count count before block (omega (arith, long, few)) small (all_front Passes (entry_tests count) (Behind ∷ Order ∷ []) passed.1) in
-      let last = all_back Passes (entry_tests count) (Behind ∷ Order ∷ []) passed.1 in (
+      let found = entries_from count count before block (omega (arith, long, few)) small (AllByRecursion-append_left Passes (entry_tests count) (Behind ∷ Order ∷ []) passed.1) in
+      let last = AllByRecursion-append_right Passes (entry_tests count) (Behind ∷ Order ∷ []) passed.1 in (
         found.0,
         record {
           image = image_from count found.0 block long few (record { is_sealed = passed.0; are = found.1; behind = last.0 });
@@ -248,7 +247,7 @@ module _ (version : Version) (fits : Fits 4 version) where
       let said : Says count entries block = subst (λ (n : ℕ). Says n entries block) is.all (says entries block is.image) in
       let ordered : IsOrdered version count before block = λ items rest are.
       subst (λ (items : List FileEntry). AreRising (option_to_list before ++ prefixes_of items)) (one_list count block entries items _ rest said.are are) is.rising in
-      (said.is_sealed, all_join (PassesTable version count before block) (entry_tests count) (Behind ∷ Order ∷ []) (entries_pass count count before block count entries _ (omega arith) said.are) (said.behind, (ordered, tt)))
+      (said.is_sealed, AllByRecursion-append (PassesTable version count before block) (entry_tests count) (Behind ∷ Order ∷ []) (entries_pass count count before block count entries _ (omega arith) said.are) (said.behind, (ordered, tt)))
 
 -- ---- what is answered
 

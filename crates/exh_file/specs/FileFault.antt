@@ -1,10 +1,10 @@
 -- The numbers of a page file's faults among all refusals.
 use Rattle.std.specs.Prelude.{ℕ}
-use Rattle.exh_codec.specs.ImageFault as images
+use Rattle.exh_codec.specs.ImageFault.{image_fault_number}
 use Rattle.exh_file.specs.declared.file_fault.FileFault.{FileFault}
 use Rattle.exh_file.specs.declared.file_fault.FileFault.TheVariants.{Block, Magic, Version}
 
-abbrev pub fault_number : FileFault → ℕ
-fault_number (Block place fault) = images.fault_number fault
-fault_number Magic = 36
-fault_number Version = 37
+abbrev pub file_fault_number : FileFault → ℕ
+file_fault_number (Block place fault) = image_fault_number fault
+file_fault_number Magic = 36
+file_fault_number Version = 37

@@ -1,5 +1,5 @@
 ghost use Rattle.std.specs.Prelude.{◌≡◌};
-ghost use Rattle.exh_file.specs.FileFault.{fault_number};
+ghost use Rattle.exh_file.specs.FileFault.{file_fault_number};
 
 use exh_codec::ImageFault;
 use thiserror::Error;
@@ -22,7 +22,7 @@ pub enum FileFault {
 impl FileFault {
     /// The refusal's number among all refusals.
     pub fn number(self) -> u8
-        ensures { result ≡ fault_number self }
+        ensures { result ≡ file_fault_number self }
     {
         match self {
             FileFault::Block { fault, .. } => fault.number(),

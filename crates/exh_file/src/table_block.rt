@@ -14,8 +14,8 @@ ghost use Rattle.exh_file.specs.TableTests.{IsFirstFault, entry_fault};
 
 use crate::FileEntry;
 use exh_codec::{BLOCK_LEN, CONTENT_LEN, ImageFault, are_zero, is_sealed, seal};
-use exh_notice::{ENTRY_IMAGE_LEN, Entry, Kind, NoticeFault, PageNo};
-use exh_prefix::Prefix;
+use exh_notice::{ENTRY_IMAGE_LEN, Entry, Kind, NoticeFault};
+use exh_prefix::{PageNo, Prefix};
 use std::alloc::{AllocError, Global};
 use std::cmp::Ordering;
 

@@ -1,8 +1,8 @@
 //! The store of a new ward.
 ghost use Rattle.std.specs.Prelude.{◌≡◌, ◌<◌, ◌≤◌, ◌^◌, [], ◌∷◌, None, IfOk};
-ghost use Rattle.exh_legal.specs.Pages.{ward_prefix};
+ghost use Rattle.exh_prefix.specs.Leading.{ward_prefix};
 ghost use Rattle.exh_page.specs.declared.page.Page.TheVariants.{Live};
-ghost use Rattle.exh_ward.specs.declared.ward.TheConstants.{WARD_BITS_LIMIT};
+ghost use Rattle.exh_prefix.specs.declared.prefix.TheConstants.{WARD_BITS_LIMIT};
 
 use exh_frames::PlainPages;
 use exh_runs::again;

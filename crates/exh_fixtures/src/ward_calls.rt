@@ -4,7 +4,8 @@ use exh_calls::Call;
 use exh_frames::Pages;
 use exh_keyer::{Keyer, PlainKeyer};
 use exh_notice::Notice;
-use exh_page::{Page, PageNo};
+use exh_page::Page;
+use exh_prefix::PageNo;
 use exh_runs::{Difference, again};
 use exh_ward::{Hop, Ward, WardFault};
 

@@ -3,7 +3,8 @@ ghost use Rattle.exh_frames.specs.Failure.{IsDue, after_call, failed_call, failu
 ghost use Rattle.exh_frames.specs.PageStore.{CountsFaults};
 
 use crate::{Pages, PagesCall, PagesFault, PlainPages};
-use exh_page::{Key, Page, PageNo, Spot, Value};
+use exh_page::{Key, Page, Spot, Value};
+use exh_prefix::PageNo;
 use std::marker::Model;
 
 /// Pages in memory of which one call fails, for tests of what stands on a store.

@@ -7,7 +7,8 @@ ghost use Rattle.exh_page.specs.declared.page.Page.{Page};
 ghost use Rattle.exh_frames.specs.PageStore.{IfPage, CountsFaults, TakesTheSame, LeavesBehind};
 
 use crate::PagesFault;
-use exh_page::{Key, Page, PageNo, Spot, Value};
+use exh_page::{Key, Page, Spot, Value};
+use exh_prefix::PageNo;
 
 /// A store of pages, numbered from 0 on in the order in which they came. Each call
 /// that answers a `Result` may be refused: `PagesFault::Page` where a page couldn't be reached, which

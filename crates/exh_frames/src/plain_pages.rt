@@ -1,7 +1,8 @@
 ghost use Rattle.std.specs.Prelude.{◌≡◌, [], ◌∷◌, IfOk};
 
 use crate::{Pages, PagesFault};
-use exh_page::{Key, Page, PageNo, Spot, Value};
+use exh_page::{Key, Page, Spot, Value};
+use exh_prefix::PageNo;
 use std::alloc::{AllocError, Global};
 use std::marker::Model;
 

@@ -5,8 +5,8 @@ ghost use Rattle.exh_page.specs.Search.{IsSought};
 ghost use Rattle.exh_frames.specs.PageStore.{IfPage};
 
 use crate::{FailingPages, Pages, PagesCall, PagesFault, PlainPages};
-use exh_page::{Key, Page, PageNo, Record, Records, Spot, Value};
-use exh_prefix::Prefix;
+use exh_page::{Key, Page, Record, Records, Spot, Value};
+use exh_prefix::{PageNo, Prefix};
 use std::alloc::Global;
 
 fn prints(alloc: Global, fault: PagesFault, want: &str) -> bool {

@@ -5,8 +5,8 @@ ghost use Rattle.exh_halves.specs.Halves.{AreHalvesOf};
 ghost use Rattle.exh_halves.specs.Refusal.{NotHalved};
 
 use crate::HalvesFault;
-use exh_page::{Page, PageNo, Records};
-use exh_prefix::{LIMIT, Prefix};
+use exh_page::{Page, Records};
+use exh_prefix::{LIMIT, PageNo, Prefix};
 
 /// What a split makes of a page (Fagin et al. 1979).
 #[derive(Drop)]

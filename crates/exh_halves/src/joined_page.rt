@@ -6,8 +6,8 @@ ghost use Rattle.exh_page.specs.Records.{IsRising};
 ghost use Rattle.exh_page.specs.declared.page.Page.TheVariants.{Forward};
 ghost use Rattle.exh_halves.specs.Halves.{IsUnionOf};
 
-use exh_page::{Page, PageNo};
-use exh_prefix::Prefix;
+use exh_page::Page;
+use exh_prefix::{PageNo, Prefix};
 use std::alloc::AllocError;
 
 /// The page of a parent that a merge makes of its halves, both live (Fagin et al. 1979). It takes

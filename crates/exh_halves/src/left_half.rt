@@ -9,8 +9,8 @@ ghost use Rattle.exh_halves.specs.LeftHalf.{FitsBeside, IsLeftHalf};
 ghost use Rattle.exh_halves.specs.Refusal.{NoLeftHalf, NotBeside};
 
 use crate::HalvesFault;
-use exh_page::{Page, PageNo};
-use exh_prefix::Prefix;
+use exh_page::Page;
+use exh_prefix::{PageNo, Prefix};
 
 /// What a merge has to know of the left half of a parent before it copies a page (Fagin et al.
 /// 1979).

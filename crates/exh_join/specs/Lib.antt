@@ -5,6 +5,4 @@ pub mod GreaterLemmas
 pub mod Greatest
 pub mod Joined
 pub mod Pair
-pub mod JoinedLemmas
 pub mod Replicas
-pub mod ReplicasLemmas

@@ -3,8 +3,8 @@ ghost use Rattle.exh_join.specs.Laws.{JoinLaws};
 
 use std::alloc::AllocError;
 
-/// Values with a partial order in which each two have a least value that is at least both, their join
-///. So values may be joined in any order and as often as one wishes.
+/// Values with a partial order in which each two have a least value that is at least both, their join.
+/// So values may be joined in any order and as often as one wishes.
 pub trait Join: Drop {
     /// The order of the values.
     ghost IsAtMost: { Self → Self → Type 0 };

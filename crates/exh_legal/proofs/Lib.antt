@@ -1,15 +1,24 @@
+-- of splits_keep_legal
 pub mod SplitLinks
 pub mod SplitLegal
-pub mod MergeLinks
-pub mod MergeLegal
-pub mod TableSteps
 pub mod SplitFit
 pub mod SplitGrown
-pub mod Walks
-pub mod Lone
-pub mod RightLinks
-pub mod PageCount
-pub mod SplitReady
+-- of merges_keep_legal
+pub mod MergeLinks
+pub mod MergeLegal
 pub mod MergeFit
 pub mod MergeGrown
+-- of both: the table and its index with the notice
+pub mod TableSteps
+-- of live_pages_split
+pub mod SplitReady
+-- of walks_name_homes
+pub mod Walks
+-- of right_links_lead_on and targets_lead_on
+pub mod RightLinks
+-- of left_children_link_to_siblings and live_left_children_merge
 pub mod Siblings
+-- of lone_pages_are_legal
+pub mod Lone
+-- of pages_are_few
+pub mod PageCount

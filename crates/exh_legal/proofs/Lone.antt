@@ -1,5 +1,5 @@
 -- A lone empty page is a legal ward.
-use Rattle.std.proofs.Common.{◌≡◌, ℕ, zero, suc, ◌≤◌, Bool, List, [], ◌∷◌, length, None, Some, inl, inr, refl, sym, ap, ◌∙◌, subst, arith}
+use Rattle.std.proofs.Common.{◌≡◌, ℕ, ◌≤◌, Bool, List, [], ◌∷◌, length, None, Some, inl, inr, refl, sym, ap, ◌∙◌, subst, arith}
 use Rattle.std.specs.Prelude.{IsSome}
 use Rattle.std.specs.FinMap as fin
 use Rattle.std.proofs.lemmas.Bool.{false≢true}
@@ -12,16 +12,12 @@ use Rattle.exh_table.specs.Leaves.{leaves_in, ward_leaves}
 use Rattle.exh_page.specs.declared.page.Page.{Page}
 use Rattle.exh_page.specs.declared.page.Page.TheVariants.{Live}
 use Rattle.exh_page.specs.Page.{low_bound}
-use Rattle.exh_legal.specs.Pages.{IsAt, IsWithin, IsRightOf, IsLinkedPage, AreLinked}
+use Rattle.exh_legal.specs.Pages.{IsWithin, IsRightOf, IsLinkedPage, AreLinked}
 use Rattle.exh_legal.specs.Growth.{IsLiveAt, HasEntryEver, IsGrown}
 use Rattle.exh_legal.specs.Fit.{IsSplitAt, IsInner, FitsPages}
-use Rattle.exh_legal.specs.LowLemmas.{own_front, begins_own_low, low_of-small, front_shorter}
+use Rattle.exh_prefix.specs.LowLemmas.{own_front, begins_own_low, low_of-small, front_shorter}
 use Rattle.exh_legal.proofs.Walks.{walk_ends}
-
--- the only page of a list
-pub only_at : (page other : Page) (number : ℕ) → IsAt (page ∷ []) number other → (number ≡ 0) × (other ≡ page)
-only_at page other zero is = (refl, cc)
-only_at page other (suc number) is = cc
+use Rattle.exh_legal.specs.PlaceLemmas.{only_at}
 
 -- a lone page has none to its right
 no_right : (own : List Bool) (right : ℕ) (next : Page) → IsRightOf (Live own None [] ∷ []) (Live own None []) right next → ⊥

@@ -6,13 +6,14 @@ use Rattle.exh_notice.specs.declared.entry.Kind.TheVariants.{Merge}
 use Rattle.exh_notice.specs.declared.notice.Notice.{Notice}
 use Rattle.exh_table.specs.Table.{TableMap}
 use Rattle.exh_table.specs.Leaves.{PrefixSet, after_kind, after_merge, leaves_in, ward_leaves}
+use Rattle.exh_table.specs.ChangeLemmas.{leaves_push_to, leaves_push_from}
 use Rattle.exh_page.specs.declared.page.Page.{Page}
 use Rattle.exh_page.specs.declared.page.Page.TheVariants.{Live, Forward}
 use Rattle.exh_page.specs.Page.{low_bound}
 use Rattle.exh_legal.specs.Pages.{IsAt, AreLinked}
 use Rattle.exh_legal.specs.Growth.{IsLiveAt, IsPageOf, HasEntryEver, IsGrown}
-use Rattle.exh_legal.specs.LowLemmas.{left_keeps}
-use Rattle.exh_legal.proofs.SplitGrown.{leaves_push_to, leaves_push_from, entry_ever_push, entry_ever_more, entry_ever_last}
+use Rattle.exh_prefix.specs.LowLemmas.{left_keeps}
+use Rattle.exh_legal.proofs.SplitGrown.{entry_ever_push, entry_ever_more, entry_ever_last}
 use Rattle.exh_legal.proofs.MergeLinks.{IsJoined, short, became, was, stays, first_else}
 
 module _ {ward : List Bool} {pages : List Page} {at : ℕ} {prefix : List Bool} {left_link : Option ℕ} {right : ℕ} {link : Option ℕ} {new : List Page} (linked : AreLinked ward pages) (joined : IsJoined pages at prefix left_link right link new)

@@ -11,8 +11,9 @@ use Rattle.exh_page.specs.declared.page.Page.{Page}
 use Rattle.exh_page.specs.declared.page.Page.TheVariants.{Live, Forward}
 use Rattle.exh_page.specs.Page.{IsLive, low_bound}
 use Rattle.exh_legal.specs.Pages.{IsAt, IsHome, IsWithin, IsRightOf, IsRightLink, IsLinkedPage, AreLinked}
-use Rattle.exh_legal.specs.LowLemmas.{front_shorter, low_of-small, begins_own_low, right_above, left_keeps, begins_between}
-use Rattle.exh_legal.proofs.SplitLinks.{same_page, home_of_low}
+use Rattle.exh_legal.specs.PlaceLemmas.{home_of_low}
+use Rattle.exh_prefix.specs.LowLemmas.{front_shorter, low_of-small, begins_own_low, right_above, left_keeps, begins_between}
+use Rattle.exh_prefix.specs.ListLemmas.{one_there}
 
 -- a merge, of pages without records: the page at `right` sends callers on to the one at `at`
 pub record IsJoined (pages : List Page) (at : ℕ) (prefix : List Bool) (left_link : Option ℕ) (right : ℕ) (link : Option ℕ) (new : List Page) : Type 0 where
@@ -70,7 +71,7 @@ module _ {ward : List Bool} {pages : List Page} {at : ℕ} {prefix : List Bool} 
 
   apart_halves : at ≡ right → ⊥
   apart_halves same =
-      let both = ap low_bound (same_page pages at left_page right_page joined.there (subst (λ n. IsAt pages n right_page) (sym same) joined.buddy)) in
+      let both = ap low_bound (one_there pages at left_page right_page joined.there (subst (λ n. IsAt pages n right_page) (sym same) joined.buddy)) in
       omega (arith, both, same_low, above)
 
   -- the page at a number after the merge: the parent, the forwarding page, or the old one
@@ -79,9 +80,9 @@ module _ {ward : List Bool} {pages : List Page} {at : ℕ} {prefix : List Bool} 
 
   pub became : (number : ℕ) (page : Page) → IsAt new number page → Became number page
   became number page is = elim (cases_eq number at) [
-    | inl here ↦ inl (here, same_page new at page parent (subst (λ n. IsAt new n page) here is) joined.merged)
+    | inl here ↦ inl (here, one_there new at page parent (subst (λ n. IsAt new n page) here is) joined.merged)
     | inr else ↦ elim (cases_eq number right) [
-      | inl there ↦ inr (inl (there, same_page new right page gone (subst (λ n. IsAt new n page) there is) joined.forwards))
+      | inl there ↦ inr (inl (there, one_there new right page gone (subst (λ n. IsAt new n page) there is) joined.forwards))
       | inr elsewhere ↦ inr (inr (else, elsewhere, sym (joined.others number else elsewhere) ∙ is))
     ]
   ]
@@ -92,9 +93,9 @@ module _ {ward : List Bool} {pages : List Page} {at : ℕ} {prefix : List Bool} 
 
   pub was : (number : ℕ) (page : Page) → IsAt pages number page → Was number page
   was number page is = elim (cases_eq number at) [
-    | inl here ↦ inl (here, same_page pages at page left_page (subst (λ n. IsAt pages n page) here is) joined.there)
+    | inl here ↦ inl (here, one_there pages at page left_page (subst (λ n. IsAt pages n page) here is) joined.there)
     | inr else ↦ elim (cases_eq number right) [
-      | inl there ↦ inr (inl (there, same_page pages right page right_page (subst (λ n. IsAt pages n page) there is) joined.buddy))
+      | inl there ↦ inr (inl (there, one_there pages right page right_page (subst (λ n. IsAt pages n page) there is) joined.buddy))
       | inr elsewhere ↦ inr (inr (else, elsewhere, joined.others number else elsewhere ∙ is))
     ]
   ]
@@ -153,7 +154,7 @@ module _ {ward : List Bool} {pages : List Page} {at : ℕ} {prefix : List Bool} 
   first_else page is low here =
       let begins : Begins ward (low_of prefix) = front_of_front ward prefix (word_bits (low_of prefix)) (front_shorter ward prefix parent_in_ward) parent_in_ward (begins_own_low prefix (omega (arith, short))) in
       let least = (begins_low ward (low_of prefix) (omega (arith, front_shorter ward prefix parent_in_ward, short)) (low_of-small prefix (omega (arith, short))) begins).0 in
-      let same = ap low_bound (same_page pages 0 page right_page is (subst (λ n. IsAt pages n right_page) (sym here) joined.buddy)) in
+      let same = ap low_bound (one_there pages 0 page right_page is (subst (λ n. IsAt pages n right_page) (sym here) joined.buddy)) in
       omega (arith, least, same, low, above)
 
   first : (page : Page) × IsAt new 0 page × IsLive page × (low_bound page ≡ low_of ward)
@@ -246,7 +247,7 @@ module _ {ward : List Bool} {pages : List Page} {at : ℕ} {prefix : List Bool} 
       let page = is.0 in
       let after = stays next page is.1.there in
       let elsewhere : next ≡ right → ⊥ = λ there.
-      let same = ap low_bound (same_page pages right page right_page (subst (λ n. IsAt pages n page) there is.1.there) joined.buddy) in
+      let same = ap low_bound (one_there pages right page right_page (subst (λ n. IsAt pages n page) there is.1.there) joined.buddy) in
       omega (arith, is.1.greater, same) in (
         after.0,
         record { there = after.1; live = after.3 elsewhere is.1.live; greater = omega (arith, is.1.greater, above, after.2) },
@@ -265,7 +266,7 @@ module _ {ward : List Bool} {pages : List Page} {at : ℕ} {prefix : List Bool} 
     -- its right link isn't the right half, since the left one is nearer
     not_right : (next : ℕ) (target : Page) → IsRightOf pages page next target → ((old_number : ℕ) (old : Page) → IsRightOf pages page old_number old → low_bound target ≤ low_bound old) → next ≡ right → ⊥
     not_right next target is_right least there =
-        let high_is : low_bound target ≡ high = ap low_bound (same_page pages right target right_page (subst (λ n. IsAt pages n target) there is_right.there) joined.buddy) in
+        let high_is : low_bound target ≡ high = ap low_bound (one_there pages right target right_page (subst (λ n. IsAt pages n target) there is_right.there) joined.buddy) in
         elim (cases_lt (low_bound page) (low_of prefix)) [
           | inl lower ↦ absurd (omega (arith, high_is, above, same_low, least at left_page (record { there = joined.there; live = tt; greater = omega (arith, lower, same_low) })))
           | inr over ↦ absurd (none_between number page is_there live else elsewhere over (omega (arith, is_right.greater, high_is)))

@@ -5,7 +5,7 @@ use Rattle.std.proofs.lemmas.Bool.{ne_eqb, eqb-true, or_cases}
 use Rattle.std.proofs.lemmas.List.{length-map}
 use Rattle.std.proofs.lemmas.Map.Steps.{length-le_from_distinct_below}
 use Rattle.std.proofs.lemmas.Nat.{pow-add, pow_pos}
-use Rattle.std.proofs.Math.Nat.{mul-div_cancel, div-lt_iff_lt-mul}
+use Rattle.std.proofs.Math.Nat.{mul_assoc, mul-div_cancel, div-lt_iff_lt-mul}
 use Rattle.exh_prefix.specs.declared.prefix.TheConstants.{LIMIT}
 use Rattle.exh_prefix.specs.Bits.{number_of, word_bits}
 use Rattle.exh_prefix.specs.Prefix.{Begins, low_of}
@@ -14,7 +14,7 @@ use Rattle.exh_page.specs.declared.page.Page.{Page}
 use Rattle.exh_page.specs.declared.page.Page.TheVariants.{Live, Forward}
 use Rattle.exh_page.specs.Page.{low_bound}
 use Rattle.exh_legal.specs.Pages.{IsAt, IsWithin, AreLinked}
-use Rattle.exh_legal.specs.LowLemmas.{front_shorter, begins_own_low, low_of-small}
+use Rattle.exh_prefix.specs.LowLemmas.{front_shorter, begins_own_low, low_of-small}
 
 -- ---- numbers that differ, one a page
 
@@ -51,14 +51,11 @@ unit = 2 ^ (64 - LIMIT)
 abbrev IsWhole : ℕ → Type 0
 IsWhole low = (n : ℕ) × (low ≡ n * unit)
 
-assoc : (a b c : ℕ) → a * (b * c) ≡ (a * b) * c
-assoc a b c = omega arith
-
 whole_low : (prefix : List Bool) → length prefix ≤ LIMIT → IsWhole (low_of prefix)
 whole_low prefix short =
     let more : 64 - length prefix ≡ (LIMIT - length prefix) + (64 - LIMIT) = omega arith in
     let spread : 2 ^ (64 - length prefix) ≡ 2 ^ (LIMIT - length prefix) * 2 ^ (64 - LIMIT) = ap (λ n. 2 ^ n) more ∙ pow-add 2 (LIMIT - length prefix) (64 - LIMIT) in
-    (number_of prefix * 2 ^ (LIMIT - length prefix), low_of-product prefix ∙ ap (λ n. number_of prefix * n) spread ∙ assoc (number_of prefix) (2 ^ (LIMIT - length prefix)) (2 ^ (64 - LIMIT)))
+    (number_of prefix * 2 ^ (LIMIT - length prefix), low_of-product prefix ∙ ap (λ n. number_of prefix * n) spread ∙ sym (mul_assoc (number_of prefix) (2 ^ (LIMIT - length prefix)) (2 ^ (64 - LIMIT))))
 
 page_whole : (ward : List Bool) (page : Page) → IsWithin ward page → IsWhole (low_bound page)
 page_whole ward (Live prefix right records) within = whole_low prefix within.1

@@ -3,24 +3,20 @@ use Rattle.std.proofs.Common.{◌≡◌, ℕ, ◌-◌, ◌<◌, ◌≤◌, ◌^�
 use Rattle.std.proofs.lemmas.Bool.{cases_lt}
 use Rattle.std.proofs.lemmas.Nat.{and_le_l}
 use Rattle.exh_prefix.specs.Prefix.{Begins, low_of}
-use Rattle.exh_prefix.specs.PrefixLemmas.{begins_low, begins_from_low, lowest_cleared-and}
+use Rattle.exh_prefix.specs.PrefixLemmas.{begins_low, lowest_cleared-and}
+use Rattle.exh_prefix.specs.ListLemmas.{one_there}
 use Rattle.exh_page.specs.declared.page.Page.{Page}
 use Rattle.exh_page.specs.declared.page.Page.TheVariants.{Live, Forward}
 use Rattle.exh_page.specs.declared.record.Record.{Record}
 use Rattle.exh_page.specs.Page.{IsLive, low_bound}
 use Rattle.exh_legal.specs.Pages.{IsAt, IsHome, IsWithin, IsRightOf, IsRightLink, AreLinked}
 use Rattle.exh_legal.specs.Laws.{LeadsOn}
-use Rattle.exh_legal.proofs.SplitLinks.{same_page, home_live, home_of_low}
+use Rattle.exh_legal.specs.PlaceLemmas.{home_live, home_of_low, home_between}
 
 -- the low bound of a home is at most the pseudokey, and what lies between it begins
 home_below : (ward : List Bool) (page : Page) (pseudokey : ℕ) → IsWithin ward page → pseudokey < 2 ^ 64 → IsHome page pseudokey → low_bound page ≤ pseudokey
 home_below ward (Live prefix right records) pseudokey within small home = (begins_low prefix pseudokey (omega (arith, within.1)) small home).0
 home_below ward (Forward low target) pseudokey within small home = absurd home
-
-home_between : (ward : List Bool) (page : Page) (pseudokey between : ℕ) → IsWithin ward page → pseudokey < 2 ^ 64 → IsHome page pseudokey → low_bound page ≤ between → between ≤ pseudokey → IsHome page between
-home_between ward (Live prefix right records) pseudokey between within small home above below =
-    begins_from_low prefix between (omega (arith, within.1)) above (omega (arith, below, (begins_low prefix pseudokey (omega (arith, within.1)) small home).1))
-home_between ward (Forward low target) pseudokey between within small home above below = absurd home
 
 module _ {ward : List Bool} {pages : List Page} (linked : AreLinked ward pages) (number : ℕ) (page : Page) (is : IsAt pages number page) (live : IsLive page) (pseudokey : ℕ) (small : pseudokey < 2 ^ 64) (covered : Begins ward pseudokey)
     (reached : low_bound page ≤ pseudokey) (else : IsHome page pseudokey → ⊥) where
@@ -36,7 +32,7 @@ module _ {ward : List Bool} {pages : List Page} (linked : AreLinked ward pages) 
             let begins = home_between ward home.1 pseudokey (low_bound page) within small home.3 before reached in
             let own = home_of_low page ward (linked.within number page is) live in
             let same = linked.one_home (low_bound page) home.0 number home.1 page home.2 is begins own in
-            let pages_same : home.1 ≡ page = same_page pages number home.1 page (subst (λ n. IsAt pages n home.1) same home.2) is in
+            let pages_same : home.1 ≡ page = one_there pages number home.1 page (subst (λ n. IsAt pages n home.1) same home.2) is in
             absurd (else (subst (λ page. IsHome page pseudokey) pages_same home.3))
       ]
 

@@ -1,5 +1,5 @@
 -- Where the right link of a live left child leads.
-use Rattle.std.proofs.Common.{◌≡◌, ℕ, ◌<◌, ◌≤◌, Bool, true, false, List, [], ◌∷◌, ◌++◌, length, Option, Some, inl, inr, sym, ap, ◌∙◌, subst, arith}
+use Rattle.std.proofs.Common.{◌≡◌, ℕ, ◌<◌, ◌≤◌, Bool, true, false, List, [], ◌∷◌, ◌++◌, length, Option, Some, inl, inr, sym, ap, subst, arith}
 use Rattle.std.proofs.lemmas.Bool.{cases_lt}
 use Rattle.std.proofs.lemmas.List.{length_push}
 use Rattle.exh_prefix.specs.declared.prefix.TheConstants.{LIMIT}
@@ -10,20 +10,15 @@ use Rattle.exh_page.specs.declared.page.Page.{Page}
 use Rattle.exh_page.specs.declared.page.Page.TheVariants.{Live}
 use Rattle.exh_page.specs.declared.record.Record.{Record}
 use Rattle.exh_page.specs.Page.{low_bound}
-use Rattle.exh_legal.specs.BareLemmas.{bare_at, at_bare, bare_low}
+use Rattle.exh_legal.specs.BareLemmas.{bare_at}
 use Rattle.exh_legal.specs.Growth.{IsLiveAt, IsPageOf}
 use Rattle.exh_legal.specs.Laws.{LeadsOn}
-use Rattle.exh_legal.specs.LowLemmas.{front_shorter, front_of_longer, low_of-small, begins_own_low, right_above, left_keeps, child_short, begins_between}
+use Rattle.exh_prefix.specs.LowLemmas.{front_shorter, front_of_longer, low_of-small, begins_own_low, right_above, left_keeps, child_short, begins_between}
+use Rattle.exh_prefix.specs.ListLemmas.{one_there}
 use Rattle.exh_legal.specs.Pages.{IsAt, IsRightLink, AreLinked, bare}
 use Rattle.exh_legal.proofs.RightLinks.{live_leads}
 use Rattle.exh_legal.proofs.SplitFit.{front_of_child}
-use Rattle.exh_legal.proofs.SplitLinks.{same_page, home_of_low}
-
--- the page of a low bound, with its records
-pub page_full : (pages : List Page) (low number : ℕ) → IsPageOf (bare pages) low number → IsPageOf pages low number
-page_full pages low number is =
-    let full = at_bare pages number is.0 is.1 in
-    (full.0, full.1, sym (bare_low full.0) ∙ sym (ap low_bound full.2) ∙ is.2)
+use Rattle.exh_legal.specs.PlaceLemmas.{home_of_low}
 
 -- a live page is the page of its prefix's low bound
 pub live_is_page : {ward : List Bool} (pages : List Page) → AreLinked ward (bare pages) → (prefix : List Bool) (right number : ℕ) → IsPageOf (bare pages) (low_of prefix) right → IsLiveAt pages prefix number → number ≡ right
@@ -72,12 +67,12 @@ module _ {ward : List Bool} {pages : List Page} (linked : AreLinked ward pages) 
       let link_is : IsRightLink pages left (Some leads.0) = subst (IsRightLink pages left) leads.1 (linked.links number left is) in
       let next = link_is.0 in
       let right_of = link_is.1 in
-      let same : leads.2 ≡ next = same_page pages leads.0 leads.2 next leads.3 right_of.there in
+      let same : leads.2 ≡ next = one_there pages leads.0 leads.2 next leads.3 right_of.there in
       let low_is : low_bound next ≡ high = elim (cases_lt (low_bound next) high) [
         | inl under ↦
             let own = home_of_low next ward (linked.within leads.0 next right_of.there) right_of.live in
             let here : leads.0 ≡ number = linked.one_home (low_bound next) leads.0 number next left right_of.there is own (begins_below (low_bound next) (omega (arith, right_of.greater)) under) in
-            let page_is : next ≡ left = same_page pages number next left (subst (λ n. IsAt pages n next) here right_of.there) is in
+            let page_is : next ≡ left = one_there pages number next left (subst (λ n. IsAt pages n next) here right_of.there) is in
             absurd (omega (arith, right_of.greater, ap low_bound page_is))
         | inr over ↦ omega (arith, over, leads.4, ap low_bound same)
       ] in

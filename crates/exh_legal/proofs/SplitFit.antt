@@ -20,8 +20,9 @@ use Rattle.exh_legal.specs.Change.{IsForwardOf}
 use Rattle.exh_legal.specs.Growth.{IsLiveAt, IsPageOf}
 use Rattle.exh_legal.specs.Fit.{parity_of, IsWardEntry, IsSplitAt, IsMergeAt, IsProperFront, IsInner, FitsPages}
 use Rattle.exh_legal.specs.Numbers.{number_at}
-use Rattle.exh_legal.specs.LowLemmas.{own_front, begins_own_low, front_shorter, front_of_longer, right_tells_parent}
-use Rattle.exh_legal.proofs.SplitLinks.{IsParted, became, stays, live_elsewhere, same_page}
+use Rattle.exh_prefix.specs.LowLemmas.{own_front, begins_own_low, front_shorter, front_of_longer, right_tells_parent}
+use Rattle.exh_prefix.specs.ListLemmas.{one_there}
+use Rattle.exh_legal.proofs.SplitLinks.{IsParted, became, stays, live_elsewhere}
 use Rattle.exh_legal.proofs.TableSteps.{cases_prefix, get_with_same, get_with_other}
 
 -- ---- fronts
@@ -41,7 +42,7 @@ same_live ward pages linked one other number twin is too front =
     let less : length one ≤ length other = front_shorter one other front in
     let lower : Begins one (low_of other) = front_of_front one other _ less front (begins_own_low other short) in
     let same = linked.one_home (low_of other) number twin _ _ is.2 too.2 lower (begins_own_low other short) in
-    let page = same_page pages twin (Live one is.0 is.1) (Live other too.0 too.1) (subst (λ n. IsAt pages n (Live one is.0 is.1)) same is.2) too.2 in
+    let page = one_there pages twin (Live one is.0 is.1) (Live other too.0 too.1) (subst (λ n. IsAt pages n (Live one is.0 is.1)) same is.2) too.2 in
     cc
 
 -- so no live prefix is a proper front of another
@@ -124,7 +125,7 @@ module _ {ward : List Bool} {pages : List Page} {at : ℕ} {prefix : List Bool} 
   live_after : (leaf : List Bool) (number : ℕ) → IsLiveAt pages leaf number → (front : List Bool) → IsProperFront front leaf → IsInner new front
   live_after leaf number is front proper = elim (cases_eq number at) [
     | inl same ↦
-        let page = same_page pages at (Live leaf is.0 is.1) (Live prefix link []) (subst (λ n. IsAt pages n (Live leaf is.0 is.1)) same is.2) parted.there in
+        let page = one_there pages at (Live leaf is.0 is.1) (Live prefix link []) (subst (λ n. IsAt pages n (Live leaf is.0 is.1)) same is.2) parted.there in
         let leaf_is : leaf ≡ prefix = cc in (
           prefix ++ false ∷ [],
           at,
@@ -187,7 +188,7 @@ module _ {ward : List Bool} {pages : List Page} {at : ℕ} {prefix : List Bool} 
         let target = old.1.1.0 in
         let is : IsAt pages number (Forward (low_of (other ++ true ∷ [])) target) = old.1.1.1 in
         let not_here : number ≡ at → ⊥ = λ same.
-        let page = same_page pages at _ _ (subst (λ n. IsAt pages n (Forward (low_of (other ++ true ∷ [])) target)) same is) parted.there in cc in
+        let page = one_there pages at _ _ (subst (λ n. IsAt pages n (Forward (low_of (other ++ true ∷ [])) target)) same is) parted.there in cc in
         let not_there : number ≡ right → ⊥ = λ same.
         let was = parted.was _ (subst (λ n. IsAt pages n (Forward (low_of (other ++ true ∷ [])) target)) same is) in
         differ (right_tells_parent other prefix old.0 parted.short was.1) in

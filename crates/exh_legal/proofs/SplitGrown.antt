@@ -6,26 +6,16 @@ use Rattle.exh_prefix.specs.Prefix.{low_of}
 use Rattle.exh_notice.specs.declared.entry.Kind.TheVariants.{Split}
 use Rattle.exh_notice.specs.declared.notice.Notice.{Notice}
 use Rattle.exh_table.specs.Table.{TableMap}
-use Rattle.exh_table.specs.Leaves.{PrefixSet, after_kind, after_split, leaves_after, leaves_in, ward_leaves}
+use Rattle.exh_table.specs.Leaves.{PrefixSet, after_kind, after_split, leaves_in, ward_leaves}
+use Rattle.exh_table.specs.ChangeLemmas.{leaves_push_to, leaves_push_from}
 use Rattle.exh_page.specs.declared.page.Page.{Page}
 use Rattle.exh_page.specs.declared.page.Page.TheVariants.{Live}
 use Rattle.exh_page.specs.Page.{low_bound}
 use Rattle.exh_legal.specs.Pages.{IsAt, AreLinked}
 use Rattle.exh_legal.specs.Growth.{IsLiveAt, IsPageOf, HasEntryEver, IsGrown}
-use Rattle.exh_legal.specs.LowLemmas.{left_keeps}
-use Rattle.exh_legal.proofs.SplitLinks.{IsParted, became, stays, live_elsewhere, same_page}
-
--- ---- one change more
-
-pub leaves_push_to : (leaves : PrefixSet) (changes : List Notice) (change : Notice) (prefix : List Bool)
-    → leaves_after leaves (changes ++ change ∷ []) prefix → after_kind (leaves_after leaves changes) change.prefix change.kind prefix
-leaves_push_to leaves [] change prefix is = is
-leaves_push_to leaves (first ∷ changes) change prefix is = leaves_push_to (after_kind leaves first.prefix first.kind) changes change prefix is
-
-pub leaves_push_from : (leaves : PrefixSet) (changes : List Notice) (change : Notice) (prefix : List Bool)
-    → after_kind (leaves_after leaves changes) change.prefix change.kind prefix → leaves_after leaves (changes ++ change ∷ []) prefix
-leaves_push_from leaves [] change prefix is = is
-leaves_push_from leaves (first ∷ changes) change prefix is = leaves_push_from (after_kind leaves first.prefix first.kind) changes change prefix is
+use Rattle.exh_prefix.specs.LowLemmas.{left_keeps}
+use Rattle.exh_prefix.specs.ListLemmas.{one_there}
+use Rattle.exh_legal.proofs.SplitLinks.{IsParted, became, stays, live_elsewhere}
 
 pub entry_ever_push : (start : TableMap) (changes : List Notice) (change : Notice) (prefix : List Bool) → HasEntryEver start (changes ++ change ∷ []) prefix → HasEntryEver start changes prefix ⊎ (change.prefix ≡ prefix)
 entry_ever_push start changes change prefix (inl some) = inl (inl some)
@@ -65,7 +55,7 @@ module _ {ward : List Bool} {pages : List Page} {at : ℕ} {prefix : List Bool} 
   leaves_to leaf (inl old) =
       let is = (grown.leaves leaf).0 old.0 in
       let else : is.0 ≡ at → ⊥ = λ same.
-      let page = same_page pages at _ _ (subst (λ n. IsAt pages n (Live leaf is.1.0 is.1.1)) same is.1.2) parted.there in
+      let page = one_there pages at _ _ (subst (λ n. IsAt pages n (Live leaf is.1.0 is.1.1)) same is.1.2) parted.there in
       old.1 cc in
       (is.0, (is.1.0, is.1.1, parted.others is.0 else (live_elsewhere linked parted is.0 _ is.1.2 tt) ∙ is.1.2))
   leaves_to leaf (inr child) = let is = child_live child.0 in let P : List Bool → Type 0 = λ leaf. (number : ℕ) × IsLiveAt new leaf number in subst P (sym child.1) is

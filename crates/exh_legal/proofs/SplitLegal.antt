@@ -11,24 +11,16 @@ use Rattle.exh_prefix.specs.PrefixLemmas.{child_of_begun, parent_begins, is_fron
 use Rattle.exh_page.specs.declared.page.Page.{Page}
 use Rattle.exh_page.specs.declared.page.Page.TheVariants.{Live, Forward}
 use Rattle.exh_page.specs.declared.record.Record.{Record}
-use Rattle.exh_page.specs.Page.{AreRecordsOf, IsLive, low_bound, records_of, begun_by}
+use Rattle.exh_page.specs.Page.{IsLive, low_bound, records_of, begun_by}
 use Rattle.exh_page.specs.Place.{Place}
 use Rattle.exh_page.specs.Records.{is_at}
-use Rattle.exh_page.specs.RecordsLemmas.{AllByRecursion-filter, IsRising-filter, filter-passes}
+use Rattle.exh_page.specs.ShareLemmas.{AreRecordsOf-begun_by}
 use Rattle.exh_legal.specs.Pages.{map_of, IsAt, IsHome, IsLegalPage, IsLegal, bare}
 use Rattle.exh_legal.specs.Change.{IsRevived, IsFresh, IsSplit}
 use Rattle.exh_legal.specs.BareLemmas.{bare_at, at_bare, bare_low, bare_same}
 use Rattle.exh_page.specs.KeyMapLemmas.{same_maps}
 use Rattle.exh_legal.specs.MapLemmas.{place_of_key, found_at, found_alike, found_in_begun, page_at, all_pages, get-map_of_pages, found_at_home, none_elsewhere}
 use Rattle.exh_legal.proofs.SplitLinks.{IsParted, parted_linked}
-
--- the records that a prefix begins are records of it
-pub begun_records : (pseudo : List ℕ → ℕ) (prefix own : List Bool) (records : List Record) → AreRecordsOf pseudo prefix records → AreRecordsOf pseudo own (begun_by own records)
-begun_records pseudo prefix own records are = record {
-  rising = IsRising-filter _ records are.rising;
-  hashed = AllByRecursion-filter _ _ records are.hashed;
-  begun = filter-passes _ _ (λ r passes. IsFront-from_test own (word_bits r.pseudokey) passes) records;
-}
 
 pub begun_few : (own : List Bool) (records : List Record) → length (begun_by own records) ≤ length records
 begun_few own records = omega (arith, length-filter (λ r. begins own r.pseudokey) records, count_by-le-length (λ r. begins own r.pseudokey) records)
@@ -68,7 +60,7 @@ module _ {cap : ℕ} {pseudo : List ℕ → ℕ} {ward : List Bool} {pages : Lis
 
   half_legal : (bit : Bool) (next : Option ℕ) → IsLegalPage cap pseudo (Live (prefix ++ bit ∷ []) next (begun_by (prefix ++ bit ∷ []) split.records))
   half_legal bit next =
-      (begun_records pseudo prefix (prefix ++ bit ∷ []) split.records parent_legal.0, omega (arith, begun_few (prefix ++ bit ∷ []) split.records, parent_legal.1))
+      (AreRecordsOf-begun_by pseudo prefix (prefix ++ bit ∷ []) split.records parent_legal.0, omega (arith, begun_few (prefix ++ bit ∷ []) split.records, parent_legal.1))
 
   same_at : (pages : List Page) (number other : ℕ) (one twin : Page) → number ≡ other → IsAt pages number one → IsAt pages other twin → twin ≡ one
   same_at pages number other one twin same is too = let both : Some twin ≡ Some one = sym too ∙ ap (slice_get pages) (sym same) ∙ is in cc

@@ -8,7 +8,9 @@ use Rattle.exh_page.specs.declared.page.Page.{Page}
 use Rattle.exh_page.specs.declared.page.Page.TheVariants.{Live, Forward}
 use Rattle.exh_page.specs.Page.{IsLive, low_bound}
 use Rattle.exh_legal.specs.Pages.{IsAt, IsHome, IsWithin, IsRightOf, IsRightLink, IsLinkedPage, AreLinked}
-use Rattle.exh_legal.specs.LowLemmas.{front_of_longer, begins_own_low, right_above, left_keeps, child_short, begins_between}
+use Rattle.exh_legal.specs.PlaceLemmas.{home_live, home_of_low}
+use Rattle.exh_prefix.specs.LowLemmas.{front_of_longer, right_above, left_keeps, child_short, begins_between}
+use Rattle.exh_prefix.specs.ListLemmas.{one_there}
 
 -- a split, of pages without records: the page at `right` takes the right child
 pub record IsParted (pages : List Page) (at : ℕ) (prefix : List Bool) (link : Option ℕ) (right : ℕ) (new : List Page) : Type 0 where
@@ -20,18 +22,6 @@ pub record IsParted (pages : List Page) (at : ℕ) (prefix : List Bool) (link : 
   -- what stood at `right`, if anything, was a forwarding page of the right child's low bound, and nothing else has that
   pub was : (page : Page) → IsAt pages right page → (IsLive page → ⊥) × (low_bound page ≡ low_of (prefix ++ true ∷ []))
   pub alone : (number : ℕ) (page : Page) → IsAt pages number page → low_bound page ≡ low_of (prefix ++ true ∷ []) → number ≡ right
-
-pub same_page : (pages : List Page) (number : ℕ) (one other : Page) → IsAt pages number one → IsAt pages number other → one ≡ other
-same_page pages number one other is too = let both : Some one ≡ Some other = sym is ∙ too in cc
-
-pub home_live : (page : Page) (pseudokey : ℕ) → IsHome page pseudokey → IsLive page
-home_live (Live prefix right records) pseudokey home = tt
-home_live (Forward low target) pseudokey home = home
-
--- what a live page begins of its own low bound
-pub home_of_low : (page : Page) (ward : List Bool) → IsWithin ward page → IsLive page → IsHome page (low_bound page)
-home_of_low (Live prefix right records) ward within live = begins_own_low prefix within.1
-home_of_low (Forward low target) ward within live = absurd live
 
 module _ {ward : List Bool} {pages : List Page} {at : ℕ} {prefix : List Bool} {link : Option ℕ} {right : ℕ} {new : List Page} (linked : AreLinked ward pages) (parted : IsParted pages at prefix link right new) where
   abbrev parent : Page
@@ -61,9 +51,9 @@ module _ {ward : List Bool} {pages : List Page} {at : ℕ} {prefix : List Bool} 
 
   pub became : (number : ℕ) (page : Page) → IsAt new number page → Became number page
   became number page is = elim (cases_eq number at) [
-    | inl here ↦ inl (here, same_page new at page left_page (subst (λ n. IsAt new n page) here is) parted.left)
+    | inl here ↦ inl (here, one_there new at page left_page (subst (λ n. IsAt new n page) here is) parted.left)
     | inr else ↦ elim (cases_eq number right) [
-      | inl there ↦ inr (inl (there, same_page new right page right_page (subst (λ n. IsAt new n page) there is) parted.right_half))
+      | inl there ↦ inr (inl (there, one_there new right page right_page (subst (λ n. IsAt new n page) there is) parted.right_half))
       | inr elsewhere ↦ inr (inr (else, elsewhere, sym (parted.others number else elsewhere) ∙ is))
     ]
   ]
@@ -72,7 +62,7 @@ module _ {ward : List Bool} {pages : List Page} {at : ℕ} {prefix : List Bool} 
   pub stays : (number : ℕ) (page : Page) → IsAt pages number page → (after : Page) × IsAt new number after × (low_bound after ≡ low_bound page) × (IsLive page → IsLive after)
   stays number page is = elim (cases_eq number at) [
     | inl here ↦
-        let is_parent = same_page pages at page parent (subst (λ n. IsAt pages n page) here is) parted.there in
+        let is_parent = one_there pages at page parent (subst (λ n. IsAt pages n page) here is) parted.there in
         (left_page, subst (λ n. IsAt new n left_page) (sym here) parted.left, same_low ∙ ap low_bound (sym is_parent), λ live. tt)
     | inr else ↦ elim (cases_eq number right) [
       | inl there ↦
@@ -103,7 +93,7 @@ module _ {ward : List Bool} {pages : List Page} {at : ℕ} {prefix : List Bool} 
       | inl same ↦ absurd (none_at number page is live same)
       | inr differs ↦
           let else : number ≡ at → ⊥ = λ here.
-          let is_parent = same_page pages at page parent (subst (λ n. IsAt pages n page) here is) parted.there in
+          let is_parent = one_there pages at page parent (subst (λ n. IsAt pages n page) here is) parted.there in
           omega (arith, over, ap low_bound is_parent) in
           absurd (none_between number page is live else (omega (arith, over)) (omega (arith, lower, differs)))
     ]
@@ -163,7 +153,7 @@ module _ {ward : List Bool} {pages : List Page} {at : ℕ} {prefix : List Bool} 
       let old = linked.home pseudokey small begins in
       elim (cases_eq old.0 at) [
         | inl here ↦
-            let is_parent = same_page pages at old.1 parent (subst (λ n. IsAt pages n old.1) here old.2) parted.there in
+            let is_parent = one_there pages at old.1 parent (subst (λ n. IsAt pages n old.1) here old.2) parted.there in
             elim (child_of_begun prefix pseudokey (omega (arith, parted.short)) (subst (λ page. IsHome page pseudokey) is_parent old.3)) [
               | inl lower ↦ (at, left_page, parted.left, lower)
               | inr upper ↦ (right, right_page, parted.right_half, upper)
@@ -250,7 +240,7 @@ module _ {ward : List Bool} {pages : List Page} {at : ℕ} {prefix : List Bool} 
   right_link (Some next) is =
       let page = is.0 in
       let else : next ≡ at → ⊥ = λ here.
-      let is_parent = same_page pages at page parent (subst (λ n. IsAt pages n page) here is.1.there) parted.there in
+      let is_parent = one_there pages at page parent (subst (λ n. IsAt pages n page) here is.1.there) parted.there in
       omega (arith, is.1.greater, ap low_bound is_parent) in (
         page,
         record {

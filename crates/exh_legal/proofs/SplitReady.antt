@@ -13,9 +13,9 @@ use Rattle.exh_legal.specs.Growth.{IsLiveAt}
 use Rattle.exh_legal.specs.Fit.{FitsPages}
 use Rattle.exh_legal.specs.Laws.{IsSplittable}
 use Rattle.exh_legal.specs.BareLemmas.{bare_at}
-use Rattle.exh_legal.specs.LowLemmas.{right_above, begins_own_low, child_short}
+use Rattle.exh_prefix.specs.LowLemmas.{right_above, begins_own_low, child_short}
+use Rattle.exh_prefix.specs.ListLemmas.{one_there}
 use Rattle.exh_legal.proofs.SplitFit.{no_inner, even_at}
-use Rattle.exh_legal.proofs.SplitLinks.{same_page}
 
 module _ {ward : List Bool} {table : TableMap} (pages : List Page) (linked : AreLinked ward (bare pages)) (fits : FitsPages ward table (bare pages)) {prefix : List Bool} (number : ℕ) (live : IsLiveAt pages prefix number) (short : length prefix < LIMIT) where
   here : IsLiveAt (bare pages) prefix number
@@ -29,7 +29,7 @@ module _ {ward : List Bool} {table : TableMap} (pages : List Page) (linked : Are
       let few = (linked.within other _ twin).1 in
       let begins : Begins prefix (low_of own) = subst (Begins prefix) (sym same) (parent_begins prefix _ true (begins_own_low (prefix ++ true ∷ []) (child_short prefix true short))) in
       let one = linked.one_home (low_of own) number other _ _ here.2 twin begins (begins_own_low own few) in
-      let same_low : low_of prefix ≡ low_of own = ap low_bound (same_page (bare pages) other _ _ (subst (λ n. IsAt (bare pages) n (Live prefix here.0 here.1)) one here.2) twin) in
+      let same_low : low_of prefix ≡ low_of own = ap low_bound (one_there (bare pages) other _ _ (subst (λ n. IsAt (bare pages) n (Live prefix here.0 here.1)) one here.2) twin) in
       absurd (omega (arith, same_low, same, right_above prefix short))
 
   pub splittable : IsSplittable table pages prefix

@@ -1,6 +1,6 @@
 -- A table with one notice more.
 use Rattle.std.proofs.Common.{◌≡◌, ℕ, ◌+◌, ◌<◌, Bool, true, false, cond, List, [], ◌∷◌, Ordering, Option, None, Some, ◌⊎◌, inl, inr, refl, sym, ap, ◌∙◌, arith, nat_cmp}
-use Rattle.std.specs.Prelude.{T, ◌&&◌}
+use Rattle.std.specs.Prelude.{T}
 use Rattle.std.specs.declared.cmp.Ordering.TheVariants.{Less, Equal, Greater}
 use Rattle.std.specs.Cmp.{nat_cmp_is}
 use Rattle.std.specs.FinMap as fin
@@ -13,21 +13,21 @@ use Rattle.std.proofs.lemmas.Cmp.{tied_itself}
 use Rattle.std.proofs.lemmas.List.Sums.{sum_by-cons}
 use Rattle.exh_prefix.specs.Prefix.{prefix_cmp}
 use Rattle.exh_prefix.specs.PrefixLemmas.{prefix_cmp-total, prefix_cmp-exact}
+use Rattle.exh_prefix.specs.ListLemmas.{first_part, second_part, is_equal}
 use Rattle.exh_notice.specs.declared.entry.Entry.{Entry}
 use Rattle.exh_notice.specs.declared.notice.Notice.{Notice}
 use Rattle.exh_notice.specs.Entry.{entry_of}
 use Rattle.exh_table.specs.Table.{TableMap, table_with, greater_of}
 use Rattle.exh_legal.specs.Numbers.{number_at, index_of}
-use Rattle.exh_legal.specs.MapLemmas.{tie_of}
 
 pub cases_prefix : (one other : List Bool) → (one ≡ other) ⊎ (one ≡ other → ⊥)
 cases_prefix one other = elim (cases_Bool (eq_by_cmp prefix_cmp one other)) [
-  | inl same ↦ inl (prefix_cmp-exact one other (tie_of (prefix_cmp one other) same))
+  | inl same ↦ inl (prefix_cmp-exact one other (is_equal (prefix_cmp one other) same))
   | inr differs ↦ inr (λ same. let tied : eq_by_cmp prefix_cmp one other ≡ true = ap (λ p. eq_by_cmp prefix_cmp one p) (sym same) ∙ ap is_eq (tied_itself prefix_cmp-total one) in cc)
 ]
 
 differs_by : (one other : List Bool) → (one ≡ other → ⊥) → (b : Bool) → eq_by_cmp prefix_cmp one other ≡ b → b ≡ false
-differs_by one other differ true is = absurd (differ (prefix_cmp-exact one other (tie_of (prefix_cmp one other) is)))
+differs_by one other differ true is = absurd (differ (prefix_cmp-exact one other (is_equal (prefix_cmp one other) is)))
 differs_by one other differ false is = refl
 
 pub get_with_other : (table : TableMap) (notice : Notice) (prefix : List Bool) → (prefix ≡ notice.prefix → ⊥) → fin.get (table_with table notice) prefix ≡ fin.get table prefix
@@ -53,14 +53,6 @@ get_with_same table notice later =
 abbrev weight : List Bool × Entry → ℕ
 weight e = e.1.number
 
-and_left : (a b : Bool) → T (a && b) → T a
-and_left true b h = tt
-and_left false b h = h
-
-and_right : (a b : Bool) → T (a && b) → T b
-and_right true b h = h
-and_right false b h = absurd h
-
 is_less : (o : Ordering) → T (is_lt o) → o ≡ Less
 is_less Less h = refl
 is_less Equal h = absurd h
@@ -70,8 +62,8 @@ is_less Greater h = absurd h
 none_below : (prefix first : List Bool) (es : List (List Bool × Entry)) → prefix_cmp prefix first ≡ Less → T (below_all prefix_cmp first es) → find prefix_cmp prefix es ≡ None
 none_below prefix first [] less above = refl
 none_below prefix first (e ∷ es) less above =
-    let here : prefix_cmp prefix e.0 ≡ Less = prefix_cmp-total.trans prefix first e.0 less (is_less (prefix_cmp first e.0) (and_left _ _ above)) in
-    rw here (none_below prefix first es less (and_right _ _ above))
+    let here : prefix_cmp prefix e.0 ≡ Less = prefix_cmp-total.trans prefix first e.0 less (is_less (prefix_cmp first e.0) (first_part _ _ above)) in
+    rw here (none_below prefix first es less (second_part _ _ above))
 
 sum-put : (prefix : List Bool) (entry : Entry) (es : List (List Bool × Entry)) → T (is_sorted prefix_cmp es)
     → sum_by weight (put prefix_cmp prefix entry es) + option_map_or (λ entry. entry.number) (find prefix_cmp prefix es) 0 ≡ sum_by weight es + entry.number
@@ -80,7 +72,7 @@ sum-put prefix entry (e ∷ es) sorted =
     elim (prefix_cmp prefix e.0) as (λ o. prefix_cmp prefix e.0 ≡ o → sum_by weight (by_order o ((prefix, entry) ∷ e ∷ es) ((e.0, entry) ∷ es) (e ∷ put prefix_cmp prefix entry es))
     + option_map_or (λ entry. entry.number) (cond (is_eq o) (Some e.1) (find prefix_cmp prefix es)) 0 ≡ sum_by weight (e ∷ es) + entry.number) [
       | Less ↦ λ is.
-          let none : option_map_or (λ entry. entry.number) (find prefix_cmp prefix es) 0 ≡ 0 = ap (λ found. option_map_or (λ entry. entry.number) found 0) (none_below prefix e.0 es is (and_left _ _ sorted)) in
+          let none : option_map_or (λ entry. entry.number) (find prefix_cmp prefix es) 0 ≡ 0 = ap (λ found. option_map_or (λ entry. entry.number) found 0) (none_below prefix e.0 es is (first_part _ _ sorted)) in
           let sum : sum_by weight ((prefix, entry) ∷ e ∷ es) ≡ entry.number + sum_by weight (e ∷ es) = sum_by-cons weight (prefix, entry) (e ∷ es) in
           omega (arith, none, sum)
       | Equal ↦ λ is.
@@ -90,7 +82,7 @@ sum-put prefix entry (e ∷ es) sorted =
       | Greater ↦ λ is.
           let sum : sum_by weight (e ∷ put prefix_cmp prefix entry es) ≡ e.1.number + sum_by weight (put prefix_cmp prefix entry es) = sum_by-cons weight e (put prefix_cmp prefix entry es) in
           let old : sum_by weight (e ∷ es) ≡ e.1.number + sum_by weight es = sum_by-cons weight e es in
-          omega (arith, sum, old, sum-put prefix entry es (and_right _ _ sorted))
+          omega (arith, sum, old, sum-put prefix entry es (second_part _ _ sorted))
     ] refl
 
 pub index_with : (table : TableMap) (notice : Notice) → number_at table notice.prefix < notice.number → index_of (table_with table notice) + number_at table notice.prefix ≡ index_of table + notice.number

@@ -17,8 +17,8 @@ use Rattle.exh_legal.specs.Pages.{IsAt, IsHome, AreLinked}
 use Rattle.exh_legal.specs.Growth.{IsLiveAt, IsPageOf, IsGrown}
 use Rattle.exh_legal.specs.Fit.{IsInner, FitsPages}
 use Rattle.exh_legal.specs.Laws.{NamesHome}
-use Rattle.exh_legal.specs.LowLemmas.{own_front, front_shorter, front_of_longer, left_keeps}
-use Rattle.exh_legal.proofs.SplitLinks.{same_page}
+use Rattle.exh_prefix.specs.LowLemmas.{own_front, front_shorter, front_of_longer, left_keeps}
+use Rattle.exh_prefix.specs.ListLemmas.{one_there}
 use Rattle.exh_legal.proofs.SplitFit.{same_front, no_inner}
 
 live_home : (pages : List Page) (number : ℕ) (page : Page) (pseudokey : ℕ) → IsAt pages number page → IsHome page pseudokey → (prefix : List Bool) × IsLiveAt pages prefix number × Begins prefix pseudokey
@@ -108,7 +108,7 @@ names_home {ward = ward} {pages = pages} linked grown fits pseudokey small cover
         only = λ other is other_begins.
             let twin = (grown.leaves other).0 is in
             let same = linked.one_home pseudokey twin.0 found.0 _ _ twin.1.2 home.1.2 other_begins home.2 in
-            let page = same_page pages found.0 _ _ (subst (λ n. IsAt pages n (Live other twin.1.0 twin.1.1)) same twin.1.2) home.1.2 in
+            let page = one_there pages found.0 _ _ (subst (λ n. IsAt pages n (Live other twin.1.0 twin.1.1)) same twin.1.2) home.1.2 in
             cc;
       };
     }

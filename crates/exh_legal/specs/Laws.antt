@@ -27,6 +27,10 @@ use Rattle.exh_legal.specs.Numbers.{number_at, index_of}
 abbrev pub KeepsPlaces : List Page → List Page → Type 0
 KeepsPlaces pages new = (number : ℕ) (page : Page) → IsAt pages number page → (after : Page) × IsAt new number after × (low_bound after ≡ low_bound page)
 
+-- the page is there, and its low bound isn't above the pseudokey
+abbrev pub IsBelow : List Page → ℕ → ℕ → Type 0
+IsBelow pages number pseudokey = (page : Page) × IsAt pages number page × (low_bound page ≤ pseudokey)
+
 -- the pages after a change are legal, with its notice among the changes, and hold the same map; the table with the notice fits them, and the notice is true of them
 pub record IsChanged (cap : ℕ) (pseudo : List ℕ → ℕ) (ward : List Bool) (start : TableMap) (changes : List Notice) (table : TableMap) (pages : List Page) (notice : Notice) (new : List Page) : Type 0 where
   pub legal : IsLegalSince cap pseudo ward start (changes ++ notice ∷ []) new

@@ -4,7 +4,7 @@ pub mod Growth
 pub mod Fit
 pub mod Numbers
 pub mod Laws
-pub mod LowLemmas
 pub mod BareLemmas
+pub mod PlaceLemmas
 pub mod MapLemmas
 pub mod NoticeLemmas

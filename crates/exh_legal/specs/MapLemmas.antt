@@ -13,16 +13,18 @@ use Rattle.std.proofs.lemmas.Map.Lookups.{exact_bytes}
 use Rattle.exh_prefix.specs.Bits.{word_bits}
 use Rattle.exh_prefix.specs.Prefix.{Begins, begins}
 use Rattle.exh_prefix.specs.PrefixLemmas.{is_front-true}
+use Rattle.exh_prefix.specs.ListLemmas.{is_equal, AllByRecursion-append}
 use Rattle.exh_page.specs.declared.page.Page.{Page}
 use Rattle.exh_page.specs.declared.page.Page.TheVariants.{Live, Forward}
 use Rattle.exh_page.specs.declared.record.Record.{Record}
 use Rattle.exh_page.specs.Page.{records_of, begun_by, with_records}
 use Rattle.exh_page.specs.Place.{Place, place_cmp, place_of}
 use Rattle.exh_page.specs.Records.{is_at, value_at}
-use Rattle.exh_page.specs.RecordsLemmas.{place_cmp-total, place_cmp-exact, AllByRecursion-append}
+use Rattle.exh_page.specs.RecordsLemmas.{place_cmp-total, place_cmp-exact}
 use Rattle.exh_page.specs.KeyMap.{KeyMap}
 use Rattle.exh_legal.specs.Pages.{pair_of, map_of, IsAt, IsHome, IsLegalPage, IsLegal}
 use Rattle.exh_legal.specs.BareLemmas.{bare_at}
+use Rattle.exh_legal.specs.PlaceLemmas.{home_bare}
 
 -- ---- the map of some records
 
@@ -32,11 +34,6 @@ map_of_records records = fin.from_entries (map pair_of records)
 -- each record has its key's pseudokey beside it
 abbrev pub AreHashed : (List ℕ → ℕ) → List Record → Type 0
 AreHashed pseudo records = AllByRecursion (λ r. r.pseudokey ≡ pseudo r.key) records
-
-pub tie_of : (o : Ordering) → is_eq o ≡ true → o ≡ Equal
-tie_of Less tied = cc
-tie_of Equal tied = refl
-tie_of Greater tied = cc
 
 value_cons : (b : Bool) (place : Place) (r : Record) (records : List Record) → cond b (Some r.value) (value_at place records) ≡ option_map (λ r. r.value) (cond b (Some r) (find (is_at place) records))
 value_cons true place r records = refl
@@ -50,7 +47,7 @@ place_of_key pseudo key = (pseudo key, key)
 differ : (pseudo : List ℕ → ℕ) (one other : List ℕ) {o : Ordering} → slice_cmp nat_cmp one other ≡ o → is_eq o ≡ false → is_eq (place_cmp (place_of_key pseudo other) (place_of_key pseudo one)) ≡ false
 differ pseudo one other {o = o} is unequal =
     false_from_ne_true _ (λ tied.
-    let same = ap (λ (p : Place). p.1) (place_cmp-exact (place_of_key pseudo other) (place_of_key pseudo one) (tie_of _ tied)) in
+    let same = ap (λ (p : Place). p.1) (place_cmp-exact (place_of_key pseudo other) (place_of_key pseudo one) (is_equal _ tied)) in
     let itself : o ≡ Equal = sym is ∙ ap (slice_cmp nat_cmp one) same ∙ tied_itself nat_list_cmp_total one in
     false≢true (sym unequal ∙ ap is_eq itself))
 
@@ -123,7 +120,7 @@ found_alike p (page ∷ one) (twin ∷ other) same =
 
 -- a record at a place has the place's pseudokey
 pub pseudokey_at : (place : Place) (r : Record) → is_at place r ≡ true → r.pseudokey ≡ place.0
-pseudokey_at place r here = ap (λ (p : Place). p.0) (place_cmp-exact (place_of r) place (tie_of (place_cmp (place_of r) place) here))
+pseudokey_at place r here = ap (λ (p : Place). p.0) (place_cmp-exact (place_of r) place (is_equal (place_cmp (place_of r) place) here))
 
 -- records that a prefix begins have nothing of a pseudokey that it doesn't begin
 pub none_of_others : (prefix : List Bool) (place : Place) (records : List Record) → AllByRecursion (λ r. Begins prefix r.pseudokey) records → (Begins prefix place.0 → ⊥) → find (is_at place) records ≡ None
@@ -170,10 +167,6 @@ hashed_pages cap pseudo (page ∷ pages) each = AllByRecursion-append _ (records
 -- what the map of pages has at a key is what their records have
 pub get-map_of_pages : (cap : ℕ) (pseudo : List ℕ → ℕ) (pages : List Page) (key : List ℕ) → AllByRecursion (IsLegalPage cap pseudo) pages → fin.get (map_of pages) key ≡ value_at (place_of_key pseudo key) (flat_map records_of pages)
 get-map_of_pages cap pseudo pages key each = get-map_of_records pseudo (flat_map records_of pages) key (hashed_pages cap pseudo pages each)
-
-pub home_bare : (page : Page) (pseudokey : ℕ) → IsHome page pseudokey → IsHome (with_records [] page) pseudokey
-home_bare (Live prefix right records) pseudokey home = home
-home_bare (Forward low target) pseudokey home = home
 
 none_in_page : (cap : ℕ) (pseudo : List ℕ → ℕ) (page : Page) (place : Place) → IsLegalPage cap pseudo page → (IsHome page place.0 → ⊥) → find (is_at place) (records_of page) ≡ None
 none_in_page cap pseudo (Live prefix right records) place legal not = none_of_others prefix place records legal.0.begun not

@@ -3,7 +3,7 @@ use Rattle.std.specs.Prelude.{◌≡◌, ⊤, ℕ, ◌<◌, ◌≤◌, ◌^◌, 
 use Rattle.std.specs.FinMap.{from_entries}
 use Rattle.std.specs.List.{AllByRecursion}
 use Rattle.exh_prefix.specs.declared.prefix.TheConstants.{LIMIT}
-use Rattle.exh_prefix.specs.Bits.{bits_of, lowest_cleared}
+use Rattle.exh_prefix.specs.Bits.{lowest_cleared}
 use Rattle.exh_prefix.specs.Prefix.{IsFront, Begins, HasPrefix, low_of}
 use Rattle.exh_page.specs.declared.page.Page.{Page}
 use Rattle.exh_page.specs.declared.page.Page.TheVariants.{Live, Forward}
@@ -33,10 +33,6 @@ IsHome (Live prefix right records) pseudokey = Begins prefix pseudokey
 IsHome (Forward low target) pseudokey = ⊥
 
 -- ---- how pages stand to one another, which their records don't matter for
-
--- the ward's own prefix: its number, in as many bits as the file is cut by
-abbrev pub ward_prefix : ℕ → ℕ → List Bool
-ward_prefix ward_bits number = bits_of ward_bits number
 
 -- a live page's prefix has the ward's in front, and a forwarding page's low bound is the ward's and one of a prefix
 abbrev pub IsWithin : List Bool → Page → Type 0

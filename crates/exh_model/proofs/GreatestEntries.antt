@@ -1,5 +1,5 @@
 -- The greatest entries of notices.
-use Rattle.std.proofs.Common.{◌≡◌, ℕ, ◌+◌, ◌<◌, Bool, true, false, cond, ◌&&◌, List, [], ◌∷◌, ◌++◌, length, get_or, take, map, Option, None, Some, Ordering, Contains, IsTrue, T, refl, sym, ap, subst, ◌∙◌, arith, inl, inr}
+use Rattle.std.proofs.Common.{◌≡◌, ℕ, ◌+◌, ◌<◌, Bool, true, false, cond, ◌&&◌, List, [], ◌∷◌, ◌++◌, length, get_or, take, map, Option, None, Some, Ordering, Contains, IsTrue, T, refl, sym, ap, subst, ◌∙◌, inl, inr}
 use Rattle.std.specs.declared.cmp.Ordering.TheVariants.{Less, Equal, Greater}
 use Rattle.std.specs.List.{All, AllByRecursion, dedup}
 use Rattle.std.specs.Cmp.{IsTotalOrder}
@@ -11,7 +11,7 @@ use Rattle.std.specs.List.Sorted.{IsPermutation, IsSorted, IsStrictlySortedBy}
 use Rattle.std.specs.List.Retain.{IsFiltered, DiffersFromLast}
 use Rattle.std.proofs.lemmas.Bool.{true≢false}
 use Rattle.std.proofs.lemmas.Cmp.{on_total, then_total, tied_itself, eq_by_cmp_equiv}
-use Rattle.std.proofs.lemmas.List.{map_more, map_push, get_or-map, length-map}
+use Rattle.std.proofs.lemmas.List.{map_more, map_push}
 use Rattle.std.proofs.lemmas.List.Elements.{Contains-push, Contains-push_cases, Contains-append_left, Contains-append_right, All-push, All-nil, All-cons, All-map, All-weaker, All-contains, All-contains_itself, recursion_from_All}
 use Rattle.std.proofs.lemmas.List.Filters.{dedup_is, All-dedup}
 use Rattle.std.proofs.lemmas.List.Kept.{IsStrictlySortedBy-dedup, Contains-dedup}
@@ -20,6 +20,7 @@ use Rattle.std.proofs.lemmas.Map.Lookups.{exact_pairs}
 use Rattle.exh_join.specs.Greater.{IsUpTo}
 use Rattle.exh_prefix.specs.Prefix.{prefix_cmp}
 use Rattle.exh_prefix.specs.PrefixLemmas.{prefix_cmp-total, prefix_cmp-exact}
+use Rattle.exh_prefix.specs.ListLemmas.{is_equal, Contains-map}
 use Rattle.exh_notice.specs.declared.entry.Entry.{Entry}
 use Rattle.exh_notice.specs.declared.notice.Notice.{Notice}
 use Rattle.exh_notice.specs.Entry.{entry_cmp, entry_of}
@@ -126,9 +127,6 @@ AreGreatestOf-more notices i notice entries entry within is greatest so_far = re
   greatest = All-push (λ (e : Told). IsGreatest (map told_by notices) e.0 e.1) entries (notice.prefix, entry) so_far.greatest greatest;
 }
 
-Contains-map : {X Y : Type 0} (f : X → Y) (xs : List X) (x : X) → Contains xs x → Contains (map f xs) (f x)
-Contains-map f xs x among = (among.0, omega (arith, among.1, length-map xs f), get_or-map f xs among.0 x (f x) among.1 ∙ ap f among.2)
-
 -- what a notice tells is among what all tell
 pub tells : (notices : List Notice) (i : ℕ) (notice : Notice) → i < length notices → notice ≡ get_or notices i notice → Contains (map told_by notices) (notice.prefix, entry_of notice)
 tells notices i notice within is = Contains-map told_by notices notice (i, within, sym is)
@@ -142,13 +140,8 @@ told_cmp one other = ordering_then (prefix_cmp one.0 other.0) (entry_cmp one.1 o
 told_cmp-total : IsTotalOrder told_cmp
 told_cmp-total = then_total (on_total (λ (told : Told). told.0) prefix_cmp-total) (on_total (λ (told : Told). told.1) entry_cmp-total)
 
-level : (o : Ordering) → is_eq o ≡ true → o ≡ Equal
-level Less tied = cc
-level Equal tied = refl
-level Greater tied = cc
-
 told_cmp-exact : (one other : Told) → eq_by_cmp told_cmp one other ≡ true → one ≡ other
-told_cmp-exact one other tied = exact_pairs prefix_cmp entry_cmp prefix_cmp-exact entry_cmp-exact one other (level (told_cmp one other) tied)
+told_cmp-exact one other tied = exact_pairs prefix_cmp entry_cmp prefix_cmp-exact entry_cmp-exact one other (is_equal (told_cmp one other) tied)
 
 -- two entries of one prefix that are its greatest are the same
 same_greatest : (told : List Told) (prefix : List Bool) (one other : Entry) → IsGreatest told prefix one → IsGreatest told prefix other → one ≡ other

@@ -1,5 +1,5 @@
 -- Lists of leaves as sets of prefixes.
-use Rattle.std.proofs.Common.{◌≡◌, ℕ, zero, suc, ◌+◌, ◌<◌, ◌≤◌, Bool, true, false, cond, not, ◌&&◌, ◌||◌, List, [], ◌∷◌, ◌++◌, length, filter, get_or, take, Option, None, Some, Ordering, Contains, nat_eq, nat_cmp, refl, sym, ap, subst, ◌∙◌, arith, inl, inr}
+use Rattle.std.proofs.Common.{◌≡◌, ℕ, zero, suc, ◌+◌, ◌<◌, ◌≤◌, Bool, true, false, cond, not, ◌&&◌, ◌||◌, List, [], ◌∷◌, ◌++◌, length, filter, get_or, take, Option, None, Some, Contains, nat_eq, nat_cmp, refl, sym, ap, subst, ◌∙◌, arith, inl, inr}
 use Rattle.std.specs.declared.cmp.Ordering.TheVariants.{Less, Equal, Greater}
 use Rattle.std.specs.List.{All, list_any, dedup}
 use Rattle.std.specs.List.Sorted.{IsPermutation, IsSorted}
@@ -8,19 +8,21 @@ use Rattle.std.proofs.lemmas.List.Filters.{dedup_is}
 use Rattle.std.proofs.lemmas.List.Kept.{IsStrictlySortedBy-dedup, Contains-dedup, Contains-from_dedup}
 use Rattle.std.proofs.lemmas.List.Sorted.{Contains-permutation, IsPermutation-sym}
 use Rattle.std.specs.FinSet as set
-use Rattle.std.specs.Option.{option_cmp, SomeIff, IfSome, MatchOption}
+use Rattle.std.specs.Option.{option_cmp, IfSome, MatchOption}
 use Rattle.std.specs.Ordering.{is_eq, is_lt, eq_by_cmp, ord_max}
-use Rattle.std.proofs.lemmas.Bool.{true≢false}
+use Rattle.std.proofs.lemmas.Bool.{true≢false, and_parts}
 use Rattle.std.proofs.lemmas.Cmp.{tied_itself, ranked, eq_by_cmp_equiv}
 use Rattle.std.proofs.lemmas.List.Elements.{Contains-push, Contains-push_cases, Contains-append_left, Contains-append_right, All-contains, All-filter, filter_passes, All-contains_itself, All-push, All-nil, All-weaker, All-take}
 use Rattle.std.proofs.lemmas.List.{take_more}
 use Rattle.exh_prefix.specs.Prefix.{Begins, prefix_cmp, low_of}
 use Rattle.exh_prefix.specs.PrefixLemmas.{prefix_cmp-total, prefix_cmp-exact, prefix_eq-exact}
+use Rattle.exh_prefix.specs.ListLemmas.{is_equal}
 use Rattle.exh_notice.specs.declared.entry.Kind.{Kind}
 use Rattle.exh_notice.specs.declared.entry.Kind.TheVariants.{Split, Merge}
 use Rattle.exh_notice.specs.declared.notice.Notice.{Notice}
 use Rattle.exh_table.specs.Leaves.{PrefixSet, after_split, after_merge, after_kind, leaves_after}
 use Rattle.exh_table.specs.Directory.{IsName, IsDepth}
+use Rattle.exh_table.specs.ChangeLemmas.{leaves_push_to, leaves_push_from}
 use Rattle.exh_model.specs.LeafSet.{members, AreSame, ListsLeaves}
 
 -- ---- members
@@ -144,10 +146,6 @@ members-split parent items prefix =
 abbrev pub merged_items : List Bool → List (List Bool) → List (List Bool)
 merged_items parent items = filter (λ leaf. not (prefix_eq leaf (parent ++ false ∷ [])) && not (prefix_eq leaf (parent ++ true ∷ []))) items ++ parent ∷ []
 
-both_true : (a b : Bool) → (a && b) ≡ true → (a ≡ true) × (b ≡ true)
-both_true true b both = (refl, both)
-both_true false b both = absurd (true≢false (sym both))
-
 no_child : (parent prefix : List Bool) → not (prefix_eq prefix (parent ++ false ∷ [])) ≡ true → not (prefix_eq prefix (parent ++ true ∷ [])) ≡ true → (bit : Bool) → prefix ≡ parent ++ bit ∷ [] → ⊥
 no_child parent prefix left right true = differs prefix (parent ++ true ∷ []) right
 no_child parent prefix left right false = differs prefix (parent ++ false ∷ []) left
@@ -159,7 +157,7 @@ members-merge parent items prefix =
       λ among. elim (Contains-push_cases rest parent prefix among) [
         | inl old ↦
             let parts = from_kept test items prefix old in
-            let tests = both_true (not (prefix_eq prefix (parent ++ false ∷ []))) (not (prefix_eq prefix (parent ++ true ∷ []))) parts.1 in
+            let tests = and_parts (not (prefix_eq prefix (parent ++ false ∷ []))) (not (prefix_eq prefix (parent ++ true ∷ []))) parts.1 in
             inl (parts.0, no_child parent prefix tests.0 tests.1)
         | inr is ↦ inr (sym is)
       ],
@@ -192,22 +190,14 @@ merge_done new items leaves at kind seen is after =
     let Q : List (List Bool) → Type 0 = λ new. AreSame (Contains new) (after_merge (Contains items) at) in
     subst P (sym is) (done new items leaves at Merge seen (subst Q (sym after) (members-merge at items)))
 
--- what is there is the child
-pub child_is : (child : Option (List Bool)) (room : Type 0) (value made : List Bool) → SomeIff child room value → child ≡ Some made → made ≡ value
-child_is child room value made iff is = let P : Option (List Bool) → Type 0 = λ o. SomeIff o room value in (subst P is iff).1
-
 -- ---- a list of changes
-
-leaves_after-push : (leaves : PrefixSet) (changes : List Notice) (change : Notice) → AreSame (after_kind (leaves_after leaves changes) change.prefix change.kind) (leaves_after leaves (changes ++ change ∷ []))
-leaves_after-push leaves [] change = λ prefix. (λ p. p, λ p. p)
-leaves_after-push leaves (first ∷ changes) change = leaves_after-push (after_kind leaves first.prefix first.kind) changes change
 
 pub leaves_after-more : (start old new : PrefixSet) (changes : List Notice) (i : ℕ) (change : Notice) → i < length changes → change ≡ get_or changes i change → AreSame old (leaves_after start (take i changes))
     → AreSame new (after_kind old change.prefix change.kind) → AreSame new (leaves_after start (take (i + 1) changes))
 leaves_after-more start old new changes i change within is so_far changed =
     let P : List Notice → Type 0 = λ seen. AreSame new (leaves_after start seen) in
     subst P (sym (take_more changes i change within ∙ ap (λ c. take i changes ++ c ∷ []) (sym is)))
-    (AreSame-trans _ _ _ changed (AreSame-trans _ _ _ (AreSame-kind old (leaves_after start (take i changes)) change.prefix change.kind so_far) (leaves_after-push start (take i changes) change)))
+    (AreSame-trans _ _ _ changed (AreSame-trans _ _ _ (AreSame-kind old (leaves_after start (take i changes)) change.prefix change.kind so_far) (λ prefix. (leaves_push_from start (take i changes) change prefix, leaves_push_to start (take i changes) change prefix))))
 
 -- ---- the name
 
@@ -344,13 +334,8 @@ listed_unique items sorted moved in_order =
       );
     }
   where
-    level : (o : Ordering) → is_eq o ≡ true → o ≡ Equal
-    level Less tied = cc
-    level Equal tied = refl
-    level Greater tied = cc
-
     tied_same : (one other : List Bool) → eq_by_cmp prefix_cmp one other ≡ true → one ≡ other
-    tied_same one other tied = prefix_cmp-exact one other (level (prefix_cmp one other) tied)
+    tied_same one other tied = prefix_cmp-exact one other (is_equal (prefix_cmp one other) tied)
 
 pub leaves_listed : (items sorted unique : List (List Bool)) (leaves : set.FinSet prefix_cmp) (eq : List Bool → List Bool → Bool) → ((one other : List Bool) → eq one other ≡ eq_by_cmp prefix_cmp one other)
     → set.from_list items ≡ leaves → IsPermutation items sorted → IsSorted prefix_cmp sorted → IsFiltered (DiffersFromLast eq) [] sorted unique → ListsLeaves leaves unique

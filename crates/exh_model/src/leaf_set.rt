@@ -1,4 +1,4 @@
-ghost use Rattle.std.specs.Prelude.{◌≡◌, ◌↔◌, ◌-◌, ◌*◌, ◌^◌, ◌<◌, ◌≤◌, ℕ, Bool, List, length, IsTrue, IfOk, IfSome, OnOk, OnErr, MatchOption};
+ghost use Rattle.std.specs.Prelude.{◌≡◌, ◌↔◌, ◌-◌, ◌*◌, ◌<◌, ◌≤◌, ℕ, Bool, List, length, IsTrue, IfOk, IfSome, OnOk, OnErr, MatchOption};
 ghost use Rattle.std.specs.List.{All};
 ghost use Rattle.std.specs.FinSet as set;
 ghost use Rattle.exh_prefix.specs.declared.prefix.TheConstants.{LIMIT};
@@ -135,20 +135,11 @@ impl LeafSet {
         };
         let mut names = Vec::new(*self.leaves.allocator());
         for leading in 0..1u64 << depth {
-            let Some(name) = self.name(first_pseudokey(leading, depth)) else {
+            let Some(name) = self.name(Prefix::of_number(depth, leading).low()) else {
                 return Ok(None);
             };
             names.push(name)?;
         }
         Ok(Some(names))
     }
-}
-
-// The first pseudokey with these leading bits, as many as the depth.
-fn first_pseudokey(leading: u64, depth: u8) -> u64
-    requires depth { depth ≤ LIMIT }
-    requires leading { leading < 2 ^ depth }
-    ensures { result ≡ leading * 2 ^ (64 - depth) }
-{
-    (leading << (LIMIT - depth)) << (64 - LIMIT)
 }

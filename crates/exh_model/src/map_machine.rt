@@ -1,6 +1,8 @@
 ghost use Rattle.std.specs.Prelude.{◌≡◌, ◌↔◌, IsTrue, IfOk, OnErr};
 ghost use Rattle.std.specs.FinMap as map;
-ghost use Rattle.exh_calls.specs.MapMachine.{leading, sharing, is_full, reply_of, map_after};
+ghost use Rattle.exh_calls.specs.MapMachine.{sharing, is_full, reply_of, map_after};
+ghost use Rattle.exh_prefix.specs.declared.prefix.TheConstants.{LIMIT};
+ghost use Rattle.exh_prefix.specs.Leading.{leading};
 
 use crate::PairMap;
 use exh_calls::{Call, Reply};
@@ -105,8 +107,8 @@ impl<K: Keyer> MapMachine<K> {
 
     // The leading bits of a key's pseudokey, as a number.
     fn leading(&self, key: &Key) -> u64
-        ensures { result ≡ leading (K.pseudokey_of self.now.keyer key.now) }
+        ensures { result ≡ leading LIMIT (K.pseudokey_of self.now.keyer key.now) }
     {
-        self.keyer.pseudo(key.as_bytes()) >> (64 - LIMIT)
+        exh_prefix::leading(LIMIT, self.keyer.pseudo(key.as_bytes()))
     }
 }

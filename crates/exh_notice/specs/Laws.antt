@@ -1,5 +1,5 @@
 -- Laws of entries and of images that the crates above cite.
-use Rattle.std.specs.Prelude.{◌≡◌, ◌↔◌, ◌<◌, ℕ, Bool, List, length, slice_index, IsTrue}
+use Rattle.std.specs.Prelude.{◌≡◌, ◌↔◌, ◌<◌, ℕ, Bool, List, length, slice_index}
 use Rattle.std.specs.declared.cmp.Ordering.TheVariants.{Equal}
 use Rattle.std.specs.Cmp.{IsTotalOrder}
 use Rattle.exh_notice.specs.declared.entry.Entry.{Entry}
@@ -9,12 +9,8 @@ use Rattle.exh_notice.specs.Entry.{entry_cmp}
 use Rattle.exh_notice.specs.Images.{IsEntryImage, IsNoticeImage, PassesAll}
 
 -- the order is total, and ties are equal
-abbrev pub OrderIsTotal : Type 0
-OrderIsTotal = IsTotalOrder entry_cmp × ((one other : Entry) → (entry_cmp one other ≡ Equal) ↔ (one ≡ other))
-
--- the test passes exactly where the entries are the same
-abbrev pub DecidesEquality : (Entry → Entry → Bool) → Type 0
-DecidesEquality eq = (one other : Entry) → IsTrue (eq one other) ↔ (one ≡ other)
+abbrev pub EntryOrderIsTotal : Type 0
+EntryOrderIsTotal = IsTotalOrder entry_cmp × ((one other : Entry) → (entry_cmp one other ≡ Equal) ↔ (one ≡ other))
 
 -- ---- images, in each version whose bytes are room for its limit and fit into four
 

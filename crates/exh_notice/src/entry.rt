@@ -7,8 +7,7 @@ use exh_join::Join;
 use exh_prefix::PageNo;
 use std::alloc::AllocError;
 
-/// What was done at a prefix. Merges come before splits, and splits are ordered by right page
-///.
+/// What was done at a prefix. Merges come before splits, and splits are ordered by right page.
 #[derive(Clone, Copy, Debug, PartialEq, Eq, PartialOrd, Ord, Hash)]
 pub enum Kind {
     /// The page of the prefix took in its right buddy.

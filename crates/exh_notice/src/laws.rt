@@ -2,13 +2,14 @@
 
 ghost use Rattle.std.specs.Prelude.{◌≡◌};
 ghost use Rattle.exh_notice.specs.Entry.{entry_cmp};
-ghost use Rattle.exh_notice.specs.Laws.{OrderIsTotal, DecidesEquality, OneEntry, OneNotice, EntryImagesPass, NoticeImagesPass};
+ghost use Rattle.exh_prefix.specs.Laws.{DecidesEquality};
+ghost use Rattle.exh_notice.specs.Laws.{EntryOrderIsTotal, OneEntry, OneNotice, EntryImagesPass, NoticeImagesPass};
 
 use crate::Entry;
 
 /// The order of entries is total, and agrees with equality.
 pub fn order_is_total()
-    ensures { OrderIsTotal }
+    ensures { EntryOrderIsTotal }
 {}
 
 /// Two entries are equal exactly where they are the same.

@@ -1,5 +1,5 @@
 ghost use Rattle.std.specs.Prelude.{◌≡◌};
-ghost use Rattle.exh_notice.specs.Fault.{fault_number};
+ghost use Rattle.exh_notice.specs.Fault.{notice_fault_number};
 
 use thiserror::Error;
 
@@ -20,7 +20,7 @@ pub enum NoticeFault {
 impl NoticeFault {
     /// The refusal's number among all refusals.
     pub fn number(self) -> u8
-        ensures { result ≡ fault_number self }
+        ensures { result ≡ notice_fault_number self }
     {
         match self {
             NoticeFault::Kind => 30,

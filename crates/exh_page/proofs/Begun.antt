@@ -9,11 +9,11 @@ use Rattle.std.proofs.Math.Seq.{take-append_seam}
 use Rattle.exh_prefix.specs.Bits.{word_bits}
 use Rattle.exh_prefix.specs.Prefix.{Begins, begins}
 use Rattle.exh_prefix.specs.PrefixLemmas.{is_front-true, not_front}
+use Rattle.exh_prefix.specs.ListLemmas.{AllByRecursion-append}
 use Rattle.exh_page.specs.declared.record.Record.{Record}
 use Rattle.exh_page.specs.declared.stored_record.StoredRecord.{StoredRecord}
-use Rattle.exh_page.specs.PackedRecords.{ArePacked, IsSized, stored_of, text_of, text_len, records_in}
+use Rattle.exh_page.specs.PackedRecords.{ArePacked, IsSized, stored_of, record_text, text_len, records_in}
 use Rattle.exh_page.specs.Page.{begun_by}
-use Rattle.exh_page.specs.RecordsLemmas.{AllByRecursion-append}
 use Rattle.exh_page.proofs.Packed.{start_of, texts_from}
 use Rattle.exh_page.proofs.PackedReads.{as_many, kept_at, start_next, start_inside}
 
@@ -23,7 +23,7 @@ use Rattle.exh_page.proofs.PackedReads.{as_many, kept_at, start_next, start_insi
 pub packed_same : {records list : List Record} {stored kept : List StoredRecord} {texts joined : List ℕ} → records ≡ list → kept ≡ stored → joined ≡ texts → ArePacked records stored texts → ArePacked list kept joined
 packed_same {records} {list} {stored} {kept} {texts} {joined} same_records same_stored same_texts packed = record {
   kept = same_stored ∙ packed.kept ∙ ap (map stored_of) same_records;
-  joined = same_texts ∙ packed.joined ∙ ap (flat_map text_of) same_records;
+  joined = same_texts ∙ packed.joined ∙ ap (flat_map record_text) same_records;
   sized = subst (AllByRecursion IsSized) same_records packed.sized;
 }
 
@@ -32,12 +32,12 @@ pub packed_append : {front back : List Record} {stored others : List StoredRecor
     → ArePacked (front ++ back) (stored ++ others) (texts ++ more)
 packed_append {front} {back} {stored} {others} {texts} {more} fore aft = record {
   kept = ap (λ list. list ++ others) fore.kept ∙ ap (λ list. map stored_of front ++ list) aft.kept ∙ sym (map-append stored_of front back);
-  joined = ap (λ list. list ++ more) fore.joined ∙ ap (λ list. flat_map text_of front ++ list) aft.joined ∙ sym (flat_map-append text_of front back);
+  joined = ap (λ list. list ++ more) fore.joined ∙ ap (λ list. flat_map record_text front ++ list) aft.joined ∙ sym (flat_map-append record_text front back);
   sized = AllByRecursion-append IsSized front back fore.sized aft.sized;
 }
 
-packed_one : (r : Record) → IsSized r → ArePacked (r ∷ []) (stored_of r ∷ []) (text_of r)
-packed_one r sized = record { kept = refl; joined = sym (append-nil (text_of r)); sized = (sized, tt) }
+packed_one : (r : Record) → IsSized r → ArePacked (r ∷ []) (stored_of r ∷ []) (record_text r)
+packed_one r sized = record { kept = refl; joined = sym (append-nil (record_text r)); sized = (sized, tt) }
 
 -- ---- the record at a place, and where its bytes are
 
@@ -88,14 +88,14 @@ step_within {records} {stored} {texts} {i} {start} {item} step = omega (arith, s
 
 -- its bytes
 step_text : {records : List Record} {stored : List StoredRecord} {texts : List ℕ} {i start : ℕ} {item : StoredRecord} → IsStep records stored texts i start item
-    → take (start + text_len item - start) (drop start texts) ≡ text_of (record_at records i)
+    → take (start + text_len item - start) (drop start texts) ≡ record_text (record_at records i)
 step_text {records} {stored} {texts} {i} {start} {item} step =
     let r : Record = record_at records i in
-    let from : drop start texts ≡ text_of r ++ flat_map text_of (drop (i + 1) records) =
-    ap (drop start) step.packed.joined ∙ ap (λ n. drop n (flat_map text_of records)) step.from ∙ texts_from records i
-    ∙ ap (flat_map text_of) (drop_more records i nothing (within_records step)) in
-    let len : start + text_len item - start ≡ length (text_of r) = omega (arith, ap text_len (item_here step), length-append r.key r.value) in
-    ap (take (start + text_len item - start)) from ∙ ap (λ n. take n (text_of r ++ flat_map text_of (drop (i + 1) records))) len ∙ take-append_seam (text_of r) (flat_map text_of (drop (i + 1) records))
+    let from : drop start texts ≡ record_text r ++ flat_map record_text (drop (i + 1) records) =
+    ap (drop start) step.packed.joined ∙ ap (λ n. drop n (flat_map record_text records)) step.from ∙ texts_from records i
+    ∙ ap (flat_map record_text) (drop_more records i nothing (within_records step)) in
+    let len : start + text_len item - start ≡ length (record_text r) = omega (arith, ap text_len (item_here step), length-append r.key r.value) in
+    ap (take (start + text_len item - start)) from ∙ ap (λ n. take n (record_text r ++ flat_map record_text (drop (i + 1) records))) len ∙ take-append_seam (record_text r) (flat_map record_text (drop (i + 1) records))
 
 -- ---- the records that a prefix begins
 

@@ -6,21 +6,21 @@ use Rattle.std.proofs.lemmas.List.{take-append-drop, length-append}
 use Rattle.std.proofs.Math.Seq.{drop-append_seam, take-append_seam}
 use Rattle.exh_page.specs.declared.record.Record.{Record}
 use Rattle.exh_page.specs.declared.stored_record.StoredRecord.{StoredRecord}
-use Rattle.exh_page.specs.PackedRecords.{ArePacked, stored_of, text_of, record_in, records_in}
+use Rattle.exh_page.specs.PackedRecords.{ArePacked, stored_of, record_text, record_in, records_in}
 
 -- a record is read back from its bytes, whatever follows them
-pub record_back : (r : Record) (more : List ℕ) → record_in (stored_of r) (text_of r ++ more) ≡ r
+pub record_back : (r : Record) (more : List ℕ) → record_in (stored_of r) (record_text r ++ more) ≡ r
 record_back r more =
     rw (append_assoc r.key r.value more, take-append_seam r.key (r.value ++ more), drop-append_seam r.key (r.value ++ more), take-append_seam r.value more) refl
 
-text_passed : (r : Record) (more : List ℕ) → drop (length r.key + length r.value) (text_of r ++ more) ≡ more
-text_passed r more = ap (λ n. drop n (text_of r ++ more)) (sym (length-append r.key r.value)) ∙ drop-append_seam (text_of r) more
+text_passed : (r : Record) (more : List ℕ) → drop (length r.key + length r.value) (record_text r ++ more) ≡ more
+text_passed r more = ap (λ n. drop n (record_text r ++ more)) (sym (length-append r.key r.value)) ∙ drop-append_seam (record_text r) more
 
-records_back : (records : List Record) → records_in (map stored_of records) (flat_map text_of records) ≡ records
+records_back : (records : List Record) → records_in (map stored_of records) (flat_map record_text records) ≡ records
 records_back [] = refl
 records_back (r ∷ others) =
-    let more = flat_map text_of others in
-    ap (λ first. first ∷ records_in (map stored_of others) (drop (length r.key + length r.value) (text_of r ++ more))) (record_back r more)
+    let more = flat_map record_text others in
+    ap (λ first. first ∷ records_in (map stored_of others) (drop (length r.key + length r.value) (record_text r ++ more))) (record_back r more)
     ∙ ap (λ texts. r ∷ records_in (map stored_of others) texts) (text_passed r more)
     ∙ ap (λ back. r ∷ back) (records_back others)
 
@@ -36,16 +36,16 @@ repacked {records} {stored} {texts} packed = subst (λ list. ArePacked list stor
 
 -- how many bytes the records before a place have
 abbrev pub start_of : List Record → ℕ → ℕ
-start_of records i = length (flat_map text_of (take i records))
+start_of records i = length (flat_map record_text (take i records))
 
-texts_cut : (records : List Record) (i : ℕ) → flat_map text_of records ≡ flat_map text_of (take i records) ++ flat_map text_of (drop i records)
-texts_cut records i = ap (flat_map text_of) (sym (take-append-drop i records)) ∙ flat_map-append text_of (take i records) (drop i records)
+texts_cut : (records : List Record) (i : ℕ) → flat_map record_text records ≡ flat_map record_text (take i records) ++ flat_map record_text (drop i records)
+texts_cut records i = ap (flat_map record_text) (sym (take-append-drop i records)) ∙ flat_map-append record_text (take i records) (drop i records)
 
-pub texts_before : (records : List Record) (i : ℕ) → take (start_of records i) (flat_map text_of records) ≡ flat_map text_of (take i records)
-texts_before records i = ap (take (start_of records i)) (texts_cut records i) ∙ take-append_seam (flat_map text_of (take i records)) (flat_map text_of (drop i records))
+pub texts_before : (records : List Record) (i : ℕ) → take (start_of records i) (flat_map record_text records) ≡ flat_map record_text (take i records)
+texts_before records i = ap (take (start_of records i)) (texts_cut records i) ∙ take-append_seam (flat_map record_text (take i records)) (flat_map record_text (drop i records))
 
-pub texts_from : (records : List Record) (i : ℕ) → drop (start_of records i) (flat_map text_of records) ≡ flat_map text_of (drop i records)
-texts_from records i = ap (drop (start_of records i)) (texts_cut records i) ∙ drop-append_seam (flat_map text_of (take i records)) (flat_map text_of (drop i records))
+pub texts_from : (records : List Record) (i : ℕ) → drop (start_of records i) (flat_map record_text records) ≡ flat_map record_text (drop i records)
+texts_from records i = ap (drop (start_of records i)) (texts_cut records i) ∙ drop-append_seam (flat_map record_text (take i records)) (flat_map record_text (drop i records))
 
-pub start_within : (records : List Record) (i : ℕ) → start_of records i ≤ length (flat_map text_of records)
-start_within records i = omega (arith, ap length (texts_cut records i), length-append (flat_map text_of (take i records)) (flat_map text_of (drop i records)))
+pub start_within : (records : List Record) (i : ℕ) → start_of records i ≤ length (flat_map record_text records)
+start_within records i = omega (arith, ap length (texts_cut records i), length-append (flat_map record_text (take i records)) (flat_map record_text (drop i records)))

@@ -11,7 +11,7 @@ use borrow.Rule.Slice.PartMut.{put_mid}
 use lib.Seq.{paste}
 use Rattle.exh_page.specs.declared.record.Record.{Record}
 use Rattle.exh_page.specs.declared.stored_record.StoredRecord.{StoredRecord}
-use Rattle.exh_page.specs.PackedRecords.{ArePacked, IsSized, stored_of, text_of, text_len}
+use Rattle.exh_page.specs.PackedRecords.{ArePacked, IsSized, stored_of, record_text, text_len}
 use Rattle.exh_page.proofs.Packed.{start_of, texts_before, texts_from}
 use Rattle.exh_page.proofs.PackedReads.{kept_at, start_next}
 
@@ -78,13 +78,13 @@ kept_between records middle i j =
 
 -- and their bytes
 texts_between : (records middle : List Record) (i j : ℕ)
-    → flat_map text_of (take i records ++ (middle ++ drop j records))
-    ≡ take (start_of records i) (flat_map text_of records) ++ (flat_map text_of middle ++ drop (start_of records j) (flat_map text_of records))
+    → flat_map record_text (take i records ++ (middle ++ drop j records))
+    ≡ take (start_of records i) (flat_map record_text records) ++ (flat_map record_text middle ++ drop (start_of records j) (flat_map record_text records))
 texts_between records middle i j =
-    flat_map-append text_of (take i records) (middle ++ drop j records)
-    ∙ ap (λ bytes. flat_map text_of (take i records) ++ bytes) (flat_map-append text_of middle (drop j records))
-    ∙ ap (λ bytes. bytes ++ (flat_map text_of middle ++ flat_map text_of (drop j records))) (sym (texts_before records i))
-    ∙ ap (λ bytes. take (start_of records i) (flat_map text_of records) ++ (flat_map text_of middle ++ bytes)) (sym (texts_from records j))
+    flat_map-append record_text (take i records) (middle ++ drop j records)
+    ∙ ap (λ bytes. flat_map record_text (take i records) ++ bytes) (flat_map-append record_text middle (drop j records))
+    ∙ ap (λ bytes. bytes ++ (flat_map record_text middle ++ flat_map record_text (drop j records))) (sym (texts_before records i))
+    ∙ ap (λ bytes. take (start_of records i) (flat_map record_text records) ++ (flat_map record_text middle ++ bytes)) (sym (texts_from records j))
 
 sized_between : (records middle : List Record) (i j : ℕ) → AllByRecursion IsSized records → AllByRecursion IsSized middle → AllByRecursion IsSized (take i records ++ (middle ++ drop j records))
 sized_between records middle i j sized more =
@@ -96,10 +96,10 @@ sized_between records middle i j sized more =
 module _ {records : List Record} {stored : List StoredRecord} {texts : List ℕ} (packed : ArePacked records stored texts) where
   packed_between : (middle : List Record) (i j : ℕ) → AllByRecursion IsSized middle
       → ArePacked (take i records ++ (middle ++ drop j records)) (take i stored ++ (map stored_of middle ++ drop j stored))
-      (take (start_of records i) texts ++ (flat_map text_of middle ++ drop (start_of records j) texts))
+      (take (start_of records i) texts ++ (flat_map record_text middle ++ drop (start_of records j) texts))
   packed_between middle i j more = record {
     kept = ap (λ list. take i list ++ (map stored_of middle ++ drop j list)) packed.kept ∙ sym (kept_between records middle i j);
-    joined = ap (λ bytes. take (start_of records i) bytes ++ (flat_map text_of middle ++ drop (start_of records j) bytes)) packed.joined ∙ sym (texts_between records middle i j);
+    joined = ap (λ bytes. take (start_of records i) bytes ++ (flat_map record_text middle ++ drop (start_of records j) bytes)) packed.joined ∙ sym (texts_between records middle i j);
     sized = sized_between records middle i j packed.sized more;
   }
 
@@ -109,30 +109,30 @@ module _ {records : List Record} {stored : List StoredRecord} {texts : List ℕ}
       ap (λ n. n + len) begun ∙ ap (λ n. start_of records i + n) (long ∙ ap text_len is) ∙ start_next packed i kept within
 
   -- how many bytes it has
-  pub long_at : (i len : ℕ) (kept : StoredRecord) (d : Record) → i < length records → len ≡ text_len kept → kept ≡ get_or stored i kept → len ≡ length (text_of (get_or records i d))
+  pub long_at : (i len : ℕ) (kept : StoredRecord) (d : Record) → i < length records → len ≡ text_len kept → kept ≡ get_or stored i kept → len ≡ length (record_text (get_or records i d))
   long_at i len kept d within long is =
       long ∙ ap text_len (is ∙ kept_at packed i kept d within) ∙ sym (length-append (get_or records i d).key (get_or records i d).value)
 
   -- a record is inserted at i
   pub packed_inserted : (i start : ℕ) (item : Record) (new_stored : List StoredRecord) (new_texts : List ℕ) → IsSized item → start ≡ start_of records i
-      → new_stored ≡ insert stored i (stored_of item) → new_texts ≡ take start texts ++ (text_of item ++ drop start texts) → ArePacked (insert records i item) new_stored new_texts
+      → new_stored ≡ insert stored i (stored_of item) → new_texts ≡ take start texts ++ (record_text item ++ drop start texts) → ArePacked (insert records i item) new_stored new_texts
   packed_inserted i start item new_stored new_texts sized begun stored_is texts_is =
-      let bytes : new_texts ≡ take (start_of records i) texts ++ (flat_map text_of (item ∷ []) ++ drop (start_of records i) texts) =
-      texts_is ∙ ap (λ n. take n texts ++ (text_of item ++ drop n texts)) begun
-      ∙ ap (λ text. take (start_of records i) texts ++ (text ++ drop (start_of records i) texts)) (sym (append-nil (text_of item))) in
+      let bytes : new_texts ≡ take (start_of records i) texts ++ (flat_map record_text (item ∷ []) ++ drop (start_of records i) texts) =
+      texts_is ∙ ap (λ n. take n texts ++ (record_text item ++ drop n texts)) begun
+      ∙ ap (λ text. take (start_of records i) texts ++ (text ++ drop (start_of records i) texts)) (sym (append-nil (record_text item))) in
       subst (λ list. ArePacked (insert records i item) list new_texts) (sym stored_is)
       (subst (ArePacked (insert records i item) (insert stored i (stored_of item))) (sym bytes) (packed_between (item ∷ []) i i (sized, tt)))
 
   -- the record at i is replaced
   pub packed_replaced : (i start end : ℕ) (item : Record) (new_stored : List StoredRecord) (new_texts : List ℕ) → IsSized item → i < length records
       → start ≡ start_of records i → end ≡ start_of records (i + 1)
-      → new_stored ≡ set stored i (stored_of item) → new_texts ≡ take start texts ++ (text_of item ++ drop end texts) → ArePacked (set records i item) new_stored new_texts
+      → new_stored ≡ set stored i (stored_of item) → new_texts ≡ take start texts ++ (record_text item ++ drop end texts) → ArePacked (set records i item) new_stored new_texts
   packed_replaced i start end item new_stored new_texts sized within begun ended stored_is texts_is =
       let ended_suc : end ≡ start_of records (suc i) = ended ∙ ap (start_of records) (sym (suc-eq-add-one i)) in
-      let bytes : new_texts ≡ take (start_of records i) texts ++ (flat_map text_of (item ∷ []) ++ drop (start_of records (suc i)) texts) =
-      texts_is ∙ ap (λ n. take n texts ++ (text_of item ++ drop end texts)) begun
-      ∙ ap (λ n. take (start_of records i) texts ++ (text_of item ++ drop n texts)) ended_suc
-      ∙ ap (λ text. take (start_of records i) texts ++ (text ++ drop (start_of records (suc i)) texts)) (sym (append-nil (text_of item))) in
+      let bytes : new_texts ≡ take (start_of records i) texts ++ (flat_map record_text (item ∷ []) ++ drop (start_of records (suc i)) texts) =
+      texts_is ∙ ap (λ n. take n texts ++ (record_text item ++ drop end texts)) begun
+      ∙ ap (λ n. take (start_of records i) texts ++ (record_text item ++ drop n texts)) ended_suc
+      ∙ ap (λ text. take (start_of records i) texts ++ (text ++ drop (start_of records (suc i)) texts)) (sym (append-nil (record_text item))) in
       let kept : new_stored ≡ take i stored ++ stored_of item ∷ drop (suc i) stored =
       stored_is ∙ set_split stored i (stored_of item) (omega (arith, ap length packed.kept, length-map records stored_of)) in
       subst (λ list. ArePacked list new_stored new_texts) (sym (set_split records i item within))

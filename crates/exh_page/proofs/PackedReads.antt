@@ -10,7 +10,7 @@ use Rattle.exh_page.specs.declared.key.TheConstants.{KEY_LIMIT}
 use Rattle.exh_page.specs.declared.record.Record.{Record}
 use Rattle.exh_page.specs.declared.stored_record.StoredRecord.{StoredRecord}
 use Rattle.exh_page.specs.declared.value.TheConstants.{VALUE_LIMIT}
-use Rattle.exh_page.specs.PackedRecords.{ArePacked, IsSized, stored_of, text_of, text_len, record_in, records_in}
+use Rattle.exh_page.specs.PackedRecords.{ArePacked, IsSized, stored_of, record_text, text_len, record_in, records_in}
 use Rattle.exh_page.specs.Place.{Place, place_cmp, place_of}
 use Rattle.exh_page.specs.Records.{IsRising}
 use Rattle.exh_page.specs.Search.{IsFound, IsGap}
@@ -18,12 +18,12 @@ use Rattle.exh_page.proofs.Searched.{found_at, gap_at}
 use Rattle.exh_page.proofs.Packed.{record_back, start_of, start_within, texts_from}
 
 -- a record's bytes follow those of the records before it
-pub start_after : (records : List Record) (i : ℕ) (x : Record) → i < length records → start_of records (i + 1) ≡ start_of records i + length (text_of (get_or records i x))
+pub start_after : (records : List Record) (i : ℕ) (x : Record) → i < length records → start_of records (i + 1) ≡ start_of records i + length (record_text (get_or records i x))
 start_after records i x within =
-    ap (λ list. length (flat_map text_of list)) (take_more records i x within)
-    ∙ ap length (flat_map-append text_of (take i records) (get_or records i x ∷ []))
-    ∙ length-append (flat_map text_of (take i records)) (text_of (get_or records i x) ++ [])
-    ∙ ap (λ text. start_of records i + length text) (append-nil (text_of (get_or records i x)))
+    ap (λ list. length (flat_map record_text list)) (take_more records i x within)
+    ∙ ap length (flat_map-append record_text (take i records) (get_or records i x ∷ []))
+    ∙ length-append (flat_map record_text (take i records)) (record_text (get_or records i x) ++ [])
+    ∙ ap (λ text. start_of records i + length text) (append-nil (record_text (get_or records i x)))
 
 module _ {records : List Record} {stored : List StoredRecord} {texts : List ℕ} (packed : ArePacked records stored texts) where
   -- there are as many of what is kept as records
@@ -47,10 +47,10 @@ module _ {records : List Record} {stored : List StoredRecord} {texts : List ℕ}
   start_inside i = omega (arith, start_within records i, ap length packed.joined)
 
   -- what follows the records before a place is the bytes of the others
-  pub bytes_from : (slice : List ℕ) (i start : ℕ) → slice ≡ texts → start ≡ start_of records i → take (length slice - start) (drop start slice) ≡ flat_map text_of (drop i records)
+  pub bytes_from : (slice : List ℕ) (i start : ℕ) → slice ≡ texts → start ≡ start_of records i → take (length slice - start) (drop start slice) ≡ flat_map record_text (drop i records)
   bytes_from slice i start same is =
       take_all (length slice - start) (drop start slice) (omega (arith, length-drop start slice))
-      ∙ ap (drop start) (same ∙ packed.joined) ∙ ap (λ n. drop n (flat_map text_of records)) is ∙ texts_from records i
+      ∙ ap (drop start) (same ∙ packed.joined) ∙ ap (λ n. drop n (flat_map record_text records)) is ∙ texts_from records i
 
   -- the count of bytes goes on by those of one record more
   pub start_added : (slice : List StoredRecord) (i : ℕ) (d : StoredRecord) (start len : ℕ) → slice ≡ stored → i < length slice
@@ -66,20 +66,20 @@ module _ {records : List Record} {stored : List StoredRecord} {texts : List ℕ}
       start_added slice i d start len same (omega (arith, short, ap length same, as_many)) begun (counted ∙ ap text_len (get_or-take at slice i d short))
 
   -- a record's bytes come first in what follows the records before it
-  bytes_first : (i : ℕ) (x : Record) (text : List ℕ) → i < length records → text ≡ flat_map text_of (drop i records)
-      → text ≡ text_of (get_or records i x) ++ flat_map text_of (drop (i + 1) records)
-  bytes_first i x text within is = is ∙ ap (flat_map text_of) (drop_more records i x within)
+  bytes_first : (i : ℕ) (x : Record) (text : List ℕ) → i < length records → text ≡ flat_map record_text (drop i records)
+      → text ≡ record_text (get_or records i x) ++ flat_map record_text (drop (i + 1) records)
+  bytes_first i x text within is = is ∙ ap (flat_map record_text) (drop_more records i x within)
 
   -- so the record is read from there
-  pub read_at : (slice : List StoredRecord) (i : ℕ) (d : StoredRecord) (x : Record) (text : List ℕ) → slice ≡ stored → i < length records → text ≡ flat_map text_of (drop i records)
+  pub read_at : (slice : List StoredRecord) (i : ℕ) (d : StoredRecord) (x : Record) (text : List ℕ) → slice ≡ stored → i < length records → text ≡ flat_map record_text (drop i records)
       → record_in (get_or slice i d) text ≡ get_or records i x
   read_at slice i d x text same within is =
       ap (λ kept. record_in kept text) (ap (λ list. get_or list i d) same ∙ kept_at i d x within)
       ∙ ap (record_in (stored_of (get_or records i x))) (bytes_first i x text within is)
-      ∙ record_back (get_or records i x) (flat_map text_of (drop (i + 1) records))
+      ∙ record_back (get_or records i x) (flat_map record_text (drop (i + 1) records))
 
   -- and there are as many bytes as it has
-  pub read_inside : (slice : List StoredRecord) (i : ℕ) (d : StoredRecord) (text : List ℕ) → slice ≡ stored → i < length records → text ≡ flat_map text_of (drop i records)
+  pub read_inside : (slice : List StoredRecord) (i : ℕ) (d : StoredRecord) (text : List ℕ) → slice ≡ stored → i < length records → text ≡ flat_map record_text (drop i records)
       → text_len (get_or slice i d) ≤ length text
   read_inside slice i d text same within is =
       let x = record_in d [] in
@@ -88,12 +88,12 @@ module _ {records : List Record} {stored : List StoredRecord} {texts : List ℕ}
         arith,
         ap text_len (ap (λ list. get_or list i d) same ∙ kept_at i d x within),
         ap length (bytes_first i x text within is),
-        length-append (text_of r) (flat_map text_of (drop (i + 1) records)),
+        length-append (record_text r) (flat_map record_text (drop (i + 1) records)),
         length-append r.key r.value,
       )
 
   -- its key, too
-  pub key_inside : (slice : List StoredRecord) (i : ℕ) (d : StoredRecord) (text : List ℕ) → slice ≡ stored → i < length slice → text ≡ flat_map text_of (drop i records)
+  pub key_inside : (slice : List StoredRecord) (i : ℕ) (d : StoredRecord) (text : List ℕ) → slice ≡ stored → i < length slice → text ≡ flat_map record_text (drop i records)
       → (get_or slice i d).key_len ≤ length text
   key_inside slice i d text same within is = omega (arith, read_inside slice i d text same (omega (arith, ap length same, as_many)) is)
 
@@ -103,7 +103,7 @@ module _ {records : List Record} {stored : List StoredRecord} {texts : List ℕ}
 
   -- ---- one record, of which what is kept and the bytes are at hand
 
-  module _ (i : ℕ) (kept : StoredRecord) (text : List ℕ) (at : slice_get stored i ≡ Some kept) (is : text ≡ flat_map text_of (drop i records)) where
+  module _ (i : ℕ) (kept : StoredRecord) (text : List ℕ) (at : slice_get stored i ≡ Some kept) (is : text ≡ flat_map record_text (drop i records)) where
     abbrev this : Record
     this = record_in kept text
 
@@ -162,7 +162,7 @@ module _ {records : List Record} {stored : List StoredRecord} {texts : List ℕ}
 
   -- ---- what the order of a record to a place says, where those before it stand before the place
 
-  module _ (place : Place) (slice : List StoredRecord) (i : ℕ) (d : StoredRecord) (text : List ℕ) (same : slice ≡ stored) (within : i < length slice) (is : text ≡ flat_map text_of (drop i records))
+  module _ (place : Place) (slice : List StoredRecord) (i : ℕ) (d : StoredRecord) (text : List ℕ) (same : slice ≡ stored) (within : i < length slice) (is : text ≡ flat_map record_text (drop i records))
       (before : All (λ r. place_cmp (place_of r) place ≡ Less) (take i records)) where
     abbrev here : Record
     here = record_in (get_or slice i d) text

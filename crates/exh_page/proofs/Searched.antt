@@ -12,7 +12,7 @@ use Rattle.std.proofs.Math.Numerals.{suc-eq-add-one}
 use Rattle.exh_page.specs.declared.record.Record.{Record}
 use Rattle.exh_page.specs.Place.{Place, place_cmp, place_of}
 use Rattle.exh_page.specs.Records.{IsRising, value_at, with_record}
-use Rattle.exh_page.specs.PackedRecords.{text_of}
+use Rattle.exh_page.specs.PackedRecords.{record_text}
 use Rattle.exh_page.specs.Page.{begun_by}
 use Rattle.exh_page.specs.RecordsLemmas.{place_cmp-exact, AllBefore, AllAfter, IsRising-drop, IsRising-filter, IsRising-with_record, after_later, value_at-cut, with_record-cut}
 use Rattle.exh_page.specs.declared.spot.Spot.{Spot}
@@ -93,17 +93,17 @@ insert_gap {searched} {records} {i} item gap same = sym (with_record-cut item se
 
 -- ---- where memory was refused, the value was longer than the one that it was to replace, or there was none
 
-longer : (item : Record) {searched : List Record} {i : ℕ} → IsFound (place_of item) searched i → IfSome (slice_get searched i) (λ r. length (text_of item) ≤ length (text_of r) → false ≡ true)
+longer : (item : Record) {searched : List Record} {i : ℕ} → IsFound (place_of item) searched i → IfSome (slice_get searched i) (λ r. length (record_text item) ≤ length (record_text r) → false ≡ true)
     → (P : Type 0) (value : List ℕ) → IfSome (slice_get searched i) (λ r. value ≡ r.value) → length item.value ≤ length value → P
 longer item {searched} {i} found refused P value read le =
     let r : Record = found.found in
     let is : value ≡ r.value = subst (λ o. IfSome o (λ r. value ≡ r.value)) found.at read in
     let key : r.key ≡ item.key = ap (λ (place : Place). place.1) (place_cmp-exact (place_of r) (place_of item) found.cut.here.0) in
-    let fits : length (text_of item) ≤ length (text_of r) = omega (arith, length-append item.key item.value, length-append r.key r.value, ap length key, ap length is) in
-    absurd (false≢true (subst (λ o. IfSome o (λ r. length (text_of item) ≤ length (text_of r) → false ≡ true)) found.at refused fits))
+    let fits : length (record_text item) ≤ length (record_text r) = omega (arith, length-append item.key item.value, length-append r.key r.value, ap length key, ap length is) in
+    absurd (false≢true (subst (λ o. IfSome o (λ r. length (record_text item) ≤ length (record_text r) → false ≡ true)) found.at refused fits))
 
 pub refused_found : (item : Record) {searched records : List Record} {i : ℕ} (P : Type 0) → IsFound (place_of item) searched i → searched ≡ records
-    → IfSome (slice_get searched i) (λ r. length (text_of item) ≤ length (text_of r) → false ≡ true) → IfSome (value_at (place_of item) records) (λ old. length item.value ≤ length old → P)
+    → IfSome (slice_get searched i) (λ r. length (record_text item) ≤ length (record_text r) → false ≡ true) → IfSome (value_at (place_of item) records) (λ old. length item.value ≤ length old → P)
 refused_found item {searched} {records} {i} P found same refused =
     let value : List ℕ = found.found.value in
     let read : IfSome (slice_get searched i) (λ r. value ≡ r.value) = subst (λ o. IfSome o (λ r. value ≡ r.value)) (sym found.at) refl in

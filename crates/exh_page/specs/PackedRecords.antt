@@ -11,8 +11,8 @@ abbrev pub stored_of : Record → StoredRecord
 stored_of r = record { pseudokey = r.pseudokey; key_len = length r.key; value_len = length r.value }
 
 -- a record's bytes: its key, then its value
-abbrev pub text_of : Record → List ℕ
-text_of r = r.key ++ r.value
+abbrev pub record_text : Record → List ℕ
+record_text r = r.key ++ r.value
 
 abbrev pub text_len : StoredRecord → ℕ
 text_len stored = stored.key_len + stored.value_len
@@ -26,7 +26,7 @@ pub record IsSized (r : Record) : Type 0 where
 -- the lists hold these records, and nothing else
 pub record ArePacked (records : List Record) (stored : List StoredRecord) (texts : List ℕ) : Type 0 where
   pub kept : stored ≡ map stored_of records
-  pub joined : texts ≡ flat_map text_of records
+  pub joined : texts ≡ flat_map record_text records
   pub sized : AllByRecursion IsSized records
 
 -- the record whose bytes come first

@@ -8,6 +8,7 @@ use Rattle.std.specs.Ordering.{is_lt, is_eq, is_gt, ordering_reverse, nat_cmp}
 use Rattle.std.proofs.lemmas.List.{append-nil}
 use Rattle.std.proofs.lemmas.Cmp.{nat_cmp_total, nat_list_cmp_total, on_total, then_total}
 use Rattle.std.proofs.lemmas.Map.Lookups.{CmpEqualImpliesEq, exact_pairs, exact_unsigned, exact_bytes}
+use Rattle.exh_prefix.specs.ListLemmas.{AllByRecursion-append, AllByRecursion-append_left, AllByRecursion-filter, AllByRecursion-weaker, filter-passes}
 use Rattle.exh_page.specs.declared.record.Record.{Record}
 use Rattle.exh_page.specs.Place.{Place, place_cmp, place_of}
 use Rattle.exh_page.specs.Records.{IsRising, is_before, is_at, is_after, value_at, with_record, without_place}
@@ -107,35 +108,12 @@ without_place-cut place records front middle back cut =
 
 -- ---- rising lists
 
-pub AllByRecursion-filter : (p : Record → Bool) (P : Record → Type 0) (records : List Record) → AllByRecursion P records → AllByRecursion P (filter p records)
-AllByRecursion-filter p P [] all = tt
-AllByRecursion-filter p P (r ∷ records) all = elim (p r) as (λ b. AllByRecursion P (cond b (r ∷ filter p records) (filter p records))) [
-  | true ↦ (all.0, AllByRecursion-filter p P records all.1)
-  | false ↦ AllByRecursion-filter p P records all.1
-]
-
 pub IsRising-filter : (p : Record → Bool) (records : List Record) → IsRising records → IsRising (filter p records)
 IsRising-filter p [] rising = tt
 IsRising-filter p (r ∷ records) rising = elim (p r) as (λ b. IsRising (cond b (r ∷ filter p records) (filter p records))) [
   | true ↦ (AllByRecursion-filter p _ records rising.0, IsRising-filter p records rising.1)
   | false ↦ IsRising-filter p records rising.1
 ]
-
--- tests that pass hold of each that a filter keeps
-pub filter-passes : (p : Record → Bool) (P : Record → Type 0) → ((r : Record) → p r ≡ true → P r) → (records : List Record) → AllByRecursion P (filter p records)
-filter-passes p P holds [] = tt
-filter-passes p P holds (r ∷ records) = elim (p r) as (λ b. p r ≡ b → AllByRecursion P (cond b (r ∷ filter p records) (filter p records))) [
-  | true ↦ λ is. (holds r is, filter-passes p P holds records)
-  | false ↦ λ is. filter-passes p P holds records
-] refl
-
-pub AllByRecursion-append : (P : Record → Type 0) (front back : List Record) → AllByRecursion P front → AllByRecursion P back → AllByRecursion P (front ++ back)
-AllByRecursion-append P [] back fore aft = aft
-AllByRecursion-append P (r ∷ front) back fore aft = (fore.0, AllByRecursion-append P front back fore.1 aft)
-
-pub AllByRecursion-weaker : (P Q : Record → Type 0) → ((r : Record) → P r → Q r) → (records : List Record) → AllByRecursion P records → AllByRecursion Q records
-AllByRecursion-weaker P Q weaker [] all = tt
-AllByRecursion-weaker P Q weaker (r ∷ records) all = (weaker r all.0, AllByRecursion-weaker P Q weaker records all.1)
 
 -- a record between those before it and those after it
 pub IsRising-around : (r : Record) (front back : List Record) → IsRising front → IsRising back → AllBefore (place_of r) front → AllAfter (place_of r) back → IsRising (front ++ r ∷ back)
@@ -155,10 +133,6 @@ pub IsRising-with_record : (r : Record) (records : List Record) → IsRising rec
 IsRising-with_record r records rising =
     IsRising-around r _ _ (IsRising-filter _ records rising) (IsRising-filter _ records rising)
     (filter-passes (is_before (place_of r)) _ (lt_passes (place_of r)) records) (filter-passes (is_after (place_of r)) _ (gt_passes (place_of r)) records)
-
-pub AllByRecursion-append_left : (P : Record → Type 0) (front back : List Record) → AllByRecursion P (front ++ back) → AllByRecursion P front
-AllByRecursion-append_left P [] back all = tt
-AllByRecursion-append_left P (r ∷ front) back all = (all.0, AllByRecursion-append_left P front back all.1)
 
 -- a part of rising records rises
 pub IsRising-drop : (i : ℕ) (records : List Record) → IsRising records → IsRising (drop i records)

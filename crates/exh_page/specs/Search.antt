@@ -3,7 +3,7 @@ use Rattle.std.specs.Prelude.{◌≡◌, ℕ, ◌+◌, ◌<◌, ◌≤◌, List,
 use Rattle.std.specs.List.{flat_map}
 use Rattle.exh_page.specs.declared.record.Record.{Record}
 use Rattle.exh_page.specs.declared.spot.Spot.{Spot}
-use Rattle.exh_page.specs.PackedRecords.{text_of}
+use Rattle.exh_page.specs.PackedRecords.{record_text}
 use Rattle.exh_page.specs.Place.{Place}
 use Rattle.exh_page.specs.RecordsLemmas.{IsCut}
 
@@ -21,7 +21,7 @@ pub record IsGap (place : Place) (records : List Record) (i : ℕ) : Type 0 wher
 
 -- the spot counts the bytes of the records before it
 abbrev pub IsSpot : List Record → Spot → Type 0
-IsSpot records spot = spot.start ≡ length (flat_map text_of (take spot.index records))
+IsSpot records spot = spot.start ≡ length (flat_map record_text (take spot.index records))
 
 -- what a search for a place answers: the spot of its record, or else the spot where one would stand
 abbrev pub IsSought : Place → List Record → Result Spot Spot → Type 0

@@ -10,8 +10,8 @@ pub record IsStored (limit len : ℕ) (array : List ℕ) : Type 0 where
   pub whole : length array ≡ limit
   pub rest : array ≡ take len array ++ replicate (limit - len) 0
 
-pub length-stored : (limit len : ℕ) (array : List ℕ) → IsStored limit len array → length (take len array) ≡ len
-length-stored limit len array stored = length-take-le len array (omega (arith, stored.fits, stored.whole))
+pub length-short_bytes : (limit len : ℕ) (array : List ℕ) → IsStored limit len array → length (take len array) ≡ len
+length-short_bytes limit len array stored = length-take-le len array (omega (arith, stored.fits, stored.whole))
 
 pub array-stored : (limit len : ℕ) (array : List ℕ) → IsStored limit len array → take len array ++ replicate (limit - length (take len array)) 0 ≡ array
-array-stored limit len array stored = ap (λ n. take len array ++ replicate (limit - n) 0) (length-stored limit len array stored) ∙ sym stored.rest
+array-stored limit len array stored = ap (λ n. take len array ++ replicate (limit - n) 0) (length-short_bytes limit len array stored) ∙ sym stored.rest

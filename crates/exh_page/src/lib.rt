@@ -2,7 +2,6 @@
 //! et al. 1979), and the forwarding pages that merges leave behind.
 #![tactic(auto)]
 
-pub use exh_prefix::PageNo;
 pub use key::{KEY_LIMIT, Key};
 pub use laws::{buddies_unite, children_share_all, pages_have_limits, shares_are_records};
 pub use page::{CAP_LIMIT, Page};

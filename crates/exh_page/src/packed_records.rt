@@ -2,7 +2,7 @@ ghost use Rattle.std.specs.Prelude.{◌≡◌, ℕ, ◌+◌, ◌<◌, ◌≤◌,
 ghost use Rattle.std.specs.List.{flat_map};
 ghost use Rattle.exh_page.specs.declared.key.TheConstants.{KEY_LIMIT};
 ghost use Rattle.exh_page.specs.declared.value.TheConstants.{VALUE_LIMIT};
-ghost use Rattle.exh_page.specs.PackedRecords.{text_of};
+ghost use Rattle.exh_page.specs.PackedRecords.{record_text};
 ghost use Rattle.exh_page.specs.Page.{begun_by};
 ghost use Rattle.exh_page.specs.Records.{IsRising};
 ghost use Rattle.exh_page.specs.Search.{IsSought, IsSpot};
@@ -179,7 +179,7 @@ impl PackedRecords {
         requires spot { IsSpot self.old spot }
         ensures ok { OnOk result (self.new ≡ set self.old spot.index (record { pseudokey = pseudokey; key = key.now; value = value.now })) }
         ensures err { OnErr result (self.new ≡ self.old) }
-        ensures fits { IfSome (slice_get self.old spot.index) (λ r. length (key.now ++ value.now) ≤ length (text_of r) → IsOk result) }
+        ensures fits { IfSome (slice_get self.old spot.index) (λ r. length (key.now ++ value.now) ≤ length (record_text r) → IsOk result) }
     {
         let end = spot.start + self.stored[spot.index].text_len();
         let (key, value) = (key.as_bytes(), value.as_bytes());
@@ -248,7 +248,7 @@ impl PackedRecords {
     // The bytes of the records from a spot on.
     fn text_from(&self, spot: Spot) -> &[u8]
         requires { IsSpot self.now spot }
-        ensures { result.now ≡ flat_map text_of (drop spot.index self.now) }
+        ensures { result.now ≡ flat_map record_text (drop spot.index self.now) }
     {
         &self.texts[spot.start..]
     }
@@ -256,7 +256,7 @@ impl PackedRecords {
     // How many bytes the records before a place have.
     fn start_of(&self, at: usize) -> usize
         requires { at ≤ length self.now }
-        ensures { result ≡ length (flat_map text_of (take at self.now)) }
+        ensures { result ≡ length (flat_map record_text (take at self.now)) }
     {
         let mut start = 0;
         for stored in &self.stored[..at] {

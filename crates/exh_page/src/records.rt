@@ -11,8 +11,7 @@ use exh_prefix::Prefix;
 use std::alloc::{AllocError, Global};
 use std::marker::Model;
 
-/// Records in strictly rising order of (pseudokey, key), so no key stands twice under one pseudokey
-///.
+/// Records in strictly rising order of (pseudokey, key), so no key stands twice under one pseudokey.
 #[derive(Debug, Drop)]
 pub struct Records {
     packed: PackedRecords,

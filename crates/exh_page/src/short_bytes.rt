@@ -17,7 +17,7 @@ pub(crate) struct ShortBytes<const N: usize> {
 
 impl<const N: usize> Model for ShortBytes<N> {
     ghost use Rattle.std.specs.Prelude.{ℕ, ◌-◌, List, ◌++◌, length, take, replicate};
-    ghost use Rattle.exh_page.specs.ShortBytes.{IsStored, length-stored, array-stored};
+    ghost use Rattle.exh_page.specs.ShortBytes.{IsStored, length-short_bytes, array-stored};
 
     ghost Value = { List ℕ };
 
@@ -27,7 +27,7 @@ impl<const N: usize> Model for ShortBytes<N> {
 
     ghost inverse = { λ bytes. record { len = length bytes; bytes = bytes ++ replicate (N - length bytes) 0 } };
 
-    ghost inverse_ok = { λ a h i. record { len = length-stored N a.len a.bytes h i; bytes = array-stored N a.len a.bytes h i } };
+    ghost inverse_ok = { λ a h i. record { len = length-short_bytes N a.len a.bytes h i; bytes = array-stored N a.len a.bytes h i } };
 }
 
 impl<const N: usize> ShortBytes<N> {

@@ -18,7 +18,7 @@ pub record IsStored (prefix : List Bool) (len bits : ℕ) : Type 0 where
   pub invariant : HasPrefix len bits × (bits < 2 ^ 64)
 
 -- a prefix's length and low bound do
-made : (prefix : List Bool) (len bits : ℕ) → length prefix ≤ LIMIT → len ≡ length prefix → bits ≡ low_of prefix → IsStored prefix len bits
+pub made : (prefix : List Bool) (len bits : ℕ) → length prefix ≤ LIMIT → len ≡ length prefix → bits ≡ low_of prefix → IsStored prefix len bits
 made prefix len bits short is_len is_bits =
     let P : ℕ → Type 0 = λ n. IsStored prefix n bits in
     let Q : ℕ → Type 0 = IsStored prefix (length prefix) in

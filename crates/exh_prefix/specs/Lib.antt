@@ -1,7 +1,11 @@
 pub mod Bits
+pub mod Prefix
+pub mod Leading
+pub mod Version
+pub mod Laws
+pub mod ListLemmas
 pub mod BitLemmas
 pub mod ByteLemmas
-pub mod Prefix
-pub mod Version
 pub mod PrefixLemmas
-pub mod Laws
+pub mod LowLemmas
+pub mod LeadingLemmas

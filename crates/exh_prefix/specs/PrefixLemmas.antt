@@ -76,8 +76,11 @@ length-up_to limit len bits word stored = length-take-le len (word_bits bits) (o
 pub length-stored : (len bits : ℕ) → HasPrefix len bits → length (take len (word_bits bits)) ≡ len
 length-stored len bits stored = length-up_to LIMIT len bits (omega arith) stored
 
+pub take-word-low_of : (bits : List Bool) (n : ℕ) → length bits ≡ n → n ≤ 64 → take n (word_bits (low_of bits)) ≡ bits
+take-word-low_of bits n many short = ap (take n) (word_bits-low_of bits (omega arith)) ∙ take_at bits (zeros (64 - length bits)) n many
+
 pub take-low_of-word : (prefix : List Bool) → length prefix ≤ 64 → take (length prefix) (word_bits (low_of prefix)) ≡ prefix
-take-low_of-word prefix short = ap (take (length prefix)) (word_bits-low_of prefix short) ∙ take_at prefix (zeros (64 - length prefix)) (length prefix) refl
+take-low_of-word prefix short = take-word-low_of prefix (length prefix) refl short
 
 pub take-low_of : (prefix : List Bool) → length prefix ≤ LIMIT → take (length prefix) (word_bits (low_of prefix)) ≡ prefix
 take-low_of prefix short = take-low_of-word prefix (omega arith)
@@ -109,6 +112,10 @@ low_of-lt prefix short =
     let same : len + m ≡ 64 = omega arith in
     let most : (number_of prefix + 1) * 2 ^ m ≤ 2 ^ len * 2 ^ m = mul-le-mul_right (2 ^ m) (omega (arith, number_of-lt prefix)) in
     rw (low_of-product prefix) (omega (arith, most, whole, ap (λ n. 2 ^ n) same))
+
+-- the low bound of bits that fit into a word is one
+pub low_of-word : (bits : List Bool) → length bits ≤ 64 → low_of bits < 2 ^ 64
+low_of-word bits short = omega (arith, low_of-lt bits short, pow_pos (64 - length bits))
 
 pub low_of-child : (prefix : List Bool) (bit : Bool) → length prefix < 64 → low_of (prefix ++ bit ∷ []) ≡ low_of prefix + cond bit (2 ^ (63 - length prefix)) 0
 low_of-child prefix bit short =
@@ -198,10 +205,6 @@ same_bit-true true other same = same
 same_bit-true false true same = cc
 same_bit-true false false same = refl
 
-and_true : (a b : Bool) → (a && b) ≡ true → (a ≡ true) × (b ≡ true)
-and_true true b is = (refl, is)
-and_true false b is = cc
-
 pub is_front-true : (front bits : List Bool) → IsFront front bits → is_front front bits ≡ true
 is_front-true [] bits is = refl
 is_front-true (first ∷ front) [] is = cc
@@ -214,11 +217,18 @@ pub IsFront-from_test : (front bits : List Bool) → is_front front bits ≡ tru
 IsFront-from_test [] bits is = refl
 IsFront-from_test (first ∷ front) [] is = cc
 IsFront-from_test (first ∷ front) (bit ∷ bits) is =
-    let both = and_true (same_bit first bit) (is_front front bits) is in
+    let both = and_parts (same_bit first bit) (is_front front bits) is in
     rw (same_bit-true first bit both.0, IsFront-from_test front bits both.1) refl
 
 pub not_front : (front bits : List Bool) → (IsFront front bits → ⊥) → is_front front bits ≡ false
 not_front front bits none = false_from_ne_true _ (λ is. none (IsFront-from_test front bits is))
+
+pub begins_or_not : (prefix : List Bool) (pseudokey : ℕ) → Begins prefix pseudokey ⊎ (Begins prefix pseudokey → ⊥)
+begins_or_not prefix pseudokey =
+    elim (begins prefix pseudokey) as (λ test. begins prefix pseudokey ≡ test → Begins prefix pseudokey ⊎ (Begins prefix pseudokey → ⊥)) [
+      | true ↦ λ is. inl (IsFront-from_test prefix (word_bits pseudokey) is)
+      | false ↦ λ is. inr (λ begun. false≢true (sym is ∙ is_front-true prefix (word_bits pseudokey) begun))
+    ] refl
 
 -- ---- children, and the last bit
 

@@ -1,7 +1,7 @@
 //! What holds of all prefixes, for the proofs of callers. Each function does nothing.
 
 ghost use Rattle.std.specs.Prelude.{◌≡◌};
-ghost use Rattle.exh_prefix.specs.Laws.{BeginsItsRange, BeginnersNest, ChildrenPart, RightChildClears, LeftChildKeepsLow, OrderIsTotal, DecidesEquality};
+ghost use Rattle.exh_prefix.specs.Laws.{BeginsItsRange, BeginnersNest, ChildrenPart, LeadingBitsTell, RightChildClears, LeftChildKeepsLow, OrderIsTotal, DecidesEquality};
 ghost use Rattle.exh_prefix.specs.Prefix.{prefix_cmp};
 
 use crate::prefix::Prefix;
@@ -19,6 +19,11 @@ pub fn beginners_nest()
 /// The two children of a prefix part the pseudokeys that it begins.
 pub fn children_part()
     ensures { ChildrenPart }
+{}
+
+/// A prefix begins exactly the pseudokeys whose leading bits, as a number, are its bits'.
+pub fn leading_bits_tell()
+    ensures { LeadingBitsTell }
 {}
 
 /// The low bound of a right child, its lowest set bit cleared, is its parent's.

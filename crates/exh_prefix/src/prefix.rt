@@ -3,9 +3,10 @@
 ghost use Rattle.std.specs.Prelude.{◌≡◌, ◌≢◌, ℕ, ◌+◌, ◌-◌, ◌^◌, ◌<◌, ◌≤◌, ◌↔◌, Bool, true, false, List, [], ◌∷◌, ◌++◌, length, take, IsTrue, IsSome, IsNone, IfSome, Some, slice_get};
 ghost use Rattle.std.specs.Option.{SomeIff};
 ghost use Rattle.exh_prefix.specs.declared.prefix.TheConstants.{LIMIT};
-ghost use Rattle.exh_prefix.specs.Bits.{word_bits, lowest_cleared};
+ghost use Rattle.exh_prefix.specs.Bits.{bits_of, word_bits, lowest_cleared};
 ghost use Rattle.exh_prefix.specs.Prefix.{Begins, HasPrefix, low_of, AreBuddies, prefix_text};
 
+use crate::leading_bits::first_pseudokey;
 use std::fmt;
 use std::marker::Model;
 
@@ -14,6 +15,9 @@ mod tests;
 
 /// The greatest length of a prefix, in bits.
 pub const LIMIT: u8 = 16;
+
+/// The most leading bits by which a file is cut into wards.
+pub const WARD_BITS_LIMIT: u8 = 4;
 
 /// A page's number in its ward, from 0 on.
 pub type PageNo = u32;
@@ -54,6 +58,19 @@ impl Prefix {
             return None;
         }
         Some(Prefix { bits, len })
+    }
+
+    /// The prefix of `len` bits that spell the number. The prefix of a ward is that of its number, in
+    /// as many bits as the file is cut by.
+    pub fn of_number(len: u8, number: u64) -> Prefix
+        requires len { len ≤ LIMIT }
+        requires number { number < 2 ^ len }
+        ensures { result ≡ bits_of len number }
+    {
+        Prefix {
+            bits: first_pseudokey(len, number),
+            len,
+        }
     }
 
     /// The low bound: the prefix, followed by zeros to 64 bits, as a number.

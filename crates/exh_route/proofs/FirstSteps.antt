@@ -21,8 +21,8 @@ use Rattle.exh_route.specs.declared.distances.Lead.{Lead}
 use Rattle.exh_route.specs.declared.distances.Lead.TheVariants.{Right, Target}
 use Rattle.exh_route.proofs.Links.{IsNext, last_live, next_live, target_cleared, ward_few}
 use Rattle.exh_route.proofs.LiveCounts.{none_between, one_less_right}
-use Rattle.exh_route.proofs.Ones.{chain_few}
-use Rattle.exh_route.proofs.Places.{one_there}
+use Rattle.exh_route.proofs.DistancesFew.{chain_few}
+use Rattle.exh_prefix.specs.ListLemmas.{one_there}
 
 -- as many forwarding pages as were counted lead to the page
 abbrev pub HasForwarded : List Page → ℕ → ℕ → ℕ → Type 0

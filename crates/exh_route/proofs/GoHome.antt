@@ -8,7 +8,7 @@ use Rattle.exh_page.specs.declared.page.Page.{Page}
 use Rattle.exh_page.specs.declared.page.Page.TheVariants.{Live, Forward}
 use Rattle.exh_page.specs.declared.record.Record.{Record}
 use Rattle.exh_page.specs.Page.{IsLive, low_bound}
-use Rattle.exh_legal.specs.Laws.{RightLinksLeadOn}
+use Rattle.exh_legal.specs.Laws.{RightLinksLeadOn, IsBelow}
 use Rattle.exh_legal.specs.Pages.{IsAt, IsHome, AreLinked, bare}
 use Rattle.exh_calls.specs.Call.{key_of}
 use Rattle.exh_ward.specs.HopTable.{IsReached, LeadsTo, HopOf}
@@ -17,12 +17,12 @@ use Rattle.exh_calls.specs.declared.call.Call.{Call}
 use Rattle.exh_ward.specs.declared.hop.Hop.{Hop}
 use Rattle.exh_ward.specs.declared.hop.Hop.TheVariants.{Moved}
 use Rattle.exh_route.specs.Distance.{IsDistance, live_between}
-use Rattle.exh_route.specs.Laws.{IsBelow, IsOnTheWay, EndsAtHome}
+use Rattle.exh_route.specs.Laws.{CanGoOn, EndsAtHome}
 use Rattle.exh_route.specs.Moves.{AreMoves, EndsMoves}
 use Rattle.exh_route.proofs.Links.{IsNext, target_below, next_live, none_beyond_home}
 use Rattle.exh_route.proofs.LiveCounts.{none_between, one_less_right}
 use Rattle.exh_route.proofs.OneDistance.{same_distance}
-use Rattle.exh_route.proofs.Places.{one_there}
+use Rattle.exh_prefix.specs.ListLemmas.{one_there}
 
 -- ---- the ways
 
@@ -221,7 +221,7 @@ module _ (cap : ℕ) (pseudo : List ℕ → ℕ) (pages : List Page) (call : Cal
 
     -- ---- the claims
 
-    module _ (links : RightLinksLeadOn) (ward : List Bool) (from : ℕ) (on : IsOnTheWay ward pages from k) where
+    module _ (links : RightLinksLeadOn) (ward : List Bool) (from : ℕ) (on : CanGoOn ward pages from k) where
       pub way_home : GoesOn from
       way_home = goes_on ward on.linked links on.word on.covered from on.below.0 on.below.1 on.below.2
 

@@ -1,13 +1,17 @@
-pub mod Places
-pub mod RunPlaces
-pub mod AnsweredPages
-pub mod StepFacts
-pub mod RunFacts
+-- of runs_keep_wards_sound_and_one_map
+pub mod StepOneMap
+pub mod RunOneMap
+-- of pages_stay and named_pages_stay
+pub mod StepPlaces
+pub mod PagesStay
+pub mod NamedPagesStay
+-- of gets_go_home and moves_come_nearer
 pub mod Links
 pub mod Counts
-pub mod Ones
-pub mod OneDistance
 pub mod LiveCounts
 pub mod GoHome
-pub mod RunNamed
+-- of one_distance and distances_are_few
+pub mod OneDistance
+pub mod DistancesFew
+-- of distances: the first live page, and the count from there
 pub mod FirstSteps

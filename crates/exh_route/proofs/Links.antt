@@ -4,15 +4,16 @@ use Rattle.std.proofs.lemmas.Nat.{and_le_r}
 use Rattle.exh_prefix.specs.declared.prefix.TheConstants.{LIMIT}
 use Rattle.exh_prefix.specs.Bits.{lowest_cleared}
 use Rattle.exh_prefix.specs.Prefix.{HasPrefix, low_of}
-use Rattle.exh_prefix.specs.PrefixLemmas.{begins_low, begins_from_low, lowest_cleared-and}
+use Rattle.exh_prefix.specs.PrefixLemmas.{begins_low, lowest_cleared-and}
 use Rattle.exh_page.specs.declared.page.Page.{Page}
 use Rattle.exh_page.specs.declared.page.Page.TheVariants.{Live, Forward}
 use Rattle.exh_page.specs.declared.record.Record.{Record}
 use Rattle.exh_page.specs.Page.{IsLive, low_bound, with_records}
 use Rattle.exh_legal.specs.BareLemmas.{bare_at, at_bare, bare_low}
-use Rattle.exh_legal.specs.LowLemmas.{front_shorter, begins_own_low}
+use Rattle.exh_prefix.specs.LowLemmas.{front_shorter}
 use Rattle.exh_legal.specs.Pages.{IsAt, IsHome, IsWithin, IsRightLink, AreLinked, bare}
-use Rattle.exh_route.proofs.Places.{one_there}
+use Rattle.exh_legal.specs.PlaceLemmas.{home_bare, home_between, home_of_low}
+use Rattle.exh_prefix.specs.ListLemmas.{one_there}
 
 live_full : (page : Page) → IsLive (with_records [] page) → IsLive page
 live_full (Live prefix right records) live = live
@@ -22,14 +23,6 @@ live_bare : (page : Page) → IsLive page → IsLive (with_records [] page)
 live_bare (Live prefix right records) live = live
 live_bare (Forward low target) live = live
 
-home_full : (page : Page) (pseudokey : ℕ) → IsHome (with_records [] page) pseudokey → IsHome page pseudokey
-home_full (Live prefix right records) pseudokey home = home
-home_full (Forward low target) pseudokey home = home
-
-home_bare : (page : Page) (pseudokey : ℕ) → IsHome page pseudokey → IsHome (with_records [] page) pseudokey
-home_bare (Live prefix right records) pseudokey home = home
-home_bare (Forward low target) pseudokey home = home
-
 within_full : (ward : List Bool) (page : Page) → IsWithin ward (with_records [] page) → IsWithin ward page
 within_full ward (Live prefix right records) within = within
 within_full ward (Forward low target) within = within
@@ -37,17 +30,6 @@ within_full ward (Forward low target) within = within
 ward_short : (ward : List Bool) (page : Page) → IsWithin ward page → IsLive page → length ward ≤ LIMIT
 ward_short ward (Live prefix right records) within live = omega (arith, front_shorter ward prefix within.0, within.1)
 ward_short ward (Forward low target) within live = absurd live
-
--- what a home begins up to the pseudokey
-home_between : (ward : List Bool) (page : Page) (pseudokey between : ℕ) → IsWithin ward page → pseudokey < 2 ^ 64 → IsHome page pseudokey → low_bound page ≤ between → between ≤ pseudokey → IsHome page between
-home_between ward (Live prefix right records) pseudokey between within small home above below =
-    begins_from_low prefix between (omega (arith, within.1)) above (omega (arith, below, (begins_low prefix pseudokey (omega (arith, within.1)) small home).1))
-home_between ward (Forward low target) pseudokey between within small home above below = absurd home
-
--- a live page begins its own low bound
-home_of_low : (ward : List Bool) (page : Page) → IsWithin ward page → IsLive page → IsHome page (low_bound page)
-home_of_low ward (Live prefix right records) within live = begins_own_low prefix within.1
-home_of_low ward (Forward low target) within live = absurd live
 
 -- the live page with the next greater low bound
 pub record IsNext (pages : List Page) (page : Page) (number : ℕ) (next : Page) : Type 0 where
@@ -141,7 +123,7 @@ module _ (ward : List Bool) (pages : List Page) (linked : AreLinked ward (bare p
   pub none_beyond_home : (pseudokey home : ℕ) (page : Page) → IsAt pages home page → pseudokey < 2 ^ 64 → IsHome page pseudokey → (other : ℕ) (beyond : Page) → IsAt pages other beyond → IsLive beyond → low_bound page < low_bound beyond → low_bound beyond ≤ pseudokey → ⊥
   none_beyond_home pseudokey home page is small begins other beyond is_beyond live above below =
       let begun = home_between ward page pseudokey (low_bound beyond) (within_at home page is) small begins (omega (arith, above)) below in
-      let own = home_of_low ward beyond (within_at other beyond is_beyond) live in
+      let own = home_of_low beyond ward (within_at other beyond is_beyond) live in
       let same : home ≡ other = one_home (low_bound beyond) home other page beyond is is_beyond begun own in
       let pages_same : page ≡ beyond = one_there pages other page beyond (subst (λ n. IsAt pages n page) same is) is_beyond in
       omega (arith, above, ap low_bound pages_same)

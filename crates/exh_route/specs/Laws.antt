@@ -4,7 +4,7 @@ use Rattle.exh_prefix.specs.declared.prefix.TheConstants.{LIMIT}
 use Rattle.exh_prefix.specs.Prefix.{Begins}
 use Rattle.exh_page.specs.declared.page.Page.{Page}
 use Rattle.exh_page.specs.Page.{low_bound}
-use Rattle.exh_legal.specs.Laws.{KeepsPlaces, IsWard}
+use Rattle.exh_legal.specs.Laws.{KeepsPlaces, IsBelow, IsWard}
 use Rattle.exh_legal.specs.Pages.{IsAt, AreLinked, bare, map_of}
 use Rattle.exh_calls.specs.Call.{key_of}
 use Rattle.exh_calls.specs.History.{IsHistory, map_left}
@@ -16,7 +16,7 @@ use Rattle.exh_calls.specs.declared.call.Call.TheVariants.{Get}
 use Rattle.exh_ward.specs.declared.hop.Hop.TheVariants.{Done, Moved, MustSplit}
 use Rattle.exh_route.specs.Distance.{IsDistance, live_pages}
 use Rattle.exh_route.specs.Moves.{AreMoves, GoesHome}
-use Rattle.exh_route.specs.WardRun.{WardMoment, IsWardRun, answered_by, answered_in, changes_in, named_by}
+use Rattle.exh_route.specs.WardRun.{WardMoment, IsWardRun, answer_of, answers_in, changes_over, named_by}
 
 -- ---- one map
 
@@ -26,16 +26,16 @@ IsLegalWard pseudokey_of ward = IsWard ward.cap (pseudokey_of ward.keyer) (own_p
 
 -- what isn't an answer leaves the map as it was
 abbrev pub LeavesMap : {K : Type 0} → WardMoment K → Type 0
-LeavesMap moment = answered_by moment.event ≡ [] → map_of moment.after.pages ≡ map_of moment.before.pages
+LeavesMap moment = answer_of moment.event ≡ [] → map_of moment.after.pages ≡ map_of moment.before.pages
 
-pub record IsOneMaps {K : Type 0} (pseudokey_of : K → List ℕ → ℕ) (start : WardState K) (moments : List (WardMoment K)) (end : WardState K) : Type 0 where
+pub record IsWardsOneMap {K : Type 0} (pseudokey_of : K → List ℕ → ℕ) (start : WardState K) (moments : List (WardMoment K)) (end : WardState K) : Type 0 where
   -- legal for the start table and all changes, those of the list last
   pub legal : IsLegalWard pseudokey_of end
-  pub notices : end.notices ≡ start.notices ++ changes_in moments
+  pub notices : end.notices ≡ start.notices ++ changes_over moments
   -- the calls and replies are a run of the map machine from the map at the start, and the map at the end is where that run ends
-  pub replies : IsHistory start.cap (pseudokey_of start.keyer) (map_of start.pages) (answered_in moments)
-  pub left : map_of end.pages ≡ map_left start.cap (pseudokey_of start.keyer) (map_of start.pages) (answered_in moments)
-  pub journal : end.journal ≡ start.journal ++ answered_in moments
+  pub replies : IsHistory start.cap (pseudokey_of start.keyer) (map_of start.pages) (answers_in moments)
+  pub left : map_of end.pages ≡ map_left start.cap (pseudokey_of start.keyer) (map_of start.pages) (answers_in moments)
+  pub journal : end.journal ≡ start.journal ++ answers_in moments
   -- a split or merge leaves the map as it was, as does whatever was refused or not answered yet
   pub unmoved : All LeavesMap moments
   -- and of the ward nothing else changes
@@ -44,7 +44,7 @@ pub record IsOneMaps {K : Type 0} (pseudokey_of : K → List ℕ → ℕ) (start
 -- for any list of moments from a legal ward
 abbrev pub RunsAreOneMaps : {K : Type 0} → (K → List ℕ → ℕ) → Type 0
 RunsAreOneMaps {K} pseudokey_of = (start : WardState K) (moments : List (WardMoment K)) (end : WardState K)
-    → IsLegalWard pseudokey_of start → IsWardRun pseudokey_of start moments end → IsOneMaps pseudokey_of start moments end
+    → IsLegalWard pseudokey_of start → IsWardRun pseudokey_of start moments end → IsWardsOneMap pseudokey_of start moments end
 
 -- and from a sound ward to one
 abbrev pub RunsKeepWardsSound : {K : Type 0} → (K → List ℕ → ℕ) → Type 0
@@ -52,10 +52,6 @@ RunsKeepWardsSound {K} pseudokey_of = (start : WardState K) (moments : List (War
     → IsSoundWard pseudokey_of start → IsWardRun pseudokey_of start moments end → IsSoundWard pseudokey_of end
 
 -- ---- pages stay
-
--- the page is there, and its low bound isn't above the pseudokey
-abbrev pub IsBelow : List Page → ℕ → ℕ → Type 0
-IsBelow pages number pseudokey = (page : Page) × IsAt pages number page × (low_bound page ≤ pseudokey)
 
 pub record ArePlacesKept {K : Type 0} (start : WardState K) (moments : List (WardMoment K)) (end : WardState K) : Type 0 where
   -- each page of the ward, at the start or after any moment, keeps its number and low bound
@@ -82,7 +78,7 @@ NamedPagesStay {K} pseudokey_of = (start : WardState K) (moments : List (WardMom
 -- ---- moves
 
 -- linked pages, as those of a legal ward are, and a page from which a call of a pseudokey can go on
-pub record IsOnTheWay (ward : List Bool) (pages : List Page) (from pseudokey : ℕ) : Type 0 where
+pub record CanGoOn (ward : List Bool) (pages : List Page) (from pseudokey : ℕ) : Type 0 where
   pub linked : AreLinked ward (bare pages)
   pub word : pseudokey < 2 ^ 64
   pub covered : Begins ward pseudokey
@@ -91,7 +87,7 @@ pub record IsOnTheWay (ward : List Bool) (pages : List Page) (from pseudokey : �
 -- a Get's hops end at the live page whose prefix begins its pseudokey, after as many moves as the distance, with the map machine's reply
 abbrev pub GetsGoHome : Type 0
 GetsGoHome = (cap : ℕ) (pseudo : List ℕ → ℕ) (ward : List Bool) (pages : List Page) (from : ℕ) (key : List ℕ)
-    → IsOnTheWay ward pages from (pseudo key)
+    → CanGoOn ward pages from (pseudo key)
     → (way : GoesHome cap pseudo pages from (Get key)) × HopOf cap pseudo pages way.home (Get key) (Done (reply_of cap pseudo (map_of pages) (Get key)))
 
 -- and so do those of any call; there it is answered, but for a new key's Put at a full page, which must wait for a split
@@ -102,7 +98,7 @@ pub record EndsAtHome (cap : ℕ) (pseudo : List ℕ → ℕ) (pages : List Page
 
 abbrev pub CallsGoHome : Type 0
 CallsGoHome = (cap : ℕ) (pseudo : List ℕ → ℕ) (ward : List Bool) (pages : List Page) (from : ℕ) (call : Call)
-    → IsOnTheWay ward pages from (pseudo (key_of call)) → EndsAtHome cap pseudo pages from call
+    → CanGoOn ward pages from (pseudo (key_of call)) → EndsAtHome cap pseudo pages from call
 
 -- calls of one pseudokey make the same moves, whatever they are
 abbrev pub MovesAreOfPseudokeys : Type 0
@@ -112,7 +108,7 @@ MovesAreOfPseudokeys = (cap : ℕ) (pseudo : List ℕ → ℕ) (pages : List Pag
 -- each move lowers the distance by exactly one
 abbrev pub MovesComeNearer : Type 0
 MovesComeNearer = (cap : ℕ) (pseudo : List ℕ → ℕ) (ward : List Bool) (pages : List Page) (from : ℕ) (call : Call) (next distance : ℕ)
-    → IsOnTheWay ward pages from (pseudo (key_of call)) → IsDistance pages from (pseudo (key_of call)) distance → HopOf cap pseudo pages from call (Moved next)
+    → CanGoOn ward pages from (pseudo (key_of call)) → IsDistance pages from (pseudo (key_of call)) distance → HopOf cap pseudo pages from call (Moved next)
     → (left : ℕ) × (distance ≡ suc left) × IsDistance pages next (pseudo (key_of call)) left
 
 -- of any list of pages, a page has one distance at most

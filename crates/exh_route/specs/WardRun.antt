@@ -42,9 +42,9 @@ IsWardRun pseudokey_of start (moment ∷ moments) end =
 -- ---- what it answers, tells and names
 
 -- the entry of an answered call
-abbrev pub answered_by : WardEvent → List JournalEntry
-answered_by (HopAt at client call (Ok (Done reply))) = record { client = client; call = call; reply = reply } ∷ []
-answered_by event = []
+abbrev pub answer_of : WardEvent → List JournalEntry
+answer_of (HopAt at client call (Ok (Done reply))) = record { client = client; call = call; reply = reply } ∷ []
+answer_of event = []
 
 -- the notice of a split or merge
 abbrev pub changes_by : WardEvent → List Notice
@@ -52,11 +52,11 @@ changes_by (SplitAt at (Ok notice)) = notice ∷ []
 changes_by (MergeAt at (Ok notice)) = notice ∷ []
 changes_by event = []
 
-abbrev pub answered_in : {K : Type 0} → List (WardMoment K) → List JournalEntry
-answered_in moments = flat_map (λ moment. answered_by moment.event) moments
+abbrev pub answers_in : {K : Type 0} → List (WardMoment K) → List JournalEntry
+answers_in moments = flat_map (λ moment. answer_of moment.event) moments
 
-abbrev pub changes_in : {K : Type 0} → List (WardMoment K) → List Notice
-changes_in moments = flat_map (λ moment. changes_by moment.event) moments
+abbrev pub changes_over : {K : Type 0} → List (WardMoment K) → List Notice
+changes_over moments = flat_map (λ moment. changes_by moment.event) moments
 
 abbrev pub right_page : Kind → List ℕ
 right_page (Split right) = right ∷ []

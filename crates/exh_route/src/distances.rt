@@ -11,7 +11,7 @@ ghost use Rattle.exh_route.specs.FirstLive.{lead_of, IsFirstLive, IsLivePage};
 use exh_frames::Pages;
 use exh_keyer::Keyer;
 use exh_legal::pages_are_few;
-use exh_page::PageNo;
+use exh_prefix::PageNo;
 use exh_ward::{PageLine, Ward, WardFault};
 
 // Where a page leads on to.
@@ -33,8 +33,8 @@ struct FirstLive {
 }
 
 /// How many moves a page is from the answer for a pseudokey: the forwarding pages on the way to the
-/// first live page, and the live pages whose low bound is above that one's and at most the pseudokey
-///. It reads those pages and two more at most, and copies none. Refused: `NoPage`;
+/// first live page, and the live pages whose low bound is above that one's and at most the pseudokey.
+/// It reads those pages and two more at most, and copies none. Refused: `NoPage`;
 /// at any point `Memory` and `Page`. The ward is as before.
 pub fn distance<P: Pages + Drop, K: Keyer>(
     ward: &mut Ward<P, K>,

@@ -12,7 +12,7 @@ use Rattle.exh_script.specs.Replies.{world_left}
 use Rattle.exh_script.specs.Text.{ScriptWorld, after_parsed, after_line}
 use Rattle.exh_script.specs.declared.line.Line.{Line}
 use Rattle.exh_script.specs.declared.line.Line.TheVariants.{Step, View}
-use Rattle.exh_script.proofs.KeptWorlds.{WorldLaws, IsKept, step_left, line_kept}
+use Rattle.exh_script.proofs.KeptWorlds.{WorldLaws, IsServedWorld, step_left, line_kept}
 use Rattle.exh_script.proofs.LineMoments.{parsed_entries, entries_from}
 use Rattle.exh_script.proofs.WardSteps.{is_in_ward}
 
@@ -29,7 +29,7 @@ module _ (laws : WorldLaws) (ward_bits : ℕ) (keyer : AnyKeyer) (number : ℕ) 
   has_none : (world : ScriptWorld) (ward : WardState AnyKeyer) → slice_get world.wards number ≡ Some ward → HasMore world [] ward
   has_none world ward there = record { before = ward; there = there; journal = sym (append-nil ward.journal) }
 
-  parsed_more : (world : ScriptWorld) → IsKept ward_bits keyer world → (parsed : Result Line LineFault) (ward : WardState AnyKeyer) → slice_get (after_parsed world parsed).wards number ≡ Some ward → HasMore world (parsed_entries world parsed) ward
+  parsed_more : (world : ScriptWorld) → IsServedWorld ward_bits keyer world → (parsed : Result Line LineFault) (ward : WardState AnyKeyer) → slice_get (after_parsed world parsed).wards number ≡ Some ward → HasMore world (parsed_entries world parsed) ward
   parsed_more world is (Ok (Step event)) ward there =
       let left = (step_left laws ward_bits keyer world is event).wards number ward there in
       let entries = parsed_entries world (Ok (Step event)) in
@@ -42,11 +42,11 @@ module _ (laws : WorldLaws) (ward_bits : ℕ) (keyer : AnyKeyer) (number : ℕ) 
   parsed_more world is (Ok (View view)) ward there = has_none world ward there
   parsed_more world is (Err fault) ward there = has_none world ward there
 
-  line_more : (world : ScriptWorld) → IsKept ward_bits keyer world → (line : List ℕ) (ward : WardState AnyKeyer) → slice_get (after_line world line).wards number ≡ Some ward → HasMore world (parsed_entries world (line_of line)) ward
+  line_more : (world : ScriptWorld) → IsServedWorld ward_bits keyer world → (line : List ℕ) (ward : WardState AnyKeyer) → slice_get (after_line world line).wards number ≡ Some ward → HasMore world (parsed_entries world (line_of line)) ward
   unfolding after_line
   line_more world is line = parsed_more world is (line_of line)
 
-  pub lines_more : (world : ScriptWorld) → IsKept ward_bits keyer world → (lines : List (List ℕ)) (ward : WardState AnyKeyer) → slice_get (world_left world lines).wards number ≡ Some ward → HasMore world (entries_from world lines) ward
+  pub lines_more : (world : ScriptWorld) → IsServedWorld ward_bits keyer world → (lines : List (List ℕ)) (ward : WardState AnyKeyer) → slice_get (world_left world lines).wards number ≡ Some ward → HasMore world (entries_from world lines) ward
   lines_more world is [] ward there = has_none world ward there
   lines_more world is (line ∷ lines) ward there =
       let later = lines_more (after_line world line) (line_kept laws ward_bits keyer world is line) lines ward there in

@@ -7,7 +7,7 @@ use Rattle.exh_route.specs.Laws.{RunsKeepWardsSound}
 use Rattle.exh_text.specs.declared.line_fault.LineFault.{LineFault}
 use Rattle.exh_ward.specs.WardState.{WardState, IsSoundWard}
 use Rattle.exh_world.specs.Laws.{AreWardsSound, StepsHaveOutcomes, StepsKeepWorldsSound}
-use Rattle.exh_world.specs.Run.{Moment, IsRun, answered_at, entry_of}
+use Rattle.exh_world.specs.Run.{Moment, IsRun, answered_at, journal_entry_of}
 use Rattle.exh_world.specs.Sound.{IsSoundWorld}
 use Rattle.exh_world.specs.StepFunction.{result_of, world_after}
 use Rattle.exh_world.specs.declared.event.Event.{Event}
@@ -25,14 +25,14 @@ pub record WorldLaws : Type 0 where
   pub keep_sound : StepsKeepWorldsSound any_pseudokey
   pub wards : RunsKeepWardsSound any_pseudokey
 
-pub record IsKept (ward_bits : ℕ) (keyer : AnyKeyer) (world : ScriptWorld) : Type 0 where
+pub record IsServedWorld (ward_bits : ℕ) (keyer : AnyKeyer) (world : ScriptWorld) : Type 0 where
   pub sound : IsSoundWorld any_pseudokey world
   pub bits_are : world.ward_bits ≡ ward_bits
   pub keyer_is : world.keyer ≡ keyer
 
 module _ (laws : WorldLaws) (ward_bits : ℕ) (keyer : AnyKeyer) where
   abbrev pub Kept : ScriptWorld → Type 0
-  Kept = IsKept ward_bits keyer
+  Kept = IsServedWorld ward_bits keyer
 
   -- ---- one step
 
@@ -40,7 +40,7 @@ module _ (laws : WorldLaws) (ward_bits : ℕ) (keyer : AnyKeyer) where
     abbrev new : ScriptWorld
     new = world_after any_pseudokey old event
 
-    pub step_left : AreWardsLeft old (map entry_of (answered_at old event (result_of any_pseudokey old event))) new
+    pub step_left : AreWardsLeft old (map journal_entry_of (answered_at old event (result_of any_pseudokey old event))) new
     step_left = wards_left old laws.wards is.sound event (result_of any_pseudokey old event) new (laws.outcomes old event is.sound)
 
     step_wards : (number : ℕ) (ward : WardState AnyKeyer) → slice_get new.wards number ≡ Some ward → IsSoundWard any_pseudokey ward

@@ -1,13 +1,16 @@
+-- of the text of a script: respond, answer_lines, serve
 pub mod Responded
 pub mod ServedLemmas
-pub mod Stepped
+-- of replies_are_one_maps
+pub mod NewFile
 pub mod RequestLemmas
+pub mod Stepped
 pub mod LineMoments
-pub mod WardSteps
 pub mod KeptWorlds
+pub mod WardSteps
 pub mod Journals
 pub mod BegunRequests
-pub mod ReplyLaw
 pub mod Strays
-pub mod NewFile
+pub mod ReplyLaw
+-- of printed_answers_are_one
 pub mod ToldLemmas

@@ -6,7 +6,7 @@ use Rattle.exh_keyer.specs.declared.any_keyer.AnyKeyer.{AnyKeyer}
 use Rattle.exh_keyer.specs.Pseudokey.{any_pseudokey}
 use Rattle.exh_text.specs.declared.line_fault.LineFault.{LineFault}
 use Rattle.exh_calls.specs.declared.journal_entry.JournalEntry.{JournalEntry}
-use Rattle.exh_world.specs.Run.{Moment, Answered, answered_at, answered_in, entry_of}
+use Rattle.exh_world.specs.Run.{Moment, Answered, answered_at, answered_in, journal_entry_of}
 use Rattle.exh_world.specs.StepFunction.{result_of, world_after}
 use Rattle.exh_world.specs.declared.event.Event.{Event}
 use Rattle.exh_world.specs.declared.event.Event.TheVariants as events
@@ -47,7 +47,7 @@ turns_are world (line ∷ lines) =
 -- ---- entries
 
 abbrev pub entries_of : ScriptWorld → Line → List JournalEntry
-entries_of world (Step event) = map entry_of (answered_at world event (result_of any_pseudokey world event))
+entries_of world (Step event) = map journal_entry_of (answered_at world event (result_of any_pseudokey world event))
 entries_of world line = []
 
 abbrev pub parsed_entries : ScriptWorld → Result Line LineFault → List JournalEntry
@@ -69,8 +69,8 @@ none_answered world (events.Send copy) fault = refl
 none_answered world (events.Combine copy table) fault = refl
 none_answered world (events.Restart copy) fault = refl
 
-entries_parsed : (world : ScriptWorld) (parsed : Result Line LineFault) → map entry_of (answered_in (parsed_moments world parsed)) ≡ parsed_entries world parsed
-entries_parsed world (Ok (Step event)) = ap (map entry_of) (append-nil (answered_at world event (result_of any_pseudokey world event)))
+entries_parsed : (world : ScriptWorld) (parsed : Result Line LineFault) → map journal_entry_of (answered_in (parsed_moments world parsed)) ≡ parsed_entries world parsed
+entries_parsed world (Ok (Step event)) = ap (map journal_entry_of) (append-nil (answered_at world event (result_of any_pseudokey world event)))
 entries_parsed world (Ok (View view)) = refl
 entries_parsed world (Err fault) = refl
 
@@ -78,10 +78,10 @@ abbrev answered_by_moment : Moment AnyKeyer → List Answered
 answered_by_moment moment = answered_at moment.before moment.turn.event moment.turn.result
 
 -- they are those of the moments' answering hops
-pub entries_are : (world : ScriptWorld) (lines : List (List ℕ)) → map entry_of (answered_in (moments_from world lines)) ≡ entries_from world lines
+pub entries_are : (world : ScriptWorld) (lines : List (List ℕ)) → map journal_entry_of (answered_in (moments_from world lines)) ≡ entries_from world lines
 entries_are world [] = refl
 entries_are world (line ∷ lines) =
-    ap (map entry_of) (flat_map-append answered_by_moment (parsed_moments world (line_of line)) (moments_from (after_line world line) lines))
-    ∙ map-append entry_of (answered_in (parsed_moments world (line_of line))) (answered_in (moments_from (after_line world line) lines))
-    ∙ ap (λ entries. entries ++ map entry_of (answered_in (moments_from (after_line world line) lines))) (entries_parsed world (line_of line))
+    ap (map journal_entry_of) (flat_map-append answered_by_moment (parsed_moments world (line_of line)) (moments_from (after_line world line) lines))
+    ∙ map-append journal_entry_of (answered_in (parsed_moments world (line_of line))) (answered_in (moments_from (after_line world line) lines))
+    ∙ ap (λ entries. entries ++ map journal_entry_of (answered_in (moments_from (after_line world line) lines))) (entries_parsed world (line_of line))
     ∙ ap (λ entries. parsed_entries world (line_of line) ++ entries) (entries_are (after_line world line) lines)

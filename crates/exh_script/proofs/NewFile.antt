@@ -4,7 +4,7 @@ use Rattle.std.specs.Prelude.{◌&&◌}
 use Rattle.std.specs.Int.{is_in_range}
 use Rattle.std.specs.FinMap.{empty, from_entries}
 use Rattle.std.specs.List.{range_with_len}
-use Rattle.std.proofs.lemmas.Bool.{leb-true}
+use Rattle.std.proofs.lemmas.Bool.{leb-true, and_parts}
 use Rattle.exh_keyer.specs.declared.any_keyer.AnyKeyer.{AnyKeyer}
 use Rattle.exh_keyer.specs.Pseudokey.{any_pseudokey}
 use Rattle.exh_page.specs.Page.{records_of}
@@ -15,7 +15,7 @@ use Rattle.exh_text.specs.Lines.{words_of}
 use Rattle.exh_text.specs.Numbers.{◌>>=◌}
 use Rattle.exh_legal.specs.Pages.{pair_of}
 use Rattle.exh_ward.specs.WardState.{WardState}
-use Rattle.exh_ward.specs.declared.ward.TheConstants.{WARD_BITS_LIMIT}
+use Rattle.exh_prefix.specs.declared.prefix.TheConstants.{WARD_BITS_LIMIT}
 use Rattle.exh_world.specs.Laws.{NewWorldsAreSound}
 use Rattle.exh_world.specs.NewWorld.{new_ward, new_world}
 use Rattle.exh_world.specs.World.{map_in}
@@ -26,20 +26,16 @@ use Rattle.exh_script.specs.Text.{opened, file_of}
 use Rattle.exh_script.specs.declared.file_line.TheConstants.{COPIES_LIMIT}
 use Rattle.exh_script.specs.declared.refusal.Refusal.{Refusal}
 use Rattle.exh_text.specs.declared.line_fault.LineFault.TheVariants.{Range}
-use Rattle.exh_script.proofs.KeptWorlds.{IsKept}
+use Rattle.exh_script.proofs.KeptWorlds.{IsServedWorld}
 
 -- ---- its settings are in their ranges
-
-both : (one other : Bool) → (one && other) ≡ true → (one ≡ true) × (other ≡ true)
-both true other is = (refl, is)
-both false other is = cc
 
 bits_in_range : (file : Config AnyKeyer) → file_in_range file ≡ true → file.ward_bits ≤ WARD_BITS_LIMIT
 bits_in_range file is =
     let cap = is_in_range 1 CAP_LIMIT file.cap in
     let bits = is_in_range 0 WARD_BITS_LIMIT file.ward_bits in
     let copies = is_in_range 1 COPIES_LIMIT file.copies in
-    leb-true file.ward_bits WARD_BITS_LIMIT (both (leb 0 file.ward_bits) (leb file.ward_bits WARD_BITS_LIMIT) (both cap bits (both (cap && bits) copies is).0).1).1
+    leb-true file.ward_bits WARD_BITS_LIMIT (and_parts (leb 0 file.ward_bits) (leb file.ward_bits WARD_BITS_LIMIT) (and_parts cap bits (and_parts (cap && bits) copies is).0).1).1
 
 by_range : (file read : Config AnyKeyer) (within : Bool) → file_in_range read ≡ within
     → (let settings : Result (Config AnyKeyer) Refusal = opened (cond within (Ok read) (Err Range)) in settings) ≡ Ok file → file.ward_bits ≤ WARD_BITS_LIMIT
@@ -67,7 +63,7 @@ module _ (file : Config AnyKeyer) where
   pub new_journal : (number : ℕ) (ward : WardState AnyKeyer) → slice_get (new_world file).wards number ≡ Some ward → ward.journal ≡ []
   new_journal number ward is = ap (λ (w : WardState AnyKeyer). w.journal) (mapped_is (new_ward file) (2 ^ file.ward_bits) number ward is).1
 
-  pub new_kept : NewWorldsAreSound any_pseudokey → file.ward_bits ≤ WARD_BITS_LIMIT → IsKept file.ward_bits file.keyer (new_world file)
+  pub new_kept : NewWorldsAreSound any_pseudokey → file.ward_bits ≤ WARD_BITS_LIMIT → IsServedWorld file.ward_bits file.keyer (new_world file)
   new_kept law few = record {
     sound = law file few;
     bits_are = refl;

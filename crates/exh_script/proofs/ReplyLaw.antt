@@ -7,14 +7,12 @@ use Rattle.std.proofs.lemmas.List.Elements.{All-nil}
 use Rattle.exh_keyer.specs.declared.any_keyer.AnyKeyer.{AnyKeyer}
 use Rattle.exh_keyer.specs.Pseudokey.{any_pseudokey}
 use Rattle.exh_text.specs.declared.line_fault.LineFault.{LineFault}
-use Rattle.exh_ward.specs.WardState.{WardState}
 use Rattle.exh_calls.specs.declared.call.Call.{Call}
 use Rattle.exh_ward.specs.declared.hop.Hop.{Hop as HopOutcome}
 use Rattle.exh_ward.specs.declared.hop.Hop.TheVariants as hops
 use Rattle.exh_calls.specs.declared.journal_entry.JournalEntry.{JournalEntry}
-use Rattle.exh_ward.specs.declared.ward_fault.WardFault.TheVariants.{NoPage}
 use Rattle.exh_world.specs.InFlight.{Requests}
-use Rattle.exh_world.specs.Run.{answered_by, answered_at, entry_of}
+use Rattle.exh_world.specs.Run.{answered_by, answered_at, journal_entry_of}
 use Rattle.exh_world.specs.Step.{pseudokey_in, HasBegun, HasHopped, HasEffect, Step}
 use Rattle.exh_world.specs.StepFunction.{result_of, world_after}
 use Rattle.exh_world.specs.declared.event.Event.{Event}
@@ -35,7 +33,7 @@ use Rattle.exh_script.specs.declared.line.Line.TheVariants as lines
 use Rattle.indexmap.specs.IndexMap.{insert_entry}
 use Rattle.indexmap.proofs.MapLemmas.{insert_entry-absent, absent_from_lookup}
 use Rattle.exh_script.proofs.BegunRequests.{AreBegunLast, AreStill, later, turn_of, quiet, written, answered}
-use Rattle.exh_script.proofs.KeptWorlds.{WorldLaws, IsKept, line_kept}
+use Rattle.exh_script.proofs.KeptWorlds.{WorldLaws, IsServedWorld, line_kept}
 use Rattle.exh_script.proofs.LineMoments.{parsed_entries, entries_from, none_answered}
 
 -- ---- text
@@ -89,11 +87,11 @@ module _ (world : ScriptWorld) (before : List Turn) (all : AreBegunLast before w
 
   module _ (name ward : ℕ) (parsed : line_of line ≡ Ok (lines.Step (events.Hop name))) where
     goes_hopped : (hop : HopOutcome) (new : ScriptWorld) → HasHopped any_pseudokey world name ward hop new
-        → Goes (Said (hop_answer name ward hop)) (map entry_of (answered_at world (events.Hop name) (Ok (outcomes.Hopped ward hop)))) new
+        → Goes (Said (hop_answer name ward hop)) (map journal_entry_of (answered_at world (events.Hop name) (Ok (outcomes.Hopped ward hop)))) new
     goes_hopped (hops.Done reply) new has =
         let P : Requests → Type 0 = Still (Said (Replied name reply)) in
-        let told : map entry_of (answered_at world (events.Hop name) (Ok (outcomes.Hopped ward (hops.Done reply)))) ≡ record { client = has.request.client; call = has.request.call; reply = reply } ∷ [] =
-        ap (λ named. map entry_of (option_map_or (λ request. answered_by world reply request ∷ []) named [])) has.there in
+        let told : map journal_entry_of (answered_at world (events.Hop name) (Ok (outcomes.Hopped ward (hops.Done reply)))) ≡ record { client = has.request.client; call = has.request.call; reply = reply } ∷ [] =
+        ap (λ named. map journal_entry_of (option_map_or (λ request. answered_by world reply request ∷ []) named [])) has.there in
         record {
           entered = (has.request.client, has.request.call, told, parsed, all.begun name has.request has.there);
           in_flight = subst P (sym (ap (λ (w : ScriptWorld). w.in_flight) has.after)) (answered world before all line name reply);
@@ -112,7 +110,7 @@ module _ (world : ScriptWorld) (before : List Turn) (all : AreBegunLast before w
     goes_hopped hops.Stray new has = goes_quiet _ (λ name. refl) refl new (ap (λ (w : ScriptWorld). w.in_flight) has.after)
 
   abbrev GoesBy : Event → Outcome → ScriptWorld → Type 0
-  GoesBy event outcome new = line_of line ≡ Ok (lines.Step event) → Goes (Said (outcome_answer event outcome)) (map entry_of (answered_at world event (Ok outcome))) new
+  GoesBy event outcome new = line_of line ≡ Ok (lines.Step event) → Goes (Said (outcome_answer event outcome)) (map journal_entry_of (answered_at world event (Ok outcome))) new
 
   goes_effect : (event : Event) (outcome : Outcome) (new : ScriptWorld) → HasEffect any_pseudokey world event outcome new → GoesBy event outcome new
   goes_effect = on_effect any_pseudokey world GoesBy record {
@@ -127,10 +125,10 @@ module _ (world : ScriptWorld) (before : List Turn) (all : AreBegunLast before w
   }
 
   goes_step : (event : Event) (result : Result Outcome StepFault) (new : ScriptWorld) → Step any_pseudokey world event result new → line_of line ≡ Ok (lines.Step event)
-      → Goes (Said (step_answer event result)) (map entry_of (answered_at world event result)) new
+      → Goes (Said (step_answer event result)) (map journal_entry_of (answered_at world event result)) new
   goes_step event (Ok outcome) new step parsed = goes_effect event outcome new step parsed
   goes_step event (Err fault) new step parsed =
-      let P : List _ → Type 0 = λ answered. Goes (Said (step_answer event (Err fault))) (map entry_of answered) new in
+      let P : List _ → Type 0 = λ answered. Goes (Said (step_answer event (Err fault))) (map journal_entry_of answered) new in
       let same = on_refusal any_pseudokey world (λ w. w.in_flight ≡ world.in_flight) refl (λ number before failures found. refl) event fault new step in
       subst P (sym (none_answered world event fault)) (goes_quiet _ (λ name. refl) refl new same)
 
@@ -142,7 +140,7 @@ module _ (world : ScriptWorld) (before : List Turn) (all : AreBegunLast before w
 
   -- ---- a line
 
-  module _ (laws : WorldLaws) (ward_bits : ℕ) (keyer : AnyKeyer) (is : IsKept ward_bits keyer world) where
+  module _ (laws : WorldLaws) (ward_bits : ℕ) (keyer : AnyKeyer) (is : IsServedWorld ward_bits keyer world) where
     goes_parsed : (parsed : Result Line LineFault) → line_of line ≡ parsed → Goes (parsed_response world parsed) (parsed_entries world parsed) (after_parsed world parsed)
     goes_parsed (Ok (lines.Step event)) parsed = goes_step event (result_of any_pseudokey world event) (world_after any_pseudokey world event) (laws.outcomes world event is.sound) parsed
     goes_parsed (Ok (lines.View view)) parsed = goes_view (view_result world view)
@@ -155,7 +153,7 @@ module _ (world : ScriptWorld) (before : List Turn) (all : AreBegunLast before w
 -- ---- lines
 
 module _ (laws : WorldLaws) (ward_bits : ℕ) (keyer : AnyKeyer) where
-  enter_behind : (world : ScriptWorld) → IsKept ward_bits keyer world → (before : List Turn) → AreBegunLast before world.in_flight → (lines : List (List ℕ)) → EnterInOrder before (turns_from world lines) (entries_from world lines)
+  enter_behind : (world : ScriptWorld) → IsServedWorld ward_bits keyer world → (before : List Turn) → AreBegunLast before world.in_flight → (lines : List (List ℕ)) → EnterInOrder before (turns_from world lines) (entries_from world lines)
   enter_behind world is before all [] = refl
   enter_behind world is before all (line ∷ lines) =
       let here = goes world before all line laws ward_bits keyer is in
@@ -167,7 +165,7 @@ module _ (laws : WorldLaws) (ward_bits : ℕ) (keyer : AnyKeyer) where
         enter_behind after (line_kept laws ward_bits keyer world is line) (before ++ turn_of line (line_response world line) ∷ []) here.in_flight lines,
       )
 
-  pub enter_in_order : (world : ScriptWorld) → IsKept ward_bits keyer world → world.in_flight ≡ [] → (lines : List (List ℕ)) → EnterInOrder [] (turns_from world lines) (entries_from world lines)
+  pub enter_in_order : (world : ScriptWorld) → IsServedWorld ward_bits keyer world → world.in_flight ≡ [] → (lines : List (List ℕ)) → EnterInOrder [] (turns_from world lines) (entries_from world lines)
   unfolding IsDistinct
   enter_in_order world is none lines =
       let P : Requests → Type 0 = AreBegunLast [] in

@@ -16,7 +16,7 @@ use Rattle.exh_world.specs.declared.outcome.Outcome.TheVariants as outcomes
 use Rattle.exh_world.specs.declared.step_fault.StepFault.{StepFault}
 use Rattle.exh_script.specs.Answer.{step_answer}
 use Rattle.exh_script.specs.Grammar.{line_of}
-use Rattle.exh_script.specs.Replies.{turns_from, DoesNotStray}
+use Rattle.exh_script.specs.Replies.{turns_from, SaysNoStray}
 use Rattle.exh_script.specs.Text.{ScriptWorld, Said, view_response, parsed_response, line_response, after_line}
 use Rattle.exh_script.specs.View.{view_result}
 use Rattle.exh_script.specs.declared.answer.Answer.TheVariants.{Stray}
@@ -57,11 +57,11 @@ all_parts : (front back : List (Moment AnyKeyer)) → AllKeepCourse (front ++ ba
 all_parts [] back all = (tt, all)
 all_parts (moment ∷ front) back all = let rest = all_parts front back all.1 in ((all.0, rest.0), rest.1)
 
-none_stray : (world : ScriptWorld) (lines : List (List ℕ)) → AllKeepCourse (moments_from world lines) → AllByRecursion DoesNotStray (turns_from world lines)
+none_stray : (world : ScriptWorld) (lines : List (List ℕ)) → AllKeepCourse (moments_from world lines) → AllByRecursion SaysNoStray (turns_from world lines)
 none_stray world [] all = tt
 none_stray world (line ∷ lines) all =
     let parts = all_parts (parsed_moments world (line_of line)) (moments_from (after_line world line) lines) all in
     (line_never world line parts.0, none_stray (after_line world line) lines parts.1)
 
-pub no_strays : (world : ScriptWorld) (lines : List (List ℕ)) → All (λ (moment : Moment AnyKeyer). KeepsCourse moment) (moments_from world lines) → All DoesNotStray (turns_from world lines)
-no_strays world lines all = All-from_recursion DoesNotStray (turns_from world lines) (none_stray world lines (recursion_from_All (λ (moment : Moment AnyKeyer). KeepsCourse moment) (moments_from world lines) all))
+pub no_strays : (world : ScriptWorld) (lines : List (List ℕ)) → All (λ (moment : Moment AnyKeyer). KeepsCourse moment) (moments_from world lines) → All SaysNoStray (turns_from world lines)
+no_strays world lines all = All-from_recursion SaysNoStray (turns_from world lines) (none_stray world lines (recursion_from_All (λ (moment : Moment AnyKeyer). KeepsCourse moment) (moments_from world lines) all))

@@ -12,11 +12,11 @@ use Rattle.exh_notice.specs.declared.entry.Kind.TheVariants as kinds
 use Rattle.exh_notice.specs.declared.notice.Notice.{Notice}
 use Rattle.exh_text.specs.ByteWord.{bytes_of_word}
 use Rattle.exh_text.specs.Lines.{parts_at, space}
-use Rattle.exh_text.specs.Numbers.{◌>>=◌, index_of, number_of, number_up_to, number_after}
+use Rattle.exh_text.specs.Numbers.{◌>>=◌, index_spelled, number_spelled, number_up_to, number_after}
 use Rattle.exh_text.specs.Printing.{printed, place_text}
 use Rattle.exh_text.specs.TextLemmas.{number_again, printed_again, prefix_again, decimal_graphic, prefix_graphic, printed_graphic, place_graphic, prefix_of_text, parts_at-word, parts_at-place, one_part}
 use Rattle.exh_text.specs.declared.line_fault.LineFault.TheVariants.{Syntax, Range}
-use Rattle.exh_ward.specs.WardFault.{fault_number}
+use Rattle.exh_ward.specs.WardFault.{ward_fault_number}
 use Rattle.exh_calls.specs.declared.reply.Reply.{Reply}
 use Rattle.exh_calls.specs.declared.reply.Reply.TheVariants.{Is, None as Absent, New, Was, Full}
 use Rattle.exh_ward.specs.declared.ward_fault.WardFault.{WardFault}
@@ -47,7 +47,7 @@ refusals =
 
 -- the two numbers of a place
 abbrev numbers_told : List (List ℕ) → Option (ℕ × ℕ)
-numbers_told (ward ∷ number ∷ []) = number_of ward >>= λ w. index_of number >>= λ n. Some (w, n)
+numbers_told (ward ∷ number ∷ []) = number_spelled ward >>= λ w. index_spelled number >>= λ n. Some (w, n)
 numbers_told words = None
 
 abbrev place_of : List ℕ → Option (ℕ × ℕ)
@@ -70,13 +70,13 @@ told_of_request name words = None
 
 abbrev kind_of : List (List ℕ) → Option Kind
 kind_of (merge ∷ []) = Some kinds.Merge
-kind_of (split ∷ behind ∷ right ∷ []) = number_of right >>= λ r. Some (kinds.Split r)
+kind_of (split ∷ behind ∷ right ∷ []) = number_spelled right >>= λ r. Some (kinds.Split r)
 kind_of words = None
 
 -- those behind `notice`
 abbrev told_notice : List (List ℕ) → Option Answer
 told_notice (place ∷ at ∷ prefix ∷ counted ∷ number ∷ kind) =
-    place_of place >>= λ p. number_of number >>= λ n. kind_of kind >>= λ k.
+    place_of place >>= λ p. number_spelled number >>= λ n. kind_of kind >>= λ k.
     Some (Changed (record { ward = p.0; index = p.1; prefix = prefix_of_text prefix; number = n; kind = k }))
 told_notice words = None
 
@@ -84,19 +84,19 @@ told_notice words = None
 abbrev told_of_copy : ℕ → List (List ℕ) → Option Answer
 told_of_copy copy (verb ∷ []) = Some (Restarted copy)
 told_of_copy copy (verb ∷ word ∷ []) =
-    cond (bytes_eq verb (codes "took")) (place_of word >>= λ place. Some (Taken copy place.0 place.1)) (number_of word >>= λ table. Some (Joined copy table))
+    cond (bytes_eq verb (codes "took")) (place_of word >>= λ place. Some (Taken copy place.0 place.1)) (number_spelled word >>= λ table. Some (Joined copy table))
 told_of_copy copy words = None
 
 abbrev told_copy : List (List ℕ) → Option Answer
-told_copy (copy ∷ words) = number_of copy >>= λ c. told_of_copy c words
+told_copy (copy ∷ words) = number_spelled copy >>= λ c. told_of_copy c words
 told_copy words = None
 
 abbrev told_table : List (List ℕ) → Option Answer
-told_table (table ∷ []) = number_of table >>= λ t. Some (Sent t)
+told_table (table ∷ []) = number_spelled table >>= λ t. Some (Sent t)
 told_table words = None
 
 abbrev told_refusal : List (List ℕ) → Option Answer
-told_refusal (number ∷ []) = number_of number >>= λ n. numbered_in refusals n >>= λ refusal. Some (Refused refusal)
+told_refusal (number ∷ []) = number_spelled number >>= λ n. numbered_in refusals n >>= λ refusal. Some (Refused refusal)
 told_refusal words = None
 
 abbrev told_behind : Option ℕ → List ℕ → List (List ℕ) → Option Answer
@@ -120,7 +120,7 @@ Tells answer = told (parts_at space (answer_words answer)) ≡ Some (told_answer
 behind : (word rest : List ℕ) {words : List (List ℕ)} → list_all is_ascii_graphic word ≡ true → parts_at space rest ≡ words → parts_at space (word ++ space ∷ rest) ≡ word ∷ words
 behind word rest graphic same = parts_at-word word rest graphic ∙ ap (λ (words : List (List ℕ)). word ∷ words) same
 
-number_told : (number : ℕ) → number < 2 ^ 32 → number_of (decimal number) ≡ Some number
+number_told : (number : ℕ) → number < 2 ^ 32 → number_spelled (decimal number) ≡ Some number
 number_told number small = number_again (2 ^ 32 - 1) number (omega arith) (omega arith)
 
 request_told : (name : ℕ) → name < 2 ^ 32 → number_after (codes "r") (request_text name) ≡ Some name
@@ -252,7 +252,7 @@ sent_told table t =
 
 -- ---- of refusals
 
-ward_numbered : (fault : WardFault) → numbered_in refusals (fault_number fault) ≡ Some (numbered_refusal (Step (Ward fault)))
+ward_numbered : (fault : WardFault) → numbered_in refusals (ward_fault_number fault) ≡ Some (numbered_refusal (Step (Ward fault)))
 ward_numbered NoPage = refl
 ward_numbered NotLive = refl
 ward_numbered NotFull = refl
@@ -280,7 +280,7 @@ refusal_numbered (Step fault) = step_numbered fault
 refusal_numbered Read = refl
 refusal_numbered TooLong = refl
 
-ward_small : (fault : WardFault) → fault_number fault < 100
+ward_small : (fault : WardFault) → ward_fault_number fault < 100
 ward_small NoPage = omega arith
 ward_small NotLive = omega arith
 ward_small NotFull = omega arith

@@ -7,12 +7,12 @@ use Rattle.std.proofs.lemmas.List.{append-nil}
 use Rattle.std.proofs.lemmas.Option.{slice_get_within}
 use Rattle.exh_prefix.specs.Bits.{number_of, word_bits}
 use Rattle.exh_prefix.specs.BitLemmas.{length-bits_of, number_of-bits_of}
+use Rattle.exh_prefix.specs.ListLemmas.{set_is}
 use Rattle.exh_keyer.specs.declared.any_keyer.AnyKeyer.{AnyKeyer}
 use Rattle.exh_keyer.specs.Pseudokey.{any_pseudokey}
 use Rattle.exh_calls.specs.Call.{key_of}
 use Rattle.exh_ward.specs.HopTable.{HopOf}
 use Rattle.exh_ward.specs.MergeStep.{IsMergeStep}
-use Rattle.exh_legal.specs.Pages.{ward_prefix}
 use Rattle.exh_ward.specs.SplitStep.{IsSplitStep}
 use Rattle.exh_ward.specs.WardState.{WardState, IsSoundWard}
 use Rattle.exh_ward.specs.declared.hop.Hop.{Hop as HopOutcome}
@@ -22,10 +22,10 @@ use Rattle.exh_ward.specs.declared.ward_fault.WardFault.TheVariants.{Page}
 use Rattle.exh_route.specs.Laws.{RunsKeepWardsSound}
 use Rattle.exh_route.specs.WardRun.{WardEvent, HopAt, SplitAt, MergeAt, WardStep}
 use Rattle.exh_world.specs.InFlight.{request_named}
-use Rattle.exh_world.specs.Run.{answered_by, answered_at, entry_of}
+use Rattle.exh_world.specs.Run.{answered_by, answered_at, journal_entry_of}
 use Rattle.exh_world.specs.Sound.{IsOnTheWay, IsSoundWorld}
 use Rattle.exh_world.specs.Step.{HasHopped, HasChanged, HasEffect, Step}
-use Rattle.exh_world.specs.World.{ward_of}
+use Rattle.exh_prefix.specs.Leading.{ward_of, ward_prefix}
 use Rattle.exh_world.specs.declared.event.Event.{Event}
 use Rattle.exh_world.specs.declared.event.Event.TheVariants.{Hop as HopOn}
 use Rattle.exh_world.specs.declared.outcome.Outcome.{Outcome}
@@ -33,7 +33,6 @@ use Rattle.exh_world.specs.declared.outcome.Outcome.TheVariants.{Hopped}
 use Rattle.exh_world.specs.declared.request.Request.{Request}
 use Rattle.exh_world.specs.declared.step_fault.StepFault.{StepFault}
 use Rattle.exh_world.specs.EffectLemmas.{on_effect, on_refusal}
-use Rattle.exh_world.specs.ListLemmas.{set_is}
 use Rattle.exh_world.specs.RequestLemmas.{all_named}
 use Rattle.exh_script.specs.Text.{ScriptWorld}
 use Rattle.exh_script.proofs.LineMoments.{none_answered}
@@ -180,10 +179,10 @@ module _ (old : ScriptWorld) where
               journal = journal ∙ ap (λ is. has.before.journal ++ cond is (entry ∷ []) []) (sym (eq-eqb _ _ of_entry));
             }) (λ number else. only_own has.request.ward number entry of_entry else _ refl)
 
-      by_hop : (hop : HopOutcome) (new : ScriptWorld) → HasHopped any_pseudokey old name ward hop new → AreWardsLeft old (map entry_of (answered_at old (HopOn name) (Ok (Hopped ward hop)))) new
+      by_hop : (hop : HopOutcome) (new : ScriptWorld) → HasHopped any_pseudokey old name ward hop new → AreWardsLeft old (map journal_entry_of (answered_at old (HopOn name) (Ok (Hopped ward hop)))) new
       by_hop (Done reply) new has =
-          let told : map entry_of (answered_at old (HopOn name) (Ok (Hopped ward (Done reply)))) ≡ record { client = has.request.client; call = has.request.call; reply = reply } ∷ [] =
-          ap (λ named. map entry_of (option_map_or (λ request. answered_by old reply request ∷ []) named [])) has.there in
+          let told : map journal_entry_of (answered_at old (HopOn name) (Ok (Hopped ward (Done reply)))) ≡ record { client = has.request.client; call = has.request.call; reply = reply } ∷ [] =
+          ap (λ named. map journal_entry_of (option_map_or (λ request. answered_by old reply request ∷ []) named [])) has.there in
           subst (λ entries. AreWardsLeft old entries new) (sym told) (answered (Done reply) new has (record { client = has.request.client; call = has.request.call; reply = reply }) refl has.leaves.journal)
       by_hop (Moved next) new has = not_answered (Moved next) new has has.leaves
       by_hop MustSplit new has = not_answered MustSplit new has has.leaves
@@ -193,7 +192,7 @@ module _ (old : ScriptWorld) where
 
     module _ (sound : IsSoundWorld any_pseudokey old) where
       abbrev LeavesWards : Event → Outcome → ScriptWorld → Type 0
-      LeavesWards event outcome new = AreWardsLeft old (map entry_of (answered_at old event (Ok outcome))) new
+      LeavesWards event outcome new = AreWardsLeft old (map journal_entry_of (answered_at old event (Ok outcome))) new
 
       by_effect : (event : Event) (outcome : Outcome) (new : ScriptWorld) → HasEffect any_pseudokey old event outcome new → LeavesWards event outcome new
       by_effect = on_effect any_pseudokey old LeavesWards record {
@@ -207,8 +206,8 @@ module _ (old : ScriptWorld) where
         restarted = λ copy new has. same_wards new (ap (λ (w : ScriptWorld). w.wards) has.after) (ap (λ (w : ScriptWorld). w.ward_bits) has.after) (ap (λ (w : ScriptWorld). w.keyer) has.after);
       }
 
-      pub wards_left : (event : Event) (result : Result Outcome StepFault) (new : ScriptWorld) → Step any_pseudokey old event result new → AreWardsLeft old (map entry_of (answered_at old event result)) new
+      pub wards_left : (event : Event) (result : Result Outcome StepFault) (new : ScriptWorld) → Step any_pseudokey old event result new → AreWardsLeft old (map journal_entry_of (answered_at old event result)) new
       wards_left event (Ok outcome) new step = by_effect event outcome new step
       wards_left event (Err fault) new step =
-          let P : List _ → ScriptWorld → Type 0 = λ answered. AreWardsLeft old (map entry_of answered) in
+          let P : List _ → ScriptWorld → Type 0 = λ answered. AreWardsLeft old (map journal_entry_of answered) in
           subst (λ answered. P answered new) (sym (none_answered old event fault)) (on_refusal any_pseudokey old (P []) itself failure_counted event fault new step)

@@ -9,11 +9,11 @@ use Rattle.exh_page.specs.declared.page.TheConstants.{CAP_LIMIT}
 use Rattle.exh_text.specs.ByteWord.{bytes_of_word, key_in_range, value_in_range, spelled_pair}
 use Rattle.exh_text.specs.LineFault.{ranged}
 use Rattle.exh_text.specs.Lines.{words_of}
-use Rattle.exh_text.specs.Numbers.{◌>>=◌, after_prefix, index_of, number_after, number_of}
+use Rattle.exh_text.specs.Numbers.{◌>>=◌, after_prefix, index_spelled, number_after, number_spelled}
 use Rattle.exh_text.specs.declared.line_fault.LineFault.{LineFault}
 use Rattle.exh_calls.specs.declared.call.Call.{Call}
 use Rattle.exh_calls.specs.declared.call.Call.TheVariants.{Get, Put, Del}
-use Rattle.exh_ward.specs.declared.ward.TheConstants.{WARD_BITS_LIMIT}
+use Rattle.exh_prefix.specs.declared.prefix.TheConstants.{WARD_BITS_LIMIT}
 use Rattle.exh_world.specs.declared.config.Config.{Config}
 use Rattle.exh_world.specs.declared.event.Event.{Event}
 use Rattle.exh_world.specs.declared.event.Event.TheVariants.{Begin, Hop, Split, Merge, Deliver, Send, Combine, Restart}
@@ -39,7 +39,7 @@ unfoldable pub spelled_begin : List (List ℕ) → Option Line
 spelled_begin (name ∷ client ∷ copy ∷ call) = do
   name ← number_after (codes "r") name
   client ← number_after (codes "c") client
-  copy ← number_of copy
+  copy ← number_spelled copy
   call ← spelled_call call
   Some (Step (Begin name client copy call))
 spelled_begin words = None
@@ -51,23 +51,23 @@ spelled_hop words = None
 
 -- a number alone
 unfoldable pub spelled_number : List (List ℕ) → Option ℕ
-spelled_number (word ∷ []) = number_of word
+spelled_number (word ∷ []) = number_spelled word
 spelled_number words = None
 
 -- two numbers, as `WARD PAGE` or `COPY TABLE`
 unfoldable pub spelled_pair_of_numbers : List (List ℕ) → Option (ℕ × ℕ)
 spelled_pair_of_numbers (first ∷ second ∷ []) = do
-  first ← number_of first
-  second ← number_of second
+  first ← number_spelled first
+  second ← number_spelled second
   Some (first, second)
 spelled_pair_of_numbers words = None
 
 -- `COPY WARD INDEX`
 unfoldable pub spelled_deliver : List (List ℕ) → Option Line
 spelled_deliver (copy ∷ ward ∷ index ∷ []) = do
-  copy ← number_of copy
-  ward ← number_of ward
-  index ← index_of index
+  copy ← number_spelled copy
+  ward ← number_spelled ward
+  index ← index_spelled index
   Some (Step (Deliver copy ward index))
 spelled_deliver words = None
 

@@ -1,6 +1,6 @@
 -- The numbers of refusals, and what they tell of them.
 use Rattle.std.specs.Prelude.{ℕ}
-use Rattle.exh_text.specs.LineFault.{fault_number}
+use Rattle.exh_text.specs.LineFault.{line_fault_number}
 use Rattle.exh_ward.specs.declared.ward_fault.WardFault.TheVariants.{TooMany}
 use Rattle.exh_world.specs.StepFault.{step_fault_number}
 use Rattle.exh_world.specs.declared.step_fault.StepFault.TheVariants.{Ward}
@@ -8,7 +8,7 @@ use Rattle.exh_script.specs.declared.refusal.Refusal.{Refusal}
 use Rattle.exh_script.specs.declared.refusal.Refusal.TheVariants.{Line, Step, Read, TooLong}
 
 abbrev pub refusal_number : Refusal → ℕ
-refusal_number (Line fault) = fault_number fault
+refusal_number (Line fault) = line_fault_number fault
 refusal_number (Step fault) = step_fault_number fault
 refusal_number Read = 41
 refusal_number TooLong = 62

@@ -12,9 +12,10 @@ use Rattle.exh_calls.specs.declared.call.Call.{Call}
 use Rattle.exh_calls.specs.declared.journal_entry.JournalEntry.{JournalEntry}
 use Rattle.exh_world.specs.Headline.{IsHeadline, IsSameSet, taken_by}
 use Rattle.exh_world.specs.NewWorld.{new_world}
-use Rattle.exh_world.specs.Run.{Told, answered_in, entry_of}
+use Rattle.exh_world.specs.Run.{Told, answered_in, journal_entry_of}
 use Rattle.exh_world.specs.StepFunction.{result_of}
-use Rattle.exh_world.specs.World.{map_in, numbered, ward_of}
+use Rattle.exh_prefix.specs.Leading.{ward_of}
+use Rattle.exh_world.specs.World.{map_in, numbered}
 use Rattle.exh_world.specs.declared.config.Config.{Config}
 use Rattle.exh_world.specs.declared.event.Event.TheVariants.{Begin, Hop}
 use Rattle.exh_world.specs.declared.turn.Turn.{Turn as StepTurn}
@@ -81,8 +82,8 @@ EnterInOrder before [] entries = entries ≡ []
 EnterInOrder before (turn ∷ turns) entries =
     (here : List JournalEntry) × (rest : List JournalEntry) × (entries ≡ here ++ rest) × Enters before turn.line turn.response here × EnterInOrder (before ++ turn ∷ []) turns rest
 
-abbrev pub DoesNotStray : Turn → Type 0
-DoesNotStray turn = (name : ℕ) → turn.response ≢ Said (Stray name)
+abbrev pub SaysNoStray : Turn → Type 0
+SaysNoStray turn = (name : ℕ) → turn.response ≢ Said (Stray name)
 
 -- ---- the steps that lines ask for, as turns of the world
 
@@ -125,7 +126,7 @@ pub record RepliesAsMap (script : List ℕ) (file : Config AnyKeyer) (lines : Li
   -- the steps that its lines ask for carry the headline of a world: equal copies, least upper bounds, the directory's pages
   pub headline : IsHeadline any_pseudokey (new_world file) (steps_from (new_world file) lines) (world_left (new_world file) lines)
   -- and their answering hops are these entries
-  pub entries_are : map entry_of (answered_in headline.moments) ≡ entries
+  pub entries_are : map journal_entry_of (answered_in headline.moments) ≡ entries
   -- the map machine gives these replies to these calls, one after another, from the empty map
   pub history : IsHistory file.cap (any_pseudokey file.keyer) empty entries
   -- at the end each ward's journal is those of these calls that are of the ward, and the pages of all wards hold the map that they leave
@@ -134,7 +135,7 @@ pub record RepliesAsMap (script : List ℕ) (file : Config AnyKeyer) (lines : Li
   -- copies that took the same are shown the same
   pub shows : ShowTheSame (new_world file) (steps_from (new_world file) lines) (world_left (new_world file) lines)
   -- no hop strays
-  pub no_stray : All DoesNotStray (turns_from (new_world file) lines)
+  pub no_stray : All SaysNoStray (turns_from (new_world file) lines)
 
 -- what a script prints, by how its run ends: where it is refused, that and no reply
 abbrev pub PrintsAs : List ℕ → Ended → Type 0

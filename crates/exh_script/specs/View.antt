@@ -16,7 +16,8 @@ use Rattle.exh_ward.specs.PageLine.{line_of_page}
 use Rattle.exh_ward.specs.declared.page_line.PageLine.{PageLine}
 use Rattle.exh_ward.specs.declared.page_line.PageLine.TheVariants.{Live, Forward}
 use Rattle.exh_world.specs.InFlight.{Requests}
-use Rattle.exh_world.specs.World.{WorldState, numbered, ward_of}
+use Rattle.exh_prefix.specs.Leading.{ward_of}
+use Rattle.exh_world.specs.World.{WorldState, numbered}
 use Rattle.exh_world.specs.declared.request.Request.{Request}
 use Rattle.exh_world.specs.declared.step_fault.StepFault.{StepFault}
 use Rattle.exh_world.specs.declared.step_fault.StepFault.TheVariants.{NoCopy, NoWard, Ward}

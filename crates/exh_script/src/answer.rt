@@ -4,7 +4,7 @@ ghost use Rattle.exh_script.specs.Answer.{copy_in, hop_answer, outcome_answer, r
 use crate::Refusal;
 use exh_calls::Reply;
 use exh_notice::Notice;
-use exh_page::PageNo;
+use exh_prefix::PageNo;
 use exh_ward::Hop;
 use exh_world::{Event, Outcome};
 

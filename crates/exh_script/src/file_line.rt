@@ -4,8 +4,8 @@ ghost use Rattle.exh_script.specs.Grammar.{file_in_range, file_line_of, keyer_of
 
 use exh_keyer::AnyKeyer;
 use exh_page::CAP_LIMIT;
+use exh_prefix::WARD_BITS_LIMIT;
 use exh_text::{LineFault, Parts, parse_u32_after, split_words};
-use exh_ward::WARD_BITS_LIMIT;
 use exh_world::Config;
 
 /// The most copies of the directory that a file has.

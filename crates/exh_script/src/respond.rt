@@ -5,7 +5,7 @@ ghost use Rattle.exh_stream.specs.Output.{SameWriter, Takes, TakesBeginning, wri
 ghost use Rattle.exh_script.specs.Served.{PrintsFront, PrintsFrontIn};
 ghost use Rattle.exh_script.specs.Answer.{answer_text};
 ghost use Rattle.exh_script.specs.Text.{text_from, file_of, text_of_lines, ended_of_lines};
-ghost use Rattle.exh_ward.specs.declared.ward.TheConstants.{WARD_BITS_LIMIT};
+ghost use Rattle.exh_prefix.specs.declared.prefix.TheConstants.{WARD_BITS_LIMIT};
 ghost use Rattle.exh_world.specs.NewWorld.{new_world};
 ghost use Rattle.exh_script.specs.declared.answer.Answer.TheVariants.{Refused};
 

@@ -13,7 +13,7 @@ use crate::view_text::{push_in_flight, push_page, push_shown};
 use crate::{Answer, Line, View};
 use exh_frames::PlainPages;
 use exh_keyer::AnyKeyer;
-use exh_page::PageNo;
+use exh_prefix::PageNo;
 use exh_ward::WardFault;
 use exh_world::{Event, StepFault, World, steps_are_computed};
 use std::alloc::AllocError;

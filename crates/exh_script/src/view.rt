@@ -1,4 +1,4 @@
-use exh_page::PageNo;
+use exh_prefix::PageNo;
 
 /// What a line of a script asks to see of the world, which stays as it was. There may be no such copy, ward or page.
 #[derive(Clone, Copy, Debug, PartialEq, Eq)]

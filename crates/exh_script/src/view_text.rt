@@ -1,20 +1,20 @@
 ghost use Rattle.std.specs.Prelude.{◌≡◌, ◌++◌, ◌≤◌, flat_map, OnOk};
 ghost use Rattle.std.specs.FinMap.{entries};
-ghost use Rattle.exh_ward.specs.declared.ward.TheConstants.{WARD_BITS_LIMIT};
+ghost use Rattle.exh_prefix.specs.declared.prefix.TheConstants.{WARD_BITS_LIMIT};
 ghost use Rattle.exh_prefix.specs.Prefix.{low_of};
 ghost use Rattle.exh_table.specs.Below.{leaves_listed};
-ghost use Rattle.exh_world.specs.World.{ward_of};
+ghost use Rattle.exh_prefix.specs.Leading.{ward_of};
 ghost use Rattle.exh_script.specs.View.{content_text, entry_line, in_flight_text, leaf_line, page_line_text, request_line, right_text, shown_text};
 
 use crate::answer_text::{push_copy, push_entry, push_request};
 use exh_array::Directory;
 use exh_frames::PlainPages;
 use exh_keyer::AnyKeyer;
-use exh_page::PageNo;
+use exh_prefix::{PageNo, ward_number};
 use exh_table::Table;
 use exh_text::{push_number, push_place, push_prefix, push_text};
 use exh_ward::PageLine;
-use exh_world::{World, ward_number};
+use exh_world::World;
 use std::alloc::AllocError;
 
 /// Adds what a copy knows: the depth of its directory, its entries and its leaves, a line each.

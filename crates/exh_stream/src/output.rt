@@ -12,8 +12,7 @@ use thiserror::Error;
 #[error("the writer failed")]
 pub struct WriteFault;
 
-/// Bytes on their way to a writer, which gets them in blocks, and nothing more once it has failed
-///.
+/// Bytes on their way to a writer, which gets them in blocks, and nothing more once it has failed.
 #[derive(Drop)]
 pub struct Output<'w, W: Write> {
     writer: &'w mut W,

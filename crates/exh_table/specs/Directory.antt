@@ -1,6 +1,6 @@
 -- The directory of a set of leaves.
-use Rattle.std.specs.Prelude.{◌≡◌, ℕ, ◌<◌, ◌≤◌, ◌^◌, Bool, List, length, take, slice_get, Some}
-use Rattle.exh_prefix.specs.Bits.{number_of, word_bits}
+use Rattle.std.specs.Prelude.{◌≡◌, ℕ, ◌<◌, ◌≤◌, ◌^◌, Bool, List, length, slice_get, Some}
+use Rattle.exh_prefix.specs.Leading.{leading}
 use Rattle.exh_prefix.specs.Prefix.{Begins}
 use Rattle.exh_table.specs.Leaves.{PrefixSet}
 
@@ -14,10 +14,6 @@ pub record IsName (leaves : PrefixSet) (pseudokey : ℕ) (name : List Bool) : Ty
 pub record IsDepth (leaves : PrefixSet) (depth : ℕ) : Type 0 where
   pub reached : (leaf : List Bool) × leaves leaf × (length leaf ≡ depth)
   pub greatest : (leaf : List Bool) → leaves leaf → length leaf ≤ depth
-
--- the leading bits of a pseudokey, as a number
-abbrev pub leading : ℕ → ℕ → ℕ
-leading depth pseudokey = number_of (take depth (word_bits pseudokey))
 
 -- the directory: 2 ^ depth names, in the order of the leading bits
 pub record IsDirectory (leaves : PrefixSet) (names : List (List Bool)) : Type 0 where

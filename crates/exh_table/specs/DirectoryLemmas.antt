@@ -5,18 +5,20 @@ use Rattle.std.proofs.lemmas.List.{length-take-le, length-append, take-take}
 use Rattle.std.proofs.lemmas.List.FromFn.{length-map-range_with_len, get_or-map-range_with_len, fill_by_all}
 use Rattle.std.proofs.lemmas.Option.{slice_get-get_or, get_or_from_slice_get}
 use Rattle.exh_prefix.specs.Bits.{number_of, bits_of, word_bits}
-use Rattle.exh_prefix.specs.BitLemmas.{length-bits_of, number_of-lt, number_of-bits_of, bits_of-number_of}
+use Rattle.exh_prefix.specs.BitLemmas.{length-bits_of, number_of-bits_of, bits_of-number_of}
 use Rattle.exh_prefix.specs.Prefix.{Begins, low_of}
-use Rattle.exh_prefix.specs.PrefixLemmas.{length-word_bits}
+use Rattle.exh_prefix.specs.PrefixLemmas.{length-word_bits, low_of-word, take-word-low_of}
 use Rattle.exh_prefix.specs.declared.prefix.TheConstants.{LIMIT}
+use Rattle.exh_prefix.specs.Leading.{leading}
+use Rattle.exh_prefix.specs.LeadingLemmas.{leading-lt, begins_alike}
 use Rattle.exh_table.specs.declared.leaf.Leaf.{Leaf}
 use Rattle.exh_table.specs.Table.{TableMap}
 use Rattle.exh_table.specs.Walk.{walk_in, walk_of}
 use Rattle.exh_table.specs.Leaves.{IsLeaf, IsLeafIn, leaves_of}
-use Rattle.exh_table.specs.Directory.{IsName, IsDepth, leading, IsDirectory}
+use Rattle.exh_table.specs.Directory.{IsName, IsDepth, IsDirectory}
 use Rattle.exh_table.specs.Below.{splits_above, depth_below}
 use Rattle.exh_table.specs.Laws.{HasDirectory}
-use Rattle.exh_table.specs.LeafLemmas.{root, depth_is, low_of-small, take-word-low_of}
+use Rattle.exh_table.specs.LeafLemmas.{root, depth_is}
 use Rattle.exh_table.specs.PathLemmas.{walk_is_path, walk_to_leaf}
 
 -- ---- walks over all wards
@@ -76,18 +78,14 @@ module _ (table : TableMap) (ward_bits : ℕ) (short : ward_bits ≤ LIMIT) wher
   pub same_leaf : (depth one other : ℕ) → length (walk_of table ward_bits one).prefix ≤ depth → one < 2 ^ 64 → take depth (word_bits one) ≡ take depth (word_bits other) → walk_of table ward_bits other ≡ walk_of table ward_bits one
   same_leaf depth one other within small same =
       let leaf = walk_of table ward_bits one in
-      let begun : Begins leaf.prefix other =
-      sym (take-take (length leaf.prefix) depth (word_bits other) within) ∙ ap (take (length leaf.prefix)) (sym same) ∙ take-take (length leaf.prefix) depth (word_bits one) within ∙ leaf_begins one in
-      walk_ends_at other leaf (one, small, refl) begun
+      walk_ends_at other leaf (one, small, refl) (begins_alike leaf.prefix depth one other within same (leaf_begins one))
 
   module _ (depth : ℕ) (is : IsDepth (leaves_of table ward_bits) depth) where
     names : List (List Bool)
     names = map (name_of depth) (range_with_len 0 (2 ^ depth))
 
     within_names : (pseudokey : ℕ) → leading depth pseudokey < 2 ^ depth
-    within_names pseudokey =
-        let many : length (take depth (word_bits pseudokey)) ≡ depth = length-take-le depth (word_bits pseudokey) (omega (arith, length-word_bits pseudokey, depth_short depth is)) in
-        subst (λ n. leading depth pseudokey < 2 ^ n) many (number_of-lt (take depth (word_bits pseudokey)))
+    within_names pseudokey = leading-lt depth pseudokey (omega (arith, depth_short depth is))
 
     -- the name that stands at a pseudokey's leading bits is the pseudokey's
     name_stands : (pseudokey : ℕ) → name_of depth (leading depth pseudokey) ≡ (walk_of table ward_bits pseudokey).prefix
@@ -97,7 +95,7 @@ module _ (table : TableMap) (ward_bits : ℕ) (short : ward_bits ≤ LIMIT) wher
         let many : length front ≡ depth = length-take-le depth (word_bits pseudokey) (omega (arith, length-word_bits pseudokey, depth_short depth is)) in
         let bits : bits_of depth (number_of front) ≡ front = ap (λ n. bits_of n (number_of front)) (sym many) ∙ bits_of-number_of front in
         let first : take depth (word_bits (low_of front)) ≡ front = take-word-low_of front depth many (omega (arith, depth_short depth is)) in
-        let small : low_of front < 2 ^ 64 = low_of-small front (omega (arith, depth_short depth is)) in
+        let small : low_of front < 2 ^ 64 = low_of-word front (omega (arith, depth_short depth is)) in
         let leaf = walk_of table ward_bits (low_of front) in
         ap (λ p. (walk_of table ward_bits (low_of p)).prefix) bits
         ∙ ap (λ (leaf : Leaf). leaf.prefix) (sym (same_leaf depth (low_of front) pseudokey (is.greatest leaf.prefix (leaf.page, (low_of front, small, refl))) small first))
@@ -124,7 +122,7 @@ module _ (table : TableMap) (ward_bits : ℕ) (short : ward_bits ≤ LIMIT) wher
         fill_by_all (name_of depth) others (2 ^ depth) [] (other.full ∙ ap (λ n. 2 ^ n) as_deep) (λ place within.
         let front = bits_of depth place in
         let many : length front ≡ depth = length-bits_of depth place in
-        let small : low_of front < 2 ^ 64 = low_of-small front (omega (arith, depth_short depth is)) in
+        let small : low_of front < 2 ^ 64 = low_of-word front (omega (arith, depth_short depth is)) in
         let stands : leading other.depth (low_of front) ≡ place =
         ap (λ n. leading n (low_of front)) as_deep ∙ ap number_of (take-word-low_of front depth many (omega (arith, depth_short depth is))) ∙ number_of-bits_of depth place within in
         let named = other.each (low_of front) small in

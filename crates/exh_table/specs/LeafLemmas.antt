@@ -5,15 +5,15 @@ use Rattle.std.specs.List.{AllByRecursion}
 use Rattle.std.specs.List.Sorted.{IsStrictlySortedBy}
 use Rattle.std.specs.declared.cmp.Ordering.TheVariants.{Less}
 use Rattle.std.proofs.lemmas.Bool.Decides.{leb_tells}
-use Rattle.std.proofs.lemmas.List.{length_push, length-replicate, length-take-le, take_at}
+use Rattle.std.proofs.lemmas.List.{length_push, length-replicate, length-take-le}
 use Rattle.std.proofs.lemmas.List.Elements.{Contains-append_left, Contains-append_right, Contains-append_cases}
 use Rattle.std.proofs.lemmas.Nat.{pow_pos}
 use Rattle.std.proofs.Math.Nat.{pow-suc}
 use Rattle.std.specs.Ordering.{ordering_then, nat_cmp}
 use Rattle.std.specs.Cmp.{nat_cmp_is}
 use Rattle.exh_prefix.specs.Bits.{word_bits}
-use Rattle.exh_prefix.specs.Prefix.{zeros, low_of, prefix_cmp}
-use Rattle.exh_prefix.specs.PrefixLemmas.{length-word_bits, word_bits-low_of, low_of-lt, low_of-child}
+use Rattle.exh_prefix.specs.Prefix.{low_of, prefix_cmp}
+use Rattle.exh_prefix.specs.PrefixLemmas.{length-word_bits, low_of-child, low_of-word, take-word-low_of}
 use Rattle.exh_prefix.specs.declared.prefix.TheConstants.{LIMIT}
 use Rattle.exh_table.specs.declared.leaf.Leaf.{Leaf}
 use Rattle.exh_table.specs.Table.{TableMap}
@@ -95,17 +95,10 @@ leaf_is_end table ward_bits leaf short (pseudokey, small, walks) = record {
   ends = walk_from_root table ward_bits pseudokey short ∙ walks;
 }
 
--- the first pseudokey that the bits begin
-pub low_of-small : (bits : List Bool) → length bits ≤ 64 → low_of bits < 2 ^ 64
-low_of-small bits short = omega (arith, low_of-lt bits short, pow_pos (64 - length bits))
-
-pub take-word-low_of : (bits : List Bool) (n : ℕ) → length bits ≡ n → n ≤ 64 → take n (word_bits (low_of bits)) ≡ bits
-take-word-low_of bits n many short = ap (take n) (word_bits-low_of bits (omega arith)) ∙ take_at bits (zeros (64 - length bits)) n many
-
 pub end_is_leaf : (table : TableMap) (ward_bits : ℕ) (leaf : Leaf) → ward_bits ≤ LIMIT → IsEnd (splits_above table ward_bits) LIMIT root leaf → IsLeaf table ward_bits leaf
 end_is_leaf table ward_bits leaf short end = (
   low_of end.bits,
-  low_of-small end.bits (omega (arith, end.many)),
+  low_of-word end.bits (omega (arith, end.many)),
   sym (walk_from_root table ward_bits (low_of end.bits) short) ∙ ap (λ bits. walk_on (splits_above table ward_bits) bits root) (take-word-low_of end.bits LIMIT end.many (lit≤ tt)) ∙ end.ends,
 )
 

@@ -1,12 +1,13 @@
 -- The path of a walk, and the leaf at its end.
 use Rattle.std.proofs.Common.{◌≡◌, ℕ, zero, suc, ◌+◌, ◌<◌, ◌≤◌, ◌^◌, Bool, true, false, if◌then◌else◌, List, [], ◌∷◌, ◌++◌, length, take, drop, slice_get, Option, Some, None, IsSome, refl, sym, ap, ◌∙◌, subst, arith}
 use Rattle.std.specs.Option.{option_map_or}
-use Rattle.std.proofs.lemmas.List.{append_assoc, append-nil, append_cancel_left, length-append, length-take-le, take_at, take-append-drop, take-take, length-drop}
+use Rattle.std.proofs.lemmas.List.{append_assoc, append-nil, append_cancel_left, length-append, take_at, take-append-drop, take-take, length-drop}
 use Rattle.std.proofs.lemmas.Option.{slice_get_within}
 use Rattle.exh_prefix.specs.Bits.{word_bits}
 use Rattle.exh_prefix.specs.Prefix.{IsFront, Begins}
-use Rattle.exh_prefix.specs.PrefixLemmas.{length-word_bits, front_of_front}
+use Rattle.exh_prefix.specs.PrefixLemmas.{front_of_front}
 use Rattle.exh_prefix.specs.declared.prefix.TheConstants.{LIMIT}
+use Rattle.exh_prefix.specs.LeadingLemmas.{length-leading_bits}
 use Rattle.exh_table.specs.declared.leaf.Leaf.{Leaf}
 use Rattle.exh_table.specs.Table.{TableMap}
 use Rattle.exh_table.specs.Walk.{split_at, step, walk_on, walk_in}
@@ -105,9 +106,6 @@ front_and_rest prefix pseudokey short begins =
     ap (λ front. front ++ drop (length prefix) (take LIMIT (word_bits pseudokey))) (sym (take-take (length prefix) LIMIT (word_bits pseudokey) short ∙ begins))
     ∙ take-append-drop (length prefix) (take LIMIT (word_bits pseudokey))
 
-length-leading : (pseudokey : ℕ) → length (take LIMIT (word_bits pseudokey)) ≡ LIMIT
-length-leading pseudokey = length-take-le LIMIT (word_bits pseudokey) (omega (arith, length-word_bits pseudokey))
-
 pub walk_is_path : (table : TableMap) (ward : List Bool) (pseudokey : ℕ) → length ward ≤ LIMIT → Begins ward pseudokey → IsPath table ward pseudokey (walk_in table ward pseudokey)
 walk_is_path table ward pseudokey short begins =
     let word = word_bits pseudokey in
@@ -116,14 +114,14 @@ walk_is_path table ward pseudokey short begins =
     let way = walk_has_way (split_at table) bits (record { prefix = ward; page = 0 }) in
     let whole : leaf.prefix ++ way.rest ≡ take LIMIT word =
     ap (λ p. p ++ way.rest) way.along ∙ append_assoc ward way.over way.rest ∙ ap (λ bits. ward ++ bits) (sym way.parts) ∙ front_and_rest ward pseudokey short begins in
-    let within : length leaf.prefix ≤ LIMIT = omega (arith, sym (length-append leaf.prefix way.rest) ∙ ap length whole ∙ length-leading pseudokey) in
+    let within : length leaf.prefix ≤ LIMIT = omega (arith, sym (length-append leaf.prefix way.rest) ∙ ap length whole ∙ length-leading_bits LIMIT pseudokey (omega arith)) in
     let front : IsFront leaf.prefix (take LIMIT word) = ap (take (length leaf.prefix)) (sym whole) ∙ take_at leaf.prefix way.rest (length leaf.prefix) refl in
-    let wide : length ward + length bits ≡ LIMIT = sym (length-append ward bits) ∙ ap length (front_and_rest ward pseudokey short begins) ∙ length-leading pseudokey in
+    let wide : length ward + length bits ≡ LIMIT = sym (length-append ward bits) ∙ ap length (front_and_rest ward pseudokey short begins) ∙ length-leading_bits LIMIT pseudokey (omega arith) in
     let long : length leaf.prefix ≡ length ward + length way.over = ap length way.along ∙ length-append ward way.over in
     record {
       over = way.over;
       along = way.along;
-      begins = front_of_front leaf.prefix (take LIMIT word) word (omega (arith, length-leading pseudokey)) front (ap (λ n. take n word) (length-leading pseudokey));
+      begins = front_of_front leaf.prefix (take LIMIT word) word (omega (arith, length-leading_bits LIMIT pseudokey (omega arith))) front (ap (λ n. take n word) (length-leading_bits LIMIT pseudokey (omega arith)));
       short = within;
       passes = way.passes;
       stops = λ less. way.stops (omega (arith, wide, long));
@@ -135,7 +133,7 @@ pub walk_to_leaf : (table : TableMap) (ward : List Bool) (pseudokey : ℕ) (leaf
 walk_to_leaf table ward pseudokey leaf short begins (other, small, covers, ends) begun =
     let bits = λ (k : ℕ). drop (length ward) (take LIMIT (word_bits k)) in
     let within : length leaf.prefix ≤ LIMIT = subst (λ (leaf : Leaf). length leaf.prefix ≤ LIMIT) ends (walk_is_path table ward other short covers).short in
-    let as_long : length (bits pseudokey) ≡ length (bits other) = omega (arith, length-drop (length ward) (take LIMIT (word_bits pseudokey)), length-drop (length ward) (take LIMIT (word_bits other)), length-leading pseudokey, length-leading other) in
+    let as_long : length (bits pseudokey) ≡ length (bits other) = omega (arith, length-drop (length ward) (take LIMIT (word_bits pseudokey)), length-drop (length ward) (take LIMIT (word_bits other)), length-leading_bits LIMIT pseudokey (omega arith), length-leading_bits LIMIT other (omega arith)) in
     let follows : (walk_in table ward other).prefix ++ drop (length leaf.prefix) (take LIMIT (word_bits pseudokey)) ≡ ward ++ bits pseudokey =
     ap (λ (end : Leaf). end.prefix ++ drop (length leaf.prefix) (take LIMIT (word_bits pseudokey))) ends ∙ front_and_rest leaf.prefix pseudokey within begun ∙ sym (front_and_rest ward pseudokey short begins) in
     same_walk (split_at table) (bits other) (bits pseudokey) _ (record { prefix = ward; page = 0 }) as_long follows ∙ ends

@@ -6,11 +6,12 @@ use Rattle.std.proofs.lemmas.Cmp.{tied_itself}
 use Rattle.std.specs.Ordering.{eq_by_cmp, is_eq}
 use Rattle.exh_prefix.specs.Prefix.{prefix_cmp}
 use Rattle.exh_prefix.specs.PrefixLemmas.{prefix_cmp-total}
+use Rattle.exh_prefix.specs.ListLemmas.{first_part, second_part}
 use Rattle.exh_notice.specs.declared.entry.Entry.{Entry}
 use Rattle.exh_table.specs.Table.{TableMap, raised, greater_of}
 use Rattle.exh_table.specs.TableOrder.{table_join}
 use Rattle.exh_table.specs.TableLemmas.{joined, get-table_join, same_table, same_from_tie}
-use Rattle.exh_table.specs.SetLemmas.{first_part, second_part, none_below}
+use Rattle.exh_table.specs.SetLemmas.{none_below}
 
 -- the table that took entries at prefixes, one after another
 abbrev pub raised_all : TableMap → List (List Bool × Entry) → TableMap

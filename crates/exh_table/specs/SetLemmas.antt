@@ -1,20 +1,23 @@
 -- Tables of sets of entries at prefixes.
-use Rattle.std.proofs.Common.{◌≡◌, zero, suc, Bool, true, false, cond, List, [], ◌∷◌, ◌++◌, arith, Option, Some, None, refl, sym, ap, ◌∙◌, subst, ◌⊎◌, inl, inr, ◌↔◌, Contains, T, ◌&&◌}
-use Rattle.std.specs.FinMap.{entries, entries_sorted, get, get-entries, get-insert, get-remove, insert}
+use Rattle.std.proofs.Common.{◌≡◌, zero, suc, Bool, true, false, cond, List, [], ◌∷◌, ◌++◌, map, arith, Option, Some, None, refl, sym, ap, ◌∙◌, subst, ◌⊎◌, inl, inr, ◌↔◌, Contains, T}
+use Rattle.std.specs.FinMap.{empty, entries, entries_sorted, get, get-empty, get-entries, get-insert, get-remove, insert, len-empty, len-entries}
 use Rattle.std.specs.FinMap.Entries.{find, is_sorted, below_all}
 use Rattle.std.specs.Ordering.{eq_by_cmp, is_eq, is_lt}
 use Rattle.std.specs.declared.cmp.Ordering.{Ordering}
 use Rattle.std.specs.declared.cmp.Ordering.TheVariants.{Less, Equal, Greater}
 use Rattle.std.proofs.lemmas.Bool.{false≢true}
 use Rattle.std.proofs.lemmas.Cmp.{tied_itself}
+use Rattle.std.proofs.lemmas.List.{append_assoc, map-append, nil_from_length}
 use Rattle.std.proofs.lemmas.List.Elements.{Contains-append_left, Contains-append_right, Contains-append_cases}
 use Rattle.exh_prefix.specs.Prefix.{prefix_cmp}
 use Rattle.exh_prefix.specs.PrefixLemmas.{prefix_cmp-total}
+use Rattle.exh_prefix.specs.ListLemmas.{first_part, second_part}
 use Rattle.exh_join.specs.Greater.{IsUpTo}
 use Rattle.exh_notice.specs.declared.entry.Entry.{Entry}
-use Rattle.exh_notice.specs.Entry.{entry_cmp, greater_entry}
+use Rattle.exh_notice.specs.declared.notice.Notice.{Notice}
+use Rattle.exh_notice.specs.Entry.{entry_cmp, entry_of, greater_entry}
 use Rattle.exh_notice.specs.EntryLemmas.{entry_laws}
-use Rattle.exh_table.specs.Table.{TableMap, IsGreatest, IsEntryOf, IsTableOf, raised, greater_of, table_at}
+use Rattle.exh_table.specs.Table.{TableMap, IsGreatest, IsEntryOf, IsTableOf, IsTableSince, raised, greater_of, table_at, table_with, told_by}
 use Rattle.exh_table.specs.TableOrder.{table_join}
 use Rattle.exh_table.specs.TableLemmas.{joined, get-table_join, same_table, same_from_tie}
 
@@ -108,14 +111,6 @@ members_decide told others table other same first second = same_table table othe
 
 -- ---- a table's own entries
 
-pub first_part : (a b : Bool) → T (a && b) → T a
-first_part true b both = tt
-first_part false b both = both
-
-pub second_part : (a b : Bool) → T (a && b) → T b
-second_part true b both = both
-second_part false b both = absurd both
-
 less_is_not_equal : (r : Ordering) → T (is_lt r) → is_eq r ≡ false
 less_is_not_equal Less less = refl
 less_is_not_equal Equal less = absurd less
@@ -126,7 +121,7 @@ none_below prefix [] below = refl
 none_below prefix (e ∷ es) below =
     ap (λ here. cond here (Some e.1) (find prefix_cmp prefix es)) (less_is_not_equal (prefix_cmp prefix e.0) (first_part _ _ below)) ∙ none_below prefix es (second_part _ _ below)
 
-joined_none : (other : Option Entry) → joined None other ≡ other
+pub joined_none : (other : Option Entry) → joined None other ≡ other
 joined_none None = refl
 joined_none (Some entry) = refl
 
@@ -168,3 +163,24 @@ put_back_at table key entry (Some old) prefix is =
 
 pub put_back : (table : TableMap) (key : List Bool) (entry : Entry) → table_at (raised table key entry) key (get table key) ≡ table
 put_back table key entry = same_table _ table (λ prefix. put_back_at table key (greater_of (get table key) entry) (get table key) prefix refl)
+
+-- ---- a start and notices since
+
+-- the table with no entry has none
+pub no_entries : entries (let none : TableMap = empty in none) ≡ []
+no_entries = nil_from_length (entries (let none : TableMap = empty in none)) (sym (len-entries (let none : TableMap = empty in none)) ∙ len-empty prefix_cmp Entry)
+
+pub since_nothing : IsTableSince empty [] empty
+since_nothing prefix =
+    let told : List (List Bool × Entry) = entries (let none : TableMap = empty in none) ++ [] in
+    let none : (entry : Entry) → Contains told (prefix, entry) → ⊥ = λ entry member.
+    let among : Contains (let none : List (List Bool × Entry) = [] in none) (prefix, entry) = subst (λ es. Contains (es ++ []) (prefix, entry)) no_entries member in
+    omega (arith, among.1) in
+    subst (IsEntryOf told prefix) (sym (get-empty prefix_cmp prefix)) none
+
+pub IsTableSince-push : (start : TableMap) (notices : List Notice) (table : TableMap) (notice : Notice) → IsTableSince start notices table → IsTableSince start (notices ++ notice ∷ []) (table_with table notice)
+IsTableSince-push start notices table notice is =
+    let told = entries start ++ map told_by notices in
+    let whole : told ++ told_by notice ∷ [] ≡ entries start ++ map told_by (notices ++ notice ∷ []) =
+    append_assoc (entries start) (map told_by notices) (told_by notice ∷ []) ∙ ap (λ more. entries start ++ more) (sym (map-append told_by notices (notice ∷ []))) in
+    subst (λ told. IsTableOf told (table_with table notice)) whole (one_more told table notice.prefix (entry_of notice) is)

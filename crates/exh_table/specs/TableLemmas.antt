@@ -2,12 +2,10 @@
 use Rattle.std.proofs.Common.{◌≡◌, Bool, true, false, cond, List, [], ◌∷◌, ◌++◌, map, Option, Some, None, refl, sym, ap, ◌∙◌, subst}
 use Rattle.std.specs.FinMap.{entries, get, get-entries, get-from_entries, same_map}
 use Rattle.std.specs.FinMap.Entries.{find}
-use Rattle.std.specs.Ordering.{eq_by_cmp, is_eq}
-use Rattle.std.specs.declared.cmp.Ordering.{Ordering}
-use Rattle.std.specs.declared.cmp.Ordering.TheVariants.{Less, Equal, Greater}
-use Rattle.std.proofs.lemmas.Bool.{true≢false}
+use Rattle.std.specs.Ordering.{eq_by_cmp}
 use Rattle.exh_prefix.specs.Prefix.{prefix_cmp}
 use Rattle.exh_prefix.specs.PrefixLemmas.{prefix_cmp-total, prefix_cmp-exact}
+use Rattle.exh_prefix.specs.ListLemmas.{is_equal}
 use Rattle.exh_join.specs.Laws.{IsPartialOrder, IsLeastAboveBoth, JoinLaws}
 use Rattle.exh_join.specs.LawsLemmas.{join_laws}
 use Rattle.exh_notice.specs.declared.entry.Entry.{Entry}
@@ -55,11 +53,6 @@ joined_least (Some old) (Some entry) None h k = absurd h
 joined_least (Some old) (Some entry) (Some bound) h k = entry_laws.bound.least old entry bound h k
 
 -- ---- at each prefix
-
-is_equal : (r : Ordering) → is_eq r ≡ true → r ≡ Equal
-is_equal Less is = absurd (true≢false (sym is))
-is_equal Equal is = refl
-is_equal Greater is = absurd (true≢false (sym is))
 
 -- prefixes that are level are one
 pub same_from_tie : (one other : List Bool) → eq_by_cmp prefix_cmp one other ≡ true → one ≡ other

@@ -38,8 +38,8 @@ impl Leaf {
         right.begins(pseudokey)
     }
 
-    /// One bit further over a split: the bit 1 leads to its right page, the bit 0 keeps the page
-    ///. The prefix is shorter than `LIMIT`.
+    /// One bit further over a split: the bit 1 leads to its right page, the bit 0 keeps the page.
+    /// The prefix is shorter than `LIMIT`.
     pub fn step(&self, bit: bool, right: PageNo) -> Leaf
         requires { length self.now.prefix < LIMIT }
         ensures { result ≡ step self.now bit right }

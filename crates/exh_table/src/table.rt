@@ -9,8 +9,7 @@ use std::collections::BTreeMap;
 use std::collections::btree_map::Iter;
 use std::marker::Model;
 
-/// What a copy of the directory knows: at each prefix the greatest entry that it was told, or none
-///.
+/// What a copy of the directory knows: at each prefix the greatest entry that it was told, or none.
 #[derive(Drop)]
 pub struct Table {
     pub(crate) alloc: Global,

@@ -1,10 +1,9 @@
 -- Hexadecimal digits in lower case, two a byte.
-use Rattle.std.proofs.Common.{◌≡◌, ◌≢◌, ℕ, zero, suc, ◌+◌, ◌*◌, ◌/◌, ◌%◌, ◌<◌, List, [], ◌∷◌, ◌++◌, length, slice_index, unwrap_or, IsSome, inl, inr, Bool, true, false, ◌&&◌, eqb, Option, Some, None, Result, Ok, Err, is_some, refl, sym, ap, ◌∙◌, arith}
+use Rattle.std.proofs.Common.{◌≡◌, ◌≢◌, ℕ, ◌+◌, ◌*◌, ◌/◌, ◌%◌, List, [], ◌∷◌, ◌++◌, length, slice_index, unwrap_or, IsSome, Bool, true, false, ◌&&◌, Option, Some, None, Result, Ok, Err, is_some, refl, ap, ◌∙◌, arith}
 use Rattle.std.specs.List.{list_all}
-use Rattle.std.specs.Char.{digit_char}
-use Rattle.std.proofs.lemmas.Bool.{and_parts, cases_eq, eqb-true, false≢true}
+use Rattle.std.proofs.lemmas.Bool.{false≢true}
 use Rattle.std.proofs.lemmas.Bool.Decides.{nat_tests}
-use Rattle.hex.specs.Hex.{hex_digit_value, lower_digits, encode_lower, encode_with, decode_pairs, decode_sized, pair_value, value_at, digit_or_error}
+use Rattle.hex.specs.Hex.{hex_digit_value, lower_digits, encode_lower, encode_with, decode_pairs, decode_sized, pair_value, digit_or_error}
 use Rattle.hex.specs.declared.error.FromHexError.{FromHexError}
 use Rattle.std.specs.Prelude.{MatchResult}
 use Rattle.hex.proofs.HexLemmas.{decode_of-even, decode_sized-twice}

@@ -14,13 +14,10 @@ pub plain_own : (bytes : List ℕ) → 1 ≤ length bytes → get_or bytes 0 0 �
 plain_own [] some other = absurd (omega arith)
 plain_own (byte ∷ bytes) some other = grind (arith, nat_tests)
 
-pub OnErr-from : {T E P : Type 0} (r : Result T E) → P → OnErr r P
-OnErr-from (Ok x) p = tt
-OnErr-from (Err e) p = p
-
 -- where memory runs out behind the front of a text
 pub cut_behind : {T E : Type 0} (text old new : List ℕ) (r : Result T E) (front rest : List ℕ) → new ≡ old ++ front → text ≡ front ++ rest → OnErr r (AppendsFrontOf text old new)
-cut_behind text old new r front rest added begins = OnErr-from r (record { front = front; rest = rest; appended = added; begins = begins })
+cut_behind text old new (Ok made) front rest added begins = tt
+cut_behind text old new (Err fault) front rest added begins = record { front = front; rest = rest; appended = added; begins = begins }
 
 pub printed_cut : (i : ℕ) (bytes : List ℕ) → is_plain bytes ≡ false → printed bytes ≡ (hash ∷ encode_lower (take i bytes)) ++ encode_lower (drop i bytes)
 unfolding printed

@@ -3,9 +3,9 @@ use Rattle.std.specs.Prelude.{ℕ, Bool, if◌then◌else◌, Option, Some, None
 use Rattle.exh_text.specs.declared.line_fault.LineFault.{LineFault}
 use Rattle.exh_text.specs.declared.line_fault.LineFault.TheVariants.{Syntax, Range}
 
-abbrev pub fault_number : LineFault → ℕ
-fault_number Syntax = 60
-fault_number Range = 61
+abbrev pub line_fault_number : LineFault → ℕ
+line_fault_number Syntax = 60
+line_fault_number Range = 61
 
 -- What isn't spelled is Syntax, whatever its numbers; what is spelled is out of range, or read.
 abbrev pub ranged : {T : Type 0} → (T → Bool) → Option T → Result T LineFault

@@ -22,12 +22,12 @@ unfoldable pub number_up_to : ℕ → List ℕ → Option ℕ
 number_up_to greatest word = if is_numeral word && nat_le (digits_value 10 word) greatest then Some (digits_value 10 word) else None
 
 -- a number, at most 4,294,967,295
-abbrev pub number_of : List ℕ → Option ℕ
-number_of = number_up_to (2 ^ 32 - 1)
+abbrev pub number_spelled : List ℕ → Option ℕ
+number_spelled = number_up_to (2 ^ 32 - 1)
 
 -- an index, at most 18,446,744,073,709,551,615
-abbrev pub index_of : List ℕ → Option ℕ
-index_of = number_up_to (2 ^ 64 - 1)
+abbrev pub index_spelled : List ℕ → Option ℕ
+index_spelled = number_up_to (2 ^ 64 - 1)
 
 -- what follows the prefix in a word that begins with it
 abbrev pub after_prefix : List ℕ → List ℕ → Option (List ℕ)
@@ -35,7 +35,7 @@ after_prefix prefix word = if starts_with nat_eq word prefix then Some (drop (le
 
 -- a number behind a prefix, as in `r7` or `cap=2`
 unfoldable pub number_after : List ℕ → List ℕ → Option ℕ
-number_after prefix word = after_prefix prefix word >>= number_of
+number_after prefix word = after_prefix prefix word >>= number_spelled
 
 -- the number that digits spell behind those of n, where it is no greater than the greatest
 unfoldable pub digits_up_to : ℕ → ℕ → List ℕ → Option ℕ

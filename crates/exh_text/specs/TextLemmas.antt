@@ -231,17 +231,17 @@ prefix_word [] = one_word (prefix_text []) refl (omega arith)
 prefix_word (bit ∷ bits) = one_word (prefix_text (bit ∷ bits)) (bits_graphic (bit ∷ bits)) (omega arith)
 
 -- the bits that the digits 1 and 0 spell
-abbrev bits_of : List ℕ → List Bool
-bits_of digits = map (λ digit. eqb digit 49) digits
+abbrev spelled_bits : List ℕ → List Bool
+spelled_bits digits = map (λ digit. eqb digit 49) digits
 
-bits_again : (bits : List Bool) → bits_of (map bit_digit bits) ≡ bits
+bits_again : (bits : List Bool) → spelled_bits (map bit_digit bits) ≡ bits
 bits_again [] = refl
 bits_again (true ∷ bits) = ap (λ (rest : List Bool). true ∷ rest) (bits_again bits)
 bits_again (false ∷ bits) = ap (λ (rest : List Bool). false ∷ rest) (bits_again bits)
 
 -- the prefix that a word is the text of: no bits where it begins with a dash
 abbrev pub prefix_of_text : List ℕ → List Bool
-prefix_of_text text = cond (eqb (get_or text 0 0) 45) [] (bits_of text)
+prefix_of_text text = cond (eqb (get_or text 0 0) 45) [] (spelled_bits text)
 
 pub prefix_again : (bits : List Bool) → prefix_of_text (prefix_text bits) ≡ bits
 prefix_again [] = refl

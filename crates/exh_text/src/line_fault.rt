@@ -13,11 +13,11 @@ pub enum LineFault {
 
 impl LineFault {
     ghost use Rattle.std.specs.Prelude.{◌≡◌};
-    ghost use Rattle.exh_text.specs.LineFault.{fault_number};
+    ghost use Rattle.exh_text.specs.LineFault.{line_fault_number};
 
     /// The number by which the refusal is printed.
     pub fn number(self) -> u32
-        ensures { result ≡ fault_number self }
+        ensures { result ≡ line_fault_number self }
     {
         match self {
             LineFault::Syntax => 60,

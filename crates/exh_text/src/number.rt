@@ -1,11 +1,10 @@
 ghost use Rattle.std.specs.Prelude.{◌≡◌, ◌-◌, ◌^◌};
-ghost use Rattle.exh_text.specs.Numbers.{number_of, index_of, number_after, digits_up_to};
+ghost use Rattle.exh_text.specs.Numbers.{number_spelled, index_spelled, number_after, digits_up_to};
 
-/// The index that a word spells: `0`, or decimal digits without a leading zero, at most 18,446,744,073,709,551,615
-///.
+/// The index that a word spells: `0`, or decimal digits without a leading zero, at most 18,446,744,073,709,551,615.
 #[tactic(auto, using(crate::proofs::Numbers::numeral_cases))]
 pub fn parse_u64(word: &[u8]) -> Option<u64>
-    ensures { result ≡ index_of word.now }
+    ensures { result ≡ index_spelled word.now }
 {
     match word {
         [] | [b'0', _, ..] => None,
@@ -16,7 +15,7 @@ pub fn parse_u64(word: &[u8]) -> Option<u64>
 /// The number that a word spells: the same, at most 4,294,967,295.
 #[tactic(auto, using(crate::proofs::Numbers::narrow_none))]
 pub fn parse_u32(word: &[u8]) -> Option<u32>
-    ensures { result ≡ number_of word.now }
+    ensures { result ≡ number_spelled word.now }
 {
     u32::try_from(parse_u64(word)?).ok()
 }

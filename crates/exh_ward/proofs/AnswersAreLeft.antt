@@ -5,6 +5,7 @@ use Rattle.std.proofs.Math.Pow.{pow_mono}
 use Rattle.exh_prefix.specs.declared.prefix.TheConstants.{LIMIT}
 use Rattle.exh_prefix.specs.BitLemmas.{length-bits_of}
 use Rattle.exh_prefix.specs.Prefix.{low_of}
+use Rattle.exh_prefix.specs.ListLemmas.{one_there}
 use Rattle.exh_page.specs.declared.page.Page.{Page}
 use Rattle.exh_page.specs.declared.page.Page.TheVariants.{Live}
 use Rattle.exh_page.specs.declared.record.Record.{Record}
@@ -14,7 +15,7 @@ use Rattle.exh_legal.specs.Laws.{PagesAreFew}
 use Rattle.exh_legal.specs.Pages.{map_of, IsAt}
 use Rattle.exh_calls.specs.Call.{key_of}
 use Rattle.exh_ward.specs.HopTable.{HopOf, pages_after}
-use Rattle.exh_ward.specs.Kept.{IsKept}
+use Rattle.exh_ward.specs.Kept.{IsKeptWard}
 use Rattle.exh_calls.specs.MapMachine.{reply_of, map_after}
 use Rattle.exh_ward.specs.PageAnswer.{effect_at, reply_by, records_after}
 use Rattle.exh_ward.specs.PageIndex.{IndexMap}
@@ -29,16 +30,16 @@ use Rattle.exh_ward.specs.declared.ward.hop.sight.Sight.TheVariants.{Home}
 use Rattle.exh_ward.proofs.HomeReplies.{AtHome, Fit, reply_is}
 use Rattle.exh_ward.proofs.AnswersKeepLegal.{left_legal, new_map}
 use Rattle.exh_ward.proofs.StepsKeepSound.{well_formed}
-use Rattle.exh_ward.proofs.SightsAreHops.{same_there, answers_at, hop_done}
+use Rattle.exh_ward.proofs.SightsAreHops.{answers_at, hop_done}
 
-pub most_pages : {K : Type 0} {pseudo : List ℕ → ℕ} {takes : Page → Type 0} {own : List Bool} {index : IndexMap} {told : ℕ} {w : WardState K} → PagesAreFew → IsKept pseudo takes own index told w → length w.pages ≤ 2 ^ (LIMIT - w.ward_bits)
+pub most_pages : {K : Type 0} {pseudo : List ℕ → ℕ} {takes : Page → Type 0} {own : List Bool} {index : IndexMap} {told : ℕ} {w : WardState K} → PagesAreFew → IsKeptWard pseudo takes own index told w → length w.pages ≤ 2 ^ (LIMIT - w.ward_bits)
 most_pages {w = w} law kept =
     let len : length (own_prefix w) ≡ w.ward_bits = length-bits_of w.ward_bits w.number in
     let P : ℕ → Type 0 = λ n. length w.pages ≤ 2 ^ (LIMIT - n) in
     subst P len (law (own_prefix w) w.pages (omega (arith, len, kept.bits)) kept.sound.legal.legal.legal.linked)
 
 -- a ward's pages have numbers of 32 bits, with one to spare
-pub few_pages : {K : Type 0} {pseudo : List ℕ → ℕ} {takes : Page → Type 0} {own : List Bool} {index : IndexMap} {told : ℕ} {w : WardState K} → PagesAreFew → IsKept pseudo takes own index told w → length w.pages < 2 ^ 32 - 1
+pub few_pages : {K : Type 0} {pseudo : List ℕ → ℕ} {takes : Page → Type 0} {own : List Bool} {index : IndexMap} {told : ℕ} {w : WardState K} → PagesAreFew → IsKeptWard pseudo takes own index told w → length w.pages < 2 ^ 32 - 1
 few_pages {w = w} law kept =
     let room : 2 ^ (LIMIT - w.ward_bits) ≤ 2 ^ LIMIT = pow_mono {i = LIMIT - w.ward_bits} {j = LIMIT} (omega arith) in
     omega (arith, most_pages law kept, room)
@@ -58,7 +59,7 @@ pub record Answers {K : Type 0} (pseudo : List ℕ → ℕ) (w : WardState K) (a
   pub seen_is : IsSeenAt w.cap (pseudo (key_of call)) (Live prefix link records) call seen
   pub hashed : pseudokey ≡ pseudo (key_of call)
 
-pub answers_here : {K : Type 0} (pseudokey_of : K → List ℕ → ℕ) {takes : Page → Type 0} {own : List Bool} {index : IndexMap} {told : ℕ} {w now : WardState K} → w ≡ now → IsKept (pseudokey_of w.keyer) takes own index told w → (at : ℕ) (call : Call) (pseudokey : ℕ) (home : HomeSight)
+pub answers_here : {K : Type 0} (pseudokey_of : K → List ℕ → ℕ) {takes : Page → Type 0} {own : List Bool} {index : IndexMap} {told : ℕ} {w now : WardState K} → w ≡ now → IsKeptWard (pseudokey_of w.keyer) takes own index told w → (at : ℕ) (call : Call) (pseudokey : ℕ) (home : HomeSight)
     → pseudokey ≡ pseudokey_of now.keyer (key_of call) → SightIn now.cap pseudokey now.pages at call (Home home) → Answers (pseudokey_of w.keyer) w at call pseudokey home
 answers_here {K = K} pseudokey_of {w = w} {now = now} seen kept at call pseudokey home hashed sight =
     let P : WardState K → Type 0 = λ w. SightIn w.cap pseudokey w.pages at call (Home home) in
@@ -68,7 +69,7 @@ answers_here {K = K} pseudokey_of {w = w} {now = now} seen kept at call pseudoke
     let found = answers_at kept.sound.legal.legal.legal at call home (subst R hashed_w (subst P (sym seen) sight)) in
     record { prefix = found.0; link = found.1; records = found.2; home = found.3; below = found.4; seen_is = found.5; hashed = hashed_w }
 
-module _ {K : Type 0} {pseudo : List ℕ → ℕ} {takes : Page → Type 0} {own : List Bool} {index : IndexMap} {told : ℕ} {w : WardState K} (fit : Fit pseudo) (kept : IsKept pseudo takes own index told w) {at : ℕ} {call : Call} {pseudokey : ℕ} {seen : HomeSight}
+module _ {K : Type 0} {pseudo : List ℕ → ℕ} {takes : Page → Type 0} {own : List Bool} {index : IndexMap} {told : ℕ} {w : WardState K} (fit : Fit pseudo) (kept : IsKeptWard pseudo takes own index told w) {at : ℕ} {call : Call} {pseudokey : ℕ} {seen : HomeSight}
     (answers : Answers pseudo w at call pseudokey seen) where
   abbrev full : Bool
   full = seen.full
@@ -86,7 +87,7 @@ module _ {K : Type 0} {pseudo : List ℕ → ℕ} {takes : Page → Type 0} {own
       ∙ ap (λ full. Live answers.prefix answers.link (records_after full (pseudo (key_of call)) call answers.records)) answers.seen_is.full
 
   there_is : (other : Page) → IsAt w.pages at other → other ≡ page
-  there_is other is = same_there w.pages at other page is answers.home.there
+  there_is other is = one_there w.pages at other page is answers.home.there
 
   -- what was seen is what the page has
   pub sought_there : (other : Page) → IsAt w.pages at other → IsSought (pseudokey, key_of call) (records_of other) seen.spot
@@ -122,7 +123,7 @@ module _ {K : Type 0} {pseudo : List ℕ → ℕ} {takes : Page → Type 0} {own
   hop_is_done reply is = hop_done kept.sound.legal.legal.legal at call fit answers.prefix answers.link answers.records reply answers.home answers.below is
 
 -- an answer, as the ward is seen
-pub answered_seen : {K : Type 0} (pseudokey_of : K → List ℕ → ℕ) {takes : Page → Type 0} {own : List Bool} {index : IndexMap} {told : ℕ} {w now : WardState K} → w ≡ now → Fit (pseudokey_of w.keyer) → IsKept (pseudokey_of w.keyer) takes own index told w
+pub answered_seen : {K : Type 0} (pseudokey_of : K → List ℕ → ℕ) {takes : Page → Type 0} {own : List Bool} {index : IndexMap} {told : ℕ} {w now : WardState K} → w ≡ now → Fit (pseudokey_of w.keyer) → IsKeptWard (pseudokey_of w.keyer) takes own index told w
     → {at : ℕ} {call : Call} {pseudokey : ℕ} {home : HomeSight} → Answers (pseudokey_of w.keyer) w at call pseudokey home → (client : ℕ) (reply : Reply) (pages : List Page) (journal : List JournalEntry) (failures : ℕ)
     → ((other : Page) → IsAt w.pages at other → pages ≡ slice_set w.pages at (with_records (records_after home.full pseudokey call (records_of other)) other))
     → journal ≡ w.journal ++ record { client = client; call = call; reply = reply } ∷ [] → failures ≡ w.failures

@@ -1,36 +1,37 @@
 -- What a call at its home page leaves of the pages.
-use Rattle.std.proofs.Common.{◌≡◌, ℕ, ◌≤◌, Bool, true, false, cond, leb, List, length, find, slice_get, Option, None, Some, ◌↔◌, IsTrue, inl, inr, refl, sym, ap, ◌∙◌, subst, arith, nat_cmp}
+use Rattle.std.proofs.Common.{◌≡◌, ℕ, ◌≤◌, Bool, true, false, cond, leb, List, length, find, slice_get, Option, None, Some, inl, inr, refl, sym, ap, ◌∙◌, subst, arith, nat_cmp}
 use Rattle.std.specs.Prelude.{slice_set}
 use Rattle.std.specs.FinMap as fin
 use Rattle.std.specs.List.{AllByRecursion}
 use Rattle.std.specs.Option.{option_map, option_map_or}
 use Rattle.std.specs.Ordering.{eq_by_cmp}
 use Rattle.std.specs.Cmp.Lexicographic.{slice_cmp}
-use Rattle.std.proofs.lemmas.Bool.{cases_eq, cases_Bool, leb-false, false_from_ne_true, false≢true}
+use Rattle.std.proofs.lemmas.Bool.{cases_eq, cases_Bool, leb-false, false_from_ne_true}
 use Rattle.std.proofs.lemmas.Cmp.{nat_list_cmp_total}
 use Rattle.std.proofs.lemmas.Map.Lookups.{exact_bytes}
 use Rattle.exh_prefix.specs.Bits.{word_bits}
 use Rattle.exh_prefix.specs.Prefix.{Begins, begins}
 use Rattle.exh_prefix.specs.PrefixLemmas.{is_front-true, IsFront-from_test}
+use Rattle.exh_prefix.specs.ListLemmas.{set_here, set_else, is_equal, AllByRecursion-filter}
 use Rattle.exh_page.specs.declared.page.Page.{Page}
 use Rattle.exh_page.specs.declared.page.Page.TheVariants.{Live}
 use Rattle.exh_page.specs.declared.record.Record.{Record}
 use Rattle.exh_page.specs.Page.{AreRecordsOf, records_of}
 use Rattle.exh_page.specs.Place.{Place}
-use Rattle.exh_page.specs.Records.{is_at, value_at, with_record, without_place}
-use Rattle.exh_page.specs.RecordsLemmas.{AllByRecursion-filter, IsRising-filter, IsRising-with_record}
+use Rattle.exh_page.specs.Records.{is_at, value_at, with_record}
+use Rattle.exh_page.specs.RecordsLemmas.{IsRising-filter, IsRising-with_record}
 use Rattle.exh_page.specs.Values.{value_at-with_record, value_at-without_place, AllByRecursion-with_record, length-with_record_old, length-with_record_le, length-without_place}
 use Rattle.exh_page.specs.KeyMap.{KeyMap}
 use Rattle.exh_legal.specs.Pages.{map_of, IsAt, IsHome, IsLegalPage, IsLegal, AreLinked, bare}
 use Rattle.exh_page.specs.KeyMapLemmas.{same_maps}
-use Rattle.exh_legal.specs.MapLemmas.{tie_of, place_of_key, get-map_of, get-map_of_pages, found_at, found_alike, none_elsewhere, page_at, all_pages}
+use Rattle.exh_legal.specs.MapLemmas.{place_of_key, get-map_of, get-map_of_pages, found_at, found_alike, none_elsewhere, page_at, all_pages}
+use Rattle.exh_legal.specs.PlaceLemmas.{bare_set}
 use Rattle.exh_calls.specs.Call.{key_of}
 use Rattle.exh_calls.specs.Effect.{Change, Keep, Set, Remove, Effect, effect_of}
 use Rattle.exh_calls.specs.EffectLemmas.{full_sets_nothing}
 use Rattle.exh_calls.specs.MapMachine.{effect_in, changed, map_after}
 use Rattle.exh_ward.specs.PageAnswer.{records_changed, records_after}
 use Rattle.exh_calls.specs.declared.call.Call.{Call}
-use Rattle.exh_ward.proofs.StoredPages.{set_here, set_else, bare_set}
 use Rattle.exh_ward.proofs.HomeReplies.{AtHome, Fit, same_test_turned, effect_is}
 
 -- a page with the records that a change leaves is legal, where what is set has room
@@ -157,7 +158,7 @@ module _ {cap : ℕ} {pseudo : List ℕ → ℕ} {ward : List Bool} {pages : Lis
         ∙ ap (λ (effect : Effect). fin.get (changed effect.change key (map_of pages)) other) (effect_is fit is)
     | inr fails ↦
         let not : Begins prefix (pseudo other) → ⊥ = λ begun. (let passes = is_front-true prefix (word_bits (pseudo other)) begun in cc) in
-        let differ = false_from_ne_true (eq_by_cmp (slice_cmp nat_cmp) other key) (λ tied. not (subst (λ k. Begins prefix (pseudo k)) (sym (exact_bytes other key (tie_of _ tied))) is.home)) in
+        let differ = false_from_ne_true (eq_by_cmp (slice_cmp nat_cmp) other key) (λ tied. not (subst (λ k. Begins prefix (pseudo k)) (sym (exact_bytes other key (is_equal _ tied))) is.home)) in
         get-map_of_pages cap pseudo new other new_legal.each
         ∙ ap (option_map (λ r. r.value)) (found_alike (is_at (place_of_key pseudo other)) new pages (found_else (place_of_key pseudo other) not))
         ∙ sym (get-map_of_pages cap pseudo pages other is.legal.each)

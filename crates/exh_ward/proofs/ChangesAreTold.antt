@@ -8,26 +8,25 @@ use Rattle.std.proofs.lemmas.List.{length-append}
 use Rattle.std.proofs.lemmas.Option.{slice_get_within}
 use Rattle.exh_prefix.specs.Prefix.{prefix_cmp}
 use Rattle.exh_prefix.specs.PrefixLemmas.{prefix_cmp-total, prefix_cmp-exact}
+use Rattle.exh_prefix.specs.ListLemmas.{one_there, at_front, at_last, is_equal}
 use Rattle.exh_notice.specs.declared.entry.Entry.{Entry}
 use Rattle.exh_notice.specs.declared.notice.Notice.{Notice}
 use Rattle.exh_notice.specs.Entry.{entry_of}
 use Rattle.exh_table.specs.Table.{TableMap, greater_of, table_with, table_at}
+use Rattle.exh_table.specs.SetLemmas.{IsTableSince-push}
 use Rattle.exh_page.specs.declared.page.Page.{Page}
 use Rattle.exh_page.specs.Page.{low_bound}
 use Rattle.exh_legal.specs.Growth.{IsPageOf}
 use Rattle.exh_legal.specs.Laws.{KeepsPlaces}
-use Rattle.exh_legal.specs.MapLemmas.{tie_of}
 use Rattle.exh_legal.specs.NoticeLemmas.{one_true_more, still_true}
 use Rattle.exh_legal.specs.Numbers.{index_of, AreNumbered}
 use Rattle.exh_legal.specs.Pages.{IsAt, bare}
-use Rattle.exh_ward.specs.Kept.{IsKept}
+use Rattle.exh_legal.specs.PlaceLemmas.{page_full, page_bare}
+use Rattle.exh_ward.specs.Kept.{IsKeptWard}
 use Rattle.exh_ward.specs.PageIndex.{IndexMap, IsIndexOf}
 use Rattle.exh_ward.specs.Told.{IsChangedTo, IsNextNotice}
 use Rattle.exh_ward.specs.WardState.{WardState, IsSound, own_prefix}
-use Rattle.exh_ward.proofs.HalvesOfPages.{full_page_of, bare_page_of}
 use Rattle.exh_ward.proofs.StepsKeepSound.{kept_read}
-use Rattle.exh_ward.proofs.SightsAreHops.{same_there}
-use Rattle.exh_ward.proofs.TableSince.{IsTableSince-push}
 
 -- ---- what is undone
 
@@ -39,7 +38,7 @@ put_over true new old found same = same refl
 put_over false new old found same = refl
 
 at_same : (table : TableMap) (prefix key : List Bool) → eq_by_cmp prefix_cmp prefix key ≡ true → fin.get table key ≡ fin.get table prefix
-at_same table prefix key tied = ap (fin.get table) (sym (prefix_cmp-exact prefix key (tie_of (prefix_cmp prefix key) tied)))
+at_same table prefix key tied = ap (fin.get table) (sym (prefix_cmp-exact prefix key (is_equal (prefix_cmp prefix key) tied)))
 
 get-table_at : (table : TableMap) (key : List Bool) (stood : Option Entry) (prefix : List Bool) → fin.get (table_at table key stood) prefix ≡ cond (eq_by_cmp prefix_cmp prefix key) stood (fin.get table prefix)
 get-table_at table key None prefix = fin.get-remove prefix_cmp-total table key prefix
@@ -70,7 +69,7 @@ index_back index low number none =
     fin.same_map nat_cmp_total fin.nat_cmp-IsAntisymmetric _ _ (λ q.
     fin.get-remove nat_cmp_total (fin.insert index low number) low q
     ∙ ap (cond (eq_by_cmp nat_cmp q low) None) (fin.get-insert nat_cmp_total index low number q)
-    ∙ remove_over (eq_by_cmp nat_cmp q low) number (fin.get index q) (λ tied. sym (ap (fin.get index) (fin.nat_cmp-IsAntisymmetric q low (tie_of (nat_cmp q low) tied)) ∙ none)))
+    ∙ remove_over (eq_by_cmp nat_cmp q low) number (fin.get index q) (λ tied. sym (ap (fin.get index) (fin.nat_cmp-IsAntisymmetric q low (is_equal (nat_cmp q low) tied)) ∙ none)))
 
 -- ---- the index
 
@@ -84,7 +83,7 @@ page_before : (pages new : List Page) → KeepsPlaces pages new → (low number 
 page_before pages new places low number within is =
     let old = there_at pages number within in
     let kept = places number old.0 old.1 in
-    let same = same_there new number kept.0 is.0 kept.1 is.1 in
+    let same = one_there new number kept.0 is.0 kept.1 is.1 in
     (old.0, old.1, sym kept.2 ∙ ap low_bound same ∙ is.2)
 
 page_after : (pages new : List Page) → KeepsPlaces pages new → (low number : ℕ) → IsPageOf pages low number → IsPageOf new low number
@@ -92,11 +91,11 @@ page_after pages new places low number is = let kept = places number is.0 is.1 i
 
 pub index_kept : (index : IndexMap) (pages new : List Page) → IsIndexOf index (bare pages) → KeepsPlaces pages new → length new ≡ length pages → IsIndexOf index (bare new)
 index_kept index pages new indexed places same low number = (
-  λ found. let is = (indexed low number).0 found in (is.0, bare_page_of new low number (page_after pages new places low number (full_page_of pages low number is.1))),
+  λ found. let is = (indexed low number).0 found in (is.0, page_bare new low number (page_after pages new places low number (page_full pages low number is.1))),
   λ is.
-      let page = full_page_of new low number is.1 in
+      let page = page_full new low number is.1 in
       let within : number < length pages = omega (arith, same, slice_get_within new number page.0 page.1) in
-      (indexed low number).1 (is.0, bare_page_of pages low number (page_before pages new places low number within page)),
+      (indexed low number).1 (is.0, page_bare pages low number (page_before pages new places low number within page)),
 )
 
 last_there : (front : List Page) (new : Page) → IsAt (front ++ new ∷ []) (length front) new
@@ -110,17 +109,17 @@ index_grown index pages front new indexed places same some alone low number =
     let get_is = fin.get-insert nat_cmp_total index (low_bound new) (length pages) low in
     elim (cases_Bool (eq_by_cmp nat_cmp low (low_bound new))) [
       | inl tied ↦
-          let low_is : low ≡ low_bound new = fin.nat_cmp-IsAntisymmetric low (low_bound new) (tie_of (nat_cmp low (low_bound new)) tied) in
+          let low_is : low ≡ low_bound new = fin.nat_cmp-IsAntisymmetric low (low_bound new) (is_equal (nat_cmp low (low_bound new)) tied) in
           let found : fin.get (fin.insert index (low_bound new) (length pages)) low ≡ Some (length pages) = get_is ∙ ap (λ b. cond b (Some (length pages)) (fin.get index low)) tied in
           let last : IsAt all (length pages) new = ap (slice_get all) (sym same) ∙ last_there front new in (
             λ is.
                 let both : Some (length pages) ≡ Some number = sym found ∙ is in
                 let number_is : length pages ≡ number = cc in (
                   omega (arith, some, number_is),
-                  bare_page_of all low number (new, subst (λ n. IsAt all n new) number_is last, sym low_is),
+                  page_bare all low number (new, subst (λ n. IsAt all n new) number_is last, sym low_is),
                 ),
             λ is.
-                let page = full_page_of all low number is.1 in
+                let page = page_full all low number is.1 in
                 let most : number < length all = slice_get_within all number page.0 page.1 in
                 elim (cases_lt number (length pages)) [
                   | inl before ↦
@@ -135,15 +134,15 @@ index_grown index pages front new indexed places same some alone low number =
           let found : fin.get (fin.insert index (low_bound new) (length pages)) low ≡ fin.get index low = get_is ∙ ap (λ b. cond b (Some (length pages)) (fin.get index low)) apart in (
             λ is.
                 let old = (indexed low number).0 (sym found ∙ is) in
-                (old.0, bare_page_of all low number (page_after pages all places low number (full_page_of pages low number old.1))),
+                (old.0, page_bare all low number (page_after pages all places low number (page_full pages low number old.1))),
             λ is.
-                let page = full_page_of all low number is.1 in
+                let page = page_full all low number is.1 in
                 let most : number < length all = slice_get_within all number page.0 page.1 in
                 elim (cases_lt number (length pages)) [
-                  | inl before ↦ found ∙ (indexed low number).1 (is.0, bare_page_of pages low number (page_before pages all places low number before page))
+                  | inl before ↦ found ∙ (indexed low number).1 (is.0, page_bare pages low number (page_before pages all places low number before page))
                   | inr after ↦
                       let number_is : number ≡ length front = omega (arith, after, most, same, length-append front (new ∷ [])) in
-                      let is_new = same_there all number page.0 new page.1 (ap (slice_get all) number_is ∙ last_there front new) in
+                      let is_new = one_there all number page.0 new page.1 (ap (slice_get all) number_is ∙ last_there front new) in
                       let low_is : low ≡ low_bound new = sym page.2 ∙ ap low_bound is_new in
                       let tied : eq_by_cmp nat_cmp low (low_bound new) ≡ true = ap (λ n. eq_by_cmp nat_cmp low n) (sym low_is) ∙ ap is_eq (tied_itself nat_cmp_total low) in
                       absurd (false≢true (sym apart ∙ tied))
@@ -153,33 +152,24 @@ index_grown index pages front new indexed places same some alone low number =
 
 -- ---- what is kept
 
-get_front : (front back : List Notice) (place : ℕ) → place < length front → slice_get (front ++ back) place ≡ slice_get front place
-get_front [] back place within = absurd (omega arith)
-get_front (notice ∷ front) back zero within = refl
-get_front (notice ∷ front) back (suc place) within = get_front front back place (omega arith)
-
-get_last : (front : List Notice) (notice : Notice) → slice_get (front ++ notice ∷ []) (length front) ≡ Some notice
-get_last [] notice = refl
-get_last (first ∷ front) notice = get_last front notice
-
-module _ {K : Type 0} {pseudo : List ℕ → ℕ} {takes : Page → Type 0} {own : List Bool} {index : IndexMap} {told : ℕ} {w : WardState K} (kept : IsKept pseudo takes own index told w) (takes_now : Page → Type 0) (same_takes : (page : Page) → takes page ↔ takes_now page) where
+module _ {K : Type 0} {pseudo : List ℕ → ℕ} {takes : Page → Type 0} {own : List Bool} {index : IndexMap} {told : ℕ} {w : WardState K} (kept : IsKeptWard pseudo takes own index told w) (takes_now : Page → Type 0) (same_takes : (page : Page) → takes page ↔ takes_now page) where
   -- nothing was changed, or what was is undone
   pub kept_undone : (pages : List Page) (notices : List Notice) (table : TableMap) (failures : ℕ) (index_now : IndexMap) → pages ≡ w.pages → notices ≡ w.notices → table ≡ w.table → index_now ≡ index
-      → IsKept pseudo takes_now own index_now told (record w { pages = pages; notices = notices; table = table; failures = failures })
+      → IsKeptWard pseudo takes_now own index_now told (record w { pages = pages; notices = notices; table = table; failures = failures })
   kept_undone pages notices table failures index_now same_pages same_notices same_table same_index =
-      let P : List Page → Type 0 = λ pages. IsKept pseudo takes_now own index_now told (record w { pages = pages; notices = notices; table = table; failures = failures }) in
-      let Q : List Notice → Type 0 = λ notices. IsKept pseudo takes_now own index_now told (record w { notices = notices; table = table; failures = failures }) in
-      let R : TableMap → Type 0 = λ table. IsKept pseudo takes_now own index_now told (record w { table = table; failures = failures }) in
-      let S : IndexMap → Type 0 = λ index. IsKept pseudo takes_now own index told (record w { failures = failures }) in
+      let P : List Page → Type 0 = λ pages. IsKeptWard pseudo takes_now own index_now told (record w { pages = pages; notices = notices; table = table; failures = failures }) in
+      let Q : List Notice → Type 0 = λ notices. IsKeptWard pseudo takes_now own index_now told (record w { notices = notices; table = table; failures = failures }) in
+      let R : TableMap → Type 0 = λ table. IsKeptWard pseudo takes_now own index_now told (record w { table = table; failures = failures }) in
+      let S : IndexMap → Type 0 = λ index. IsKeptWard pseudo takes_now own index told (record w { failures = failures }) in
       subst P (sym same_pages) (subst Q (sym same_notices) (subst R (sym same_table) (subst S (sym same_index) (kept_read kept takes_now same_takes w.pages w.journal failures refl refl))))
 
   module _ (notice : Notice) (new : List Page) (next : IsNextNotice w notice) (changed : IsChangedTo pseudo w notice new) where
     numbered_more : AreNumbered w.number w.start (w.notices ++ notice ∷ [])
     numbered_more place other is = elim (cases_lt place (length w.notices)) [
-      | inl before ↦ kept.sound.numbered place other (sym (get_front w.notices (notice ∷ []) place before) ∙ is)
+      | inl before ↦ kept.sound.numbered place other (sym (at_front w.notices (notice ∷ []) place before) ∙ is)
       | inr after ↦
           let here : place ≡ length w.notices = omega (arith, after, slice_get_within (w.notices ++ notice ∷ []) place other is, length-append w.notices (notice ∷ [])) in
-          let both : Some notice ≡ Some other = sym (get_last w.notices notice) ∙ ap (slice_get (w.notices ++ notice ∷ [])) (sym here) ∙ is in
+          let both : Some notice ≡ Some other = sym (at_last w.notices notice) ∙ ap (slice_get (w.notices ++ notice ∷ [])) (sym here) ∙ is in
           let same : notice ≡ other = cc in
           let index_is : notice.index ≡ index_of w.table + 1 = ap (λ (n : Notice). n.index) next in (
             sym (ap (λ (n : Notice). n.ward) same) ∙ ap (λ (n : Notice). n.ward) next,
@@ -199,11 +189,11 @@ module _ {K : Type 0} {pseudo : List ℕ → ℕ} {takes : Page → Type 0} {own
     }
 
     pub kept_told : (pages : List Page) (notices : List Notice) (table : TableMap) (failures : ℕ) (index_now : IndexMap) → IsIndexOf index_now (bare new) → pages ≡ new → notices ≡ w.notices ++ notice ∷ [] → table ≡ table_with w.table notice
-        → IsKept pseudo takes_now own index_now told (record w { pages = pages; notices = notices; table = table; failures = failures })
+        → IsKeptWard pseudo takes_now own index_now told (record w { pages = pages; notices = notices; table = table; failures = failures })
     kept_told pages notices table failures index_now indexed is_new is_told is_table =
-        let P : List Page → Type 0 = λ pages. IsKept pseudo takes_now own index_now told (record w { pages = pages; notices = notices; table = table; failures = failures }) in
-        let Q : List Notice → Type 0 = λ notices. IsKept pseudo takes_now own index_now told (record w { pages = new; notices = notices; table = table; failures = failures }) in
-        let R : TableMap → Type 0 = λ table. IsKept pseudo takes_now own index_now told (record w { pages = new; notices = w.notices ++ notice ∷ []; table = table; failures = failures }) in
+        let P : List Page → Type 0 = λ pages. IsKeptWard pseudo takes_now own index_now told (record w { pages = pages; notices = notices; table = table; failures = failures }) in
+        let Q : List Notice → Type 0 = λ notices. IsKeptWard pseudo takes_now own index_now told (record w { pages = new; notices = notices; table = table; failures = failures }) in
+        let R : TableMap → Type 0 = λ table. IsKeptWard pseudo takes_now own index_now told (record w { pages = new; notices = w.notices ++ notice ∷ []; table = table; failures = failures }) in
         subst P (sym is_new) (subst Q (sym is_told) (subst R (sym is_table) (record {
           sound = told_sound failures;
           own_is = kept.own_is;
@@ -231,5 +221,5 @@ pub absent : (index : IndexMap) (pages : List Page) (low : ℕ) → IsIndexOf in
 absent index pages low indexed alone =
     elim (fin.get index low) as (λ found. fin.get index low ≡ found → found ≡ None) [
       | None ↦ λ is. refl
-      | Some number ↦ λ is. let page = full_page_of pages low number ((indexed low number).0 is).1 in absurd (alone number page.0 page.1 page.2)
+      | Some number ↦ λ is. let page = page_full pages low number ((indexed low number).0 is).1 in absurd (alone number page.0 page.1 page.2)
     ] refl

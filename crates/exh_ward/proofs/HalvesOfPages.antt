@@ -1,5 +1,5 @@
 -- What the halves of a page are to the ward.
-use Rattle.std.proofs.Common.{◌≡◌, ℕ, ◌<◌, ◌%◌, inl, inr, Bool, true, List, [], ◌∷◌, ◌++◌, length, Option, None, Some, Result, Ok, Err, IfErr, IsErrAnd, sym, ap, ◌∙◌, subst, arith}
+use Rattle.std.proofs.Common.{◌≡◌, ℕ, ◌<◌, ◌%◌, inl, inr, Bool, true, List, [], ◌∷◌, ◌++◌, length, Option, None, Some, Result, Ok, Err, IfErr, IsErrAnd, sym, ◌∙◌, subst, arith}
 use Rattle.std.specs.FinMap as fin
 use Rattle.std.specs.Option.{MatchOption}
 use Rattle.std.proofs.lemmas.Bool.{cases_eq}
@@ -7,14 +7,15 @@ use Rattle.exh_prefix.specs.declared.prefix.TheConstants.{LIMIT}
 use Rattle.exh_prefix.specs.Prefix.{low_of}
 use Rattle.exh_page.specs.declared.page.Page.{Page}
 use Rattle.exh_page.specs.declared.page.Page.TheVariants.{Live, Forward}
-use Rattle.exh_page.specs.Page.{IsLive, low_bound, with_records}
-use Rattle.exh_legal.specs.BareLemmas.{bare_at, at_bare, bare_low}
+use Rattle.exh_page.specs.Page.{IsLive, low_bound}
+use Rattle.exh_legal.specs.BareLemmas.{bare_at}
 use Rattle.exh_legal.specs.Change.{IsForwardOf}
-use Rattle.exh_legal.specs.Growth.{IsLiveAt, IsPageOf}
+use Rattle.exh_legal.specs.Growth.{IsLiveAt}
 use Rattle.exh_legal.specs.Laws.{IsSplittable, LivePagesSplit}
 use Rattle.exh_legal.specs.Numbers.{number_at}
 use Rattle.exh_legal.specs.Pages.{IsAt, bare}
-use Rattle.exh_ward.specs.Kept.{IsKept}
+use Rattle.exh_legal.specs.PlaceLemmas.{page_full, page_bare}
+use Rattle.exh_ward.specs.Kept.{IsKeptWard}
 use Rattle.exh_ward.specs.PageIndex.{IndexMap}
 use Rattle.exh_halves.specs.Refusal.{NotHalved}
 use Rattle.exh_halves.specs.declared.halves_fault.HalvesFault.{HalvesFault}
@@ -51,22 +52,13 @@ failed_with (Err other) fault P is refused = subst P (sym is) refused
 pub refused_as : {T : Type 0} (r : Result T WardFault) (fault : HalvesFault) (P : WardFault → Type 0) → IsErrAnd r (λ other. other ≡ fault_of_halves fault) → P (fault_of_halves fault) → IfErr r P
 refused_as r fault P is refused = failed_with r (fault_of_halves fault) P is refused
 
--- a page of pages without records is one with them
-pub full_page_of : (pages : List Page) (low number : ℕ) → IsPageOf (bare pages) low number → IsPageOf pages low number
-full_page_of pages low number is =
-    let full = at_bare pages number is.0 is.1 in
-    (full.0, full.1, sym (bare_low full.0) ∙ sym (ap low_bound full.2) ∙ is.2)
-
-pub bare_page_of : (pages : List Page) (low number : ℕ) → IsPageOf pages low number → IsPageOf (bare pages) low number
-bare_page_of pages low number is = (with_records [] is.0, bare_at pages number is.0 is.1, bare_low is.0 ∙ is.2)
-
 not_forward : (pages : List Page) (number low target : ℕ) (page : Page) → IsAt pages number page → IsLive page → IsAt pages number (Forward low target) → ⊥
 not_forward pages number low target page is live forward =
     let both : Some page ≡ Some (Forward low target) = sym is ∙ forward in
     let same : page ≡ Forward low target = cc in
     subst IsLive same live
 
-module _ {K : Type 0} {pseudo : List ℕ → ℕ} {takes : Page → Type 0} {own : List Bool} {index : IndexMap} {told : ℕ} {w : WardState K} (law : LivePagesSplit) (kept : IsKept pseudo takes own index told w) (prefix : List Bool) (number : ℕ) (live : IsLiveAt w.pages prefix number) (short : length prefix < LIMIT) where
+module _ {K : Type 0} {pseudo : List ℕ → ℕ} {takes : Page → Type 0} {own : List Bool} {index : IndexMap} {told : ℕ} {w : WardState K} (law : LivePagesSplit) (kept : IsKeptWard pseudo takes own index told w) (prefix : List Bool) (number : ℕ) (live : IsLiveAt w.pages prefix number) (short : length prefix < LIMIT) where
   abbrev low : ℕ
   low = low_of (prefix ++ true ∷ [])
 
@@ -85,11 +77,11 @@ module _ {K : Type 0} {pseudo : List ℕ → ℕ} {takes : Page → Type 0} {own
   found_forward None is = λ other page is_page same. elim (cases_eq other 0) [
     | inl first ↦ not_first page (subst (λ n. IsAt w.pages n page) first is_page) same
     | inr later ↦
-        let found = (kept.indexed low other).1 (omega (arith, later), bare_page_of w.pages low other (page, is_page, same)) in
+        let found = (kept.indexed low other).1 (omega (arith, later), page_bare w.pages low other (page, is_page, same)) in
         let both : None ≡ Some other = is ∙ found in
         cc
   ]
-  found_forward (Some right) is = ready.forwards right (full_page_of w.pages low right ((kept.indexed low right).0 (sym is)).1)
+  found_forward (Some right) is = ready.forwards right (page_full w.pages low right ((kept.indexed low right).0 (sym is)).1)
 
   -- the number at the prefix is even
   pub even_here : (number_at w.table prefix) % 2 ≡ 0

@@ -1,5 +1,5 @@
 -- A call at its home page: what is answered, and what is left.
-use Rattle.std.proofs.Common.{◌≡◌, ℕ, ◌<◌, ◌≤◌, ◌^◌, Bool, true, not, leb, List, length, Option, None, Some, ◌⊎◌, inl, inr, refl, sym, ap, ◌∙◌, arith, nat_cmp}
+use Rattle.std.proofs.Common.{◌≡◌, ℕ, ◌<◌, ◌≤◌, ◌^◌, Bool, true, leb, List, length, Option, None, inl, inr, sym, ap, ◌∙◌, arith, nat_cmp}
 use Rattle.std.specs.FinMap as fin
 use Rattle.std.specs.Option.{option_map, is_none}
 use Rattle.std.specs.Ordering.{is_eq, eq_by_cmp}
@@ -8,6 +8,7 @@ use Rattle.std.proofs.lemmas.Bool.{cases_lt, le-leb, lt-leb, eqb-true, eq-eqb, t
 use Rattle.std.proofs.lemmas.Cmp.{eq_by_cmp_equiv}
 use Rattle.exh_prefix.specs.declared.prefix.TheConstants.{LIMIT}
 use Rattle.exh_prefix.specs.Prefix.{Begins, begins}
+use Rattle.exh_prefix.specs.LeadingLemmas.{begins_by-sharing, shared_begins}
 use Rattle.exh_page.specs.declared.page.Page.{Page}
 use Rattle.exh_page.specs.declared.page.Page.TheVariants.{Live}
 use Rattle.exh_page.specs.declared.record.Record.{Record}
@@ -27,7 +28,6 @@ use Rattle.exh_ward.specs.PageAnswer.{effect_at, OverflowsPage}
 use Rattle.exh_calls.specs.declared.call.Call.{Call}
 use Rattle.exh_calls.specs.SharingLemmas.{shares, sharing_same, sharing_all, sharing-le}
 use Rattle.exh_ward.proofs.RecordCount.{len-map_of_records-le, len-map_of_records}
-use Rattle.exh_calls.specs.LeadingLemmas.{begins_by-sharing, shared_begins}
 
 -- a key and the key of a test, the other way round
 pub same_test_turned : (pseudo : List ℕ → ℕ) (one other : List ℕ) → is_eq (place_cmp (place_of_key pseudo one) (place_of_key pseudo other)) ≡ eq_by_cmp (slice_cmp nat_cmp) one other
@@ -70,7 +70,7 @@ module _ {cap : ℕ} {pseudo : List ℕ → ℕ} {ward : List Bool} {pages : Lis
   -- ---- the reply
 
   shared_home : (other : List ℕ) → shares pseudo key other ≡ true → Begins prefix (pseudo other)
-  shared_home other same = shared_begins prefix (pseudo key) (pseudo other) short (fit key) (fit other) is.home (eqb-true _ _ same)
+  shared_home other same = shared_begins prefix LIMIT (pseudo key) (pseudo other) short (omega arith) is.home (eqb-true _ _ same)
 
   sharing_here : sharing pseudo m key ≡ sharing pseudo (map_of_records records) key
   sharing_here = sharing_same pseudo key m (map_of_records records) (λ q same. get_at q (shared_home q same) ∙ sym (get-map_of_records pseudo records q page_legal.0.hashed))
@@ -85,7 +85,7 @@ module _ {cap : ℕ} {pseudo : List ℕ → ℕ} {ward : List Bool} {pages : Lis
       ∙ sharing_all pseudo key (map_of_records records) (λ q apart.
       get-map_of_records pseudo records q page_legal.0.hashed
       ∙ ap (option_map (λ r. r.value)) (none_of_others prefix (place_of_key pseudo q) records page_legal.0.begun
-      (λ begins. let same = eq-eqb _ _ ((begins_by-sharing prefix (pseudo key) (pseudo q) long (fit key) (fit q) is.home).0 begins) in true≢false (sym same ∙ apart))))
+      (λ begins. let same = eq-eqb _ _ ((begins_by-sharing prefix LIMIT (pseudo key) (pseudo q) long (omega arith) is.home).0 begins) in true≢false (sym same ∙ apart))))
       ∙ len-map_of_records pseudo records page_legal.0.rising page_legal.0.hashed
 
   -- a page that lacks the key is full exactly where the map machine turns new keys away

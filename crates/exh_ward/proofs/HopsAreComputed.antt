@@ -1,10 +1,10 @@
 -- The hop table as a relation gives what it gives as a function.
 use Rattle.std.specs.Option.{option_map_or}
 use Rattle.std.specs.Prelude.{nat_lt, if◌then◌else◌}
-use Rattle.std.proofs.Common.{◌≡◌, ℕ, suc, ◌<◌, ◌^◌, subst, Bool, true, false, not, ◌&&◌, List, length, slice_get, Option, Some, None, refl, sym, ap, ◌∙◌, arith, inl, inr}
+use Rattle.std.proofs.Common.{◌≡◌, ℕ, suc, ◌<◌, ◌^◌, subst, Bool, true, false, not, List, length, slice_get, Option, Some, None, refl, sym, ap, ◌∙◌, arith, inl, inr}
 use Rattle.std.specs.FinMap as map
 use Rattle.std.specs.Option.{is_some}
-use Rattle.std.proofs.lemmas.Bool.{leb-true, le-leb, lt-leb, cases_lt, false_from_ne_true, false≢true}
+use Rattle.std.proofs.lemmas.Bool.{leb-true, le-leb, lt-leb, cases_lt, false_from_ne_true, false≢true, and_parts}
 use Rattle.exh_prefix.specs.declared.prefix.TheConstants.{LIMIT}
 use Rattle.exh_prefix.specs.Bits.{word_bits}
 use Rattle.exh_prefix.specs.PrefixLemmas.{is_front-true, not_front, IsFront-from_test}
@@ -23,12 +23,6 @@ use Rattle.exh_calls.specs.declared.call.Call.{Call}
 use Rattle.exh_ward.specs.declared.hop.Hop.{Hop}
 use Rattle.exh_ward.specs.declared.hop.Hop.TheVariants.{Done, Moved, MustSplit, Stray}
 
--- ---- tests
-
-and_true : (a b : Bool) → (a && b) ≡ true → (a ≡ true) × (b ≡ true)
-and_true true b is = (refl, is)
-and_true false b is = cc
-
 -- ---- overflow
 
 no_key : (m : KeyMap) (key : List ℕ) → map.get m key ≡ None → map.contains_key m key ≡ false
@@ -45,9 +39,9 @@ overflows-true cap m (Forward low target) call over = absurd over
 
 pub Overflows-from_test : (cap : ℕ) (m : KeyMap) (page : Page) (call : Call) → overflows cap m page call ≡ true → Overflows cap m page call
 Overflows-from_test cap m (Live prefix right records) call is =
-    let first = and_true _ _ is in
-    let second = and_true _ _ first.1 in
-    let third = and_true _ _ second.1 in
+    let first = and_parts _ _ is in
+    let second = and_parts _ _ first.1 in
+    let third = and_parts _ _ second.1 in
     (key_absent (map.get m (key_of call)) first.0, leb-true _ _ second.0, leb-true _ _ third.0, third.1)
 Overflows-from_test cap m (Forward low target) call is = cc
 

@@ -1,8 +1,7 @@
 -- a new ward is sound
 pub mod NewWardsAreSound
 pub mod Worn
--- a ward's own prefix, the index of its pages, the notices above an index
-pub mod OwnPrefix
+-- the index of its pages, the notices above an index
 pub mod IndexSeen
 pub mod NoticesAbove
 -- hops: a call's home answers what the map machine does, and its pages stay legal
@@ -18,7 +17,6 @@ pub mod HopsAreComputed
 -- each step keeps the ward sound, and what a ward keeps of its fields
 pub mod StepsKeepSound
 -- splits and merges: a change of pages is told by its notice
-pub mod TableSince
 pub mod ChangesAreTold
 -- splits
 pub mod HalvesOfPages

@@ -17,11 +17,12 @@ use Rattle.exh_page.specs.Records.{IsRising}
 use Rattle.exh_legal.specs.BareLemmas.{bare_at}
 use Rattle.exh_legal.specs.Change.{IsMerge}
 use Rattle.exh_legal.specs.Laws.{LinksToSibling, LeftChildrenLinkToSiblings, MergesKeepLegal}
-use Rattle.exh_legal.specs.LowLemmas.{left_keeps, right_above}
+use Rattle.exh_prefix.specs.LowLemmas.{left_keeps, right_above}
+use Rattle.exh_prefix.specs.ListLemmas.{set_here, set_else, one_there}
 use Rattle.exh_legal.specs.MapLemmas.{page_at}
 use Rattle.exh_legal.specs.Numbers.{next_notice}
 use Rattle.exh_legal.specs.Pages.{IsAt, IsLegalPage, IsWithin}
-use Rattle.exh_ward.specs.Kept.{IsKept}
+use Rattle.exh_ward.specs.Kept.{IsKeptWard}
 use Rattle.exh_ward.specs.MergeStep.{IsLeftChild, HasNoBuddy, IsMergeStep}
 use Rattle.exh_halves.specs.Halves.{IsUnionOf}
 use Rattle.exh_halves.specs.LeftHalf.{FitsBeside, IsLeftHalf}
@@ -35,8 +36,6 @@ use Rattle.exh_ward.specs.JoinedPage.{FitTogether, AreJoined}
 use Rattle.exh_ward.specs.WardState.{WardState, IsSound, own_prefix}
 use Rattle.exh_halves.specs.declared.halves_fault.HalvesFault.TheVariants.{NotLive, NotFull, AtLimit, NoBuddy, BuddySplit, TooMany, Memory}
 use Rattle.exh_ward.proofs.StepsKeepSound.{well_formed}
-use Rattle.exh_ward.proofs.SightsAreHops.{same_there}
-use Rattle.exh_ward.proofs.StoredPages.{set_here, set_else}
 
 forwards : (page : Page) → (IsLive page → ⊥) → (low target : ℕ) × (page ≡ Forward low target)
 forwards (Live prefix link records) not = absurd (not tt)
@@ -46,7 +45,7 @@ few_in : (cap : ℕ) (pseudo : List ℕ → ℕ) (page : Page) → IsLegalPage c
 few_in cap pseudo (Live prefix link records) legal = legal.1
 few_in cap pseudo (Forward low target) legal = omega arith
 
-module _ {K : Type 0} {pseudo : List ℕ → ℕ} {takes : Page → Type 0} {own : List Bool} {index : IndexMap} {told : ℕ} {w : WardState K} (kept : IsKept pseudo takes own index told w) where
+module _ {K : Type 0} {pseudo : List ℕ → ℕ} {takes : Page → Type 0} {own : List Bool} {index : IndexMap} {told : ℕ} {w : WardState K} (kept : IsKeptWard pseudo takes own index told w) where
   legal_at : (number : ℕ) (page : Page) → IsAt w.pages number page → IsLegalPage w.cap pseudo page
   legal_at number page is = page_at (IsLegalPage w.cap pseudo) w.pages number page kept.sound.legal.legal.legal.each is
 
@@ -105,7 +104,7 @@ module _ {K : Type 0} {pseudo : List ℕ → ℕ} {takes : Page → Type 0} {own
             left_child,
             λ others (number, link, there).
                 let here : number ≡ right = to_sibling.sibling number (link, others, there) ∙ right_is in
-                refused link others (same_there w.pages right buddy _ is_buddy (subst (λ n. IsAt w.pages n (Live (half.parent ++ true ∷ []) link others)) here there)),
+                refused link others (one_there w.pages right buddy _ is_buddy (subst (λ n. IsAt w.pages n (Live (half.parent ++ true ∷ []) link others)) here there)),
           )
           not_beside (TooMany sum) (link, others, live, sum_is, more) =
               (half.parent, is.records, others, left_child, (right, link, is_buddy ∙ ap Some live), sum_is ∙ ap (λ n. n + length others) is.count, more)
@@ -139,10 +138,10 @@ module _ {K : Type 0} {pseudo : List ℕ → ℕ} {takes : Page → Type 0} {own
 
     module _ {left buddy : Page} (there : IsAt w.pages at left) (is_buddy : IsAt w.pages right buddy) where
       left_is : left ≡ left_page
-      left_is = same_there w.pages at left left_page there halves.left.there
+      left_is = one_there w.pages at left left_page there halves.left.there
 
       buddy_is : buddy ≡ right_page
-      buddy_is = same_there w.pages right buddy right_page is_buddy halves.buddy
+      buddy_is = one_there w.pages right buddy right_page is_buddy halves.buddy
 
       module _ (words : AreOfWords pseudo) (unite : BuddiesUnite) where
         all_records : AreRecordsOf pseudo parent (halves.records ++ halves.others)
@@ -192,7 +191,7 @@ module _ {K : Type 0} {w : WardState K} {pseudo : List ℕ → ℕ} {at : ℕ} {
 
   apart : at ≡ twin → ⊥
   apart same =
-      let one : left ≡ right = same_there w.pages at left right halves.left.there (subst (λ n. IsAt w.pages n right) (sym same) halves.buddy) in
+      let one : left ≡ right = one_there w.pages at left right halves.left.there (subst (λ n. IsAt w.pages n right) (sym same) halves.buddy) in
       let low : low_of (parent ++ false ∷ []) ≡ low_of (parent ++ true ∷ []) = ap low_bound one in
       omega (arith, low, left_keeps parent halves.short, right_above parent halves.short)
 

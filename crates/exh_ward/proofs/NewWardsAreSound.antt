@@ -1,12 +1,12 @@
 -- A ward of a new file.
-use Rattle.std.proofs.Common.{◌≡◌, ℕ, zero, suc, ◌<◌, ◌≤◌, Bool, List, [], ◌∷◌, ◌++◌, lit<, None, Some, refl, sym, ap, ◌∙◌, subst, arith, Contains}
+use Rattle.std.proofs.Common.{◌≡◌, ℕ, zero, suc, ◌<◌, ◌≤◌, Bool, List, [], ◌∷◌, lit<, None, Some, refl, sym, ap, ◌∙◌, subst, arith}
 use Rattle.std.specs.FinMap as fin
 use Rattle.std.specs.List.{sum_by}
 use Rattle.exh_prefix.specs.BitLemmas.{length-bits_of}
-use Rattle.exh_prefix.specs.Prefix.{prefix_cmp}
 use Rattle.exh_notice.specs.declared.entry.Entry.{Entry}
 use Rattle.exh_notice.specs.declared.notice.Notice.{Notice}
-use Rattle.exh_table.specs.Table.{TableMap, IsEntryOf, IsTableSince}
+use Rattle.exh_table.specs.Table.{TableMap}
+use Rattle.exh_table.specs.SetLemmas.{no_entries, since_nothing}
 use Rattle.exh_page.specs.declared.page.TheConstants.{CAP_LIMIT}
 use Rattle.exh_page.specs.declared.page.Page.{Page}
 use Rattle.exh_page.specs.declared.page.Page.TheVariants.{Live}
@@ -15,30 +15,16 @@ use Rattle.exh_page.specs.KeyMap.{KeyMap}
 use Rattle.exh_legal.specs.Growth.{IsPageOf}
 use Rattle.exh_legal.specs.Laws.{LonePagesAreLegal}
 use Rattle.exh_legal.specs.Numbers.{index_of}
-use Rattle.exh_legal.specs.Pages.{ward_prefix}
-use Rattle.exh_ward.specs.Kept.{IsKept}
+use Rattle.exh_prefix.specs.Leading.{ward_prefix}
+use Rattle.exh_ward.specs.Kept.{IsKeptWard}
 use Rattle.exh_ward.specs.PageIndex.{IndexMap, IsIndexOf}
 use Rattle.exh_ward.specs.WardState.{WardState}
-use Rattle.exh_ward.specs.declared.ward.TheConstants.{WARD_BITS_LIMIT}
+use Rattle.exh_prefix.specs.declared.prefix.TheConstants.{WARD_BITS_LIMIT}
 use Rattle.exh_calls.specs.declared.journal_entry.JournalEntry.{JournalEntry}
-use Rattle.std.proofs.lemmas.List.{nil_from_length}
 use Rattle.std.specs.Ordering.{nat_cmp}
-
--- the table with no entry has no entries
-pub no_entries : fin.entries (let none : TableMap = fin.empty in none) ≡ []
-no_entries = nil_from_length (fin.entries (let none : TableMap = fin.empty in none)) (sym (fin.len-entries (let none : TableMap = fin.empty in none)) ∙ fin.len-empty prefix_cmp Entry)
 
 no_index : index_of fin.empty ≡ 0
 no_index = ap (sum_by (λ (e : List Bool × Entry). e.1.number)) no_entries
-
-nothing_in : (prefix : List Bool) (entry : Entry) → Contains (let none : List (List Bool × Entry) = [] in none) (prefix, entry) → ⊥
-nothing_in prefix entry member = omega (arith, member.1)
-
-since_nothing : IsTableSince fin.empty [] fin.empty
-since_nothing prefix =
-    let told : List (List Bool × Entry) = fin.entries (let none : TableMap = fin.empty in none) ++ [] in
-    let none : (entry : Entry) → Contains told (prefix, entry) → ⊥ = λ entry member. nothing_in prefix entry (subst (λ es. Contains (es ++ []) (prefix, entry)) no_entries member) in
-    subst (IsEntryOf told prefix) (sym (fin.get-empty prefix_cmp prefix)) none
 
 first_alone : (page : Page) (low number : ℕ) → 0 < number → IsPageOf (page ∷ []) low number → ⊥
 first_alone page low zero some is = omega arith
@@ -64,7 +50,7 @@ module _ {K : Type 0} (law : LonePagesAreLegal) {pseudo : List ℕ → ℕ} {tak
     keyer = keyer;
   }
 
-  fresh_kept : IsKept pseudo takes (ward_prefix ward_bits number) fin.empty 0 fresh
+  fresh_kept : IsKeptWard pseudo takes (ward_prefix ward_bits number) fin.empty 0 fresh
   fresh_kept = record {
     sound = record {
       legal = law cap pseudo (ward_prefix ward_bits number) (omega (arith, bits, length-bits_of ward_bits number));
@@ -87,18 +73,18 @@ module _ {K : Type 0} (law : LonePagesAreLegal) {pseudo : List ℕ → ℕ} {tak
 
   module _ {pages : List Page} {base : KeyMap} {journal : List JournalEntry} {start table : TableMap} {notices : List Notice} {index : IndexMap} {own : List Bool} where
     pub kept_new : pages ≡ Live (ward_prefix ward_bits number) None [] ∷ [] → base ≡ fin.empty → journal ≡ [] → start ≡ fin.empty → notices ≡ [] → table ≡ fin.empty → index ≡ fin.empty → own ≡ ward_prefix ward_bits number
-        → IsKept pseudo takes own index 0
+        → IsKeptWard pseudo takes own index 0
         (let w : WardState K = record { pages = pages; base = base; journal = journal; start = start; notices = notices; table = table; failures = failures; cap = cap; ward_bits = ward_bits; number = number; keyer = keyer } in w)
     kept_new is_pages is_base is_journal is_start is_notices is_table is_index is_own =
         let ward = λ (pages : List Page) (base : KeyMap) (journal : List JournalEntry) (start : TableMap) (notices : List Notice) (table : TableMap).
         (let w : WardState K = record { pages = pages; base = base; journal = journal; start = start; notices = notices; table = table; failures = failures; cap = cap; ward_bits = ward_bits; number = number; keyer = keyer } in w) in
         let first = Live (ward_prefix ward_bits number) None [] ∷ [] in
-        let one : List Page → Type 0 = λ pages. IsKept pseudo takes own index 0 (ward pages base journal start notices table) in
-        let two : KeyMap → Type 0 = λ base. IsKept pseudo takes own index 0 (ward first base journal start notices table) in
-        let three : List JournalEntry → Type 0 = λ journal. IsKept pseudo takes own index 0 (ward first fin.empty journal start notices table) in
-        let four : TableMap → Type 0 = λ start. IsKept pseudo takes own index 0 (ward first fin.empty [] start notices table) in
-        let five : List Notice → Type 0 = λ notices. IsKept pseudo takes own index 0 (ward first fin.empty [] fin.empty notices table) in
-        let six : TableMap → Type 0 = λ table. IsKept pseudo takes own index 0 (ward first fin.empty [] fin.empty [] table) in
-        let seven : IndexMap → Type 0 = λ index. IsKept pseudo takes own index 0 (ward first fin.empty [] fin.empty [] fin.empty) in
-        let eight : List Bool → Type 0 = λ own. IsKept pseudo takes own fin.empty 0 (ward first fin.empty [] fin.empty [] fin.empty) in
+        let one : List Page → Type 0 = λ pages. IsKeptWard pseudo takes own index 0 (ward pages base journal start notices table) in
+        let two : KeyMap → Type 0 = λ base. IsKeptWard pseudo takes own index 0 (ward first base journal start notices table) in
+        let three : List JournalEntry → Type 0 = λ journal. IsKeptWard pseudo takes own index 0 (ward first fin.empty journal start notices table) in
+        let four : TableMap → Type 0 = λ start. IsKeptWard pseudo takes own index 0 (ward first fin.empty [] start notices table) in
+        let five : List Notice → Type 0 = λ notices. IsKeptWard pseudo takes own index 0 (ward first fin.empty [] fin.empty notices table) in
+        let six : TableMap → Type 0 = λ table. IsKeptWard pseudo takes own index 0 (ward first fin.empty [] fin.empty [] table) in
+        let seven : IndexMap → Type 0 = λ index. IsKeptWard pseudo takes own index 0 (ward first fin.empty [] fin.empty [] fin.empty) in
+        let eight : List Bool → Type 0 = λ own. IsKeptWard pseudo takes own fin.empty 0 (ward first fin.empty [] fin.empty [] fin.empty) in
         subst one (sym is_pages) (subst two (sym is_base) (subst three (sym is_journal) (subst four (sym is_start) (subst five (sym is_notices) (subst six (sym is_table) (subst seven (sym is_index) (subst eight (sym is_own) fresh_kept)))))))

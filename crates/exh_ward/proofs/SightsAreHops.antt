@@ -3,6 +3,7 @@ use Rattle.std.proofs.Common.{◌≡◌, ℕ, ◌<◌, ◌≤◌, ◌^◌, Bool,
 use Rattle.std.specs.Prelude.{IsTrue, is_none}
 use Rattle.std.proofs.lemmas.Bool.{false≢true}
 use Rattle.exh_prefix.specs.Prefix.{Begins, low_of}
+use Rattle.exh_prefix.specs.ListLemmas.{one_there}
 use Rattle.exh_page.specs.declared.page.Page.{Page}
 use Rattle.exh_page.specs.declared.page.Page.TheVariants.{Live, Forward}
 use Rattle.exh_page.specs.declared.record.Record.{Record}
@@ -23,11 +24,8 @@ use Rattle.exh_ward.specs.declared.ward.hop.sight.Sight.{Sight}
 use Rattle.exh_ward.specs.declared.ward.hop.sight.Sight.TheVariants.{Beyond, Leads, NoWay, Overflows as MustWait, Home}
 use Rattle.exh_ward.proofs.HomeReplies.{AtHome, Fit}
 
-pub same_there : (pages : List Page) (at : ℕ) (one other : Page) → IsAt pages at one → IsAt pages at other → one ≡ other
-same_there pages at one other is too = let both : Some one ≡ Some other = sym is ∙ too in cc
-
 pub sight_in : (cap pseudokey : ℕ) (pages : List Page) (at : ℕ) (call : Call) (sight : Sight) (page : Page) → IsAt pages at page → SightOf cap pseudokey page call sight → SightIn cap pseudokey pages at call sight
-sight_in cap pseudokey pages at call Beyond page is sight = λ other reached. let same = same_there pages at page other is reached.there in omega (arith, reached.below, sight, ap low_bound same)
+sight_in cap pseudokey pages at call Beyond page is sight = λ other reached. let same = one_there pages at page other is reached.there in omega (arith, reached.below, sight, ap low_bound same)
 sight_in cap pseudokey pages at call (Leads next) page is sight = (page, is, sight)
 sight_in cap pseudokey pages at call NoWay page is sight = (page, is, sight)
 sight_in cap pseudokey pages at call MustWait page is sight = (page, is, sight)

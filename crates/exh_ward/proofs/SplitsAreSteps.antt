@@ -1,13 +1,14 @@
 -- A split of a ward's page: the pages that it leaves, and its notice.
-use Rattle.std.proofs.Common.{◌≡◌, ℕ, zero, suc, ◌-◌, ◌%◌, ◌<◌, ◌≤◌, ◌^◌, Bool, true, false, List, [], ◌∷◌, ◌++◌, length, slice_get, Some, inl, inr, refl, sym, ap, ◌∙◌, subst, arith}
+use Rattle.std.proofs.Common.{◌≡◌, ℕ, ◌-◌, ◌%◌, ◌<◌, ◌≤◌, ◌^◌, Bool, true, false, List, [], ◌∷◌, ◌++◌, length, slice_get, Some, inl, inr, refl, sym, ap, ◌∙◌, subst, arith}
 use Rattle.std.specs.Prelude.{slice_set}
 use Rattle.std.proofs.lemmas.Bool.{cases_lt}
 use Rattle.std.proofs.lemmas.List.{length-append, length-set}
 use Rattle.std.proofs.lemmas.Option.{slice_get_within, slice_get_past}
 use Rattle.std.proofs.Math.Pow.{pow_mono}
-use Rattle.exh_prefix.specs.declared.prefix.TheConstants.{LIMIT}
+use Rattle.exh_prefix.specs.declared.prefix.TheConstants.{LIMIT, WARD_BITS_LIMIT}
 use Rattle.exh_prefix.specs.BitLemmas.{length-bits_of}
 use Rattle.exh_prefix.specs.Prefix.{low_of}
+use Rattle.exh_prefix.specs.ListLemmas.{set_here, set_else, at_front, at_last}
 use Rattle.exh_notice.specs.declared.entry.Kind.TheVariants.{Split}
 use Rattle.exh_notice.specs.declared.notice.Notice.{Notice}
 use Rattle.exh_page.specs.declared.page.TheConstants.{CAP_LIMIT}
@@ -26,18 +27,7 @@ use Rattle.exh_ward.specs.SplitStep.{IsSplitStep}
 use Rattle.exh_ward.specs.Told.{IsChangedTo, IsTold}
 use Rattle.exh_ward.specs.WardState.{WardState, IsSound, own_prefix}
 use Rattle.exh_halves.specs.declared.halves.Halves.{Halves}
-use Rattle.exh_ward.specs.declared.ward.TheConstants.{WARD_BITS_LIMIT}
 use Rattle.exh_ward.proofs.StepsKeepSound.{well_formed}
-use Rattle.exh_ward.proofs.StoredPages.{set_here, set_else}
-
-page_front : (front back : List Page) (place : ℕ) → place < length front → slice_get (front ++ back) place ≡ slice_get front place
-page_front [] back place within = absurd (omega arith)
-page_front (page ∷ front) back zero within = refl
-page_front (page ∷ front) back (suc place) within = page_front front back place (omega arith)
-
-page_last : (front : List Page) (page : Page) → slice_get (front ++ page ∷ []) (length front) ≡ Some page
-page_last [] page = refl
-page_last (first ∷ front) page = page_last front page
 
 -- a page of the ward, with its halves
 pub record IsHalved {K : Type 0} (w : WardState K) (at : ℕ) (halves : Halves) : Type 0 where
@@ -119,11 +109,11 @@ module _ {K : Type 0} {w : WardState K} {at : ℕ} {halves : Halves} (is : IsHal
         there = is.there;
         full = is.full;
         short = is.short;
-        left = page_front front (right_page ∷ []) at (omega (arith, same, at_within)) ∙ set_here w.pages at _ (left_page right) is.there;
-        right_half = ap (slice_get (front ++ right_page ∷ [])) (sym same) ∙ page_last front right_page;
+        left = at_front front (right_page ∷ []) at (omega (arith, same, at_within)) ∙ set_here w.pages at _ (left_page right) is.there;
+        right_half = ap (slice_get (front ++ right_page ∷ [])) (sym same) ∙ at_last front right_page;
         place = inr (record { none = none; last = refl; more = omega (arith, length-append front (right_page ∷ []), same) });
         others = λ number else elsewhere. elim (cases_lt number right) [
-          | inl before ↦ page_front front (right_page ∷ []) number (omega (arith, same, before)) ∙ set_else w.pages at number (left_page right) else
+          | inl before ↦ at_front front (right_page ∷ []) number (omega (arith, same, before)) ∙ set_else w.pages at number (left_page right) else
           | inr after ↦
               slice_get_past (front ++ right_page ∷ []) number (omega (arith, after, elsewhere, length-append front (right_page ∷ []), same))
               ∙ sym (slice_get_past w.pages number (omega (arith, after)))
@@ -162,8 +152,8 @@ module _ {K : Type 0} {w : WardState K} {at : ℕ} {halves : Halves} (is : IsHal
         split = fresh none;
         left_live = tt;
         twin_live = tt;
-        left_at = page_front front (right_page ∷ []) at (omega (arith, same, at_within)) ∙ set_here w.pages at _ (left_page last) is.there;
-        twin_at = ap (slice_get (front ++ right_page ∷ [])) (sym same) ∙ page_last front right_page;
+        left_at = at_front front (right_page ∷ []) at (omega (arith, same, at_within)) ∙ set_here w.pages at _ (left_page last) is.there;
+        twin_at = ap (slice_get (front ++ right_page ∷ [])) (sym same) ∙ at_last front right_page;
       })))
 
   module _ {pseudo : List ℕ → ℕ} (sound : IsSound pseudo w) where

@@ -15,7 +15,7 @@ use Rattle.exh_legal.specs.BareLemmas.{bare_at}
 use Rattle.exh_legal.specs.NoticeLemmas.{places_by_bare, still_true}
 use Rattle.exh_legal.specs.Pages.{map_of, IsAt, IsRightLink, AreLinked, bare}
 use Rattle.exh_calls.specs.Call.{key_of}
-use Rattle.exh_ward.specs.Kept.{IsKept}
+use Rattle.exh_ward.specs.Kept.{IsKeptWard}
 use Rattle.exh_calls.specs.MapMachine.{reply_of, map_after}
 use Rattle.exh_ward.specs.PageAnswer.{records_after}
 use Rattle.exh_ward.specs.PageIndex.{IndexMap, IsIndexOf}
@@ -39,7 +39,7 @@ pub well_formed : {cap : ℕ} {pseudo : List ℕ → ℕ} {ward : List Bool} (pa
 well_formed pages linked few most at prefix link records left is legal =
     (legal.0, omega (arith, legal.1, most), linked_fits pages (Live prefix link []) link few (linked.links at (Live prefix link []) (bare_at pages at _ is)))
 
-module _ {K : Type 0} {pseudo : List ℕ → ℕ} {takes : Page → Type 0} {own : List Bool} {index : IndexMap} {told : ℕ} {w : WardState K} (kept : IsKept pseudo takes own index told w) (takes_now : Page → Type 0) (same_takes : (page : Page) → takes page ↔ takes_now page) where
+module _ {K : Type 0} {pseudo : List ℕ → ℕ} {takes : Page → Type 0} {own : List Bool} {index : IndexMap} {told : ℕ} {w : WardState K} (kept : IsKeptWard pseudo takes own index told w) (takes_now : Page → Type 0) (same_takes : (page : Page) → takes page ↔ takes_now page) where
   sound_counted : (failures : ℕ) → IsSound pseudo (record w { failures = failures })
   sound_counted failures = record {
     legal = kept.sound.legal;
@@ -51,7 +51,7 @@ module _ {K : Type 0} {pseudo : List ℕ → ℕ} {takes : Page → Type 0} {own
     left = kept.sound.left;
   }
 
-  kept_counted : (failures : ℕ) → IsKept pseudo takes_now own index told (record w { failures = failures })
+  kept_counted : (failures : ℕ) → IsKeptWard pseudo takes_now own index told (record w { failures = failures })
   kept_counted failures = record {
     sound = sound_counted failures;
     own_is = kept.own_is;
@@ -65,10 +65,10 @@ module _ {K : Type 0} {pseudo : List ℕ → ℕ} {takes : Page → Type 0} {own
   }
 
   -- the store was read, or refused to write
-  pub kept_read : (pages : List Page) (journal : List JournalEntry) (failures : ℕ) → pages ≡ w.pages → journal ≡ w.journal → IsKept pseudo takes_now own index told (record w { pages = pages; journal = journal; failures = failures })
+  pub kept_read : (pages : List Page) (journal : List JournalEntry) (failures : ℕ) → pages ≡ w.pages → journal ≡ w.journal → IsKeptWard pseudo takes_now own index told (record w { pages = pages; journal = journal; failures = failures })
   kept_read pages journal failures same_pages same_journal =
-      let P : List Page → Type 0 = λ pages. IsKept pseudo takes_now own index told (record w { pages = pages; journal = journal; failures = failures }) in
-      let Q : List JournalEntry → Type 0 = λ journal. IsKept pseudo takes_now own index told (record w { journal = journal; failures = failures }) in
+      let P : List Page → Type 0 = λ pages. IsKeptWard pseudo takes_now own index told (record w { pages = pages; journal = journal; failures = failures }) in
+      let Q : List JournalEntry → Type 0 = λ journal. IsKeptWard pseudo takes_now own index told (record w { journal = journal; failures = failures }) in
       subst P (sym same_pages) (subst Q (sym same_journal) (kept_counted failures))
 
   -- a call was answered at its home
@@ -100,10 +100,10 @@ module _ {K : Type 0} {pseudo : List ℕ → ℕ} {takes : Page → Type 0} {own
         left = new_map fit home ∙ ap (λ m. map_after w.cap pseudo m call) kept.sound.left ∙ sym (map_left-push w.cap pseudo w.base w.journal entry);
       }
 
-      pub kept_answered : (pages : List Page) (journal : List JournalEntry) → pages ≡ new → journal ≡ w.journal ++ entry ∷ [] → IsKept pseudo takes_now own index told (record w { pages = pages; journal = journal; failures = failures })
+      pub kept_answered : (pages : List Page) (journal : List JournalEntry) → pages ≡ new → journal ≡ w.journal ++ entry ∷ [] → IsKeptWard pseudo takes_now own index told (record w { pages = pages; journal = journal; failures = failures })
       kept_answered pages journal is_new pushed =
-          let P : List Page → Type 0 = λ pages. IsKept pseudo takes_now own index told (record w { pages = pages; journal = journal; failures = failures }) in
-          let Q : List JournalEntry → Type 0 = λ journal. IsKept pseudo takes_now own index told (record w { pages = new; journal = journal; failures = failures }) in
+          let P : List Page → Type 0 = λ pages. IsKeptWard pseudo takes_now own index told (record w { pages = pages; journal = journal; failures = failures }) in
+          let Q : List JournalEntry → Type 0 = λ journal. IsKeptWard pseudo takes_now own index told (record w { pages = new; journal = journal; failures = failures }) in
           subst P (sym is_new) (subst Q (sym pushed) (record {
             sound = answered_sound;
             own_is = kept.own_is;

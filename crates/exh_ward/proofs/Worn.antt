@@ -23,6 +23,7 @@ use Rattle.exh_table.specs.Leaves.{leaves_in}
 use Rattle.exh_table.specs.Laws.{OwnEntries}
 use Rattle.exh_table.specs.Table.{IsTableOf, IsTableSince, TableMap, greater_of, table_with}
 use Rattle.exh_table.specs.Walk.{right_of, split_at, step, walk_in, walk_on}
+use Rattle.exh_table.specs.SetLemmas.{no_entries}
 use Rattle.exh_page.specs.declared.page.Page.{Page}
 use Rattle.exh_page.specs.declared.page.Page.TheVariants.{Live}
 use Rattle.exh_page.specs.Page.{IsWellFormed, low_bound}
@@ -32,16 +33,18 @@ use Rattle.exh_legal.specs.Change.{IsSplit}
 use Rattle.exh_legal.specs.Fit.{FitsPages, IsMergeAt, IsWardEntry}
 use Rattle.exh_legal.specs.Growth.{HasEntryEver, IsGrown, IsLiveAt}
 use Rattle.exh_legal.specs.Laws.{IsChanged, IsWard, LonePagesAreLegal, NamesHome, SplitsKeepLegal, WalksNameHomes}
-use Rattle.exh_legal.specs.LowLemmas.{begins_own_low, low_of-small, right_above}
-use Rattle.exh_legal.specs.MapLemmas.{tie_of}
+use Rattle.exh_prefix.specs.LowLemmas.{begins_own_low, low_of-small, right_above}
+use Rattle.exh_prefix.specs.ListLemmas.{is_equal}
 use Rattle.exh_legal.specs.Numbers.{index_of, number_at}
-use Rattle.exh_legal.specs.Pages.{IsAt, ward_prefix}
-use Rattle.exh_ward.specs.Kept.{IsKept}
+use Rattle.exh_prefix.specs.Leading.{ward_prefix}
+use Rattle.exh_legal.specs.Pages.{IsAt}
+use Rattle.exh_legal.specs.PlaceLemmas.{only_at}
+use Rattle.exh_ward.specs.Kept.{IsKeptWard}
 use Rattle.exh_ward.specs.PageIndex.{IndexMap, IsIndexOf}
 use Rattle.exh_ward.specs.WardState.{WardState}
 use Rattle.exh_calls.specs.declared.journal_entry.JournalEntry.{JournalEntry}
 use Rattle.exh_ward.proofs.ChangesAreTold.{index_grown}
-use Rattle.exh_ward.proofs.NewWardsAreSound.{no_entries, no_pages}
+use Rattle.exh_ward.proofs.NewWardsAreSound.{no_pages}
 
 -- ---- the prefixes
 
@@ -77,7 +80,7 @@ abbrev is_root : List Bool → Bool
 is_root prefix = eq_by_cmp prefix_cmp prefix []
 
 root_is : (prefix : List Bool) → is_root prefix ≡ true → prefix ≡ []
-root_is prefix tied = prefix_cmp-exact prefix [] (tie_of (prefix_cmp prefix []) tied)
+root_is prefix tied = prefix_cmp-exact prefix [] (is_equal (prefix_cmp prefix []) tied)
 
 get_told : (number : ℕ) (prefix : List Bool) → fin.get (told number) prefix ≡ cond (is_root prefix) (Some (entry_of (split_of number))) None
 get_told number prefix =
@@ -160,10 +163,6 @@ halves = Live (false ∷ []) (Some 1) [] ∷ Live (true ∷ []) None [] ∷ []
 
 short : length (let none : List Bool = [] in none) < LIMIT
 short = lit< tt
-
-only_at : (page other : Page) (number : ℕ) → IsAt (page ∷ []) number other → (number ≡ 0) × (other ≡ page)
-only_at page other zero is = (refl, cc)
-only_at page other (suc number) is = cc
 
 alone : (number : ℕ) (page : Page) → IsAt before number page → low_bound page ≡ low_of (true ∷ []) → ⊥
 alone number page is same = absurd (omega (arith, right_above [] short, same, ap low_bound (only_at (Live [] None []) page number is).1))
@@ -278,7 +277,7 @@ module _ (pseudo : List ℕ → ℕ) (lone : LonePagesAreLegal) (splits : Splits
         keyer = keyer;
       }
 
-      fresh_kept : IsKept pseudo takes [] (fin.insert fin.empty (low_of (true ∷ [])) 1) number fresh
+      fresh_kept : IsKeptWard pseudo takes [] (fin.insert fin.empty (low_of (true ∷ [])) 1) number fresh
       fresh_kept = record {
         sound = record {
           legal = subst (λ own. IsWard cap pseudo own (told number) [] (told number) halves) (sym root_is_own) (worn_legal cap);
@@ -301,17 +300,17 @@ module _ (pseudo : List ℕ → ℕ) (lone : LonePagesAreLegal) (splits : Splits
 
       module _ {pages : List Page} {base : KeyMap} {journal : List JournalEntry} {start table : TableMap} {notices : List Notice} {index : IndexMap} {own : List Bool} where
         pub kept_worn : pages ≡ halves → base ≡ fin.empty → journal ≡ [] → start ≡ told number → notices ≡ [] → table ≡ told number → index ≡ fin.insert fin.empty (low_of (true ∷ [])) 1 → own ≡ []
-            → IsKept pseudo takes own index number
+            → IsKeptWard pseudo takes own index number
             (let w : WardState K = record { pages = pages; base = base; journal = journal; start = start; notices = notices; table = table; failures = 0; cap = cap; ward_bits = 0; number = 0; keyer = keyer } in w)
         kept_worn is_pages is_base is_journal is_start is_notices is_table is_index is_own =
             let ward = λ (pages : List Page) (base : KeyMap) (journal : List JournalEntry) (start : TableMap) (notices : List Notice) (table : TableMap).
             (let w : WardState K = record { pages = pages; base = base; journal = journal; start = start; notices = notices; table = table; failures = 0; cap = cap; ward_bits = 0; number = 0; keyer = keyer } in w) in
-            let one : List Page → Type 0 = λ pages. IsKept pseudo takes own index number (ward pages base journal start notices table) in
-            let two : KeyMap → Type 0 = λ base. IsKept pseudo takes own index number (ward halves base journal start notices table) in
-            let three : List JournalEntry → Type 0 = λ journal. IsKept pseudo takes own index number (ward halves fin.empty journal start notices table) in
-            let four : TableMap → Type 0 = λ start. IsKept pseudo takes own index number (ward halves fin.empty [] start notices table) in
-            let five : List Notice → Type 0 = λ notices. IsKept pseudo takes own index number (ward halves fin.empty [] (told number) notices table) in
-            let six : TableMap → Type 0 = λ table. IsKept pseudo takes own index number (ward halves fin.empty [] (told number) [] table) in
-            let seven : IndexMap → Type 0 = λ index. IsKept pseudo takes own index number fresh in
-            let eight : List Bool → Type 0 = λ own. IsKept pseudo takes own (fin.insert fin.empty (low_of (true ∷ [])) 1) number fresh in
+            let one : List Page → Type 0 = λ pages. IsKeptWard pseudo takes own index number (ward pages base journal start notices table) in
+            let two : KeyMap → Type 0 = λ base. IsKeptWard pseudo takes own index number (ward halves base journal start notices table) in
+            let three : List JournalEntry → Type 0 = λ journal. IsKeptWard pseudo takes own index number (ward halves fin.empty journal start notices table) in
+            let four : TableMap → Type 0 = λ start. IsKeptWard pseudo takes own index number (ward halves fin.empty [] start notices table) in
+            let five : List Notice → Type 0 = λ notices. IsKeptWard pseudo takes own index number (ward halves fin.empty [] (told number) notices table) in
+            let six : TableMap → Type 0 = λ table. IsKeptWard pseudo takes own index number (ward halves fin.empty [] (told number) [] table) in
+            let seven : IndexMap → Type 0 = λ index. IsKeptWard pseudo takes own index number fresh in
+            let eight : List Bool → Type 0 = λ own. IsKeptWard pseudo takes own (fin.insert fin.empty (low_of (true ∷ [])) 1) number fresh in
             subst one (sym is_pages) (subst two (sym is_base) (subst three (sym is_journal) (subst four (sym is_start) (subst five (sym is_notices) (subst six (sym is_table) (subst seven (sym is_index) (subst eight (sym is_own) fresh_kept)))))))

@@ -7,9 +7,9 @@ use Rattle.exh_legal.specs.Numbers.{index_of}
 use Rattle.exh_legal.specs.Pages.{bare}
 use Rattle.exh_ward.specs.PageIndex.{IndexMap, IsIndexOf}
 use Rattle.exh_ward.specs.WardState.{WardState, IsSound, own_prefix}
-use Rattle.exh_ward.specs.declared.ward.TheConstants.{WARD_BITS_LIMIT}
+use Rattle.exh_prefix.specs.declared.prefix.TheConstants.{WARD_BITS_LIMIT}
 
-pub record IsKept {K : Type 0} (pseudo : List ℕ → ℕ) (takes : Page → Type 0) (own : List Bool) (index : IndexMap) (told : ℕ) (ward : WardState K) : Type 0 where
+pub record IsKeptWard {K : Type 0} (pseudo : List ℕ → ℕ) (takes : Page → Type 0) (own : List Bool) (index : IndexMap) (told : ℕ) (ward : WardState K) : Type 0 where
   pub sound : IsSound pseudo ward
   -- the prefix is the ward's own
   pub own_is : own ≡ own_prefix ward

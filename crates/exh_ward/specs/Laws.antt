@@ -1,14 +1,11 @@
 -- Laws of the hop table, of splits and merges, and of histories, that the crates above cite.
-use Rattle.std.specs.Prelude.{◌≡◌, ◌⊎◌, ℕ, ◌<◌, ◌≤◌, ◌^◌, Bool, List, [], ◌∷◌, ◌++◌, length, map, Result, Ok, Err}
-use Rattle.exh_prefix.specs.declared.prefix.TheConstants.{LIMIT}
+use Rattle.std.specs.Prelude.{◌≡◌, ◌⊎◌, ℕ, ◌<◌, ◌^◌, Bool, List, map, Result, Ok, Err}
 use Rattle.exh_prefix.specs.Prefix.{Begins}
 use Rattle.exh_notice.specs.declared.notice.Notice.{Notice}
 use Rattle.exh_page.specs.declared.page.Page.{Page}
 use Rattle.exh_page.specs.Laws.{AreOfWords}
 use Rattle.exh_calls.specs.Call.{key_of}
-use Rattle.exh_page.specs.KeyMap.{KeyMap}
-use Rattle.exh_calls.specs.MapMachine.{leading, reply_of, map_after}
-use Rattle.exh_calls.specs.History.{IsHistory, map_left}
+use Rattle.exh_calls.specs.MapMachine.{map_after}
 use Rattle.exh_ward.specs.HopTable.{HopOf, hop_of, pages_after}
 use Rattle.exh_ward.specs.MergeFunction.{merge_of, ward_after_merge}
 use Rattle.exh_ward.specs.MergeStep.{IsMergeStep}
@@ -20,7 +17,6 @@ use Rattle.exh_ward.specs.WardState.{WardState, IsSoundWard}
 use Rattle.exh_calls.specs.declared.call.Call.{Call}
 use Rattle.exh_ward.specs.declared.hop.Hop.{Hop}
 use Rattle.exh_ward.specs.declared.hop.Hop.TheVariants.{Done}
-use Rattle.exh_calls.specs.declared.journal_entry.JournalEntry.{JournalEntry}
 use Rattle.exh_calls.specs.declared.reply.Reply.{Reply}
 use Rattle.exh_ward.specs.declared.ward_fault.WardFault.{WardFault}
 

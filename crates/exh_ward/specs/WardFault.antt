@@ -16,17 +16,17 @@ use Rattle.exh_ward.specs.WardState.{WardState}
 use Rattle.exh_ward.specs.declared.ward_fault.WardFault.{WardFault}
 use Rattle.exh_ward.specs.declared.ward_fault.WardFault.TheVariants.{NoPage, NotLive, NotFull, AtLimit, NoBuddy, BuddySplit, TooMany, Worn, Memory, Page}
 
-abbrev pub fault_number : WardFault → ℕ
-fault_number NoPage = 1
-fault_number NotLive = 3
-fault_number NotFull = 4
-fault_number AtLimit = 5
-fault_number NoBuddy = 6
-fault_number BuddySplit = 7
-fault_number (TooMany sum) = 8
-fault_number Worn = 9
-fault_number Memory = 10
-fault_number Page = 11
+abbrev pub ward_fault_number : WardFault → ℕ
+ward_fault_number NoPage = 1
+ward_fault_number NotLive = 3
+ward_fault_number NotFull = 4
+ward_fault_number AtLimit = 5
+ward_fault_number NoBuddy = 6
+ward_fault_number BuddySplit = 7
+ward_fault_number (TooMany sum) = 8
+ward_fault_number Worn = 9
+ward_fault_number Memory = 10
+ward_fault_number Page = 11
 
 -- ---- what a page's store refuses
 

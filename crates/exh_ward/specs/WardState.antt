@@ -7,7 +7,8 @@ use Rattle.exh_legal.specs.Fit.{AreTrueNotices}
 use Rattle.exh_page.specs.KeyMap.{KeyMap}
 use Rattle.exh_legal.specs.Numbers.{AreNumbered, index_of}
 use Rattle.exh_legal.specs.Laws.{IsWard}
-use Rattle.exh_legal.specs.Pages.{map_of, ward_prefix}
+use Rattle.exh_prefix.specs.Leading.{ward_prefix}
+use Rattle.exh_legal.specs.Pages.{map_of}
 use Rattle.exh_calls.specs.History.{IsHistory, map_left}
 use Rattle.exh_ward.specs.HopTable.{pages_after}
 use Rattle.exh_calls.specs.MapMachine.{map_after}

@@ -1,5 +1,5 @@
 use exh_calls::Reply;
-use exh_page::PageNo;
+use exh_prefix::PageNo;
 
 /// What one hop of a request comes to. Only `Done` changes a ward.
 #[derive(Clone, Copy, Debug, PartialEq, Eq)]

@@ -7,7 +7,7 @@ pub use laws::{
     merges_have_outcomes, one_hop, splits_are_computed, splits_have_outcomes,
 };
 pub use page_line::PageLine;
-pub use ward::{WARD_BITS_LIMIT, Ward, first_page};
+pub use ward::{Ward, first_page};
 pub use ward_fault::WardFault;
 
 mod hop;

@@ -1,8 +1,8 @@
 ghost use Rattle.std.specs.Prelude.{◌≡◌};
 ghost use Rattle.exh_ward.specs.PageLine.{line_of_page};
 
-use exh_page::{Page, PageNo};
-use exh_prefix::Prefix;
+use exh_page::Page;
+use exh_prefix::{PageNo, Prefix};
 
 /// What is told of a page without its records.
 #[derive(Clone, Copy, Debug, PartialEq, Eq)]

@@ -5,8 +5,8 @@ use crate::{Hop, Ward, WardFault};
 use exh_calls::{Call, Reply};
 use exh_frames::PlainPages;
 use exh_keyer::{Keyer, PlainKeyer};
-use exh_page::{Key, PageNo, Value};
-use exh_prefix::Prefix;
+use exh_page::{Key, Value};
+use exh_prefix::{PageNo, Prefix};
 use std::process::Abort;
 use std::test::Fail;
 

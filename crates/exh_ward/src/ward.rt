@@ -5,9 +5,9 @@ ghost use Rattle.exh_page.specs.declared.page.TheConstants.{CAP_LIMIT};
 ghost use Rattle.exh_page.specs.declared.page.Page.{Page};
 ghost use Rattle.exh_page.specs.declared.page.Page.TheVariants.{Live};
 ghost use Rattle.exh_page.specs.Page.{IsWellFormed};
-ghost use Rattle.exh_legal.specs.Pages.{ward_prefix};
+ghost use Rattle.exh_prefix.specs.Leading.{ward_prefix};
 ghost use Rattle.exh_ward.specs.WardState.{IsSoundWard, own_prefix};
-ghost use Rattle.exh_ward.specs.declared.ward.TheConstants.{WARD_BITS_LIMIT};
+ghost use Rattle.exh_prefix.specs.declared.prefix.TheConstants.{WARD_BITS_LIMIT};
 
 use crate::page_index::PageIndex;
 use exh_calls::{Base, Journal};
@@ -28,9 +28,6 @@ mod readers;
 mod split;
 #[cfg(test)]
 pub(crate) mod worn;
-
-/// The most leading bits by which a file is cut into wards.
-pub const WARD_BITS_LIMIT: u8 = 4;
 
 /// A part of the file: the pages of all keys whose pseudokeys share the ward's leading bits, with
 /// the history of the calls that they answered, and the notices of the splits that they went
@@ -58,9 +55,9 @@ impl<P: Pages + Drop, K: Keyer> Model for Ward<P, K> {
     ghost use Rattle.exh_page.specs.declared.page.TheConstants.{CAP_LIMIT};
     ghost use Rattle.exh_page.specs.KeyMap.{coded_key_map};
     ghost use Rattle.exh_legal.specs.Numbers.{index_of};
-    ghost use Rattle.exh_legal.specs.Pages.{bare, ward_prefix};
+    ghost use Rattle.exh_legal.specs.Pages.{bare};
     ghost use Rattle.exh_ward.specs.PageIndex.{IsIndexOf};
-    ghost use Rattle.exh_ward.specs.Kept.{IsKept};
+    ghost use Rattle.exh_ward.specs.Kept.{IsKeptWard};
     ghost use Rattle.exh_table.specs.Table.{coded_table};
     ghost use Rattle.exh_ward.specs.WardState.{WardState};
 
@@ -70,7 +67,7 @@ impl<P: Pages + Drop, K: Keyer> Model for Ward<P, K> {
 
     ghost view = { λ a. record { pages = P.pages a.store; base = a.base; journal = a.journal.entries; start = a.start; notices = a.notices.items; table = a.table; failures = P.failures a.store; cap = a.cap; ward_bits = a.ward_bits; number = a.number; keyer = a.keyer } };
 
-    ghost invariant = { λ a. IsKept (K.pseudokey_of a.keyer) (P.takes a.store) a.own a.index a.told (record { pages = P.pages a.store; base = a.base; journal = a.journal.entries; start = a.start; notices = a.notices.items; table = a.table; failures = P.failures a.store; cap = a.cap; ward_bits = a.ward_bits; number = a.number; keyer = a.keyer }) };
+    ghost invariant = { λ a. IsKeptWard (K.pseudokey_of a.keyer) (P.takes a.store) a.own a.index a.told (record { pages = P.pages a.store; base = a.base; journal = a.journal.entries; start = a.start; notices = a.notices.items; table = a.table; failures = P.failures a.store; cap = a.cap; ward_bits = a.ward_bits; number = a.number; keyer = a.keyer }) };
 }
 
 impl<P: Pages + Drop, K: Keyer> Ward<P, K> {
@@ -128,8 +125,7 @@ fn own_prefix(ward_bits: u8, number: u8) -> Prefix
     requires number { number < 2 ^ ward_bits }
     ensures { result ≡ ward_prefix ward_bits number }
 {
-    let low = (u64::from(number) << (64 - WARD_BITS_LIMIT)) << (WARD_BITS_LIMIT - ward_bits);
-    Prefix::new(ward_bits, low).unwrap()
+    Prefix::of_number(ward_bits, u64::from(number))
 }
 
 /// The first page of a ward of a new file: live, empty, of the ward's own prefix, with no right

@@ -1,7 +1,7 @@
 ghost use Rattle.std.specs.Prelude.{◌≡◌};
 ghost use Rattle.exh_frames.specs.declared.pages_fault.PagesFault.{PagesFault};
 ghost use Rattle.exh_halves.specs.declared.halves_fault.HalvesFault.{HalvesFault};
-ghost use Rattle.exh_ward.specs.WardFault.{fault_of, fault_of_halves, fault_number};
+ghost use Rattle.exh_ward.specs.WardFault.{fault_of, fault_of_halves, ward_fault_number};
 ghost use Rattle.exh_ward.specs.declared.ward_fault.WardFault.TheVariants.{Memory};
 
 use exh_frames::PagesFault;
@@ -47,7 +47,7 @@ pub enum WardFault {
 impl WardFault {
     /// The refusal's number among all refusals.
     pub fn number(self) -> u8
-        ensures { result ≡ fault_number self }
+        ensures { result ≡ ward_fault_number self }
     {
         match self {
             WardFault::NoPage => 1,

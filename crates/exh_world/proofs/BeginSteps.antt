@@ -6,9 +6,10 @@ use Rattle.exh_table.specs.Walk.{walk_of}
 use Rattle.exh_calls.specs.Call.{key_of}
 use Rattle.exh_calls.specs.declared.call.Call.{Call}
 use Rattle.exh_world.specs.InFlight.{Requests, request_named}
-use Rattle.exh_world.specs.Kept.{IsKept, tables_of}
+use Rattle.exh_world.specs.Kept.{IsKeptWorld, tables_of}
 use Rattle.exh_world.specs.Step.{HasBegun}
-use Rattle.exh_world.specs.World.{WorldState, numbered, ward_of}
+use Rattle.exh_prefix.specs.Leading.{ward_of}
+use Rattle.exh_world.specs.World.{WorldState, numbered}
 use Rattle.exh_world.specs.declared.request.Request.{Request}
 use Rattle.exh_world.specs.declared.world.World.TheInside.{Inside}
 use Rattle.exh_world.proofs.InsideWorld.{world_of}
@@ -37,7 +38,7 @@ module _ {P K : Type 0} (pseudokey_of : K → List ℕ → ℕ) (i : Inside P K)
         after = ap (with_requests i) (requests_are ∙ ap (λ k. i.in_flight ++ (name, record { client = client; call = call; pseudokey = k; ward = ward; page = page }) ∷ []) hashed);
       }
 
-  pub begun_kept : (ward page : ℕ) (requests : Requests) → IsKept pseudokey_of (world_of i) → HasBegun pseudokey_of (world_of i) name client copy call ward page (with_requests i requests) → IsKept pseudokey_of (with_requests i requests)
+  pub begun_kept : (ward page : ℕ) (requests : Requests) → IsKeptWorld pseudokey_of (world_of i) → HasBegun pseudokey_of (world_of i) name client copy call ward page (with_requests i requests) → IsKeptWorld pseudokey_of (with_requests i requests)
   begun_kept ward page requests kept has = record {
     sound = after_begun pseudokey_of (world_of i) kept.sound (with_requests i requests) name client copy call ward page has;
     few_wards = kept.few_wards;

@@ -1,43 +1,42 @@
 -- A world stays sound where a request begins.
-use Rattle.std.proofs.Common.{◌≡◌, ℕ, ◌<◌, ◌^◌, List, [], ◌∷◌, ◌++◌, length, take, slice_get, Some, refl, sym, ap, ◌∙◌, subst, arith}
-use Rattle.std.proofs.lemmas.List.{length-take-le}
+use Rattle.std.proofs.Common.{◌≡◌, ℕ, ◌<◌, ◌^◌, List, [], ◌∷◌, ◌++◌, take, slice_get, Some, refl, sym, ap, ◌∙◌, subst, arith}
 use Rattle.exh_prefix.specs.Bits.{bits_of, number_of, word_bits}
-use Rattle.exh_prefix.specs.BitLemmas.{bits_of-number_of, number_of-lt, length-bits_of}
+use Rattle.exh_prefix.specs.BitLemmas.{bits_of-number_of, length-bits_of}
 use Rattle.exh_prefix.specs.Prefix.{Begins}
-use Rattle.exh_prefix.specs.PrefixLemmas.{length-word_bits, begins_low}
+use Rattle.exh_prefix.specs.PrefixLemmas.{begins_low}
+use Rattle.exh_prefix.specs.ListLemmas.{within_there}
+use Rattle.exh_prefix.specs.LeadingLemmas.{length-leading_bits, leading-lt}
 use Rattle.exh_table.specs.Table.{TableMap}
 use Rattle.exh_table.specs.Walk.{walk_in, walk_of}
 use Rattle.exh_legal.specs.BareLemmas.{at_bare, bare_low}
-use Rattle.exh_legal.specs.Pages.{ward_prefix}
+use Rattle.exh_legal.specs.Laws.{IsBelow}
 use Rattle.exh_page.specs.Page.{low_bound}
 use Rattle.exh_calls.specs.Call.{key_of}
 use Rattle.exh_ward.specs.WardState.{WardState, own_prefix}
 use Rattle.exh_calls.specs.declared.call.Call.{Call}
 use Rattle.exh_world.specs.InFlight.{Requests}
-use Rattle.exh_world.specs.Sound.{IsBelow, IsWardOf, LeadsRightIn, IsOnTheWay, IsSoundWorld}
+use Rattle.exh_world.specs.Sound.{LeadsRightIn, IsOnTheWay, IsSoundWorld}
 use Rattle.exh_world.specs.Step.{pseudokey_in}
-use Rattle.exh_world.specs.World.{WorldState, numbered, ward_of}
+use Rattle.exh_prefix.specs.Leading.{ward_of, ward_prefix}
+use Rattle.exh_world.specs.World.{WorldState, numbered}
 use Rattle.exh_world.specs.declared.request.Request.{Request}
-use Rattle.exh_world.specs.ListLemmas.{within_there}
 use Rattle.exh_world.specs.RequestLemmas.{AllRequests, all_weaker, all_push}
 use Rattle.exh_world.proofs.WalksBelow.{walk_below}
+use Rattle.exh_world.proofs.SoundKept.{same_ward}
 
 module _ {K : Type 0} (pseudokey_of : K → List ℕ → ℕ) (old : WorldState K) (sound : IsSoundWorld pseudokey_of old) where
   -- ---- the ward of a pseudokey
 
-  leading_length : (pseudokey : ℕ) → length (take old.ward_bits (word_bits pseudokey)) ≡ old.ward_bits
-  leading_length pseudokey = length-take-le old.ward_bits (word_bits pseudokey) (omega (arith, sound.bits, length-word_bits pseudokey))
-
   pub ward_prefix_of : (pseudokey : ℕ) → ward_prefix old.ward_bits (ward_of old.ward_bits pseudokey) ≡ take old.ward_bits (word_bits pseudokey)
   ward_prefix_of pseudokey =
       let bits = take old.ward_bits (word_bits pseudokey) in
-      ap (λ n. bits_of n (number_of bits)) (sym (leading_length pseudokey)) ∙ bits_of-number_of bits
+      ap (λ n. bits_of n (number_of bits)) (sym (length-leading_bits old.ward_bits pseudokey (omega (arith, sound.bits)))) ∙ bits_of-number_of bits
 
   pub ward_begins : (pseudokey : ℕ) → Begins (ward_prefix old.ward_bits (ward_of old.ward_bits pseudokey)) pseudokey
   ward_begins pseudokey = ap (λ n. take n (word_bits pseudokey)) (length-bits_of old.ward_bits (ward_of old.ward_bits pseudokey)) ∙ sym (ward_prefix_of pseudokey)
 
   pub ward_fits : (pseudokey : ℕ) → ward_of old.ward_bits pseudokey < 2 ^ old.ward_bits
-  ward_fits pseudokey = subst (λ n. ward_of old.ward_bits pseudokey < 2 ^ n) (leading_length pseudokey) (number_of-lt (take old.ward_bits (word_bits pseudokey)))
+  ward_fits pseudokey = leading-lt old.ward_bits pseudokey (omega (arith, sound.bits))
 
   pub ward_there : (pseudokey : ℕ) → (ward : WardState K) × (slice_get old.wards (ward_of old.ward_bits pseudokey) ≡ Some ward)
   ward_there pseudokey = within_there old.wards (ward_of old.ward_bits pseudokey) (omega (arith, ward_fits pseudokey, sound.count))
@@ -67,19 +66,6 @@ module _ {K : Type 0} (pseudokey_of : K → List ℕ → ℕ) (old : WorldState 
   abbrev pub with_requests : Requests → WorldState K
   with_requests requests = record old { in_flight = requests }
 
-  same_ward : (requests : Requests) (number : ℕ) (ward : WardState K) → IsWardOf pseudokey_of old number ward → IsWardOf pseudokey_of (with_requests requests) number ward
-  same_ward requests number ward is = record {
-    cap = is.cap;
-    bits = is.bits;
-    number_is = is.number_is;
-    keyer = is.keyer;
-    sound = is.sound;
-    before = is.before;
-    noticed = is.noticed;
-    first = is.first;
-    directory = is.directory;
-  }
-
   same_way : (requests : Requests) (request : Request) → IsOnTheWay pseudokey_of old request → IsOnTheWay pseudokey_of (with_requests requests) request
   same_way requests request is = record { pseudokey_is = is.pseudokey_is; ward = is.ward; there = is.there; begins = is.begins; below = is.below }
 
@@ -88,7 +74,7 @@ module _ {K : Type 0} (pseudokey_of : K → List ℕ → ℕ) (old : WorldState 
     bits = sound.bits;
     words = sound.words;
     count = sound.count;
-    wards = λ number ward is. same_ward requests number ward (sound.wards number ward is);
+    wards = λ number ward is. same_ward pseudokey_of old old.wards old.copies old.sent requests number ward (sound.wards number ward is);
     start = sound.start;
     copies = sound.copies;
     sent = sound.sent;

@@ -2,17 +2,17 @@
 use Rattle.std.proofs.Common.{◌≡◌, ℕ, Bool, List, [], ◌∷◌, ◌++◌, length, drop, slice_get, Some, sym, ap, ◌∙◌, subst, arith}
 use Rattle.std.specs.Prelude.{◌↔◌}
 use Rattle.std.proofs.lemmas.List.{length_push}
+use Rattle.exh_prefix.specs.ListLemmas.{drop_push}
 use Rattle.exh_notice.specs.declared.notice.Notice.{Notice}
 use Rattle.exh_table.specs.Leaves.{ward_leaves, leaves_in}
 use Rattle.exh_legal.specs.Laws.{KeepsPlaces}
-use Rattle.exh_legal.specs.Pages.{ward_prefix}
+use Rattle.exh_prefix.specs.Leading.{ward_prefix}
 use Rattle.exh_ward.specs.WardState.{WardState, IsSoundWard}
 use Rattle.exh_table.specs.Table.{table_with}
 use Rattle.exh_ward.specs.MergeStep.{IsMergeStep}
 use Rattle.exh_ward.specs.SplitStep.{IsSplitStep}
 use Rattle.exh_world.specs.Sound.{IsWardOf, IsSoundWorld}
 use Rattle.exh_world.specs.World.{WorldState}
-use Rattle.exh_world.specs.ListLemmas.{drop_push}
 use Rattle.exh_world.specs.RequestLemmas.{all_weaker}
 use Rattle.exh_world.proofs.SoundKept.{alike_push, after, way_kept, sound_after}
 

@@ -4,14 +4,15 @@ use Rattle.std.specs.Prelude.{◌==◌, slice_set, option_map, if◌then◌else�
 use Rattle.std.specs.List.{AllByRecursion}
 use Rattle.std.specs.Option.{option_map_or}
 use Rattle.std.proofs.lemmas.Bool.{cases_eq}
-use Rattle.std.proofs.lemmas.List.{append-nil, append_assoc, map-append, get_or-map, length-map}
+use Rattle.std.proofs.lemmas.List.{append-nil, append_assoc, map-append}
 use Rattle.std.proofs.lemmas.List.Elements.{Contains-append_left, Contains-append_right, Contains-append_cases}
 use Rattle.std.proofs.lemmas.Option.{slice_get-map}
+use Rattle.exh_prefix.specs.ListLemmas.{set_else, Contains-map}
 use Rattle.exh_notice.specs.declared.notice.Notice.{Notice}
 use Rattle.exh_table.specs.Laws.{OneNoticeMore}
 use Rattle.exh_table.specs.Table.{TableMap, told_by, IsTableOf, table_with}
 use Rattle.exh_world.specs.HeadlineLaws.{notice_taken, notices_taken, LeavesToNotices}
-use Rattle.exh_world.specs.ListLemmas.{set_else, numbered_here}
+use Rattle.exh_world.specs.ListLemmas.{numbered_here}
 use Rattle.exh_world.specs.Run.{Moment, IsRun, Told, Knowledge, told_too, known_after, known_at_end}
 use Rattle.exh_world.specs.Step.{Step}
 use Rattle.exh_world.specs.World.{WorldState, numbered}
@@ -156,9 +157,6 @@ with_notices law told table (notice ∷ notices) is =
 
 -- ---- members
 
-contains_mapped : {X Y : Type 0} (f : X → Y) (xs : List X) (x : X) → Contains xs x → Contains (map f xs) (f x)
-contains_mapped f xs x among = (among.0, omega (arith, among.1, length-map xs f), get_or-map f xs among.0 x (f x) among.1 ∙ ap f among.2)
-
 from_mapped : {X Y : Type 0} (f : X → Y) (xs : List X) (y : Y) → Contains (map f xs) y → (x : X) × Contains xs x × (y ≡ f x)
 from_mapped f [] y among = absurd (omega (arith, among.1))
 from_mapped f (x ∷ xs) y (zero, within, is) = (x, (0, omega arith, refl), sym is)
@@ -171,5 +169,5 @@ more_told told one other more pair among =
       | inl first ↦ Contains-append_left told (map told_by other) pair first
       | inr second ↦
           let notice = from_mapped told_by one pair second in
-          Contains-append_right told (map told_by other) pair (subst (Contains (map told_by other)) (sym notice.2) (contains_mapped told_by other notice.0 (more notice.0 notice.1)))
+          Contains-append_right told (map told_by other) pair (subst (Contains (map told_by other)) (sym notice.2) (Contains-map told_by other notice.0 (more notice.0 notice.1)))
     ]

@@ -3,9 +3,9 @@ use Rattle.std.proofs.Common.{◌≡◌, ℕ, zero, suc, ◌<◌, List, ◌∷�
 use Rattle.std.specs.Prelude.{option_map, slice_set}
 use Rattle.std.proofs.lemmas.List.{length-map, map-set}
 use Rattle.std.proofs.lemmas.Option.{slice_get-map}
+use Rattle.exh_prefix.specs.ListLemmas.{set_is, set_same}
 use Rattle.exh_array.specs.Pointers.{DirectoryState, HasArrayOf}
 use Rattle.exh_world.specs.Kept.{HaveArrays, IsPlaceOf, tables_of}
-use Rattle.exh_world.specs.ListLemmas.{set_is, set_same}
 use Rattle.exh_world.specs.World.{numbered}
 use Rattle.exh_world.proofs.FreshWorld.{replicate_is}
 

@@ -4,6 +4,7 @@ use Rattle.std.specs.Prelude.{slice_get, slice_set, slice_index_or, Contains, Is
 use Rattle.std.specs.Option.{option_map_or}
 use Rattle.std.proofs.lemmas.Bool.{lt-ltb}
 use Rattle.std.proofs.lemmas.Option.{slice_get_read}
+use Rattle.exh_prefix.specs.ListLemmas.{within_there}
 use Rattle.exh_array.specs.Pointers.{DirectoryState}
 use Rattle.exh_notice.specs.declared.notice.Notice.{Notice}
 use Rattle.exh_table.specs.Table.{TableMap, table_with}
@@ -11,7 +12,7 @@ use Rattle.exh_table.specs.TableOrder.{table_join}
 use Rattle.exh_legal.specs.Numbers.{index_of}
 use Rattle.exh_ward.specs.WardState.{WardState, IsSoundWard, notices_above}
 use Rattle.exh_ward.specs.declared.ward_fault.WardFault.TheVariants.{Memory}
-use Rattle.exh_world.specs.Kept.{IsKept, IsPlaceOf, HaveIndexesInTurn, tables_of}
+use Rattle.exh_world.specs.Kept.{IsKeptWorld, IsPlaceOf, HaveIndexesInTurn, tables_of}
 use Rattle.exh_world.specs.Laws.{StepsKeepWorldsSound}
 use Rattle.exh_world.specs.Sound.{IsSoundWorld}
 use Rattle.exh_world.specs.Step.{Step, HasTaken, HasSent, HasJoined, HasRestarted}
@@ -21,7 +22,6 @@ use Rattle.exh_world.specs.declared.outcome.Outcome.{Outcome}
 use Rattle.exh_world.specs.declared.step_fault.StepFault.{StepFault}
 use Rattle.exh_world.specs.declared.step_fault.StepFault.TheVariants.{Ward, NoNotice}
 use Rattle.exh_world.specs.declared.event.Event.TheVariants.{Deliver}
-use Rattle.exh_world.specs.ListLemmas.{within_there}
 use Rattle.exh_world.proofs.CopyArrays.{table_placed, table_there, tables_set, tables_same}
 
 -- notices of a sound ward
@@ -51,9 +51,9 @@ pub is_copy : (copies : List DirectoryState) (number at : ℕ) → IsPlaceOf cop
 is_copy copies number at placed = let own = within_there copies at placed.1 in ap is_some ((table_placed copies number at placed).2 ∙ table_there copies at own.0 own.1)
 
 -- a world as it is shown, and a copy that it has
-module _ {K : Type 0} {pseudokey_of : K → List ℕ → ℕ} {world now : WorldState K} (view_is : world ≡ now) (kept : IsKept pseudokey_of world) where
+module _ {K : Type 0} {pseudokey_of : K → List ℕ → ℕ} {world now : WorldState K} (view_is : world ≡ now) (kept : IsKeptWorld pseudokey_of world) where
   -- a step that leaves the wards
-  pub kept_after : StepsKeepWorldsSound pseudokey_of → (event : Event) (result : Result Outcome StepFault) (after : WorldState K) → Step pseudokey_of now event result after → after.wards ≡ world.wards → after.ward_bits ≡ world.ward_bits → length after.sent < 2 ^ 32 → IsKept pseudokey_of after
+  pub kept_after : StepsKeepWorldsSound pseudokey_of → (event : Event) (result : Result Outcome StepFault) (after : WorldState K) → Step pseudokey_of now event result after → after.wards ≡ world.wards → after.ward_bits ≡ world.ward_bits → length after.sent < 2 ^ 32 → IsKeptWorld pseudokey_of after
   kept_after law event result after step wards bits few = record {
     sound = law now event result after (subst (IsSoundWorld pseudokey_of) view_is kept.sound) step (λ number ward is. (kept.sound.wards number ward (ap (λ ws. slice_get ws number) (sym wards) ∙ is)).sound);
     few_wards = omega (arith, bits, kept.few_wards);

@@ -9,7 +9,7 @@ use Rattle.exh_ward.specs.declared.hop.Hop.TheVariants.{Done, Moved, MustSplit, 
 use Rattle.exh_ward.specs.declared.ward_fault.WardFault.TheVariants.{Page}
 use Rattle.exh_world.specs.EffectLemmas.{on_effect}
 use Rattle.exh_world.specs.Laws.{IsCounted, failures_in}
-use Rattle.exh_world.specs.ListLemmas.{set_same}
+use Rattle.exh_prefix.specs.ListLemmas.{set_same}
 use Rattle.exh_world.specs.Step.{HasEffect, IsRefused, Step}
 use Rattle.exh_world.specs.World.{WorldState}
 use Rattle.exh_world.specs.declared.event.Event.{Event}

@@ -7,18 +7,19 @@ use Rattle.std.proofs.Math.Seq.{take-nil}
 use Rattle.std.proofs.lemmas.List.FromFn.{length-map-range_with_len, map-range_with_len_more}
 use Rattle.std.proofs.lemmas.Option.{get_or_from_slice_get, slice_get_within, slice_get-get_or}
 use Rattle.exh_prefix.specs.Prefix.{prefix_cmp}
+use Rattle.exh_prefix.specs.ListLemmas.{push_is}
 use Rattle.exh_table.specs.Table.{TableMap}
 use Rattle.exh_table.specs.Walk.{right_of}
-use Rattle.exh_legal.specs.Pages.{ward_prefix}
+use Rattle.exh_prefix.specs.Leading.{ward_prefix}
 use Rattle.exh_ward.specs.WardState.{WardState, IsSoundWard}
-use Rattle.exh_ward.specs.declared.ward.TheConstants.{WARD_BITS_LIMIT}
-use Rattle.exh_world.specs.Kept.{IsKept}
+use Rattle.exh_prefix.specs.declared.prefix.TheConstants.{WARD_BITS_LIMIT}
+use Rattle.exh_world.specs.Kept.{IsKeptWorld}
 use Rattle.exh_world.specs.NewWorld.{new_ward, new_world}
 use Rattle.exh_world.specs.Sound.{LeadsRight, LeadsRightIn, IsWardOf, IsSoundWorld}
 use Rattle.exh_world.specs.World.{WorldState, numbered}
 use Rattle.exh_world.specs.InFlight.{Requests}
 use Rattle.exh_world.specs.declared.config.Config.{Config}
-use Rattle.exh_world.specs.ListLemmas.{mapped_is, push_is}
+use Rattle.exh_world.specs.ListLemmas.{mapped_is}
 
 pub replicate_is : {A : Type 0} (n : ℕ) (x y : A) (at : ℕ) → slice_get (replicate n x) at ≡ Some y → y ≡ x
 replicate_is n x y at is =
@@ -117,5 +118,5 @@ module _ {K : Type 0} (pseudokey_of : K → List ℕ → ℕ) where
       requests = tt;
     }
 
-    pub new_kept : IsKept pseudokey_of (new_world config)
+    pub new_kept : IsKeptWorld pseudokey_of (new_world config)
     new_kept = record { sound = new_sound; few_wards = bits; few_sent = lit< tt }

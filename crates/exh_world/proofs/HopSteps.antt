@@ -3,13 +3,13 @@ use Rattle.std.proofs.Common.{◌≡◌, ℕ, ◌<◌, List, length, get_or, sli
 use Rattle.std.specs.Prelude.{slice_set}
 use Rattle.std.proofs.lemmas.Option.{slice_get_within, slice_get_read}
 use Rattle.exh_prefix.specs.Prefix.{Begins}
-use Rattle.exh_legal.specs.Pages.{ward_prefix}
+use Rattle.exh_prefix.specs.Leading.{ward_prefix}
 use Rattle.exh_calls.specs.Call.{key_of}
 use Rattle.exh_ward.specs.HopTable.{HopOf}
 use Rattle.exh_ward.specs.WardState.{WardState, IsSoundWard, LeavesAfter, own_prefix}
 use Rattle.exh_ward.specs.declared.hop.Hop.{Hop}
 use Rattle.exh_world.specs.InFlight.{Requests, request_named, requests_after}
-use Rattle.exh_world.specs.Kept.{IsKept}
+use Rattle.exh_world.specs.Kept.{IsKeptWorld}
 use Rattle.exh_world.specs.Laws.{StepsKeepWorldsSound}
 use Rattle.exh_world.specs.Sound.{IsWardOf, IsOnTheWay}
 use Rattle.exh_world.specs.Step.{HasHopped, ReachesInto}
@@ -28,7 +28,7 @@ with_ward i at left requests = record (world_of i) { wards = slice_set i.wards.i
 
 -- ---- a request's ward
 
-module _ {P K : Type 0} (pseudokey_of : K → List ℕ → ℕ) (i : Inside P K) (kept : IsKept pseudokey_of (world_of i)) (name : ℕ) (request : Request) (named : request_named name i.in_flight ≡ Some request) where
+module _ {P K : Type 0} (pseudokey_of : K → List ℕ → ℕ) (i : Inside P K) (kept : IsKeptWorld pseudokey_of (world_of i)) (name : ℕ) (request : Request) (named : request_named name i.in_flight ≡ Some request) where
   way : IsOnTheWay pseudokey_of (world_of i) request
   way = all_named (IsOnTheWay pseudokey_of (world_of i)) name i.in_flight request kept.sound.requests named
 
@@ -84,7 +84,7 @@ module _ {P K : Type 0} (pseudokey_of : K → List ℕ → ℕ) (i : Inside P K)
           after = new_is;
         }
 
-        pub hopped_kept : StepsKeepWorldsSound pseudokey_of → IsSoundWard pseudokey_of left → IsKept pseudokey_of (with_ward i at left requests)
+        pub hopped_kept : StepsKeepWorldsSound pseudokey_of → IsSoundWard pseudokey_of left → IsKeptWorld pseudokey_of (with_ward i at left requests)
         hopped_kept steps sound =
             let wards = wards_left pseudokey_of (world_of i) (with_ward i at left requests) at ward left kept.sound refl there_at sound in
             record {

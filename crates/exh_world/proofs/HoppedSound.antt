@@ -1,56 +1,26 @@
 -- A world stays sound where a request hops, and no hop of a sound world strays.
-use Rattle.std.proofs.Common.{◌≡◌, ℕ, List, length, drop, slice_get, Option, None, Some, inl, inr, refl, sym, ap, ◌∙◌, subst, arith}
-use Rattle.std.specs.Prelude.{nat_le, slice_set, ◌↔◌}
-use Rattle.std.specs.Option.{option_map_or}
-use Rattle.std.proofs.lemmas.Bool.{cases_eq}
+use Rattle.std.proofs.Common.{◌≡◌, ℕ, List, length, drop, slice_get, Some, sym, ap, ◌∙◌, subst, arith}
+use Rattle.std.specs.Prelude.{slice_set, ◌↔◌}
 use Rattle.exh_prefix.specs.Prefix.{Begins}
+use Rattle.exh_prefix.specs.ListLemmas.{set_same, one_there}
 use Rattle.exh_table.specs.Leaves.{ward_leaves}
 use Rattle.exh_page.specs.declared.page.Page.{Page}
 use Rattle.exh_page.specs.declared.page.Page.TheVariants.{Live, Forward}
-use Rattle.exh_page.specs.declared.record.Record.{Record}
-use Rattle.exh_page.specs.Page.{low_bound, records_of, with_records}
-use Rattle.exh_legal.specs.Laws.{KeepsPlaces, RightLinksLeadOn, TargetsLeadOn}
-use Rattle.exh_legal.specs.Pages.{IsAt, ward_prefix}
+use Rattle.exh_legal.specs.Laws.{KeepsPlaces, RightLinksLeadOn, TargetsLeadOn, IsBelow}
+use Rattle.exh_prefix.specs.Leading.{ward_prefix}
 use Rattle.exh_calls.specs.Call.{key_of}
-use Rattle.exh_ward.specs.HopTable.{IsReached, LeadsTo, HopOf, pages_after}
-use Rattle.exh_ward.specs.PageAnswer.{records_after}
+use Rattle.exh_ward.specs.HopTable.{IsReached, LeadsTo, HopOf}
 use Rattle.exh_ward.specs.WardState.{WardState, IsSoundWard, IsAnswered, own_prefix}
-use Rattle.exh_calls.specs.declared.call.Call.{Call}
 use Rattle.exh_ward.specs.declared.hop.Hop.TheVariants.{Done, Moved, Stray}
 use Rattle.exh_calls.specs.declared.reply.Reply.{Reply}
+use Rattle.exh_ward.specs.AnswerLemmas.{places_answered}
 use Rattle.exh_world.specs.InFlight.{Requests, request_named, requests_after}
-use Rattle.exh_world.specs.Sound.{IsBelow, IsWardOf, IsOnTheWay, IsSoundWorld}
+use Rattle.exh_world.specs.Sound.{IsWardOf, IsOnTheWay, IsSoundWorld}
 use Rattle.exh_world.specs.World.{WorldState}
 use Rattle.exh_world.specs.declared.request.Request.{Request}
-use Rattle.exh_world.specs.ListLemmas.{set_here, set_else, set_same, one_there}
 use Rattle.exh_world.specs.RequestLemmas.{AllRequests, all_weaker, all_without, all_moved}
 use Rattle.exh_world.proofs.SoundKept.{after, way_kept, sound_after}
 use Rattle.exh_world.proofs.BegunSound.{requests_sound}
-
--- ---- a page with other records keeps its place
-
-low_with : (records : List Record) (page : Page) → low_bound (with_records records page) ≡ low_bound page
-low_with records (Live prefix right old) = refl
-low_with records (Forward low target) = refl
-
-keeps_set : (pages : List Page) (at : ℕ) (page : Page) (records : List Record) → IsAt pages at page → KeepsPlaces pages (slice_set pages at (with_records records page))
-keeps_set pages at page records there number other is = elim (cases_eq number at) [
-  | inl here ↦
-      let same : other ≡ page = one_there pages at other page (subst (λ n. IsAt pages n other) here is) there in
-      (with_records records page, subst (λ n. IsAt (slice_set pages at (with_records records page)) n (with_records records page)) (sym here) (set_here pages at page (with_records records page) there), low_with records page ∙ ap low_bound (sym same))
-  | inr else ↦ (other, set_else pages at number (with_records records page) else ∙ is, refl)
-]
-
-keeps_all : (pages : List Page) → KeepsPlaces pages pages
-keeps_all pages number page is = (page, is, refl)
-
-keeps_found : (pages : List Page) (at : ℕ) (records : Page → List Record) (found : Option Page) → slice_get pages at ≡ found → KeepsPlaces pages (option_map_or (λ page. slice_set pages at (with_records (records page) page)) found pages)
-keeps_found pages at records None is = keeps_all pages
-keeps_found pages at records (Some page) is = keeps_set pages at page (records page) is
-
-pub keeps_answered : (cap : ℕ) (pseudo : List ℕ → ℕ) (pages : List Page) (at : ℕ) (call : Call) → KeepsPlaces pages (pages_after cap pseudo pages at call)
-unfolding pages_after
-keeps_answered cap pseudo pages at call = keeps_found pages at (λ page. records_after (nat_le cap (length (records_of page))) (pseudo (key_of call)) call (records_of page)) (slice_get pages at) refl
 
 module _ {K : Type 0} (pseudokey_of : K → List ℕ → ℕ) (old : WorldState K) (sound : IsSoundWorld pseudokey_of old) (request : Request) (way : IsOnTheWay pseudokey_of old request) (before : WardState K) (found : slice_get old.wards request.ward ≡ Some before) where
   abbrev pub is_own : IsWardOf pseudokey_of old request.ward before
@@ -111,7 +81,7 @@ module _ {K : Type 0} (pseudokey_of : K → List ℕ → ℕ) (old : WorldState 
   -- where the call was answered
   module _ (left : WardState K) (reply : Reply) (client : ℕ) (answered : IsAnswered pseudokey_of before request.page client request.call reply left) (left_sound : IsSoundWard pseudokey_of left) where
     pub places : KeepsPlaces before.pages left.pages
-    places = subst (KeepsPlaces before.pages) (sym answered.pages) (keeps_answered before.cap (pseudokey_of before.keyer) before.pages request.page request.call)
+    places = subst (KeepsPlaces before.pages) (sym answered.pages) (places_answered before.cap (pseudokey_of before.keyer) before.pages request.page request.call)
 
     notices_are : left.notices ≡ before.notices
     notices_are = ap (λ (w : WardState K). w.notices) answered.others

@@ -1,25 +1,37 @@
+-- of new_worlds_are_sound, `new` and `from_wards`
+pub mod FreshWorld
+pub mod NewWards
+pub mod WorldOfWards
+-- of into_wards
+pub mod MadeAnew
+-- of steps_keep_worlds_sound
 pub mod TablesKept
-pub mod OneMap
-pub mod MapsOfWards
 pub mod WalksBelow
 pub mod SoundKept
-pub mod ChangedSound
-pub mod ToldSound
 pub mod BegunSound
 pub mod HoppedSound
+pub mod ChangedSound
+pub mod ToldSound
 pub mod StepSound
-pub mod Known
+-- of runs_carry_the_headline: one map, one step, a run
+pub mod OneMap
+pub mod MapsOfWards
 pub mod WorldMaps
+pub mod Known
+pub mod CopiesTold
 pub mod Named
 pub mod StepFacts
 pub mod RunFacts
 pub mod Runs
-pub mod FreshWorld
-pub mod NewWards
-pub mod WorldOfWards
 pub mod HeadlineOf
-pub mod CopiesTold
+-- of the headline in other words
 pub mod RunWords
+-- of steps_are_computed and steps_have_outcomes
+pub mod StepFunction
+pub mod StepOutcome
+pub mod PagesReached
+-- of each event's method: the world as its struct holds it, and shows it
+pub mod InsideWorld
 pub mod MappedLists
 pub mod WardsLeft
 pub mod FailureCounted
@@ -27,11 +39,5 @@ pub mod FaultsCounted
 pub mod WardChanges
 pub mod CopyArrays
 pub mod CopySteps
-pub mod WardNumber
-pub mod InsideWorld
 pub mod BeginSteps
 pub mod HopSteps
-pub mod PagesReached
-pub mod StepFunction
-pub mod StepOutcome
-pub mod MadeAnew

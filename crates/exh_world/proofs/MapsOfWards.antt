@@ -1,5 +1,5 @@
 -- The map of all wards' pages, at a key, is that of the key's own ward.
-use Rattle.std.proofs.Common.{◌≡◌, ℕ, zero, suc, ◌+◌, ◌<◌, ◌≤◌, ◌^◌, Bool, List, [], ◌∷◌, ◌++◌, length, take, find, slice_get, None, Some, refl, sym, ap, ◌∙◌, subst, arith}
+use Rattle.std.proofs.Common.{◌≡◌, ℕ, zero, suc, ◌+◌, ◌<◌, ◌≤◌, ◌^◌, Bool, List, [], ◌∷◌, length, take, find, slice_get, None, Some, refl, sym, ap, ◌∙◌, subst, arith}
 use Rattle.std.specs.FinMap as fin
 use Rattle.std.specs.List.{AllByRecursion, flat_map}
 use Rattle.std.specs.Option.{option_map, option_or}
@@ -15,9 +15,11 @@ use Rattle.exh_page.specs.declared.page.Page.TheVariants.{Live, Forward}
 use Rattle.exh_page.specs.Page.{records_of, with_records}
 use Rattle.exh_page.specs.Place.{Place}
 use Rattle.exh_page.specs.Records.{is_at}
-use Rattle.exh_legal.specs.Pages.{map_of, ward_prefix, IsHome, IsWithin, IsLegalPage, IsLegal}
+use Rattle.exh_prefix.specs.Leading.{ward_prefix}
+use Rattle.exh_legal.specs.Pages.{map_of, IsHome, IsWithin, IsLegalPage, IsLegal}
 use Rattle.exh_legal.specs.BareLemmas.{bare_at}
-use Rattle.exh_legal.specs.LowLemmas.{front_shorter}
+use Rattle.exh_prefix.specs.LowLemmas.{front_shorter}
+use Rattle.exh_prefix.specs.ListLemmas.{AllByRecursion-append}
 use Rattle.exh_legal.specs.MapLemmas.{place_of_key, skip, or_none, nothing_found, none_elsewhere, get-map_of_pages}
 
 -- the pages of all wards, one ward after the other
@@ -29,13 +31,9 @@ abbrev pub AreLegalFrom : ℕ → (List ℕ → ℕ) → ℕ → ℕ → List (L
 AreLegalFrom cap pseudo ward_bits first [] = Unit {0}
 AreLegalFrom cap pseudo ward_bits first (pages ∷ wards) = IsLegal cap pseudo (ward_prefix ward_bits first) pages × AreLegalFrom cap pseudo ward_bits (suc first) wards
 
-all_append : {A : Type 0} (P : A → Type 0) (front back : List A) → AllByRecursion P front → AllByRecursion P back → AllByRecursion P (front ++ back)
-all_append P [] back fore aft = aft
-all_append P (x ∷ front) back fore aft = (fore.0, all_append P front back fore.1 aft)
-
 pub each_legal : (cap : ℕ) (pseudo : List ℕ → ℕ) (ward_bits first : ℕ) (wards : List (List Page)) → AreLegalFrom cap pseudo ward_bits first wards → AllByRecursion (IsLegalPage cap pseudo) (all_pages_of wards)
 each_legal cap pseudo ward_bits first [] legal = tt
-each_legal cap pseudo ward_bits first (pages ∷ wards) legal = all_append _ pages (all_pages_of wards) legal.0.each (each_legal cap pseudo ward_bits (suc first) wards legal.1)
+each_legal cap pseudo ward_bits first (pages ∷ wards) legal = AllByRecursion-append _ pages (all_pages_of wards) legal.0.each (each_legal cap pseudo ward_bits (suc first) wards legal.1)
 
 -- ---- the ward of a pseudokey
 

@@ -1,18 +1,19 @@
 -- An answering hop's page has the prefix that the directory names.
 use Rattle.std.proofs.Common.{◌≡◌, ℕ, Bool, List, [], drop, slice_get, Some, sym, ap, ◌∙◌, subst}
 use Rattle.std.specs.Option.{option_map_or}
+use Rattle.exh_prefix.specs.ListLemmas.{one_there}
 use Rattle.exh_table.specs.Directory.{IsName}
 use Rattle.exh_table.specs.Leaves.{ward_leaves}
 use Rattle.exh_page.specs.declared.page.Page.{Page}
 use Rattle.exh_page.specs.declared.page.Page.TheVariants.{Live, Forward}
 use Rattle.exh_legal.specs.BareLemmas.{bare_at}
 use Rattle.exh_legal.specs.Growth.{IsLiveAt}
-use Rattle.exh_legal.specs.Pages.{IsAt, IsHome, ward_prefix, bare}
+use Rattle.exh_prefix.specs.Leading.{ward_prefix}
+use Rattle.exh_legal.specs.Pages.{IsAt, IsHome, bare}
 use Rattle.exh_ward.specs.WardState.{WardState, own_prefix}
 use Rattle.exh_world.specs.Run.{prefix_of, prefix_at}
 use Rattle.exh_world.specs.Sound.{IsWardOf, IsSoundWorld}
 use Rattle.exh_world.specs.World.{WorldState, issued_in, changes_in}
-use Rattle.exh_world.specs.ListLemmas.{one_there}
 
 module _ {K : Type 0} (pseudokey_of : K → List ℕ → ℕ) (world : WorldState K) (sound : IsSoundWorld pseudokey_of world) (number : ℕ) (ward : WardState K) (found : slice_get world.wards number ≡ Some ward) where
   abbrev own : List Bool

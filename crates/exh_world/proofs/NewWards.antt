@@ -1,32 +1,15 @@
 -- The wards of a new file are sound.
-use Rattle.std.proofs.Common.{◌≡◌, ℕ, ◌^◌, ◌≤◌, Bool, List, [], ◌++◌, refl, sym, ◌∙◌, subst, arith, Contains}
-use Rattle.std.specs.FinMap as fin
-use Rattle.std.proofs.lemmas.List.{nil_from_length}
+use Rattle.std.proofs.Common.{ℕ, ◌^◌, ◌≤◌, List, refl, sym, subst, arith}
 use Rattle.exh_prefix.specs.BitLemmas.{length-bits_of}
-use Rattle.exh_prefix.specs.Prefix.{prefix_cmp}
-use Rattle.exh_notice.specs.declared.entry.Entry.{Entry}
-use Rattle.exh_table.specs.Table.{TableMap, IsEntryOf, IsTableSince}
+use Rattle.exh_table.specs.SetLemmas.{since_nothing}
 use Rattle.exh_legal.specs.Laws.{LonePagesAreLegal}
-use Rattle.exh_legal.specs.Pages.{ward_prefix}
+use Rattle.exh_prefix.specs.Leading.{ward_prefix}
 use Rattle.exh_ward.specs.WardState.{IsSoundWard}
-use Rattle.exh_ward.specs.declared.ward.TheConstants.{WARD_BITS_LIMIT}
+use Rattle.exh_prefix.specs.declared.prefix.TheConstants.{WARD_BITS_LIMIT}
 use Rattle.exh_world.specs.NewWorld.{new_ward, new_world}
 use Rattle.exh_world.specs.declared.config.Config.{Config}
 use Rattle.exh_world.proofs.FreshWorld.{AreSoundWards}
 use Rattle.exh_world.specs.ListLemmas.{mapped_is}
-
--- the table with no entry has no entries
-no_entries : fin.entries (let none : TableMap = fin.empty in none) ≡ []
-no_entries = nil_from_length (fin.entries (let none : TableMap = fin.empty in none)) (sym (fin.len-entries (let none : TableMap = fin.empty in none)) ∙ fin.len-empty prefix_cmp Entry)
-
-nothing_in : (prefix : List Bool) (entry : Entry) → Contains (let none : List (List Bool × Entry) = [] in none) (prefix, entry) → ⊥
-nothing_in prefix entry member = omega (arith, member.1)
-
-since_nothing : IsTableSince fin.empty [] fin.empty
-since_nothing prefix =
-    let told : List (List Bool × Entry) = fin.entries (let none : TableMap = fin.empty in none) ++ [] in
-    let none : (entry : Entry) → Contains told (prefix, entry) → ⊥ = λ entry member. nothing_in prefix entry (subst (λ es. Contains (es ++ []) (prefix, entry)) no_entries member) in
-    subst (IsEntryOf told prefix) (sym (fin.get-empty prefix_cmp prefix)) none
 
 module _ {K : Type 0} (pseudokey_of : K → List ℕ → ℕ) (law : LonePagesAreLegal) (config : Config K) (bits : config.ward_bits ≤ WARD_BITS_LIMIT) where
   new_ward_sound : (number : ℕ) → IsSoundWard pseudokey_of (new_ward config number)

@@ -1,73 +1,21 @@
 -- What the map machine answers depends on the keys that share the leading bits alone.
-use Rattle.std.proofs.Common.{◌≡◌, ℕ, ◌+◌, Bool, true, false, cond, List, [], ◌∷◌, length, map, ◌==◌, Option, None, Some, refl, sym, ap, ◌∙◌, subst, arith, nat_cmp}
-use Rattle.std.specs.Prelude.{T, count_by, nat_le}
+use Rattle.std.proofs.Common.{◌≡◌, ℕ, Bool, true, false, cond, List, Option, None, Some, refl, sym, ap, ◌∙◌, subst, nat_cmp}
+use Rattle.std.specs.Prelude.{nat_le}
 use Rattle.std.specs.FinMap as fin
-use Rattle.std.specs.FinMap.{entries}
-use Rattle.std.specs.FinMap.Entries.{where_key, is_sorted, is_sorted-where_key, find-where_key}
 use Rattle.std.specs.Ordering.{eq_by_cmp}
 use Rattle.std.specs.Cmp.Lexicographic.{slice_cmp}
 use Rattle.std.proofs.lemmas.Bool.{eq-eqb}
 use Rattle.std.proofs.lemmas.Cmp.{nat_list_cmp_total}
-use Rattle.std.proofs.lemmas.List.Sums.{sum_by-cons}
 use Rattle.std.proofs.lemmas.Map.Lookups.{exact_bytes}
-use Rattle.exh_legal.specs.MapLemmas.{tie_of}
 use Rattle.exh_page.specs.KeyMap.{KeyMap}
 use Rattle.exh_calls.specs.Call.{key_of}
 use Rattle.exh_calls.specs.Effect.{Change, Keep, Set, Remove, Effect, effect_of}
-use Rattle.exh_calls.specs.MapMachine.{leading, is_full, effect_in, changed, reply_of, map_after}
+use Rattle.exh_calls.specs.SharingLemmas.{shares, sharing_same}
+use Rattle.exh_calls.specs.MapMachine.{is_full, effect_in, changed, reply_of, map_after}
 use Rattle.exh_calls.specs.declared.call.Call.{Call}
-
--- the test by which a key counts
-abbrev pub shares : (List ℕ → ℕ) → List ℕ → List ℕ → Bool
-shares pseudo key other = leading (pseudo other) == leading (pseudo key)
-
-count_here : (p : List ℕ → Bool) (e : List ℕ × List ℕ) (es : List (List ℕ × List ℕ)) (b : Bool) → p e.0 ≡ b → length (cond b (e ∷ where_key (slice_cmp nat_cmp) p es) (where_key (slice_cmp nat_cmp) p es)) ≡ cond b 1 0 + length (where_key (slice_cmp nat_cmp) p es)
-count_here p e es true is = omega arith
-count_here p e es false is = omega arith
-
-length-where : (p : List ℕ → Bool) (es : List (List ℕ × List ℕ)) → length (where_key (slice_cmp nat_cmp) p es) ≡ count_by p (map (λ e. e.0) es)
-length-where p [] = refl
-length-where p (e ∷ es) =
-    let sum : count_by p (map (λ e. e.0) (e ∷ es)) ≡ cond (p e.0) 1 0 + count_by p (map (λ e. e.0) es) = sum_by-cons (λ x. cond (p x) 1 0) e.0 (map (λ e. e.0) es) in
-    omega (arith, sum, count_here p e es (p e.0) refl, length-where p es)
-
--- ---- two maps that have the same at every key that passes a test
-
-module _ (p : List ℕ → Bool) (m n : KeyMap) (same : (key : List ℕ) → p key ≡ true → fin.get m key ≡ fin.get n key) where
-  passing : KeyMap → List (List ℕ × List ℕ)
-  passing a = where_key (slice_cmp nat_cmp) p (entries a)
-
-  sorted : (a : KeyMap) → T (is_sorted (slice_cmp nat_cmp) (passing a))
-  unfolding passing
-  sorted a = is_sorted-where_key (slice_cmp nat_cmp) p (entries a) (fin.entries_sorted a)
-
-  part : KeyMap → KeyMap
-  part a = fin.from_sorted (passing a)
-
-  entries-part : (a : KeyMap) → entries (part a) ≡ passing a
-  unfolding part
-  entries-part a = fin.entries-from_sorted (slice_cmp nat_cmp) (passing a) (sorted a)
-
-  get-part : (a : KeyMap) (key : List ℕ) → fin.get (part a) key ≡ cond (p key) (fin.get a key) None
-  unfolding part passing
-  get-part a key =
-      fin.get-from_sorted (slice_cmp nat_cmp) (passing a) key (sorted a)
-      ∙ find-where_key (slice_cmp nat_cmp) p key (λ other level. ap p (sym (exact_bytes key other level))) (entries a)
-      ∙ ap (λ found. cond (p key) found None) (sym (fin.get-entries a key))
-
-  kept : (key : List ℕ) (b : Bool) → p key ≡ b → cond b (fin.get m key) None ≡ cond b (fin.get n key) None
-  kept key true is = same key is
-  kept key false is = refl
-
-  same_part : part m ≡ part n
-  same_part = fin.same_map nat_list_cmp_total (fin.slice_cmp-IsAntisymmetric fin.nat_cmp-IsAntisymmetric) _ _ (λ key. get-part m key ∙ kept key (p key) refl ∙ sym (get-part n key))
-
-  pub same_count : count_by p (fin.keys m) ≡ count_by p (fin.keys n)
-  unfolding passing
-  same_count =
-      sym (length-where p (entries m))
-      ∙ ap length (sym (entries-part m) ∙ ap entries same_part ∙ entries-part n)
-      ∙ length-where p (entries n)
+use Rattle.exh_prefix.specs.declared.prefix.TheConstants.{LIMIT}
+use Rattle.exh_prefix.specs.Leading.{leading}
+use Rattle.exh_prefix.specs.ListLemmas.{is_equal}
 
 -- ---- a part of a map answers as the whole does
 
@@ -77,10 +25,10 @@ AreAlike pseudo whole own key = (other : List ℕ) → shares pseudo key other �
 
 module _ (cap : ℕ) (pseudo : List ℕ → ℕ) (whole own : KeyMap) where
   same_full : (key : List ℕ) → AreAlike pseudo whole own key → is_full cap pseudo whole key ≡ is_full cap pseudo own key
-  same_full key alike = ap (nat_le cap) (same_count (shares pseudo key) whole own alike)
+  same_full key alike = ap (nat_le cap) (sharing_same pseudo key whole own alike)
 
   own_shares : (key : List ℕ) → shares pseudo key key ≡ true
-  own_shares key = eq-eqb (leading (pseudo key)) (leading (pseudo key)) refl
+  own_shares key = eq-eqb (leading LIMIT (pseudo key)) (leading LIMIT (pseudo key)) refl
 
   same_here : (key : List ℕ) → AreAlike pseudo whole own key → fin.get whole key ≡ fin.get own key
   same_here key alike = alike key (own_shares key)
@@ -95,7 +43,7 @@ module _ (cap : ℕ) (pseudo : List ℕ → ℕ) (whole own : KeyMap) where
 
   -- what isn't changed is the same, at the call's key by the part
   unchanged : (key other : List ℕ) → AreAlike pseudo whole own key → (tied : Bool) → eq_by_cmp (slice_cmp nat_cmp) other key ≡ tied → fin.get whole other ≡ cond tied (fin.get own other) (fin.get whole other)
-  unchanged key other alike true is = let same = exact_bytes other key (tie_of (slice_cmp nat_cmp other key) is) in subst (λ k. fin.get whole k ≡ fin.get own k) (sym same) (same_here key alike)
+  unchanged key other alike true is = let same = exact_bytes other key (is_equal (slice_cmp nat_cmp other key) is) in subst (λ k. fin.get whole k ≡ fin.get own k) (sym same) (same_here key alike)
   unchanged key other alike false is = refl
 
   -- what is inserted or removed at the call's key is so in the part too

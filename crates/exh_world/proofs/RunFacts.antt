@@ -4,14 +4,15 @@ use Rattle.std.specs.Prelude.{Result, Ok, Err, slice_set}
 use Rattle.std.specs.FinMap.{entries}
 use Rattle.std.specs.List.{AllByRecursion}
 use Rattle.std.proofs.lemmas.List.{map-append}
+use Rattle.exh_prefix.specs.ListLemmas.{AllByRecursion-append}
 use Rattle.exh_table.specs.Laws.{OwnEntries, OneNoticeMore, UnionIsJoin}
 use Rattle.exh_calls.specs.History.{IsHistory, map_left}
-use Rattle.exh_calls.specs.declared.journal_entry.JournalEntry.{JournalEntry}
 use Rattle.exh_calls.specs.Laws.{SharersBegin}
 use Rattle.exh_ward.specs.WardState.{WardState}
 use Rattle.exh_world.specs.EffectLemmas.{on_refusal}
+use Rattle.exh_calls.specs.HistoryLemmas.{MapGoes, history_on, left_on}
 use Rattle.exh_world.specs.Headline.{IsNamed}
-use Rattle.exh_world.specs.Run.{Moment, IsRun, Told, Knowledge, known_after, known_at_end, answered_at, answered_in, entry_of}
+use Rattle.exh_world.specs.Run.{Moment, IsRun, Told, Knowledge, known_after, known_at_end, answered_at, answered_in, journal_entry_of}
 use Rattle.exh_world.specs.Sound.{IsSoundWorld}
 use Rattle.exh_world.specs.Step.{Step}
 use Rattle.exh_world.specs.World.{WorldState, map_in}
@@ -22,7 +23,7 @@ use Rattle.exh_world.specs.declared.step_fault.StepFault.{StepFault}
 use Rattle.exh_world.specs.declared.turn.Turn.{Turn}
 use Rattle.exh_world.proofs.FailureCounted.{counted_map}
 use Rattle.exh_world.proofs.Known.{IsKnown}
-use Rattle.exh_world.proofs.StepFacts.{IsOf, MapGoes, stepped}
+use Rattle.exh_world.proofs.StepFacts.{IsOf, stepped}
 
 -- ---- a refused event
 
@@ -46,30 +47,12 @@ answered_refused world (Send copy) fault = refl
 answered_refused world (Combine copy table) fault = refl
 answered_refused world (Restart copy) fault = refl
 
--- ---- lists of entries
-
-history_on : {K : Type 0} (pseudokey_of : K → List ℕ → ℕ) (old new : WorldState K) (entries rest : List JournalEntry) → MapGoes pseudokey_of old entries new
-    → IsHistory old.cap (pseudokey_of old.keyer) (map_in new) rest → IsHistory old.cap (pseudokey_of old.keyer) (map_in old) (entries ++ rest)
-history_on pseudokey_of old new [] rest goes is = subst (λ m. IsHistory old.cap (pseudokey_of old.keyer) m rest) goes is
-history_on pseudokey_of old new (entry ∷ []) rest goes is = (goes.0, subst (λ m. IsHistory old.cap (pseudokey_of old.keyer) m rest) goes.1 is)
-history_on pseudokey_of old new (entry ∷ other ∷ entries) rest goes is = absurd goes
-
-left_on : {K : Type 0} (pseudokey_of : K → List ℕ → ℕ) (old new : WorldState K) (entries rest : List JournalEntry) → MapGoes pseudokey_of old entries new
-    → map_left old.cap (pseudokey_of old.keyer) (map_in new) rest ≡ map_left old.cap (pseudokey_of old.keyer) (map_in old) (entries ++ rest)
-left_on pseudokey_of old new [] rest goes = ap (λ m. map_left old.cap (pseudokey_of old.keyer) m rest) goes
-left_on pseudokey_of old new (entry ∷ []) rest goes = ap (λ m. map_left old.cap (pseudokey_of old.keyer) m rest) goes.1
-left_on pseudokey_of old new (entry ∷ other ∷ entries) rest goes = absurd goes
-
-pub all_append : {A : Type 0} (P : A → Type 0) (front back : List A) → AllByRecursion P front → AllByRecursion P back → AllByRecursion P (front ++ back)
-all_append P [] back fore aft = aft
-all_append P (x ∷ front) back fore aft = (fore.0, all_append P front back fore.1 aft)
-
 -- ---- one step, refused or not
 
 pub record IsTurned {K : Type 0} (pseudokey_of : K → List ℕ → ℕ) (old : WorldState K) (turn : Turn) (new : WorldState K) : Type 0 where
   pub same : IsOf old new
   pub known : (known : Knowledge) → IsKnown known old.copies old.sent → IsKnown (known_after (entries old.start) known turn.event turn.result) new.copies new.sent
-  pub goes : MapGoes pseudokey_of old (map entry_of (answered_at old turn.event turn.result)) new
+  pub goes : MapGoes old.cap (pseudokey_of old.keyer) (map_in old) (map journal_entry_of (answered_at old turn.event turn.result)) (map_in new)
   pub named_all : AllByRecursion (IsNamed old.start old.ward_bits) (answered_at old turn.event turn.result)
 
 module _ {K : Type 0} (pseudokey_of : K → List ℕ → ℕ) (own : OwnEntries) (more : OneNoticeMore) (union : UnionIsJoin) (sharers : SharersBegin) where
@@ -79,7 +62,7 @@ module _ {K : Type 0} (pseudokey_of : K → List ℕ → ℕ) (own : OwnEntries)
   refused old wards event fault same = record {
     same = record { cap = refl; bits = refl; keyer = refl; start = refl };
     known = λ known are. subst (λ k. IsKnown k old.copies old.sent) (sym (known_refused (entries old.start) known event fault)) are;
-    goes = subst (λ answered. MapGoes pseudokey_of old (map entry_of answered) (record old { wards = wards })) (sym (answered_refused old event fault)) same;
+    goes = subst (λ answered. MapGoes old.cap (pseudokey_of old.keyer) (map_in old) (map journal_entry_of answered) (map_in (record old { wards = wards }))) (sym (answered_refused old event fault)) same;
     named_all = subst (AllByRecursion (IsNamed old.start old.ward_bits)) (sym (answered_refused old event fault)) tt;
   }
 
@@ -103,8 +86,8 @@ module _ {K : Type 0} (pseudokey_of : K → List ℕ → ℕ) (own : OwnEntries)
   pub record IsRunFrom (start : WorldState K) (moments : List (Moment K)) (end : WorldState K) : Type 0 where
     pub same : IsOf start end
     pub known : (known : Knowledge) → IsKnown known start.copies start.sent → IsKnown (known_at_end (entries start.start) known (turns_of moments)) end.copies end.sent
-    pub history : IsHistory start.cap (pseudokey_of start.keyer) (map_in start) (map entry_of (answered_in moments))
-    pub left : map_in end ≡ map_left start.cap (pseudokey_of start.keyer) (map_in start) (map entry_of (answered_in moments))
+    pub history : IsHistory start.cap (pseudokey_of start.keyer) (map_in start) (map journal_entry_of (answered_in moments))
+    pub left : map_in end ≡ map_left start.cap (pseudokey_of start.keyer) (map_in start) (map journal_entry_of (answered_in moments))
     pub named_all : AllByRecursion (IsNamed start.start start.ward_bits) (answered_in moments)
 
   ended : (start end : WorldState K) → end ≡ start → IsRunFrom start [] end
@@ -121,23 +104,23 @@ module _ {K : Type 0} (pseudokey_of : K → List ℕ → ℕ) (own : OwnEntries)
       let next = moment.after in
       let answered = answered_at start moment.turn.event moment.turn.result in
       let here : answered_in (moment ∷ moments) ≡ answered ++ answered_in moments = ap (λ (w : WorldState K). answered_at w moment.turn.event moment.turn.result ++ answered_in moments) before in
-      let told : map entry_of (answered_in (moment ∷ moments)) ≡ map entry_of answered ++ map entry_of (answered_in moments) = ap (map entry_of) here ∙ map-append entry_of answered (answered_in moments) in
-      let rest_history : IsHistory start.cap (pseudokey_of start.keyer) (map_in next) (map entry_of (answered_in moments)) =
-      subst (λ keyer. IsHistory start.cap (pseudokey_of keyer) (map_in next) (map entry_of (answered_in moments))) turn.same.keyer
-      (subst (λ cap. IsHistory cap (pseudokey_of next.keyer) (map_in next) (map entry_of (answered_in moments))) turn.same.cap rest.history) in
-      let rest_left : map_in end ≡ map_left start.cap (pseudokey_of start.keyer) (map_in next) (map entry_of (answered_in moments)) =
-      rest.left ∙ ap (λ cap. map_left cap (pseudokey_of next.keyer) (map_in next) (map entry_of (answered_in moments))) turn.same.cap
-      ∙ ap (λ keyer. map_left start.cap (pseudokey_of keyer) (map_in next) (map entry_of (answered_in moments))) turn.same.keyer in
+      let told : map journal_entry_of (answered_in (moment ∷ moments)) ≡ map journal_entry_of answered ++ map journal_entry_of (answered_in moments) = ap (map journal_entry_of) here ∙ map-append journal_entry_of answered (answered_in moments) in
+      let rest_history : IsHistory start.cap (pseudokey_of start.keyer) (map_in next) (map journal_entry_of (answered_in moments)) =
+      subst (λ keyer. IsHistory start.cap (pseudokey_of keyer) (map_in next) (map journal_entry_of (answered_in moments))) turn.same.keyer
+      (subst (λ cap. IsHistory cap (pseudokey_of next.keyer) (map_in next) (map journal_entry_of (answered_in moments))) turn.same.cap rest.history) in
+      let rest_left : map_in end ≡ map_left start.cap (pseudokey_of start.keyer) (map_in next) (map journal_entry_of (answered_in moments)) =
+      rest.left ∙ ap (λ cap. map_left cap (pseudokey_of next.keyer) (map_in next) (map journal_entry_of (answered_in moments))) turn.same.cap
+      ∙ ap (λ keyer. map_left start.cap (pseudokey_of keyer) (map_in next) (map journal_entry_of (answered_in moments))) turn.same.keyer in
       record {
         same = record { cap = rest.same.cap ∙ turn.same.cap; bits = rest.same.bits ∙ turn.same.bits; keyer = rest.same.keyer ∙ turn.same.keyer; start = rest.same.start ∙ turn.same.start };
         known = λ known are.
             subst (λ first. IsKnown (known_at_end (entries first) (known_after (entries start.start) known moment.turn.event moment.turn.result) (turns_of moments)) end.copies end.sent) turn.same.start
             (rest.known (known_after (entries start.start) known moment.turn.event moment.turn.result) (turn.known known are));
-        history = subst (IsHistory start.cap (pseudokey_of start.keyer) (map_in start)) (sym told) (history_on pseudokey_of start next (map entry_of answered) (map entry_of (answered_in moments)) turn.goes rest_history);
-        left = rest_left ∙ left_on pseudokey_of start next (map entry_of answered) (map entry_of (answered_in moments)) turn.goes
+        history = subst (IsHistory start.cap (pseudokey_of start.keyer) (map_in start)) (sym told) (history_on start.cap (pseudokey_of start.keyer) (map_in start) (map_in next) (map journal_entry_of answered) (map journal_entry_of (answered_in moments)) turn.goes rest_history);
+        left = rest_left ∙ left_on start.cap (pseudokey_of start.keyer) (map_in start) (map_in next) (map journal_entry_of answered) (map journal_entry_of (answered_in moments)) turn.goes
             ∙ ap (map_left start.cap (pseudokey_of start.keyer) (map_in start)) (sym told);
         named_all = subst (AllByRecursion (IsNamed start.start start.ward_bits)) (sym here)
-            (all_append _ answered (answered_in moments) turn.named_all
+            (AllByRecursion-append _ answered (answered_in moments) turn.named_all
             (subst (λ bits. AllByRecursion (IsNamed start.start bits) (answered_in moments)) turn.same.bits (subst (λ first. AllByRecursion (IsNamed first next.ward_bits) (answered_in moments)) turn.same.start rest.named_all)));
       }
 

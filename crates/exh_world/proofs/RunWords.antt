@@ -16,7 +16,8 @@ use Rattle.exh_table.specs.TableLemmas.{table_laws}
 use Rattle.exh_table.specs.TableOrder.{table_join}
 use Rattle.exh_page.specs.declared.page.Page.{Page}
 use Rattle.exh_page.specs.declared.page.Page.TheVariants.{Live, Forward}
-use Rattle.exh_legal.specs.Pages.{IsAt, IsHome, ward_prefix}
+use Rattle.exh_prefix.specs.Leading.{ward_prefix}
+use Rattle.exh_legal.specs.Pages.{IsAt, IsHome}
 use Rattle.exh_calls.specs.History.{IsHistory, map_left}
 use Rattle.exh_page.specs.KeyMap.{KeyMap}
 use Rattle.exh_calls.specs.MapMachine.{reply_of, map_after}
@@ -27,9 +28,9 @@ use Rattle.exh_calls.specs.declared.reply.Reply.{Reply}
 use Rattle.exh_world.specs.EffectLemmas.{on_effect, on_refusal}
 use Rattle.exh_world.specs.Headline.{CombinesLeast, IsNamed, DoesNotStray, AreTablesOfTaken}
 use Rattle.exh_world.specs.HeadlineLaws.{AreWorldsOf, RunsGoStepByStep, LeavesToNotices, notices_taken, IsTableWithNotices, CopiesTakeNotices, SameNoticesSameTables, CombinesJoin, IsAtTheOneLeaf, Answers, AnswersComeFromTheOneLeaf, HopsLeadOn, OnlyAnswersChangeTheMap, RepliesFollowTheAnswersBefore}
-use Rattle.exh_world.specs.Run.{Moment, IsRun, Told, known_by, known_at_end, Answered, answered_by, answered_at, answered_in, prefix_of, prefix_at, entry_of}
+use Rattle.exh_world.specs.Run.{Moment, IsRun, Told, known_by, known_at_end, Answered, answered_by, answered_at, answered_in, prefix_of, prefix_at, journal_entry_of}
 use Rattle.exh_world.specs.Step.{HasHopped, HasEffect, Step}
-use Rattle.exh_world.specs.World.{WorldState, numbered, leaves_in, changes_in, map_in}
+use Rattle.exh_world.specs.World.{WorldState, numbered, current_leaves, changes_in, map_in}
 use Rattle.exh_world.specs.declared.event.Event.{Event}
 use Rattle.exh_world.specs.declared.event.Event.TheVariants.{Hop as HopOn, Combine}
 use Rattle.exh_world.specs.declared.outcome.Outcome.{Outcome}
@@ -193,7 +194,7 @@ module _ {K : Type 0} (pseudokey_of : K → List ℕ → ℕ) where
     ward_there : slice_get moment.before.wards request.ward ≡ Some has.before
     ward_there = subst (λ (r : Request). slice_get moment.before.wards r.ward ≡ Some has.before) request_is (subst (λ n. slice_get moment.before.wards n ≡ Some has.before) has.ward_is has.found)
 
-    named_now : IsName (leaves_in moment.before request.ward) request.pseudokey (prefix_at moment.before request.ward request.page)
+    named_now : IsName (current_leaves moment.before request.ward) request.pseudokey (prefix_at moment.before request.ward request.page)
     named_now =
         subst (λ start. IsName (ward_leaves start (ward_prefix moment.before.ward_bits request.ward) (changes_in moment.before request.ward)) request.pseudokey (prefix_at moment.before request.ward request.page)) (sym first_is)
         (subst (λ n. IsName (ward_leaves first (ward_prefix n request.ward) (changes_in moment.before request.ward)) request.pseudokey (prefix_at moment.before request.ward request.page)) (sym bits_is) named_here)
@@ -202,7 +203,7 @@ module _ {K : Type 0} (pseudokey_of : K → List ℕ → ℕ) where
     at_page (Live prefix right records) pseudokey is home =
         let same : prefix_at moment.before request.ward request.page ≡ prefix =
         ap (λ w. option_map_or (λ state. option_map_or prefix_of (slice_get state.pages request.page) []) w []) ward_there ∙ ap (λ p. option_map_or prefix_of p []) is in
-        let name = subst (IsName (leaves_in moment.before request.ward) request.pseudokey) same named_now in
+        let name = subst (IsName (current_leaves moment.before request.ward) request.pseudokey) same named_now in
         record { ward = has.before; there = ward_there; prefix = prefix; right = right; records = records; live = is; begins = name.begins; leaf = name.leaf; only = name.only }
     at_page (Forward low target) pseudokey is home = absurd home
 
@@ -274,7 +275,7 @@ module _ {K : Type 0} (pseudokey_of : K → List ℕ → ℕ) where
   map_kept start turns end headline none =
       let P : List Turn → Type 0 = λ ts. All AnswersNone ts in
       headline.one_map.left
-      ∙ ap (λ answered. map_left start.cap (pseudokey_of start.keyer) (map_in start) (map entry_of answered))
+      ∙ ap (λ answered. map_left start.cap (pseudokey_of start.keyer) (map_in start) (map journal_entry_of answered))
       (no_answers headline.moments (recursion_from_All AnswersNone (turns_of headline.moments) (subst P (sym headline.turns_are) none)))
 
   reply_here : (cap : ℕ) (pseudo : List ℕ → ℕ) (base : KeyMap) (front : List JournalEntry) (entry : JournalEntry) (back : List JournalEntry) → IsHistory cap pseudo base (front ++ entry ∷ back)
@@ -290,10 +291,10 @@ module _ {K : Type 0} (pseudokey_of : K → List ℕ → ℕ) where
       let Q : Event → Result Outcome StepFault → Type 0 = λ e r. answered_at moment.before e r ≡ answered_by moment.before reply request ∷ [] in
       let here : Q moment.turn.event moment.turn.result = subst (λ e. Q e moment.turn.result) (sym answers.event) (subst (Q (HopOn answers.name)) (sym answers.result)
       (ap (λ found. option_map_or (λ request. answered_by moment.before reply request ∷ []) found []) answers.named)) in
-      let entry : JournalEntry = entry_of (answered_by moment.before reply request) in
-      let whole : map entry_of (answered_in headline.moments) ≡ map entry_of (answered_in front) ++ entry ∷ map entry_of (answered_in back) =
-      ap (λ moments. map entry_of (answered_in moments)) are
-      ∙ ap (map entry_of) (flat_map-append answered_by_moment front (moment ∷ back))
-      ∙ ap (λ answered. map entry_of (answered_in front ++ (answered ++ answered_in back))) here
-      ∙ map-append entry_of (answered_in front) (answered_by moment.before reply request ∷ answered_in back) in
-      reply_here cap pseudo (map_in start) (map entry_of (answered_in front)) entry (map entry_of (answered_in back)) (subst (IsHistory cap pseudo (map_in start)) whole headline.one_map.replies)
+      let entry : JournalEntry = journal_entry_of (answered_by moment.before reply request) in
+      let whole : map journal_entry_of (answered_in headline.moments) ≡ map journal_entry_of (answered_in front) ++ entry ∷ map journal_entry_of (answered_in back) =
+      ap (λ moments. map journal_entry_of (answered_in moments)) are
+      ∙ ap (map journal_entry_of) (flat_map-append answered_by_moment front (moment ∷ back))
+      ∙ ap (λ answered. map journal_entry_of (answered_in front ++ (answered ++ answered_in back))) here
+      ∙ map-append journal_entry_of (answered_in front) (answered_by moment.before reply request ∷ answered_in back) in
+      reply_here cap pseudo (map_in start) (map journal_entry_of (answered_in front)) entry (map journal_entry_of (answered_in back)) (subst (IsHistory cap pseudo (map_in start)) whole headline.one_map.replies)

@@ -4,6 +4,7 @@ use Rattle.std.specs.Prelude.{Result}
 use Rattle.std.specs.List.{AllByRecursion}
 use Rattle.std.proofs.lemmas.List.{map-append, take_more}
 use Rattle.std.proofs.lemmas.List.Elements.{All-from_recursion}
+use Rattle.exh_prefix.specs.ListLemmas.{AllByRecursion-append}
 use Rattle.exh_world.specs.Headline.{IsHeadline}
 use Rattle.exh_world.specs.Laws.{AreWardsSound, RunsCarryTheHeadline}
 use Rattle.exh_world.specs.Run.{Moment, IsRun}
@@ -14,7 +15,6 @@ use Rattle.exh_world.specs.declared.event.Event.{Event}
 use Rattle.exh_world.specs.declared.outcome.Outcome.{Outcome}
 use Rattle.exh_world.specs.declared.step_fault.StepFault.{StepFault}
 use Rattle.exh_world.specs.declared.turn.Turn.{Turn}
-use Rattle.exh_world.proofs.RunFacts.{all_append}
 
 -- the turns so far, of the events so far, led from the start to where the world is now
 pub record HasRun {K : Type 0} (pseudokey_of : K → List ℕ → ℕ) (start : WorldState K) (events : List Event) (turns : List Turn) (now : WorldState K) : Type 0 where
@@ -44,7 +44,7 @@ module _ {K : Type 0} (pseudokey_of : K → List ℕ → ℕ) where
         turns_are = map-append (λ (m : Moment K). m.turn) has.moments (moment ∷ []) ∙ ap (λ ts. ts ++ moment.turn ∷ []) has.turns_are;
         events_are = map-append (λ (turn : Turn). turn.event) turns (moment.turn ∷ []) ∙ ap (λ es. es ++ event ∷ []) has.events_are;
         run = run_on start has.moments now has.run event result next step;
-        wards = all_append _ has.moments (moment ∷ []) has.wards (λ number ward is. (sound.wards number ward is).sound, tt);
+        wards = AllByRecursion-append _ has.moments (moment ∷ []) has.wards (λ number ward is. (sound.wards number ward is).sound, tt);
       }
 
   -- the turn of one event more of a list

@@ -1,48 +1,33 @@
 -- A world stays sound where one of its wards changes and every page keeps its number and low bound.
-use Rattle.std.proofs.Common.{◌≡◌, ℕ, Bool, true, List, [], ◌∷◌, ◌++◌, slice_get, Some, inl, inr, sym, ◌∙◌, subst, arith}
+use Rattle.std.proofs.Common.{◌≡◌, ℕ, Bool, true, List, [], ◌∷◌, ◌++◌, slice_get, Some, inl, inr, sym, ◌∙◌, subst}
 use Rattle.std.specs.Prelude.{slice_set, ◌↔◌}
 use Rattle.std.proofs.lemmas.Bool.{cases_eq}
 use Rattle.exh_prefix.specs.Prefix.{low_of}
+use Rattle.exh_prefix.specs.ListLemmas.{length_set, set_here, set_else, set_is, one_there}
 use Rattle.exh_notice.specs.declared.entry.Kind.{Kind}
 use Rattle.exh_notice.specs.declared.entry.Kind.TheVariants.{Split, Merge}
 use Rattle.exh_notice.specs.declared.notice.Notice.{Notice}
 use Rattle.exh_table.specs.Leaves.{PrefixSet, after_kind, leaves_after}
 use Rattle.exh_table.specs.Table.{TableMap}
+use Rattle.exh_table.specs.ChangeLemmas.{leaves_push_to, leaves_push_from}
 use Rattle.exh_page.specs.declared.page.Page.{Page}
-use Rattle.exh_legal.specs.Growth.{IsPageOf}
-use Rattle.exh_legal.specs.Laws.{KeepsPlaces}
-use Rattle.exh_legal.specs.Pages.{ward_prefix}
+use Rattle.exh_legal.specs.Laws.{KeepsPlaces, IsBelow}
+use Rattle.exh_prefix.specs.Leading.{ward_prefix}
+use Rattle.exh_legal.specs.PlaceLemmas.{page_kept, below_kept}
 use Rattle.exh_ward.specs.WardState.{WardState}
 use Rattle.exh_world.specs.InFlight.{Requests}
-use Rattle.exh_world.specs.Sound.{IsBelow, LeadsRight, IsWardOf, LeadsRightIn, IsOnTheWay, IsSoundWorld}
+use Rattle.exh_world.specs.Sound.{LeadsRight, IsWardOf, LeadsRightIn, IsOnTheWay, IsSoundWorld}
 use Rattle.exh_world.specs.World.{WorldState}
 use Rattle.exh_world.specs.declared.request.Request.{Request}
-use Rattle.exh_world.specs.ListLemmas.{length_set, set_here, set_else, set_is, one_there}
 use Rattle.exh_world.specs.RequestLemmas.{AllRequests}
 
 -- ---- pages that keep their places
 
 module _ (pages new : List Page) (places : KeepsPlaces pages new) where
-  pub page_kept : (low number : ℕ) → IsPageOf pages low number → IsPageOf new low number
-  page_kept low number is = let kept = places number is.0 is.1 in (kept.0, kept.1, kept.2 ∙ is.2)
-
-  pub below_kept : (number pseudokey : ℕ) → IsBelow pages number pseudokey → IsBelow new number pseudokey
-  below_kept number pseudokey is = let kept = places number is.0 is.1 in (kept.0, kept.1, omega (arith, is.2, kept.2))
-
   pub leads_kept : (ward : List Bool) (table : TableMap) → LeadsRight ward pages table → LeadsRight ward new table
-  leads_kept ward table leads prefix right front split = page_kept (low_of (prefix ++ true ∷ [])) right (leads prefix right front split)
+  leads_kept ward table leads prefix right front split = page_kept pages new places (low_of (prefix ++ true ∷ [])) right (leads prefix right front split)
 
 -- ---- leaves after one change more
-
-pub leaves_push_to : (leaves : PrefixSet) (changes : List Notice) (change : Notice) (prefix : List Bool)
-    → leaves_after leaves (changes ++ change ∷ []) prefix → after_kind (leaves_after leaves changes) change.prefix change.kind prefix
-leaves_push_to leaves [] change prefix is = is
-leaves_push_to leaves (first ∷ changes) change prefix is = leaves_push_to (after_kind leaves first.prefix first.kind) changes change prefix is
-
-pub leaves_push_from : (leaves : PrefixSet) (changes : List Notice) (change : Notice) (prefix : List Bool)
-    → after_kind (leaves_after leaves changes) change.prefix change.kind prefix → leaves_after leaves (changes ++ change ∷ []) prefix
-leaves_push_from leaves [] change prefix is = is
-leaves_push_from leaves (first ∷ changes) change prefix is = leaves_push_from (after_kind leaves first.prefix first.kind) changes change prefix is
 
 alike_after : (one other : PrefixSet) → ((prefix : List Bool) → one prefix → other prefix) → (at : List Bool) (kind : Kind) (prefix : List Bool) → after_kind one at kind prefix → after_kind other at kind prefix
 alike_after one other weaker at (Split right) prefix (inl kept) = inl (weaker prefix kept.0, kept.1)
@@ -58,6 +43,21 @@ alike_push one other fore aft change alike prefix = (
   λ is. leaves_push_from one fore change prefix (alike_after _ _ (λ p. (alike p).1) change.prefix change.kind prefix (leaves_push_to other aft change prefix is)),
 )
 
+-- a ward of a world is one whatever else the world holds
+pub same_ward : {K : Type 0} (pseudokey_of : K → List ℕ → ℕ) (old : WorldState K) (wards : List (WardState K)) (copies sent : List TableMap) (requests : Requests) (number : ℕ) (ward : WardState K)
+    → IsWardOf pseudokey_of old number ward → IsWardOf pseudokey_of (record old { wards = wards; copies = copies; sent = sent; in_flight = requests }) number ward
+same_ward pseudokey_of old wards copies sent requests number ward is = record {
+  cap = is.cap;
+  bits = is.bits;
+  number_is = is.number_is;
+  keyer = is.keyer;
+  sound = is.sound;
+  before = is.before;
+  noticed = is.noticed;
+  first = is.first;
+  directory = is.directory;
+}
+
 -- ---- one ward changed
 
 module _ {K : Type 0} (pseudokey_of : K → List ℕ → ℕ) (old : WorldState K) (sound : IsSoundWorld pseudokey_of old) (at : ℕ) (before left : WardState K) (found : slice_get old.wards at ≡ Some before) (places : KeepsPlaces before.pages left.pages) (requests : Requests) where
@@ -65,17 +65,7 @@ module _ {K : Type 0} (pseudokey_of : K → List ℕ → ℕ) (old : WorldState 
   after = record old { wards = slice_set old.wards at left; in_flight = requests }
 
   other_ward : (number : ℕ) (ward : WardState K) → IsWardOf pseudokey_of old number ward → IsWardOf pseudokey_of after number ward
-  other_ward number ward is = record {
-    cap = is.cap;
-    bits = is.bits;
-    number_is = is.number_is;
-    keyer = is.keyer;
-    sound = is.sound;
-    before = is.before;
-    noticed = is.noticed;
-    first = is.first;
-    directory = is.directory;
-  }
+  other_ward number ward is = same_ward pseudokey_of old (slice_set old.wards at left) old.copies old.sent requests number ward is
 
   leads_after : (table : TableMap) → LeadsRightIn old table → LeadsRightIn after table
   leads_after table leads number ward is = elim (set_is old.wards at number before left ward found is) [

@@ -5,22 +5,24 @@ use Rattle.std.specs.FinMap.{entries}
 use Rattle.std.specs.List.{AllByRecursion}
 use Rattle.std.specs.Option.{option_map_or}
 use Rattle.exh_prefix.specs.Prefix.{Begins}
+use Rattle.exh_prefix.specs.ListLemmas.{set_same}
 use Rattle.exh_notice.specs.declared.notice.Notice.{Notice}
 use Rattle.exh_table.specs.Directory.{IsName}
 use Rattle.exh_table.specs.Laws.{OwnEntries, OneNoticeMore, UnionIsJoin}
 use Rattle.exh_table.specs.Leaves.{ward_leaves}
-use Rattle.exh_legal.specs.Pages.{ward_prefix, map_of}
+use Rattle.exh_prefix.specs.Leading.{ward_prefix}
+use Rattle.exh_legal.specs.Pages.{map_of}
 use Rattle.exh_calls.specs.Call.{key_of}
-use Rattle.exh_calls.specs.MapMachine.{reply_of, map_after}
+use Rattle.exh_calls.specs.MapMachine.{map_after}
 use Rattle.exh_ward.specs.WardState.{WardState}
 use Rattle.exh_ward.specs.MergeStep.{IsMergeStep}
 use Rattle.exh_ward.specs.SplitStep.{IsSplitStep}
 use Rattle.exh_ward.specs.declared.hop.Hop.{Hop as HopOutcome}
 use Rattle.exh_ward.specs.declared.hop.Hop.TheVariants.{Done, Moved, MustSplit, Stray}
-use Rattle.exh_calls.specs.declared.journal_entry.JournalEntry.{JournalEntry}
 use Rattle.exh_calls.specs.Laws.{SharersBegin}
+use Rattle.exh_calls.specs.HistoryLemmas.{MapGoes}
 use Rattle.exh_world.specs.Headline.{IsNamed}
-use Rattle.exh_world.specs.Run.{Knowledge, known_after, answered_by, answered_at, entry_of}
+use Rattle.exh_world.specs.Run.{Knowledge, known_after, answered_by, answered_at, journal_entry_of}
 use Rattle.exh_world.specs.Sound.{IsOnTheWay, IsSoundWorld}
 use Rattle.exh_world.specs.Step.{HasHopped, HasChanged, HasEffect}
 use Rattle.exh_world.specs.World.{WorldState, map_in}
@@ -30,7 +32,6 @@ use Rattle.exh_world.specs.declared.outcome.Outcome.{Outcome}
 use Rattle.exh_world.specs.declared.outcome.Outcome.TheVariants.{Begun, Hopped, Changed, Taken, Sent, Joined, Restarted}
 use Rattle.exh_world.specs.EffectLemmas.{on_effect}
 use Rattle.exh_world.proofs.Known.{IsKnown, taken_known, joined_known, sent_known, restarted_known}
-use Rattle.exh_world.specs.ListLemmas.{set_same}
 use Rattle.exh_world.proofs.Named.{named}
 use Rattle.exh_world.specs.RequestLemmas.{all_named}
 use Rattle.exh_world.proofs.WorldMaps.{same_map, one_reply, map_answered}
@@ -42,17 +43,11 @@ pub record IsOf {K : Type 0} (old new : WorldState K) : Type 0 where
   pub keyer : new.keyer ≡ old.keyer
   pub start : new.start ≡ old.start
 
--- the map goes as the map machine has it for the answered call, if there is one
-abbrev pub MapGoes : {K : Type 0} → (K → List ℕ → ℕ) → WorldState K → List JournalEntry → WorldState K → Type 0
-MapGoes pseudokey_of old [] new = map_in new ≡ map_in old
-MapGoes pseudokey_of old (entry ∷ []) new =
-    (entry.reply ≡ reply_of old.cap (pseudokey_of old.keyer) (map_in old) entry.call) × (map_in new ≡ map_after old.cap (pseudokey_of old.keyer) (map_in old) entry.call)
-MapGoes pseudokey_of old (entry ∷ other ∷ entries) new = ⊥
-
 pub record IsStepped {K : Type 0} (pseudokey_of : K → List ℕ → ℕ) (old : WorldState K) (event : Event) (outcome : Outcome) (new : WorldState K) : Type 0 where
   pub same : IsOf old new
   pub known : (known : Knowledge) → IsKnown known old.copies old.sent → IsKnown (known_after (entries old.start) known event (Ok outcome)) new.copies new.sent
-  pub goes : MapGoes pseudokey_of old (map entry_of (answered_at old event (Ok outcome))) new
+  -- the map goes as the map machine has it for the answered call, if there is one
+  pub goes : MapGoes old.cap (pseudokey_of old.keyer) (map_in old) (map journal_entry_of (answered_at old event (Ok outcome))) (map_in new)
   pub named_all : AllByRecursion (IsNamed old.start old.ward_bits) (answered_at old event (Ok outcome))
 
 module _ {K : Type 0} (pseudokey_of : K → List ℕ → ℕ) (old : WorldState K) (sound : IsSoundWorld pseudokey_of old)
@@ -64,7 +59,7 @@ module _ {K : Type 0} (pseudokey_of : K → List ℕ → ℕ) (old : WorldState 
   quiet event outcome new then is same goes known none = subst (IsStepped pseudokey_of old event outcome) (sym is) record {
     same = same;
     known = known;
-    goes = subst (λ answered. MapGoes pseudokey_of old (map entry_of answered) then) (sym none) goes;
+    goes = subst (λ answered. MapGoes old.cap (pseudokey_of old.keyer) (map_in old) (map journal_entry_of answered) (map_in then)) (sym none) goes;
     named_all = subst (AllByRecursion (IsNamed old.start old.ward_bits)) (sym none) tt;
   }
 
@@ -113,7 +108,7 @@ module _ {K : Type 0} (pseudokey_of : K → List ℕ → ℕ) (old : WorldState 
       record {
         same = same;
         known = hop_known name ward (Done reply) new has;
-        goes = subst (λ answered. MapGoes pseudokey_of old (map entry_of answered) new) (sym answered) (
+        goes = subst (λ answered. MapGoes old.cap (pseudokey_of old.keyer) (map_in old) (map journal_entry_of answered) (map_in new)) (sym answered) (
           has.outcome.4 ∙ sym (one_reply pseudokey_of old sound request.ward has.before has.left there new new_sound same.keyer same.bits wards sharers request.call begins),
           map_answered pseudokey_of old sound request.ward has.before has.left there new new_sound same.keyer same.bits wards sharers request.call begins left_map,
         );

@@ -9,7 +9,8 @@ use Rattle.exh_notice.specs.declared.notice.Notice.{Notice}
 use Rattle.exh_table.specs.Table.{TableMap, table_with}
 use Rattle.exh_table.specs.TableOrder.{table_join}
 use Rattle.exh_page.specs.Laws.{AreOfWords}
-use Rattle.exh_legal.specs.Pages.{IsLegal, ward_prefix}
+use Rattle.exh_prefix.specs.Leading.{ward_prefix}
+use Rattle.exh_legal.specs.Pages.{IsLegal}
 use Rattle.exh_calls.specs.Call.{key_of}
 use Rattle.exh_ward.specs.HopTable.{HopOf, hop_of}
 use Rattle.exh_ward.specs.Laws.{HopsHaveOutcomes, AnswersKeepLegal, SplitsHaveOutcomes, MergesHaveOutcomes, IsSplitOutcome, IsMergeOutcome}

@@ -10,33 +10,21 @@ use Rattle.exh_notice.specs.declared.notice.Notice.{Notice}
 use Rattle.exh_table.specs.Table.{TableMap, table_with}
 use Rattle.exh_table.specs.TableOrder.{table_join}
 use Rattle.exh_legal.specs.Fit.{IsTrueNotice}
-use Rattle.exh_legal.specs.Pages.{ward_prefix}
+use Rattle.exh_prefix.specs.Leading.{ward_prefix}
 use Rattle.exh_ward.specs.WardState.{WardState}
-use Rattle.exh_world.specs.Sound.{IsWardOf, LeadsRightIn, IsOnTheWay, IsSoundWorld}
+use Rattle.exh_world.specs.Sound.{LeadsRightIn, IsOnTheWay, IsSoundWorld}
 use Rattle.exh_world.specs.World.{WorldState, numbered, issued_in}
 use Rattle.exh_world.specs.declared.request.Request.{Request}
 use Rattle.exh_world.specs.ListLemmas.{numbered_push, numbered_set}
 use Rattle.exh_world.specs.RequestLemmas.{all_weaker}
 use Rattle.exh_world.proofs.TablesKept.{leads_with, leads_joined}
+use Rattle.exh_world.proofs.SoundKept.{same_ward}
 
 module _ {K : Type 0} (pseudokey_of : K → List ℕ → ℕ) (old : WorldState K) (sound : IsSoundWorld pseudokey_of old) where
   -- the world with other tables
   module _ (copies sent : List TableMap) (copies_lead : (copy : ℕ) (table : TableMap) → numbered copies copy ≡ Some table → LeadsRightIn old table) (sent_lead : (number : ℕ) (table : TableMap) → numbered sent number ≡ Some table → LeadsRightIn old table) where
     abbrev pub with_tables : WorldState K
     with_tables = record old { copies = copies; sent = sent }
-
-    same_ward : (number : ℕ) (ward : WardState K) → IsWardOf pseudokey_of old number ward → IsWardOf pseudokey_of with_tables number ward
-    same_ward number ward is = record {
-      cap = is.cap;
-      bits = is.bits;
-      number_is = is.number_is;
-      keyer = is.keyer;
-      sound = is.sound;
-      before = is.before;
-      noticed = is.noticed;
-      first = is.first;
-      directory = is.directory;
-    }
 
     same_way : (request : Request) → IsOnTheWay pseudokey_of old request → IsOnTheWay pseudokey_of with_tables request
     same_way request is = record { pseudokey_is = is.pseudokey_is; ward = is.ward; there = is.there; begins = is.begins; below = is.below }
@@ -46,7 +34,7 @@ module _ {K : Type 0} (pseudokey_of : K → List ℕ → ℕ) (old : WorldState 
       bits = sound.bits;
       words = sound.words;
       count = sound.count;
-      wards = λ number ward is. same_ward number ward (sound.wards number ward is);
+      wards = λ number ward is. same_ward pseudokey_of old old.wards copies sent old.in_flight number ward (sound.wards number ward is);
       start = sound.start;
       copies = copies_lead;
       sent = sent_lead;

@@ -7,9 +7,9 @@ use Rattle.exh_ward.specs.WardFault.{IsStoreFault, CountsFailures}
 use Rattle.exh_ward.specs.WardState.{WardState, IsSoundWard, IsUnchanged}
 use Rattle.exh_ward.specs.declared.ward_fault.WardFault.{WardFault}
 use Rattle.exh_ward.specs.declared.ward_fault.WardFault.TheVariants.{Memory, Page}
-use Rattle.exh_world.specs.Kept.{IsKept}
+use Rattle.exh_world.specs.Kept.{IsKeptWorld}
 use Rattle.exh_world.specs.Laws.{StepsKeepWorldsSound}
-use Rattle.exh_world.specs.ListLemmas.{set_same}
+use Rattle.exh_prefix.specs.ListLemmas.{set_same}
 use Rattle.exh_world.specs.Sound.{IsSoundWorld}
 use Rattle.exh_world.specs.Step.{HasChanged, CountsFailure, IsChangeRefused, LeavesRefused, Step}
 use Rattle.exh_world.specs.World.{WorldState}
@@ -35,7 +35,7 @@ of_refusal P (Err given) fault is has = subst (λ f. P (Err f)) (sym is.1) has
 
 -- ---- the world
 
-module _ {K : Type 0} {pseudokey_of : K → List ℕ → ℕ} {world now : WorldState K} (view_is : world ≡ now) (kept : IsKept pseudokey_of world) {at : ℕ} {before : WardState K} (fits : at < length world.wards) (lent : before ≡ slice_index_or world.wards at before) (left : WardState K) where
+module _ {K : Type 0} {pseudokey_of : K → List ℕ → ℕ} {world now : WorldState K} (view_is : world ≡ now) (kept : IsKeptWorld pseudokey_of world) {at : ℕ} {before : WardState K} (fits : at < length world.wards) (lent : before ≡ slice_index_or world.wards at before) (left : WardState K) where
   abbrev pub after : WorldState K
   after = record world { wards = slice_set world.wards at left }
 
@@ -50,7 +50,7 @@ module _ {K : Type 0} {pseudokey_of : K → List ℕ → ℕ} {world now : World
   world_changed Changes page notice change = subst (λ old. HasChanged Changes old at page notice after) view_is record { before = before; found = found; left = left; change = change; after = refl }
 
   -- where the ward is left sound, the step keeps what the world keeps
-  pub world_kept : StepsKeepWorldsSound pseudokey_of → (event : Event) (result : Result Outcome StepFault) → Step pseudokey_of now event result after → IsSoundWard pseudokey_of left → IsKept pseudokey_of after
+  pub world_kept : StepsKeepWorldsSound pseudokey_of → (event : Event) (result : Result Outcome StepFault) → Step pseudokey_of now event result after → IsSoundWard pseudokey_of left → IsKeptWorld pseudokey_of after
   world_kept law event result step left_sound = record {
     sound = law now event result after (subst (IsSoundWorld pseudokey_of) view_is kept.sound) step (wards_left pseudokey_of world after at before left kept.sound refl found left_sound);
     few_wards = kept.few_wards;
@@ -60,7 +60,7 @@ module _ {K : Type 0} {pseudokey_of : K → List ℕ → ℕ} {world now : World
   -- ---- where nothing but the ward's count of failures differs
 
   module _ (unchanged : IsUnchanged before left) where
-    pub same_kept : IsKept pseudokey_of after
+    pub same_kept : IsKeptWorld pseudokey_of after
     same_kept = record {
       sound = let P : WardState K → Type 0 = λ w. IsSoundWorld pseudokey_of (record world { wards = slice_set world.wards at w }) in subst P (sym unchanged) (counted_sound pseudokey_of world kept.sound at before found left.failures);
       few_wards = kept.few_wards;

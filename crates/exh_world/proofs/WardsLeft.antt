@@ -1,11 +1,11 @@
 -- A world's wards stay sound where one is left sound.
 use Rattle.std.proofs.Common.{◌≡◌, ℕ, List, slice_get, Some, sym, ap, ◌∙◌, inl, inr, subst}
 use Rattle.std.specs.Prelude.{slice_set}
+use Rattle.exh_prefix.specs.ListLemmas.{set_is}
 use Rattle.exh_ward.specs.WardState.{WardState, IsSoundWard}
 use Rattle.exh_world.specs.Laws.{AreWardsSound}
 use Rattle.exh_world.specs.Sound.{IsSoundWorld}
 use Rattle.exh_world.specs.World.{WorldState}
-use Rattle.exh_world.specs.ListLemmas.{set_is}
 
 pub wards_left : {K : Type 0} (pseudokey_of : K → List ℕ → ℕ) (old new : WorldState K) (at : ℕ) (before left : WardState K) → IsSoundWorld pseudokey_of old
     → new.wards ≡ slice_set old.wards at left → slice_get old.wards at ≡ Some before → IsSoundWard pseudokey_of left → AreWardsSound pseudokey_of new

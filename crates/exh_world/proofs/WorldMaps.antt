@@ -11,19 +11,19 @@ use Rattle.std.proofs.lemmas.Option.{slice_get-map}
 use Rattle.exh_prefix.specs.declared.prefix.TheConstants.{LIMIT}
 use Rattle.exh_prefix.specs.BitLemmas.{length-bits_of}
 use Rattle.exh_prefix.specs.Prefix.{Begins}
+use Rattle.exh_prefix.specs.ListLemmas.{set_here, set_else, is_equal}
+use Rattle.exh_prefix.specs.Leading.{leading, ward_of, ward_prefix}
 use Rattle.exh_page.specs.declared.page.Page.{Page}
 use Rattle.exh_page.specs.KeyMapLemmas.{same_maps}
-use Rattle.exh_legal.specs.MapLemmas.{tie_of}
-use Rattle.exh_legal.specs.Pages.{map_of, ward_prefix, IsLegal}
+use Rattle.exh_legal.specs.Pages.{map_of, IsLegal}
 use Rattle.exh_calls.specs.Call.{key_of}
 use Rattle.exh_calls.specs.Laws.{SharersBegin}
-use Rattle.exh_calls.specs.MapMachine.{leading, reply_of, map_after}
+use Rattle.exh_calls.specs.MapMachine.{reply_of, map_after}
 use Rattle.exh_ward.specs.WardState.{WardState, own_prefix}
 use Rattle.exh_calls.specs.declared.call.Call.{Call}
 use Rattle.exh_world.specs.Sound.{IsSoundWorld}
-use Rattle.exh_world.specs.World.{WorldState, ward_of, map_in}
+use Rattle.exh_world.specs.World.{WorldState, map_in}
 use Rattle.exh_world.proofs.BegunSound.{ward_begins, ward_there}
-use Rattle.exh_world.specs.ListLemmas.{set_here, set_else}
 use Rattle.exh_world.proofs.MapsOfWards.{all_pages_of, AreLegalFrom, get_in_ward}
 use Rattle.exh_world.proofs.OneMap.{AreAlike, same_reply, left_by_call}
 
@@ -109,7 +109,7 @@ module _ {K : Type 0} (pseudokey_of : K → List ℕ → ℕ) (old : WorldState 
   module _ (sharers : SharersBegin) (call : Call) (begins : Begins (ward_prefix old.ward_bits at) (old_pseudo (key_of call))) where
     alike : AreAlike old_pseudo (map_in old) (map_of before.pages) (key_of call)
     alike other shared =
-        let same : leading (old_pseudo other) ≡ leading (old_pseudo (key_of call)) = eqb-true _ _ shared in
+        let same : leading LIMIT (old_pseudo other) ≡ leading LIMIT (old_pseudo (key_of call)) = eqb-true _ _ shared in
         let short : length (ward_prefix old.ward_bits at) ≤ LIMIT = omega (arith, length-bits_of old.ward_bits at, sound.bits) in
         get_own pseudokey_of old sound at before other found ((sharers (ward_prefix old.ward_bits at) (old_pseudo (key_of call)) (old_pseudo other) short (sound.words (key_of call)) (sound.words other)).begun begins same)
 
@@ -126,7 +126,7 @@ module _ {K : Type 0} (pseudokey_of : K → List ℕ → ℕ) (old : WorldState 
       at_key : (key : List ℕ) (tied : Bool) → eq_by_cmp (slice_cmp nat_cmp) key (key_of call) ≡ tied
           → fin.get (map_in new) key ≡ cond tied (fin.get (map_after old.cap old_pseudo (map_of before.pages) call) key) (fin.get (map_in old) key)
       at_key key true is =
-          let same : key ≡ key_of call = exact_bytes key (key_of call) (tie_of (slice_cmp nat_cmp key (key_of call)) is) in
+          let same : key ≡ key_of call = exact_bytes key (key_of call) (is_equal (slice_cmp nat_cmp key (key_of call)) is) in
           new_here key (subst (λ k. Begins (ward_prefix old.ward_bits at) (old_pseudo k)) (sym same) begins) ∙ ap (λ m. fin.get m key) left_is
       at_key key false is = elim (cases_eq (ward_of old.ward_bits (old_pseudo key)) at) [
         | inl here ↦

@@ -8,7 +8,6 @@ use Rattle.std.proofs.lemmas.List.Sums.{fold_push}
 use Rattle.std.proofs.lemmas.Option.{slice_get_within}
 use Rattle.exh_prefix.specs.Prefix.{IsFront, prefix_cmp, low_of}
 use Rattle.exh_prefix.specs.PrefixLemmas.{front_of_front}
-use Rattle.exh_notice.specs.declared.entry.Entry.{Entry}
 use Rattle.exh_notice.specs.declared.notice.Notice.{Notice}
 use Rattle.exh_table.specs.declared.leaf.Leaf.{Leaf}
 use Rattle.exh_table.specs.Leaves.{ward_leaves}
@@ -16,29 +15,26 @@ use Rattle.exh_table.specs.Table.{TableMap}
 use Rattle.exh_table.specs.TableLemmas.{joined, get-table_join}
 use Rattle.exh_table.specs.TableOrder.{table_join}
 use Rattle.exh_table.specs.Walk.{right_of, split_at, step, walk_on, walk_in}
+use Rattle.exh_table.specs.SetLemmas.{joined_none}
 use Rattle.exh_page.specs.Page.{low_bound}
 use Rattle.exh_legal.specs.BareLemmas.{at_bare, bare_low}
 use Rattle.exh_legal.specs.Laws.{IsWard, WalksNameHomes}
-use Rattle.exh_legal.specs.LowLemmas.{own_front, front_shorter, front_of_longer, low_of-small, begins_own_low}
-use Rattle.exh_legal.specs.Pages.{ward_prefix}
+use Rattle.exh_prefix.specs.LowLemmas.{own_front, front_shorter, front_of_longer, low_of-small, begins_own_low}
+use Rattle.exh_prefix.specs.ListLemmas.{push_is}
+use Rattle.exh_prefix.specs.Leading.{ward_prefix}
 use Rattle.exh_ward.specs.WardState.{WardState, IsSoundWard, notices_above}
-use Rattle.exh_ward.specs.declared.ward.TheConstants.{WARD_BITS_LIMIT}
+use Rattle.exh_prefix.specs.declared.prefix.TheConstants.{WARD_BITS_LIMIT}
 use Rattle.exh_world.specs.declared.config.Config.{Config}
 use Rattle.exh_world.specs.InFlight.{Requests}
-use Rattle.exh_world.specs.Kept.{IsKept}
+use Rattle.exh_world.specs.Kept.{IsKeptWorld}
 use Rattle.exh_world.specs.NewWorld.{IsWardFor, AreWardsFor, tables_joined, world_of_wards}
 use Rattle.exh_world.specs.Sound.{LeadsRight, LeadsRightIn, IsWardOf}
 use Rattle.exh_world.proofs.CopySteps.{all_above}
 use Rattle.exh_world.proofs.FreshWorld.{AreSoundWards, made_of, numbered_is, numbered_none}
-use Rattle.exh_world.specs.ListLemmas.{push_is}
 use Rattle.exh_world.proofs.MapsOfWards.{one_front}
 use Rattle.exh_world.proofs.MappedLists.{map_there, map_from}
 
 -- ---- tables joined one after another
-
-joined_none : (other : Option Entry) → joined None other ≡ other
-joined_none None = refl
-joined_none (Some entry) = refl
 
 -- tables with no entry at a prefix leave what the first has there
 none_more : (tables : List TableMap) (first : TableMap) (prefix : List Bool) → ((at : ℕ) (table : TableMap) → slice_get tables at ≡ Some table → fin.get table prefix ≡ None)
@@ -164,7 +160,7 @@ module _ {K : Type 0} (pseudokey_of : K → List ℕ → ℕ) (config : Config K
   leads_in : LeadsRightIn (world_of_wards config wards) (tables_joined wards)
   leads_in number ward is = leads_right number ward is
 
-  pub wards_world_kept : IsKept pseudokey_of (world_of_wards config wards)
+  pub wards_world_kept : IsKeptWorld pseudokey_of (world_of_wards config wards)
   wards_world_kept = record {
     sound = record {
       bits = omega (arith, bits);

@@ -6,10 +6,10 @@ use Rattle.exh_table.specs.Directory.{IsName}
 use Rattle.exh_table.specs.Leaves.{ward_leaves}
 use Rattle.exh_table.specs.Table.{TableMap, IsTableOf}
 use Rattle.exh_table.specs.TableOrder.{IsTableUpTo}
-use Rattle.exh_legal.specs.Pages.{ward_prefix}
+use Rattle.exh_prefix.specs.Leading.{ward_prefix}
 use Rattle.exh_calls.specs.History.{IsHistory, map_left}
 use Rattle.exh_ward.specs.declared.hop.Hop.TheVariants.{Stray}
-use Rattle.exh_world.specs.Run.{Moment, IsRun, Told, known_by, known_at_end, Answered, answered_in, entry_of}
+use Rattle.exh_world.specs.Run.{Moment, IsRun, Told, known_by, known_at_end, Answered, answered_in, journal_entry_of}
 use Rattle.exh_world.specs.World.{WorldState, numbered, map_in}
 use Rattle.exh_world.specs.declared.event.Event.TheVariants.{Combine}
 use Rattle.exh_world.specs.declared.outcome.Outcome.TheVariants.{Hopped, Joined}
@@ -67,8 +67,8 @@ IsNamed start ward_bits answered = IsName (ward_leaves start (ward_prefix ward_b
 
 -- the calls and replies are a run of the map machine from the map at the start, and the map at the end is where that run ends
 pub record IsOneMaps {K : Type 0} (pseudokey_of : K → List ℕ → ℕ) (start : WorldState K) (moments : List (Moment K)) (end : WorldState K) : Type 0 where
-  pub replies : IsHistory start.cap (pseudokey_of start.keyer) (map_in start) (map entry_of (answered_in moments))
-  pub left : map_in end ≡ map_left start.cap (pseudokey_of start.keyer) (map_in start) (map entry_of (answered_in moments))
+  pub replies : IsHistory start.cap (pseudokey_of start.keyer) (map_in start) (map journal_entry_of (answered_in moments))
+  pub left : map_in end ≡ map_left start.cap (pseudokey_of start.keyer) (map_in start) (map journal_entry_of (answered_in moments))
 
 -- ---- no hop strays
 

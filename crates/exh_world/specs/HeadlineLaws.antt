@@ -15,9 +15,9 @@ use Rattle.exh_ward.specs.declared.hop.Hop.TheVariants.{Done, Moved, MustSplit}
 use Rattle.exh_calls.specs.declared.reply.Reply.{Reply}
 use Rattle.exh_world.specs.Headline.{IsHeadline}
 use Rattle.exh_world.specs.InFlight.{request_named}
-use Rattle.exh_world.specs.Run.{Moment, answered_in, entry_of}
+use Rattle.exh_world.specs.Run.{Moment, answered_in, journal_entry_of}
 use Rattle.exh_world.specs.Step.{Step}
-use Rattle.exh_world.specs.World.{WorldState, numbered, leaves_in, map_in}
+use Rattle.exh_world.specs.World.{WorldState, numbered, current_leaves, map_in}
 use Rattle.exh_world.specs.declared.event.Event.{Event}
 use Rattle.exh_world.specs.declared.event.Event.TheVariants.{Hop, Deliver, Combine, Restart}
 use Rattle.exh_world.specs.declared.outcome.Outcome.{Outcome}
@@ -94,8 +94,8 @@ pub record IsAtTheOneLeaf {K : Type 0} (world : WorldState K) (request : Request
   pub records : List Record
   pub live : IsAt ward.pages request.page (Live prefix right records)
   pub begins : Begins prefix request.pseudokey
-  pub leaf : leaves_in world request.ward prefix
-  pub only : (other : List Bool) → leaves_in world request.ward other → Begins other request.pseudokey → other ≡ prefix
+  pub leaf : current_leaves world request.ward prefix
+  pub only : (other : List Bool) → current_leaves world request.ward other → Begins other request.pseudokey → other ≡ prefix
 
 -- the hop at that moment answers the request
 pub record Answers {K : Type 0} (moment : Moment K) (request : Request) (reply : Reply) : Type 0 where
@@ -124,4 +124,4 @@ OnlyAnswersChangeTheMap {K} pseudokey_of = (start : WorldState K) (turns : List 
 abbrev pub RepliesFollowTheAnswersBefore : {K : Type 0} → (K → List ℕ → ℕ) → Type 0
 RepliesFollowTheAnswersBefore {K} pseudokey_of = (start : WorldState K) (turns : List Turn) (end : WorldState K) (headline : IsHeadline pseudokey_of start turns end)
     → (front back : List (Moment K)) (moment : Moment K) → headline.moments ≡ front ++ moment ∷ back → (request : Request) (reply : Reply) → Answers moment request reply
-    → reply ≡ reply_of start.cap (pseudokey_of start.keyer) (map_left start.cap (pseudokey_of start.keyer) (map_in start) (map entry_of (answered_in front))) request.call
+    → reply ≡ reply_of start.cap (pseudokey_of start.keyer) (map_left start.cap (pseudokey_of start.keyer) (map_in start) (map journal_entry_of (answered_in front))) request.call

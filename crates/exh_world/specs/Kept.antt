@@ -3,12 +3,12 @@ use Rattle.std.specs.Prelude.{◌≡◌, ℕ, ◌+◌, ◌-◌, ◌^◌, ◌<◌
 use Rattle.exh_array.specs.Pointers.{DirectoryState, HasArrayOf}
 use Rattle.exh_notice.specs.declared.notice.Notice.{Notice}
 use Rattle.exh_table.specs.Table.{TableMap}
-use Rattle.exh_ward.specs.declared.ward.TheConstants.{WARD_BITS_LIMIT}
+use Rattle.exh_prefix.specs.declared.prefix.TheConstants.{WARD_BITS_LIMIT}
 use Rattle.exh_world.specs.Sound.{IsSoundWorld}
 use Rattle.exh_world.specs.World.{WorldState, numbered}
 
 -- the world is sound, and its numbers have room
-pub record IsKept {K : Type 0} (pseudokey_of : K → List ℕ → ℕ) (world : WorldState K) : Type 0 where
+pub record IsKeptWorld {K : Type 0} (pseudokey_of : K → List ℕ → ℕ) (world : WorldState K) : Type 0 where
   pub sound : IsSoundWorld pseudokey_of world
   pub few_wards : world.ward_bits ≤ WARD_BITS_LIMIT
   pub few_sent : length world.sent < 2 ^ 32

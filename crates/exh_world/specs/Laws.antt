@@ -1,7 +1,7 @@
 -- Laws of worlds.
 use Rattle.std.specs.Prelude.{◌≡◌, ◌≢◌, ⊤, ◌⊎◌, ℕ, ◌^◌, ◌<◌, ◌≤◌, List, map, slice_get, Some, All, Result, Ok, Err}
 use Rattle.exh_ward.specs.WardState.{WardState, IsSoundWard}
-use Rattle.exh_ward.specs.declared.ward.TheConstants.{WARD_BITS_LIMIT}
+use Rattle.exh_prefix.specs.declared.prefix.TheConstants.{WARD_BITS_LIMIT}
 use Rattle.exh_ward.specs.declared.ward_fault.WardFault.TheVariants.{Memory, Page}
 use Rattle.exh_world.specs.Headline.{IsHeadline}
 use Rattle.exh_world.specs.NewWorld.{new_world}

@@ -1,62 +1,13 @@
 -- Lists after one place is written, and things numbered from 1 on.
-use Rattle.std.proofs.Common.{◌≡◌, ℕ, zero, suc, ◌-◌, ◌<◌, ◌≤◌, List, [], ◌∷◌, ◌++◌, length, map, get_or, drop, slice_get, Some, ◌⊎◌, inl, inr, refl, sym, ap, ◌∙◌, subst, arith}
+use Rattle.std.proofs.Common.{◌≡◌, ℕ, zero, suc, ◌-◌, ◌<◌, List, [], ◌∷◌, ◌++◌, length, map, get_or, slice_get, Some, ◌⊎◌, inl, inr, refl, sym, ap, ◌∙◌, subst, arith}
 use Rattle.std.specs.Prelude.{slice_set}
 use Rattle.std.specs.List.{range_with_len}
 use Rattle.std.proofs.lemmas.List.FromFn.{length-map-range_with_len, get_or-map-range_with_len}
-use Rattle.std.proofs.lemmas.Bool.{cases_eq}
 use Rattle.std.proofs.lemmas.Option.{get_or_from_slice_get, slice_get_read, slice_get_within}
+use Rattle.exh_prefix.specs.ListLemmas.{push_is, set_is, set_here}
 use Rattle.exh_world.specs.World.{numbered}
 
 module _ {A : Type 0} where
-  pub length_set : (xs : List A) (at : ℕ) (x : A) → length (slice_set xs at x) ≡ length xs
-  length_set [] at x = refl
-  length_set (y ∷ xs) zero x = refl
-  length_set (y ∷ xs) (suc at) x = ap suc (length_set xs at x)
-
-  pub set_here : (xs : List A) (at : ℕ) (old x : A) → slice_get xs at ≡ Some old → slice_get (slice_set xs at x) at ≡ Some x
-  set_here [] at old x is = cc
-  set_here (y ∷ xs) zero old x is = refl
-  set_here (y ∷ xs) (suc at) old x is = set_here xs at old x is
-
-  pub set_else : (xs : List A) (at other : ℕ) (x : A) → (other ≡ at → ⊥) → slice_get (slice_set xs at x) other ≡ slice_get xs other
-  set_else [] at other x differ = refl
-  set_else (y ∷ xs) zero zero x differ = absurd (differ refl)
-  set_else (y ∷ xs) zero (suc other) x differ = refl
-  set_else (y ∷ xs) (suc at) zero x differ = refl
-  set_else (y ∷ xs) (suc at) (suc other) x differ = set_else xs at other x (λ same. differ (ap suc same))
-
-  pub set_same : (xs : List A) (at : ℕ) (x : A) → slice_get xs at ≡ Some x → slice_set xs at x ≡ xs
-  set_same [] at x is = refl
-  set_same (y ∷ xs) zero x is = let same : y ≡ x = cc in ap (λ z. z ∷ xs) (sym same)
-  set_same (y ∷ xs) (suc at) x is = ap (λ rest. y ∷ rest) (set_same xs at x is)
-
-  pub one_there : (xs : List A) (at : ℕ) (one other : A) → slice_get xs at ≡ Some one → slice_get xs at ≡ Some other → one ≡ other
-  one_there xs at one other is too = let both : Some one ≡ Some other = sym is ∙ too in cc
-
-  -- what stands at a place after one is written: what was written, or what stood there
-  pub set_is : (xs : List A) (at other : ℕ) (old x y : A) → slice_get xs at ≡ Some old → slice_get (slice_set xs at x) other ≡ Some y
-      → ((other ≡ at) × (y ≡ x)) ⊎ ((other ≡ at → ⊥) × (slice_get xs other ≡ Some y))
-  set_is xs at other old x y there is = elim (cases_eq other at) [
-    | inl same ↦ inl (same, one_there (slice_set xs at x) other y x is (subst (λ n. slice_get (slice_set xs at x) n ≡ Some x) (sym same) (set_here xs at old x there)))
-    | inr differ ↦ inr (differ, sym (set_else xs at other x differ) ∙ is)
-  ]
-
-  pub within_there : (xs : List A) (at : ℕ) → at < length xs → (x : A) × (slice_get xs at ≡ Some x)
-  within_there [] at fits = absurd (omega arith)
-  within_there (y ∷ xs) zero fits = (y, refl)
-  within_there (y ∷ xs) (suc at) fits = within_there xs at (omega arith)
-
-  pub push_is : (xs : List A) (x y : A) (at : ℕ) → slice_get (xs ++ x ∷ []) at ≡ Some y → (slice_get xs at ≡ Some y) ⊎ (y ≡ x)
-  push_is [] x y zero is = inr cc
-  push_is [] x y (suc at) is = cc
-  push_is (z ∷ xs) x y zero is = inl is
-  push_is (z ∷ xs) x y (suc at) is = push_is xs x y at is
-
-  pub drop_push : (n : ℕ) (xs : List A) (x : A) → n ≤ length xs → drop n (xs ++ x ∷ []) ≡ drop n xs ++ x ∷ []
-  drop_push zero xs x few = refl
-  drop_push (suc n) [] x few = absurd (omega arith)
-  drop_push (suc n) (y ∷ xs) x few = drop_push n xs x (omega arith)
-
   -- ---- numbered from 1 on
 
   pub numbered_push : (xs : List A) (x y : A) (number : ℕ) → numbered (xs ++ x ∷ []) number ≡ Some y → (numbered xs number ≡ Some y) ⊎ (y ≡ x)

@@ -5,7 +5,7 @@ use Rattle.std.specs.FinMap.{empty}
 use Rattle.exh_table.specs.Table.{TableMap}
 use Rattle.exh_table.specs.TableOrder.{table_join}
 use Rattle.exh_page.specs.declared.page.Page.TheVariants.{Live}
-use Rattle.exh_legal.specs.Pages.{ward_prefix}
+use Rattle.exh_prefix.specs.Leading.{ward_prefix}
 use Rattle.exh_ward.specs.WardState.{WardState}
 use Rattle.exh_world.specs.World.{WorldState, changes_in, issued_in}
 use Rattle.exh_world.specs.declared.config.Config.{Config}

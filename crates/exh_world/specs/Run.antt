@@ -93,5 +93,5 @@ abbrev pub answered_in : {K : Type 0} → List (Moment K) → List Answered
 answered_in moments = flat_map (λ moment. answered_at moment.before moment.turn.event moment.turn.result) moments
 
 -- their calls and replies, with the callers
-abbrev pub entry_of : Answered → JournalEntry
-entry_of answered = record { client = answered.request.client; call = answered.request.call; reply = answered.reply }
+abbrev pub journal_entry_of : Answered → JournalEntry
+journal_entry_of answered = record { client = answered.request.client; call = answered.request.call; reply = answered.reply }

@@ -7,17 +7,13 @@ use Rattle.exh_table.specs.Leaves.{ward_leaves}
 use Rattle.exh_table.specs.Table.{TableMap}
 use Rattle.exh_table.specs.Walk.{split_at}
 use Rattle.exh_page.specs.declared.page.Page.{Page}
-use Rattle.exh_page.specs.Page.{low_bound}
 use Rattle.exh_legal.specs.Growth.{IsPageOf}
-use Rattle.exh_legal.specs.Pages.{IsAt, ward_prefix}
+use Rattle.exh_prefix.specs.Leading.{ward_prefix}
 use Rattle.exh_calls.specs.Call.{key_of}
+use Rattle.exh_legal.specs.Laws.{IsBelow}
 use Rattle.exh_ward.specs.WardState.{WardState, IsSoundWard}
 use Rattle.exh_world.specs.World.{WorldState, numbered}
 use Rattle.exh_world.specs.declared.request.Request.{Request}
-
--- the page is there, and its low bound isn't above the pseudokey
-abbrev pub IsBelow : List Page → ℕ → ℕ → Type 0
-IsBelow pages number pseudokey = (page : Page) × IsAt pages number page × (low_bound page ≤ pseudokey)
 
 -- each split of the table in the ward has the page of its right child's low bound
 abbrev pub LeadsRight : List Bool → List Page → TableMap → Type 0

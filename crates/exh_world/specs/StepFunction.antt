@@ -15,7 +15,8 @@ use Rattle.exh_ward.specs.declared.hop.Hop.TheVariants.{Done}
 use Rattle.exh_ward.specs.declared.ward_fault.WardFault.{WardFault}
 use Rattle.exh_world.specs.InFlight.{request_named, requests_after}
 use Rattle.exh_world.specs.Step.{pseudokey_in}
-use Rattle.exh_world.specs.World.{WorldState, numbered, ward_of}
+use Rattle.exh_prefix.specs.Leading.{ward_of}
+use Rattle.exh_world.specs.World.{WorldState, numbered}
 use Rattle.exh_world.specs.declared.event.Event.{Event}
 use Rattle.exh_world.specs.declared.event.Event.TheVariants.{Begin, Hop as HopOn, Split, Merge, Deliver, Send, Combine, Restart}
 use Rattle.exh_world.specs.declared.outcome.Outcome.{Outcome}

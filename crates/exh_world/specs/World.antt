@@ -1,12 +1,12 @@
 -- A world: the wards of a file, the copies of its directory, the tables sent between them, and the requests in flight.
-use Rattle.std.specs.Prelude.{ℕ, zero, suc, List, [], drop, take, flat_map, slice_get, Option, None}
+use Rattle.std.specs.Prelude.{ℕ, zero, suc, List, [], drop, flat_map, slice_get, Option, None}
 use Rattle.std.specs.Option.{option_map_or}
-use Rattle.exh_prefix.specs.Bits.{number_of, word_bits}
+use Rattle.exh_prefix.specs.Leading.{ward_prefix}
 use Rattle.exh_notice.specs.declared.notice.Notice.{Notice}
 use Rattle.exh_table.specs.Table.{TableMap}
 use Rattle.exh_table.specs.Leaves.{PrefixSet, ward_leaves}
 use Rattle.exh_page.specs.KeyMap.{KeyMap}
-use Rattle.exh_legal.specs.Pages.{map_of, ward_prefix}
+use Rattle.exh_legal.specs.Pages.{map_of}
 use Rattle.exh_ward.specs.WardState.{WardState}
 use Rattle.exh_world.specs.InFlight.{Requests}
 
@@ -27,10 +27,6 @@ abbrev pub numbered : {A : Type 0} → List A → ℕ → Option A
 numbered items zero = None
 numbered items (suc number) = slice_get items number
 
--- the ward of a pseudokey: its leading bits, as a number
-abbrev pub ward_of : ℕ → ℕ → ℕ
-ward_of ward_bits pseudokey = number_of (take ward_bits (word_bits pseudokey))
-
 -- ---- what the world holds
 
 -- the notices of a ward, all of which count as issued
@@ -42,8 +38,8 @@ abbrev pub changes_in : {K : Type 0} → WorldState K → ℕ → List Notice
 changes_in world number = option_map_or (λ noticed. drop noticed (issued_in world number)) (slice_get world.noticed number) []
 
 -- the leaves of the current directory that belong to a ward
-abbrev pub leaves_in : {K : Type 0} → WorldState K → ℕ → PrefixSet
-leaves_in world number = ward_leaves world.start (ward_prefix world.ward_bits number) (changes_in world number)
+abbrev pub current_leaves : {K : Type 0} → WorldState K → ℕ → PrefixSet
+current_leaves world number = ward_leaves world.start (ward_prefix world.ward_bits number) (changes_in world number)
 
 -- the map of all records of all wards
 abbrev pub map_in : {K : Type 0} → WorldState K → KeyMap

@@ -18,7 +18,6 @@ pub use request::Request;
 pub use step_fault::StepFault;
 pub use turn::Turn;
 pub use world::World;
-pub use world::ward_number::ward_number;
 
 mod config;
 mod event;

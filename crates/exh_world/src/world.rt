@@ -18,7 +18,6 @@ mod place;
 mod readers;
 mod request_steps;
 mod run;
-pub(crate) mod ward_number;
 mod ward_steps;
 mod world_of_wards;
 
@@ -43,7 +42,7 @@ impl<P: Pages + Drop, K: Keyer> Model for World<P, K> {
     ghost use Rattle.std.specs.Coded.{codes};
     ghost use Rattle.exh_page.specs.KeyMap.{coded_key_map};
     ghost use Rattle.exh_table.specs.Table.{coded_table};
-    ghost use Rattle.exh_world.specs.Kept.{HaveArrays, IsKept, tables_of};
+    ghost use Rattle.exh_world.specs.Kept.{HaveArrays, IsKeptWorld, tables_of};
     ghost use Rattle.exh_world.specs.World.{WorldState};
 
     ghost Value = { WorldState K };
@@ -52,5 +51,5 @@ impl<P: Pages + Drop, K: Keyer> Model for World<P, K> {
 
     ghost view = { λ a. record { cap = a.cap; ward_bits = a.ward_bits; keyer = a.keyer; wards = a.wards.items; start = a.start.table; noticed = a.noticed.items; copies = tables_of a.copies.items; sent = a.sent.items; in_flight = a.in_flight } };
 
-    ghost invariant = { λ a. IsKept K.pseudokey_of (record { cap = a.cap; ward_bits = a.ward_bits; keyer = a.keyer; wards = a.wards.items; start = a.start.table; noticed = a.noticed.items; copies = tables_of a.copies.items; sent = a.sent.items; in_flight = a.in_flight }) × HaveArrays a.ward_bits a.start a.copies.items };
+    ghost invariant = { λ a. IsKeptWorld K.pseudokey_of (record { cap = a.cap; ward_bits = a.ward_bits; keyer = a.keyer; wards = a.wards.items; start = a.start.table; noticed = a.noticed.items; copies = tables_of a.copies.items; sent = a.sent.items; in_flight = a.in_flight }) × HaveArrays a.ward_bits a.start a.copies.items };
 }

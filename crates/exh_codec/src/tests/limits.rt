@@ -3,8 +3,8 @@ ghost use Rattle.std.specs.Prelude.{◌<◌, length};
 use super::{decoded, has_fault, is_imaged, sealed};
 use crate::{CONTENT_LEN, ImageFault, encode_page};
 use exh_keyer::PlainKeyer;
-use exh_page::{Key, Page, PageNo, Record, Records, Value};
-use exh_prefix::Prefix;
+use exh_page::{Key, Page, Record, Records, Value};
+use exh_prefix::{PageNo, Prefix};
 use std::alloc::{AllocError, Global};
 
 // The first bytes of a live page's image without a right link, of so many records.

@@ -2,8 +2,9 @@
 
 use super::{LIMIT, Prefix};
 use crate::{
-    beginners_nest, begins_its_range, children_part, equality_is_of_bits, left_child_keeps_low,
-    order_is_by_low_bound, order_is_total, right_child_clears,
+    beginners_nest, begins_its_range, children_part, equality_is_of_bits, leading,
+    leading_bits_tell, left_child_keeps_low, order_is_by_low_bound, order_is_total,
+    right_child_clears,
 };
 use std::alloc::Global;
 use std::cmp::Ordering;
@@ -149,6 +150,7 @@ fn laws_hold(parent: Prefix, left: Prefix, right: Prefix, pseudokey: u64) -> boo
     begins_its_range();
     beginners_nest();
     children_part();
+    leading_bits_tell();
     right_child_clears();
     left_child_keeps_low();
     equality_is_of_bits();
@@ -156,6 +158,8 @@ fn laws_hold(parent: Prefix, left: Prefix, right: Prefix, pseudokey: u64) -> boo
     order_is_total();
     right.begins(pseudokey)
         && !left.begins(pseudokey)
+        && leading(4, pseudokey) == 7
+        && Prefix::of_number(4, 7) == right
         && parent.child(true) == Some(right)
         && right.parent() == Some(parent)
         && right.buddy() == Some(left)

@@ -13,8 +13,8 @@ use exh_frames::Pages;
 use exh_keyer::Keyer;
 use exh_legal::pages_are_few;
 use exh_notice::{Kind, Notice};
-use exh_page::{Page, PageNo};
-use exh_prefix::Prefix;
+use exh_page::Page;
+use exh_prefix::{PageNo, Prefix};
 
 impl<P: Pages + Drop, K: Keyer> Ward<P, K> {
     /// The notice of the next change at a prefix. The number there isn't the greatest.

@@ -15,7 +15,7 @@ use exh_calls::Call;
 use exh_frames::Pages;
 use exh_keyer::Keyer;
 use exh_legal::{pages_are_few, right_links_lead_on};
-use exh_page::PageNo;
+use exh_prefix::PageNo;
 
 mod answer;
 mod home_sight;

@@ -11,8 +11,8 @@ use exh_halves::{LeftHalf, forward_from_right, join_pages};
 use exh_keyer::Keyer;
 use exh_legal::{left_children_link_to_siblings, merges_keep_legal, pages_are_few};
 use exh_notice::{Kind, Notice};
-use exh_page::{Page, PageNo, buddies_unite};
-use exh_prefix::Prefix;
+use exh_page::{Page, buddies_unite};
+use exh_prefix::{PageNo, Prefix};
 
 impl<P: Pages + Drop, K: Keyer> Ward<P, K> {
     /// Merges a live page, the left half of its parent, with the live page of the right half, and

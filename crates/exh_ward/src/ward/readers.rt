@@ -15,7 +15,8 @@ use exh_frames::Pages;
 use exh_keyer::Keyer;
 use exh_legal::{pages_are_few, walks_name_homes};
 use exh_notice::Notice;
-use exh_page::{Page, PageNo};
+use exh_page::Page;
+use exh_prefix::PageNo;
 use exh_table::Table;
 
 impl<P: Pages + Drop, K: Keyer> Ward<P, K> {

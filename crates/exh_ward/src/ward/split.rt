@@ -19,8 +19,7 @@ use exh_halves::Halves;
 use exh_keyer::Keyer;
 use exh_legal::{live_pages_split, pages_are_few, splits_keep_legal};
 use exh_notice::{Kind, Notice};
-use exh_page::PageNo;
-use exh_prefix::Prefix;
+use exh_prefix::{PageNo, Prefix};
 
 impl<P: Pages + Drop, K: Keyer> Ward<P, K> {
     /// Splits a live page that has as many records as a page may, and tells so (Fagin et al. 1979;

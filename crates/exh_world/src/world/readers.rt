@@ -6,7 +6,7 @@ ghost use Rattle.exh_page.specs.declared.page.Page.{Page};
 ghost use Rattle.exh_ward.specs.PageLine.{line_of_page};
 ghost use Rattle.exh_ward.specs.WardState.{WardState};
 ghost use Rattle.exh_ward.specs.WardFault.{PageRefused};
-ghost use Rattle.exh_ward.specs.declared.ward.TheConstants.{WARD_BITS_LIMIT};
+ghost use Rattle.exh_prefix.specs.declared.prefix.TheConstants.{WARD_BITS_LIMIT};
 ghost use Rattle.exh_world.specs.Sound.{IsSoundWorld};
 ghost use Rattle.exh_world.specs.Step.{IsChangeRefused, LeavesRefused};
 ghost use Rattle.exh_world.specs.World.{numbered};
@@ -18,7 +18,7 @@ use crate::{Request, StepFault};
 use exh_array::Directory;
 use exh_frames::Pages;
 use exh_keyer::Keyer;
-use exh_page::PageNo;
+use exh_prefix::PageNo;
 use exh_ward::PageLine;
 use indexmap::map::Iter;
 

@@ -4,12 +4,12 @@ ghost use Rattle.exh_world.specs.declared.event.Event.TheVariants.{Begin, Hop as
 
 use super::World;
 use super::place::copy_in;
-use super::ward_number::ward_number;
 use crate::laws::steps_keep_worlds_sound;
 use crate::{Outcome, Request, StepFault};
 use exh_calls::Call;
 use exh_frames::Pages;
 use exh_keyer::Keyer;
+use exh_prefix::ward_number;
 
 impl<P: Pages + Drop, K: Keyer> World<P, K> {
     /// Begins a request of a name that no request in flight has: it stands at the page that the

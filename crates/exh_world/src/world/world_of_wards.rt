@@ -1,7 +1,7 @@
 ghost use Rattle.std.specs.Prelude.{◌≡◌, ℕ, ◌^◌, ◌≤◌, length, map, slice_get, Some, IfOk};
 ghost use Rattle.exh_array.specs.Pointers.{HasArrayOf};
 ghost use Rattle.exh_ward.specs.WardState.{WardState, IsSoundWard};
-ghost use Rattle.exh_ward.specs.declared.ward.TheConstants.{WARD_BITS_LIMIT};
+ghost use Rattle.exh_prefix.specs.declared.prefix.TheConstants.{WARD_BITS_LIMIT};
 ghost use Rattle.exh_world.specs.NewWorld.{AreWardsFor, IsMadeAnew, settings_of, tables_joined, world_of_wards};
 ghost use Rattle.exh_world.specs.Sound.{IsSoundWorld};
 

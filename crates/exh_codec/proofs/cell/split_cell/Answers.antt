@@ -1,6 +1,6 @@
 use Rattle.std.proofs.Common.{◌-◌, drop, length, arith}
 use Rattle.std.proofs.lemmas.List.{length-drop, length-take}
-use Rattle.exh_codec.specs.Cells.{IsSized}
+use Rattle.exh_codec.specs.Cells.{IsSizedPair}
 use Rattle.exh_codec.proofs.PairImages.{pair_at_front, pair_from_cuts}
 use Rattle.exh_codec.proofs.cell.split_cell.Goals as goal
 use Rattle.exh_codec.proofs.cell.split_cell.Goals.{then-key_len-eq0-via-then-key_len-eq0, then-key_len-eq0-via-else-key_len-eq0+then-key_len-gt-KEY_LIMIT, then-key_len-eq0-via-else-key_len-eq0+else-key_len-gt-KEY_LIMIT+then-value_len-gt-VALUE_LIMIT, then-key_len-eq0-via-else-key_len-eq0+else-key_len-gt-KEY_LIMIT+else-value_len-gt-VALUE_LIMIT+then-rest-key_len}
@@ -24,7 +24,7 @@ pub returns-clause-some : goal.returns-clause-some
 returns-clause-some c =
     let key_len = c.split_at.ensures.front_len in
     let value_len = c.split_at-2.ensures.front_len in
-    let sized : IsSized (c.split_at.result.0.now, c.split_at-2.result.0.now) = record {
+    let sized : IsSizedPair (c.split_at.result.0.now, c.split_at-2.result.0.now) = record {
       some = omega arith;
       key = omega arith;
       value = omega arith;

@@ -1,6 +1,6 @@
 use Rattle.std.proofs.Common.{◌≡◌, ◌≤◌, ◌*◌, ◌++◌, length, map, drop}
 use Rattle.std.specs.List.{AllByRecursion, flat_map}
-use Rattle.exh_codec.specs.Cells.{IsSized, pair_image, pair_of}
+use Rattle.exh_codec.specs.Cells.{IsSizedPair, pair_image, pair_of}
 use Rattle.exh_codec.proofs.encode.put_records.Given as goal
 
 abbrev pub invariant-loop-item : goal.invariant-loop-item
@@ -9,5 +9,5 @@ invariant-loop-item l = record {
   len : l.end ≡ length (flat_map pair_image (map pair_of l.yielded));
   limit : l.end ≤ 194 * length l.yielded;
   bytes : l.out ≡ flat_map pair_image (map pair_of l.yielded) ++ drop l.end l.fn.out;
-  sized : AllByRecursion IsSized (map pair_of l.yielded);
+  sized : AllByRecursion IsSizedPair (map pair_of l.yielded);
 }

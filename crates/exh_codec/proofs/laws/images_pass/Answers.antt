@@ -1,6 +1,6 @@
 use Rattle.exh_codec.proofs.FirstFault.{image_parts}
-use Rattle.exh_codec.proofs.TestsPassed.{passes_content}
-use Rattle.exh_codec.proofs.PassedTests.{page_from_tests}
+use Rattle.exh_codec.proofs.ImagesPass.{passes_content}
+use Rattle.exh_codec.proofs.PassingImages.{page_from_tests}
 use Rattle.exh_codec.proofs.laws.images_pass.Goals as goal
 
 pub returns : goal.returns

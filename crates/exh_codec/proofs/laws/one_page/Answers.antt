@@ -1,5 +1,5 @@
 use Rattle.exh_codec.proofs.FirstFault.{image_parts}
-use Rattle.exh_codec.proofs.TestsPassed.{one_page_laid}
+use Rattle.exh_codec.proofs.ImagesPass.{one_page_laid}
 use Rattle.exh_codec.proofs.laws.one_page.Goals as goal
 
 pub returns : goal.returns

@@ -1,4 +1,4 @@
-use Rattle.std.proofs.Common.{◌≡◌, ℕ, ◌+◌, ◌-◌, ◌*◌, ◌<◌, List, [], ◌∷◌, ◌++◌, length, take, drop, get_or, ap, sym, ◌∙◌, subst, append-nil, arith}
+use Rattle.std.proofs.Common.{◌≡◌, ℕ, ◌+◌, ◌-◌, ◌*◌, ◌<◌, List, [], ◌∷◌, ◌++◌, length, take, drop, ap, sym, ◌∙◌, subst, append-nil, arith}
 use Rattle.std.specs.List.{AllByRecursion, flat_map}
 use Rattle.std.proofs.lemmas.List.{take_more, length-take-le}
 use Rattle.std.proofs.lemmas.List.Concat.{flat_map-append}
@@ -6,7 +6,7 @@ use Rattle.exh_prefix.specs.Version.{first_version}
 use Rattle.exh_notice.specs.ImageLemmas.{first_fits}
 use Rattle.exh_file.specs.declared.file_entry.FileEntry.{FileEntry}
 use Rattle.exh_file.specs.TableImage.{IsFileEntry, image_of}
-use Rattle.exh_file.proofs.Elements.{all_push}
+use Rattle.exh_prefix.specs.ListLemmas.{AllByRecursion-push}
 use Rattle.exh_file.proofs.HeaderBytes.{put_next}
 use Rattle.exh_file.proofs.TableBytes.{length-images}
 use Rattle.exh_file.proofs.table_block.put_entries.Goals as goal
@@ -31,5 +31,5 @@ loop-item-preserved c =
       end = omega (arith, c.loop-item.invariant.end);
       bytes = put_next images c.copy_from_slice.new.self c.args.block.now c.loop-item.block (16 * i) c.loop-item.end (c.loop-item.end + 16 - c.loop-item.end) c.loop-item.invariant.end size len c.loop-item.invariant.bytes
           ∙ (λ j. sym all j ++ drop (place j) c.args.block.now);
-      valid = subst (AllByRecursion (IsFileEntry first_version)) (sym more) (all_push (IsFileEntry first_version) front item c.loop-item.invariant.valid c.image_of.ensures.valid);
+      valid = subst (AllByRecursion (IsFileEntry first_version)) (sym more) (AllByRecursion-push (IsFileEntry first_version) front item c.loop-item.invariant.valid c.image_of.ensures.valid);
     }

@@ -1,5 +1,5 @@
 use Rattle.std.proofs.Common.{arith}
-use Rattle.exh_join.specs.JoinedLemmas.{least_of_first, least_of_next}
+use Rattle.exh_join.proofs.JoinedAll.{least_of_first, least_of_next}
 use Rattle.exh_join.proofs.joined.join_all.Goals as goal
 
 pub loop-value-init : goal.loop-value-init

@@ -1,4 +1,4 @@
-use Rattle.exh_join.specs.ReplicasLemmas.{replicas_agree}
+use Rattle.exh_join.proofs.ReplicasAgree.{replicas_agree}
 use Rattle.exh_join.proofs.laws.replicas_agree.Goals as goal
 
 pub returns : goal.returns

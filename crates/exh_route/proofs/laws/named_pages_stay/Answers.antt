@@ -1,4 +1,4 @@
-use Rattle.exh_route.proofs.RunNamed.{named_stay}
+use Rattle.exh_route.proofs.NamedPagesStay.{named_stay}
 use Rattle.exh_route.proofs.laws.named_pages_stay.Goals as goal
 
 pub returns : goal.returns

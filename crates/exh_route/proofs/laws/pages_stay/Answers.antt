@@ -1,4 +1,4 @@
-use Rattle.exh_route.proofs.RunPlaces.{places_kept}
+use Rattle.exh_route.proofs.PagesStay.{places_kept}
 use Rattle.exh_route.proofs.laws.pages_stay.Goals as goal
 
 pub returns : goal.returns

@@ -1,4 +1,4 @@
-use Rattle.exh_route.proofs.RunFacts.{run_one_maps, run_sound}
+use Rattle.exh_route.proofs.RunOneMap.{run_one_maps, run_sound}
 use Rattle.exh_route.proofs.laws.runs_keep_wards_sound_and_one_map.Goals as goal
 
 pub returns : goal.returns

@@ -11,11 +11,11 @@ use Rattle.exh_calls.specs.History.{IsHistory, map_left}
 use Rattle.exh_page.specs.KeyMap.{KeyMap}
 use Rattle.exh_ward.specs.WardState.{WardState}
 use Rattle.exh_calls.specs.declared.journal_entry.JournalEntry.{JournalEntry}
-use Rattle.exh_ward.specs.declared.ward.TheConstants.{WARD_BITS_LIMIT}
+use Rattle.exh_prefix.specs.declared.prefix.TheConstants.{WARD_BITS_LIMIT}
 use Rattle.exh_world.specs.Headline.{IsHeadline, DoesNotStray as KeepsCourse}
 use Rattle.exh_world.specs.Laws.{AreWardsSound, NewWorldsAreSound, RunsCarryTheHeadline}
 use Rattle.exh_world.specs.NewWorld.{new_world}
-use Rattle.exh_world.specs.Run.{Moment, answered_in, entry_of}
+use Rattle.exh_world.specs.Run.{Moment, answered_in, journal_entry_of}
 use Rattle.exh_world.specs.declared.config.Config.{Config}
 use Rattle.exh_world.specs.declared.turn.Turn.{Turn as StepTurn}
 use Rattle.exh_script.specs.Answer.{answer_text}
@@ -28,7 +28,7 @@ use Rattle.exh_script.specs.declared.refusal.Refusal.{Refusal}
 use Rattle.exh_script.specs.declared.refusal.Refusal.TheVariants.{Line as LineRefusal, TooLong}
 use Rattle.exh_script.specs.declared.server.TheConstants.{SCRIPT_LIMIT}
 use Rattle.exh_script.proofs.Journals.{lines_more}
-use Rattle.exh_script.proofs.KeptWorlds.{WorldLaws, IsKept, lines_run}
+use Rattle.exh_script.proofs.KeptWorlds.{WorldLaws, IsServedWorld, lines_run}
 use Rattle.exh_script.proofs.LineMoments.{moments_from, turns_are, entries_from, entries_are}
 use Rattle.exh_script.proofs.NewFile.{few_ward_bits, new_map, new_journal, new_kept}
 use Rattle.exh_script.proofs.ReplyLaw.{text_is_responses, enter_in_order}
@@ -49,7 +49,7 @@ module _ (laws : WorldLaws) (carry : RunsCarryTheHeadline any_pseudokey) (fresh 
     abbrev end : ScriptWorld
     end = world_left start lines
 
-    kept : IsKept file.ward_bits file.keyer start
+    kept : IsServedWorld file.ward_bits file.keyer start
     kept = new_kept file fresh few
 
     -- the headline, over the moments of the lines
@@ -62,8 +62,8 @@ module _ (laws : WorldLaws) (carry : RunsCarryTheHeadline any_pseudokey) (fresh 
         subst IsOver (turns_are start lines)
         (carry start (moments_from start lines) end kept.sound (All-from_recursion (λ (moment : Moment AnyKeyer). AreWardsSound any_pseudokey moment.after) (moments_from start lines) runs.1) runs.0)
 
-    entries_same : map entry_of (answered_in over.0.moments) ≡ entries_from start lines
-    entries_same = ap (λ (moments : List (Moment AnyKeyer)). map entry_of (answered_in moments)) over.1 ∙ entries_are start lines
+    entries_same : map journal_entry_of (answered_in over.0.moments) ≡ entries_from start lines
+    entries_same = ap (λ (moments : List (Moment AnyKeyer)). map journal_entry_of (answered_in moments)) over.1 ∙ entries_are start lines
 
     abbrev entries : List JournalEntry
     entries = entries_from start lines
@@ -71,7 +71,7 @@ module _ (laws : WorldLaws) (carry : RunsCarryTheHeadline any_pseudokey) (fresh 
     history : IsHistory file.cap (any_pseudokey file.keyer) empty entries
     history =
         let P : KeyMap → List JournalEntry → Type 0 = λ m entries. IsHistory file.cap (any_pseudokey file.keyer) m entries in
-        subst (P empty) entries_same (subst (λ m. P m (map entry_of (answered_in over.0.moments))) (new_map file) over.0.one_map.replies)
+        subst (P empty) entries_same (subst (λ m. P m (map journal_entry_of (answered_in over.0.moments))) (new_map file) over.0.one_map.replies)
 
     journals : (number : ℕ) (ward : WardState AnyKeyer) → slice_get end.wards number ≡ Some ward → ward.journal ≡ filter (is_of_ward file number) entries
     journals number ward is =
@@ -86,7 +86,7 @@ module _ (laws : WorldLaws) (carry : RunsCarryTheHeadline any_pseudokey) (fresh 
       entries_are = entries_same;
       history = history;
       journals = journals;
-      left = over.0.one_map.left ∙ ap (λ m. map_left file.cap (any_pseudokey file.keyer) m (map entry_of (answered_in over.0.moments))) (new_map file)
+      left = over.0.one_map.left ∙ ap (λ m. map_left file.cap (any_pseudokey file.keyer) m (map journal_entry_of (answered_in over.0.moments))) (new_map file)
           ∙ ap (map_left file.cap (any_pseudokey file.keyer) empty) entries_same;
       shows = shown_same start (steps_from start lines) end over.0;
       no_stray = no_strays start lines (subst (λ (moments : List (Moment AnyKeyer)). All (λ (moment : Moment AnyKeyer). KeepsCourse moment) moments) over.1 over.0.no_stray);

@@ -1,5 +1,5 @@
 use Rattle.exh_table.specs.Leaves.{leaves_in}
-use Rattle.exh_table.specs.ChangeLemmas.{changes_keep_names}
+use Rattle.exh_table.proofs.ChangedNames.{changes_keep_names}
 use Rattle.exh_table.proofs.laws.changes_keep_names.Goals as goal
 
 pub returns : goal.returns

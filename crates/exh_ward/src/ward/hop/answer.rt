@@ -11,7 +11,8 @@ ghost use Rattle.exh_ward.specs.PageAnswer.{reply_by, records_after};
 use super::home_sight::HomeSight;
 use exh_calls::{Call, Reply};
 use exh_frames::{Pages, PagesFault};
-use exh_page::{PageNo, Spot, Value};
+use exh_page::{Spot, Value};
+use exh_prefix::PageNo;
 
 /// Answers a call at its home page, which has `home` for it. The page isn't searched again.
 pub(crate) fn answer<P: Pages>(

@@ -4,8 +4,8 @@ ghost use Rattle.exh_ward.specs.Sight.{SightOf};
 
 use super::home_sight::HomeSight;
 use exh_calls::Call;
-use exh_page::{Page, PageNo};
-use exh_prefix::LIMIT;
+use exh_page::Page;
+use exh_prefix::{LIMIT, PageNo};
 
 /// What a call meets at a page.
 pub(crate) enum Sight {

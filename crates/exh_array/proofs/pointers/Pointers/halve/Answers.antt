@@ -2,7 +2,7 @@ use Rattle.std.proofs.Common.{◌≡◌, suc, ◌-◌, ◌*◌, ◌/◌, ◌^◌
 use Rattle.std.proofs.Math.Nat.{pow-suc}
 use Rattle.std.proofs.lemmas.Option.{slice_get_read}
 use Rattle.exh_array.specs.Pointers.{PointerArray}
-use Rattle.exh_array.specs.Within.{is_deep, IsKept, HasLeavesOf}
+use Rattle.exh_array.specs.Within.{is_deep, IsKeptArray, HasLeavesOf}
 use Rattle.exh_array.proofs.Deeper.{deepened}
 use Rattle.exh_array.proofs.Halved.{AreMoved, moved_none, moved_more, AreEveryOther, moved_all, halved_kept, halved_leaves}
 use Rattle.exh_array.proofs.pointers.Pointers.halve.Goals as goal
@@ -57,8 +57,8 @@ unfolding before halved
 invariant_of-self c =
     let counted : c.deepest_in-self-inside.result ≡ length (filter (is_deep (c.self.inside.depth - 1)) c.truncate.new.self.items) =
     c.deepest_in-self-inside.ensures ∙ ap (λ n. length (filter (is_deep (n - 1)) c.deref.result.now)) c.loop-at.invariant.depth ∙ ap (λ pointers. length (filter (is_deep (c.self.inside.depth - 1)) pointers)) c.deref.ensures.value in
-    subst (IsKept c.deepest_in-self-inside.result) (sym (halved_is c))
-    (subst (λ n. IsKept n (deepened (before c) (c.self.inside.depth - 1) c.truncate.new.self.items)) (sym counted)
+    subst (IsKeptArray c.deepest_in-self-inside.result) (sym (halved_is c))
+    (subst (λ n. IsKeptArray n (deepened (before c) (c.self.inside.depth - 1) c.truncate.new.self.items)) (sym counted)
     (halved_kept c.self.inside.deepest (before c) c.self.invariant (flat c) (c.self.inside.depth - 1) (less c) c.truncate.new.self.items (left c)))
 
 pub returns-clause-ward_bits : goal.returns-clause-ward_bits

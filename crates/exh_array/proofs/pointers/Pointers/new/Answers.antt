@@ -3,7 +3,7 @@ use Rattle.std.specs.FinMap as map
 use Rattle.std.proofs.lemmas.Nat.{one_shl}
 use Rattle.exh_array.specs.declared.pointer.Pointer.{Pointer}
 use Rattle.exh_array.specs.Pointers.{IsArrayOf}
-use Rattle.exh_array.specs.Within.{IsKept}
+use Rattle.exh_array.specs.Within.{IsKeptArray}
 use Rattle.exh_array.proofs.Start.{start, start_is_kept, start_is_array}
 use Rattle.exh_array.proofs.pointers.Pointers.new.Goals as goal
 
@@ -15,8 +15,8 @@ made c = c.in_ok-from_elem.ensures.items_if_clones_equal (λ y same. same) ∙ a
 
 pub invariant_of-result : goal.invariant_of-result
 invariant_of-result c =
-    subst (λ (pointers : List Pointer). IsKept (1 * 2 ^ c.args.ward_bits % 2 ^ 64) (record { ward_bits = c.args.ward_bits; depth = c.args.ward_bits; pointers = pointers })) (sym (made c))
-    (subst (λ n. IsKept n (start c.args.ward_bits)) (sym (wards c)) (start_is_kept c.args.ward_bits c.requires))
+    subst (λ (pointers : List Pointer). IsKeptArray (1 * 2 ^ c.args.ward_bits % 2 ^ 64) (record { ward_bits = c.args.ward_bits; depth = c.args.ward_bits; pointers = pointers })) (sym (made c))
+    (subst (λ n. IsKeptArray n (start c.args.ward_bits)) (sym (wards c)) (start_is_kept c.args.ward_bits c.requires))
 
 pub returns-clause-array : goal.returns-clause-array
 returns-clause-array c =

@@ -3,13 +3,13 @@ use Rattle.std.proofs.Math.Seq.{take-append-add}
 use Rattle.std.proofs.lemmas.List.{take-replicate}
 use Rattle.exh_prefix.specs.Bits.{word_bits}
 use Rattle.exh_prefix.specs.Prefix.{low_of, zeros}
-use Rattle.exh_prefix.specs.PrefixLemmas.{word_bits-low_of}
+use Rattle.exh_prefix.specs.PrefixLemmas.{word_bits-low_of, low_of-word}
 use Rattle.exh_prefix.specs.declared.prefix.TheConstants.{LIMIT}
 use Rattle.exh_table.specs.declared.leaf.Leaf.{Leaf}
 use Rattle.exh_table.specs.Table.{TableMap}
 use Rattle.exh_table.specs.Walk.{walk_on}
 use Rattle.exh_table.specs.WalkLemmas.{walk_on-stop, walk_from_root}
-use Rattle.exh_table.specs.LeafLemmas.{root, low_of-small}
+use Rattle.exh_table.specs.LeafLemmas.{root}
 use Rattle.exh_table.specs.Below.{splits_above}
 use Rattle.exh_array.specs.declared.pointer.Pointer.{Pointer}
 use Rattle.exh_array.specs.Pointers.{PointerArray, pointer_to}
@@ -38,7 +38,7 @@ module _ (table : TableMap) (array : PointerArray) (prefix : List Bool) (first :
   first_is : first ≡ pointer_to (walk_on (splits_above table array.ward_bits) (zeros (LIMIT - length prefix)) along)
   unfolding along
   first_is =
-      same_some _ _ (sym is ∙ has.each (low_of prefix) (low_of-small prefix (omega arith)))
+      same_some _ _ (sym is ∙ has.each (low_of prefix) (low_of-word prefix (omega arith)))
       ∙ ap pointer_to (sym (walk_from_root table array.ward_bits (low_of prefix) within) ∙ ap (λ bits. walk_on (splits_above table array.ward_bits) bits root) (low_bits prefix short)
       ∙ walk_on-append (splits_above table array.ward_bits) prefix (zeros (LIMIT - length prefix)) root)
 

@@ -1,10 +1,10 @@
 use Rattle.std.proofs.Common.{◌≡◌, ◌<◌, ◌≤◌, length, Some, get_or, sym, ap, ◌∙◌, subst, arith}
 use Rattle.std.proofs.lemmas.Option.{slice_get-get_or}
-use Rattle.exh_table.specs.Directory.{leading}
+use Rattle.exh_prefix.specs.Leading.{leading}
 use Rattle.exh_array.specs.declared.pointer.Pointer.{Pointer}
 use Rattle.exh_array.specs.Pointers.{PointerArray}
 use Rattle.exh_array.specs.Pointers.{pointer_at}
-use Rattle.exh_array.proofs.Leading.{leading-lt}
+use Rattle.exh_prefix.specs.LeadingLemmas.{leading-lt}
 use Rattle.exh_array.proofs.pointers.Pointers.pointer.Goals as goal
 
 -- the array is full: the leading bits are within it

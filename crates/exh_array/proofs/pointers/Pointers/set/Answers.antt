@@ -9,12 +9,12 @@ use Rattle.exh_array.specs.declared.pointer.Pointer.{Pointer}
 use Rattle.exh_array.specs.declared.pointers.Pointers.TheInside.{Inside}
 use Rattle.exh_array.specs.contracts.pointers.Pointers.{the_view}
 use Rattle.exh_array.specs.Pointers.{PointerArray}
-use Rattle.exh_array.specs.Within.{is_deep, IsKept}
+use Rattle.exh_array.specs.Within.{is_deep, IsKeptArray}
 use Rattle.exh_array.proofs.Counts.{length-filter_le, length-filter_set}
 use Rattle.exh_array.proofs.pointers.Pointers.set.Goals as goal
 use Rattle.exh_array.proofs.pointers.Pointers.set.Goals.{then-index-self, else-index-self, then-pointer-self, else-pointer-self}
 
-few : (deepest : ℕ) (array : PointerArray) → IsKept deepest array → deepest ≤ 2 ^ LIMIT
+few : (deepest : ℕ) (array : PointerArray) → IsKeptArray deepest array → deepest ≤ 2 ^ LIMIT
 few deepest array kept =
     let most : 2 ^ array.depth ≤ 2 ^ LIMIT = pow_mono (kept.limit) in
     omega (arith, kept.counted, kept.full, length-filter_le (is_deep array.depth) array.pointers)
@@ -29,7 +29,7 @@ deep_is_one depth pointer deep = ap (λ b. cond b 1 0) (eq-eqb _ _ deep)
 other_is_zero : (depth : ℕ) (pointer : Pointer) → (pointer.local_depth ≡ depth → ⊥) → one_if_deep depth pointer ≡ 0
 other_is_zero depth pointer other = ap (λ b. cond b 1 0) (ne_eqb _ _ other)
 
-module _ (array : PointerArray) (deepest at : ℕ) (kept : IsKept deepest array) (there : at < length array.pointers) where
+module _ (array : PointerArray) (deepest at : ℕ) (kept : IsKeptArray deepest array) (there : at < length array.pointers) where
   -- a pointer that counts is one of those counted
   some_deep : (old : Pointer) → old ≡ get_or array.pointers at old → old.local_depth ≡ array.depth → 1 ≤ deepest
   some_deep old is deep =
@@ -37,7 +37,7 @@ module _ (array : PointerArray) (deepest at : ℕ) (kept : IsKept deepest array)
       omega (arith, length-filter_set (is_deep array.depth) array.pointers at other old there, ap (one_if_deep array.depth) is, deep_is_one array.depth old deep, other_is_zero array.depth other (λ same. omega arith), kept.counted)
 
   kept_set : (pointer old : Pointer) (changed : ℕ) → pointer.local_depth ≤ array.depth → old ≡ get_or array.pointers at old
-      → changed + one_if_deep array.depth old ≡ deepest + one_if_deep array.depth pointer → IsKept changed (record array { pointers = set array.pointers at pointer })
+      → changed + one_if_deep array.depth old ≡ deepest + one_if_deep array.depth pointer → IsKeptArray changed (record array { pointers = set array.pointers at pointer })
   kept_set pointer old changed within is counts = record {
     ward_bits = kept.ward_bits;
     limit = kept.limit;
@@ -50,12 +50,12 @@ module _ (array : PointerArray) (deepest at : ℕ) (kept : IsKept deepest array)
 abbrev HaveSame : Inside → Inside → Type 0
 HaveSame one other = (other.ward_bits ≡ one.ward_bits) × (other.depth ≡ one.depth) × (other.pointers ≡ one.pointers)
 
-kept_after : (before between after : Inside) (at : ℕ) (pointer old : Pointer) → IsKept before.deepest (the_view before) → at < length before.pointers.items → pointer.local_depth ≤ before.depth
+kept_after : (before between after : Inside) (at : ℕ) (pointer old : Pointer) → IsKeptArray before.deepest (the_view before) → at < length before.pointers.items → pointer.local_depth ≤ before.depth
     → old ≡ get_or before.pointers.items at old → HaveSame before between → HaveSame between after → between.deepest + one_if_deep before.depth old ≡ before.deepest → after.deepest ≡ between.deepest + one_if_deep between.depth pointer
-    → IsKept after.deepest (record (the_view after) { pointers = set after.pointers.items at pointer })
+    → IsKeptArray after.deepest (record (the_view after) { pointers = set after.pointers.items at pointer })
 kept_after before between after at pointer old kept there within is first second less more =
     let same : record (the_view before) { pointers = set before.pointers.items at pointer } ≡ record (the_view after) { pointers = set after.pointers.items at pointer } = cc in
-    subst (IsKept after.deepest) same (kept_set (the_view before) before.deepest at kept there pointer old after.deepest within is (omega (arith, ap (λ n. one_if_deep n pointer) first.1)))
+    subst (IsKeptArray after.deepest) same (kept_set (the_view before) before.deepest at kept there pointer old after.deepest within is (omega (arith, ap (λ n. one_if_deep n pointer) first.1)))
 
 pub overflow_sub-self : goal.overflow_sub-self
 overflow_sub-self c =

@@ -1,4 +1,5 @@
-use Rattle.std.proofs.Common.{◌+◌, Bool, List, ◌≡◌, ℕ, ◌^◌, Option, subst, sym, arith}
+use Rattle.std.proofs.Common.{◌∙◌, ap, ◌+◌, Bool, List, ◌≡◌, ℕ, ◌^◌, Option, subst, sym, arith}
+use Rattle.exh_prefix.specs.Prefix.{low_of}
 use Rattle.exh_table.specs.Directory.{IsName}
 use Rattle.exh_model.specs.LeafSet.{members}
 use Rattle.exh_model.proofs.LeafLemmas.{IsDepthOrNone}
@@ -13,15 +14,15 @@ returns-in_default c =
 pub returns-in_default-name : goal.returns-in_default-name
 returns-in_default-name c =
     let leaves = members c.args.self.now in
-    let k = c.first_pseudokey.result in
-    unnamed leaves k c.first_pseudokey.type_inv c.in_default-name.ensures
+    let k = c.low.result in
+    unnamed leaves k c.low.type_inv c.in_default-name.ensures
 
 pub loop-leading-preserved : goal.loop-leading-preserved
 loop-leading-preserved c =
     let leaves = members c.args.self.now in
     let P : ℕ → Type 0 = λ k. IsName leaves k c.in-Some-name.name in
     let Q : List (List Bool) → Type 0 = λ names. AreNames leaves c.in-Some.depth names (c.loop-leading.leading + 1) in
-    subst Q (sym c.in_ok-push.ensures.items) (AreNames-more leaves c.in-Some.depth c.loop-leading.names.items c.loop-leading.leading c.in-Some-name.name (subst P c.first_pseudokey.ensures c.in-Some-name.ensures) c.loop-leading.invariant)
+    subst Q (sym c.in_ok-push.ensures.items) (AreNames-more leaves c.in-Some.depth c.loop-leading.names.items c.loop-leading.leading c.in-Some-name.name (subst P (c.low.ensures ∙ ap low_of c.of_number.ensures) c.in-Some-name.ensures) c.loop-leading.invariant)
 
 pub returns : goal.returns
 returns c =

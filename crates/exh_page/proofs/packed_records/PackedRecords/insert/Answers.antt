@@ -1,6 +1,6 @@
 use Rattle.std.proofs.Common.{◌≡◌, ◌++◌, take, drop, insert, ap, ◌∙◌, arith}
 use Rattle.exh_page.specs.declared.record.Record.{Record}
-use Rattle.exh_page.specs.PackedRecords.{ArePacked, IsSized, stored_of, text_of}
+use Rattle.exh_page.specs.PackedRecords.{ArePacked, IsSized, stored_of, record_text}
 use Rattle.exh_page.proofs.Packed.{unpacked, repacked}
 use Rattle.exh_page.proofs.PackedReads.{start_inside, packed_as}
 use Rattle.exh_page.proofs.PackedEdits.{packed_inserted}
@@ -16,9 +16,9 @@ packed_after c =
     let packed : ArePacked c.args.self.now c.self.inside.stored.items c.self.inside.texts.items = packed_as c.self.invariant c.self.view_is in
     let item : Record = record { pseudokey = c.args.pseudokey; key = c.args.key.now; value = c.args.value.now } in
     let sized : IsSized item = record { some = c.as_bytes-key.ensures.some; key = c.as_bytes-key.ensures.limit; value = c.as_bytes-value.ensures.limit } in
-    let text : c.as_bytes-key.result.now ++ c.as_bytes-value.result.now ≡ text_of item =
+    let text : c.as_bytes-key.result.now ++ c.as_bytes-value.result.now ≡ record_text item =
     ap (λ key. key ++ c.as_bytes-value.result.now) c.as_bytes-key.ensures.bytes ∙ ap (λ value. c.args.key.now ++ value) c.as_bytes-value.ensures.bytes in
-    let texts_is : c.put_text.new.texts.items ≡ take c.args.spot.start c.self.inside.texts.items ++ (text_of item ++ drop c.args.spot.start c.self.inside.texts.items) =
+    let texts_is : c.put_text.new.texts.items ≡ take c.args.spot.start c.self.inside.texts.items ++ (record_text item ++ drop c.args.spot.start c.self.inside.texts.items) =
     c.in_ok-put_text.ensures.ok ∙ ap (λ text. take c.args.spot.start c.self.inside.texts.items ++ (text ++ drop c.args.spot.start c.self.inside.texts.items)) text in
     let kept : c.of.result ≡ stored_of item =
     c.of.ensures ∙ ap (λ key. stored_of (record item { key = key; value = c.as_bytes-value.result.now })) c.as_bytes-key.ensures.bytes ∙ ap (λ value. stored_of (record item { value = value })) c.as_bytes-value.ensures.bytes in

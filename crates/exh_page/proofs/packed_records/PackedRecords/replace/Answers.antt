@@ -2,7 +2,7 @@ use Rattle.std.proofs.Common.{◌≡◌, ◌+◌, ◌≤◌, ◌++◌, length, t
 use Rattle.std.proofs.lemmas.Bool.{false≢true}
 use Rattle.std.proofs.lemmas.Option.{slice_get-get_or}
 use Rattle.exh_page.specs.declared.record.Record.{Record}
-use Rattle.exh_page.specs.PackedRecords.{ArePacked, IsSized, stored_of, text_of}
+use Rattle.exh_page.specs.PackedRecords.{ArePacked, IsSized, stored_of, record_text}
 use Rattle.exh_page.proofs.Packed.{unpacked, repacked}
 use Rattle.exh_page.proofs.PackedReads.{start_inside, packed_as}
 use Rattle.exh_page.proofs.PackedEdits.{ended_at, long_at, packed_replaced}
@@ -24,18 +24,18 @@ pub returns-in_err-put_text-clause-fits : goal.returns-in_err-put_text-clause-fi
 returns-in_err-put_text-clause-fits c =
     let packed : ArePacked c.args.self.now c.self.inside.stored.items c.self.inside.texts.items = packed_as c.self.invariant c.self.view_is in
     let old : Record = get_or c.args.self.now c.args.spot.index (record { pseudokey = c.args.pseudokey; key = c.args.key.now; value = c.args.value.now }) in
-    let old_long : c.text_len.result ≡ length (text_of old) = long_at packed c.args.spot.index c.text_len.result c.index.result.now (record { pseudokey = c.args.pseudokey; key = c.args.key.now; value = c.args.value.now }) c.requires.there c.text_len.ensures c.index.ensures in
-    let new_long : length c.as_bytes-key.result.now + length c.as_bytes-value.result.now ≡ length (text_of (record { pseudokey = c.args.pseudokey; key = c.args.key.now; value = c.args.value.now })) =
+    let old_long : c.text_len.result ≡ length (record_text old) = long_at packed c.args.spot.index c.text_len.result c.index.result.now (record { pseudokey = c.args.pseudokey; key = c.args.key.now; value = c.args.value.now }) c.requires.there c.text_len.ensures c.index.ensures in
+    let new_long : length c.as_bytes-key.result.now + length c.as_bytes-value.result.now ≡ length (record_text (record { pseudokey = c.args.pseudokey; key = c.args.key.now; value = c.args.value.now })) =
     omega (arith, length-append c.args.key.now c.args.value.now, ap length c.as_bytes-key.ensures.bytes, ap length c.as_bytes-value.ensures.bytes) in
-    subst (λ found. IfSome found (λ r. length (text_of (record { pseudokey = c.args.pseudokey; key = c.args.key.now; value = c.args.value.now })) ≤ length (text_of r) → IsOk c.from_residual.result)) (sym (slice_get-get_or c.args.self.now c.args.spot.index (record { pseudokey = c.args.pseudokey; key = c.args.key.now; value = c.args.value.now }) c.requires.there))
-    (λ (short : length (text_of (record { pseudokey = c.args.pseudokey; key = c.args.key.now; value = c.args.value.now })) ≤ length (text_of old)). absurd (false≢true (c.in_err-put_text.ensures.fits (omega (arith, short, old_long, new_long)))))
+    subst (λ found. IfSome found (λ r. length (record_text (record { pseudokey = c.args.pseudokey; key = c.args.key.now; value = c.args.value.now })) ≤ length (record_text r) → IsOk c.from_residual.result)) (sym (slice_get-get_or c.args.self.now c.args.spot.index (record { pseudokey = c.args.pseudokey; key = c.args.key.now; value = c.args.value.now }) c.requires.there))
+    (λ (short : length (record_text (record { pseudokey = c.args.pseudokey; key = c.args.key.now; value = c.args.value.now })) ≤ length (record_text old)). absurd (false≢true (c.in_err-put_text.ensures.fits (omega (arith, short, old_long, new_long)))))
 
 packed_after : (c : goal.After-self-1) → ArePacked (set c.args.self.now c.args.spot.index (record { pseudokey = c.args.pseudokey; key = c.args.key.now; value = c.args.value.now })) (set c.self.inside.stored.items c.args.spot.index c.of.result) c.put_text.new.texts.items
 packed_after c =
     let packed : ArePacked c.args.self.now c.self.inside.stored.items c.self.inside.texts.items = packed_as c.self.invariant c.self.view_is in
     let ended = ended_at packed c.args.spot.index c.args.spot.start c.text_len.result c.index.result.now c.requires.there c.requires.spot c.text_len.ensures c.index.ensures in
     let sized : IsSized (record { pseudokey = c.args.pseudokey; key = c.args.key.now; value = c.args.value.now }) = record { some = c.as_bytes-key.ensures.some; key = c.as_bytes-key.ensures.limit; value = c.as_bytes-value.ensures.limit } in
-    let text : c.as_bytes-key.result.now ++ c.as_bytes-value.result.now ≡ text_of (record { pseudokey = c.args.pseudokey; key = c.args.key.now; value = c.args.value.now }) =
+    let text : c.as_bytes-key.result.now ++ c.as_bytes-value.result.now ≡ record_text (record { pseudokey = c.args.pseudokey; key = c.args.key.now; value = c.args.value.now }) =
     ap (λ key. key ++ c.as_bytes-value.result.now) c.as_bytes-key.ensures.bytes ∙ ap (λ value. c.args.key.now ++ value) c.as_bytes-value.ensures.bytes in
     let item : Record = record { pseudokey = c.args.pseudokey; key = c.args.key.now; value = c.args.value.now } in
     let kept : c.of.result ≡ stored_of item =

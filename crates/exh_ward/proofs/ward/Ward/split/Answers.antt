@@ -4,7 +4,7 @@ use Rattle.exh_page.specs.declared.page.TheConstants.{CAP_LIMIT}
 use Rattle.exh_page.specs.Page.{low_bound}
 use Rattle.exh_ward.specs.SplitStep.{IsSplitStep}
 use Rattle.exh_ward.specs.WardState.{WardState}
-use Rattle.exh_ward.specs.declared.ward.TheConstants.{WARD_BITS_LIMIT}
+use Rattle.exh_prefix.specs.declared.prefix.TheConstants.{WARD_BITS_LIMIT}
 use Rattle.exh_ward.proofs.SplitsAreSteps.{halved, live_there, at_within, made_revived, made_fresh, not_greatest, split_changed, formed, split_step}
 use Rattle.exh_ward.proofs.ward.Ward.split.Goals as goal
 

@@ -2,15 +2,15 @@ use Rattle.std.specs.Prelude.{slice_get}
 use Rattle.std.proofs.lemmas.Option.{slice_get_read, slice_get_past}
 use Rattle.exh_ward.specs.WardState.{WardState}
 use Rattle.std.proofs.Common.{◌≡◌, ◌≤◌, length, None, Some, IsSome, inl, refl, List, sym, ◌∙◌, subst, Ok}
+use Rattle.exh_prefix.specs.ListLemmas.{within_there}
 use Rattle.exh_array.specs.Pointers.{DirectoryState}
-use Rattle.exh_world.specs.Kept.{IsKept, IsPlaceOf, HaveIndexesInTurn}
+use Rattle.exh_world.specs.Kept.{IsKeptWorld, IsPlaceOf, HaveIndexesInTurn}
 use Rattle.exh_world.specs.Step.{HasTaken}
 use Rattle.exh_world.specs.World.{WorldState, numbered}
 use Rattle.exh_world.specs.declared.event.Event.TheVariants.{Deliver}
 use Rattle.exh_world.specs.declared.outcome.Outcome.TheVariants.{Taken}
 use Rattle.exh_world.proofs.CopyArrays.{table_placed, table_there, arrays_kept}
 use Rattle.exh_world.proofs.CopySteps.{all_above, kept_after, is_copy, has_taken, with_tables, refused_same, same_copies, lent_there, indexes_in_turn, no_notice}
-use Rattle.exh_world.specs.ListLemmas.{within_there}
 use Rattle.exh_world.proofs.world.World.deliver.Given as Given
 use Rattle.exh_world.proofs.world.World.deliver.Goals as goal
 
@@ -63,7 +63,7 @@ pub invariant_of-self : goal.invariant_of-self
 invariant_of-self g c =
     let placed = subst (λ (items : List DirectoryState). IsPlaceOf items c.args.copy c.in-Some.at) c.deref.ensures.value c.in-Some.ensures.some in
     let own_at = lent_there c.self.inside.copies.items c.args.copy c.in-Some.at c.index_mut.result.now placed c.index_mut.ensures.value in (
-      subst (IsKept g.K.Keyer.pseudokey_of)
+      subst (IsKeptWorld g.K.Keyer.pseudokey_of)
           (sym (same_copies c.self.view_is c.self.invariant.0 c.self.inside.copies.items refl c.in-Some.at c.index_mut.result.now c.take.new.self own_at c.in_err-take.ensures.err)) c.self.invariant.0,
       arrays_kept c.self.inside.ward_bits c.self.inside.start c.self.inside.copies.items c.in-Some.at c.index_mut.result.now c.take.new.self c.self.invariant.1 own_at c.take.ensures.array,
     )

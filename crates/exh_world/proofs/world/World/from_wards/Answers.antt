@@ -1,5 +1,5 @@
 use Rattle.std.proofs.Common.{length, map, sym, ap, ◌∙◌, subst}
-use Rattle.exh_world.specs.Kept.{IsKept, tables_of}
+use Rattle.exh_world.specs.Kept.{IsKeptWorld, tables_of}
 use Rattle.exh_world.specs.NewWorld.{tables_joined}
 use Rattle.exh_world.proofs.CopyArrays.{tables_replicated, arrays_replicated}
 use Rattle.exh_world.proofs.FreshWorld.{AreSoundWards}
@@ -14,7 +14,7 @@ returns-clause-world g c =
 pub invariant_of-result : goal.invariant_of-result
 invariant_of-result g c =
     let pseudokey_of = g.K.Keyer.pseudokey_of in (
-      subst (IsKept pseudokey_of) (sym (returns-clause-world g c))
+      subst (IsKeptWorld pseudokey_of) (sym (returns-clause-world g c))
           (wards_world_kept pseudokey_of c.args.config.now c.args.wards.items g.met.K.Keyer.pseudokey_fits c.requires.bits c.requires.count c.requires.each (subst (AreSoundWards pseudokey_of) c.deref.ensures.value c.in_ok-start.ensures.sound) c.walks_name_homes.ensures),
       arrays_replicated c.args.config.now.ward_bits c.in_ok-start.start c.in_ok-copies.copies.items c.args.config.now.copies c.in_ok-start.ensures.array c.in_ok-copies.ensures,
     )

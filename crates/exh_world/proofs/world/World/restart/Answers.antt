@@ -1,4 +1,5 @@
 use Rattle.std.proofs.Common.{refl, List, sym, subst, Ok}
+use Rattle.exh_prefix.specs.ListLemmas.{within_there}
 use Rattle.exh_array.specs.Pointers.{DirectoryState, HasArrayOf}
 use Rattle.exh_world.specs.Kept.{IsPlaceOf}
 use Rattle.exh_world.specs.Step.{HasRestarted}
@@ -6,7 +7,6 @@ use Rattle.exh_world.specs.declared.event.Event.TheVariants.{Restart}
 use Rattle.exh_world.specs.declared.outcome.Outcome.TheVariants.{Restarted}
 use Rattle.exh_world.proofs.CopyArrays.{table_placed, table_there, arrays_set}
 use Rattle.exh_world.proofs.CopySteps.{kept_after, has_restarted, with_copy, with_tables}
-use Rattle.exh_world.specs.ListLemmas.{within_there}
 use Rattle.exh_world.proofs.world.World.restart.Goals as goal
 
 pub returns-clause-step : goal.returns-clause-step

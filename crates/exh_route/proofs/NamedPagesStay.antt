@@ -20,8 +20,8 @@ use Rattle.exh_ward.specs.declared.hop.Hop.TheVariants.{Done, Moved, MustSplit, 
 use Rattle.exh_route.specs.Laws.{IsLegalWard, IsKeptPage}
 use Rattle.exh_route.specs.WardRun.{WardEvent, HopAt, SplitAt, MergeAt, WardStep, WardMoment, IsWardRun, named_by, right_page}
 use Rattle.exh_route.proofs.Links.{target_below, next_live}
-use Rattle.exh_route.proofs.RunPlaces.{run_places}
-use Rattle.exh_route.proofs.StepFacts.{stepped}
+use Rattle.exh_route.proofs.PagesStay.{run_places}
+use Rattle.exh_route.proofs.StepOneMap.{stepped}
 
 abbrev IsPage : List Page → ℕ → Type 0
 IsPage pages number = (page : Page) × IsAt pages number page

@@ -1,13 +1,12 @@
 -- What one step leaves of a ward.
-use Rattle.std.proofs.Common.{◌≡◌, ℕ, zero, suc, ◌+◌, ◌<◌, List, [], ◌∷◌, ◌++◌, length, slice_get, map, Some, inl, inr, Ok, Err, refl, sym, ap, ◌∙◌, subst, arith}
-use Rattle.std.specs.FinMap as fin
+use Rattle.std.proofs.Common.{◌≡◌, ℕ, ◌+◌, List, [], ◌∷◌, ◌++◌, length, slice_get, Some, inl, inr, Ok, Err, refl, sym, ap, ◌∙◌, subst, arith}
 use Rattle.std.proofs.lemmas.Bool.{cases_lt}
-use Rattle.std.proofs.lemmas.List.{append_assoc, append-nil, map-append, length-append}
+use Rattle.std.proofs.lemmas.List.{append-nil, length-append}
 use Rattle.std.proofs.lemmas.Option.{slice_get_within}
+use Rattle.exh_prefix.specs.ListLemmas.{at_front, at_last}
 use Rattle.exh_notice.specs.declared.notice.Notice.{Notice}
-use Rattle.exh_notice.specs.Entry.{entry_of}
-use Rattle.exh_table.specs.SetLemmas.{one_more}
-use Rattle.exh_table.specs.Table.{TableMap, IsTableOf, IsTableSince, told_by, table_with}
+use Rattle.exh_table.specs.SetLemmas.{IsTableSince-push}
+use Rattle.exh_table.specs.Table.{TableMap, table_with}
 use Rattle.exh_page.specs.declared.page.Page.{Page}
 use Rattle.exh_page.specs.Laws.{AreOfWords}
 use Rattle.exh_legal.specs.Fit.{FitsPages}
@@ -28,27 +27,12 @@ use Rattle.exh_ward.specs.declared.hop.Hop.{Hop}
 use Rattle.exh_ward.specs.declared.hop.Hop.TheVariants.{Done, Moved, MustSplit, Stray}
 use Rattle.exh_calls.specs.declared.journal_entry.JournalEntry.{JournalEntry}
 use Rattle.exh_calls.specs.declared.reply.Reply.{Reply}
+use Rattle.exh_calls.specs.HistoryLemmas.{MapGoes}
+use Rattle.exh_ward.specs.AnswerLemmas.{bare_answered}
 use Rattle.exh_route.specs.Laws.{IsLegalWard}
-use Rattle.exh_route.specs.WardRun.{WardEvent, HopAt, SplitAt, MergeAt, WardStep, answered_by, changes_by}
-use Rattle.exh_route.proofs.AnsweredPages.{bare_answered}
+use Rattle.exh_route.specs.WardRun.{WardEvent, HopAt, SplitAt, MergeAt, WardStep, answer_of, changes_by}
 
 -- ---- one notice more
-
-table_since_more : (start : TableMap) (notices : List Notice) (table : TableMap) (notice : Notice) → IsTableSince start notices table → IsTableSince start (notices ++ notice ∷ []) (table_with table notice)
-table_since_more start notices table notice is =
-    let told = fin.entries start ++ map told_by notices in
-    let whole : told ++ told_by notice ∷ [] ≡ fin.entries start ++ map told_by (notices ++ notice ∷ []) =
-    append_assoc (fin.entries start) (map told_by notices) (told_by notice ∷ []) ∙ ap (λ more. fin.entries start ++ more) (sym (map-append told_by notices (notice ∷ []))) in
-    subst (λ told. IsTableOf told (table_with table notice)) whole (one_more told table notice.prefix (entry_of notice) is)
-
-at_front : (front back : List Notice) (place : ℕ) → place < length front → slice_get (front ++ back) place ≡ slice_get front place
-at_front [] back place within = absurd (omega arith)
-at_front (first ∷ front) back zero within = refl
-at_front (first ∷ front) back (suc place) within = at_front front back place (omega arith)
-
-at_last : (front : List Notice) (notice : Notice) → slice_get (front ++ notice ∷ []) (length front) ≡ Some notice
-at_last [] notice = refl
-at_last (first ∷ front) notice = at_last front notice
 
 numbered_more : (ward : ℕ) (start table : TableMap) (notices : List Notice) (notice : Notice) → AreNumbered ward start notices → index_of table ≡ index_of start + length notices
     → notice.ward ≡ ward → notice.index ≡ index_of table + 1 → AreNumbered ward start (notices ++ notice ∷ [])
@@ -63,30 +47,24 @@ numbered_more ward start table notices notice numbered counted ward_is index_is 
 
 -- ---- what a step leaves
 
--- the map is the map machine's after the entry, if there is one
-abbrev pub MapGoes : {K : Type 0} → (K → List ℕ → ℕ) → WardState K → List JournalEntry → WardState K → Type 0
-MapGoes pseudokey_of old [] new = map_of new.pages ≡ map_of old.pages
-MapGoes pseudokey_of old (entry ∷ []) new =
-    (entry.reply ≡ reply_of old.cap (pseudokey_of old.keyer) (map_of old.pages) entry.call) × (map_of new.pages ≡ map_after old.cap (pseudokey_of old.keyer) (map_of old.pages) entry.call)
-MapGoes pseudokey_of old (entry ∷ other ∷ entries) new = ⊥
-
 pub record IsStepped {K : Type 0} (pseudokey_of : K → List ℕ → ℕ) (old : WardState K) (event : WardEvent) (new : WardState K) : Type 0 where
   pub others : new ≡ record old { pages = new.pages; journal = new.journal; notices = new.notices; table = new.table; failures = new.failures }
   pub notices : new.notices ≡ old.notices ++ changes_by event
-  pub journal : new.journal ≡ old.journal ++ answered_by event
-  pub goes : MapGoes pseudokey_of old (answered_by event) new
+  pub journal : new.journal ≡ old.journal ++ answer_of event
+  -- the map is the map machine's after the answer, if there is one
+  pub goes : MapGoes old.cap (pseudokey_of old.keyer) (map_of old.pages) (answer_of event) (map_of new.pages)
   pub legal : IsLegalWard pseudokey_of old → IsLegalWard pseudokey_of new
   pub sound : IsSoundWard pseudokey_of old → IsSoundWard pseudokey_of new
 
 module _ {K : Type 0} (pseudokey_of : K → List ℕ → ℕ) (words : (keyer : K) → AreOfWords (pseudokey_of keyer)) (splits : SplitsKeepLegal) (merges : MergesKeepLegal) (answers : AnswersKeepLegal) (goes_on : HistoriesGoOn) (old new : WardState K) where
   -- ---- nothing but the count of failures changed
 
-  counted_anew : (event : WardEvent) (failures : ℕ) → answered_by event ≡ [] → changes_by event ≡ [] → IsStepped pseudokey_of old event (record old { failures = failures })
+  counted_anew : (event : WardEvent) (failures : ℕ) → answer_of event ≡ [] → changes_by event ≡ [] → IsStepped pseudokey_of old event (record old { failures = failures })
   counted_anew event failures no_answer no_change = record {
     others = refl;
     notices = sym (append-nil old.notices) ∙ ap (λ more. old.notices ++ more) (sym no_change);
     journal = sym (append-nil old.journal) ∙ ap (λ more. old.journal ++ more) (sym no_answer);
-    goes = subst (λ entries. MapGoes pseudokey_of old entries (record old { failures = failures })) (sym no_answer) refl;
+    goes = subst (λ entries. MapGoes old.cap (pseudokey_of old.keyer) (map_of old.pages) entries (map_of old.pages)) (sym no_answer) refl;
     legal = λ legal. legal;
     sound = λ sound. record {
       legal = sound.legal;
@@ -99,10 +77,10 @@ module _ {K : Type 0} (pseudokey_of : K → List ℕ → ℕ) (words : (keyer : 
     };
   }
 
-  unchanged : (event : WardEvent) → answered_by event ≡ [] → changes_by event ≡ [] → IsUnchanged old new → IsStepped pseudokey_of old event new
+  unchanged : (event : WardEvent) → answer_of event ≡ [] → changes_by event ≡ [] → IsUnchanged old new → IsStepped pseudokey_of old event new
   unchanged event no_answer no_change is = subst (IsStepped pseudokey_of old event) (sym is) (counted_anew event new.failures no_answer no_change)
 
-  stayed : (event : WardEvent) → answered_by event ≡ [] → changes_by event ≡ [] → new ≡ old → IsStepped pseudokey_of old event new
+  stayed : (event : WardEvent) → answer_of event ≡ [] → changes_by event ≡ [] → new ≡ old → IsStepped pseudokey_of old event new
   stayed event no_answer no_change is = subst (IsStepped pseudokey_of old event) (sym is) (counted_anew event old.failures no_answer no_change)
 
   -- ---- the pages were changed, with a notice
@@ -110,14 +88,14 @@ module _ {K : Type 0} (pseudokey_of : K → List ℕ → ℕ) (words : (keyer : 
   abbrev told : Notice → List Page → WardState K
   told notice pages = record old { pages = pages; notices = old.notices ++ notice ∷ []; table = table_with old.table notice }
 
-  module _ (notice : Notice) (pages : List Page) (event : WardEvent) (no_answer : answered_by event ≡ []) (one_change : changes_by event ≡ notice ∷ []) (ward_is : notice.ward ≡ old.number) (index_is : notice.index ≡ index_of old.table + 1) (same_map : map_of pages ≡ map_of old.pages)
+  module _ (notice : Notice) (pages : List Page) (event : WardEvent) (no_answer : answer_of event ≡ []) (one_change : changes_by event ≡ notice ∷ []) (ward_is : notice.ward ≡ old.number) (index_is : notice.index ≡ index_of old.table + 1) (same_map : map_of pages ≡ map_of old.pages)
       (changed : IsLegalWard pseudokey_of old → IsChanged old.cap (pseudokey_of old.keyer) (own_prefix old) old.start old.notices old.table old.pages notice pages) where
     told_sound : IsSoundWard pseudokey_of old → IsSoundWard pseudokey_of (told notice pages)
     told_sound sound =
         let is = changed sound.legal in
         record {
           legal = record { legal = is.legal; fits = is.fits };
-          since = table_since_more old.start old.notices old.table notice sound.since;
+          since = IsTableSince-push old.start old.notices old.table notice sound.since;
           numbered = numbered_more old.number old.start old.table old.notices notice sound.numbered sound.counted ward_is index_is;
           counted = omega (arith, is.index, sound.counted, length-append old.notices (notice ∷ []));
           notices = one_true_more (own_prefix old) pages old.notices notice (λ other there. still_true (own_prefix old) old.pages pages is.places other (sound.notices other there)) is.told;
@@ -130,7 +108,7 @@ module _ {K : Type 0} (pseudokey_of : K → List ℕ → ℕ) (words : (keyer : 
       others = refl;
       notices = ap (λ more. old.notices ++ more) (sym one_change);
       journal = sym (append-nil old.journal) ∙ ap (λ more. old.journal ++ more) (sym no_answer);
-      goes = subst (λ entries. MapGoes pseudokey_of old entries (told notice pages)) (sym no_answer) same_map;
+      goes = subst (λ entries. MapGoes old.cap (pseudokey_of old.keyer) (map_of old.pages) entries (map_of pages)) (sym no_answer) same_map;
       legal = λ legal. (let is = changed legal in record { legal = is.legal; fits = is.fits });
       sound = told_sound;
     }

@@ -1,16 +1,13 @@
 -- Pages keep their numbers and low bounds over a run.
-use Rattle.std.proofs.Common.{ℕ, List, [], ◌∷◌, ap, arith}
+use Rattle.std.proofs.Common.{ℕ, List, [], ◌∷◌, ap}
 use Rattle.std.specs.List.{AllByRecursion}
 use Rattle.std.proofs.lemmas.List.Elements.{All-from_recursion}
-use Rattle.exh_page.specs.declared.page.Page.{Page}
 use Rattle.exh_legal.specs.Laws.{KeepsPlaces}
+use Rattle.exh_legal.specs.PlaceLemmas.{places_from, places_on, below_kept}
 use Rattle.exh_ward.specs.WardState.{WardState}
-use Rattle.exh_route.specs.Laws.{IsBelow, ArePlacesKept}
+use Rattle.exh_route.specs.Laws.{ArePlacesKept}
 use Rattle.exh_route.specs.WardRun.{WardMoment, IsWardRun}
-use Rattle.exh_route.proofs.Places.{places_from, places_on, step_places}
-
-pub below_kept : (pages new : List Page) → KeepsPlaces pages new → (number pseudokey : ℕ) → IsBelow pages number pseudokey → IsBelow new number pseudokey
-below_kept pages new places number pseudokey is = let kept = places number is.0 is.1 in (kept.0, kept.1, omega (arith, is.2, kept.2))
+use Rattle.exh_route.proofs.StepPlaces.{step_places}
 
 module _ {K : Type 0} (pseudokey_of : K → List ℕ → ℕ) where
   pub run_places : (start : WardState K) (moments : List (WardMoment K)) (end : WardState K) → IsWardRun pseudokey_of start moments end → KeepsPlaces start.pages end.pages

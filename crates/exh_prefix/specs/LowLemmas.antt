@@ -6,7 +6,7 @@ use Rattle.std.proofs.Math.Nat.{pow-suc}
 use Rattle.exh_prefix.specs.declared.prefix.TheConstants.{LIMIT}
 use Rattle.exh_prefix.specs.Bits.{word_bits}
 use Rattle.exh_prefix.specs.Prefix.{zeros, IsFront, Begins, low_of}
-use Rattle.exh_prefix.specs.PrefixLemmas.{low_of-lt, low_of-child, low_of-left_child, begins_from_low, word_bits-low_of}
+use Rattle.exh_prefix.specs.PrefixLemmas.{low_of-child, low_of-left_child, begins_from_low, word_bits-low_of, low_of-word}
 
 pub own_front : (bits : List Bool) → IsFront bits bits
 own_front bits = take_all (length bits) bits (omega arith)
@@ -23,7 +23,7 @@ pub front_of_longer : (front bits more : List Bool) → IsFront front bits → I
 front_of_longer front bits more is = take-append-le (length front) bits more (front_shorter front bits is) ∙ is
 
 pub low_of-small : (prefix : List Bool) → length prefix ≤ LIMIT → low_of prefix < 2 ^ 64
-low_of-small prefix short = omega (arith, low_of-lt prefix (omega arith), pow_pos (64 - length prefix))
+low_of-small prefix short = low_of-word prefix (omega arith)
 
 -- a prefix begins its low bound
 pub begins_own_low : (prefix : List Bool) → length prefix ≤ LIMIT → Begins prefix (low_of prefix)
