@@ -1,8 +1,7 @@
 -- Where a search of rising records stops.
-use Rattle.std.proofs.Common.{◌≡◌, ℕ, ◌+◌, ◌<◌, ◌≤◌, Bool, true, false, List, [], ◌∷◌, ◌++◌, length, take, drop, get_or, set, insert, slice_get, None, Some, Result, Ok, Err, IfSome, refl, sym, ap, ◌∙◌, subst, arith}
+use Rattle.std.proofs.Common.{◌≡◌, ℕ, ◌+◌, ◌<◌, ◌≤◌, Bool, true, false, List, [], ◌∷◌, ◌++◌, length, take, drop, get_or, set, insert, slice_get, None, Some, IfSome, refl, sym, ap, ◌∙◌, subst, arith}
 use Rattle.std.specs.declared.cmp.Ordering.TheVariants.{Less, Equal, Greater}
 use Rattle.std.specs.List.{All}
-use Rattle.std.specs.Prelude.{is_err, is_none}
 use Rattle.std.specs.Ordering.{is_lt}
 use Rattle.std.proofs.lemmas.Bool.{false≢true}
 use Rattle.std.proofs.lemmas.List.{length-append, take-append-drop, drop_more, drop_all, take_all, set_split}
@@ -15,8 +14,7 @@ use Rattle.exh_page.specs.Records.{IsRising, value_at, with_record}
 use Rattle.exh_page.specs.PackedRecords.{record_text}
 use Rattle.exh_page.specs.Page.{begun_by}
 use Rattle.exh_page.specs.RecordsLemmas.{place_cmp-exact, AllBefore, AllAfter, IsRising-drop, IsRising-filter, IsRising-with_record, after_later, value_at-cut, with_record-cut}
-use Rattle.exh_page.specs.declared.spot.Spot.{Spot}
-use Rattle.exh_page.specs.Search.{IsFound, IsGap, IsSought}
+use Rattle.exh_page.specs.Search.{IsFound, IsGap}
 
 -- the records from i on, of which the first is x
 rest_from : (records : List Record) (i : ℕ) (x : Record) → i < length records → x ≡ get_or records i x → drop i records ≡ x ∷ drop (i + 1) records
@@ -77,11 +75,6 @@ value_found {place} {searched} {records} {i} {value} found same read =
 
 pub no_value_at_gap : {place : Place} {searched records : List Record} {i : ℕ} → IsGap place searched i → searched ≡ records → None ≡ value_at place records
 no_value_at_gap {place} {searched} {records} {i} gap same = sym (value_at-cut place searched _ _ _ gap.cut) ∙ ap (value_at place) same
-
--- a search finds no record exactly where the place has no value
-pub absent_where_sought : (place : Place) (records : List Record) (r : Result Spot Spot) → IsSought place records r → is_err r ≡ is_none (value_at place records)
-absent_where_sought place records (Ok spot) sought = sym (ap is_none (value_at-cut place records _ _ _ sought.1.cut))
-absent_where_sought place records (Err spot) sought = sym (ap is_none (value_at-cut place records _ _ _ sought.1.cut))
 
 pub set_found : {searched records : List Record} {i : ℕ} (item : Record) → IsFound (place_of item) searched i → searched ≡ records → set searched i item ≡ with_record item records
 set_found {searched} {records} {i} item found same =

@@ -27,7 +27,6 @@ pub enum Page {
 
 impl Page {
     ghost use Rattle.std.specs.Prelude.{◌≡◌, ◌<◌, ◌≤◌, ◌++◌, ◌↔◌, length, remove, IsTrue, IsOk, IfSome, IfOk, OnOk, OnErr};
-    ghost use Rattle.exh_page.specs.Place.{Place};
     ghost use Rattle.exh_page.specs.Records.{IsRising, value_at, with_record};
     ghost use Rattle.exh_page.specs.Search.{IsSought, IsSpot};
     ghost use Rattle.exh_page.specs.Page.{low_bound, records_of, share_of, with_records, IsDivisible, IsLive};
@@ -60,19 +59,6 @@ impl Page {
         match self {
             Page::Live { records, .. } => records.find(pseudokey, key),
             Page::Forward { .. } => None,
-        }
-    }
-
-    /// The value at the spot that a search of the page's records came to, `None` where it found no
-    /// record. It takes no memory.
-    pub fn value_at(&self, spot: Result<Spot, Spot>) -> Option<Value>
-        requires live { IsLive self.now }
-        requires sought { (place : Place) × IsSought place (records_of self.now) spot }
-        ensures { (place : Place) → IsSought place (records_of self.now) spot → result ≡ value_at place (records_of self.now) }
-    {
-        match self {
-            Page::Live { records, .. } => records.value_at(spot),
-            Page::Forward { .. } => unreachable!(),
         }
     }
 

@@ -1,6 +1,6 @@
-ghost use Rattle.std.specs.Prelude.{◌≡◌, ◌<◌, ◌≤◌, [], ◌∷◌, ◌++◌, ◌↔◌, length, remove, slice_get, is_err, is_none, IsTrue, IsOk, IfSome, IfOk, OnOk, OnErr};
+ghost use Rattle.std.specs.Prelude.{◌≡◌, ◌<◌, ◌≤◌, [], ◌∷◌, ◌++◌, ◌↔◌, length, remove, slice_get, IsTrue, IsOk, IfSome, IfOk, OnOk, OnErr};
 ghost use Rattle.std.specs.Iterator.{YieldsFirst, item_count};
-ghost use Rattle.exh_page.specs.Place.{Place, place_of};
+ghost use Rattle.exh_page.specs.Place.{place_of};
 ghost use Rattle.exh_page.specs.Records.{IsRising, value_at, with_record};
 ghost use Rattle.exh_page.specs.Page.{begun_by};
 ghost use Rattle.exh_page.specs.Search.{IsSought, IsSpot};
@@ -96,28 +96,9 @@ impl Records {
         ensures spot { IsSought (pseudokey, key.now) self.now result.0 }
         ensures value { result.1 ≡ value_at (pseudokey, key.now) self.now }
     {
-        let spot = self.search(pseudokey, key);
-        (spot, self.value_at(spot))
-    }
-
-    /// The spot of the record of a key with this pseudokey; where no record has both, `Err` of the
-    /// spot where it would stand. It takes no memory.
-    pub fn search(&self, pseudokey: u64, key: &Key) -> Result<Spot, Spot>
-        ensures spot { IsSought (pseudokey, key.now) self.now result }
-        ensures absent { is_err result ≡ is_none (value_at (pseudokey, key.now) self.now) }
-    {
-        self.packed.search(pseudokey, key)
-    }
-
-    /// The value at the spot that a search came to, `None` where it found no record. It takes no
-    /// memory.
-    pub fn value_at(&self, spot: Result<Spot, Spot>) -> Option<Value>
-        requires { (place : Place) × IsSought place self.now spot }
-        ensures { (place : Place) → IsSought place self.now spot → result ≡ value_at place self.now }
-    {
-        match spot {
-            Ok(spot) => Some(self.packed.value(spot)),
-            Err(_) => None,
+        match self.packed.search(pseudokey, key) {
+            Ok(spot) => (Ok(spot), Some(self.packed.value(spot))),
+            Err(spot) => (Err(spot), None),
         }
     }
 

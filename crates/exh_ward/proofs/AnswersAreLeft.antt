@@ -10,6 +10,7 @@ use Rattle.exh_page.specs.declared.page.Page.{Page}
 use Rattle.exh_page.specs.declared.page.Page.TheVariants.{Live}
 use Rattle.exh_page.specs.declared.record.Record.{Record}
 use Rattle.exh_page.specs.Page.{records_of, with_records}
+use Rattle.exh_page.specs.Records.{value_at}
 use Rattle.exh_page.specs.Search.{IsSought}
 use Rattle.exh_legal.specs.Laws.{PagesAreFew}
 use Rattle.exh_legal.specs.Pages.{map_of, IsAt}
@@ -95,6 +96,11 @@ module _ {K : Type 0} {pseudo : List ℕ → ℕ} {takes : Page → Type 0} {own
       let P : ℕ → Type 0 = λ k. IsSought (k, key_of call) answers.records seen.spot in
       let Q : Page → Type 0 = λ other. IsSought (pseudokey, key_of call) (records_of other) seen.spot in
       subst Q (sym (there_is other is)) (subst P (sym answers.hashed) answers.seen_is.sought)
+
+  pub stood_there : (other : Page) → IsAt w.pages at other → seen.stood ≡ value_at (pseudokey, key_of call) (records_of other)
+  stood_there other is =
+      answers.seen_is.stood ∙ ap (λ k. value_at (k, key_of call) answers.records) (sym answers.hashed)
+      ∙ ap (λ other. value_at (pseudokey, key_of call) (records_of other)) (sym (there_is other is))
 
   pub written_taken : length w.pages < 2 ^ 32 - 1 → (other : Page) → IsAt w.pages at other → takes (with_records (records_after full pseudokey call (records_of other)) other)
   written_taken few other is =

@@ -1,7 +1,7 @@
 -- A call at its home page: what is answered, and what is left.
 use Rattle.std.proofs.Common.{◌≡◌, ℕ, ◌<◌, ◌≤◌, ◌^◌, Bool, true, leb, List, length, Option, None, inl, inr, sym, ap, ◌∙◌, arith, nat_cmp}
 use Rattle.std.specs.FinMap as fin
-use Rattle.std.specs.Option.{option_map, is_none}
+use Rattle.std.specs.Option.{option_map}
 use Rattle.std.specs.Ordering.{is_eq, eq_by_cmp}
 use Rattle.std.specs.Cmp.Lexicographic.{slice_cmp}
 use Rattle.std.proofs.lemmas.Bool.{cases_lt, le-leb, lt-leb, eqb-true, eq-eqb, true≢false}
@@ -98,7 +98,7 @@ module _ {cap : ℕ} {pseudo : List ℕ → ℕ} {ward : List Bool} {pages : Lis
   -- a full page at which a call that sets a new key doesn't overflow has a prefix as long as can be
   at_limit : sets_new call ≡ true → value_at (place_of_key pseudo key) records ≡ None → cap ≤ length records → length prefix ≡ LIMIT
   at_limit sets absent few = elim (cases_lt (length prefix) LIMIT) [
-    | inl shorter ↦ absurd (is.none (few, shorter, ap is_none absent, sets))
+    | inl shorter ↦ absurd (is.none (few, shorter, absent, sets))
     | inr long ↦ omega (arith, long, short)
   ]
 

@@ -1,7 +1,5 @@
 -- What a call meets, and what its hop comes to.
 use Rattle.std.proofs.Common.{◌≡◌, ℕ, ◌<◌, ◌≤◌, ◌^◌, Bool, List, slice_get, Option, None, Some, refl, sym, ap, ◌∙◌, subst, arith}
-use Rattle.std.specs.Prelude.{IsTrue, is_none}
-use Rattle.std.proofs.lemmas.Bool.{false≢true}
 use Rattle.exh_prefix.specs.Prefix.{Begins, low_of}
 use Rattle.exh_prefix.specs.ListLemmas.{one_there}
 use Rattle.exh_page.specs.declared.page.Page.{Page}
@@ -35,10 +33,6 @@ sight_in cap pseudokey pages at call (Home home) page is sight = (page, is, sigh
 pub nothing_in : (cap pseudokey : ℕ) (pages : List Page) (at : ℕ) (call : Call) → (slice_get pages at ≡ None) → SightIn cap pseudokey pages at call Beyond
 nothing_in cap pseudokey pages at call none other reached = let both : None ≡ Some other = sym none ∙ reached.there in cc
 
-none_there : {X : Type 0} (found : Option X) → IsTrue (is_none found) → found ≡ None
-none_there None is = refl
-none_there (Some value) is = absurd (false≢true is)
-
 pub home_live : (page : Page) (pseudokey : ℕ) → IsHome page pseudokey → (prefix : List Bool) × (link : Option ℕ) × (records : List Record) × (page ≡ Live prefix link records)
 home_live (Live prefix link records) pseudokey home = (prefix, link, records, refl)
 home_live (Forward low target) pseudokey home = absurd home
@@ -47,11 +41,11 @@ module _ {cap : ℕ} {pseudo : List ℕ → ℕ} {ward : List Bool} {pages : Lis
   -- an overflow by the page's records is one by the map
   pub over_by_map : (call : Call) (prefix : List Bool) (link : Option ℕ) (records : List Record) → IsAt pages at (Live prefix link records) → Begins prefix (pseudo (key_of call)) → OverflowsPage cap (pseudo (key_of call)) (Live prefix link records) call
       → Overflows cap (map_of pages) (Live prefix link records) call
-  over_by_map call prefix link records is begins over = (get-map_of cap pseudo ward pages at _ (key_of call) legal is begins ∙ none_there _ over.2, over.0, over.1, over.3)
+  over_by_map call prefix link records is begins over = (get-map_of cap pseudo ward pages at _ (key_of call) legal is begins ∙ over.2, over.0, over.1, over.3)
 
   over_by_page : (call : Call) (prefix : List Bool) (link : Option ℕ) (records : List Record) → IsAt pages at (Live prefix link records) → Begins prefix (pseudo (key_of call)) → Overflows cap (map_of pages) (Live prefix link records) call
       → OverflowsPage cap (pseudo (key_of call)) (Live prefix link records) call
-  over_by_page call prefix link records is begins over = (over.1, over.2, ap is_none (sym (get-map_of cap pseudo ward pages at _ (key_of call) legal is begins) ∙ over.0), over.3)
+  over_by_page call prefix link records is begins over = (over.1, over.2, sym (get-map_of cap pseudo ward pages at _ (key_of call) legal is begins) ∙ over.0, over.3)
 
   pub hop_waits : SightIn cap (pseudo (key_of call)) pages at call MustWait → HopOf cap pseudo pages at call MustSplit
   hop_waits sight =

@@ -1,5 +1,5 @@
 -- What a call's home page answers it, and the records that it keeps.
-use Rattle.std.specs.Prelude.{◌≡◌, ℕ, ◌<◌, ◌≤◌, Bool, List, length, is_none, IsTrue}
+use Rattle.std.specs.Prelude.{◌≡◌, ℕ, ◌<◌, ◌≤◌, Bool, List, length, Option, None, IsTrue}
 use Rattle.exh_prefix.specs.declared.prefix.TheConstants.{LIMIT}
 use Rattle.exh_page.specs.declared.page.Page.{Page}
 use Rattle.exh_page.specs.declared.page.Page.TheVariants.{Live, Forward}
@@ -29,11 +29,11 @@ records_changed Remove pseudokey key records = without_place (pseudokey, key) re
 abbrev pub records_after : Bool → ℕ → Call → List Record → List Record
 records_after full pseudokey call records = records_changed (effect_at full pseudokey call records).change pseudokey (key_of call) records
 
--- the call sets a key that has no value (`absent`), where the page is full and shorter than LIMIT
-abbrev pub OverflowsWith : ℕ → Page → Call → Bool → Type 0
-OverflowsWith cap (Live prefix right records) call absent = (cap ≤ length records) × (length prefix < LIMIT) × IsTrue absent × IsTrue (sets_new call)
-OverflowsWith cap (Forward low target) call absent = ⊥
+-- the call sets a key that has no value, where the page is full and shorter than LIMIT
+abbrev pub OverflowsWith : ℕ → Page → Call → Option (List ℕ) → Type 0
+OverflowsWith cap (Live prefix right records) call stood = (cap ≤ length records) × (length prefix < LIMIT) × (stood ≡ None) × IsTrue (sets_new call)
+OverflowsWith cap (Forward low target) call stood = ⊥
 
 -- by what the page has for the key
 abbrev pub OverflowsPage : ℕ → ℕ → Page → Call → Type 0
-OverflowsPage cap pseudokey page call = OverflowsWith cap page call (is_none (value_at (pseudokey, key_of call) (records_of page)))
+OverflowsPage cap pseudokey page call = OverflowsWith cap page call (value_at (pseudokey, key_of call) (records_of page))

@@ -5,6 +5,7 @@ use Rattle.exh_page.specs.declared.page.Page.{Page}
 use Rattle.exh_page.specs.declared.page.Page.TheVariants.{Live}
 use Rattle.exh_page.specs.declared.record.Record.{Record}
 use Rattle.exh_page.specs.Page.{low_bound, records_of}
+use Rattle.exh_page.specs.Records.{value_at}
 use Rattle.exh_page.specs.Search.{IsSought}
 use Rattle.exh_calls.specs.Call.{key_of}
 use Rattle.exh_ward.specs.HopTable.{IsReached, LeadsTo}
@@ -23,6 +24,7 @@ IsDeadEnd page pseudokey = (prefix : List Bool) × (records : List Record) × (p
 pub record IsSeenAt (cap pseudokey : ℕ) (page : Page) (call : Call) (home : HomeSight) : Type 0 where
   pub full : home.full ≡ nat_le cap (length (records_of page))
   pub sought : IsSought (pseudokey, key_of call) (records_of page) home.spot
+  pub stood : home.stood ≡ value_at (pseudokey, key_of call) (records_of page)
 
 abbrev pub SightOf : ℕ → ℕ → Page → Call → Sight → Type 0
 SightOf cap pseudokey page call Beyond = pseudokey < low_bound page

@@ -3,7 +3,6 @@ ghost use Rattle.exh_calls.specs.Call.{key_of};
 ghost use Rattle.exh_calls.specs.Effect.{effect_of};
 ghost use Rattle.exh_frames.specs.PageStore.{CountsFaults, IfPage, TakesTheSame};
 ghost use Rattle.exh_page.specs.Page.{IsLive, records_of, with_records};
-ghost use Rattle.exh_page.specs.Place.{Place};
 ghost use Rattle.exh_page.specs.Records.{value_at};
 ghost use Rattle.exh_page.specs.Search.{IsSought};
 ghost use Rattle.exh_ward.specs.PageAnswer.{reply_by, records_after};
@@ -11,10 +10,10 @@ ghost use Rattle.exh_ward.specs.PageAnswer.{reply_by, records_after};
 use super::home_sight::HomeSight;
 use exh_calls::{Call, Reply};
 use exh_frames::{Pages, PagesFault};
-use exh_page::{Spot, Value};
+use exh_page::Value;
 use exh_prefix::PageNo;
 
-/// Answers a call at its home page, which has `home` for it. The page isn't searched again.
+/// Answers a call at its home page, which has `home` for it.
 pub(crate) fn answer<P: Pages>(
     store: &mut P,
     at: PageNo,
@@ -25,6 +24,7 @@ pub(crate) fn answer<P: Pages>(
     requires there { at < length (P.pages store.old) }
     requires live { IfPage (P.pages store.old) at IsLive }
     requires sought { IfPage (P.pages store.old) at (λ page. IsSought (pseudokey, key_of call.now) (records_of page) home.spot) }
+    requires stood { IfPage (P.pages store.old) at (λ page. home.stood ≡ value_at (pseudokey, key_of call.now) (records_of page)) }
     requires taken { IfPage (P.pages store.old) at (λ page. P.takes store.old (with_records (records_after home.full pseudokey call.now (records_of page)) page)) }
     ensures reply { IfOk result (λ reply. IfPage (P.pages store.old) at (λ page. reply ≡ reply_by home.full pseudokey call.now page)) }
     ensures pages { IfOk result (λ _. IfPage (P.pages store.old) at (λ page. P.pages store.new ≡ slice_set (P.pages store.old) at (with_records (records_after home.full pseudokey call.now (records_of page)) page))) }
@@ -32,53 +32,11 @@ pub(crate) fn answer<P: Pages>(
     ensures failures { CountsFaults result (P.failures store.old) (P.failures store.new) }
     ensures takes { TakesTheSame P.takes store.old store.new }
 {
-    let stood = value_there(store, at, home.spot)?;
-    answer_having(store, at, pseudokey, call, home, stood)
-}
-
-// The value at the spot that a search of a live page came to. It is read here alone, since a value is
-// the largest part of a reply, and what is found on the way to it is handed from call to call.
-fn value_there<P: Pages>(
-    store: &mut P,
-    at: PageNo,
-    spot: Result<Spot, Spot>,
-) -> Result<Option<Value>, PagesFault>
-    requires there { at < length (P.pages store.old) }
-    requires live { IfPage (P.pages store.old) at IsLive }
-    requires sought { IfPage (P.pages store.old) at (λ page. (place : Place) × IsSought place (records_of page) spot) }
-    ensures value { IfOk result (λ value. IfPage (P.pages store.old) at (λ page. (place : Place) → IsSought place (records_of page) spot → value ≡ value_at place (records_of page))) }
-    ensures pages { P.pages store.new ≡ P.pages store.old }
-    ensures failures { CountsFaults result (P.failures store.old) (P.failures store.new) }
-    ensures takes { TakesTheSame P.takes store.old store.new }
-{
-    Ok(store.lend(at)?.value_at(spot))
-}
-
-// Answers a call whose key has the value `stood`.
-fn answer_having<P: Pages>(
-    store: &mut P,
-    at: PageNo,
-    pseudokey: u64,
-    call: &Call,
-    home: HomeSight,
-    stood: Option<Value>,
-) -> Result<Reply, PagesFault>
-    requires there { at < length (P.pages store.old) }
-    requires live { IfPage (P.pages store.old) at IsLive }
-    requires sought { IfPage (P.pages store.old) at (λ page. IsSought (pseudokey, key_of call.now) (records_of page) home.spot) }
-    requires stood { IfPage (P.pages store.old) at (λ page. stood ≡ value_at (pseudokey, key_of call.now) (records_of page)) }
-    requires taken { IfPage (P.pages store.old) at (λ page. P.takes store.old (with_records (records_after home.full pseudokey call.now (records_of page)) page)) }
-    ensures reply { IfOk result (λ reply. IfPage (P.pages store.old) at (λ page. reply ≡ reply_by home.full pseudokey call.now page)) }
-    ensures pages { IfOk result (λ _. IfPage (P.pages store.old) at (λ page. P.pages store.new ≡ slice_set (P.pages store.old) at (with_records (records_after home.full pseudokey call.now (records_of page)) page))) }
-    ensures err { OnErr result (P.pages store.new ≡ P.pages store.old) }
-    ensures failures { CountsFaults result (P.failures store.old) (P.failures store.new) }
-    ensures takes { TakesTheSame P.takes store.old store.new }
-{
-    let reply = reply_to(call, home.full, stood);
+    let reply = reply_to(call, home.full, home.stood);
     match call {
         Call::Get { .. } => Ok(reply),
         Call::Put { key, value } => {
-            if home.full && stood.is_none() {
+            if home.full && home.stood.is_none() {
                 return Ok(reply);
             }
             store.put_at(at, home.spot, pseudokey, key, value)?;

@@ -1,4 +1,4 @@
-use exh_page::Spot;
+use exh_page::{Spot, Value};
 
 /// What a call's home page has for it, looked up once.
 #[derive(Clone, Copy)]
@@ -7,4 +7,6 @@ pub(crate) struct HomeSight {
     pub(crate) full: bool,
     /// Where the record of the key stands, or where it would.
     pub(crate) spot: Result<Spot, Spot>,
+    /// The key's value, if it has one.
+    pub(crate) stood: Option<Value>,
 }

@@ -4,7 +4,7 @@ ghost use Rattle.exh_ward.specs.Sight.{SightOf};
 
 use super::home_sight::HomeSight;
 use exh_calls::Call;
-use exh_page::Page;
+use exh_page::{Page, Value};
 use exh_prefix::{LIMIT, PageNo};
 
 /// What a call meets at a page.
@@ -42,28 +42,27 @@ impl Sight {
                         None => Sight::NoWay,
                     };
                 }
-                let spot = records.search(pseudokey, call.key());
-                if overflows(page, cap, call, spot.is_err()) {
+                let (spot, stood) = records.seek(pseudokey, call.key());
+                if overflows(page, cap, call, &stood) {
                     return Sight::Overflows;
                 }
                 let full = records.len() >= cap;
-                Sight::Home(HomeSight { full, spot })
+                Sight::Home(HomeSight { full, spot, stood })
             }
         }
     }
 }
 
-// Whether the call has to wait until its home page is split. `absent`: its key has no
-// value.
-fn overflows(page: &Page, cap: usize, call: &Call, absent: bool) -> bool
-    ensures { IsTrue result ↔ OverflowsWith cap page.now call.now absent }
+// Whether the call has to wait until its home page is split. `stood`: the value that its key has.
+fn overflows(page: &Page, cap: usize, call: &Call, stood: &Option<Value>) -> bool
+    ensures { IsTrue result ↔ OverflowsWith cap page.now call.now stood.now }
 {
     match page {
         Page::Live {
             prefix,
             records,
             ..
-        } => { records.len() >= cap && prefix.len() < LIMIT && call.sets_new() && absent }
+        } => { records.len() >= cap && prefix.len() < LIMIT && call.sets_new() && stood.is_none() }
         Page::Forward { .. } => false,
     }
 }

@@ -3,7 +3,7 @@ use Rattle.exh_ward.specs.HopTable.{HopOf}
 use Rattle.exh_ward.specs.WardState.{WardState}
 use Rattle.exh_ward.specs.declared.hop.Hop.TheVariants.{Done}
 use Rattle.exh_calls.specs.declared.journal_entry.JournalEntry.{JournalEntry}
-use Rattle.exh_ward.proofs.AnswersAreLeft.{few_pages, answers_here, sought_there, written_taken, replied, pages_are, hop_is_done, answered_seen}
+use Rattle.exh_ward.proofs.AnswersAreLeft.{few_pages, answers_here, sought_there, stood_there, written_taken, replied, pages_are, hop_is_done, answered_seen}
 use Rattle.exh_ward.proofs.StepsKeepSound.{kept_read, kept_answered}
 use Rattle.exh_ward.proofs.ward.Ward.answer_at.Goals as goal
 
@@ -20,6 +20,13 @@ answer-requires-clause-sought g c =
     let fit = g.met.K.Keyer.pseudokey_fits c.self.inside.keyer in
     let answers = answers_here pseudokey_of c.self.view_is c.self.invariant c.args.at c.args.call.now c.args.pseudokey c.args.home c.requires.hashed c.requires.home in
     sought_there fit c.self.invariant answers
+
+pub answer-requires-clause-stood : goal.answer-requires-clause-stood
+answer-requires-clause-stood g c =
+    let pseudokey_of = g.K.Keyer.pseudokey_of in
+    let fit = g.met.K.Keyer.pseudokey_fits c.self.inside.keyer in
+    let answers = answers_here pseudokey_of c.self.view_is c.self.invariant c.args.at c.args.call.now c.args.pseudokey c.args.home c.requires.hashed c.requires.home in
+    stood_there fit c.self.invariant answers
 
 pub invariant_of-self-in_err-reply : goal.invariant_of-self-in_err-reply
 invariant_of-self-in_err-reply g c = kept_read c.self.invariant _ c.answer.ensures.takes _ _ _ c.in_err-reply.ensures.err c.reserve.ensures.entries
