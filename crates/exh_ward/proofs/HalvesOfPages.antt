@@ -1,12 +1,12 @@
 -- What the halves of a page are to the ward.
-use Rattle.std.proofs.Common.{◌≡◌, ℕ, ◌<◌, ◌%◌, inl, inr, Bool, true, List, [], ◌∷◌, ◌++◌, length, Option, None, Some, Result, Ok, Err, IfOk, IfErr, sym, ◌∙◌, subst, arith}
+use Rattle.std.proofs.Common.{◌≡◌, ℕ, ◌<◌, ◌%◌, inl, inr, Bool, true, List, [], ◌∷◌, ◌++◌, length, Option, None, Some, Result, Ok, Err, IfErr, IsErrAnd, sym, ◌∙◌, subst, arith}
 use Rattle.std.specs.FinMap as fin
 use Rattle.std.specs.Option.{MatchOption}
 use Rattle.std.proofs.lemmas.Bool.{cases_eq}
 use Rattle.exh_prefix.specs.declared.prefix.TheConstants.{LIMIT}
 use Rattle.exh_prefix.specs.Prefix.{low_of}
 use Rattle.exh_page.specs.declared.page.Page.{Page}
-use Rattle.exh_page.specs.declared.page.Page.TheVariants.{Forward}
+use Rattle.exh_page.specs.declared.page.Page.TheVariants.{Live, Forward}
 use Rattle.exh_page.specs.Page.{IsLive, low_bound}
 use Rattle.exh_legal.specs.BareLemmas.{bare_at}
 use Rattle.exh_legal.specs.Change.{IsForwardOf}
@@ -17,45 +17,40 @@ use Rattle.exh_legal.specs.Pages.{IsAt, bare}
 use Rattle.exh_legal.specs.PlaceLemmas.{page_full, page_bare}
 use Rattle.exh_ward.specs.Kept.{IsKeptWard}
 use Rattle.exh_ward.specs.PageIndex.{IndexMap}
-use Rattle.exh_ward.specs.WardFault.{SplitRefusedAt, SplitRefused, CountsFailures}
-use Rattle.exh_ward.specs.SplitStep.{AreHalvesOf}
+use Rattle.exh_halves.specs.Refusal.{NotHalved}
+use Rattle.exh_halves.specs.declared.halves_fault.HalvesFault.{HalvesFault}
+use Rattle.exh_halves.specs.declared.halves_fault.HalvesFault.TheVariants.{NotLive, NotFull, AtLimit, NoBuddy, BuddySplit, TooMany, Memory}
+use Rattle.exh_ward.specs.WardFault.{SplitRefusedAt, SplitRefused, fault_of_halves}
 use Rattle.exh_ward.specs.WardState.{WardState, own_prefix}
-use Rattle.exh_ward.specs.declared.ward.split.halves.Halves.{Halves}
 use Rattle.exh_ward.specs.declared.ward_fault.WardFault.{WardFault}
-use Rattle.exh_ward.specs.declared.ward_fault.WardFault.TheVariants.{NoPage, NotLive, NotFull, AtLimit, NoBuddy, BuddySplit, TooMany, Worn, Memory, Page as OutOfReach}
 
-pub halves_in : (r : Result Halves WardFault) (cap : ℕ) (pages : List Page) (at : ℕ) (page : Page) → IsAt pages at page → IfOk r (AreHalvesOf cap page) → IfOk r (λ halves. (old : Page) × IsAt pages at old × AreHalvesOf cap old halves)
-halves_in (Ok halves) cap pages at page is are = (page, is, are)
-halves_in (Err fault) cap pages at page is are = tt
+refused_here : (fault : HalvesFault) (cap : ℕ) (page : Page) → NotHalved cap page fault → SplitRefusedAt cap page (fault_of_halves fault)
+refused_here NotLive cap page refused = refused
+refused_here NotFull cap (Live prefix link records) refused = refused
+refused_here NotFull cap (Forward low target) refused = absurd refused
+refused_here AtLimit cap (Live prefix link records) refused = refused
+refused_here AtLimit cap (Forward low target) refused = absurd refused
+refused_here NoBuddy cap page refused = absurd refused
+refused_here BuddySplit cap page refused = absurd refused
+refused_here (TooMany sum) cap page refused = absurd refused
+refused_here Memory cap page refused = tt
 
-refused_by : (fault : WardFault) (cap : ℕ) (pages : List Page) (at : ℕ) (page : Page) → IsAt pages at page → SplitRefusedAt cap page fault → SplitRefused cap pages at fault
-refused_by NoPage cap pages at page is refused = absurd refused
-refused_by NotLive cap pages at page is refused = (page, is, refused)
-refused_by NotFull cap pages at page is refused = (page, is, refused)
-refused_by AtLimit cap pages at page is refused = (page, is, refused)
-refused_by Memory cap pages at page is refused = tt
-refused_by OutOfReach cap pages at page is refused = tt
-refused_by NoBuddy cap pages at page is refused = absurd refused
-refused_by BuddySplit cap pages at page is refused = absurd refused
-refused_by (TooMany sum) cap pages at page is refused = absurd refused
-refused_by Worn cap pages at page is refused = absurd refused
+-- what refuses halves of a page refuses a split
+pub refused_in : (fault : HalvesFault) (cap : ℕ) (pages : List Page) (at : ℕ) (page : Page) → IsAt pages at page → NotHalved cap page fault → SplitRefused cap pages at (fault_of_halves fault)
+refused_in NotLive cap pages at page is refused = (page, is, refused_here NotLive cap page refused)
+refused_in NotFull cap pages at page is refused = (page, is, refused_here NotFull cap page refused)
+refused_in AtLimit cap pages at page is refused = (page, is, refused_here AtLimit cap page refused)
+refused_in NoBuddy cap pages at page is refused = absurd refused
+refused_in BuddySplit cap pages at page is refused = absurd refused
+refused_in (TooMany sum) cap pages at page is refused = absurd refused
+refused_in Memory cap pages at page is refused = tt
 
-pub refused_in : (r : Result Halves WardFault) (cap : ℕ) (pages : List Page) (at : ℕ) (page : Page) → IsAt pages at page → IfErr r (SplitRefusedAt cap page) → IfErr r (SplitRefused cap pages at)
-refused_in (Ok halves) cap pages at page is refused = tt
-refused_in (Err fault) cap pages at page is refused = refused_by fault cap pages at page is refused
+failed_with : {T : Type 0} (r : Result T WardFault) (fault : WardFault) (P : WardFault → Type 0) → IsErrAnd r (λ other. other ≡ fault) → P fault → IfErr r P
+failed_with (Ok value) fault P is refused = tt
+failed_with (Err other) fault P is refused = subst P (sym is) refused
 
-pub counts_same : (r : Result Halves WardFault) (cap : ℕ) (page : Page) (old new : ℕ) → IfErr r (SplitRefusedAt cap page) → new ≡ old → CountsFailures r old new
-counts_same (Ok halves) cap page old new refused same = same
-counts_same (Err NoPage) cap page old new refused same = same
-counts_same (Err NotLive) cap page old new refused same = same
-counts_same (Err NotFull) cap page old new refused same = same
-counts_same (Err AtLimit) cap page old new refused same = same
-counts_same (Err Memory) cap page old new refused same = same
-counts_same (Err NoBuddy) cap page old new refused same = same
-counts_same (Err BuddySplit) cap page old new refused same = same
-counts_same (Err (TooMany sum)) cap page old new refused same = same
-counts_same (Err Worn) cap page old new refused same = same
-counts_same (Err OutOfReach) cap page old new refused same = absurd refused
+pub refused_as : {T : Type 0} (r : Result T WardFault) (fault : HalvesFault) (P : WardFault → Type 0) → IsErrAnd r (λ other. other ≡ fault_of_halves fault) → P (fault_of_halves fault) → IfErr r P
+refused_as r fault P is refused = failed_with r (fault_of_halves fault) P is refused
 
 not_forward : (pages : List Page) (number low target : ℕ) (page : Page) → IsAt pages number page → IsLive page → IsAt pages number (Forward low target) → ⊥
 not_forward pages number low target page is live forward =

@@ -24,15 +24,17 @@ use Rattle.exh_legal.specs.Numbers.{next_notice}
 use Rattle.exh_legal.specs.Pages.{IsAt, IsLegalPage, IsWithin}
 use Rattle.exh_ward.specs.Kept.{IsKeptWard}
 use Rattle.exh_ward.specs.MergeStep.{IsLeftChild, HasNoBuddy, IsMergeStep}
-use Rattle.exh_ward.specs.WardFault.{MergeRefused, NoLeftHalf, NotBeside}
+use Rattle.exh_halves.specs.Halves.{IsUnionOf}
+use Rattle.exh_halves.specs.LeftHalf.{FitsBeside, IsLeftHalf}
+use Rattle.exh_halves.specs.Refusal.{NoLeftHalf, NotBeside}
+use Rattle.exh_halves.specs.declared.halves_fault.HalvesFault.{HalvesFault}
+use Rattle.exh_halves.specs.declared.left_half.LeftHalf.{LeftHalf}
+use Rattle.exh_ward.specs.WardFault.{MergeRefused, fault_of_halves}
 use Rattle.exh_ward.specs.PageIndex.{IndexMap}
 use Rattle.exh_ward.specs.Told.{IsChangedTo, IsTold}
-use Rattle.exh_ward.specs.LeftHalf.{FitsBeside, IsLeftHalf}
-use Rattle.exh_ward.specs.JoinedPage.{FitTogether, IsUnionOf, AreJoined}
+use Rattle.exh_ward.specs.JoinedPage.{FitTogether, AreJoined}
 use Rattle.exh_ward.specs.WardState.{WardState, IsSound, own_prefix}
-use Rattle.exh_ward.specs.declared.ward.merge.left_half.LeftHalf.{LeftHalf}
-use Rattle.exh_ward.specs.declared.ward_fault.WardFault.{WardFault}
-use Rattle.exh_ward.specs.declared.ward_fault.WardFault.TheVariants.{NoPage, NotLive, NotFull, AtLimit, NoBuddy, BuddySplit, TooMany, Worn, Memory, Page as OutOfReach}
+use Rattle.exh_halves.specs.declared.halves_fault.HalvesFault.TheVariants.{NotLive, NotFull, AtLimit, NoBuddy, BuddySplit, TooMany, Memory}
 use Rattle.exh_ward.proofs.StepsKeepSound.{well_formed}
 
 forwards : (page : Page) → (IsLive page → ⊥) → (low target : ℕ) × (page ≡ Forward low target)
@@ -55,8 +57,7 @@ module _ {K : Type 0} {pseudo : List ℕ → ℕ} {takes : Page → Type 0} {own
       let within : IsWithin (own_prefix w) (Live prefix link []) = kept.sound.legal.legal.legal.linked.within number _ (bare_at w.pages number (Live prefix link records) (is ∙ ap Some live)) in
       subst (λ (own : List Bool). IsFront own prefix) (sym kept.own_is) within.0
 
-  pub no_left_half : (at : ℕ) (left : Page) → IsAt w.pages at left → (fault : WardFault) → NoLeftHalf own left fault → MergeRefused w at fault
-  no_left_half at left is NoPage refused = absurd refused
+  pub no_left_half : (at : ℕ) (left : Page) → IsAt w.pages at left → (fault : HalvesFault) → NoLeftHalf own left fault → MergeRefused w at (fault_of_halves fault)
   no_left_half at left is NotLive refused = let forward = forwards left refused in (forward.0, forward.1, is ∙ ap Some forward.2)
   no_left_half at left is NotFull refused = absurd refused
   no_left_half at left is AtLimit refused = absurd refused
@@ -65,9 +66,7 @@ module _ {K : Type 0} {pseudo : List ℕ → ℕ} {takes : Page → Type 0} {own
       (prefix, link, records, is ∙ ap Some live, no_buddy)
   no_left_half at left is BuddySplit refused = absurd refused
   no_left_half at left is (TooMany sum) refused = absurd refused
-  no_left_half at left is Worn refused = absurd refused
   no_left_half at left is Memory refused = absurd refused
-  no_left_half at left is OutOfReach refused = absurd refused
 
   module _ (at : ℕ) {left : Page} (there : IsAt w.pages at left) {half : LeftHalf} (is : IsLeftHalf own left half) where
     live_left : IsAt w.pages at (Live (half.parent ++ false ∷ []) half.right is.records)
@@ -94,8 +93,7 @@ module _ {K : Type 0} {pseudo : List ℕ → ℕ} {takes : Page → Type 0} {own
         right_within = subst (λ n. n < length w.pages) right_is (slice_get_within w.pages to_sibling.right to_sibling.page.0 to_sibling.page.1)
 
         module _ {buddy : Page} (is_buddy : IsAt w.pages right buddy) where
-          pub not_beside : (fault : WardFault) → NotBeside w.cap half buddy fault → MergeRefused w at fault
-          not_beside NoPage refused = absurd refused
+          pub not_beside : (fault : HalvesFault) → NotBeside w.cap half buddy fault → MergeRefused w at (fault_of_halves fault)
           not_beside NotLive refused = absurd refused
           not_beside NotFull refused = absurd refused
           not_beside AtLimit refused = absurd refused
@@ -110,9 +108,7 @@ module _ {K : Type 0} {pseudo : List ℕ → ℕ} {takes : Page → Type 0} {own
           )
           not_beside (TooMany sum) (link, others, live, sum_is, more) =
               (half.parent, is.records, others, left_child, (right, link, is_buddy ∙ ap Some live), sum_is ∙ ap (λ n. n + length others) is.count, more)
-          not_beside Worn refused = absurd refused
           not_beside Memory refused = absurd refused
-          not_beside OutOfReach refused = absurd refused
 
           pub halves_fit : length half.parent < LIMIT → FitsBeside w.cap half buddy → FitTogether w at half.parent right
           halves_fit short fits = record {

@@ -22,10 +22,11 @@ use Rattle.exh_legal.specs.Laws.{LivePagesSplit, PagesAreFew, SplitsKeepLegal}
 use Rattle.exh_legal.specs.MapLemmas.{page_at}
 use Rattle.exh_legal.specs.Numbers.{number_at, next_notice}
 use Rattle.exh_legal.specs.Pages.{IsAt, IsLegalPage}
-use Rattle.exh_ward.specs.SplitStep.{AreHalvesOf, IsSplitStep}
+use Rattle.exh_halves.specs.Halves.{AreHalvesOf}
+use Rattle.exh_ward.specs.SplitStep.{IsSplitStep}
 use Rattle.exh_ward.specs.Told.{IsChangedTo, IsTold}
 use Rattle.exh_ward.specs.WardState.{WardState, IsSound, own_prefix}
-use Rattle.exh_ward.specs.declared.ward.split.halves.Halves.{Halves}
+use Rattle.exh_halves.specs.declared.halves.Halves.{Halves}
 use Rattle.exh_ward.proofs.StepsKeepSound.{well_formed}
 
 -- a page of the ward, with its halves

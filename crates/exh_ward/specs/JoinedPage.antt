@@ -4,7 +4,7 @@ use Rattle.exh_prefix.specs.declared.prefix.TheConstants.{LIMIT}
 use Rattle.exh_page.specs.declared.page.Page.{Page as PageType}
 use Rattle.exh_page.specs.declared.page.Page.TheVariants.{Live}
 use Rattle.exh_page.specs.declared.record.Record.{Record}
-use Rattle.exh_page.specs.Page.{IsWellFormed, records_of}
+use Rattle.exh_page.specs.Page.{IsWellFormed}
 use Rattle.exh_legal.specs.Pages.{IsAt}
 use Rattle.exh_ward.specs.MergeStep.{IsLeftChild}
 use Rattle.exh_ward.specs.WardState.{WardState}
@@ -18,14 +18,6 @@ pub record FitTogether {K : Type 0} (ward : WardState K) (at : ℕ) (parent : Li
   pub buddy : IsAt ward.pages right (Live (parent ++ true ∷ []) link others)
   pub few : length records + length others ≤ ward.cap
   pub short : length parent < LIMIT
-
--- the page of a parent, of the records of a left page and its right buddy
-pub record IsUnionOf (left buddy : PageType) (parent : List Bool) (union : PageType) : Type 0 where
-  pub prefix : List Bool
-  pub link : Option ℕ
-  pub others : List Record
-  pub live : buddy ≡ Live prefix link others
-  pub is : union ≡ Live parent link (records_of left ++ others)
 
 -- the page of the halves' parent, as the store takes it
 pub record AreJoined {K : Type 0} (ward : WardState K) (pseudo : List ℕ → ℕ) (at : ℕ) (parent : List Bool) (right : ℕ) (union : PageType) : Type 0 where

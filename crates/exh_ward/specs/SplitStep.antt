@@ -1,28 +1,13 @@
 -- What a split of a ward's page comes to.
-use Rattle.std.specs.Prelude.{◌≡◌, ℕ, ◌<◌, ◌≤◌, true, false, List, [], ◌∷◌, ◌++◌, length}
-use Rattle.exh_prefix.specs.declared.prefix.TheConstants.{LIMIT}
+use Rattle.std.specs.Prelude.{◌≡◌, ℕ, [], ◌∷◌, ◌++◌}
 use Rattle.exh_notice.specs.declared.entry.Kind.TheVariants.{Split}
 use Rattle.exh_notice.specs.declared.notice.Notice.{Notice}
 use Rattle.exh_table.specs.Table.{table_with}
-use Rattle.exh_page.specs.declared.page.Page.{Page as PageType}
-use Rattle.exh_page.specs.declared.page.Page.TheVariants.{Live}
-use Rattle.exh_page.specs.declared.record.Record.{Record}
-use Rattle.exh_page.specs.Page.{begun_by}
 use Rattle.exh_legal.specs.Change.{IsSplit}
 use Rattle.exh_legal.specs.Laws.{KeepsPlaces}
 use Rattle.exh_legal.specs.Numbers.{next_notice}
 use Rattle.exh_legal.specs.Pages.{map_of}
 use Rattle.exh_ward.specs.WardState.{WardState}
-use Rattle.exh_ward.specs.declared.ward.split.halves.Halves.{Halves}
-
--- what a split makes of a live page that is full and shorter than LIMIT
-pub record AreHalvesOf (cap : ℕ) (page : PageType) (halves : Halves) : Type 0 where
-  pub records : List Record
-  pub live : page ≡ Live halves.prefix halves.link records
-  pub full : cap ≤ length records
-  pub short : length halves.prefix < LIMIT
-  pub left : halves.left ≡ begun_by (halves.prefix ++ false ∷ []) records
-  pub right : halves.right ≡ begun_by (halves.prefix ++ true ∷ []) records
 
 -- the page was split, and its notice is the next at its prefix; nothing else changed
 pub record IsSplitStep {K : Type 0} (old : WardState K) (at : ℕ) (notice : Notice) (new : WardState K) : Type 0 where

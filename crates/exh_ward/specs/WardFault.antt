@@ -9,9 +9,10 @@ use Rattle.exh_legal.specs.Numbers.{number_at}
 use Rattle.exh_legal.specs.Pages.{IsAt}
 use Rattle.exh_frames.specs.declared.pages_fault.PagesFault.{PagesFault}
 use Rattle.exh_frames.specs.declared.pages_fault.PagesFault.TheVariants.{Memory as StoreMemory, Page as StorePage}
+use Rattle.exh_halves.specs.declared.halves_fault.HalvesFault.{HalvesFault}
+use Rattle.exh_halves.specs.declared.halves_fault.HalvesFault.TheVariants.{NotLive as SendsOn, NotFull as HasRoom, AtLimit as TooDeep, NoBuddy as NoLeftHalf, BuddySplit as NotBeside, TooMany as Together, Memory as NoMemory}
 use Rattle.exh_ward.specs.MergeStep.{IsLeftChild, IsBuddy, HasNoBuddy}
 use Rattle.exh_ward.specs.WardState.{WardState}
-use Rattle.exh_ward.specs.declared.ward.merge.left_half.LeftHalf.{LeftHalf}
 use Rattle.exh_ward.specs.declared.ward_fault.WardFault.{WardFault}
 use Rattle.exh_ward.specs.declared.ward_fault.WardFault.TheVariants.{NoPage, NotLive, NotFull, AtLimit, NoBuddy, BuddySplit, TooMany, Worn, Memory, Page}
 
@@ -33,6 +34,16 @@ ward_fault_number Page = 11
 abbrev pub fault_of : PagesFault → WardFault
 fault_of StoreMemory = Memory
 fault_of StorePage = Page
+
+-- the refusal that one of a page's halves becomes
+abbrev pub fault_of_halves : HalvesFault → WardFault
+fault_of_halves SendsOn = NotLive
+fault_of_halves HasRoom = NotFull
+fault_of_halves TooDeep = AtLimit
+fault_of_halves NoLeftHalf = NoBuddy
+fault_of_halves NotBeside = BuddySplit
+fault_of_halves (Together sum) = TooMany sum
+fault_of_halves NoMemory = Memory
 
 -- the refusals that may come at any point
 abbrev pub IsStoreFault : WardFault → Type 0
@@ -82,17 +93,3 @@ MergeRefused ward at Worn = (prefix : List Bool) × (records others : List Recor
 MergeRefused ward at Memory = ⊤
 MergeRefused ward at Page = ⊤
 MergeRefused ward at fault = ⊥
-
--- ---- what a merge tests of two pages
-
--- the refusal of a page that is no left half
-abbrev pub NoLeftHalf : List Bool → PageType → WardFault → Type 0
-NoLeftHalf own page NotLive = IsLive page → ⊥
-NoLeftHalf own page NoBuddy = (prefix : List Bool) × (link : Option ℕ) × (records : List Record) × (page ≡ Live prefix link records) × ((prefix ≡ own) ⊎ ((parent : List Bool) × (prefix ≡ parent ++ true ∷ [])))
-NoLeftHalf own page fault = ⊥
-
--- the refusal of a merge with the page that stands at the right child's low bound
-abbrev pub NotBeside : ℕ → LeftHalf → PageType → WardFault → Type 0
-NotBeside cap half buddy BuddySplit = (link : Option ℕ) (others : List Record) → buddy ≡ Live (half.parent ++ true ∷ []) link others → ⊥
-NotBeside cap half buddy (TooMany sum) = (link : Option ℕ) × (others : List Record) × (buddy ≡ Live (half.parent ++ true ∷ []) link others) × (sum ≡ half.count + length others) × (cap < sum)
-NotBeside cap half buddy fault = ⊥

@@ -1,9 +1,11 @@
 ghost use Rattle.std.specs.Prelude.{◌≡◌};
 ghost use Rattle.exh_frames.specs.declared.pages_fault.PagesFault.{PagesFault};
-ghost use Rattle.exh_ward.specs.WardFault.{fault_of, ward_fault_number};
+ghost use Rattle.exh_halves.specs.declared.halves_fault.HalvesFault.{HalvesFault};
+ghost use Rattle.exh_ward.specs.WardFault.{fault_of, fault_of_halves, ward_fault_number};
 ghost use Rattle.exh_ward.specs.declared.ward_fault.WardFault.TheVariants.{Memory};
 
 use exh_frames::PagesFault;
+use exh_halves::HalvesFault;
 use std::alloc::AllocError;
 use thiserror::Error;
 
@@ -77,6 +79,22 @@ impl From<PagesFault> for WardFault {
         match error {
             PagesFault::Memory => WardFault::Memory,
             PagesFault::Page => WardFault::Page,
+        }
+    }
+}
+
+impl From<HalvesFault> for WardFault {
+    ghost from_gives = { λ error fault. fault ≡ fault_of_halves error };
+
+    fn from(error: HalvesFault) -> WardFault {
+        match error {
+            HalvesFault::NotLive => WardFault::NotLive,
+            HalvesFault::NotFull => WardFault::NotFull,
+            HalvesFault::AtLimit => WardFault::AtLimit,
+            HalvesFault::NoBuddy => WardFault::NoBuddy,
+            HalvesFault::BuddySplit => WardFault::BuddySplit,
+            HalvesFault::TooMany(sum) => WardFault::TooMany(sum),
+            HalvesFault::Memory => WardFault::Memory,
         }
     }
 }

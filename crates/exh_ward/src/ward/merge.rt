@@ -4,19 +4,15 @@ ghost use Rattle.exh_ward.specs.WardFault.{MergeRefused, IsStoreFault, CountsFai
 ghost use Rattle.exh_ward.specs.JoinedPage.{FitTogether, AreJoined};
 ghost use Rattle.exh_ward.specs.WardState.{IsSoundWard, IsUnchanged};
 
-use self::joined_page::{forward_from_right, join_pages};
-use self::left_half::LeftHalf;
 use super::Ward;
 use crate::WardFault;
 use exh_frames::Pages;
+use exh_halves::{LeftHalf, forward_from_right, join_pages};
 use exh_keyer::Keyer;
 use exh_legal::{left_children_link_to_siblings, merges_keep_legal, pages_are_few};
 use exh_notice::{Kind, Notice};
 use exh_page::{Page, buddies_unite};
 use exh_prefix::{PageNo, Prefix};
-
-mod joined_page;
-mod left_half;
 
 impl<P: Pages + Drop, K: Keyer> Ward<P, K> {
     /// Merges a live page, the left half of its parent, with the live page of the right half, and

@@ -3,24 +3,23 @@ ghost use Rattle.exh_prefix.specs.Prefix.{low_of};
 ghost use Rattle.exh_prefix.specs.declared.prefix.TheConstants.{LIMIT};
 ghost use Rattle.exh_page.specs.declared.page.Page.{Page};
 ghost use Rattle.exh_page.specs.Page.{low_bound};
+ghost use Rattle.exh_halves.specs.Halves.{AreHalvesOf};
 ghost use Rattle.exh_legal.specs.Change.{IsForwardOf};
 ghost use Rattle.exh_legal.specs.Growth.{IsLiveAt};
 ghost use Rattle.exh_legal.specs.Numbers.{next_notice};
 ghost use Rattle.exh_legal.specs.Pages.{IsAt};
-ghost use Rattle.exh_ward.specs.SplitStep.{AreHalvesOf, IsSplitStep};
+ghost use Rattle.exh_ward.specs.SplitStep.{IsSplitStep};
 ghost use Rattle.exh_ward.specs.WardFault.{SplitRefused, CountsFailures};
 ghost use Rattle.exh_ward.specs.WardState.{IsSoundWard, IsUnchanged};
 
-use self::halves::Halves;
 use super::Ward;
 use crate::WardFault;
 use exh_frames::Pages;
+use exh_halves::Halves;
 use exh_keyer::Keyer;
 use exh_legal::{live_pages_split, pages_are_few, splits_keep_legal};
 use exh_notice::{Kind, Notice};
 use exh_prefix::{PageNo, Prefix};
-
-mod halves;
 
 impl<P: Pages + Drop, K: Keyer> Ward<P, K> {
     /// Splits a live page that has as many records as a page may, and tells so (Fagin et al. 1979;
@@ -70,7 +69,7 @@ impl<P: Pages + Drop, K: Keyer> Ward<P, K> {
         if page >= self.store.count() {
             return Err(WardFault::NoPage);
         }
-        Halves::of(self.store.lend(page)?, self.cap)
+        Ok(Halves::of(self.store.lend(page)?, self.cap)?)
     }
 
     // The forwarding page of the right child's low bound; where there is none, no page has it.

@@ -1,17 +1,13 @@
-use Rattle.std.proofs.Common.{◌≡◌, ◌<◌, length, List, Result, Ok, Err, IfErr, IsErrAnd, refl, sym, subst}
+use Rattle.std.proofs.Common.{◌≡◌, ◌<◌, length, List, refl, sym, subst}
 use Rattle.exh_page.specs.declared.page.Page.{Page}
 use Rattle.exh_legal.specs.Pages.{IsAt}
-use Rattle.exh_ward.specs.WardFault.{MergeRefused}
+use Rattle.exh_ward.specs.WardFault.{MergeRefused, fault_of_halves}
 use Rattle.exh_ward.specs.JoinedPage.{FitTogether}
 use Rattle.exh_ward.specs.WardState.{WardState}
-use Rattle.exh_ward.specs.declared.ward_fault.WardFault.{WardFault}
+use Rattle.exh_ward.proofs.HalvesOfPages.{refused_as}
 use Rattle.exh_ward.proofs.StepsKeepSound.{kept_read}
 use Rattle.exh_ward.proofs.MergesAreSteps.{few_at, few_left, halves_fit, no_left_half, not_beside, own_in_front, right_within}
 use Rattle.exh_ward.proofs.ward.Ward.fitting_buddy.Goals as goal
-
-failed_with : {T : Type 0} (r : Result T WardFault) (fault : WardFault) (P : WardFault → Type 0) → IsErrAnd r (λ e. e ≡ fault) → P fault → IfErr r P
-failed_with (Ok value) fault P is refused = tt
-failed_with (Err other) fault P is refused = subst P (sym is) refused
 
 pub invariant_of-self : goal.invariant_of-self
 invariant_of-self g c = kept_read c.self.invariant _ c.lend.follows.holds-at-none.2 _ _ _ c.lend.follows.holds-at-none.0 refl
@@ -28,9 +24,9 @@ invariant_of-self-in_err-half g c = kept_read c.self.invariant _ c.lend.follows.
 pub returns-in_err-half-clause-refused : goal.returns-in_err-half-clause-refused
 returns-in_err-half-clause-refused g c =
     let refused = no_left_half c.self.invariant c.args.page c.in_ok-lend.field-0.now c.in_ok-lend.ensures.page _ c.in_err-half.ensures.err in
-    let P : WardState g.row.K.Denot → Type 0 = λ w. MergeRefused w c.args.page c.in_err-half.field-0.0 in
+    let P : WardState g.row.K.Denot → Type 0 = λ w. MergeRefused w c.args.page (fault_of_halves c.in_err-half.field-0.0) in
     let now = subst P c.self.view_is refused in
-    failed_with c.from_residual-in_err-half.result c.in_err-half.field-0.0 (MergeRefused c.args.self.now c.args.page) c.from_residual-in_err-half.ensures.1 now
+    refused_as c.from_residual-in_err-half.result c.in_err-half.field-0.0 (MergeRefused c.args.self.now c.args.page) c.from_residual-in_err-half.ensures.1 now
 
 pub lend-requires-2 : goal.lend-requires-2
 lend-requires-2 g c =
@@ -64,9 +60,9 @@ returns-in_err-test_buddy-clause-refused g c =
     let L : List Page → Type 0 = λ pages. IsAt pages c.in-Some.right c.in_ok-lend-2.field-0.now in
     let buddy = subst L c.lend.follows.holds-at-none.0 c.in_ok-lend-2.ensures.page in
     let refused = not_beside c.self.invariant c.args.page c.in_ok-lend.ensures.page c.in_ok-half.ensures.ok c.left_children_link_to_siblings.ensures c.in-Some.is buddy _ c.in_err-test_buddy.ensures.err in
-    let P : WardState g.row.K.Denot → Type 0 = λ w. MergeRefused w c.args.page c.in_err-test_buddy.field-0.0 in
+    let P : WardState g.row.K.Denot → Type 0 = λ w. MergeRefused w c.args.page (fault_of_halves c.in_err-test_buddy.field-0.0) in
     let now = subst P c.self.view_is refused in
-    failed_with c.from_residual-in_err-test_buddy.result c.in_err-test_buddy.field-0.0 (MergeRefused c.args.self.now c.args.page) c.from_residual-in_err-test_buddy.ensures.1 now
+    refused_as c.from_residual-in_err-test_buddy.result c.in_err-test_buddy.field-0.0 (MergeRefused c.args.self.now c.args.page) c.from_residual-in_err-test_buddy.ensures.1 now
 
 pub invariant_of-self-2 : goal.invariant_of-self-2
 invariant_of-self-2 g c =

@@ -1,44 +1,45 @@
 ghost use Rattle.std.specs.Prelude.{◌≡◌, ◌<◌, ◌++◌, ◌∷◌, [], length, true, false, IfOk, IfErr, Some};
 ghost use Rattle.exh_prefix.specs.declared.prefix.TheConstants.{LIMIT};
 ghost use Rattle.exh_page.specs.declared.page.Page.TheVariants.{Live};
-ghost use Rattle.exh_ward.specs.SplitStep.{AreHalvesOf};
-ghost use Rattle.exh_ward.specs.WardFault.{SplitRefusedAt};
+ghost use Rattle.exh_halves.specs.Halves.{AreHalvesOf};
+ghost use Rattle.exh_halves.specs.Refusal.{NotHalved};
 
-use crate::WardFault;
+use crate::HalvesFault;
 use exh_page::{Page, Records};
 use exh_prefix::{LIMIT, PageNo, Prefix};
 
 /// What a split makes of a page (Fagin et al. 1979).
 #[derive(Drop)]
-pub(crate) struct Halves {
+pub struct Halves {
     /// The page's prefix.
-    pub(crate) prefix: Prefix,
+    pub prefix: Prefix,
     /// The page's right link.
-    pub(crate) link: Option<PageNo>,
+    pub link: Option<PageNo>,
     /// The records of the prefix's left child.
-    pub(crate) left: Records,
+    pub left: Records,
     /// The records of its right child.
-    pub(crate) right: Records,
+    pub right: Records,
 }
 
 impl Halves {
-    /// The halves of a live page that has `cap` records, if its prefix has children.
-    pub(crate) fn of(page: &Page, cap: usize) -> Result<Halves, WardFault>
+    /// The halves of a live page that has at least `cap` records and whose prefix has children. Refused
+    /// in this order: `NotLive`, `NotFull`, `AtLimit`; at any point `Memory`.
+    pub fn of(page: &Page, cap: usize) -> Result<Halves, HalvesFault>
         ensures ok { IfOk result (AreHalvesOf cap page.now) }
-        ensures err { IfErr result (SplitRefusedAt cap page.now) }
+        ensures err { IfErr result (NotHalved cap page.now) }
     {
         match page {
-            Page::Forward { .. } => Err(WardFault::NotLive),
+            Page::Forward { .. } => Err(HalvesFault::NotLive),
             Page::Live {
                 prefix,
                 right,
                 records,
             } => {
                 if records.len() < cap {
-                    return Err(WardFault::NotFull);
+                    return Err(HalvesFault::NotFull);
                 }
                 if prefix.len() >= LIMIT {
-                    return Err(WardFault::AtLimit);
+                    return Err(HalvesFault::AtLimit);
                 }
                 Ok(Halves {
                     prefix: *prefix,
@@ -51,7 +52,7 @@ impl Halves {
     }
 
     /// The two pages, the right one being of number `right`.
-    pub(crate) fn into_pages(self, right: PageNo) -> (Page, Page)
+    pub fn into_pages(self, right: PageNo) -> (Page, Page)
         requires { length self.prefix < LIMIT }
         ensures left { result.0 ≡ Live (self.prefix ++ false ∷ []) (Some right) self.left }
         ensures right { result.1 ≡ Live (self.prefix ++ true ∷ []) self.link self.right }

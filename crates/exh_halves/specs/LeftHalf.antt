@@ -3,9 +3,9 @@ use Rattle.std.specs.Prelude.{◌≡◌, ℕ, ◌+◌, ◌≤◌, Bool, true, fa
 use Rattle.exh_page.specs.declared.page.Page.{Page as PageType}
 use Rattle.exh_page.specs.declared.page.Page.TheVariants.{Live}
 use Rattle.exh_page.specs.declared.record.Record.{Record}
-use Rattle.exh_ward.specs.declared.ward.merge.left_half.LeftHalf.{LeftHalf}
+use Rattle.exh_halves.specs.declared.left_half.LeftHalf.{LeftHalf}
 
--- the page is the live left child of a prefix, which is no shorter than the ward's own
+-- the page is the live left child of a prefix, which is no shorter than `own`
 pub record IsLeftHalf (own : List Bool) (page : PageType) (half : LeftHalf) : Type 0 where
   pub records : List Record
   pub live : page ≡ Live (half.parent ++ false ∷ []) half.right records

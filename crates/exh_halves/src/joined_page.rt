@@ -4,7 +4,7 @@ ghost use Rattle.exh_prefix.specs.declared.prefix.TheConstants.{LIMIT};
 ghost use Rattle.exh_page.specs.Page.{IsLive, records_of};
 ghost use Rattle.exh_page.specs.Records.{IsRising};
 ghost use Rattle.exh_page.specs.declared.page.Page.TheVariants.{Forward};
-ghost use Rattle.exh_ward.specs.JoinedPage.{IsUnionOf};
+ghost use Rattle.exh_halves.specs.Halves.{IsUnionOf};
 
 use exh_page::Page;
 use exh_prefix::{PageNo, Prefix};
@@ -12,7 +12,7 @@ use std::alloc::AllocError;
 
 /// The page of a parent that a merge makes of its halves, both live (Fagin et al. 1979). It takes
 /// memory for the records: an `AllocError` where that is refused.
-pub(crate) fn join_pages(left: &Page, buddy: &Page, parent: Prefix) -> Result<Page, AllocError>
+pub fn join_pages(left: &Page, buddy: &Page, parent: Prefix) -> Result<Page, AllocError>
     requires live { IsLive left.now }
     requires buddy_live { IsLive buddy.now }
     requires rising { IsRising (records_of left.now ++ records_of buddy.now) }
@@ -29,7 +29,7 @@ pub(crate) fn join_pages(left: &Page, buddy: &Page, parent: Prefix) -> Result<Pa
 }
 
 /// The page that sends the callers of a parent's right child on to the page `left`.
-pub(crate) fn forward_from_right(parent: Prefix, left: PageNo) -> Page
+pub fn forward_from_right(parent: Prefix, left: PageNo) -> Page
     requires { length parent < LIMIT }
     ensures { result ≡ Forward (low_of (parent ++ true ∷ [])) left }
 {

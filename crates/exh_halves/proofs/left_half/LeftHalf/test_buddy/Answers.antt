@@ -3,7 +3,7 @@ use Rattle.exh_prefix.specs.PrefixLemmas.{prefix_eq-exact}
 use Rattle.exh_page.specs.declared.page.Page.{Page}
 use Rattle.exh_page.specs.declared.page.Page.TheVariants.{Live}
 use Rattle.exh_page.specs.declared.record.Record.{Record}
-use Rattle.exh_ward.proofs.ward.merge.left_half.LeftHalf.test_buddy.Goals as goal
+use Rattle.exh_halves.proofs.left_half.LeftHalf.test_buddy.Goals as goal
 
 not_false : (b : Bool) → not b ≡ false → b ≡ true
 not_false true is = refl

@@ -1,8 +1,8 @@
 use Rattle.std.proofs.Common.{rules, ◌≡◌, ◌≤◌, ◌⊎◌, inl, inr, true, Bool, List, [], ◌∷◌, ◌++◌, length, sym, ◌∙◌, arith}
 use Rattle.std.proofs.lemmas.List.{take_all}
 use Rattle.exh_prefix.specs.Prefix.{IsFront}
-use Rattle.exh_ward.proofs.ward.merge.left_half.LeftHalf.of.Goals.{then-len-via-then-len, then-len-via-else-len+then-is_right_child}
-use Rattle.exh_ward.proofs.ward.merge.left_half.LeftHalf.of.Goals as goal
+use Rattle.exh_halves.proofs.left_half.LeftHalf.of.Goals.{then-len-via-then-len, then-len-via-else-len+then-is_right_child}
+use Rattle.exh_halves.proofs.left_half.LeftHalf.of.Goals as goal
 
 front_whole : (own prefix : List Bool) → IsFront own prefix → length prefix ≤ length own → prefix ≡ own
 front_whole own prefix is short = sym (take_all (length own) prefix short) ∙ is

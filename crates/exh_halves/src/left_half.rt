@@ -5,43 +5,43 @@ ghost use Rattle.exh_page.specs.Page.{records_of};
 ghost use Rattle.exh_page.specs.declared.page.Page.TheVariants.{Live};
 ghost use Rattle.exh_page.specs.declared.page.TheConstants.{CAP_LIMIT};
 ghost use Rattle.exh_page.specs.declared.record.Record.{Record};
-ghost use Rattle.exh_ward.specs.LeftHalf.{FitsBeside, IsLeftHalf};
-ghost use Rattle.exh_ward.specs.WardFault.{NoLeftHalf, NotBeside};
+ghost use Rattle.exh_halves.specs.LeftHalf.{FitsBeside, IsLeftHalf};
+ghost use Rattle.exh_halves.specs.Refusal.{NoLeftHalf, NotBeside};
 
-use crate::WardFault;
+use crate::HalvesFault;
 use exh_page::Page;
 use exh_prefix::{PageNo, Prefix};
 
 /// What a merge has to know of the left half of a parent before it copies a page (Fagin et al.
 /// 1979).
 #[derive(Clone, Copy)]
-pub(crate) struct LeftHalf {
+pub struct LeftHalf {
     /// The parent of the page's prefix.
-    pub(crate) parent: Prefix,
+    pub parent: Prefix,
     /// How many records the page has.
-    pub(crate) count: usize,
+    pub count: usize,
     /// The page's right link.
-    pub(crate) right: Option<PageNo>,
+    pub right: Option<PageNo>,
 }
 
 impl LeftHalf {
-    /// What is known of a page that is live and a left child of the ward's own prefix `own` or of a
-    /// longer one, else `NotLive` or `NoBuddy`. It takes no memory.
-    pub(crate) fn of(page: &Page, own: Prefix) -> Result<LeftHalf, WardFault>
+    /// What is known of a page that is live and a left child of the prefix `own`, which begins its own,
+    /// or of a longer one, else `NotLive` or `NoBuddy`. It takes no memory.
+    pub fn of(page: &Page, own: Prefix) -> Result<LeftHalf, HalvesFault>
         requires { (prefix : List Bool) (link : Option ℕ) (records : List Record) → page.now ≡ Live prefix link records → IsFront own prefix }
         ensures ok { IfOk result (IsLeftHalf own page.now) }
         ensures short { IfOk result (λ half. length half.parent < LIMIT) }
         ensures err { IfErr result (NoLeftHalf own page.now) }
     {
         match page {
-            Page::Forward { .. } => Err(WardFault::NotLive),
+            Page::Forward { .. } => Err(HalvesFault::NotLive),
             Page::Live {
                 prefix,
                 right,
                 records,
             } => {
                 if prefix.len() <= own.len() || prefix.is_right_child() {
-                    return Err(WardFault::NoBuddy);
+                    return Err(HalvesFault::NoBuddy);
                 }
                 Ok(LeftHalf {
                     parent: prefix.parent().unwrap(),
@@ -55,7 +55,7 @@ impl LeftHalf {
     /// Tests the page at the low bound of the parent's right child: `BuddySplit` where it isn't the
     /// live page of that child, `TooMany` with the sum where both halves have more than `cap`
     /// records. It takes no memory.
-    pub(crate) fn test_buddy(&self, buddy: &Page, cap: usize) -> Result<(), WardFault>
+    pub fn test_buddy(&self, buddy: &Page, cap: usize) -> Result<(), HalvesFault>
         requires short { length self.now.parent < LIMIT }
         requires few { self.now.count ≤ CAP_LIMIT }
         requires few_others { length (records_of buddy.now) ≤ CAP_LIMIT }
@@ -63,18 +63,18 @@ impl LeftHalf {
         ensures err { IfErr result (NotBeside cap self.now buddy.now) }
     {
         match buddy {
-            Page::Forward { .. } => Err(WardFault::BuddySplit),
+            Page::Forward { .. } => Err(HalvesFault::BuddySplit),
             Page::Live {
                 prefix,
                 records,
                 ..
             } => {
                 if *prefix != self.parent.child(true).unwrap() {
-                    return Err(WardFault::BuddySplit);
+                    return Err(HalvesFault::BuddySplit);
                 }
                 let sum = self.count + records.len();
                 if sum > cap {
-                    return Err(WardFault::TooMany(sum));
+                    return Err(HalvesFault::TooMany(sum));
                 }
                 Ok(())
             }
