@@ -223,6 +223,8 @@ fn of_copy<R: Threads + Wait + Clock + AllocGlobal + Sync>(
     for notice in notices {
         writer.take(notice)?;
     }
+    // The second publish brings the other value up to date.
+    writer.publish(rt)?;
     writer.publish(rt)?;
     if setting.way == Way::Publish {
         return of_publishes(rt, setting, notices, writer);
