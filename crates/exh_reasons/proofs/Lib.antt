@@ -1,2 +1,4 @@
 pub mod Bare
 pub mod Passed
+pub mod Index
+pub mod Tiles

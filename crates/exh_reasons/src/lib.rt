@@ -2,7 +2,11 @@
 #![tactic(auto)]
 
 pub use laws::legal_files_pass;
+pub use page_list::PageList;
 pub use reason::Reason;
 
 mod laws;
+mod leaves;
+mod page_index;
+mod page_list;
 mod reason;
