@@ -20,10 +20,11 @@ pub(crate) fn has_leaves<P: PageList>(ward: Prefix, pages: &P, index: &PageIndex
     requires bounded { (number : ℕ) (page : Page) → IsAt (P.pages pages.now) number page → IsBounded page }
     ensures { IsTrue result ↔ HasLeaves ward (P.pages pages.now) }
 {
+    let least = ward.len();
     let mut end = u128::from(ward.low());
     for (_, number) in index.iter() {
         if let Page::Live { prefix, .. } = pages.page(*number) {
-            if prefix.len() < ward.len() || u128::from(prefix.low()) != end {
+            if prefix.len() < least || u128::from(prefix.low()) != end {
                 return false;
             }
             end = prefix_end(*prefix);

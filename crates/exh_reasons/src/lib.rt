@@ -7,6 +7,7 @@ pub use reason::Reason;
 
 mod laws;
 mod leaves;
+mod links;
 mod page_index;
 mod page_list;
 mod reason;
