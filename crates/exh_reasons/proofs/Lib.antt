@@ -4,3 +4,4 @@ pub mod Index
 pub mod Tiles
 pub mod LeafTests
 pub mod Next
+pub mod Each

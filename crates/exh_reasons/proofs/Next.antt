@@ -12,8 +12,9 @@ use Rattle.exh_legal.specs.Growth.{IsPageOf}
 use Rattle.exh_legal.specs.LowLemmas.{begins_own_low}
 use Rattle.exh_legal.specs.Pages.{IsAt, IsHome, IsRightOf, IsRightLink}
 use Rattle.exh_reasons.specs.Laws.{IsBounded}
-use Rattle.exh_reasons.specs.PageIndex.{AreIndex, end_of, next_of, page_at}
-use Rattle.exh_reasons.specs.Reasons.{HasLows, HasLeaves}
+use Rattle.exh_reasons.specs.PageIndex.{AreIndex, IsAimedBy, IsLinkedBy, end_of, next_of, page_at}
+use Rattle.exh_prefix.specs.Bits.{lowest_cleared}
+use Rattle.exh_reasons.specs.Reasons.{HasLows, HasLeaves, HasLinks, HasTargets}
 use Rattle.exh_reasons.proofs.Index.{same_page}
 use Rattle.exh_reasons.proofs.LeafTests.{home_begun}
 use Rattle.exh_reasons.proofs.Tiles.{end_above, end_small}
@@ -135,3 +136,20 @@ pub index_small : (pages : List Page) (entries : List (ℕ × ℕ)) → ((number
 index_small pages entries bounded index low number found =
     let page = (index low number).0 found in
     omega (arith, page.2, low_small page.0 (bounded number page.0 page.1))
+
+-- ---- all links, all targets
+
+module _ {ward : List Bool} {pages : List Page} (short : length ward ≤ LIMIT) (lows : HasLows ward pages) (leaves : HasLeaves ward pages) (bounded : (number : ℕ) (page : Page) → IsAt pages number page → IsBounded page) (entries : List (ℕ × ℕ)) (index : AreIndex entries pages) where
+  pub links_from : ((number : ℕ) (page : Page) → IsAt pages number page → IsLinkedBy entries page) → HasLinks pages
+  links_from each number prefix right records is = next_linked short lows leaves bounded number prefix right records is entries index (each number _ is)
+
+  pub links_to : HasLinks pages → (number : ℕ) (page : Page) → IsAt pages number page → IsLinkedBy entries page
+  links_to links number (Live prefix right records) is = linked_next short lows leaves bounded number prefix right records is entries index (links number prefix right records is)
+  links_to links number (Forward low target) is = tt
+
+pub targets_from : (pages : List Page) (entries : List (ℕ × ℕ)) → AreIndex entries pages → ((number : ℕ) (page : Page) → IsAt pages number page → IsAimedBy entries page) → HasTargets pages
+targets_from pages entries index each number low target is = (index (lowest_cleared low) target).0 (each number _ is)
+
+pub targets_to : (pages : List Page) (entries : List (ℕ × ℕ)) → AreIndex entries pages → HasTargets pages → (number : ℕ) (page : Page) → IsAt pages number page → IsAimedBy entries page
+targets_to pages entries index targets number (Live prefix right records) is = tt
+targets_to pages entries index targets number (Forward low target) is = (index (lowest_cleared low) target).1 (targets number low target is)

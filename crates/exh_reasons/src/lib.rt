@@ -5,6 +5,7 @@ pub use laws::legal_files_pass;
 pub use page_list::PageList;
 pub use reason::Reason;
 
+mod cap;
 mod laws;
 mod leaves;
 mod links;

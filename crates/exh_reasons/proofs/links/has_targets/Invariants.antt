@@ -1,7 +1,6 @@
-use Rattle.std.proofs.Common.{ℕ, ◌<◌}
-use Rattle.exh_page.specs.declared.page.Page.TheVariants.{Forward}
-use Rattle.exh_legal.specs.Pages.{IsAt, IsTarget}
+use Rattle.exh_reasons.specs.PageIndex.{IsAimedBy}
+use Rattle.exh_reasons.proofs.Each.{EachBelow}
 use Rattle.exh_reasons.proofs.links.has_targets.Given as goal
 
 abbrev pub invariant-loop-number : goal.invariant-loop-number
-invariant-loop-number g l = (number low target : ℕ) → number < l.number → IsAt (g.P.PageList.pages l.pages) number (Forward low target) → IsTarget (g.P.PageList.pages l.pages) low target
+invariant-loop-number g l = EachBelow (IsAimedBy l.index.entries) (g.P.PageList.pages l.pages) l.number
