@@ -2,9 +2,9 @@
 #![tactic(auto)]
 
 pub use laws::{
-    fitting_tables_begin_wards, left_children_link_to_siblings, live_left_children_merge, live_pages_split,
-    lone_pages_are_legal, merges_keep_legal, pages_are_few, right_links_lead_on, splits_keep_legal,
-    targets_lead_on, walks_name_homes,
+    fitting_tables_begin_wards, left_children_link_to_siblings, live_left_children_merge,
+    live_pages_split, lone_pages_are_legal, merges_keep_legal, pages_are_few, right_links_lead_on,
+    splits_keep_legal, targets_lead_on, walks_name_homes,
 };
 
 mod laws;

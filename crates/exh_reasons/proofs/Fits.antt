@@ -1,14 +1,17 @@
 -- A table fits a ward's pages exactly where each entry is told by a page, and each page but the first has an entry.
-use Rattle.std.proofs.Common.{◌≡◌, ◌≢◌, ℕ, ◌+◌, ◌-◌, ◌<◌, ◌≤◌, ◌^◌, Bool, true, List, [], ◌∷◌, ◌++◌, length, Option, None, Some, ◌⊎◌, inl, inr, refl, sym, ap, ◌∙◌, subst, arith}
+use Rattle.std.proofs.Common.{◌≡◌, ◌≢◌, ℕ, ◌+◌, ◌-◌, ◌<◌, ◌≤◌, ◌^◌, Bool, true, false, List, [], ◌∷◌, ◌++◌, length, take, Option, None, Some, ◌⊎◌, inl, inr, refl, sym, ap, ◌∙◌, subst, arith}
 use Rattle.std.specs.Prelude.{IsSome, is_some}
 use Rattle.std.specs.FinMap.{get}
+use Rattle.std.specs.List.{AllByRecursion}
+use Rattle.std.specs.Option.{SomeIff}
 use Rattle.std.proofs.lemmas.Bool.{false≢true}
 use Rattle.std.proofs.lemmas.Bool.Decides.{leb_tells}
 use Rattle.std.proofs.lemmas.List.{length_push}
 use Rattle.exh_prefix.specs.Bits.{word_bits}
 use Rattle.exh_prefix.specs.declared.prefix.TheConstants.{LIMIT}
-use Rattle.exh_prefix.specs.Prefix.{IsFront, Begins, low_of}
-use Rattle.exh_prefix.specs.PrefixLemmas.{begins_low, front_of_front, fronts_nest, parent_begins}
+use Rattle.exh_prefix.specs.Prefix.{IsFront, Begins, HasPrefix, low_of}
+use Rattle.exh_prefix.specs.PrefixLemmas.{begins_low, front_of_front, fronts_nest, length-stored, low_of-left_child, low_of-stored, parent_begins}
+use Rattle.exh_prefix.specs.BitLemmas.{number_of-zeros}
 use Rattle.exh_notice.specs.declared.entry.Entry.{Entry}
 use Rattle.exh_notice.specs.declared.entry.Kind.{Kind}
 use Rattle.exh_notice.specs.declared.entry.Kind.TheVariants.{Split, Merge}
@@ -17,15 +20,15 @@ use Rattle.exh_table.specs.Walk.{right_of, split_at}
 use Rattle.exh_page.specs.declared.page.Page.{Page}
 use Rattle.exh_page.specs.declared.page.Page.TheVariants.{Live, Forward}
 use Rattle.exh_page.specs.Page.{IsLive, low_bound}
-use Rattle.exh_legal.specs.Fit.{FitsPages, IsInner, IsMergeAt, IsSplitAt}
+use Rattle.exh_legal.specs.Fit.{FitsPages, IsInner, IsMergeAt, IsSplitAt, IsWardEntry}
 use Rattle.exh_legal.specs.Growth.{IsLiveAt, IsPageOf}
-use Rattle.exh_legal.specs.LowLemmas.{begins_own_low, child_short, front_of_longer, front_shorter, low_of-small, own_front, right_above}
+use Rattle.exh_legal.specs.LowLemmas.{begins_own_low, child_short, front_shorter, low_of-HasPrefix, low_of-small, right_above, right_tells_parent}
 use Rattle.exh_legal.specs.Pages.{IsAt, IsHome}
 use Rattle.exh_reasons.specs.Laws.{IsBounded}
-use Rattle.exh_reasons.specs.PageIndex.{IsOwnEntry, IsRecordedBy, IsToldBy}
+use Rattle.exh_reasons.specs.PageIndex.{AreIndex, IsOwnEntry, IsRecordedBy, IsToldBy, page_at}
 use Rattle.exh_reasons.specs.Reasons.{HasLows, HasLeaves}
 use Rattle.exh_reasons.proofs.Index.{same_page}
-use Rattle.exh_reasons.proofs.LeafTests.{home_begun, live_front}
+use Rattle.exh_reasons.proofs.LeafTests.{home_begun}
 
 -- a prefix with the low bound of another's right child has that child as its front
 branch_longer : (prefix parent : List Bool) → length prefix ≤ LIMIT → length parent < LIMIT → low_of prefix ≡ low_of (parent ++ true ∷ []) → length parent < length prefix
@@ -137,7 +140,7 @@ module _ {ward : List Bool} {pages : List Page} (short : length ward ≤ LIMIT) 
   module _ (table : TableMap) where
     pub record AreRecorded : Type 0 where
       pub entries : (prefix : List Bool) (entry : Entry) → get table prefix ≡ Some entry → IsOwnEntry ward pages prefix entry
-      pub pages : (number : ℕ) (page : Page) → IsAt pages number page → 0 < number → IsRecordedBy table page
+      pub each : (number : ℕ) (page : Page) → IsAt pages number page → 0 < number → IsRecordedBy table page
 
     -- ---- from the fit
 
@@ -193,7 +196,7 @@ module _ {ward : List Bool} {pages : List Page} (short : length ward ≤ LIMIT) 
           is_some_of parent _ merge.1
 
       pub to_recorded : AreRecorded
-      to_recorded = record { entries = λ prefix entry found. own_entry prefix entry entry.kind found refl; pages = recorded }
+      to_recorded = record { entries = λ prefix entry found. own_entry prefix entry entry.kind found refl; each = recorded }
 
     -- ---- to the fit
 
@@ -226,7 +229,7 @@ module _ {ward : List Bool} {pages : List Page} (short : length ward ≤ LIMIT) 
       split_there prefix within inner =
           let live = branch_live prefix inner.0 inner.1 within inner.2 inner.3.0 inner.3.1 in
           let few : length prefix < LIMIT = omega (arith, inner.3.1, bounded inner.1 _ inner.2.2) in
-          let found = entry_at prefix (all.pages live.number live.page live.at (not_first prefix within few live.number live.page live.at live.low_is) prefix few live.low_is) in
+          let found = entry_at prefix (all.each live.number live.page live.at (not_first prefix within few live.number live.page live.at live.low_is) prefix few live.low_is) in
           let told = (all.entries prefix found.0 found.1).told in
           let page_live = same_live (low_of (prefix ++ true ∷ [])) live told.0 told.1 told.2 told.3 in
           live_kind prefix found.0 found.0.kind found.1 refl told.0 told.1 told.4 page_live
@@ -256,7 +259,7 @@ module _ {ward : List Bool} {pages : List Page} (short : length ward ≤ LIMIT) 
                 let zero_is : number ≡ 0 = omega (arith, none.1) in
                 absurd (subst IsLive (same_page pages 0 first.0 page first.1 (subst (λ n. IsAt pages n page) zero_is at)) first.2)
           ] in
-          let found = entry_at prefix (all.pages number page at some prefix few refl) in
+          let found = entry_at prefix (all.each number page at some prefix few refl) in
           let told = (all.entries prefix found.0 found.1).told in
           let same = lows.apart told.0 number told.1 page told.2 at told.3 in
           let alike = same_page pages number told.1 page (subst (λ n. IsAt pages n told.1) same told.2) at in
@@ -275,3 +278,69 @@ module _ {ward : List Bool} {pages : List Page} (short : length ward ≤ LIMIT) 
         );
         rights = λ prefix right is. let told = told_split prefix right is in (told.0, told.1, told.2);
       }
+
+-- ---- entry by entry, page by page
+
+abbrev pub AreOwnEntries : List Bool → List Page → List (List Bool × Entry) → Type 0
+AreOwnEntries ward pages told = AllByRecursion (λ item. IsOwnEntry ward pages item.0 item.1) told
+
+abbrev pub RecordedBelow : TableMap → List Page → ℕ → Type 0
+RecordedBelow table pages count = (number : ℕ) (page : Page) → number < count → IsAt pages number page → 0 < number → IsRecordedBy table page
+
+pub told_there : (pages : List Page) (entries : List (ℕ × ℕ)) → AreIndex entries pages → (ward prefix : List Bool) (entry : Entry) → IsWardEntry ward prefix entry → length prefix < LIMIT
+    → (number : ℕ) (page : Page) → page_at entries (low_of (prefix ++ true ∷ [])) ≡ Some number → IsAt pages number page → IsToldBy entry.kind number page → IsOwnEntry ward pages prefix entry
+told_there pages entries index ward prefix entry own short number page found at told =
+    let there = (index (low_of (prefix ++ true ∷ [])) number).0 found in
+    record { own = own; short = short; told = (number, page, at, sym (ap low_bound (same_page pages number there.0 page there.1 at)) ∙ there.2, told) }
+
+pub index_number : (pages : List Page) (entries : List (ℕ × ℕ)) → AreIndex entries pages → (ward prefix : List Bool) (entry : Entry) → (own : IsOwnEntry ward pages prefix entry) → page_at entries (low_of (prefix ++ true ∷ [])) ≡ Some own.told.0
+index_number pages entries index ward prefix entry own = (index (low_of (prefix ++ true ∷ [])) own.told.0).1 (own.told.1, own.told.2, own.told.3)
+
+pub there_told : (pages : List Page) (entries : List (ℕ × ℕ)) → AreIndex entries pages → (ward prefix : List Bool) (entry : Entry) → IsOwnEntry ward pages prefix entry
+    → (number : ℕ) (page : Page) → page_at entries (low_of (prefix ++ true ∷ [])) ≡ Some number → IsAt pages number page → IsToldBy entry.kind number page
+there_told pages entries index ward prefix entry own number page found at =
+    let both : Some own.told.0 ≡ Some number = sym (index_number pages entries index ward prefix entry own) ∙ found in
+    let same : own.told.0 ≡ number = cc in
+    let alike = same_page pages number own.told.1 page (subst (λ n. IsAt pages n own.told.1) same own.told.2) at in
+    subst (λ p. IsToldBy entry.kind number p) alike (subst (λ n. IsToldBy entry.kind n own.told.1) same own.told.4)
+
+pub one_parent : (table : TableMap) (page : Page) (parent : List Bool) → length parent < LIMIT → low_of (parent ++ true ∷ []) ≡ low_bound page → IsSome (get table parent) → IsRecordedBy table page
+one_parent table page parent few is some other other_few low = subst (λ p. IsSome (get table p)) (right_tells_parent parent other few other_few (is ∙ low)) some
+
+-- ---- a child that was answered
+
+pub same_child : (found : Option (List Bool)) (Holds : Type 0) (value child : List Bool) → SomeIff found Holds value → found ≡ Some child → child ≡ value
+same_child None Holds value child iff is = cc
+same_child (Some own) Holds value child iff is = let same : own ≡ child = cc in sym same ∙ iff.1
+
+pub child_short_of : (found : Option (List Bool)) (Holds : Type 0) (value child : List Bool) → SomeIff found Holds value → found ≡ Some child → Holds
+child_short_of None Holds value child iff is = cc
+child_short_of (Some own) Holds value child iff is = iff.0
+
+-- ---- the parent that a low bound tells
+
+pub whole_prefix : (found : Option (List Bool)) (low : ℕ) (prefix : List Bool) → low < 2 ^ 64 → SomeIff found (HasPrefix LIMIT low) (take LIMIT (word_bits low)) → found ≡ Some prefix → (low_of prefix ≡ low) × (length prefix ≡ LIMIT)
+whole_prefix found low prefix small iff is =
+    let stored = child_short_of found (HasPrefix LIMIT low) (take LIMIT (word_bits low)) prefix iff is in
+    let same = same_child found (HasPrefix LIMIT low) (take LIMIT (word_bits low)) prefix iff is in
+    (ap low_of same ∙ low_of-stored LIMIT low small stored, ap length same ∙ length-stored LIMIT low stored)
+
+pub no_prefix : (found : Option (List Bool)) (low : ℕ) → SomeIff found (HasPrefix LIMIT low) (take LIMIT (word_bits low)) → found ≡ None → (parent : List Bool) → length parent < LIMIT → low_of (parent ++ true ∷ []) ≡ low → ⊥
+no_prefix None low iff is parent few same = iff (subst (HasPrefix LIMIT) same (low_of-HasPrefix (parent ++ true ∷ []) (child_short parent true few)))
+no_prefix (Some prefix) low iff is parent few same = cc
+
+pub step_up : (prefix parent : List Bool) (right : Bool) (low : ℕ) → (bit : Bool) × (prefix ≡ parent ++ bit ∷ []) → ((own : List Bool) × (prefix ≡ own ++ true ∷ []) → right ≡ true) → right ≡ false → length prefix ≤ LIMIT → low_of prefix ≡ low → (low_of parent ≡ low) × (length prefix ≡ length parent + 1)
+step_up prefix parent right low (true, is) tells not short same = absurd (false≢true (sym not ∙ tells (parent, is)))
+step_up prefix parent right low (false, is) tells not short same =
+    let long : length prefix ≡ length parent + 1 = ap length is ∙ length_push parent false in
+    (sym (low_of-left_child parent (omega (arith, long, short))) ∙ ap low_of (sym is) ∙ same, long)
+
+low_none : low_of [] ≡ 0
+unfolding low_of
+low_none = number_of-zeros 64
+
+pub no_parent : (prefix : List Bool) (low : ℕ) → length prefix ≡ 0 → low_of prefix ≡ low → (parent : List Bool) → length parent < LIMIT → low_of (parent ++ true ∷ []) ≡ low → ⊥
+no_parent [] low none same parent few is =
+    let nothing : low_of [] ≡ 0 = low_none in
+    absurd (omega (arith, nothing, same, is, right_above parent few))
+no_parent (bit ∷ prefix) low none same parent few is = absurd (omega (arith, none))

@@ -42,9 +42,9 @@ pub more_index : (ward : List Bool) (pages : List Page) (count : ℕ) (entries n
     → page_at entries (low_bound page) ≡ None → ((query : ℕ) → page_at new query ≡ cond (is_at (nat_cmp (low_bound page)) query) (Some count) (page_at entries query)) → IsBegunIndex ward pages (count + 1) new
 more_index ward pages count entries new page begun is within none updates =
     let here : (low number : ℕ) → low_bound page ≡ low → page_at new low ≡ Some number → number ≡ count =
-        λ low number same found. let value : Some number ≡ Some count = sym found ∙ updates low ∙ ap (λ b. cond b (Some count) (page_at entries low)) (at_same (low_bound page) low same) in cc in
+    λ low number same found. let value : Some number ≡ Some count = sym found ∙ updates low ∙ ap (λ b. cond b (Some count) (page_at entries low)) (at_same (low_bound page) low same) in cc in
     let elsewhere : (low : ℕ) → low_bound page ≢ low → page_at new low ≡ page_at entries low =
-        λ low differ. updates low ∙ ap (λ b. cond b (Some count) (page_at entries low)) (at_other (low_bound page) low differ) in
+    λ low differ. updates low ∙ ap (λ b. cond b (Some count) (page_at entries low)) (at_other (low_bound page) low differ) in
     record {
       found = λ low number. (
         λ found. elim (cases_eq (low_bound page) low) [

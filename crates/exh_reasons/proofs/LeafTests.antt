@@ -33,7 +33,7 @@ ends_within ward prefix short within =
     omega (arith, reach.1, above)
 
 module _ {ward : List Bool} {pages : List Page} (short : length ward ≤ LIMIT) (lows : HasLows ward pages) (bounded : (number : ℕ) (page : Page) → IsAt pages number page → IsBounded page) where
-  live_front : HasLeaves ward pages → (number : ℕ) (page : Page) (prefix : List Bool) → IsAt pages number page → low_bound page ≡ low_of prefix → length prefix ≤ LIMIT → length ward ≤ length prefix → IsFront ward prefix
+  pub live_front : HasLeaves ward pages → (number : ℕ) (page : Page) (prefix : List Bool) → IsAt pages number page → low_bound page ≡ low_of prefix → length prefix ≤ LIMIT → length ward ≤ length prefix → IsFront ward prefix
   live_front leaves number page prefix is low few long = fronts_nest ward prefix (word_bits (low_of prefix)) long (subst (Begins ward) low (lows.within number page is)) (begins_own_low prefix few)
 
   pub home_begun : HasLeaves ward pages → (number : ℕ) (page : Page) (pseudokey : ℕ) → IsAt pages number page → IsHome page pseudokey → Begins ward pseudokey

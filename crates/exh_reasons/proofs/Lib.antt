@@ -5,3 +5,6 @@ pub mod Tiles
 pub mod LeafTests
 pub mod Next
 pub mod Each
+pub mod Fits
+pub mod Entries
+pub mod Firsts

@@ -103,9 +103,11 @@ module _ {ward : List Bool} {pages : List Page} (short : length ward ≤ LIMIT) 
         let small : end_of prefix < 2 ^ 64 = omega (arith, page.2, small_low other page.0 page.1) in
         let next = next_home small (end_begun other page.0 page.1 (omega (arith, page.2))) in
         let same = lows.apart next.0 other next.1 page.0 next.2 page.1 (next.4 ∙ sym page.2) in
-        let alike = same_page pages other next.1 page.0 (subst (λ n. IsAt pages n next.1) same next.2) page.1 in
-        (page.0, record { there = page.1; live = subst IsLive alike next.3; greater = omega (arith, page.2, end_above prefix) },
-         λ further twin beyond. omega (arith, page.2, past further twin beyond.there beyond.live beyond.greater))
+        let alike = same_page pages other next.1 page.0 (subst (λ n. IsAt pages n next.1) same next.2) page.1 in (
+          page.0,
+          record { there = page.1; live = subst IsLive alike next.3; greater = omega (arith, page.2, end_above prefix) },
+          λ further twin beyond. omega (arith, page.2, past further twin beyond.there beyond.live beyond.greater),
+        )
 
     one_link : (link other : Option ℕ) → IsOwnLink link → IsOwnLink other → link ≡ other
     one_link None None is too = refl

@@ -134,8 +134,8 @@ module _ (pages : List Page) (bounded : (number : ℕ) (page : Page) → IsAt pa
       let reach : low_of prefix ≤ end_of prefix = omega (arith, end_above prefix) in
       let after : (pseudokey number : ℕ) (other : Page) → pseudokey < 2 ^ 64 → IsListed pages entries number other → IsHome other pseudokey → IsHome page pseudokey → ⊥ =
       λ pseudokey number other small rest home own.
-          let between = home_between page prefix pseudokey short small (begins pseudokey own) in
-          absurd (omega (arith, between.1, below_span (end_of prefix) to pseudokey number other rest.at small (tiled.spans number other rest) home)) in
+      let between = home_between page prefix pseudokey short small (begins pseudokey own) in
+      absurd (omega (arith, between.1, below_span (end_of prefix) to pseudokey number other rest.at small (tiled.spans number other rest) home)) in
       record {
         between = omega (arith, reach, tiled.between);
         spans = λ number other listed. elim (listed_cases pages entry entries page is number other listed) [

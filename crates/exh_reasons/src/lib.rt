@@ -4,6 +4,7 @@
 pub use laws::legal_files_pass;
 pub use page_list::PageList;
 pub use reason::Reason;
+pub use ward_tests::ward_reason;
 
 mod cap;
 mod laws;
@@ -12,3 +13,5 @@ mod links;
 mod page_index;
 mod page_list;
 mod reason;
+mod table_fit;
+mod ward_tests;

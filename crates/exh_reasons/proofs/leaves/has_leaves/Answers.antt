@@ -26,23 +26,25 @@ returns-then-len-least g c =
     let rest = c.in-Some.ensures.steps in
     let there = c.page.ensures ∙ ap (λ page. Some page) c.in-Live.is in
     let none : end_over pages (length c.args.ward) c.loop-number.end c.loop-number.number-iterator ≡ None =
-        ap (end_over pages (length c.args.ward) c.loop-number.end) rest ∙ elim c.then-len-least.branch [
-          | then-len-least-via-then-len-least w ↦ stopped_short pages (length c.args.ward) c.loop-number.end (c.in-Some.field-0-0.now, c.in-Some.number.now) c.next.new.self c.in-Live.prefix c.in-Live.right c.in-Live.records there (omega (arith, w.if-len-least.true, c.len.ensures.length, c.len-least.ensures.length))
-          | then-len-least-via-else-len-least+then-from-end w ↦ stopped_apart pages (length c.args.ward) c.loop-number.end (c.in-Some.field-0-0.now, c.in-Some.number.now) c.next.new.self c.in-Live.prefix c.in-Live.right c.in-Live.records there (λ same. w.if-from-end.true (w.from.ensures ∙ w.low-else-len-least.ensures ∙ same))
-        ] in
-    (λ is. absurd (false≢true is),
-     λ leaves.
-        let whole = leaves_end short c.requires.lows c.requires.bounded c.args.index.now.entries c.requires.index c.iter-number-items.ensures.ordered leaves in
-        let clash : None ≡ Some (end_of c.args.ward) = sym none ∙ c.loop-number.invariant ∙ whole in
-        cc)
+    ap (end_over pages (length c.args.ward) c.loop-number.end) rest ∙ elim c.then-len-least.branch [
+      | then-len-least-via-then-len-least w ↦ stopped_short pages (length c.args.ward) c.loop-number.end (c.in-Some.field-0-0.now, c.in-Some.number.now) c.next.new.self c.in-Live.prefix c.in-Live.right c.in-Live.records there (omega (arith, w.if-len-least.true, c.len.ensures.length, c.len-least.ensures.length))
+      | then-len-least-via-else-len-least+then-from-end w ↦ stopped_apart pages (length c.args.ward) c.loop-number.end (c.in-Some.field-0-0.now, c.in-Some.number.now) c.next.new.self c.in-Live.prefix c.in-Live.right c.in-Live.records there (λ same. w.if-from-end.true (w.from.ensures ∙ w.low-else-len-least.ensures ∙ same))
+    ] in (
+      λ is. absurd (false≢true is),
+      λ leaves.
+          let whole = leaves_end short c.requires.lows c.requires.bounded c.args.index.now.entries c.requires.index c.iter-number-items.ensures.ordered leaves in
+          let clash : None ≡ Some (end_of c.args.ward) = sym none ∙ c.loop-number.invariant ∙ whole in
+          cc,
+    )
 
 pub returns : goal.returns
 returns g c =
     let short : length c.args.ward ≤ LIMIT = omega (arith, c.len-least.ensures.limit, c.len-least.ensures.length) in
     let pages = g.P.PageList.pages c.args.pages.now in
-    let ended : Some c.loop-number.end ≡ end_over pages (length c.args.ward) (low_of c.args.ward) c.args.index.now.entries = ap (end_over pages (length c.args.ward) c.loop-number.end) (sym (c.in-None.ensures.steps).0) ∙ c.loop-number.invariant in
-    (λ is. ended_leaves short c.requires.lows c.requires.bounded c.args.index.now.entries c.requires.index (sym ended ∙ ap (λ n. Some n) (eqb-true c.loop-number.end c.prefix_end.result is ∙ c.prefix_end.ensures)),
-     λ leaves.
-        let both : Some c.loop-number.end ≡ Some (end_of c.args.ward) = ended ∙ leaves_end short c.requires.lows c.requires.bounded c.args.index.now.entries c.requires.index c.iter-number-items.ensures.ordered leaves in
-        let same : c.loop-number.end ≡ end_of c.args.ward = cc in
-        eq-eqb c.loop-number.end c.prefix_end.result (same ∙ sym c.prefix_end.ensures))
+    let ended : Some c.loop-number.end ≡ end_over pages (length c.args.ward) (low_of c.args.ward) c.args.index.now.entries = ap (end_over pages (length c.args.ward) c.loop-number.end) (sym (c.in-None.ensures.steps).0) ∙ c.loop-number.invariant in (
+      λ is. ended_leaves short c.requires.lows c.requires.bounded c.args.index.now.entries c.requires.index (sym ended ∙ ap (λ n. Some n) (eqb-true c.loop-number.end c.prefix_end.result is ∙ c.prefix_end.ensures)),
+      λ leaves.
+          let both : Some c.loop-number.end ≡ Some (end_of c.args.ward) = ended ∙ leaves_end short c.requires.lows c.requires.bounded c.args.index.now.entries c.requires.index c.iter-number-items.ensures.ordered leaves in
+          let same : c.loop-number.end ≡ end_of c.args.ward = cc in
+          eq-eqb c.loop-number.end c.prefix_end.result (same ∙ sym c.prefix_end.ensures),
+    )
