@@ -24,7 +24,7 @@ use Rattle.exh_legal.specs.Fit.{FitsPages, IsInner, IsMergeAt, IsSplitAt, IsWard
 use Rattle.exh_legal.specs.Growth.{IsLiveAt, IsPageOf}
 use Rattle.exh_legal.specs.LowLemmas.{begins_own_low, child_short, front_shorter, low_of-HasPrefix, low_of-small, right_above, right_tells_parent}
 use Rattle.exh_legal.specs.Pages.{IsAt, IsHome}
-use Rattle.exh_reasons.specs.Laws.{IsBounded}
+use Rattle.exh_reasons.specs.FileParts.{IsBounded}
 use Rattle.exh_reasons.specs.PageIndex.{AreIndex, IsOwnEntry, IsRecordedBy, IsToldBy, page_at}
 use Rattle.exh_reasons.specs.Reasons.{HasLows, HasLeaves}
 use Rattle.exh_reasons.proofs.Index.{same_page}

@@ -16,7 +16,7 @@ use Rattle.exh_page.specs.Page.{low_bound}
 use Rattle.exh_legal.specs.Growth.{IsLiveAt, IsPageOf}
 use Rattle.exh_legal.specs.LowLemmas.{begins_own_low, front_shorter}
 use Rattle.exh_legal.specs.Pages.{IsAt, IsHome}
-use Rattle.exh_reasons.specs.Laws.{IsBounded}
+use Rattle.exh_reasons.specs.FileParts.{IsBounded}
 use Rattle.exh_reasons.specs.PageIndex.{AreIndex, end_after, end_of, end_over, page_at}
 use Rattle.exh_reasons.specs.Reasons.{HasLows, HasLeaves}
 use Rattle.exh_reasons.proofs.Tiles.{AreTiled, InSpan, IsListed, among_found, complete, end_above, end_small, rising, sound}

@@ -8,3 +8,5 @@ pub mod Each
 pub mod Fits
 pub mod Entries
 pub mod Firsts
+pub mod Whole
+pub mod OwnPrefix

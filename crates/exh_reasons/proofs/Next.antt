@@ -11,7 +11,7 @@ use Rattle.exh_page.specs.Page.{IsLive, low_bound}
 use Rattle.exh_legal.specs.Growth.{IsPageOf}
 use Rattle.exh_legal.specs.LowLemmas.{begins_own_low}
 use Rattle.exh_legal.specs.Pages.{IsAt, IsHome, IsRightOf, IsRightLink}
-use Rattle.exh_reasons.specs.Laws.{IsBounded}
+use Rattle.exh_reasons.specs.FileParts.{IsBounded}
 use Rattle.exh_reasons.specs.PageIndex.{AreIndex, IsAimedBy, IsLinkedBy, end_of, next_of, page_at}
 use Rattle.exh_prefix.specs.Bits.{lowest_cleared}
 use Rattle.exh_reasons.specs.Reasons.{HasLows, HasLeaves, HasLinks, HasTargets}

@@ -20,7 +20,8 @@ use Rattle.exh_legal.specs.Growth.{IsLiveAt}
 use Rattle.exh_legal.specs.LowLemmas.{begins_own_low, front_shorter}
 use Rattle.exh_legal.specs.MapLemmas.{all_pages, page_at}
 use Rattle.exh_legal.specs.Pages.{IsAt, IsHome, IsLegal, IsLegalPage, IsLinkedPage, IsRightLink, IsWithin, AreLinked, bare}
-use Rattle.exh_reasons.specs.Laws.{IsBounded, AreFormed}
+use Rattle.exh_reasons.specs.FileParts.{IsBounded}
+use Rattle.exh_reasons.specs.Laws.{AreFormed}
 use Rattle.exh_reasons.specs.Reasons.{KeepsCap, HasLows, HasLeaves, HasLinks, HasTargets}
 use Rattle.exh_reasons.proofs.Bare.{bare_bare, bare_home, bare_live, home_bare, link_to, live_bare, target_to}
 

@@ -20,7 +20,7 @@ use Rattle.exh_page.specs.Page.{low_bound}
 use Rattle.exh_legal.specs.Growth.{IsPageOf}
 use Rattle.exh_legal.specs.LowLemmas.{begins_own_low, low_of-small}
 use Rattle.exh_legal.specs.Pages.{IsAt, IsHome}
-use Rattle.exh_reasons.specs.Laws.{IsBounded}
+use Rattle.exh_reasons.specs.FileParts.{IsBounded}
 use Rattle.exh_reasons.specs.PageIndex.{AreIndex, end_after, end_of, end_over, page_at}
 use Rattle.exh_reasons.proofs.Index.{at_same, at_other, same_page}
 

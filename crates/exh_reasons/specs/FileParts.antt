@@ -1,11 +1,12 @@
 -- What a page file holds, as values.
-use Rattle.std.specs.Prelude.{◌≡◌, ℕ, ◌≤◌, Bool, List, get_or, length, slice_get, Some}
+use Rattle.std.specs.Prelude.{◌≡◌, ℕ, ◌^◌, ◌<◌, ◌≤◌, Bool, List, get_or, length, slice_get, Some}
 use Rattle.std.specs.FinMap.{empty}
 use Rattle.exh_prefix.specs.declared.prefix.TheConstants.{LIMIT}
 use Rattle.exh_table.specs.Table.{TableMap}
 use Rattle.exh_page.specs.declared.page.Page.{Page}
+use Rattle.exh_page.specs.declared.page.Page.TheVariants.{Live, Forward}
 use Rattle.exh_page.specs.declared.page.TheConstants.{CAP_LIMIT}
-use Rattle.exh_legal.specs.Pages.{ward_prefix}
+use Rattle.exh_legal.specs.Pages.{IsAt, ward_prefix}
 
 pub record FileParts : Type 0 where
   pub cap : ℕ
@@ -30,3 +31,16 @@ HasNoStrays parts = (number : ℕ) → length parts.wards ≤ number → table_o
 pub record HasRanges (parts : FileParts) : Type 0 where
   pub cap : parts.cap ≤ CAP_LIMIT
   pub bits : parts.ward_bits ≤ LIMIT
+
+-- the parts of a file
+abbrev pub parts_of : ℕ → ℕ → List (List Page) → List TableMap → FileParts
+parts_of cap ward_bits wards tables = record { cap = cap; ward_bits = ward_bits; wards = wards; tables = tables }
+
+-- a prefix and a low bound as large as there are
+abbrev pub IsBounded : Page → Type 0
+IsBounded (Live prefix right records) = length prefix ≤ LIMIT
+IsBounded (Forward low target) = low < 2 ^ 64
+
+-- of each page of each ward
+abbrev pub AreBounded : List (List Page) → Type 0
+AreBounded wards = (ward : ℕ) (pages : List Page) → slice_get wards ward ≡ Some pages → (number : ℕ) (page : Page) → IsAt pages number page → IsBounded page

@@ -1,5 +1,5 @@
 -- The six reasons for which a page file isn't legal: each a test of its own over the whole file.
-use Rattle.std.specs.Prelude.{◌≡◌, ℕ, ◌<◌, ◌≤◌, ◌^◌, Bool, List, length, Option, None, Some}
+use Rattle.std.specs.Prelude.{◌≡◌, ℕ, ◌<◌, ◌≤◌, ◌^◌, Bool, cond, nat_le, List, length, Option, None, Some}
 use Rattle.exh_prefix.specs.Prefix.{Begins, low_of}
 use Rattle.exh_table.specs.Table.{TableMap}
 use Rattle.exh_page.specs.declared.page.Page.{Page}
@@ -80,3 +80,9 @@ IsFirstOfWard cap ward table pages found = IsFirst (WardPasses cap ward table pa
 
 abbrev pub IsFirstReason : FileParts → Option Reason → Type 0
 IsFirstReason parts found = IsFirst (Passes parts) found
+
+-- of two reasons the one that is tested first
+abbrev pub lesser_of : Option Reason → Option Reason → Option Reason
+lesser_of None other = other
+lesser_of (Some one) None = Some one
+lesser_of (Some one) (Some other) = cond (nat_le (place_of one) (place_of other)) (Some one) (Some other)

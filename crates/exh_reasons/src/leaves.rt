@@ -2,7 +2,7 @@ ghost use Rattle.std.specs.Prelude.{◌≡◌, ◌↔◌, ℕ, ◌+◌, ◌-◌,
 ghost use Rattle.exh_prefix.specs.declared.prefix.TheConstants.{LIMIT};
 ghost use Rattle.exh_page.specs.declared.page.Page.{Page};
 ghost use Rattle.exh_legal.specs.Pages.{IsAt};
-ghost use Rattle.exh_reasons.specs.Laws.{IsBounded};
+ghost use Rattle.exh_reasons.specs.FileParts.{IsBounded};
 ghost use Rattle.exh_reasons.specs.PageIndex.{AreIndex, end_of};
 ghost use Rattle.exh_reasons.specs.Reasons.{HasLows, HasLeaves};
 

@@ -6,7 +6,7 @@ ghost use Rattle.exh_notice.specs.declared.entry.Entry.{Entry};
 ghost use Rattle.exh_page.specs.declared.page.Page.{Page};
 ghost use Rattle.exh_legal.specs.Fit.{FitsPages, IsWardEntry, parity_of};
 ghost use Rattle.exh_legal.specs.Pages.{IsAt};
-ghost use Rattle.exh_reasons.specs.Laws.{IsBounded};
+ghost use Rattle.exh_reasons.specs.FileParts.{IsBounded};
 ghost use Rattle.exh_reasons.specs.PageIndex.{AreIndex, IsOwnEntry, IsRecordedBy, IsToldBy};
 ghost use Rattle.exh_reasons.specs.Reasons.{HasLows, HasLeaves};
 
