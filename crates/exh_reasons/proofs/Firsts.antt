@@ -1,5 +1,5 @@
 -- The first reason of a ward, from its tests in their order.
-use Rattle.std.proofs.Common.{◌≡◌, ℕ, ◌<◌, ◌≤◌, Bool, List, arith}
+use Rattle.std.proofs.Common.{◌<◌, arith}
 use Rattle.exh_reasons.specs.declared.reason.Reason.{Reason}
 use Rattle.exh_reasons.specs.declared.reason.Reason.TheVariants.{Cap, LowBounds, Leaves, Links, Forwards, Table}
 use Rattle.exh_reasons.specs.Reasons.{place_of}

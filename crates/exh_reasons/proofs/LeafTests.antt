@@ -1,5 +1,5 @@
 -- The live pages are a ward's leaves exactly where they stand one beside the other over the ward.
-use Rattle.std.proofs.Common.{◌≡◌, ◌≢◌, ◌↔◌, ℕ, ◌+◌, ◌-◌, ◌<◌, ◌≤◌, ◌^◌, Bool, true, false, cond, ◌&&◌, leb, eqb, List, [], ◌∷◌, map, length, Option, None, Some, inl, inr, refl, sym, ap, ◌∙◌, subst, arith}
+use Rattle.std.proofs.Common.{◌≡◌, ◌≢◌, ℕ, ◌-◌, ◌<◌, ◌≤◌, ◌^◌, Bool, true, false, cond, ◌&&◌, leb, eqb, List, ◌∷◌, map, length, Option, None, Some, refl, ap, ◌∙◌, subst, arith}
 use Rattle.std.specs.List.{slice_get}
 use Rattle.std.specs.List.Sorted.{IsStrictlySortedBy}
 use Rattle.std.specs.Option.{option_map_or}
@@ -13,11 +13,11 @@ use Rattle.exh_page.specs.declared.page.Page.{Page}
 use Rattle.exh_page.specs.declared.page.Page.TheVariants.{Live, Forward}
 use Rattle.exh_page.specs.declared.record.Record.{Record}
 use Rattle.exh_page.specs.Page.{low_bound}
-use Rattle.exh_legal.specs.Growth.{IsLiveAt, IsPageOf}
+use Rattle.exh_legal.specs.Growth.{IsLiveAt}
 use Rattle.exh_legal.specs.LowLemmas.{begins_own_low, front_shorter}
 use Rattle.exh_legal.specs.Pages.{IsAt, IsHome}
 use Rattle.exh_reasons.specs.FileParts.{IsBounded}
-use Rattle.exh_reasons.specs.PageIndex.{AreIndex, end_after, end_of, end_over, page_at}
+use Rattle.exh_reasons.specs.PageIndex.{AreIndex, end_after, end_of, end_over}
 use Rattle.exh_reasons.specs.Reasons.{HasLows, HasLeaves}
 use Rattle.exh_reasons.proofs.Tiles.{AreTiled, InSpan, IsListed, among_found, complete, end_above, end_small, rising, sound}
 

@@ -1,5 +1,5 @@
 -- Where the leaves of a ward are legal, a live page's right link is the page whose low bound is where its prefix ends.
-use Rattle.std.proofs.Common.{◌≡◌, ◌≢◌, ◌↔◌, ℕ, ◌+◌, ◌-◌, ◌<◌, ◌≤◌, ◌^◌, Bool, List, length, Option, None, Some, inl, inr, refl, sym, ap, ◌∙◌, subst, arith}
+use Rattle.std.proofs.Common.{◌≡◌, ℕ, ◌-◌, ◌<◌, ◌≤◌, ◌^◌, Bool, List, length, Option, None, Some, inl, inr, refl, sym, ap, ◌∙◌, subst, arith}
 use Rattle.std.proofs.lemmas.Bool.Decides.{leb_tells}
 use Rattle.exh_prefix.specs.declared.prefix.TheConstants.{LIMIT}
 use Rattle.exh_prefix.specs.Prefix.{Begins, low_of}
@@ -10,7 +10,7 @@ use Rattle.exh_page.specs.declared.record.Record.{Record}
 use Rattle.exh_page.specs.Page.{IsLive, low_bound}
 use Rattle.exh_legal.specs.Growth.{IsPageOf}
 use Rattle.exh_legal.specs.LowLemmas.{begins_own_low}
-use Rattle.exh_legal.specs.Pages.{IsAt, IsHome, IsRightOf, IsRightLink}
+use Rattle.exh_legal.specs.Pages.{IsAt, IsHome, IsRightLink}
 use Rattle.exh_reasons.specs.FileParts.{IsBounded}
 use Rattle.exh_reasons.specs.PageIndex.{AreIndex, IsAimedBy, IsLinkedBy, end_of, next_of, page_at}
 use Rattle.exh_prefix.specs.Bits.{lowest_cleared}

@@ -1,14 +1,13 @@
 -- Live pages in the order of their low bounds, each beginning where the one before ends.
-use Rattle.std.proofs.Common.{◌≡◌, ◌≢◌, ◌↔◌, ℕ, ◌+◌, ◌-◌, ◌<◌, ◌≤◌, ◌^◌, Bool, true, false, cond, ◌&&◌, leb, eqb, List, [], ◌∷◌, map, length, Option, None, Some, ◌⊎◌, inl, inr, refl, sym, ap, ◌∙◌, subst, arith}
+use Rattle.std.proofs.Common.{◌≡◌, ℕ, ◌-◌, ◌<◌, ◌≤◌, ◌^◌, Bool, true, false, cond, ◌&&◌, leb, eqb, List, [], ◌∷◌, map, length, Option, None, Some, ◌⊎◌, inl, inr, refl, sym, ap, ◌∙◌, subst, arith}
 use Rattle.std.specs.BTreeMap.{is_at}
 use Rattle.std.specs.Cmp.{nat_cmp_is}
 use Rattle.std.specs.List.{AllByRecursion, slice_get}
 use Rattle.std.specs.List.Sorted.{IsStrictlySortedBy}
-use Rattle.std.specs.Map.{lookup}
 use Rattle.std.specs.Option.{option_map_or}
 use Rattle.std.specs.Ordering.{nat_cmp}
 use Rattle.std.specs.declared.cmp.Ordering.TheVariants.{Less, Equal, Greater}
-use Rattle.std.proofs.lemmas.Bool.{cases_eq, eqb-true, false≢true, le-leb, leb-true, eq-eqb}
+use Rattle.std.proofs.lemmas.Bool.{cases_eq, eqb-true, le-leb, leb-true, eq-eqb}
 use Rattle.std.proofs.lemmas.Bool.Decides.{leb_tells}
 use Rattle.std.proofs.lemmas.Nat.{pow_pos}
 use Rattle.exh_prefix.specs.declared.prefix.TheConstants.{LIMIT}
@@ -21,7 +20,7 @@ use Rattle.exh_legal.specs.Growth.{IsPageOf}
 use Rattle.exh_legal.specs.LowLemmas.{begins_own_low, low_of-small}
 use Rattle.exh_legal.specs.Pages.{IsAt, IsHome}
 use Rattle.exh_reasons.specs.FileParts.{IsBounded}
-use Rattle.exh_reasons.specs.PageIndex.{AreIndex, end_after, end_of, end_over, page_at}
+use Rattle.exh_reasons.specs.PageIndex.{end_after, end_of, end_over, page_at}
 use Rattle.exh_reasons.proofs.Index.{at_same, at_other, same_page}
 
 -- the entries have the number

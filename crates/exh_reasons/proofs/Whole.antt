@@ -1,5 +1,5 @@
 -- The first reason of a file is the least over its wards.
-use Rattle.std.proofs.Common.{◌≡◌, ℕ, suc, ◌+◌, ◌<◌, ◌≤◌, Bool, cond, leb, List, length, Option, None, Some, inl, inr, refl, sym, ap, ◌∙◌, subst, arith}
+use Rattle.std.proofs.Common.{◌≡◌, ℕ, ◌+◌, ◌<◌, ◌≤◌, cond, List, length, Option, None, Some, inl, inr, sym, ap, ◌∙◌, subst, arith}
 use Rattle.std.specs.List.{slice_get}
 use Rattle.std.proofs.lemmas.Bool.{cases_eq}
 use Rattle.std.proofs.lemmas.Bool.Decides.{leb_tells}
@@ -88,7 +88,6 @@ place_most Leaves = omega arith
 place_most Links = omega arith
 place_most Forwards = omega arith
 place_most Table = omega arith
-
 
 table_first : (parts : FileParts) → (HasNoStrays parts → ⊥) → ((reason : Reason) → place_of reason < 6 → PassedBelow parts (length parts.wards) reason) → IsFirstReason parts (Some Table)
 table_first parts astray below = (λ all. astray all.1, λ earlier less. early_passes parts earlier less (below earlier less))

@@ -1,5 +1,5 @@
 -- What the six reasons come to.
-use Rattle.std.specs.Prelude.{◌≡◌, ◌↔◌, ℕ, ◌<◌, ◌≤◌, ◌^◌, Bool, List, [], length}
+use Rattle.std.specs.Prelude.{◌≡◌, ◌↔◌, ℕ, ◌<◌, ◌^◌, List, [], length}
 use Rattle.std.specs.FinMap.{entries}
 use Rattle.std.specs.List.{sum_by}
 use Rattle.exh_prefix.specs.declared.prefix.TheConstants.{LIMIT}

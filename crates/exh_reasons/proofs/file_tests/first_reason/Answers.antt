@@ -1,6 +1,5 @@
-use Rattle.std.proofs.Common.{◌≡◌, ℕ, ◌+◌, ◌<◌, ◌≤◌, List, length, map, Option, Some, inl, inr, refl, sym, ap, ◌∙◌, subst, arith}
+use Rattle.std.proofs.Common.{◌≡◌, ◌+◌, ◌<◌, ◌≤◌, length, map, inl, inr, refl, sym, ap, ◌∙◌, subst, arith}
 use Rattle.std.specs.FinMap.{empty}
-use Rattle.std.specs.List.{slice_get}
 use Rattle.std.specs.Option.{option_map}
 use Rattle.std.proofs.lemmas.Bool.{cases_eq, false≢true}
 use Rattle.std.proofs.lemmas.Bool.Decides.{leb_tells}
@@ -8,7 +7,6 @@ use Rattle.std.proofs.lemmas.List.{get_or_past, length-map}
 use Rattle.std.proofs.lemmas.Option.{get_or_from_slice_get, slice_get-map, slice_get_read}
 use Rattle.exh_reasons.specs.FileParts.{HasNoStrays, parts_of, table_of}
 use Rattle.exh_reasons.specs.Reasons.{IsFirst, IsFirstReason, WardPasses}
-use Rattle.exh_reasons.specs.declared.reason.Reason.TheVariants.{Table}
 use Rattle.exh_reasons.proofs.Whole.{PassedBelow, one_more, with_strays, without_strays}
 use Rattle.exh_reasons.proofs.file_tests.first_reason.Goals as goal
 
@@ -27,7 +25,7 @@ loop-number-preserved g c =
     let at = slice_get-map pages_of c.args.wards.now c.loop-number.number ∙ ap (option_map pages_of) (slice_get_read c.args.wards.now (length c.args.wards.now) c.loop-number.number c.index-wards-number.result refl less c.index-wards-number.is) in
     let table : table_of parts c.loop-number.number ≡ c.index-tables-number.result = get_or_from_slice_get c.args.tables.now c.loop-number.number c.index-tables-number.result empty (slice_get_read c.args.tables.now (length c.args.tables.now) c.loop-number.number c.index-tables-number.result refl within c.index-tables-number.is) in
     let found = subst (λ ward. IsFirst (WardPasses c.args.cap ward (table_of parts c.loop-number.number) (pages_of c.index-wards-number.result)) c.in_ok-found.found) c.own_prefix-ward.ensures
-        (subst (λ table. IsFirst (WardPasses c.args.cap c.own_prefix-ward.result table (pages_of c.index-wards-number.result)) c.in_ok-found.found) (sym table) c.in_ok-found.ensures) in
+    (subst (λ table. IsFirst (WardPasses c.args.cap c.own_prefix-ward.result table (pages_of c.index-wards-number.result)) c.in_ok-found.found) (sym table) c.in_ok-found.ensures) in
     subst (IsFirst (PassedBelow parts (c.loop-number.number + 1))) (sym c.lesser-first.ensures) (one_more parts c.loop-number.number (pages_of c.index-wards-number.result) at c.loop-number.first c.in_ok-found.found c.loop-number.invariant found)
 
 pub returns-then-not-is_bare : goal.returns-then-not-is_bare

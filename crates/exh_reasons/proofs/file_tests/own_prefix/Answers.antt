@@ -1,4 +1,4 @@
-use Rattle.std.proofs.Common.{◌≡◌, ℕ, ◌-◌, ◌*◌, ◌%◌, ◌^◌, ◌<◌, ap, sym, ◌∙◌, subst, arith}
+use Rattle.std.proofs.Common.{◌≡◌, ℕ, ◌-◌, ◌*◌, ◌^◌, ◌<◌, ap, ◌∙◌, subst, arith}
 use Rattle.exh_reasons.proofs.OwnPrefix.{own_is, own_some, shifted_low}
 use Rattle.exh_reasons.proofs.file_tests.own_prefix.Goals as goal
 use Rattle.exh_reasons.proofs.file_tests.own_prefix.Goals.{then-ward_bits-eq0, else-ward_bits-eq0}

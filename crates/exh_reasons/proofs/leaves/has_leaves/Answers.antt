@@ -1,4 +1,4 @@
-use Rattle.std.proofs.Common.{◌≡◌, ◌≢◌, ◌≤◌, ℕ, true, false, List, [], ◌∷◌, length, None, Some, sym, ap, ◌∙◌, refl, subst, arith}
+use Rattle.std.proofs.Common.{◌≡◌, ◌≤◌, length, None, Some, sym, ap, ◌∙◌, arith}
 use Rattle.std.specs.Map.Iter.{deref_pair}
 use Rattle.std.proofs.lemmas.Bool.{eqb-true, eq-eqb, false≢true}
 use Rattle.std.proofs.lemmas.Cmp.{nat_cmp_total}
@@ -6,9 +6,7 @@ use Rattle.std.proofs.lemmas.Map.Iter.{btree_map_turn}
 use Rattle.std.proofs.lemmas.Option.{slice_get_within}
 use Rattle.exh_prefix.specs.Prefix.{low_of}
 use Rattle.exh_prefix.specs.declared.prefix.TheConstants.{LIMIT}
-use Rattle.exh_page.specs.declared.page.Page.TheVariants.{Live}
 use Rattle.exh_reasons.specs.PageIndex.{end_of, end_over}
-use Rattle.exh_reasons.specs.Reasons.{HasLeaves}
 use Rattle.exh_reasons.proofs.LeafTests.{ended_leaves, leaves_end, stopped_short, stopped_apart}
 use Rattle.exh_reasons.proofs.leaves.has_leaves.Goals as goal
 use Rattle.exh_reasons.proofs.leaves.has_leaves.Goals.{then-len-least-via-then-len-least, then-len-least-via-else-len-least+then-from-end}

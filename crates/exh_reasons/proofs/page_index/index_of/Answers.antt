@@ -1,11 +1,11 @@
-use Rattle.std.proofs.Common.{◌≡◌, ℕ, true, false, cond, length, None, Some, sym, ap, ◌∙◌, subst, arith}
+use Rattle.std.proofs.Common.{◌≡◌, cond, length, Some, sym, ap, ◌∙◌, subst, arith}
 use Rattle.std.specs.BTreeMap.{is_at}
 use Rattle.std.specs.Ordering.{nat_cmp}
 use Rattle.std.proofs.lemmas.Bool.{false≢true}
 use Rattle.exh_prefix.specs.Prefix.{Begins}
 use Rattle.exh_page.specs.Page.{low_bound}
 use Rattle.exh_reasons.specs.PageIndex.{page_at}
-use Rattle.exh_reasons.proofs.Index.{IsBegunIndex, all_indexed, more_index, no_index, shared_low_found, none_found}
+use Rattle.exh_reasons.proofs.Index.{IsBegunIndex, all_indexed, more_index, shared_low_found, none_found}
 use Rattle.exh_reasons.proofs.page_index.index_of.Goals as goal
 use Rattle.exh_reasons.proofs.page_index.index_of.Goals.{then-not-begins-via-then-not-begins, then-not-begins-via-else-not-begins+then-contains_key}
 

@@ -1,5 +1,3 @@
-use Rattle.std.proofs.Common.{◌<◌}
-use Rattle.exh_reasons.specs.PageIndex.{IsRecordedBy}
 use Rattle.exh_reasons.proofs.Fits.{RecordedBelow}
 use Rattle.exh_reasons.proofs.table_fit.has_all_entries.Given as goal
 

@@ -1,5 +1,4 @@
-use Rattle.std.proofs.Common.{◌≡◌, ℕ, [], ◌∷◌, refl, sym, ap, ◌∙◌, subst}
-use Rattle.std.specs.FinMap.{entries}
+use Rattle.std.proofs.Common.{refl, sym, ◌∙◌, subst}
 use Rattle.std.proofs.lemmas.Bool.{false≢true}
 use Rattle.exh_reasons.specs.PageIndex.{IsOwnEntry}
 use Rattle.exh_reasons.proofs.Entries.{all_entries, each_entry}

@@ -1,4 +1,4 @@
-use Rattle.std.proofs.Common.{◌≡◌, true, sym, ap, ◌∙◌}
+use Rattle.std.proofs.Common.{sym, ap, ◌∙◌}
 use Rattle.std.specs.Prelude.{is_some}
 use Rattle.exh_reasons.proofs.Fits.{one_parent}
 use Rattle.exh_reasons.proofs.table_fit.is_recorded.Goals as goal

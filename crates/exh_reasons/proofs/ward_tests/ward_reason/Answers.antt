@@ -1,4 +1,4 @@
-use Rattle.std.proofs.Common.{◌≡◌, sym, ◌∙◌}
+use Rattle.std.proofs.Common.{sym, ◌∙◌}
 use Rattle.std.proofs.lemmas.Bool.{false≢true}
 use Rattle.exh_reasons.specs.Reasons.{WardPasses}
 use Rattle.exh_reasons.proofs.Firsts.{before_table, each_reason}
