@@ -6,7 +6,7 @@ use Rattle.exh_table.specs.Table.{TableMap}
 use Rattle.exh_page.specs.declared.page.Page.{Page}
 use Rattle.exh_page.specs.declared.page.Page.TheVariants.{Live, Forward}
 use Rattle.exh_page.specs.declared.page.TheConstants.{CAP_LIMIT}
-use Rattle.exh_legal.specs.Pages.{IsAt, ward_prefix}
+use Rattle.exh_legal.specs.Pages.{ward_prefix}
 
 pub record FileParts : Type 0 where
   pub cap : ℕ
@@ -40,7 +40,3 @@ parts_of cap ward_bits wards tables = record { cap = cap; ward_bits = ward_bits;
 abbrev pub IsBounded : Page → Type 0
 IsBounded (Live prefix right records) = length prefix ≤ LIMIT
 IsBounded (Forward low target) = low < 2 ^ 64
-
--- of each page of each ward
-abbrev pub AreBounded : List (List Page) → Type 0
-AreBounded wards = (ward : ℕ) (pages : List Page) → slice_get wards ward ≡ Some pages → (number : ℕ) (page : Page) → IsAt pages number page → IsBounded page

@@ -3,7 +3,7 @@ ghost use Rattle.std.specs.FinMap.{empty};
 ghost use Rattle.exh_prefix.specs.declared.prefix.TheConstants.{LIMIT};
 ghost use Rattle.exh_page.specs.declared.page.Page.{Page};
 ghost use Rattle.exh_legal.specs.Pages.{IsAt, ward_prefix};
-ghost use Rattle.exh_reasons.specs.FileParts.{AreBounded, parts_of};
+ghost use Rattle.exh_reasons.specs.FileParts.{parts_of};
 ghost use Rattle.exh_reasons.specs.Reasons.{IsFirstReason, lesser_of};
 
 use crate::ward_tests::ward_reason;
@@ -26,7 +26,6 @@ pub fn first_reason<P: PageList>(
     requires bits { ward_bits ≤ LIMIT }
     requires wards { length wards.now ≤ 2 ^ ward_bits }
     requires tables { length wards.now ≤ length tables.now }
-    requires bounded { AreBounded (map P.pages wards.now) }
     ensures { IfOk result (IsFirstReason (parts_of cap ward_bits (map P.pages wards.now) tables.now)) }
 {
     let mut first = None;

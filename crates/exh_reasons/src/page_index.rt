@@ -4,10 +4,12 @@ ghost use Rattle.exh_legal.specs.Pages.{IsAt};
 ghost use Rattle.exh_page.specs.Page.{IsLive, low_bound};
 ghost use Rattle.exh_prefix.specs.Prefix.{low_of};
 ghost use Rattle.exh_page.specs.declared.page.Page.{Page};
+ghost use Rattle.exh_reasons.specs.FileParts.{IsBounded};
 ghost use Rattle.exh_reasons.specs.PageIndex.{AreIndex};
 ghost use Rattle.exh_reasons.specs.Reasons.{HasLows};
 
 use crate::PageList;
+use exh_page::Page;
 use exh_prefix::Prefix;
 use std::alloc::{AllocError, Global};
 use std::collections::BTreeMap;
@@ -23,20 +25,31 @@ pub(crate) fn index_of<P: PageList>(
     ward: Prefix,
     pages: &P,
 ) -> Result<Option<PageIndex>, AllocError>
-    ensures { IfOk result (λ found. MatchOption found (HasLows ward (P.pages pages.now) → ⊥) (λ index. HasLows ward (P.pages pages.now) × AreIndex index.entries (P.pages pages.now))) }
+    ensures { IfOk result (λ found. MatchOption found (HasLows ward (P.pages pages.now) → ⊥) (λ index. HasLows ward (P.pages pages.now) × AreIndex index.entries (P.pages pages.now) × ((number : ℕ) (page : Page) → IsAt (P.pages pages.now) number page → IsBounded page))) }
 {
     if !begins_ward(ward, pages) {
         return Ok(None);
     }
     let mut index = BTreeMap::new(alloc);
     for number in 0..pages.page_count() {
-        let low = pages.page(number).low();
+        let low = low_bound_of(pages.page(number));
         if !ward.begins(low) || index.contains_key(&low) {
             return Ok(None);
         }
         index.insert(low, number)?;
     }
     Ok(Some(index))
+}
+
+// A page's low bound. Its prefix has at most `LIMIT` bits.
+fn low_bound_of(page: &Page) -> u64
+    ensures low { result ≡ low_bound page.now }
+    ensures bounded { IsBounded page.now }
+{
+    if let Page::Live { prefix, .. } = page {
+        let _bits = prefix.len();
+    }
+    page.low()
 }
 
 // Whether page 0 is live and has the ward's low bound.

@@ -23,7 +23,6 @@ pub fn ward_reason<P: PageList>(
     pages: &P,
     table: &Table,
 ) -> Result<Option<Reason>, AllocError>
-    requires { (number : ℕ) (page : Page) → IsAt (P.pages pages.now) number page → IsBounded page }
     ensures { IfOk result (IsFirstOfWard cap ward table.now (P.pages pages.now)) }
 {
     if !keeps_cap(cap, pages) {

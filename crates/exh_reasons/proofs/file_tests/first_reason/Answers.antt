@@ -10,12 +10,6 @@ use Rattle.exh_reasons.specs.Reasons.{IsFirst, IsFirstReason, WardPasses}
 use Rattle.exh_reasons.proofs.Whole.{PassedBelow, one_more, with_strays, without_strays}
 use Rattle.exh_reasons.proofs.file_tests.first_reason.Goals as goal
 
-pub ward_reason-requires : goal.ward_reason-requires
-ward_reason-requires g c =
-    let pages_of = g.P.PageList.pages in
-    let less : c.loop-number.number < length c.args.wards.now = omega (arith, c.loop-number-test.true) in
-    c.requires.bounded c.loop-number.number (pages_of c.index-wards-number.result) (slice_get-map pages_of c.args.wards.now c.loop-number.number ∙ ap (option_map pages_of) (slice_get_read c.args.wards.now (length c.args.wards.now) c.loop-number.number c.index-wards-number.result refl less c.index-wards-number.is))
-
 pub loop-number-preserved : goal.loop-number-preserved
 loop-number-preserved g c =
     let pages_of = g.P.PageList.pages in
