@@ -12,7 +12,7 @@ use Rattle.exh_page.specs.declared.page.Page.TheVariants.{Live, Forward}
 use Rattle.exh_page.specs.Page.{IsLive, low_bound}
 use Rattle.exh_legal.specs.Pages.{IsAt, IsHome, IsWithin, IsRightOf, IsRightLink, IsLinkedPage, AreLinked}
 use Rattle.exh_legal.specs.PlaceLemmas.{home_of_low}
-use Rattle.exh_prefix.specs.LowLemmas.{front_shorter, low_of-small, begins_own_low, right_above, left_keeps, begins_between}
+use Rattle.exh_prefix.specs.LowLemmas.{front_shorter, low_of-small, begins_own_low, right_above, left_keeps, begins_between, low_of-HasPrefix}
 use Rattle.exh_prefix.specs.ListLemmas.{one_there}
 
 -- a merge, of pages without records: the page at `right` sends callers on to the one at `at`
@@ -22,16 +22,6 @@ pub record IsJoined (pages : List Page) (at : ℕ) (prefix : List Bool) (left_li
   pub merged : IsAt new at (Live prefix link [])
   pub forwards : IsAt new right (Forward (low_of (prefix ++ true ∷ [])) at)
   pub others : (number : ℕ) → (number ≡ at → ⊥) → (number ≡ right → ⊥) → slice_get new number ≡ slice_get pages number
-
--- a low bound of a prefix has zeros past LIMIT bits
-pub low_of-HasPrefix : (prefix : List Bool) → length prefix ≤ LIMIT → HasPrefix LIMIT (low_of prefix)
-low_of-HasPrefix prefix short =
-    let word = word_bits-low_of prefix (omega arith) in
-    let here : length prefix + (LIMIT - length prefix) ≡ LIMIT = omega arith in
-    let rest : drop LIMIT (word_bits (low_of prefix)) ≡ zeros (64 - LIMIT) =
-    ap (drop LIMIT) word ∙ ap (λ n. drop n (prefix ++ zeros (64 - length prefix))) (sym here) ∙ drop-append-add prefix (zeros (64 - length prefix)) (LIMIT - length prefix)
-    ∙ drop-replicate (LIMIT - length prefix) (64 - length prefix) false ∙ ap zeros (let fewer : (64 - length prefix) - (LIMIT - length prefix) ≡ 64 - LIMIT = omega arith in fewer) in
-    (omega arith, sym (take-append-drop LIMIT (word_bits (low_of prefix))) ∙ ap (λ bits. take LIMIT (word_bits (low_of prefix)) ++ bits) rest)
 
 -- the ward that has both children in it has the parent in it
 parent_within : (ward prefix : List Bool) → IsFront ward (prefix ++ false ∷ []) → IsFront ward (prefix ++ true ∷ []) → IsFront ward prefix

@@ -1,12 +1,13 @@
 -- Prefixes and the low bounds of their children.
-use Rattle.std.proofs.Common.{◌≡◌, ℕ, zero, suc, ◌-◌, ◌*◌, ◌^◌, ◌<◌, ◌≤◌, Bool, true, false, List, [], ◌∷◌, ◌++◌, length, take, refl, sym, ap, ◌∙◌, arith}
-use Rattle.std.proofs.lemmas.List.{length_push, take-append-le, take_all, append_assoc}
+use Rattle.std.proofs.Common.{◌≡◌, ℕ, zero, suc, ◌+◌, ◌-◌, ◌*◌, ◌^◌, ◌<◌, ◌≤◌, Bool, true, false, List, [], ◌∷◌, ◌++◌, length, take, drop, refl, sym, ap, ◌∙◌, arith}
+use Rattle.std.proofs.lemmas.List.{length_push, take-append-le, take_all, append_assoc, take-append-drop, drop-replicate}
+use Rattle.std.proofs.Math.Seq.{drop-append-add}
 use Rattle.std.proofs.lemmas.Nat.{pow_pos}
 use Rattle.std.proofs.Math.Nat.{pow-suc}
 use Rattle.exh_prefix.specs.declared.prefix.TheConstants.{LIMIT}
 use Rattle.exh_prefix.specs.Bits.{word_bits}
-use Rattle.exh_prefix.specs.Prefix.{zeros, IsFront, Begins, low_of}
-use Rattle.exh_prefix.specs.PrefixLemmas.{low_of-child, low_of-left_child, begins_from_low, word_bits-low_of, low_of-word}
+use Rattle.exh_prefix.specs.Prefix.{zeros, IsFront, Begins, HasPrefix, low_of}
+use Rattle.exh_prefix.specs.PrefixLemmas.{low_of-lt, low_of-child, low_of-left_child, begins_from_low, word_bits-low_of, low_of-word}
 
 pub own_front : (bits : List Bool) → IsFront bits bits
 own_front bits = take_all (length bits) bits (omega arith)
@@ -72,3 +73,13 @@ right_tells_parent one other short few same =
     let word : (prefix : List Bool) → length prefix < LIMIT → word_bits (low_of (prefix ++ true ∷ [])) ≡ prefix ++ true ∷ zeros (64 - length (prefix ++ true ∷ [])) =
     λ prefix short. word_bits-low_of (prefix ++ true ∷ []) (omega (arith, length_push prefix true)) ∙ append_assoc prefix (true ∷ []) _ in
     same_before one other _ _ (sym (word one short) ∙ ap word_bits same ∙ word other few)
+
+-- a low bound of a prefix has zeros past LIMIT bits
+pub low_of-HasPrefix : (prefix : List Bool) → length prefix ≤ LIMIT → HasPrefix LIMIT (low_of prefix)
+low_of-HasPrefix prefix short =
+    let word = word_bits-low_of prefix (omega arith) in
+    let here : length prefix + (LIMIT - length prefix) ≡ LIMIT = omega arith in
+    let rest : drop LIMIT (word_bits (low_of prefix)) ≡ zeros (64 - LIMIT) =
+    ap (drop LIMIT) word ∙ ap (λ n. drop n (prefix ++ zeros (64 - length prefix))) (sym here) ∙ drop-append-add prefix (zeros (64 - length prefix)) (LIMIT - length prefix)
+    ∙ drop-replicate (LIMIT - length prefix) (64 - length prefix) false ∙ ap zeros (let fewer : (64 - length prefix) - (LIMIT - length prefix) ≡ 64 - LIMIT = omega arith in fewer) in
+    (omega arith, sym (take-append-drop LIMIT (word_bits (low_of prefix))) ∙ ap (λ bits. take LIMIT (word_bits (low_of prefix)) ++ bits) rest)

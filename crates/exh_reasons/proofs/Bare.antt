@@ -1,12 +1,11 @@
 -- Lists of pages that differ in their records alone have the same links and fit the same tables.
-use Rattle.std.proofs.Common.{◌≡◌, ℕ, ◌<◌, ◌≤◌, Bool, List, [], ◌∷◌, map, Option, None, Some, refl, sym, ap, ◌∙◌, subst, arith}
+use Rattle.std.proofs.Common.{◌≡◌, ℕ, Bool, List, [], ◌∷◌, Option, None, Some, refl, sym, ap, ◌∙◌, subst, arith}
 use Rattle.exh_table.specs.Table.{TableMap}
 use Rattle.exh_page.specs.declared.page.Page.{Page}
 use Rattle.exh_page.specs.declared.page.Page.TheVariants.{Live, Forward}
 use Rattle.exh_page.specs.declared.record.Record.{Record}
 use Rattle.exh_page.specs.Page.{IsLive, low_bound, with_records}
 use Rattle.exh_legal.specs.BareLemmas.{at_bare, bare_at, bare_low}
-use Rattle.exh_legal.specs.Change.{IsForwardOf}
 use Rattle.exh_legal.specs.Fit.{IsInner, FitsPages}
 use Rattle.exh_legal.specs.Growth.{IsLiveAt, IsPageOf}
 use Rattle.exh_legal.specs.Pages.{IsAt, IsHome, IsRightOf, IsRightLink, IsTarget, bare}

@@ -1,2 +1,12 @@
 pub mod Bare
 pub mod Passed
+pub mod Index
+pub mod Tiles
+pub mod LeafTests
+pub mod Next
+pub mod Each
+pub mod Fits
+pub mod Entries
+pub mod Firsts
+pub mod Whole
+pub mod OwnPrefix

@@ -1,6 +1,5 @@
 -- A ward's pages pass the tests exactly where they are legal.
-use Rattle.std.proofs.Common.{◌≡◌, ◌≢◌, ℕ, zero, suc, ◌+◌, ◌-◌, ◌*◌, ◌^◌, ◌<◌, ◌≤◌, Bool, true, false, leb, List, [], ◌∷◌, length, replicate, Option, None, Some, inl, inr, refl, sym, ap, ◌∙◌, subst, arith}
-use Rattle.std.specs.List.{AllByRecursion}
+use Rattle.std.proofs.Common.{◌≡◌, ◌≢◌, ℕ, zero, suc, ◌+◌, ◌-◌, ◌*◌, ◌^◌, ◌<◌, ◌≤◌, Bool, true, leb, List, [], ◌∷◌, length, replicate, Option, None, Some, inl, inr, refl, sym, ap, ◌∙◌, subst, arith}
 use Rattle.std.proofs.lemmas.Bool.{le-leb}
 use Rattle.std.proofs.lemmas.Bool.Decides.{leb_tells}
 use Rattle.std.proofs.lemmas.List.{length-map}
@@ -8,19 +7,18 @@ use Rattle.std.proofs.lemmas.Nat.{pow_pos}
 use Rattle.std.proofs.Math.Nat.{pow-le-pow_right, pow-suc}
 use Rattle.exh_prefix.specs.declared.prefix.TheConstants.{LIMIT}
 use Rattle.exh_prefix.specs.Bits.{bits_of, word_bits}
-use Rattle.exh_prefix.specs.Prefix.{IsFront, Begins, HasPrefixUpTo, low_of}
+use Rattle.exh_prefix.specs.Prefix.{IsFront, Begins, low_of}
 use Rattle.exh_prefix.specs.PrefixLemmas.{begins_low, front_of_front, fronts_nest}
 use Rattle.exh_page.specs.declared.page.Page.{Page}
 use Rattle.exh_page.specs.declared.page.Page.TheVariants.{Live, Forward}
 use Rattle.exh_page.specs.declared.page.TheConstants.{CAP_LIMIT}
-use Rattle.exh_page.specs.declared.record.Record.{Record}
 use Rattle.exh_page.specs.Page.{IsLive, IsWellFormed, low_bound, records_of, with_records}
 use Rattle.exh_legal.specs.BareLemmas.{at_bare, bare_at, bare_low}
-use Rattle.exh_legal.specs.Growth.{IsLiveAt}
 use Rattle.exh_prefix.specs.LowLemmas.{begins_own_low, front_shorter}
 use Rattle.exh_legal.specs.MapLemmas.{all_pages, page_at}
 use Rattle.exh_legal.specs.Pages.{IsAt, IsHome, IsLegal, IsLegalPage, IsLinkedPage, IsRightLink, IsWithin, AreLinked, bare}
-use Rattle.exh_reasons.specs.Laws.{IsBounded, AreFormed}
+use Rattle.exh_reasons.specs.FileParts.{IsBounded}
+use Rattle.exh_reasons.specs.Laws.{AreFormed}
 use Rattle.exh_reasons.specs.Reasons.{KeepsCap, HasLows, HasLeaves, HasLinks, HasTargets}
 use Rattle.exh_reasons.proofs.Bare.{bare_bare, bare_home, bare_live, home_bare, link_to, live_bare, target_to}
 

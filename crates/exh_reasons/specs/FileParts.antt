@@ -1,9 +1,10 @@
 -- What a page file holds, as values.
-use Rattle.std.specs.Prelude.{◌≡◌, ℕ, ◌≤◌, Bool, List, get_or, length, slice_get, Some}
+use Rattle.std.specs.Prelude.{◌≡◌, ℕ, ◌^◌, ◌<◌, ◌≤◌, Bool, List, get_or, length, slice_get, Some}
 use Rattle.std.specs.FinMap.{empty}
 use Rattle.exh_prefix.specs.declared.prefix.TheConstants.{LIMIT}
 use Rattle.exh_table.specs.Table.{TableMap}
 use Rattle.exh_page.specs.declared.page.Page.{Page}
+use Rattle.exh_page.specs.declared.page.Page.TheVariants.{Live, Forward}
 use Rattle.exh_page.specs.declared.page.TheConstants.{CAP_LIMIT}
 use Rattle.exh_prefix.specs.Leading.{ward_prefix}
 
@@ -30,3 +31,12 @@ HasNoStrays parts = (number : ℕ) → length parts.wards ≤ number → table_o
 pub record HasRanges (parts : FileParts) : Type 0 where
   pub cap : parts.cap ≤ CAP_LIMIT
   pub bits : parts.ward_bits ≤ LIMIT
+
+-- the parts of a file
+abbrev pub parts_of : ℕ → ℕ → List (List Page) → List TableMap → FileParts
+parts_of cap ward_bits wards tables = record { cap = cap; ward_bits = ward_bits; wards = wards; tables = tables }
+
+-- a prefix and a low bound as large as there are
+abbrev pub IsBounded : Page → Type 0
+IsBounded (Live prefix right records) = length prefix ≤ LIMIT
+IsBounded (Forward low target) = low < 2 ^ 64

@@ -1,23 +1,17 @@
 -- What the six reasons come to.
-use Rattle.std.specs.Prelude.{◌≡◌, ◌↔◌, ℕ, ◌<◌, ◌≤◌, ◌^◌, Bool, List, [], length}
+use Rattle.std.specs.Prelude.{◌≡◌, ◌↔◌, ℕ, ◌<◌, ◌^◌, List, [], length}
 use Rattle.std.specs.FinMap.{entries}
 use Rattle.std.specs.List.{sum_by}
 use Rattle.exh_prefix.specs.declared.prefix.TheConstants.{LIMIT}
 use Rattle.exh_page.specs.declared.page.Page.{Page}
-use Rattle.exh_page.specs.declared.page.Page.TheVariants.{Live, Forward}
 use Rattle.exh_page.specs.Page.{IsWellFormed}
 use Rattle.exh_legal.specs.Laws.{IsWard}
 use Rattle.exh_legal.specs.Pages.{IsAt}
 use Rattle.exh_reasons.specs.declared.reason.Reason.{Reason}
-use Rattle.exh_reasons.specs.FileParts.{FileParts, HasRanges, OfEachWard, HasNoStrays}
+use Rattle.exh_reasons.specs.FileParts.{FileParts, HasRanges, IsBounded, OfEachWard, HasNoStrays}
 use Rattle.exh_reasons.specs.Reasons.{Passes}
 
 -- ---- pages as readers give them
-
--- a prefix and a low bound as large as there are
-abbrev pub IsBounded : Page → Type 0
-IsBounded (Live prefix right records) = length prefix ≤ LIMIT
-IsBounded (Forward low target) = low < 2 ^ 64
 
 pub record AreFormed (pseudo : List ℕ → ℕ) (pages : List Page) : Type 0 where
   pub formed : (number : ℕ) (page : Page) → IsAt pages number page → IsWellFormed pseudo page

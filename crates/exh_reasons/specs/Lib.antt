@@ -1,3 +1,4 @@
 pub mod FileParts
 pub mod Reasons
 pub mod Laws
+pub mod PageIndex

@@ -1,6 +1,7 @@
 -- The six reasons for which a page file isn't legal: each a test of its own over the whole file.
-use Rattle.std.specs.Prelude.{◌≡◌, ℕ, ◌<◌, ◌≤◌, ◌^◌, Bool, List, length, Option, None, Some}
+use Rattle.std.specs.Prelude.{◌≡◌, ℕ, ◌<◌, ◌≤◌, ◌^◌, Bool, cond, nat_le, List, length, Option, None, Some}
 use Rattle.exh_prefix.specs.Prefix.{Begins, low_of}
+use Rattle.exh_table.specs.Table.{TableMap}
 use Rattle.exh_page.specs.declared.page.Page.{Page}
 use Rattle.exh_page.specs.declared.page.Page.TheVariants.{Live, Forward}
 use Rattle.exh_page.specs.declared.record.Record.{Record}
@@ -38,6 +39,17 @@ HasLinks pages = (number : ℕ) (prefix : List Bool) (right : Option ℕ) (recor
 abbrev pub HasTargets : List Page → Type 0
 HasTargets pages = (number low target : ℕ) → IsAt pages number (Forward low target) → IsTarget pages low target
 
+-- ---- the reasons of a ward
+
+-- the reason doesn't hold of a ward's prefix, table and pages
+abbrev pub WardPasses : ℕ → List Bool → TableMap → List Page → Reason → Type 0
+WardPasses cap ward table pages Cap = KeepsCap cap pages
+WardPasses cap ward table pages LowBounds = HasLows ward pages
+WardPasses cap ward table pages Leaves = HasLeaves ward pages
+WardPasses cap ward table pages Links = HasLinks pages
+WardPasses cap ward table pages Forwards = HasTargets pages
+WardPasses cap ward table pages Table = FitsPages ward table pages
+
 -- ---- the reasons of a file
 
 -- the reason doesn't hold of the file
@@ -58,7 +70,19 @@ place_of Links = 4
 place_of Forwards = 5
 place_of Table = 6
 
--- the first reason that holds, or none where none does
+-- the first reason that doesn't pass, or none where all do
+abbrev pub IsFirst : (Reason → Type 0) → Option Reason → Type 0
+IsFirst Passed None = (reason : Reason) → Passed reason
+IsFirst Passed (Some reason) = (Passed reason → ⊥) × ((earlier : Reason) → place_of earlier < place_of reason → Passed earlier)
+
+abbrev pub IsFirstOfWard : ℕ → List Bool → TableMap → List Page → Option Reason → Type 0
+IsFirstOfWard cap ward table pages found = IsFirst (WardPasses cap ward table pages) found
+
 abbrev pub IsFirstReason : FileParts → Option Reason → Type 0
-IsFirstReason parts None = (reason : Reason) → Passes parts reason
-IsFirstReason parts (Some reason) = (Passes parts reason → ⊥) × ((earlier : Reason) → place_of earlier < place_of reason → Passes parts earlier)
+IsFirstReason parts found = IsFirst (Passes parts) found
+
+-- of two reasons the one that is tested first
+abbrev pub lesser_of : Option Reason → Option Reason → Option Reason
+lesser_of None other = other
+lesser_of (Some one) None = Some one
+lesser_of (Some one) (Some other) = cond (nat_le (place_of one) (place_of other)) (Some one) (Some other)

@@ -1,8 +1,7 @@
-use Rattle.std.proofs.Common.{◌≡◌, ℕ, ◌-◌, ◌<◌, ◌≤◌, ◌^◌, ◌↔◌, List, [], length, slice_get, Some, refl, sym, ap, ◌∙◌, subst, arith}
+use Rattle.std.proofs.Common.{ℕ, ◌≤◌, List, length, sym, arith}
 use Rattle.exh_prefix.specs.BitLemmas.{length-bits_of}
 use Rattle.exh_prefix.specs.declared.prefix.TheConstants.{LIMIT}
-use Rattle.exh_page.specs.declared.page.Page.{Page}
-use Rattle.exh_legal.specs.Laws.{FittingTablesBeginWards, IsWard, PagesAreFew}
+use Rattle.exh_legal.specs.Laws.{FittingTablesBeginWards, PagesAreFew}
 use Rattle.exh_legal.specs.Pages.{bare}
 use Rattle.exh_prefix.specs.Leading.{ward_prefix}
 use Rattle.exh_reasons.specs.FileParts.{FileParts, HasRanges}
