@@ -1,0 +1,4 @@
+pub mod ReadFileFault
+pub mod PageFile
+pub mod FileTests
+pub mod Reading

@@ -1,0 +1,8 @@
+//! Whole page files, in the first version: from bytes to their parts and back. The parts of a file have
+//! exactly one list of bytes, and bytes are those of one file.
+#![tactic(auto)]
+
+pub use read_file_fault::ReadFileFault;
+
+mod block_source;
+mod read_file_fault;
