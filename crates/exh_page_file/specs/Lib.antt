@@ -1,3 +1,4 @@
+pub mod FileParts
 pub mod ReadFileFault
 pub mod PageFile
 pub mod FileTests

@@ -141,5 +141,5 @@ impl<'r, R: Read> BlockSource<'r, R> {
 fn tell_bytes(block: &[u8; BLOCK_LEN])
     ensures { IsBlock block.now }
 {
-    let _value = *block;
+    let _first = block.first();
 }

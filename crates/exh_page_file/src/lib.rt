@@ -2,7 +2,10 @@
 //! exactly one list of bytes, and bytes are those of one file.
 #![tactic(auto)]
 
+pub use file_parts::FileParts;
 pub use read_file_fault::ReadFileFault;
 
 mod block_source;
+mod file_parts;
 mod read_file_fault;
+mod read_pages;

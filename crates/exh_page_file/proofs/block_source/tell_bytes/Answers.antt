@@ -3,4 +3,4 @@ use Rattle.exh_page_file.proofs.Elements.{all_bytes}
 use Rattle.exh_page_file.proofs.block_source.tell_bytes.Goals as goal
 
 pub returns : goal.returns
-returns c = (c.told-block, all_bytes c.args.block.now (λ i. c.fits-block i))
+returns c = (c.told-block, all_bytes c.args.block.now c.fits-block)
