@@ -1,3 +1,5 @@
 pub mod Elements
 pub mod Blocks
 pub mod Pages
+pub mod Tables
+pub mod Places

@@ -1,5 +1,5 @@
 -- What reads of a file give: contracts of private functions, and what one answers that isn't a file.
-use Rattle.std.specs.Prelude.{◌≡◌, ⊤, ℕ, ◌+◌, ◌-◌, ◌*◌, ◌<◌, ◌≤◌, min, Bool, List, ◌++◌, Option, length, map, take, IfSome}
+use Rattle.std.specs.Prelude.{◌≡◌, ⊤, ℕ, ◌+◌, ◌-◌, ◌*◌, ◌<◌, ◌≤◌, min, Bool, List, [], ◌∷◌, ◌++◌, Option, None, Some, length, IfSome}
 use Rattle.std.specs.List.{AllByRecursion, flat_map}
 use Rattle.std.specs.Io.KnownBytes.{Consumes}
 use Rattle.exh_prefix.specs.Version.{Version}
@@ -49,3 +49,28 @@ pub record FailsInPages (version : Version) (pseudo : List ℕ → ℕ) (place c
   pub are_bytes : AreBytes (flat_map page_block pages)
   pub valid : AllByRecursion (IsPage version pseudo) pages
   pub fails : NextFails (PageFails version pseudo (place + length pages)) rest fault
+
+-- the prefix of the last entry, or the one before them where there is none
+abbrev pub last_prefix : Option (List Bool) → List FileEntry → Option (List Bool)
+last_prefix before [] = before
+last_prefix before (item ∷ entries) = last_prefix (Some item.prefix) entries
+
+-- so many blocks of entries were given
+pub record GivesEntries (version : Version) (old new : Option (List ℕ)) (blocks : ℕ) (entries : List FileEntry) : Type 0 where
+  pub given : Consumes old new (table_bytes version blocks entries)
+  pub are_bytes : AreBytes (table_bytes version blocks entries)
+  pub valid : AllByRecursion (IsFileEntry version) entries
+  pub rising : AreRising (prefixes_of entries)
+
+-- behind some full blocks, fewer entries than there are to be, stands one that is cut short or fails
+pub record FailsInTable (version : Version) (place count : ℕ) (bytes : List ℕ) (fault : FileFault) : Type 0 where
+  pub blocks : ℕ
+  pub entries : List FileEntry
+  pub rest : List ℕ
+  pub fewer : length entries < count
+  pub full : length entries ≡ BLOCK_ENTRIES * blocks
+  pub whole : bytes ≡ table_bytes version blocks entries ++ rest
+  pub are_bytes : AreBytes (table_bytes version blocks entries)
+  pub valid : AllByRecursion (IsFileEntry version) entries
+  pub rising : AreRising (prefixes_of entries)
+  pub fails : NextFails (TableFails version (place + blocks) (min BLOCK_ENTRIES (count - length entries)) (last_prefix None entries)) rest fault

@@ -9,3 +9,4 @@ mod block_source;
 mod file_parts;
 mod read_file_fault;
 mod read_pages;
+mod read_table;
