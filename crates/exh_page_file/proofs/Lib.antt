@@ -3,3 +3,5 @@ pub mod Blocks
 pub mod Pages
 pub mod Tables
 pub mod Places
+pub mod LastPrefix
+pub mod TablePlaces

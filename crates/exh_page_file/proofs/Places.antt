@@ -3,8 +3,9 @@ use Rattle.std.proofs.Common.{◌≡◌, ℕ, zero, suc, ◌+◌, ◌*◌, ◌-�
 use Rattle.std.proofs.lemmas.List.{take_at, drop_at, drop-drop, length-append, length-drop, length-take-le, take_all}
 use Rattle.std.specs.List.{AllByRecursion, flat_map}
 use Rattle.std.specs.Option.{option_to_list}
+use Rattle.exh_prefix.specs.Version.{Fits}
 use Rattle.exh_page.specs.declared.page.Page.{Page}
-use Rattle.exh_codec.specs.PageImage.{IsPage}
+use Rattle.exh_codec.specs.PageImage.{IsImage, IsPage}
 use Rattle.exh_codec.specs.ImageTests.{Passes, image_tests}
 use Rattle.exh_codec.specs.Laws.{ImagesAreBlocks, ImagesPass}
 use Rattle.exh_file.specs.declared.file_fault.FileFault.{FileFault}
@@ -51,10 +52,10 @@ module _ (version : FileVersion) (pseudo : List ℕ → ℕ) (bytes : List ℕ) 
     page_passes : (place : ℕ) (page : Page) (rest : List ℕ) → IsPage version.images pseudo page → AreBytes (page_block page) → bytes_from place bytes ≡ page_block page ++ rest → PassesAt version pseudo bytes (OfPage place)
     unfolding page_block
     page_passes place page rest valid small is =
-        let image = record { valid = valid; whole = refl } in
         let block = page_block page in
+        let image : IsImage version.images pseudo page block = record { valid = valid; whole = refl } in
         let len = are_blocks version.images pseudo page block image in
-        let fits_page = record { limit = fits.images.limit; bytes = omega (arith, fits.images.bytes) } in
+        let fits_page : Fits 8 version.images = record { limit = fits.images.limit; bytes = omega (arith, fits.images.bytes) } in
         let passed = (pass version.images fits_page pseudo block len (byte_at block small)).0 (page, image) in
         (whole_there place bytes block rest is len, subst (λ (block : List ℕ). AllByRecursion (Passes version.images pseudo block) image_tests) (sym (block_there place bytes block rest is len)) passed)
 
