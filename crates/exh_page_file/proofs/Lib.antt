@@ -5,3 +5,4 @@ pub mod Tables
 pub mod Places
 pub mod LastPrefix
 pub mod TablePlaces
+pub mod Files

@@ -41,7 +41,7 @@ abbrev pub places_behind : Header → List Place
 places_behind header =
     let pages = sum header.page_counts in
     let blocks = table_blocks header.entry_count in
-    page_places 1 pages ++ table_places (1 + pages) true blocks header.entry_count ++ End (1 + pages + blocks) ∷ []
+    page_places 1 pages ++ (table_places (1 + pages) true blocks header.entry_count ++ End (1 + pages + blocks) ∷ [])
 
 -- ---- blocks
 

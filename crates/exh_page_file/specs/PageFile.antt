@@ -56,7 +56,7 @@ pub record IsFile (version : FileVersion) (file : PageFile) : Type 0 where
 
 abbrev pub file_bytes : FileVersion → PageFile → List ℕ
 file_bytes version file =
-    header_block version file.header ++ flat_map page_block (pages_of file.wards) ++ table_bytes version.images (table_blocks (length file.entries)) file.entries
+    header_block version file.header ++ (flat_map page_block (pages_of file.wards) ++ table_bytes version.images (table_blocks (length file.entries)) file.entries)
 
 -- the bytes are those of the file
 pub record IsPageFile (version : FileVersion) (file : PageFile) (bytes : List ℕ) : Type 0 where

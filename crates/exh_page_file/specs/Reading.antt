@@ -74,3 +74,7 @@ pub record FailsInTable (version : Version) (place count : ℕ) (bytes : List �
   pub valid : AllByRecursion (IsFileEntry version) entries
   pub rising : AreRising (prefixes_of entries)
   pub fails : NextFails (TableFails version (place + blocks) (min BLOCK_ENTRIES (count - length entries)) (last_prefix None entries)) rest fault
+
+-- known bytes are these
+abbrev pub IsAll : Option (List ℕ) → List ℕ → Type 0
+IsAll known bytes = IfSome known (λ all. all ≡ bytes)

@@ -3,10 +3,12 @@
 #![tactic(auto)]
 
 pub use file_parts::FileParts;
+pub use reading::read_file;
 pub use read_file_fault::ReadFileFault;
 
 mod block_source;
 mod file_parts;
+mod reading;
 mod read_file_fault;
 mod read_pages;
 mod read_table;
