@@ -6,3 +6,4 @@ pub mod Places
 pub mod LastPrefix
 pub mod TablePlaces
 pub mod Files
+pub mod OneFile

@@ -3,3 +3,4 @@ pub mod ReadFileFault
 pub mod PageFile
 pub mod FileTests
 pub mod Reading
+pub mod Laws

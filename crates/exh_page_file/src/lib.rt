@@ -3,12 +3,16 @@
 #![tactic(auto)]
 
 pub use file_parts::FileParts;
+pub use laws::{one_file, one_image};
 pub use reading::read_file;
 pub use read_file_fault::ReadFileFault;
 
 mod block_source;
 mod file_parts;
+mod laws;
 mod reading;
 mod read_file_fault;
 mod read_pages;
 mod read_table;
+#[cfg(test)]
+mod tests;

@@ -1,0 +1,12 @@
+-- Laws of whole files, for the crates above: in every version of the page file that fits.
+use Rattle.std.specs.Prelude.{◌≡◌, List, ℕ}
+use Rattle.exh_file.specs.FileVersion.{FileVersion, FitsFile}
+use Rattle.exh_page_file.specs.PageFile.{IsFile, IsPageFile, PageFile}
+
+-- a file has exactly one list of bytes
+abbrev pub OneImage : Type 0
+OneImage = (version : FileVersion) (file : PageFile) → IsFile version file → (bytes : List ℕ) × IsPageFile version file bytes × ((other : List ℕ) → IsPageFile version file other → other ≡ bytes)
+
+-- and bytes are those of one file
+abbrev pub OneFile : Type 0
+OneFile = (version : FileVersion) → FitsFile version → (bytes : List ℕ) (one other : PageFile) → IsPageFile version one bytes → IsPageFile version other bytes → one ≡ other
