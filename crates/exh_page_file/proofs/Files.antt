@@ -30,7 +30,7 @@ use Rattle.exh_page_file.proofs.Elements.{all_join}
 use Rattle.exh_page_file.proofs.Places.{block_there, fails_behind, fails_here, from_next, pages_behind, pages_fail, pages_pass}
 use Rattle.exh_page_file.proofs.TablePlaces.{table_fails, tables_behind, tables_pass}
 
-an_entry : FileEntry
+pub an_entry : FileEntry
 an_entry = record { ward = 0; prefix = []; entry = record { number = 0; kind = Merge } }
 
 -- ---- how many wards and pages a header counts
@@ -100,8 +100,7 @@ module _ (version : FileVersion) (fits : FitsFile version) (pages_law : ImagesPa
       → AllByRecursion (PassesAt version (any_pseudokey header.keyer) bytes) (page_places 1 (sum header.page_counts)) × (bytes_from (1 + sum header.page_counts) bytes ≡ rest)
   pages_passed bytes rest block header pages is len all valid small =
       let pseudo = any_pseudokey header.keyer in
-      let from : bytes_from 1 bytes ≡ flat_map page_block pages ++ rest = from_next 0 bytes block (flat_map page_block pages ++ rest) is len in
-      (
+      let from : bytes_from 1 bytes ≡ flat_map page_block pages ++ rest = from_next 0 bytes block (flat_map page_block pages ++ rest) is len in (
         subst (λ (count : ℕ). AllByRecursion (PassesAt version pseudo bytes) (page_places 1 count)) all (pages_pass version pseudo bytes fits pages_law page_blocks 1 pages rest valid small from),
         subst (λ (count : ℕ). bytes_from (1 + count) bytes ≡ rest) all (pages_behind version pseudo bytes fits pages_law page_blocks 1 pages rest valid from),
       )
@@ -172,8 +171,7 @@ module _ (a b c e : Option (List ℕ)) (header : Header) (block : List ℕ) (war
       let bytes = block ++ (blocks ++ table) in
       let pages : pages_of (map (λ ward. ward.items) wards) ≡ pages_in wards = flat_map-map (λ (ward : List Page). ward) (λ (ward : Vec Page Global). ward.items) wards in
       let consumed : Consumes a e bytes = Consumes-trans a b e block (blocks ++ table) headed.given (Consumes-trans b c e blocks table gives.given given.given) in
-      let file : PageFile = record { header = header; wards = map (λ ward. ward.items) wards; entries = entries } in
-      (
+      let file : PageFile = record { header = header; wards = map (λ ward. ward.items) wards; entries = entries } in (
         bytes,
         Consumes-whole a e bytes (λ all. all ≡ bytes) consumed end refl,
         all_join (λ (byte : ℕ). byte < 256) block (blocks ++ table) headed.is.1 (all_join (λ (byte : ℕ). byte < 256) blocks table gives.are_bytes given.are_bytes),

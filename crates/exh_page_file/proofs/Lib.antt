@@ -7,3 +7,5 @@ pub mod LastPrefix
 pub mod TablePlaces
 pub mod Files
 pub mod OneFile
+pub mod NoFault
+pub mod Read

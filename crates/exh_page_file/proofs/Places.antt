@@ -69,8 +69,7 @@ module _ (version : FileVersion) (pseudo : List ℕ → ℕ) (bytes : List ℕ) 
     pages_pass place (page ∷ pages) rest valid small is =
         let block = page_block page in
         let more = flat_map page_block pages in
-        let here = is ∙ append_assoc block more rest in
-        (
+        let here = is ∙ append_assoc block more rest in (
           page_passes place page (more ++ rest) valid.0 (all_front (λ (byte : ℕ). byte < 256) block more small) here,
           pages_pass (suc place) pages rest valid.1 (all_back (λ (byte : ℕ). byte < 256) block more small) (from_next place bytes block (more ++ rest) here (length-page page valid.0)),
         )

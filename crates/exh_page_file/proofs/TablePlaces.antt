@@ -27,8 +27,7 @@ rising_front None [] back rising = tt
 rising_front (Some prefix) [] back rising = (tt, tt)
 rising_front None (item ∷ front) back rising = rising_front (Some item.prefix) front back rising
 rising_front (Some prefix) (item ∷ front) back rising =
-    let parts = map-append (λ (item : FileEntry). item.prefix) (item ∷ front) back in
-    (
+    let parts = map-append (λ (item : FileEntry). item.prefix) (item ∷ front) back in (
       all_front (λ (other : List Bool). prefix_cmp prefix other ≡ Less) (prefixes_of (item ∷ front)) (prefixes_of back) (subst (AllByRecursion (λ (other : List Bool). prefix_cmp prefix other ≡ Less)) parts rising.0),
       rising_front (Some item.prefix) front back rising.1,
     )
@@ -49,8 +48,7 @@ module _ (version : FileVersion) (pseudo : List ℕ → ℕ) (bytes : List ℕ) 
       let image : IsTableImage version.images entries block = record { few = few; valid = valid; whole = refl } in
       let len = are_blocks version.images fits.images entries block image in
       let of_table : IsOfTable version.images (length entries) before entries block = record { image = image; all = refl; rising = rising } in
-      let passed = (pass version.images fits.images (length entries) before block len (byte_at block small) few).0 (entries, of_table) in
-      (
+      let passed = (pass version.images fits.images (length entries) before block len (byte_at block small) few).0 (entries, of_table) in (
         whole_there place bytes block rest is len,
         subst (λ (before : Option (List Bool)). AllByRecursion (PassesTable version.images (length entries) before (block_at place bytes)) (table_tests (length entries))) (sym is_before)
             (subst (λ (block : List ℕ). AllByRecursion (PassesTable version.images (length entries) before block) (table_tests (length entries))) (sym (block_there place bytes block rest is len)) passed),
@@ -119,8 +117,7 @@ module _ (version : FileVersion) (pseudo : List ℕ → ℕ) (bytes : List ℕ) 
   tables_pass place begins before (suc zero) entries rest d room stands = (first_passes place begins before zero entries rest stands, tt)
   tables_pass place begins before (suc (suc blocks)) entries rest d room stands =
       let full : 254 ≤ length entries = omega (arith, room) in
-      let left : length (drop 254 entries) ≡ length entries - 254 = length-drop 254 entries in
-      (
+      let left : length (drop 254 entries) ≡ length entries - 254 = length-drop 254 entries in (
         first_passes place begins before (suc blocks) entries rest stands,
         subst (λ (count : ℕ). AllByRecursion (PassesAt version pseudo bytes) (table_places (suc place) false (suc blocks) count)) left
             (tables_pass (suc place) false (last_prefix before (take 254 entries)) (suc blocks) (drop 254 entries) rest d (omega (arith, room, left)) (others_stand place begins before (suc blocks) entries rest d full stands)),

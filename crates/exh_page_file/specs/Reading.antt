@@ -78,3 +78,9 @@ pub record FailsInTable (version : Version) (place count : ℕ) (bytes : List �
 -- known bytes are these
 abbrev pub IsAll : Option (List ℕ) → List ℕ → Type 0
 IsAll known bytes = IfSome known (λ all. all ≡ bytes)
+
+-- the fault isn't one of a file
+abbrev pub IsOther : ReadFileFault → Type 0
+IsOther (File fault) = ⊥
+IsOther Memory = ⊤
+IsOther Read = ⊤

@@ -3,16 +3,16 @@
 #![tactic(auto)]
 
 pub use file_parts::FileParts;
-pub use laws::{one_file, one_image};
-pub use reading::read_file;
+pub use laws::{files_pass, one_file, one_image};
 pub use read_file_fault::ReadFileFault;
+pub use reading::read_file;
 
 mod block_source;
 mod file_parts;
 mod laws;
-mod reading;
 mod read_file_fault;
 mod read_pages;
 mod read_table;
+mod reading;
 #[cfg(test)]
 mod tests;

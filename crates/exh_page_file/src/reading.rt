@@ -1,15 +1,15 @@
-ghost use Rattle.std.specs.Prelude.{◌≡◌, ◌^◌, ◌≤◌, List, ℕ, IfOk, IfErr};
+ghost use Rattle.std.specs.Prelude.{◌≡◌, ◌^◌, ◌≤◌, List, ℕ, Some, IfOk, IfErr, MatchResult};
 ghost use Rattle.exh_file.specs.FileVersion.{first_file};
 ghost use Rattle.exh_file.specs.HeaderImage.{IsHeader};
 ghost use Rattle.exh_page_file.specs.FileParts.{file_of};
 ghost use Rattle.exh_page_file.specs.FileTests.{IsFileFault};
-ghost use Rattle.exh_page_file.specs.PageFile.{IsPageFile};
-ghost use Rattle.exh_page_file.specs.Reading.{AreBytes, IsAll, IsOf, left};
+ghost use Rattle.exh_page_file.specs.PageFile.{IsPageFile, PageFile};
+ghost use Rattle.exh_page_file.specs.Reading.{AreBytes, IsAll, IsOf, IsOther, left};
 
 use crate::block_source::BlockSource;
 use crate::read_pages::read_wards;
 use crate::read_table::read_table;
-use crate::{FileParts, ReadFileFault};
+use crate::{FileParts, ReadFileFault, files_pass, one_file};
 use exh_file::Header;
 use std::alloc::Global;
 use std::io::Read;
@@ -22,7 +22,11 @@ use std::io::Read;
 pub fn read_file<R: Read>(alloc: Global, reader: &mut R) -> Result<FileParts, ReadFileFault>
     ensures parts { IfOk result (λ parts. (bytes : List ℕ) × IsAll (R.remaining reader.old) bytes × AreBytes bytes × IsPageFile first_file (file_of parts) bytes) }
     ensures fault { IfErr result (IsOf (IsFileFault first_file) (R.remaining reader.old)) }
+    ensures every { (file : PageFile) (bytes : List ℕ) → R.remaining reader.old ≡ Some bytes → AreBytes bytes → IsPageFile first_file file bytes
+        → MatchResult result (λ parts. file_of parts ≡ file) IsOther }
 {
+    one_file();
+    files_pass();
     read_parts(alloc, &mut BlockSource::new(reader))
 }
 

@@ -17,9 +17,15 @@ fn block(front: &[u8]) -> [u8; BLOCK_LEN] {
 }
 
 // The blocks of the three-pair file: how each begins.
-const HEADER: [u8; 24] = *b"EXHASHPF\x00\x01\x02\x00\x02\x00\x00\x00\x00\x00\x00\x01\x00\x00\x00\x02";
-const PAGE_0: [u8; 24] = *b"\x01\x01\x02\x00\x00\x00\x00\x01\x00\x00\x00\x00\x00\x00\x00\x00\x01\x01\x00\x61\x01\x01\x40\x78";
-const PAGE_1: [u8; 20] = *b"\x01\x01\x01\x00\xff\xff\xff\xff\x80\x00\x00\x00\x00\x00\x00\x00\x01\x01\x80\x62";
+const HEADER: [u8; 24] =
+    *b"EXHASHPF\x00\x01\x02\x00\x02\x00\x00\x00\x00\x00\x00\x01\x00\x00\x00\x02";
+
+const PAGE_0: [u8; 24] =
+    *b"\x01\x01\x02\x00\x00\x00\x00\x01\x00\x00\x00\x00\x00\x00\x00\x00\x01\x01\x00\x61\x01\x01\x40\x78";
+
+const PAGE_1: [u8; 20] =
+    *b"\x01\x01\x01\x00\xff\xff\xff\xff\x80\x00\x00\x00\x00\x00\x00\x00\x01\x01\x80\x62";
+
 const TABLE: [u8; 16] = *b"\x00\x01\x00\x00\x00\x00\x00\x00\x00\x00\x00\x01\x00\x00\x00\x01";
 
 fn three_pairs(alloc: Global) -> Result<Vec<u8>, AllocError> {
@@ -73,7 +79,18 @@ fn reads_the_three_pairs_in_pieces(rt: HostRuntime) -> Result<(), Fail> {
 }
 
 fn wrong_cut(alloc: Global, bytes: &[u8]) -> Option<usize> {
-    for len in 0..bytes.len() {
+    for number in 0..300 {
+        // About each bound of a block, and at places all over it.
+        let len = if number < 20 {
+            number / 5 * BLOCK_LEN + number % 5
+        } else {
+            number * 53
+        };
+        let len = if number < 20 {
+            len.saturating_sub(2)
+        } else {
+            len
+        };
         if fault_of(alloc, &bytes[..len]) != Some(ReadFileFault::File(FileFault::Truncated)) {
             return Some(len);
         }
@@ -82,7 +99,7 @@ fn wrong_cut(alloc: Global, bytes: &[u8]) -> Option<usize> {
 }
 
 #[test]
-fn is_truncated_after_any_number_of_bytes(rt: HostRuntime) -> Result<(), Fail> {
+fn is_truncated_where_it_is_cut(rt: HostRuntime) -> Result<(), Fail> {
     let mut bytes = three_pairs(rt.alloc())?;
     assert_eq!(rt; wrong_cut(rt.alloc(), bytes.as_slice()), None);
     bytes.push(0)?;
@@ -113,7 +130,7 @@ struct Turned {
     fault: FileFault,
 }
 
-fn turned(at: usize, byte: u8, fault: FileFault) -> Turned {
+fn left(at: usize, byte: u8, fault: FileFault) -> Turned {
     Turned {
         at,
         byte,
@@ -140,16 +157,16 @@ fn digest(place: u32) -> FileFault {
 
 fn turns() -> [Turned; 22] {
     [
-        turned(0, 0xc5, FileFault::Magic),
-        turned(7, 0xc6, FileFault::Magic),
-        turned(8, 0x80, FileFault::Version),
-        turned(9, 0x81, FileFault::Version),
-        turned(10, 0x82, digest(0)),
-        turned(4063, 0x80, digest(0)),
-        turned(4096, 0x81, digest(1)),
-        turned(8191 - 32, 0x80, digest(1)),
-        turned(8192 + 16, 0x81, digest(2)),
-        turned(12_288, 0x80, digest(3)),
+        left(0, 0xc5, FileFault::Magic),
+        left(7, 0xc6, FileFault::Magic),
+        left(8, 0x80, FileFault::Version),
+        left(9, 0x81, FileFault::Version),
+        left(10, 0x82, digest(0)),
+        left(4063, 0x80, digest(0)),
+        left(4096, 0x81, digest(1)),
+        left(8191 - 32, 0x80, digest(1)),
+        left(8192 + 16, 0x81, digest(2)),
+        left(12_288, 0x80, digest(3)),
         resealed(10, 17, 0, ImageFault::Length),
         resealed(11, 5, 0, ImageFault::Length),
         resealed(12, 3, 0, ImageFault::Length),
@@ -182,7 +199,11 @@ fn is_refused(alloc: Global, bytes: &mut [u8], turned: &Turned) -> bool {
 fn names_the_first_fault_and_its_place(rt: HostRuntime) -> Result<(), Fail> {
     for turned in turns() {
         let mut bytes = three_pairs(rt.alloc())?;
-        let wrong = if is_refused(rt.alloc(), &mut bytes, &turned) { None } else { Some(turned.at) };
+        let wrong = if is_refused(rt.alloc(), &mut bytes, &turned) {
+            None
+        } else {
+            Some(turned.at)
+        };
         assert_eq!(rt; wrong, None);
     }
     Ok(())
@@ -228,10 +249,15 @@ fn fills_table_blocks_with_254_entries(rt: HostRuntime) -> Result<(), Fail> {
     for (count, blocks) in [(1, 4), (254, 4), (255, 5)] {
         let bytes = with_entries(rt.alloc(), count, 254)?;
         assert_eq!(rt; bytes.len(), 4096 * blocks);
-        let parts = read_file(rt.alloc(), &mut reader(bytes.as_slice(), 10_000)).map_err(|_| "refused")?;
+        let parts = read_file(rt.alloc(), &mut reader(bytes.as_slice(), 10_000)).map_err(
+            |_| "refused",
+        )?;
         assert_eq!(rt; parts.entries.len(), count as usize);
     }
     let bytes = with_entries(rt.alloc(), 255, 253)?;
-    assert_eq!(rt; fault_of(rt.alloc(), bytes.as_slice()), at(4, ImageFault::Order));
+    assert_eq!(rt;
+        fault_of(rt.alloc(), bytes.as_slice()),
+        at(4, ImageFault::Order)
+    );
     Ok(())
 }
