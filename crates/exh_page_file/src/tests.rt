@@ -91,7 +91,9 @@ fn wrong_cut(alloc: Global, bytes: &[u8]) -> Option<usize> {
         } else {
             len
         };
-        if fault_of(alloc, &bytes[..len]) != Some(ReadFileFault::File(FileFault::Truncated)) {
+        if fault_of(alloc, bytes.get(..len).unwrap_or_default())
+            != Some(ReadFileFault::File(FileFault::Truncated))
+        {
             return Some(len);
         }
     }
@@ -182,24 +184,28 @@ fn turns() -> [Turned; 22] {
     ]
 }
 
-fn is_refused(alloc: Global, bytes: &mut [u8], turned: &Turned) -> bool {
+// Whether the fault is answered of these bytes, once the byte is turned.
+fn is_refused(alloc: Global, bytes: &mut [u8], turned: &Turned) -> Result<bool, AllocError> {
     if turned.at >= bytes.len() {
-        return false;
+        return Ok(false);
     }
     bytes[turned.at] = turned.byte;
-    if turned.is_sealed {
-        let start = turned.at / BLOCK_LEN * BLOCK_LEN;
-        let sealed = block(&bytes[start..start + BLOCK_LEN]);
-        bytes[start..start + BLOCK_LEN].copy_from_slice(&sealed);
+    let fault = Some(ReadFileFault::File(turned.fault));
+    if !turned.is_sealed {
+        return Ok(fault_of(alloc, bytes) == fault);
     }
-    fault_of(alloc, bytes) == Some(ReadFileFault::File(turned.fault))
+    let mut sealed = Vec::new(alloc);
+    for chunk in bytes.chunks(BLOCK_LEN) {
+        sealed.extend_from_slice(&block(chunk))?;
+    }
+    Ok(fault_of(alloc, sealed.as_slice()) == fault)
 }
 
 #[test]
 fn names_the_first_fault_and_its_place(rt: HostRuntime) -> Result<(), Fail> {
     for turned in turns() {
         let mut bytes = three_pairs(rt.alloc())?;
-        let wrong = if is_refused(rt.alloc(), &mut bytes, &turned) {
+        let wrong = if is_refused(rt.alloc(), &mut bytes, &turned)? {
             None
         } else {
             Some(turned.at)
