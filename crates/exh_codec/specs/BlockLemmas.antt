@@ -3,6 +3,7 @@ use Rattle.std.proofs.Common.{◌≡◌, ℕ, zero, suc, ◌+◌, ◌-◌, ◌�
 use Rattle.std.proofs.lemmas.List.{drop_at, take_at, take-append-drop, drop-drop, drop-replicate, take-replicate, length-append, length-replicate, length-drop, length-take-le}
 use Rattle.std.proofs.Math.Seq.{take-add, take-append-add}
 use Rattle.sha2.specs.Sha256.{sha256}
+use Rattle.sha2.proofs.Facts256.{length-sha256}
 use Rattle.exh_codec.specs.Block.{sealed, IsSealed, AreZero}
 use Rattle.exh_codec.specs.PageImage.{padded}
 
@@ -75,3 +76,6 @@ sealed_is_sealed block content len is = ap (drop 4064) is ∙ drop_at content (s
 
 pub sealed_from : (block content : List ℕ) → take 4064 block ≡ content → IsSealed block → block ≡ sealed content
 sealed_from block content is is_sealed = sym (take-append-drop 4064 block) ∙ ap (λ (digest : List ℕ). take 4064 block ++ digest) is_sealed ∙ ap sealed is
+
+pub length-sealed : (block content : List ℕ) → length content ≡ 4064 → block ≡ sealed content → length block ≡ 4096
+length-sealed block content len is = ap length is ∙ omega (arith, length-append content (sha256 content), length-sha256 content, len)

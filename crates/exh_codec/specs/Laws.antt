@@ -31,3 +31,7 @@ ImagesPass = (version : Version) → Fits 8 version → (pseudo : List ℕ → �
 abbrev pub ImagesAreSealed : Type 0
 ImagesAreSealed = (version : Version) (pseudo : List ℕ → ℕ) (page : Page) (block : List ℕ)
     → IsImage version pseudo page block ↔ (IsLaidOut version pseudo page block × IsSealed block)
+
+-- an image has the length of a block
+abbrev pub ImagesAreBlocks : Type 0
+ImagesAreBlocks = (version : Version) (pseudo : List ℕ → ℕ) (page : Page) (block : List ℕ) → IsImage version pseudo page block → length block ≡ BLOCK_LEN

@@ -2,12 +2,11 @@ ghost use Rattle.std.specs.Prelude.{◌≡◌, ◌≤◌, ◌*◌, ◌++◌, len
 ghost use Rattle.std.specs.List.{AllByRecursion, flat_map};
 ghost use Rattle.exh_prefix.specs.Version.{first_version};
 ghost use Rattle.exh_page.specs.declared.page.TheConstants.{CAP_LIMIT};
-ghost use Rattle.exh_page.specs.Page.{records_of};
+ghost use Rattle.exh_page.specs.Page.{records_of, IsWellFormed};
 ghost use Rattle.exh_codec.specs.declared.block.TheConstants.{BLOCK_LEN, CONTENT_LEN};
 ghost use Rattle.exh_page.specs.KeyMap.{pair_of};
 ghost use Rattle.exh_codec.specs.Cells.{IsSizedPair, pair_image};
 ghost use Rattle.exh_codec.specs.PageImage.{used_of, content_of, IsInRange, IsImage};
-ghost use Rattle.exh_page.specs.Page.{IsWellFormed};
 
 use crate::block::{BLOCK_LEN, CONTENT_LEN, seal};
 use crate::head::{HEAD_LEN, Head};

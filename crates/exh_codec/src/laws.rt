@@ -1,6 +1,6 @@
 //! What holds of all images, for the proofs of callers. Each function does nothing.
 
-ghost use Rattle.exh_codec.specs.Laws.{OneImage, OnePage, ImagesPass, ImagesAreSealed};
+ghost use Rattle.exh_codec.specs.Laws.{OneImage, OnePage, ImagesAreBlocks, ImagesAreSealed, ImagesPass};
 
 /// A well-formed page has exactly one image.
 pub fn one_image()
@@ -20,4 +20,9 @@ pub fn images_pass()
 /// A block is a page's image exactly where it was laid out for the page and is sealed.
 pub fn images_are_sealed()
     ensures { ImagesAreSealed }
+{}
+
+/// An image has the length of a block.
+pub fn images_are_blocks()
+    ensures { ImagesAreBlocks }
 {}

@@ -47,6 +47,8 @@ PassesHeader version block (faults.Block place images.Digest) = IsSealed block
 PassesHeader version block (faults.Block place images.Length) = HasRanges version block
 PassesHeader version block (faults.Block place images.Padding) = IsHeaderPadded block
 PassesHeader version block (faults.Block place fault) = ⊤
+PassesHeader version block faults.Truncated = ⊤
+PassesHeader version block faults.Trailing = ⊤
 
 -- the header is the block of place 0
 abbrev pub header_tests : List FileFault

@@ -47,3 +47,10 @@ HeadersPass = (version : FileVersion) → FitsFile version → (block : List ℕ
 abbrev pub TablesPass : Type 0
 TablesPass = (version : Version) → Fits 4 version → (count : ℕ) (before : Option (List Bool)) (block : List ℕ) → length block ≡ BLOCK_LEN → ((i : ℕ) → slice_index block i < 256)
     → count ≤ BLOCK_ENTRIES → ((entries : List FileEntry) × IsOfTable version count before entries block) ↔ AllByRecursion (PassesTable version count before block) (table_tests count)
+
+-- an image has the length of a block
+abbrev pub HeadersAreBlocks : Type 0
+HeadersAreBlocks = (version : FileVersion) (header : Header) (block : List ℕ) → IsHeaderImage version header block → length block ≡ BLOCK_LEN
+
+abbrev pub TablesAreBlocks : Type 0
+TablesAreBlocks = (version : Version) → Fits 4 version → (entries : List FileEntry) (block : List ℕ) → IsTableImage version entries block → length block ≡ BLOCK_LEN

@@ -17,6 +17,12 @@ pub enum FileFault {
     /// The file is of another version: number 37.
     #[error("the page file is of another version")]
     Version,
+    /// A block ends early: number 38.
+    #[error("a block ends early")]
+    Truncated,
+    /// A byte stands after the last block: number 39.
+    #[error("a byte stands after the last block")]
+    Trailing,
 }
 
 impl FileFault {
@@ -28,6 +34,8 @@ impl FileFault {
             FileFault::Block { fault, .. } => fault.number(),
             FileFault::Magic => 36,
             FileFault::Version => 37,
+            FileFault::Truncated => 38,
+            FileFault::Trailing => 39,
         }
     }
 }

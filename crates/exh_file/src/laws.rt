@@ -1,6 +1,6 @@
 //! What holds of all header and table blocks, for the proofs of callers. Each function does nothing.
 
-ghost use Rattle.exh_file.specs.Laws.{HeadersPass, OneHeader, OneHeaderImage, OneTable, OneTableImage, TablesPass};
+ghost use Rattle.exh_file.specs.Laws.{HeadersAreBlocks, HeadersPass, OneHeader, OneHeaderImage, OneTable, OneTableImage, TablesAreBlocks, TablesPass};
 
 /// In every version of the page file a header that a file may have has exactly one image, and so have
 /// at most 254 entries that a file may have.
@@ -19,4 +19,10 @@ pub fn one_value()
 pub fn images_pass()
     ensures headers { HeadersPass }
     ensures tables { TablesPass }
+{}
+
+/// An image has the length of a block, that of entries in every version that fits.
+pub fn images_are_blocks()
+    ensures headers { HeadersAreBlocks }
+    ensures tables { TablesAreBlocks }
 {}

@@ -1,0 +1,189 @@
+-- A file from the reads of its parts.
+use Rattle.std.proofs.Common.{◌≡◌, ℕ, zero, suc, ◌+◌, ◌*◌, ◌-◌, ◌^◌, ◌<◌, ◌≤◌, inl, inr, true, Vec, List, [], ◌∷◌, ◌++◌, length, map, take, drop, get_or, Option, None, Some, IfSome, refl, sym, ap, ◌∙◌, subst, append_assoc, arith}
+use Rattle.std.proofs.lemmas.List.{length-append, length-take, length-take-le}
+use Rattle.std.proofs.lemmas.List.Sums.{sum_by-cons, sum_by-take-drop}
+use Rattle.std.proofs.lemmas.List.Folds.{flat_map-map}
+use Rattle.std.proofs.lemmas.Nat.{pow_below}
+use Rattle.std.proofs.lemmas.Bool.{cases_lt}
+use Rattle.std.specs.List.{AllByRecursion, flat_map, sum}
+use Rattle.std.specs.Io.KnownBytes.{Consumes, IsAtEnd}
+use Rattle.std.proofs.KnownBytes.{Consumes-trans, Consumes-whole}
+use Rattle.std.specs.declared.alloc.Global.{Global}
+use Rattle.exh_page_file.specs.FileParts.{pages_in}
+use Rattle.exh_keyer.specs.Pseudokey.{any_pseudokey}
+use Rattle.exh_notice.specs.declared.entry.Kind.TheVariants.{Merge}
+use Rattle.exh_page.specs.declared.page.Page.{Page}
+use Rattle.exh_codec.specs.PageImage.{IsPage}
+use Rattle.exh_codec.specs.Laws.{ImagesAreBlocks, ImagesPass}
+use Rattle.exh_file.specs.declared.file_entry.FileEntry.{FileEntry}
+use Rattle.exh_file.specs.declared.file_fault.FileFault.{FileFault}
+use Rattle.exh_file.specs.declared.file_fault.FileFault.TheVariants as faults
+use Rattle.exh_file.specs.declared.header.Header.{Header}
+use Rattle.exh_file.specs.FileVersion.{FileVersion, FitsFile, first_file}
+use Rattle.exh_file.specs.HeaderImage.{IsHeader, IsHeaderImage, IsPageCount}
+use Rattle.exh_file.specs.Laws.{TablesAreBlocks, TablesPass}
+use Rattle.exh_prefix.specs.Version.{first_version}
+use Rattle.exh_page_file.specs.FileTests.{End, FailsFirst, HeaderFails, IsFileFault, NextFails, PassesAt, block_at, bytes_from, page_places, places_behind, table_places}
+use Rattle.exh_page_file.specs.PageFile.{IsPageFile, PageFile, header_block, page_block, pages_of, table_blocks, table_bytes}
+use Rattle.exh_page_file.specs.Reading.{AreBytes, FailsInPages, FailsInTable, GivesEntries, GivesPages, IsAll, IsBlock}
+use Rattle.exh_page_file.proofs.Elements.{all_join}
+use Rattle.exh_page_file.proofs.Places.{block_there, fails_behind, fails_here, from_next, pages_behind, pages_fail, pages_pass}
+use Rattle.exh_page_file.proofs.TablePlaces.{table_fails, tables_behind, tables_pass}
+
+pub an_entry : FileEntry
+an_entry = record { ward = 0; prefix = []; entry = record { number = 0; kind = Merge } }
+
+-- ---- how many wards and pages a header counts
+
+pub few_wards : (bits : ℕ) → 2 ^ bits ≤ 16 → bits ≤ 4
+few_wards bits few = elim (cases_lt 4 bits) [
+  | inl more ↦ absurd (omega (arith, few, pow_below 4 bits more))
+  | inr within ↦ within
+]
+
+zero_sum : (counts : List ℕ) → AllByRecursion (λ count. count ≡ 0) counts → sum counts ≡ 0
+zero_sum [] all = refl
+zero_sum (count ∷ counts) all = sum_by-cons (λ (count : ℕ). count) count counts ∙ (omega (arith, all.0, zero_sum counts all.1))
+
+pub all_counted : (version : FileVersion) (header : Header) → IsHeader version header → sum (take (2 ^ header.ward_bits) header.page_counts) ≡ sum header.page_counts
+all_counted version header valid =
+    omega (arith, sum_by-take-drop (λ (count : ℕ). count) header.page_counts (2 ^ header.ward_bits), zero_sum (drop (2 ^ header.ward_bits) header.page_counts) valid.others)
+
+small_sum : (limit bits : ℕ) (counts : List ℕ) → limit < 17 → AllByRecursion (IsPageCount limit bits) counts → sum counts ≤ length counts * 2 ^ 17
+small_sum limit bits [] small all = omega arith
+small_sum limit bits (count ∷ counts) small all =
+    omega (arith, sum_by-cons (λ (count : ℕ). count) count counts, all.0.1, pow_below (limit - bits) 17 (omega (arith, small)), small_sum limit bits counts small all.1)
+
+pub few_pages : (header : Header) → IsHeader first_file header → sum (take (2 ^ header.ward_bits) header.page_counts) ≤ 2 ^ 21
+few_pages header valid =
+    omega (arith, small_sum 16 header.ward_bits (take (2 ^ header.ward_bits) header.page_counts) (omega arith) valid.pages, length-take (2 ^ header.ward_bits) header.page_counts, valid.counts, valid.wards)
+
+-- ---- faults
+
+pub first_file_fits : FitsFile first_file
+first_file_fits = record { number = omega arith; limit = omega arith; images = record { limit = omega arith; bytes = omega arith } }
+
+-- what was read before a fault behind the header
+pub record Headed (version : FileVersion) (old new : Option (List ℕ)) (header : Header) (block : List ℕ) : Type 0 where
+  pub given : Consumes old new block
+  pub image : IsHeaderImage version header block
+  pub is : IsBlock block
+
+-- a fault of the header
+pub fault_of_header : (version : FileVersion) (known : Option (List ℕ)) (fault : FileFault) → IfSome known (λ bytes. NextFails (HeaderFails version) bytes fault) → IfSome known (λ bytes. IsFileFault version bytes fault)
+fault_of_header version None fault fails = tt
+fault_of_header version (Some bytes) fault fails = inl fails
+
+module _ (version : FileVersion) (fits : FitsFile version) (pages_law : ImagesPass) (page_blocks : ImagesAreBlocks) (tables_law : TablesPass) (table_blocks_law : TablesAreBlocks) where
+  behind_header : (bytes rest block : List ℕ) (header : Header) (fault : FileFault) → bytes ≡ block ++ rest → IsHeaderImage version header block → length block ≡ 4096
+      → FailsFirst version (any_pseudokey header.keyer) bytes (places_behind header) fault → IsFileFault version bytes fault
+  behind_header bytes rest block header fault is image len fails =
+      inr (header, subst (IsHeaderImage version header) (sym (block_there 0 bytes block rest is len)) image, fails)
+
+  -- a fault among the pages
+  pub fault_of_pages : (a b : Option (List ℕ)) (header : Header) (block : List ℕ) (count : ℕ) (fault : FileFault) → Headed version a b header block → count ≡ sum header.page_counts
+      → IfSome b (λ bytes. FailsInPages version.images (any_pseudokey header.keyer) 1 count bytes fault) → IfSome a (λ bytes. IsFileFault version bytes fault)
+  fault_of_pages None b header block count fault headed all fails = tt
+  fault_of_pages (Some bytes) None header block count fault headed all fails = absurd headed.given
+  fault_of_pages (Some bytes) (Some rest) header block count fault headed all fails =
+      let pseudo = any_pseudokey header.keyer in
+      let blocks = table_blocks header.entry_count in
+      let pages = sum header.page_counts in
+      let from : bytes_from 1 bytes ≡ rest = from_next 0 bytes block rest headed.given headed.is.0 in
+      behind_header bytes rest block header fault headed.given headed.image headed.is.0
+      (pages_fail version pseudo bytes fits pages_law page_blocks 1 pages (table_places (1 + pages) true blocks header.entry_count ++ End (1 + pages + blocks) ∷ []) fault
+      (subst (λ (rest : List ℕ). FailsInPages version.images pseudo 1 pages rest fault) (sym from) (subst (λ (count : ℕ). FailsInPages version.images pseudo 1 count rest fault) all fails)))
+
+  -- all pages passed
+  pages_passed : (bytes rest block : List ℕ) (header : Header) (pages : List Page) → bytes ≡ block ++ (flat_map page_block pages ++ rest) → length block ≡ 4096 → length pages ≡ sum header.page_counts
+      → AllByRecursion (IsPage version.images (any_pseudokey header.keyer)) pages → AreBytes (flat_map page_block pages)
+      → AllByRecursion (PassesAt version (any_pseudokey header.keyer) bytes) (page_places 1 (sum header.page_counts)) × (bytes_from (1 + sum header.page_counts) bytes ≡ rest)
+  pages_passed bytes rest block header pages is len all valid small =
+      let pseudo = any_pseudokey header.keyer in
+      let from : bytes_from 1 bytes ≡ flat_map page_block pages ++ rest = from_next 0 bytes block (flat_map page_block pages ++ rest) is len in (
+        subst (λ (count : ℕ). AllByRecursion (PassesAt version pseudo bytes) (page_places 1 count)) all (pages_pass version pseudo bytes fits pages_law page_blocks 1 pages rest valid small from),
+        subst (λ (count : ℕ). bytes_from (1 + count) bytes ≡ rest) all (pages_behind version pseudo bytes fits pages_law page_blocks 1 pages rest valid from),
+      )
+
+  -- a fault in the table
+  pub fault_of_table : (a b c : Option (List ℕ)) (header : Header) (block : List ℕ) (pages : List Page) (place count : ℕ) (fault : FileFault) → Headed version a b header block → GivesPages version.images (any_pseudokey header.keyer) b c pages
+      → length pages ≡ sum header.page_counts → place ≡ 1 + sum header.page_counts → count ≡ header.entry_count
+      → IfSome c (λ bytes. FailsInTable version.images place count bytes fault) → IfSome a (λ bytes. IsFileFault version bytes fault)
+  fault_of_table None b c header block pages place count fault headed gives all there many fails = tt
+  fault_of_table (Some bytes) None c header block pages place count fault headed gives all there many fails = absurd headed.given
+  fault_of_table (Some bytes) (Some mid) None header block pages place count fault headed gives all there many fails = absurd gives.given
+  fault_of_table (Some bytes) (Some mid) (Some rest) header block pages place count fault headed gives all there many fails =
+      let pseudo = any_pseudokey header.keyer in
+      let whole : bytes ≡ block ++ (flat_map page_block pages ++ rest) = headed.given ∙ ap (λ (rest : List ℕ). block ++ rest) gives.given in
+      let passed = pages_passed bytes rest block header pages whole headed.is.0 all gives.valid gives.are_bytes in
+      let here : FailsInTable version.images (1 + sum header.page_counts) header.entry_count (bytes_from (1 + sum header.page_counts) bytes) fault =
+      subst (λ (rest : List ℕ). FailsInTable version.images (1 + sum header.page_counts) header.entry_count rest fault) (sym passed.1)
+      (subst (λ (place : ℕ). FailsInTable version.images place header.entry_count rest fault) there (subst (λ (count : ℕ). FailsInTable version.images place count rest fault) many fails)) in
+      behind_header bytes mid block header fault headed.given headed.image headed.is.0
+      (fails_behind version pseudo bytes (page_places 1 (sum header.page_counts)) _ fault passed.0
+      (table_fails version pseudo bytes fits tables_law table_blocks_law (1 + sum header.page_counts) header.entry_count (End (1 + sum header.page_counts + table_blocks header.entry_count) ∷ []) fault an_entry here))
+
+  -- a byte behind the table
+  pub fault_of_end : (a b c e : Option (List ℕ)) (header : Header) (block : List ℕ) (pages : List Page) (entries : List FileEntry) (fault : FileFault) → Headed version a b header block
+      → GivesPages version.images (any_pseudokey header.keyer) b c pages → GivesEntries version.images c e (table_blocks header.entry_count) entries
+      → length pages ≡ sum header.page_counts → length entries ≡ header.entry_count
+      → IfSome e (λ bytes. (0 < length bytes) × (fault ≡ faults.Trailing)) → IfSome a (λ bytes. IsFileFault version bytes fault)
+  fault_of_end None b c e header block pages entries fault headed gives entries_given all many fails = tt
+  fault_of_end (Some bytes) None c e header block pages entries fault headed gives entries_given all many fails = absurd headed.given
+  fault_of_end (Some bytes) (Some mid) None e header block pages entries fault headed gives entries_given all many fails = absurd gives.given
+  fault_of_end (Some bytes) (Some mid) (Some late) None header block pages entries fault headed gives entries_given all many fails = absurd entries_given.given
+  fault_of_end (Some bytes) (Some mid) (Some late) (Some rest) header block pages entries fault headed gives entries_given all many fails =
+      let pseudo = any_pseudokey header.keyer in
+      let count = header.entry_count in
+      let blocks = table_blocks count in
+      let place = 1 + sum header.page_counts in
+      let whole : bytes ≡ block ++ (flat_map page_block pages ++ late) = headed.given ∙ ap (λ (rest : List ℕ). block ++ rest) gives.given in
+      let passed = pages_passed bytes late block header pages whole headed.is.0 all gives.valid gives.are_bytes in
+      let from : bytes_from place bytes ≡ table_bytes version.images blocks entries ++ rest = passed.1 ∙ entries_given.given in
+      let tables = subst (λ (count : ℕ). AllByRecursion (PassesAt version pseudo bytes) (table_places place true blocks count)) many
+      (tables_pass version pseudo bytes fits tables_law table_blocks_law place true None blocks entries rest an_entry (omega (arith, many))
+      (record { valid = entries_given.valid; rising = entries_given.rising; small = entries_given.are_bytes; is_before = refl; whole = from })) in
+      let last : bytes_from (place + blocks) bytes ≡ rest = tables_behind version pseudo bytes fits tables_law table_blocks_law place true None blocks entries rest entries_given.valid from in
+      behind_header bytes mid block header fault headed.given headed.image headed.is.0
+      (fails_behind version pseudo bytes (page_places 1 (sum header.page_counts)) _ fault passed.0
+      (fails_behind version pseudo bytes (table_places place true blocks count) _ fault tables
+      (fails_here version pseudo bytes (End (place + blocks)) [] fault (omega (arith, ap length last, fails.0), fails.1))))
+
+-- ---- a file that was read
+
+-- the pages of each ward, as many as its count
+pub counted : (wards : List (Vec Page Global)) → map length (map (λ ward. ward.items) wards) ≡ map (λ ward. length ward.items) wards
+counted [] = refl
+counted (ward ∷ wards) = ap (λ (rest : List ℕ). length ward.items ∷ rest) (counted wards)
+
+pub all_pages : (wards : List (Vec Page Global)) → length (pages_in wards) ≡ sum (map (λ ward. length ward.items) wards)
+all_pages [] = refl
+all_pages (ward ∷ wards) = omega (arith, length-append ward.items (pages_in wards), sum_by-cons (λ (count : ℕ). count) (length ward.items) (map (λ ward. length ward.items) wards), all_pages wards)
+
+module _ (a b c e : Option (List ℕ)) (header : Header) (block : List ℕ) (wards : List (Vec Page Global)) (entries : List FileEntry) where
+  pub file_from : Headed first_file a b header block → GivesPages first_version (any_pseudokey header.keyer) b c (pages_in wards) → GivesEntries first_version c e (table_blocks header.entry_count) entries
+      → map (λ ward. length ward.items) wards ≡ take (2 ^ header.ward_bits) header.page_counts → length entries ≡ header.entry_count → IsAtEnd e
+      → (bytes : List ℕ) × IsAll a bytes × AreBytes bytes × IsPageFile first_file (record { header = header; wards = map (λ ward. ward.items) wards; entries = entries }) bytes
+  unfolding header_block
+  file_from headed gives given counts count end =
+      let blocks = flat_map page_block (pages_in wards) in
+      let table = table_bytes first_version (table_blocks header.entry_count) entries in
+      let bytes = block ++ (blocks ++ table) in
+      let pages : pages_of (map (λ ward. ward.items) wards) ≡ pages_in wards = flat_map-map (λ (ward : List Page). ward) (λ (ward : Vec Page Global). ward.items) wards in
+      let consumed : Consumes a e bytes = Consumes-trans a b e block (blocks ++ table) headed.given (Consumes-trans b c e blocks table gives.given given.given) in
+      let file : PageFile = record { header = header; wards = map (λ ward. ward.items) wards; entries = entries } in (
+        bytes,
+        Consumes-whole a e bytes (λ all. all ≡ bytes) consumed end refl,
+        all_join (λ (byte : ℕ). byte < 256) block (blocks ++ table) headed.is.1 (all_join (λ (byte : ℕ). byte < 256) blocks table gives.are_bytes given.are_bytes),
+        record {
+          valid = record {
+            header = headed.image.valid;
+            counts = counted wards ∙ counts;
+            pages = subst (AllByRecursion (IsPage first_version (any_pseudokey header.keyer))) (sym pages) gives.valid;
+            count = count;
+            entries = given.valid;
+            rising = given.rising;
+          };
+          whole = (λ i. headed.image.whole i ++ (flat_map page_block (sym pages i) ++ table_bytes first_version (table_blocks (sym count i)) entries));
+        },
+      )

@@ -1,0 +1,11 @@
+pub mod Elements
+pub mod Blocks
+pub mod Pages
+pub mod Tables
+pub mod Places
+pub mod LastPrefix
+pub mod TablePlaces
+pub mod Files
+pub mod OneFile
+pub mod NoFault
+pub mod Read

@@ -1,0 +1,101 @@
+-- Entries that are read block by block.
+use Rattle.std.proofs.Common.{◌≡◌, ℕ, zero, suc, ◌+◌, ◌*◌, ◌-◌, ◌<◌, ◌≤◌, min, Bool, List, [], ◌∷◌, ◌++◌, length, map, take, drop, get_or, Option, None, Some, IfSome, refl, sym, ap, ◌∙◌, subst, append_assoc, append-nil, arith}
+use Rattle.std.proofs.lemmas.List.{length-append, length-drop, length-take, map-append, take_all, take-append-le, take_more}
+use lib.Seq.{drop-append-le}
+use Rattle.std.specs.declared.cmp.Ordering.TheVariants.{Less}
+use Rattle.std.specs.List.{AllByRecursion}
+use Rattle.std.specs.Option.{option_to_list}
+use Rattle.std.specs.Io.KnownBytes.{Consumes}
+use Rattle.std.proofs.KnownBytes.{Consumes-nil, Consumes-trans}
+use Rattle.exh_prefix.specs.Prefix.{prefix_cmp}
+use Rattle.exh_prefix.specs.PrefixLemmas.{prefix_cmp-total}
+use Rattle.exh_prefix.specs.Version.{Version}
+use Rattle.exh_file.specs.declared.file_entry.FileEntry.{FileEntry}
+use Rattle.exh_file.specs.declared.file_fault.FileFault.{FileFault}
+use Rattle.exh_file.specs.TableImage.{AreRising, IsFileEntry, IsTableImage, prefixes_of}
+use Rattle.exh_page_file.specs.FileTests.{NextFails, TableFails}
+use Rattle.exh_page_file.specs.PageFile.{table_block, table_bytes}
+use Rattle.exh_page_file.specs.Reading.{AreBytes, FailsInTable, GivesEntries, IsBlock, last_prefix}
+use Rattle.exh_page_file.proofs.Elements.{all_join}
+
+-- ---- prefixes
+
+-- one entry more
+pub last_of_more : (before : Option (List Bool)) (entries : List FileEntry) (item : FileEntry) → last_prefix before (entries ++ item ∷ []) ≡ Some item.prefix
+last_of_more before [] item = refl
+last_of_more before (one ∷ entries) item = last_of_more (Some one.prefix) entries item
+
+pub last_there : (entries : List FileEntry) (d : FileEntry) → 0 < length entries → last_prefix None entries ≡ Some (get_or entries (length entries - 1) d).prefix
+last_there entries d some =
+    let i = length entries - 1 in
+    let whole : take (i + 1) entries ≡ entries = take_all (i + 1) entries (omega arith) in
+    ap (last_prefix None) (sym whole ∙ take_more entries i d (omega arith)) ∙ last_of_more None (take i entries) (get_or entries i d)
+
+pub last_of_join : (before : Option (List Bool)) (entries more : List FileEntry) → last_prefix before (entries ++ more) ≡ last_prefix (last_prefix before entries) more
+last_of_join before [] more = refl
+last_of_join before (one ∷ entries) more = last_of_join (Some one.prefix) entries more
+
+all_after : (first next : List Bool) (rest : List (List Bool)) → prefix_cmp first next ≡ Less → AllByRecursion (λ other. prefix_cmp next other ≡ Less) rest → AllByRecursion (λ other. prefix_cmp first other ≡ Less) rest
+all_after first next [] comes all = tt
+all_after first next (other ∷ rest) comes all = (prefix_cmp-total.trans first next other comes all.0, all_after first next rest comes all.1)
+
+-- prefixes that rise, and others that rise from the last of them
+pub rising_join : (before : Option (List Bool)) (entries more : List FileEntry) → AreRising (option_to_list before ++ prefixes_of entries) → AreRising (option_to_list (last_prefix before entries) ++ prefixes_of more)
+    → AreRising (option_to_list before ++ prefixes_of (entries ++ more))
+rising_join before [] more first second = second
+rising_join None (item ∷ entries) more first second = rising_join (Some item.prefix) entries more first second
+rising_join (Some prefix) (item ∷ entries) more first second =
+    let rest = rising_join (Some item.prefix) entries more first.1 second in
+    ((first.0.0, all_after prefix item.prefix (prefixes_of (entries ++ more)) first.0.0 rest.0), rest)
+
+-- ---- blocks
+
+module _ (version : Version) where
+  -- one block more, behind full ones
+  pub table_more : (blocks : ℕ) (entries more : List FileEntry) → length entries ≡ 254 * blocks → length more ≤ 254 → table_bytes version (blocks + 1) (entries ++ more) ≡ table_bytes version blocks entries ++ table_block version more
+  table_more zero [] more full few = ap (λ (more : List FileEntry). table_block version more ++ []) (take_all 254 more few) ∙ append-nil (table_block version more)
+  table_more zero (item ∷ entries) more full few = absurd (omega (arith, full))
+  table_more (suc blocks) entries more full few =
+      let room : 254 ≤ length entries = omega (arith, full) in
+      let front : take 254 (entries ++ more) ≡ take 254 entries = take-append-le 254 entries more room in
+      let back : drop 254 (entries ++ more) ≡ drop 254 entries ++ more = drop-append-le 254 entries more room in
+      let rest = table_more blocks (drop 254 entries) more (omega (arith, length-drop 254 entries, full)) few in
+      let count : suc blocks + 1 ≡ suc (blocks + 1) = omega arith in
+      ap (λ (count : ℕ). table_bytes version count (entries ++ more)) count
+      ∙ (λ i. table_block version (front i) ++ table_bytes version (blocks + 1) (back i))
+      ∙ ap (λ (rest : List ℕ). table_block version (take 254 entries) ++ rest) rest
+      ∙ sym (append_assoc (table_block version (take 254 entries)) (table_bytes version blocks (drop 254 entries)) (table_block version more))
+
+  pub no_entries : (known : Option (List ℕ)) → GivesEntries version known known 0 []
+  no_entries known = record { given = Consumes-nil known; are_bytes = tt; valid = tt; rising = tt }
+
+  pub more_entries : (a b c : Option (List ℕ)) (blocks : ℕ) (entries more : List FileEntry) (block : List ℕ) → length entries ≡ 254 * blocks → GivesEntries version a b blocks entries
+      → Consumes b c block → IsTableImage version more block → IsBlock block → AreRising (option_to_list (last_prefix None entries) ++ prefixes_of more) → GivesEntries version a c (blocks + 1) (entries ++ more)
+  unfolding table_block
+  more_entries a b c blocks entries more block full gives given image is rising =
+      let whole : table_bytes version (blocks + 1) (entries ++ more) ≡ table_bytes version blocks entries ++ block =
+      table_more blocks entries more full image.few ∙ ap (λ (block : List ℕ). table_bytes version blocks entries ++ block) (sym image.whole) in
+      record {
+        given = subst (Consumes a c) (sym whole) (Consumes-trans a b c (table_bytes version blocks entries) block gives.given given);
+        are_bytes = subst AreBytes (sym whole) (all_join (λ (byte : ℕ). byte < 256) (table_bytes version blocks entries) block gives.are_bytes is.1);
+        valid = all_join (IsFileEntry version) entries more gives.valid image.valid;
+        rising = rising_join None entries more gives.rising rising;
+      }
+
+  pub fails_next : (a b : Option (List ℕ)) (place count blocks : ℕ) (entries : List FileEntry) (fault : FileFault) → length entries < count → length entries ≡ 254 * blocks → GivesEntries version a b blocks entries
+      → IfSome b (λ bytes. NextFails (TableFails version (place + blocks) (min 254 (count - length entries)) (last_prefix None entries)) bytes fault)
+      → IfSome a (λ bytes. FailsInTable version place count bytes fault)
+  fails_next None b place count blocks entries fault fewer full gives fails = tt
+  fails_next (Some bytes) None place count blocks entries fault fewer full gives fails = absurd gives.given
+  fails_next (Some bytes) (Some rest) place count blocks entries fault fewer full gives fails = record {
+    blocks = blocks;
+    entries = entries;
+    rest = rest;
+    fewer = fewer;
+    full = full;
+    whole = gives.given;
+    are_bytes = gives.are_bytes;
+    valid = gives.valid;
+    rising = gives.rising;
+    fails = fails;
+  }

@@ -1,0 +1,19 @@
+use Rattle.std.proofs.Common.{◌≡◌, ℕ, List, refl, sym, ap, ◌∙◌, subst}
+use Rattle.exh_prefix.specs.Version.{first_version}
+use Rattle.exh_keyer.specs.Pseudokey.{any_pseudokey}
+use Rattle.exh_file.specs.declared.file_fault.FileFault.TheVariants.{Block}
+use Rattle.exh_page_file.specs.FileTests.{NextFails, PageFails}
+use Rattle.exh_page_file.specs.ReadFileFault.{fault_at}
+use Rattle.exh_page_file.specs.Reading.{IsOf}
+use Rattle.exh_page_file.proofs.Blocks.{block_fails, fault_of}
+use Rattle.exh_page_file.proofs.block_source.BlockSource.read_page.Goals as goal
+
+pub returns-in-Ok-clause-ok : goal.returns-in-Ok-clause-ok
+returns-in-Ok-clause-ok g c = (c.fill.new.block, c.in_ok-fill.ensures.ok, c.in-Ok.ensures.page, c.in_ok-fill.ensures.block)
+
+pub returns-in-Err-clause-err : goal.returns-in-Err-clause-err
+returns-in-Err-clause-err g c =
+    let Fails = PageFails first_version (any_pseudokey c.args.keyer) c.args.self.now.place in
+    let fault = c.in-Err.fault in
+    subst (IsOf (NextFails Fails) _) (sym (c.at_place.ensures ∙ ap (λ (place : ℕ). fault_at place fault) c.fill.ensures.place))
+    (fault_of (NextFails Fails) _ _ fault (λ other. block_fails Fails _ _ c.fill.new.block _ c.in_ok-fill.ensures.ok c.in_ok-fill.ensures.block.0 (fault, c.in-Err.ensures.fault other, refl)))

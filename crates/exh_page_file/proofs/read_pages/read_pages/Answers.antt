@@ -1,0 +1,35 @@
+use Rattle.std.proofs.Common.{◌≡◌, ◌+◌, ◌∷◌, [], ◌++◌, ℕ, List, length, sym, ap, ◌∙◌, subst, arith}
+use Rattle.std.proofs.lemmas.List.{length-append}
+use Rattle.exh_prefix.specs.Version.{first_version}
+use Rattle.exh_keyer.specs.Pseudokey.{any_pseudokey}
+use Rattle.exh_page.specs.declared.page.Page.{Page}
+use Rattle.exh_page_file.specs.FileTests.{NextFails, PageFails}
+use Rattle.exh_page_file.specs.Reading.{FailsInPages, GivesPages, IsOf}
+use Rattle.exh_page_file.proofs.Pages.{one_page, more_pages, no_pages, fails_next, of_later, err_is}
+use Rattle.exh_page_file.proofs.read_pages.read_pages.Goals as goal
+
+pub returns-in_err-page-clause-err : goal.returns-in_err-page-clause-err
+returns-in_err-page-clause-err g c =
+    let pseudo = any_pseudokey c.args.keyer in
+    let known = g.R.Read.remaining c.args.blocks.now.source.reader.now in
+    let place = c.args.blocks.now.place in
+    let pages = c.loop-number.pages.items in
+    let fails = c.in_err-page.ensures.err in
+    let there : c.loop-number.blocks.place ≡ place + length pages = omega (arith, c.loop-number.invariant.place, c.loop-number.invariant.some) in
+    err_is c.from_residual.result c.in_err-page.field-0.0 (IsOf (FailsInPages first_version pseudo place c.args.count) known) c.from_residual.ensures.1
+    (of_later (NextFails (PageFails first_version pseudo (place + length pages))) (FailsInPages first_version pseudo place c.args.count) known _ c.in_err-page.field-0.0
+    (λ fault. fails_next first_version pseudo known _ place c.args.count pages fault (omega (arith, c.loop-number.invariant.some, c.loop-number-test.true)) c.loop-number.invariant.given)
+    (subst (λ (place : ℕ). IsOf (NextFails (PageFails first_version pseudo place)) (g.R.Read.remaining c.loop-number.blocks.source.reader.now) c.in_err-page.field-0.0) there fails))
+
+pub loop-number-preserved : goal.loop-number-preserved
+loop-number-preserved g c =
+    let pseudo = any_pseudokey c.args.keyer in
+    let read = c.in_ok-page.ensures.ok in
+    let pages = c.loop-number.pages.items in
+    let pushed : c.push.new.items.items ≡ pages ++ c.in_ok-page.page ∷ [] = c.in_ok-push.ensures in
+    record {
+      place = omega (arith, c.loop-number.invariant.place, c.in_ok-page.ensures.place);
+      some = omega (arith, ap length pushed, length-append pages (c.in_ok-page.page ∷ []), c.loop-number.invariant.some);
+      given = subst (GivesPages first_version pseudo _ _) (sym pushed)
+          (more_pages first_version pseudo _ _ _ pages (c.in_ok-page.page ∷ []) c.loop-number.invariant.given (one_page first_version pseudo _ _ c.in_ok-page.page read.0 read.1 read.2 read.3));
+    }

@@ -1,0 +1,12 @@
+use Rattle.std.proofs.Common.{◌≡◌, ◌+◌, length}
+use Rattle.exh_prefix.specs.Version.{first_version}
+use Rattle.exh_keyer.specs.Pseudokey.{any_pseudokey}
+use Rattle.exh_page_file.specs.Reading.{GivesPages, left}
+use Rattle.exh_page_file.proofs.read_pages.read_pages.Given as goal
+
+abbrev pub invariant-loop-number : goal.invariant-loop-number
+invariant-loop-number g l = record {
+  place : l.blocks.place ≡ l.initial.blocks.place + l.number;
+  some : length l.pages.items ≡ l.number;
+  given : GivesPages first_version (any_pseudokey l.keyer) (left g.R.Read.remaining l.initial.blocks) (left g.R.Read.remaining l.blocks) l.pages.items;
+}

@@ -1,0 +1,52 @@
+use Rattle.std.proofs.Common.{◌≡◌, ◌+◌, ◌-◌, ◌*◌, ◌<◌, ◌≤◌, ◌∷◌, [], ◌++◌, ℕ, Bool, List, Option, None, min, length, sym, ap, ◌∙◌, subst, arith}
+use Rattle.std.proofs.lemmas.List.{length-append}
+use Rattle.std.specs.Option.{option_to_list}
+use Rattle.exh_prefix.specs.Version.{first_version}
+use Rattle.exh_file.specs.declared.file_entry.FileEntry.{FileEntry}
+use Rattle.exh_file.specs.TableImage.{AreRising, prefixes_of}
+use Rattle.exh_page_file.specs.FileTests.{NextFails, TableFails}
+use Rattle.exh_page_file.specs.Reading.{FailsInTable, GivesEntries, IsOf, last_prefix}
+use Rattle.exh_page_file.proofs.Pages.{of_later, err_is}
+use Rattle.exh_page_file.proofs.Tables.{fails_next, more_entries}
+use Rattle.exh_page_file.proofs.read_table.read_table.Goals as goal
+
+pub returns-in_err-next-clause-err : goal.returns-in_err-next-clause-err
+returns-in_err-next-clause-err g c =
+    let known = g.R.Read.remaining c.args.blocks.now.source.reader.now in
+    let place = c.args.blocks.now.place in
+    let count = c.args.count in
+    let number = c.loop-number.number in
+    let entries = c.loop-number.entries.items in
+    let inside : 254 * number < count = omega (arith, c.loop-number-test.true) in
+    let full : length entries ≡ 254 * number = omega (arith, c.loop-number.invariant.some, inside) in
+    let more : c.min-more.result ≡ min 254 (count - length entries) = c.min-more.ensures ∙ ap (λ (n : ℕ). min 254 (count - n)) (sym full) in
+    let before : c.last_prefix-before.result ≡ last_prefix None entries = c.last_prefix-before.ensures ∙ ap (last_prefix None) c.deref.ensures.value in
+    let later = g.R.Read.remaining c.loop-number.blocks.source.reader.now in
+    let fault = c.in_err-next.field-0.0 in
+    let fails : IsOf (NextFails (TableFails first_version (place + number) (min 254 (count - length entries)) (last_prefix None entries))) later fault =
+    subst (λ (before : Option (List Bool)). IsOf (NextFails (TableFails first_version (place + number) (min 254 (count - length entries)) before)) later fault) before
+    (subst (λ (more : ℕ). IsOf (NextFails (TableFails first_version (place + number) more c.last_prefix-before.result)) later fault) more
+    (subst (λ (place : ℕ). IsOf (NextFails (TableFails first_version place c.min-more.result c.last_prefix-before.result)) later fault) c.loop-number.invariant.place c.in_err-next.ensures.err)) in
+    err_is c.from_residual.result fault (IsOf (FailsInTable first_version place count) known) c.from_residual.ensures.1
+    (of_later (NextFails (TableFails first_version (place + number) (min 254 (count - length entries)) (last_prefix None entries))) (FailsInTable first_version place count) known later fault
+    (λ fault. fails_next first_version known later place count number entries fault (omega (arith, full, inside)) full c.loop-number.invariant.given) fails)
+
+pub loop-number-preserved : goal.loop-number-preserved
+loop-number-preserved g c =
+    let count = c.args.count in
+    let number = c.loop-number.number in
+    let entries = c.loop-number.entries.items in
+    let next = c.in_ok-next.next.items in
+    let inside : 254 * number < count = omega (arith, c.loop-number-test.true) in
+    let full : length entries ≡ 254 * number = omega (arith, c.loop-number.invariant.some, inside) in
+    let more : length next ≡ min 254 (count - 254 * number) = omega (arith, c.in_ok-next.ensures.count, c.min-more.ensures, c.in_ok-next.next.ok.0) in
+    let before : c.last_prefix-before.result ≡ last_prefix None entries = c.last_prefix-before.ensures ∙ ap (last_prefix None) c.deref.ensures.value in
+    let joined : c.append.new.entries.items ≡ entries ++ next = c.in_ok-append.ensures ∙ ap (λ (next : List FileEntry). entries ++ next) c.deref-in-loop-number.ensures.value in
+    let read = c.in_ok-next.ensures.ok in
+    record {
+      place = omega (arith, c.loop-number.invariant.place, c.in_ok-next.ensures.place);
+      some = omega (arith, ap length joined, length-append entries next, full, more, inside);
+      given = subst (GivesEntries first_version _ _ (number + 1)) (sym joined)
+          (more_entries first_version _ _ _ number entries next read.0 full c.loop-number.invariant.given read.1 read.2 read.3
+          (subst (λ (before : Option (List Bool)). AreRising (option_to_list before ++ prefixes_of next)) before c.in_ok-next.ensures.rising));
+    }

@@ -1,0 +1,11 @@
+use Rattle.std.proofs.Common.{◌≡◌, ◌+◌, ◌*◌, min, None, length}
+use Rattle.exh_prefix.specs.Version.{first_version}
+use Rattle.exh_page_file.specs.Reading.{GivesEntries, last_prefix, left}
+use Rattle.exh_page_file.proofs.read_table.read_table.Given as goal
+
+abbrev pub invariant-loop-number : goal.invariant-loop-number
+invariant-loop-number g l = record {
+  place : l.blocks.place ≡ l.initial.blocks.place + l.number;
+  some : length l.entries.items ≡ min (254 * l.number) l.count;
+  given : GivesEntries first_version (left g.R.Read.remaining l.initial.blocks) (left g.R.Read.remaining l.blocks) l.number l.entries.items;
+}

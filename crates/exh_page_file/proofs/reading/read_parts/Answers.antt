@@ -1,0 +1,102 @@
+use Rattle.std.proofs.Common.{◌≡◌, ◌+◌, ◌*◌, ◌^◌, ◌<◌, ◌≤◌, ◌/◌, inl, List, ℕ, Option, IfSome, length, map, take, sym, ap, ◌∙◌, subst, arith}
+use Rattle.std.specs.List.{sum}
+use Rattle.exh_keyer.specs.Pseudokey.{any_pseudokey}
+use Rattle.exh_prefix.specs.Version.{first_version}
+use Rattle.exh_file.specs.declared.file_fault.FileFault.{FileFault}
+use Rattle.exh_file.specs.declared.file_fault.FileFault.TheVariants.{Trailing}
+use Rattle.exh_file.specs.FileVersion.{first_file}
+use Rattle.exh_file.specs.HeaderImage.{IsHeaderImage}
+use Rattle.exh_page_file.specs.FileParts.{pages_in}
+use Rattle.exh_page_file.specs.FileTests.{HeaderFails, IsFileFault, NextFails}
+use Rattle.exh_page_file.specs.PageFile.{table_blocks}
+use Rattle.exh_page_file.specs.Reading.{FailsInPages, FailsInTable, GivesEntries, GivesPages, IsOf}
+use Rattle.exh_page_file.proofs.Files.{Headed, all_counted, all_pages, fault_of_end, fault_of_header, fault_of_pages, fault_of_table, few_pages, file_from, first_file_fits}
+use Rattle.exh_page_file.proofs.Pages.{err_is, of_later}
+use Rattle.exh_page_file.proofs.reading.read_parts.Goals as goal
+
+pub returns-in_err-header-clause-fault : goal.returns-in_err-header-clause-fault
+returns-in_err-header-clause-fault g c =
+    let known = g.R.Read.remaining c.args.blocks.now.source.reader.now in
+    let fault = c.in_err-header.field-0.0 in
+    err_is c.from_residual.result fault (IsOf (IsFileFault first_file) known) c.from_residual.ensures.1
+    (of_later (NextFails (HeaderFails first_file)) (IsFileFault first_file) known known fault (λ fault. fault_of_header first_file known fault) c.in_err-header.ensures.err)
+
+pub read_wards-requires : goal.read_wards-requires
+read_wards-requires g c =
+    let header = c.in_ok-header.header in
+    let image = c.in_ok-header.ensures.ok.2 in
+    let few : sum (take c.wards_of.result header.page_counts) ≤ 2 ^ 21 = subst (λ (n : ℕ). sum (take n header.page_counts) ≤ 2 ^ 21) (sym c.wards_of.ensures.power) (few_pages header image.valid) in
+    omega (arith, few, c.in_ok-header.ensures.place, c.requires)
+
+pub returns-in_err-wards-clause-fault : goal.returns-in_err-wards-clause-fault
+returns-in_err-wards-clause-fault g c =
+    let known = g.R.Read.remaining c.args.blocks.now.source.reader.now in
+    let later = g.R.Read.remaining c.read_header.new.self.source.reader.now in
+    let fault = c.in_err-wards.field-0.0 in
+    let header = c.in_ok-header.header in
+    let read = c.in_ok-header.ensures.ok in
+    let pseudo = any_pseudokey header.keyer in
+    let headed : Headed first_file known later header read.0 = record { given = read.1; image = read.2; is = read.3 } in
+    let count = sum (take c.wards_of.result header.page_counts) in
+    let all : count ≡ sum header.page_counts = ap (λ (n : ℕ). sum (take n header.page_counts)) c.wards_of.ensures.power ∙ all_counted first_file header read.2.valid in
+    let place : c.read_header.new.self.place ≡ 1 = omega (arith, c.in_ok-header.ensures.place, c.requires) in
+    err_is c.from_residual-in_err-wards.result fault (IsOf (IsFileFault first_file) known) c.from_residual-in_err-wards.ensures.1
+    (of_later (FailsInPages first_version pseudo 1 count) (IsFileFault first_file) known later fault
+    (λ fault. fault_of_pages first_file first_file_fits c.images_pass.ensures c.images_are_blocks.ensures c.images_pass-2.ensures.tables c.images_are_blocks-2.ensures.tables known later header read.0 count fault headed all)
+    (subst (λ (place : ℕ). IsOf (FailsInPages first_version pseudo place count) later fault) place c.in_err-wards.ensures.err))
+
+pub read_table-requires-clause-place : goal.read_table-requires-clause-place
+read_table-requires-clause-place g c =
+    let header = c.in_ok-header.header in
+    let image = c.in_ok-header.ensures.ok.2 in
+    let few : sum (take c.wards_of.result header.page_counts) ≤ 2 ^ 21 = subst (λ (n : ℕ). sum (take n header.page_counts) ≤ 2 ^ 21) (sym c.wards_of.ensures.power) (few_pages header image.valid) in
+    omega (arith, few, image.valid.entries, c.in_ok-wards.ensures.place, c.in_ok-header.ensures.place, c.requires)
+
+pub returns-in_err-entries-clause-fault : goal.returns-in_err-entries-clause-fault
+returns-in_err-entries-clause-fault g c =
+    let known = g.R.Read.remaining c.args.blocks.now.source.reader.now in
+    let mid = g.R.Read.remaining c.read_header.new.self.source.reader.now in
+    let later = g.R.Read.remaining c.read_wards.new.blocks.source.reader.now in
+    let fault = c.in_err-entries.field-0.0 in
+    let header = c.in_ok-header.header in
+    let read = c.in_ok-header.ensures.ok in
+    let headed : Headed first_file known mid header read.0 = record { given = read.1; image = read.2; is = read.3 } in
+    let wards = c.in_ok-wards.wards.items in
+    let all : sum (take c.wards_of.result header.page_counts) ≡ sum header.page_counts = ap (λ (n : ℕ). sum (take n header.page_counts)) c.wards_of.ensures.power ∙ all_counted first_file header read.2.valid in
+    let pages : length (pages_in wards) ≡ sum header.page_counts = all_pages wards ∙ ap sum c.in_ok-wards.ensures.counts ∙ all in
+    let place : c.read_wards.new.blocks.place ≡ 1 + sum header.page_counts = omega (arith, c.in_ok-wards.ensures.place, c.in_ok-header.ensures.place, c.requires, all) in
+    err_is c.from_residual-in_err-entries.result fault (IsOf (IsFileFault first_file) known) c.from_residual-in_err-entries.ensures.1
+    (of_later (FailsInTable first_version c.read_wards.new.blocks.place header.entry_count) (IsFileFault first_file) known later fault
+    (λ fault. fault_of_table first_file first_file_fits c.images_pass.ensures c.images_are_blocks.ensures c.images_pass-2.ensures.tables c.images_are_blocks-2.ensures.tables known mid later header read.0 (pages_in wards) c.read_wards.new.blocks.place header.entry_count fault headed c.in_ok-wards.ensures.given pages place (λ i. header.entry_count))
+    c.in_err-entries.ensures.err)
+
+pub returns-in_err-read_end-clause-fault : goal.returns-in_err-read_end-clause-fault
+returns-in_err-read_end-clause-fault g c =
+    let known = g.R.Read.remaining c.args.blocks.now.source.reader.now in
+    let mid = g.R.Read.remaining c.read_header.new.self.source.reader.now in
+    let late = g.R.Read.remaining c.read_wards.new.blocks.source.reader.now in
+    let last = g.R.Read.remaining c.read_table.new.blocks.source.reader.now in
+    let fault = c.in_err-read_end.field-0.0 in
+    let header = c.in_ok-header.header in
+    let read = c.in_ok-header.ensures.ok in
+    let headed : Headed first_file known mid header read.0 = record { given = read.1; image = read.2; is = read.3 } in
+    let wards = c.in_ok-wards.wards.items in
+    let all : sum (take c.wards_of.result header.page_counts) ≡ sum header.page_counts = ap (λ (n : ℕ). sum (take n header.page_counts)) c.wards_of.ensures.power ∙ all_counted first_file header read.2.valid in
+    let pages : length (pages_in wards) ≡ sum header.page_counts = all_pages wards ∙ ap sum c.in_ok-wards.ensures.counts ∙ all in
+    err_is c.from_residual-in_err-read_end.result fault (IsOf (IsFileFault first_file) known) c.from_residual-in_err-read_end.ensures.1
+    (of_later (λ bytes fault. (0 < length bytes) × (fault ≡ Trailing)) (IsFileFault first_file) known last fault
+    (λ fault. fault_of_end first_file first_file_fits c.images_pass.ensures c.images_are_blocks.ensures c.images_pass-2.ensures.tables c.images_are_blocks-2.ensures.tables known mid late last header read.0 (pages_in wards) c.in_ok-entries.entries.items fault headed c.in_ok-wards.ensures.given c.in_ok-entries.ensures.given pages c.in_ok-entries.ensures.count)
+    c.in_err-read_end.ensures.err)
+
+pub returns-clause-parts : goal.returns-clause-parts
+returns-clause-parts g c =
+    let known = g.R.Read.remaining c.args.blocks.now.source.reader.now in
+    let mid = g.R.Read.remaining c.read_header.new.self.source.reader.now in
+    let late = g.R.Read.remaining c.read_wards.new.blocks.source.reader.now in
+    let last = g.R.Read.remaining c.read_table.new.blocks.source.reader.now in
+    let header = c.in_ok-header.header in
+    let read = c.in_ok-header.ensures.ok in
+    let headed : Headed first_file known mid header read.0 = record { given = read.1; image = read.2; is = read.3 } in
+    let wards = c.in_ok-wards.wards.items in
+    let counts = c.in_ok-wards.ensures.counts ∙ ap (λ (n : ℕ). take n header.page_counts) c.wards_of.ensures.power in
+    file_from known mid late last header read.0 wards c.in_ok-entries.entries.items headed c.in_ok-wards.ensures.given c.in_ok-entries.ensures.given counts c.in_ok-entries.ensures.count c.in_ok-read_end.ensures.ok

@@ -1,0 +1,24 @@
+-- Laws of whole files, for the crates above: in every version of the page file that fits.
+use Rattle.std.specs.Prelude.{◌≡◌, List, ℕ}
+use Rattle.exh_file.specs.FileVersion.{FileVersion, FitsFile}
+use Rattle.exh_file.specs.declared.file_fault.FileFault.{FileFault}
+use Rattle.exh_file.specs.declared.header.Header.{Header}
+use Rattle.exh_page_file.specs.FileTests.{IsFileFault, PassesFile}
+use Rattle.exh_page_file.specs.Reading.{AreBytes}
+use Rattle.exh_page_file.specs.PageFile.{IsFile, IsPageFile, PageFile}
+
+-- a file has exactly one list of bytes
+abbrev pub OneImage : Type 0
+OneImage = (version : FileVersion) (file : PageFile) → IsFile version file → (bytes : List ℕ) × IsPageFile version file bytes × ((other : List ℕ) → IsPageFile version file other → other ≡ bytes)
+
+-- and bytes are those of one file
+abbrev pub OneFile : Type 0
+OneFile = (version : FileVersion) → FitsFile version → (bytes : List ℕ) (one other : PageFile) → IsPageFile version one bytes → IsPageFile version other bytes → one ≡ other
+
+-- the bytes of a file pass all tests
+abbrev pub FilesPass : Type 0
+FilesPass = (version : FileVersion) → FitsFile version → (file : PageFile) (bytes : List ℕ) → AreBytes bytes → IsPageFile version file bytes → PassesFile version bytes file.header
+
+-- where all are passed there is no fault
+abbrev pub PassedHasNoFault : Type 0
+PassedHasNoFault = (version : FileVersion) → FitsFile version → (header : Header) (bytes : List ℕ) (fault : FileFault) → AreBytes bytes → PassesFile version bytes header → IsFileFault version bytes fault → ⊥

@@ -1,0 +1,145 @@
+ghost use Rattle.std.specs.Prelude.{◌≡◌, ◌+◌, ◌<◌, ◌^◌, ◌≤◌, ◌++◌, length, vec_len, IfOk, OnOk, IfErr};
+ghost use Rattle.std.specs.Option.{option_to_list};
+ghost use Rattle.std.specs.Io.KnownBytes.{Consumes, IsAtEnd};
+ghost use Rattle.exh_keyer.specs.Pseudokey.{any_pseudokey};
+ghost use Rattle.exh_prefix.specs.Version.{first_version};
+ghost use Rattle.exh_stream.specs.Source.{ReadsFrom};
+ghost use Rattle.exh_codec.specs.PageImage.{IsImage};
+ghost use Rattle.exh_file.specs.FileVersion.{first_file};
+ghost use Rattle.exh_file.specs.HeaderImage.{IsHeaderImage};
+ghost use Rattle.exh_file.specs.TableImage.{AreRising, IsTableImage, prefixes_of};
+ghost use Rattle.exh_file.specs.declared.file_fault.FileFault.TheVariants.{Trailing, Truncated};
+ghost use Rattle.exh_file.specs.declared.table_block.TheConstants.{BLOCK_ENTRIES};
+ghost use Rattle.exh_page_file.specs.FileTests.{HeaderFails, NextFails, PageFails, TableFails};
+ghost use Rattle.exh_page_file.specs.Reading.{IsBlock, IsOf, left};
+ghost use Rattle.exh_codec.specs.declared.block.TheConstants.{BLOCK_LEN};
+
+use crate::ReadFileFault;
+use exh_codec::{BLOCK_LEN, decode_page};
+use exh_file::{BLOCK_ENTRIES, FileEntry, FileFault, Header, decode_entries};
+use exh_keyer::AnyKeyer;
+use exh_page::Page;
+use exh_prefix::Prefix;
+use exh_stream::Source;
+use std::alloc::Global;
+use std::io::Read;
+
+/// The blocks of a file that is read, one after the other.
+#[derive(Drop)]
+pub(crate) struct BlockSource<'r, R: Read> {
+    source: Source<'r, R>,
+    place: u32,
+}
+
+impl<'r, R: Read> BlockSource<'r, R> {
+    // The blocks that the reader has, the first of place 0.
+    pub(crate) fn new(reader: &'r mut R) -> BlockSource<'r, R>
+        ensures reads_from { ReadsFrom result.source reader.entry }
+        ensures place { result.place ≡ 0 }
+    {
+        BlockSource {
+            source: Source::new(reader),
+            place: 0,
+        }
+    }
+
+    // The header, which is the first block.
+    pub(crate) fn read_header(&mut self) -> Result<Header, ReadFileFault>
+        requires { self.old.place + 1 < 2 ^ 32 }
+        ensures place { OnOk result (self.new.place ≡ self.old.place + 1) }
+        ensures ok { IfOk result (λ header. (block : _) × Consumes (left R.remaining self.old) (left R.remaining self.new) block × IsHeaderImage first_file header block × IsBlock block) }
+        ensures err { IfErr result (IsOf (NextFails (HeaderFails first_file)) (left R.remaining self.old)) }
+    {
+        let mut block = [0; BLOCK_LEN];
+        self.fill(&mut block)?;
+        match Header::from_block(&block) {
+            Ok(header) => {
+                self.place += 1;
+                Ok(header)
+            }
+            Err(fault) => Err(ReadFileFault::File(fault)),
+        }
+    }
+
+    // The next page.
+    pub(crate) fn read_page(
+        &mut self,
+        alloc: Global,
+        keyer: AnyKeyer,
+    ) -> Result<Page, ReadFileFault>
+        requires { self.old.place + 1 < 2 ^ 32 }
+        ensures place { OnOk result (self.new.place ≡ self.old.place + 1) }
+        ensures ok { IfOk result (λ page. (block : _) × Consumes (left R.remaining self.old) (left R.remaining self.new) block × IsImage first_version (any_pseudokey keyer) page block × IsBlock block) }
+        ensures err { IfErr result (IsOf (NextFails (PageFails first_version (any_pseudokey keyer) self.old.place)) (left R.remaining self.old)) }
+    {
+        let mut block = [0; BLOCK_LEN];
+        self.fill(&mut block)?;
+        match decode_page(alloc, &keyer, &block) {
+            Ok(page) => {
+                self.place += 1;
+                Ok(page)
+            }
+            Err(fault) => Err(ReadFileFault::at_place(self.place, fault)),
+        }
+    }
+
+    // So many entries, of the next block, behind that of a prefix.
+    pub(crate) fn read_entries(
+        &mut self,
+        alloc: Global,
+        count: usize,
+        before: Option<Prefix>,
+    ) -> Result<Vec<FileEntry>, ReadFileFault>
+        requires place { self.old.place + 1 < 2 ^ 32 }
+        requires few { count ≤ BLOCK_ENTRIES }
+        ensures place { OnOk result (self.new.place ≡ self.old.place + 1) }
+        ensures ok { IfOk result (λ entries. (block : _) × Consumes (left R.remaining self.old) (left R.remaining self.new) block × IsTableImage first_version entries.items block × IsBlock block) }
+        ensures count { IfOk result (λ entries. vec_len entries ≡ count) }
+        ensures rising { IfOk result (λ entries. AreRising (option_to_list before ++ prefixes_of entries.items)) }
+        ensures err { IfErr result (IsOf (NextFails (TableFails first_version self.old.place count before)) (left R.remaining self.old)) }
+    {
+        let mut block = [0; BLOCK_LEN];
+        self.fill(&mut block)?;
+        match decode_entries(alloc, &block, count, before) {
+            Ok(entries) => {
+                self.place += 1;
+                Ok(entries)
+            }
+            Err(fault) => Err(ReadFileFault::at_place(self.place, fault)),
+        }
+    }
+
+    // Nothing, where no byte is left.
+    pub(crate) fn read_end(&mut self) -> Result<(), ReadFileFault>
+        ensures ok { OnOk result (IsAtEnd (left R.remaining self.old)) }
+        ensures err { IfErr result (IsOf (λ bytes fault. (0 < length bytes) × (fault ≡ Trailing)) (left R.remaining self.old)) }
+    {
+        let mut byte = [0; 1];
+        if self.source.fill(&mut byte)? == 0 {
+            Ok(())
+        } else {
+            Err(FileFault::Trailing.into())
+        }
+    }
+
+    // Reads a whole block.
+    fn fill(&mut self, block: &mut [u8; BLOCK_LEN]) -> Result<(), ReadFileFault>
+        ensures place { self.new.place ≡ self.old.place }
+        ensures ok { OnOk result (Consumes (left R.remaining self.old) (left R.remaining self.new) block.new) }
+        ensures block { OnOk result (IsBlock block.new) }
+        ensures err { IfErr result (IsOf (λ bytes fault. (length bytes < BLOCK_LEN) × (fault ≡ Truncated)) (left R.remaining self.old)) }
+    {
+        if self.source.fill(block)? < BLOCK_LEN {
+            return Err(FileFault::Truncated.into());
+        }
+        tell_bytes(block);
+        Ok(())
+    }
+}
+
+// For proofs: a block is so many bytes. It changes nothing.
+fn tell_bytes(block: &[u8; BLOCK_LEN])
+    ensures { IsBlock block.now }
+{
+    let _first = block.first();
+}

@@ -1,0 +1,12 @@
+use exh_file::{FileEntry, Header};
+use exh_page::Page;
+
+/// What a page file says.
+#[derive(Debug, Drop)]
+pub struct FileParts {
+    pub header: Header,
+    /// The pages of each ward in the order of their numbers, ward 0 first.
+    pub wards: Vec<Vec<Page>>,
+    /// The table, in rising order of prefixes.
+    pub entries: Vec<FileEntry>,
+}

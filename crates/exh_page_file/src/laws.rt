@@ -1,0 +1,31 @@
+//! What holds of all page files, for the proofs of callers. Each function changes nothing.
+
+ghost use Rattle.exh_page_file.specs.Laws.{FilesPass, OneFile, OneImage, PassedHasNoFault};
+
+/// In every version of the page file a file has exactly one list of bytes.
+pub fn one_image()
+    ensures { OneImage }
+{}
+
+/// In every version that fits bytes are those of one file.
+pub fn one_file()
+    ensures { OneFile }
+{
+    exh_codec::images_are_blocks();
+    exh_codec::one_page();
+    exh_file::images_are_blocks();
+    exh_file::one_value();
+}
+
+/// In every version that fits the bytes of a file pass all tests, and where all are passed there is no
+/// fault.
+pub fn files_pass()
+    ensures pass { FilesPass }
+    ensures no_fault { PassedHasNoFault }
+{
+    exh_codec::images_are_blocks();
+    exh_codec::images_pass();
+    exh_file::images_are_blocks();
+    exh_file::images_pass();
+    exh_file::one_value();
+}

@@ -1,0 +1,18 @@
+//! Whole page files, in the first version: from bytes to their parts and back. The parts of a file have
+//! exactly one list of bytes, and bytes are those of one file.
+#![tactic(auto)]
+
+pub use file_parts::FileParts;
+pub use laws::{files_pass, one_file, one_image};
+pub use read_file_fault::ReadFileFault;
+pub use reading::read_file;
+
+mod block_source;
+mod file_parts;
+mod laws;
+mod read_file_fault;
+mod read_pages;
+mod read_table;
+mod reading;
+#[cfg(test)]
+mod tests;

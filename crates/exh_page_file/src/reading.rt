@@ -1,0 +1,65 @@
+ghost use Rattle.std.specs.Prelude.{◌≡◌, ◌^◌, ◌≤◌, List, ℕ, Some, IfOk, IfErr, MatchResult};
+ghost use Rattle.exh_file.specs.FileVersion.{first_file};
+ghost use Rattle.exh_file.specs.HeaderImage.{IsHeader};
+ghost use Rattle.exh_page_file.specs.FileParts.{file_of};
+ghost use Rattle.exh_page_file.specs.FileTests.{IsFileFault};
+ghost use Rattle.exh_page_file.specs.PageFile.{IsPageFile, PageFile};
+ghost use Rattle.exh_page_file.specs.Reading.{AreBytes, IsAll, IsOf, IsOther, left};
+
+use crate::block_source::BlockSource;
+use crate::read_pages::read_wards;
+use crate::read_table::read_table;
+use crate::{FileParts, ReadFileFault, files_pass, one_file};
+use exh_file::Header;
+use std::alloc::Global;
+use std::io::Read;
+
+/// The parts of a page file of the first version, of which the reader has all bytes and no others. A
+/// block takes at most 4,097 reads. It takes memory for what was read, never for what a header claims.
+///
+/// `File`: the bytes aren't one; the fault is that of the first test that they fail. `Read`: the reader
+/// failed. `Memory`: a growth was refused. The one met first counts.
+pub fn read_file<R: Read>(alloc: Global, reader: &mut R) -> Result<FileParts, ReadFileFault>
+    ensures parts { IfOk result (λ parts. (bytes : List ℕ) × IsAll (R.remaining reader.old) bytes × AreBytes bytes × IsPageFile first_file (file_of parts) bytes) }
+    ensures fault { IfErr result (IsOf (IsFileFault first_file) (R.remaining reader.old)) }
+    ensures every { (file : PageFile) (bytes : List ℕ) → R.remaining reader.old ≡ Some bytes → AreBytes bytes → IsPageFile first_file file bytes
+        → MatchResult result (λ parts. file_of parts ≡ file) IsOther }
+{
+    one_file();
+    files_pass();
+    read_parts(alloc, &mut BlockSource::new(reader))
+}
+
+// The parts that the blocks of a file say.
+fn read_parts<R: Read>(
+    alloc: Global,
+    blocks: &mut BlockSource<'_, R>,
+) -> Result<FileParts, ReadFileFault>
+    requires { blocks.old.place ≡ 0 }
+    ensures parts { IfOk result (λ parts. (bytes : List ℕ) × IsAll (left R.remaining blocks.old) bytes × AreBytes bytes × IsPageFile first_file (file_of parts) bytes) }
+    ensures fault { IfErr result (IsOf (IsFileFault first_file) (left R.remaining blocks.old)) }
+{
+    exh_codec::images_pass();
+    exh_codec::images_are_blocks();
+    exh_file::images_pass();
+    exh_file::images_are_blocks();
+    let header = blocks.read_header()?;
+    let counts = &header.page_counts[..wards_of(&header)];
+    let wards = read_wards(alloc, blocks, header.keyer, counts)?;
+    let entries = read_table(alloc, blocks, header.entry_count as usize)?;
+    blocks.read_end()?;
+    Ok(FileParts {
+        header,
+        wards,
+        entries,
+    })
+}
+
+// How many wards a file has.
+fn wards_of(header: &Header) -> usize
+    requires { IsHeader first_file header.now }
+    ensures power { result ≡ 2 ^ header.now.ward_bits }
+    ensures few { result ≤ 16 }
+{
+    1 << header.ward_bits
+}
