@@ -7,7 +7,7 @@ use Rattle.std.proofs.Math.Nat.{pow-suc}
 use Rattle.exh_prefix.specs.declared.prefix.TheConstants.{LIMIT}
 use Rattle.exh_prefix.specs.Bits.{word_bits}
 use Rattle.exh_prefix.specs.Prefix.{zeros, IsFront, Begins, HasPrefix, low_of}
-use Rattle.exh_prefix.specs.PrefixLemmas.{low_of-lt, low_of-child, low_of-left_child, begins_from_low, word_bits-low_of, low_of-word}
+use Rattle.exh_prefix.specs.PrefixLemmas.{low_of-child, low_of-left_child, begins_from_low, word_bits-low_of, low_of-word}
 
 pub own_front : (bits : List Bool) → IsFront bits bits
 own_front bits = take_all (length bits) bits (omega arith)
