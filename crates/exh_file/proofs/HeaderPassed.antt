@@ -1,5 +1,5 @@
 -- A header's block passes the tests, and what passes them is a header's.
-use Rattle.std.proofs.Common.{◌≡◌, ℕ, ◌+◌, ◌<◌, ◌≤◌, List, [], ◌∷◌, ◌++◌, length, take, replicate, ◌-◌, slice_index, drop, sym, refl, ap, ◌∙◌, append_assoc, subst, arith}
+use Rattle.std.proofs.Common.{◌≡◌, ℕ, ◌<◌, List, [], ◌∷◌, ◌++◌, length, take, replicate, ◌-◌, slice_index, drop, sym, refl, ◌∙◌, append_assoc, subst, arith}
 use Rattle.std.specs.List.{AllByRecursion, flat_map}
 use Rattle.byteorder.specs.Endian.{big_bytes}
 use Rattle.exh_notice.specs.Images.{items}

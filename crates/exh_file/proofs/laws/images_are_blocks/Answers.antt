@@ -1,4 +1,4 @@
-use Rattle.std.proofs.Common.{◌≡◌, ◌*◌, ◌≤◌, length, arith}
+use Rattle.std.proofs.Common.{arith}
 use Rattle.std.specs.List.{flat_map}
 use Rattle.exh_codec.specs.BlockLemmas.{length-padded, length-sealed}
 use Rattle.exh_codec.specs.PageImage.{padded}

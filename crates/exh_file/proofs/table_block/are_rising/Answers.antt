@@ -2,7 +2,7 @@ use Rattle.std.proofs.Common.{◌≡◌, ◌∷◌, ◌++◌, [], Bool, List, su
 use Rattle.std.specs.Option.{option_to_list}
 use Rattle.exh_file.specs.declared.file_entry.FileEntry.{FileEntry}
 use Rattle.exh_file.specs.TableImage.{AreRising, prefixes_of}
-use Rattle.exh_file.proofs.Rising.{rising_next, next_precedes, prefixes_split, prefixes_more, first_last, first_rises}
+use Rattle.exh_file.proofs.Rising.{rising_next, next_precedes, prefixes_split, prefixes_more}
 use Rattle.exh_file.proofs.table_block.are_rising.Goals as goal
 
 pub returns-then-not-may_precede : goal.returns-then-not-may_precede

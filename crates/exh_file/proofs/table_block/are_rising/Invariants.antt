@@ -1,4 +1,4 @@
-use Rattle.std.proofs.Common.{◌≡◌, ◌++◌, take}
+use Rattle.std.proofs.Common.{◌++◌, take}
 use Rattle.std.specs.Option.{option_to_list}
 use Rattle.exh_file.specs.TableImage.{AreRising, prefixes_of}
 use Rattle.exh_file.proofs.Rising.{IsLast}

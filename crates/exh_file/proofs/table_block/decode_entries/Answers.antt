@@ -1,12 +1,12 @@
-use Rattle.std.proofs.Common.{◌≡◌, ◌≢◌, ◌*◌, ◌++◌, ℕ, List, length, drop, ap, sym, ◌∙◌, subst, arith}
+use Rattle.std.proofs.Common.{◌≡◌, ◌≢◌, ◌++◌, ℕ, List, length, sym, ◌∙◌, subst}
 use Rattle.std.specs.Option.{option_to_list}
 use Rattle.exh_prefix.specs.Version.{first_version}
 use Rattle.exh_notice.specs.ImageLemmas.{first_fits}
 use Rattle.exh_codec.specs.declared.image_fault.ImageFault.{ImageFault}
 use Rattle.exh_codec.specs.declared.image_fault.ImageFault.TheVariants as images
 use Rattle.exh_file.specs.declared.file_entry.FileEntry.{FileEntry}
-use Rattle.exh_file.specs.TableImage.{AreEntries, AreRising, IsTableImage, prefixes_of}
-use Rattle.exh_file.specs.TableTests.{IsFirstFault, IsPaddedBehind}
+use Rattle.exh_file.specs.TableImage.{AreRising, IsTableImage, prefixes_of}
+use Rattle.exh_file.specs.TableTests.{IsFirstFault}
 use Rattle.exh_file.proofs.TablePassed.{Says, says, image_from, none_fails, one_list, first_digest, first_entry, first_behind, first_order, memory_else, err_given, err_match}
 use Rattle.exh_file.proofs.table_block.decode_entries.Goals as goal
 

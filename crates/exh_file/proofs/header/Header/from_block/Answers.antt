@@ -1,4 +1,4 @@
-use Rattle.std.proofs.Common.{◌≡◌, Ok, sym, ap, ◌∙◌, subst, arith}
+use Rattle.std.proofs.Common.{Ok, sym, ap, ◌∙◌, subst, arith}
 use Rattle.exh_file.specs.FileVersion.{first_file}
 use Rattle.exh_file.specs.FirstFailing.{IsFirstFailing}
 use Rattle.exh_file.specs.HeaderTests.{IsHeaderPadded, IsOfVersion, PassesHeader, header_tests}

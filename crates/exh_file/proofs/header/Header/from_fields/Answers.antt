@@ -1,4 +1,4 @@
-use Rattle.std.proofs.Common.{◌≡◌, ◌+◌, ◌*◌, ◌<◌, ℕ, length, slice_index, sym, ◌∙◌, subst, refl, arith}
+use Rattle.std.proofs.Common.{◌≡◌, length, sym, ◌∙◌, subst, refl, arith}
 use Rattle.byteorder.specs.Endian.{big_from}
 use Rattle.exh_file.specs.FileVersion.{first_file}
 use Rattle.exh_file.specs.HeaderImage.{IsHeader}

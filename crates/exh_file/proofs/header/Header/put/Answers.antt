@@ -1,6 +1,6 @@
-use Rattle.std.proofs.Common.{◌≡◌, ◌++◌, List, length, drop, ap, ◌∙◌, subst, sym, arith}
+use Rattle.std.proofs.Common.{◌≡◌, ◌++◌, length, drop, ap, ◌∙◌}
 use Rattle.exh_file.specs.FileVersion.{first_file}
-use Rattle.exh_file.specs.HeaderImage.{front_bytes, header_bytes}
+use Rattle.exh_file.specs.HeaderImage.{front_bytes}
 use Rattle.exh_file.proofs.HeaderBytes.{put_behind, length-front_bytes}
 use Rattle.exh_file.proofs.header.Header.put.Goals as goal
 

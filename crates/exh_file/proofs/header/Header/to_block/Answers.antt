@@ -1,4 +1,4 @@
-use Rattle.std.proofs.Common.{◌≡◌, ◌++◌, List, length, take, drop, replicate, ap, sym, ◌∙◌, arith}
+use Rattle.std.proofs.Common.{◌≡◌, ◌++◌, length, take, drop, replicate, ap, sym, ◌∙◌, arith}
 use Rattle.exh_codec.specs.Block.{sealed}
 use Rattle.exh_codec.specs.BlockLemmas.{front_padded}
 use Rattle.exh_codec.specs.PageImage.{padded}
