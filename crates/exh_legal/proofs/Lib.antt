@@ -26,3 +26,5 @@ pub mod PageCount
 pub mod EntryCount
 -- of fitting_tables_begin_wards
 pub mod Begun
+-- the index of pages by low bounds
+pub mod IndexSeen

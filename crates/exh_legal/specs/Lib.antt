@@ -1,6 +1,7 @@
 pub mod Pages
 pub mod Change
 pub mod Growth
+pub mod PageIndex
 pub mod Fit
 pub mod Numbers
 pub mod Laws

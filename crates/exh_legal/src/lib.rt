@@ -1,4 +1,5 @@
-//! The pages of a ward: what makes them legal, and what splits and merges change.
+//! The pages of a ward: what makes them legal, what splits and merges change, and the index of them
+//! by their low bounds.
 #![tactic(auto)]
 
 pub use laws::{
@@ -6,5 +7,7 @@ pub use laws::{
     live_left_children_merge, live_pages_split, lone_pages_are_legal, merges_keep_legal,
     pages_are_few, right_links_lead_on, splits_keep_legal, targets_lead_on, walks_name_homes,
 };
+pub use page_index::PageIndex;
 
 mod laws;
+mod page_index;

@@ -19,7 +19,7 @@ use Rattle.exh_ward.specs.HopTable.{HopOf, pages_after}
 use Rattle.exh_ward.specs.Kept.{IsKeptWard}
 use Rattle.exh_calls.specs.MapMachine.{reply_of, map_after}
 use Rattle.exh_ward.specs.PageAnswer.{effect_at, reply_by, records_after}
-use Rattle.exh_ward.specs.PageIndex.{IndexMap}
+use Rattle.exh_legal.specs.PageIndex.{IndexMap}
 use Rattle.exh_ward.specs.Sight.{IsSeenAt, SightIn}
 use Rattle.exh_ward.specs.WardState.{WardState, IsAnswered, own_prefix}
 use Rattle.exh_calls.specs.declared.call.Call.{Call}

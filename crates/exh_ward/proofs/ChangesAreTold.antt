@@ -23,7 +23,7 @@ use Rattle.exh_legal.specs.Numbers.{index_of, AreNumbered}
 use Rattle.exh_legal.specs.Pages.{IsAt, bare}
 use Rattle.exh_legal.specs.PlaceLemmas.{page_full, page_bare}
 use Rattle.exh_ward.specs.Kept.{IsKeptWard}
-use Rattle.exh_ward.specs.PageIndex.{IndexMap, IsIndexOf}
+use Rattle.exh_legal.specs.PageIndex.{IndexMap, IsIndexOf}
 use Rattle.exh_ward.specs.Told.{IsChangedTo, IsNextNotice}
 use Rattle.exh_ward.specs.WardState.{WardState, IsSound, own_prefix}
 use Rattle.exh_ward.proofs.StepsKeepSound.{kept_read}

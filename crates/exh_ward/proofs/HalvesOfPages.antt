@@ -16,7 +16,7 @@ use Rattle.exh_legal.specs.Numbers.{number_at}
 use Rattle.exh_legal.specs.Pages.{IsAt, bare}
 use Rattle.exh_legal.specs.PlaceLemmas.{page_full, page_bare}
 use Rattle.exh_ward.specs.Kept.{IsKeptWard}
-use Rattle.exh_ward.specs.PageIndex.{IndexMap}
+use Rattle.exh_legal.specs.PageIndex.{IndexMap}
 use Rattle.exh_halves.specs.Refusal.{NotHalved}
 use Rattle.exh_halves.specs.declared.halves_fault.HalvesFault.{HalvesFault}
 use Rattle.exh_halves.specs.declared.halves_fault.HalvesFault.TheVariants.{NotLive, NotFull, AtLimit, NoBuddy, BuddySplit, TooMany, Memory}

@@ -3,8 +3,7 @@ pub mod NewWardsAreSound
 -- a ward of given pages is sound
 pub mod PagesRead
 pub mod MadeOfPages
--- the index of its pages, the notices above an index
-pub mod IndexSeen
+-- the notices above an index
 pub mod NoticesAbove
 -- hops: a call's home answers what the map machine does, and its pages stay legal
 pub mod StoredPages

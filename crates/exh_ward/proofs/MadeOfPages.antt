@@ -19,7 +19,7 @@ use Rattle.exh_prefix.specs.Leading.{ward_prefix}
 use Rattle.exh_calls.specs.declared.journal_entry.JournalEntry.{JournalEntry}
 use Rattle.exh_ward.specs.FromPages.{AreApart}
 use Rattle.exh_ward.specs.Kept.{IsKeptWard}
-use Rattle.exh_ward.specs.PageIndex.{IndexMap, IsIndexOf}
+use Rattle.exh_legal.specs.PageIndex.{IndexMap, IsIndexOf}
 use Rattle.exh_ward.specs.WardState.{WardState}
 
 pub apart_from : (ward : List Bool) (pages : List Page) → AreLinked ward (bare pages) → AreApart pages

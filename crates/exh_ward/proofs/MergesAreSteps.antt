@@ -30,7 +30,7 @@ use Rattle.exh_halves.specs.Refusal.{NoLeftHalf, NotBeside}
 use Rattle.exh_halves.specs.declared.halves_fault.HalvesFault.{HalvesFault}
 use Rattle.exh_halves.specs.declared.left_half.LeftHalf.{LeftHalf}
 use Rattle.exh_ward.specs.WardFault.{MergeRefused, fault_of_halves}
-use Rattle.exh_ward.specs.PageIndex.{IndexMap}
+use Rattle.exh_legal.specs.PageIndex.{IndexMap}
 use Rattle.exh_ward.specs.Told.{IsChangedTo, IsTold}
 use Rattle.exh_ward.specs.JoinedPage.{FitTogether, AreJoined}
 use Rattle.exh_ward.specs.WardState.{WardState, IsSound, own_prefix}

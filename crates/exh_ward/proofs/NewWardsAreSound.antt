@@ -17,7 +17,7 @@ use Rattle.exh_legal.specs.Laws.{LonePagesAreLegal}
 use Rattle.exh_legal.specs.Numbers.{index_of}
 use Rattle.exh_prefix.specs.Leading.{ward_prefix}
 use Rattle.exh_ward.specs.Kept.{IsKeptWard}
-use Rattle.exh_ward.specs.PageIndex.{IndexMap, IsIndexOf}
+use Rattle.exh_legal.specs.PageIndex.{IndexMap, IsIndexOf}
 use Rattle.exh_ward.specs.WardState.{WardState}
 use Rattle.exh_prefix.specs.declared.prefix.TheConstants.{WARD_BITS_LIMIT}
 use Rattle.exh_calls.specs.declared.journal_entry.JournalEntry.{JournalEntry}

@@ -12,7 +12,7 @@ use Rattle.exh_legal.specs.Laws.{KeepsPlaces}
 use Rattle.exh_legal.specs.Pages.{IsAt, bare}
 use Rattle.exh_page.specs.KeyMap.{pair_of}
 use Rattle.exh_ward.specs.FromPages.{AreApart, index_with, pairs_of}
-use Rattle.exh_ward.specs.PageIndex.{IndexMap, IsIndexOf}
+use Rattle.exh_legal.specs.PageIndex.{IndexMap, IsIndexOf}
 use Rattle.exh_ward.proofs.ChangesAreTold.{index_grown}
 use Rattle.exh_ward.proofs.NewWardsAreSound.{first_alone}
 

@@ -6,7 +6,7 @@ use Rattle.exh_page.specs.declared.page.Page.{Page}
 use Rattle.exh_page.specs.Page.{low_bound, records_of}
 use Rattle.exh_legal.specs.Pages.{IsAt}
 use Rattle.exh_page.specs.KeyMap.{pair_of}
-use Rattle.exh_ward.specs.PageIndex.{IndexMap}
+use Rattle.exh_legal.specs.PageIndex.{IndexMap}
 
 -- no two pages share a low bound
 abbrev pub AreApart : List Page → Type 0

@@ -5,7 +5,7 @@ use Rattle.exh_page.specs.declared.page.Page.{Page}
 use Rattle.exh_page.specs.Page.{IsWellFormed}
 use Rattle.exh_legal.specs.Numbers.{index_of}
 use Rattle.exh_legal.specs.Pages.{bare}
-use Rattle.exh_ward.specs.PageIndex.{IndexMap, IsIndexOf}
+use Rattle.exh_legal.specs.PageIndex.{IndexMap, IsIndexOf}
 use Rattle.exh_ward.specs.WardState.{WardState, IsSound, own_prefix}
 use Rattle.exh_prefix.specs.declared.prefix.TheConstants.{WARD_BITS_LIMIT}
 

@@ -12,7 +12,6 @@ pub use ward_fault::WardFault;
 
 mod hop;
 mod laws;
-mod page_index;
 mod page_line;
 mod ward;
 mod ward_fault;

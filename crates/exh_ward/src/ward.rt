@@ -9,11 +9,10 @@ ghost use Rattle.exh_prefix.specs.Leading.{ward_prefix};
 ghost use Rattle.exh_ward.specs.WardState.{IsSoundWard, own_prefix};
 ghost use Rattle.exh_prefix.specs.declared.prefix.TheConstants.{WARD_BITS_LIMIT};
 
-use crate::page_index::PageIndex;
 use exh_calls::{Base, Journal};
 use exh_frames::Pages;
 use exh_keyer::Keyer;
-use exh_legal::lone_pages_are_legal;
+use exh_legal::{PageIndex, lone_pages_are_legal};
 use exh_notice::Notice;
 use exh_page::{CAP_LIMIT, Page, Records};
 use exh_prefix::Prefix;
@@ -55,7 +54,7 @@ impl<P: Pages + Drop, K: Keyer> Model for Ward<P, K> {
     ghost use Rattle.exh_page.specs.KeyMap.{coded_key_map};
     ghost use Rattle.exh_legal.specs.Numbers.{index_of};
     ghost use Rattle.exh_legal.specs.Pages.{bare};
-    ghost use Rattle.exh_ward.specs.PageIndex.{IsIndexOf};
+    ghost use Rattle.exh_legal.specs.PageIndex.{IsIndexOf};
     ghost use Rattle.exh_ward.specs.Kept.{IsKeptWard};
     ghost use Rattle.exh_table.specs.Table.{coded_table};
     ghost use Rattle.exh_ward.specs.WardState.{WardState};

@@ -7,7 +7,7 @@ use Rattle.exh_table.specs.Table.{TableMap, table_at}
 use Rattle.exh_page.specs.declared.page.Page.{Page}
 use Rattle.exh_page.specs.Page.{low_bound}
 use Rattle.exh_legal.specs.Pages.{IsAt, bare}
-use Rattle.exh_ward.specs.PageIndex.{IndexMap, IsIndexOf}
+use Rattle.exh_legal.specs.PageIndex.{IndexMap, IsIndexOf}
 use Rattle.exh_ward.specs.Told.{IsChangedTo, IsNextNotice}
 use Rattle.exh_ward.specs.WardState.{WardState}
 use Rattle.exh_ward.proofs.AnswersAreLeft.{few_pages}

@@ -5,7 +5,7 @@ use Rattle.exh_page.specs.Page.{records_of}
 use Rattle.exh_frames.specs.PageStore.{CountsFaults}
 use Rattle.exh_legal.specs.Pages.{bare}
 use Rattle.exh_page.specs.KeyMap.{pair_of}
-use Rattle.exh_ward.specs.PageIndex.{IsIndexOf}
+use Rattle.exh_legal.specs.PageIndex.{IsIndexOf}
 use Rattle.exh_ward.proofs.PagesRead.{none_indexed, one_page_more, pairs_more}
 use Rattle.exh_ward.proofs.ward.from_pages.read_pages.Goals as goal
 

@@ -2,7 +2,7 @@ use Rattle.std.proofs.Common.{◌≡◌, ◌≤◌, length, take}
 use Rattle.exh_frames.specs.PageStore.{TakesTheSame}
 use Rattle.exh_legal.specs.Pages.{bare}
 use Rattle.exh_ward.specs.FromPages.{pairs_of}
-use Rattle.exh_ward.specs.PageIndex.{IsIndexOf}
+use Rattle.exh_legal.specs.PageIndex.{IsIndexOf}
 use Rattle.exh_ward.proofs.ward.from_pages.read_pages.Given as goal
 
 -- the index and the pairs of the pages so far

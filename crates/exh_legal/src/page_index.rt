@@ -8,14 +8,14 @@ use std::marker::Model;
 
 /// The numbers of a ward's pages by their low bounds.
 #[derive(Drop)]
-pub(crate) struct PageIndex {
+pub struct PageIndex {
     numbers: BTreeMap<u64, PageNo>,
 }
 
 impl Model for PageIndex {
     ghost use Rattle.std.specs.Coded.{coded_ℕ};
     ghost use Rattle.std.specs.FinMap.{from_entries, code};
-    ghost use Rattle.exh_ward.specs.PageIndex.{IndexMap};
+    ghost use Rattle.exh_legal.specs.PageIndex.{IndexMap};
 
     ghost Value = { IndexMap };
 
@@ -26,7 +26,7 @@ impl Model for PageIndex {
 
 impl PageIndex {
     /// The index of no page. It takes no memory.
-    pub(crate) fn new(alloc: Global) -> PageIndex
+    pub fn new(alloc: Global) -> PageIndex
         ensures { result ≡ map.empty }
     {
         PageIndex {
@@ -35,14 +35,14 @@ impl PageIndex {
     }
 
     /// The page of this low bound, if it is in the index. It takes no memory.
-    pub(crate) fn get(&self, low: u64) -> Option<PageNo>
+    pub fn get(&self, low: u64) -> Option<PageNo>
         ensures { result ≡ map.get self.now low }
     {
         self.numbers.get(&low).copied()
     }
 
     /// Adds the page of this low bound.
-    pub(crate) fn insert(&mut self, low: u64, number: PageNo) -> Result<(), AllocError>
+    pub fn insert(&mut self, low: u64, number: PageNo) -> Result<(), AllocError>
         ensures ok { OnOk result (self.new ≡ map.insert self.old low number) }
         ensures err { OnErr result (self.new ≡ self.old) }
     {
@@ -51,7 +51,7 @@ impl PageIndex {
     }
 
     /// Takes the page of this low bound out. It takes no memory.
-    pub(crate) fn remove(&mut self, low: u64)
+    pub fn remove(&mut self, low: u64)
         ensures { self.new ≡ map.remove self.old low }
     {
         self.numbers.remove(&low);

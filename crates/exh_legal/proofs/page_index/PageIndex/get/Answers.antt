@@ -1,8 +1,8 @@
 use Rattle.std.proofs.Common.{sym, ap, ◌∙◌}
 use Rattle.std.specs.FinMap as map
-use Rattle.exh_ward.specs.PageIndex.{IndexMap}
-use Rattle.exh_ward.proofs.IndexSeen.{get_seen}
-use Rattle.exh_ward.proofs.page_index.PageIndex.get.Goals as goal
+use Rattle.exh_legal.specs.PageIndex.{IndexMap}
+use Rattle.exh_legal.proofs.IndexSeen.{get_seen}
+use Rattle.exh_legal.proofs.page_index.PageIndex.get.Goals as goal
 
 pub returns : goal.returns
 returns c =

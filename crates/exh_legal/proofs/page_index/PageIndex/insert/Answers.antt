@@ -1,8 +1,8 @@
 use Rattle.std.proofs.Common.{ap, ◌∙◌}
 use Rattle.std.specs.FinMap as map
-use Rattle.exh_ward.specs.PageIndex.{IndexMap}
-use Rattle.exh_ward.proofs.IndexSeen.{insert_seen}
-use Rattle.exh_ward.proofs.page_index.PageIndex.insert.Goals as goal
+use Rattle.exh_legal.specs.PageIndex.{IndexMap}
+use Rattle.exh_legal.proofs.IndexSeen.{insert_seen}
+use Rattle.exh_legal.proofs.page_index.PageIndex.insert.Goals as goal
 
 pub returns-clause-ok : goal.returns-clause-ok
 returns-clause-ok c =
