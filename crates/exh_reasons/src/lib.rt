@@ -16,4 +16,6 @@ mod page_index;
 mod page_list;
 mod reason;
 mod table_fit;
+#[cfg(test)]
+mod tests;
 mod ward_tests;
