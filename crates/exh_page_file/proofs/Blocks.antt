@@ -1,5 +1,5 @@
 -- Blocks that are read one after the other.
-use Rattle.std.proofs.Common.{◌≡◌, ◌≢◌, ℕ, ◌+◌, ◌<◌, ◌≤◌, inr, List, ◌++◌, length, take, Option, None, Some, IfSome, sym, ap, ◌∙◌, subst, arith}
+use Rattle.std.proofs.Common.{◌≡◌, ◌≢◌, ℕ, ◌+◌, inr, List, length, take, Option, None, Some, IfSome, sym, ap, ◌∙◌, subst, arith}
 use Rattle.std.proofs.lemmas.List.{take_at, length-append}
 use Rattle.std.specs.Io.KnownBytes.{Consumes}
 use Rattle.exh_codec.specs.declared.image_fault.ImageFault.{ImageFault}

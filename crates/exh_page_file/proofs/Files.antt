@@ -1,6 +1,6 @@
 -- A file from the reads of its parts.
-use Rattle.std.proofs.Common.{◌≡◌, ℕ, zero, suc, ◌+◌, ◌*◌, ◌-◌, ◌^◌, ◌<◌, ◌≤◌, inl, inr, true, Vec, List, [], ◌∷◌, ◌++◌, length, map, take, drop, get_or, Option, None, Some, IfSome, refl, sym, ap, ◌∙◌, subst, append_assoc, arith}
-use Rattle.std.proofs.lemmas.List.{length-append, length-take, length-take-le}
+use Rattle.std.proofs.Common.{◌≡◌, ℕ, ◌+◌, ◌*◌, ◌-◌, ◌^◌, ◌<◌, ◌≤◌, inl, inr, true, Vec, List, [], ◌∷◌, ◌++◌, length, map, take, drop, Option, None, Some, IfSome, refl, sym, ap, ◌∙◌, subst, arith}
+use Rattle.std.proofs.lemmas.List.{length-append, length-take}
 use Rattle.std.proofs.lemmas.List.Sums.{sum_by-cons, sum_by-take-drop}
 use Rattle.std.proofs.lemmas.List.Folds.{flat_map-map}
 use Rattle.std.proofs.lemmas.Nat.{pow_below}
@@ -23,7 +23,7 @@ use Rattle.exh_file.specs.FileVersion.{FileVersion, FitsFile, first_file}
 use Rattle.exh_file.specs.HeaderImage.{IsHeader, IsHeaderImage, IsPageCount}
 use Rattle.exh_file.specs.Laws.{TablesAreBlocks, TablesPass}
 use Rattle.exh_prefix.specs.Version.{first_version}
-use Rattle.exh_page_file.specs.FileTests.{End, FailsFirst, HeaderFails, IsFileFault, NextFails, PassesAt, block_at, bytes_from, page_places, places_behind, table_places}
+use Rattle.exh_page_file.specs.FileTests.{End, FailsFirst, HeaderFails, IsFileFault, NextFails, PassesAt, bytes_from, page_places, places_behind, table_places}
 use Rattle.exh_page_file.specs.PageFile.{IsPageFile, PageFile, header_block, page_block, pages_of, table_blocks, table_bytes}
 use Rattle.exh_page_file.specs.Reading.{AreBytes, FailsInPages, FailsInTable, GivesEntries, GivesPages, IsAll, IsBlock}
 use Rattle.exh_page_file.proofs.Elements.{all_join}

@@ -1,20 +1,19 @@
 -- The prefix of the last entry of a full block, read from its bytes.
-use Rattle.std.proofs.Common.{◌≡◌, ℕ, ◌+◌, ◌*◌, ◌-◌, ◌^◌, ◌<◌, ◌≤◌, Bool, false, List, [], ◌∷◌, ◌++◌, length, take, drop, get_or, replicate, slice_index, Option, Some, refl, sym, ap, ◌∙◌, subst, append_assoc, append-nil, arith}
+use Rattle.std.proofs.Common.{◌≡◌, ℕ, ◌*◌, ◌-◌, ◌^◌, ◌<◌, ◌≤◌, Bool, false, List, [], ◌∷◌, ◌++◌, length, take, drop, get_or, replicate, Option, Some, refl, sym, ap, ◌∙◌, subst, append_assoc, append-nil, arith}
 use Rattle.std.proofs.lemmas.List.{take_at, drop_at, length-append, length-replicate, length-take-le, take_all, take_more}
 use Rattle.std.proofs.lemmas.List.Concat.{flat_map-append}
 use Rattle.std.specs.List.{AllByRecursion, flat_map}
 use Rattle.byteorder.specs.Endian.{big_bytes, big_from}
 use Rattle.byteorder.specs.Numbers.{big_number-reads_back}
-use Rattle.exh_prefix.specs.Bits.{number_of, word_bits}
+use Rattle.exh_prefix.specs.Bits.{word_bits}
 use Rattle.exh_prefix.specs.BitLemmas.{number_of-lt}
 use Rattle.exh_prefix.specs.ByteLemmas.{power_of_bytes}
-use Rattle.exh_prefix.specs.Prefix.{zeros, low_of}
+use Rattle.exh_prefix.specs.Prefix.{zeros}
 use Rattle.exh_prefix.specs.PrefixLemmas.{take-low_of-word}
 use Rattle.exh_prefix.specs.Version.{Version, Fits, field_low}
 use Rattle.exh_notice.specs.ByteLemmas.{big_from-drop}
-use Rattle.exh_notice.specs.Images.{entry_image, prefix_field, right_field}
+use Rattle.exh_notice.specs.Images.{prefix_field, right_field}
 use Rattle.exh_notice.specs.ImageLemmas.{length-entry_image, prefix_field-low}
-use Rattle.exh_codec.specs.Block.{sealed}
 use Rattle.exh_codec.specs.PageImage.{padded}
 use Rattle.sha2.specs.Sha256.{sha256}
 use Rattle.exh_file.specs.declared.file_entry.FileEntry.{FileEntry}

@@ -9,3 +9,4 @@ pub mod Files
 pub mod OneFile
 pub mod NoFault
 pub mod Read
+pub mod Written

@@ -1,6 +1,6 @@
 -- Bytes that pass all tests have no fault, and those of a file pass them.
-use Rattle.std.proofs.Common.{◌≡◌, ℕ, ◌+◌, ◌*◌, ◌<◌, ◌≤◌, inl, inr, true, List, [], ◌∷◌, ◌++◌, length, take, drop, slice_index, None, refl, sym, ap, ◌∙◌, subst, append-nil, arith}
-use Rattle.std.proofs.lemmas.List.{get_or-drop, get_or-take, get_or_past, length-take, length-take-le}
+use Rattle.std.proofs.Common.{◌≡◌, ℕ, ◌+◌, ◌<◌, ◌≤◌, inl, inr, true, List, [], ◌∷◌, ◌++◌, length, take, slice_index, None, refl, sym, ap, ◌∙◌, subst, append-nil, arith}
+use Rattle.std.proofs.lemmas.List.{get_or-take, get_or_past, length-take, length-take-le}
 use Rattle.std.proofs.lemmas.Bool.{cases_lt}
 use Rattle.std.specs.List.{AllByRecursion, flat_map, sum}
 use Rattle.exh_keyer.specs.Pseudokey.{any_pseudokey}
@@ -11,10 +11,10 @@ use Rattle.exh_file.specs.declared.file_fault.FileFault.{FileFault}
 use Rattle.exh_file.specs.declared.header.Header.{Header}
 use Rattle.exh_file.specs.FileVersion.{FileVersion, FitsFile}
 use Rattle.exh_file.specs.FirstFailing.{IsFirstFailing}
-use Rattle.exh_file.specs.HeaderImage.{IsHeader, IsHeaderImage}
+use Rattle.exh_file.specs.HeaderImage.{IsHeaderImage}
 use Rattle.exh_file.specs.Laws.{HeadersAreBlocks, HeadersPass, OneHeader, TablesAreBlocks, TablesPass}
-use Rattle.exh_page_file.specs.FileTests.{End, FailsAt, FailsFirst, HeaderFails, IsFileFault, IsWhole, NextFails, OfPage, OfTable, PageFails, PassesAt, PassesFile, Place, block_at, bytes_from, page_places, prefix_before, TableFails, places_behind, table_places}
-use Rattle.exh_page_file.specs.PageFile.{IsFile, IsPageFile, PageFile, header_block, page_block, pages_of, table_blocks, table_bytes}
+use Rattle.exh_page_file.specs.FileTests.{End, FailsAt, FailsFirst, HeaderFails, IsFileFault, NextFails, OfPage, OfTable, PageFails, PassesAt, PassesFile, Place, block_at, bytes_from, page_places, prefix_before, TableFails, places_behind, table_places}
+use Rattle.exh_page_file.specs.PageFile.{IsPageFile, PageFile, header_block, page_block, pages_of, table_blocks, table_bytes}
 use Rattle.exh_page_file.specs.Reading.{AreBytes}
 use Rattle.exh_page_file.proofs.Elements.{all_back, all_front, all_join, byte_at}
 use Rattle.exh_page_file.proofs.Files.{all_counted, an_entry}

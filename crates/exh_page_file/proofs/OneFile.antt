@@ -1,5 +1,5 @@
 -- Bytes are those of one file.
-use Rattle.std.proofs.Common.{◌≡◌, ℕ, zero, suc, ◌+◌, ◌*◌, ◌-◌, ◌^◌, ◌<◌, ◌≤◌, List, [], ◌∷◌, ◌++◌, length, map, take, drop, refl, sym, ap, ◌∙◌, subst, append_assoc, take-append-drop, arith}
+use Rattle.std.proofs.Common.{◌≡◌, ℕ, zero, suc, ◌*◌, ◌^◌, ◌≤◌, List, [], ◌∷◌, ◌++◌, length, map, take, drop, refl, sym, ap, ◌∙◌, subst, append_assoc, take-append-drop, arith}
 use Rattle.std.proofs.lemmas.List.{take_at, drop_at, length-append, length-take, length-drop}
 use Rattle.std.proofs.lemmas.List.Sums.{sum_by-cons}
 use Rattle.std.specs.List.{AllByRecursion, flat_map, sum}
@@ -11,7 +11,7 @@ use Rattle.exh_codec.specs.Laws.{ImagesAreBlocks, OnePage}
 use Rattle.exh_file.specs.declared.file_entry.FileEntry.{FileEntry}
 use Rattle.exh_file.specs.declared.header.Header.{Header}
 use Rattle.exh_file.specs.FileVersion.{FileVersion, FitsFile}
-use Rattle.exh_file.specs.HeaderImage.{IsHeader, IsHeaderImage}
+use Rattle.exh_file.specs.HeaderImage.{IsHeaderImage}
 use Rattle.exh_file.specs.Laws.{HeadersAreBlocks, OneHeader, OneTable, TablesAreBlocks}
 use Rattle.exh_file.specs.TableImage.{IsFileEntry, IsTableImage}
 use Rattle.exh_page_file.specs.PageFile.{IsFile, IsPageFile, PageFile, header_block, page_block, pages_of, table_block, table_blocks, table_bytes}

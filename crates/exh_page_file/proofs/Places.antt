@@ -1,8 +1,7 @@
 -- The places of a file: which bytes pass what is asked of them, and the first at which they fail.
-use Rattle.std.proofs.Common.{◌≡◌, ℕ, zero, suc, ◌+◌, ◌*◌, ◌-◌, ◌<◌, ◌≤◌, ◌⊎◌, inl, inr, min, Bool, true, false, List, [], ◌∷◌, ◌++◌, length, take, drop, slice_index, Option, None, Some, refl, sym, ap, ◌∙◌, subst, append_assoc, append-nil, arith}
-use Rattle.std.proofs.lemmas.List.{take_at, drop_at, drop-drop, length-append, length-drop, length-take-le, take_all}
+use Rattle.std.proofs.Common.{◌≡◌, ℕ, zero, suc, ◌+◌, ◌*◌, ◌<◌, ◌≤◌, List, [], ◌∷◌, ◌++◌, length, take, drop, refl, sym, ap, ◌∙◌, subst, append_assoc, arith}
+use Rattle.std.proofs.lemmas.List.{take_at, drop_at, drop-drop, length-append}
 use Rattle.std.specs.List.{AllByRecursion, flat_map}
-use Rattle.std.specs.Option.{option_to_list}
 use Rattle.exh_prefix.specs.Version.{Fits}
 use Rattle.exh_page.specs.declared.page.Page.{Page}
 use Rattle.exh_codec.specs.PageImage.{IsImage, IsPage}
@@ -10,7 +9,7 @@ use Rattle.exh_codec.specs.ImageTests.{Passes, image_tests}
 use Rattle.exh_codec.specs.Laws.{ImagesAreBlocks, ImagesPass}
 use Rattle.exh_file.specs.declared.file_fault.FileFault.{FileFault}
 use Rattle.exh_file.specs.FileVersion.{FileVersion, FitsFile}
-use Rattle.exh_page_file.specs.FileTests.{Place, OfPage, OfTable, End, FailsAt, FailsFirst, NextFails, PageFails, PassesAt, block_at, bytes_from, page_places}
+use Rattle.exh_page_file.specs.FileTests.{Place, OfPage, FailsAt, FailsFirst, NextFails, PageFails, PassesAt, block_at, bytes_from, page_places}
 use Rattle.exh_page_file.specs.PageFile.{page_block}
 use Rattle.exh_page_file.specs.Reading.{AreBytes, FailsInPages}
 use Rattle.exh_page_file.proofs.Elements.{all_front, all_back, byte_at}

@@ -1,5 +1,5 @@
 -- What is answered of the bytes of a file.
-use Rattle.std.proofs.Common.{◌≡◌, ℕ, List, Option, Some, Result, Ok, Err, sym, ap, ◌∙◌, subst}
+use Rattle.std.proofs.Common.{◌≡◌, ℕ, List, Option, Some, Result, Ok, Err, sym, subst}
 use Rattle.std.specs.Prelude.{IfErr, IfOk, MatchResult}
 use Rattle.exh_file.specs.FileVersion.{first_file}
 use Rattle.exh_page_file.specs.declared.file_parts.FileParts.{FileParts}

@@ -1,18 +1,17 @@
 -- The places of a table: which bytes pass what is asked of them, and the first at which they fail.
 use Rattle.std.proofs.Common.{◌≡◌, ℕ, zero, suc, ◌+◌, ◌*◌, ◌-◌, ◌<◌, ◌≤◌, min, Bool, true, false, List, [], ◌∷◌, ◌++◌, length, take, drop, Option, None, Some, refl, sym, ap, ◌∙◌, subst, append_assoc, take-append-drop, arith}
-use Rattle.std.proofs.lemmas.List.{length-drop, length-take, length-take-le, map-append, take_all}
+use Rattle.std.proofs.lemmas.List.{length-drop, length-take, length-take-le, map-append}
 use Rattle.std.specs.List.{AllByRecursion}
 use Rattle.std.specs.Option.{option_to_list}
 use Rattle.std.specs.declared.cmp.Ordering.TheVariants.{Less}
 use Rattle.exh_prefix.specs.Prefix.{prefix_cmp}
-use Rattle.exh_prefix.specs.Version.{Fits, Version}
 use Rattle.exh_file.specs.declared.file_entry.FileEntry.{FileEntry}
 use Rattle.exh_file.specs.declared.file_fault.FileFault.{FileFault}
 use Rattle.exh_file.specs.FileVersion.{FileVersion, FitsFile}
 use Rattle.exh_file.specs.Laws.{IsOfTable, TablesAreBlocks, TablesPass}
 use Rattle.exh_file.specs.TableImage.{AreRising, IsFileEntry, IsTableImage, prefixes_of}
 use Rattle.exh_file.specs.TableTests.{PassesTable, table_tests}
-use Rattle.exh_page_file.specs.FileTests.{Place, OfPage, OfTable, End, FailsAt, FailsFirst, NextFails, PassesAt, TableFails, block_at, bytes_from, last_prefix_in, prefix_before, table_places}
+use Rattle.exh_page_file.specs.FileTests.{Place, OfTable, FailsFirst, NextFails, PassesAt, TableFails, block_at, bytes_from, last_prefix_in, prefix_before, table_places}
 use Rattle.exh_page_file.specs.PageFile.{table_block, table_blocks, table_bytes}
 use Rattle.exh_page_file.specs.Reading.{AreBytes, FailsInTable, last_prefix}
 use Rattle.exh_page_file.proofs.Elements.{all_front, all_back, byte_at}

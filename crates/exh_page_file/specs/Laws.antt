@@ -1,11 +1,12 @@
 -- Laws of whole files, for the crates above: in every version of the page file that fits.
-use Rattle.std.specs.Prelude.{◌≡◌, List, ℕ}
+use Rattle.std.specs.Prelude.{◌≡◌, List, ℕ, Some, drop, length}
+use Rattle.std.specs.Io.KnownBytes.{Appends}
 use Rattle.exh_file.specs.FileVersion.{FileVersion, FitsFile}
 use Rattle.exh_file.specs.declared.file_fault.FileFault.{FileFault}
 use Rattle.exh_file.specs.declared.header.Header.{Header}
 use Rattle.exh_page_file.specs.FileTests.{IsFileFault, PassesFile}
 use Rattle.exh_page_file.specs.Reading.{AreBytes}
-use Rattle.exh_page_file.specs.PageFile.{IsFile, IsPageFile, PageFile}
+use Rattle.exh_page_file.specs.PageFile.{IsFile, IsPageFile, PageFile, file_bytes}
 
 -- a file has exactly one list of bytes
 abbrev pub OneImage : Type 0
@@ -22,3 +23,7 @@ FilesPass = (version : FileVersion) → FitsFile version → (file : PageFile) (
 -- where all are passed there is no fault
 abbrev pub PassedHasNoFault : Type 0
 PassedHasNoFault = (version : FileVersion) → FitsFile version → (header : Header) (bytes : List ℕ) (fault : FileFault) → AreBytes bytes → PassesFile version bytes header → IsFileFault version bytes fault → ⊥
+
+-- what a writer got of a file that was written whole, behind what it held, is that file
+abbrev pub WrittenIsFile : Type 0
+WrittenIsFile = (version : FileVersion) (file : PageFile) → IsFile version file → (old new : List ℕ) → Appends (Some old) (Some new) (file_bytes version file) → IsPageFile version file (drop (length old) new)

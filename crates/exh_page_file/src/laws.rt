@@ -1,6 +1,6 @@
 //! What holds of all page files, for the proofs of callers. Each function changes nothing.
 
-ghost use Rattle.exh_page_file.specs.Laws.{FilesPass, OneFile, OneImage, PassedHasNoFault};
+ghost use Rattle.exh_page_file.specs.Laws.{FilesPass, OneFile, OneImage, PassedHasNoFault, WrittenIsFile};
 
 /// In every version of the page file a file has exactly one list of bytes.
 pub fn one_image()
@@ -29,3 +29,9 @@ pub fn files_pass()
     exh_file::images_pass();
     exh_file::one_value();
 }
+
+/// In every version what a writer got of a file that was written whole, behind what it held, is that
+/// file: reading it answers the same file.
+pub fn written_is_file()
+    ensures { WrittenIsFile }
+{}

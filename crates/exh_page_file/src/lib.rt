@@ -3,12 +3,14 @@
 #![tactic(auto)]
 
 pub use file_parts::FileParts;
-pub use laws::{files_pass, one_file, one_image};
+pub use file_writer::FileWriter;
+pub use laws::{files_pass, one_file, one_image, written_is_file};
 pub use read_file_fault::ReadFileFault;
 pub use reading::read_file;
 
 mod block_source;
 mod file_parts;
+mod file_writer;
 mod laws;
 mod read_file_fault;
 mod read_pages;
@@ -16,3 +18,4 @@ mod read_table;
 mod reading;
 #[cfg(test)]
 mod tests;
+mod waiting_images;

@@ -1,5 +1,5 @@
 ghost use Rattle.std.specs.Prelude.{◌≡◌};
-ghost use Rattle.exh_page_file.specs.ReadFileFault.{fault_at};
+ghost use Rattle.exh_page_file.specs.ReadFileFault.{fault_at, read_file_fault_number};
 ghost use Rattle.exh_page_file.specs.declared.read_file_fault.ReadFileFault.TheVariants.{File, Memory, Read};
 
 use exh_codec::ImageFault;
@@ -23,6 +23,17 @@ pub enum ReadFileFault {
 }
 
 impl ReadFileFault {
+    /// The refusal's number among all refusals: of a block's fault that of its image's, 30 to 35.
+    pub fn number(self) -> u8
+        ensures { result ≡ read_file_fault_number self }
+    {
+        match self {
+            ReadFileFault::File(fault) => fault.number(),
+            ReadFileFault::Read => 41,
+            ReadFileFault::Memory => 10,
+        }
+    }
+
     // The fault of a block at a place whose image isn't what belongs there.
     pub(crate) fn at_place(place: u32, fault: ImageFault) -> ReadFileFault
         ensures { result ≡ fault_at place fault }

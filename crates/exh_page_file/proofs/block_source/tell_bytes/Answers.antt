@@ -1,4 +1,3 @@
-use Rattle.std.proofs.Common.{◌≡◌, ℕ, ◌<◌, length}
 use Rattle.exh_page_file.proofs.Elements.{all_bytes}
 use Rattle.exh_page_file.proofs.block_source.tell_bytes.Goals as goal
 

@@ -1,11 +1,10 @@
-use Rattle.std.proofs.Common.{◌≡◌, ◌+◌, ◌∷◌, [], ◌++◌, ℕ, List, length, sym, ap, ◌∙◌, subst, arith}
+use Rattle.std.proofs.Common.{◌≡◌, ◌+◌, ◌∷◌, [], ◌++◌, ℕ, length, sym, ap, subst, arith}
 use Rattle.std.proofs.lemmas.List.{length-append}
 use Rattle.exh_prefix.specs.Version.{first_version}
 use Rattle.exh_keyer.specs.Pseudokey.{any_pseudokey}
-use Rattle.exh_page.specs.declared.page.Page.{Page}
 use Rattle.exh_page_file.specs.FileTests.{NextFails, PageFails}
 use Rattle.exh_page_file.specs.Reading.{FailsInPages, GivesPages, IsOf}
-use Rattle.exh_page_file.proofs.Pages.{one_page, more_pages, no_pages, fails_next, of_later, err_is}
+use Rattle.exh_page_file.proofs.Pages.{one_page, more_pages, fails_next, of_later, err_is}
 use Rattle.exh_page_file.proofs.read_pages.read_pages.Goals as goal
 
 pub returns-in_err-page-clause-err : goal.returns-in_err-page-clause-err

@@ -1,4 +1,4 @@
-use Rattle.std.proofs.Common.{◌≡◌, ◌+◌, ◌≤◌, ◌∷◌, [], ◌++◌, ℕ, length, take, get_or, sym, subst, arith}
+use Rattle.std.proofs.Common.{◌≡◌, ◌+◌, ◌≤◌, length, take, get_or, arith}
 use Rattle.std.specs.List.{sum}
 use Rattle.exh_prefix.specs.Version.{first_version}
 use Rattle.exh_keyer.specs.Pseudokey.{any_pseudokey}

@@ -1,6 +1,5 @@
 use Rattle.std.proofs.lemmas.Grind.{common_steps}
-use Rattle.std.proofs.Common.{◌≡◌, ◌-◌, Bool, List, Some, sym, ap, ◌∙◌, get_or, length, arith}
-use Rattle.exh_file.specs.declared.file_entry.FileEntry.{FileEntry}
+use Rattle.std.proofs.Common.{sym, arith}
 use Rattle.exh_page_file.proofs.Tables.{last_there}
 use Rattle.exh_page_file.proofs.read_table.last_prefix.Goals as goal
 

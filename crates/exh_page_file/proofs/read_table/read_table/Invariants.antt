@@ -1,6 +1,6 @@
-use Rattle.std.proofs.Common.{◌≡◌, ◌+◌, ◌*◌, min, None, length}
+use Rattle.std.proofs.Common.{◌≡◌, ◌+◌, ◌*◌, min, length}
 use Rattle.exh_prefix.specs.Version.{first_version}
-use Rattle.exh_page_file.specs.Reading.{GivesEntries, last_prefix, left}
+use Rattle.exh_page_file.specs.Reading.{GivesEntries, left}
 use Rattle.exh_page_file.proofs.read_table.read_table.Given as goal
 
 abbrev pub invariant-loop-number : goal.invariant-loop-number

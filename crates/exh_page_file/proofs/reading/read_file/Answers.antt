@@ -1,4 +1,4 @@
-use Rattle.std.proofs.Common.{◌≡◌, Some, ap, ◌∙◌}
+use Rattle.std.proofs.Common.{ap, ◌∙◌}
 use Rattle.exh_page_file.proofs.Read.{every}
 use Rattle.exh_page_file.proofs.reading.read_file.Goals as goal
 

@@ -1,15 +1,12 @@
-use Rattle.std.proofs.Common.{◌≡◌, ◌+◌, ◌*◌, ◌^◌, ◌<◌, ◌≤◌, ◌/◌, inl, List, ℕ, Option, IfSome, length, map, take, sym, ap, ◌∙◌, subst, arith}
+use Rattle.std.proofs.Common.{◌≡◌, ◌+◌, ◌^◌, ◌<◌, ◌≤◌, ℕ, length, take, sym, ap, ◌∙◌, subst, arith}
 use Rattle.std.specs.List.{sum}
 use Rattle.exh_keyer.specs.Pseudokey.{any_pseudokey}
 use Rattle.exh_prefix.specs.Version.{first_version}
-use Rattle.exh_file.specs.declared.file_fault.FileFault.{FileFault}
 use Rattle.exh_file.specs.declared.file_fault.FileFault.TheVariants.{Trailing}
 use Rattle.exh_file.specs.FileVersion.{first_file}
-use Rattle.exh_file.specs.HeaderImage.{IsHeaderImage}
 use Rattle.exh_page_file.specs.FileParts.{pages_in}
 use Rattle.exh_page_file.specs.FileTests.{HeaderFails, IsFileFault, NextFails}
-use Rattle.exh_page_file.specs.PageFile.{table_blocks}
-use Rattle.exh_page_file.specs.Reading.{FailsInPages, FailsInTable, GivesEntries, GivesPages, IsOf}
+use Rattle.exh_page_file.specs.Reading.{FailsInPages, FailsInTable, IsOf}
 use Rattle.exh_page_file.proofs.Files.{Headed, all_counted, all_pages, fault_of_end, fault_of_header, fault_of_pages, fault_of_table, few_pages, file_from, first_file_fits}
 use Rattle.exh_page_file.proofs.Pages.{err_is, of_later}
 use Rattle.exh_page_file.proofs.reading.read_parts.Goals as goal

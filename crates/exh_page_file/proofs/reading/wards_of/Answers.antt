@@ -1,5 +1,4 @@
-use Rattle.std.proofs.Common.{◌≡◌, ◌*◌, ◌^◌, ◌<◌, ◌≤◌, ◌%◌, arith}
-use Rattle.std.proofs.lemmas.Nat.{pow_below}
+use Rattle.std.proofs.Common.{arith}
 use Rattle.exh_page_file.proofs.Files.{few_wards}
 use Rattle.exh_page_file.proofs.reading.wards_of.Goals as goal
 

@@ -1,6 +1,5 @@
-use Rattle.std.proofs.Common.{◌≡◌, ℕ, List, refl, sym, ap, ◌∙◌, subst}
+use Rattle.std.proofs.Common.{ℕ, refl, sym, ap, ◌∙◌, subst}
 use Rattle.exh_prefix.specs.Version.{first_version}
-use Rattle.exh_file.specs.declared.file_fault.FileFault.TheVariants.{Block}
 use Rattle.exh_page_file.specs.FileTests.{NextFails, TableFails}
 use Rattle.exh_page_file.specs.ReadFileFault.{fault_at}
 use Rattle.exh_page_file.specs.Reading.{IsOf}

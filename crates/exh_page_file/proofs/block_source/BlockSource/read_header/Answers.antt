@@ -1,4 +1,3 @@
-use Rattle.std.proofs.Common.{List, ℕ}
 use Rattle.exh_file.specs.FileVersion.{first_file}
 use Rattle.exh_page_file.specs.FileTests.{HeaderFails}
 use Rattle.exh_page_file.proofs.Blocks.{block_fails}
