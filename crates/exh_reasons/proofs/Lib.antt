@@ -10,3 +10,4 @@ pub mod Entries
 pub mod Firsts
 pub mod Whole
 pub mod OwnPrefix
+pub mod Room

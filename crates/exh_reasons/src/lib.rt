@@ -2,7 +2,7 @@
 #![tactic(auto)]
 
 pub use file_tests::first_reason;
-pub use laws::legal_files_pass;
+pub use laws::{legal_files_pass, legal_tables_have_room};
 pub use page_list::PageList;
 pub use reason::Reason;
 pub use ward_tests::ward_reason;

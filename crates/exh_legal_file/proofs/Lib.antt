@@ -1,0 +1,4 @@
+-- read_legal_file
+pub mod Named
+pub mod Parts
+pub mod Read

@@ -1,0 +1,74 @@
+-- What a file's parts are worth, as the six reasons are asked of them.
+use Rattle.std.proofs.Common.{◌≡◌, ℕ, ◌^◌, ◌≤◌, List, [], ◌∷◌, length, slice_get, None, Some, zero, suc, inl, inr, sym, ap, ◌∙◌, subst, arith}
+use Rattle.std.specs.List.{AllByRecursion}
+use Rattle.std.proofs.lemmas.List.{length-map, length-take}
+use Rattle.std.proofs.lemmas.Bool.{cases_lt}
+use Rattle.std.proofs.lemmas.Nat.{pow_below}
+use Rattle.exh_prefix.specs.ListLemmas.{AllByRecursion-append_left, AllByRecursion-append_right}
+use Rattle.exh_prefix.specs.Version.{first_version}
+use Rattle.exh_keyer.specs.Pseudokey.{any_pseudokey}
+use Rattle.exh_page.specs.declared.page.Page.{Page}
+use Rattle.exh_page.specs.declared.page.Page.TheVariants.{Live, Forward}
+use Rattle.exh_page.specs.Page.{IsWellFormed}
+use Rattle.exh_legal.specs.MapLemmas.{page_at}
+use Rattle.exh_codec.specs.PageImage.{IsPage}
+use Rattle.exh_file.specs.FileVersion.{FitsFile, first_file}
+use Rattle.exh_page_file.specs.PageFile.{IsFile, PageFile, pages_of}
+use Rattle.exh_reasons.specs.FileParts.{HasRanges, IsBounded, OfEachWard}
+use Rattle.exh_reasons.specs.Laws.{AreFormed, IsLegalFile, LegalFilesPass}
+use Rattle.exh_reasons.specs.Reasons.{IsFirstReason}
+use Rattle.exh_reasons.specs.declared.reason.Reason.{Reason}
+use Rattle.exh_legal_file.specs.LegalFile.{parts_in}
+
+pub first_file_fits : FitsFile first_file
+first_file_fits = record { number = omega arith; limit = omega arith; images = record { limit = omega arith; bytes = omega arith } }
+
+-- ---- what a header says
+
+few_wards : (bits : ℕ) → 2 ^ bits ≤ 16 → bits ≤ 4
+few_wards bits few = elim (cases_lt 4 bits) [
+  | inl more ↦ absurd (omega (arith, few, pow_below 4 bits more))
+  | inr within ↦ within
+]
+
+pub few_bits : (file : PageFile) → IsFile first_file file → file.header.ward_bits ≤ 4
+few_bits file valid = few_wards file.header.ward_bits valid.header.wards
+
+pub ranges_of : (file : PageFile) → IsFile first_file file → HasRanges (parts_in file)
+ranges_of file valid = record { cap = valid.header.few; bits = (let few = few_bits file valid in omega arith) }
+
+pub count_of_wards : (file : PageFile) → IsFile first_file file → length file.wards ≡ 2 ^ file.header.ward_bits
+count_of_wards file valid =
+    sym (length-map file.wards (λ (pages : List Page). length pages)) ∙ ap length valid.counts
+    ∙ (let wards = valid.header.wards in omega (arith, valid.header.counts, length-take (2 ^ file.header.ward_bits) file.header.page_counts))
+
+-- ---- pages as readers give them
+
+pages_within : (P : Page → Type 0) (wards : List (List Page)) (number : ℕ) (pages : List Page) → AllByRecursion P (pages_of wards) → slice_get wards number ≡ Some pages → AllByRecursion P pages
+pages_within P [] number pages all there = cc
+pages_within P (ward ∷ wards) zero pages all there = let same : ward ≡ pages = cc in subst (AllByRecursion P) same (AllByRecursion-append_left P ward (pages_of wards) all)
+pages_within P (ward ∷ wards) (suc number) pages all there = pages_within P wards number pages (AllByRecursion-append_right P ward (pages_of wards) all) there
+
+bounded : (pseudo : List ℕ → ℕ) (page : Page) → IsPage first_version pseudo page → IsBounded page
+bounded pseudo (Live prefix right records) valid = valid.in_range.0
+bounded pseudo (Forward low target) valid = valid.in_range.0
+
+formed : (pseudo : List ℕ → ℕ) (page : Page) → IsPage first_version pseudo page → IsWellFormed pseudo page
+formed pseudo page valid = valid.formed
+
+pub pages_formed : (file : PageFile) → IsFile first_file file → OfEachWard (parts_in file) (λ ward table pages. AreFormed (any_pseudokey file.header.keyer) pages)
+pages_formed file valid number pages there =
+    let pseudo = any_pseudokey file.header.keyer in
+    let all = pages_within (IsPage first_version pseudo) file.wards number pages valid.pages there in
+    record {
+      formed = λ number page is. formed pseudo page (page_at (IsPage first_version pseudo) pages number page all is);
+      bounded = λ number page is. bounded pseudo page (page_at (IsPage first_version pseudo) pages number page all is);
+    }
+
+-- ---- legal where there is no reason, and only there
+
+pub legal_without : LegalFilesPass → (file : PageFile) → IsFile first_file file → IsFirstReason (parts_in file) None → IsLegalFile (any_pseudokey file.header.keyer) (parts_in file)
+legal_without law file valid none = (law (any_pseudokey file.header.keyer) (parts_in file) (ranges_of file valid)).0 (record { formed = pages_formed file valid; passed = none })
+
+pub no_reason : LegalFilesPass → (file : PageFile) → IsFile first_file file → IsLegalFile (any_pseudokey file.header.keyer) (parts_in file) → (reason : Reason) → IsFirstReason (parts_in file) (Some reason) → ⊥
+no_reason law file valid legal reason first = first.0 (((law (any_pseudokey file.header.keyer) (parts_in file) (ranges_of file valid)).1 legal).passed reason)

@@ -1,0 +1,2 @@
+pub mod LegalFileFault
+pub mod LegalFile
