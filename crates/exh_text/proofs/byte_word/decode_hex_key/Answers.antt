@@ -1,7 +1,6 @@
-use Rattle.std.proofs.Common.{◌≡◌, ◌/◌, [], length, unwrap_or, ℕ, refl, arith}
+use Rattle.std.proofs.Common.{◌/◌, length, refl, arith}
 use Rattle.std.proofs.lemmas.Grind.{common_steps}
-use Rattle.exh_text.specs.ByteWord.{hex_bytes}
-use Rattle.exh_text.proofs.Hexadecimal.{decode_sized-hex_bytes, decoded_into}
+use Rattle.exh_text.proofs.Hexadecimal.{decode_sized-hex_bytes}
 use Rattle.exh_text.proofs.byte_word.decode_hex_key.Goals as goal
 
 pub returns-then-len-gt-KEY_LIMIT : goal.returns-then-len-gt-KEY_LIMIT
