@@ -7,6 +7,8 @@ use std::alloc::{AllocError, Global};
 use std::io::ErrorKind;
 use std::test::Fail;
 
+mod writing;
+
 // A block that begins with some bytes.
 fn block(front: &[u8]) -> [u8; BLOCK_LEN] {
     let mut block = [0; BLOCK_LEN];
@@ -78,22 +80,17 @@ fn reads_the_three_pairs_in_pieces(rt: HostRuntime) -> Result<(), Fail> {
     Ok(())
 }
 
+// Whether a place is tried: each about the bounds of a block, where it says something, and others all over it.
+fn is_tried(place: usize) -> bool {
+    place % BLOCK_LEN < 24 || place % BLOCK_LEN > BLOCK_LEN - 8 || place % 61 == 0
+}
+
+// The first number of bytes after which the file is cut, and another fault is named.
 fn wrong_cut(alloc: Global, bytes: &[u8]) -> Option<usize> {
-    for number in 0..300 {
-        // About each bound of a block, and at places all over it.
-        let len = if number < 20 {
-            number / 5 * BLOCK_LEN + number % 5
-        } else {
-            number * 53
-        };
-        let len = if number < 20 {
-            len.saturating_sub(2)
-        } else {
-            len
-        };
-        if fault_of(alloc, bytes.get(..len).unwrap_or_default())
-            != Some(ReadFileFault::File(FileFault::Truncated))
-        {
+    let truncated = Some(ReadFileFault::File(FileFault::Truncated));
+    for len in 0..bytes.len() {
+        let front = bytes.get(..len).unwrap_or_default();
+        if is_tried(len) && fault_of(alloc, front) != truncated {
             return Some(len);
         }
     }
@@ -215,6 +212,35 @@ fn names_the_first_fault_and_its_place(rt: HostRuntime) -> Result<(), Fail> {
     Ok(())
 }
 
+// What is answered where the byte at a place is turned and no digest is made right.
+fn fault_at(at: usize) -> FileFault {
+    match at {
+        0..8 => FileFault::Magic,
+        8 | 9 => FileFault::Version,
+        _ => digest(u32::try_from(at / BLOCK_LEN).unwrap_or_default()),
+    }
+}
+
+// The first byte that is turned, and another fault is named.
+fn wrong_turn(alloc: Global, bytes: &mut [u8]) -> Option<usize> {
+    for at in 0..bytes.len() {
+        let byte = bytes[at];
+        bytes[at] = !byte;
+        if is_tried(at) && fault_of(alloc, bytes) != Some(ReadFileFault::File(fault_at(at))) {
+            return Some(at);
+        }
+        bytes[at] = byte;
+    }
+    None
+}
+
+#[test]
+fn sees_a_byte_that_is_turned(rt: HostRuntime) -> Result<(), Fail> {
+    let mut bytes = three_pairs(rt.alloc())?;
+    assert_eq!(rt; wrong_turn(rt.alloc(), &mut bytes), None);
+    Ok(())
+}
+
 // A header that claims 65,536 pages over a file of two blocks.
 #[test]
 fn trusts_no_count(rt: HostRuntime) -> Result<(), Fail> {
@@ -266,4 +292,85 @@ fn fills_table_blocks_with_254_entries(rt: HostRuntime) -> Result<(), Fail> {
         at(4, ImageFault::Order)
     );
     Ok(())
+}
+
+// A file without records: so many wards' bits, of each ward one page, which has the ward's prefix, and no entry.
+fn empty_file(alloc: Global, ward_bits: u8) -> Result<Vec<u8>, AllocError> {
+    let ward_bits = ward_bits.min(4);
+    let wards = 1u8 << ward_bits;
+    let mut header = Vec::new(alloc);
+    header.extend_from_slice(&HEADER[..11])?;
+    header.extend_from_slice(&[ward_bits, 2, 0, 0, 0, 0, 0, 0, 0])?;
+    for ward in 0..16 {
+        header.extend_from_slice(&[0, 0, 0, u8::from(ward < wards)])?;
+    }
+    let mut bytes = Vec::new(alloc);
+    bytes.extend_from_slice(&block(&header))?;
+    for ward in 0..wards {
+        let mut page = [0; 16];
+        page[0] = 1;
+        page[1] = ward_bits;
+        page[4..8].copy_from_slice(&[0xff; 4]);
+        page[8] = (ward << (7 - ward_bits)) << 1;
+        bytes.extend_from_slice(&block(&page))?;
+    }
+    Ok(bytes)
+}
+
+// The wards' bits, the wards, and the bytes of the file.
+const EMPTY_FILES: [(u8, usize, usize); 3] = [(0, 1, 8192), (2, 4, 20_480), (4, 16, 69_632)];
+
+#[test]
+fn reads_a_page_of_each_ward(rt: HostRuntime) -> Result<(), Fail> {
+    for (ward_bits, wards, len) in EMPTY_FILES {
+        let bytes = empty_file(rt.alloc(), ward_bits)?;
+        assert_eq!(rt; bytes.len(), len);
+        let parts = read_file(rt.alloc(), &mut reader(bytes.as_slice(), 10_000)).map_err(
+            |_| "refused",
+        )?;
+        assert_eq!(rt; parts.wards.len(), wards);
+        assert!(rt; parts.wards.iter().all(|pages| pages.len() == 1));
+        assert_eq!(rt; parts.entries.len(), 0);
+    }
+    Ok(())
+}
+
+// An entry's number may be the greatest that has room.
+#[test]
+fn reads_the_greatest_number(rt: HostRuntime) -> Result<(), Fail> {
+    let mut table = TABLE;
+    table[8..12].copy_from_slice(&[0xff; 4]);
+    let mut bytes = Vec::new(rt.alloc());
+    for front in [HEADER.as_slice(), &PAGE_0, &PAGE_1, &table] {
+        bytes.extend_from_slice(&block(front))?;
+    }
+    let parts = read_file(rt.alloc(), &mut reader(&bytes, 10_000)).map_err(|_| "refused")?;
+    assert!(rt;
+        parts
+            .entries
+            .iter()
+            .all(|item| item.entry.number == u32::MAX)
+    );
+    assert_eq!(rt; parts.entries.len(), 1);
+    Ok(())
+}
+
+const NUMBERS: [(ReadFileFault, u8); 4] = [
+    (ReadFileFault::File(FileFault::Trailing), 39),
+    (
+        ReadFileFault::File(FileFault::Block {
+            place: 1,
+            fault: ImageFault::Digest,
+        }),
+        34,
+    ),
+    (ReadFileFault::Read, 41),
+    (ReadFileFault::Memory, 10),
+];
+
+#[test]
+fn numbers_its_faults(rt: HostRuntime) {
+    for (fault, number) in NUMBERS {
+        assert_eq!(rt; fault.number(), number);
+    }
 }
