@@ -58,7 +58,10 @@ impl<P: Pages + Drop, K: Keyer> Ward<P, K> {
         ensures sound { IsSoundWard K.pseudokey_of self.new }
     {
         right_links_lead_on();
-        match self.look(at, call, pseudokey)? {
+        if at >= self.store.count() {
+            return Ok(Hop::Stray);
+        }
+        match Sight::of(self.store.lend(at)?, self.cap, pseudokey, call) {
             Sight::Beyond => Ok(Hop::Stray),
             Sight::Leads(next) => Ok(Hop::Moved(next)),
             Sight::NoWay => unreachable!(),
@@ -92,20 +95,5 @@ impl<P: Pages + Drop, K: Keyer> Ward<P, K> {
         let reply = reply_to(call, home.full, &home.stood);
         self.journal.push_reserved(client, call, &reply);
         Ok(Hop::Done(reply))
-    }
-
-    // What a call meets at a page.
-    fn look(&mut self, at: PageNo, call: &Call, pseudokey: u64) -> Result<Sight, WardFault>
-        ensures sight { IfOk result (SightIn self.old.cap pseudokey self.old.pages at call.now) }
-        ensures ok { IfOk result (λ _. self.new ≡ self.old) }
-        ensures err { OnErr result (IsUnchanged self.old self.new) }
-        ensures fault { IfErr result IsStoreFault }
-        ensures failures { CountsFailures result self.old.failures self.new.failures }
-        ensures sound { IsSoundWard K.pseudokey_of self.new }
-    {
-        if at >= self.store.count() {
-            return Ok(Sight::Beyond);
-        }
-        Ok(Sight::of(self.store.lend(at)?, self.cap, pseudokey, call))
     }
 }
