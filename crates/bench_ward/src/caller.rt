@@ -1,6 +1,6 @@
 ghost use Rattle.std.specs.Prelude.{◌≡◌};
 
-use anyhow::bail;
+use crate::call_fault::CallFault;
 use exh_array::Directory;
 use exh_calls::{Call, Reply};
 use exh_frames::PlainPages;
@@ -48,21 +48,21 @@ impl Caller {
     /// Makes a call, from the page that the table names. It is kept a function of its own, so that its
     /// instructions can be counted.
     #[inline(never)]
-    pub(crate) fn call(&mut self, call: &Call) -> anyhow::Result<Reply> {
+    pub(crate) fn call(&mut self, call: &Call) -> Result<Reply, CallFault> {
         let pseudokey = self.keyer.pseudo(call.key().as_bytes());
         let at = self.directory.walk(pseudokey);
         self.follow(at, call, pseudokey)
     }
 
     /// Makes a call, from a page that the caller knows.
-    pub(crate) fn call_at(&mut self, at: PageNo, call: &Call) -> anyhow::Result<Reply> {
+    pub(crate) fn call_at(&mut self, at: PageNo, call: &Call) -> Result<Reply, CallFault> {
         let pseudokey = self.keyer.pseudo(call.key().as_bytes());
         self.follow(at, call, pseudokey)
     }
 
     /// Deletes a key, and merges the pair that its page is of, and then the pair that the merged page
     /// is of, as long as they fit.
-    pub(crate) fn delete(&mut self, key: &Key) -> anyhow::Result<Reply> {
+    pub(crate) fn delete(&mut self, key: &Key) -> Result<Reply, CallFault> {
         let pseudokey = self.keyer.pseudo(key.as_bytes());
         let at = self.directory.walk(pseudokey);
         let reply = self.follow(at, &Call::Del { key: *key }, pseudokey)?;
@@ -84,7 +84,7 @@ impl Caller {
     }
 
     // Hops until the call is answered, and splits where that is to be done first.
-    fn follow(&mut self, at: PageNo, call: &Call, pseudokey: u64) -> anyhow::Result<Reply>
+    fn follow(&mut self, at: PageNo, call: &Call, pseudokey: u64) -> Result<Reply, CallFault>
         requires { pseudokey ≡ any_pseudokey self.old.keyer (key_of call.now) }
     {
         let mut at = at;
@@ -95,14 +95,14 @@ impl Caller {
                 Hop::MustSplit => {
                     self.directory.take(&self.ward.split(at)?)?;
                 }
-                Hop::Stray => bail!("the call went astray"),
+                Hop::Stray => return Err(CallFault::Astray),
             }
         }
-        bail!("the call came to no answer")
+        Err(CallFault::NoAnswer)
     }
 
     // Merges the pair that the home of a pseudokey is of, and tells whether it fitted.
-    fn merge(&mut self, pseudokey: u64) -> anyhow::Result<bool> {
+    fn merge(&mut self, pseudokey: u64) -> Result<bool, CallFault> {
         let Some(left) = self.left_of_pair(pseudokey) else {
             return Ok(false);
         };

@@ -4,6 +4,7 @@
 //! each keyer and prints nothing.
 #![tactic(auto)]
 
+mod call_fault;
 mod caller;
 mod pairs;
 mod times;

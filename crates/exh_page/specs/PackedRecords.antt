@@ -1,5 +1,5 @@
 -- Records packed into two lists: what is of one size for each, and their bytes, one after the other.
-use Rattle.std.specs.Prelude.{◌≡◌, ℕ, ◌+◌, ◌≤◌, List, [], ◌∷◌, ◌++◌, length, take, drop, map}
+use Rattle.std.specs.Prelude.{◌≡◌, ℕ, ◌+◌, ◌^◌, ◌<◌, ◌≤◌, List, [], ◌∷◌, ◌++◌, length, take, drop, map}
 use Rattle.std.specs.List.{AllByRecursion, flat_map}
 use Rattle.exh_page.specs.declared.key.TheConstants.{KEY_LIMIT}
 use Rattle.exh_page.specs.declared.record.Record.{Record}
@@ -17,8 +17,9 @@ record_text r = r.key ++ r.value
 abbrev pub text_len : StoredRecord → ℕ
 text_len stored = stored.key_len + stored.value_len
 
--- the key and the value have lengths that they may have
+-- the key and the value have lengths that they may have, and the pseudokey is a number of 64 bits
 pub record IsSized (r : Record) : Type 0 where
+  pub word : r.pseudokey < 2 ^ 64
   pub some : 1 ≤ length r.key
   pub key : length r.key ≤ KEY_LIMIT
   pub value : length r.value ≤ VALUE_LIMIT

@@ -36,11 +36,11 @@ pub record IsCut (place : Place) (records front : List Record) (middle : Option 
 
 -- ---- tests, all of which pass or fail
 
-all_pass : (p : Record → Bool) (P : Record → Type 0) → ((r : Record) → P r → p r ≡ true) → (records : List Record) → AllByRecursion P records → filter p records ≡ records
+pub all_pass : (p : Record → Bool) (P : Record → Type 0) → ((r : Record) → P r → p r ≡ true) → (records : List Record) → AllByRecursion P records → filter p records ≡ records
 all_pass p P passes [] all = refl
 all_pass p P passes (r ∷ records) all = rw (passes r all.0) (ap (λ records. r ∷ records) (all_pass p P passes records all.1))
 
-all_fail : (p : Record → Bool) (P : Record → Type 0) → ((r : Record) → P r → p r ≡ false) → (records : List Record) → AllByRecursion P records → filter p records ≡ []
+pub all_fail : (p : Record → Bool) (P : Record → Type 0) → ((r : Record) → P r → p r ≡ false) → (records : List Record) → AllByRecursion P records → filter p records ≡ []
 all_fail p P fails [] all = refl
 all_fail p P fails (r ∷ records) all = rw (fails r all.0) (all_fail p P fails records all.1)
 
@@ -48,7 +48,7 @@ none_found : (p : Record → Bool) (P : Record → Type 0) → ((r : Record) →
 none_found p P fails [] rest all = refl
 none_found p P fails (r ∷ records) rest all = rw (fails r all.0) (none_found p P fails records rest all.1)
 
-filter-append : (p : Record → Bool) (front back : List Record) → filter p (front ++ back) ≡ filter p front ++ filter p back
+pub filter-append : (p : Record → Bool) (front back : List Record) → filter p (front ++ back) ≡ filter p front ++ filter p back
 filter-append p [] back = refl
 filter-append p (r ∷ front) back = elim (p r) as (λ b. cond b (r ∷ filter p (front ++ back)) (filter p (front ++ back)) ≡ cond b (r ∷ filter p front) (filter p front) ++ filter p back) [
   | true ↦ ap (λ records. r ∷ records) (filter-append p front back)

@@ -1,6 +1,7 @@
 -- What a search for a place finds in rising records.
-use Rattle.std.specs.Prelude.{◌≡◌, ℕ, ◌+◌, ◌<◌, ◌≤◌, List, length, take, drop, slice_get, Some, None, Result, Ok, Err}
-use Rattle.std.specs.List.{flat_map}
+use Rattle.std.specs.Prelude.{◌≡◌, ℕ, ◌+◌, ◌-◌, ◌^◌, ◌<◌, ◌≤◌, Bool, cond, List, length, take, drop, slice_get, Some, None, Result, Ok, Err}
+use Rattle.std.specs.List.{AllByRecursion, flat_map}
+use Rattle.exh_prefix.specs.Prefix.{low_of}
 use Rattle.exh_page.specs.declared.record.Record.{Record}
 use Rattle.exh_page.specs.declared.spot.Spot.{Spot}
 use Rattle.exh_page.specs.PackedRecords.{record_text}
@@ -27,3 +28,14 @@ IsSpot records spot = spot.start ≡ length (flat_map record_text (take spot.ind
 abbrev pub IsSought : Place → List Record → Result Spot Spot → Type 0
 IsSought place records (Ok spot) = IsSpot records spot × IsFound place records spot.index
 IsSought place records (Err spot) = IsSpot records spot × IsGap place records spot.index
+
+-- the least pseudokey that a prefix begins, or else the first past all that it begins
+abbrev pub bound_of : List Bool → Bool → ℕ
+bound_of prefix past = low_of prefix + cond past (2 ^ (64 - length prefix)) 0
+
+-- before the spot stand the records of lesser pseudokeys than the bound, and all others from it on
+pub record IsCutAt (bound : ℕ) (records : List Record) (at : Spot) : Type 0 where
+  pub spot : IsSpot records at
+  pub within : at.index ≤ length records
+  pub below : AllByRecursion (λ r. r.pseudokey < bound) (take at.index records)
+  pub rest : AllByRecursion (λ r. bound ≤ r.pseudokey) (drop at.index records)

@@ -36,7 +36,7 @@ AreRecordsOf-begun_by pseudo prefix child records are = record {
 -- ---- both shares together
 
 -- a record that stands before another has no greater pseudokey
-pseudokeys_rise : (r s : Record) → place_cmp (place_of r) (place_of s) ≡ Less → r.pseudokey ≤ s.pseudokey
+pub pseudokeys_rise : (r s : Record) → place_cmp (place_of r) (place_of s) ≡ Less → r.pseudokey ≤ s.pseudokey
 pseudokeys_rise r s before =
     elim (nat_cmp r.pseudokey s.pseudokey) as (λ o. MatchOrdering o (r.pseudokey < s.pseudokey) (r.pseudokey ≡ s.pseudokey) (s.pseudokey < r.pseudokey) → ordering_then o (slice_cmp nat_cmp r.key s.key) ≡ Less → r.pseudokey ≤ s.pseudokey) [
       | Less ↦ λ rank less. omega arith
@@ -98,7 +98,7 @@ IsRising-append : (front back : List Record) → IsRising front → IsRising bac
 IsRising-append [] back fore aft before = aft
 IsRising-append (r ∷ front) back fore aft before = (AllByRecursion-append _ front back fore.0 before.0, IsRising-append front back fore.1 aft before.1)
 
-both : (P Q : Record → Type 0) (records : List Record) → AllByRecursion P records → AllByRecursion Q records → AllByRecursion (λ r. P r × Q r) records
+pub both : (P Q : Record → Type 0) (records : List Record) → AllByRecursion P records → AllByRecursion Q records → AllByRecursion (λ r. P r × Q r) records
 both P Q [] p q = tt
 both P Q (r ∷ records) p q = ((p.0, q.0), both P Q records p.1 q.1)
 

@@ -1,15 +1,17 @@
-ghost use Rattle.std.specs.Prelude.{◌≡◌, ℕ, ◌+◌, ◌<◌, ◌≤◌, [], ◌++◌, length, take, drop, insert, remove, set, slice_get, IsOk, IfOk, IfErr, IfSome, OnOk, OnErr};
+ghost use Rattle.std.specs.Prelude.{◌≡◌, ℕ, ◌+◌, ◌-◌, ◌<◌, ◌≤◌, [], ◌++◌, length, take, drop, insert, remove, set, slice_get, ◌↔◌, IsTrue, IsOk, IfOk, IfErr, IfSome, OnOk, OnErr};
 ghost use Rattle.std.specs.List.{flat_map};
+ghost use Rattle.exh_prefix.specs.declared.prefix.TheConstants.{LIMIT};
 ghost use Rattle.exh_page.specs.declared.key.TheConstants.{KEY_LIMIT};
 ghost use Rattle.exh_page.specs.declared.value.TheConstants.{VALUE_LIMIT};
 ghost use Rattle.exh_page.specs.PackedRecords.{record_text};
 ghost use Rattle.exh_page.specs.Page.{begun_by};
 ghost use Rattle.exh_page.specs.Records.{IsRising};
-ghost use Rattle.exh_page.specs.Search.{IsSought, IsSpot};
+ghost use Rattle.exh_page.specs.Search.{IsCutAt, IsSought, IsSpot, bound_of};
+ghost use Rattle.exh_page.specs.ShareLemmas.{AreWords};
 
 use crate::stored_record::StoredRecord;
 use crate::{Key, Record, Spot, Value};
-use exh_prefix::Prefix;
+use exh_prefix::{LIMIT, Prefix};
 use std::alloc::{AllocError, Global};
 use std::cmp::Ordering;
 use std::marker::Model;
@@ -198,24 +200,17 @@ impl PackedRecords {
         cut_text(&mut self.texts, spot.start, end);
     }
 
-    /// The records whose pseudokeys a prefix begins, in their order. It takes memory, room for as
-    /// many as there are here: an `AllocError` where that is refused.
+    /// The records whose pseudokeys a prefix begins, in their order, of rising records, where they
+    /// stand one after the other. It takes memory, room for as many as there are here: an `AllocError`
+    /// where that is refused.
     pub(crate) fn begun_by(&self, prefix: Prefix) -> Result<PackedRecords, AllocError>
+        requires { IsRising self.now }
         ensures { IfOk result (λ records. records ≡ begun_by prefix self.now) }
     {
-        let alloc = *self.stored.allocator();
-        let mut stored = Vec::with_capacity(alloc, self.stored.len())?;
-        let mut texts = Vec::with_capacity(alloc, self.texts.len())?;
-        let mut start = 0;
-        for item in &self.stored {
-            let end = start + item.text_len();
-            if prefix.begins(item.pseudokey) {
-                stored.push(*item)?;
-                texts.extend_from_slice(&self.texts[start..end])?;
-            }
-            start = end;
-        }
-        Ok(PackedRecords { stored, texts })
+        prove!(prefix.len() <= LIMIT);
+        let from = self.first_from(prefix, false);
+        let to = self.first_from(prefix, true);
+        self.run(from, to)
     }
 
     /// These records and then others. It takes memory for them: an `AllocError` where that is
@@ -245,6 +240,42 @@ impl PackedRecords {
         })
     }
 
+    // The records from one spot up to another. It takes memory, room for as many as there are here, so
+    // that a page's half fills up again without more.
+    fn run(&self, from: Spot, to: Spot) -> Result<PackedRecords, AllocError>
+        requires order { from.index ≤ to.index }
+        requires within { to.index ≤ length self.now }
+        requires from { IsSpot self.now from }
+        requires to { IsSpot self.now to }
+        ensures { IfOk result (λ records. records ≡ take (to.index - from.index) (drop from.index self.now)) }
+    {
+        let alloc = *self.stored.allocator();
+        let mut stored = Vec::with_capacity(alloc, self.stored.len())?;
+        let mut texts = Vec::with_capacity(alloc, self.texts.len())?;
+        stored.extend_from_slice(&self.stored[from.index..to.index])?;
+        texts.extend_from_slice(&self.texts[from.start..to.start])?;
+        Ok(PackedRecords { stored, texts })
+    }
+
+    // The spot of the first of rising records that no lesser pseudokey than those that a prefix begins
+    // has; where `past`, of the first after those that it begins.
+    fn first_from(&self, prefix: Prefix, past: bool) -> Spot
+        requires short { length prefix ≤ LIMIT }
+        requires rising { IsRising self.now }
+        ensures cut { IsCutAt (bound_of prefix past) self.now result }
+        ensures words { AreWords self.now }
+    {
+        let mut start = 0;
+        for (i, stored) in self.stored.iter().enumerate() {
+            if !is_below(prefix, past, stored.pseudokey) {
+                return Spot { index: i, start };
+            }
+            prove!(start <= self.texts.as_slice().len());
+            start += stored.text_len();
+        }
+        self.end()
+    }
+
     // The bytes of the records from a spot on.
     fn text_from(&self, spot: Spot) -> &[u8]
         requires { IsSpot self.now spot }
@@ -265,6 +296,14 @@ impl PackedRecords {
         }
         start
     }
+}
+
+// Whether a pseudokey is less than all that a prefix begins, or, where `past`, than all after these.
+fn is_below(prefix: Prefix, past: bool, pseudokey: u64) -> bool
+    requires { length prefix ≤ LIMIT }
+    ensures { IsTrue result ↔ (pseudokey < bound_of prefix past) }
+{
+    pseudokey < prefix.low() || (past && prefix.begins(pseudokey))
 }
 
 // Puts a key and a value in place of the bytes from `start` to `end`. Only more bytes than these may

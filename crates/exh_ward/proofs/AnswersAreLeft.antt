@@ -15,6 +15,7 @@ use Rattle.exh_page.specs.Search.{IsSought}
 use Rattle.exh_legal.specs.Laws.{PagesAreFew}
 use Rattle.exh_legal.specs.Pages.{map_of, IsAt}
 use Rattle.exh_calls.specs.Call.{key_of}
+use Rattle.exh_calls.specs.Effect.{effect_of}
 use Rattle.exh_ward.specs.HopTable.{HopOf, pages_after}
 use Rattle.exh_ward.specs.Kept.{IsKeptWard}
 use Rattle.exh_calls.specs.MapMachine.{reply_of, map_after}
@@ -101,6 +102,9 @@ module _ {K : Type 0} {pseudo : List ℕ → ℕ} {takes : Page → Type 0} {own
   stood_there other is =
       answers.seen_is.stood ∙ ap (λ k. value_at (k, key_of call) answers.records) (sym answers.hashed)
       ∙ ap (λ other. value_at (pseudokey, key_of call) (records_of other)) (sym (there_is other is))
+
+  pub reply_there : (reply : Reply) → reply ≡ (effect_of call full seen.stood).reply → (other : Page) → IsAt w.pages at other → reply ≡ reply_by full pseudokey call other
+  reply_there reply by_stood other is = by_stood ∙ ap (λ stood. (effect_of call full stood).reply) (stood_there other is)
 
   pub written_taken : length w.pages < 2 ^ 32 - 1 → (other : Page) → IsAt w.pages at other → takes (with_records (records_after full pseudokey call (records_of other)) other)
   written_taken few other is =

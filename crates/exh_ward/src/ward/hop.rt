@@ -6,7 +6,7 @@ ghost use Rattle.exh_ward.specs.Sight.{SightIn};
 ghost use Rattle.exh_ward.specs.WardFault.{IsStoreFault, CountsFailures};
 ghost use Rattle.exh_ward.specs.WardState.{IsSoundWard, IsUnchanged, LeavesAfter, own_prefix};
 
-use self::answer::answer;
+use self::answer::{reply_to, write};
 use self::home_sight::HomeSight;
 use self::sight::Sight;
 use super::Ward;
@@ -58,12 +58,15 @@ impl<P: Pages + Drop, K: Keyer> Ward<P, K> {
         ensures sound { IsSoundWard K.pseudokey_of self.new }
     {
         right_links_lead_on();
-        match self.look(at, call, pseudokey)? {
+        if at >= self.store.count() {
+            return Ok(Hop::Stray);
+        }
+        match Sight::of(self.store.lend(at)?, self.cap, pseudokey, call) {
             Sight::Beyond => Ok(Hop::Stray),
             Sight::Leads(next) => Ok(Hop::Moved(next)),
             Sight::NoWay => unreachable!(),
             Sight::Overflows => Ok(Hop::MustSplit),
-            Sight::Home(home) => self.answer_at(at, client, call, pseudokey, home),
+            Sight::Home(home) => self.answer_at(at, client, call, pseudokey, &home),
         }
     }
 
@@ -74,10 +77,10 @@ impl<P: Pages + Drop, K: Keyer> Ward<P, K> {
         client: u32,
         call: &Call,
         pseudokey: u64,
-        home: HomeSight,
+        home: &HomeSight,
     ) -> Result<Hop, WardFault>
         requires hashed { pseudokey ≡ K.pseudokey_of self.old.keyer (key_of call.now) }
-        requires home { SightIn self.old.cap pseudokey self.old.pages at call.now (Sight.Home home) }
+        requires home { SightIn self.old.cap pseudokey self.old.pages at call.now (Sight.Home home.now) }
         ensures hop { IfOk result (HopOf self.old.cap (K.pseudokey_of self.old.keyer) self.old.pages at call.now) }
         ensures leaves { IfOk result (λ hop. LeavesAfter K.pseudokey_of self.old at client call.now hop self.new) }
         ensures err { OnErr result (IsUnchanged self.old self.new) }
@@ -88,23 +91,9 @@ impl<P: Pages + Drop, K: Keyer> Ward<P, K> {
         pages_are_few();
         // Room for the entry first: nothing may fail once the page has changed.
         self.journal.reserve()?;
-        let reply = answer(&mut self.store, at, pseudokey, call, home)?;
+        write(&mut self.store, at, pseudokey, call, home)?;
+        let reply = reply_to(call, home.full, &home.stood);
         self.journal.push_reserved(client, call, &reply);
         Ok(Hop::Done(reply))
-    }
-
-    // What a call meets at a page.
-    fn look(&mut self, at: PageNo, call: &Call, pseudokey: u64) -> Result<Sight, WardFault>
-        ensures sight { IfOk result (SightIn self.old.cap pseudokey self.old.pages at call.now) }
-        ensures ok { IfOk result (λ _. self.new ≡ self.old) }
-        ensures err { OnErr result (IsUnchanged self.old self.new) }
-        ensures fault { IfErr result IsStoreFault }
-        ensures failures { CountsFailures result self.old.failures self.new.failures }
-        ensures sound { IsSoundWard K.pseudokey_of self.new }
-    {
-        if at >= self.store.count() {
-            return Ok(Sight::Beyond);
-        }
-        Ok(Sight::of(self.store.lend(at)?, self.cap, pseudokey, call))
     }
 }

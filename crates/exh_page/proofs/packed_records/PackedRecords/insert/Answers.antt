@@ -15,7 +15,7 @@ packed_after : (c : goal.After-unwrap) → ArePacked (insert c.args.self.now c.a
 packed_after c =
     let packed : ArePacked c.args.self.now c.self.inside.stored.items c.self.inside.texts.items = packed_as c.self.invariant c.self.view_is in
     let item : Record = record { pseudokey = c.args.pseudokey; key = c.args.key.now; value = c.args.value.now } in
-    let sized : IsSized item = record { some = c.as_bytes-key.ensures.some; key = c.as_bytes-key.ensures.limit; value = c.as_bytes-value.ensures.limit } in
+    let sized : IsSized item = record { word = c.ranges.pseudokey.fits; some = c.as_bytes-key.ensures.some; key = c.as_bytes-key.ensures.limit; value = c.as_bytes-value.ensures.limit } in
     let text : c.as_bytes-key.result.now ++ c.as_bytes-value.result.now ≡ record_text item =
     ap (λ key. key ++ c.as_bytes-value.result.now) c.as_bytes-key.ensures.bytes ∙ ap (λ value. c.args.key.now ++ value) c.as_bytes-value.ensures.bytes in
     let texts_is : c.put_text.new.texts.items ≡ take c.args.spot.start c.self.inside.texts.items ++ (record_text item ++ drop c.args.spot.start c.self.inside.texts.items) =

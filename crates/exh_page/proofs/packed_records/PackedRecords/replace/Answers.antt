@@ -34,7 +34,7 @@ packed_after : (c : goal.After-self-1) → ArePacked (set c.args.self.now c.args
 packed_after c =
     let packed : ArePacked c.args.self.now c.self.inside.stored.items c.self.inside.texts.items = packed_as c.self.invariant c.self.view_is in
     let ended = ended_at packed c.args.spot.index c.args.spot.start c.text_len.result c.index.result.now c.requires.there c.requires.spot c.text_len.ensures c.index.ensures in
-    let sized : IsSized (record { pseudokey = c.args.pseudokey; key = c.args.key.now; value = c.args.value.now }) = record { some = c.as_bytes-key.ensures.some; key = c.as_bytes-key.ensures.limit; value = c.as_bytes-value.ensures.limit } in
+    let sized : IsSized (record { pseudokey = c.args.pseudokey; key = c.args.key.now; value = c.args.value.now }) = record { word = c.ranges.pseudokey.fits; some = c.as_bytes-key.ensures.some; key = c.as_bytes-key.ensures.limit; value = c.as_bytes-value.ensures.limit } in
     let text : c.as_bytes-key.result.now ++ c.as_bytes-value.result.now ≡ record_text (record { pseudokey = c.args.pseudokey; key = c.args.key.now; value = c.args.value.now }) =
     ap (λ key. key ++ c.as_bytes-value.result.now) c.as_bytes-key.ensures.bytes ∙ ap (λ value. c.args.key.now ++ value) c.as_bytes-value.ensures.bytes in
     let item : Record = record { pseudokey = c.args.pseudokey; key = c.args.key.now; value = c.args.value.now } in
