@@ -17,3 +17,5 @@ mod seat;
 mod spare;
 mod tallied_ward;
 mod tally;
+#[cfg(test)]
+mod tests;
