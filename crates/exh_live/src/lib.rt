@@ -1,0 +1,21 @@
+//! Wards behind locks, and callers on threads of their own, with two ledgers that join what the
+//! callers were answered to what the wards keep of it.
+#![tactic(auto)]
+
+pub use close::{CloseFault, Closed, NotClosed};
+pub use identity::Identity;
+pub use ledgers::{ANSWER_PARTS, Answers, ENTRY_PARTS, Entries, LedgerNames};
+pub use live_file::LiveFile;
+pub use seat::{NoSeat, Seat};
+
+mod close;
+mod identity;
+mod ledgers;
+mod live_file;
+mod locked_ward;
+mod seat;
+mod spare;
+mod tallied_ward;
+mod tally;
+#[cfg(test)]
+mod tests;
