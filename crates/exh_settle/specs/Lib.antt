@@ -1,1 +1,3 @@
 pub mod Diary
+pub mod Settled
+pub mod Laws
