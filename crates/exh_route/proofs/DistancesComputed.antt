@@ -32,6 +32,7 @@ module _ (pages : List Page) (pseudokey : ℕ) where
       omega (arith, here, rest)
 
 pub computed : (ward : List Bool) (pages : List Page) → AreLinked ward (bare pages) → (from pseudokey distance : ℕ) → IsDistance pages from pseudokey distance → distance ≡ distance_of pages from pseudokey
+unfolding distance_of
 computed ward pages linked from pseudokey distance is =
     let few = distance_few ward pages linked from pseudokey distance is in
     is.sum ∙ sym (over_chain pages pseudokey is.live is.page is.there is.lives is.over from (suc (LIMIT + live_pages pages)) is.forwarded (omega (arith, few, is.sum)))

@@ -18,5 +18,5 @@ distance_within pages pseudokey zero from = 0
 distance_within pages pseudokey (suc most) from = option_map_or (distance_at pages pseudokey (distance_within pages pseudokey most)) (slice_get pages from) 0
 
 -- a legal ward has no way over more forwarding pages
-abbrev pub distance_of : List Page → ℕ → ℕ → ℕ
+unfoldable pub distance_of : List Page → ℕ → ℕ → ℕ
 distance_of pages from pseudokey = distance_within pages pseudokey (suc (LIMIT + live_pages pages)) from

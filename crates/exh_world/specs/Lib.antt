@@ -1,5 +1,6 @@
 pub mod InFlight
 pub mod World
+pub mod Progress
 pub mod Step
 pub mod StepFunction
 pub mod Run

@@ -14,6 +14,7 @@ pub use laws::{
     steps_have_outcomes, steps_keep_worlds_sound,
 };
 pub use outcome::Outcome;
+pub use progress::Progress;
 pub use request::Request;
 pub use step_fault::StepFault;
 pub use turn::Turn;
@@ -25,6 +26,7 @@ mod headline_laws;
 mod in_flight;
 mod laws;
 mod outcome;
+mod progress;
 mod request;
 mod step_fault;
 mod turn;
