@@ -8,6 +8,7 @@ pub mod Headline
 pub mod HeadlineLaws
 pub mod Sound
 pub mod Laws
+pub mod Moves
 pub mod StepFault
 pub mod Kept
 pub mod NewWorld

@@ -13,6 +13,7 @@ pub use laws::{
     new_worlds_are_sound, page_faults_are_counted, runs_carry_the_headline, steps_are_computed,
     steps_have_outcomes, steps_keep_worlds_sound,
 };
+pub use move_laws::answers_are_bounded;
 pub use outcome::Outcome;
 pub use progress::Progress;
 pub use request::Request;
@@ -25,6 +26,7 @@ mod event;
 mod headline_laws;
 mod in_flight;
 mod laws;
+mod move_laws;
 mod outcome;
 mod progress;
 mod request;
