@@ -2,15 +2,15 @@
 //! the refused event is made once more. Each event that reaches a page must have been refused, and
 //! the world is in the end as one that met no fault.
 
-use crate::line::{Line, begin, deliver, done, hop};
+use crate::line::{Line, answered, begin, deliver, done, hop};
 use exh_calls::Reply;
 use exh_fixtures::{Asked, first_store, merge, prefix, split, value};
 use exh_frames::FailingPages;
 use exh_keyer::PlainKeyer;
 use exh_prefix::PageNo;
 use exh_runs::{Difference, Part, Run, again, same};
-use exh_ward::{Hop, PageLine, Ward, WardFault};
-use exh_world::{Config, Event, Outcome, StepFault, World};
+use exh_ward::{PageLine, Ward, WardFault};
+use exh_world::{Config, Event, Outcome, Progress, StepFault, World};
 use std::alloc::{AllocError, Global};
 
 type FailingWorld = World<FailingPages, PlainKeyer>;
@@ -60,7 +60,7 @@ fn reaches_a_page(line: &Line) -> bool {
     match line {
         Line::Turn(turn) => matches!(
             turn.event,
-            Event::Hop { .. } | Event::Split { .. } | Event::Merge { .. }
+            Event::Begin { .. } | Event::Hop { .. } | Event::Split { .. } | Event::Merge { .. }
         ),
         Line::Told(..) => false,
     }
@@ -70,7 +70,7 @@ fn reaches_a_page(line: &Line) -> bool {
 // each kind, of a file of one ward, pages of two records and two copies.
 fn lines() -> Result<[Line; EVENTS], Difference> {
     let root = prefix("")?;
-    let new = Hop::Done(Reply::New);
+    let new = Reply::New;
     let x = value(b"x")?;
     let b = value(b"b")?;
     let first = split(1, root, 1, 1);
@@ -78,29 +78,29 @@ fn lines() -> Result<[Line; EVENTS], Difference> {
     let split_root = Event::Split { ward: 0, page: 0 };
     Ok([
         begin(1, 1, Asked::Put(b"\0", b"a"), 0)?,
-        hop(1, new),
+        answered(1, new, 0, 0),
         begin(2, 1, Asked::Put(b"\x80", b"b"), 0)?,
-        hop(2, new),
+        answered(2, new, 0, 0),
         begin(3, 1, Asked::Put(b"\x40", b"x"), 0)?,
-        hop(3, Hop::MustSplit),
+        hop(3, Progress::MustSplit),
         done(split_root, Outcome::Changed(first)),
-        hop(3, new),
+        answered(3, new, 0, 1),
         done(deliver(1, 1), Outcome::Taken(first)),
         done(Event::Send { copy: 1 }, Outcome::Sent(1)),
         begin(4, 1, Asked::Del(b"\x40"), 0)?,
-        hop(4, Hop::Done(Reply::Was(x))),
+        answered(4, Reply::Was(x), 0, 0),
         done(Event::Merge { ward: 0, page: 0 }, Outcome::Changed(merged)),
         done(deliver(2, 2), Outcome::Taken(merged)),
         done(Event::Combine { copy: 2, table: 1 }, Outcome::Joined),
         done(Event::Restart { copy: 2 }, Outcome::Restarted),
         done(split_root, Outcome::Changed(split(3, root, 3, 1))),
         begin(5, 2, Asked::Get(b"\x80"), 0)?,
-        hop(5, Hop::Moved(1)),
-        hop(5, Hop::Done(Reply::Is(b))),
+        hop(5, Progress::Moved(1)),
+        answered(5, Reply::Is(b), 1, 1),
         done(Event::Combine { copy: 2, table: 1 }, Outcome::Joined),
         begin(6, 2, Asked::Get(b"\x80"), 1)?,
         begin(7, 1, Asked::Put(b"\xc0", b"y"), 1)?,
-        hop(7, new),
+        answered(7, new, 0, 0),
         done(Event::Send { copy: 2 }, Outcome::Sent(2)),
     ])
 }

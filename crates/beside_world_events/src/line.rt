@@ -1,6 +1,7 @@
 //! What happens in a world, each with what it comes to.
 ghost use Rattle.beside_world_events.specs.Anew.{HasSettings};
 
+use exh_calls::Reply;
 use exh_fixtures::Asked;
 use exh_frames::Pages;
 use exh_keyer::PlainKeyer;
@@ -8,8 +9,8 @@ use exh_notice::Notice;
 use exh_prefix::PageNo;
 use exh_runs::{Difference, again};
 use exh_table::Table;
-use exh_ward::{Hop, WardFault};
-use exh_world::{Event, Outcome, StepFault, Turn, World};
+use exh_ward::WardFault;
+use exh_world::{Event, Outcome, Progress, StepFault, Turn, World};
 
 const UNREACHED: StepFault = StepFault::Ward(WardFault::Page);
 
@@ -102,8 +103,20 @@ pub(crate) fn begin(
 }
 
 /// A request makes a hop in ward 0, which comes to this.
-pub(crate) fn hop(name: u32, hop: Hop) -> Line {
+pub(crate) fn hop(name: u32, hop: Progress) -> Line {
     done(Event::Hop { name }, Outcome::Hopped { ward: 0, hop })
+}
+
+/// A hop in ward 0 answers a request, after so many moves of at most so many.
+pub(crate) fn answered(name: u32, reply: Reply, moves: u64, bound: u64) -> Line {
+    hop(
+        name,
+        Progress::Done {
+            reply,
+            moves,
+            bound,
+        },
+    )
 }
 
 /// The notice of ward 0 of an index is delivered to a copy.

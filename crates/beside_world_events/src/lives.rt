@@ -1,13 +1,12 @@
 //! What happens in worlds that are made of one another's wards, and what it comes to: worked out by
 //! hand.
 
-use crate::line::{Line, begin, deliver, done, hop, refused};
+use crate::line::{Line, answered, begin, deliver, done, hop, refused};
 use exh_calls::{JournalEntry, Reply};
 use exh_fixtures::{Asked, merge, prefix, split, value};
 use exh_notice::Notice;
 use exh_runs::Difference;
-use exh_ward::Hop;
-use exh_world::{Event, Outcome, StepFault};
+use exh_world::{Event, Outcome, Progress, StepFault};
 
 /// The copies of a world that is made of wards. The first world has one less.
 pub(crate) const COPIES: u32 = 3;
@@ -66,32 +65,32 @@ fn entry(asked: Asked<'_>, reply: Reply) -> Result<JournalEntry, Difference> {
 
 /// The first world: the three keys, a merge and a page that is live again; a request is left at page 1.
 pub(crate) fn first_lines(notices: &[Notice; 7]) -> Result<[Line; 22], Difference> {
-    let new = Hop::Done(Reply::New);
+    let new = Reply::New;
     let x = value(b"x")?;
     let b = value(b"b")?;
     Ok([
         begin(1, 1, Asked::Put(b"\0", b"a"), 0)?,
-        hop(1, new),
+        answered(1, new, 0, 0),
         begin(1, 1, Asked::Put(b"\x80", b"b"), 0)?,
-        hop(1, new),
+        answered(1, new, 0, 0),
         begin(1, 1, Asked::Put(b"\x40", b"x"), 0)?,
-        hop(1, Hop::MustSplit),
+        hop(1, Progress::MustSplit),
         done(SPLIT, Outcome::Changed(notices[0])),
-        hop(1, new),
+        answered(1, new, 0, 1),
         refused(deliver(1, 2), StepFault::NoNotice),
         done(deliver(1, 1), Outcome::Taken(notices[0])),
         begin(1, 1, Asked::Del(b"\x40"), 0)?,
-        hop(1, Hop::Done(Reply::Was(x))),
+        answered(1, Reply::Was(x), 0, 0),
         done(MERGE, Outcome::Changed(notices[1])),
         begin(1, 1, Asked::Put(b"\x40", b"y"), 0)?,
-        hop(1, Hop::MustSplit),
+        hop(1, Progress::MustSplit),
         done(SPLIT, Outcome::Changed(notices[2])),
-        hop(1, new),
+        answered(1, new, 0, 1),
         begin(1, 1, Asked::Get(b"\x80"), 1)?,
-        hop(1, Hop::Done(Reply::Is(b))),
+        answered(1, Reply::Is(b), 0, 0),
         done(Event::Send { copy: 1 }, Outcome::Sent(1)),
         begin(6, 2, Asked::Get(b"\x80"), 0)?,
-        hop(6, Hop::Moved(1)),
+        hop(6, Progress::Moved(1)),
     ])
 }
 
@@ -117,7 +116,7 @@ fn first_of_life(last: Notice) -> Result<[Line; 8], Difference> {
         Line::Told(2, last),
         Line::Told(3, last),
         begin(1, 1, Asked::Get(b"\x80"), 1)?,
-        hop(1, Hop::Done(Reply::Is(b))),
+        answered(1, Reply::Is(b), 0, 0),
     ])
 }
 
@@ -125,34 +124,34 @@ fn first_of_life(last: Notice) -> Result<[Line; 8], Difference> {
 // merge and after it. At the end the pages are as at the start.
 fn rest_of_life(last: Notice, merged: Notice, split: Notice) -> Result<[Line; 27], Difference> {
     let y = value(b"y")?;
-    let is_b = Hop::Done(Reply::Is(value(b"b")?));
+    let is_b = Reply::Is(value(b"b")?);
     let restart = done(Event::Restart { copy: 2 }, Outcome::Restarted);
     Ok([
         refused(deliver(1, merged.index), StepFault::NoNotice),
         begin(1, 1, Asked::Get(b"\0"), 0)?,
-        hop(1, Hop::Done(Reply::Is(value(b"a")?))),
+        answered(1, Reply::Is(value(b"a")?), 0, 0),
         begin(1, 1, Asked::Get(b"\x40"), 0)?,
-        hop(1, Hop::Done(Reply::Is(y))),
+        answered(1, Reply::Is(y), 0, 0),
         restart,
         Line::Told(2, last),
         begin(1, 2, Asked::Get(b"\x80"), 1)?,
-        hop(1, is_b),
+        answered(1, is_b, 0, 0),
         begin(1, 3, Asked::Del(b"\x40"), 0)?,
-        hop(1, Hop::Done(Reply::Was(y))),
+        answered(1, Reply::Was(y), 0, 0),
         done(MERGE, Outcome::Changed(merged)),
         done(deliver(2, merged.index), Outcome::Taken(merged)),
         Line::Told(2, merged),
         begin(1, 2, Asked::Get(b"\x80"), 0)?,
-        hop(1, is_b),
+        answered(1, is_b, 0, 0),
         restart,
         Line::Told(2, last),
         begin(1, 2, Asked::Get(b"\x80"), 1)?,
-        hop(1, Hop::Moved(0)),
-        hop(1, is_b),
+        hop(1, Progress::Moved(0)),
+        answered(1, is_b, 1, 1),
         begin(1, 3, Asked::Put(b"\x40", b"y"), 0)?,
-        hop(1, Hop::MustSplit),
+        hop(1, Progress::MustSplit),
         done(SPLIT, Outcome::Changed(split)),
-        hop(1, Hop::Done(Reply::New)),
+        answered(1, Reply::New, 0, 1),
         done(Event::Send { copy: 1 }, Outcome::Sent(1)),
         begin(6, 3, Asked::Get(b"\x80"), 1)?,
     ])

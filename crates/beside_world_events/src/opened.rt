@@ -9,8 +9,8 @@ use exh_keyer::PlainKeyer;
 use exh_notice::Notice;
 use exh_prefix::PageNo;
 use exh_runs::{Difference, Part, Run, again, same};
-use exh_ward::{Hop, WardFault};
-use exh_world::{Config, Event, Outcome, StepFault, World};
+use exh_ward::WardFault;
+use exh_world::{Config, Event, Outcome, Progress, StepFault, World};
 use std::alloc::Global;
 
 type PlainWorld = World<PlainPages, PlainKeyer>;
@@ -94,8 +94,19 @@ fn begin(copy: u32, asked: Asked<'_>, ward: u8, page: PageNo) -> Result<Line, Di
     Ok(done(event, Outcome::Begun { ward, page }))
 }
 
-fn hop(ward: u8, hop: Hop) -> Line {
+fn hop(ward: u8, hop: Progress) -> Line {
     done(Event::Hop { name: 1 }, Outcome::Hopped { ward, hop })
+}
+
+fn answered(ward: u8, reply: Reply, moves: u64, bound: u64) -> Line {
+    hop(
+        ward,
+        Progress::Done {
+            reply,
+            moves,
+            bound,
+        },
+    )
 }
 
 fn deliver(copy: u32, ward: u32, index: u64) -> Event {
@@ -109,7 +120,7 @@ const MERGE_OTHER: Event = Event::Merge { ward: 1, page: 0 };
 // In ward 0 no merge at its prefix can follow the split: what is refused for another reason still is,
 // and changes elsewhere are made. The changes that the start table tells of are no notices.
 fn worn_lines() -> Result<[Line; 16], Difference> {
-    let new = hop(0, Hop::Done(Reply::New));
+    let new = answered(0, Reply::New, 0, 0);
     let worn = refused(MERGE, StepFault::Ward(WardFault::Worn));
     let left = prefix("00")?;
     let divided = split(4_294_967_296, left, 1, 2);
@@ -137,22 +148,22 @@ fn worn_lines() -> Result<[Line; 16], Difference> {
 
 // The last merge at ward 1's prefix, for a copy that isn't told of it, is told, and restarts.
 fn other_lines() -> Result<[Line; 12], Difference> {
-    let none = hop(1, Hop::Done(Reply::None));
+    let none = Reply::None;
     let get = Asked::Get(b"\xc0");
     let merged = other_merge()?;
     Ok([
         refused(deliver(1, 1, 4_294_967_293), StepFault::NoNotice),
         done(MERGE_OTHER, Outcome::Changed(merged)),
         begin(1, get, 1, 1)?,
-        hop(1, Hop::Moved(0)),
-        none,
+        hop(1, Progress::Moved(0)),
+        answered(1, none, 1, 1),
         done(deliver(1, 1, merged.index), Outcome::Taken(merged)),
         begin(1, get, 1, 0)?,
-        none,
+        answered(1, none, 0, 0),
         done(Event::Restart { copy: 1 }, Outcome::Restarted),
         begin(1, get, 1, 1)?,
-        hop(1, Hop::Moved(0)),
-        none,
+        hop(1, Progress::Moved(0)),
+        answered(1, none, 1, 1),
     ])
 }
 
@@ -165,21 +176,21 @@ fn other_merge() -> Result<Notice, Difference> {
 
 // The last split there, after which ward 1 can't merge at its prefix either.
 fn last_lines() -> Result<[Line; 12], Difference> {
-    let new = hop(1, Hop::Done(Reply::New));
+    let new = Reply::New;
     let divided = Notice {
         ward: 1,
         ..split(4_294_967_295, prefix("1")?, GREATEST, 1)
     };
     Ok([
         begin(1, Asked::Put(b"\x80", b"c"), 1, 0)?,
-        new,
+        answered(1, new, 0, 0),
         begin(1, Asked::Put(b"\xc0", b"d"), 1, 1)?,
-        hop(1, Hop::Moved(0)),
-        new,
+        hop(1, Progress::Moved(0)),
+        answered(1, new, 1, 1),
         done(Event::Split { ward: 1, page: 0 }, Outcome::Changed(divided)),
         refused(MERGE_OTHER, StepFault::Ward(WardFault::Worn)),
         begin(1, Asked::Get(b"\xc0"), 1, 1)?,
-        hop(1, Hop::Done(Reply::Is(value(b"d")?))),
+        answered(1, Reply::Is(value(b"d")?), 0, 0),
         done(deliver(1, 1, divided.index), Outcome::Taken(divided)),
         refused(deliver(1, 1, 4_294_967_296), StepFault::NoNotice),
         done(Event::Restart { copy: 1 }, Outcome::Restarted),

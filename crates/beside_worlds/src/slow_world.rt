@@ -22,6 +22,7 @@ pub(crate) struct Flight {
     pub(crate) call: Call,
     pub(crate) ward: u8,
     pub(crate) page: PageNo,
+    pub(crate) moves: u64,
 }
 
 /// How often the rarer outcomes came.

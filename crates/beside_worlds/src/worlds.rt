@@ -12,8 +12,8 @@ use exh_keyer::PlainKeyer;
 use exh_notice::Notice;
 use exh_prefix::{PageNo, Prefix};
 use exh_runs::{Dice, Difference, Part, Run, again, same};
-use exh_ward::{Hop, PageLine, WardFault};
-use exh_world::{Config, Event, Outcome, StepFault, World};
+use exh_ward::{PageLine, WardFault};
+use exh_world::{Config, Event, Outcome, Progress, StepFault, World};
 use std::alloc::{AllocError, Global};
 
 type PlainWorld = World<PlainPages, PlainKeyer>;
@@ -195,6 +195,7 @@ fn step_beside(
                 call: *call,
                 ward: *ward,
                 page: *page,
+                moves: 0,
             };
             slow.put_flight(*name, Some(flight))
         }
@@ -214,24 +215,36 @@ fn hop_beside(
     world: &mut PlainWorld,
     slow: &mut SlowWorld,
     name: u32,
-    hop: &Hop,
+    hop: &Progress,
 ) -> Result<(), Difference> {
     let flight = slow.flight(name).ok_or(Difference::Apart(Part::Outcome))?;
     match hop {
-        Hop::Done(reply) => {
+        Progress::Done {
+            reply,
+            moves,
+            bound,
+        } => {
+            same(*moves == flight.moves && *moves <= *bound, Part::Outcome)?;
             slow.put_flight(name, None)?;
             slow.answer(&flight.call, reply, &mut run.lie)?;
             let named = slow.name(&flight.call);
             let at = prefix_at(world, flight.ward, flight.page).map_err(refused)?;
             same(named.is_some() && at == named, Part::Answering)
         }
-        Hop::Moved(page) => {
+        Progress::Moved(page) => {
             slow.met.moved = slow.met.moved.saturating_add(1);
             let page = *page;
-            slow.put_flight(name, Some(Flight { page, ..flight }))
+            slow.put_flight(
+                name,
+                Some(Flight {
+                    page,
+                    moves: flight.moves.saturating_add(1),
+                    ..flight
+                }),
+            )
         }
-        Hop::MustSplit => Ok(()),
-        Hop::Stray => Err(Difference::Apart(Part::Outcome)),
+        Progress::MustSplit => Ok(()),
+        Progress::Stray => Err(Difference::Apart(Part::Outcome)),
     }
 }
 

@@ -38,7 +38,7 @@ fn use_world(rt: &(impl Print + AllocGlobal), key: Key, value: Value) -> anyhow:
     let mut world = World::new(rt.alloc(), &TWO_A_PAGE)?;
     let begun = world.begin(1, 1, 2, &Call::Put { key, value }); // Ok(Begun { ward: 0, page: 0 })
     let half = world.split(0, 0); // Err(Ward(NotFull))
-    let put = world.hop(1); // Ok(Hopped { ward: 0, hop: Done(New) })
+    let put = world.hop(1); // Ok(Hopped { ward: 0, hop: Done { reply: New, moves: 0, bound: 0 } })
     let told = world.deliver(1, 0, 1); // Err(NoNotice)
     let next = world.begin(2, 1, 1, &Call::Get { key }); // Ok(Begun { ward: 0, page: 0 })
     println!(rt; "{begun:?}\n{half:?}\n{put:?}\n{told:?}\n{next:?}")?;

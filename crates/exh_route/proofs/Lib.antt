@@ -13,6 +13,8 @@ pub mod GoHome
 -- of one_distance and distances_are_few
 pub mod OneDistance
 pub mod DistancesFew
+-- of distances_are_computed
+pub mod DistancesComputed
 -- of distances: the first live page, and the count from there
 pub mod FirstSteps
 -- of distance_laws

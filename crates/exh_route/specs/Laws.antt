@@ -15,6 +15,7 @@ use Rattle.exh_calls.specs.declared.call.Call.{Call}
 use Rattle.exh_calls.specs.declared.call.Call.TheVariants.{Get}
 use Rattle.exh_ward.specs.declared.hop.Hop.TheVariants.{Done, Moved, MustSplit}
 use Rattle.exh_route.specs.Distance.{IsDistance, live_pages}
+use Rattle.exh_route.specs.DistanceFunction.{distance_of}
 use Rattle.exh_route.specs.Moves.{AreMoves, GoesHome}
 use Rattle.exh_route.specs.WardRun.{WardMoment, IsWardRun, answer_of, answers_in, changes_over, named_by}
 
@@ -118,3 +119,7 @@ OneDistance = (pages : List Page) (from pseudokey one other : ℕ) → IsDistanc
 -- a distance in linked pages is at most LIMIT more than the live pages
 abbrev pub DistancesAreFew : Type 0
 DistancesAreFew = (ward : List Bool) (pages : List Page) (from pseudokey distance : ℕ) → AreLinked ward (bare pages) → IsDistance pages from pseudokey distance → distance ≤ LIMIT + live_pages pages
+
+-- there a distance is what the function gives
+abbrev pub DistancesAreComputed : Type 0
+DistancesAreComputed = (ward : List Bool) (pages : List Page) (from pseudokey distance : ℕ) → AreLinked ward (bare pages) → IsDistance pages from pseudokey distance → distance ≡ distance_of pages from pseudokey

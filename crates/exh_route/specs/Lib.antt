@@ -1,5 +1,6 @@
 pub mod WardRun
 pub mod Distance
+pub mod DistanceFunction
 pub mod Moves
 pub mod FirstLive
 pub mod Laws

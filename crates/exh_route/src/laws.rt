@@ -1,7 +1,7 @@
 //! What holds of every list of hops, splits and merges of one ward, and of the ways through it. Each function does
 //! nothing.
 
-ghost use Rattle.exh_route.specs.Laws.{PagesStay, NamedPagesStay, RunsAreOneMaps, RunsKeepWardsSound, GetsGoHome, CallsGoHome, MovesAreOfPseudokeys, MovesComeNearer, OneDistance, DistancesAreFew};
+ghost use Rattle.exh_route.specs.Laws.{PagesStay, NamedPagesStay, RunsAreOneMaps, RunsKeepWardsSound, GetsGoHome, CallsGoHome, MovesAreOfPseudokeys, MovesComeNearer, OneDistance, DistancesAreFew, DistancesAreComputed};
 
 use exh_calls::histories_go_on;
 use exh_keyer::Keyer;
@@ -69,4 +69,9 @@ pub fn one_distance()
 /// In the pages of a legal ward a distance is at most `LIMIT` more than the live pages.
 pub fn distances_are_few()
     ensures { DistancesAreFew }
+{}
+
+/// In the pages of a legal ward a distance is what the function gives.
+pub fn distances_are_computed()
+    ensures { DistancesAreComputed }
 {}

@@ -1,5 +1,5 @@
 -- What holds of lines in every sound world: their text is their responses, and each reply among these is to the last accepted begin of its name.
-use Rattle.std.proofs.Common.{◌≡◌, ℕ, List, [], ◌∷◌, ◌++◌, map, flat_map, IsFalse, Result, Ok, Err, refl, sym, ap, ◌∙◌, subst}
+use Rattle.std.proofs.Common.{◌≡◌, ◌+◌, ℕ, List, [], ◌∷◌, ◌++◌, length, map, flat_map, IsFalse, Result, Ok, Err, refl, sym, ap, ◌∙◌, subst}
 use Rattle.std.specs.Prelude.{nat_eq}
 use Rattle.std.specs.List.{IsDistinct}
 use Rattle.std.specs.Option.{option_map_or}
@@ -8,17 +8,18 @@ use Rattle.exh_keyer.specs.declared.any_keyer.AnyKeyer.{AnyKeyer}
 use Rattle.exh_keyer.specs.Pseudokey.{any_pseudokey}
 use Rattle.exh_text.specs.declared.line_fault.LineFault.{LineFault}
 use Rattle.exh_calls.specs.declared.call.Call.{Call}
-use Rattle.exh_ward.specs.declared.hop.Hop.{Hop as HopOutcome}
-use Rattle.exh_ward.specs.declared.hop.Hop.TheVariants as hops
+use Rattle.exh_world.specs.declared.progress.Progress.{Progress}
+use Rattle.exh_world.specs.declared.progress.Progress.TheVariants as hops
 use Rattle.exh_calls.specs.declared.journal_entry.JournalEntry.{JournalEntry}
 use Rattle.exh_world.specs.InFlight.{Requests}
 use Rattle.exh_world.specs.Run.{answered_by, answered_at, journal_entry_of}
-use Rattle.exh_world.specs.Step.{pseudokey_in, HasBegun, HasHopped, HasEffect, Step}
+use Rattle.exh_world.specs.Step.{pseudokey_in, request_begun, HasBegun, HasHopped, HasEffect, Step}
 use Rattle.exh_world.specs.StepFunction.{result_of, world_after}
 use Rattle.exh_world.specs.declared.event.Event.{Event}
 use Rattle.exh_world.specs.declared.event.Event.TheVariants as events
 use Rattle.exh_world.specs.declared.outcome.Outcome.{Outcome}
 use Rattle.exh_world.specs.declared.outcome.Outcome.TheVariants as outcomes
+use Rattle.exh_world.specs.World.{changes_in}
 use Rattle.exh_world.specs.declared.request.Request.{Request}
 use Rattle.exh_world.specs.declared.step_fault.StepFault.{StepFault}
 use Rattle.exh_world.specs.EffectLemmas.{on_effect, on_refusal}
@@ -64,7 +65,7 @@ module _ (world : ScriptWorld) (before : List Turn) (all : AreBegunLast before w
   goes_begun : (name client copy : ℕ) (call : Call) (ward page : ℕ) (new : ScriptWorld) → HasBegun any_pseudokey world name client copy call ward page new → line_of line ≡ Ok (lines.Step (events.Begin name client copy call))
       → Goes (Said (Begun name ward page)) [] new
   goes_begun name client copy call ward page new has parsed =
-      let request : Request = record { client = client; call = call; pseudokey = pseudokey_in any_pseudokey world call; ward = ward; page = page } in
+      let request : Request = request_begun client call (pseudokey_in any_pseudokey world call) ward page has.distance (length (changes_in world ward)) in
       let response = Said (Begun name ward page) in
       let own : IsBegunLast (before ++ turn_of line response ∷ []) name client call = record {
         front = before;
@@ -86,21 +87,21 @@ module _ (world : ScriptWorld) (before : List Turn) (all : AreBegunLast before w
       }
 
   module _ (name ward : ℕ) (parsed : line_of line ≡ Ok (lines.Step (events.Hop name))) where
-    goes_hopped : (hop : HopOutcome) (new : ScriptWorld) → HasHopped any_pseudokey world name ward hop new
+    goes_hopped : (hop : Progress) (new : ScriptWorld) → HasHopped any_pseudokey world name ward hop new
         → Goes (Said (hop_answer name ward hop)) (map journal_entry_of (answered_at world (events.Hop name) (Ok (outcomes.Hopped ward hop)))) new
-    goes_hopped (hops.Done reply) new has =
+    goes_hopped (hops.Done reply moves bound) new has =
         let P : Requests → Type 0 = Still (Said (Replied name reply)) in
-        let told : map journal_entry_of (answered_at world (events.Hop name) (Ok (outcomes.Hopped ward (hops.Done reply)))) ≡ record { client = has.request.client; call = has.request.call; reply = reply } ∷ [] =
-        ap (λ named. map journal_entry_of (option_map_or (λ request. answered_by world reply request ∷ []) named [])) has.there in
+        let told : map journal_entry_of (answered_at world (events.Hop name) (Ok (outcomes.Hopped ward (hops.Done reply moves bound)))) ≡ record { client = has.request.client; call = has.request.call; reply = reply } ∷ [] =
+        ap (λ named. map journal_entry_of (option_map_or (λ request. answered_by world reply moves bound request ∷ []) named [])) has.there in
         record {
           entered = (has.request.client, has.request.call, told, parsed, all.begun name has.request has.there);
           in_flight = subst P (sym (ap (λ (w : ScriptWorld). w.in_flight) has.after)) (answered world before all line name reply);
         }
     goes_hopped (hops.Moved next) new has =
-        let request : Request = record has.request { page = next } in
+        let request : Request = record has.request { page = next; moves = has.request.moves + 1 } in
         let response = Said (Moved name ward next) in
         let P : Requests → Type 0 = Still response in
-        let moved = ap (λ named. option_map_or (λ (request : Request). insert_entry nat_eq world.in_flight name (record request { page = next })) named world.in_flight) has.there in
+        let moved = ap (λ named. option_map_or (λ (request : Request). insert_entry nat_eq world.in_flight name (record request { page = next; moves = request.moves + 1 })) named world.in_flight) has.there in
         record {
           entered = refl;
           in_flight = subst P (sym (ap (λ (w : ScriptWorld). w.in_flight) has.after ∙ moved))

@@ -15,8 +15,9 @@ use Rattle.exh_ward.specs.HopTable.{HopOf}
 use Rattle.exh_ward.specs.MergeStep.{IsMergeStep}
 use Rattle.exh_ward.specs.SplitStep.{IsSplitStep}
 use Rattle.exh_ward.specs.WardState.{WardState, IsSoundWard}
-use Rattle.exh_ward.specs.declared.hop.Hop.{Hop as HopOutcome}
-use Rattle.exh_ward.specs.declared.hop.Hop.TheVariants.{Done, Moved, MustSplit, Stray}
+use Rattle.exh_world.specs.declared.progress.Progress.{Progress}
+use Rattle.exh_world.specs.declared.progress.Progress.TheVariants.{Done, Moved, MustSplit, Stray}
+use Rattle.exh_world.specs.Progress.{hop_in}
 use Rattle.exh_calls.specs.declared.journal_entry.JournalEntry.{JournalEntry}
 use Rattle.exh_ward.specs.declared.ward_fault.WardFault.TheVariants.{Page}
 use Rattle.exh_route.specs.Laws.{RunsKeepWardsSound}
@@ -136,24 +137,24 @@ module _ (old : ScriptWorld) where
       only_own at number entry own else true is = absurd (else (sym (eqb-true _ _ is) ∙ own))
       only_own at number entry own else false is = refl
 
-      module _ (hop : HopOutcome) (new : ScriptWorld) (has : HasHopped any_pseudokey old name ward hop new) where
+      module _ (hop : Progress) (new : ScriptWorld) (has : HasHopped any_pseudokey old name ward hop new) where
         found : slice_get old.wards has.request.ward ≡ Some has.before
         found = subst (λ n. slice_get old.wards n ≡ Some has.before) has.ward_is has.found
 
         own : ward_of old.ward_bits (any_pseudokey old.keyer (key_of has.request.call)) ≡ has.request.ward
         own = own_ward has.request has.there has.before found
 
-        outcome : HopOf has.before.cap (any_pseudokey has.before.keyer) has.before.pages has.request.page has.request.call hop
+        outcome : HopOf has.before.cap (any_pseudokey has.before.keyer) has.before.pages has.request.page has.request.call (hop_in hop)
         outcome =
             let is = sound.wards has.request.ward has.before found in
-            subst (λ cap. HopOf cap (any_pseudokey has.before.keyer) has.before.pages has.request.page has.request.call hop) (sym is.cap)
-            (subst (λ keyer. HopOf old.cap (any_pseudokey keyer) has.before.pages has.request.page has.request.call hop) (sym is.keyer) has.outcome)
+            subst (λ cap. HopOf cap (any_pseudokey has.before.keyer) has.before.pages has.request.page has.request.call (hop_in hop)) (sym is.cap)
+            (subst (λ keyer. HopOf old.cap (any_pseudokey keyer) has.before.pages has.request.page has.request.call (hop_in hop)) (sym is.keyer) has.outcome)
 
         wards_are : new.wards ≡ slice_set old.wards has.request.ward has.left
         wards_are = ap (λ (w : ScriptWorld). w.wards) has.after ∙ ap (λ n. slice_set old.wards n has.left) has.ward_is
 
         kept : IsSoundWard any_pseudokey has.before → IsSoundWard any_pseudokey has.left
-        kept = by_step has.before has.left (HopAt has.request.page has.request.client has.request.call (Ok hop)) (outcome, has.leaves)
+        kept = by_step has.before has.left (HopAt has.request.page has.request.client has.request.call (Ok (hop_in hop))) (outcome, has.leaves)
 
         abbrev Leaves : List JournalEntry → Type 0
         Leaves entries = AreWardsLeft old entries new
@@ -179,11 +180,11 @@ module _ (old : ScriptWorld) where
               journal = journal ∙ ap (λ is. has.before.journal ++ cond is (entry ∷ []) []) (sym (eq-eqb _ _ of_entry));
             }) (λ number else. only_own has.request.ward number entry of_entry else _ refl)
 
-      by_hop : (hop : HopOutcome) (new : ScriptWorld) → HasHopped any_pseudokey old name ward hop new → AreWardsLeft old (map journal_entry_of (answered_at old (HopOn name) (Ok (Hopped ward hop)))) new
-      by_hop (Done reply) new has =
-          let told : map journal_entry_of (answered_at old (HopOn name) (Ok (Hopped ward (Done reply)))) ≡ record { client = has.request.client; call = has.request.call; reply = reply } ∷ [] =
-          ap (λ named. map journal_entry_of (option_map_or (λ request. answered_by old reply request ∷ []) named [])) has.there in
-          subst (λ entries. AreWardsLeft old entries new) (sym told) (answered (Done reply) new has (record { client = has.request.client; call = has.request.call; reply = reply }) refl has.leaves.journal)
+      by_hop : (hop : Progress) (new : ScriptWorld) → HasHopped any_pseudokey old name ward hop new → AreWardsLeft old (map journal_entry_of (answered_at old (HopOn name) (Ok (Hopped ward hop)))) new
+      by_hop (Done reply moves bound) new has =
+          let told : map journal_entry_of (answered_at old (HopOn name) (Ok (Hopped ward (Done reply moves bound)))) ≡ record { client = has.request.client; call = has.request.call; reply = reply } ∷ [] =
+          ap (λ named. map journal_entry_of (option_map_or (λ request. answered_by old reply moves bound request ∷ []) named [])) has.there in
+          subst (λ entries. AreWardsLeft old entries new) (sym told) (answered (Done reply moves bound) new has (record { client = has.request.client; call = has.request.call; reply = reply }) refl has.leaves.journal)
       by_hop (Moved next) new has = not_answered (Moved next) new has has.leaves
       by_hop MustSplit new has = not_answered MustSplit new has has.leaves
       by_hop Stray new has = not_answered Stray new has has.leaves

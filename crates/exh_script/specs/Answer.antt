@@ -6,8 +6,8 @@ use Rattle.exh_notice.specs.declared.notice.Notice.{Notice}
 use Rattle.exh_text.specs.Contents.{entry_text}
 use Rattle.exh_text.specs.Lines.{newline}
 use Rattle.exh_text.specs.Printing.{printed, place_text, refused_text}
-use Rattle.exh_ward.specs.declared.hop.Hop.{Hop}
-use Rattle.exh_ward.specs.declared.hop.Hop.TheVariants as hops
+use Rattle.exh_world.specs.declared.progress.Progress.{Progress}
+use Rattle.exh_world.specs.declared.progress.Progress.TheVariants as hops
 use Rattle.exh_calls.specs.declared.reply.Reply.{Reply}
 use Rattle.exh_calls.specs.declared.reply.Reply.TheVariants.{Is, None as Absent, New, Was, Full}
 use Rattle.exh_world.specs.declared.event.Event.{Event}
@@ -40,8 +40,8 @@ abbrev pub table_in : Event → ℕ
 table_in (events.Combine copy table) = table
 table_in event = 0
 
-abbrev pub hop_answer : ℕ → ℕ → Hop → Answer
-hop_answer name ward (hops.Done reply) = Replied name reply
+abbrev pub hop_answer : ℕ → ℕ → Progress → Answer
+hop_answer name ward (hops.Done reply moves bound) = Replied name reply
 hop_answer name ward (hops.Moved page) = Moved name ward page
 hop_answer name ward hops.MustSplit = MustSplit name
 hop_answer name ward hops.Stray = Stray name

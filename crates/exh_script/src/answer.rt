@@ -5,8 +5,7 @@ use crate::Refusal;
 use exh_calls::Reply;
 use exh_notice::Notice;
 use exh_prefix::PageNo;
-use exh_ward::Hop;
-use exh_world::{Event, Outcome};
+use exh_world::{Event, Outcome, Progress};
 
 /// What a line of a script is answered, unless it asks for a view. Each variant is one printed line.
 #[derive(Clone, Copy, Debug, PartialEq, Eq)]
@@ -65,14 +64,14 @@ impl Answer {
     }
 
     // What a hop in a ward is answered.
-    fn of_hop(name: u32, ward: u8, hop: &Hop) -> Answer
+    fn of_hop(name: u32, ward: u8, hop: &Progress) -> Answer
         ensures { result ≡ hop_answer name ward hop.now }
     {
         match *hop {
-            Hop::Done(reply) => Answer::Replied { name, reply },
-            Hop::Moved(page) => Answer::Moved { name, ward, page },
-            Hop::MustSplit => Answer::MustSplit { name },
-            Hop::Stray => Answer::Stray { name },
+            Progress::Done { reply, .. } => Answer::Replied { name, reply },
+            Progress::Moved(page) => Answer::Moved { name, ward, page },
+            Progress::MustSplit => Answer::MustSplit { name },
+            Progress::Stray => Answer::Stray { name },
         }
     }
 }

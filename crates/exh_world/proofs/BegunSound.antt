@@ -1,5 +1,5 @@
 -- A world stays sound where a request begins.
-use Rattle.std.proofs.Common.{◌≡◌, ℕ, ◌<◌, ◌^◌, List, [], ◌∷◌, ◌++◌, take, slice_get, Some, refl, sym, ap, ◌∙◌, subst, arith}
+use Rattle.std.proofs.Common.{◌≡◌, ℕ, ◌<◌, ◌^◌, List, [], ◌∷◌, ◌++◌, length, take, slice_get, Some, refl, sym, ap, ◌∙◌, subst, arith}
 use Rattle.exh_prefix.specs.Bits.{bits_of, number_of, word_bits}
 use Rattle.exh_prefix.specs.BitLemmas.{bits_of-number_of, length-bits_of}
 use Rattle.exh_prefix.specs.Prefix.{Begins}
@@ -16,9 +16,10 @@ use Rattle.exh_ward.specs.WardState.{WardState, own_prefix}
 use Rattle.exh_calls.specs.declared.call.Call.{Call}
 use Rattle.exh_world.specs.InFlight.{Requests}
 use Rattle.exh_world.specs.Sound.{LeadsRightIn, IsOnTheWay, IsSoundWorld}
-use Rattle.exh_world.specs.Step.{pseudokey_in}
+use Rattle.exh_route.specs.Distance.{IsDistance}
+use Rattle.exh_world.specs.Step.{pseudokey_in, request_begun}
 use Rattle.exh_prefix.specs.Leading.{ward_of, ward_prefix}
-use Rattle.exh_world.specs.World.{WorldState, numbered}
+use Rattle.exh_world.specs.World.{WorldState, changes_in, numbered}
 use Rattle.exh_world.specs.declared.request.Request.{Request}
 use Rattle.exh_world.specs.RequestLemmas.{AllRequests, all_weaker, all_push}
 use Rattle.exh_world.proofs.WalksBelow.{walk_below}
@@ -67,7 +68,7 @@ module _ {K : Type 0} (pseudokey_of : K → List ℕ → ℕ) (old : WorldState 
   with_requests requests = record old { in_flight = requests }
 
   same_way : (requests : Requests) (request : Request) → IsOnTheWay pseudokey_of old request → IsOnTheWay pseudokey_of (with_requests requests) request
-  same_way requests request is = record { pseudokey_is = is.pseudokey_is; ward = is.ward; there = is.there; begins = is.begins; below = is.below }
+  same_way requests request is = record { pseudokey_is = is.pseudokey_is; ward = is.ward; there = is.there; begins = is.begins; below = is.below; since = is.since; left = is.left; is_left = is.is_left; few = is.few }
 
   pub requests_sound : (requests : Requests) → AllRequests (IsOnTheWay pseudokey_of old) requests → IsSoundWorld pseudokey_of (with_requests requests)
   requests_sound requests all = record {
@@ -82,14 +83,20 @@ module _ {K : Type 0} (pseudokey_of : K → List ℕ → ℕ) (old : WorldState 
   }
 
   pub begun_sound : (name client : ℕ) (call : Call) (table : TableMap) (copy : ℕ) → numbered old.copies copy ≡ Some table
-      → IsSoundWorld pseudokey_of (with_requests (old.in_flight ++ (name, record { client = client; call = call; pseudokey = pseudokey_in pseudokey_of old call; ward = ward_of old.ward_bits (pseudokey_in pseudokey_of old call); page = (walk_of table old.ward_bits (pseudokey_in pseudokey_of old call)).page }) ∷ []))
-  begun_sound name client call table copy is =
+      → (ward : WardState K) → slice_get old.wards (ward_of old.ward_bits (pseudokey_in pseudokey_of old call)) ≡ Some ward
+      → (distance : ℕ) → IsDistance ward.pages (walk_of table old.ward_bits (pseudokey_in pseudokey_of old call)).page (pseudokey_in pseudokey_of old call) distance
+      → IsSoundWorld pseudokey_of (with_requests (old.in_flight
+      ++ (name, request_begun client call (pseudokey_in pseudokey_of old call) (ward_of old.ward_bits (pseudokey_in pseudokey_of old call)) (walk_of table old.ward_bits (pseudokey_in pseudokey_of old call)).page distance (length (changes_in old (ward_of old.ward_bits (pseudokey_in pseudokey_of old call))))) ∷ []))
+  begun_sound name client call table copy is ward there distance is_distance =
       let k = pseudokey_in pseudokey_of old call in
-      let there = ward_there k in
       requests_sound _ (all_push _ old.in_flight name _ sound.requests record {
         pseudokey_is = refl;
-        ward = there.0;
-        there = there.1;
+        ward = ward;
+        there = there;
         begins = ward_begins k;
-        below = walk_ends_below table (sound.copies copy table is) k (sound.words (key_of call)) there.0 there.1;
+        below = walk_ends_below table (sound.copies copy table is) k (sound.words (key_of call)) ward there;
+        since = omega arith;
+        left = distance;
+        is_left = is_distance;
+        few = omega arith;
       })

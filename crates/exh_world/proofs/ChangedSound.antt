@@ -1,5 +1,5 @@
 -- A world stays sound where a ward splits or merges.
-use Rattle.std.proofs.Common.{◌≡◌, ℕ, Bool, List, [], ◌∷◌, ◌++◌, length, drop, slice_get, Some, sym, ap, ◌∙◌, subst, arith}
+use Rattle.std.proofs.Common.{◌≡◌, ℕ, Bool, List, [], ◌∷◌, ◌++◌, length, drop, slice_get, Some, Ok, refl, sym, ap, ◌∙◌, subst, arith}
 use Rattle.std.specs.Prelude.{◌↔◌}
 use Rattle.std.proofs.lemmas.List.{length_push}
 use Rattle.exh_prefix.specs.ListLemmas.{drop_push}
@@ -11,10 +11,12 @@ use Rattle.exh_ward.specs.WardState.{WardState, IsSoundWard}
 use Rattle.exh_table.specs.Table.{table_with}
 use Rattle.exh_ward.specs.MergeStep.{IsMergeStep}
 use Rattle.exh_ward.specs.SplitStep.{IsSplitStep}
+use Rattle.exh_route.specs.DistanceLaws.{StepsAddChanges}
+use Rattle.exh_route.specs.WardRun.{WardEvent, SplitAt, MergeAt, WardStep, changes_by}
 use Rattle.exh_world.specs.Sound.{IsWardOf, IsSoundWorld}
 use Rattle.exh_world.specs.World.{WorldState}
 use Rattle.exh_world.specs.RequestLemmas.{all_weaker}
-use Rattle.exh_world.proofs.SoundKept.{alike_push, after, way_kept, sound_after}
+use Rattle.exh_world.proofs.SoundKept.{KeepsWays, alike_push, after, way_kept, sound_after}
 
 module _ {K : Type 0} (pseudokey_of : K → List ℕ → ℕ) (old : WorldState K) (sound : IsSoundWorld pseudokey_of old) (at : ℕ) (before left : WardState K) (found : slice_get old.wards at ≡ Some before) where
   abbrev pub own : List Bool
@@ -23,9 +25,9 @@ module _ {K : Type 0} (pseudokey_of : K → List ℕ → ℕ) (old : WorldState 
   is_own : IsWardOf pseudokey_of old at before
   is_own = sound.wards at before found
 
-  module _ (notice : Notice) (others : left ≡ record before { pages = left.pages; notices = before.notices ++ notice ∷ []; table = table_with before.table notice }) (places : KeepsPlaces before.pages left.pages) (left_sound : IsSoundWard pseudokey_of left) where
+  module _ (notice : Notice) (others : left ≡ record before { pages = left.pages; notices = before.notices ++ notice ∷ []; table = table_with before.table notice }) (ways : KeepsWays before left) (left_sound : IsSoundWard pseudokey_of left) where
     abbrev new : WorldState K
-    new = after pseudokey_of old sound at before left found places old.in_flight
+    new = after pseudokey_of old sound at before left found ways old.in_flight
 
     notices_are : left.notices ≡ before.notices ++ notice ∷ []
     notices_are = ap (λ (w : WardState K). w.notices) others
@@ -50,14 +52,31 @@ module _ {K : Type 0} (pseudokey_of : K → List ℕ → ℕ) (old : WorldState 
     }
 
     pub changed_sound : IsSoundWorld pseudokey_of new
-    changed_sound = sound_after pseudokey_of old sound at before left found places old.in_flight left_is
-        (all_weaker _ _ (way_kept pseudokey_of old sound at before left found places old.in_flight) old.in_flight sound.requests)
+    changed_sound = sound_after pseudokey_of old sound at before left found ways old.in_flight left_is
+        (all_weaker _ _ (way_kept pseudokey_of old sound at before left found ways old.in_flight) old.in_flight sound.requests)
 
 -- ---- a split, a merge
 
-module _ {K : Type 0} (pseudokey_of : K → List ℕ → ℕ) (old : WorldState K) (sound : IsSoundWorld pseudokey_of old) (at : ℕ) (before left : WardState K) (found : slice_get old.wards at ≡ Some before) (left_sound : IsSoundWard pseudokey_of left) (page : ℕ) (notice : Notice) where
-  pub split_sound : (has : IsSplitStep before page notice left) → IsSoundWorld pseudokey_of (after pseudokey_of old sound at before left found has.places old.in_flight)
-  split_sound has = changed_sound pseudokey_of old sound at before left found notice has.others has.places left_sound
+module _ {K : Type 0} (pseudokey_of : K → List ℕ → ℕ) (old : WorldState K) (sound : IsSoundWorld pseudokey_of old) (at : ℕ) (before left : WardState K) (found : slice_get old.wards at ≡ Some before) (left_sound : IsSoundWard pseudokey_of left) (steps : StepsAddChanges pseudokey_of) (page : ℕ) (notice : Notice) where
+  ways_of : (others : left ≡ record before { pages = left.pages; notices = before.notices ++ notice ∷ []; table = table_with before.table notice }) (places : KeepsPlaces before.pages left.pages)
+      (event : WardEvent) → length (changes_by event) ≡ 1 → WardStep pseudokey_of before event left → KeepsWays before left
+  ways_of others places event one step = record {
+    places = places;
+    more = 1;
+    adds = λ from pseudokey distance is.
+        let farther = steps before left event from pseudokey distance (sound.wards at before found).sound.legal.legal.legal.linked step is in
+        (farther.0, farther.1, omega (arith, farther.2, one));
+    grown = let same = ap (λ (w : WardState K). length w.notices) others in omega (arith, same, length_push before.notices notice);
+  }
 
-  pub merge_sound : (has : IsMergeStep before page notice left) → IsSoundWorld pseudokey_of (after pseudokey_of old sound at before left found has.places old.in_flight)
-  merge_sound has = changed_sound pseudokey_of old sound at before left found notice has.others has.places left_sound
+  pub split_ways : IsSplitStep before page notice left → KeepsWays before left
+  split_ways has = ways_of has.others has.places (SplitAt page (Ok notice)) refl has
+
+  pub merge_ways : IsMergeStep before page notice left → KeepsWays before left
+  merge_ways has = ways_of has.others has.places (MergeAt page (Ok notice)) refl has
+
+  pub split_sound : (has : IsSplitStep before page notice left) → IsSoundWorld pseudokey_of (after pseudokey_of old sound at before left found (split_ways has) old.in_flight)
+  split_sound has = changed_sound pseudokey_of old sound at before left found notice has.others (split_ways has) left_sound
+
+  pub merge_sound : (has : IsMergeStep before page notice left) → IsSoundWorld pseudokey_of (after pseudokey_of old sound at before left found (merge_ways has) old.in_flight)
+  merge_sound has = changed_sound pseudokey_of old sound at before left found notice has.others (merge_ways has) left_sound

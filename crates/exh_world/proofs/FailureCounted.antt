@@ -1,14 +1,13 @@
 -- A world stays sound, and keeps its map, where one of its wards counts more failures.
-use Rattle.std.proofs.Common.{◌≡◌, ℕ, zero, suc, List, [], ◌∷◌, ◌++◌, slice_get, Some, refl, ap}
+use Rattle.std.proofs.Common.{◌≡◌, ℕ, zero, suc, List, [], ◌∷◌, ◌++◌, slice_get, Some, refl, ap, arith}
 use Rattle.std.specs.Prelude.{slice_set, flat_map}
 use Rattle.exh_page.specs.declared.page.Page.{Page}
-use Rattle.exh_legal.specs.Laws.{KeepsPlaces}
 use Rattle.exh_legal.specs.Pages.{map_of}
 use Rattle.exh_ward.specs.WardState.{WardState, IsSoundWard}
 use Rattle.exh_world.specs.RequestLemmas.{all_weaker}
 use Rattle.exh_world.specs.Sound.{IsWardOf, IsSoundWorld}
 use Rattle.exh_world.specs.World.{WorldState, map_in}
-use Rattle.exh_world.proofs.SoundKept.{after, way_kept, sound_after}
+use Rattle.exh_world.proofs.SoundKept.{KeepsWays, after, way_kept, sound_after}
 
 module _ {K : Type 0} (pseudokey_of : K → List ℕ → ℕ) where
   pub counted_ward : (ward : WardState K) (failures : ℕ) → IsSoundWard pseudokey_of ward → IsSoundWard pseudokey_of (record ward { failures = failures })
@@ -26,11 +25,16 @@ module _ {K : Type 0} (pseudokey_of : K → List ℕ → ℕ) (old : WorldState 
   abbrev left : WardState K
   left = record before { failures = failures }
 
-  places : KeepsPlaces before.pages before.pages
-  places number page is = (page, is, refl)
+  ways : KeepsWays before left
+  ways = record {
+    places = λ number page is. (page, is, refl);
+    more = 0;
+    adds = λ from pseudokey distance is. (distance, is, omega arith);
+    grown = omega arith;
+  }
 
   abbrev new : WorldState K
-  new = after pseudokey_of old sound at before left found places old.in_flight
+  new = after pseudokey_of old sound at before left found ways old.in_flight
 
   left_is : IsWardOf pseudokey_of new at left
   left_is = let own = sound.wards at before found in record {
@@ -46,8 +50,8 @@ module _ {K : Type 0} (pseudokey_of : K → List ℕ → ℕ) (old : WorldState 
   }
 
   pub counted_sound : IsSoundWorld pseudokey_of (record old { wards = slice_set old.wards at left })
-  counted_sound = sound_after pseudokey_of old sound at before left found places old.in_flight left_is
-      (all_weaker _ _ (way_kept pseudokey_of old sound at before left found places old.in_flight) old.in_flight sound.requests)
+  counted_sound = sound_after pseudokey_of old sound at before left found ways old.in_flight left_is
+      (all_weaker _ _ (way_kept pseudokey_of old sound at before left found ways old.in_flight) old.in_flight sound.requests)
 
 -- the pages are as before
 same_pages : {K : Type 0} (wards : List (WardState K)) (at : ℕ) (before : WardState K) (failures : ℕ) → slice_get wards at ≡ Some before

@@ -10,6 +10,7 @@ use Rattle.exh_ward.specs.declared.ward_fault.WardFault.TheVariants.{Page}
 use Rattle.exh_world.specs.EffectLemmas.{on_effect}
 use Rattle.exh_world.specs.Laws.{IsCounted, failures_in}
 use Rattle.exh_prefix.specs.ListLemmas.{set_same}
+use Rattle.exh_world.specs.Progress.{hop_in}
 use Rattle.exh_world.specs.Step.{HasEffect, IsRefused, Step}
 use Rattle.exh_world.specs.World.{WorldState}
 use Rattle.exh_world.specs.declared.event.Event.{Event}
@@ -35,7 +36,7 @@ module _ {K : Type 0} (pseudokey_of : K → List ℕ → ℕ) (old : WorldState 
   counts_kept : (event : Event) (outcome : Outcome) (new : WorldState K) → HasEffect pseudokey_of old event outcome new → failures_in new ≡ failures_in old
   counts_kept = on_effect pseudokey_of old (λ event outcome new. failures_in new ≡ failures_in old) record {
     begun = λ name client copy call ward page new has. ap failures_in has.after;
-    hopped = λ name ward hop new has. ap failures_in has.after ∙ same_counts ward has.before has.left has.found (left_count has.before has.left has.request.page has.request.client has.request.call hop has.leaves);
+    hopped = λ name ward hop new has. ap failures_in has.after ∙ same_counts ward has.before has.left has.found (left_count has.before has.left has.request.page has.request.client has.request.call (hop_in hop) has.leaves);
     split = λ ward page notice new has. ap failures_in has.after ∙ same_counts ward has.before has.left has.found (ap (λ (w : WardState K). w.failures) has.change.others);
     merge = λ ward page notice new has. ap failures_in has.after ∙ same_counts ward has.before has.left has.found (ap (λ (w : WardState K). w.failures) has.change.others);
     taken = λ copy ward index notice new has. ap failures_in has.after;
@@ -50,7 +51,7 @@ module _ {K : Type 0} (pseudokey_of : K → List ℕ → ℕ) (old : WorldState 
   no_reason (Merge ward page) is = is.3 refl
   no_reason event is = absurd is
 
-  pub counted_step : (event : Event) (result : Result Outcome StepFault) (new : WorldState K) → Step pseudokey_of old event result new → IsCounted old event result new
+  pub counted_step : (event : Event) (result : Result Outcome StepFault) (new : WorldState K) → Step pseudokey_of old event result new → IsCounted pseudokey_of old event result new
   counted_step event (Ok outcome) new step = record { real = λ page. cc; only = λ other. counts_kept event outcome new step }
   counted_step event (Err fault) new (inl (same, inl reason)) = record {
     real = λ page.

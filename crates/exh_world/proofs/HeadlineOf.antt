@@ -8,7 +8,6 @@ use Rattle.exh_table.specs.Laws.{OwnEntries, OneNoticeMore, UnionIsJoin, Members
 use Rattle.exh_table.specs.Table.{IsTableOf}
 use Rattle.exh_table.specs.TableLemmas.{table_laws}
 use Rattle.exh_table.specs.TableOrder.{table_join}
-use Rattle.exh_ward.specs.declared.hop.Hop.TheVariants.{Stray}
 use Rattle.exh_calls.specs.Laws.{SharersBegin}
 use Rattle.exh_world.specs.Headline.{AreTablesOfTaken, AreEqualCopies, IsCombined, CombinesLeast, IsNamed, DoesNotStray, IsHeadline}
 use Rattle.exh_world.specs.Laws.{AreWardsSound, StepsKeepWorldsSound}
@@ -20,6 +19,7 @@ use Rattle.exh_world.specs.declared.event.Event.{Event}
 use Rattle.exh_world.specs.declared.event.Event.TheVariants.{Combine}
 use Rattle.exh_world.specs.declared.outcome.Outcome.{Outcome}
 use Rattle.exh_world.specs.declared.outcome.Outcome.TheVariants.{Hopped}
+use Rattle.exh_world.specs.declared.progress.Progress.TheVariants.{Stray}
 use Rattle.exh_world.specs.declared.step_fault.StepFault.{StepFault}
 use Rattle.exh_world.specs.declared.turn.Turn.{Turn}
 use Rattle.exh_world.specs.EffectLemmas.{on_effect}

@@ -1,5 +1,5 @@
 -- A world stays sound where a request hops, and no hop of a sound world strays.
-use Rattle.std.proofs.Common.{◌≡◌, ℕ, List, length, drop, slice_get, Some, sym, ap, ◌∙◌, subst, arith}
+use Rattle.std.proofs.Common.{◌≡◌, ℕ, suc, ◌+◌, Ok, List, length, drop, slice_get, Some, sym, ap, ◌∙◌, subst, arith}
 use Rattle.std.specs.Prelude.{slice_set, ◌↔◌}
 use Rattle.exh_prefix.specs.Prefix.{Begins}
 use Rattle.exh_prefix.specs.ListLemmas.{set_same, one_there}
@@ -14,12 +14,16 @@ use Rattle.exh_ward.specs.WardState.{WardState, IsSoundWard, IsAnswered, own_pre
 use Rattle.exh_ward.specs.declared.hop.Hop.TheVariants.{Done, Moved, Stray}
 use Rattle.exh_calls.specs.declared.reply.Reply.{Reply}
 use Rattle.exh_ward.specs.AnswerLemmas.{places_answered}
+use Rattle.exh_route.specs.Distance.{IsDistance}
+use Rattle.exh_route.specs.DistanceLaws.{StepsAddChanges}
+use Rattle.exh_route.specs.Laws.{CanGoOn, MovesComeNearer}
+use Rattle.exh_route.specs.WardRun.{HopAt}
 use Rattle.exh_world.specs.InFlight.{Requests, request_named, requests_after}
 use Rattle.exh_world.specs.Sound.{IsWardOf, IsOnTheWay, IsSoundWorld}
 use Rattle.exh_world.specs.World.{WorldState}
 use Rattle.exh_world.specs.declared.request.Request.{Request}
 use Rattle.exh_world.specs.RequestLemmas.{AllRequests, all_weaker, all_without, all_moved}
-use Rattle.exh_world.proofs.SoundKept.{after, way_kept, sound_after}
+use Rattle.exh_world.proofs.SoundKept.{KeepsWays, after, way_kept, sound_after}
 use Rattle.exh_world.proofs.BegunSound.{requests_sound}
 
 module _ {K : Type 0} (pseudokey_of : K → List ℕ → ℕ) (old : WorldState K) (sound : IsSoundWorld pseudokey_of old) (request : Request) (way : IsOnTheWay pseudokey_of old request) (before : WardState K) (found : slice_get old.wards request.ward ≡ Some before) where
@@ -64,23 +68,40 @@ module _ {K : Type 0} (pseudokey_of : K → List ℕ → ℕ) (old : WorldState 
       let wards_are : old.wards ≡ slice_set old.wards request.ward left = sym (set_same old.wards request.ward before found) ∙ ap (slice_set old.wards request.ward) (sym same) in
       subst (λ wards. IsSoundWorld pseudokey_of (record old { wards = wards; in_flight = requests })) wards_are (requests_sound pseudokey_of old sound requests all)
 
-  pub moved_sound : RightLinksLeadOn → TargetsLeadOn → (name next : ℕ) (left : WardState K) → request_named name old.in_flight ≡ Some request → left ≡ before
+  begins_own : Begins (own_prefix before) (pseudo (key_of request.call))
+  begins_own = subst (λ p. Begins p (pseudo (key_of request.call))) (sym own_is) (subst (Begins (ward_prefix old.ward_bits request.ward)) way.pseudokey_is way.begins)
+
+  -- the distance is one less then
+  pub moved_nearer : MovesComeNearer → (next : ℕ) → HopOf old.cap pseudo before.pages request.page request.call (Moved next) → (left : ℕ) × (way.left ≡ suc left) × IsDistance before.pages next request.pseudokey left
+  moved_nearer moves next hop =
+      let here : IsDistance before.pages request.page request.pseudokey way.left = subst (λ (w : WardState K). IsDistance w.pages request.page request.pseudokey way.left) (one_there old.wards request.ward way.ward before way.there found) way.is_left in
+      let on : CanGoOn (own_prefix before) before.pages request.page (pseudo (key_of request.call)) = record { linked = is_own.sound.legal.legal.legal.linked; word = sound.words (key_of request.call); covered = begins_own; below = below } in
+      let nearer = moves old.cap pseudo (own_prefix before) before.pages request.page request.call next way.left on (subst (λ k. IsDistance before.pages request.page k way.left) way.pseudokey_is here) hop in
+      (nearer.0, nearer.1, subst (λ k. IsDistance before.pages next k nearer.0) (sym way.pseudokey_is) nearer.2)
+
+  pub moved_sound : RightLinksLeadOn → TargetsLeadOn → MovesComeNearer → (name next : ℕ) (left : WardState K) → request_named name old.in_flight ≡ Some request → left ≡ before
       → HopOf old.cap pseudo before.pages request.page request.call (Moved next) → IsSoundWorld pseudokey_of (hopped (requests_after name (Moved next) old.in_flight) left)
-  moved_sound links targets name next left named same hop =
+  moved_sound links targets moves name next left named same hop =
       same_sound (requests_after name (Moved next) old.in_flight) left same
       (all_moved _ name next old.in_flight sound.requests (λ other is.
       let is_request : other ≡ request = let both : Some other ≡ Some request = sym is ∙ named in cc in
-      subst (λ r. IsOnTheWay pseudokey_of old (record r { page = next })) (sym is_request) record {
+      let nearer = moved_nearer moves next hop in
+      subst (λ r. IsOnTheWay pseudokey_of old (record r { page = next; moves = r.moves + 1 })) (sym is_request) record {
         pseudokey_is = way.pseudokey_is;
         ward = before;
         there = found;
         begins = way.begins;
         below = subst (IsBelow before.pages next) (sym way.pseudokey_is) (moved_below links targets next hop);
+        since = way.since;
+        left = nearer.0;
+        is_left = nearer.2;
+        few = omega (arith, way.few, nearer.1);
       }))
 
   -- where the call was answered
-  module _ (left : WardState K) (reply : Reply) (client : ℕ) (answered : IsAnswered pseudokey_of before request.page client request.call reply left) (left_sound : IsSoundWard pseudokey_of left) where
-    pub places : KeepsPlaces before.pages left.pages
+  module _ (left : WardState K) (reply : Reply) (client : ℕ) (answered : IsAnswered pseudokey_of before request.page client request.call reply left) (left_sound : IsSoundWard pseudokey_of left)
+      (steps : StepsAddChanges pseudokey_of) (hop : HopOf old.cap pseudo before.pages request.page request.call (Done reply)) where
+    places : KeepsPlaces before.pages left.pages
     places = subst (KeepsPlaces before.pages) (sym answered.pages) (places_answered before.cap (pseudokey_of before.keyer) before.pages request.page request.call)
 
     notices_are : left.notices ≡ before.notices
@@ -89,7 +110,20 @@ module _ {K : Type 0} (pseudokey_of : K → List ℕ → ℕ) (old : WorldState 
     start_is : left.start ≡ before.start
     start_is = ap (λ (w : WardState K). w.start) answered.others
 
-    left_is : (requests : Requests) → IsWardOf pseudokey_of (after pseudokey_of old sound request.ward before left found places requests) request.ward left
+    own_hop : HopOf before.cap (pseudokey_of before.keyer) before.pages request.page request.call (Done reply)
+    own_hop =
+        subst (λ (keyer : K). HopOf before.cap (pseudokey_of keyer) before.pages request.page request.call (Done reply)) (sym is_own.keyer)
+        (subst (λ cap. HopOf cap pseudo before.pages request.page request.call (Done reply)) (sym is_own.cap) hop)
+
+    pub ways : KeepsWays before left
+    ways = record {
+      places = places;
+      more = 0;
+      adds = λ from pseudokey distance is. steps before left (HopAt request.page client request.call (Ok (Done reply))) from pseudokey distance is_own.sound.legal.legal.legal.linked (own_hop, answered) is;
+      grown = let same = ap length notices_are in omega (arith, same);
+    }
+
+    left_is : (requests : Requests) → IsWardOf pseudokey_of (after pseudokey_of old sound request.ward before left found ways requests) request.ward left
     left_is requests =
         let own = ward_prefix old.ward_bits request.ward in
         record {
@@ -109,5 +143,5 @@ module _ {K : Type 0} (pseudokey_of : K → List ℕ → ℕ) (old : WorldState 
     pub answered_sound : (name : ℕ) → IsSoundWorld pseudokey_of (hopped (requests_after name (Done reply) old.in_flight) left)
     answered_sound name =
         let requests = requests_after name (Done reply) old.in_flight in
-        sound_after pseudokey_of old sound request.ward before left found places requests (left_is requests)
-        (all_without _ name old.in_flight (all_weaker _ _ (way_kept pseudokey_of old sound request.ward before left found places requests) old.in_flight sound.requests))
+        sound_after pseudokey_of old sound request.ward before left found ways requests (left_is requests)
+        (all_without _ name old.in_flight (all_weaker _ _ (way_kept pseudokey_of old sound request.ward before left found ways requests) old.in_flight sound.requests))

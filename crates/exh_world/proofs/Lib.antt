@@ -24,6 +24,8 @@ pub mod StepFacts
 pub mod RunFacts
 pub mod Runs
 pub mod HeadlineOf
+-- of answers_are_bounded
+pub mod BoundedAnswers
 -- of the headline in other words
 pub mod RunWords
 -- of steps_are_computed and steps_have_outcomes

@@ -21,8 +21,6 @@ use Rattle.exh_legal.specs.Pages.{IsAt, IsHome}
 use Rattle.exh_calls.specs.History.{IsHistory, map_left}
 use Rattle.exh_page.specs.KeyMap.{KeyMap}
 use Rattle.exh_calls.specs.MapMachine.{reply_of, map_after}
-use Rattle.exh_ward.specs.declared.hop.Hop.{Hop as HopOutcome}
-use Rattle.exh_ward.specs.declared.hop.Hop.TheVariants.{Done, Moved, MustSplit, Stray}
 use Rattle.exh_calls.specs.declared.journal_entry.JournalEntry.{JournalEntry}
 use Rattle.exh_calls.specs.declared.reply.Reply.{Reply}
 use Rattle.exh_world.specs.EffectLemmas.{on_effect, on_refusal}
@@ -35,6 +33,8 @@ use Rattle.exh_world.specs.declared.event.Event.{Event}
 use Rattle.exh_world.specs.declared.event.Event.TheVariants.{Hop as HopOn, Combine}
 use Rattle.exh_world.specs.declared.outcome.Outcome.{Outcome}
 use Rattle.exh_world.specs.declared.outcome.Outcome.TheVariants.{Hopped, Joined}
+use Rattle.exh_world.specs.declared.progress.Progress.{Progress}
+use Rattle.exh_world.specs.declared.progress.Progress.TheVariants.{Done, Moved, MustSplit, Stray}
 use Rattle.exh_world.specs.declared.request.Request.{Request}
 use Rattle.exh_world.specs.declared.step_fault.StepFault.{StepFault}
 use Rattle.exh_world.specs.declared.turn.Turn.{Turn}
@@ -172,9 +172,9 @@ module _ {K : Type 0} (pseudokey_of : K → List ℕ → ℕ) where
     hop_event = HopOn answers.name
 
     abbrev hop_result : Result Outcome StepFault
-    hop_result = Ok (Hopped answers.ward (Done reply))
+    hop_result = Ok (Hopped answers.ward (Done reply answers.moves answers.bound))
 
-    has : HasHopped pseudokey_of moment.before answers.name answers.ward (Done reply) moment.after
+    has : HasHopped pseudokey_of moment.before answers.name answers.ward (Done reply answers.moves answers.bound) moment.after
     has =
         let P : Event → Result Outcome StepFault → Type 0 = λ e r. Step pseudokey_of moment.before e r moment.after in
         subst (P hop_event) answers.result (subst (λ e. P e moment.turn.result) answers.event step)
@@ -182,10 +182,10 @@ module _ {K : Type 0} (pseudokey_of : K → List ℕ → ℕ) where
     request_is : has.request ≡ request
     request_is = let both : Some has.request ≡ Some request = sym has.there ∙ answers.named in cc
 
-    one_answer : answered_at moment.before hop_event hop_result ≡ answered_by moment.before reply request ∷ []
-    one_answer = ap (λ found. option_map_or (λ request. answered_by moment.before reply request ∷ []) found []) answers.named
+    one_answer : answered_at moment.before hop_event hop_result ≡ answered_by moment.before reply answers.moves answers.bound request ∷ []
+    one_answer = ap (λ found. option_map_or (λ request. answered_by moment.before reply answers.moves answers.bound request ∷ []) found []) answers.named
 
-    named_here : IsNamed first bits (answered_by moment.before reply request)
+    named_here : IsNamed first bits (answered_by moment.before reply answers.moves answers.bound request)
     named_here =
         let P : List Answered → Type 0 = λ answered. AllByRecursion (IsNamed first bits) answered in
         let Q : Event → Result Outcome StepFault → Type 0 = λ e r. P (answered_at moment.before e r) in
@@ -236,17 +236,17 @@ module _ {K : Type 0} (pseudokey_of : K → List ℕ → ℕ) where
 
   -- ---- hops
 
-  abbrev LeadsOn : HopOutcome → Type 0
-  LeadsOn hop = ((reply : Reply) × (hop ≡ Done reply)) ⊎ ((next : ℕ) × (hop ≡ Moved next)) ⊎ (hop ≡ MustSplit)
+  abbrev LeadsOn : Progress → Type 0
+  LeadsOn hop = ((reply : Reply) × (moves : ℕ) × (bound : ℕ) × (hop ≡ Done reply moves bound)) ⊎ ((next : ℕ) × (hop ≡ Moved next)) ⊎ (hop ≡ MustSplit)
 
-  leads_on : (hop : HopOutcome) → hop ≢ Stray → LeadsOn hop
-  leads_on (Done reply) never = inl (reply, refl)
+  leads_on : (hop : Progress) → hop ≢ Stray → LeadsOn hop
+  leads_on (Done reply moves bound) never = inl (reply, moves, bound, refl)
   leads_on (Moved next) never = inr (inl (next, refl))
   leads_on MustSplit never = inr (inr refl)
   leads_on Stray never = absurd (never refl)
 
   abbrev TurnLeadsOn : Turn → Type 0
-  TurnLeadsOn turn = (ward : ℕ) (hop : HopOutcome) → turn.result ≡ Ok (Hopped ward hop) → LeadsOn hop
+  TurnLeadsOn turn = (ward : ℕ) (hop : Progress) → turn.result ≡ Ok (Hopped ward hop) → LeadsOn hop
 
   all_lead : (moments : List (Moment K)) → AllByRecursion (DoesNotStray {K = K}) moments → AllByRecursion TurnLeadsOn (turns_of moments)
   all_lead [] none = tt
@@ -260,10 +260,10 @@ module _ {K : Type 0} (pseudokey_of : K → List ℕ → ℕ) where
   -- ---- the map
 
   abbrev AnswersNone : Turn → Type 0
-  AnswersNone turn = (ward : ℕ) (reply : Reply) → turn.result ≢ Ok (Hopped ward (Done reply))
+  AnswersNone turn = (ward : ℕ) (reply : Reply) (moves bound : ℕ) → turn.result ≢ Ok (Hopped ward (Done reply moves bound))
 
-  no_answer : (world : WorldState K) (event : Event) (result : Result Outcome StepFault) → ((ward : ℕ) (reply : Reply) → result ≢ Ok (Hopped ward (Done reply))) → answered_at world event result ≡ []
-  no_answer world (HopOn name) (Ok (Hopped ward (Done reply))) none = absurd (none ward reply refl)
+  no_answer : (world : WorldState K) (event : Event) (result : Result Outcome StepFault) → ((ward : ℕ) (reply : Reply) (moves bound : ℕ) → result ≢ Ok (Hopped ward (Done reply moves bound))) → answered_at world event result ≡ []
+  no_answer world (HopOn name) (Ok (Hopped ward (Done reply moves bound))) none = absurd (none ward reply moves bound refl)
   no_answer world other came none = refl
 
   no_answers : (moments : List (Moment K)) → AllByRecursion AnswersNone (turns_of moments) → answered_in moments ≡ []
@@ -288,13 +288,13 @@ module _ {K : Type 0} (pseudokey_of : K → List ℕ → ℕ) where
       let cap = start.cap in
       let pseudo = pseudokey_of start.keyer in
       let answered_by_moment : Moment K → List Answered = λ m. answered_at m.before m.turn.event m.turn.result in
-      let Q : Event → Result Outcome StepFault → Type 0 = λ e r. answered_at moment.before e r ≡ answered_by moment.before reply request ∷ [] in
+      let Q : Event → Result Outcome StepFault → Type 0 = λ e r. answered_at moment.before e r ≡ answered_by moment.before reply answers.moves answers.bound request ∷ [] in
       let here : Q moment.turn.event moment.turn.result = subst (λ e. Q e moment.turn.result) (sym answers.event) (subst (Q (HopOn answers.name)) (sym answers.result)
-      (ap (λ found. option_map_or (λ request. answered_by moment.before reply request ∷ []) found []) answers.named)) in
-      let entry : JournalEntry = journal_entry_of (answered_by moment.before reply request) in
+      (ap (λ found. option_map_or (λ request. answered_by moment.before reply answers.moves answers.bound request ∷ []) found []) answers.named)) in
+      let entry : JournalEntry = journal_entry_of (answered_by moment.before reply answers.moves answers.bound request) in
       let whole : map journal_entry_of (answered_in headline.moments) ≡ map journal_entry_of (answered_in front) ++ entry ∷ map journal_entry_of (answered_in back) =
       ap (λ moments. map journal_entry_of (answered_in moments)) are
       ∙ ap (map journal_entry_of) (flat_map-append answered_by_moment front (moment ∷ back))
       ∙ ap (λ answered. map journal_entry_of (answered_in front ++ (answered ++ answered_in back))) here
-      ∙ map-append journal_entry_of (answered_in front) (answered_by moment.before reply request ∷ answered_in back) in
+      ∙ map-append journal_entry_of (answered_in front) (answered_by moment.before reply answers.moves answers.bound request ∷ answered_in back) in
       reply_here cap pseudo (map_in start) (map journal_entry_of (answered_in front)) entry (map journal_entry_of (answered_in back)) (subst (IsHistory cap pseudo (map_in start)) whole headline.one_map.replies)

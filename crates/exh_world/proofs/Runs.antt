@@ -7,6 +7,7 @@ use Rattle.std.proofs.lemmas.List.Elements.{All-from_recursion}
 use Rattle.exh_prefix.specs.ListLemmas.{AllByRecursion-append}
 use Rattle.exh_world.specs.Headline.{IsHeadline}
 use Rattle.exh_world.specs.Laws.{AreWardsSound, RunsCarryTheHeadline}
+use Rattle.exh_world.specs.Moves.{AnswersAreBounded, HasBoundedAnswers}
 use Rattle.exh_world.specs.Run.{Moment, IsRun}
 use Rattle.exh_world.specs.Sound.{IsSoundWorld}
 use Rattle.exh_world.specs.Step.{Step}
@@ -55,6 +56,16 @@ module _ {K : Type 0} (pseudokey_of : K → List ℕ → ℕ) where
       let longer : take (at + 1) events ≡ take at events ++ event ∷ [] = take_more events at event within ∙ ap (λ e. take at events ++ e ∷ []) (sym is) in
       subst (λ ts. HasRun pseudokey_of start (take (at + 1) events) ts next) (sym pushed)
       (subst (λ es. HasRun pseudokey_of start es (turns ++ record { event = event; result = result } ∷ []) next) (sym longer) (goes_on start (take at events) turns now has event result next step sound))
+
+  -- and has bounded answers
+  pub bounded_of : AnswersAreBounded pseudokey_of → (start : WorldState K) (events : List Event) (turns : List Turn) (now : WorldState K) → IsSoundWorld pseudokey_of start
+      → HasRun pseudokey_of start events turns now → HasBoundedAnswers pseudokey_of start turns now
+  bounded_of bounded start events turns now sound has = record {
+    moments = has.moments;
+    turns_are = has.turns_are;
+    run = has.run;
+    bounded = bounded start has.moments now sound (All-from_recursion (λ (moment : Moment K). AreWardsSound pseudokey_of moment.after) has.moments has.wards) has.run;
+  }
 
   -- a run from a sound world carries the headline
   pub headline_of : RunsCarryTheHeadline pseudokey_of → (start : WorldState K) (events : List Event) (turns : List Turn) (now : WorldState K) → IsSoundWorld pseudokey_of start

@@ -1,8 +1,9 @@
 -- A world stays sound where one of its wards changes and every page keeps its number and low bound.
-use Rattle.std.proofs.Common.{◌≡◌, ℕ, Bool, true, List, [], ◌∷◌, ◌++◌, slice_get, Some, inl, inr, sym, ◌∙◌, subst}
+use Rattle.std.proofs.Common.{◌≡◌, ℕ, ◌+◌, ◌-◌, ◌≤◌, Bool, true, List, [], ◌∷◌, ◌++◌, length, drop, slice_get, Option, Some, inl, inr, refl, sym, ap, ◌∙◌, subst, arith}
 use Rattle.std.specs.Prelude.{slice_set, ◌↔◌}
 use Rattle.std.proofs.lemmas.Bool.{cases_eq}
-use Rattle.std.proofs.lemmas.List.{length-set}
+use Rattle.std.proofs.lemmas.List.{length-set, length-drop}
+use Rattle.std.specs.Option.{option_map_or}
 use Rattle.exh_prefix.specs.Prefix.{low_of}
 use Rattle.exh_prefix.specs.ListLemmas.{set_here, set_else, set_is, one_there}
 use Rattle.exh_notice.specs.declared.entry.Kind.{Kind}
@@ -16,9 +17,12 @@ use Rattle.exh_legal.specs.Laws.{KeepsPlaces, IsBelow}
 use Rattle.exh_prefix.specs.Leading.{ward_prefix}
 use Rattle.exh_legal.specs.PlaceLemmas.{page_kept, below_kept}
 use Rattle.exh_ward.specs.WardState.{WardState}
+use Rattle.exh_route.specs.Distance.{IsDistance}
+use Rattle.exh_route.specs.DistanceLaws.{IsDistanceUpTo}
 use Rattle.exh_world.specs.InFlight.{Requests}
+use Rattle.exh_world.specs.Progress.{bound_in}
 use Rattle.exh_world.specs.Sound.{LeadsRight, IsWardOf, LeadsRightIn, IsOnTheWay, IsSoundWorld}
-use Rattle.exh_world.specs.World.{WorldState}
+use Rattle.exh_world.specs.World.{WorldState, changes_in}
 use Rattle.exh_world.specs.declared.request.Request.{Request}
 use Rattle.exh_world.specs.RequestLemmas.{AllRequests}
 
@@ -59,9 +63,25 @@ same_ward pseudokey_of old wards copies sent requests number ward is = record {
   directory = is.directory;
 }
 
+-- ---- how many changes a ward has had
+
+pub count_of : {K : Type 0} (world : WorldState K) (number noticed : ℕ) (ward : WardState K) → slice_get world.wards number ≡ Some ward → slice_get world.noticed number ≡ Some noticed
+    → length (changes_in world number) ≡ length ward.notices - noticed
+count_of {K} world number noticed ward there had =
+    let issued : option_map_or (λ (w : WardState K). w.notices) (slice_get world.wards number) [] ≡ ward.notices = ap (λ (found : Option (WardState K)). option_map_or (λ (w : WardState K). w.notices) found []) there in
+    ap length (ap (λ (found : Option ℕ). option_map_or (λ n. drop n (option_map_or (λ (w : WardState K). w.notices) (slice_get world.wards number) [])) found []) had ∙ ap (drop noticed) issued)
+    ∙ length-drop noticed ward.notices
+
+-- what a step leaves of a ward: each page has its number and low bound, and each distance grew by so many at most as the ward has changes more
+pub record KeepsWays {K : Type 0} (before left : WardState K) : Type 0 where
+  pub places : KeepsPlaces before.pages left.pages
+  pub more : ℕ
+  pub adds : (from pseudokey distance : ℕ) → IsDistance before.pages from pseudokey distance → IsDistanceUpTo left.pages from pseudokey (distance + more)
+  pub grown : length left.notices ≡ length before.notices + more
+
 -- ---- one ward changed
 
-module _ {K : Type 0} (pseudokey_of : K → List ℕ → ℕ) (old : WorldState K) (sound : IsSoundWorld pseudokey_of old) (at : ℕ) (before left : WardState K) (found : slice_get old.wards at ≡ Some before) (places : KeepsPlaces before.pages left.pages) (requests : Requests) where
+module _ {K : Type 0} (pseudokey_of : K → List ℕ → ℕ) (old : WorldState K) (sound : IsSoundWorld pseudokey_of old) (at : ℕ) (before left : WardState K) (found : slice_get old.wards at ≡ Some before) (ways : KeepsWays before left) (requests : Requests) where
   abbrev pub after : WorldState K
   after = record old { wards = slice_set old.wards at left; in_flight = requests }
 
@@ -71,24 +91,57 @@ module _ {K : Type 0} (pseudokey_of : K → List ℕ → ℕ) (old : WorldState 
   leads_after : (table : TableMap) → LeadsRightIn old table → LeadsRightIn after table
   leads_after table leads number ward is = elim (set_is old.wards at number before left ward found is) [
     | inl here ↦
-        let kept = leads_kept before.pages left.pages places (ward_prefix old.ward_bits at) table (leads at before found) in
+        let kept = leads_kept before.pages left.pages ways.places (ward_prefix old.ward_bits at) table (leads at before found) in
         let P : ℕ → WardState K → Type 0 = λ n w. LeadsRight (ward_prefix old.ward_bits n) w.pages table in
         subst (λ n. P n ward) (sym here.0) (subst (λ w. P at w) (sym here.1) kept)
     | inr else ↦ leads number ward else.1
   ]
 
+  -- the ward has so many changes more
+  more_changes : length (changes_in after at) ≡ length (changes_in old at) + ways.more
+  more_changes =
+      let own = sound.wards at before found in
+      let now = count_of after at own.before left (set_here old.wards at before left found) own.noticed in
+      let was = count_of old at own.before before found own.noticed in
+      omega (arith, now, was, ways.grown, own.first)
+
+  -- the others as many
+  same_changes : (number : ℕ) → (number ≡ at → ⊥) → changes_in after number ≡ changes_in old number
+  same_changes number else =
+      let issued : Option (WardState K) → List Notice = λ found. option_map_or (λ (w : WardState K). w.notices) found [] in
+      ap (λ (there : Option (WardState K)). option_map_or (λ n. drop n (issued there)) (slice_get old.noticed number) []) (set_else old.wards at number left else)
+
   -- a request that was on its way still is
   pub way_kept : (request : Request) → IsOnTheWay pseudokey_of old request → IsOnTheWay pseudokey_of after request
   way_kept request is = elim (cases_eq request.ward at) [
-    | inl here ↦ record {
-      pseudokey_is = is.pseudokey_is;
-      ward = left;
-      there = subst (λ n. slice_get (slice_set old.wards at left) n ≡ Some left) (sym here) (set_here old.wards at before left found);
-      begins = is.begins;
-      below = below_kept before.pages left.pages places request.page request.pseudokey
-          (subst (λ (w : WardState K). IsBelow w.pages request.page request.pseudokey) (one_there old.wards at is.ward before (subst (λ n. slice_get old.wards n ≡ Some is.ward) here is.there) found) is.below);
-    }
-    | inr else ↦ record { pseudokey_is = is.pseudokey_is; ward = is.ward; there = set_else old.wards at request.ward left else ∙ is.there; begins = is.begins; below = is.below }
+    | inl here ↦
+        let was : is.ward ≡ before = one_there old.wards at is.ward before (subst (λ n. slice_get old.wards n ≡ Some is.ward) here is.there) found in
+        let farther = ways.adds request.page request.pseudokey is.left (subst (λ (w : WardState K). IsDistance w.pages request.page request.pseudokey is.left) was is.is_left) in
+        let counted : length (changes_in after request.ward) ≡ length (changes_in old request.ward) + ways.more = subst (λ n. length (changes_in after n) ≡ length (changes_in old n) + ways.more) (sym here) more_changes in
+        record {
+          pseudokey_is = is.pseudokey_is;
+          ward = left;
+          there = subst (λ n. slice_get (slice_set old.wards at left) n ≡ Some left) (sym here) (set_here old.wards at before left found);
+          begins = is.begins;
+          below = below_kept before.pages left.pages ways.places request.page request.pseudokey (subst (λ (w : WardState K). IsBelow w.pages request.page request.pseudokey) was is.below);
+          since = omega (arith, is.since, counted);
+          left = farther.0;
+          is_left = farther.1;
+          few = omega (arith, is.few, is.since, farther.2, counted);
+        }
+    | inr else ↦
+        let same = ap length (same_changes request.ward else) in
+        record {
+          pseudokey_is = is.pseudokey_is;
+          ward = is.ward;
+          there = set_else old.wards at request.ward left else ∙ is.there;
+          begins = is.begins;
+          below = is.below;
+          since = omega (arith, is.since, same);
+          left = is.left;
+          is_left = is.is_left;
+          few = omega (arith, is.few, same);
+        }
   ]
 
   pub sound_after : IsWardOf pseudokey_of after at left → AllRequests (IsOnTheWay pseudokey_of after) requests → IsSoundWorld pseudokey_of after

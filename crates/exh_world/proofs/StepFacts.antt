@@ -17,8 +17,6 @@ use Rattle.exh_calls.specs.MapMachine.{map_after}
 use Rattle.exh_ward.specs.WardState.{WardState}
 use Rattle.exh_ward.specs.MergeStep.{IsMergeStep}
 use Rattle.exh_ward.specs.SplitStep.{IsSplitStep}
-use Rattle.exh_ward.specs.declared.hop.Hop.{Hop as HopOutcome}
-use Rattle.exh_ward.specs.declared.hop.Hop.TheVariants.{Done, Moved, MustSplit, Stray}
 use Rattle.exh_calls.specs.Laws.{SharersBegin}
 use Rattle.exh_calls.specs.HistoryLemmas.{MapGoes}
 use Rattle.exh_world.specs.Headline.{IsNamed}
@@ -30,6 +28,8 @@ use Rattle.exh_world.specs.declared.event.Event.{Event}
 use Rattle.exh_world.specs.declared.event.Event.TheVariants.{Begin, Hop as HopOn, Split, Merge, Deliver, Send, Combine, Restart}
 use Rattle.exh_world.specs.declared.outcome.Outcome.{Outcome}
 use Rattle.exh_world.specs.declared.outcome.Outcome.TheVariants.{Begun, Hopped, Changed, Taken, Sent, Joined, Restarted}
+use Rattle.exh_world.specs.declared.progress.Progress.{Progress}
+use Rattle.exh_world.specs.declared.progress.Progress.TheVariants.{Done, Moved, MustSplit, Stray}
 use Rattle.exh_world.specs.EffectLemmas.{on_effect}
 use Rattle.exh_world.proofs.Known.{IsKnown, taken_known, joined_known, sent_known, restarted_known}
 use Rattle.exh_world.proofs.Named.{named}
@@ -68,7 +68,7 @@ module _ {K : Type 0} (pseudokey_of : K → List ℕ → ℕ) (old : WorldState 
 
   -- ---- a hop
 
-  module _ (name ward : ℕ) (hop : HopOutcome) (new : WorldState K) (has : HasHopped pseudokey_of old name ward hop new) where
+  module _ (name ward : ℕ) (hop : Progress) (new : WorldState K) (has : HasHopped pseudokey_of old name ward hop new) where
     way : IsOnTheWay pseudokey_of old has.request
     way = all_named (IsOnTheWay pseudokey_of old) name old.in_flight has.request sound.requests has.there
 
@@ -90,30 +90,30 @@ module _ {K : Type 0} (pseudokey_of : K → List ℕ → ℕ) (old : WorldState 
         let wards : new.wards ≡ old.wards = wards_are ∙ ap (slice_set old.wards has.request.ward) same ∙ set_same old.wards has.request.ward has.before found in
         ap (λ wards. map_of (flat_map (λ (w : WardState K). w.pages) wards)) wards
 
-  hopped : (name ward : ℕ) (hop : HopOutcome) (new : WorldState K) → HasHopped pseudokey_of old name ward hop new → IsSoundWorld pseudokey_of new → IsStepped pseudokey_of old (HopOn name) (Hopped ward hop) new
+  hopped : (name ward : ℕ) (hop : Progress) (new : WorldState K) → HasHopped pseudokey_of old name ward hop new → IsSoundWorld pseudokey_of new → IsStepped pseudokey_of old (HopOn name) (Hopped ward hop) new
   hopped name ward (Moved next) new has new_sound = record { same = hop_same name ward (Moved next) new has; known = hop_known name ward (Moved next) new has; goes = left_alone name ward (Moved next) new has has.leaves; named_all = tt }
   hopped name ward MustSplit new has new_sound = record { same = hop_same name ward MustSplit new has; known = hop_known name ward MustSplit new has; goes = left_alone name ward MustSplit new has has.leaves; named_all = tt }
   hopped name ward Stray new has new_sound = record { same = hop_same name ward Stray new has; known = hop_known name ward Stray new has; goes = left_alone name ward Stray new has has.leaves; named_all = tt }
-  hopped name ward (Done reply) new has new_sound =
-      let there = found name ward (Done reply) new has in
-      let on_way = way name ward (Done reply) new has in
-      let same = hop_same name ward (Done reply) new has in
-      let wards = wards_are name ward (Done reply) new has in
+  hopped name ward (Done reply moves bound) new has new_sound =
+      let there = found name ward (Done reply moves bound) new has in
+      let on_way = way name ward (Done reply moves bound) new has in
+      let same = hop_same name ward (Done reply moves bound) new has in
+      let wards = wards_are name ward (Done reply moves bound) new has in
       let request = has.request in
-      let answered : answered_at old (HopOn name) (Ok (Hopped ward (Done reply))) ≡ answered_by old reply request ∷ [] = ap (λ found. option_map_or (λ request. answered_by old reply request ∷ []) found []) has.there in
+      let answered : answered_at old (HopOn name) (Ok (Hopped ward (Done reply moves bound))) ≡ answered_by old reply moves bound request ∷ [] = ap (λ found. option_map_or (λ request. answered_by old reply moves bound request ∷ []) found []) has.there in
       let begins : Begins (ward_prefix old.ward_bits request.ward) (pseudokey_of old.keyer (key_of request.call)) = subst (Begins (ward_prefix old.ward_bits request.ward)) on_way.pseudokey_is on_way.begins in
       let own_ward = sound.wards request.ward has.before there in
       let left_map : map_of has.left.pages ≡ map_after old.cap (pseudokey_of old.keyer) (map_of has.before.pages) request.call =
       has.leaves.map ∙ ap (λ cap. map_after cap (pseudokey_of has.before.keyer) (map_of has.before.pages) request.call) own_ward.cap ∙ ap (λ keyer. map_after old.cap (pseudokey_of keyer) (map_of has.before.pages) request.call) own_ward.keyer in
       record {
         same = same;
-        known = hop_known name ward (Done reply) new has;
+        known = hop_known name ward (Done reply moves bound) new has;
         goes = subst (λ answered. MapGoes old.cap (pseudokey_of old.keyer) (map_in old) (map journal_entry_of answered) (map_in new)) (sym answered) (
           has.outcome.4 ∙ sym (one_reply pseudokey_of old sound request.ward has.before has.left there new new_sound same.keyer same.bits wards sharers request.call begins),
           map_answered pseudokey_of old sound request.ward has.before has.left there new new_sound same.keyer same.bits wards sharers request.call begins left_map,
         );
         named_all = subst (AllByRecursion (IsNamed old.start old.ward_bits)) (sym answered) (
-          subst (λ k. IsName (ward_leaves old.start (ward_prefix old.ward_bits request.ward) (answered_by old reply request).changes) k (answered_by old reply request).prefix) (sym on_way.pseudokey_is)
+          subst (λ k. IsName (ward_leaves old.start (ward_prefix old.ward_bits request.ward) (answered_by old reply moves bound request).changes) k (answered_by old reply moves bound request).prefix) (sym on_way.pseudokey_is)
               (named pseudokey_of old sound request.ward has.before there (pseudokey_of old.keyer (key_of request.call)) request.page has.outcome.0 has.outcome.1.there has.outcome.2),
           tt,
         );

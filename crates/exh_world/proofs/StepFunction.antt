@@ -8,27 +8,32 @@ use Rattle.exh_notice.specs.declared.notice.Notice.{Notice}
 use Rattle.exh_table.specs.Table.{TableMap, table_with}
 use Rattle.exh_table.specs.TableOrder.{table_join}
 use Rattle.exh_legal.specs.Numbers.{AreNumbered}
+use Rattle.exh_ward.specs.HopTable.{hop_of}
 use Rattle.exh_ward.specs.Laws.{HopsAreComputed, SplitsAreComputed, MergesAreComputed}
 use Rattle.exh_ward.specs.MergeFunction.{merge_of, ward_after_merge}
 use Rattle.exh_ward.specs.MergeStep.{IsMergeStep}
 use Rattle.exh_ward.specs.WardFault.{MergeRefused, SplitRefused, IsStoreFault}
 use Rattle.exh_ward.specs.SplitFunction.{split_of, ward_after_split}
 use Rattle.exh_ward.specs.SplitStep.{IsSplitStep}
-use Rattle.exh_ward.specs.WardState.{WardState, LeavesAfter}
+use Rattle.exh_ward.specs.WardState.{WardState, LeavesAfter, own_prefix}
 use Rattle.exh_calls.specs.declared.call.Call.{Call}
 use Rattle.exh_ward.specs.declared.hop.Hop.{Hop}
 use Rattle.exh_ward.specs.declared.hop.Hop.TheVariants.{Done, Moved, MustSplit, Stray}
 use Rattle.exh_ward.specs.declared.ward_fault.WardFault.{WardFault}
 use Rattle.exh_ward.specs.declared.ward_fault.WardFault.TheVariants.{Memory, Page}
+use Rattle.exh_route.specs.DistanceFunction.{distance_of}
+use Rattle.exh_route.specs.Laws.{DistancesAreComputed}
 use Rattle.exh_world.specs.InFlight.{requests_after}
+use Rattle.exh_world.specs.Progress.{hop_in}
 use Rattle.exh_world.specs.Laws.{HasNumberOfWord, IsComputed}
 use Rattle.exh_world.specs.Sound.{IsSoundWorld}
-use Rattle.exh_world.specs.Step.{IsRefused, HasBegun, HasHopped, HasChanged, HasTaken, HasSent, HasJoined, HasRestarted, HasEffect, Step}
-use Rattle.exh_world.specs.StepFunction.{Stepped, request_from, begun, ward_after_hop, hopped, after_change, with_copy, step_of, result_of, world_after}
-use Rattle.exh_world.specs.World.{WorldState, numbered, issued_in}
+use Rattle.exh_world.specs.Step.{pseudokey_in, request_begun, IsRefused, HasBegun, HasHopped, HasChanged, HasTaken, HasSent, HasJoined, HasRestarted, HasEffect, Step}
+use Rattle.exh_world.specs.StepFunction.{Stepped, pages_in, request_at, request_from, begun, ward_after_hop, hopped, after_change, with_copy, step_of, result_of, world_after}
+use Rattle.exh_world.specs.World.{WorldState, changes_in, numbered, issued_in}
 use Rattle.exh_world.specs.declared.event.Event.{Event}
 use Rattle.exh_world.specs.declared.event.Event.TheVariants.{Begin, Hop as HopOn, Split, Merge, Deliver, Send, Combine, Restart}
 use Rattle.exh_world.specs.declared.outcome.Outcome.{Outcome}
+use Rattle.exh_world.specs.declared.progress.Progress.{Progress}
 use Rattle.exh_world.specs.declared.outcome.Outcome.TheVariants.{Begun, Hopped, Changed, Taken, Sent, Joined, Restarted}
 use Rattle.exh_world.specs.declared.request.Request.{Request}
 use Rattle.exh_world.specs.declared.step_fault.StepFault.{StepFault}
@@ -74,15 +79,21 @@ module _ {K : Type 0} (pseudokey_of : K → List ℕ → ℕ) (old : WorldState 
 
   -- ---- requests
 
-  begun_is : (name client copy : ℕ) (call : Call) (ward page : ℕ) (new : WorldState K) → HasBegun pseudokey_of old name client copy call ward page new → Is (Begin name client copy call) (Ok (Begun ward page)) new
+  begun_is : IsSoundWorld pseudokey_of old → DistancesAreComputed → (name client copy : ℕ) (call : Call) (ward page : ℕ) (new : WorldState K) → HasBegun pseudokey_of old name client copy call ward page new
+      → Is (Begin name client copy call) (Ok (Begun ward page)) new
   unfolding step_of
-  begun_is name client copy call ward page new has =
+  begun_is sound distances name client copy call ward page new has =
       let request = request_from pseudokey_of old client call has.table in
       let computed : step_of pseudokey_of old (Begin name client copy call) ≡ begun old name request = rw (has.free, has.there) refl in
-      let Left : ℕ → ℕ → WorldState K = λ w p. record old { in_flight = old.in_flight ++ (name, record request { ward = w; page = p }) ∷ [] } in
+      let k = pseudokey_in pseudokey_of old call in
+      let pages_are : pages_in old ward ≡ has.before.pages = ap (λ (found : Option (WardState K)). option_map_or (λ (w : WardState K). w.pages) found []) has.found in
+      let linked = (sound.wards ward has.before has.found).sound.legal.legal.legal.linked in
+      let far : has.distance ≡ distance_of (pages_in old ward) page k = distances (own_prefix has.before) has.before.pages page k has.distance linked has.is_distance ∙ sym (ap (λ pages. distance_of pages page k) pages_are) in
+      let Far : ℕ → WorldState K = λ d. record old { in_flight = old.in_flight ++ (name, request_begun client call k ward page d (length (changes_in old ward))) ∷ [] } in
+      let Left : ℕ → ℕ → WorldState K = λ w p. record old { in_flight = old.in_flight ++ (name, request_at old client call k w p) ∷ [] } in
       is_step (Begin name client copy call) (begun old name request) computed (Ok (Begun ward page)) new
       (ap (λ w. Ok (Begun w page)) has.ward_is ∙ ap (λ p. Ok (Begun request.ward p)) has.page_is)
-      (has.after ∙ ap (λ w. Left w page) has.ward_is ∙ ap (Left request.ward) has.page_is)
+      (has.after ∙ ap Far far ∙ ap (λ w. Left w page) has.ward_is ∙ ap (Left request.ward) has.page_is)
 
   left_is : (ward : WardState K) (request : Request) (hop : Hop) (left : WardState K) → LeavesAfter pseudokey_of ward request.page request.client request.call hop left → left ≡ ward_after_hop pseudokey_of ward request hop
   left_is ward request (Done reply) left leaves =
@@ -91,16 +102,18 @@ module _ {K : Type 0} (pseudokey_of : K → List ℕ → ℕ) (old : WorldState 
   left_is ward request MustSplit left leaves = leaves
   left_is ward request Stray left leaves = leaves
 
-  hopped_is : HopsAreComputed → (name ward : ℕ) (hop : Hop) (new : WorldState K) → HasHopped pseudokey_of old name ward hop new → Is (HopOn name) (Ok (Hopped ward hop)) new
+  hopped_is : HopsAreComputed → (name ward : ℕ) (hop : Progress) (new : WorldState K) → HasHopped pseudokey_of old name ward hop new → Is (HopOn name) (Ok (Hopped ward hop)) new
   unfolding step_of
   hopped_is hops name ward hop new has =
       let found : slice_get old.wards has.request.ward ≡ Some has.before = subst (λ n. slice_get old.wards n ≡ Some has.before) has.ward_is has.found in
-      let hop_is = hops old.cap (pseudokey_of old.keyer) has.before.pages has.request.page has.request.call hop has.outcome in
-      let computed : step_of pseudokey_of old (HopOn name) ≡ hopped pseudokey_of old name has.request has.before hop = rw (has.there, found) (ap (hopped pseudokey_of old name has.request has.before) (sym hop_is)) in
-      let Left : ℕ → WardState K → WorldState K = λ n left. record old { wards = slice_set old.wards n left; in_flight = requests_after name hop old.in_flight } in
-      is_step (HopOn name) (hopped pseudokey_of old name has.request has.before hop) computed (Ok (Hopped ward hop)) new
-      (ap (λ n. Ok (Hopped n hop)) has.ward_is)
-      (has.after ∙ ap (λ n. Left n has.left) has.ward_is ∙ ap (Left has.request.ward) (left_is has.before has.request hop has.left has.leaves))
+      let hop_is = hops old.cap (pseudokey_of old.keyer) has.before.pages has.request.page has.request.call (hop_in hop) has.outcome in
+      let computed : step_of pseudokey_of old (HopOn name) ≡ hopped pseudokey_of old name has.request has.before (hop_in hop) =
+      (let here : step_of pseudokey_of old (HopOn name) ≡ hopped pseudokey_of old name has.request has.before (hop_of old.cap (pseudokey_of old.keyer) has.before.pages has.request.page has.request.call) = rw (has.there, found) refl in here)
+      ∙ ap (hopped pseudokey_of old name has.request has.before) (sym hop_is) in
+      let Left : ℕ → WardState K → WorldState K = λ n left. record old { wards = slice_set old.wards n left; in_flight = requests_after name (hop_in hop) old.in_flight } in
+      is_step (HopOn name) (hopped pseudokey_of old name has.request has.before (hop_in hop)) computed (Ok (Hopped ward hop)) new
+      (ap (λ n. Ok (Hopped n hop)) has.ward_is ∙ ap (λ h. Ok (Hopped has.request.ward h)) has.counted)
+      (has.after ∙ ap (λ n. Left n has.left) has.ward_is ∙ ap (Left has.request.ward) (left_is has.before has.request (hop_in hop) has.left has.leaves))
 
   -- ---- copies
 
@@ -237,9 +250,9 @@ module _ {K : Type 0} (pseudokey_of : K → List ℕ → ℕ) (old : WorldState 
 
     -- ---- every step
 
-    effect_is : HopsAreComputed → (event : Event) (outcome : Outcome) (new : WorldState K) → HasEffect pseudokey_of old event outcome new → HasNumberOfWord (Ok outcome) → Is event (Ok outcome) new
-    effect_is hops = on_effect pseudokey_of old (λ event outcome new. HasNumberOfWord (Ok outcome) → Is event (Ok outcome) new) record {
-      begun = λ name client copy call ward page new has fits. begun_is name client copy call ward page new has;
+    effect_is : HopsAreComputed → DistancesAreComputed → (event : Event) (outcome : Outcome) (new : WorldState K) → HasEffect pseudokey_of old event outcome new → HasNumberOfWord (Ok outcome) → Is event (Ok outcome) new
+    effect_is hops distances = on_effect pseudokey_of old (λ event outcome new. HasNumberOfWord (Ok outcome) → Is event (Ok outcome) new) record {
+      begun = λ name client copy call ward page new has fits. begun_is sound distances name client copy call ward page new has;
       hopped = λ name ward hop new has fits. hopped_is hops name ward hop new has;
       split = λ ward page notice new has fits. split_is ward page notice new has;
       merge = λ ward page notice new has fits. merge_is ward page notice new fits has;
@@ -253,8 +266,8 @@ module _ {K : Type 0} (pseudokey_of : K → List ℕ → ℕ) (old : WorldState 
     refusal_computed event fault new same (inl want) = inl (ap Err want, same)
     refusal_computed event fault new same (inr is) = inr (inr (is_step event (Err fault, old) is (Err fault) new refl same))
 
-    pub step_computed : HopsAreComputed → (event : Event) (result : Result Outcome StepFault) (new : WorldState K) → HasNumberOfWord result → Step pseudokey_of old event result new → IsComputed pseudokey_of old event result new
-    step_computed hops event (Ok outcome) new fits step = inr (inr (effect_is hops event outcome new step fits))
-    step_computed hops event (Err fault) new fits (inl (same, inl is)) = refusal_computed event fault new same (refused_is event fault is)
-    step_computed hops event (Err fault) new fits (inl (same, inr memory)) = refusal_computed event fault new same (inl memory)
-    step_computed hops event (Err fault) new fits (inr (page, number, reaches, counted)) = inr (inl (ap Err page, number, reaches, counted))
+    pub step_computed : HopsAreComputed → DistancesAreComputed → (event : Event) (result : Result Outcome StepFault) (new : WorldState K) → HasNumberOfWord result → Step pseudokey_of old event result new → IsComputed pseudokey_of old event result new
+    step_computed hops distances event (Ok outcome) new fits step = inr (inr (effect_is hops distances event outcome new step fits))
+    step_computed hops distances event (Err fault) new fits (inl (same, inl is)) = refusal_computed event fault new same (refused_is event fault is)
+    step_computed hops distances event (Err fault) new fits (inl (same, inr memory)) = refusal_computed event fault new same (inl memory)
+    step_computed hops distances event (Err fault) new fits (inr (page, number, reaches, counted)) = inr (inl (ap Err page, number, reaches, counted))

@@ -1,6 +1,6 @@
 -- What a step is computed to be is what the relation gives.
 use Rattle.std.proofs.Common.{◌≡◌, ℕ, zero, suc, Bool, true, false, List, [], ◌∷◌, ◌++◌, length, find, slice_get, Option, None, Some, Result, Ok, Err, inl, refl, sym, ap, ◌∙◌, subst}
-use Rattle.std.specs.Prelude.{◌≢◌, Contains, nat_eq, is_some}
+use Rattle.std.specs.Prelude.{◌≢◌, Contains, nat_eq, is_some, slice_set}
 use Rattle.std.specs.Option.{option_map_or}
 use Rattle.std.proofs.lemmas.Bool.{eq-eqb, eqb-true, false≢true}
 use Rattle.std.proofs.lemmas.Option.{slice_get_within, get_or_from_slice_get}
@@ -8,8 +8,9 @@ use Rattle.exh_prefix.specs.Prefix.{Begins}
 use Rattle.exh_notice.specs.declared.notice.Notice.{Notice}
 use Rattle.exh_table.specs.Table.{TableMap, table_with}
 use Rattle.exh_table.specs.TableOrder.{table_join}
+use Rattle.exh_table.specs.Walk.{walk_of}
 use Rattle.exh_page.specs.Laws.{AreOfWords}
-use Rattle.exh_prefix.specs.Leading.{ward_prefix}
+use Rattle.exh_prefix.specs.Leading.{ward_of, ward_prefix}
 use Rattle.exh_legal.specs.Pages.{IsLegal}
 use Rattle.exh_calls.specs.Call.{key_of}
 use Rattle.exh_ward.specs.HopTable.{HopOf, hop_of}
@@ -22,10 +23,14 @@ use Rattle.exh_ward.specs.declared.hop.Hop.{Hop}
 use Rattle.exh_ward.specs.declared.hop.Hop.TheVariants.{Done, Moved, MustSplit, Stray}
 use Rattle.exh_ward.specs.declared.ward_fault.WardFault.{WardFault}
 use Rattle.exh_ward.specs.declared.ward_fault.WardFault.TheVariants.{Page}
-use Rattle.exh_world.specs.InFlight.{request_named}
+use Rattle.exh_route.specs.Distance.{IsDistance}
+use Rattle.exh_route.specs.DistanceFunction.{distance_of}
+use Rattle.exh_route.specs.Laws.{CanGoOn, DistancesAreComputed, GetsGoHome}
+use Rattle.exh_world.specs.InFlight.{request_named, requests_after}
 use Rattle.exh_world.specs.Sound.{IsWardOf, IsOnTheWay, IsSoundWorld}
-use Rattle.exh_world.specs.Step.{Step}
-use Rattle.exh_world.specs.StepFunction.{Stepped, request_from, begun, ward_after_hop, hopped, after_change, with_copy, step_of, result_of, world_after}
+use Rattle.exh_world.specs.Progress.{bound_in, progress_of}
+use Rattle.exh_world.specs.Step.{pseudokey_in, HasHopped, Step}
+use Rattle.exh_world.specs.StepFunction.{Stepped, pages_in, request_from, begun, ward_after_hop, hopped, after_change, with_copy, step_of, result_of, world_after}
 use Rattle.exh_world.specs.World.{WorldState, numbered, issued_in}
 use Rattle.exh_world.specs.declared.event.Event.{Event}
 use Rattle.exh_world.specs.declared.event.Event.TheVariants.{Begin, Hop as HopOn, Split, Merge, Deliver, Send, Combine, Restart}
@@ -33,6 +38,8 @@ use Rattle.exh_world.specs.declared.outcome.Outcome.TheVariants.{Taken, Sent, Jo
 use Rattle.exh_world.specs.declared.request.Request.{Request}
 use Rattle.exh_world.specs.declared.step_fault.StepFault.TheVariants.{NameTaken, NoCopy, NoRequest, NoWard, NoNotice, NoTable}
 use Rattle.exh_world.specs.RequestLemmas.{all_named}
+use Rattle.exh_world.proofs.BegunSound.{ward_begins, ward_there, walk_ends_below}
+use Rattle.exh_world.proofs.HopSteps.{hop_of_progress}
 use Rattle.exh_world.proofs.PagesReached.{split_reached, merge_reached}
 use Rattle.exh_world.proofs.StepFunction.{place_of, split_computed, merge_computed}
 
@@ -66,18 +73,6 @@ module _ {K : Type 0} (pseudokey_of : K → List ℕ → ℕ) (old : WorldState 
   comes event stepped is step = let P : Stepped K → Type 0 = λ stepped. Step pseudokey_of old event stepped.0 stepped.1 in subst P (sym is) step
 
   -- ---- copies
-
-  begun_by : (name client copy : ℕ) (call : Call) → request_named name old.in_flight ≡ None → (found : Option TableMap) → numbered old.copies copy ≡ found → Comes (Begin name client copy call)
-  unfolding step_of
-  begun_by name client copy call free None is = comes (Begin name client copy call) (Err NoCopy, old) (rw (free, is) refl) (inl (refl, inl (free, is)))
-  begun_by name client copy call free (Some table) is =
-      comes (Begin name client copy call) (begun old name (request_from pseudokey_of old client call table)) (rw (free, is) refl)
-      (record { free = free; table = table; there = is; ward_is = refl; page_is = refl; after = refl })
-
-  begin_comes : (name client copy : ℕ) (call : Call) (found : Option Request) → request_named name old.in_flight ≡ found → Comes (Begin name client copy call)
-  unfolding step_of
-  begin_comes name client copy call None is = begun_by name client copy call is (numbered old.copies copy) refl
-  begin_comes name client copy call (Some request) is = comes (Begin name client copy call) (Err NameTaken, old) (rw is refl) (inl (refl, inl (ap is_some is)))
 
   send_comes : (copy : ℕ) (found : Option TableMap) → numbered old.copies copy ≡ found → Comes (Send copy)
   unfolding step_of
@@ -147,9 +142,77 @@ module _ {K : Type 0} (pseudokey_of : K → List ℕ → ℕ) (old : WorldState 
     words_of : (number : ℕ) (ward : WardState K) → IsWardOf pseudokey_of old number ward → AreOfWords (pseudokey_of ward.keyer)
     words_of number ward own = subst (λ (keyer : K). AreOfWords (pseudokey_of keyer)) (sym own.keyer) sound.words
 
+    -- ---- begins
+
+    module _ (distances : DistancesAreComputed) (homes : GetsGoHome) (name client copy : ℕ) (call : Call) where
+      abbrev k : ℕ
+      k = pseudokey_in pseudokey_of old call
+
+      abbrev at_ward : ℕ
+      at_ward = ward_of old.ward_bits k
+
+      -- the page that a walk names has the distance that the function gives
+      far_from : (table : TableMap) → numbered old.copies copy ≡ Some table → (ward : WardState K) → slice_get old.wards at_ward ≡ Some ward
+          → IsDistance ward.pages (walk_of table old.ward_bits k).page k (distance_of (pages_in old at_ward) (walk_of table old.ward_bits k).page k)
+      far_from table there ward found =
+          let page = (walk_of table old.ward_bits k).page in
+          let is_own = sound.wards at_ward ward found in
+          let prefix : own_prefix ward ≡ ward_prefix old.ward_bits at_ward = ap (λ bits. ward_prefix bits ward.number) is_own.bits ∙ ap (ward_prefix old.ward_bits) is_own.number_is in
+          let linked = is_own.sound.legal.legal.legal.linked in
+          let on : CanGoOn (own_prefix ward) ward.pages page k = record {
+            linked = linked;
+            word = sound.words (key_of call);
+            covered = subst (λ p. Begins p k) (sym prefix) (ward_begins pseudokey_of old sound k);
+            below = walk_ends_below pseudokey_of old sound table (sound.copies copy table there) k (sound.words (key_of call)) ward found;
+          } in
+          let home = (homes old.cap (pseudokey_of old.keyer) (own_prefix ward) ward.pages page (key_of call) on).0 in
+          let pages_are : pages_in old at_ward ≡ ward.pages = ap (λ (found : Option (WardState K)). option_map_or (λ (w : WardState K). w.pages) found []) found in
+          subst (IsDistance ward.pages page k) (distances (own_prefix ward) ward.pages page k _ linked home.distance ∙ sym (ap (λ pages. distance_of pages page k) pages_are)) home.distance
+
+      begun_by : request_named name old.in_flight ≡ None → (found : Option TableMap) → numbered old.copies copy ≡ found → Comes (Begin name client copy call)
+      unfolding step_of
+      begun_by free None is = comes (Begin name client copy call) (Err NoCopy, old) (rw (free, is) refl) (inl (refl, inl (free, is)))
+      begun_by free (Some table) is =
+          let there = ward_there pseudokey_of old sound k in
+          comes (Begin name client copy call) (begun old name (request_from pseudokey_of old client call table)) (rw (free, is) refl) (record {
+            free = free;
+            table = table;
+            there = is;
+            ward_is = refl;
+            page_is = refl;
+            before = there.0;
+            found = there.1;
+            distance = distance_of (pages_in old at_ward) (walk_of table old.ward_bits k).page k;
+            is_distance = far_from table is there.0 there.1;
+            after = refl;
+          })
+
+      begin_comes : (found : Option Request) → request_named name old.in_flight ≡ found → Comes (Begin name client copy call)
+      unfolding step_of
+      begin_comes None is = begun_by is (numbered old.copies copy) refl
+      begin_comes (Some request) is = comes (Begin name client copy call) (Err NameTaken, old) (rw is refl) (inl (refl, inl (ap is_some is)))
+
     -- ---- hops
 
     module _ (outcomes : HopsHaveOutcomes) (answers : AnswersKeepLegal) (name : ℕ) where
+      has_hopped : (request : Request) → request_named name old.in_flight ≡ Some request → (before : WardState K) → slice_get old.wards request.ward ≡ Some before → (hop : Hop) → HopOf old.cap (pseudokey_of old.keyer) before.pages request.page request.call hop
+          → (left : WardState K) → LeavesAfter pseudokey_of before request.page request.client request.call hop left
+          → HasHopped pseudokey_of old name request.ward (progress_of old request hop) (record old { wards = slice_set old.wards request.ward left; in_flight = requests_after name hop old.in_flight })
+      has_hopped request named before found hop outcome left leaves =
+          let same = hop_of_progress hop request.moves (bound_in old request) in
+          record {
+            request = request;
+            there = named;
+            ward_is = refl;
+            before = before;
+            found = found;
+            outcome = subst (HopOf old.cap (pseudokey_of old.keyer) before.pages request.page request.call) (sym same) outcome;
+            counted = sym (ap (progress_of old request) same);
+            left = left;
+            leaves = subst (λ h. LeavesAfter pseudokey_of before request.page request.client request.call h left) (sym same) leaves;
+            after = ap (λ h. record old { wards = slice_set old.wards request.ward left; in_flight = requests_after name h old.in_flight }) (sym same);
+          }
+
       module _ (request : Request) (named : request_named name old.in_flight ≡ Some request) where
         way : IsOnTheWay pseudokey_of old request
         way = all_named (IsOnTheWay pseudokey_of old) name old.in_flight request sound.requests named
@@ -194,17 +257,7 @@ module _ {K : Type 0} (pseudokey_of : K → List ℕ → ℕ) (old : WorldState 
         hopped_comes =
             let own_outcome = subst (λ (keyer : K). HopOf before.cap (pseudokey_of keyer) before.pages request.page request.call hop) (sym own.keyer)
             (subst (λ cap. HopOf cap (pseudokey_of old.keyer) before.pages request.page request.call hop) (sym own.cap) outcome) in
-            comes (HopOn name) (hopped pseudokey_of old name request before hop) (rw (named, way.there) refl) (record {
-              request = request;
-              there = named;
-              ward_is = refl;
-              before = before;
-              found = way.there;
-              outcome = outcome;
-              left = ward_after_hop pseudokey_of before request hop;
-              leaves = leaves hop own_outcome;
-              after = refl;
-            })
+            comes (HopOn name) (hopped pseudokey_of old name request before hop) (rw (named, way.there) refl) (has_hopped request named before way.there hop outcome (ward_after_hop pseudokey_of before request hop) (leaves hop own_outcome))
 
       hop_comes : (found : Option Request) → request_named name old.in_flight ≡ found → Comes (HopOn name)
       unfolding step_of
@@ -241,12 +294,12 @@ module _ {K : Type 0} (pseudokey_of : K → List ℕ → ℕ) (old : WorldState 
 
     -- ---- every step
 
-    pub step_outcome : HopsHaveOutcomes → AnswersKeepLegal → SplitsHaveOutcomes pseudokey_of → MergesHaveOutcomes pseudokey_of → (event : Event) → Comes event
-    step_outcome hops answers splits merges (Begin name client copy call) = begin_comes name client copy call (request_named name old.in_flight) refl
-    step_outcome hops answers splits merges (HopOn name) = hop_comes hops answers name (request_named name old.in_flight) refl
-    step_outcome hops answers splits merges (Split ward page) = split_comes ward page splits (slice_get old.wards ward) refl
-    step_outcome hops answers splits merges (Merge ward page) = merge_comes ward page merges (slice_get old.wards ward) refl
-    step_outcome hops answers splits merges (Deliver copy ward index) = deliver_comes copy ward index (numbered old.copies copy) refl
-    step_outcome hops answers splits merges (Send copy) = send_comes copy (numbered old.copies copy) refl
-    step_outcome hops answers splits merges (Combine copy table) = combine_comes copy table (numbered old.copies copy) refl
-    step_outcome hops answers splits merges (Restart copy) = restart_comes copy (numbered old.copies copy) refl
+    pub step_outcome : HopsHaveOutcomes → AnswersKeepLegal → DistancesAreComputed → GetsGoHome → SplitsHaveOutcomes pseudokey_of → MergesHaveOutcomes pseudokey_of → (event : Event) → Comes event
+    step_outcome hops answers distances homes splits merges (Begin name client copy call) = begin_comes distances homes name client copy call (request_named name old.in_flight) refl
+    step_outcome hops answers distances homes splits merges (HopOn name) = hop_comes hops answers name (request_named name old.in_flight) refl
+    step_outcome hops answers distances homes splits merges (Split ward page) = split_comes ward page splits (slice_get old.wards ward) refl
+    step_outcome hops answers distances homes splits merges (Merge ward page) = merge_comes ward page merges (slice_get old.wards ward) refl
+    step_outcome hops answers distances homes splits merges (Deliver copy ward index) = deliver_comes copy ward index (numbered old.copies copy) refl
+    step_outcome hops answers distances homes splits merges (Send copy) = send_comes copy (numbered old.copies copy) refl
+    step_outcome hops answers distances homes splits merges (Combine copy table) = combine_comes copy table (numbered old.copies copy) refl
+    step_outcome hops answers distances homes splits merges (Restart copy) = restart_comes copy (numbered old.copies copy) refl

@@ -1,5 +1,5 @@
 -- A step of a sound world leaves it sound, and no hop of it strays.
-use Rattle.std.proofs.Common.{◌≡◌, ℕ, List, [], ◌∷◌, ◌++◌, slice_get, Some, Result, Ok, Err, sym, ap, ◌∙◌, subst}
+use Rattle.std.proofs.Common.{◌≡◌, ℕ, List, [], ◌∷◌, ◌++◌, length, slice_get, Some, Result, Ok, Err, sym, ap, ◌∙◌, subst}
 use Rattle.std.specs.Prelude.{slice_set}
 use Rattle.exh_prefix.specs.ListLemmas.{set_here}
 use Rattle.exh_notice.specs.declared.notice.Notice.{Notice}
@@ -11,14 +11,20 @@ use Rattle.exh_ward.specs.SplitStep.{IsSplitStep}
 use Rattle.exh_calls.specs.declared.call.Call.{Call}
 use Rattle.exh_ward.specs.declared.hop.Hop.{Hop}
 use Rattle.exh_ward.specs.declared.hop.Hop.TheVariants.{Done, Moved, MustSplit, Stray}
+use Rattle.exh_route.specs.Distance.{IsDistance}
+use Rattle.exh_route.specs.DistanceLaws.{StepsAddChanges}
+use Rattle.exh_route.specs.Laws.{MovesComeNearer}
 use Rattle.exh_world.specs.InFlight.{Requests, request_named, requests_after}
 use Rattle.exh_world.specs.Laws.{AreWardsSound}
 use Rattle.exh_world.specs.Sound.{IsOnTheWay, IsSoundWorld}
-use Rattle.exh_world.specs.Step.{pseudokey_in, HasBegun, HasHopped, HasChanged, HasTaken, HasSent, HasJoined, HasRestarted, HasEffect, Step}
+use Rattle.exh_world.specs.Step.{pseudokey_in, request_begun, HasBegun, HasHopped, HasChanged, HasTaken, HasSent, HasJoined, HasRestarted, HasEffect, Step}
 use Rattle.exh_prefix.specs.Leading.{ward_of}
-use Rattle.exh_world.specs.World.{WorldState}
+use Rattle.exh_world.specs.Progress.{hop_in}
+use Rattle.exh_world.specs.World.{WorldState, changes_in}
 use Rattle.exh_world.specs.declared.event.Event.{Event}
 use Rattle.exh_world.specs.declared.outcome.Outcome.{Outcome}
+use Rattle.exh_world.specs.declared.progress.Progress.{Progress}
+use Rattle.exh_world.specs.declared.progress.Progress.TheVariants as progresses
 use Rattle.exh_world.specs.declared.request.Request.{Request}
 use Rattle.exh_world.specs.declared.step_fault.StepFault.{StepFault}
 use Rattle.exh_world.specs.EffectLemmas.{on_effect, on_refusal}
@@ -29,51 +35,61 @@ use Rattle.exh_world.proofs.ChangedSound.{split_sound, merge_sound}
 use Rattle.exh_world.proofs.FailureCounted.{counted_sound}
 use Rattle.exh_world.proofs.ToldSound.{copy_sound, notice_leads, join_leads, sent_sound}
 
+-- what is known of the ways in wards
+pub record WayLaws {K : Type 0} (pseudokey_of : K → List ℕ → ℕ) : Type 0 where
+  pub links : RightLinksLeadOn
+  pub targets : TargetsLeadOn
+  pub moves : MovesComeNearer
+  pub steps : StepsAddChanges pseudokey_of
+
 module _ {K : Type 0} (pseudokey_of : K → List ℕ → ℕ) (old : WorldState K) (sound : IsSoundWorld pseudokey_of old) (new : WorldState K) where
   pub after_begun : (name client copy : ℕ) (call : Call) (ward page : ℕ) → HasBegun pseudokey_of old name client copy call ward page new → IsSoundWorld pseudokey_of new
   after_begun name client copy call ward page begun =
-      let World : ℕ → ℕ → WorldState K = λ w p. record old { in_flight = old.in_flight ++ (name, record { client = client; call = call; pseudokey = pseudokey_in pseudokey_of old call; ward = w; page = p }) ∷ [] } in
+      let k = pseudokey_in pseudokey_of old call in
+      let World : ℕ → ℕ → WorldState K = λ w p. record old { in_flight = old.in_flight ++ (name, request_begun client call k w p begun.distance (length (changes_in old w))) ∷ [] } in
+      let found = subst (λ w. slice_get old.wards w ≡ Some begun.before) begun.ward_is begun.found in
+      let far = subst (λ p. IsDistance begun.before.pages p k begun.distance) begun.page_is begun.is_distance in
       subst (IsSoundWorld pseudokey_of) (sym begun.after)
       (subst (λ w. IsSoundWorld pseudokey_of (World w page)) (sym begun.ward_is)
-      (subst (λ p. IsSoundWorld pseudokey_of (World (ward_of old.ward_bits (pseudokey_in pseudokey_of old call)) p)) (sym begun.page_is) (begun_sound pseudokey_of old sound name client call begun.table copy begun.there)))
+      (subst (λ p. IsSoundWorld pseudokey_of (World (ward_of old.ward_bits k) p)) (sym begun.page_is) (begun_sound pseudokey_of old sound name client call begun.table copy begun.there begun.before found begun.distance far)))
 
-  pub way_of : (name ward : ℕ) (hop : Hop) (hopped : HasHopped pseudokey_of old name ward hop new) → IsOnTheWay pseudokey_of old hopped.request
+  pub way_of : (name ward : ℕ) (hop : Progress) (hopped : HasHopped pseudokey_of old name ward hop new) → IsOnTheWay pseudokey_of old hopped.request
   way_of name ward hop hopped = all_named (IsOnTheWay pseudokey_of old) name old.in_flight hopped.request sound.requests hopped.there
 
   -- ---- hops
 
-  module _ (links : RightLinksLeadOn) (targets : TargetsLeadOn) (name : ℕ) (request : Request) (named : request_named name old.in_flight ≡ Some request) (before left : WardState K) (found : slice_get old.wards request.ward ≡ Some before) (left_sound : IsSoundWard pseudokey_of left) where
+  module _ (laws : WayLaws pseudokey_of) (name : ℕ) (request : Request) (named : request_named name old.in_flight ≡ Some request) (before left : WardState K) (found : slice_get old.wards request.ward ≡ Some before) (left_sound : IsSoundWard pseudokey_of left) where
     way : IsOnTheWay pseudokey_of old request
     way = all_named (IsOnTheWay pseudokey_of old) name old.in_flight request sound.requests named
 
     by_hop : (hop : Hop) → HopOf old.cap (pseudokey_of old.keyer) before.pages request.page request.call hop → LeavesAfter pseudokey_of before request.page request.client request.call hop left
         → IsSoundWorld pseudokey_of (record old { wards = slice_set old.wards request.ward left; in_flight = requests_after name hop old.in_flight })
-    by_hop (Done reply) hop leaves = answered_sound pseudokey_of old sound request way before found left reply request.client leaves left_sound name
-    by_hop (Moved next) hop leaves = moved_sound pseudokey_of old sound request way before found links targets name next left named leaves hop
+    by_hop (Done reply) hop leaves = answered_sound pseudokey_of old sound request way before found left reply request.client leaves left_sound laws.steps hop name
+    by_hop (Moved next) hop leaves = moved_sound pseudokey_of old sound request way before found laws.links laws.targets laws.moves name next left named leaves hop
     by_hop MustSplit hop leaves = same_sound pseudokey_of old sound request way before found old.in_flight left leaves sound.requests
     by_hop Stray hop leaves = same_sound pseudokey_of old sound request way before found old.in_flight left leaves sound.requests
 
-  pub after_hopped : RightLinksLeadOn → TargetsLeadOn → (name ward : ℕ) (hop : Hop) (hopped : HasHopped pseudokey_of old name ward hop new) → IsSoundWard pseudokey_of hopped.left → IsSoundWorld pseudokey_of new
-  after_hopped links targets name ward hop hopped left_sound =
+  pub after_hopped : WayLaws pseudokey_of → (name ward : ℕ) (hop : Progress) (hopped : HasHopped pseudokey_of old name ward hop new) → IsSoundWard pseudokey_of hopped.left → IsSoundWorld pseudokey_of new
+  after_hopped laws name ward hop hopped left_sound =
       let found = subst (λ n. slice_get old.wards n ≡ Some hopped.before) hopped.ward_is hopped.found in
       subst (IsSoundWorld pseudokey_of) (sym hopped.after)
-      (subst (λ n. IsSoundWorld pseudokey_of (record old { wards = slice_set old.wards n hopped.left; in_flight = requests_after name hop old.in_flight })) (sym hopped.ward_is)
-      (by_hop links targets name hopped.request hopped.there hopped.before hopped.left found left_sound hop hopped.outcome hopped.leaves))
+      (subst (λ n. IsSoundWorld pseudokey_of (record old { wards = slice_set old.wards n hopped.left; in_flight = requests_after name (hop_in hop) old.in_flight })) (sym hopped.ward_is)
+      (by_hop laws name hopped.request hopped.there hopped.before hopped.left found left_sound (hop_in hop) hopped.outcome hopped.leaves))
 
-  pub does_not_stray : (name ward : ℕ) → HasHopped pseudokey_of old name ward Stray new → ⊥
+  pub does_not_stray : (name ward : ℕ) → HasHopped pseudokey_of old name ward progresses.Stray new → ⊥
   does_not_stray name ward hopped =
       let found = subst (λ n. slice_get old.wards n ≡ Some hopped.before) hopped.ward_is hopped.found in
-      no_stray pseudokey_of old sound hopped.request (way_of name ward Stray hopped) hopped.before found hopped.outcome
+      no_stray pseudokey_of old sound hopped.request (way_of name ward progresses.Stray hopped) hopped.before found hopped.outcome
 
   -- ---- splits and merges
 
-  pub after_split : (ward page : ℕ) (notice : Notice) (changed : HasChanged IsSplitStep old ward page notice new) → IsSoundWard pseudokey_of changed.left → IsSoundWorld pseudokey_of new
-  after_split ward page notice changed left_sound =
-      subst (IsSoundWorld pseudokey_of) (sym changed.after) (split_sound pseudokey_of old sound ward changed.before changed.left changed.found left_sound page notice changed.change)
+  pub after_split : StepsAddChanges pseudokey_of → (ward page : ℕ) (notice : Notice) (changed : HasChanged IsSplitStep old ward page notice new) → IsSoundWard pseudokey_of changed.left → IsSoundWorld pseudokey_of new
+  after_split steps ward page notice changed left_sound =
+      subst (IsSoundWorld pseudokey_of) (sym changed.after) (split_sound pseudokey_of old sound ward changed.before changed.left changed.found left_sound steps page notice changed.change)
 
-  pub after_merge : (ward page : ℕ) (notice : Notice) (changed : HasChanged IsMergeStep old ward page notice new) → IsSoundWard pseudokey_of changed.left → IsSoundWorld pseudokey_of new
-  after_merge ward page notice changed left_sound =
-      subst (IsSoundWorld pseudokey_of) (sym changed.after) (merge_sound pseudokey_of old sound ward changed.before changed.left changed.found left_sound page notice changed.change)
+  pub after_merge : StepsAddChanges pseudokey_of → (ward page : ℕ) (notice : Notice) (changed : HasChanged IsMergeStep old ward page notice new) → IsSoundWard pseudokey_of changed.left → IsSoundWorld pseudokey_of new
+  after_merge steps ward page notice changed left_sound =
+      subst (IsSoundWorld pseudokey_of) (sym changed.after) (merge_sound pseudokey_of old sound ward changed.before changed.left changed.found left_sound steps page notice changed.change)
 
   -- ---- told
 
@@ -95,7 +111,7 @@ module _ {K : Type 0} (pseudokey_of : K → List ℕ → ℕ) (old : WorldState 
 
 -- ---- every step
 
-module _ {K : Type 0} (pseudokey_of : K → List ℕ → ℕ) (old : WorldState K) (sound : IsSoundWorld pseudokey_of old) (links : RightLinksLeadOn) (targets : TargetsLeadOn) where
+module _ {K : Type 0} (pseudokey_of : K → List ℕ → ℕ) (old : WorldState K) (sound : IsSoundWorld pseudokey_of old) (laws : WayLaws pseudokey_of) where
   -- the ward that a step changed is one of the world after it
   changed_ward : (new : WorldState K) (at : ℕ) (before left : WardState K) (requests : Requests) → slice_get old.wards at ≡ Some before → new ≡ record old { wards = slice_set old.wards at left; in_flight = requests } → AreWardsSound pseudokey_of new
       → IsSoundWard pseudokey_of left
@@ -107,9 +123,9 @@ module _ {K : Type 0} (pseudokey_of : K → List ℕ → ℕ) (old : WorldState 
   pub effect_sound : (event : Event) (outcome : Outcome) (new : WorldState K) → HasEffect pseudokey_of old event outcome new → Keeps event outcome new
   effect_sound = on_effect pseudokey_of old Keeps record {
     begun = λ name client copy call ward page new has wards. after_begun pseudokey_of old sound new name client copy call ward page has;
-    hopped = λ name ward hop new has wards. after_hopped pseudokey_of old sound new links targets name ward hop has (changed_ward new ward has.before has.left (requests_after name hop old.in_flight) has.found has.after wards);
-    split = λ ward page notice new has wards. after_split pseudokey_of old sound new ward page notice has (changed_ward new ward has.before has.left old.in_flight has.found has.after wards);
-    merge = λ ward page notice new has wards. after_merge pseudokey_of old sound new ward page notice has (changed_ward new ward has.before has.left old.in_flight has.found has.after wards);
+    hopped = λ name ward hop new has wards. after_hopped pseudokey_of old sound new laws name ward hop has (changed_ward new ward has.before has.left (requests_after name (hop_in hop) old.in_flight) has.found has.after wards);
+    split = λ ward page notice new has wards. after_split pseudokey_of old sound new laws.steps ward page notice has (changed_ward new ward has.before has.left old.in_flight has.found has.after wards);
+    merge = λ ward page notice new has wards. after_merge pseudokey_of old sound new laws.steps ward page notice has (changed_ward new ward has.before has.left old.in_flight has.found has.after wards);
     taken = λ copy ward index notice new has wards. after_taken pseudokey_of old sound new copy ward index notice has;
     sent = λ copy number new has wards. after_sent pseudokey_of old sound new copy number has;
     joined = λ copy table new has wards. after_joined pseudokey_of old sound new copy table has;

@@ -27,7 +27,7 @@ module _ {K : Type 0} (pseudokey_of : K → List ℕ → ℕ) (old : WorldState 
     with_tables = record old { copies = copies; sent = sent }
 
     same_way : (request : Request) → IsOnTheWay pseudokey_of old request → IsOnTheWay pseudokey_of with_tables request
-    same_way request is = record { pseudokey_is = is.pseudokey_is; ward = is.ward; there = is.there; begins = is.begins; below = is.below }
+    same_way request is = record { pseudokey_is = is.pseudokey_is; ward = is.ward; there = is.there; begins = is.begins; below = is.below; since = is.since; left = is.left; is_left = is.is_left; few = is.few }
 
     pub tables_sound : IsSoundWorld pseudokey_of with_tables
     tables_sound = record {

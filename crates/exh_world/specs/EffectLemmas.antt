@@ -5,7 +5,6 @@ use Rattle.exh_notice.specs.declared.notice.Notice.{Notice}
 use Rattle.exh_ward.specs.MergeStep.{IsMergeStep}
 use Rattle.exh_ward.specs.SplitStep.{IsSplitStep}
 use Rattle.exh_calls.specs.declared.call.Call.{Call}
-use Rattle.exh_ward.specs.declared.hop.Hop.{Hop as HopOutcome}
 use Rattle.exh_ward.specs.WardState.{WardState}
 use Rattle.exh_world.specs.Step.{HasBegun, HasHopped, HasChanged, HasTaken, HasSent, HasJoined, HasRestarted, HasEffect, Step}
 use Rattle.exh_world.specs.World.{WorldState}
@@ -13,12 +12,13 @@ use Rattle.exh_world.specs.declared.event.Event.{Event}
 use Rattle.exh_world.specs.declared.event.Event.TheVariants.{Begin, Hop as HopOn, Split, Merge, Deliver, Send, Combine, Restart}
 use Rattle.exh_world.specs.declared.outcome.Outcome.{Outcome}
 use Rattle.exh_world.specs.declared.outcome.Outcome.TheVariants.{Begun, Hopped, Changed, Taken, Sent, Joined, Restarted}
+use Rattle.exh_world.specs.declared.progress.Progress.{Progress}
 use Rattle.exh_world.specs.declared.step_fault.StepFault.{StepFault}
 
 module _ {K : Type 0} (pseudokey_of : K → List ℕ → ℕ) (old : WorldState K) (P : Event → Outcome → WorldState K → Type 0) where
   pub record ForEach : Type 0 where
     pub begun : (name client copy : ℕ) (call : Call) (ward page : ℕ) (new : WorldState K) → HasBegun pseudokey_of old name client copy call ward page new → P (Begin name client copy call) (Begun ward page) new
-    pub hopped : (name ward : ℕ) (hop : HopOutcome) (new : WorldState K) → HasHopped pseudokey_of old name ward hop new → P (HopOn name) (Hopped ward hop) new
+    pub hopped : (name ward : ℕ) (hop : Progress) (new : WorldState K) → HasHopped pseudokey_of old name ward hop new → P (HopOn name) (Hopped ward hop) new
     pub split : (ward page : ℕ) (notice : Notice) (new : WorldState K) → HasChanged IsSplitStep old ward page notice new → P (Split ward page) (Changed notice) new
     pub merge : (ward page : ℕ) (notice : Notice) (new : WorldState K) → HasChanged IsMergeStep old ward page notice new → P (Merge ward page) (Changed notice) new
     pub taken : (copy ward index : ℕ) (notice : Notice) (new : WorldState K) → HasTaken old copy ward index notice new → P (Deliver copy ward index) (Taken notice) new

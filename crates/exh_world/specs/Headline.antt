@@ -8,11 +8,11 @@ use Rattle.exh_table.specs.Table.{TableMap, IsTableOf}
 use Rattle.exh_table.specs.TableOrder.{IsTableUpTo}
 use Rattle.exh_prefix.specs.Leading.{ward_prefix}
 use Rattle.exh_calls.specs.History.{IsHistory, map_left}
-use Rattle.exh_ward.specs.declared.hop.Hop.TheVariants.{Stray}
 use Rattle.exh_world.specs.Run.{Moment, IsRun, Told, known_by, known_at_end, Answered, answered_in, journal_entry_of}
 use Rattle.exh_world.specs.World.{WorldState, numbered, map_in}
 use Rattle.exh_world.specs.declared.event.Event.TheVariants.{Combine}
 use Rattle.exh_world.specs.declared.outcome.Outcome.TheVariants.{Hopped, Joined}
+use Rattle.exh_world.specs.declared.progress.Progress.TheVariants.{Stray}
 use Rattle.exh_world.specs.declared.turn.Turn.{Turn}
 
 -- what a copy has taken over the turns

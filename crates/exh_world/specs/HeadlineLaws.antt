@@ -10,8 +10,6 @@ use Rattle.exh_legal.specs.Pages.{IsAt}
 use Rattle.exh_calls.specs.MapMachine.{reply_of}
 use Rattle.exh_calls.specs.History.{map_left}
 use Rattle.exh_ward.specs.WardState.{WardState}
-use Rattle.exh_ward.specs.declared.hop.Hop.{Hop as HopOutcome}
-use Rattle.exh_ward.specs.declared.hop.Hop.TheVariants.{Done, Moved, MustSplit}
 use Rattle.exh_calls.specs.declared.reply.Reply.{Reply}
 use Rattle.exh_world.specs.Headline.{IsHeadline}
 use Rattle.exh_world.specs.InFlight.{request_named}
@@ -22,6 +20,8 @@ use Rattle.exh_world.specs.declared.event.Event.{Event}
 use Rattle.exh_world.specs.declared.event.Event.TheVariants.{Hop, Deliver, Combine, Restart}
 use Rattle.exh_world.specs.declared.outcome.Outcome.{Outcome}
 use Rattle.exh_world.specs.declared.outcome.Outcome.TheVariants.{Hopped, Taken, Joined, Restarted}
+use Rattle.exh_world.specs.declared.progress.Progress.{Progress}
+use Rattle.exh_world.specs.declared.progress.Progress.TheVariants.{Done, Moved, MustSplit}
 use Rattle.exh_world.specs.declared.request.Request.{Request}
 use Rattle.exh_world.specs.declared.step_fault.StepFault.{StepFault}
 use Rattle.exh_world.specs.declared.turn.Turn.{Turn}
@@ -103,7 +103,9 @@ pub record Answers {K : Type 0} (moment : Moment K) (request : Request) (reply :
   pub event : moment.turn.event ≡ Hop name
   pub named : request_named name moment.before.in_flight ≡ Some request
   pub ward : ℕ
-  pub result : moment.turn.result ≡ Ok (Hopped ward (Done reply))
+  pub moves : ℕ
+  pub bound : ℕ
+  pub result : moment.turn.result ≡ Ok (Hopped ward (Done reply moves bound))
 
 abbrev pub AnswersComeFromTheOneLeaf : {K : Type 0} → (K → List ℕ → ℕ) → Type 0
 AnswersComeFromTheOneLeaf {K} pseudokey_of = (start : WorldState K) (turns : List Turn) (end : WorldState K) (headline : IsHeadline pseudokey_of start turns end)
@@ -112,13 +114,13 @@ AnswersComeFromTheOneLeaf {K} pseudokey_of = (start : WorldState K) (turns : Lis
 -- each hop answers, moves on, or waits for a split
 abbrev pub HopsLeadOn : {K : Type 0} → (K → List ℕ → ℕ) → Type 0
 HopsLeadOn {K} pseudokey_of = (start : WorldState K) (turns : List Turn) (end : WorldState K) → IsHeadline pseudokey_of start turns end
-    → (turn : Turn) → Contains turns turn → (ward : ℕ) (hop : HopOutcome) → turn.result ≡ Ok (Hopped ward hop)
-    → ((reply : Reply) × (hop ≡ Done reply)) ⊎ ((next : ℕ) × (hop ≡ Moved next)) ⊎ (hop ≡ MustSplit)
+    → (turn : Turn) → Contains turns turn → (ward : ℕ) (hop : Progress) → turn.result ≡ Ok (Hopped ward hop)
+    → ((reply : Reply) × (moves : ℕ) × (bound : ℕ) × (hop ≡ Done reply moves bound)) ⊎ ((next : ℕ) × (hop ≡ Moved next)) ⊎ (hop ≡ MustSplit)
 
 -- a run without answers keeps the map, whatever is split, merged or told
 abbrev pub OnlyAnswersChangeTheMap : {K : Type 0} → (K → List ℕ → ℕ) → Type 0
 OnlyAnswersChangeTheMap {K} pseudokey_of = (start : WorldState K) (turns : List Turn) (end : WorldState K) → IsHeadline pseudokey_of start turns end
-    → All (λ (turn : Turn). (ward : ℕ) (reply : Reply) → turn.result ≢ Ok (Hopped ward (Done reply))) turns → map_in end ≡ map_in start
+    → All (λ (turn : Turn). (ward : ℕ) (reply : Reply) (moves bound : ℕ) → turn.result ≢ Ok (Hopped ward (Done reply moves bound))) turns → map_in end ≡ map_in start
 
 -- an answer is the map machine's, over the map that the answers before it leave of the map at the start
 abbrev pub RepliesFollowTheAnswersBefore : {K : Type 0} → (K → List ℕ → ℕ) → Type 0

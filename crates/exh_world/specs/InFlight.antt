@@ -1,5 +1,5 @@
 -- The requests in flight: pairs of a name and a request, in the order begun.
-use Rattle.std.specs.Prelude.{ℕ, nat_eq, List, Option}
+use Rattle.std.specs.Prelude.{◌≡◌, ℕ, ◌+◌, ◌<◌, ◌^◌, nat_eq, List, Option, Some}
 use Rattle.std.specs.Map.{lookup, remove_entry}
 use Rattle.std.specs.Option.{option_map_or}
 use Rattle.indexmap.specs.IndexMap.{insert_entry}
@@ -14,9 +14,13 @@ Requests = List (ℕ × Request)
 abbrev pub request_named : ℕ → Requests → Option Request
 request_named name requests = lookup (nat_eq name) requests
 
--- the request of a name stands at another page now, in its old place
+-- the request of a name stands at another page now, after one move more, in its old place
 abbrev pub moved_to : ℕ → ℕ → Requests → Requests
-moved_to name next requests = option_map_or (λ request. insert_entry nat_eq requests name (record request { page = next })) (request_named name requests) requests
+moved_to name next requests = option_map_or (λ request. insert_entry nat_eq requests name (record request { page = next; moves = request.moves + 1 })) (request_named name requests) requests
+
+-- there is room in 64 bits for one move more
+abbrev pub HasRoom : ℕ → Requests → Type 0
+HasRoom name requests = (request : Request) → request_named name requests ≡ Some request → request.moves + 1 < 2 ^ 64
 
 -- the others, in their order
 abbrev pub without : ℕ → Requests → Requests

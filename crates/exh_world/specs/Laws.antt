@@ -31,12 +31,12 @@ abbrev pub failures_in : {K : Type 0} → WorldState K → List ℕ
 failures_in world = map (λ ward. ward.failures) world.wards
 
 -- a page out of reach is answered only where the ward that the event reaches into counts it, and no other answer comes with another count
-pub record IsCounted {K : Type 0} (old : WorldState K) (event : Event) (result : Result Outcome StepFault) (new : WorldState K) : Type 0 where
-  pub real : result ≡ Err (Ward Page) → (number : ℕ) × ReachesInto old event number × CountsFailure old number new
+pub record IsCounted {K : Type 0} (pseudokey_of : K → List ℕ → ℕ) (old : WorldState K) (event : Event) (result : Result Outcome StepFault) (new : WorldState K) : Type 0 where
+  pub real : result ≡ Err (Ward Page) → (number : ℕ) × ReachesInto pseudokey_of old event number × CountsFailure old number new
   pub only : result ≢ Err (Ward Page) → failures_in new ≡ failures_in old
 
 abbrev pub PageFaultsAreCounted : {K : Type 0} → (K → List ℕ → ℕ) → Type 0
-PageFaultsAreCounted {K} pseudokey_of = (old : WorldState K) (event : Event) (result : Result Outcome StepFault) (new : WorldState K) → Step pseudokey_of old event result new → IsCounted old event result new
+PageFaultsAreCounted {K} pseudokey_of = (old : WorldState K) (event : Event) (result : Result Outcome StepFault) (new : WorldState K) → Step pseudokey_of old event result new → IsCounted pseudokey_of old event result new
 
 -- a notice that the step issued has a number of 32 bits
 abbrev pub HasNumberOfWord : Result Outcome StepFault → Type 0
@@ -47,7 +47,7 @@ HasNumberOfWord result = ⊤
 abbrev pub IsComputed : {K : Type 0} → (K → List ℕ → ℕ) → WorldState K → Event → Result Outcome StepFault → WorldState K → Type 0
 IsComputed pseudokey_of old event result new =
     ((result ≡ Err (Ward Memory)) × (new ≡ old))
-    ⊎ ((result ≡ Err (Ward Page)) × (number : ℕ) × ReachesInto old event number × CountsFailure old number new)
+    ⊎ ((result ≡ Err (Ward Page)) × (number : ℕ) × ReachesInto pseudokey_of old event number × CountsFailure old number new)
     ⊎ ((result ≡ result_of pseudokey_of old event) × (new ≡ world_after pseudokey_of old event))
 
 abbrev pub StepsAreComputed : {K : Type 0} → (K → List ℕ → ℕ) → Type 0

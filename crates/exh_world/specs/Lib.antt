@@ -1,5 +1,6 @@
 pub mod InFlight
 pub mod World
+pub mod Progress
 pub mod Step
 pub mod StepFunction
 pub mod Run
@@ -7,6 +8,7 @@ pub mod Headline
 pub mod HeadlineLaws
 pub mod Sound
 pub mod Laws
+pub mod Moves
 pub mod StepFault
 pub mod Kept
 pub mod NewWorld

@@ -1,5 +1,5 @@
 -- What holds of all requests in flight holds after one begins, moves or is answered.
-use Rattle.std.proofs.Common.{◌≡◌, ℕ, Bool, true, false, cond, [], ◌∷◌, ◌++◌, Option, None, Some, refl, subst}
+use Rattle.std.proofs.Common.{◌≡◌, ◌+◌, ℕ, Bool, true, false, cond, [], ◌∷◌, ◌++◌, Option, None, Some, refl, subst}
 use Rattle.std.specs.Prelude.{nat_eq}
 use Rattle.std.specs.List.{AllByRecursion}
 use Rattle.std.specs.Option.{option_map_or}
@@ -39,11 +39,11 @@ module _ (P : Request → Type 0) where
   all_written name request [] all own = (own, tt)
   all_written name request (e ∷ requests) all own = written_at (nat_eq name e.0) e request requests (insert_entry nat_eq requests name request) all.0 own all.1 (all_written name request requests all.1 own)
 
-  pub all_moved : (name next : ℕ) (requests : Requests) → AllRequests P requests → ((request : Request) → request_named name requests ≡ Some request → P (record request { page = next })) → AllRequests P (moved_to name next requests)
+  pub all_moved : (name next : ℕ) (requests : Requests) → AllRequests P requests → ((request : Request) → request_named name requests ≡ Some request → P (record request { page = next; moves = request.moves + 1 })) → AllRequests P (moved_to name next requests)
   all_moved name next requests all own =
-      elim (request_named name requests) as (λ found. request_named name requests ≡ found → AllRequests P (option_map_or (λ request. insert_entry nat_eq requests name (record request { page = next })) found requests)) [
+      elim (request_named name requests) as (λ found. request_named name requests ≡ found → AllRequests P (option_map_or (λ request. insert_entry nat_eq requests name (record request { page = next; moves = request.moves + 1 })) found requests)) [
         | None ↦ λ is. all
-        | Some request ↦ λ is. all_written name (record request { page = next }) requests all (own request is)
+        | Some request ↦ λ is. all_written name (record request { page = next; moves = request.moves + 1 }) requests all (own request is)
       ] refl
 
 -- a weaker property

@@ -7,7 +7,6 @@ use Rattle.exh_notice.specs.declared.notice.Notice.{Notice}
 use Rattle.exh_table.specs.Table.{told_by}
 use Rattle.exh_page.specs.declared.page.Page.{Page}
 use Rattle.exh_page.specs.declared.page.Page.TheVariants.{Live, Forward}
-use Rattle.exh_ward.specs.declared.hop.Hop.TheVariants.{Done}
 use Rattle.exh_calls.specs.declared.reply.Reply.{Reply}
 use Rattle.exh_calls.specs.declared.journal_entry.JournalEntry.{JournalEntry}
 use Rattle.exh_world.specs.InFlight.{request_named}
@@ -17,6 +16,7 @@ use Rattle.exh_world.specs.declared.event.Event.{Event}
 use Rattle.exh_world.specs.declared.event.Event.TheVariants.{Hop as HopOn, Deliver, Send, Combine, Restart}
 use Rattle.exh_world.specs.declared.outcome.Outcome.{Outcome}
 use Rattle.exh_world.specs.declared.outcome.Outcome.TheVariants.{Hopped, Taken, Sent, Joined, Restarted}
+use Rattle.exh_world.specs.declared.progress.Progress.TheVariants.{Done}
 use Rattle.exh_world.specs.declared.request.Request.{Request}
 use Rattle.exh_world.specs.declared.step_fault.StepFault.{StepFault}
 use Rattle.exh_world.specs.declared.turn.Turn.{Turn}
@@ -66,12 +66,14 @@ known_at_end start known (turn ∷ turns) = known_at_end start (known_after star
 
 -- ---- what was answered
 
--- an answering hop: the request, the reply, the prefix of the page, and the ward's changes before it
+-- an answering hop: the request, the reply, the prefix of the page, the ward's changes before it, and the request's moves with their bound
 pub record Answered : Type 0 where
   pub request : Request
   pub reply : Reply
   pub prefix : List Bool
   pub changes : List Notice
+  pub moves : ℕ
+  pub bound : ℕ
 
 abbrev pub prefix_of : Page → List Bool
 prefix_of (Live prefix right records) = prefix
@@ -81,11 +83,11 @@ prefix_of (Forward low target) = []
 abbrev pub prefix_at : {K : Type 0} → WorldState K → ℕ → ℕ → List Bool
 prefix_at world ward page = option_map_or (λ state. option_map_or prefix_of (slice_get state.pages page) []) (slice_get world.wards ward) []
 
-abbrev pub answered_by : {K : Type 0} → WorldState K → Reply → Request → Answered
-answered_by world reply request = record { request = request; reply = reply; prefix = prefix_at world request.ward request.page; changes = changes_in world request.ward }
+abbrev pub answered_by : {K : Type 0} → WorldState K → Reply → ℕ → ℕ → Request → Answered
+answered_by world reply moves bound request = record { request = request; reply = reply; prefix = prefix_at world request.ward request.page; changes = changes_in world request.ward; moves = moves; bound = bound }
 
 abbrev pub answered_at : {K : Type 0} → WorldState K → Event → Result Outcome StepFault → List Answered
-answered_at world (HopOn name) (Ok (Hopped ward (Done reply))) = option_map_or (λ request. answered_by world reply request ∷ []) (request_named name world.in_flight) []
+answered_at world (HopOn name) (Ok (Hopped ward (Done reply moves bound))) = option_map_or (λ request. answered_by world reply moves bound request ∷ []) (request_named name world.in_flight) []
 answered_at world event result = []
 
 -- the answering hops of a run, in order

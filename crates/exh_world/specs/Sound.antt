@@ -1,5 +1,5 @@
 -- What every world keeps.
-use Rattle.std.specs.Prelude.{◌≡◌, ◌↔◌, ℕ, ◌^◌, ◌<◌, ◌≤◌, Bool, true, List, [], ◌∷◌, ◌++◌, length, drop, slice_get, Some}
+use Rattle.std.specs.Prelude.{◌≡◌, ◌↔◌, ℕ, ◌+◌, ◌^◌, ◌<◌, ◌≤◌, Bool, true, List, [], ◌∷◌, ◌++◌, length, drop, slice_get, Some}
 use Rattle.std.specs.List.{AllByRecursion}
 use Rattle.exh_prefix.specs.declared.prefix.TheConstants.{LIMIT}
 use Rattle.exh_prefix.specs.Prefix.{IsFront, Begins, low_of}
@@ -12,7 +12,9 @@ use Rattle.exh_prefix.specs.Leading.{ward_prefix}
 use Rattle.exh_calls.specs.Call.{key_of}
 use Rattle.exh_legal.specs.Laws.{IsBelow}
 use Rattle.exh_ward.specs.WardState.{WardState, IsSoundWard}
-use Rattle.exh_world.specs.World.{WorldState, numbered}
+use Rattle.exh_route.specs.Distance.{IsDistance}
+use Rattle.exh_world.specs.Progress.{bound_in}
+use Rattle.exh_world.specs.World.{WorldState, changes_in, numbered}
 use Rattle.exh_world.specs.declared.request.Request.{Request}
 
 -- each split of the table in the ward has the page of its right child's low bound
@@ -43,6 +45,11 @@ pub record IsOnTheWay {K : Type 0} (pseudokey_of : K → List ℕ → ℕ) (worl
   pub there : slice_get world.wards request.ward ≡ Some ward
   pub begins : Begins (ward_prefix world.ward_bits request.ward) request.pseudokey
   pub below : IsBelow ward.pages request.page request.pseudokey
+  -- its moves, and those that are left, are at most its distance when begun and the changes in its ward since
+  pub since : request.changes ≤ length (changes_in world request.ward)
+  pub left : ℕ
+  pub is_left : IsDistance ward.pages request.page request.pseudokey left
+  pub few : left + request.moves ≤ bound_in world request
 
 pub record IsSoundWorld {K : Type 0} (pseudokey_of : K → List ℕ → ℕ) (world : WorldState K) : Type 0 where
   pub bits : world.ward_bits ≤ LIMIT

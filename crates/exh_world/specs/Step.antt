@@ -11,16 +11,18 @@ use Rattle.exh_ward.specs.MergeStep.{IsMergeStep}
 use Rattle.exh_ward.specs.WardFault.{MergeRefused, SplitRefused}
 use Rattle.exh_ward.specs.SplitStep.{IsSplitStep}
 use Rattle.exh_calls.specs.declared.call.Call.{Call}
-use Rattle.exh_ward.specs.declared.hop.Hop.{Hop}
 use Rattle.exh_ward.specs.declared.ward_fault.WardFault.{WardFault}
 use Rattle.exh_ward.specs.declared.ward_fault.WardFault.TheVariants.{Memory, Page}
+use Rattle.exh_route.specs.Distance.{IsDistance}
 use Rattle.exh_world.specs.InFlight.{request_named, requests_after}
+use Rattle.exh_world.specs.Progress.{hop_in, progress_of}
 use Rattle.exh_prefix.specs.Leading.{ward_of}
-use Rattle.exh_world.specs.World.{WorldState, numbered, issued_in}
+use Rattle.exh_world.specs.World.{WorldState, numbered, changes_in, issued_in}
 use Rattle.exh_world.specs.declared.event.Event.{Event}
 use Rattle.exh_world.specs.declared.event.Event.TheVariants.{Begin, Hop as HopOn, Split, Merge, Deliver, Send, Combine, Restart}
 use Rattle.exh_world.specs.declared.outcome.Outcome.{Outcome}
 use Rattle.exh_world.specs.declared.outcome.Outcome.TheVariants.{Begun, Hopped, Changed, Taken, Sent, Joined, Restarted}
+use Rattle.exh_world.specs.declared.progress.Progress.{Progress}
 use Rattle.exh_world.specs.declared.request.Request.{Request}
 use Rattle.exh_world.specs.declared.step_fault.StepFault.{StepFault}
 use Rattle.exh_world.specs.declared.step_fault.StepFault.TheVariants.{NameTaken, NoCopy, NoRequest, NoWard, NoNotice, NoTable, Ward}
@@ -63,12 +65,14 @@ pub record CountsFailure {K : Type 0} (old : WorldState K) (ward : ℕ) (new : W
   pub more : before.failures < failures
   pub after : new ≡ record old { wards = slice_set old.wards ward (record before { failures = failures }) }
 
--- the ward whose pages an event reaches for: that of a request that hops, and that of a split or merge; no other event reaches for one
-abbrev pub ReachesInto : {K : Type 0} → WorldState K → Event → ℕ → Type 0
-ReachesInto world (HopOn name) number = (request : Request) × (request_named name world.in_flight ≡ Some request) × (number ≡ request.ward)
-ReachesInto world (Split ward page) number = number ≡ ward
-ReachesInto world (Merge ward page) number = number ≡ ward
-ReachesInto world event number = ⊥
+-- the ward whose pages an event reaches for: that of a request that begins or hops, and that of a split or merge; no other event reaches for one
+abbrev pub ReachesInto : {K : Type 0} → (K → List ℕ → ℕ) → WorldState K → Event → ℕ → Type 0
+ReachesInto pseudokey_of world (Begin name client copy call) number =
+    (request_named name world.in_flight ≡ None) × IsSome (numbered world.copies copy) × (number ≡ ward_of world.ward_bits (pseudokey_in pseudokey_of world call))
+ReachesInto pseudokey_of world (HopOn name) number = (request : Request) × (request_named name world.in_flight ≡ Some request) × (number ≡ request.ward)
+ReachesInto pseudokey_of world (Split ward page) number = number ≡ ward
+ReachesInto pseudokey_of world (Merge ward page) number = number ≡ ward
+ReachesInto pseudokey_of world event number = ⊥
 
 -- What a refusal leaves: for a reason that holds, and for want of memory, which may stand at any call, the world as it was. That a page is out of
 -- reach is answered only where a ward that the call reaches into counts it.
@@ -76,28 +80,37 @@ abbrev pub LeavesRefused : {K : Type 0} → (ℕ → Type 0) → (StepFault → 
 LeavesRefused Reaches Reason old fault new =
     ((new ≡ old) × (Reason fault ⊎ (fault ≡ Ward Memory))) ⊎ ((fault ≡ Ward Page) × (number : ℕ) × Reaches number × CountsFailure old number new)
 
+-- a request that hasn't moved yet
+abbrev pub request_begun : ℕ → Call → ℕ → ℕ → ℕ → ℕ → ℕ → Request
+request_begun client call pseudokey ward page distance changes = record { client = client; call = call; pseudokey = pseudokey; ward = ward; page = page; distance = distance; moves = 0; changes = changes }
+
 -- ---- effects: the outcome, what it asks of the world before, and the world after, in which all else is equal
 
--- the request stands at the page that the copy's walk names
+-- the request stands at the page that the copy's walk names; kept are the page's distance from the answer, and the changes that the ward has had
 pub record HasBegun {K : Type 0} (pseudokey_of : K → List ℕ → ℕ) (old : WorldState K) (name client copy : ℕ) (call : Call) (ward page : ℕ) (new : WorldState K) : Type 0 where
   pub free : request_named name old.in_flight ≡ None
   pub table : TableMap
   pub there : numbered old.copies copy ≡ Some table
   pub ward_is : ward ≡ ward_of old.ward_bits (pseudokey_in pseudokey_of old call)
   pub page_is : page ≡ (walk_of table old.ward_bits (pseudokey_in pseudokey_of old call)).page
-  pub after : new ≡ record old { in_flight = old.in_flight ++ (name, record { client = client; call = call; pseudokey = pseudokey_in pseudokey_of old call; ward = ward; page = page }) ∷ [] }
+  pub before : WardState K
+  pub found : slice_get old.wards ward ≡ Some before
+  pub distance : ℕ
+  pub is_distance : IsDistance before.pages page (pseudokey_in pseudokey_of old call) distance
+  pub after : new ≡ record old { in_flight = old.in_flight ++ (name, request_begun client call (pseudokey_in pseudokey_of old call) ward page distance (length (changes_in old ward))) ∷ [] }
 
--- the hop is the hop table's, and leaves of the ward what a hop leaves
-pub record HasHopped {K : Type 0} (pseudokey_of : K → List ℕ → ℕ) (old : WorldState K) (name ward : ℕ) (hop : Hop) (new : WorldState K) : Type 0 where
+-- the hop is the hop table's, told with the request's moves and their bound where it answers, and leaves of the ward what a hop leaves
+pub record HasHopped {K : Type 0} (pseudokey_of : K → List ℕ → ℕ) (old : WorldState K) (name ward : ℕ) (hop : Progress) (new : WorldState K) : Type 0 where
   pub request : Request
   pub there : request_named name old.in_flight ≡ Some request
   pub ward_is : ward ≡ request.ward
   pub before : WardState K
   pub found : slice_get old.wards ward ≡ Some before
-  pub outcome : HopOf old.cap (pseudokey_of old.keyer) before.pages request.page request.call hop
+  pub outcome : HopOf old.cap (pseudokey_of old.keyer) before.pages request.page request.call (hop_in hop)
+  pub counted : hop ≡ progress_of old request (hop_in hop)
   pub left : WardState K
-  pub leaves : LeavesAfter pseudokey_of before request.page request.client request.call hop left
-  pub after : new ≡ record old { wards = slice_set old.wards ward left; in_flight = requests_after name hop old.in_flight }
+  pub leaves : LeavesAfter pseudokey_of before request.page request.client request.call (hop_in hop) left
+  pub after : new ≡ record old { wards = slice_set old.wards ward left; in_flight = requests_after name (hop_in hop) old.in_flight }
 
 -- the ward's change, whose notice is issued
 pub record HasChanged {K : Type 0} (Changes : WardState K → ℕ → Notice → WardState K → Type 0) (old : WorldState K) (ward page : ℕ) (notice : Notice) (new : WorldState K) : Type 0 where
@@ -151,4 +164,4 @@ HasEffect pseudokey_of old event outcome new = ⊥
 
 abbrev pub Step : {K : Type 0} → (K → List ℕ → ℕ) → WorldState K → Event → Result Outcome StepFault → WorldState K → Type 0
 Step pseudokey_of old event (Ok outcome) new = HasEffect pseudokey_of old event outcome new
-Step pseudokey_of old event (Err fault) new = LeavesRefused (ReachesInto old event) (IsRefused old event) old fault new
+Step pseudokey_of old event (Err fault) new = LeavesRefused (ReachesInto pseudokey_of old event) (IsRefused old event) old fault new

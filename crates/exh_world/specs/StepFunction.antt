@@ -5,6 +5,7 @@ use Rattle.exh_notice.specs.declared.notice.Notice.{Notice}
 use Rattle.exh_table.specs.Table.{TableMap, table_with}
 use Rattle.exh_table.specs.TableOrder.{table_join}
 use Rattle.exh_table.specs.Walk.{walk_of}
+use Rattle.exh_page.specs.declared.page.Page.{Page}
 use Rattle.exh_ward.specs.HopTable.{hop_of, pages_after}
 use Rattle.exh_ward.specs.MergeFunction.{merge_of, ward_after_merge}
 use Rattle.exh_ward.specs.SplitFunction.{split_of, ward_after_split}
@@ -13,10 +14,12 @@ use Rattle.exh_calls.specs.declared.call.Call.{Call}
 use Rattle.exh_ward.specs.declared.hop.Hop.{Hop}
 use Rattle.exh_ward.specs.declared.hop.Hop.TheVariants.{Done}
 use Rattle.exh_ward.specs.declared.ward_fault.WardFault.{WardFault}
+use Rattle.exh_route.specs.DistanceFunction.{distance_of}
 use Rattle.exh_world.specs.InFlight.{request_named, requests_after}
-use Rattle.exh_world.specs.Step.{pseudokey_in}
+use Rattle.exh_world.specs.Progress.{progress_of}
+use Rattle.exh_world.specs.Step.{pseudokey_in, request_begun}
 use Rattle.exh_prefix.specs.Leading.{ward_of}
-use Rattle.exh_world.specs.World.{WorldState, numbered}
+use Rattle.exh_world.specs.World.{WorldState, changes_in, numbered}
 use Rattle.exh_world.specs.declared.event.Event.{Event}
 use Rattle.exh_world.specs.declared.event.Event.TheVariants.{Begin, Hop as HopOn, Split, Merge, Deliver, Send, Combine, Restart}
 use Rattle.exh_world.specs.declared.outcome.Outcome.{Outcome}
@@ -35,15 +38,18 @@ or_refused world fault found step = option_map_or step found (Err fault, world)
 
 -- ---- requests
 
+-- the pages of a ward
+abbrev pub pages_in : {K : Type 0} → WorldState K → ℕ → List Page
+pages_in world number = option_map_or (λ ward. ward.pages) (slice_get world.wards number) []
+
+-- a request of a pseudokey that stands at a page of a ward
+abbrev pub request_at : {K : Type 0} → WorldState K → ℕ → Call → ℕ → ℕ → ℕ → Request
+request_at world client call pseudokey ward page = request_begun client call pseudokey ward page (distance_of (pages_in world ward) page pseudokey) (length (changes_in world ward))
+
 -- it stands at the page that the table's walk names
 abbrev pub request_from : {K : Type 0} → (K → List ℕ → ℕ) → WorldState K → ℕ → Call → TableMap → Request
-request_from pseudokey_of world client call table = record {
-  client = client;
-  call = call;
-  pseudokey = pseudokey_in pseudokey_of world call;
-  ward = ward_of world.ward_bits (pseudokey_in pseudokey_of world call);
-  page = (walk_of table world.ward_bits (pseudokey_in pseudokey_of world call)).page;
-}
+request_from pseudokey_of world client call table =
+    request_at world client call (pseudokey_in pseudokey_of world call) (ward_of world.ward_bits (pseudokey_in pseudokey_of world call)) (walk_of table world.ward_bits (pseudokey_in pseudokey_of world call)).page
 
 abbrev pub begun : {K : Type 0} → WorldState K → ℕ → Request → Stepped K
 begun world name request = (Ok (Begun request.ward request.page), record world { in_flight = world.in_flight ++ (name, request) ∷ [] })
@@ -58,7 +64,7 @@ ward_after_hop pseudokey_of ward request hop = ward
 
 abbrev pub hopped : {K : Type 0} → (K → List ℕ → ℕ) → WorldState K → ℕ → Request → WardState K → Hop → Stepped K
 hopped pseudokey_of world name request ward hop =
-    (Ok (Hopped request.ward hop), record world { wards = slice_set world.wards request.ward (ward_after_hop pseudokey_of ward request hop); in_flight = requests_after name hop world.in_flight })
+    (Ok (Hopped request.ward (progress_of world request hop)), record world { wards = slice_set world.wards request.ward (ward_after_hop pseudokey_of ward request hop); in_flight = requests_after name hop world.in_flight })
 
 -- ---- splits and merges
 

@@ -1,6 +1,7 @@
 ghost use Rattle.std.specs.Prelude.{◌≡◌, ℕ, List, [], ◌∷◌, ◌++◌, OnOk, OnErr, None};
 ghost use Rattle.std.specs.Map.Iter.{ShowsInOrder, deref_pair};
-ghost use Rattle.exh_world.specs.InFlight.{request_named, requests_after, moved_to};
+ghost use Rattle.exh_ward.specs.declared.hop.Hop.TheVariants.{Moved};
+ghost use Rattle.exh_world.specs.InFlight.{HasRoom, request_named, requests_after, moved_to};
 ghost use Rattle.exh_world.specs.declared.request.Request.{Request as RequestType};
 
 use crate::Request;
@@ -65,6 +66,7 @@ impl InFlight {
 
     /// Takes note of what a hop of a request came to. An answered one is taken out, and the others keep their order.
     pub(crate) fn note_hop(&mut self, name: u32, hop: &Hop)
+        requires room { (next : ℕ) → hop.now ≡ Moved next → HasRoom name self.old }
         ensures { self.new ≡ requests_after name hop.now self.old }
     {
         match hop {
@@ -77,10 +79,15 @@ impl InFlight {
     }
 
     fn move_to(&mut self, name: u32, page: PageNo)
+        requires room { HasRoom name self.old }
         ensures { self.new ≡ moved_to name page self.old }
     {
         if let Some(request) = self.get(name) {
-            let moved = Request { page, ..request };
+            let moved = Request {
+                page,
+                moves: request.moves + 1,
+                ..request
+            };
             let _ = self.requests.insert(name, moved);
         }
     }

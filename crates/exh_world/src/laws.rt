@@ -5,6 +5,7 @@ ghost use Rattle.exh_world.specs.Laws.{NewWorldsAreSound, PageFaultsAreCounted, 
 use exh_calls::sharers_begin;
 use exh_keyer::Keyer;
 use exh_legal::{lone_pages_are_legal, right_links_lead_on, targets_lead_on};
+use exh_route::{distances_are_computed, gets_go_home, moves_come_nearer, steps_add_changes};
 use exh_table::{
     members_decide, one_notice_more_is_taken, own_entries_give_the_table, union_is_join,
 };
@@ -19,6 +20,8 @@ pub fn steps_keep_worlds_sound<K: Keyer>()
 {
     right_links_lead_on();
     targets_lead_on();
+    moves_come_nearer();
+    steps_add_changes::<K>();
 }
 
 /// A step answers that a page is out of reach only where the ward that its event reaches into counts it;
@@ -35,6 +38,7 @@ pub fn steps_are_computed<K: Keyer>()
     hops_are_computed();
     splits_are_computed::<K>();
     merges_are_computed::<K>();
+    distances_are_computed();
 }
 
 /// An event of a sound world comes to what the function gives.
@@ -45,6 +49,8 @@ pub fn steps_have_outcomes<K: Keyer>()
     answers_keep_legal();
     splits_have_outcomes::<K>();
     merges_have_outcomes::<K>();
+    distances_are_computed();
+    gets_go_home();
 }
 
 /// Over every list of requests, hops, splits, merges, restarts and deliveries, late, lost or repeated,

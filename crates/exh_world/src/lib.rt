@@ -13,7 +13,9 @@ pub use laws::{
     new_worlds_are_sound, page_faults_are_counted, runs_carry_the_headline, steps_are_computed,
     steps_have_outcomes, steps_keep_worlds_sound,
 };
+pub use move_laws::answers_are_bounded;
 pub use outcome::Outcome;
+pub use progress::Progress;
 pub use request::Request;
 pub use step_fault::StepFault;
 pub use turn::Turn;
@@ -24,7 +26,9 @@ mod event;
 mod headline_laws;
 mod in_flight;
 mod laws;
+mod move_laws;
 mod outcome;
+mod progress;
 mod request;
 mod step_fault;
 mod turn;

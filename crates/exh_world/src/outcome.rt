@@ -1,6 +1,6 @@
+use crate::Progress;
 use exh_notice::Notice;
 use exh_prefix::PageNo;
-use exh_ward::Hop;
 
 /// What an event came to.
 #[derive(Clone, Copy, Debug, PartialEq, Eq)]
@@ -8,7 +8,7 @@ pub enum Outcome {
     /// The request stands at a page of a ward.
     Begun { ward: u8, page: PageNo },
     /// What the hop came to, in the request's ward.
-    Hopped { ward: u8, hop: Hop },
+    Hopped { ward: u8, hop: Progress },
     /// The split or merge issued this notice.
     Changed(Notice),
     /// The copy took this notice.

@@ -10,4 +10,10 @@ pub struct Request {
     pub pseudokey: u64,
     pub ward: u8,
     pub page: PageNo,
+    /// How many moves its page was from the answer when it was begun.
+    pub distance: u32,
+    /// How many moves it has made.
+    pub moves: u64,
+    /// How many changes its ward had had when it was begun, since the world was made.
+    pub changes: u64,
 }

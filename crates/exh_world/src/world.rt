@@ -10,6 +10,7 @@ use exh_ward::Ward;
 use std::alloc::Global;
 use std::marker::Model;
 
+mod changes;
 mod copies_of;
 mod copy_steps;
 mod new_world;

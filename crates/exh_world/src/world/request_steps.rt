@@ -3,18 +3,22 @@ ghost use Rattle.exh_world.specs.Step.{Step};
 ghost use Rattle.exh_world.specs.declared.event.Event.TheVariants.{Begin, Hop as HopOn};
 
 use super::World;
+use super::changes::changes_since;
 use super::place::copy_in;
 use crate::laws::steps_keep_worlds_sound;
-use crate::{Outcome, Request, StepFault};
+use crate::{Outcome, Progress, Request, StepFault};
 use exh_calls::Call;
 use exh_frames::Pages;
 use exh_keyer::Keyer;
 use exh_prefix::ward_number;
+use exh_route::{distance, moves_come_nearer};
 
 impl<P: Pages + Drop, K: Keyer> World<P, K> {
     /// Begins a request of a name that no request in flight has: it stands at the page that the
-    /// copy's table names for the call's key (Fagin et al. 1979). Refused in this order: `NameTaken`,
-    /// `NoCopy`; at any point `StepFault::Ward(Memory)`. Then the world is as before.
+    /// copy's table names for the call's key (Fagin et al. 1979). It reads the pages on the way from
+    /// there to the answer, whose distance it keeps. Refused in this order: `NameTaken`, `NoCopy`; at
+    /// any point `StepFault::Ward(Memory)` or `StepFault::Ward(Page)`. Then the world is as before, but
+    /// that at `Page` the ward has counted it.
     pub fn begin(
         &mut self,
         name: u32,
@@ -34,19 +38,26 @@ impl<P: Pages + Drop, K: Keyer> World<P, K> {
         let pseudokey = self.keyer.pseudo(call.key().as_bytes());
         let ward = ward_number(self.ward_bits, pseudokey);
         let page = self.copies[at].walk(pseudokey);
+        let state = &mut self.wards[usize::from(ward)];
+        let distance = distance(state, page, pseudokey)?;
+        let changes = changes_since(state, self.noticed[usize::from(ward)]);
         let request = Request {
             client,
             call: *call,
             pseudokey,
             ward,
             page,
+            distance,
+            moves: 0,
+            changes,
         };
         self.in_flight.begin(name, request)?;
         Ok(Outcome::Begun { ward, page })
     }
 
     /// One hop of a request: what it comes to is the hop table's. An answered request
-    /// is no longer in flight, and a moved one stands at the page that it was led to. Refused:
+    /// is no longer in flight, and a moved one stands at the page that it was led to, after one move more.
+    /// An answer comes with the request's moves and their bound. Refused:
     /// `NoRequest`; at any point `StepFault::Ward(Memory)` or `StepFault::Ward(Page)`. Then the world
     /// is as before, but that at `Page` the ward has counted it.
     pub fn hop(&mut self, name: u32) -> Result<Outcome, StepFault>
@@ -54,10 +65,13 @@ impl<P: Pages + Drop, K: Keyer> World<P, K> {
         ensures sound { IsSoundWorld K.pseudokey_of self.new }
     {
         steps_keep_worlds_sound::<K>();
+        moves_come_nearer();
         let Some(request) = self.in_flight.get(name) else {
             return Err(StepFault::NoRequest);
         };
         let ward = &mut self.wards[usize::from(request.ward)];
+        let changes = changes_since(ward, self.noticed[usize::from(request.ward)]);
+        let bound = u64::from(request.distance) + (changes - request.changes);
         let hop = ward.hop_hashed(
             request.page,
             request.client,
@@ -67,7 +81,7 @@ impl<P: Pages + Drop, K: Keyer> World<P, K> {
         self.in_flight.note_hop(name, &hop);
         Ok(Outcome::Hopped {
             ward: request.ward,
-            hop,
+            hop: Progress::of_hop(&hop, request.moves, bound),
         })
     }
 }

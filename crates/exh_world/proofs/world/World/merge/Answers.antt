@@ -41,7 +41,7 @@ returns-in_err-notice-clause-step g c =
     let left = c.merge.new.self in
     let new = after c.self.view_is c.self.invariant.0 fits lent left in
     of_refusal (λ result. Step g.K.Keyer.pseudokey_of old event result new) c.from_residual.result fault c.from_residual.ensures
-    (leaves_refused c.self.view_is c.self.invariant.0 fits lent left c.in_err-notice.ensures.err (ReachesInto old event) (IsRefused old event) refl Notice fault c.in_err-notice.ensures.failures
+    (leaves_refused c.self.view_is c.self.invariant.0 fits lent left c.in_err-notice.ensures.err (ReachesInto g.K.Keyer.pseudokey_of old event) (IsRefused old event) refl Notice fault c.in_err-notice.ensures.failures
     (λ other. inl (change_refused c.self.view_is c.self.invariant.0 fits lent left MergeRefused c.args.page fault c.in_err-notice.ensures.refused other)))
 
 pub returns-in_default-clause-step : goal.returns-in_default-clause-step

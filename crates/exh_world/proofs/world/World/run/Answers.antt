@@ -1,6 +1,6 @@
 use Rattle.std.proofs.Common.{subst, arith}
 use Rattle.exh_world.specs.Sound.{IsSoundWorld}
-use Rattle.exh_world.proofs.Runs.{one_more, headline_of}
+use Rattle.exh_world.proofs.Runs.{one_more, bounded_of, headline_of}
 use Rattle.exh_world.proofs.world.World.run.Goals as goal
 
 pub loop-event-preserved : goal.loop-event-preserved
@@ -17,6 +17,12 @@ pub returns-clause-headline : goal.returns-clause-headline
 returns-clause-headline g c =
     let pseudokey_of = g.K.Keyer.pseudokey_of in
     headline_of pseudokey_of c.runs_carry_the_headline.ensures c.args.self.now _ c.loop-event.turns.items c.loop-event.self
+    (subst (IsSoundWorld pseudokey_of) c.self.view_is c.self.invariant.0.sound) c.loop-event.invariant.has_run
+
+pub returns-clause-bounded : goal.returns-clause-bounded
+returns-clause-bounded g c =
+    let pseudokey_of = g.K.Keyer.pseudokey_of in
+    bounded_of pseudokey_of c.answers_are_bounded.ensures c.args.self.now _ c.loop-event.turns.items c.loop-event.self
     (subst (IsSoundWorld pseudokey_of) c.self.view_is c.self.invariant.0.sound) c.loop-event.invariant.has_run
 
 pub returns-clause-equal : goal.returns-clause-equal
