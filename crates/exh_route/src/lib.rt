@@ -8,8 +8,8 @@ pub use distance_laws::{
 };
 pub use distances::distance;
 pub use laws::{
-    distances_are_computed, distances_are_few, gets_go_home, moves_come_nearer, named_pages_stay, one_distance, pages_stay,
-    runs_keep_wards_sound_and_one_map,
+    distances_are_computed, distances_are_few, gets_go_home, moves_come_nearer, named_pages_stay,
+    one_distance, pages_stay, runs_keep_wards_sound_and_one_map,
 };
 
 mod distance_laws;
