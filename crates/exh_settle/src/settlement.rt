@@ -119,13 +119,11 @@ fn is_same_in<J: Journals>(journals: &J, diary: &Diary, number: usize) -> bool
     let mut told = journals.journal(number).iter();
     for entry in diary.iter() {
         if journals.ward(entry.call.key()) == number {
-            match next_of(&mut told, client) {
-                Some(other) => {
-                    if other != entry {
-                        return false;
-                    }
-                }
-                None => return false,
+            let Some(other) = next_of(&mut told, client) else {
+                return false;
+            };
+            if other != entry {
+                return false;
             }
         }
     }

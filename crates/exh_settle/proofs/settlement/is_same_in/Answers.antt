@@ -42,8 +42,8 @@ loop-entry-preserved-else-ne g c =
           ∙ ap (λ front. front ++ of_caller c.args.diary.now.client c.next_of.new.entries) (sym here);
     }
 
-pub returns-in-None-next_of : goal.returns-in-None-next_of
-returns-in-None-next_of g c =
+pub returns-in_default : goal.returns-in_default
+returns-in_default g c =
     let ward_of = g.J.Journals.ward_of c.args.journals.now in
     let number = c.args.number in
     let yielded = c.loop-entry.yielded in
@@ -51,7 +51,7 @@ returns-in-None-next_of g c =
     let whole = c.loop-entry.invariant.all ∙ ap (λ rest. yielded ++ rest) c.in-Some.ensures.steps in
     let own : ward_of (key_of entry.call) ≡ number = ap ward_of (sym c.key.ensures) ∙ sym c.ward.ensures ∙ c.if-ward-number.true in
     let here : in_ward ward_of number c.args.diary.now.entries ≡ in_ward ward_of number yielded ++ entry ∷ in_ward ward_of number c.next.new.self = ap (in_ward ward_of number) whole ∙ in_ward-own ward_of number yielded c.next.new.self entry (eq-eqb (ward_of (key_of entry.call)) number own) in
-    let told : of_caller c.args.diary.now.client c.loop-entry.told ≡ [] = rw c.client-client.ensures.client at c.in-None-next_of.ensures.0 in (
+    let told : of_caller c.args.diary.now.client c.loop-entry.told ≡ [] = rw c.client-client.ensures.client at c.in_default.ensures.0 in (
       λ is. absurd (false≢true is),
       λ same. absurd (cons_not_nil entry (in_ward ward_of number c.next.new.self) (behind_same (in_ward ward_of number yielded) _ _ (sym here ∙ same ∙ c.loop-entry.invariant.same ∙ ap (λ rest. in_ward ward_of number yielded ++ rest) told))),
     )
