@@ -7,11 +7,13 @@ pub use pages::Pages;
 pub use pages_call::PagesCall;
 pub use pages_fault::PagesFault;
 pub use plain_pages::PlainPages;
+pub use store_of_pages::StoreOfPages;
 
 mod failing_pages;
 mod pages;
 mod pages_call;
 mod pages_fault;
 mod plain_pages;
+mod store_of_pages;
 #[cfg(test)]
 mod tests;

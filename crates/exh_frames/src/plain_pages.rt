@@ -1,4 +1,4 @@
-ghost use Rattle.std.specs.Prelude.{◌≡◌, [], ◌∷◌, IfOk};
+ghost use Rattle.std.specs.Prelude.{◌≡◌, ◌^◌, ◌<◌, [], ◌∷◌, length, IfOk};
 
 use crate::{Pages, PagesFault};
 use exh_page::{Key, Page, Spot, Value};
@@ -31,6 +31,14 @@ impl PlainPages {
         let mut pages = Vec::new(alloc);
         pages.push(first)?;
         Ok(PlainPages { pages })
+    }
+
+    /// A store of these pages, in their order. It takes no memory.
+    pub fn of_pages(pages: Vec<Page>) -> PlainPages
+        requires { length pages.items < 2 ^ 32 }
+        ensures { result ≡ pages.items }
+    {
+        PlainPages { pages }
     }
 }
 

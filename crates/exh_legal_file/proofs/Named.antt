@@ -98,10 +98,6 @@ tables_from entries tables count each =
     let same = count ∙ sym (length-map-range_with_len (table_naming entries) 0 NAMED_WARDS) in
     ext_get_or empty tables _ same (λ ward less. let few : ward < NAMED_WARDS = omega (arith, less, count) in each ward few ∙ sym (get_or-map-range_with_len (table_naming entries) 0 NAMED_WARDS ward ward empty few (omega arith)))
 
-pub table_at : (entries : List FileEntry) (ward : ℕ) → ward < NAMED_WARDS → get_or (tables_of entries) ward empty ≡ table_naming entries ward
-unfolding tables_of
-table_at entries ward less = get_or-map-range_with_len (table_naming entries) 0 NAMED_WARDS ward ward empty less (omega arith)
-
 pub count_of_tables : (entries : List FileEntry) → length (tables_of entries) ≡ NAMED_WARDS
 unfolding tables_of
 count_of_tables entries = length-map-range_with_len (table_naming entries) 0 NAMED_WARDS

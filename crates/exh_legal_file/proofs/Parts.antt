@@ -19,28 +19,10 @@ use Rattle.exh_reasons.specs.Laws.{AreFormed, IsLegalFile, LegalFilesPass}
 use Rattle.exh_reasons.specs.Reasons.{IsFirstReason}
 use Rattle.exh_reasons.specs.declared.reason.Reason.{Reason}
 use Rattle.exh_legal_file.specs.LegalFile.{parts_in}
+use Rattle.exh_legal_file.specs.LegalFileLemmas.{ranges_of}
 
 pub first_file_fits : FitsFile first_file
 first_file_fits = record { number = omega arith; limit = omega arith; images = record { limit = omega arith; bytes = omega arith } }
-
--- ---- what a header says
-
-few_wards : (bits : ℕ) → 2 ^ bits ≤ 16 → bits ≤ 4
-few_wards bits few = elim (cases_lt 4 bits) [
-  | inl more ↦ absurd (omega (arith, few, pow_below 4 bits more))
-  | inr within ↦ within
-]
-
-pub few_bits : (file : PageFile) → IsFile first_file file → file.header.ward_bits ≤ 4
-few_bits file valid = few_wards file.header.ward_bits valid.header.wards
-
-pub ranges_of : (file : PageFile) → IsFile first_file file → HasRanges (parts_in file)
-ranges_of file valid = record { cap = valid.header.few; bits = (let few = few_bits file valid in omega arith) }
-
-pub count_of_wards : (file : PageFile) → IsFile first_file file → length file.wards ≡ 2 ^ file.header.ward_bits
-count_of_wards file valid =
-    sym (length-map file.wards (λ (pages : List Page). length pages)) ∙ ap length valid.counts
-    ∙ (let wards = valid.header.wards in omega (arith, valid.header.counts, length-take (2 ^ file.header.ward_bits) file.header.page_counts))
 
 -- ---- pages as readers give them
 

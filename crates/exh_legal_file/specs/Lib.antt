@@ -1,2 +1,3 @@
 pub mod LegalFileFault
 pub mod LegalFile
+pub mod LegalFileLemmas

@@ -5,7 +5,8 @@ use Rattle.exh_legal_file.specs.declared.tables.TheConstants.{NAMED_WARDS}
 use Rattle.exh_reasons.specs.Reasons.{IsFirstReason}
 use Rattle.exh_legal_file.specs.LegalFile.{parts_in, tables_of}
 use Rattle.exh_legal_file.proofs.Named.{front_of_tables}
-use Rattle.exh_legal_file.proofs.Parts.{count_of_wards, legal_without}
+use Rattle.exh_legal_file.specs.LegalFileLemmas.{count_of_wards}
+use Rattle.exh_legal_file.proofs.Parts.{legal_without}
 use Rattle.exh_legal_file.proofs.reading.read_found.Goals as goal
 
 pub returns-in-None-clause-legal : goal.returns-in-None-clause-legal

@@ -5,7 +5,7 @@ use Rattle.exh_page_file.specs.FileParts.{file_of}
 use Rattle.exh_reasons.specs.FileParts.{parts_of}
 use Rattle.exh_reasons.specs.Reasons.{IsFirstReason}
 use Rattle.exh_legal_file.proofs.Named.{count_of_tables}
-use Rattle.exh_legal_file.proofs.Parts.{count_of_wards, few_bits}
+use Rattle.exh_legal_file.specs.LegalFileLemmas.{count_of_wards, few_bits}
 use Rattle.exh_legal_file.proofs.reading.reason_of.Goals as goal
 
 pub first_reason-requires-clause-bits : goal.first_reason-requires-clause-bits

@@ -1,0 +1,40 @@
+-- Lemmas on legal files, for the proofs of the crates above.
+use Rattle.std.proofs.Common.{◌≡◌, ℕ, ◌+◌, ◌^◌, ◌<◌, ◌≤◌, List, length, get_or, inl, inr, sym, ap, ◌∙◌, arith}
+use Rattle.std.specs.FinMap.{empty}
+use Rattle.std.proofs.lemmas.Bool.{cases_lt}
+use Rattle.std.proofs.lemmas.List.{length-map, length-take}
+use Rattle.std.proofs.lemmas.List.FromFn.{get_or-map-range_with_len}
+use Rattle.std.proofs.lemmas.Nat.{pow_below}
+use Rattle.exh_page.specs.declared.page.Page.{Page}
+use Rattle.exh_file.specs.declared.file_entry.FileEntry.{FileEntry}
+use Rattle.exh_file.specs.FileVersion.{FitsFile, first_file}
+use Rattle.exh_page_file.specs.PageFile.{IsFile, PageFile}
+use Rattle.exh_reasons.specs.FileParts.{HasRanges}
+use Rattle.exh_legal_file.specs.LegalFile.{parts_in, table_naming, tables_of}
+use Rattle.exh_legal_file.specs.declared.tables.TheConstants.{NAMED_WARDS}
+
+-- ---- what a header says
+
+pub few_wards : (bits : ℕ) → 2 ^ bits ≤ 16 → bits ≤ 4
+few_wards bits few = elim (cases_lt 4 bits) [
+  | inl more ↦ absurd (omega (arith, few, pow_below 4 bits more))
+  | inr within ↦ within
+]
+
+pub few_bits : (file : PageFile) → IsFile first_file file → file.header.ward_bits ≤ 4
+few_bits file valid = few_wards file.header.ward_bits valid.header.wards
+
+pub ranges_of : (file : PageFile) → IsFile first_file file → HasRanges (parts_in file)
+ranges_of file valid = record { cap = valid.header.few; bits = (let few = few_bits file valid in omega arith) }
+
+pub count_of_wards : (file : PageFile) → IsFile first_file file → length file.wards ≡ 2 ^ file.header.ward_bits
+count_of_wards file valid =
+    sym (length-map file.wards (λ (pages : List Page). length pages)) ∙ ap length valid.counts
+    ∙ (let wards = valid.header.wards in omega (arith, valid.header.counts, length-take (2 ^ file.header.ward_bits) file.header.page_counts))
+
+-- ---- the tables of its wards
+
+pub table_at : (entries : List FileEntry) (ward : ℕ) → ward < NAMED_WARDS → get_or (tables_of entries) ward empty ≡ table_naming entries ward
+unfolding tables_of
+table_at entries ward less = get_or-map-range_with_len (table_naming entries) 0 NAMED_WARDS ward ward empty less (omega arith)
+

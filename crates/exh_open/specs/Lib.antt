@@ -1,0 +1,3 @@
+pub mod OpenFault
+pub mod Opened
+pub mod Opening

@@ -1,0 +1,117 @@
+ghost use Rattle.std.specs.Prelude.{◌≡◌, ◌<◌, ◌^◌, ◌++◌, ◌∷◌, [], List, ℕ, Some, length, IfOk, IfErr, OnOk, MatchResult};
+ghost use Rattle.exh_keyer.specs.Pseudokey.{any_pseudokey};
+ghost use Rattle.exh_file.specs.FileVersion.{first_file};
+ghost use Rattle.exh_file.specs.HeaderImage.{IsHeader};
+ghost use Rattle.exh_page_file.specs.FileParts.{file_of};
+ghost use Rattle.exh_page_file.specs.PageFile.{IsFile, PageFile};
+ghost use Rattle.exh_page_file.specs.Reading.{AreBytes, IsAll};
+ghost use Rattle.exh_reasons.specs.Laws.{IsLegalFile};
+ghost use Rattle.exh_legal_file.specs.LegalFile.{IsLegalPageFile, parts_in, ward_tables};
+ghost use Rattle.exh_open.specs.OpenFault.{IsOther};
+ghost use Rattle.exh_open.specs.Opening.{AreLegalWards, AreOpened, IsLegalWard, IsOpenFaultOf, IsOpenedFile, IsOpenedWard};
+
+use crate::{OpenFault, Opened};
+use exh_file::Header;
+use exh_frames::StoreOfPages;
+use exh_keyer::AnyKeyer;
+use exh_legal::pages_are_few;
+use exh_legal_file::{LegalFile, read_legal_file};
+use exh_page::Page;
+use exh_reasons::legal_files_pass;
+use exh_table::Table;
+use exh_ward::Ward;
+use std::alloc::{AllocError, Global};
+use std::io::Read;
+use std::mem;
+
+/// The wards of a legal page file of the first version, of which the reader has all bytes and no
+/// others. The base of each ward is the map of its pages, its journal and its notices are empty, and
+/// its start table is that of the entries which name it. A block takes at most 4,097 reads.
+///
+/// `File`: no legal page file was read; the first fault is told. `Page`: a ward's store couldn't reach
+/// a page.
+pub fn open<R: Read, P: StoreOfPages + Drop>(
+    alloc: Global,
+    reader: &mut R,
+) -> Result<Opened<P>, OpenFault>
+    ensures opened { IfOk result (λ opened. (file : PageFile) × (bytes : List ℕ) × IsAll (R.remaining reader.old) bytes × AreBytes bytes × IsLegalPageFile first_file file bytes × IsOpenedFile file opened) }
+    ensures fault { IfErr result (IsOpenFaultOf first_file (R.remaining reader.old)) }
+    ensures every { (file : PageFile) (bytes : List ℕ) → R.remaining reader.old ≡ Some bytes → AreBytes bytes → IsLegalPageFile first_file file bytes
+        → MatchResult result (IsOpenedFile file) IsOther }
+{
+    let mut legal = read_legal_file(alloc, reader)?;
+    open_legal(alloc, &mut legal)
+}
+
+// The wards of a file that was read. Its pages and tables are taken out of it.
+fn open_legal<P: StoreOfPages + Drop>(
+    alloc: Global,
+    legal: &mut LegalFile,
+) -> Result<Opened<P>, OpenFault>
+    requires legal { IsLegalFile (any_pseudokey legal.old.parts.header.keyer) (parts_in (file_of legal.old.parts)) }
+    requires file { IsFile first_file (file_of legal.old.parts) }
+    requires tables { legal.old.tables.items ≡ ward_tables (file_of legal.old.parts) }
+    ensures opened { IfOk result (IsOpenedFile (file_of legal.old.parts)) }
+    ensures fault { IfErr result IsOther }
+{
+    legal_files_pass();
+    let header = legal.parts.header;
+    let wards = open_wards(alloc, &header, &mut legal.parts.wards, &mut legal.tables)?;
+    let (cap, ward_bits, keyer) = (header.cap as usize, header.ward_bits, header.keyer);
+    Ok(Opened::new(cap, ward_bits, keyer, wards))
+}
+
+// The ward of each number, of its pages and its table, which are taken out of the lists.
+fn open_wards<P: StoreOfPages + Drop>(
+    alloc: Global,
+    header: &Header,
+    pages: &mut [Vec<Page>],
+    tables: &mut [Table],
+) -> Result<Vec<Ward<P, AnyKeyer>>, OpenFault>
+    requires header { IsHeader first_file header.now }
+    requires pages { length pages.old ≡ 2 ^ header.now.ward_bits }
+    requires tables { length tables.old ≡ 2 ^ header.now.ward_bits }
+    requires legal { AreLegalWards header.now pages.old tables.old }
+    ensures count { IfOk result (λ wards. length wards.items ≡ 2 ^ header.now.ward_bits) }
+    ensures opened { IfOk result (λ wards. AreOpened header.now pages.old tables.old wards.items) }
+    ensures fault { IfErr result IsOther }
+{
+    let mut wards = Vec::new(alloc);
+    for number in 0..pages.len() {
+        let own = mem::replace(&mut pages[number], Vec::new(alloc));
+        let table = mem::replace(&mut tables[number], Table::new(alloc));
+        let ward = open_ward(alloc, header, number as u8, own, table)?;
+        push(&mut wards, ward)?;
+    }
+    Ok(wards)
+}
+
+// The ward of a number, of its pages and its table.
+fn open_ward<P: StoreOfPages + Drop>(
+    alloc: Global,
+    header: &Header,
+    number: u8,
+    pages: Vec<Page>,
+    table: Table,
+) -> Result<Ward<P, AnyKeyer>, OpenFault>
+    requires header { IsHeader first_file header.now }
+    requires number { number < 2 ^ header.now.ward_bits }
+    requires legal { IsLegalWard header.now number pages.items table }
+    ensures opened { IfOk result (IsOpenedWard header.now number pages.items table) }
+    ensures fault { IfErr result IsOther }
+{
+    pages_are_few();
+    let store = P::of_pages(alloc, header.keyer, pages)?;
+    let (cap, ward_bits, keyer) = (header.cap as usize, header.ward_bits, header.keyer);
+    Ward::from_pages(alloc, cap, ward_bits, number, store, table, keyer).map_err(OpenFault::of_ward)
+}
+
+// Puts an item behind the others.
+fn push<T: Drop>(items: &mut Vec<T>, item: T) -> Result<(), AllocError>
+    ensures { OnOk result (items.new.items ≡ items.old.items ++ item ∷ []) }
+{
+    match items.push(item) {
+        Ok(()) => Ok(()),
+        Err(failed) => Err(AllocError::from(failed)),
+    }
+}
