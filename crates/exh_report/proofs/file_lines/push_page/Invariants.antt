@@ -1,0 +1,8 @@
+use Rattle.std.proofs.Common.{◌≡◌, ◌++◌, map}
+use Rattle.exh_report.specs.Dump.{page_lines, pair_words}
+use Rattle.exh_report.specs.Lines.{lines_text}
+use Rattle.exh_report.proofs.file_lines.push_page.Given as goal
+
+-- with the lines of the records that are left, those of the page stand there
+abbrev pub invariant-loop-item : goal.invariant-loop-item
+invariant-loop-item l = l.out.items ++ lines_text (map pair_words l.item-iterator) ≡ l.fn.out.items ++ lines_text (page_lines l.ward (l.number, l.fn.page))

@@ -1,0 +1,20 @@
+use Rattle.std.proofs.Common.{Ok, Err}
+use Rattle.exh_page_file.specs.FileParts.{file_of}
+use Rattle.exh_report.specs.Report.{topic_lines}
+use Rattle.exh_report.proofs.report.tell.Goals as goal
+
+pub returns-in-Ok-clause-told : goal.returns-in-Ok-clause-told
+returns-in-Ok-clause-told g c = record {
+  finding = Ok (file_of c.in-Ok.file.parts);
+  found = c.in-Ok.ensures.legal;
+  printed = c.tell_parts.ensures.told;
+  verdict = c.tell_parts.ensures.verdict;
+}
+
+pub returns-in-Err-clause-told : goal.returns-in-Err-clause-told
+returns-in-Err-clause-told g c = record {
+  finding = Err c.in-Err.fault;
+  found = c.in-Err.ensures.fault;
+  printed = c.refuse.ensures.told (topic_lines c.args.topic);
+  verdict = c.refuse.ensures.verdict;
+}

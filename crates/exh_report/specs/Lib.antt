@@ -1,0 +1,6 @@
+pub mod Lines
+pub mod Counts
+pub mod Check
+pub mod Dump
+pub mod Finding
+pub mod Report

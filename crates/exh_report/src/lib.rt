@@ -1,0 +1,17 @@
+//! What `check` and `dump` say of the bytes of a reader: the texts of a legal page file, and of a refusal.
+#![tactic(auto)]
+
+pub use report::{check_text, dump_text};
+pub use report_fault::ReportFault;
+pub use verdict::Verdict;
+
+mod check;
+mod counts;
+mod dump;
+mod file_lines;
+mod refusal_line;
+mod report;
+mod report_fault;
+#[cfg(test)]
+mod tests;
+mod verdict;

@@ -1,0 +1,152 @@
+ghost use Rattle.std.specs.Prelude.{◌≡◌, ◌↔◌, ◌∷◌, [], Err, IfOk, IsErrOf, IsFalse, IsTrue};
+ghost use Rattle.std.specs.Io.KnownBytes.{Appends};
+ghost use Rattle.exh_file.specs.FileVersion.{first_file};
+ghost use Rattle.exh_page_file.specs.FileParts.{file_of};
+ghost use Rattle.exh_page_file.specs.PageFile.{IsFile, PageFile};
+ghost use Rattle.exh_stream.specs.Output.{AppendsBeginning, SameWriter, Takes, TakesBeginning, held, pending, writer_failed};
+ghost use Rattle.exh_report.specs.Check.{check_lines};
+ghost use Rattle.exh_report.specs.Dump.{dump_lines};
+ghost use Rattle.exh_report.specs.Finding.{IsVerdictOf, refusal_words, told_lines};
+ghost use Rattle.exh_report.specs.Lines.{Lines, TakesLines};
+ghost use Rattle.exh_report.specs.Report.{Reports, Tells, topic_lines};
+
+use crate::check::check_parts;
+use crate::dump::dump_parts;
+use crate::refusal_line::push_refusal;
+use crate::{ReportFault, Verdict};
+use exh_legal_file::{LegalFileFault, read_legal_file};
+use exh_page_file::FileParts;
+use exh_stream::Output;
+use std::alloc::Global;
+use std::io::{Read, Write};
+
+/// What is told of a legal file.
+#[derive(Clone, Copy, Debug, PartialEq, Eq)]
+enum Topic {
+    /// How much it has.
+    Size,
+    /// What it has.
+    Content,
+}
+
+/// Says of all bytes that a reader has left whether they are a legal page file: how much that has, or the refusal. A
+/// reader that fails is refused too.
+///
+/// `Write`: the writer failed or took no bytes, and got a beginning of the text. `Memory`: a growth was refused, and
+/// the writer got a beginning of its lines, each line whole.
+pub fn check_text<R: Read, W: Write>(
+    alloc: Global,
+    reader: &mut R,
+    writer: &mut W,
+) -> Result<Verdict, ReportFault>
+    ensures { Reports check_lines (W.contents writer.old) (W.contents writer.new) (R.remaining reader.old) result }
+{
+    report(alloc, Topic::Size, reader, &mut Output::new(writer))
+}
+
+/// Tells what the legal page file has that all bytes are which a reader has left: its settings, the pages of each ward
+/// with their pairs, and its table; or the refusal, as `check_text` does.
+///
+/// `Write`: the writer failed or took no bytes, and got a beginning of the text. `Memory`: a growth was refused, and
+/// the writer got a beginning of its lines, each line whole.
+pub fn dump_text<R: Read, W: Write>(
+    alloc: Global,
+    reader: &mut R,
+    writer: &mut W,
+) -> Result<Verdict, ReportFault>
+    ensures { Reports dump_lines (W.contents writer.old) (W.contents writer.new) (R.remaining reader.old) result }
+{
+    report(alloc, Topic::Content, reader, &mut Output::new(writer))
+}
+
+// Tells of a reader's bytes. What waits is written after want of memory too.
+fn report<R: Read, W: Write>(
+    alloc: Global,
+    topic: Topic,
+    reader: &mut R,
+    output: &mut Output<'_, W>,
+) -> Result<Verdict, ReportFault>
+    requires open { IsFalse (writer_failed output.old) }
+    requires empty { pending output.old ≡ [] }
+    ensures same_writer { SameWriter output.old output.new }
+    ensures told { Reports (topic_lines topic) (held W.contents output.old) (held W.contents output.new) (R.remaining reader.old) result }
+{
+    let told = tell(alloc, topic, reader, output);
+    output.finish()?;
+    told
+}
+
+// The same, as far as an output takes it.
+fn tell<R: Read, W: Write>(
+    alloc: Global,
+    topic: Topic,
+    reader: &mut R,
+    output: &mut Output<'_, W>,
+) -> Result<Verdict, ReportFault>
+    requires { IsFalse (writer_failed output.old) }
+    ensures same_writer { SameWriter output.old output.new }
+    ensures told { Tells (Takes W.contents output.old output.new) (TakesBeginning W.contents output.old output.new) (topic_lines topic) (R.remaining reader.old) result }
+    ensures failed { IsErrOf result ReportFault.Write ↔ IsTrue (writer_failed output.new) }
+{
+    match read_legal_file(alloc, reader) {
+        Ok(file) => tell_parts(alloc, topic, output, &file.parts),
+        Err(fault) => refuse(alloc, output, fault),
+    }
+}
+
+// Tells of a legal file.
+fn tell_parts<W: Write>(
+    alloc: Global,
+    topic: Topic,
+    output: &mut Output<'_, W>,
+    parts: &FileParts,
+) -> Result<Verdict, ReportFault>
+    requires open { IsFalse (writer_failed output.old) }
+    requires file { IsFile first_file (file_of parts.now) }
+    ensures same_writer { SameWriter output.old output.new }
+    ensures told { TakesLines W.contents output.old output.new (topic_lines topic (file_of parts.now)) result }
+    ensures verdict { IfOk result (λ verdict. verdict ≡ Verdict.Legal) }
+    ensures failed { IsErrOf result ReportFault.Write ↔ IsTrue (writer_failed output.new) }
+{
+    match topic {
+        Topic::Size => check_parts(alloc, output, parts)?,
+        Topic::Content => dump_parts(alloc, output, parts)?,
+    }
+    Ok(Verdict::Legal)
+}
+
+// Tells of a refusal. Of want of memory nothing is told.
+fn refuse<W: Write>(
+    alloc: Global,
+    output: &mut Output<'_, W>,
+    fault: LegalFileFault,
+) -> Result<Verdict, ReportFault>
+    requires { IsFalse (writer_failed output.old) }
+    ensures same_writer { SameWriter output.old output.new }
+    ensures told { (lines : PageFile → Lines) → TakesLines W.contents output.old output.new (told_lines lines (Err fault)) result }
+    ensures verdict { IfOk result (IsVerdictOf (Err fault)) }
+    ensures failed { IsErrOf result ReportFault.Write ↔ IsTrue (writer_failed output.new) }
+{
+    match fault {
+        LegalFileFault::Memory => Err(ReportFault::Memory),
+        LegalFileFault::File(_) | LegalFileFault::Illegal(_) | LegalFileFault::Read =>
+            print_refusal(alloc, output, fault),
+    }
+}
+
+fn print_refusal<W: Write>(
+    alloc: Global,
+    output: &mut Output<'_, W>,
+    fault: LegalFileFault,
+) -> Result<Verdict, ReportFault>
+    requires { IsFalse (writer_failed output.old) }
+    ensures same_writer { SameWriter output.old output.new }
+    ensures told { TakesLines W.contents output.old output.new (refusal_words fault ∷ []) result }
+    ensures verdict { IfOk result (λ verdict. verdict ≡ Verdict.Refused) }
+    ensures failed { IsErrOf result ReportFault.Write ↔ IsTrue (writer_failed output.new) }
+{
+    let mut text = Vec::new(alloc);
+    push_refusal(&mut text, fault)?;
+    output.push(&text)?;
+    Ok(Verdict::Refused)
+}

@@ -1,0 +1,8 @@
+/// What a command says of the bytes that it read.
+#[derive(Clone, Copy, Debug, PartialEq, Eq)]
+pub enum Verdict {
+    /// They are a legal page file.
+    Legal,
+    /// They are none, or weren't to be read.
+    Refused,
+}
