@@ -37,4 +37,3 @@ count_of_wards file valid =
 pub table_at : (entries : List FileEntry) (ward : ℕ) → ward < NAMED_WARDS → get_or (tables_of entries) ward empty ≡ table_naming entries ward
 unfolding tables_of
 table_at entries ward less = get_or-map-range_with_len (table_naming entries) 0 NAMED_WARDS ward ward empty less (omega arith)
-
