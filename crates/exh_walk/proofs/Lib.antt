@@ -1,0 +1,2 @@
+-- of walk: turns put together
+pub mod Turns
