@@ -11,6 +11,7 @@ use Rattle.exh_notice.specs.declared.entry.Kind.{Kind}
 use Rattle.exh_notice.specs.declared.entry.Kind.TheVariants as kinds
 use Rattle.exh_notice.specs.declared.notice.Notice.{Notice}
 use Rattle.exh_text.specs.ByteWord.{bytes_of_word}
+use Rattle.exh_text.specs.Contents.{kind_text}
 use Rattle.exh_text.specs.Lines.{parts_at, space}
 use Rattle.exh_text.specs.Numbers.{◌>>=◌, index_spelled, number_spelled, number_up_to, number_after}
 use Rattle.exh_text.specs.Printing.{printed, place_text}
@@ -24,7 +25,7 @@ use Rattle.exh_ward.specs.declared.ward_fault.WardFault.TheVariants.{NoPage, Not
 use Rattle.exh_world.specs.StepFault.{step_fault_number}
 use Rattle.exh_world.specs.declared.step_fault.StepFault.{StepFault}
 use Rattle.exh_world.specs.declared.step_fault.StepFault.TheVariants.{NoCopy, NoRequest, NoNotice, NoTable, NoWard, NameTaken, Ward}
-use Rattle.exh_script.specs.Answer.{answer_words, answer_text, kind_text, request_text, told_answer, HasKindWidth, HasNoticeWidths, HasWidths, HasByteValues}
+use Rattle.exh_script.specs.Answer.{answer_words, answer_text, request_text, told_answer, HasKindWidth, HasNoticeWidths, HasWidths, HasByteValues}
 use Rattle.exh_script.specs.Refusal.{numbered_refusal, refusal_number}
 use Rattle.exh_script.specs.declared.answer.Answer.{Answer}
 use Rattle.exh_script.specs.declared.answer.Answer.TheVariants.{Begun, Replied, Moved, MustSplit, Stray, Changed, Taken, Sent, Joined, Restarted, Refused}

@@ -1,9 +1,9 @@
 -- What a line is answered, and what is printed of it.
-use Rattle.std.specs.Prelude.{⊤, ℕ, Bool, ◌^◌, ◌<◌, List, [], ◌∷◌, ◌++◌, All, Result, Ok, Err, decimal, codes}
-use Rattle.exh_prefix.specs.Prefix.{prefix_text}
+use Rattle.std.specs.Prelude.{⊤, ℕ, ◌^◌, ◌<◌, List, [], ◌∷◌, ◌++◌, All, Result, Ok, Err, decimal, codes}
 use Rattle.exh_notice.specs.declared.entry.Kind.{Kind}
 use Rattle.exh_notice.specs.declared.entry.Kind.TheVariants as kinds
 use Rattle.exh_notice.specs.declared.notice.Notice.{Notice}
+use Rattle.exh_text.specs.Contents.{entry_text}
 use Rattle.exh_text.specs.Lines.{newline}
 use Rattle.exh_text.specs.Printing.{printed, place_text, refused_text}
 use Rattle.exh_ward.specs.declared.hop.Hop.{Hop}
@@ -70,14 +70,6 @@ reply_text Full = codes "full"
 
 abbrev pub request_text : ℕ → List ℕ
 request_text name = codes "r" ++ decimal name
-
-abbrev pub kind_text : Kind → List ℕ
-kind_text (kinds.Split right) = codes " split right " ++ decimal right
-kind_text kinds.Merge = codes " merge"
-
--- the number and the kind of what was done at a prefix
-abbrev pub entry_text : List Bool → ℕ → Kind → List ℕ
-entry_text prefix number kind = prefix_text prefix ++ (codes " number " ++ (decimal number ++ kind_text kind))
 
 abbrev pub notice_text : Notice → List ℕ
 notice_text notice = codes "notice " ++ (place_text notice.ward notice.index ++ (codes " prefix " ++ entry_text notice.prefix notice.number notice.kind))

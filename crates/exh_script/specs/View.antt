@@ -1,5 +1,5 @@
 -- What a view of the world shows: a copy's table, a page, or the requests in flight.
-use Rattle.std.specs.Prelude.{ℕ, Bool, List, [], ◌∷◌, ◌++◌, length, flat_map, slice_get, Option, Some, None, Result, Ok, Err, decimal, codes}
+use Rattle.std.specs.Prelude.{ℕ, Bool, List, ◌++◌, length, flat_map, slice_get, Option, Some, None, Result, Ok, Err, decimal, codes}
 use Rattle.std.specs.FinMap.{entries}
 use Rattle.std.specs.Option.{option_map_or}
 use Rattle.exh_keyer.specs.declared.any_keyer.AnyKeyer.{AnyKeyer}
@@ -9,7 +9,7 @@ use Rattle.exh_table.specs.Below.{depth_of, leaves_listed}
 use Rattle.exh_table.specs.Table.{TableMap}
 use Rattle.exh_table.specs.declared.leaf.Leaf.{Leaf}
 use Rattle.exh_page.specs.declared.page.Page.{Page}
-use Rattle.exh_text.specs.Lines.{newline}
+use Rattle.exh_text.specs.Contents.{entry_words, forward_page_words, live_page_words, on_line}
 use Rattle.exh_text.specs.Printing.{place_text}
 use Rattle.exh_ward.specs.declared.ward_fault.WardFault.TheVariants.{NoPage}
 use Rattle.exh_ward.specs.PageLine.{line_of_page}
@@ -21,19 +21,15 @@ use Rattle.exh_world.specs.World.{WorldState, numbered}
 use Rattle.exh_world.specs.declared.request.Request.{Request}
 use Rattle.exh_world.specs.declared.step_fault.StepFault.{StepFault}
 use Rattle.exh_world.specs.declared.step_fault.StepFault.TheVariants.{NoCopy, NoWard, Ward}
-use Rattle.exh_script.specs.Answer.{copy_text, entry_text, request_text}
+use Rattle.exh_script.specs.Answer.{copy_text, request_text}
 use Rattle.exh_script.specs.declared.view.View.{View}
 use Rattle.exh_script.specs.declared.view.View.TheVariants as views
-
--- a line of its own
-abbrev pub on_line : List ℕ → List ℕ
-on_line words = words ++ newline ∷ []
 
 -- ---- a table
 
 -- an entry at a prefix
 abbrev pub entry_line : List Bool × Entry → List ℕ
-entry_line at = on_line (codes "entry " ++ entry_text at.0 at.1.number at.1.kind)
+entry_line at = on_line (entry_words at)
 
 -- a leaf, with its page in its ward, which is that of the leaf's pseudokeys
 abbrev pub leaf_line : ℕ → Leaf → List ℕ
@@ -49,18 +45,10 @@ shown_text ward_bits copy table = copy_text copy ++ table_text ward_bits table
 
 -- ---- a page
 
-abbrev pub right_text : Option ℕ → List ℕ
-right_text None = codes "none"
-right_text (Some right) = decimal right
-
 -- what a page of a ward holds, or where it sends callers on to
-abbrev pub content_text : ℕ → PageLine → List ℕ
-content_text ward (Live prefix right count) =
-    codes " live prefix " ++ (prefix_text prefix ++ (codes " right " ++ (right_text right ++ (codes " records " ++ decimal count))))
-content_text ward (Forward low target) = codes " forward " ++ place_text ward target
-
 abbrev pub page_line_text : ℕ → ℕ → PageLine → List ℕ
-page_line_text ward number line = on_line (codes "page " ++ (place_text ward number ++ content_text ward line))
+page_line_text ward number (Live prefix right count) = on_line (live_page_words ward number prefix right count)
+page_line_text ward number (Forward low target) = on_line (forward_page_words ward number target)
 
 abbrev pub page_text : ℕ → ℕ → Page → List ℕ
 page_text ward number page = page_line_text ward number (line_of_page page)

@@ -1,12 +1,11 @@
 ghost use Rattle.std.specs.Prelude.{◌≡◌, ◌++◌, OnOk};
-ghost use Rattle.exh_script.specs.Answer.{answer_text, copy_text, entry_text, kind_text, notice_text, reply_text, request_text};
+ghost use Rattle.exh_script.specs.Answer.{answer_text, copy_text, notice_text, reply_text, request_text};
 ghost use Rattle.exh_script.specs.declared.answer.Answer.TheVariants.{Refused};
 
 use crate::{Answer, Refusal};
 use exh_calls::Reply;
-use exh_notice::{Kind, Notice};
-use exh_prefix::Prefix;
-use exh_text::{push_number, push_place, push_prefix, push_refused, push_text, push_value};
+use exh_notice::Notice;
+use exh_text::{push_entry, push_number, push_place, push_refused, push_text, push_value};
 use std::alloc::AllocError;
 
 /// Adds the line that an answer prints.
@@ -85,21 +84,6 @@ pub(crate) fn push_copy(out: &mut Vec<u8>, copy: u32) -> Result<(), AllocError>
     push_number(out, u64::from(copy))
 }
 
-/// Adds the number and the kind of what was done at a prefix.
-pub(crate) fn push_entry(
-    out: &mut Vec<u8>,
-    prefix: &Prefix,
-    number: u32,
-    kind: &Kind,
-) -> Result<(), AllocError>
-    ensures { OnOk result (out.new.items ≡ out.old.items ++ entry_text prefix.now number kind.now) }
-{
-    push_prefix(out, prefix)?;
-    push_text(out, " number ")?;
-    push_number(out, u64::from(number))?;
-    push_kind(out, kind)
-}
-
 fn push_notice(out: &mut Vec<u8>, notice: &Notice) -> Result<(), AllocError>
     ensures { OnOk result (out.new.items ≡ out.old.items ++ notice_text notice.now) }
 {
@@ -107,18 +91,6 @@ fn push_notice(out: &mut Vec<u8>, notice: &Notice) -> Result<(), AllocError>
     push_place(out, u32::from(notice.ward), notice.index)?;
     push_text(out, " prefix ")?;
     push_entry(out, &notice.prefix, notice.number, &notice.kind)
-}
-
-fn push_kind(out: &mut Vec<u8>, kind: &Kind) -> Result<(), AllocError>
-    ensures { OnOk result (out.new.items ≡ out.old.items ++ kind_text kind.now) }
-{
-    match kind {
-        Kind::Split { right } => {
-            push_text(out, " split right ")?;
-            push_number(out, u64::from(*right))
-        }
-        Kind::Merge => push_text(out, " merge"),
-    }
 }
 
 fn push_reply(out: &mut Vec<u8>, reply: &Reply) -> Result<(), AllocError>

@@ -4,15 +4,17 @@ ghost use Rattle.exh_prefix.specs.declared.prefix.TheConstants.{WARD_BITS_LIMIT}
 ghost use Rattle.exh_prefix.specs.Prefix.{low_of};
 ghost use Rattle.exh_table.specs.Below.{leaves_listed};
 ghost use Rattle.exh_prefix.specs.Leading.{ward_of};
-ghost use Rattle.exh_script.specs.View.{content_text, entry_line, in_flight_text, leaf_line, page_line_text, request_line, right_text, shown_text};
+ghost use Rattle.exh_script.specs.View.{entry_line, in_flight_text, leaf_line, page_line_text, request_line, shown_text};
 
-use crate::answer_text::{push_copy, push_entry, push_request};
+use crate::answer_text::{push_copy, push_request};
 use exh_array::Directory;
 use exh_frames::PlainPages;
 use exh_keyer::AnyKeyer;
 use exh_prefix::{PageNo, ward_number};
 use exh_table::Table;
-use exh_text::{push_number, push_place, push_prefix, push_text};
+use exh_text::{
+    push_entry_line, push_forward_page, push_live_page, push_number, push_place, push_prefix, push_text,
+};
 use exh_ward::PageLine;
 use exh_world::World;
 use std::alloc::AllocError;
@@ -40,9 +42,7 @@ fn push_entries(out: &mut Vec<u8>, table: &Table) -> Result<(), AllocError>
     ensures { OnOk result (out.new.items ≡ out.old.items ++ flat_map entry_line (entries table.now)) }
 {
     for (prefix, entry) in table.entries() {
-        push_text(out, "entry ")?;
-        push_entry(out, prefix, entry.number, &entry.kind)?;
-        push_text(out, "\n")?;
+        push_entry_line(out, prefix, entry)?;
     }
     Ok(())
 }
@@ -75,41 +75,13 @@ pub(crate) fn push_page(
 ) -> Result<(), AllocError>
     ensures { OnOk result (out.new.items ≡ out.old.items ++ page_line_text ward number line.now) }
 {
-    push_text(out, "page ")?;
-    push_place(out, ward, u64::from(number))?;
-    push_content(out, ward, line)?;
-    push_text(out, "\n")
-}
-
-fn push_content(out: &mut Vec<u8>, ward: u32, line: &PageLine) -> Result<(), AllocError>
-    ensures { OnOk result (out.new.items ≡ out.old.items ++ content_text ward line.now) }
-{
     match line {
         PageLine::Live {
             prefix,
             right,
             count,
-        } => {
-            push_text(out, " live prefix ")?;
-            push_prefix(out, prefix)?;
-            push_text(out, " right ")?;
-            push_right(out, *right)?;
-            push_text(out, " records ")?;
-            push_number(out, *count as u64)
-        }
-        PageLine::Forward { target, .. } => {
-            push_text(out, " forward ")?;
-            push_place(out, ward, u64::from(*target))
-        }
-    }
-}
-
-fn push_right(out: &mut Vec<u8>, right: Option<PageNo>) -> Result<(), AllocError>
-    ensures { OnOk result (out.new.items ≡ out.old.items ++ right_text right) }
-{
-    match right {
-        Some(right) => push_number(out, u64::from(right)),
-        None => push_text(out, "none"),
+        } => push_live_page(out, ward, number, prefix, *right, *count),
+        PageLine::Forward { target, .. } => push_forward_page(out, ward, number, *target),
     }
 }
 

@@ -2,5 +2,6 @@ pub mod Lines
 pub mod Numbers
 pub mod ByteWord
 pub mod Printing
+pub mod Contents
 pub mod LineFault
 pub mod TextLemmas

@@ -3,6 +3,7 @@
 #![tactic(auto)]
 
 pub use byte_word::{ByteWord, parse_key, parse_pair};
+pub use contents::{push_entry, push_entry_line, push_forward_page, push_live_page};
 pub use laws::{
     newlines_part_lines, numbers_are_decimal, printed_is_read, printed_places_are_told,
     printed_prefixes_are_told, spaces_part_words,
@@ -14,6 +15,7 @@ pub use parts::Parts;
 pub use printing::{push_number, push_place, push_prefix, push_refused, push_text, push_value};
 
 mod byte_word;
+mod contents;
 mod laws;
 mod line_fault;
 mod lines;

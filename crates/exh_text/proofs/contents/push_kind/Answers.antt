@@ -1,5 +1,5 @@
 use Rattle.std.proofs.Common.{◌≡◌, ℕ, List, ◌++◌, Result, Ok, Err, OnOk, decimal, append_assoc}
-use Rattle.exh_script.proofs.answer_text.push_kind.Goals as goal
+use Rattle.exh_text.proofs.contents.push_kind.Goals as goal
 
 -- a number behind a text
 behind : {A E : Type 0} (result : Result A E) (old middle new text : List ℕ) (number right : ℕ) → middle ≡ old ++ text → number ≡ right
