@@ -1,5 +1,5 @@
-//! The blocks of a page file that aren't pages: its header and its table, in the first version (exhash
-//! profile). Each value has exactly one image, and an image is that of one value.
+//! The blocks of a page file that aren't pages: its header and its table, in the first version (exhash's
+//! own). Each value has exactly one image, and an image is that of one value.
 #![tactic(auto)]
 
 pub use file_entry::FileEntry;

@@ -1,5 +1,5 @@
-//! Stores of pages: lists of pages that a ward reads, changes and grows, wherever they lie (exhash
-//! profile).
+//! Stores of pages: lists of pages that a ward reads, changes and grows, wherever they lie (exhash's
+//! own).
 #![tactic(auto)]
 
 pub use failing_pages::FailingPages;

@@ -13,8 +13,8 @@ use exh_prefix::{LIMIT, Prefix};
 pub const ENTRY_IMAGE_LEN: usize = 16;
 
 impl Entry {
-    /// The image of the entry at a prefix, in a ward, in the first version of the page file (exhash
-    /// profile). It takes no memory.
+    /// The image of the entry at a prefix, in a ward, in the first version of the page file (exhash's
+    /// own). It takes no memory.
     pub fn to_image(&self, ward: u8, prefix: Prefix) -> [u8; ENTRY_IMAGE_LEN]
         requires { length prefix < LIMIT }
         ensures { result ≡ entry_image first_version ward prefix self.now }

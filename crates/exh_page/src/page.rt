@@ -7,8 +7,8 @@ use std::alloc::AllocError;
 /// The most records that a page of any file holds.
 pub const CAP_LIMIT: usize = 16;
 
-/// A page: a bucket (Fagin et al. 1979), or what is left of one that was merged away (exhash
-/// profile).
+/// A page: a bucket (Fagin et al. 1979), or what is left of one that was merged away (exhash's
+/// own).
 #[derive(Debug, Drop)]
 pub enum Page {
     /// Holds the records whose pseudokeys the prefix begins, the prefix's length being the local

@@ -23,7 +23,7 @@ mod sight;
 
 impl<P: Pages + Drop, K: Keyer> Ward<P, K> {
     /// One hop of a client's call, at the page of number `at`. The ward covers the call's key. What
-    /// the hop comes to, and what it leaves, is the hop table's (exhash profile; Fagin et al. 1979
+    /// the hop comes to, and what it leaves, is the hop table's (exhash's own; Fagin et al. 1979
     /// for buckets that overflow): only `Done` changes the ward, by the call's change of the map and
     /// one entry of the journal. Where it is refused, `WardFault::Memory` or `WardFault::Page`, the
     /// ward is as before.

@@ -16,7 +16,7 @@ use exh_prefix::{PageNo, Prefix};
 
 impl<P: Pages + Drop, K: Keyer> Ward<P, K> {
     /// Merges a live page, the left half of its parent, with the live page of the right half, and
-    /// tells so (Fagin et al. 1979; forwarding pages and the notice are exhash profile). The page
+    /// tells so (Fagin et al. 1979; forwarding pages and the notice are exhash's own). The page
     /// gets the parent's prefix, the records of both in order and the right one's right link; the
     /// right one sends callers on to it, from its own low bound. Refused in this order: `NoPage`,
     /// `NotLive`, `NoBuddy`, `BuddySplit`, `TooMany`, `Worn`; at any point `Memory` and `Page`. Then

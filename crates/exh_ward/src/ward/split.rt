@@ -23,7 +23,7 @@ use exh_prefix::{PageNo, Prefix};
 
 impl<P: Pages + Drop, K: Keyer> Ward<P, K> {
     /// Splits a live page that has as many records as a page may, and tells so (Fagin et al. 1979;
-    /// the new page's place and the notice are exhash profile). The page keeps its prefix's left
+    /// the new page's place and the notice are exhash's own). The page keeps its prefix's left
     /// child. The page of the right child's low bound, a new one or the forwarding page there, gets
     /// the right child and the page's right link, and becomes its right link. Refused in this order:
     /// `NoPage`, `NotLive`, `NotFull`, `AtLimit`; at any point `Memory` and `Page`. Then the ward is as

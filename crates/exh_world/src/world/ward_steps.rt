@@ -10,8 +10,8 @@ use exh_keyer::Keyer;
 use exh_prefix::PageNo;
 
 impl<P: Pages + Drop, K: Keyer> World<P, K> {
-    /// Splits a page of a ward, and issues the notice (Fagin et al. 1979; the notice is exhash
-    /// profile). Refused in this order: `NoWard`, then as the ward refuses: `NoPage`, `NotLive`,
+    /// Splits a page of a ward, and issues the notice (Fagin et al. 1979; the notice is exhash's
+    /// own). Refused in this order: `NoWard`, then as the ward refuses: `NoPage`, `NotLive`,
     /// `NotFull`, `AtLimit`; at any point `StepFault::Ward(Memory)` and `StepFault::Ward(Page)`. Then
     /// the world is as before, but that at `Page` the ward has counted it.
     pub fn split(&mut self, ward: u32, page: PageNo) -> Result<Outcome, StepFault>
@@ -27,7 +27,7 @@ impl<P: Pages + Drop, K: Keyer> World<P, K> {
     }
 
     /// Merges a live page of a ward with its right buddy, and issues the notice (Fagin et al. 1979;
-    /// the notice is exhash profile). Refused in this order: `NoWard`, then as the ward refuses:
+    /// the notice is exhash's own). Refused in this order: `NoWard`, then as the ward refuses:
     /// `NoPage`, `NotLive`, `NoBuddy`, `BuddySplit`, `TooMany`, `Worn`; at any point
     /// `StepFault::Ward(Memory)` and `StepFault::Ward(Page)`. Then the world is as before, but that at
     /// `Page` the ward has counted it.
