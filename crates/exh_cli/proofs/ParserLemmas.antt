@@ -9,11 +9,11 @@ use Rattle.std.proofs.lemmas.Slice.Eq.{bytes_eq-Decides}
 use Rattle.clap.specs.declared.parser.matches.ArgMatches.{ArgMatches}
 use Rattle.clap.specs.declared.parser.matches.SubCommand.{SubCommand}
 use Rattle.clap.specs.declared.parser.matches.ArgMatches.TheViews.{out-ArgMatches, out-SubCommand}
-use Rattle.clap.specs.Words.{App, HasKind, found_of, rows_of, subcommand_name_of, HasMatchesOf, IsAmong, Kinds, Rule, Shape, Text, fault_of, first_of, first_value, is_simple, is_simple_and_free, kind_of, new_app, new_rule, subcommand_of, subcommand_rows, subcommand_rows_of, with_subcommand}
+use Rattle.clap.specs.Words.{App, HasKind, found_of, rows_of, subcommand_name_of, HasMatchesOf, IsAmong, Kinds, Rule, Shape, Text, fault_of, first_of, first_value, is_simple, is_simple_and_free, kind_of, new_app, subcommand_of, subcommand_rows, subcommand_rows_of, with_subcommand}
 use Rattle.clap.specs.Kinds.{or_else}
 use Rattle.clap.specs.Lexer.{long_of, short_of}
 use Rattle.clap.specs.Simple.{built, entered, filled_from, help_rule, names_of, new_shape, on_top, version_rule}
-use Rattle.clap.specs.Walk.{Held, Names, Walk, after_flag, after_step, arg_by_index, arg_by_long, arg_by_short, bundle_met, bundle_step, finished, has_long, has_short, idle, long_or_other, nothing_held, plain, Row, rows_after, settled, short_or_plain, subcommand_met, subcommand_or_other, value, walk_from, walked}
+use Rattle.clap.specs.Walk.{Held, Names, Walk, after_flag, after_step, arg_by_index, arg_by_long, arg_by_short, bundle_met, bundle_step, finished, has_long, has_short, idle, long_or_other, nothing_held, plain, rows_after, settled, short_or_plain, subcommand_met, subcommand_or_other, value, walk_from, walked}
 use Rattle.clap.specs.Faults.{built_fault, bundle_fault, bundle_step_fault, check_fault, defaults_fault, entered_fault, flag_word_fault, flags_fault, level_fault, long_fault, other_fault, react_fault, settle_fault, short_fault, step_fault, turn_fault, use_fault, walk_fault}
 use Rattle.clap.specs.declared.error.Error.{Error}
 use Rattle.clap.specs.declared.error.kind.ErrorKind.TheVariants as kind
@@ -674,9 +674,10 @@ met_is m command own path job named behind read met = go (out-ArgMatches m).subc
         → told (subcommand_rows sub) ≡ Some (command_of job, path_of job) → (command ≡ command_of job) × (path ≡ path_of job)
     go None named behind met = cc
     go (Some b) named behind met =
-        let rows : Some (rows_of (found_of own)) ≡ Some (rows_of (found_of (out-SubCommand (box_value b)).matches)) = behind in
-        (some_is named ∙ ap (λ (p : Text × Option Text). p.0) (some_is met),
-        read ∙ first_value-rows (found_of own) path_id ∙ ap (first_of path_id) (some_is rows) ∙ ap (λ (p : Text × Option Text). p.1) (some_is met))
+        let rows : Some (rows_of (found_of own)) ≡ Some (rows_of (found_of (out-SubCommand (box_value b)).matches)) = behind in (
+          some_is named ∙ ap (λ (p : Text × Option Text). p.0) (some_is met),
+          read ∙ first_value-rows (found_of own) path_id ∙ ap (first_of path_id) (some_is rows) ∙ ap (λ (p : Text × Option Text). p.1) (some_is met),
+        )
 
 -- the job, by its command and its path
 pub serves : (job : Named) → path_of job ≡ None → job ≡ Serve

@@ -1,5 +1,5 @@
 -- The job that a command line names.
-use Rattle.std.specs.Prelude.{◌≡◌, ◌&&◌, ◌==◌, ℕ, Bool, true, false, List, [], ◌∷◌, length, nat_lt, Option, Some, None, option_map, codes, if◌then◌else◌}
+use Rattle.std.specs.Prelude.{◌≡◌, ◌&&◌, ◌==◌, ℕ, Bool, false, List, [], ◌∷◌, length, nat_lt, Option, Some, None, option_map, codes, if◌then◌else◌}
 use Rattle.std.specs.Str.{bytes_eq, chars}
 use Rattle.exh_cli.specs.declared.job.Job.{Job}
 use Rattle.exh_cli.specs.declared.job.Job.TheVariants as jobs

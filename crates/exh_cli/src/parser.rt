@@ -4,8 +4,8 @@ ghost use Rattle.clap.specs.Words.{app_of, kind_of};
 ghost use Rattle.clap.specs.Simple.{new_shape};
 ghost use Rattle.exh_cli.specs.Parser.{HasOwnArgs, ReadsJobs, about_path, only};
 
-use clap::{Arg, Command};
 use clap::error::{Error, ErrorKind};
+use clap::{Arg, Command};
 use std::alloc::{AllocError, Global};
 
 /// The command that answers a script.

@@ -1,7 +1,6 @@
-use Rattle.std.proofs.Common.{rules, ◌≡◌, ◌∙◌, Some, None, map, ap, sym, codes}
+use Rattle.std.proofs.Common.{◌∙◌, Some, None, map, ap, sym}
 use Rattle.clap.specs.Words.{app_of}
-use Rattle.exh_cli.specs.Job.{Named}
-use Rattle.exh_cli.proofs.ParserLemmas.{IsJobMet, checks, dumps, met_is, parse_meets, serves, some_met, version_told}
+use Rattle.exh_cli.proofs.ParserLemmas.{checks, dumps, met_is, parse_meets, serves, some_met, version_told}
 use Rattle.exh_cli.proofs.job.job_of.Goals as goal
 
 pub returns-in_err-matches-clause-version : goal.returns-in_err-matches-clause-version
