@@ -12,7 +12,7 @@ use Rattle.exh_walk.specs.Walk.{Due, HopDue, SplitDue, Over, IsRun, AreDue, IsWh
 use Rattle.exh_live.specs.Units.{units_of}
 
 -- the answers among events
-answers_among : List WardEvent → ℕ
+abbrev answers_among : List WardEvent → ℕ
 answers_among [] = 0
 answers_among (event ∷ earlier) = answers_among earlier + length (answer_of event)
 
@@ -25,7 +25,7 @@ module _ {S : Type 0} (step : S → WardEvent → S → Type 0) (amount : S → 
       omega (arith, before, last)
 
 -- one where a call is answered, with nothing to come
-units_due : Due → ℕ
+abbrev units_due : Due → ℕ
 units_due (HopDue page) = 0
 units_due (SplitDue page) = 0
 units_due (Over result) = units_of result

@@ -32,7 +32,7 @@ impl<'a, P: Pages + Drop, K: Keyer, F: Identity, R: Wait> LockedWard<'a, P, K, F
     /// The caller's share of the answers.
     pub(crate) fn into_answers(self) -> Share<Answers<F>>
         ensures part { result.parts ≡ 1 }
-        ensures amount { result.amount ≡ self.answers.amount }
+        ensures amount { result.amount ≡ self.entry.answers.amount }
     {
         let LockedWard {
             rt: _,
