@@ -38,6 +38,8 @@ A script has at most 1048576 bytes. Words have one space between them, and no
 line begins or ends with one.
   file        cap, the records of a page, 1 to 16; wards 0 to 4; copies 1 to 8;
               K is sha or plain: how a key's bytes lead to its page
+              `moves=yes` may stand behind it: each reply then ends with its
+              moves and their bound, as ` moves 1 of 1`
   rN, cN      r or c and a number from 1 to 4294967295
   COPY, TABLE and a ward's INDEX begin at 1, WARD and PAGE at 0.
   CALL        get KEY, put KEY VALUE, or del KEY
