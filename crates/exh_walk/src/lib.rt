@@ -14,5 +14,3 @@ mod steps;
 mod walk;
 mod ward_steps;
 mod ward_walk;
-#[cfg(test)]
-mod tests;
