@@ -1,0 +1,6 @@
+-- of requests_go_on
+pub mod NamedRequests
+pub mod WardTurns
+pub mod GoingOn
+-- of answers_are_counted and current_copies_look_once
+pub mod Counted

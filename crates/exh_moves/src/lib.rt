@@ -1,0 +1,7 @@
+//! How many moves the requests of a world make, counted from any moment on, and how many pages a request begun at a
+//! current copy looks at (Fagin et al. 1979). Definitions and laws.
+#![tactic(auto)]
+
+pub use laws::{answers_are_counted, current_copies_look_once, requests_go_on};
+
+mod laws;
