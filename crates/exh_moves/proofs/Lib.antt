@@ -4,3 +4,5 @@ pub mod WardTurns
 pub mod GoingOn
 -- of answers_are_counted and current_copies_look_once
 pub mod Counted
+-- of new_worlds_are_told_truly, steps_tell_truly, takers_are_current
+pub mod Entries
