@@ -43,12 +43,13 @@ use Rattle.exh_moves.proofs.WardTurns.{LeavesWards, IsWardTurn, Turns, step_turn
 -- ---- how many changes a ward has had
 
 module _ {K : Type 0} where
-  pub count_of : (world : WorldState K) (number noticed : ℕ) (ward : WardState K) → slice_get world.wards number ≡ Some ward → slice_get world.noticed number ≡ Some noticed
-      → length (changes_in world number) ≡ length ward.notices - noticed
-  count_of world number noticed ward there had =
+  pub changes_of : (world : WorldState K) (number noticed : ℕ) (ward : WardState K) → slice_get world.wards number ≡ Some ward → slice_get world.noticed number ≡ Some noticed → changes_in world number ≡ drop noticed ward.notices
+  changes_of world number noticed ward there had =
       let issued : option_map_or (λ (w : WardState K). w.notices) (slice_get world.wards number) [] ≡ ward.notices = ap (λ (found : Option (WardState K)). option_map_or (λ (w : WardState K). w.notices) found []) there in
-      ap length (ap (λ (found : Option ℕ). option_map_or (λ n. drop n (option_map_or (λ (w : WardState K). w.notices) (slice_get world.wards number) [])) found []) had ∙ ap (drop noticed) issued)
-      ∙ length-drop noticed ward.notices
+      ap (λ (found : Option ℕ). option_map_or (λ n. drop n (option_map_or (λ (w : WardState K). w.notices) (slice_get world.wards number) [])) found []) had ∙ ap (drop noticed) issued
+
+  count_of : (world : WorldState K) (number noticed : ℕ) (ward : WardState K) → slice_get world.wards number ≡ Some ward → slice_get world.noticed number ≡ Some noticed → length (changes_in world number) ≡ length ward.notices - noticed
+  count_of world number noticed ward there had = ap length (changes_of world number noticed ward there had) ∙ length-drop noticed ward.notices
 
   -- as many where the ward is the same
   pub same_changes : (old new : WorldState K) (number : ℕ) → slice_get new.wards number ≡ slice_get old.wards number → new.noticed ≡ old.noticed → changes_in new number ≡ changes_in old number

@@ -6,3 +6,5 @@ pub mod GoingOn
 pub mod Counted
 -- of new_worlds_are_told_truly, steps_tell_truly, takers_are_current
 pub mod Entries
+pub mod Told
+pub mod ToldRuns

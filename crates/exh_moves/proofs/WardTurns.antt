@@ -26,6 +26,10 @@ use Rattle.exh_world.specs.declared.outcome.Outcome.{Outcome}
 use Rattle.exh_world.specs.declared.progress.Progress.{Progress}
 use Rattle.exh_world.specs.declared.step_fault.StepFault.{StepFault}
 
+-- the ward's notices and table are as they were, or it has one notice more, which its table took
+abbrev pub Tells : {K : Type 0} → WardState K → WardState K → Type 0
+Tells before left = ((left.notices ≡ before.notices) × (left.table ≡ before.table)) ⊎ ((notice : Notice) × (left.notices ≡ before.notices ++ notice ∷ []) × (left.table ≡ table_with before.table notice))
+
 -- one step of the ward of a number, which has the step's changes more
 pub record IsWardTurn {K : Type 0} (pseudokey_of : K → List ℕ → ℕ) (old new : WorldState K) : Type 0 where
   pub at : ℕ
@@ -35,6 +39,7 @@ pub record IsWardTurn {K : Type 0} (pseudokey_of : K → List ℕ → ℕ) (old 
   pub event : WardEvent
   pub step : WardStep pseudokey_of before event left
   pub grown : length left.notices ≡ length before.notices + length (changes_by event)
+  pub tells : Tells before left
   pub wards : new.wards ≡ slice_set old.wards at left
   pub noticed : new.noticed ≡ old.noticed
 
@@ -52,6 +57,12 @@ module _ {K : Type 0} (pseudokey_of : K → List ℕ → ℕ) where
   notices_kept before left at client call MustSplit leaves = ap (λ (w : WardState K). w.notices) leaves
   notices_kept before left at client call Stray leaves = ap (λ (w : WardState K). w.notices) leaves
 
+  table_kept : (before left : WardState K) (at client : ℕ) (call : Call) (hop : Hop) → LeavesAfter pseudokey_of before at client call hop left → left.table ≡ before.table
+  table_kept before left at client call (Done reply) leaves = ap (λ (w : WardState K). w.table) leaves.others
+  table_kept before left at client call (Moved next) leaves = ap (λ (w : WardState K). w.table) leaves
+  table_kept before left at client call MustSplit leaves = ap (λ (w : WardState K). w.table) leaves
+  table_kept before left at client call Stray leaves = ap (λ (w : WardState K). w.table) leaves
+
   module _ (old : WorldState K) (sound : IsSoundWorld pseudokey_of old) where
     hop_turn : (name ward : ℕ) (hop : Progress) (new : WorldState K) → HasHopped pseudokey_of old name ward hop new → Turns pseudokey_of old new
     hop_turn name ward hop new has =
@@ -60,7 +71,8 @@ module _ {K : Type 0} (pseudokey_of : K → List ℕ → ℕ) where
         let own_hop : HopOf has.before.cap (pseudokey_of has.before.keyer) has.before.pages request.page request.call (hop_in hop) =
         subst (λ (keyer : K). HopOf has.before.cap (pseudokey_of keyer) has.before.pages request.page request.call (hop_in hop)) (sym own.keyer)
         (subst (λ cap. HopOf cap (pseudokey_of old.keyer) has.before.pages request.page request.call (hop_in hop)) (sym own.cap) has.outcome) in
-        let same = ap length (notices_kept has.before has.left request.page request.client request.call (hop_in hop) has.leaves) in
+        let notices = notices_kept has.before has.left request.page request.client request.call (hop_in hop) has.leaves in
+        let same = ap length notices in
         inr record {
           at = ward;
           before = has.before;
@@ -69,6 +81,7 @@ module _ {K : Type 0} (pseudokey_of : K → List ℕ → ℕ) where
           event = HopAt request.page request.client request.call (Ok (hop_in hop));
           step = (own_hop, has.leaves);
           grown = omega (arith, same);
+          tells = inl (notices, table_kept has.before has.left request.page request.client request.call (hop_in hop) has.leaves);
           wards = ap (λ (w : WorldState K). w.wards) has.after;
           noticed = ap (λ (w : WorldState K). w.noticed) has.after;
         }
@@ -89,6 +102,7 @@ module _ {K : Type 0} (pseudokey_of : K → List ℕ → ℕ) where
         event = SplitAt page (Ok notice);
         step = has.change;
         grown = one_more has.before has.left notice has.change.others;
+        tells = inr (notice, ap (λ (w : WardState K). w.notices) has.change.others, ap (λ (w : WardState K). w.table) has.change.others);
         wards = ap (λ (w : WorldState K). w.wards) has.after;
         noticed = ap (λ (w : WorldState K). w.noticed) has.after;
       };
@@ -100,6 +114,7 @@ module _ {K : Type 0} (pseudokey_of : K → List ℕ → ℕ) where
         event = MergeAt page (Ok notice);
         step = has.change;
         grown = one_more has.before has.left notice has.change.others;
+        tells = inr (notice, ap (λ (w : WardState K). w.notices) has.change.others, ap (λ (w : WardState K). w.table) has.change.others);
         wards = ap (λ (w : WorldState K). w.wards) has.after;
         noticed = ap (λ (w : WorldState K). w.noticed) has.after;
       };
@@ -121,6 +136,7 @@ module _ {K : Type 0} (pseudokey_of : K → List ℕ → ℕ) where
           event = SplitAt 0 (Err Page);
           step = refl;
           grown = omega arith;
+          tells = inl (refl, refl);
           wards = refl;
           noticed = refl;
         }) event fault new step

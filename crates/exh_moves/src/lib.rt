@@ -3,5 +3,9 @@
 #![tactic(auto)]
 
 pub use laws::{answers_are_counted, current_copies_look_once, requests_go_on};
+pub use taking_laws::{
+    new_worlds_are_told_truly, steps_tell_truly, takers_are_current, takers_look_once,
+};
 
 mod laws;
+mod taking_laws;
