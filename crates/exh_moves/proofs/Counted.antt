@@ -63,33 +63,36 @@ module _ {K : Type 0} (pseudokey_of : K → List ℕ → ℕ) (old : WorldState 
   ward_begins : (pseudokey : ℕ) → Begins (ward_prefix old.ward_bits (ward_of old.ward_bits pseudokey)) pseudokey
   ward_begins pseudokey = ap (λ n. take n (word_bits pseudokey)) (length-bits_of old.ward_bits (ward_of old.ward_bits pseudokey)) ∙ sym (ward_prefix_is pseudokey)
 
-  module _ (name client copy : ℕ) (call : Call) (ward page : ℕ) (now : WorldState K) (has : HasBegun pseudokey_of old name client copy call ward page now) (homes : WholeCopiesNameHomes) (one : OneDistance)
-      (table : TableMap) (there : numbered old.copies copy ≡ Some table) (current : IsCurrentIn old ward table) where
+  module _ (name client copy : ℕ) (call : Call) (ward page : ℕ) (now : WorldState K) (has : HasBegun pseudokey_of old name client copy call ward page now) where
     abbrev k : ℕ
     k = pseudokey_in pseudokey_of old call
 
-    abbrev own : List Bool
-    own = ward_prefix old.ward_bits ward
+    own_is : own_prefix has.before ≡ ward_prefix old.ward_bits ward
+    own_is = let own = sound.wards ward has.before has.found in ap (λ bits. ward_prefix bits has.before.number) own.bits ∙ ap (ward_prefix old.ward_bits) own.number_is
 
-    -- the page that the copy's walk names is the home
-    pub at_home : IsDistance has.before.pages page k 0
-    at_home =
-        let before = has.before in
-        let is_own = sound.wards ward before has.found in
-        let own_is : own_prefix before ≡ own = ap (λ bits. ward_prefix bits before.number) is_own.bits ∙ ap (ward_prefix old.ward_bits) is_own.number_is in
-        let same_ward : current.ward ≡ before = one_there old.wards ward current.ward before current.there has.found in
-        let same_table : table ≡ has.table = let both : Some table ≡ Some has.table = sym there ∙ has.there in cc in
-        let walked : own ≡ take old.ward_bits (word_bits k) = ap (ward_prefix old.ward_bits) has.ward_is ∙ ward_prefix_is k in
-        let begins : Begins (own_prefix before) k = subst (λ p. Begins p k) (sym own_is) (subst (λ n. Begins (ward_prefix old.ward_bits n) k) (sym has.ward_is) (ward_begins k)) in
-        let whole : IsTableWithin (own_prefix before) before.start before.notices before.table = λ prefix front. is_own.sound.since prefix in
-        let copied : IsTableWithin (own_prefix before) before.start before.notices table = λ prefix front.
-        subst (IsEntryOf _ prefix) (sym (current.same prefix (subst (λ p. IsFront p prefix) own_is front) ∙ ap (λ (w : WardState K). get w.table prefix) same_ward)) (is_own.sound.since prefix) in
-        let zero = homes before.cap (pseudokey_of before.keyer) (own_prefix before) before.start before.notices before.table before.pages table k is_own.sound.legal whole copied (sound.words (key_of call)) begins in
-        let there_is : (walk_in table (own_prefix before) k).page ≡ page = ap (λ p. (walk_in table p k).page) (own_is ∙ walked) ∙ ap (λ t. (walk_in t (take old.ward_bits (word_bits k)) k).page) same_table ∙ sym has.page_is in
-        subst (λ p. IsDistance before.pages p k 0) there_is zero
+    -- the ward is the pseudokey's, and the page the one that the copy's walk in the ward names
+    pub own_begins : Begins (own_prefix has.before) k
+    own_begins = subst (λ p. Begins p k) (sym own_is) (subst (λ n. Begins (ward_prefix old.ward_bits n) k) (sym has.ward_is) (ward_begins k))
 
-    pub no_distance : has.distance ≡ 0
-    no_distance = one has.before.pages page k has.distance 0 has.is_distance at_home
+    pub walks_to : (walk_in has.table (own_prefix has.before) k).page ≡ page
+    walks_to = ap (λ p. (walk_in has.table p k).page) (own_is ∙ ap (ward_prefix old.ward_bits) has.ward_is ∙ ward_prefix_is k) ∙ sym has.page_is
+
+    module _ (homes : WholeCopiesNameHomes) (one : OneDistance) (table : TableMap) (there : numbered old.copies copy ≡ Some table) (current : IsCurrentIn old ward table) where
+      -- of a current copy that is the home
+      pub at_home : IsDistance has.before.pages page k 0
+      at_home =
+          let before = has.before in
+          let own = sound.wards ward before has.found in
+          let same_ward : current.ward ≡ before = one_there old.wards ward current.ward before current.there has.found in
+          let same_table : table ≡ has.table = let both : Some table ≡ Some has.table = sym there ∙ has.there in cc in
+          let whole : IsTableWithin (own_prefix before) before.start before.notices before.table = λ prefix front. own.sound.since prefix in
+          let copied : IsTableWithin (own_prefix before) before.start before.notices table = λ prefix front.
+          subst (IsEntryOf _ prefix) (sym (current.same prefix (subst (λ p. IsFront p prefix) own_is front) ∙ ap (λ (w : WardState K). get w.table prefix) same_ward)) (own.sound.since prefix) in
+          let zero = homes before.cap (pseudokey_of before.keyer) (own_prefix before) before.start before.notices before.table before.pages table k own.sound.legal whole copied (sound.words (key_of call)) own_begins in
+          subst (λ p. IsDistance before.pages p k 0) (ap (λ t. (walk_in t (own_prefix before) k).page) same_table ∙ walks_to) zero
+
+      pub no_distance : has.distance ≡ 0
+      no_distance = one has.before.pages page k has.distance 0 has.is_distance at_home
 
 -- the first hop of such a request
 module _ {K : Type 0} (pseudokey_of : K → List ℕ → ℕ) (moves : MovesComeNearer) (now later after : WorldState K) (sound : IsSoundWorld pseudokey_of later) (name : ℕ) (begun : Request) (none : begun.moves ≡ 0) (near : begun.distance ≡ 0)

@@ -246,6 +246,16 @@ module _ {K : Type 0} (pseudokey_of : K → List ℕ → ℕ) (old : WorldState 
 
 -- ---- a new file
 
+pub replicated : {A : Type 0} (n : ℕ) (x y : A) (number : ℕ) → numbered (replicate n x) number ≡ Some y → y ≡ x
+replicated n x y zero is = cc
+replicated n x y (suc at) is =
+    let within = subst (λ length. at < length) (length-replicate n x) (slice_get_within (replicate n x) at y is) in
+    sym (get_or_from_slice_get (replicate n x) at y x is) ∙ get_or-replicate n at x x within
+
+pub none_sent : (number : ℕ) (table : TableMap) → numbered (let none : List TableMap = [] in none) number ≡ Some table → ⊥
+none_sent zero table is = cc
+none_sent (suc number) table is = cc
+
 module _ {K : Type 0} (config : Config K) where
   abbrev fresh : WorldState K
   fresh = new_world config
@@ -258,16 +268,6 @@ module _ {K : Type 0} (config : Config K) where
     start = table_laws.order.reflexive fin.empty;
     wards = λ number ward is prefix front. subst (λ found. IsOptionUpTo found (get ward.table prefix)) (sym (nothing prefix)) tt;
   }
-
-  replicated : {A : Type 0} (n : ℕ) (x y : A) (number : ℕ) → numbered (replicate n x) number ≡ Some y → y ≡ x
-  replicated n x y zero is = cc
-  replicated n x y (suc at) is =
-      let within = subst (λ length. at < length) (length-replicate n x) (slice_get_within (replicate n x) at y is) in
-      sym (get_or_from_slice_get (replicate n x) at y x is) ∙ get_or-replicate n at x x within
-
-  none_sent : (number : ℕ) (table : TableMap) → numbered (let none : List TableMap = [] in none) number ≡ Some table → ⊥
-  none_sent zero table is = cc
-  none_sent (suc number) table is = cc
 
   pub new_told : IsToldTruly fresh
   new_told = record {

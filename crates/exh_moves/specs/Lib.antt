@@ -1,3 +1,4 @@
 pub mod Moves
 pub mod Current
 pub mod Taken
+pub mod Begun

@@ -9,9 +9,9 @@ use Rattle.exh_notice.specs.declared.notice.Notice.{Notice}
 use Rattle.exh_table.specs.Table.{TableMap, told_by}
 use Rattle.exh_table.specs.TableOrder.{IsOptionUpTo, IsTableUpTo}
 use Rattle.exh_calls.specs.declared.call.Call.{Call}
-use Rattle.exh_ward.specs.WardState.{WardState}
+use Rattle.exh_ward.specs.WardState.{WardState, IsSoundWard}
 use Rattle.exh_world.specs.Headline.{taken_by}
-use Rattle.exh_world.specs.NewWorld.{new_world}
+use Rattle.exh_world.specs.NewWorld.{AreWardsFor, new_world, world_of_wards}
 use Rattle.exh_world.specs.Run.{Moment, IsRun, Told}
 use Rattle.exh_world.specs.Sound.{IsSoundWorld}
 use Rattle.exh_world.specs.Step.{Step, pseudokey_in, request_begun}
@@ -53,6 +53,14 @@ pub record IsToldTruly {K : Type 0} (world : WorldState K) : Type 0 where
 -- the world of a new file is sound, and told truly
 abbrev pub NewWorldsAreToldTruly : {K : Type 0} → (K → List ℕ → ℕ) → Type 0
 NewWorldsAreToldTruly {K} pseudokey_of = (config : Config K) → config.ward_bits ≤ WARD_BITS_LIMIT → IsSoundWorld pseudokey_of (new_world config) × IsToldTruly (new_world config)
+
+-- each of some wards is sound
+abbrev pub AreSoundWards : {K : Type 0} → (K → List ℕ → ℕ) → List (WardState K) → Type 0
+AreSoundWards {K} pseudokey_of wards = (number : ℕ) (ward : WardState K) → slice_get wards number ≡ Some ward → IsSoundWard pseudokey_of ward
+
+-- the world of given wards is told truly, where it is sound
+abbrev pub WorldsOfWardsAreToldTruly : {K : Type 0} → (K → List ℕ → ℕ) → Type 0
+WorldsOfWardsAreToldTruly {K} pseudokey_of = (config : Config K) (wards : List (WardState K)) → length wards ≡ 2 ^ config.ward_bits → AreWardsFor config wards → AreSoundWards pseudokey_of wards → IsToldTruly (world_of_wards config wards)
 
 -- and each step leaves a world so
 abbrev pub StepsTellTruly : {K : Type 0} → (K → List ℕ → ℕ) → Type 0

@@ -1,14 +1,25 @@
 //! How many moves requests make. Each function does nothing.
 
+ghost use Rattle.exh_moves.specs.Begun.{RequestsBeginNear};
 ghost use Rattle.exh_moves.specs.Current.{CurrentCopiesLookOnce};
 ghost use Rattle.exh_moves.specs.Moves.{AnswersAreCounted, RequestsGoOn};
 
 use exh_keyer::Keyer;
 use exh_route::{
-    moves_come_nearer, one_distance, runs_keep_wards_sound_and_one_map, steps_add_changes,
-    whole_tables_name_homes,
+    distances_are_few, late_tables_are_near, moves_come_nearer, one_distance,
+    runs_keep_wards_sound_and_one_map, steps_add_changes, whole_tables_name_homes,
 };
 use exh_world::steps_keep_worlds_sound;
+
+/// A request keeps at begin the distance of its page: at most `LIMIT` more than its ward's live
+/// pages; and of a copy that has the ward's start table and the first m of its n notices, n - m.
+pub fn requests_begin_near<K: Keyer>()
+    ensures { RequestsBeginNear K.pseudokey_of }
+{
+    distances_are_few();
+    late_tables_are_near();
+    one_distance();
+}
 
 /// From any world on, over every list of events that doesn't answer a request in flight: it is still
 /// in flight, and the moves that it made from there, with those that are left, are at most its

@@ -2,9 +2,12 @@
 //! current copy looks at (Fagin et al. 1979). Definitions and laws.
 #![tactic(auto)]
 
-pub use laws::{answers_are_counted, current_copies_look_once, requests_go_on};
+pub use laws::{
+    answers_are_counted, current_copies_look_once, requests_begin_near, requests_go_on,
+};
 pub use taking_laws::{
     new_worlds_are_told_truly, steps_tell_truly, takers_are_current, takers_look_once,
+    worlds_of_wards_are_told_truly,
 };
 
 mod laws;

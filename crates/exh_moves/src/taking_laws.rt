@@ -1,6 +1,6 @@
 //! That copies which took all changes of a ward are current there. Each function does nothing.
 
-ghost use Rattle.exh_moves.specs.Taken.{NewWorldsAreToldTruly, StepsTellTruly, TakersAreCurrent, TakersLookOnce};
+ghost use Rattle.exh_moves.specs.Taken.{NewWorldsAreToldTruly, StepsTellTruly, TakersAreCurrent, TakersLookOnce, WorldsOfWardsAreToldTruly};
 
 use crate::laws::current_copies_look_once;
 use exh_keyer::Keyer;
@@ -13,6 +13,11 @@ pub fn new_worlds_are_told_truly<K: Keyer>()
 {
     new_worlds_are_sound::<K>();
 }
+
+/// So does the world of given wards, which `World::from_wards` says is sound.
+pub fn worlds_of_wards_are_told_truly<K: Keyer>()
+    ensures { WorldsOfWardsAreToldTruly K.pseudokey_of }
+{}
 
 /// Each step leaves a world so.
 pub fn steps_tell_truly<K: Keyer>()
