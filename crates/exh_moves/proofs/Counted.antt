@@ -1,13 +1,13 @@
 -- What an answer tells, counted from a world before it; and the hops of a request that began at a current copy.
-use Rattle.std.proofs.Common.{◌≡◌, ℕ, suc, ◌+◌, ◌-◌, ◌≤◌, ◌<◌, ◌^◌, Bool, List, [], ◌∷◌, ◌++◌, length, take, slice_get, Option, Some, Ok, inl, inr, refl, sym, ap, ◌∙◌, subst, arith}
-use Rattle.std.specs.FinMap.{entries, get}
+use Rattle.std.proofs.Common.{◌≡◌, ℕ, ◌+◌, List, length, take, Some, inl, inr, refl, sym, ap, ◌∙◌, subst, arith}
+use Rattle.std.specs.FinMap.{get}
 use Rattle.exh_prefix.specs.Bits.{bits_of, number_of, word_bits}
 use Rattle.exh_prefix.specs.BitLemmas.{bits_of-number_of, length-bits_of}
 use Rattle.exh_prefix.specs.Leading.{ward_of, ward_prefix}
 use Rattle.exh_prefix.specs.LeadingLemmas.{length-leading_bits}
 use Rattle.exh_prefix.specs.Prefix.{Begins, IsFront}
 use Rattle.exh_prefix.specs.ListLemmas.{one_there}
-use Rattle.exh_table.specs.Table.{TableMap, IsEntryOf, told_by}
+use Rattle.exh_table.specs.Table.{TableMap, IsEntryOf}
 use Rattle.exh_table.specs.Walk.{walk_in}
 use Rattle.exh_calls.specs.Call.{key_of}
 use Rattle.exh_calls.specs.declared.call.Call.{Call}
@@ -19,13 +19,13 @@ use Rattle.exh_route.specs.Laws.{MovesComeNearer, OneDistance}
 use Rattle.exh_world.specs.InFlight.{request_named}
 use Rattle.exh_world.specs.Progress.{bound_in}
 use Rattle.exh_world.specs.Sound.{IsOnTheWay, IsSoundWorld}
-use Rattle.exh_world.specs.Step.{HasBegun, HasHopped, pseudokey_in, request_begun}
+use Rattle.exh_world.specs.Step.{HasBegun, HasHopped, pseudokey_in}
 use Rattle.exh_world.specs.World.{WorldState, changes_in, numbered}
 use Rattle.exh_world.specs.declared.progress.Progress.{Progress}
 use Rattle.exh_world.specs.declared.progress.Progress.TheVariants.{Done, Moved, MustSplit, Stray}
 use Rattle.exh_world.specs.declared.request.Request.{Request}
 use Rattle.exh_moves.specs.Current.{IsCurrentIn, LooksOnce}
-use Rattle.exh_moves.specs.Moves.{IsAway, GoesOn, IsCounted, changes_between}
+use Rattle.exh_moves.specs.Moves.{IsAway, GoesOn, IsCounted}
 use Rattle.exh_moves.proofs.GoingOn.{way_of, no_stray, nearer_by}
 
 -- ---- an answer

@@ -1,18 +1,16 @@
 -- A request that isn't answered goes on over a run, by no more moves than its distance and the changes since allow.
-use Rattle.std.proofs.Common.{◌≡◌, ℕ, suc, ◌+◌, ◌-◌, ◌≤◌, Bool, true, false, cond, eqb, List, [], ◌∷◌, length, drop, slice_get, Option, Some, Result, Ok, Err, inl, inr, refl, sym, ap, ◌∙◌, subst, arith}
+use Rattle.std.proofs.Common.{◌≡◌, ℕ, suc, ◌+◌, ◌-◌, Bool, true, false, cond, eqb, List, [], ◌∷◌, length, drop, slice_get, Option, Some, Result, Ok, Err, inl, inr, refl, sym, ap, ◌∙◌, subst, arith}
 use Rattle.std.specs.Prelude.{slice_set}
 use Rattle.std.specs.List.{AllByRecursion}
 use Rattle.std.specs.Option.{option_map_or}
-use Rattle.std.proofs.lemmas.Bool.{cases_eq, eqb-true, false_from_ne_true}
+use Rattle.std.proofs.lemmas.Bool.{cases_eq, eqb-true}
 use Rattle.std.proofs.lemmas.Bool.Decides.{nat_tests}
 use Rattle.std.proofs.lemmas.List.{length-drop}
 use Rattle.exh_prefix.specs.Prefix.{Begins}
 use Rattle.exh_prefix.specs.Leading.{ward_prefix}
 use Rattle.exh_prefix.specs.ListLemmas.{set_here, set_else, set_same, one_there}
-use Rattle.exh_notice.specs.declared.notice.Notice.{Notice}
 use Rattle.exh_legal.specs.Laws.{IsBelow}
 use Rattle.exh_calls.specs.Call.{key_of}
-use Rattle.exh_calls.specs.declared.reply.Reply.{Reply}
 use Rattle.exh_ward.specs.HopTable.{HopOf}
 use Rattle.exh_ward.specs.WardState.{WardState, own_prefix}
 use Rattle.exh_ward.specs.declared.hop.Hop.TheVariants as hops
@@ -38,7 +36,7 @@ use Rattle.exh_world.specs.declared.request.Request.{Request}
 use Rattle.exh_world.specs.declared.step_fault.StepFault.{StepFault}
 use Rattle.exh_moves.specs.Moves.{moves_by, moves_over, IsAway, LeavesOpen, GoesOn}
 use Rattle.exh_moves.proofs.NamedRequests.{named_push, named_else, named_on}
-use Rattle.exh_moves.proofs.WardTurns.{LeavesWards, IsWardTurn, Turns, step_turn, stays_sound}
+use Rattle.exh_moves.proofs.WardTurns.{IsWardTurn, Turns, step_turn, stays_sound}
 
 -- ---- how many changes a ward has had
 

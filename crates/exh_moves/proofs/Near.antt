@@ -1,11 +1,9 @@
 -- How far a request is from its answer when it begins.
-use Rattle.std.proofs.Common.{◌≡◌, ℕ, ◌<◌, ◌^◌, ◌≤◌, ◌-◌, List, length, take, slice_get, Some, refl, sym, ap, ◌∙◌, subst, arith}
-use Rattle.exh_prefix.specs.Bits.{word_bits}
-use Rattle.exh_prefix.specs.Leading.{ward_of, ward_prefix}
-use Rattle.exh_prefix.specs.Prefix.{Begins, IsFront}
+use Rattle.std.proofs.Common.{◌≡◌, ℕ, ◌≤◌, ◌-◌, List, length, take, slice_get, Some, sym, ap, ◌∙◌, subst, arith}
+use Rattle.exh_prefix.specs.Leading.{ward_prefix}
+use Rattle.exh_prefix.specs.Prefix.{IsFront}
 use Rattle.exh_prefix.specs.ListLemmas.{one_there}
 use Rattle.exh_table.specs.Table.{TableMap}
-use Rattle.exh_table.specs.Walk.{walk_in}
 use Rattle.exh_calls.specs.Call.{key_of}
 use Rattle.exh_calls.specs.declared.call.Call.{Call}
 use Rattle.exh_ward.specs.WardState.{WardState, own_prefix}

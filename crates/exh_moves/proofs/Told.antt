@@ -1,10 +1,9 @@
 -- Each step leaves a world told truly; and copies that took all changes of a ward are current in it.
-use Rattle.std.proofs.Common.{◌≡◌, ◌⊎◌, ℕ, zero, suc, ◌-◌, ◌<◌, ◌^◌, Bool, List, [], ◌∷◌, ◌++◌, length, drop, map, replicate, slice_get, Option, None, Some, Result, Ok, Err, inl, inr, refl, sym, ap, ◌∙◌, subst, arith}
+use Rattle.std.proofs.Common.{◌≡◌, ℕ, zero, suc, ◌-◌, ◌<◌, ◌^◌, Bool, List, [], ◌∷◌, ◌++◌, drop, map, replicate, slice_get, Option, None, Some, Result, Ok, Err, inl, inr, refl, sym, ap, ◌∙◌, subst, arith}
 use Rattle.std.specs.Prelude.{Contains, slice_set}
 use Rattle.std.specs.FinMap as fin
 use Rattle.std.specs.FinMap.{entries, get}
 use Rattle.std.specs.Option.{option_map_or}
-use Rattle.std.proofs.lemmas.Bool.{cases_eq}
 use Rattle.std.proofs.lemmas.List.{length-replicate, get_or-replicate}
 use Rattle.std.proofs.lemmas.List.Elements.{Contains-append_right}
 use Rattle.std.proofs.lemmas.Option.{get_or_from_slice_get, slice_get_within}
@@ -31,9 +30,9 @@ use Rattle.exh_world.specs.declared.outcome.Outcome.{Outcome}
 use Rattle.exh_world.specs.declared.step_fault.StepFault.{StepFault}
 use Rattle.exh_moves.specs.Current.{IsCurrentIn}
 use Rattle.exh_moves.specs.Taken.{TellsTruly, ComesFrom, IsToldTruly}
-use Rattle.exh_moves.proofs.Entries.{up_to_itself, up_to_both, up_to_third, told_up, join_up, notice_up, above_notice, comes_with, one_front}
+use Rattle.exh_moves.proofs.Entries.{up_to_both, up_to_third, told_up, join_up, notice_up, above_notice, comes_with, one_front}
 use Rattle.exh_moves.proofs.GoingOn.{changes_of, same_changes}
-use Rattle.exh_moves.proofs.WardTurns.{LeavesWards, IsWardTurn, Turns, Tells, step_turn}
+use Rattle.exh_moves.proofs.WardTurns.{IsWardTurn, Turns, Tells, step_turn}
 
 -- ---- one step
 

@@ -6,7 +6,7 @@ use Rattle.exh_table.specs.Table.{TableMap, IsTableOf}
 use Rattle.exh_ward.specs.WardState.{WardState}
 use Rattle.exh_world.specs.Headline.{IsHeadline}
 use Rattle.exh_world.specs.Laws.{AreWardsSound, RunsCarryTheHeadline}
-use Rattle.exh_world.specs.Run.{Moment, IsRun, Told}
+use Rattle.exh_world.specs.Run.{Moment, IsRun}
 use Rattle.exh_world.specs.Sound.{IsSoundWorld}
 use Rattle.exh_world.specs.World.{WorldState, numbered}
 use Rattle.exh_moves.specs.Current.{IsCurrentIn}
