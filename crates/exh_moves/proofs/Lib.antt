@@ -11,3 +11,5 @@ pub mod Entries
 pub mod Told
 pub mod GivenWards
 pub mod ToldRuns
+-- of run
+pub mod Parts

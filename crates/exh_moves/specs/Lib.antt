@@ -2,3 +2,4 @@ pub mod Moves
 pub mod Current
 pub mod Taken
 pub mod Begun
+pub mod Runs
