@@ -1,0 +1,6 @@
+//! Pairs of a text put into the wards of a new file, with splits on demand.
+#![tactic(auto)]
+
+pub use put::{LOADER, put_pair};
+
+mod put;
