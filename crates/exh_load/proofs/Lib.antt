@@ -3,3 +3,7 @@ pub mod FullPages
 pub mod Splits
 pub mod Homes
 pub mod Turns
+-- of loader: a list made item by item, the wards of a new file, and a put into one of them
+pub mod Items
+pub mod FreshWards
+pub mod PutIn

@@ -1,0 +1,85 @@
+ghost use Rattle.exh_load.specs.Loader.{IsLoading};
+
+use super::*;
+use exh_calls::Reply;
+use exh_keyer::AnyKeyer;
+use exh_page::{Key, Value};
+use exh_ward::WardFault;
+use std::alloc::AllocError;
+use std::test::Fail;
+
+// What is seen of a reply: of a value its first byte.
+#[derive(Clone, Copy, Debug, PartialEq, Eq)]
+enum Seen {
+    New,
+    Was(u8),
+    Full,
+    Other,
+}
+
+// Keys and values, and what each put is answered in a file of two records a page under keyer plain. Of the
+// keys of zeros alone two fit, since all bits of their pseudokeys are the same.
+const PUTS: [(&[u8], &[u8], Seen); 10] = [
+    (b"\x00", b"a", Seen::New),
+    (b"\x80", b"b", Seen::New),
+    (b"\x40", b"x", Seen::New),
+    (b"\x00", b"c", Seen::Was(b'a')),
+    (b"\x00\x00", b"d", Seen::New),
+    (b"\x00\x00\x00", b"e", Seen::Full),
+    (b"\x00\x00\x00", b"e", Seen::Full),
+    (b"\x40", b"y", Seen::Was(b'x')),
+    (b"\xc0", b"z", Seen::New),
+    (b"\x00", b"f", Seen::Was(b'c')),
+];
+
+fn seen(reply: &Reply) -> Seen {
+    match reply {
+        Reply::New => Seen::New,
+        Reply::Was(value) => Seen::Was(value.as_bytes().first().copied().unwrap_or(0)),
+        Reply::Full => Seen::Full,
+        _ => Seen::Other,
+    }
+}
+
+// How many of the puts are answered so.
+fn put_all(loader: &mut Loader) -> Result<usize, WardFault>
+    requires { IsLoading loader.old }
+{
+    let mut right = 0usize;
+    'puts: for (key, value, expected) in &PUTS {
+        let (Ok(key), Ok(value)) = (Key::from_bytes(key), Value::from_bytes(value)) else {
+            return Ok(right);
+        };
+        let reply = loader.put(key, value)?;
+        if seen(&reply) == *expected {
+            right = right.saturating_add(1);
+        }
+    }
+    Ok(right)
+}
+
+// How many pages each of the first two wards has at last, and how many answers.
+fn told(loader: Loader) -> [(u32, usize); 2] {
+    let opened = loader.into_opened();
+    let mut told = [(0, 0); 2];
+    for (place, ward) in told.iter_mut().zip(opened.wards()) {
+        *place = (ward.page_count(), ward.journal().len());
+    }
+    told
+}
+
+#[test]
+fn puts_into_one_ward(rt: HostRuntime) -> Result<(), Fail> {
+    let mut loader = Loader::new(rt.alloc(), 2, 0, AnyKeyer::Plain)?;
+    assert_eq!(rt; put_all(&mut loader), Ok(10));
+    assert_eq!(rt; told(loader), [(17, 10), (0, 0)]);
+    Ok(())
+}
+
+#[test]
+fn puts_into_two_wards(rt: HostRuntime) -> Result<(), Fail> {
+    let mut loader = Loader::new(rt.alloc(), 2, 1, AnyKeyer::Plain)?;
+    assert_eq!(rt; put_all(&mut loader), Ok(10));
+    assert_eq!(rt; told(loader), [(16, 8), (1, 2)]);
+    Ok(())
+}
