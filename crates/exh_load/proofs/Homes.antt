@@ -55,8 +55,8 @@ module _ {K : Type 0} (pseudokey_of : K → List ℕ → ℕ) (ward : WardState 
   home_named =
       let named = walks ward.cap (pseudokey_of ward.keyer) (own_prefix ward) ward.start ward.notices ward.table ward.pages pseudokey sound.legal small covered in
       let page : at ≡ named.leaf.page =
-          at_is ∙ ap (λ (table : TableMap). (walk_of table directory.pointers.ward_bits pseudokey).page) told.table ∙ ap (λ (bits : ℕ). (walk_of ward.table bits pseudokey).page) told.bits
-          ∙ ap (λ (own : List Bool). (walk_in ward.table own pseudokey).page) (own_front ward pseudokey covered) ∙ ap (λ (leaf : Leaf). leaf.page) named.walk in
+      at_is ∙ ap (λ (table : TableMap). (walk_of table directory.pointers.ward_bits pseudokey).page) told.table ∙ ap (λ (bits : ℕ). (walk_of ward.table bits pseudokey).page) told.bits
+      ∙ ap (λ (own : List Bool). (walk_in ward.table own pseudokey).page) (own_front ward pseudokey covered) ∙ ap (λ (leaf : Leaf). leaf.page) named.walk in
       record {
         prefix = named.leaf.prefix;
         link = named.live.0;

@@ -10,7 +10,7 @@ use std::test::Fail;
 
 // What is seen of a reply: of a value its first byte.
 #[derive(Clone, Copy, Debug, PartialEq, Eq)]
-enum Seen {
+enum Replied {
     New,
     Was(u8),
     Full,
@@ -19,25 +19,25 @@ enum Seen {
 
 // Keys and values, and what each put is answered in a file of two records a page under keyer plain. Of the
 // keys of zeros alone two fit, since all bits of their pseudokeys are the same.
-const PUTS: [(&[u8], &[u8], Seen); 10] = [
-    (b"\x00", b"a", Seen::New),
-    (b"\x80", b"b", Seen::New),
-    (b"\x40", b"x", Seen::New),
-    (b"\x00", b"c", Seen::Was(b'a')),
-    (b"\x00\x00", b"d", Seen::New),
-    (b"\x00\x00\x00", b"e", Seen::Full),
-    (b"\x00\x00\x00", b"e", Seen::Full),
-    (b"\x40", b"y", Seen::Was(b'x')),
-    (b"\xc0", b"z", Seen::New),
-    (b"\x00", b"f", Seen::Was(b'c')),
+const PUTS: [(&[u8], &[u8], Replied); 10] = [
+    (b"\x00", b"a", Replied::New),
+    (b"\x80", b"b", Replied::New),
+    (b"\x40", b"x", Replied::New),
+    (b"\x00", b"c", Replied::Was(b'a')),
+    (b"\x00\x00", b"d", Replied::New),
+    (b"\x00\x00\x00", b"e", Replied::Full),
+    (b"\x00\x00\x00", b"e", Replied::Full),
+    (b"\x40", b"y", Replied::Was(b'x')),
+    (b"\xc0", b"z", Replied::New),
+    (b"\x00", b"f", Replied::Was(b'c')),
 ];
 
-fn seen(reply: &Reply) -> Seen {
+fn seen(reply: &Reply) -> Replied {
     match reply {
-        Reply::New => Seen::New,
-        Reply::Was(value) => Seen::Was(value.as_bytes().first().copied().unwrap_or(0)),
-        Reply::Full => Seen::Full,
-        _ => Seen::Other,
+        Reply::New => Replied::New,
+        Reply::Was(value) => Replied::Was(value.as_bytes().first().copied().unwrap_or(0)),
+        Reply::Full => Replied::Full,
+        _ => Replied::Other,
     }
 }
 

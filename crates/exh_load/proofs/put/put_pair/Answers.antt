@@ -32,7 +32,7 @@ pub returns-in_err-reply-clause-failures : goal.returns-in_err-reply-clause-fail
 returns-in_err-reply-clause-failures g c =
     let kept = splits_keep c.args.ward.now c.turns.invariant.splits c.turns.ward c.turns.invariant.run in
     let fact : CountsFailures c.hop_hashed.result c.args.ward.now.failures c.hop_hashed.new.self.failures =
-        subst (λ n. CountsFailures c.hop_hashed.result n c.hop_hashed.new.self.failures) kept.failures c.hop_hashed.ensures.failures in
+    subst (λ n. CountsFailures c.hop_hashed.result n c.hop_hashed.new.self.failures) kept.failures c.hop_hashed.ensures.failures in
     search rules
 
 pub returns-in-Done-clause-put : goal.returns-in-Done-clause-put
@@ -67,7 +67,7 @@ returns-in_err-split_told-in-MustSplit-clause-failures g c =
     let kept = splits_keep c.args.ward.now c.turns.invariant.splits c.turns.ward c.turns.invariant.run in
     let failures = c.in_ok-reply.ensures.failures ∙ kept.failures in
     let fact : CountsFailures c.split_told.result c.args.ward.now.failures c.split_told.new.ward.failures =
-        subst (λ n. CountsFailures c.split_told.result n c.split_told.new.ward.failures) failures c.split_told.ensures.failures in
+    subst (λ n. CountsFailures c.split_told.result n c.split_told.new.ward.failures) failures c.split_told.ensures.failures in
     search rules
 
 pub unreachable-requires : goal.unreachable-requires
