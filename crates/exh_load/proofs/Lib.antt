@@ -7,3 +7,5 @@ pub mod Turns
 pub mod Items
 pub mod FreshWards
 pub mod PutIn
+-- of load_text: lines
+pub mod Lines

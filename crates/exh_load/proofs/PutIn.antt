@@ -1,9 +1,14 @@
 -- A pair put into the ward of its key.
-use Rattle.std.proofs.Common.{◌≡◌, ℕ, ◌≤◌, ◌<◌, ◌^◌, List, length, slice_get, Some, Result, Ok, Err, IfOk, OnOk, OnErr, inl, inr, refl, sym, ap, ◌∙◌, subst, arith}
+use Rattle.std.proofs.Common.{◌≡◌, ℕ, ◌≤◌, ◌<◌, ◌^◌, List, length, slice_get, map, Some, Result, Ok, Err, IfOk, OnOk, OnErr, inl, inr, refl, sym, ap, ◌∙◌, subst, arith}
 use Rattle.std.specs.Prelude.{slice_index_or, slice_set}
 use Rattle.std.proofs.lemmas.Bool.{cases_eq}
-use Rattle.std.proofs.lemmas.Option.{slice_get_read}
-use Rattle.std.proofs.lemmas.List.{length-set}
+use Rattle.std.specs.Option.{option_map}
+use Rattle.std.proofs.lemmas.Option.{get_or_from_slice_get, slice_get-map, slice_get_read}
+use Rattle.std.proofs.lemmas.List.{length-set, map-set}
+use Rattle.std.specs.FinMap as fin
+use Rattle.exh_page.specs.KeyMap.{KeyMap}
+use Rattle.exh_legal.specs.Pages.{map_of}
+use Rattle.exh_calls.specs.MapMachine.{reply_of, map_after}
 use Rattle.exh_prefix.specs.declared.prefix.TheConstants.{WARD_BITS_LIMIT}
 use Rattle.exh_prefix.specs.BitLemmas.{length-bits_of, number_of-bits_of}
 use Rattle.exh_prefix.specs.Leading.{leading, ward_of, ward_prefix}
@@ -21,6 +26,7 @@ use Rattle.exh_ward.specs.declared.ward_fault.WardFault.{WardFault}
 use Rattle.exh_open.specs.Opened.{AreWardsOf, IsWardOf}
 use Rattle.exh_load.specs.Put.{AreSplitsAtMost, IsDirectoryOf, IsPut}
 use Rattle.exh_load.specs.Loader.{IsLoading, IsPutIn, LoaderState, file_in, ward_in}
+use Rattle.exh_load.specs.Loading.{Loading, after_pair, loading_of, map_at, pair_reply, ward_at}
 use Rattle.exh_load.proofs.Splits.{splits_keep}
 
 -- ---- what a put keeps of a ward's settings
@@ -65,6 +71,10 @@ on_ok (Err fault) then has = tt
 if_ok : {P Q : Reply → Type 0} (result : Result Reply WardFault) → ((reply : Reply) → P reply → Q reply) → IfOk result P → IfOk result Q
 if_ok (Ok reply) then has = then reply has
 if_ok (Err fault) then has = tt
+
+on_if_ok : {P : Reply → Type 0} {Q : Type 0} (result : Result Reply WardFault) → ((reply : Reply) → P reply → Q) → IfOk result P → OnOk result Q
+on_if_ok (Ok reply) then has = then reply has
+on_if_ok (Err fault) then has = tt
 
 -- ---- the ward of the key
 
@@ -139,6 +149,36 @@ module _ (old now : LoaderState) (view_is : old ≡ now) (are : AreWardsOf (file
 
         pub is_put_in : (value : List ℕ) → IfOk result (λ reply. IsPut any_pseudokey ward (Put key value) reply after) → IfOk result (λ reply. IsPutIn now key value reply left)
         is_put_in value put = if_ok result (λ reply has. subst (λ o. IsPutIn o key value reply left) view_is (is_put value reply has)) put
+
+        abbrev map_now : KeyMap
+        map_now = map_at (loading_of old) key
+
+        map_here : map_now ≡ map_of ward.pages
+        map_here =
+            let f : WardState AnyKeyer → KeyMap = λ (w : WardState AnyKeyer). map_of w.pages in
+            get_or_from_slice_get (map f old.wards) (ward_in old key) (map_of ward.pages) fin.empty
+            (slice_get-map f old.wards (ward_in old key) ∙ ap (option_map f) (subst (λ n. slice_get old.wards n ≡ Some ward) place there))
+
+        same_machine : {A : Type 0} (read : ℕ → (List ℕ → ℕ) → KeyMap → A) → read ward.cap (any_pseudokey ward.keyer) (map_of ward.pages) ≡ read old.cap (any_pseudokey old.keyer) map_now
+        same_machine read =
+            ap (λ (cap : ℕ). read cap (any_pseudokey ward.keyer) (map_of ward.pages)) own.cap ∙ ap (λ (keyer : AnyKeyer). read old.cap (any_pseudokey keyer) (map_of ward.pages)) own.keyer
+            ∙ ap (λ (m : KeyMap). read old.cap (any_pseudokey old.keyer) m) (sym map_here)
+
+        reply_here : (value : List ℕ) (reply : Reply) → IsPut any_pseudokey ward (Put key value) reply after → reply ≡ pair_reply (loading_of old) key value
+        reply_here value reply put = put.reply_is ∙ same_machine (λ cap pseudo m. reply_of cap pseudo m (Put key value))
+
+        maps_here : (value : List ℕ) (reply : Reply) → IsPut any_pseudokey ward (Put key value) reply after → loading_of left ≡ after_pair (loading_of old) key value
+        maps_here value reply put =
+            let f : WardState AnyKeyer → KeyMap = λ (w : WardState AnyKeyer). map_of w.pages in
+            let maps = map-set f old.wards at after ∙ ap (slice_set (map f old.wards) at) (put.map ∙ same_machine (λ cap pseudo m. map_after cap pseudo m (Put key value)))
+                ∙ ap (λ (n : ℕ). slice_set (map f old.wards) n (map_after old.cap (any_pseudokey old.keyer) map_now (Put key value))) place in
+            ap (λ (ms : List KeyMap). let loading : Loading = record (loading_of old) { maps = ms } in loading) maps
+
+        pub reply_in : (value : List ℕ) → IfOk result (λ reply. IsPut any_pseudokey ward (Put key value) reply after) → IfOk result (λ reply. reply ≡ pair_reply (loading_of now) key value)
+        reply_in value put = if_ok result (λ reply has. subst (λ o. reply ≡ pair_reply (loading_of o) key value) view_is (reply_here value reply has)) put
+
+        pub maps_in : (value : List ℕ) → IfOk result (λ reply. IsPut any_pseudokey ward (Put key value) reply after) → OnOk result (loading_of left ≡ after_pair (loading_of now) key value)
+        maps_in value put = on_if_ok result (λ reply has. subst (λ o. loading_of left ≡ after_pair (loading_of o) key value) view_is (maps_here value reply has)) put
 
         pub wards_left : HasSettings ward after → AreWardsOf (file_in left)
         wards_left kept = record {

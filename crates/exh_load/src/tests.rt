@@ -4,8 +4,10 @@ use super::*;
 use exh_calls::Reply;
 use exh_keyer::AnyKeyer;
 use exh_page::{Key, Value};
+use exh_stream::Output;
+use exh_text::Lines;
 use exh_ward::WardFault;
-use std::alloc::AllocError;
+use std::alloc::{AllocError, Global};
 use std::test::Fail;
 
 // What is seen of a reply: of a value its first byte.
@@ -31,6 +33,14 @@ const PUTS: [(&[u8], &[u8], Replied); 10] = [
     (b"\xc0", b"z", Replied::New),
     (b"\x00", b"f", Replied::Was(b'c')),
 ];
+
+// The same as lines, where there are pairs alone, among lines of no pair: of one word, of two spaces, of
+// half a byte, of an empty key, of three words.
+const LINES: &[u8] =
+    b"#00 a\n#80 b\n\n#40 x\n#00 c\nno\n#00  d\n#0 e\n# v\n#0000 d\n#000000 e\nput a b\n#40 y";
+
+const PRINTED: &[u8] =
+    b"refused 60\nrefused 60\nrefused 60\nrefused 61\nfull #000000\nrefused 60\n";
 
 fn seen(reply: &Reply) -> Replied {
     match reply {
@@ -68,6 +78,17 @@ fn told(loader: Loader) -> [(u32, usize); 2] {
     told
 }
 
+// Whether what is printed of the lines is that.
+fn prints(alloc: Global, loader: &mut Loader) -> Result<bool, LoadFault>
+    requires { IsLoading loader.old }
+{
+    let mut out = Vec::new(alloc);
+    let mut output = Output::new(&mut out);
+    load_lines(alloc, &mut output, loader, Lines::new(LINES))?;
+    output.finish()?;
+    Ok(out.as_slice() == PRINTED)
+}
+
 #[test]
 fn puts_into_one_ward(rt: HostRuntime) -> Result<(), Fail> {
     let mut loader = Loader::new(rt.alloc(), 2, 0, AnyKeyer::Plain)?;
@@ -81,5 +102,13 @@ fn puts_into_two_wards(rt: HostRuntime) -> Result<(), Fail> {
     let mut loader = Loader::new(rt.alloc(), 2, 1, AnyKeyer::Plain)?;
     assert_eq!(rt; put_all(&mut loader), Ok(10));
     assert_eq!(rt; told(loader), [(16, 8), (1, 2)]);
+    Ok(())
+}
+
+#[test]
+fn loads_lines(rt: HostRuntime) -> Result<(), Fail> {
+    let mut loader = Loader::new(rt.alloc(), 2, 0, AnyKeyer::Plain)?;
+    assert_eq!(rt; prints(rt.alloc(), &mut loader), Ok(true));
+    assert_eq!(rt; told(loader), [(17, 7), (0, 0)]);
     Ok(())
 }
