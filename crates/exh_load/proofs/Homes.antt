@@ -1,13 +1,12 @@
 -- The home of a pseudokey, which the ward's own table names, and how deep it is after splits.
-use Rattle.std.proofs.Common.{◌≡◌, inl, inr, ℕ, ◌+◌, ◌≤◌, ◌<◌, ◌^◌, Bool, true, false, List, [], ◌∷◌, ◌++◌, length, take, Option, Some, refl, sym, ap, ◌∙◌, subst, arith}
+use Rattle.std.proofs.Common.{◌≡◌, inl, inr, ℕ, ◌+◌, ◌≤◌, ◌<◌, ◌^◌, Bool, true, false, List, [], ◌∷◌, ◌++◌, length, take, Option, sym, ap, ◌∙◌, subst, arith}
 use Rattle.std.proofs.lemmas.Bool.{cases_eq}
 use Rattle.std.proofs.lemmas.List.{length_push}
-use Rattle.exh_prefix.specs.declared.prefix.TheConstants.{LIMIT}
 use Rattle.exh_prefix.specs.BitLemmas.{length-bits_of}
 use Rattle.exh_prefix.specs.Bits.{word_bits}
 use Rattle.exh_prefix.specs.ListLemmas.{one_there}
 use Rattle.exh_prefix.specs.Prefix.{Begins, low_of}
-use Rattle.exh_prefix.specs.PrefixLemmas.{begins_low, parent_begins}
+use Rattle.exh_prefix.specs.PrefixLemmas.{begins_low}
 use Rattle.exh_array.specs.Pointers.{DirectoryState}
 use Rattle.exh_table.specs.declared.leaf.Leaf.{Leaf}
 use Rattle.exh_table.specs.Table.{TableMap}
@@ -18,10 +17,10 @@ use Rattle.exh_page.specs.declared.record.Record.{Record}
 use Rattle.exh_legal.specs.BareLemmas.{bare_at}
 use Rattle.exh_legal.specs.Change.{IsSplit}
 use Rattle.exh_legal.specs.Laws.{WalksNameHomes}
-use Rattle.exh_legal.specs.Pages.{IsAt, IsHome, AreLinked, bare}
+use Rattle.exh_legal.specs.Pages.{IsAt, AreLinked, bare}
 use Rattle.exh_calls.specs.Call.{key_of}
 use Rattle.exh_calls.specs.declared.call.Call.{Call}
-use Rattle.exh_ward.specs.HopTable.{HopOf, IsReached, LeadsTo}
+use Rattle.exh_ward.specs.HopTable.{HopOf, LeadsTo}
 use Rattle.exh_ward.specs.declared.hop.Hop.{Hop}
 use Rattle.exh_ward.specs.declared.hop.Hop.TheVariants.{Moved, MustSplit, Stray}
 use Rattle.exh_ward.specs.WardState.{WardState, IsSoundWard, LeavesAfter, own_prefix}

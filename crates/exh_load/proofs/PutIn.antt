@@ -26,7 +26,7 @@ use Rattle.exh_ward.specs.declared.ward_fault.WardFault.{WardFault}
 use Rattle.exh_open.specs.Opened.{AreWardsOf, IsWardOf}
 use Rattle.exh_load.specs.Put.{AreSplitsAtMost, IsDirectoryOf, IsPut}
 use Rattle.exh_load.specs.Loader.{IsLoading, IsPutIn, LoaderState, file_in, ward_in}
-use Rattle.exh_load.specs.Loading.{Loading, after_pair, loading_of, map_at, pair_reply, ward_at}
+use Rattle.exh_load.specs.Loading.{Loading, after_pair, loading_of, map_at, pair_reply}
 use Rattle.exh_load.proofs.Splits.{splits_keep}
 
 -- ---- what a put keeps of a ward's settings
@@ -171,7 +171,7 @@ module _ (old now : LoaderState) (view_is : old ≡ now) (are : AreWardsOf (file
         maps_here value reply put =
             let f : WardState AnyKeyer → KeyMap = λ (w : WardState AnyKeyer). map_of w.pages in
             let maps = map-set f old.wards at after ∙ ap (slice_set (map f old.wards) at) (put.map ∙ same_machine (λ cap pseudo m. map_after cap pseudo m (Put key value)))
-                ∙ ap (λ (n : ℕ). slice_set (map f old.wards) n (map_after old.cap (any_pseudokey old.keyer) map_now (Put key value))) place in
+            ∙ ap (λ (n : ℕ). slice_set (map f old.wards) n (map_after old.cap (any_pseudokey old.keyer) map_now (Put key value))) place in
             ap (λ (ms : List KeyMap). let loading : Loading = record (loading_of old) { maps = ms } in loading) maps
 
         pub reply_in : (value : List ℕ) → IfOk result (λ reply. IsPut any_pseudokey ward (Put key value) reply after) → IfOk result (λ reply. reply ≡ pair_reply (loading_of now) key value)

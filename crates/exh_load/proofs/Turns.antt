@@ -1,10 +1,9 @@
 -- Turns of a put: splits of the home, each of which makes it longer.
-use Rattle.std.proofs.Common.{◌≡◌, ℕ, ◌+◌, ◌≤◌, ◌<◌, List, [], ◌∷◌, length, refl, sym, ap, ◌∙◌, subst, arith}
+use Rattle.std.proofs.Common.{◌≡◌, ℕ, ◌+◌, ◌≤◌, List, ◌∷◌, subst, arith}
 use Rattle.exh_prefix.specs.declared.prefix.TheConstants.{LIMIT}
 use Rattle.exh_prefix.specs.ListLemmas.{one_there}
 use Rattle.exh_prefix.specs.Prefix.{Begins}
 use Rattle.exh_notice.specs.declared.notice.Notice.{Notice}
-use Rattle.exh_page.specs.declared.page.Page.{Page}
 use Rattle.exh_page.specs.declared.page.Page.TheVariants.{Live}
 use Rattle.exh_array.specs.Pointers.{DirectoryState}
 use Rattle.exh_ward.specs.WardState.{WardState, IsSoundWard}

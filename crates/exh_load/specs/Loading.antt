@@ -1,5 +1,5 @@
 -- What pairs come to, over the map of each ward, and what is printed of their lines.
-use Rattle.std.specs.Prelude.{ℕ, List, [], ◌∷◌, ◌++◌, get_or, slice_set, map, Option, Some, None, Result, Ok, Err, codes}
+use Rattle.std.specs.Prelude.{ℕ, List, [], ◌∷◌, ◌++◌, get_or, slice_set, map, Option, None, Result, Ok, Err, codes}
 use Rattle.std.specs.FinMap as fin
 use Rattle.exh_prefix.specs.Leading.{ward_of}
 use Rattle.exh_keyer.specs.declared.any_keyer.AnyKeyer.{AnyKeyer}

@@ -1,11 +1,9 @@
-use Rattle.std.proofs.Common.{◌≡◌, ◌⊎◌, inl, inr, ℕ, refl, sym, ap, ◌∙◌, subst, rules}
+use Rattle.std.proofs.Common.{◌≡◌, inl, inr, sym, ap, ◌∙◌, subst, rules}
 use Rattle.exh_prefix.specs.Prefix.{Begins}
 use Rattle.exh_calls.specs.declared.call.Call.TheVariants.{Put}
 use Rattle.exh_ward.specs.HopTable.{HopOf}
-use Rattle.exh_ward.specs.declared.hop.Hop.{Hop}
-use Rattle.exh_ward.specs.declared.hop.Hop.TheVariants.{Moved, Stray}
 use Rattle.exh_ward.specs.WardFault.{CountsFailures}
-use Rattle.exh_ward.specs.WardState.{WardState, IsSoundWard, LeavesAfter, own_prefix}
+use Rattle.exh_ward.specs.WardState.{IsSoundWard, LeavesAfter}
 use Rattle.exh_load.specs.declared.put.TheConstants.{LOADER}
 use Rattle.exh_load.specs.Put.{AreSplitsAtMost, IsFullAt, IsSplitAway}
 use Rattle.exh_load.proofs.Homes.{IsFullHome, full_home, left_same, never_moved, never_stray}
