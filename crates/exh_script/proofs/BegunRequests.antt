@@ -1,5 +1,5 @@
 -- Requests in flight are those of the last accepted begins of their names, which weren't answered since.
-use Rattle.std.proofs.Common.{◌≡◌, ℕ, List, [], ◌∷◌, ◌++◌, Bool, true, false, cond, eqb, Some, None, IsFalse, refl, sym, ap, ◌∙◌, subst, append_assoc}
+use Rattle.std.proofs.Common.{◌≡◌, ℕ, List, [], ◌∷◌, ◌++◌, Bool, true, false, cond, eqb, Option, Some, None, IsFalse, refl, sym, ap, ◌∙◌, subst, append_assoc}
 use Rattle.std.specs.Prelude.{nat_eq}
 use Rattle.std.proofs.lemmas.Bool.{eqb-true}
 use Rattle.std.proofs.lemmas.List.Elements.{All-nil, All-cons, All-append}
@@ -10,6 +10,7 @@ use Rattle.exh_world.specs.declared.request.Request.{Request}
 use Rattle.exh_script.specs.Replies.{Turn, is_about, IsBegunLast}
 use Rattle.exh_script.specs.Text.{ScriptWorld, Response, Said}
 use Rattle.exh_script.specs.declared.answer.Answer.TheVariants.{Replied}
+use Rattle.exh_script.specs.declared.moves.Moves.{Moves}
 use Rattle.indexmap.specs.IndexMap.{insert_entry}
 use Rattle.exh_script.proofs.RequestLemmas.{AreNamedOnce, once_after, named_after, once_kept, named_without}
 
@@ -64,13 +65,13 @@ module _ (world : ScriptWorld) (before : List Turn) (all : AreBegunLast before w
         written_at name request response own other found_request (eqb name other) refl (silent other) (sym (named_after name request other world.in_flight) ∙ found);
   }
 
-  answered_at : (name : ℕ) (reply : Reply) (other : ℕ) (request : Request) (same : Bool) → eqb name other ≡ same → cond same None (request_named other world.in_flight) ≡ Some request
-      → IsBegunLast (before ++ turn_of line (Said (Replied name reply)) ∷ []) other request.client request.call
-  answered_at name reply other request true is found = cc
-  answered_at name reply other request false is found = later (turn_of line (Said (Replied name reply))) is (all.begun other request found)
+  answered_at : (name : ℕ) (reply : Reply) (moves : Option Moves) (other : ℕ) (request : Request) (same : Bool) → eqb name other ≡ same → cond same None (request_named other world.in_flight) ≡ Some request
+      → IsBegunLast (before ++ turn_of line (Said (Replied name reply moves)) ∷ []) other request.client request.call
+  answered_at name reply moves other request true is found = cc
+  answered_at name reply moves other request false is found = later (turn_of line (Said (Replied name reply moves))) is (all.begun other request found)
 
-  pub answered : (name : ℕ) (reply : Reply) → AreStill (Said (Replied name reply)) (without name world.in_flight)
-  answered name reply = record {
+  pub answered : (name : ℕ) (reply : Reply) (moves : Option Moves) → AreStill (Said (Replied name reply moves)) (without name world.in_flight)
+  answered name reply moves = record {
     once = once_kept name world.in_flight all.once;
-    begun = λ other request found. answered_at name reply other request (eqb name other) refl (sym (named_without name other world.in_flight all.once) ∙ found);
+    begun = λ other request found. answered_at name reply moves other request (eqb name other) refl (sym (named_without name other world.in_flight all.once) ∙ found);
   }

@@ -21,9 +21,10 @@ use Rattle.exh_world.specs.NewWorld.{new_ward, new_world}
 use Rattle.exh_world.specs.World.{map_in}
 use Rattle.exh_world.specs.declared.config.Config.{Config}
 use Rattle.exh_world.specs.ListLemmas.{mapped_is}
-use Rattle.exh_script.specs.Grammar.{file_in_range, file_line_of, spelled_file}
-use Rattle.exh_script.specs.Text.{opened, file_of}
+use Rattle.exh_script.specs.Grammar.{file_in_range, settings_in_range, file_line_of, spelled_file}
+use Rattle.exh_script.specs.Text.{opened, settings_of}
 use Rattle.exh_script.specs.declared.file_line.TheConstants.{COPIES_LIMIT}
+use Rattle.exh_script.specs.declared.settings.Settings.{Settings}
 use Rattle.exh_script.specs.declared.refusal.Refusal.{Refusal}
 use Rattle.exh_text.specs.declared.line_fault.LineFault.TheVariants.{Range}
 use Rattle.exh_script.proofs.KeptWorlds.{IsServedWorld}
@@ -37,18 +38,18 @@ bits_in_range file is =
     let copies = is_in_range 1 COPIES_LIMIT file.copies in
     leb-true file.ward_bits WARD_BITS_LIMIT (and_parts (leb 0 file.ward_bits) (leb file.ward_bits WARD_BITS_LIMIT) (and_parts cap bits (and_parts (cap && bits) copies is).0).1).1
 
-by_range : (file read : Config AnyKeyer) (within : Bool) → file_in_range read ≡ within
-    → (let settings : Result (Config AnyKeyer) Refusal = opened (cond within (Ok read) (Err Range)) in settings) ≡ Ok file → file.ward_bits ≤ WARD_BITS_LIMIT
-by_range file read true is right = let same : read ≡ file = cc in subst (λ (f : Config AnyKeyer). f.ward_bits ≤ WARD_BITS_LIMIT) same (bits_in_range read is)
-by_range file read false is right = cc
+by_range : (settings read : Settings) (within : Bool) → settings_in_range read ≡ within
+    → (let opened : Result Settings Refusal = opened (cond within (Ok read) (Err Range)) in opened) ≡ Ok settings → settings.file.ward_bits ≤ WARD_BITS_LIMIT
+by_range settings read true is right = let same : read ≡ settings = cc in subst (λ (s : Settings). s.file.ward_bits ≤ WARD_BITS_LIMIT) same (bits_in_range read.file is)
+by_range settings read false is right = cc
 
-by_words : (file : Config AnyKeyer) (spelled : Option (Config AnyKeyer)) → opened (ranged file_in_range spelled) ≡ Ok file → file.ward_bits ≤ WARD_BITS_LIMIT
-by_words file None right = cc
-by_words file (Some read) right = by_range file read (file_in_range read) refl right
+by_words : (settings : Settings) (spelled : Option Settings) → opened (ranged settings_in_range spelled) ≡ Ok settings → settings.file.ward_bits ≤ WARD_BITS_LIMIT
+by_words settings None right = cc
+by_words settings (Some read) right = by_range settings read (settings_in_range read) refl right
 
-pub few_ward_bits : (line : List ℕ) (file : Config AnyKeyer) → file_of line ≡ Ok file → file.ward_bits ≤ WARD_BITS_LIMIT
-unfolding file_of file_line_of
-few_ward_bits line file right = by_words file (words_of line >>= spelled_file) right
+pub few_ward_bits : (line : List ℕ) (settings : Settings) → settings_of line ≡ Ok settings → settings.file.ward_bits ≤ WARD_BITS_LIMIT
+unfolding settings_of file_line_of
+few_ward_bits line settings right = by_words settings (words_of line >>= spelled_file) right
 
 -- ---- what the new world has
 

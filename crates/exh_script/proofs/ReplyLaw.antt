@@ -1,5 +1,5 @@
 -- What holds of lines in every sound world: their text is their responses, and each reply among these is to the last accepted begin of its name.
-use Rattle.std.proofs.Common.{◌≡◌, ◌+◌, ℕ, List, [], ◌∷◌, ◌++◌, length, map, flat_map, IsFalse, Result, Ok, Err, refl, sym, ap, ◌∙◌, subst}
+use Rattle.std.proofs.Common.{◌≡◌, ◌+◌, ℕ, List, [], ◌∷◌, ◌++◌, Bool, length, map, flat_map, IsFalse, Result, Ok, Err, refl, sym, ap, ◌∙◌, subst}
 use Rattle.std.specs.Prelude.{nat_eq}
 use Rattle.std.specs.List.{IsDistinct}
 use Rattle.std.specs.Option.{option_map_or}
@@ -23,7 +23,7 @@ use Rattle.exh_world.specs.World.{changes_in}
 use Rattle.exh_world.specs.declared.request.Request.{Request}
 use Rattle.exh_world.specs.declared.step_fault.StepFault.{StepFault}
 use Rattle.exh_world.specs.EffectLemmas.{on_effect, on_refusal}
-use Rattle.exh_script.specs.Answer.{hop_answer, outcome_answer, step_answer}
+use Rattle.exh_script.specs.Answer.{told_moves, hop_answer, outcome_answer, step_answer}
 use Rattle.exh_script.specs.Grammar.{line_of}
 use Rattle.exh_script.specs.Replies.{Turn, turns_from, is_about, IsBegunLast, Enters, EnterInOrder}
 use Rattle.exh_script.specs.Text.{ScriptWorld, Response, Said, view_response, parsed_response, line_response, response_text, after_parsed, after_line, text_from}
@@ -39,13 +39,13 @@ use Rattle.exh_script.proofs.LineMoments.{parsed_entries, entries_from, none_ans
 
 -- ---- text
 
-pub text_is_responses : (world : ScriptWorld) (lines : List (List ℕ)) → text_from world lines ≡ flat_map (λ turn. response_text turn.response) (turns_from world lines)
-text_is_responses world [] = refl
-text_is_responses world (line ∷ lines) = ap (λ rest. response_text (line_response world line) ++ rest) (text_is_responses (after_line world line) lines)
+pub text_is_responses : (tells_moves : Bool) (world : ScriptWorld) (lines : List (List ℕ)) → text_from tells_moves world lines ≡ flat_map (λ turn. response_text turn.response) (turns_from tells_moves world lines)
+text_is_responses tells_moves world [] = refl
+text_is_responses tells_moves world (line ∷ lines) = ap (λ rest. response_text (line_response tells_moves world line) ++ rest) (text_is_responses tells_moves (after_line world line) lines)
 
 -- ---- a line behind turns that requests in flight were begun by
 
-module _ (world : ScriptWorld) (before : List Turn) (all : AreBegunLast before world.in_flight) (line : List ℕ) where
+module _ (tells_moves : Bool) (world : ScriptWorld) (before : List Turn) (all : AreBegunLast before world.in_flight) (line : List ℕ) where
   abbrev Still : Response → Requests → Type 0
   Still response requests = AreStill world before all line response requests
 
@@ -88,14 +88,14 @@ module _ (world : ScriptWorld) (before : List Turn) (all : AreBegunLast before w
 
   module _ (name ward : ℕ) (parsed : line_of line ≡ Ok (lines.Step (events.Hop name))) where
     goes_hopped : (hop : Progress) (new : ScriptWorld) → HasHopped any_pseudokey world name ward hop new
-        → Goes (Said (hop_answer name ward hop)) (map journal_entry_of (answered_at world (events.Hop name) (Ok (outcomes.Hopped ward hop)))) new
+        → Goes (Said (hop_answer tells_moves name ward hop)) (map journal_entry_of (answered_at world (events.Hop name) (Ok (outcomes.Hopped ward hop)))) new
     goes_hopped (hops.Done reply moves bound) new has =
-        let P : Requests → Type 0 = Still (Said (Replied name reply)) in
+        let P : Requests → Type 0 = Still (Said (Replied name reply (told_moves tells_moves moves bound))) in
         let told : map journal_entry_of (answered_at world (events.Hop name) (Ok (outcomes.Hopped ward (hops.Done reply moves bound)))) ≡ record { client = has.request.client; call = has.request.call; reply = reply } ∷ [] =
         ap (λ named. map journal_entry_of (option_map_or (λ request. answered_by world reply moves bound request ∷ []) named [])) has.there in
         record {
           entered = (has.request.client, has.request.call, told, parsed, all.begun name has.request has.there);
-          in_flight = subst P (sym (ap (λ (w : ScriptWorld). w.in_flight) has.after)) (answered world before all line name reply);
+          in_flight = subst P (sym (ap (λ (w : ScriptWorld). w.in_flight) has.after)) (answered world before all line name reply (told_moves tells_moves moves bound));
         }
     goes_hopped (hops.Moved next) new has =
         let request : Request = record has.request { page = next; moves = has.request.moves + 1 } in
@@ -111,7 +111,7 @@ module _ (world : ScriptWorld) (before : List Turn) (all : AreBegunLast before w
     goes_hopped hops.Stray new has = goes_quiet _ (λ name. refl) refl new (ap (λ (w : ScriptWorld). w.in_flight) has.after)
 
   abbrev GoesBy : Event → Outcome → ScriptWorld → Type 0
-  GoesBy event outcome new = line_of line ≡ Ok (lines.Step event) → Goes (Said (outcome_answer event outcome)) (map journal_entry_of (answered_at world event (Ok outcome))) new
+  GoesBy event outcome new = line_of line ≡ Ok (lines.Step event) → Goes (Said (outcome_answer tells_moves event outcome)) (map journal_entry_of (answered_at world event (Ok outcome))) new
 
   goes_effect : (event : Event) (outcome : Outcome) (new : ScriptWorld) → HasEffect any_pseudokey world event outcome new → GoesBy event outcome new
   goes_effect = on_effect any_pseudokey world GoesBy record {
@@ -126,10 +126,10 @@ module _ (world : ScriptWorld) (before : List Turn) (all : AreBegunLast before w
   }
 
   goes_step : (event : Event) (result : Result Outcome StepFault) (new : ScriptWorld) → Step any_pseudokey world event result new → line_of line ≡ Ok (lines.Step event)
-      → Goes (Said (step_answer event result)) (map journal_entry_of (answered_at world event result)) new
+      → Goes (Said (step_answer tells_moves event result)) (map journal_entry_of (answered_at world event result)) new
   goes_step event (Ok outcome) new step parsed = goes_effect event outcome new step parsed
   goes_step event (Err fault) new step parsed =
-      let P : List _ → Type 0 = λ answered. Goes (Said (step_answer event (Err fault))) (map journal_entry_of answered) new in
+      let P : List _ → Type 0 = λ answered. Goes (Said (step_answer tells_moves event (Err fault))) (map journal_entry_of answered) new in
       let same = on_refusal any_pseudokey world (λ w. w.in_flight ≡ world.in_flight) refl (λ number before failures found. refl) event fault new step in
       subst P (sym (none_answered world event fault)) (goes_quiet _ (λ name. refl) refl new same)
 
@@ -142,31 +142,31 @@ module _ (world : ScriptWorld) (before : List Turn) (all : AreBegunLast before w
   -- ---- a line
 
   module _ (laws : WorldLaws) (ward_bits : ℕ) (keyer : AnyKeyer) (is : IsServedWorld ward_bits keyer world) where
-    goes_parsed : (parsed : Result Line LineFault) → line_of line ≡ parsed → Goes (parsed_response world parsed) (parsed_entries world parsed) (after_parsed world parsed)
+    goes_parsed : (parsed : Result Line LineFault) → line_of line ≡ parsed → Goes (parsed_response tells_moves world parsed) (parsed_entries world parsed) (after_parsed world parsed)
     goes_parsed (Ok (lines.Step event)) parsed = goes_step event (result_of any_pseudokey world event) (world_after any_pseudokey world event) (laws.outcomes world event is.sound) parsed
     goes_parsed (Ok (lines.View view)) parsed = goes_view (view_result world view)
     goes_parsed (Err fault) parsed = goes_quiet _ (λ name. refl) refl world refl
 
-    goes : Goes (line_response world line) (parsed_entries world (line_of line)) (after_line world line)
+    goes : Goes (line_response tells_moves world line) (parsed_entries world (line_of line)) (after_line world line)
     unfolding line_response after_line
     goes = goes_parsed (line_of line) refl
 
 -- ---- lines
 
-module _ (laws : WorldLaws) (ward_bits : ℕ) (keyer : AnyKeyer) where
-  enter_behind : (world : ScriptWorld) → IsServedWorld ward_bits keyer world → (before : List Turn) → AreBegunLast before world.in_flight → (lines : List (List ℕ)) → EnterInOrder before (turns_from world lines) (entries_from world lines)
+module _ (tells_moves : Bool) (laws : WorldLaws) (ward_bits : ℕ) (keyer : AnyKeyer) where
+  enter_behind : (world : ScriptWorld) → IsServedWorld ward_bits keyer world → (before : List Turn) → AreBegunLast before world.in_flight → (lines : List (List ℕ)) → EnterInOrder before (turns_from tells_moves world lines) (entries_from world lines)
   enter_behind world is before all [] = refl
   enter_behind world is before all (line ∷ lines) =
-      let here = goes world before all line laws ward_bits keyer is in
+      let here = goes tells_moves world before all line laws ward_bits keyer is in
       let after = after_line world line in (
         parsed_entries world (line_of line),
         entries_from after lines,
         refl,
         here.entered,
-        enter_behind after (line_kept laws ward_bits keyer world is line) (before ++ turn_of line (line_response world line) ∷ []) here.in_flight lines,
+        enter_behind after (line_kept laws ward_bits keyer world is line) (before ++ turn_of line (line_response tells_moves world line) ∷ []) here.in_flight lines,
       )
 
-  pub enter_in_order : (world : ScriptWorld) → IsServedWorld ward_bits keyer world → world.in_flight ≡ [] → (lines : List (List ℕ)) → EnterInOrder [] (turns_from world lines) (entries_from world lines)
+  pub enter_in_order : (world : ScriptWorld) → IsServedWorld ward_bits keyer world → world.in_flight ≡ [] → (lines : List (List ℕ)) → EnterInOrder [] (turns_from tells_moves world lines) (entries_from world lines)
   unfolding IsDistinct
   enter_in_order world is none lines =
       let P : Requests → Type 0 = AreBegunLast [] in

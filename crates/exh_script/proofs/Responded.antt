@@ -1,11 +1,10 @@
 -- The text of a script, line by line.
-use Rattle.std.proofs.Common.{◌≡◌, ℕ, List, [], ◌∷◌, ◌++◌, Option, Result, Ok, Err, refl, sym, ap, ◌∙◌, subst, append_assoc, append-nil}
+use Rattle.std.proofs.Common.{◌≡◌, ℕ, List, [], ◌∷◌, ◌++◌, Bool, Option, Result, Ok, Err, refl, sym, ap, ◌∙◌, subst, append_assoc, append-nil}
 use Rattle.exh_stream.specs.Output.{Takes, TakesBeginning}
 use Rattle.exh_script.specs.Answer.{answer_text}
-use Rattle.exh_keyer.specs.declared.any_keyer.AnyKeyer.{AnyKeyer}
 use Rattle.exh_world.specs.NewWorld.{new_world}
-use Rattle.exh_world.specs.declared.config.Config.{Config}
-use Rattle.exh_script.specs.Text.{ScriptWorld, line_response, response_text, after_line, text_from, file_of, text_after, text_of_lines}
+use Rattle.exh_script.specs.declared.settings.Settings.{Settings}
+use Rattle.exh_script.specs.Text.{ScriptWorld, line_response, response_text, after_line, text_from, settings_of, text_after, text_of_lines}
 use Rattle.exh_script.specs.declared.answer.Answer.TheVariants.{Refused}
 use Rattle.exh_script.specs.declared.refusal.Refusal.{Refusal}
 use Rattle.exh_stream.specs.declared.output.Output.{Output}
@@ -22,15 +21,16 @@ module _ {W : Type 0} (contents : W → Option (List ℕ)) (first now : Output W
       subst (TakesBeginning contents first new) (append_assoc told line more ∙ ap (λ rest. told ++ rest) (sym split) ∙ text) (TakesBeginning-of_more more (TakesBeginning-then passed beginning))
 
 -- what is printed of a line, where a text is built anew
-pub line_is : (world : ScriptWorld) (line cleared built bytes : List ℕ) → cleared ≡ [] → built ≡ cleared ++ response_text (line_response world line) → bytes ≡ built
-    → bytes ≡ response_text (line_response world line)
-line_is world line cleared built bytes is_cleared is_built is_bytes = is_bytes ∙ is_built ∙ ap (λ front. front ++ response_text (line_response world line)) is_cleared
+pub line_is : (tells_moves telling : Bool) (world : ScriptWorld) (line cleared built bytes : List ℕ) → telling ≡ tells_moves → cleared ≡ []
+    → built ≡ cleared ++ response_text (line_response telling world line) → bytes ≡ built → bytes ≡ response_text (line_response tells_moves world line)
+line_is tells_moves telling world line cleared built bytes same is_cleared is_built is_bytes =
+    is_bytes ∙ is_built ∙ ap (λ front. front ++ response_text (line_response telling world line)) is_cleared ∙ ap (λ tells. response_text (line_response tells world line)) same
 
 -- the text of the lines left is that of the next one and of those after it
-pub text_of_next : (world next : ScriptWorld) (lines left : List (List ℕ)) (line : List ℕ) → lines ≡ line ∷ left → next ≡ after_line world line
-    → text_from world lines ≡ response_text (line_response world line) ++ text_from next left
-text_of_next world next lines left line split is_next =
-    ap (text_from world) split ∙ ap (λ world'. response_text (line_response world line) ++ text_from world' left) (sym is_next)
+pub text_of_next : (tells_moves : Bool) (world next : ScriptWorld) (lines left : List (List ℕ)) (line : List ℕ) → lines ≡ line ∷ left → next ≡ after_line world line
+    → text_from tells_moves world lines ≡ response_text (line_response tells_moves world line) ++ text_from tells_moves next left
+text_of_next tells_moves world next lines left line split is_next =
+    ap (text_from tells_moves world) split ∙ ap (λ world'. response_text (line_response tells_moves world line) ++ text_from tells_moves world' left) (sym is_next)
 
 module _ {W : Type 0} (contents : W → Option (List ℕ)) (first now new : Output W) (told rest whole line more bytes : List ℕ)
     (passed : Takes contents first now told) (text : told ++ rest ≡ whole) (split : rest ≡ line ++ more) (is : bytes ≡ line) where
@@ -48,43 +48,43 @@ module _ {W : Type 0} (contents : W → Option (List ℕ)) (first now new : Outp
 -- ---- lines that were answered
 
 -- these lines lead from one world to another, where the text goes on
-pub record LeadTo (new world : ScriptWorld) (lines : List (List ℕ)) : Type 0 where
-  goes_on : (more : List (List ℕ)) → text_from new (lines ++ more) ≡ text_from new lines ++ text_from world more
+pub record LeadTo (tells_moves : Bool) (new world : ScriptWorld) (lines : List (List ℕ)) : Type 0 where
+  goes_on : (more : List (List ℕ)) → text_from tells_moves new (lines ++ more) ≡ text_from tells_moves new lines ++ text_from tells_moves world more
 
-pub LeadTo-none : (new : ScriptWorld) → LeadTo new new []
-LeadTo-none new = record { goes_on = λ more. refl }
+pub LeadTo-none : (tells_moves : Bool) (new : ScriptWorld) → LeadTo tells_moves new new []
+LeadTo-none tells_moves new = record { goes_on = λ more. refl }
 
-module _ (new world : ScriptWorld) (lines : List (List ℕ)) (lead : LeadTo new world lines) where
+module _ (tells_moves : Bool) (new world : ScriptWorld) (lines : List (List ℕ)) (lead : LeadTo tells_moves new world lines) where
   -- what is printed of these lines and of those left is what is printed of all
-  pub text_of_left : (left whole : List (List ℕ)) → whole ≡ lines ++ left → text_from new lines ++ text_from world left ≡ text_from new whole
-  text_of_left left whole split = sym (lead.goes_on left) ∙ ap (text_from new) (sym split)
+  pub text_of_left : (left whole : List (List ℕ)) → whole ≡ lines ++ left → text_from tells_moves new lines ++ text_from tells_moves world left ≡ text_from tells_moves new whole
+  text_of_left left whole split = sym (lead.goes_on left) ∙ ap (text_from tells_moves new) (sym split)
 
   module _ (line : List ℕ) where
-    pub text_of_more : text_from new (lines ++ line ∷ []) ≡ text_from new lines ++ response_text (line_response world line)
-    text_of_more = lead.goes_on (line ∷ []) ∙ ap (λ l. text_from new lines ++ l) (append-nil (response_text (line_response world line)))
+    pub text_of_more : text_from tells_moves new (lines ++ line ∷ []) ≡ text_from tells_moves new lines ++ response_text (line_response tells_moves world line)
+    text_of_more = lead.goes_on (line ∷ []) ∙ ap (λ l. text_from tells_moves new lines ++ l) (append-nil (response_text (line_response tells_moves world line)))
 
     -- one line more
-    pub LeadTo-more : (next : ScriptWorld) → next ≡ after_line world line → LeadTo new next (lines ++ line ∷ [])
+    pub LeadTo-more : (next : ScriptWorld) → next ≡ after_line world line → LeadTo tells_moves new next (lines ++ line ∷ [])
     LeadTo-more next is = record {
       goes_on = λ more.
-          ap (text_from new) (append_assoc lines (line ∷ []) more)
+          ap (text_from tells_moves new) (append_assoc lines (line ∷ []) more)
           ∙ lead.goes_on (line ∷ more)
-          ∙ ap (λ world'. text_from new lines ++ (response_text (line_response world line) ++ text_from world' more)) (sym is)
-          ∙ sym (append_assoc (text_from new lines) (response_text (line_response world line)) (text_from next more))
-          ∙ ap (λ l. l ++ text_from next more) (sym text_of_more);
+          ∙ ap (λ world'. text_from tells_moves new lines ++ (response_text (line_response tells_moves world line) ++ text_from tells_moves world' more)) (sym is)
+          ∙ sym (append_assoc (text_from tells_moves new lines) (response_text (line_response tells_moves world line)) (text_from tells_moves next more))
+          ∙ ap (λ l. l ++ text_from tells_moves next more) (sym text_of_more);
     }
 
 -- ---- the text of a beginning of the lines begins the text
 
-pub lines_begin : (world : ScriptWorld) (front rest : List (List ℕ)) → (more : List ℕ) × (text_from world (front ++ rest) ≡ text_from world front ++ more)
-lines_begin world [] rest = (text_from world rest, refl)
-lines_begin world (line ∷ front) rest =
-    let left = lines_begin (after_line world line) front rest in
-    (left.0, ap (λ l. response_text (line_response world line) ++ l) left.1 ∙ sym (append_assoc (response_text (line_response world line)) (text_from (after_line world line) front) left.0))
+pub lines_begin : (tells_moves : Bool) (world : ScriptWorld) (front rest : List (List ℕ)) → (more : List ℕ) × (text_from tells_moves world (front ++ rest) ≡ text_from tells_moves world front ++ more)
+lines_begin tells_moves world [] rest = (text_from tells_moves world rest, refl)
+lines_begin tells_moves world (line ∷ front) rest =
+    let left = lines_begin tells_moves (after_line world line) front rest in
+    (left.0, ap (λ l. response_text (line_response tells_moves world line) ++ l) left.1 ∙ sym (append_assoc (response_text (line_response tells_moves world line)) (text_from tells_moves (after_line world line) front) left.0))
 
-file_begins : (read : Result (Config AnyKeyer) Refusal) (front rest : List (List ℕ)) → (more : List ℕ) × (text_after read (front ++ rest) ≡ text_after read front ++ more)
-file_begins (Ok file) front rest = lines_begin (new_world file) front rest
+file_begins : (read : Result Settings Refusal) (front rest : List (List ℕ)) → (more : List ℕ) × (text_after read (front ++ rest) ≡ text_after read front ++ more)
+file_begins (Ok settings) front rest = lines_begin settings.tells_moves (new_world settings.file) front rest
 file_begins (Err refusal) front rest = ([], sym (append-nil (answer_text (Refused refusal))))
 
 pub front_begins : (first : List ℕ) (front rest : List (List ℕ)) → (more : List ℕ) × (text_of_lines (first ∷ (front ++ rest)) ≡ text_of_lines (first ∷ front) ++ more)
-front_begins first front rest = file_begins (file_of first) front rest
+front_begins first front rest = file_begins (settings_of first) front rest

@@ -1,5 +1,5 @@
 -- The answer that a printed line tells.
-use Rattle.std.proofs.Common.{◌≡◌, ℕ, ◌-◌, ◌^◌, ◌<◌, List, [], ◌∷◌, ◌++◌, true, cond, eqb, Option, Some, None, decimal, refl, sym, ap, ◌∙◌, arith}
+use Rattle.std.proofs.Common.{◌≡◌, ℕ, ◌-◌, ◌^◌, ◌<◌, List, [], ◌∷◌, ◌++◌, true, cond, eqb, Option, Some, None, decimal, refl, sym, ap, ◌∙◌, append-nil, arith}
 use Rattle.std.specs.Prelude.{codes}
 use Rattle.std.specs.Str.{bytes_eq}
 use Rattle.std.specs.List.{list_all}
@@ -25,10 +25,11 @@ use Rattle.exh_ward.specs.declared.ward_fault.WardFault.TheVariants.{NoPage, Not
 use Rattle.exh_world.specs.StepFault.{step_fault_number}
 use Rattle.exh_world.specs.declared.step_fault.StepFault.{StepFault}
 use Rattle.exh_world.specs.declared.step_fault.StepFault.TheVariants.{NoCopy, NoRequest, NoNotice, NoTable, NoWard, NameTaken, Ward}
-use Rattle.exh_script.specs.Answer.{answer_words, answer_text, request_text, told_answer, HasKindWidth, HasNoticeWidths, HasWidths, HasByteValues}
+use Rattle.exh_script.specs.Answer.{answer_words, answer_text, request_text, told_answer, HasKindWidth, HasNoticeWidths, HasWidths, HasReplyWidths, HasByteValues}
 use Rattle.exh_script.specs.Refusal.{numbered_refusal, refusal_number}
 use Rattle.exh_script.specs.declared.answer.Answer.{Answer}
 use Rattle.exh_script.specs.declared.answer.Answer.TheVariants.{Begun, Replied, Moved, MustSplit, Stray, Changed, Taken, Sent, Joined, Restarted, Refused}
+use Rattle.exh_script.specs.declared.moves.Moves.{Moves}
 use Rattle.exh_script.specs.declared.refusal.Refusal.{Refusal}
 use Rattle.exh_script.specs.declared.refusal.Refusal.TheVariants.{Line, Step, Read, TooLong}
 
@@ -54,19 +55,33 @@ numbers_told words = None
 abbrev place_of : List ℕ → Option (ℕ × ℕ)
 place_of word = numbers_told (parts_at 47 word)
 
+-- a reply of one word, and one with a value behind it
+abbrev reply_of : List ℕ → Option Reply
+reply_of verb =
+    cond (bytes_eq verb (codes "none")) (Some Absent)
+    (cond (bytes_eq verb (codes "new")) (Some New)
+    (cond (bytes_eq verb (codes "full")) (Some Full) None))
+
+abbrev reply_with : List ℕ → List ℕ → Option Reply
+reply_with verb word =
+    cond (bytes_eq verb (codes "is")) (bytes_of_word word >>= λ value. Some (Is value))
+    (cond (bytes_eq verb (codes "was")) (bytes_of_word word >>= λ value. Some (Was value)) None)
+
+-- the moves of a request, by the words of the two numbers
+abbrev moves_of : List ℕ → List ℕ → Option Moves
+moves_of made bound = index_spelled made >>= λ m. index_spelled bound >>= λ b. Some (record { made = m; bound = b })
+
 -- the words behind a request
 abbrev told_of_request : ℕ → List (List ℕ) → Option Answer
 told_of_request name (verb ∷ []) =
-    cond (bytes_eq verb (codes "none")) (Some (Replied name Absent))
-    (cond (bytes_eq verb (codes "new")) (Some (Replied name New))
-    (cond (bytes_eq verb (codes "full")) (Some (Replied name Full))
-    (cond (bytes_eq verb (codes "split")) (Some (MustSplit name))
-    (cond (bytes_eq verb (codes "stray")) (Some (Stray name)) None))))
+    cond (bytes_eq verb (codes "split")) (Some (MustSplit name))
+    (cond (bytes_eq verb (codes "stray")) (Some (Stray name)) (reply_of verb >>= λ reply. Some (Replied name reply None)))
 told_of_request name (verb ∷ word ∷ []) =
     cond (bytes_eq verb (codes "at")) (place_of word >>= λ place. Some (Begun name place.0 place.1))
     (cond (bytes_eq verb (codes "moved")) (place_of word >>= λ place. Some (Moved name place.0 place.1))
-    (cond (bytes_eq verb (codes "is")) (bytes_of_word word >>= λ value. Some (Replied name (Is value)))
-    (cond (bytes_eq verb (codes "was")) (bytes_of_word word >>= λ value. Some (Replied name (Was value))) None)))
+    (reply_with verb word >>= λ reply. Some (Replied name reply None)))
+told_of_request name (verb ∷ moves ∷ made ∷ of ∷ bound ∷ []) = reply_of verb >>= λ reply. moves_of made bound >>= λ moves. Some (Replied name reply (Some moves))
+told_of_request name (verb ∷ word ∷ moves ∷ made ∷ of ∷ bound ∷ []) = reply_with verb word >>= λ reply. moves_of made bound >>= λ moves. Some (Replied name reply (Some moves))
 told_of_request name words = None
 
 abbrev kind_of : List (List ℕ) → Option Kind
@@ -178,13 +193,54 @@ moved_told : (name ward page : ℕ) → HasWidths (Moved name ward page) → Tel
 unfolding Tells
 moved_told name ward page (n, w, p) = by_three name (codes "moved") (place_text ward page) n refl (place_graphic ward page (omega arith) (omega arith)) ∙ rw (place_told ward page w (omega arith)) refl
 
-reply_told : (name : ℕ) (reply : Reply) → HasWidths (Replied name reply) → Tells (Replied name reply)
+-- a reply alone
+value_alone : (name : ℕ) (verb value : List ℕ) → name < 2 ^ 32 → list_all is_ascii_graphic verb ≡ true → HasByteValues value
+    → told (parts_at space (request_text name ++ space ∷ (verb ++ space ∷ (printed value ++ [])))) ≡ told_of_request name (verb ∷ printed value ∷ [])
+value_alone name verb value n graphic b =
+    ap (λ word. told (parts_at space (request_text name ++ space ∷ (verb ++ space ∷ word)))) (append-nil (printed value))
+    ∙ by_three name verb (printed value) n graphic (printed_graphic value (recursion_from_All _ value b))
+
+reply_told : (name : ℕ) (reply : Reply) → HasWidths (Replied name reply None) → Tells (Replied name reply None)
 unfolding Tells
-reply_told name (Is value) (n, b) = by_three name (codes "is") (printed value) n refl (printed_graphic value (recursion_from_All _ value b)) ∙ rw (value_told value b) refl
-reply_told name (Was value) (n, b) = by_three name (codes "was") (printed value) n refl (printed_graphic value (recursion_from_All _ value b)) ∙ rw (value_told value b) refl
-reply_told name Absent (n, b) = by_two name (codes "none") n refl
-reply_told name New (n, b) = by_two name (codes "new") n refl
-reply_told name Full (n, b) = by_two name (codes "full") n refl
+reply_told name (Is value) (n, b, m) = value_alone name (codes "is") value n refl b ∙ rw (value_told value b) refl
+reply_told name (Was value) (n, b, m) = value_alone name (codes "was") value n refl b ∙ rw (value_told value b) refl
+reply_told name Absent (n, b, m) = by_two name (codes "none") n refl
+reply_told name New (n, b, m) = by_two name (codes "new") n refl
+reply_told name Full (n, b, m) = by_two name (codes "full") n refl
+
+-- a reply with its moves
+module _ (name : ℕ) (moves : Moves) (n : name < 2 ^ 32) (m : moves.made < 2 ^ 64) (bound : moves.bound < 2 ^ 64) where
+  moves_told : moves_of (decimal moves.made) (decimal moves.bound) ≡ Some moves
+  moves_told = rw (number_again (2 ^ 64 - 1) moves.made (omega arith) (omega arith), number_again (2 ^ 64 - 1) moves.bound (omega arith) (omega arith)) refl
+
+  -- the text of the moves, but for the space before it, and its words
+  abbrev tail : List ℕ
+  tail = codes "moves" ++ space ∷ (decimal moves.made ++ space ∷ (codes "of" ++ space ∷ decimal moves.bound))
+
+  abbrev tail_words : List (List ℕ)
+  tail_words = codes "moves" ∷ decimal moves.made ∷ codes "of" ∷ decimal moves.bound ∷ []
+
+  tail_parts : parts_at space tail ≡ tail_words
+  tail_parts =
+      behind (codes "moves") _ refl (behind (decimal moves.made) _ (decimal_graphic moves.made (omega arith))
+      (behind (codes "of") (decimal moves.bound) refl (one_part (decimal moves.bound) (decimal_graphic moves.bound (omega arith)))))
+
+  word_moves : (verb : List ℕ) → list_all is_ascii_graphic verb ≡ true → told (parts_at space (request_text name ++ space ∷ (verb ++ space ∷ tail))) ≡ told_of_request name (verb ∷ tail_words)
+  word_moves verb graphic = ap told (behind (request_text name) _ (request_graphic name n) (behind verb tail graphic tail_parts)) ∙ told_request name (verb ∷ tail_words) n
+
+  value_moves : (verb value : List ℕ) → list_all is_ascii_graphic verb ≡ true → HasByteValues value
+      → told (parts_at space (request_text name ++ space ∷ (verb ++ space ∷ (printed value ++ space ∷ tail)))) ≡ told_of_request name (verb ∷ printed value ∷ tail_words)
+  value_moves verb value graphic b =
+      ap told (behind (request_text name) _ (request_graphic name n) (behind verb _ graphic (behind (printed value) tail (printed_graphic value (recursion_from_All _ value b)) tail_parts)))
+      ∙ told_request name (verb ∷ printed value ∷ tail_words) n
+
+  reply_moves_told : (reply : Reply) → HasReplyWidths reply → Tells (Replied name reply (Some moves))
+  unfolding Tells
+  reply_moves_told (Is value) b = value_moves (codes "is") value refl b ∙ rw (value_told value b, moves_told) refl
+  reply_moves_told (Was value) b = value_moves (codes "was") value refl b ∙ rw (value_told value b, moves_told) refl
+  reply_moves_told Absent b = word_moves (codes "none") refl ∙ rw moves_told refl
+  reply_moves_told New b = word_moves (codes "new") refl ∙ rw moves_told refl
+  reply_moves_told Full b = word_moves (codes "full") refl ∙ rw moves_told refl
 
 -- ---- of notices
 
@@ -323,7 +379,8 @@ tells : (answer : Answer) → HasWidths answer → Tells answer
 unfolding Tells
 tells (Begun name ward page) widths = begun_told name ward page widths
 tells (Moved name ward page) widths = moved_told name ward page widths
-tells (Replied name reply) widths = reply_told name reply widths
+tells (Replied name reply None) widths = reply_told name reply widths
+tells (Replied name reply (Some moves)) (n, b, (made, bound)) = reply_moves_told name moves n made bound reply b
 tells (MustSplit name) small = by_two name (codes "split") small refl
 tells (Stray name) small = by_two name (codes "stray") small refl
 tells (Changed notice) widths = notice_told notice widths

@@ -1,5 +1,5 @@
 -- What a line is answered, and what is printed of it.
-use Rattle.std.specs.Prelude.{⊤, ℕ, ◌^◌, ◌<◌, List, [], ◌∷◌, ◌++◌, All, Result, Ok, Err, decimal, codes}
+use Rattle.std.specs.Prelude.{⊤, ℕ, ◌^◌, ◌<◌, List, [], ◌∷◌, ◌++◌, All, Bool, if◌then◌else◌, Option, Some, None, IfSome, Result, Ok, Err, decimal, codes}
 use Rattle.exh_notice.specs.declared.entry.Kind.{Kind}
 use Rattle.exh_notice.specs.declared.entry.Kind.TheVariants as kinds
 use Rattle.exh_notice.specs.declared.notice.Notice.{Notice}
@@ -18,6 +18,7 @@ use Rattle.exh_world.specs.declared.step_fault.StepFault.{StepFault}
 use Rattle.exh_script.specs.Refusal.{numbered_refusal, refusal_number}
 use Rattle.exh_script.specs.declared.answer.Answer.{Answer}
 use Rattle.exh_script.specs.declared.answer.Answer.TheVariants.{Begun, Replied, Moved, MustSplit, Stray, Changed, Taken, Sent, Joined, Restarted, Refused}
+use Rattle.exh_script.specs.declared.moves.Moves.{Moves}
 use Rattle.exh_script.specs.declared.refusal.Refusal.TheVariants.{Step}
 
 -- ---- what a line is answered, by what its step came to
@@ -40,24 +41,28 @@ abbrev pub table_in : Event → ℕ
 table_in (events.Combine copy table) = table
 table_in event = 0
 
-abbrev pub hop_answer : ℕ → ℕ → Progress → Answer
-hop_answer name ward (hops.Done reply moves bound) = Replied name reply
-hop_answer name ward (hops.Moved page) = Moved name ward page
-hop_answer name ward hops.MustSplit = MustSplit name
-hop_answer name ward hops.Stray = Stray name
+-- the moves that an answered request made, and their bound, where they are told
+abbrev pub told_moves : Bool → ℕ → ℕ → Option Moves
+told_moves tells_moves made bound = if tells_moves then Some (record { made = made; bound = bound }) else None
 
-abbrev pub outcome_answer : Event → Outcome → Answer
-outcome_answer event (outcomes.Begun ward page) = Begun (request_in event) ward page
-outcome_answer event (outcomes.Hopped ward hop) = hop_answer (request_in event) ward hop
-outcome_answer event (outcomes.Changed notice) = Changed notice
-outcome_answer event (outcomes.Taken notice) = Taken (copy_in event) notice.ward notice.index
-outcome_answer event (outcomes.Sent table) = Sent table
-outcome_answer event outcomes.Joined = Joined (copy_in event) (table_in event)
-outcome_answer event outcomes.Restarted = Restarted (copy_in event)
+abbrev pub hop_answer : Bool → ℕ → ℕ → Progress → Answer
+hop_answer tells_moves name ward (hops.Done reply moves bound) = Replied name reply (told_moves tells_moves moves bound)
+hop_answer tells_moves name ward (hops.Moved page) = Moved name ward page
+hop_answer tells_moves name ward hops.MustSplit = MustSplit name
+hop_answer tells_moves name ward hops.Stray = Stray name
 
-abbrev pub step_answer : Event → Result Outcome StepFault → Answer
-step_answer event (Ok outcome) = outcome_answer event outcome
-step_answer event (Err fault) = Refused (Step fault)
+abbrev pub outcome_answer : Bool → Event → Outcome → Answer
+outcome_answer tells_moves event (outcomes.Begun ward page) = Begun (request_in event) ward page
+outcome_answer tells_moves event (outcomes.Hopped ward hop) = hop_answer tells_moves (request_in event) ward hop
+outcome_answer tells_moves event (outcomes.Changed notice) = Changed notice
+outcome_answer tells_moves event (outcomes.Taken notice) = Taken (copy_in event) notice.ward notice.index
+outcome_answer tells_moves event (outcomes.Sent table) = Sent table
+outcome_answer tells_moves event outcomes.Joined = Joined (copy_in event) (table_in event)
+outcome_answer tells_moves event outcomes.Restarted = Restarted (copy_in event)
+
+abbrev pub step_answer : Bool → Event → Result Outcome StepFault → Answer
+step_answer tells_moves event (Ok outcome) = outcome_answer tells_moves event outcome
+step_answer tells_moves event (Err fault) = Refused (Step fault)
 
 -- ---- what is printed of it
 
@@ -67,6 +72,11 @@ reply_text Absent = codes "none"
 reply_text New = codes "new"
 reply_text (Was value) = codes "was " ++ printed value
 reply_text Full = codes "full"
+
+-- the moves and their bound, at the end of a reply's line
+abbrev pub moves_text : Option Moves → List ℕ
+moves_text None = []
+moves_text (Some moves) = codes " moves " ++ (decimal moves.made ++ (codes " of " ++ decimal moves.bound))
 
 abbrev pub request_text : ℕ → List ℕ
 request_text name = codes "r" ++ decimal name
@@ -80,7 +90,7 @@ copy_text copy = codes "copy " ++ decimal copy
 -- no hop of a script strays: that text is never printed
 abbrev pub answer_words : Answer → List ℕ
 answer_words (Begun name ward page) = request_text name ++ (codes " at " ++ place_text ward page)
-answer_words (Replied name reply) = request_text name ++ (codes " " ++ reply_text reply)
+answer_words (Replied name reply moves) = request_text name ++ (codes " " ++ (reply_text reply ++ moves_text moves))
 answer_words (Moved name ward page) = request_text name ++ (codes " moved " ++ place_text ward page)
 answer_words (MustSplit name) = request_text name ++ codes " split"
 answer_words (Stray name) = request_text name ++ codes " stray"
@@ -107,6 +117,9 @@ HasReplyWidths New = ⊤
 HasReplyWidths (Was value) = HasByteValues value
 HasReplyWidths Full = ⊤
 
+abbrev pub HaveMovesWidths : Option Moves → Type 0
+HaveMovesWidths told = IfSome told (λ moves. (moves.made < 2 ^ 64) × (moves.bound < 2 ^ 64))
+
 abbrev pub HasKindWidth : Kind → Type 0
 HasKindWidth (kinds.Split right) = right < 2 ^ 32
 HasKindWidth kinds.Merge = ⊤
@@ -116,7 +129,7 @@ HasNoticeWidths notice = (notice.ward < 2 ^ 8) × (notice.index < 2 ^ 64) × (no
 
 abbrev pub HasWidths : Answer → Type 0
 HasWidths (Begun name ward page) = (name < 2 ^ 32) × (ward < 2 ^ 8) × (page < 2 ^ 32)
-HasWidths (Replied name reply) = (name < 2 ^ 32) × HasReplyWidths reply
+HasWidths (Replied name reply moves) = (name < 2 ^ 32) × HasReplyWidths reply × HaveMovesWidths moves
 HasWidths (Moved name ward page) = (name < 2 ^ 32) × (ward < 2 ^ 8) × (page < 2 ^ 32)
 HasWidths (MustSplit name) = name < 2 ^ 32
 HasWidths (Stray name) = name < 2 ^ 32

@@ -1,5 +1,5 @@
 -- The lines of a script, by cases on whole words. The code that reads a script scans bytes.
-use Rattle.std.specs.Prelude.{ℕ, List, [], ◌∷◌, Bool, true, ◌&&◌, nat_le, if◌then◌else◌, Option, Some, None, Result, codes}
+use Rattle.std.specs.Prelude.{ℕ, List, [], ◌∷◌, Bool, true, false, ◌&&◌, nat_le, if◌then◌else◌, Option, Some, None, Result, codes}
 use Rattle.std.specs.Int.{is_in_range}
 use Rattle.std.specs.Str.{bytes_eq}
 use Rattle.exh_keyer.specs.declared.any_keyer.AnyKeyer.{AnyKeyer}
@@ -20,6 +20,7 @@ use Rattle.exh_world.specs.declared.event.Event.TheVariants.{Begin, Hop, Split, 
 use Rattle.exh_script.specs.declared.file_line.TheConstants.{COPIES_LIMIT}
 use Rattle.exh_script.specs.declared.line.Line.{Line}
 use Rattle.exh_script.specs.declared.line.Line.TheVariants.{Step, View as Seen}
+use Rattle.exh_script.specs.declared.settings.Settings.{Settings}
 use Rattle.exh_script.specs.declared.view.View.{View}
 use Rattle.exh_script.specs.declared.view.View.TheVariants.{Copy, Page, InFlight}
 
@@ -115,18 +116,25 @@ keyer_named name =
 unfoldable pub keyer_of : List ℕ → Option AnyKeyer
 keyer_of word = after_prefix (codes "keyer=") word >>= keyer_named
 
--- `cap=N wards=N copies=N keyer=K`
-unfoldable pub spelled_settings : List (List ℕ) → Option (Config AnyKeyer)
-spelled_settings (cap ∷ wards ∷ copies ∷ keyer ∷ []) = do
+-- the word `moves=yes` or none: whether the moves of a reply's request are told
+unfoldable pub telling_of : List (List ℕ) → Option Bool
+telling_of [] = Some false
+telling_of (word ∷ []) = if bytes_eq word (codes "moves=yes") then Some true else None
+telling_of words = None
+
+-- `cap=N wards=N copies=N keyer=K`, and `moves=yes` behind it or nothing
+unfoldable pub spelled_settings : List (List ℕ) → Option Settings
+spelled_settings (cap ∷ wards ∷ copies ∷ keyer ∷ moves) = do
   cap ← number_after (codes "cap=") cap
   ward_bits ← number_after (codes "wards=") wards
   copies ← number_after (codes "copies=") copies
   keyer ← keyer_of keyer
-  Some (record { cap = cap; ward_bits = ward_bits; copies = copies; keyer = keyer })
+  tells_moves ← telling_of moves
+  Some (record { file = record { cap = cap; ward_bits = ward_bits; copies = copies; keyer = keyer }; tells_moves = tells_moves })
 spelled_settings words = None
 
 -- `file` and the settings
-unfoldable pub spelled_file : List (List ℕ) → Option (Config AnyKeyer)
+unfoldable pub spelled_file : List (List ℕ) → Option Settings
 spelled_file [] = None
 spelled_file (keyword ∷ words) = if bytes_eq keyword (codes "file") then spelled_settings words else None
 
@@ -153,11 +161,14 @@ line_in_range line = true
 abbrev pub file_in_range : Config AnyKeyer → Bool
 file_in_range file = is_in_range 1 CAP_LIMIT file.cap && is_in_range 0 WARD_BITS_LIMIT file.ward_bits && is_in_range 1 COPIES_LIMIT file.copies
 
+abbrev pub settings_in_range : Settings → Bool
+settings_in_range settings = file_in_range settings.file
+
 -- ---- lines
 
 -- the first line of a script
-unfoldable pub file_line_of : List ℕ → Result (Config AnyKeyer) LineFault
-file_line_of line = ranged file_in_range (words_of line >>= spelled_file)
+unfoldable pub file_line_of : List ℕ → Result Settings LineFault
+file_line_of line = ranged settings_in_range (words_of line >>= spelled_file)
 
 -- each later line
 unfoldable pub line_of : List ℕ → Result Line LineFault

@@ -21,11 +21,12 @@ use Rattle.exh_world.specs.declared.event.Event.TheVariants.{Begin, Hop}
 use Rattle.exh_world.specs.declared.turn.Turn.{Turn as StepTurn}
 use Rattle.exh_script.specs.Answer.{answer_text, copy_text}
 use Rattle.exh_script.specs.Grammar.{line_of}
-use Rattle.exh_script.specs.Text.{ScriptWorld, Response, Said, line_response, response_text, after_line, file_of, text_of, ended_of}
+use Rattle.exh_script.specs.Text.{ScriptWorld, Response, Said, line_response, response_text, after_line, settings_of, text_of, ended_of}
 use Rattle.exh_script.specs.View.{shown_text}
 use Rattle.exh_script.specs.declared.answer.Answer.TheVariants.{Begun, Replied, Stray, Refused}
 use Rattle.exh_script.specs.declared.ended.Ended.{Ended}
 use Rattle.exh_script.specs.declared.ended.Ended.TheVariants as ended
+use Rattle.exh_script.specs.declared.settings.Settings.{Settings}
 use Rattle.exh_script.specs.declared.server.TheConstants.{SCRIPT_LIMIT}
 use Rattle.exh_script.specs.declared.line.Line.{Line}
 use Rattle.exh_script.specs.declared.line.Line.TheVariants.{Step}
@@ -38,10 +39,10 @@ pub record Turn : Type 0 where
   pub line : List ℕ
   pub response : Response
 
--- the turns of lines, in order
-abbrev pub turns_from : ScriptWorld → List (List ℕ) → List Turn
-turns_from world [] = []
-turns_from world (line ∷ lines) = record { line = line; response = line_response world line } ∷ turns_from (after_line world line) lines
+-- the turns of lines, in order, by whether a reply's line tells its moves
+abbrev pub turns_from : Bool → ScriptWorld → List (List ℕ) → List Turn
+turns_from tells_moves world [] = []
+turns_from tells_moves world (line ∷ lines) = record { line = line; response = line_response tells_moves world line } ∷ turns_from tells_moves (after_line world line) lines
 
 -- the world after them
 abbrev pub world_left : ScriptWorld → List (List ℕ) → ScriptWorld
@@ -53,7 +54,7 @@ world_left world (line ∷ lines) = world_left (after_line world line) lines
 -- whether a response says that a request of this name was begun, or answered
 abbrev pub is_about : ℕ → Response → Bool
 is_about name (Said (Begun other ward page)) = other == name
-is_about name (Said (Replied other reply)) = other == name
+is_about name (Said (Replied other reply moves)) = other == name
 is_about name response = false
 
 -- The last of these turns that begins or answers a request of this name begins it, for this client and with this call.
@@ -72,7 +73,7 @@ pub record IsBegunLast (turns : List Turn) (name client : ℕ) (call : Call) : T
 -- A reply is that of a hop, and answers what the last accepted begin of its name asked, which was not answered since; no
 -- other response enters one. The entry has that client and call, and this reply.
 abbrev pub Enters : List Turn → List ℕ → Response → List JournalEntry → Type 0
-Enters before line (Said (Replied name reply)) entries =
+Enters before line (Said (Replied name reply moves)) entries =
     (client : ℕ) × (call : Call) × (entries ≡ record { client = client; call = call; reply = reply } ∷ []) × (line_of line ≡ Ok (Step (Hop name))) × IsBegunLast before name client call
 Enters before line response entries = entries ≡ []
 
@@ -102,9 +103,9 @@ steps_from world (line ∷ lines) = parsed_steps world (line_of line) ++ steps_f
 -- ---- a whole script
 
 -- a script that isn't too long, of a right first line and the lines behind it
-pub record IsScript (script : List ℕ) (file : Config AnyKeyer) (lines : List (List ℕ)) : Type 0 where
+pub record IsScript (script : List ℕ) (settings : Settings) (lines : List (List ℕ)) : Type 0 where
   pub fits : length script ≤ SCRIPT_LIMIT
-  pub first : (line : List ℕ) × (lines_of script ≡ line ∷ lines) × (file_of line ≡ Ok file)
+  pub first : (line : List ℕ) × (lines_of script ≡ line ∷ lines) × (settings_of line ≡ Ok settings)
 
 -- whether an entry's call is of a ward
 abbrev pub is_of_ward : Config AnyKeyer → ℕ → JournalEntry → Bool
@@ -118,28 +119,28 @@ ShowTheSame start steps end = (one other : ℕ) (table twin : TableMap) (taken t
     → (rest : List ℕ) × (shown_text end.ward_bits one table ≡ copy_text one ++ rest) × (shown_text end.ward_bits other twin ≡ copy_text other ++ rest)
 
 -- what it prints of the map, the calls that it answers being these entries
-pub record RepliesAsMap (script : List ℕ) (file : Config AnyKeyer) (lines : List (List ℕ)) (entries : List JournalEntry) : Type 0 where
+pub record RepliesAsMap (script : List ℕ) (settings : Settings) (lines : List (List ℕ)) (entries : List JournalEntry) : Type 0 where
   -- its text is the responses to its lines
-  pub text : text_of script ≡ flat_map (λ turn. response_text turn.response) (turns_from (new_world file) lines)
+  pub text : text_of script ≡ flat_map (λ turn. response_text turn.response) (turns_from settings.tells_moves (new_world settings.file) lines)
   -- each reply among these answers the call of the last accepted begin of its name, and no begin is answered twice
-  pub answered : EnterInOrder [] (turns_from (new_world file) lines) entries
+  pub answered : EnterInOrder [] (turns_from settings.tells_moves (new_world settings.file) lines) entries
   -- the steps that its lines ask for carry the headline of a world: equal copies, least upper bounds, the directory's pages
-  pub headline : IsHeadline any_pseudokey (new_world file) (steps_from (new_world file) lines) (world_left (new_world file) lines)
+  pub headline : IsHeadline any_pseudokey (new_world settings.file) (steps_from (new_world settings.file) lines) (world_left (new_world settings.file) lines)
   -- and their answering hops are these entries
   pub entries_are : map journal_entry_of (answered_in headline.moments) ≡ entries
   -- the map machine gives these replies to these calls, one after another, from the empty map
-  pub history : IsHistory file.cap (any_pseudokey file.keyer) empty entries
+  pub history : IsHistory settings.file.cap (any_pseudokey settings.file.keyer) empty entries
   -- at the end each ward's journal is those of these calls that are of the ward, and the pages of all wards hold the map that they leave
-  pub journals : (number : ℕ) (ward : WardState AnyKeyer) → slice_get (world_left (new_world file) lines).wards number ≡ Some ward → ward.journal ≡ filter (is_of_ward file number) entries
-  pub left : map_in (world_left (new_world file) lines) ≡ map_left file.cap (any_pseudokey file.keyer) empty entries
+  pub journals : (number : ℕ) (ward : WardState AnyKeyer) → slice_get (world_left (new_world settings.file) lines).wards number ≡ Some ward → ward.journal ≡ filter (is_of_ward settings.file number) entries
+  pub left : map_in (world_left (new_world settings.file) lines) ≡ map_left settings.file.cap (any_pseudokey settings.file.keyer) empty entries
   -- copies that took the same are shown the same
-  pub shows : ShowTheSame (new_world file) (steps_from (new_world file) lines) (world_left (new_world file) lines)
+  pub shows : ShowTheSame (new_world settings.file) (steps_from (new_world settings.file) lines) (world_left (new_world settings.file) lines)
   -- no hop strays
-  pub no_stray : All SaysNoStray (turns_from (new_world file) lines)
+  pub no_stray : All SaysNoStray (turns_from settings.tells_moves (new_world settings.file) lines)
 
 -- what a script prints, by how its run ends: where it is refused, that and no reply
 abbrev pub PrintsAs : List ℕ → Ended → Type 0
-PrintsAs script ended.Done = (file : Config AnyKeyer) × (lines : List (List ℕ)) × (entries : List JournalEntry) × IsScript script file lines × RepliesAsMap script file lines entries
+PrintsAs script ended.Done = (settings : Settings) × (lines : List (List ℕ)) × (entries : List JournalEntry) × IsScript script settings lines × RepliesAsMap script settings lines entries
 PrintsAs script ended.Refused = (refusal : Refusal) × (text_of script ≡ answer_text (Refused refusal))
 
 -- the replies that a script prints are, in the order of the answering hops, those of the map machine from the empty map

@@ -1,5 +1,5 @@
 -- What the server prints, for the bytes that its reader has left.
-use Rattle.std.specs.Prelude.{◌≡◌, ◌⊎◌, ◌≤◌, ℕ, List, [], ◌∷◌, ◌++◌, Option, IfSome, length}
+use Rattle.std.specs.Prelude.{◌≡◌, ◌⊎◌, ◌≤◌, ℕ, Bool, List, [], ◌∷◌, ◌++◌, Option, IfSome, length}
 use Rattle.exh_text.specs.Lines.{lines_of}
 use Rattle.exh_script.specs.Answer.{answer_text}
 use Rattle.exh_script.specs.Text.{ScriptWorld, text_from, text_of_lines, text_of, ended_of}
@@ -39,11 +39,11 @@ module _ (prints : List ℕ → Type 0) where
     pub text : prints (text_of_lines (first ∷ front))
 
   -- the same of lines that come to a world
-  pub record PrintsFrontIn (world : ScriptWorld) (lines : List (List ℕ)) : Type 0 where
+  pub record PrintsFrontIn (tells_moves : Bool) (world : ScriptWorld) (lines : List (List ℕ)) : Type 0 where
     pub front : List (List ℕ)
     pub rest : List (List ℕ)
     pub split : lines ≡ front ++ rest
-    pub text : prints (text_from world front)
+    pub text : prints (text_from tells_moves world front)
 
   -- nothing, or the text of a beginning of the script's lines
   pub record PrintsLines (known : Option (List ℕ)) : Type 0 where

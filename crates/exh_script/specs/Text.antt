@@ -1,5 +1,5 @@
 -- The text of a script: a fold over its lines.
-use Rattle.std.specs.Prelude.{ℕ, List, [], ◌∷◌, ◌++◌, length, nat_le, if◌then◌else◌, Result, Ok, Err}
+use Rattle.std.specs.Prelude.{ℕ, Bool, List, [], ◌∷◌, ◌++◌, length, nat_le, if◌then◌else◌, Result, Ok, Err}
 use Rattle.exh_keyer.specs.declared.any_keyer.AnyKeyer.{AnyKeyer}
 use Rattle.exh_keyer.specs.Pseudokey.{any_pseudokey}
 use Rattle.exh_text.specs.Lines.{lines_of}
@@ -8,7 +8,6 @@ use Rattle.exh_text.specs.declared.line_fault.LineFault.TheVariants.{Syntax}
 use Rattle.exh_world.specs.NewWorld.{new_world}
 use Rattle.exh_world.specs.StepFunction.{result_of, world_after}
 use Rattle.exh_world.specs.World.{WorldState}
-use Rattle.exh_world.specs.declared.config.Config.{Config}
 use Rattle.exh_world.specs.declared.step_fault.StepFault.{StepFault}
 use Rattle.exh_script.specs.Answer.{answer_text, step_answer}
 use Rattle.exh_script.specs.Grammar.{file_line_of, line_of}
@@ -17,6 +16,7 @@ use Rattle.exh_script.specs.declared.answer.Answer.{Answer}
 use Rattle.exh_script.specs.declared.answer.Answer.TheVariants.{Refused}
 use Rattle.exh_script.specs.declared.ended.Ended.{Ended}
 use Rattle.exh_script.specs.declared.ended.Ended.TheVariants as ended
+use Rattle.exh_script.specs.declared.settings.Settings.{Settings}
 use Rattle.exh_script.specs.declared.server.TheConstants.{SCRIPT_LIMIT}
 use Rattle.exh_script.specs.declared.line.Line.{Line}
 use Rattle.exh_script.specs.declared.line.Line.TheVariants as lines
@@ -39,25 +39,26 @@ abbrev pub view_response : Result (List ℕ) StepFault → Response
 view_response (Ok text) = Shown text
 view_response (Err fault) = Said (Refused (StepRefusal fault))
 
-abbrev pub response_to : ScriptWorld → Line → Response
-response_to world (lines.Step event) = Said (step_answer event (result_of any_pseudokey world event))
-response_to world (lines.View view) = view_response (view_result world view)
+-- by whether a reply's line tells its moves
+abbrev pub response_to : Bool → ScriptWorld → Line → Response
+response_to tells_moves world (lines.Step event) = Said (step_answer tells_moves event (result_of any_pseudokey world event))
+response_to tells_moves world (lines.View view) = view_response (view_result world view)
 
 -- only a step changes the world
 abbrev pub after_asked : ScriptWorld → Line → ScriptWorld
 after_asked world (lines.Step event) = world_after any_pseudokey world event
 after_asked world (lines.View view) = world
 
-abbrev pub parsed_response : ScriptWorld → Result Line LineFault → Response
-parsed_response world (Ok line) = response_to world line
-parsed_response world (Err fault) = Said (Refused (LineRefusal fault))
+abbrev pub parsed_response : Bool → ScriptWorld → Result Line LineFault → Response
+parsed_response tells_moves world (Ok line) = response_to tells_moves world line
+parsed_response tells_moves world (Err fault) = Said (Refused (LineRefusal fault))
 
 abbrev pub after_parsed : ScriptWorld → Result Line LineFault → ScriptWorld
 after_parsed world (Ok line) = after_asked world line
 after_parsed world (Err fault) = world
 
-unfoldable pub line_response : ScriptWorld → List ℕ → Response
-line_response world line = parsed_response world (line_of line)
+unfoldable pub line_response : Bool → ScriptWorld → List ℕ → Response
+line_response tells_moves world line = parsed_response tells_moves world (line_of line)
 
 unfoldable pub after_line : ScriptWorld → List ℕ → ScriptWorld
 after_line world line = after_parsed world (line_of line)
@@ -66,36 +67,36 @@ abbrev pub response_text : Response → List ℕ
 response_text (Said answer) = answer_text answer
 response_text (Shown text) = text
 
-abbrev pub text_from : ScriptWorld → List (List ℕ) → List ℕ
-text_from world [] = []
-text_from world (line ∷ lines) = response_text (line_response world line) ++ text_from (after_line world line) lines
+abbrev pub text_from : Bool → ScriptWorld → List (List ℕ) → List ℕ
+text_from tells_moves world [] = []
+text_from tells_moves world (line ∷ lines) = response_text (line_response tells_moves world line) ++ text_from tells_moves (after_line world line) lines
 
 -- ---- the first line
 
-abbrev pub opened : Result (Config AnyKeyer) LineFault → Result (Config AnyKeyer) Refusal
-opened (Ok file) = Ok file
+abbrev pub opened : Result Settings LineFault → Result Settings Refusal
+opened (Ok settings) = Ok settings
 opened (Err fault) = Err (LineRefusal fault)
 
 -- the settings of a right first line, else its refusal
-unfoldable pub file_of : List ℕ → Result (Config AnyKeyer) Refusal
-file_of line = opened (file_line_of line)
+unfoldable pub settings_of : List ℕ → Result Settings Refusal
+settings_of line = opened (file_line_of line)
 
-abbrev pub text_after : Result (Config AnyKeyer) Refusal → List (List ℕ) → List ℕ
-text_after (Ok file) lines = text_from (new_world file) lines
+abbrev pub text_after : Result Settings Refusal → List (List ℕ) → List ℕ
+text_after (Ok settings) lines = text_from settings.tells_moves (new_world settings.file) lines
 text_after (Err refusal) lines = answer_text (Refused refusal)
 
 -- where there is no line, the first is wrong
 abbrev pub text_of_lines : List (List ℕ) → List ℕ
 text_of_lines [] = answer_text (Refused (LineRefusal Syntax))
-text_of_lines (first ∷ lines) = text_after (file_of first) lines
+text_of_lines (first ∷ lines) = text_after (settings_of first) lines
 
-abbrev pub ended_after : Result (Config AnyKeyer) Refusal → Ended
-ended_after (Ok file) = ended.Done
+abbrev pub ended_after : Result Settings Refusal → Ended
+ended_after (Ok settings) = ended.Done
 ended_after (Err refusal) = ended.Refused
 
 abbrev pub ended_of_lines : List (List ℕ) → Ended
 ended_of_lines [] = ended.Refused
-ended_of_lines (first ∷ lines) = ended_after (file_of first)
+ended_of_lines (first ∷ lines) = ended_after (settings_of first)
 
 -- ---- a whole script
 

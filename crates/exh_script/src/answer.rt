@@ -1,7 +1,7 @@
 ghost use Rattle.std.specs.Prelude.{◌≡◌};
-ghost use Rattle.exh_script.specs.Answer.{copy_in, hop_answer, outcome_answer, request_in, table_in};
+ghost use Rattle.exh_script.specs.Answer.{copy_in, hop_answer, outcome_answer, request_in, table_in, told_moves};
 
-use crate::Refusal;
+use crate::{Moves, Refusal};
 use exh_calls::Reply;
 use exh_notice::Notice;
 use exh_prefix::PageNo;
@@ -11,33 +11,61 @@ use exh_world::{Event, Outcome, Progress};
 #[derive(Clone, Copy, Debug, PartialEq, Eq)]
 pub(crate) enum Answer {
     /// `rN at W/P`: the request stands at a page of a ward.
-    Begun { name: u32, ward: u8, page: PageNo },
-    /// `rN is V`, `rN none`, `rN new`, `rN was V` or `rN full`: the request is answered.
-    Replied { name: u32, reply: Reply },
+    Begun {
+        name: u32,
+        ward: u8,
+        page: PageNo,
+    },
+    /// `rN is V`, `rN none`, `rN new`, `rN was V` or `rN full`: the request is answered. Where its moves are told,
+    /// ` moves M of B` stands behind it.
+    Replied {
+        name: u32,
+        reply: Reply,
+        moves: Option<Moves>,
+    },
     /// `rN moved W/P`: the request goes on at another page.
-    Moved { name: u32, ward: u8, page: PageNo },
+    Moved {
+        name: u32,
+        ward: u8,
+        page: PageNo,
+    },
     /// `rN split`: the request waits for a split.
-    MustSplit { name: u32 },
+    MustSplit {
+        name: u32,
+    },
     /// `rN stray`: the request stands where no key of its kind is.
-    Stray { name: u32 },
+    Stray {
+        name: u32,
+    },
     /// `notice W/I prefix P number N split right R`, or with `merge` at its end: a page was split or merged.
     Changed(Notice),
     /// `copy C took W/I`: the copy took a ward's notice.
-    Taken { copy: u32, ward: u8, index: u64 },
+    Taken {
+        copy: u32,
+        ward: u8,
+        index: u64,
+    },
     /// `table T`: a copy's table was sent.
-    Sent { table: u32 },
+    Sent {
+        table: u32,
+    },
     /// `copy C joined T`: the copy joined a sent table.
-    Joined { copy: u32, table: u32 },
+    Joined {
+        copy: u32,
+        table: u32,
+    },
     /// `copy C restarted`: the copy has lost what it was told.
-    Restarted { copy: u32 },
+    Restarted {
+        copy: u32,
+    },
     /// `refused N`: the line changed nothing.
     Refused(Refusal),
 }
 
 impl Answer {
-    /// What an event's line is answered where it isn't refused.
-    pub(crate) fn of_outcome(event: &Event, outcome: &Outcome) -> Answer
-        ensures { result ≡ outcome_answer event.now outcome.now }
+    /// What an event's line is answered where it isn't refused. A reply may tell the moves of its request.
+    pub(crate) fn of_outcome(event: &Event, outcome: &Outcome, tells_moves: bool) -> Answer
+        ensures { result ≡ outcome_answer tells_moves event.now outcome.now }
     {
         match *outcome {
             Outcome::Begun { ward, page } => Answer::Begun {
@@ -45,7 +73,12 @@ impl Answer {
                 ward,
                 page,
             },
-            Outcome::Hopped { ward, hop } => Answer::of_hop(request_in(event), ward, &hop),
+            Outcome::Hopped { ward, hop } => Answer::of_hop(
+                request_in(event),
+                ward,
+                &hop,
+                tells_moves,
+            ),
             Outcome::Changed(notice) => Answer::Changed(notice),
             Outcome::Taken(notice) => Answer::Taken {
                 copy: copy_in(event),
@@ -64,16 +97,31 @@ impl Answer {
     }
 
     // What a hop in a ward is answered.
-    fn of_hop(name: u32, ward: u8, hop: &Progress) -> Answer
-        ensures { result ≡ hop_answer name ward hop.now }
+    fn of_hop(name: u32, ward: u8, hop: &Progress, tells_moves: bool) -> Answer
+        ensures { result ≡ hop_answer tells_moves name ward hop.now }
     {
         match *hop {
-            Progress::Done { reply, .. } => Answer::Replied { name, reply },
+            Progress::Done {
+                reply,
+                moves,
+                bound,
+            } => Answer::Replied {
+                name,
+                reply,
+                moves: told_moves(tells_moves, moves, bound),
+            },
             Progress::Moved(page) => Answer::Moved { name, ward, page },
             Progress::MustSplit => Answer::MustSplit { name },
             Progress::Stray => Answer::Stray { name },
         }
     }
+}
+
+// The moves that a reply's line tells, and their bound.
+fn told_moves(tells_moves: bool, made: u64, bound: u64) -> Option<Moves>
+    ensures { result ≡ told_moves tells_moves made bound }
+{
+    tells_moves.then_some(Moves { made, bound })
 }
 
 // The request that an event's line names, 0 where it names none.

@@ -1,8 +1,8 @@
 ghost use Rattle.std.specs.Prelude.{◌≡◌, ◌++◌, OnOk};
-ghost use Rattle.exh_script.specs.Answer.{answer_text, copy_text, notice_text, reply_text, request_text};
+ghost use Rattle.exh_script.specs.Answer.{answer_text, copy_text, moves_text, notice_text, reply_text, request_text};
 ghost use Rattle.exh_script.specs.declared.answer.Answer.TheVariants.{Refused};
 
-use crate::{Answer, Refusal};
+use crate::{Answer, Moves, Refusal};
 use exh_calls::Reply;
 use exh_notice::Notice;
 use exh_text::{push_entry, push_number, push_place, push_refused, push_text, push_value};
@@ -18,10 +18,11 @@ pub(crate) fn push_answer(out: &mut Vec<u8>, answer: &Answer) -> Result<(), Allo
             push_text(out, " at ")?;
             push_place(out, u32::from(*ward), u64::from(*page))?;
         }
-        Answer::Replied { name, reply } => {
+        Answer::Replied { name, reply, moves } => {
             push_request(out, *name)?;
             push_text(out, " ")?;
             push_reply(out, reply)?;
+            push_moves(out, *moves)?;
         }
         Answer::Moved { name, ward, page } => {
             push_request(out, *name)?;
@@ -109,4 +110,17 @@ fn push_reply(out: &mut Vec<u8>, reply: &Reply) -> Result<(), AllocError>
         }
         Reply::Full => push_text(out, "full"),
     }
+}
+
+// The moves of a request and their bound, where they are told.
+fn push_moves(out: &mut Vec<u8>, moves: Option<Moves>) -> Result<(), AllocError>
+    ensures { OnOk result (out.new.items ≡ out.old.items ++ moves_text moves) }
+{
+    let Some(moves) = moves else {
+        return Ok(());
+    };
+    push_text(out, " moves ")?;
+    push_number(out, moves.made)?;
+    push_text(out, " of ")?;
+    push_number(out, moves.bound)
 }

@@ -1,7 +1,8 @@
 ghost use Rattle.std.specs.Prelude.{◌≡◌, IfOk, IsTrue};
 ghost use Rattle.exh_text.specs.LineFault.{ranged};
-ghost use Rattle.exh_script.specs.Grammar.{file_in_range, file_line_of, keyer_of, spelled_settings};
+ghost use Rattle.exh_script.specs.Grammar.{file_line_of, keyer_of, settings_in_range, spelled_settings, telling_of};
 
+use crate::Settings;
 use exh_keyer::AnyKeyer;
 use exh_page::CAP_LIMIT;
 use exh_prefix::WARD_BITS_LIMIT;
@@ -14,9 +15,9 @@ pub(crate) const COPIES_LIMIT: u32 = 8;
 /// Reads the settings of the first line of a script, without its newline. What isn't a file line is `Syntax`; a file line with a number
 /// out of its range is `Range`.
 #[tactic(auto, unfolding(crate::specs::Grammar::file_line_of, crate::specs::Grammar::spelled_file))]
-pub(crate) fn parse_file_line(line: &[u8]) -> Result<Config<AnyKeyer>, LineFault>
+pub(crate) fn parse_file_line(line: &[u8]) -> Result<Settings, LineFault>
     ensures line { result ≡ file_line_of line.now }
-    ensures range { IfOk result (λ file. IsTrue (file_in_range file)) }
+    ensures range { IfOk result (λ settings. IsTrue (settings_in_range settings)) }
 {
     let mut words = split_words(line).ok_or(LineFault::Syntax)?;
     match words.next() {
@@ -25,10 +26,10 @@ pub(crate) fn parse_file_line(line: &[u8]) -> Result<Config<AnyKeyer>, LineFault
     }
 }
 
-// `cap=N wards=N copies=N keyer=K`
+// `cap=N wards=N copies=N keyer=K`, and `moves=yes` behind it or nothing
 #[tactic(auto, unfolding(crate::specs::Grammar::spelled_settings))]
-fn parse_settings(mut words: Parts<'_>) -> Result<Config<AnyKeyer>, LineFault>
-    ensures { result ≡ ranged file_in_range (spelled_settings words.entry) }
+fn parse_settings(mut words: Parts<'_>) -> Result<Settings, LineFault>
+    ensures { result ≡ ranged settings_in_range (spelled_settings words.entry) }
 {
     let cap = words.next().ok_or(LineFault::Syntax)?;
     let ward_bits = words.next().ok_or(LineFault::Syntax)?;
@@ -38,9 +39,7 @@ fn parse_settings(mut words: Parts<'_>) -> Result<Config<AnyKeyer>, LineFault>
     let ward_bits = parse_u32_after(b"wards=", ward_bits).ok_or(LineFault::Syntax)?;
     let copies = parse_u32_after(b"copies=", copies).ok_or(LineFault::Syntax)?;
     let keyer = parse_keyer(keyer).ok_or(LineFault::Syntax)?;
-    if words.next().is_some() {
-        return Err(LineFault::Syntax);
-    }
+    let tells_moves = parse_telling(words).ok_or(LineFault::Syntax)?;
     if cap == 0
         || cap > CAP_LIMIT as u32
         || ward_bits > u32::from(WARD_BITS_LIMIT)
@@ -49,12 +48,27 @@ fn parse_settings(mut words: Parts<'_>) -> Result<Config<AnyKeyer>, LineFault>
     {
         return Err(LineFault::Range);
     }
-    Ok(Config {
+    let file = Config {
         cap: cap as usize,
         ward_bits: ward_bits as u8,
         copies,
         keyer,
-    })
+    };
+    Ok(Settings { file, tells_moves })
+}
+
+// `moves=yes`, or no word more: whether the moves of a reply's request are told.
+#[tactic(auto, unfolding(crate::specs::Grammar::telling_of))]
+fn parse_telling(mut words: Parts<'_>) -> Option<bool>
+    ensures { result ≡ telling_of words.entry }
+{
+    let Some(word) = words.next() else {
+        return Some(false);
+    };
+    if words.next().is_some() || word != b"moves=yes".as_slice() {
+        return None;
+    }
+    Some(true)
 }
 
 #[tactic(auto, unfolding(crate::specs::Grammar::keyer_of))]

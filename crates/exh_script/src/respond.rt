@@ -4,7 +4,7 @@ ghost use Rattle.exh_text.specs.Lines.{lines_of};
 ghost use Rattle.exh_stream.specs.Output.{SameWriter, Takes, TakesBeginning, writer_failed};
 ghost use Rattle.exh_script.specs.Served.{PrintsFront, PrintsFrontIn};
 ghost use Rattle.exh_script.specs.Answer.{answer_text};
-ghost use Rattle.exh_script.specs.Text.{text_from, file_of, text_of_lines, ended_of_lines};
+ghost use Rattle.exh_script.specs.Text.{text_from, settings_of, text_of_lines, ended_of_lines};
 ghost use Rattle.exh_prefix.specs.declared.prefix.TheConstants.{WARD_BITS_LIMIT};
 ghost use Rattle.exh_world.specs.NewWorld.{new_world};
 ghost use Rattle.exh_script.specs.declared.answer.Answer.TheVariants.{Refused};
@@ -12,12 +12,10 @@ ghost use Rattle.exh_script.specs.declared.answer.Answer.TheVariants.{Refused};
 use crate::answer_text::push_refusal;
 use crate::file_line::parse_file_line;
 use crate::response::push_response;
-use crate::{Ended, Refusal, ServeFault};
-use exh_frames::PlainPages;
-use exh_keyer::AnyKeyer;
+use crate::{Ended, Refusal, Run, ServeFault, Settings};
 use exh_stream::Output;
 use exh_text::{LineFault, Lines};
-use exh_world::{Config, World};
+use exh_world::World;
 use std::alloc::Global;
 use std::io::Write;
 
@@ -42,8 +40,8 @@ pub(crate) fn respond<W: Write>(
         return refuse(alloc, output, LineFault::Syntax.into());
     };
     match open(first) {
-        Ok(file) => {
-            answer_lines(alloc, output, &file, lines)?;
+        Ok(settings) => {
+            answer_lines(alloc, output, &settings, lines)?;
             Ok(Ended::Done)
         }
         Err(refusal) => refuse(alloc, output, refusal),
@@ -71,12 +69,12 @@ pub(crate) fn refuse<W: Write>(
 }
 
 // The settings of the first line.
-#[tactic(auto, unfolding(crate::specs::Text::file_of))]
-fn open(first: &[u8]) -> Result<Config<AnyKeyer>, Refusal>
-    ensures file { result ≡ file_of first.now }
-    ensures some { IfOk result (λ file. 1 ≤ file.cap) }
-    ensures most { IfOk result (λ file. file.cap ≤ CAP_LIMIT) }
-    ensures bits { IfOk result (λ file. file.ward_bits ≤ WARD_BITS_LIMIT) }
+#[tactic(auto, unfolding(crate::specs::Text::settings_of))]
+fn open(first: &[u8]) -> Result<Settings, Refusal>
+    ensures settings { result ≡ settings_of first.now }
+    ensures some { IfOk result (λ settings. 1 ≤ settings.file.cap) }
+    ensures most { IfOk result (λ settings. settings.file.cap ≤ CAP_LIMIT) }
+    ensures bits { IfOk result (λ settings. settings.file.ward_bits ≤ WARD_BITS_LIMIT) }
 {
     Ok(parse_file_line(first)?)
 }
@@ -85,24 +83,27 @@ fn open(first: &[u8]) -> Result<Config<AnyKeyer>, Refusal>
 fn answer_lines<W: Write>(
     alloc: Global,
     output: &mut Output<'_, W>,
-    file: &Config<AnyKeyer>,
+    settings: &Settings,
     lines: Lines<'_>,
 ) -> Result<(), ServeFault>
     requires open { IsFalse (writer_failed output.old) }
-    requires some { 1 ≤ file.now.cap }
-    requires most { file.now.cap ≤ CAP_LIMIT }
-    requires bits { file.now.ward_bits ≤ WARD_BITS_LIMIT }
+    requires some { 1 ≤ settings.now.file.cap }
+    requires most { settings.now.file.cap ≤ CAP_LIMIT }
+    requires bits { settings.now.file.ward_bits ≤ WARD_BITS_LIMIT }
     ensures same_writer { SameWriter output.old output.new }
-    ensures ok { OnOk result (Takes W.contents output.old output.new (text_from (new_world file.now) lines.entry)) }
-    ensures err { OnErr result (TakesBeginning W.contents output.old output.new (text_from (new_world file.now) lines.entry)) }
-    ensures memory { IsErrOf result ServeFault.Memory → PrintsFrontIn (Takes W.contents output.old output.new) (new_world file.now) lines.entry }
+    ensures ok { OnOk result (Takes W.contents output.old output.new (text_from settings.now.tells_moves (new_world settings.now.file) lines.entry)) }
+    ensures err { OnErr result (TakesBeginning W.contents output.old output.new (text_from settings.now.tells_moves (new_world settings.now.file) lines.entry)) }
+    ensures memory { IsErrOf result ServeFault.Memory → PrintsFrontIn (Takes W.contents output.old output.new) settings.now.tells_moves (new_world settings.now.file) lines.entry }
     ensures failed { IsErrOf result ServeFault.Write ↔ IsTrue (writer_failed output.new) }
 {
-    let mut world: World<PlainPages, AnyKeyer> = World::new(alloc, file)?;
+    let mut run = Run {
+        world: World::new(alloc, &settings.file)?,
+        tells_moves: settings.tells_moves,
+    };
     let mut text = Vec::new(alloc);
     for line in lines {
         text.clear();
-        push_response(&mut text, &mut world, line)?;
+        push_response(&mut text, &mut run, line)?;
         output.push(&text)?;
     }
     Ok(())

@@ -3,14 +3,15 @@ ghost use Rattle.exh_keyer.specs.Pseudokey.{any_pseudokey};
 ghost use Rattle.exh_world.specs.Sound.{IsSoundWorld};
 ghost use Rattle.exh_world.specs.StepFunction.{result_of, world_after};
 ghost use Rattle.exh_script.specs.Answer.{step_answer};
-ghost use Rattle.exh_script.specs.Text.{after_asked, after_line, line_response, response_text, response_to};
-ghost use Rattle.exh_script.specs.declared.line.Line.TheVariants.{Step, View as Seen};
+ghost use Rattle.exh_script.specs.Text.{after_asked, after_line, line_response, response_text, response_to, view_response};
+ghost use Rattle.exh_script.specs.View.{view_result};
+ghost use Rattle.exh_script.specs.declared.line.Line.TheVariants.{Step};
 ghost use Rattle.exh_script.specs.declared.view.View.TheVariants.{Copy, Page};
 
 use crate::answer_text::{push_answer, push_refusal};
 use crate::line::parse_line;
 use crate::view_text::{push_in_flight, push_page, push_shown};
-use crate::{Answer, Line, View};
+use crate::{Answer, Line, Run, View};
 use exh_frames::PlainPages;
 use exh_keyer::AnyKeyer;
 use exh_prefix::PageNo;
@@ -21,52 +22,44 @@ use std::alloc::AllocError;
 /// Does what a line after the first asks, as it stands in the script, and adds what it prints. `Err` comes for memory
 /// alone.
 #[tactic(auto, unfolding(crate::specs::Text::line_response, crate::specs::Text::after_line))]
-pub(crate) fn push_response(
-    out: &mut Vec<u8>,
-    world: &mut World<PlainPages, AnyKeyer>,
-    line: &[u8],
-) -> Result<(), AllocError>
-    requires { IsSoundWorld any_pseudokey world.old }
-    ensures text { OnOk result (out.new.items ≡ out.old.items ++ response_text (line_response world.old line.now)) }
-    ensures world { OnOk result (world.new ≡ after_line world.old line.now) }
-    ensures sound { IsSoundWorld any_pseudokey world.new }
+pub(crate) fn push_response(out: &mut Vec<u8>, run: &mut Run, line: &[u8]) -> Result<(), AllocError>
+    requires { IsSoundWorld any_pseudokey run.old.world }
+    ensures text { OnOk result (out.new.items ≡ out.old.items ++ response_text (line_response run.old.tells_moves run.old.world line.now)) }
+    ensures world { OnOk result (run.new.world ≡ after_line run.old.world line.now) }
+    ensures sound { IsSoundWorld any_pseudokey run.new.world }
+    ensures telling { run.new.tells_moves ≡ run.old.tells_moves }
 {
     match parse_line(line) {
-        Ok(Line::Step(event)) => push_event(out, world, &event),
-        Ok(Line::View(view)) => push_view(out, world, view),
+        Ok(Line::Step(event)) => push_event(out, run, &event),
+        Ok(Line::View(view)) => push_view(out, &mut run.world, view),
         Err(fault) => push_refusal(out, fault.into()),
     }
 }
 
-fn push_event(
-    out: &mut Vec<u8>,
-    world: &mut World<PlainPages, AnyKeyer>,
-    event: &Event,
-) -> Result<(), AllocError>
-    requires { IsSoundWorld any_pseudokey world.old }
-    ensures text { OnOk result (out.new.items ≡ out.old.items ++ response_text (response_to world.old (Step event.now))) }
-    ensures world { OnOk result (world.new ≡ after_asked world.old (Step event.now)) }
-    ensures sound { IsSoundWorld any_pseudokey world.new }
+fn push_event(out: &mut Vec<u8>, run: &mut Run, event: &Event) -> Result<(), AllocError>
+    requires { IsSoundWorld any_pseudokey run.old.world }
+    ensures text { OnOk result (out.new.items ≡ out.old.items ++ response_text (response_to run.old.tells_moves run.old.world (Step event.now))) }
+    ensures world { OnOk result (run.new.world ≡ after_asked run.old.world (Step event.now)) }
+    ensures sound { IsSoundWorld any_pseudokey run.new.world }
+    ensures telling { run.new.tells_moves ≡ run.old.tells_moves }
 {
-    match answer_event(world, event) {
+    match answer_event(run, event) {
         Ok(answer) => push_answer(out, &answer),
         Err(error) => Err(error),
     }
 }
 
 // A step that is refused for want of memory has no answer. Pages in memory are never out of reach.
-fn answer_event(
-    world: &mut World<PlainPages, AnyKeyer>,
-    event: &Event,
-) -> Result<Answer, AllocError>
-    requires { IsSoundWorld any_pseudokey world.old }
-    ensures answer { IfOk result (λ answer. answer ≡ step_answer event.now (result_of any_pseudokey world.old event.now)) }
-    ensures world { OnOk result (world.new ≡ world_after any_pseudokey world.old event.now) }
-    ensures sound { IsSoundWorld any_pseudokey world.new }
+fn answer_event(run: &mut Run, event: &Event) -> Result<Answer, AllocError>
+    requires { IsSoundWorld any_pseudokey run.old.world }
+    ensures answer { IfOk result (λ answer. answer ≡ step_answer run.old.tells_moves event.now (result_of any_pseudokey run.old.world event.now)) }
+    ensures world { OnOk result (run.new.world ≡ world_after any_pseudokey run.old.world event.now) }
+    ensures sound { IsSoundWorld any_pseudokey run.new.world }
+    ensures telling { run.new.tells_moves ≡ run.old.tells_moves }
 {
     steps_are_computed::<AnyKeyer>();
-    match world.step(event) {
-        Ok(outcome) => Ok(Answer::of_outcome(event, &outcome)),
+    match run.world.step(event) {
+        Ok(outcome) => Ok(Answer::of_outcome(event, &outcome, run.tells_moves)),
         Err(StepFault::Ward(WardFault::Memory | WardFault::Page)) => Err(AllocError),
         Err(fault) => Ok(Answer::Refused(fault.into())),
     }
@@ -79,7 +72,7 @@ fn push_view(
     view: View,
 ) -> Result<(), AllocError>
     requires { IsSoundWorld any_pseudokey world.old }
-    ensures text { OnOk result (out.new.items ≡ out.old.items ++ response_text (response_to world.old (Seen view))) }
+    ensures text { OnOk result (out.new.items ≡ out.old.items ++ response_text (view_response (view_result world.old view))) }
     ensures world { OnOk result (world.new ≡ world.old) }
     ensures sound { IsSoundWorld any_pseudokey world.new }
 {
@@ -95,7 +88,7 @@ fn push_copy_shown(
     world: &World<PlainPages, AnyKeyer>,
     copy: u32,
 ) -> Result<(), AllocError>
-    ensures { OnOk result (out.new.items ≡ out.old.items ++ response_text (response_to world.now (Seen (Copy copy)))) }
+    ensures { OnOk result (out.new.items ≡ out.old.items ++ response_text (view_response (view_result world.now (Copy copy)))) }
 {
     match world.copy(copy) {
         Ok(directory) => push_shown(out, world.ward_bits(), copy, directory),
@@ -109,7 +102,7 @@ fn push_page_shown(
     ward: u32,
     page: PageNo,
 ) -> Result<(), AllocError>
-    ensures text { OnOk result (out.new.items ≡ out.old.items ++ response_text (response_to world.old (Seen (Page ward page)))) }
+    ensures text { OnOk result (out.new.items ≡ out.old.items ++ response_text (view_response (view_result world.old (Page ward page)))) }
     ensures same { OnOk result (world.new ≡ world.old) }
     ensures sound { IsSoundWorld any_pseudokey world.new }
 {

@@ -16,16 +16,17 @@ use Rattle.exh_world.specs.Headline.{IsHeadline, DoesNotStray as KeepsCourse}
 use Rattle.exh_world.specs.Laws.{AreWardsSound, NewWorldsAreSound, RunsCarryTheHeadline}
 use Rattle.exh_world.specs.NewWorld.{new_world}
 use Rattle.exh_world.specs.Run.{Moment, answered_in, journal_entry_of}
-use Rattle.exh_world.specs.declared.config.Config.{Config}
 use Rattle.exh_world.specs.declared.turn.Turn.{Turn as StepTurn}
+use Rattle.exh_world.specs.declared.config.Config.{Config}
 use Rattle.exh_script.specs.Answer.{answer_text}
 use Rattle.exh_script.specs.Replies.{steps_from, world_left, is_of_ward, ShowTheSame, RepliesAsMap, PrintsAs}
-use Rattle.exh_script.specs.Text.{ScriptWorld, file_of, text_from, text_after, text_of_lines, ended_after, ended_of_lines, text_of, ended_of}
+use Rattle.exh_script.specs.Text.{ScriptWorld, settings_of, text_from, text_after, text_of_lines, ended_after, ended_of_lines, text_of, ended_of}
 use Rattle.exh_script.specs.View.{shown_text, table_text}
 use Rattle.exh_script.specs.declared.answer.Answer.TheVariants.{Refused}
 use Rattle.exh_script.specs.declared.ended.Ended.TheVariants as ended
 use Rattle.exh_script.specs.declared.refusal.Refusal.{Refusal}
 use Rattle.exh_script.specs.declared.refusal.Refusal.TheVariants.{Line as LineRefusal, TooLong}
+use Rattle.exh_script.specs.declared.settings.Settings.{Settings}
 use Rattle.exh_script.specs.declared.server.TheConstants.{SCRIPT_LIMIT}
 use Rattle.exh_script.proofs.Journals.{lines_more}
 use Rattle.exh_script.proofs.KeptWorlds.{WorldLaws, IsServedWorld, lines_run}
@@ -42,7 +43,10 @@ shown_same start steps end headline one other table twin taken taken_too there t
     (table_text end.ward_bits table, refl, ap (λ t. shown_text end.ward_bits other t) (sym equal))
 
 module _ (laws : WorldLaws) (carry : RunsCarryTheHeadline any_pseudokey) (fresh : NewWorldsAreSound any_pseudokey) (script : List ℕ) where
-  module _ (file : Config AnyKeyer) (lines : List (List ℕ)) (few : file.ward_bits ≤ WARD_BITS_LIMIT) where
+  module _ (settings : Settings) (lines : List (List ℕ)) (few : settings.file.ward_bits ≤ WARD_BITS_LIMIT) where
+    abbrev file : Config AnyKeyer
+    file = settings.file
+
     abbrev start : ScriptWorld
     start = new_world file
 
@@ -78,10 +82,10 @@ module _ (laws : WorldLaws) (carry : RunsCarryTheHeadline any_pseudokey) (fresh 
         let more = lines_more laws file.ward_bits file.keyer number start kept lines ward is in
         more.journal ∙ ap (λ journal. journal ++ filter (is_of_ward file number) entries) (new_journal file number more.before more.there)
 
-    as_map : text_of script ≡ text_from start lines → RepliesAsMap script file lines entries
+    as_map : text_of script ≡ text_from settings.tells_moves start lines → RepliesAsMap script settings lines entries
     as_map text = record {
-      text = text ∙ text_is_responses start lines;
-      answered = enter_in_order laws file.ward_bits file.keyer start kept refl lines;
+      text = text ∙ text_is_responses settings.tells_moves start lines;
+      answered = enter_in_order settings.tells_moves laws file.ward_bits file.keyer start kept refl lines;
       headline = over.0;
       entries_are = entries_same;
       history = history;
@@ -89,18 +93,18 @@ module _ (laws : WorldLaws) (carry : RunsCarryTheHeadline any_pseudokey) (fresh 
       left = over.0.one_map.left ∙ ap (λ m. map_left file.cap (any_pseudokey file.keyer) m (map journal_entry_of (answered_in over.0.moments))) (new_map file)
           ∙ ap (map_left file.cap (any_pseudokey file.keyer) empty) entries_same;
       shows = shown_same start (steps_from start lines) end over.0;
-      no_stray = no_strays start lines (subst (λ (moments : List (Moment AnyKeyer)). All (λ (moment : Moment AnyKeyer). KeepsCourse moment) moments) over.1 over.0.no_stray);
+      no_stray = no_strays settings.tells_moves start lines (subst (λ (moments : List (Moment AnyKeyer)). All (λ (moment : Moment AnyKeyer). KeepsCourse moment) moments) over.1 over.0.no_stray);
     }
 
-  by_file : (first : List ℕ) (lines : List (List ℕ)) (read : Result (Config AnyKeyer) Refusal) → length script ≤ SCRIPT_LIMIT → lines_of script ≡ first ∷ lines → file_of first ≡ read
+  by_file : (first : List ℕ) (lines : List (List ℕ)) (read : Result Settings Refusal) → length script ≤ SCRIPT_LIMIT → lines_of script ≡ first ∷ lines → settings_of first ≡ read
       → text_of script ≡ text_after read lines → PrintsAs script (ended_after read)
-  by_file first lines (Ok file) fits split right text =
-      (file, lines, entries_from (new_world file) lines, record { fits = fits; first = (first, split, right) }, as_map file lines (few_ward_bits first file right) text)
+  by_file first lines (Ok settings) fits split right text =
+      (settings, lines, entries_from (new_world settings.file) lines, record { fits = fits; first = (first, split, right) }, as_map settings lines (few_ward_bits first settings right) text)
   by_file first lines (Err refusal) fits split right text = (refusal, text)
 
   by_lines : (lines : List (List ℕ)) → length script ≤ SCRIPT_LIMIT → lines_of script ≡ lines → text_of script ≡ text_of_lines lines → PrintsAs script (ended_of_lines lines)
   by_lines [] fits split text = (LineRefusal Syntax, text)
-  by_lines (first ∷ lines) fits split text = by_file first lines (file_of first) fits split refl text
+  by_lines (first ∷ lines) fits split text = by_file first lines (settings_of first) fits split refl text
 
   by_length : (fits : Bool) → leb (length script) SCRIPT_LIMIT ≡ fits → text_of script ≡ cond fits (text_of_lines (lines_of script)) (answer_text (Refused TooLong))
       → PrintsAs script (cond fits (ended_of_lines (lines_of script)) ended.Refused)

@@ -12,9 +12,10 @@ abbrev pub invariant-loop-line : goal.invariant-loop-line
 invariant-loop-line g l = record {
   same_writer : SameWriter l.fn.output l.output;
   open_still : IsFalse (writer_failed l.output);
-  sound : IsSoundWorld any_pseudokey l.world;
+  sound : IsSoundWorld any_pseudokey l.run.world;
   answered : List (List ℕ);
+  telling : l.run.tells_moves ≡ l.fn.settings.tells_moves;
   split : l.fn.lines ≡ answered ++ l.line-iterator;
-  lead : LeadTo (new_world l.fn.file) l.world answered;
-  passed : Takes g.W.Write.contents l.fn.output l.output (text_from (new_world l.fn.file) answered);
+  lead : LeadTo l.fn.settings.tells_moves (new_world l.fn.settings.file) l.run.world answered;
+  passed : Takes g.W.Write.contents l.fn.output l.output (text_from l.fn.settings.tells_moves (new_world l.fn.settings.file) answered);
 }

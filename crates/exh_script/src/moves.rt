@@ -1,0 +1,6 @@
+/// The moves that an answered request made, and the bound that they are within.
+#[derive(Clone, Copy, Debug, PartialEq, Eq)]
+pub(crate) struct Moves {
+    pub(crate) made: u64,
+    pub(crate) bound: u64,
+}

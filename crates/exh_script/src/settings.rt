@@ -1,0 +1,10 @@
+use exh_keyer::AnyKeyer;
+use exh_world::Config;
+
+/// What the first line of a script says: the settings of its file, and whether a reply's line tells the moves of its
+/// request.
+#[derive(Clone, Copy, Debug)]
+pub(crate) struct Settings {
+    pub(crate) file: Config<AnyKeyer>,
+    pub(crate) tells_moves: bool,
+}
