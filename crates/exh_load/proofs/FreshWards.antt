@@ -1,0 +1,44 @@
+-- The wards of a new file, and a directory of no entry for each.
+use Rattle.std.proofs.Common.{ℕ, ◌≤◌, ◌^◌, List, refl, sym, ap, ◌∙◌}
+use Rattle.exh_prefix.specs.declared.prefix.TheConstants.{WARD_BITS_LIMIT}
+use Rattle.exh_keyer.specs.declared.any_keyer.AnyKeyer.{AnyKeyer}
+use Rattle.exh_array.specs.Pointers.{DirectoryState}
+use Rattle.exh_page.specs.declared.page.TheConstants.{CAP_LIMIT}
+use Rattle.exh_ward.specs.WardState.{WardState}
+use Rattle.exh_open.specs.Opened.{AreWardsOf}
+use Rattle.exh_load.specs.Loader.{AreEach, IsEmptyDirectory, IsEmptyLoader, IsFreshWard, IsLoading, LoaderState, file_in}
+
+module _ (cap ward_bits : ℕ) (keyer : AnyKeyer) (wards : List (WardState AnyKeyer)) (directories : List DirectoryState) (are : AreEach (IsFreshWard cap ward_bits keyer) (2 ^ ward_bits) wards) where
+  abbrev pub fresh : LoaderState
+  fresh = record { cap = cap; ward_bits = ward_bits; keyer = keyer; wards = wards; directories = directories }
+
+  pub fresh_wards : 1 ≤ cap → cap ≤ CAP_LIMIT → ward_bits ≤ WARD_BITS_LIMIT → AreWardsOf (file_in fresh)
+  fresh_wards some most bits = record {
+    some = some;
+    most = most;
+    bits = bits;
+    count = are.count_is;
+    each = λ number ward there.
+        let is = are.each number ward there in
+        record {
+          cap = ap (λ (w : WardState AnyKeyer). w.cap) is;
+          bits = ap (λ (w : WardState AnyKeyer). w.ward_bits) is;
+          number_is = ap (λ (w : WardState AnyKeyer). w.number) is;
+          keyer = ap (λ (w : WardState AnyKeyer). w.keyer) is;
+        };
+  }
+
+  pub fresh_empty : IsEmptyLoader cap ward_bits keyer fresh
+  fresh_empty = record { cap_is = refl; bits_is = refl; keyer_is = refl; wards = are.each }
+
+  pub fresh_loading : AreEach (λ (number : ℕ) (directory : DirectoryState). IsEmptyDirectory ward_bits directory) (2 ^ ward_bits) directories → IsLoading fresh
+  fresh_loading empty = record {
+    count = empty.count_is ∙ sym are.count_is;
+    told = λ number ward directory there directory_there.
+        let is = are.each number ward there in
+        let none = empty.each number directory directory_there in
+        record {
+          table = none.table ∙ sym (ap (λ (w : WardState AnyKeyer). w.table) is);
+          bits = none.bits ∙ sym (ap (λ (w : WardState AnyKeyer). w.ward_bits) is);
+        };
+  }

@@ -1,0 +1,11 @@
+-- of put: pages that are split, what splits keep, and the home that a pair is put into
+pub mod FullPages
+pub mod Splits
+pub mod Homes
+pub mod Turns
+-- of loader: a list made item by item, the wards of a new file, and a put into one of them
+pub mod Items
+pub mod FreshWards
+pub mod PutIn
+-- of load_text: lines
+pub mod Lines

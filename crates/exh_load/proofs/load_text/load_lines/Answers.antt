@@ -1,0 +1,44 @@
+use Rattle.std.proofs.Common.{[], ◌∷◌, ◌∙◌, ◌++◌, sym, ap, subst, append_assoc, rules}
+use Rattle.exh_stream.specs.Output.{Takes}
+use Rattle.exh_stream.specs.OutputLemmas.{OnErr-from}
+use Rattle.exh_load.specs.Loading.{line_text, loading_of, text_from}
+use Rattle.exh_load.proofs.Lines.{LeadTo-more, line_is, line_out, line_stopped, stopped, text_of_left, text_of_more, text_of_next}
+use Rattle.exh_load.proofs.load_text.load_lines.Goals as goal
+
+pub returns-in_err-push_line-clause-err : goal.returns-in_err-push_line-clause-err
+returns-in_err-push_line-clause-err g c =
+    let i = c.lines.invariant in
+    OnErr-from c.from_residual.result (stopped g.W.Write.contents c.args.output.now c.lines.output _ _ _ i.passed (text_of_left _ _ i.answered i.lead _ _ i.split))
+
+pub lines-preserved : goal.lines-preserved
+lines-preserved g c =
+    let i = c.lines.invariant in
+    let first = loading_of c.args.loader.now in
+    let now = loading_of c.lines.loader in
+    let next = loading_of c.push_line.new.loader in
+    let line = c.in-Some.line.now in
+    let whole = text_of_left first now i.answered i.lead _ _ i.split in
+    let split = text_of_next now next c.lines.line-iterator c.next.new.self line c.in-Some.ensures.steps c.in_ok-push_line.ensures.loaded in
+    let is = line_is now line c.clear.new.self.items c.push_line.new.out.items c.deref.result.now c.clear.ensures.items c.in_ok-push_line.ensures.text c.deref.ensures.value in
+    record {
+      same_writer = c.in_ok-push.ensures.same_writer ∙ i.same_writer;
+      open_still = search rules;
+      loading = c.in_ok-push_line.ensures.loading;
+      answered = i.answered ++ line ∷ [];
+      split = i.split ∙ ap (λ l. i.answered ++ l) c.in-Some.ensures.steps ∙ sym (append_assoc i.answered (line ∷ []) c.next.new.self);
+      lead = LeadTo-more first now i.answered i.lead line next c.in_ok-push_line.ensures.loaded;
+      passed = subst (Takes g.W.Write.contents c.args.output.now c.push.new.self) (sym (text_of_more first now i.answered i.lead line))
+          (line_out g.W.Write.contents c.args.output.now c.lines.output _ _ _ i.passed whole c.push.new.self (line_text now line) (text_from next c.next.new.self) _ split is c.in_ok-push.ensures.ok);
+    }
+
+pub returns-in_err-push-clause-err : goal.returns-in_err-push-clause-err
+returns-in_err-push-clause-err g c =
+    let i = c.lines.invariant in
+    let first = loading_of c.args.loader.now in
+    let now = loading_of c.lines.loader in
+    let next = loading_of c.push_line.new.loader in
+    let line = c.in-Some.line.now in
+    let whole = text_of_left first now i.answered i.lead _ _ i.split in
+    let split = text_of_next now next c.lines.line-iterator c.next.new.self line c.in-Some.ensures.steps c.in_ok-push_line.ensures.loaded in
+    let is = line_is now line c.clear.new.self.items c.push_line.new.out.items c.deref.result.now c.clear.ensures.items c.in_ok-push_line.ensures.text c.deref.ensures.value in
+    OnErr-from c.from_residual-in_err-push.result (line_stopped g.W.Write.contents c.args.output.now c.lines.output _ _ _ i.passed whole c.push.new.self (line_text now line) (text_from next c.next.new.self) _ split is c.in_err-push.ensures.err)

@@ -1,0 +1,18 @@
+use Rattle.std.proofs.Common.{◌≡◌, List, ℕ, ◌++◌, IsFalse}
+use Rattle.exh_stream.specs.Output.{SameWriter, Takes, writer_failed}
+use Rattle.exh_load.specs.Loader.{IsLoading}
+use Rattle.exh_load.specs.Loading.{loading_of, text_from}
+use Rattle.exh_load.proofs.Lines.{LeadTo}
+use Rattle.exh_load.proofs.load_text.load_lines.Given as goal
+
+-- the writer is the one it was, the loader can be used, and the text of the lines so far was taken
+abbrev pub invariant-lines : goal.invariant-lines
+invariant-lines g l = record {
+  same_writer : SameWriter l.fn.output l.output;
+  open_still : IsFalse (writer_failed l.output);
+  loading : IsLoading l.loader;
+  answered : List (List ℕ);
+  split : l.fn.lines ≡ answered ++ l.line-iterator;
+  lead : LeadTo (loading_of l.fn.loader) (loading_of l.loader) answered;
+  passed : Takes g.W.Write.contents l.fn.output l.output (text_from (loading_of l.fn.loader) answered);
+}

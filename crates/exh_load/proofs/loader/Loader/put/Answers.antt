@@ -1,0 +1,95 @@
+use Rattle.std.proofs.Common.{◌≡◌, ◌<◌, length, ap, ◌∙◌, arith}
+use Rattle.exh_keyer.specs.Pseudokey.{any_pseudokey}
+use Rattle.exh_prefix.specs.Leading.{ward_of}
+use Rattle.exh_calls.specs.declared.call.Call.TheVariants.{Put}
+use Rattle.exh_load.specs.Loader.{LoaderState}
+use Rattle.exh_load.proofs.PutIn.{at_within, directory_within, is_put_in, loading_left, maps_in, reply_in, settings_kept, ward_covers, ward_hashed, ward_told, wards_left}
+use Rattle.exh_load.proofs.loader.Loader.put.Goals as goal
+
+pub index_mut-ward-requires : goal.index_mut-ward-requires
+index_mut-ward-requires c =
+    let i = c.self.inside in
+    let old : LoaderState = record { cap = i.cap; ward_bits = i.ward_bits; keyer = i.keyer; wards = i.wards.items; directories = i.directories.items } in
+    let hashed : c.pseudo-pseudokey.result ≡ any_pseudokey i.keyer c.args.key = c.pseudo-pseudokey.ensures ∙ ap (any_pseudokey i.keyer) c.as_bytes.ensures.bytes in
+    let at_is : c.from-at.result ≡ ward_of i.ward_bits c.pseudo-pseudokey.result = c.from-at.ensures ∙ c.ward_number.ensures in
+    let within : c.from-at.result < length i.wards.items = at_within old c.args.self.now c.self.view_is c.self.invariant c.requires c.args.key c.pseudo-pseudokey.result c.from-at.result hashed at_is in
+    omega (arith, i.wards.ok.0, within)
+
+pub index_mut-directory-requires : goal.index_mut-directory-requires
+index_mut-directory-requires c =
+    let i = c.self.inside in
+    let old : LoaderState = record { cap = i.cap; ward_bits = i.ward_bits; keyer = i.keyer; wards = i.wards.items; directories = i.directories.items } in
+    let hashed : c.pseudo-pseudokey.result ≡ any_pseudokey i.keyer c.args.key = c.pseudo-pseudokey.ensures ∙ ap (any_pseudokey i.keyer) c.as_bytes.ensures.bytes in
+    let at_is : c.from-at.result ≡ ward_of i.ward_bits c.pseudo-pseudokey.result = c.from-at.ensures ∙ c.ward_number.ensures in
+    let within : c.from-at.result < length i.directories.items = directory_within old c.args.self.now c.self.view_is c.self.invariant c.requires c.args.key c.pseudo-pseudokey.result c.from-at.result hashed at_is in
+    omega (arith, i.directories.ok.0, within)
+
+pub put_pair-requires-clause-hashed : goal.put_pair-requires-clause-hashed
+put_pair-requires-clause-hashed c =
+    let i = c.self.inside in
+    let old : LoaderState = record { cap = i.cap; ward_bits = i.ward_bits; keyer = i.keyer; wards = i.wards.items; directories = i.directories.items } in
+    let hashed : c.pseudo-pseudokey.result ≡ any_pseudokey i.keyer c.args.key = c.pseudo-pseudokey.ensures ∙ ap (any_pseudokey i.keyer) c.as_bytes.ensures.bytes in
+    let at_is : c.from-at.result ≡ ward_of i.ward_bits c.pseudo-pseudokey.result = c.from-at.ensures ∙ c.ward_number.ensures in
+    ward_hashed old c.args.self.now c.self.view_is c.self.invariant c.requires c.args.key c.pseudo-pseudokey.result c.from-at.result hashed at_is c.index_mut-ward.result.now c.index_mut-ward.ensures.value
+
+pub put_pair-requires-clause-covered : goal.put_pair-requires-clause-covered
+put_pair-requires-clause-covered c =
+    let i = c.self.inside in
+    let old : LoaderState = record { cap = i.cap; ward_bits = i.ward_bits; keyer = i.keyer; wards = i.wards.items; directories = i.directories.items } in
+    let hashed : c.pseudo-pseudokey.result ≡ any_pseudokey i.keyer c.args.key = c.pseudo-pseudokey.ensures ∙ ap (any_pseudokey i.keyer) c.as_bytes.ensures.bytes in
+    let at_is : c.from-at.result ≡ ward_of i.ward_bits c.pseudo-pseudokey.result = c.from-at.ensures ∙ c.ward_number.ensures in
+    ward_covers old c.args.self.now c.self.view_is c.self.invariant c.requires c.args.key c.pseudo-pseudokey.result c.from-at.result hashed at_is c.index_mut-ward.result.now c.index_mut-ward.ensures.value
+
+pub put_pair-requires-clause-told : goal.put_pair-requires-clause-told
+put_pair-requires-clause-told c =
+    let i = c.self.inside in
+    let old : LoaderState = record { cap = i.cap; ward_bits = i.ward_bits; keyer = i.keyer; wards = i.wards.items; directories = i.directories.items } in
+    let hashed : c.pseudo-pseudokey.result ≡ any_pseudokey i.keyer c.args.key = c.pseudo-pseudokey.ensures ∙ ap (any_pseudokey i.keyer) c.as_bytes.ensures.bytes in
+    let at_is : c.from-at.result ≡ ward_of i.ward_bits c.pseudo-pseudokey.result = c.from-at.ensures ∙ c.ward_number.ensures in
+    ward_told old c.args.self.now c.self.view_is c.self.invariant c.requires c.args.key c.pseudo-pseudokey.result c.from-at.result hashed at_is c.index_mut-ward.result.now c.index_mut-ward.ensures.value c.index_mut-directory.result.now c.index_mut-directory.ensures.value
+
+pub invariant_of-self : goal.invariant_of-self
+invariant_of-self c =
+    let i = c.self.inside in
+    let old : LoaderState = record { cap = i.cap; ward_bits = i.ward_bits; keyer = i.keyer; wards = i.wards.items; directories = i.directories.items } in
+    let hashed : c.pseudo-pseudokey.result ≡ any_pseudokey i.keyer c.args.key = c.pseudo-pseudokey.ensures ∙ ap (any_pseudokey i.keyer) c.as_bytes.ensures.bytes in
+    let at_is : c.from-at.result ≡ ward_of i.ward_bits c.pseudo-pseudokey.result = c.from-at.ensures ∙ c.ward_number.ensures in
+    let kept = settings_kept c.index_mut-ward.result.now c.put_pair.new.ward (Put c.args.key c.args.value) c.put_pair.result c.put_pair.ensures.put c.put_pair.ensures.err in
+    wards_left old c.args.self.now c.self.view_is c.self.invariant c.requires c.args.key c.pseudo-pseudokey.result c.from-at.result hashed at_is c.index_mut-ward.result.now c.index_mut-ward.ensures.value c.index_mut-directory.result.now c.index_mut-directory.ensures.value
+    c.put_pair.new.ward c.put_pair.new.directory c.put_pair.result kept
+
+pub returns-clause-put : goal.returns-clause-put
+returns-clause-put c =
+    let i = c.self.inside in
+    let old : LoaderState = record { cap = i.cap; ward_bits = i.ward_bits; keyer = i.keyer; wards = i.wards.items; directories = i.directories.items } in
+    let hashed : c.pseudo-pseudokey.result ≡ any_pseudokey i.keyer c.args.key = c.pseudo-pseudokey.ensures ∙ ap (any_pseudokey i.keyer) c.as_bytes.ensures.bytes in
+    let at_is : c.from-at.result ≡ ward_of i.ward_bits c.pseudo-pseudokey.result = c.from-at.ensures ∙ c.ward_number.ensures in
+    is_put_in old c.args.self.now c.self.view_is c.self.invariant c.requires c.args.key c.pseudo-pseudokey.result c.from-at.result hashed at_is c.index_mut-ward.result.now c.index_mut-ward.ensures.value c.index_mut-directory.result.now c.index_mut-directory.ensures.value
+    c.put_pair.new.ward c.put_pair.new.directory c.put_pair.result c.args.value c.put_pair.ensures.put
+
+pub returns-clause-reply : goal.returns-clause-reply
+returns-clause-reply c =
+    let i = c.self.inside in
+    let old : LoaderState = record { cap = i.cap; ward_bits = i.ward_bits; keyer = i.keyer; wards = i.wards.items; directories = i.directories.items } in
+    let hashed : c.pseudo-pseudokey.result ≡ any_pseudokey i.keyer c.args.key = c.pseudo-pseudokey.ensures ∙ ap (any_pseudokey i.keyer) c.as_bytes.ensures.bytes in
+    let at_is : c.from-at.result ≡ ward_of i.ward_bits c.pseudo-pseudokey.result = c.from-at.ensures ∙ c.ward_number.ensures in
+    reply_in old c.args.self.now c.self.view_is c.self.invariant c.requires c.args.key c.pseudo-pseudokey.result c.from-at.result hashed at_is c.index_mut-ward.result.now c.index_mut-ward.ensures.value c.index_mut-directory.result.now c.index_mut-directory.ensures.value
+    c.put_pair.new.ward c.put_pair.new.directory c.put_pair.result c.args.value c.put_pair.ensures.put
+
+pub returns-clause-maps : goal.returns-clause-maps
+returns-clause-maps c =
+    let i = c.self.inside in
+    let old : LoaderState = record { cap = i.cap; ward_bits = i.ward_bits; keyer = i.keyer; wards = i.wards.items; directories = i.directories.items } in
+    let hashed : c.pseudo-pseudokey.result ≡ any_pseudokey i.keyer c.args.key = c.pseudo-pseudokey.ensures ∙ ap (any_pseudokey i.keyer) c.as_bytes.ensures.bytes in
+    let at_is : c.from-at.result ≡ ward_of i.ward_bits c.pseudo-pseudokey.result = c.from-at.ensures ∙ c.ward_number.ensures in
+    maps_in old c.args.self.now c.self.view_is c.self.invariant c.requires c.args.key c.pseudo-pseudokey.result c.from-at.result hashed at_is c.index_mut-ward.result.now c.index_mut-ward.ensures.value c.index_mut-directory.result.now c.index_mut-directory.ensures.value
+    c.put_pair.new.ward c.put_pair.new.directory c.put_pair.result c.args.value c.put_pair.ensures.put
+
+pub returns-clause-loading : goal.returns-clause-loading
+returns-clause-loading c =
+    let i = c.self.inside in
+    let old : LoaderState = record { cap = i.cap; ward_bits = i.ward_bits; keyer = i.keyer; wards = i.wards.items; directories = i.directories.items } in
+    let hashed : c.pseudo-pseudokey.result ≡ any_pseudokey i.keyer c.args.key = c.pseudo-pseudokey.ensures ∙ ap (any_pseudokey i.keyer) c.as_bytes.ensures.bytes in
+    let at_is : c.from-at.result ≡ ward_of i.ward_bits c.pseudo-pseudokey.result = c.from-at.ensures ∙ c.ward_number.ensures in
+    loading_left old c.args.self.now c.self.view_is c.self.invariant c.requires c.args.key c.pseudo-pseudokey.result c.from-at.result hashed at_is c.index_mut-ward.result.now c.index_mut-ward.ensures.value c.index_mut-directory.result.now c.index_mut-directory.ensures.value
+    c.put_pair.new.ward c.put_pair.new.directory c.put_pair.result c.put_pair.ensures.told

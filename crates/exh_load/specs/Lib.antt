@@ -1,0 +1,3 @@
+pub mod Put
+pub mod Loader
+pub mod Loading

@@ -1,0 +1,80 @@
+-- The wards of a new file that pairs are put into, each with its directory.
+use Rattle.std.specs.Prelude.{◌≡◌, ℕ, List, [], ◌∷◌, length, slice_get, slice_set, Some, None}
+use Rattle.std.specs.FinMap as map
+use Rattle.exh_prefix.specs.Leading.{ward_of, ward_prefix}
+use Rattle.exh_keyer.specs.declared.any_keyer.AnyKeyer.{AnyKeyer}
+use Rattle.exh_keyer.specs.Pseudokey.{any_pseudokey}
+use Rattle.exh_array.specs.Pointers.{DirectoryState}
+use Rattle.exh_page.specs.declared.page.Page.TheVariants.{Live}
+use Rattle.exh_calls.specs.declared.call.Call.TheVariants.{Put}
+use Rattle.exh_calls.specs.declared.reply.Reply.{Reply}
+use Rattle.exh_ward.specs.WardState.{WardState}
+use Rattle.exh_open.specs.Opened.{OpenedState}
+use Rattle.exh_load.specs.Put.{IsDirectoryOf, IsPut}
+
+pub record LoaderState : Type 0 where
+  pub cap : ℕ
+  pub ward_bits : ℕ
+  pub keyer : AnyKeyer
+  pub wards : List (WardState AnyKeyer)
+  pub directories : List DirectoryState
+
+-- the wards as those of a file
+abbrev pub file_in : LoaderState → OpenedState
+file_in loader = record { cap = loader.cap; ward_bits = loader.ward_bits; keyer = loader.keyer; wards = loader.wards }
+
+-- each ward has a directory, which was told of all the ward's notices and of no others
+pub record IsLoading (loader : LoaderState) : Type 0 where
+  pub count : length loader.directories ≡ length loader.wards
+  pub told : (number : ℕ) (ward : WardState AnyKeyer) (directory : DirectoryState) → slice_get loader.wards number ≡ Some ward → slice_get loader.directories number ≡ Some directory
+      → IsDirectoryOf ward directory
+
+-- a ward of a new file
+abbrev pub fresh_ward : ℕ → ℕ → AnyKeyer → ℕ → WardState AnyKeyer
+fresh_ward cap ward_bits keyer number = record {
+  pages = Live (ward_prefix ward_bits number) None [] ∷ [];
+  base = map.empty;
+  journal = [];
+  start = map.empty;
+  notices = [];
+  table = map.empty;
+  failures = 0;
+  cap = cap;
+  ward_bits = ward_bits;
+  number = number;
+  keyer = keyer;
+}
+
+-- no pair was put yet
+pub record IsEmptyLoader (cap ward_bits : ℕ) (keyer : AnyKeyer) (loader : LoaderState) : Type 0 where
+  pub cap_is : loader.cap ≡ cap
+  pub bits_is : loader.ward_bits ≡ ward_bits
+  pub keyer_is : loader.keyer ≡ keyer
+  pub wards : (number : ℕ) (ward : WardState AnyKeyer) → slice_get loader.wards number ≡ Some ward → ward ≡ fresh_ward cap ward_bits keyer number
+
+-- the number of the ward that a key belongs to
+abbrev pub ward_in : LoaderState → List ℕ → ℕ
+ward_in loader key = ward_of loader.ward_bits (any_pseudokey loader.keyer key)
+
+-- the pair was put into the ward of its key, and the other wards are as before
+pub record IsPutIn (old : LoaderState) (key value : List ℕ) (reply : Reply) (new : LoaderState) : Type 0 where
+  pub ward : WardState AnyKeyer
+  pub after : WardState AnyKeyer
+  pub there : slice_get old.wards (ward_in old key) ≡ Some ward
+  pub put : IsPut any_pseudokey ward (Put key value) reply after
+  pub others : new ≡ record old { wards = slice_set old.wards (ward_in old key) after; directories = new.directories }
+
+-- ---- of private functions
+
+-- as many as that, and each has its number's property
+pub record AreEach {A : Type 0} (P : ℕ → A → Type 0) (count : ℕ) (items : List A) : Type 0 where
+  pub count_is : length items ≡ count
+  pub each : (number : ℕ) (item : A) → slice_get items number ≡ Some item → P number item
+
+-- a directory of no entry
+pub record IsEmptyDirectory (ward_bits : ℕ) (directory : DirectoryState) : Type 0 where
+  pub table : directory.table ≡ map.empty
+  pub bits : directory.pointers.ward_bits ≡ ward_bits
+
+abbrev pub IsFreshWard : ℕ → ℕ → AnyKeyer → ℕ → WardState AnyKeyer → Type 0
+IsFreshWard cap ward_bits keyer number ward = ward ≡ fresh_ward cap ward_bits keyer number

@@ -1,0 +1,87 @@
+-- What pairs come to, over the map of each ward, and what is printed of their lines.
+use Rattle.std.specs.Prelude.{ℕ, List, [], ◌∷◌, ◌++◌, get_or, slice_set, map, Option, None, Result, Ok, Err, codes}
+use Rattle.std.specs.FinMap as fin
+use Rattle.exh_prefix.specs.Leading.{ward_of}
+use Rattle.exh_keyer.specs.declared.any_keyer.AnyKeyer.{AnyKeyer}
+use Rattle.exh_keyer.specs.Pseudokey.{any_pseudokey}
+use Rattle.exh_page.specs.KeyMap.{KeyMap}
+use Rattle.exh_text.specs.ByteWord.{pair_in_range, spelled_pair}
+use Rattle.exh_text.specs.LineFault.{line_fault_number, ranged}
+use Rattle.exh_text.specs.Lines.{words_of}
+use Rattle.exh_text.specs.Numbers.{◌>>=◌}
+use Rattle.exh_text.specs.Printing.{printed, refused_text}
+use Rattle.exh_text.specs.declared.line_fault.LineFault.{LineFault}
+use Rattle.exh_calls.specs.MapMachine.{reply_of, map_after}
+use Rattle.exh_calls.specs.declared.call.Call.TheVariants.{Put}
+use Rattle.exh_calls.specs.declared.reply.Reply.{Reply}
+use Rattle.exh_calls.specs.declared.reply.Reply.TheVariants.{Full}
+use Rattle.exh_legal.specs.Pages.{map_of}
+use Rattle.exh_ward.specs.WardState.{WardState}
+use Rattle.exh_load.specs.Loader.{LoaderState}
+
+-- a file's settings, and the map of each ward, in the order of their numbers
+pub record Loading : Type 0 where
+  pub cap : ℕ
+  pub ward_bits : ℕ
+  pub keyer : AnyKeyer
+  pub maps : List KeyMap
+
+-- what a loader has put
+abbrev pub loading_of : LoaderState → Loading
+loading_of loader = record { cap = loader.cap; ward_bits = loader.ward_bits; keyer = loader.keyer; maps = map (λ (ward : WardState AnyKeyer). map_of ward.pages) loader.wards }
+
+-- ---- a pair
+
+-- the ward of a key, and that ward's map
+abbrev pub ward_at : Loading → List ℕ → ℕ
+ward_at loading key = ward_of loading.ward_bits (any_pseudokey loading.keyer key)
+
+abbrev pub map_at : Loading → List ℕ → KeyMap
+map_at loading key = get_or loading.maps (ward_at loading key) fin.empty
+
+-- a pair is answered as the map machine answers its Put over the map of its ward, and leaves there the map machine's
+abbrev pub pair_reply : Loading → List ℕ → List ℕ → Reply
+pair_reply loading key value = reply_of loading.cap (any_pseudokey loading.keyer) (map_at loading key) (Put key value)
+
+abbrev pub after_pair : Loading → List ℕ → List ℕ → Loading
+after_pair loading key value = record loading { maps = slice_set loading.maps (ward_at loading key) (map_after loading.cap (any_pseudokey loading.keyer) (map_at loading key) (Put key value)) }
+
+-- ---- a line
+
+-- `KEY VALUE`
+abbrev pub spelled_words : List (List ℕ) → Option (List ℕ × List ℕ)
+spelled_words (key ∷ value ∷ []) = spelled_pair key value
+spelled_words words = None
+
+unfoldable pub pair_of : List ℕ → Result (List ℕ × List ℕ) LineFault
+pair_of line = ranged pair_in_range (words_of line >>= spelled_words)
+
+-- a pair is told only where it is turned away
+abbrev pub reply_text : List ℕ → Reply → List ℕ
+reply_text key Full = codes "full " ++ (printed key ++ codes "\n")
+reply_text key reply = []
+
+abbrev pub parsed_text : Loading → Result (List ℕ × List ℕ) LineFault → List ℕ
+parsed_text loading (Ok pair) = reply_text pair.0 (pair_reply loading pair.0 pair.1)
+parsed_text loading (Err fault) = refused_text (line_fault_number fault) ++ codes "\n"
+
+abbrev pub after_parsed : Loading → Result (List ℕ × List ℕ) LineFault → Loading
+after_parsed loading (Ok pair) = after_pair loading pair.0 pair.1
+after_parsed loading (Err fault) = loading
+
+unfoldable pub line_text : Loading → List ℕ → List ℕ
+line_text loading line = parsed_text loading (pair_of line)
+
+unfoldable pub after_line : Loading → List ℕ → Loading
+after_line loading line = after_parsed loading (pair_of line)
+
+-- ---- lines
+
+abbrev pub text_from : Loading → List (List ℕ) → List ℕ
+text_from loading [] = []
+text_from loading (line ∷ lines) = line_text loading line ++ text_from (after_line loading line) lines
+
+-- what they leave
+abbrev pub loaded_from : Loading → List (List ℕ) → Loading
+loaded_from loading [] = loading
+loaded_from loading (line ∷ lines) = loaded_from (after_line loading line) lines
