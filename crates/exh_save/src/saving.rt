@@ -26,8 +26,8 @@ use exh_file::{FileEntry, Header};
 use exh_frames::Pages;
 use exh_keyer::AnyKeyer;
 use exh_legal::{fitting_tables_begin_wards, pages_are_few};
-use exh_page_file::FileWriter;
 use exh_page::Page;
+use exh_page_file::FileWriter;
 use exh_prefix::PageNo;
 use exh_reasons::legal_tables_have_room;
 use exh_stream::WriteFault;
@@ -35,30 +35,14 @@ use exh_table::Table;
 use exh_ward::Ward;
 use std::io::Write;
 
-/// Appends the page file of these wards to the writer, in the first version: one ward for each number,
-/// in order, of at most `cap` records a page, 1 to 16, of 2^`ward_bits` wards, cut by 0 to 4 leading
-/// bits, and of this keyer. The writer isn't flushed. It takes memory for a copy of one page at a time.
+/// Appends the page file of these wards to the writer of a file of which nothing is on its way, in the
+/// first version: one ward for each number, in order, of at most `cap` records a page, 1 to 16, of
+/// 2^`ward_bits` wards, cut by 0 to 4 leading bits, and of this keyer. The writer isn't flushed. It takes
+/// memory for a copy of one page at a time.
 ///
 /// `Write`: the writer failed or took no bytes. `Page`: a page is out of reach. `Memory`: a growth was
 /// refused. Then a beginning of the file went out. The wards are as before.
 pub fn write_file<P: Pages + Drop, W: Write>(
-    cap: usize,
-    ward_bits: u8,
-    keyer: AnyKeyer,
-    wards: &mut [Ward<P, AnyKeyer>],
-    writer: &mut W,
-) -> Result<(), SaveFault>
-    requires { AreWardsOf (in_file cap ward_bits keyer wards.old) }
-    ensures ok { OnOk result (Appends (W.contents writer.old) (W.contents writer.new) (file_bytes first_file (file_of (in_file cap ward_bits keyer wards.old)))) }
-    ensures err { OnErr result (AppendsBeginning (W.contents writer.old) (W.contents writer.new) (file_bytes first_file (file_of (in_file cap ward_bits keyer wards.old)))) }
-    ensures wards { AreUnchanged wards.old wards.new }
-    ensures failures { CountsFailures result (failures_in wards.old) (failures_in wards.new) }
-{
-    write_wards(cap, ward_bits, keyer, wards, &mut FileWriter::new(writer))
-}
-
-// The same, to a file of which nothing is on its way.
-fn write_wards<P: Pages + Drop, W: Write>(
     cap: usize,
     ward_bits: u8,
     keyer: AnyKeyer,

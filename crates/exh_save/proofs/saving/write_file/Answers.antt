@@ -8,7 +8,7 @@ use Rattle.exh_page_file.specs.PageFile.{file_bytes}
 use Rattle.exh_page_file.specs.Writing.{written}
 use Rattle.exh_save.specs.Saved.{file_with, in_file}
 use Rattle.exh_save.proofs.Legal.{are_short, is_header}
-use Rattle.exh_save.proofs.saving.write_wards.Goals as goal
+use Rattle.exh_save.proofs.saving.write_file.Goals as goal
 
 pub write_parts-requires-clause-header : goal.write_parts-requires-clause-header
 write_parts-requires-clause-header g c =
