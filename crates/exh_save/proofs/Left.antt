@@ -1,0 +1,60 @@
+-- What a fault leaves of wards.
+use Rattle.std.proofs.Common.{◌≡◌, ℕ, ◌+◌, ◌<◌, ◌≤◌, List, [], ◌∷◌, length, set, slice_get, Some, Result, Ok, Err, inl, inr, refl, sym, ap, ◌∙◌, subst, arith}
+use Rattle.std.proofs.lemmas.Bool.{cases_eq}
+use Rattle.std.specs.Prelude.{slice_set}
+use Rattle.std.proofs.lemmas.List.{length-set}
+use Rattle.std.proofs.lemmas.Option.{slice_get_within}
+use Rattle.exh_prefix.specs.ListLemmas.{one_there, set_here, set_else}
+use Rattle.exh_page.specs.declared.page.Page.{Page as PageType}
+use Rattle.exh_page.specs.declared.page.Page.TheVariants.{Live, Forward}
+use Rattle.exh_page.specs.declared.page.TheConstants.{CAP_LIMIT}
+use Rattle.exh_page.specs.Page.{records_of}
+use Rattle.exh_legal.specs.Pages.{IsAt, IsLegalPage}
+use Rattle.exh_legal.specs.MapLemmas.{page_at}
+use Rattle.exh_keyer.specs.declared.any_keyer.AnyKeyer.{AnyKeyer}
+use Rattle.exh_keyer.specs.Pseudokey.{any_pseudokey}
+use Rattle.exh_ward.specs.WardState.{IsSoundWard, IsUnchanged, WardState}
+use Rattle.exh_save.specs.SaveFault.{CountsFailures}
+use Rattle.exh_save.specs.Saved.{AreUnchanged, failures_in}
+use Rattle.exh_save.specs.declared.save_fault.SaveFault.{SaveFault}
+use Rattle.exh_save.specs.declared.save_fault.SaveFault.TheVariants.{Write, Page, Memory}
+use Rattle.exh_save.proofs.Lists.{sum_of-set}
+
+-- a page of a sound ward has few records
+few_in_page : (cap : ℕ) (pseudo : List ℕ → ℕ) (page : PageType) → cap ≤ CAP_LIMIT → IsLegalPage cap pseudo page → length (records_of page) ≤ CAP_LIMIT
+few_in_page cap pseudo (Live prefix right records) few legal = omega (arith, few, legal.1)
+few_in_page cap pseudo (Forward low target) few legal = omega arith
+
+pub few_records : (ward : WardState AnyKeyer) (number : ℕ) (page : PageType) → ward.cap ≤ CAP_LIMIT → IsSoundWard any_pseudokey ward → IsAt ward.pages number page → length (records_of page) ≤ CAP_LIMIT
+few_records ward number page few sound is =
+    let pseudo = any_pseudokey ward.keyer in
+    few_in_page ward.cap pseudo page few (page_at (IsLegalPage ward.cap pseudo) ward.pages number page sound.legal.legal.legal.each is)
+
+-- ---- wards of which one was touched
+
+pub still_the_same : (wards : List (WardState AnyKeyer)) → AreUnchanged wards wards
+still_the_same wards = record {
+  count = refl;
+  each = λ number ward left is there. let same = one_there wards number left ward there is in subst (λ (w : WardState AnyKeyer). IsUnchanged ward w) (sym same) refl;
+}
+
+module _ (wards : List (WardState AnyKeyer)) (at : ℕ) (ward left : WardState AnyKeyer) (is : slice_get wards at ≡ Some ward) where
+  pub one_touched : IsUnchanged ward left → AreUnchanged wards (set wards at left)
+  one_touched unchanged = record {
+    count = length-set wards at left;
+    each = λ number old new was there. elim (cases_eq number at) [
+      | inl here ↦
+          let old_is : old ≡ ward = one_there wards at old ward (subst (λ (n : ℕ). slice_get wards n ≡ Some old) here was) is in
+          let new_is : new ≡ left = one_there (set wards at left) at new left (subst (λ (n : ℕ). slice_get (set wards at left) n ≡ Some new) here there) (set_here wards at ward left is) in
+          subst (λ (w : WardState AnyKeyer). IsUnchanged w new) (sym old_is) (subst (λ (w : WardState AnyKeyer). IsUnchanged ward w) (sym new_is) unchanged)
+      | inr else ↦
+          let same : new ≡ old = one_there wards number new old (sym (set_else wards at number left else) ∙ there) was in
+          subst (λ (w : WardState AnyKeyer). IsUnchanged old w) (sym same) refl
+    ];
+  }
+
+  pub one_counted : {T : Type 0} (result : Result T SaveFault) → CountsFailures result ward.failures left.failures → CountsFailures result (failures_in wards) (failures_in (set wards at left))
+  one_counted (Ok value) same = omega (arith, sum_of-set (λ (w : WardState AnyKeyer). w.failures) wards at ward left is, same)
+  one_counted (Err Write) same = omega (arith, sum_of-set (λ (w : WardState AnyKeyer). w.failures) wards at ward left is, same)
+  one_counted (Err Memory) same = omega (arith, sum_of-set (λ (w : WardState AnyKeyer). w.failures) wards at ward left is, same)
+  one_counted (Err Page) more = omega (arith, sum_of-set (λ (w : WardState AnyKeyer). w.failures) wards at ward left is, more)

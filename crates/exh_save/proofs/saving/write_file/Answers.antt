@@ -1,0 +1,30 @@
+use Rattle.std.proofs.Common.{◌≡◌, OnOk, OnErr, sym, subst}
+use Rattle.std.specs.Io.KnownBytes.{Appends}
+use Rattle.exh_stream.specs.Output.{AppendsBeginning}
+use Rattle.exh_file.specs.FileVersion.{first_file}
+use Rattle.exh_file.specs.HeaderImage.{IsHeader}
+use Rattle.exh_file.specs.declared.header.Header.{Header}
+use Rattle.exh_page_file.specs.PageFile.{file_bytes}
+use Rattle.exh_page_file.specs.Writing.{written}
+use Rattle.exh_save.specs.Saved.{file_with, in_file}
+use Rattle.exh_save.proofs.Legal.{are_short, is_header}
+use Rattle.exh_save.proofs.saving.write_file.Goals as goal
+
+pub write_parts-requires-clause-header : goal.write_parts-requires-clause-header
+write_parts-requires-clause-header g c =
+    subst (IsHeader first_file) (sym c.header_of-header.ensures.header)
+    (is_header (in_file c.args.cap c.args.ward_bits c.args.keyer c.args.wards.now) c.requires.wards c.header_of-header.ensures.sound c.fitting_tables_begin_wards.ensures c.pages_are_few.ensures c.legal_tables_have_room.ensures)
+
+pub write_parts-requires-clause-short : goal.write_parts-requires-clause-short
+write_parts-requires-clause-short g c =
+    are_short (in_file c.args.cap c.args.ward_bits c.args.keyer c.args.wards.now) c.requires.wards c.header_of-header.ensures.sound c.fitting_tables_begin_wards.ensures
+
+pub returns-clause-ok : goal.returns-clause-ok
+returns-clause-ok g c =
+    subst (λ (header : Header). OnOk c.write_parts.result (Appends (written g.W.Write.contents c.args.file.now) (written g.W.Write.contents c.write_parts.new.file) (file_bytes first_file (file_with header c.args.wards.now))))
+    c.header_of-header.ensures.header c.write_parts.ensures.ok
+
+pub returns-clause-err : goal.returns-clause-err
+returns-clause-err g c =
+    subst (λ (header : Header). OnErr c.write_parts.result (AppendsBeginning (written g.W.Write.contents c.args.file.now) (written g.W.Write.contents c.write_parts.new.file) (file_bytes first_file (file_with header c.args.wards.now))))
+    c.header_of-header.ensures.header c.write_parts.ensures.err

@@ -1,0 +1,2 @@
+pub mod SaveFault
+pub mod Saved

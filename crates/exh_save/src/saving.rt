@@ -1,0 +1,210 @@
+ghost use Rattle.std.specs.Prelude.{◌≡◌, ◌<◌, ◌≤◌, length, map, IfOk, OnOk, OnErr};
+ghost use Rattle.std.specs.List.{AllByRecursion, flat_map};
+ghost use Rattle.std.specs.FinMap.{entries};
+ghost use Rattle.std.specs.Io.KnownBytes.{Appends};
+ghost use Rattle.exh_prefix.specs.Version.{first_version};
+ghost use Rattle.exh_page.specs.declared.page.TheConstants.{CAP_LIMIT};
+ghost use Rattle.exh_page.specs.Page.{records_of};
+ghost use Rattle.exh_legal.specs.Pages.{IsAt};
+ghost use Rattle.exh_stream.specs.Output.{AppendsBeginning};
+ghost use Rattle.exh_codec.specs.PageImage.{IsInRange};
+ghost use Rattle.exh_file.specs.FileVersion.{first_file};
+ghost use Rattle.exh_file.specs.HeaderImage.{IsHeader};
+ghost use Rattle.exh_file.specs.TableImage.{IsFileEntry};
+ghost use Rattle.exh_page_file.specs.PageFile.{file_bytes, page_block, pages_of};
+ghost use Rattle.exh_page_file.specs.Writing.{IsBare, SameTarget, TakesBlocks, TakesBlocksBeginning, TakesEntries, TakesEntriesBeginning, written};
+ghost use Rattle.exh_frames.specs.PageStore.{IfPage};
+ghost use Rattle.exh_file.specs.declared.header.TheConstants.{COUNTS_LEN};
+ghost use Rattle.exh_ward.specs.WardState.{IsUnchanged};
+ghost use Rattle.exh_open.specs.Opened.{AreWardsOf};
+ghost use Rattle.exh_save.specs.SaveFault.{CountsFailures};
+ghost use Rattle.exh_save.specs.Saved.{AreNumbered, AreShort, AreUnchanged, HasCaps, entries_in, failures_in, file_entry, file_of, file_with, in_file, pages_in};
+
+use crate::SaveFault;
+use crate::header::header_of;
+use exh_file::{FileEntry, Header};
+use exh_frames::Pages;
+use exh_keyer::AnyKeyer;
+use exh_legal::{fitting_tables_begin_wards, pages_are_few};
+use exh_page::Page;
+use exh_page_file::FileWriter;
+use exh_prefix::PageNo;
+use exh_reasons::legal_tables_have_room;
+use exh_stream::WriteFault;
+use exh_table::Table;
+use exh_ward::Ward;
+use std::io::Write;
+
+/// Appends the page file of these wards to the writer of a file of which nothing is on its way, in the
+/// first version: one ward for each number, in order, of at most `cap` records a page, 1 to 16, of
+/// 2^`ward_bits` wards, cut by 0 to 4 leading bits, and of this keyer. The writer isn't flushed. It takes
+/// memory for a copy of one page at a time.
+///
+/// `Write`: the writer failed or took no bytes. `Page`: a page is out of reach. `Memory`: a growth was
+/// refused. Then a beginning of the file went out. The wards are as before.
+pub fn write_file<P: Pages + Drop, W: Write>(
+    cap: usize,
+    ward_bits: u8,
+    keyer: AnyKeyer,
+    wards: &mut [Ward<P, AnyKeyer>],
+    file: &mut FileWriter<'_, W>,
+) -> Result<(), SaveFault>
+    requires wards { AreWardsOf (in_file cap ward_bits keyer wards.old) }
+    requires bare { IsBare file.old }
+    ensures same_target { SameTarget file.old file.new }
+    ensures ok { OnOk result (Appends (written W.contents file.old) (written W.contents file.new) (file_bytes first_file (file_of (in_file cap ward_bits keyer wards.old)))) }
+    ensures err { OnErr result (AppendsBeginning (written W.contents file.old) (written W.contents file.new) (file_bytes first_file (file_of (in_file cap ward_bits keyer wards.old)))) }
+    ensures wards { AreUnchanged wards.old wards.new }
+    ensures failures { CountsFailures result (failures_in wards.old) (failures_in wards.new) }
+{
+    fitting_tables_begin_wards();
+    legal_tables_have_room();
+    pages_are_few();
+    let header = header_of(cap, ward_bits, keyer, wards);
+    write_parts(file, &header, wards)
+}
+
+// Writes the file of this header and these wards.
+fn write_parts<P: Pages + Drop, W: Write>(
+    file: &mut FileWriter<'_, W>,
+    header: &Header,
+    wards: &mut [Ward<P, AnyKeyer>],
+) -> Result<(), SaveFault>
+    requires bare { IsBare file.old }
+    requires header { IsHeader first_file header.now }
+    requires caps { HasCaps wards.old }
+    requires numbers { AreNumbered wards.old }
+    requires few { length wards.old ≤ COUNTS_LEN }
+    requires short { AreShort (entries_in wards.old) }
+    ensures same_target { SameTarget file.old file.new }
+    ensures ok { OnOk result (Appends (written W.contents file.old) (written W.contents file.new) (file_bytes first_file (file_with header.now wards.old))) }
+    ensures pages { OnOk result (AllByRecursion (IsInRange first_version) (pages_of (pages_in wards.old))) }
+    ensures entries { OnOk result (AllByRecursion (IsFileEntry first_version) (entries_in wards.old)) }
+    ensures err { OnErr result (AppendsBeginning (written W.contents file.old) (written W.contents file.new) (file_bytes first_file (file_with header.now wards.old))) }
+    ensures wards { AreUnchanged wards.old wards.new }
+    ensures failures { CountsFailures result (failures_in wards.old) (failures_in wards.new) }
+{
+    file.write_header(header)?;
+    write_pages(file, wards)?;
+    write_table(file, wards)?;
+    Ok(file.finish()?)
+}
+
+// Writes the pages of all wards.
+fn write_pages<P: Pages + Drop, W: Write>(
+    file: &mut FileWriter<'_, W>,
+    wards: &mut [Ward<P, AnyKeyer>],
+) -> Result<(), SaveFault>
+    requires { HasCaps wards.old }
+    ensures same_target { SameTarget file.old file.new }
+    ensures ok { OnOk result (TakesBlocks W.contents file.old file.new (flat_map page_block (pages_of (pages_in wards.old)))) }
+    ensures pages { OnOk result (AllByRecursion (IsInRange first_version) (pages_of (pages_in wards.old))) }
+    ensures err { OnErr result (TakesBlocksBeginning W.contents file.old file.new (flat_map page_block (pages_of (pages_in wards.old)))) }
+    ensures same { OnOk result (wards.new ≡ wards.old) }
+    ensures wards { AreUnchanged wards.old wards.new }
+    ensures failures { CountsFailures result (failures_in wards.old) (failures_in wards.new) }
+{
+    for number in 0..wards.len() {
+        write_ward(file, &mut wards[number])?;
+    }
+    Ok(())
+}
+
+// Writes the pages of one ward, in the order of their numbers.
+fn write_ward<P: Pages + Drop, W: Write>(
+    file: &mut FileWriter<'_, W>,
+    ward: &mut Ward<P, AnyKeyer>,
+) -> Result<(), SaveFault>
+    requires { ward.old.cap ≤ CAP_LIMIT }
+    ensures same_target { SameTarget file.old file.new }
+    ensures ok { OnOk result (TakesBlocks W.contents file.old file.new (flat_map page_block ward.old.pages)) }
+    ensures pages { OnOk result (AllByRecursion (IsInRange first_version) ward.old.pages) }
+    ensures err { OnErr result (TakesBlocksBeginning W.contents file.old file.new (flat_map page_block ward.old.pages)) }
+    ensures same { OnOk result (ward.new ≡ ward.old) }
+    ensures ward { IsUnchanged ward.old ward.new }
+    ensures failures { CountsFailures result ward.old.failures ward.new.failures }
+{
+    for number in 0..ward.page_count() {
+        write_page(file, ward, number)?;
+    }
+    Ok(())
+}
+
+// Writes the page of a number.
+fn write_page<P: Pages + Drop, W: Write>(
+    file: &mut FileWriter<'_, W>,
+    ward: &mut Ward<P, AnyKeyer>,
+    number: PageNo,
+) -> Result<(), SaveFault>
+    requires there { number < length ward.old.pages }
+    requires cap { ward.old.cap ≤ CAP_LIMIT }
+    ensures same_target { SameTarget file.old file.new }
+    ensures ok { OnOk result (IfPage ward.old.pages number (λ page. TakesBlocks W.contents file.old file.new (page_block page) × IsInRange first_version page)) }
+    ensures err { OnErr result (IfPage ward.old.pages number (λ page. TakesBlocksBeginning W.contents file.old file.new (page_block page))) }
+    ensures same { OnOk result (ward.new ≡ ward.old) }
+    ensures ward { IsUnchanged ward.old ward.new }
+    ensures failures { CountsFailures result ward.old.failures ward.new.failures }
+{
+    let page = read_page(ward, number)?;
+    Ok(file.write_page(&page)?)
+}
+
+// A page equal to the one of a number.
+fn read_page<P: Pages + Drop>(
+    ward: &mut Ward<P, AnyKeyer>,
+    number: PageNo,
+) -> Result<Page, SaveFault>
+    requires there { number < length ward.old.pages }
+    requires cap { ward.old.cap ≤ CAP_LIMIT }
+    ensures page { IfOk result (IsAt ward.old.pages number) }
+    ensures few { IfOk result (λ page. length (records_of page) ≤ CAP_LIMIT) }
+    ensures same { OnOk result (ward.new ≡ ward.old) }
+    ensures ward { IsUnchanged ward.old ward.new }
+    ensures failures { CountsFailures result ward.old.failures ward.new.failures }
+{
+    match ward.page(number) {
+        Ok(page) => Ok(page),
+        Err(fault) => Err(SaveFault::of_ward(fault)),
+    }
+}
+
+// Writes the entries of all wards.
+fn write_table<P: Pages + Drop, W: Write>(
+    file: &mut FileWriter<'_, W>,
+    wards: &[Ward<P, AnyKeyer>],
+) -> Result<(), WriteFault>
+    requires numbers { AreNumbered wards.now }
+    requires few { length wards.now ≤ COUNTS_LEN }
+    requires short { AreShort (entries_in wards.now) }
+    ensures same_target { SameTarget file.old file.new }
+    ensures ok { OnOk result (TakesEntries W.contents first_version file.old file.new (entries_in wards.now)) }
+    ensures entries { OnOk result (AllByRecursion (IsFileEntry first_version) (entries_in wards.now)) }
+    ensures err { OnErr result (TakesEntriesBeginning W.contents first_version file.old file.new (entries_in wards.now)) }
+{
+    for number in 0..wards.len() {
+        write_entries(file, number as u8, wards[number].table())?;
+    }
+    Ok(())
+}
+
+// Writes the entries of one ward's table.
+fn write_entries<W: Write>(
+    file: &mut FileWriter<'_, W>,
+    ward: u8,
+    table: &Table,
+) -> Result<(), WriteFault>
+    requires short { AreShort (map (file_entry ward) (entries table.now)) }
+    ensures same_target { SameTarget file.old file.new }
+    ensures ok { OnOk result (TakesEntries W.contents first_version file.old file.new (map (file_entry ward) (entries table.now))) }
+    ensures entries { OnOk result (AllByRecursion (IsFileEntry first_version) (map (file_entry ward) (entries table.now))) }
+    ensures err { OnErr result (TakesEntriesBeginning W.contents first_version file.old file.new (map (file_entry ward) (entries table.now))) }
+{
+    for (prefix, entry) in table.entries() {
+        file.write_entry(&FileEntry {
+            ward,
+            prefix: *prefix,
+            entry: *entry,
+        })?;
+    }
+    Ok(())
+}
