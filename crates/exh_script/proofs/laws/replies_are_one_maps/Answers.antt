@@ -20,7 +20,7 @@ use Rattle.exh_world.specs.declared.turn.Turn.{Turn as StepTurn}
 use Rattle.exh_world.specs.declared.config.Config.{Config}
 use Rattle.exh_script.specs.Answer.{answer_text}
 use Rattle.exh_script.specs.Replies.{steps_from, world_left, is_of_ward, ShowTheSame, RepliesAsMap, PrintsAs}
-use Rattle.exh_script.specs.Text.{ScriptWorld, settings_of, text_from, text_after, text_of_lines, ended_after, ended_of_lines, text_of, ended_of}
+use Rattle.exh_script.specs.Text.{ScriptWorld, new_file, started, start_of, settings_of, text_from, text_after, text_of_lines, ended_after, ended_of_lines, text_of, ended_of}
 use Rattle.exh_script.specs.View.{shown_text, table_text}
 use Rattle.exh_script.specs.declared.answer.Answer.TheVariants.{Refused}
 use Rattle.exh_script.specs.declared.ended.Ended.TheVariants as ended
@@ -82,7 +82,7 @@ module _ (laws : WorldLaws) (carry : RunsCarryTheHeadline any_pseudokey) (fresh 
         let more = lines_more laws file.ward_bits file.keyer number start kept lines ward is in
         more.journal ∙ ap (λ journal. journal ++ filter (is_of_ward file number) entries) (new_journal file number more.before more.there)
 
-    as_map : text_of script ≡ text_from settings.tells_moves start lines → RepliesAsMap script settings lines entries
+    as_map : text_of new_file script ≡ text_from settings.tells_moves start lines → RepliesAsMap script settings lines entries
     as_map text = record {
       text = text ∙ text_is_responses settings.tells_moves start lines;
       answered = enter_in_order settings.tells_moves laws file.ward_bits file.keyer start kept refl lines;
@@ -97,17 +97,18 @@ module _ (laws : WorldLaws) (carry : RunsCarryTheHeadline any_pseudokey) (fresh 
     }
 
   by_file : (first : List ℕ) (lines : List (List ℕ)) (read : Result Settings Refusal) → length script ≤ SCRIPT_LIMIT → lines_of script ≡ first ∷ lines → settings_of first ≡ read
-      → text_of script ≡ text_after read lines → PrintsAs script (ended_after read)
+      → text_of new_file script ≡ text_after (started new_file read) lines → PrintsAs script (ended_after (started new_file read))
   by_file first lines (Ok settings) fits split right text =
       (settings, lines, entries_from (new_world settings.file) lines, record { fits = fits; first = (first, split, right) }, as_map settings lines (few_ward_bits first settings right) text)
   by_file first lines (Err refusal) fits split right text = (refusal, text)
 
-  by_lines : (lines : List (List ℕ)) → length script ≤ SCRIPT_LIMIT → lines_of script ≡ lines → text_of script ≡ text_of_lines lines → PrintsAs script (ended_of_lines lines)
+  by_lines : (lines : List (List ℕ)) → length script ≤ SCRIPT_LIMIT → lines_of script ≡ lines → text_of new_file script ≡ text_of_lines new_file lines → PrintsAs script (ended_of_lines new_file lines)
+  unfolding start_of
   by_lines [] fits split text = (LineRefusal Syntax, text)
   by_lines (first ∷ lines) fits split text = by_file first lines (settings_of first) fits split refl text
 
-  by_length : (fits : Bool) → leb (length script) SCRIPT_LIMIT ≡ fits → text_of script ≡ cond fits (text_of_lines (lines_of script)) (answer_text (Refused TooLong))
-      → PrintsAs script (cond fits (ended_of_lines (lines_of script)) ended.Refused)
+  by_length : (fits : Bool) → leb (length script) SCRIPT_LIMIT ≡ fits → text_of new_file script ≡ cond fits (text_of_lines new_file (lines_of script)) (answer_text (Refused TooLong))
+      → PrintsAs script (cond fits (ended_of_lines new_file (lines_of script)) ended.Refused)
   by_length true fits text = by_lines (lines_of script) (leb-true _ _ fits) refl text
   by_length false fits text = (TooLong, text)
 
