@@ -1,5 +1,5 @@
 -- The replies that a script prints, over whatever world its first line begins.
-use Rattle.std.specs.Prelude.{◌≡◌, ℕ, ◌≤◌, List, [], ◌∷◌, ◌++◌, length, map, flat_map, filter, slice_get, IsTrue, nat_eq, Some, Ok, All}
+use Rattle.std.specs.Prelude.{◌≡◌, ℕ, ◌≤◌, List, [], ◌∷◌, ◌++◌, length, map, flat_map, filter, slice_get, Bool, ◌==◌, IsTrue, Some, Ok, All}
 use Rattle.exh_keyer.specs.declared.any_keyer.AnyKeyer.{AnyKeyer}
 use Rattle.exh_keyer.specs.Pseudokey.{any_pseudokey}
 use Rattle.exh_text.specs.Lines.{lines_of}
@@ -32,11 +32,15 @@ pub record IsScriptFrom (begin : Beginning) (script : List ℕ) (start : Start) 
   pub fits : length script ≤ SCRIPT_LIMIT
   pub first : (line : List ℕ) × (lines_of script ≡ line ∷ lines) × (start_of begin line ≡ Ok start)
 
+-- whether an entry's call is of a ward of the world
+abbrev pub is_of_ward_in : ScriptWorld → ℕ → JournalEntry → Bool
+is_of_ward_in world ward entry = ward_of world.ward_bits (any_pseudokey world.keyer (key_of entry.call)) == ward
+
 -- a ward whose journal has of these entries those more that are of its own calls
 pub record HasOwnMore (start : ScriptWorld) (number : ℕ) (entries : List JournalEntry) (ward : WardState AnyKeyer) : Type 0 where
   pub before : WardState AnyKeyer
   pub there : slice_get start.wards number ≡ Some before
-  pub journal : ward.journal ≡ before.journal ++ filter (λ (entry : JournalEntry). nat_eq (ward_of start.ward_bits (any_pseudokey start.keyer (key_of entry.call))) number) entries
+  pub journal : ward.journal ≡ before.journal ++ filter (is_of_ward_in start number) entries
 
 -- what is printed of the map, from a start on, the calls that it answers being these entries
 pub record RepliesFrom (text : List ℕ) (start : Start) (lines : List (List ℕ)) (entries : List JournalEntry) : Type 0 where

@@ -3,7 +3,7 @@
 
 use answer::Answer;
 pub use ended::Ended;
-pub use laws::{printed_answers_are_one, replies_are_one_maps};
+pub use laws::{printed_answers_are_one, replies_are_one_maps, replies_follow_any_start};
 use line::Line;
 use moves::Moves;
 use refusal::Refusal;
