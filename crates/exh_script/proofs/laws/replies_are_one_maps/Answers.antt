@@ -1,5 +1,4 @@
 use Rattle.std.proofs.Common.{◌≡◌, ℕ, ◌≤◌, List, [], ◌∷◌, ◌++◌, length, leb, cond, Bool, true, false, Some, slice_get, Result, Ok, Err, refl, ap, ◌∙◌, subst}
-use Rattle.std.specs.FinMap.{empty}
 use Rattle.std.specs.Prelude.{filter}
 use Rattle.std.proofs.lemmas.Bool.{leb-true}
 use Rattle.exh_keyer.specs.Pseudokey.{any_pseudokey}
