@@ -43,8 +43,10 @@ fn push_event(out: &mut Vec<u8>, run: &mut Run, event: &Event) -> Result<(), All
     ensures sound { IsSoundWorld any_pseudokey run.new.world }
     ensures telling { run.new.tells_moves ≡ run.old.tells_moves }
 {
-    let answer = answer_event(run, event)?;
-    push_answer(out, &answer)
+    match answer_event(run, event) {
+        Ok(answer) => push_answer(out, &answer),
+        Err(error) => Err(error),
+    }
 }
 
 // A step that is refused for want of memory has no answer. Pages in memory are never out of reach.
