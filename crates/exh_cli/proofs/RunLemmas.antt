@@ -2,6 +2,7 @@
 use Rattle.std.proofs.Common.{ℕ, List, [], Option, Result, Ok, Err, OnErr, refl, sym, subst, inl, inr}
 use Rattle.std.specs.Prelude.{◌≡◌, ◌⊎◌, IsErr, IsErrAnd}
 use Rattle.std.specs.Io.KnownBytes.{Appends}
+use Rattle.std.proofs.KnownBytes.{Appends-trans}
 use Rattle.exh_stream.specs.Output.{AppendsBeginning}
 use Rattle.exh_stream.specs.OutputLemmas.{AppendsBeginning-after}
 use Rattle.exh_script.specs.Served.{PrintsFront, PrintsLines}
@@ -9,6 +10,13 @@ use Rattle.exh_script.specs.Text.{new_file}
 use Rattle.exh_script.specs.declared.ended.Ended.{Ended}
 use Rattle.exh_script.specs.declared.serve_fault.ServeFault.{ServeFault}
 use Rattle.exh_script.specs.declared.serve_fault.ServeFault.TheVariants.{Write}
+use Rattle.exh_page_file.specs.PageFile.{PageFile}
+use Rattle.exh_report.specs.Lines.{Lines}
+use Rattle.exh_report.specs.Report.{Reports, Tells}
+use Rattle.exh_report.specs.declared.report_fault.ReportFault.{ReportFault}
+use Rattle.exh_report.specs.declared.report_fault.ReportFault.TheVariants as report_fault
+use Rattle.exh_report.specs.declared.verdict.Verdict.{Verdict}
+use Rattle.exh_cli.specs.FileRun.{FileRunPrints}
 use Rattle.exh_cli.specs.Run.{RunPrints, memory_line}
 
 -- what holds at an error, from what implies it
@@ -35,3 +43,28 @@ pub write_fault : (old new unread : Option (List ℕ)) (outcome : Result Ended S
     → RunPrints old new unread (Err Write) → RunPrints old new unread outcome
 write_fault old new unread (Ok ended) is printed = absurd is.1
 write_fault old new unread (Err fault) is printed = subst (λ f. RunPrints old new unread (Err f)) (sym is.1) printed
+
+-- ---- a run about a file
+
+module _ (lines : PageFile → Lines) (known : Option (List ℕ)) where
+  -- what was told before memory ran out, with more behind it
+  tells_more : {prints more begins other : List ℕ → Type 0} → ((text : List ℕ) → prints text → more text)
+      → Tells prints begins lines known (Err report_fault.Memory) → Tells more other lines known (Err report_fault.Memory)
+  tells_more further h = record {
+    finding = h.finding;
+    found = h.found;
+    printed = record { front = h.printed.front; rest = h.printed.rest; split = h.printed.split; text = further _ h.printed.text };
+    verdict = h.verdict;
+  }
+
+  module _ (old mid new : Option (List ℕ)) (told : Reports lines old mid known (Err report_fault.Memory)) where
+    pub last_line_printed : Appends mid new memory_line → FileRunPrints old new lines known (Err report_fault.Memory)
+    last_line_printed line = tells_more (λ text held. Appends-trans old mid new text memory_line held line) told
+
+    pub last_line_cut : AppendsBeginning mid new memory_line → FileRunPrints old new lines known (Err report_fault.Write)
+    last_line_cut line = inr (tells_more (λ text held. AppendsBeginning-after (record { front = text; gone = held; split = refl }) line) told)
+
+  pub file_write_fault : (old new : Option (List ℕ)) (outcome : Result Verdict ReportFault) → IsErr outcome × IsErrAnd outcome (λ fault. fault ≡ report_fault.Write)
+      → FileRunPrints old new lines known (Err report_fault.Write) → FileRunPrints old new lines known outcome
+  file_write_fault old new (Ok verdict) is printed = absurd is.1
+  file_write_fault old new (Err fault) is printed = subst (λ f. FileRunPrints old new lines known (Err f)) (sym is.1) printed

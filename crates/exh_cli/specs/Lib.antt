@@ -3,3 +3,4 @@ pub mod Job
 pub mod Parser
 pub mod Status
 pub mod Run
+pub mod FileRun

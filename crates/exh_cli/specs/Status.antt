@@ -1,5 +1,8 @@
 -- The program's exit status.
 use Rattle.std.specs.Prelude.{ℕ, Result, Ok, Err}
+use Rattle.exh_report.specs.declared.report_fault.ReportFault.{ReportFault}
+use Rattle.exh_report.specs.declared.verdict.Verdict.{Verdict}
+use Rattle.exh_report.specs.declared.verdict.Verdict.TheVariants as verdict
 use Rattle.exh_script.specs.declared.ended.Ended.{Ended}
 use Rattle.exh_script.specs.declared.ended.Ended.TheVariants as ended
 use Rattle.exh_script.specs.declared.serve_fault.ServeFault.{ServeFault}
@@ -13,6 +16,12 @@ abbrev pub run_status : Result Ended ServeFault → Status
 run_status (Ok ended.Done) = Done
 run_status (Ok ended.Refused) = Refused
 run_status (Err stopped) = Refused
+
+-- after a run about a file: it is legal, or refused, or the run was cut off
+abbrev pub file_status : Result Verdict ReportFault → Status
+file_status (Ok verdict.Legal) = Done
+file_status (Ok verdict.Refused) = Refused
+file_status (Err stopped) = Refused
 
 -- where the command line gives no job
 abbrev pub fault_status : CliFault → Status

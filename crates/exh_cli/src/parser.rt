@@ -1,19 +1,38 @@
 //! The parser of the command line, with the texts that a stranger reads.
-ghost use Rattle.std.specs.Prelude.{◌≡◌, IfOk};
+ghost use Rattle.std.specs.Prelude.{◌≡◌, IfOk, codes};
 ghost use Rattle.clap.specs.Words.{app_of, kind_of};
-ghost use Rattle.exh_cli.specs.Parser.{ReadsJobs};
+ghost use Rattle.clap.specs.Simple.{new_shape};
+ghost use Rattle.exh_cli.specs.Parser.{HasOwnArgs, ReadsJobs, about_path, only};
 
-use clap::Command;
+use clap::{Arg, Command};
 use clap::error::{Error, ErrorKind};
 use std::alloc::{AllocError, Global};
 
 /// The command that answers a script.
 pub const SERVE: &str = "serve";
 
+/// The command that says whether a file is a legal page file.
+pub const CHECK: &str = "check";
+
+/// The command that tells what a legal page file has.
+pub const DUMP: &str = "dump";
+
+/// What help calls the path of the file that a command is about.
+pub const PATH: &str = "PATH";
+
 // The program's own, which says nothing of the formats'.
 const VERSION: &str = "0.1.0";
 
 const USAGE: &str = "exhash serve < SCRIPT
+       exhash check PATH
+       exhash dump PATH
+
+Examples:
+  ./exhash serve < examples/untold-copy.script
+  ./exhash check examples/three-pairs.files/three-pairs.exh
+  ./exhash dump examples/three-pairs.files/three-pairs.exh";
+
+const SERVE_USAGE: &str = "exhash serve < SCRIPT
 
 Example:
   ./exhash serve < examples/untold-copy.script";
@@ -73,21 +92,61 @@ refused or breaks off; 2 where the command line is wrong, or asks for help or
 for the version.
 The formats are in docs/FORMATS.md.";
 
+const CHECK_USAGE: &str = "exhash check PATH
+
+Example:
+  ./exhash check examples/three-pairs.files/three-pairs.exh";
+
+const CHECKED: &str = "\
+It prints one line: how much a legal page file has, as
+  legal wards 1 pages 2 live 2 forward 0 records 3 entries 1
+or `refused` and a number, with the block at fault or the reason:
+  30 to 35 at BLOCK  a block isn't what belongs there, the header being block 0
+  36, 37             it is no page file, or one of another version
+  38, 39             it ends early, or goes on behind its last block
+  40 reason R        it isn't legal: 1 a page has too many records, 2 low
+                     bounds, 3 leaves, 4 right links, 5 targets, 6 the table
+  41                 it can't be opened or read
+  10                 memory ends
+
+Exit status: 0 where the file is legal; 1 where it is refused or the run breaks
+off; 2 where the command line is wrong, or asks for help.
+The formats are in docs/FORMATS.md.";
+
+const DUMP_USAGE: &str = "exhash dump PATH
+
+Example:
+  ./exhash dump examples/three-pairs.files/three-pairs.exh";
+
+const DUMPED: &str = "\
+It prints the settings, each ward and its pages, and the table, as
+  file cap=2 wards=0 keyer=plain
+  ward 0 pages 2
+  page 0/0 live prefix 0 right 1 records 2
+  pair #00 a
+  pair @ x
+  page 0/1 live prefix 1 right none records 1
+  pair #80 b
+  entry - number 1 split right 1
+Other files are refused as by `exhash check`; where memory ends the last line is
+`refused 10`.
+
+Exit status: 0 where the file is legal; 1 where it is refused or the run breaks
+off; 2 where the command line is wrong, or asks for help.
+The formats are in docs/FORMATS.md.";
+
 // What holds of every command.
 const ENDS: &str = "\
-Exit status: 0 where the run is done, also with refused lines; 1 where it is
-refused or breaks off; 2 where the command line is wrong, or asks for help or
-for the version.
-`exhash serve --help` has the lines of a script, docs/FORMATS.md the formats.";
+Exit status: 0 where the run is done, also with refused lines, or the file is
+legal; 1 where either is refused or the run breaks off; 2 where the command line
+is wrong, or asks for help or for the version.
+`exhash serve --help` has the lines of a script, `exhash check --help` what is
+said of a file, docs/FORMATS.md the formats.";
 
 /// The parser of the program's command line.
 pub fn parser<'a>(alloc: Global) -> Result<Command<'a>, AllocError>
     ensures { IfOk result (λ parser. ReadsJobs (app_of parser)) }
 {
-    let serve = Command::new(alloc, SERVE)
-        .about("Answers the script on standard input, line by line, on standard output")
-        .after_help(LINES)
-        .override_usage(USAGE);
     let exhash = Command::new(alloc, "exhash")
         .about("An extendible hash file whose directory is copied to several nodes")
         .version(VERSION)
@@ -96,7 +155,48 @@ pub fn parser<'a>(alloc: Global) -> Result<Command<'a>, AllocError>
         .subcommand_required(true)
         .arg_required_else_help(true)
         .bin_name("exhash")?;
-    exhash.subcommand(serve)
+    let check = check(alloc)?;
+    let dump = dump(alloc)?;
+    let serving = exhash.subcommand(serve(alloc))?;
+    let checking = serving.subcommand(check)?;
+    checking.subcommand(dump)
+}
+
+// The parser of `serve`.
+fn serve<'a>(alloc: Global) -> Command<'a>
+    ensures own { HasOwnArgs result }
+    ensures is { app_of result ≡ only (new_shape (codes "serve")) }
+{
+    Command::new(alloc, SERVE)
+        .about("Answers the script on standard input, line by line, on standard output")
+        .after_help(LINES)
+        .override_usage(SERVE_USAGE)
+}
+
+// The parser of `check`.
+fn check<'a>(alloc: Global) -> Result<Command<'a>, AllocError>
+    ensures own { IfOk result HasOwnArgs }
+    ensures is { IfOk result (λ command. app_of command ≡ only (about_path (codes "check"))) }
+{
+    let path = Arg::new(alloc, PATH).required(true);
+    Command::new(alloc, CHECK)
+        .about("Says whether a file is a legal page file")
+        .after_help(CHECKED)
+        .override_usage(CHECK_USAGE)
+        .arg(path)
+}
+
+// The parser of `dump`.
+fn dump<'a>(alloc: Global) -> Result<Command<'a>, AllocError>
+    ensures own { IfOk result HasOwnArgs }
+    ensures is { IfOk result (λ command. app_of command ≡ only (about_path (codes "dump"))) }
+{
+    let path = Arg::new(alloc, PATH).required(true);
+    Command::new(alloc, DUMP)
+        .about("Tells what a legal page file has: pages, pairs and the table")
+        .after_help(DUMPED)
+        .override_usage(DUMP_USAGE)
+        .arg(path)
 }
 
 /// The error of a command line with a word that is not UTF-8.

@@ -1,18 +1,19 @@
 //! The program's exit status.
 ghost use Rattle.std.specs.Prelude.{◌≡◌};
 ghost use Rattle.std.specs.Process.{exit_status};
-ghost use Rattle.exh_cli.specs.Status.{code_of, fault_status, run_status};
+ghost use Rattle.exh_cli.specs.Status.{code_of, fault_status, file_status, run_status};
 
 use crate::fault::CliFault;
+use exh_report::{ReportFault, Verdict};
 use exh_script::{Ended, ServeFault};
 use std::process::ExitCode;
 
 /// How the program ended.
 #[derive(Clone, Copy, Debug, PartialEq, Eq)]
 pub enum Status {
-    /// The run went to its end: 0.
+    /// The run went to its end, and the file that it is about is legal: 0.
     Done,
-    /// The run was refused: 1.
+    /// The run or the file was refused: 1.
     Refused,
     /// The command line names no job: 2.
     WrongWords,
@@ -26,6 +27,16 @@ impl Status {
         match outcome {
             Ok(Ended::Done) => Status::Done,
             Ok(Ended::Refused) | Err(_) => Status::Refused,
+        }
+    }
+
+    /// The status of a run about a file.
+    pub fn of_file(outcome: Result<Verdict, ReportFault>) -> Status
+        ensures { result ≡ file_status outcome }
+    {
+        match outcome {
+            Ok(Verdict::Legal) => Status::Done,
+            Ok(Verdict::Refused) | Err(_) => Status::Refused,
         }
     }
 

@@ -13,6 +13,7 @@ use Rattle.exh_page.specs.KeyMap.{pair_of}
 use Rattle.exh_codec.specs.Cells.{Pair, IsSizedPair, pair_image}
 use Rattle.exh_codec.specs.Head.{head_of, head_bytes, link_number}
 use Rattle.exh_codec.specs.PageImage.{IsInRange, IsPage, used_of, content_of}
+use Rattle.exh_codec.specs.PageImageLemmas.{few_records}
 use Rattle.exh_codec.proofs.PutPairs.{length-pair_image}
 
 pub length-head_bytes : (head : Head) → length (head_bytes head) ≡ 16
@@ -49,10 +50,6 @@ pub live_in_range : (version : Version) (prefix : List Bool) (right : Option ℕ
     → AllByRecursion IsSizedPair (map pair_of records) → IsInRange version (Live prefix right records)
 live_in_range version prefix right records head is short small sized =
     (subst (λ (h : Head). h.prefix_len ≤ version.limit) is short, link_in_range right (subst (λ (h : Head). h.link < 2 ^ 32) is small), sized)
-
-few_records : (version : Version) (pseudo : List ℕ → ℕ) (page : Page) → IsPage version pseudo page → length (records_of page) ≤ 16
-few_records version pseudo (Live prefix right records) page = page.formed.1
-few_records version pseudo (Forward low target) page = omega arith
 
 -- a content fills a block up to its digest
 pub length-content_of : (version : Version) (pseudo : List ℕ → ℕ) (page : Page) → IsPage version pseudo page → length (content_of page) ≡ 4064

@@ -3,6 +3,7 @@ pub mod ImageFault
 pub mod Head
 pub mod Cells
 pub mod PageImage
+pub mod PageImageLemmas
 pub mod BlockLemmas
 pub mod ImageTests
 pub mod ReadPages

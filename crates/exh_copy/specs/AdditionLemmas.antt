@@ -13,7 +13,7 @@ use Rattle.exh_table.specs.Table.{TableMap, IsTableOf, raised, greater_of, told_
 use Rattle.exh_table.specs.TableOrder.{IsOptionUpTo, IsTableUpTo, table_join}
 use Rattle.exh_table.specs.TableLemmas.{joined, get-table_join, same_table, same_from_tie, table_laws}
 use Rattle.exh_table.specs.RaisedLemmas.{get-raised}
-use Rattle.exh_table.specs.SetLemmas.{union_is_join, one_more, own_entries}
+use Rattle.exh_table.specs.SetLemmas.{joined_none, union_is_join, one_more, own_entries}
 use Rattle.exh_copy.specs.declared.addition.Addition.{Addition}
 use Rattle.exh_copy.specs.declared.addition.Addition.TheVariants.{Take, Combine}
 use Rattle.exh_copy.specs.Additions.{added, table_after, told_in, BeginsWith}
@@ -60,10 +60,6 @@ pub table_after_of : (start : TableMap) (additions : List Addition) → IsTableO
 table_after_of start additions = fold_of (entries start) start additions (own_entries start)
 
 -- ---- the table that a copy begins with
-
-joined_none : (other : Option Entry) → joined None other ≡ other
-joined_none None = refl
-joined_none (Some entry) = refl
 
 pub join_empty : (table : TableMap) → table_join empty table ≡ table
 join_empty table = same_table (table_join empty table) table (λ prefix. get-table_join empty table prefix ∙ ap (λ none. joined none (get table prefix)) (get-empty prefix_cmp prefix) ∙ joined_none (get table prefix))

@@ -2,9 +2,7 @@
 use Rattle.std.proofs.Common.{◌≡◌, ℕ, zero, suc, ◌+◌, ◌<◌, ◌%◌, Bool, true, false, cond, List, [], ◌∷◌, ◌++◌, length, slice_get, Option, None, Some, inl, inr, refl, sym, ap, ◌∙◌, subst, arith}
 use Rattle.std.specs.FinMap as fin
 use Rattle.std.specs.Option.{option_map_or}
-use Rattle.std.specs.Ordering.{is_eq, eq_by_cmp}
-use Rattle.std.specs.declared.cmp.Ordering.{Ordering}
-use Rattle.std.specs.declared.cmp.Ordering.TheVariants.{Less, Equal, Greater}
+use Rattle.std.specs.Ordering.{eq_by_cmp}
 use Rattle.std.proofs.lemmas.Bool.{cases_Bool, false≢true}
 use Rattle.exh_prefix.specs.declared.prefix.TheConstants.{LIMIT}
 use Rattle.exh_prefix.specs.Prefix.{low_of, prefix_cmp}
@@ -21,6 +19,7 @@ use Rattle.exh_page.specs.Page.{low_bound}
 use Rattle.exh_legal.specs.Change.{IsSplit}
 use Rattle.exh_legal.specs.Fit.{FitsPages, IsMergeAt, IsWardEntry}
 use Rattle.exh_legal.specs.Laws.{FittingTablesBeginWards, IsChanged, IsWard, LonePagesAreLegal, SplitsKeepLegal}
+use Rattle.exh_prefix.specs.ListLemmas.{is_equal}
 use Rattle.exh_prefix.specs.LowLemmas.{own_front, right_above}
 use Rattle.exh_legal.specs.Numbers.{number_at}
 use Rattle.exh_legal.specs.Pages.{IsAt}
@@ -34,11 +33,6 @@ abbrev is_some : Option Entry → Bool
 is_some None = false
 is_some (Some entry) = true
 
-tie_of : (o : Ordering) → is_eq o ≡ true → o ≡ Equal
-tie_of Less tied = cc
-tie_of Equal tied = refl
-tie_of Greater tied = cc
-
 -- ---- the table: one entry, at the ward's prefix
 
 abbrev pub told : List Bool → ℕ → TableMap
@@ -49,7 +43,7 @@ module _ (own : List Bool) where
   is_own prefix = eq_by_cmp prefix_cmp prefix own
 
   own_is : (prefix : List Bool) → is_own prefix ≡ true → prefix ≡ own
-  own_is prefix tied = prefix_cmp-exact prefix own (tie_of (prefix_cmp prefix own) tied)
+  own_is prefix tied = prefix_cmp-exact prefix own (is_equal (prefix_cmp prefix own) tied)
 
   get_told : (number : ℕ) (prefix : List Bool) → fin.get (told own number) prefix ≡ cond (is_own prefix) (Some (entry_of_split number)) None
   get_told number prefix =

@@ -18,9 +18,9 @@ use Rattle.exh_page.specs.declared.page.Page.TheVariants.{Live, Forward}
 use Rattle.exh_page.specs.Page.{IsLive, low_bound}
 use Rattle.exh_legal.specs.Fit.{FitsPages}
 use Rattle.exh_legal.specs.Growth.{IsLiveAt, IsPageOf, HasEntryEver, IsGrown}
-use Rattle.exh_prefix.specs.LowLemmas.{begins_own_low, front_of_longer, front_shorter, low_of-small, own_front, right_above}
+use Rattle.exh_prefix.specs.LowLemmas.{begins_own_low, front_of_longer, front_shorter, low_of-small, own_front, right_above, front_of_child, same_front}
 use Rattle.exh_legal.specs.Pages.{IsAt, AreLinked}
-use Rattle.exh_legal.proofs.SplitFit.{front_of_child, kind_of_entry, same_front, split_from_entry}
+use Rattle.exh_legal.proofs.SplitFit.{kind_of_entry, split_from_entry}
 use Rattle.exh_prefix.specs.ListLemmas.{one_there}
 use Rattle.exh_legal.proofs.Walks.{live_home, walk_ends}
 

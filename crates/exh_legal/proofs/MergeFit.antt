@@ -19,8 +19,7 @@ use Rattle.exh_legal.specs.Change.{IsForwardOf}
 use Rattle.exh_legal.specs.Growth.{IsLiveAt, IsPageOf}
 use Rattle.exh_legal.specs.Fit.{parity_of, IsWardEntry, IsSplitAt, IsMergeAt, IsProperFront, IsInner, FitsPages}
 use Rattle.exh_legal.specs.Numbers.{number_at}
-use Rattle.exh_prefix.specs.LowLemmas.{own_front, begins_own_low, front_shorter, front_of_longer, right_tells_parent}
-use Rattle.exh_legal.proofs.SplitFit.{front_of_child, same_front}
+use Rattle.exh_prefix.specs.LowLemmas.{own_front, begins_own_low, front_shorter, front_of_longer, right_tells_parent, front_of_child, same_front}
 use Rattle.exh_legal.proofs.MergeLinks.{IsJoined, short, became, was, stays, home_is_half, parent_in_ward}
 use Rattle.exh_legal.proofs.TableSteps.{cases_prefix, get_with_same, get_with_other}
 

@@ -1,12 +1,11 @@
 -- A merge leaves the pages linked.
-use Rattle.std.proofs.Common.{◌≡◌, ℕ, ◌+◌, ◌-◌, ◌<◌, ◌≤◌, ◌^◌, Bool, true, false, List, [], ◌∷◌, ◌++◌, length, take, drop, slice_get, Option, None, Some, ◌⊎◌, inl, inr, refl, sym, ap, ◌∙◌, subst, arith}
+use Rattle.std.proofs.Common.{◌≡◌, ℕ, ◌+◌, ◌<◌, ◌≤◌, ◌^◌, Bool, true, false, List, [], ◌∷◌, ◌++◌, length, slice_get, Option, None, Some, ◌⊎◌, inl, inr, refl, sym, ap, ◌∙◌, subst, arith}
 use Rattle.std.proofs.lemmas.Bool.{cases_eq, cases_lt, false≢true}
-use Rattle.std.proofs.lemmas.List.{length_push, same_from_push, take-append-drop, drop-replicate, take_all, take-append-le}
-use Rattle.std.proofs.Math.Seq.{drop-append-add}
+use Rattle.std.proofs.lemmas.List.{length_push, same_from_push, take_all, take-append-le}
 use Rattle.exh_prefix.specs.declared.prefix.TheConstants.{LIMIT}
 use Rattle.exh_prefix.specs.Bits.{word_bits}
-use Rattle.exh_prefix.specs.Prefix.{zeros, IsFront, Begins, HasPrefix, low_of}
-use Rattle.exh_prefix.specs.PrefixLemmas.{word_bits-low_of, child_of_begun, parent_begins, front_of_front, begins_low, lowest_cleared-right_child}
+use Rattle.exh_prefix.specs.Prefix.{IsFront, Begins, low_of}
+use Rattle.exh_prefix.specs.PrefixLemmas.{child_of_begun, parent_begins, front_of_front, begins_low, lowest_cleared-right_child}
 use Rattle.exh_page.specs.declared.page.Page.{Page}
 use Rattle.exh_page.specs.declared.page.Page.TheVariants.{Live, Forward}
 use Rattle.exh_page.specs.Page.{IsLive, low_bound}

@@ -13,7 +13,7 @@ use Rattle.exh_prefix.specs.PrefixLemmas.{begins_low, low_of-product, low_of-sto
 use Rattle.exh_page.specs.declared.page.Page.{Page}
 use Rattle.exh_page.specs.declared.page.Page.TheVariants.{Live, Forward}
 use Rattle.exh_page.specs.Page.{low_bound}
-use Rattle.exh_legal.specs.Pages.{IsAt, IsWithin, AreLinked}
+use Rattle.exh_legal.specs.Pages.{IsAt, IsWithin}
 use Rattle.exh_prefix.specs.LowLemmas.{front_shorter, begins_own_low, low_of-small}
 
 -- ---- numbers that differ, one a page

@@ -3,7 +3,7 @@ use Rattle.std.proofs.Common.{◌≡◌, ℕ, ◌+◌, ◌<◌, ◌≤◌, ◌%�
 use Rattle.std.specs.FinMap as fin
 use Rattle.std.specs.Option.{option_map_or}
 use Rattle.std.proofs.lemmas.Bool.{cases_eq}
-use Rattle.std.proofs.lemmas.List.{length_push, take-append-le, take_all}
+use Rattle.std.proofs.lemmas.List.{length_push}
 use Rattle.exh_prefix.specs.declared.prefix.TheConstants.{LIMIT}
 use Rattle.exh_prefix.specs.Prefix.{IsFront, Begins, low_of}
 use Rattle.exh_prefix.specs.PrefixLemmas.{front_of_front}
@@ -20,19 +20,10 @@ use Rattle.exh_legal.specs.Change.{IsForwardOf}
 use Rattle.exh_legal.specs.Growth.{IsLiveAt, IsPageOf}
 use Rattle.exh_legal.specs.Fit.{parity_of, IsWardEntry, IsSplitAt, IsMergeAt, IsProperFront, IsInner, FitsPages}
 use Rattle.exh_legal.specs.Numbers.{number_at}
-use Rattle.exh_prefix.specs.LowLemmas.{own_front, begins_own_low, front_shorter, front_of_longer, right_tells_parent}
+use Rattle.exh_prefix.specs.LowLemmas.{own_front, begins_own_low, front_shorter, front_of_longer, right_tells_parent, front_of_child, same_front}
 use Rattle.exh_prefix.specs.ListLemmas.{one_there}
 use Rattle.exh_legal.proofs.SplitLinks.{IsParted, became, stays, live_elsewhere}
 use Rattle.exh_legal.proofs.TableSteps.{cases_prefix, get_with_same, get_with_other}
-
--- ---- fronts
-
--- a front of a prefix with one bit more is the front of the prefix, or all of it
-pub front_of_child : (front prefix : List Bool) (bit : Bool) → IsFront front (prefix ++ bit ∷ []) → length front ≤ length prefix → IsFront front prefix
-front_of_child front prefix bit is short = sym (take-append-le (length front) prefix (bit ∷ []) short) ∙ is
-
-pub same_front : (front bits : List Bool) → IsFront front bits → length front ≡ length bits → front ≡ bits
-same_front front bits is same = sym is ∙ take_all (length front) bits (omega (arith, same))
 
 -- ---- what two live pages begin
 

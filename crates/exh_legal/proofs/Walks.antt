@@ -17,9 +17,9 @@ use Rattle.exh_legal.specs.Pages.{IsAt, IsHome, AreLinked}
 use Rattle.exh_legal.specs.Growth.{IsLiveAt, IsPageOf, IsGrown}
 use Rattle.exh_legal.specs.Fit.{IsInner, FitsPages}
 use Rattle.exh_legal.specs.Laws.{NamesHome}
-use Rattle.exh_prefix.specs.LowLemmas.{own_front, front_shorter, front_of_longer, left_keeps}
+use Rattle.exh_prefix.specs.LowLemmas.{own_front, front_shorter, front_of_longer, left_keeps, same_front}
 use Rattle.exh_prefix.specs.ListLemmas.{one_there}
-use Rattle.exh_legal.proofs.SplitFit.{same_front, no_inner}
+use Rattle.exh_legal.proofs.SplitFit.{no_inner}
 
 pub live_home : (pages : List Page) (number : ℕ) (page : Page) (pseudokey : ℕ) → IsAt pages number page → IsHome page pseudokey → (prefix : List Bool) × IsLiveAt pages prefix number × Begins prefix pseudokey
 live_home pages number (Live prefix right records) pseudokey is home = (prefix, (right, records, is), home)

@@ -49,6 +49,20 @@ page_full pages low number is =
 pub page_bare : (pages : List Page) (low number : ℕ) → IsPageOf pages low number → IsPageOf (bare pages) low number
 page_bare pages low number is = (with_records [] is.0, bare_at pages number is.0 is.1, bare_low is.0 ∙ is.2)
 
+-- ---- live and forwarding pages
+
+pub bare_live : (page : Page) → IsLive page → IsLive (with_records [] page)
+bare_live (Live prefix right records) live = live
+bare_live (Forward low target) live = live
+
+pub live_of_bare : (page : Page) → IsLive (with_records [] page) → IsLive page
+live_of_bare (Live prefix right records) live = live
+live_of_bare (Forward low target) live = live
+
+pub forward_of_bare : (page : Page) (low target : ℕ) → Forward low target ≡ with_records [] page → page ≡ Forward low target
+forward_of_bare (Live prefix right records) low target same = cc
+forward_of_bare (Forward bound to) low target same = sym same
+
 -- ---- homes
 
 pub home_bare : (page : Page) (pseudokey : ℕ) → IsHome page pseudokey → IsHome (with_records [] page) pseudokey

@@ -1,13 +1,9 @@
--- What a hop adds to both ledgers.
+-- What hops and calls add to both ledgers.
 use Rattle.std.specs.Prelude.{ℕ, Result, Ok, Err}
-use Rattle.exh_ward.specs.declared.hop.Hop.{Hop}
-use Rattle.exh_ward.specs.declared.hop.Hop.TheVariants.{Done, Moved, MustSplit, Stray}
-use Rattle.exh_ward.specs.declared.ward_fault.WardFault.{WardFault}
+use Rattle.exh_calls.specs.declared.reply.Reply.{Reply}
+use Rattle.exh_walk.specs.declared.ask_fault.AskFault.{AskFault}
 
--- a hop that answers adds one unit, any other none
-abbrev pub units_of : Result Hop WardFault → ℕ
-units_of (Ok (Done reply)) = 1
-units_of (Ok (Moved next)) = 0
-units_of (Ok MustSplit) = 0
-units_of (Ok Stray) = 0
+-- an answered call adds one unit, any other none
+abbrev pub units_of : Result Reply AskFault → ℕ
+units_of (Ok reply) = 1
 units_of (Err fault) = 0

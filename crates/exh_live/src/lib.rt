@@ -8,6 +8,7 @@ pub use ledgers::{ANSWER_PARTS, Answers, ENTRY_PARTS, Entries, LedgerNames};
 pub use live_file::LiveFile;
 pub use seat::{NoSeat, Seat};
 
+mod ask;
 mod close;
 mod identity;
 mod ledgers;

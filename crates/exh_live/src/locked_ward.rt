@@ -1,7 +1,6 @@
-ghost use Rattle.std.specs.Prelude.{◌≡◌, ◌+◌, ◌<◌, IfErr};
+ghost use Rattle.std.specs.Prelude.{◌≡◌, ◌+◌, ◌<◌, length};
 ghost use Rattle.exh_calls.specs.Call.{key_of};
-ghost use Rattle.exh_ward.specs.WardFault.{IsStoreFault};
-ghost use Rattle.exh_live.specs.Units.{units_of};
+ghost use Rattle.exh_route.specs.WardRun.{answer_of};
 
 use crate::Identity;
 use crate::ledgers::Answers;
@@ -12,34 +11,58 @@ use exh_frames::Pages;
 use exh_keyer::Keyer;
 use exh_notice::Notice;
 use exh_prefix::PageNo;
+use exh_walk::Steps;
 use exh_ward::{Hop, WardFault};
 use std::sync::ledger::Share;
 use std::sync::{Mutex, Wait};
 
-/// A ward behind its lock, for one call of one caller. The lock is taken once for each hop and each
-/// split.
+/// A ward behind its lock, for one call of one caller, whose share of the answers it has meanwhile.
+/// The lock is taken once for each hop and each split.
 pub(crate) struct LockedWard<'a, P: Pages + Drop, K: Keyer, F: Identity, R: Wait> {
-    rt: &'a R,
-    ward: &'a Mutex<TalliedWard<P, K, F>>,
-    tally: &'a Mutex<Tally<F>>,
-    answers: Share<Answers<F>>,
+    pub(crate) rt: &'a R,
+    pub(crate) ward: &'a Mutex<TalliedWard<P, K, F>>,
+    pub(crate) tally: &'a Mutex<Tally<F>>,
+    pub(crate) answers: Share<Answers<F>>,
+    // That of the call's key.
+    pub(crate) pseudokey: u64,
+    ghost one_part: { answers.parts ≡ 1 },
 }
 
 impl<'a, P: Pages + Drop, K: Keyer, F: Identity, R: Wait> LockedWard<'a, P, K, F, R> {
-    /// One locked hop: `Stray` for a key that the ward doesn't cover, which its lock can't tell.
-    pub(crate) fn hop(
+    /// The caller's share of the answers.
+    pub(crate) fn into_answers(self) -> Share<Answers<F>>
+        ensures part { result.parts ≡ 1 }
+        ensures amount { result.amount ≡ self.entry.answers.amount }
+    {
+        let LockedWard {
+            rt: _,
+            ward: _,
+            tally: _,
+            answers,
+            pseudokey: _,
+        } = self;
+        answers
+    }
+}
+
+// An answer is one unit more, and nothing else is any.
+impl<'a, P: Pages + Drop, K: Keyer, F: Identity, R: Wait> Steps for LockedWard<'a, P, K, F, R> {
+    ghost step = { λ old event new. new.answers.amount ≡ old.answers.amount + length (answer_of event) };
+
+    ghost serves = { λ ward call pseudokey. (pseudokey ≡ ward.pseudokey) × (pseudokey ≡ F.hashing (key_of call)) };
+
+    fn pseudokey(&self, _call: &Call) -> u64 {
+        self.pseudokey
+    }
+
+    // `Stray` for a key that the ward doesn't cover, which its lock can't tell.
+    fn hop(
         &mut self,
         at: PageNo,
         client: u32,
         call: &Call,
         pseudokey: u64,
-    ) -> Result<Hop, WardFault>
-        requires hashed { pseudokey ≡ F.hashing (key_of call.now) }
-        requires seat { 0 < self.old.answers.parts }
-        ensures units { self.new.answers.amount ≡ self.old.answers.amount + units_of result }
-        ensures seat { self.new.answers.parts ≡ self.old.answers.parts }
-        ensures fault { IfErr result IsStoreFault }
-    {
+    ) -> Result<Hop, WardFault> {
         let mut ward = self.ward.lock(self.rt);
         if !ward.covers(pseudokey) {
             return Ok(Hop::Stray);
@@ -55,11 +78,7 @@ impl<'a, P: Pages + Drop, K: Keyer, F: Identity, R: Wait> LockedWard<'a, P, K, F
         )
     }
 
-    /// One locked split, which adds no unit.
-    pub(crate) fn split(&mut self, page: PageNo) -> Result<Notice, WardFault>
-        ensures units { self.new.answers.amount ≡ self.old.answers.amount }
-        ensures seat { self.new.answers.parts ≡ self.old.answers.parts }
-    {
-        self.ward.lock(self.rt).split(page)
+    fn split(&mut self, at: PageNo) -> Result<Notice, WardFault> {
+        self.ward.lock(self.rt).split(at)
     }
 }

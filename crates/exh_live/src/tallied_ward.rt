@@ -5,7 +5,7 @@ ghost use Rattle.exh_ward.specs.HopTable.{HopOf};
 ghost use Rattle.exh_ward.specs.SplitStep.{IsSplitStep};
 ghost use Rattle.exh_ward.specs.WardFault.{IsStoreFault, SplitRefused};
 ghost use Rattle.exh_ward.specs.WardState.{IsUnchanged, LeavesAfter, own_prefix};
-ghost use Rattle.exh_live.specs.Units.{units_of};
+ghost use Rattle.exh_route.specs.WardRun.{HopAt, answer_of};
 
 use crate::Identity;
 use crate::ledgers::{Answers, Entries};
@@ -78,7 +78,7 @@ impl<P: Pages + Drop, K: Keyer, F: Identity> TalliedWard<P, K, F> {
         ensures leaves { IfOk result (λ hop. LeavesAfter K.pseudokey_of self.old.ward at client call.now hop self.new.ward) }
         ensures err { OnErr result (IsUnchanged self.old.ward self.new.ward) }
         ensures fault { IfErr result IsStoreFault }
-        ensures units { answers.new.amount ≡ answers.old.amount + units_of result }
+        ensures units { answers.new.amount ≡ answers.old.amount + length (answer_of (HopAt at client call.now result)) }
         ensures seat { answers.new.parts ≡ answers.old.parts }
     {
         let TalliedWard { ward, entries } = self;

@@ -23,6 +23,13 @@ front_shorter (first ∷ front) (bit ∷ bits) is =
 pub front_of_longer : (front bits more : List Bool) → IsFront front bits → IsFront front (bits ++ more)
 front_of_longer front bits more is = take-append-le (length front) bits more (front_shorter front bits is) ∙ is
 
+-- a front of bits with one bit more is a front of the bits, or all of it
+pub front_of_child : (front bits : List Bool) (bit : Bool) → IsFront front (bits ++ bit ∷ []) → length front ≤ length bits → IsFront front bits
+front_of_child front bits bit is short = sym (take-append-le (length front) bits (bit ∷ []) short) ∙ is
+
+pub same_front : (front bits : List Bool) → IsFront front bits → length front ≡ length bits → front ≡ bits
+same_front front bits is same = sym is ∙ take_all (length front) bits (omega (arith, same))
+
 pub low_of-small : (prefix : List Bool) → length prefix ≤ LIMIT → low_of prefix < 2 ^ 64
 low_of-small prefix short = low_of-word prefix (omega arith)
 

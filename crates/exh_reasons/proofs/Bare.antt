@@ -8,6 +8,7 @@ use Rattle.exh_page.specs.Page.{IsLive, low_bound, with_records}
 use Rattle.exh_legal.specs.BareLemmas.{at_bare, bare_at, bare_low}
 use Rattle.exh_legal.specs.Fit.{IsInner, FitsPages}
 use Rattle.exh_legal.specs.Growth.{IsLiveAt, IsPageOf}
+use Rattle.exh_legal.specs.PlaceLemmas.{bare_live, forward_of_bare, home_bare, home_full, live_of_bare}
 use Rattle.exh_legal.specs.Pages.{IsAt, IsHome, IsRightOf, IsRightLink, IsTarget, bare}
 
 pub bare_bare : (pages : List Page) → bare (bare pages) ≡ bare pages
@@ -25,31 +26,11 @@ live_twin (Live own link held) prefix right is =
     (held, λ i. Live (own_is i) (link_is i) held)
 live_twin (Forward low target) prefix right is = cc
 
-pub forward_twin : (twin : Page) (low target : ℕ) → Forward low target ≡ with_records [] twin → twin ≡ Forward low target
-forward_twin (Live own link held) low target is = cc
-forward_twin (Forward own to) low target is = sym is
-
-pub bare_live : (page : Page) → IsLive page → IsLive (with_records [] page)
-bare_live (Live prefix right records) is = is
-bare_live (Forward low target) is = is
-
-pub live_bare : (page : Page) → IsLive (with_records [] page) → IsLive page
-live_bare (Live prefix right records) is = is
-live_bare (Forward low target) is = is
-
 pub same_live : (page twin : Page) → with_records [] page ≡ with_records [] twin → IsLive page → IsLive twin
-same_live page twin same is = live_bare twin (subst IsLive same (bare_live page is))
-
-pub bare_home : (page : Page) (pseudokey : ℕ) → IsHome page pseudokey → IsHome (with_records [] page) pseudokey
-bare_home (Live prefix right records) pseudokey is = is
-bare_home (Forward low target) pseudokey is = is
-
-pub home_bare : (page : Page) (pseudokey : ℕ) → IsHome (with_records [] page) pseudokey → IsHome page pseudokey
-home_bare (Live prefix right records) pseudokey is = is
-home_bare (Forward low target) pseudokey is = is
+same_live page twin same is = live_of_bare twin (subst IsLive same (bare_live page is))
 
 pub same_home : (page twin : Page) (pseudokey : ℕ) → with_records [] page ≡ with_records [] twin → IsHome page pseudokey → IsHome twin pseudokey
-same_home page twin pseudokey same is = home_bare twin pseudokey (subst (λ p. IsHome p pseudokey) same (bare_home page pseudokey is))
+same_home page twin pseudokey same is = home_full twin pseudokey (subst (λ p. IsHome p pseudokey) same (home_bare page pseudokey is))
 
 -- the page of the same number, but for its records
 pub twin_at : (one other : List Page) → bare one ≡ bare other → (number : ℕ) (page : Page) → IsAt one number page → (twin : Page) × IsAt other number twin × (with_records [] page ≡ with_records [] twin)
@@ -64,7 +45,7 @@ live_at one other alike prefix number is =
 pub forward_at : (one other : List Page) → bare one ≡ bare other → (number low target : ℕ) → IsAt one number (Forward low target) → IsAt other number (Forward low target)
 forward_at one other alike number low target is =
     let twin = twin_at one other alike number _ is in
-    subst (IsAt other number) (forward_twin twin.0 low target twin.2) twin.1
+    subst (IsAt other number) (forward_of_bare twin.0 low target twin.2) twin.1
 
 pub page_of : (one other : List Page) → bare one ≡ bare other → (low number : ℕ) → IsPageOf one low number → IsPageOf other low number
 page_of one other alike low number is =

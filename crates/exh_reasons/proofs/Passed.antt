@@ -20,7 +20,8 @@ use Rattle.exh_legal.specs.Pages.{IsAt, IsHome, IsLegal, IsLegalPage, IsLinkedPa
 use Rattle.exh_reasons.specs.FileParts.{IsBounded}
 use Rattle.exh_reasons.specs.Laws.{AreFormed}
 use Rattle.exh_reasons.specs.Reasons.{KeepsCap, HasLows, HasLeaves, HasLinks, HasTargets}
-use Rattle.exh_reasons.proofs.Bare.{bare_bare, bare_home, bare_live, home_bare, link_to, live_bare, target_to}
+use Rattle.exh_legal.specs.PlaceLemmas.{bare_live, home_bare, home_full, live_of_bare}
+use Rattle.exh_reasons.proofs.Bare.{bare_bare, link_to, target_to}
 
 -- ---- numbers that are too great for a pseudokey have its greatest bits
 
@@ -90,11 +91,11 @@ module _ {pseudo : List ℕ → ℕ} {ward : List Bool} {pages : List Page} (sho
       within = λ number page is. let full = at_bare pages number page is in subst (IsWithin ward) (sym full.2) (bare_within number full.0 full.1);
       home = λ pseudokey small begins.
           let found = leaves.home pseudokey small begins in
-          (found.0, with_records [] found.1, bare_at pages found.0 found.1 found.2, bare_home found.1 pseudokey found.3);
+          (found.0, with_records [] found.1, bare_at pages found.0 found.1 found.2, home_bare found.1 pseudokey found.3);
       one_home = λ pseudokey one other page twin is too home twin_home.
           let full = at_bare pages one page is in
           let more = at_bare pages other twin too in
-          only_home pseudokey one other full.0 more.0 full.1 more.1 (home_bare full.0 pseudokey (subst (λ p. IsHome p pseudokey) full.2 home)) (home_bare more.0 pseudokey (subst (λ p. IsHome p pseudokey) more.2 twin_home));
+          only_home pseudokey one other full.0 more.0 full.1 more.1 (home_full full.0 pseudokey (subst (λ p. IsHome p pseudokey) full.2 home)) (home_full more.0 pseudokey (subst (λ p. IsHome p pseudokey) more.2 twin_home));
       links = λ number page is. let full = at_bare pages number page is in subst (IsLinkedPage (bare pages)) (sym full.2) (page_linked number full.0 full.1);
     }
 
@@ -145,7 +146,7 @@ module _ {cap : ℕ} {pseudo : List ℕ → ℕ} {ward : List Bool} {pages : Lis
   pub to_lows : HasLows ward pages
   to_lows = record {
     first = let full = at_bare pages 0 linked.first.0 linked.first.1 in
-        (full.0, full.1, live_bare full.0 (subst IsLive full.2 linked.first.2), sym (bare_low full.0) ∙ sym (ap low_bound full.2) ∙ linked.first.3);
+        (full.0, full.1, live_of_bare full.0 (subst IsLive full.2 linked.first.2), sym (bare_low full.0) ∙ sym (ap low_bound full.2) ∙ linked.first.3);
     within = begun_low;
     apart = λ one other page twin is too same. linked.apart one other (with_records [] page) (with_records [] twin) (bare_page one page is) (bare_page other twin too) (bare_low page ∙ same ∙ sym (bare_low twin));
   }
@@ -156,9 +157,9 @@ module _ {cap : ℕ} {pseudo : List ℕ → ℕ} {ward : List Bool} {pages : Lis
     home = λ pseudokey small begins.
         let found = linked.home pseudokey small begins in
         let full = at_bare pages found.0 found.1 found.2 in
-        (found.0, full.0, full.1, home_bare full.0 pseudokey (subst (λ p. IsHome p pseudokey) full.2 found.3));
+        (found.0, full.0, full.1, home_full full.0 pseudokey (subst (λ p. IsHome p pseudokey) full.2 found.3));
     one_home = λ pseudokey small begins one other page twin is too home twin_home.
-        linked.one_home pseudokey one other (with_records [] page) (with_records [] twin) (bare_page one page is) (bare_page other twin too) (bare_home page pseudokey home) (bare_home twin pseudokey twin_home);
+        linked.one_home pseudokey one other (with_records [] page) (with_records [] twin) (bare_page one page is) (bare_page other twin too) (home_bare page pseudokey home) (home_bare twin pseudokey twin_home);
   }
 
   pub to_links : HasLinks pages

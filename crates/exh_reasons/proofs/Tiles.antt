@@ -1,12 +1,12 @@
 -- Live pages in the order of their low bounds, each beginning where the one before ends.
 use Rattle.std.proofs.Common.{◌≡◌, ℕ, ◌-◌, ◌<◌, ◌≤◌, ◌^◌, Bool, true, false, cond, ◌&&◌, leb, eqb, List, [], ◌∷◌, map, length, Option, None, Some, ◌⊎◌, inl, inr, refl, sym, ap, ◌∙◌, subst, arith}
 use Rattle.std.specs.BTreeMap.{is_at}
-use Rattle.std.specs.Cmp.{nat_cmp_is}
 use Rattle.std.specs.List.{AllByRecursion, slice_get}
 use Rattle.std.specs.List.Sorted.{IsStrictlySortedBy}
 use Rattle.std.specs.Option.{option_map_or}
 use Rattle.std.specs.Ordering.{nat_cmp}
-use Rattle.std.specs.declared.cmp.Ordering.TheVariants.{Less, Equal, Greater}
+use Rattle.std.specs.declared.cmp.Ordering.TheVariants.{Less}
+use Rattle.std.proofs.lemmas.Cmp.{ranked}
 use Rattle.std.proofs.lemmas.Bool.{cases_eq, eqb-true, le-leb, leb-true, eq-eqb}
 use Rattle.std.proofs.lemmas.Bool.Decides.{leb_tells}
 use Rattle.std.proofs.lemmas.Nat.{pow_pos}
@@ -58,16 +58,6 @@ end_above prefix = omega (arith, pow_pos (64 - length prefix))
 
 pub end_small : (prefix : List Bool) → length prefix ≤ LIMIT → end_of prefix ≤ 2 ^ 64
 end_small prefix short = low_of-lt prefix (omega (arith, short))
-
--- one key below another
-pub less_is : (key other : ℕ) → nat_cmp key other ≡ Less → key < other
-less_is key other is = elim (leb_tells other key) [
-  | inl more ↦ elim (cases_eq key other) [
-    | inl same ↦ let clash : Less ≡ Equal = sym is ∙ sym (nat_cmp_is key other Equal same) in cc
-    | inr differ ↦ let clash : Less ≡ Greater = sym is ∙ sym (nat_cmp_is key other Greater (omega (arith, more.1, differ))) in cc
-  ]
-  | inr less ↦ less.1
-]
 
 -- ---- one page more
 
@@ -265,14 +255,14 @@ module _ (pages : List Page) (bounded : (number : ℕ) (page : Page) → IsAt pa
 above_found : (key : ℕ) (entries : List (ℕ × ℕ)) → AllByRecursion (λ y. nat_cmp key y ≡ Less) (map (λ e. e.0) entries) → (low number : ℕ) → page_at entries low ≡ Some number → key < low
 above_found key [] all low number is = cc
 above_found key (entry ∷ entries) all low number is = elim (cases_eq low entry.0) [
-  | inl same ↦ omega (arith, less_is key entry.0 all.0, same)
+  | inl same ↦ omega (arith, ranked key entry.0 Less (sym all.0), same)
   | inr differ ↦ above_found key entries all.1 low number (sym (ap (λ b. cond b (Some entry.1) (page_at entries low)) (at_other low entry.0 differ)) ∙ is)
 ]
 
 above_listed : (pages : List Page) (key : ℕ) (entries : List (ℕ × ℕ)) → AllByRecursion (λ y. nat_cmp key y ≡ Less) (map (λ e. e.0) entries) → AreRising pages entries → (number : ℕ) (page : Page) → IsListed pages entries number page → key < low_bound page
 above_listed pages key [] all rising number page is = absurd is.among
 above_listed pages key (entry ∷ entries) all rising number page is = elim (listed_cases pages entry entries rising.0.0 rising.0.1 number page is) [
-  | inl first ↦ omega (arith, less_is key entry.0 all.0, ap low_bound first.1, rising.0.2)
+  | inl first ↦ omega (arith, ranked key entry.0 Less (sym all.0), ap low_bound first.1, rising.0.2)
   | inr rest ↦ above_listed pages key entries all.1 rising.2 number page rest
 ]
 

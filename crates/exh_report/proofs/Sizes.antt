@@ -7,9 +7,9 @@ use Rattle.std.proofs.lemmas.List.Elements.{All-from_recursion}
 use Rattle.std.proofs.lemmas.List.Sums.{sum_by-cons}
 use Rattle.exh_page.specs.Page.{records_of}
 use Rattle.exh_page.specs.declared.page.Page.{Page}
-use Rattle.exh_page.specs.declared.page.Page.TheVariants.{Live, Forward}
 use Rattle.exh_prefix.specs.Version.{Version}
 use Rattle.exh_codec.specs.PageImage.{IsPage}
+use Rattle.exh_codec.specs.PageImageLemmas.{few_records}
 use Rattle.exh_file.specs.FileVersion.{first_file}
 use Rattle.exh_file.specs.HeaderImage.{IsPageCount}
 use Rattle.exh_page_file.specs.FileParts.{file_of, pages_in}
@@ -38,10 +38,6 @@ module _ (bits : ℕ) where
 all_pages : (wards : List (Vec Page Global)) → AllByRecursion (λ ward. length ward.items < 2 ^ 32) wards → length (pages_in wards) ≤ 2 ^ 32 * length wards
 all_pages [] all = omega arith
 all_pages (ward ∷ wards) all = omega (arith, length-append ward.items (pages_in wards), all.0, all_pages wards all.1)
-
-few_records : (version : Version) (pseudo : List ℕ → ℕ) (page : Page) → IsPage version pseudo page → length (records_of page) ≤ 16
-few_records version pseudo (Live prefix right records) is = is.formed.1
-few_records version pseudo (Forward low target) is = omega arith
 
 all_records : (version : Version) (pseudo : List ℕ → ℕ) (pages : List Page) → AllByRecursion (IsPage version pseudo) pages → record_count pages ≤ 16 * length pages
 all_records version pseudo [] all = omega arith

@@ -1,5 +1,5 @@
 -- A distance is what the function gives.
-use Rattle.std.proofs.Common.{◌≡◌, ℕ, zero, suc, ◌+◌, ◌<◌, Bool, List, [], ◌∷◌, length, Some, slice_get, refl, sym, ap, ◌∙◌, subst, arith}
+use Rattle.std.proofs.Common.{◌≡◌, ℕ, zero, suc, ◌+◌, ◌<◌, Bool, List, [], ◌∷◌, length, refl, sym, ap, ◌∙◌, subst, arith}
 use Rattle.std.specs.Option.{option_map_or}
 use Rattle.exh_prefix.specs.declared.prefix.TheConstants.{LIMIT}
 use Rattle.exh_page.specs.declared.page.Page.{Page}

@@ -24,7 +24,7 @@ use Rattle.exh_legal.specs.Change.{IsForwardOf}
 use Rattle.exh_legal.specs.Fit.{FitsPages, IsInner, IsMergeAt}
 use Rattle.exh_legal.specs.Growth.{IsGrown, IsLiveAt}
 use Rattle.exh_legal.specs.Laws.{IsBelow, IsWard}
-use Rattle.exh_prefix.specs.LowLemmas.{begins_own_low, front_of_longer, front_shorter, left_keeps, own_front}
+use Rattle.exh_prefix.specs.LowLemmas.{begins_own_low, front_of_longer, front_shorter, left_keeps, own_front, same_front}
 use Rattle.exh_legal.specs.Pages.{IsAt, IsHome, AreLinked, bare}
 use Rattle.exh_route.specs.Distance.{IsDistance, IsForwarded, is_live_between, live_between}
 use Rattle.exh_route.specs.DistanceLaws.{IsDistanceUpTo, IsTableWithin, NamesPages}
@@ -32,7 +32,7 @@ use Rattle.exh_route.specs.Laws.{GetsGoHome}
 use Rattle.exh_route.proofs.ChangedDistances.{between_tells}
 use Rattle.exh_route.proofs.CoveredPages.{count_covered, more_below}
 use Rattle.exh_route.proofs.LateWalks.{IsStop, walk_stops}
-use Rattle.exh_route.proofs.LaterNotices.{AnyNotice, IsChangeAt, IsSplitNotice, any_such, told_later, same_front, split_above, leaves_after-append}
+use Rattle.exh_route.proofs.LaterNotices.{AnyNotice, IsChangeAt, IsSplitNotice, any_such, told_later, split_above, leaves_after-append}
 use Rattle.exh_route.proofs.Links.{apart, first_page, target_cleared, ward_few}
 use Rattle.exh_prefix.specs.ListLemmas.{one_there}
 use Rattle.exh_route.proofs.WalkDistances.{none_from_home}

@@ -13,9 +13,8 @@ use Rattle.exh_table.specs.Table.{TableMap}
 use Rattle.exh_table.specs.Walk.{split_at, step, walk_in, walk_on}
 use Rattle.exh_page.specs.declared.page.Page.{Page}
 use Rattle.exh_legal.specs.Growth.{IsPageOf}
-use Rattle.exh_prefix.specs.LowLemmas.{front_of_longer, front_shorter, left_keeps, own_front}
+use Rattle.exh_prefix.specs.LowLemmas.{front_of_longer, front_shorter, left_keeps, own_front, front_of_child, same_front}
 use Rattle.exh_route.specs.DistanceLaws.{NamesPages}
-use Rattle.exh_route.proofs.LaterNotices.{front_of_push, same_front}
 
 -- the page that it stops at is that of its prefix's low bound; the table has a split at each proper front of it, and none there
 pub record IsStop (ward : List Bool) (pages : List Page) (table : TableMap) (pseudokey : ℕ) (stop : Leaf) : Type 0 where
@@ -45,7 +44,7 @@ module _ (ward : List Bool) (pages : List Page) (table : TableMap) (pseudokey : 
   passed_more : (at : List Bool) (bit : Bool) (right : ℕ) → split_at table at ≡ Some right → Passed at → Passed (at ++ bit ∷ [])
   passed_more at bit right split passed prefix within front less =
       let long : length (at ++ bit ∷ []) ≡ length at + 1 = length_push at bit in
-      let front_at = front_of_push prefix at bit front (omega (arith, long, less)) in
+      let front_at = front_of_child prefix at bit front (omega (arith, long, less)) in
       elim (cases_eq (length prefix) (length at)) [
         | inl same ↦ (right, ap (split_at table) (same_front prefix at front_at same) ∙ split)
         | inr differs ↦ passed prefix within front_at (omega (arith, differs, long, less))

@@ -1,8 +1,8 @@
 -- What notices tell that an earlier table lacks.
-use Rattle.std.proofs.Common.{◌≡◌, ◌≢◌, ℕ, zero, suc, ◌<◌, ◌≤◌, Bool, true, false, List, [], ◌∷◌, ◌++◌, length, map, take, Option, None, Some, Contains, get_or, ◌⊎◌, inl, inr, refl, sym, ap, ◌∙◌, subst, arith}
+use Rattle.std.proofs.Common.{◌≡◌, ◌≢◌, ℕ, zero, suc, ◌<◌, Bool, true, false, List, [], ◌∷◌, ◌++◌, length, map, take, Option, None, Some, Contains, get_or, ◌⊎◌, inl, inr, refl, sym, ap, ◌∙◌, subst, arith}
 use Rattle.std.specs.FinMap.{entries}
 use Rattle.std.proofs.lemmas.Bool.{cases_eq}
-use Rattle.std.proofs.lemmas.List.{append_assoc, map-append, take-append-le, take_all, length_push}
+use Rattle.std.proofs.lemmas.List.{append_assoc, map-append, take-append-le, length_push}
 use Rattle.std.proofs.lemmas.List.Elements.{Contains-append_left, Contains-append_cases}
 use Rattle.exh_prefix.specs.Prefix.{IsFront}
 use Rattle.exh_prefix.specs.PrefixLemmas.{front_of_front}
@@ -14,7 +14,7 @@ use Rattle.exh_notice.specs.EntryLemmas.{entry_laws}
 use Rattle.exh_table.specs.Leaves.{PrefixSet, after_kind, leaves_after}
 use Rattle.exh_table.specs.Table.{TableMap, IsEntryOf, IsGreatest, told_by}
 use Rattle.exh_table.specs.Walk.{right_of_kind}
-use Rattle.exh_prefix.specs.LowLemmas.{front_shorter, own_front}
+use Rattle.exh_prefix.specs.LowLemmas.{front_shorter, own_front, same_front}
 
 -- one of the notices is such a one
 abbrev pub AnyNotice : (Notice → Type 0) → List Notice → Type 0
@@ -68,12 +68,6 @@ module _ (start : TableMap) (taken later : List Notice) (prefix : List Bool) whe
 
 -- ---- fronts
 
-pub same_front : (one other : List Bool) → IsFront one other → length one ≡ length other → one ≡ other
-same_front one other front same = sym front ∙ take_all (length one) other (omega (arith, same))
-
-pub front_of_push : (front bits : List Bool) (bit : Bool) → IsFront front (bits ++ bit ∷ []) → length front ≤ length bits → IsFront front bits
-front_of_push front bits bit is short = sym (take-append-le (length front) bits (bit ∷ []) short) ∙ is
-
 -- the next bit after a proper front
 next_front : (front bits : List Bool) → IsFront front bits → length front < length bits → (bit : Bool) × IsFront (front ++ bit ∷ []) bits
 next_front [] [] is less = absurd (omega arith)
@@ -117,15 +111,15 @@ split_there leaves at prefix leaf right is front differs = elim (same_or_not lea
   | inr else ↦ (leaf, inl (is, else), front)
 ]
 
-front_of_child : (at prefix leaf : List Bool) (bit : Bool) → leaf ≡ at ++ bit ∷ [] → IsFront leaf prefix → IsFront at prefix
-front_of_child at prefix leaf bit is front =
+front_of_leaf : (at prefix leaf : List Bool) (bit : Bool) → leaf ≡ at ++ bit ∷ [] → IsFront leaf prefix → IsFront at prefix
+front_of_leaf at prefix leaf bit is front =
     front_of_front at (at ++ bit ∷ []) prefix (omega (arith, length_push at bit)) (take-append-le (length at) at (bit ∷ []) (omega arith) ∙ own_front at) (subst (λ leaf. IsFront leaf prefix) is front)
 
 merge_there : (leaves : PrefixSet) (at prefix leaf : List Bool) → leaves leaf → IsFront leaf prefix → HasFront (after_kind leaves at Merge) prefix
 merge_there leaves at prefix leaf is front = elim (same_or_not leaf (at ++ false ∷ [])) [
-  | inl left ↦ (at, inr refl, front_of_child at prefix leaf false left front)
+  | inl left ↦ (at, inr refl, front_of_leaf at prefix leaf false left front)
   | inr not_left ↦ elim (same_or_not leaf (at ++ true ∷ [])) [
-    | inl right ↦ (at, inr refl, front_of_child at prefix leaf true right front)
+    | inl right ↦ (at, inr refl, front_of_leaf at prefix leaf true right front)
     | inr not_right ↦ (leaf, inl (is, λ bit. elim bit as (λ bit. leaf ≢ at ++ bit ∷ []) [ true ↦ not_right | false ↦ not_left ]), front)
   ]
 ]

@@ -12,16 +12,8 @@ use Rattle.exh_page.specs.Page.{IsLive, low_bound, with_records}
 use Rattle.exh_legal.specs.BareLemmas.{bare_at, at_bare, bare_low}
 use Rattle.exh_prefix.specs.LowLemmas.{front_shorter}
 use Rattle.exh_legal.specs.Pages.{IsAt, IsHome, IsWithin, IsRightLink, AreLinked, bare}
-use Rattle.exh_legal.specs.PlaceLemmas.{home_bare, home_between, home_of_low}
+use Rattle.exh_legal.specs.PlaceLemmas.{bare_live, home_bare, home_between, home_of_low, live_of_bare}
 use Rattle.exh_prefix.specs.ListLemmas.{one_there}
-
-pub live_full : (page : Page) → IsLive (with_records [] page) → IsLive page
-live_full (Live prefix right records) live = live
-live_full (Forward low target) live = live
-
-pub live_bare : (page : Page) → IsLive page → IsLive (with_records [] page)
-live_bare (Live prefix right records) live = live
-live_bare (Forward low target) live = live
 
 within_full : (ward : List Bool) (page : Page) → IsWithin ward (with_records [] page) → IsWithin ward page
 within_full ward (Live prefix right records) within = within
@@ -54,7 +46,7 @@ module _ (ward : List Bool) (pages : List Page) (linked : AreLinked ward (bare p
   first_page =
       let first = linked.first in
       let full = at_bare pages 0 first.0 first.1 in
-      (full.0, full.1, live_full full.0 (subst IsLive full.2 first.2), sym (bare_low full.0) ∙ sym (ap low_bound full.2) ∙ first.3)
+      (full.0, full.1, live_of_bare full.0 (subst IsLive full.2 first.2), sym (bare_low full.0) ∙ sym (ap low_bound full.2) ∙ first.3)
 
   pub ward_few : length ward ≤ LIMIT
   ward_few = let first = first_page in ward_short ward first.0 (within_at 0 first.0 first.1) first.2
@@ -99,10 +91,10 @@ module _ (ward : List Bool) (pages : List Page) (linked : AreLinked ward (bare p
         full.0,
         record {
           there = full.1;
-          live = live_full full.0 (subst IsLive full.2 link.1.live);
+          live = live_of_bare full.0 (subst IsLive full.2 link.1.live);
           greater = omega (arith, link.1.greater, low_is);
           least = λ other beyond is live above.
-              omega (arith, low_is, bare_low beyond, link.2 other (with_records [] beyond) (record { there = bare_at pages other beyond is; live = live_bare beyond live; greater = omega (arith, above, bare_low beyond) }));
+              omega (arith, low_is, bare_low beyond, link.2 other (with_records [] beyond) (record { there = bare_at pages other beyond is; live = bare_live beyond live; greater = omega (arith, above, bare_low beyond) }));
         },
       )
 
@@ -111,7 +103,7 @@ module _ (ward : List Bool) (pages : List Page) (linked : AreLinked ward (bare p
 
   none_from : (prefix : List Bool) (records : List Record) → IsRightLink (bare pages) (Live prefix None []) None → (other : ℕ) (beyond : Page) → IsAt pages other beyond → IsLive beyond → low_of prefix < low_bound beyond → ⊥
   none_from prefix records none other beyond is live above =
-      none other (with_records [] beyond) (record { there = bare_at pages other beyond is; live = live_bare beyond live; greater = omega (arith, above, bare_low beyond) })
+      none other (with_records [] beyond) (record { there = bare_at pages other beyond is; live = bare_live beyond live; greater = omega (arith, above, bare_low beyond) })
 
   -- a live page without a right link is the last
   pub last_live : (number : ℕ) (prefix : List Bool) (records : List Record) → IsAt pages number (Live prefix None records) → (other : ℕ) (beyond : Page) → IsAt pages other beyond → IsLive beyond → low_of prefix < low_bound beyond → ⊥

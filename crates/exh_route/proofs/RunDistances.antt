@@ -5,7 +5,7 @@ use Rattle.std.proofs.lemmas.Option.{slice_get_within}
 use Rattle.exh_prefix.specs.Prefix.{Begins}
 use Rattle.exh_notice.specs.declared.notice.Notice.{Notice}
 use Rattle.exh_page.specs.declared.page.Page.{Page}
-use Rattle.exh_page.specs.declared.page.Page.TheVariants.{Live, Forward}
+use Rattle.exh_page.specs.declared.page.Page.TheVariants.{Forward}
 use Rattle.exh_page.specs.Laws.{AreOfWords}
 use Rattle.exh_page.specs.Page.{IsLive, low_bound, with_records}
 use Rattle.exh_legal.specs.BareLemmas.{bare_at, at_bare, bare_low}
@@ -25,29 +25,24 @@ use Rattle.exh_route.specs.WardRun.{WardEvent, HopAt, SplitAt, MergeAt, WardStep
 use Rattle.exh_ward.specs.AnswerLemmas.{bare_answered}
 use Rattle.exh_route.proofs.ChangedDistances.{AreKeptBut, cut_or_kept, none_more_counted, stayed, split_adds_one, merge_adds_one}
 use Rattle.exh_route.proofs.GoHome.{moved_below}
-use Rattle.exh_route.proofs.Links.{live_full, live_bare}
 use Rattle.exh_route.proofs.StepPlaces.{step_places}
-use Rattle.exh_legal.specs.PlaceLemmas.{below_kept}
+use Rattle.exh_legal.specs.PlaceLemmas.{bare_live, below_kept, forward_of_bare, live_of_bare}
 use Rattle.exh_route.proofs.StepOneMap.{stepped}
 
 -- ---- records don't matter
-
-forward_full : (page : Page) (low target : ℕ) → Forward low target ≡ with_records [] page → page ≡ Forward low target
-forward_full (Live prefix right records) low target same = cc
-forward_full (Forward bound to) low target same = sym same
 
 module _ (pages new : List Page) (same : bare pages ≡ bare new) where
   forward_at : (number low target : ℕ) → IsAt pages number (Forward low target) → IsAt new number (Forward low target)
   forward_at number low target is =
       let there = subst (λ pages. IsAt pages number (Forward low target)) same (bare_at pages number (Forward low target) is) in
       let full = at_bare new number (Forward low target) there in
-      subst (IsAt new number) (forward_full full.0 low target full.2) full.1
+      subst (IsAt new number) (forward_of_bare full.0 low target full.2) full.1
 
   live_at : (number : ℕ) (page : Page) → IsAt pages number page → IsLive page → (after : Page) × IsAt new number after × IsLive after × (low_bound after ≡ low_bound page)
   live_at number page is live =
       let there = subst (λ pages. IsAt pages number (with_records [] page)) same (bare_at pages number page is) in
       let full = at_bare new number (with_records [] page) there in
-      (full.0, full.1, live_full full.0 (subst IsLive full.2 (live_bare page live)), sym (bare_low full.0) ∙ sym (ap low_bound full.2) ∙ bare_low page)
+      (full.0, full.1, live_of_bare full.0 (subst IsLive full.2 (bare_live page live)), sym (bare_low full.0) ∙ sym (ap low_bound full.2) ∙ bare_low page)
 
 module _ (pages new : List Page) (same : bare pages ≡ bare new) where
   -- no page is beyond the last

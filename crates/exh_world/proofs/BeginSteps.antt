@@ -1,5 +1,5 @@
 -- What beginning a request leaves of the world.
-use Rattle.std.proofs.Common.{◌≡◌, ℕ, ◌-◌, ◌^◌, ◌<◌, ◌≤◌, List, [], ◌∷◌, ◌++◌, length, get_or, slice_get, Option, None, Some, false, inl, inr, refl, sym, ap, ◌∙◌, subst, arith}
+use Rattle.std.proofs.Common.{◌≡◌, ℕ, ◌-◌, ◌^◌, ◌<◌, ◌≤◌, List, [], ◌∷◌, ◌++◌, length, get_or, slice_get, Option, None, Some, false, refl, sym, ap, ◌∙◌, subst, arith}
 use Rattle.std.specs.Prelude.{is_some, slice_set}
 use Rattle.std.proofs.lemmas.Option.{get_or_from_slice_get, slice_get_read, slice_get_within}
 use Rattle.exh_prefix.specs.declared.prefix.TheConstants.{WARD_BITS_LIMIT}
@@ -27,7 +27,7 @@ use Rattle.exh_prefix.specs.Leading.{ward_of}
 use Rattle.exh_world.specs.World.{WorldState, changes_in, numbered}
 use Rattle.exh_world.specs.declared.request.Request.{Request}
 use Rattle.exh_world.specs.declared.world.World.TheInside.{Inside}
-use Rattle.exh_world.proofs.InsideWorld.{world_of}
+use Rattle.exh_world.proofs.InsideWorld.{with_ward, world_of}
 use Rattle.exh_world.proofs.StepSound.{after_begun}
 
 pub none_there : (request : Option Request) → is_some request ≡ false → request ≡ None
@@ -36,10 +36,6 @@ none_there (Some request) is = cc
 
 abbrev pub with_requests : {P K : Type 0} → Inside P K → Requests → WorldState K
 with_requests i requests = record (world_of i) { in_flight = requests }
-
--- the world with a ward as a call left it, and these requests
-abbrev pub with_ward : {P K : Type 0} → Inside P K → ℕ → WardState K → Requests → WorldState K
-with_ward i at left requests = record (world_of i) { wards = slice_set i.wards.items at left; in_flight = requests }
 
 -- a page that is there is refused for a fault of the store alone
 store_refusal : (pages : List Page) (number : ℕ) (page : Page) → IsAt pages number page → (fault : WardFault) → PageRefused pages number fault → IsStoreFault fault

@@ -1,5 +1,5 @@
 -- The answers of a run from a sound world are bounded.
-use Rattle.std.proofs.Common.{◌≡◌, ℕ, ◌≤◌, List, [], ◌∷◌, Some, Result, Ok, Err, refl, sym, ap, ◌∙◌, subst, arith}
+use Rattle.std.proofs.Common.{◌≡◌, ℕ, List, [], ◌∷◌, Result, Ok, Err, refl, sym, ap, subst, arith}
 use Rattle.std.specs.List.{AllByRecursion}
 use Rattle.std.specs.Option.{option_map_or}
 use Rattle.exh_prefix.specs.ListLemmas.{AllByRecursion-append}
@@ -7,7 +7,7 @@ use Rattle.exh_world.specs.EffectLemmas.{on_effect}
 use Rattle.exh_world.specs.Moves.{IsBounded}
 use Rattle.exh_world.specs.Progress.{bound_in}
 use Rattle.exh_world.specs.RequestLemmas.{all_named}
-use Rattle.exh_world.specs.Run.{Moment, IsRun, Answered, answered_by, answered_at, answered_in}
+use Rattle.exh_world.specs.Run.{Moment, IsRun, answered_by, answered_at, answered_in}
 use Rattle.exh_world.specs.Sound.{IsOnTheWay, IsSoundWorld}
 use Rattle.exh_world.specs.Step.{HasHopped, HasEffect, Step}
 use Rattle.exh_world.specs.World.{WorldState}

@@ -22,15 +22,11 @@ use Rattle.exh_world.specs.declared.outcome.Outcome.TheVariants.{Hopped}
 use Rattle.exh_world.specs.declared.progress.Progress.{Progress}
 use Rattle.exh_world.specs.declared.request.Request.{Request}
 use Rattle.exh_world.specs.declared.world.World.TheInside.{Inside}
-use Rattle.exh_world.proofs.InsideWorld.{world_of}
+use Rattle.exh_world.proofs.InsideWorld.{with_ward, world_of}
 use Rattle.exh_world.specs.RequestLemmas.{all_named}
 use Rattle.exh_world.proofs.HoppedSound.{moved_nearer}
 use Rattle.exh_world.proofs.SoundKept.{count_of}
 use Rattle.exh_world.proofs.WardsLeft.{wards_left}
-
--- the world that a struct holds, with one ward left so by a step
-abbrev pub with_ward : {P K : Type 0} → Inside P K → ℕ → WardState K → Requests → WorldState K
-with_ward i at left requests = record (world_of i) { wards = slice_set i.wards.items at left; in_flight = requests }
 
 -- what a hop comes to tells the hop
 pub hop_of_progress : (hop : Hop) (moves bound : ℕ) → hop_in (progress_with hop moves bound) ≡ hop

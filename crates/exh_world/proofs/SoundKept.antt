@@ -1,5 +1,5 @@
 -- A world stays sound where one of its wards changes and every page keeps its number and low bound.
-use Rattle.std.proofs.Common.{◌≡◌, ℕ, ◌+◌, ◌-◌, ◌≤◌, Bool, true, List, [], ◌∷◌, ◌++◌, length, drop, slice_get, Option, Some, inl, inr, refl, sym, ap, ◌∙◌, subst, arith}
+use Rattle.std.proofs.Common.{◌≡◌, ℕ, ◌+◌, ◌-◌, Bool, true, List, [], ◌∷◌, ◌++◌, length, drop, slice_get, Option, Some, inl, inr, sym, ap, ◌∙◌, subst, arith}
 use Rattle.std.specs.Prelude.{slice_set, ◌↔◌}
 use Rattle.std.proofs.lemmas.Bool.{cases_eq}
 use Rattle.std.proofs.lemmas.List.{length-set, length-drop}
@@ -20,7 +20,6 @@ use Rattle.exh_ward.specs.WardState.{WardState}
 use Rattle.exh_route.specs.Distance.{IsDistance}
 use Rattle.exh_route.specs.DistanceLaws.{IsDistanceUpTo}
 use Rattle.exh_world.specs.InFlight.{Requests}
-use Rattle.exh_world.specs.Progress.{bound_in}
 use Rattle.exh_world.specs.Sound.{LeadsRight, IsWardOf, LeadsRightIn, IsOnTheWay, IsSoundWorld}
 use Rattle.exh_world.specs.World.{WorldState, changes_in}
 use Rattle.exh_world.specs.declared.request.Request.{Request}

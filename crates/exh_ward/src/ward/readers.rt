@@ -15,7 +15,7 @@ use exh_frames::Pages;
 use exh_keyer::Keyer;
 use exh_legal::{pages_are_few, walks_name_homes};
 use exh_notice::Notice;
-use exh_page::Page;
+use exh_page::{Key, Page};
 use exh_prefix::PageNo;
 use exh_table::Table;
 
@@ -92,6 +92,13 @@ impl<P: Pages + Drop, K: Keyer> Ward<P, K> {
             return Err(WardFault::NoPage);
         }
         Ok(PageLine::of(self.store.lend(number)?))
+    }
+
+    /// The pseudokey that the ward's keyer makes of a key. It takes no memory.
+    pub fn pseudokey(&self, key: &Key) -> u64
+        ensures { result ≡ K.pseudokey_of self.now.keyer key.now }
+    {
+        self.keyer.pseudo(key.as_bytes())
     }
 
     /// The calls that were answered, in order, with their callers and replies: a history from the

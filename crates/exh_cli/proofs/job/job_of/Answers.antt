@@ -1,30 +1,8 @@
-use Rattle.std.proofs.Common.{rules, ◌≡◌, ◌∙◌, Some, map, ap, refl, codes}
-use Rattle.std.specs.Prelude.{option_map}
+use Rattle.std.proofs.Common.{rules, ◌≡◌, ◌∙◌, Some, None, map, ap, sym, codes}
 use Rattle.clap.specs.Words.{app_of}
-use Rattle.exh_cli.specs.Job.{command_of}
-use Rattle.exh_cli.specs.declared.job.Job.{Job}
-use Rattle.exh_cli.specs.declared.job.Job.TheVariants.{Serve}
-use Rattle.exh_cli.proofs.ParserLemmas.{parse_meets, version_told}
+use Rattle.exh_cli.specs.Job.{Named}
+use Rattle.exh_cli.proofs.ParserLemmas.{IsJobMet, checks, dumps, met_is, parse_meets, serves, some_met, version_told}
 use Rattle.exh_cli.proofs.job.job_of.Goals as goal
-use Rattle.exh_cli.proofs.job.job_of.Goals.{in_default-via-in-Some+in_default, in_default-via-in_default}
-
-only_serve : (job : Job) → job ≡ Serve
-only_serve Serve = refl
-
-pub unreachable-requires : goal.unreachable-requires
-unreachable-requires g c =
-    let parser = c.in_ok-parser.field-0 in
-    let parse = c.in_ok-matches.ensures in
-    let met = parse_meets (app_of parser) (map g.S.AsStr.text c.args.words.now) c.in_ok-matches.matches c.in_ok-parser.ensures (parse.kinds c.in_ok-parser.ensures.exact) parse.matches in
-    let name : option_map (λ s. s.now) c.subcommand_name.result ≡ Some (codes "serve") = c.subcommand_name.ensures ∙ (met.1.1 ∙ ap (λ job. Some (command_of job)) (only_serve met.0)) in
-    elim c.in_default.branch [ in_default-via-in-Some+in_default w ↦ search rules | in_default-via-in_default w ↦ search rules ]
-
-pub returns-clause-named : goal.returns-clause-named
-returns-clause-named g c =
-    let parser = c.in_ok-parser.field-0 in
-    let parse = c.in_ok-matches.ensures in
-    let met = parse_meets (app_of parser) (map g.S.AsStr.text c.args.words.now) c.in_ok-matches.matches c.in_ok-parser.ensures (parse.kinds c.in_ok-parser.ensures.exact) parse.matches in
-    met.1.0 ∙ ap (λ job. Some job) (only_serve met.0)
 
 pub returns-in_err-matches-clause-version : goal.returns-in_err-matches-clause-version
 returns-in_err-matches-clause-version g c =
@@ -32,3 +10,32 @@ returns-in_err-matches-clause-version g c =
     let words = map g.S.AsStr.text c.args.words.now in
     version_told (app_of parser) words c.in_err-matches.field-0.0 c.in_ok-parser.ensures (c.in_err-matches.ensures.kinds c.in_ok-parser.ensures.exact)
     c.from_residual-in_err-matches.result c.from_residual-in_err-matches.ensures.1
+
+pub unreachable-requires : goal.unreachable-requires
+unreachable-requires g c =
+    let parse = c.in_ok-matches.ensures in
+    let met = parse_meets (app_of c.in_ok-parser.field-0) (map g.S.AsStr.text c.args.words.now) c.in_ok-matches.matches c.in_ok-parser.ensures (parse.kinds c.in_ok-parser.ensures.exact) parse.matches in
+    some_met c.in_ok-matches.matches met.0 c.in_default.ensures.name met.1.1
+
+pub returns-in_default-get_str-clause-named : goal.returns-in_default-get_str-clause-named
+returns-in_default-get_str-clause-named g c =
+    let parse = c.in_ok-matches.ensures in
+    let met = parse_meets (app_of c.in_ok-parser.field-0) (map g.S.AsStr.text c.args.words.now) c.in_ok-matches.matches c.in_ok-parser.ensures (parse.kinds c.in_ok-parser.ensures.exact) parse.matches in
+    let own = met_is c.in_ok-matches.matches c.in-Some.command.now c.in-Some.own.now None met.0 c.in-Some.ensures.name c.in-Some.ensures.rows c.in_default-get_str.ensures met.1.1 in
+    met.1.0 ∙ ap (λ job. Some job) (serves met.0 (sym own.1))
+
+pub returns-in-check-clause-named : goal.returns-in-check-clause-named
+returns-in-check-clause-named g c =
+    let parse = c.in_ok-matches.ensures in
+    let met = parse_meets (app_of c.in_ok-parser.field-0) (map g.S.AsStr.text c.args.words.now) c.in_ok-matches.matches c.in_ok-parser.ensures (parse.kinds c.in_ok-parser.ensures.exact) parse.matches in
+    let path = c.in-Some-get_str.path.now in
+    let own = met_is c.in_ok-matches.matches c.in-Some.command.now c.in-Some.own.now (Some path) met.0 c.in-Some.ensures.name c.in-Some.ensures.rows c.in-Some-get_str.ensures met.1.1 in
+    met.1.0 ∙ ap (λ job. Some job) (checks met.0 path (sym own.1) (sym c.in-check.is ∙ own.0))
+
+pub returns-clause-named : goal.returns-clause-named
+returns-clause-named g c =
+    let parse = c.in_ok-matches.ensures in
+    let met = parse_meets (app_of c.in_ok-parser.field-0) (map g.S.AsStr.text c.args.words.now) c.in_ok-matches.matches c.in_ok-parser.ensures (parse.kinds c.in_ok-parser.ensures.exact) parse.matches in
+    let path = c.in-Some-get_str.path.now in
+    let own = met_is c.in_ok-matches.matches c.in-Some.command.now c.in-Some.own.now (Some path) met.0 c.in-Some.ensures.name c.in-Some.ensures.rows c.in-Some-get_str.ensures met.1.1 in
+    met.1.0 ∙ ap (λ job. Some job) (dumps met.0 path (sym own.1) (λ same. c.in_default-command.not-check (own.0 ∙ sym same)))

@@ -3,10 +3,9 @@ use Rattle.std.proofs.lemmas.List.{length_push}
 use Rattle.exh_prefix.specs.Prefix.{IsFront, low_of}
 use Rattle.exh_legal.specs.BareLemmas.{bare_at}
 use Rattle.exh_legal.specs.Fit.{IsSplitAt}
-use Rattle.exh_prefix.specs.LowLemmas.{own_front, front_of_longer}
+use Rattle.exh_prefix.specs.LowLemmas.{own_front, front_of_longer, front_of_child}
 use Rattle.exh_legal.proofs.MergeFit.{odd_at}
 use Rattle.exh_legal.proofs.Siblings.{live_is_page}
-use Rattle.exh_legal.proofs.SplitFit.{front_of_child}
 use Rattle.exh_legal.proofs.laws.live_left_children_merge.Goals as goal
 use Rattle.exh_legal.specs.PlaceLemmas.{page_full}
 

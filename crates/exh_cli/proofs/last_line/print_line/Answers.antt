@@ -1,6 +1,6 @@
 use Rattle.exh_stream.specs.OutputLemmas.{Takes-cut}
 use Rattle.exh_cli.proofs.RunLemmas.{OnErr-weaker}
-use Rattle.exh_cli.proofs.run.print_out_of_memory.Goals as goal
+use Rattle.exh_cli.proofs.last_line.print_line.Goals as goal
 
 pub returns-clause-err : goal.returns-clause-err
 returns-clause-err g c =

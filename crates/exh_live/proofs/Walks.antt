@@ -1,0 +1,73 @@
+-- The units that a walk adds: one where it is answered, else none.
+use Rattle.std.proofs.Common.{◌≡◌, ℕ, ◌+◌, List, [], ◌∷◌, length, Result, Ok, Err, Option, Some, None, Bool, refl, sym, ap, ◌∙◌, subst, arith}
+use Rattle.exh_notice.specs.declared.notice.Notice.{Notice}
+use Rattle.exh_calls.specs.declared.call.Call.{Call}
+use Rattle.exh_calls.specs.declared.reply.Reply.{Reply}
+use Rattle.exh_ward.specs.declared.hop.Hop.{Hop}
+use Rattle.exh_ward.specs.declared.hop.Hop.TheVariants.{Done, Moved, MustSplit, Stray}
+use Rattle.exh_ward.specs.declared.ward_fault.WardFault.{WardFault}
+use Rattle.exh_route.specs.WardRun.{WardEvent, HopAt, SplitAt, MergeAt, answer_of}
+use Rattle.exh_walk.specs.declared.ask_fault.AskFault.{AskFault}
+use Rattle.exh_walk.specs.Walk.{Due, HopDue, SplitDue, Over, IsRun, AreDue, IsWhatWasDue, IsEnd, IsWalked, after_fault, fault_at, due_after, due_from, hops_in}
+use Rattle.exh_live.specs.Units.{units_of}
+
+-- the answers among events
+abbrev answers_among : List WardEvent → ℕ
+answers_among [] = 0
+answers_among (event ∷ earlier) = answers_among earlier + length (answer_of event)
+
+module _ {S : Type 0} (step : S → WardEvent → S → Type 0) (amount : S → ℕ) (adds : (old new : S) (event : WardEvent) → step old event new → amount new ≡ amount old + length (answer_of event)) where
+  added : (old new : S) (events : List WardEvent) → IsRun step old events new → amount new ≡ amount old + answers_among events
+  added old new [] run = ap amount run ∙ omega arith
+  added old new (event ∷ earlier) run =
+      let before = added old run.0 earlier run.1 in
+      let last = adds run.0 new event run.2 in
+      omega (arith, before, last)
+
+-- one where a call is answered, with nothing to come
+abbrev units_due : Due → ℕ
+units_due (HopDue page) = 0
+units_due (SplitDue page) = 0
+units_due (Over result) = units_of result
+
+no_units_after : (page : ℕ) (fault : Option AskFault) → units_due (after_fault page fault) ≡ 0
+no_units_after page None = refl
+no_units_after page (Some fault) = refl
+
+hop_units : (page client : ℕ) (call : Call) (result : Result Hop WardFault) → length (answer_of (HopAt page client call result)) ≡ units_due (due_after (HopAt page client call result))
+hop_units page client call (Ok (Done reply)) = refl
+hop_units page client call (Ok (Moved next)) = refl
+hop_units page client call (Ok MustSplit) = refl
+hop_units page client call (Ok Stray) = refl
+hop_units page client call (Err fault) = sym (no_units_after page (fault_at fault))
+
+split_units : (page : ℕ) (result : Result Notice WardFault) → length (answer_of (SplitAt page result)) ≡ units_due (due_after (SplitAt page result))
+split_units page (Ok notice) = refl
+split_units page (Err fault) = sym (no_units_after page (fault_at fault))
+
+last_units : (client : ℕ) (call : Call) (due : Due) (event : WardEvent) → IsWhatWasDue client call due event → (units_due due ≡ 0) × (length (answer_of event) ≡ units_due (due_after event))
+last_units client call (HopDue page) event was = (refl, subst (λ e. length (answer_of e) ≡ units_due (due_after e)) (sym was.1) (hop_units page client call was.0))
+last_units client call (SplitDue page) event was = (refl, subst (λ e. length (answer_of e) ≡ units_due (due_after e)) (sym was.1) (split_units page was.0))
+last_units client call (Over result) event was = absurd was
+
+units_so_far : (at client : ℕ) (call : Call) (events : List WardEvent) → AreDue at client call events → answers_among events ≡ units_due (due_from at events)
+units_so_far at client call [] due = refl
+units_so_far at client call (event ∷ earlier) due =
+    let before = units_so_far at client call earlier due.0 in
+    let last = last_units client call (due_from at earlier) event due.1 in
+    omega (arith, before, last.0, last.1)
+
+end_units : (may : ℕ → Bool → Type 0) (due : Due) (turns : ℕ) (result : Result Reply AskFault) → IsEnd may due turns result → units_due due ≡ units_of result
+end_units may (Over over) turns result end = ap units_of (sym end)
+end_units may (HopDue page) turns result end = ap units_of (sym end.0)
+end_units may (SplitDue page) turns result end = absurd end
+
+-- the amount grows by what the walk adds
+pub walk_adds : {S : Type 0} (step : S → WardEvent → S → Type 0) (amount : S → ℕ) → ((old new : S) (event : WardEvent) → step old event new → amount new ≡ amount old + length (answer_of event))
+    → (may : ℕ → Bool → Type 0) (old new : S) (at client : ℕ) (call : Call) (result : Result Reply AskFault)
+    → IsWalked step may old at client call result new → amount new ≡ amount old + units_of result
+walk_adds step amount adds may old new at client call result walked =
+    let all = added step amount adds old new walked.events walked.way.run in
+    let far = units_so_far at client call walked.events walked.way.due in
+    let end = end_units may (due_from at walked.events) (hops_in walked.events) result walked.end in
+    omega (arith, all, far, end)

@@ -1,0 +1,5 @@
+pub mod Moves
+pub mod Current
+pub mod Taken
+pub mod Begun
+pub mod Runs

@@ -1,0 +1,4 @@
+pub mod Walk
+pub mod Turn
+pub mod WardStep
+pub mod WardWalk

@@ -1,0 +1,115 @@
+-- The caller's walk: hops of one call, and splits of the pages that are full for it, over anything that can hop and split.
+use Rattle.std.specs.Prelude.{◌≡◌, ◌⊎◌, ⊤, ℕ, suc, ◌≤◌, Bool, true, false, List, [], ◌∷◌, Option, Some, None, Result, Ok, Err}
+use Rattle.exh_notice.specs.declared.notice.Notice.{Notice}
+use Rattle.exh_calls.specs.declared.call.Call.{Call}
+use Rattle.exh_calls.specs.declared.reply.Reply.{Reply}
+use Rattle.exh_ward.specs.declared.hop.Hop.{Hop}
+use Rattle.exh_ward.specs.declared.hop.Hop.TheVariants.{Done, Moved, MustSplit, Stray}
+use Rattle.exh_ward.specs.declared.ward_fault.WardFault.{WardFault}
+use Rattle.exh_ward.specs.declared.ward_fault.WardFault.TheVariants.{Memory, Page}
+use Rattle.exh_route.specs.WardRun.{WardEvent, HopAt, SplitAt, MergeAt}
+use Rattle.exh_walk.specs.declared.ask_fault.AskFault.{AskFault}
+use Rattle.exh_walk.specs.declared.ask_fault.AskFault.TheVariants.{Held, Memory as AskMemory, Page as AskPage}
+use Rattle.exh_walk.specs.declared.walk.TheConstants.{TURN_LIMIT}
+
+abbrev pub ask_fault_number : AskFault → ℕ
+ask_fault_number Held = 50
+ask_fault_number AskMemory = 10
+ask_fault_number AskPage = 11
+
+-- the refusal of the walk that one of a hop or a split is, if it is one
+abbrev pub fault_at : WardFault → Option AskFault
+fault_at Memory = Some AskMemory
+fault_at Page = Some AskPage
+fault_at fault = None
+
+-- ---- what can hop and split
+
+-- steps of any kind, one after the other, the latest first
+abbrev pub IsRun : {S : Type 0} → (S → WardEvent → S → Type 0) → S → List WardEvent → S → Type 0
+IsRun step old [] new = new ≡ old
+IsRun {S} step old (event ∷ earlier) new = (between : S) × IsRun step old earlier between × step between event new
+
+-- each call that may be asked for before may be asked for after
+abbrev pub ServesOn : {S : Type 0} → (S → Call → ℕ → Type 0) → S → S → Type 0
+ServesOn serves old new = (call : Call) (pseudokey : ℕ) → serves old call pseudokey → serves new call pseudokey
+
+-- ---- what a walk consists of
+
+-- what is to come in a walk: a hop at a page, a split of a page, or nothing, since it has come to this
+pub data Due : Type 0 where
+  HopDue : (page : ℕ) → Due
+  SplitDue : (page : ℕ) → Due
+  Over : (result : Result Reply AskFault) → Due
+
+-- after a refusal it is over, unless that says that another has changed the page
+abbrev pub after_fault : ℕ → Option AskFault → Due
+after_fault page (Some fault) = Over (Err fault)
+after_fault page None = HopDue page
+
+-- moved: there; full: a split of the page, and there again; astray: at page 0
+abbrev pub due_after : WardEvent → Due
+due_after (HopAt page client call (Ok (Done reply))) = Over (Ok reply)
+due_after (HopAt page client call (Ok (Moved next))) = HopDue next
+due_after (HopAt page client call (Ok MustSplit)) = SplitDue page
+due_after (HopAt page client call (Ok Stray)) = HopDue 0
+due_after (HopAt page client call (Err fault)) = after_fault page (fault_at fault)
+due_after (SplitAt page (Ok notice)) = HopDue page
+due_after (SplitAt page (Err fault)) = after_fault page (fault_at fault)
+due_after (MergeAt page result) = HopDue page
+
+-- what is to come after events, the latest first, of a walk from a page
+abbrev pub due_from : ℕ → List WardEvent → Due
+due_from at [] = HopDue at
+due_from at (event ∷ earlier) = due_after event
+
+-- the event is what was to come, whatever came of it: a hop of this call by this client, or a split
+abbrev pub IsWhatWasDue : ℕ → Call → Due → WardEvent → Type 0
+IsWhatWasDue client call (HopDue page) event = (result : Result Hop WardFault) × (event ≡ HopAt page client call result)
+IsWhatWasDue client call (SplitDue page) event = (result : Result Notice WardFault) × (event ≡ SplitAt page result)
+IsWhatWasDue client call (Over result) event = ⊥
+
+-- each event is what was to come after those before it
+abbrev pub AreDue : ℕ → ℕ → Call → List WardEvent → Type 0
+AreDue at client call [] = ⊤
+AreDue at client call (event ∷ earlier) = AreDue at client call earlier × IsWhatWasDue client call (due_from at earlier) event
+
+-- how many hops there are, which is how many turns were passed
+abbrev pub hops_in : List WardEvent → ℕ
+hops_in [] = 0
+hops_in (HopAt page client call result ∷ earlier) = suc (hops_in earlier)
+hops_in (SplitAt page result ∷ earlier) = hops_in earlier
+hops_in (MergeAt page result ∷ earlier) = hops_in earlier
+
+-- ---- the gate
+
+-- of the answers that a gate may give at a turn: a turn past the limit counts as a no
+abbrev pub MaySayNo : (ℕ → Bool → Type 0) → ℕ → Type 0
+MaySayNo may turn = (suc TURN_LIMIT ≤ turn) ⊎ may turn false
+
+abbrev pub MaySayYes : (ℕ → Bool → Type 0) → ℕ → Type 0
+MaySayYes may turn = (turn ≤ TURN_LIMIT) × may turn true
+
+-- it may say yes at each of the first turns
+abbrev pub MayPass : (ℕ → Bool → Type 0) → ℕ → Type 0
+MayPass may turns = (turn : ℕ) → 1 ≤ turn → turn ≤ turns → MaySayYes may turn
+
+-- ---- the walk
+
+-- where nothing is to come, that is the result; where a hop is to come, the gate held it back, before that hop's turn
+abbrev pub IsEnd : (ℕ → Bool → Type 0) → Due → ℕ → Result Reply AskFault → Type 0
+IsEnd may (Over over) turns result = result ≡ over
+IsEnd may (HopDue page) turns result = (result ≡ Err Held) × MaySayNo may (suc turns)
+IsEnd may (SplitDue page) turns result = ⊥
+
+-- steps one after the other, each what is to come in the walk of a call from a page, and the gate may have said yes before each hop
+pub record IsWay {S : Type 0} (step : S → WardEvent → S → Type 0) (may : ℕ → Bool → Type 0) (old : S) (at client : ℕ) (call : Call) (events : List WardEvent) (new : S) : Type 0 where
+  pub run : IsRun step old events new
+  pub due : AreDue at client call events
+  pub passed : MayPass may (hops_in events)
+
+-- and so to the end
+pub record IsWalked {S : Type 0} (step : S → WardEvent → S → Type 0) (may : ℕ → Bool → Type 0) (old : S) (at client : ℕ) (call : Call) (result : Result Reply AskFault) (new : S) : Type 0 where
+  pub events : List WardEvent
+  pub way : IsWay step may old at client call events new
+  pub end : IsEnd may (due_from at events) (hops_in events) result

@@ -1,0 +1,86 @@
+ghost use Rattle.std.specs.Prelude.{ℕ};
+ghost use Rattle.exh_walk.specs.Turn.{IsTurn, IsSplitTurn};
+ghost use Rattle.exh_walk.specs.Walk.{IsWalked, ServesOn};
+
+use crate::{AskFault, Gate, Steps};
+use exh_calls::{Call, Reply};
+use exh_prefix::PageNo;
+use exh_ward::{Hop, WardFault};
+
+/// The greatest turn of a walk: the gate is asked at no later one, which counts as a no.
+pub const TURN_LIMIT: u32 = 1_000_000;
+
+// Where a ward's requests begin that know of no other page.
+const FIRST_PAGE: PageNo = 0;
+
+// What a turn of a walk comes to.
+enum Turn {
+    // The call is answered.
+    Answered(Reply),
+    // The next hop is at this page.
+    At(PageNo),
+}
+
+/// Walks a client's call from the page of number `at` to its answer: hops, before each of which the
+/// gate is asked; after `MustSplit` a split of that page and a hop there again, after `Stray` a hop
+/// at page 0. The key is hashed once. Refused: `Held` where the gate says no, or after 1,000,000 turns;
+/// at any point `Memory` and `Page`. The call has then changed nothing; splits made on the way stay.
+pub fn walk_steps<S: Steps, G: Gate>(
+    steps: &mut S,
+    gate: &G,
+    at: PageNo,
+    client: u32,
+    call: &Call,
+) -> Result<Reply, AskFault>
+    requires { (pseudokey : ℕ) × S.serves steps.old call.now pseudokey }
+    ensures walk { IsWalked S.step (G.may gate.now client) steps.old at client call.now result steps.new }
+    ensures serves { ServesOn S.serves steps.old steps.new }
+{
+    let pseudokey = steps.pseudokey(call);
+    let mut page = at;
+    for turns in 0..TURN_LIMIT {
+        if !gate.pass(client, turns + 1) {
+            return Err(AskFault::Held);
+        }
+        match take_turn(steps, page, client, call, pseudokey) {
+            Ok(Turn::Answered(reply)) => return Ok(reply),
+            Ok(Turn::At(next)) => page = next,
+            Err(fault) => return Err(fault),
+        }
+    }
+    Err(AskFault::Held)
+}
+
+// One hop, and the split that it asks for.
+fn take_turn<S: Steps>(
+    steps: &mut S,
+    page: PageNo,
+    client: u32,
+    call: &Call,
+    pseudokey: u64,
+) -> Result<Turn, AskFault>
+    requires { S.serves steps.old call.now pseudokey }
+    ensures turn { IsTurn S.step steps.old page client call.now result steps.new }
+    ensures serves { ServesOn S.serves steps.old steps.new }
+{
+    match steps.hop(page, client, call, pseudokey) {
+        Ok(Hop::Done(reply)) => Ok(Turn::Answered(reply)),
+        Ok(Hop::Moved(next)) => Ok(Turn::At(next)),
+        Ok(Hop::MustSplit) => split_full(steps, page),
+        Ok(Hop::Stray) => Ok(Turn::At(FIRST_PAGE)),
+        Err(fault) => Err(AskFault::of_hop(fault)),
+    }
+}
+
+// Splits a page that was full for a call, which then hops there again, whoever has changed the page
+// since.
+fn split_full<S: Steps>(steps: &mut S, page: PageNo) -> Result<Turn, AskFault>
+    ensures turn { IsSplitTurn S.step steps.old page result steps.new }
+    ensures serves { ServesOn S.serves steps.old steps.new }
+{
+    match steps.split(page) {
+        Err(WardFault::Memory) => Err(AskFault::Memory),
+        Err(WardFault::Page) => Err(AskFault::Page),
+        _ => Ok(Turn::At(page)),
+    }
+}
