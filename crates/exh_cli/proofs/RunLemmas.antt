@@ -6,6 +6,7 @@ use Rattle.std.proofs.KnownBytes.{Appends-trans}
 use Rattle.exh_stream.specs.Output.{AppendsBeginning}
 use Rattle.exh_stream.specs.OutputLemmas.{AppendsBeginning-after}
 use Rattle.exh_script.specs.Served.{PrintsFront, PrintsLines}
+use Rattle.exh_script.specs.Text.{new_file}
 use Rattle.exh_script.specs.declared.ended.Ended.{Ended}
 use Rattle.exh_script.specs.declared.serve_fault.ServeFault.{ServeFault}
 use Rattle.exh_script.specs.declared.serve_fault.ServeFault.TheVariants.{Write}
@@ -24,18 +25,18 @@ OnErr-weaker (Ok x) f p = tt
 OnErr-weaker (Err e) f p = f p
 
 module _ {P Q : List ℕ → Type 0} (more : (text : List ℕ) → P text → Q text) where
-  front_more : (lines : List (List ℕ)) → PrintsFront P lines → PrintsFront Q lines
+  front_more : (lines : List (List ℕ)) → PrintsFront new_file P lines → PrintsFront new_file Q lines
   front_more lines h = record { first = h.first; front = h.front; rest = h.rest; split = h.split; text = more _ h.text }
 
-  either_more : (A : Type 0) (lines : List (List ℕ)) → P [] ⊎ (A × PrintsFront P lines) → Q [] ⊎ (A × PrintsFront Q lines)
+  either_more : (A : Type 0) (lines : List (List ℕ)) → P [] ⊎ (A × PrintsFront new_file P lines) → Q [] ⊎ (A × PrintsFront new_file Q lines)
   either_more A lines (inl none) = inl (more [] none)
   either_more A lines (inr some) = inr (some.0, front_more lines some.1)
 
-  pub lines_more : {known : Option (List ℕ)} → PrintsLines P known → PrintsLines Q known
+  pub lines_more : {known : Option (List ℕ)} → PrintsLines new_file P known → PrintsLines new_file Q known
   lines_more h = record { script = h.script; read = h.read; lines = either_more _ _ h.lines }
 
 -- the last line was cut
-pub line_cut : (old mid new unread : Option (List ℕ)) → PrintsLines (Appends old mid) unread → AppendsBeginning mid new memory_line → RunPrints old new unread (Err Write)
+pub line_cut : (old mid new unread : Option (List ℕ)) → PrintsLines new_file (Appends old mid) unread → AppendsBeginning mid new memory_line → RunPrints old new unread (Err Write)
 line_cut old mid new unread lines line = inr (lines_more (λ text held. AppendsBeginning-after (record { front = text; gone = held; split = refl }) line) lines)
 
 pub write_fault : (old new unread : Option (List ℕ)) (outcome : Result Ended ServeFault) → IsErr outcome × IsErrAnd outcome (λ fault. fault ≡ Write)

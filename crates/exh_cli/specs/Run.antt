@@ -3,6 +3,7 @@ use Rattle.std.specs.Prelude.{◌≡◌, ◌⊎◌, ℕ, List, [], ◌∷◌, �
 use Rattle.std.specs.Io.KnownBytes.{Appends}
 use Rattle.exh_stream.specs.Output.{AppendsBeginning}
 use Rattle.exh_script.specs.Served.{PrintsLines, PrintsText, PrintsUnread, PrintsWhole, unread_text}
+use Rattle.exh_script.specs.Text.{new_file}
 use Rattle.exh_script.specs.declared.ended.Ended.{Ended}
 use Rattle.exh_script.specs.declared.serve_fault.ServeFault.{ServeFault}
 use Rattle.exh_script.specs.declared.serve_fault.ServeFault.TheVariants.{Write, Memory}
@@ -19,10 +20,10 @@ module _ (old new unread : Option (List ℕ)) where
   -- what was printed: the script's text, or the line of a reader that failed; after want of memory the text of a beginning
   -- of the script's lines, and the last line; after a fault of the writer a beginning of one of these
   abbrev pub RunPrints : Result Ended ServeFault → Type 0
-  RunPrints (Ok ended) = PrintsWhole (Appends old new) unread ended ⊎ PrintsUnread (Appends old new) ended
-  RunPrints (Err Memory) = PrintsLines (λ text. Appends old new (text ++ memory_line)) unread
-  RunPrints (Err Write) = (PrintsText (AppendsBeginning old new) unread ⊎ AppendsBeginning old new unread_text)
-      ⊎ PrintsLines (λ text. AppendsBeginning old new (text ++ memory_line)) unread
+  RunPrints (Ok ended) = PrintsWhole new_file (Appends old new) unread ended ⊎ PrintsUnread (Appends old new) ended
+  RunPrints (Err Memory) = PrintsLines new_file (λ text. Appends old new (text ++ memory_line)) unread
+  RunPrints (Err Write) = (PrintsText new_file (AppendsBeginning old new) unread ⊎ AppendsBeginning old new unread_text)
+      ⊎ PrintsLines new_file (λ text. AppendsBeginning old new (text ++ memory_line)) unread
 
   -- the status is that of a run that printed so
   pub record EndsWith (status : Status) : Type 0 where

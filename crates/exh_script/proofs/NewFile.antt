@@ -31,7 +31,7 @@ use Rattle.exh_script.proofs.KeptWorlds.{IsServedWorld}
 
 -- ---- its settings are in their ranges
 
-bits_in_range : (file : Config AnyKeyer) → file_in_range file ≡ true → file.ward_bits ≤ WARD_BITS_LIMIT
+pub bits_in_range : (file : Config AnyKeyer) → file_in_range file ≡ true → file.ward_bits ≤ WARD_BITS_LIMIT
 bits_in_range file is =
     let cap = is_in_range 1 CAP_LIMIT file.cap in
     let bits = is_in_range 0 WARD_BITS_LIMIT file.ward_bits in
@@ -39,17 +39,20 @@ bits_in_range file is =
     leb-true file.ward_bits WARD_BITS_LIMIT (and_parts (leb 0 file.ward_bits) (leb file.ward_bits WARD_BITS_LIMIT) (and_parts cap bits (and_parts (cap && bits) copies is).0).1).1
 
 by_range : (settings read : Settings) (within : Bool) → settings_in_range read ≡ within
-    → (let opened : Result Settings Refusal = opened (cond within (Ok read) (Err Range)) in opened) ≡ Ok settings → settings.file.ward_bits ≤ WARD_BITS_LIMIT
-by_range settings read true is right = let same : read ≡ settings = cc in subst (λ (s : Settings). s.file.ward_bits ≤ WARD_BITS_LIMIT) same (bits_in_range read.file is)
+    → (let opened : Result Settings Refusal = opened (cond within (Ok read) (Err Range)) in opened) ≡ Ok settings → file_in_range settings.file ≡ true
+by_range settings read true is right = let same : read ≡ settings = cc in subst (λ (s : Settings). file_in_range s.file ≡ true) same is
 by_range settings read false is right = cc
 
-by_words : (settings : Settings) (spelled : Option Settings) → opened (ranged settings_in_range spelled) ≡ Ok settings → settings.file.ward_bits ≤ WARD_BITS_LIMIT
+by_words : (settings : Settings) (spelled : Option Settings) → opened (ranged settings_in_range spelled) ≡ Ok settings → file_in_range settings.file ≡ true
 by_words settings None right = cc
 by_words settings (Some read) right = by_range settings read (settings_in_range read) refl right
 
-pub few_ward_bits : (line : List ℕ) (settings : Settings) → settings_of line ≡ Ok settings → settings.file.ward_bits ≤ WARD_BITS_LIMIT
+pub in_range : (line : List ℕ) (settings : Settings) → settings_of line ≡ Ok settings → file_in_range settings.file ≡ true
 unfolding settings_of file_line_of
-few_ward_bits line settings right = by_words settings (words_of line >>= spelled_file) right
+in_range line settings right = by_words settings (words_of line >>= spelled_file) right
+
+pub few_ward_bits : (line : List ℕ) (settings : Settings) → settings_of line ≡ Ok settings → settings.file.ward_bits ≤ WARD_BITS_LIMIT
+few_ward_bits line settings right = bits_in_range settings.file (in_range line settings right)
 
 -- ---- what the new world has
 

@@ -2,9 +2,7 @@
 use Rattle.std.proofs.Common.{◌≡◌, ℕ, List, [], ◌∷◌, ◌++◌, Bool, Option, Result, Ok, Err, refl, sym, ap, ◌∙◌, subst, append_assoc, append-nil}
 use Rattle.exh_stream.specs.Output.{Takes, TakesBeginning}
 use Rattle.exh_script.specs.Answer.{answer_text}
-use Rattle.exh_world.specs.NewWorld.{new_world}
-use Rattle.exh_script.specs.declared.settings.Settings.{Settings}
-use Rattle.exh_script.specs.Text.{ScriptWorld, line_response, response_text, after_line, text_from, settings_of, text_after, text_of_lines}
+use Rattle.exh_script.specs.Text.{ScriptWorld, line_response, response_text, after_line, Beginning, Start, text_from, start_of, text_after, text_of_lines}
 use Rattle.exh_script.specs.declared.answer.Answer.TheVariants.{Refused}
 use Rattle.exh_script.specs.declared.refusal.Refusal.{Refusal}
 use Rattle.exh_stream.specs.declared.output.Output.{Output}
@@ -82,9 +80,9 @@ lines_begin tells_moves world (line ∷ front) rest =
     let left = lines_begin tells_moves (after_line world line) front rest in
     (left.0, ap (λ l. response_text (line_response tells_moves world line) ++ l) left.1 ∙ sym (append_assoc (response_text (line_response tells_moves world line)) (text_from tells_moves (after_line world line) front) left.0))
 
-file_begins : (read : Result Settings Refusal) (front rest : List (List ℕ)) → (more : List ℕ) × (text_after read (front ++ rest) ≡ text_after read front ++ more)
-file_begins (Ok settings) front rest = lines_begin settings.tells_moves (new_world settings.file) front rest
-file_begins (Err refusal) front rest = ([], sym (append-nil (answer_text (Refused refusal))))
+start_begins : (read : Result Start Refusal) (front rest : List (List ℕ)) → (more : List ℕ) × (text_after read (front ++ rest) ≡ text_after read front ++ more)
+start_begins (Ok start) front rest = lines_begin start.tells_moves start.world front rest
+start_begins (Err refusal) front rest = ([], sym (append-nil (answer_text (Refused refusal))))
 
-pub front_begins : (first : List ℕ) (front rest : List (List ℕ)) → (more : List ℕ) × (text_of_lines (first ∷ (front ++ rest)) ≡ text_of_lines (first ∷ front) ++ more)
-front_begins first front rest = file_begins (settings_of first) front rest
+pub front_begins : (begin : Beginning) (first : List ℕ) (front rest : List (List ℕ)) → (more : List ℕ) × (text_of_lines begin (first ∷ (front ++ rest)) ≡ text_of_lines begin (first ∷ front) ++ more)
+front_begins begin first front rest = start_begins (start_of begin first) front rest

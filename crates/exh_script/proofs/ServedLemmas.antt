@@ -9,7 +9,7 @@ use Rattle.exh_stream.specs.declared.output.Output.{Output}
 use Rattle.exh_text.specs.Lines.{lines_of}
 use Rattle.exh_script.specs.Served.{PrintsText, PrintsWhole, PrintsUnread, PrintsFront, PrintsLines, unread_text}
 use Rattle.exh_script.specs.Answer.{answer_text}
-use Rattle.exh_script.specs.Text.{text_of_lines, ended_of_lines, text_of, ended_of}
+use Rattle.exh_script.specs.Text.{Beginning, text_of_lines, ended_of_lines, text_of, ended_of}
 use Rattle.exh_script.specs.declared.answer.Answer.TheVariants.{Refused}
 use Rattle.exh_script.specs.declared.ended.Ended.{Ended}
 use Rattle.exh_script.specs.declared.ended.Ended.TheVariants as ended
@@ -21,18 +21,18 @@ use Rattle.exh_script.proofs.Responded.{front_begins}
 
 -- ---- the test of the length, where it is decided
 
-text_at : (script : List ℕ) (b : Bool) → leb (length script) SCRIPT_LIMIT ≡ b
-    → text_of script ≡ cond b (text_of_lines (lines_of script)) (answer_text (Refused TooLong))
+text_at : (begin : Beginning) (script : List ℕ) (b : Bool) → leb (length script) SCRIPT_LIMIT ≡ b
+    → text_of begin script ≡ cond b (text_of_lines begin (lines_of script)) (answer_text (Refused TooLong))
 unfolding text_of
-text_at script b is = ap (λ b. cond b (text_of_lines (lines_of script)) (answer_text (Refused TooLong))) is
+text_at begin script b is = ap (λ b. cond b (text_of_lines begin (lines_of script)) (answer_text (Refused TooLong))) is
 
-ended_at : (script : List ℕ) (b : Bool) → leb (length script) SCRIPT_LIMIT ≡ b
-    → ended_of script ≡ cond b (ended_of_lines (lines_of script)) ended.Refused
+ended_at : (begin : Beginning) (script : List ℕ) (b : Bool) → leb (length script) SCRIPT_LIMIT ≡ b
+    → ended_of begin script ≡ cond b (ended_of_lines begin (lines_of script)) ended.Refused
 unfolding ended_of
-ended_at script b is = ap (λ b. cond b (ended_of_lines (lines_of script)) ended.Refused) is
+ended_at begin script b is = ap (λ b. cond b (ended_of_lines begin (lines_of script)) ended.Refused) is
 
-text_within : (script : List ℕ) → length script ≤ SCRIPT_LIMIT → text_of script ≡ text_of_lines (lines_of script)
-text_within script fits = text_at script true (le-leb (length script) SCRIPT_LIMIT fits)
+text_within : (begin : Beginning) (script : List ℕ) → length script ≤ SCRIPT_LIMIT → text_of begin script ≡ text_of_lines begin (lines_of script)
+text_within begin script fits = text_at begin script true (le-leb (length script) SCRIPT_LIMIT fits)
 
 -- ---- a script is read, or its reader fails
 
@@ -61,7 +61,7 @@ by_true P Q b is p = subst (λ b. MatchBool b P Q) (sym is) p
 
 -- ---- what an output takes of a script that was read
 
-module _ (P : List ℕ → Type 0) (known : Option (List ℕ)) (b : Bool) (is_open : IsFalse b) where
+module _ (begin : Beginning) (P : List ℕ → Type 0) (known : Option (List ℕ)) (b : Bool) (is_open : IsFalse b) where
   -- read whole
   module _ (items given : List ℕ) (read : IsReadAs known items) (is : given ≡ items) (fits : length items ≤ SCRIPT_LIMIT) where
     whole_fits : length given ≤ SCRIPT_LIMIT
@@ -70,20 +70,20 @@ module _ (P : List ℕ → Type 0) (known : Option (List ℕ)) (b : Bool) (is_op
     whole_read : IsReadAs known given
     whole_read = subst (IsReadAs known) (sym is) read
 
-    abbrev whole_text : P (text_of_lines (lines_of given)) → PrintsText P known
-    whole_text text = record { script = given; read = whole_read; text = subst P (sym (text_within given whole_fits)) text }
+    abbrev whole_text : P (text_of_lines begin (lines_of given)) → PrintsText begin P known
+    whole_text text = record { script = given; read = whole_read; text = subst P (sym (text_within begin given whole_fits)) text }
 
-    pub whole_ok : (result : Result Ended ServeFault) → OnOk result (P (text_of_lines (lines_of given))) → IfOk result (λ outcome. outcome ≡ ended_of_lines (lines_of given))
-        → IfOk result (λ outcome. MatchBool b (PrintsUnread P outcome) (PrintsWhole P known outcome))
+    pub whole_ok : (result : Result Ended ServeFault) → OnOk result (P (text_of_lines begin (lines_of given))) → IfOk result (λ outcome. outcome ≡ ended_of_lines begin (lines_of given))
+        → IfOk result (λ outcome. MatchBool b (PrintsUnread P outcome) (PrintsWhole begin P known outcome))
     whole_ok (Err fault) text end = tt
     whole_ok (Ok outcome) text end =
-        by_false _ _ b is_open (record { whole = whole_text text; ended = end ∙ sym (ended_at given true (le-leb (length given) SCRIPT_LIMIT whole_fits)) })
+        by_false _ _ b is_open (record { whole = whole_text text; ended = end ∙ sym (ended_at begin given true (le-leb (length given) SCRIPT_LIMIT whole_fits)) })
 
-    pub whole_err : (result : Result Ended ServeFault) (unread : Type 0) → OnErr result (P (text_of_lines (lines_of given))) → OnErr result (MatchBool b unread (PrintsText P known))
+    pub whole_err : (result : Result Ended ServeFault) (unread : Type 0) → OnErr result (P (text_of_lines begin (lines_of given))) → OnErr result (MatchBool b unread (PrintsText begin P known))
     whole_err (Ok outcome) unread text = tt
     whole_err (Err fault) unread text = by_false _ _ b is_open (whole_text text)
 
-    pub whole_memory : (unread : Type 0) → P [] ⊎ PrintsFront P (lines_of given) → MatchBool b unread (PrintsLines P known)
+    pub whole_memory : (unread : Type 0) → P [] ⊎ PrintsFront begin P (lines_of given) → MatchBool b unread (PrintsLines begin P known)
     whole_memory unread (inl none) = by_false _ _ b is_open (record { script = given; read = whole_read; lines = inl none })
     whole_memory unread (inr front) = by_false _ _ b is_open (record { script = given; read = whole_read; lines = inr (whole_fits, front) })
 
@@ -92,25 +92,25 @@ module _ (P : List ℕ → Type 0) (known : Option (List ℕ)) (b : Bool) (is_op
     long_at : leb (length (script_in known front)) SCRIPT_LIMIT ≡ false
     long_at = lt-leb (length (script_in known front)) SCRIPT_LIMIT (long_in known front long had)
 
-    abbrev long_text : P (answer_text (Refused TooLong)) → PrintsText P known
-    long_text text = record { script = script_in known front; read = script_in_is known front; text = subst P (sym (text_at (script_in known front) false long_at)) text }
+    abbrev long_text : P (answer_text (Refused TooLong)) → PrintsText begin P known
+    long_text text = record { script = script_in known front; read = script_in_is known front; text = subst P (sym (text_at begin (script_in known front) false long_at)) text }
 
     pub long_ok : (result : Result Ended ServeFault) → OnOk result (P (answer_text (Refused TooLong))) → IfOk result (λ outcome. outcome ≡ ended.Refused)
-        → IfOk result (λ outcome. MatchBool b (PrintsUnread P outcome) (PrintsWhole P known outcome))
+        → IfOk result (λ outcome. MatchBool b (PrintsUnread P outcome) (PrintsWhole begin P known outcome))
     long_ok (Err fault) text end = tt
-    long_ok (Ok outcome) text end = by_false _ _ b is_open (record { whole = long_text text; ended = end ∙ sym (ended_at (script_in known front) false long_at) })
+    long_ok (Ok outcome) text end = by_false _ _ b is_open (record { whole = long_text text; ended = end ∙ sym (ended_at begin (script_in known front) false long_at) })
 
-    pub long_err : (result : Result Ended ServeFault) (unread : Type 0) → OnErr result (P (answer_text (Refused TooLong))) → OnErr result (MatchBool b unread (PrintsText P known))
+    pub long_err : (result : Result Ended ServeFault) (unread : Type 0) → OnErr result (P (answer_text (Refused TooLong))) → OnErr result (MatchBool b unread (PrintsText begin P known))
     long_err (Ok outcome) unread text = tt
     long_err (Err fault) unread text = by_false _ _ b is_open (long_text text)
 
   -- or not, for want of memory
-  pub none_memory : (unread : Type 0) → P [] → MatchBool b unread (PrintsLines P known)
+  pub none_memory : (unread : Type 0) → P [] → MatchBool b unread (PrintsLines begin P known)
   none_memory unread none = by_false _ _ b is_open (record { script = script_in known []; read = script_in_is known []; lines = inl none })
 
-  pub none_text : (result : Result Ended ServeFault) (unread : Type 0) → ((bytes : List ℕ) → P bytes) → OnErr result (MatchBool b unread (PrintsText P known))
+  pub none_text : (result : Result Ended ServeFault) (unread : Type 0) → ((bytes : List ℕ) → P bytes) → OnErr result (MatchBool b unread (PrintsText begin P known))
   none_text (Ok outcome) unread none = tt
-  none_text (Err fault) unread none = by_false _ _ b is_open (record { script = script_in known []; read = script_in_is known []; text = none (text_of (script_in known [])) })
+  none_text (Err fault) unread none = by_false _ _ b is_open (record { script = script_in known []; read = script_in_is known []; text = none (text_of begin (script_in known [])) })
 
 -- ---- or of a reader that failed
 
@@ -126,7 +126,7 @@ module _ (P : List ℕ → Type 0) (b : Bool) (failed : b ≡ true) where
 
 -- ---- at the end what waits is written, or a beginning of it
 
-module _ {W : Type 0} (contents : W → Option (List ℕ)) (old mid new : Output W) (start : pending old ≡ []) (known : Option (List ℕ)) where
+module _ (begin : Beginning) {W : Type 0} (contents : W → Option (List ℕ)) (old mid new : Output W) (start : pending old ≡ []) (known : Option (List ℕ)) where
   abbrev Taken : List ℕ → Type 0
   Taken bytes = Takes contents old mid bytes
 
@@ -137,20 +137,20 @@ module _ {W : Type 0} (contents : W → Option (List ℕ)) (old mid new : Output
   Begun bytes = AppendsBeginning (held contents old) (held contents new) bytes
 
   module _ (f : (bytes : List ℕ) → Taken bytes → Begun bytes) where
-    lines_begin_text : (script : List ℕ) → Taken [] ⊎ ((length script ≤ SCRIPT_LIMIT) × PrintsFront Taken (lines_of script)) → Begun (text_of script)
-    lines_begin_text script (inl none) = AppendsBeginning-of_more (text_of script) (f [] none)
+    lines_begin_text : (script : List ℕ) → Taken [] ⊎ ((length script ≤ SCRIPT_LIMIT) × PrintsFront begin Taken (lines_of script)) → Begun (text_of begin script)
+    lines_begin_text script (inl none) = AppendsBeginning-of_more (text_of begin script) (f [] none)
     lines_begin_text script (inr (fits, printed)) =
-        let more = front_begins printed.first printed.front printed.rest in
-        subst Begun (sym (text_within script fits ∙ ap text_of_lines printed.split ∙ more.1)) (AppendsBeginning-of_more more.0 (f (text_of_lines (printed.first ∷ printed.front)) printed.text))
+        let more = front_begins begin printed.first printed.front printed.rest in
+        subst Begun (sym (text_within begin script fits ∙ ap (text_of_lines begin) printed.split ∙ more.1)) (AppendsBeginning-of_more more.0 (f (text_of_lines begin (printed.first ∷ printed.front)) printed.text))
 
     -- a beginning of the lines is a beginning of the text
-    lines_text : (b : Bool) → MatchBool b (Taken []) (PrintsLines Taken known) → MatchBool b (Begun unread_text) (PrintsText Begun known)
+    lines_text : (b : Bool) → MatchBool b (Taken []) (PrintsLines begin Taken known) → MatchBool b (Begun unread_text) (PrintsText begin Begun known)
     lines_text true none = AppendsBeginning-of_more unread_text (f [] none)
     lines_text false lines = record { script = lines.script; read = lines.read; text = lines_begin_text lines.script lines.lines }
 
-    whole_begins : (b : Bool) (outcome : Ended) → MatchBool b (PrintsUnread Taken outcome) (PrintsWhole Taken known outcome) → MatchBool b (Begun unread_text) (PrintsText Begun known)
+    whole_begins : (b : Bool) (outcome : Ended) → MatchBool b (PrintsUnread Taken outcome) (PrintsWhole begin Taken known outcome) → MatchBool b (Begun unread_text) (PrintsText begin Begun known)
     whole_begins true outcome taken = f unread_text taken.0
-    whole_begins false outcome taken = record { script = taken.whole.script; read = taken.whole.read; text = f (text_of taken.whole.script) taken.whole.text }
+    whole_begins false outcome taken = record { script = taken.whole.script; read = taken.whole.read; text = f (text_of begin taken.whole.script) taken.whole.text }
 
   -- all of it was written
   module _ (gone : Appends (held contents mid) (held contents new) (pending mid)) where
@@ -160,37 +160,37 @@ module _ {W : Type 0} (contents : W → Option (List ℕ)) (old mid new : Output
     begun : (bytes : List ℕ) → Taken bytes → Begun bytes
     begun bytes taken = Takes-cut contents old mid new start bytes taken (AppendsBeginning-from (record { front = pending mid; gone = gone; split = sym (append-nil (pending mid)) }))
 
-    pub finished_ok : (result : Result Ended ServeFault) (b : Bool) → IfOk result (λ outcome. MatchBool b (PrintsUnread Taken outcome) (PrintsWhole Taken known outcome))
-        → IfOk result (λ outcome. MatchBool b (PrintsUnread Written outcome) (PrintsWhole Written known outcome))
+    pub finished_ok : (result : Result Ended ServeFault) (b : Bool) → IfOk result (λ outcome. MatchBool b (PrintsUnread Taken outcome) (PrintsWhole begin Taken known outcome))
+        → IfOk result (λ outcome. MatchBool b (PrintsUnread Written outcome) (PrintsWhole begin Written known outcome))
     finished_ok (Err fault) b taken = tt
     finished_ok (Ok outcome) true taken = (written unread_text taken.0, taken.1)
     finished_ok (Ok outcome) false taken =
-        record { whole = record { script = taken.whole.script; read = taken.whole.read; text = written (text_of taken.whole.script) taken.whole.text }; ended = taken.ended }
+        record { whole = record { script = taken.whole.script; read = taken.whole.read; text = written (text_of begin taken.whole.script) taken.whole.text }; ended = taken.ended }
 
-    pub finished_err : (result : Result Ended ServeFault) (b : Bool) → (result ≡ Err Memory → MatchBool b (Taken []) (PrintsLines Taken known)) → (result ≡ Err Write → ⊥)
-        → OnErr result (MatchBool b (Begun unread_text) (PrintsText Begun known))
+    pub finished_err : (result : Result Ended ServeFault) (b : Bool) → (result ≡ Err Memory → MatchBool b (Taken []) (PrintsLines begin Taken known)) → (result ≡ Err Write → ⊥)
+        → OnErr result (MatchBool b (Begun unread_text) (PrintsText begin Begun known))
     finished_err (Ok outcome) b lines never = tt
     finished_err (Err Memory) b lines never = lines_text begun b (lines refl)
     finished_err (Err Write) b lines never = absurd (never refl)
 
-    written_lines : (script : List ℕ) → Taken [] ⊎ ((length script ≤ SCRIPT_LIMIT) × PrintsFront Taken (lines_of script)) → Written [] ⊎ ((length script ≤ SCRIPT_LIMIT) × PrintsFront Written (lines_of script))
+    written_lines : (script : List ℕ) → Taken [] ⊎ ((length script ≤ SCRIPT_LIMIT) × PrintsFront begin Taken (lines_of script)) → Written [] ⊎ ((length script ≤ SCRIPT_LIMIT) × PrintsFront begin Written (lines_of script))
     written_lines script (inl none) = inl (written [] none)
     written_lines script (inr (fits, printed)) =
-        inr (fits, record { first = printed.first; front = printed.front; rest = printed.rest; split = printed.split; text = written (text_of_lines (printed.first ∷ printed.front)) printed.text })
+        inr (fits, record { first = printed.first; front = printed.front; rest = printed.rest; split = printed.split; text = written (text_of_lines begin (printed.first ∷ printed.front)) printed.text })
 
-    pub finished_memory : (b : Bool) → MatchBool b (Taken []) (PrintsLines Taken known) → PrintsLines Written known
+    pub finished_memory : (b : Bool) → MatchBool b (Taken []) (PrintsLines begin Taken known) → PrintsLines begin Written known
     finished_memory true none = record { script = script_in known []; read = script_in_is known []; lines = inl (written [] none) }
     finished_memory false lines = record { script = lines.script; read = lines.read; lines = written_lines lines.script lines.lines }
 
   -- or a beginning was
   module _ (gone : AppendsBeginning (held contents mid) (held contents new) (pending mid)) where
-    pub cut_err : (result : Result Ended ServeFault) (b : Bool) → IfOk result (λ outcome. MatchBool b (PrintsUnread Taken outcome) (PrintsWhole Taken known outcome))
-        → (result ≡ Err Memory → MatchBool b (Taken []) (PrintsLines Taken known))
-        → OnErr result (MatchBool b (TakesBeginning contents old mid unread_text) (PrintsText (TakesBeginning contents old mid) known))
+    pub cut_err : (result : Result Ended ServeFault) (b : Bool) → IfOk result (λ outcome. MatchBool b (PrintsUnread Taken outcome) (PrintsWhole begin Taken known outcome))
+        → (result ≡ Err Memory → MatchBool b (Taken []) (PrintsLines begin Taken known))
+        → OnErr result (MatchBool b (TakesBeginning contents old mid unread_text) (PrintsText begin (TakesBeginning contents old mid) known))
         → (result ≡ Err Write → WriterUntouched mid new)
-        → MatchBool b (Begun unread_text) (PrintsText Begun known)
+        → MatchBool b (Begun unread_text) (PrintsText begin Begun known)
     cut_err (Ok outcome) b taken lines text left = whole_begins (λ bytes taken. Takes-cut contents old mid new start bytes taken gone) b outcome taken
     cut_err (Err Memory) b taken lines text left = lines_text (λ bytes taken. Takes-cut contents old mid new start bytes taken gone) b (lines refl)
     cut_err (Err Write) true taken lines text left = TakesBeginning-left contents old mid new start unread_text text (left refl)
     cut_err (Err Write) false taken lines text left =
-        record { script = text.script; read = text.read; text = TakesBeginning-left contents old mid new start (text_of text.script) text.text (left refl) }
+        record { script = text.script; read = text.read; text = TakesBeginning-left contents old mid new start (text_of begin text.script) text.text (left refl) }

@@ -21,7 +21,7 @@ use Rattle.exh_world.specs.declared.event.Event.TheVariants.{Begin, Hop}
 use Rattle.exh_world.specs.declared.turn.Turn.{Turn as StepTurn}
 use Rattle.exh_script.specs.Answer.{answer_text, copy_text}
 use Rattle.exh_script.specs.Grammar.{line_of}
-use Rattle.exh_script.specs.Text.{ScriptWorld, Response, Said, line_response, response_text, after_line, settings_of, text_of, ended_of}
+use Rattle.exh_script.specs.Text.{ScriptWorld, Response, Said, line_response, response_text, after_line, new_file, settings_of, text_of, ended_of}
 use Rattle.exh_script.specs.View.{shown_text}
 use Rattle.exh_script.specs.declared.answer.Answer.TheVariants.{Begun, Replied, Stray, Refused}
 use Rattle.exh_script.specs.declared.ended.Ended.{Ended}
@@ -121,7 +121,7 @@ ShowTheSame start steps end = (one other : ℕ) (table twin : TableMap) (taken t
 -- what it prints of the map, the calls that it answers being these entries
 pub record RepliesAsMap (script : List ℕ) (settings : Settings) (lines : List (List ℕ)) (entries : List JournalEntry) : Type 0 where
   -- its text is the responses to its lines
-  pub text : text_of script ≡ flat_map (λ turn. response_text turn.response) (turns_from settings.tells_moves (new_world settings.file) lines)
+  pub text : text_of new_file script ≡ flat_map (λ turn. response_text turn.response) (turns_from settings.tells_moves (new_world settings.file) lines)
   -- each reply among these answers the call of the last accepted begin of its name, and no begin is answered twice
   pub answered : EnterInOrder [] (turns_from settings.tells_moves (new_world settings.file) lines) entries
   -- the steps that its lines ask for carry the headline of a world: equal copies, least upper bounds, the directory's pages
@@ -141,8 +141,8 @@ pub record RepliesAsMap (script : List ℕ) (settings : Settings) (lines : List 
 -- what a script prints, by how its run ends: where it is refused, that and no reply
 abbrev pub PrintsAs : List ℕ → Ended → Type 0
 PrintsAs script ended.Done = (settings : Settings) × (lines : List (List ℕ)) × (entries : List JournalEntry) × IsScript script settings lines × RepliesAsMap script settings lines entries
-PrintsAs script ended.Refused = (refusal : Refusal) × (text_of script ≡ answer_text (Refused refusal))
+PrintsAs script ended.Refused = (refusal : Refusal) × (text_of new_file script ≡ answer_text (Refused refusal))
 
 -- the replies that a script prints are, in the order of the answering hops, those of the map machine from the empty map
 abbrev pub RepliesAreOneMaps : Type 0
-RepliesAreOneMaps = (script : List ℕ) → PrintsAs script (ended_of script)
+RepliesAreOneMaps = (script : List ℕ) → PrintsAs script (ended_of new_file script)

@@ -8,6 +8,7 @@ use Rattle.exh_text.specs.declared.line_fault.LineFault.TheVariants.{Syntax}
 use Rattle.exh_world.specs.NewWorld.{new_world}
 use Rattle.exh_world.specs.StepFunction.{result_of, world_after}
 use Rattle.exh_world.specs.World.{WorldState}
+use Rattle.exh_world.specs.declared.config.Config.{Config}
 use Rattle.exh_world.specs.declared.step_fault.StepFault.{StepFault}
 use Rattle.exh_script.specs.Answer.{answer_text, step_answer}
 use Rattle.exh_script.specs.Grammar.{file_line_of, line_of}
@@ -73,6 +74,23 @@ text_from tells_moves world (line ∷ lines) = response_text (line_response tell
 
 -- ---- the first line
 
+-- the world that a first line of these settings begins, or why it begins none
+abbrev pub Beginning : Type 0
+Beginning = Config AnyKeyer → Result ScriptWorld Refusal
+
+-- of a new file
+abbrev pub new_file : Beginning
+new_file file = Ok (new_world file)
+
+-- a run before its second line: its world, and whether a reply's line tells its moves
+pub record Start : Type 0 where
+  pub world : ScriptWorld
+  pub tells_moves : Bool
+
+abbrev pub start_in : Bool → Result ScriptWorld Refusal → Result Start Refusal
+start_in tells_moves (Ok world) = Ok (record { world = world; tells_moves = tells_moves })
+start_in tells_moves (Err refusal) = Err refusal
+
 abbrev pub opened : Result Settings LineFault → Result Settings Refusal
 opened (Ok settings) = Ok settings
 opened (Err fault) = Err (LineRefusal fault)
@@ -81,29 +99,39 @@ opened (Err fault) = Err (LineRefusal fault)
 unfoldable pub settings_of : List ℕ → Result Settings Refusal
 settings_of line = opened (file_line_of line)
 
-abbrev pub text_after : Result Settings Refusal → List (List ℕ) → List ℕ
-text_after (Ok settings) lines = text_from settings.tells_moves (new_world settings.file) lines
+-- a run's text and end, by where it starts, or why it doesn't
+abbrev pub text_after : Result Start Refusal → List (List ℕ) → List ℕ
+text_after (Ok start) lines = text_from start.tells_moves start.world lines
 text_after (Err refusal) lines = answer_text (Refused refusal)
 
--- where there is no line, the first is wrong
-abbrev pub text_of_lines : List (List ℕ) → List ℕ
-text_of_lines [] = answer_text (Refused (LineRefusal Syntax))
-text_of_lines (first ∷ lines) = text_after (settings_of first) lines
-
-abbrev pub ended_after : Result Settings Refusal → Ended
-ended_after (Ok settings) = ended.Done
+abbrev pub ended_after : Result Start Refusal → Ended
+ended_after (Ok start) = ended.Done
 ended_after (Err refusal) = ended.Refused
 
-abbrev pub ended_of_lines : List (List ℕ) → Ended
-ended_of_lines [] = ended.Refused
-ended_of_lines (first ∷ lines) = ended_after (settings_of first)
+module _ (begin : Beginning) where
+  abbrev pub started : Result Settings Refusal → Result Start Refusal
+  started (Ok settings) = start_in settings.tells_moves (begin settings.file)
+  started (Err refusal) = Err refusal
 
--- ---- a whole script
+  -- where a first line starts the run
+  unfoldable pub start_of : List ℕ → Result Start Refusal
+  start_of line = started (settings_of line)
 
--- what a script prints
-unfoldable pub text_of : List ℕ → List ℕ
-text_of script = if nat_le (length script) SCRIPT_LIMIT then text_of_lines (lines_of script) else answer_text (Refused TooLong)
+  -- where there is no line, the first is wrong
+  abbrev pub text_of_lines : List (List ℕ) → List ℕ
+  text_of_lines [] = answer_text (Refused (LineRefusal Syntax))
+  text_of_lines (first ∷ lines) = text_after (start_of first) lines
 
--- and how its run ends
-unfoldable pub ended_of : List ℕ → Ended
-ended_of script = if nat_le (length script) SCRIPT_LIMIT then ended_of_lines (lines_of script) else ended.Refused
+  abbrev pub ended_of_lines : List (List ℕ) → Ended
+  ended_of_lines [] = ended.Refused
+  ended_of_lines (first ∷ lines) = ended_after (start_of first)
+
+  -- ---- a whole script
+
+  -- what a script prints
+  unfoldable pub text_of : List ℕ → List ℕ
+  text_of script = if nat_le (length script) SCRIPT_LIMIT then text_of_lines (lines_of script) else answer_text (Refused TooLong)
+
+  -- and how its run ends
+  unfoldable pub ended_of : List ℕ → Ended
+  ended_of script = if nat_le (length script) SCRIPT_LIMIT then ended_of_lines (lines_of script) else ended.Refused

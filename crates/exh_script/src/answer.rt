@@ -1,7 +1,7 @@
 ghost use Rattle.std.specs.Prelude.{◌≡◌};
-ghost use Rattle.exh_script.specs.Answer.{copy_in, hop_answer, outcome_answer, request_in, table_in, told_moves};
+ghost use Rattle.exh_script.specs.Answer.{copy_in, hop_answer, outcome_answer, request_in, table_in};
 
-use crate::{Moves, Refusal};
+use crate::{Moves, Refusal, Told};
 use exh_calls::Reply;
 use exh_notice::Notice;
 use exh_prefix::PageNo;
@@ -11,53 +11,26 @@ use exh_world::{Event, Outcome, Progress};
 #[derive(Clone, Copy, Debug, PartialEq, Eq)]
 pub(crate) enum Answer {
     /// `rN at W/P`: the request stands at a page of a ward.
-    Begun {
-        name: u32,
-        ward: u8,
-        page: PageNo,
-    },
+    Begun { name: u32, ward: u8, page: PageNo },
     /// `rN is V`, `rN none`, `rN new`, `rN was V` or `rN full`: the request is answered. Where its moves are told,
     /// ` moves M of B` stands behind it.
-    Replied {
-        name: u32,
-        reply: Reply,
-        moves: Option<Moves>,
-    },
+    Replied { name: u32, reply: Reply, told: Told },
     /// `rN moved W/P`: the request goes on at another page.
-    Moved {
-        name: u32,
-        ward: u8,
-        page: PageNo,
-    },
+    Moved { name: u32, ward: u8, page: PageNo },
     /// `rN split`: the request waits for a split.
-    MustSplit {
-        name: u32,
-    },
+    MustSplit { name: u32 },
     /// `rN stray`: the request stands where no key of its kind is.
-    Stray {
-        name: u32,
-    },
+    Stray { name: u32 },
     /// `notice W/I prefix P number N split right R`, or with `merge` at its end: a page was split or merged.
     Changed(Notice),
     /// `copy C took W/I`: the copy took a ward's notice.
-    Taken {
-        copy: u32,
-        ward: u8,
-        index: u64,
-    },
+    Taken { copy: u32, ward: u8, index: u64 },
     /// `table T`: a copy's table was sent.
-    Sent {
-        table: u32,
-    },
+    Sent { table: u32 },
     /// `copy C joined T`: the copy joined a sent table.
-    Joined {
-        copy: u32,
-        table: u32,
-    },
+    Joined { copy: u32, table: u32 },
     /// `copy C restarted`: the copy has lost what it was told.
-    Restarted {
-        copy: u32,
-    },
+    Restarted { copy: u32 },
     /// `refused N`: the line changed nothing.
     Refused(Refusal),
 }
@@ -103,25 +76,17 @@ impl Answer {
         match *hop {
             Progress::Done {
                 reply,
-                moves,
+                moves: made,
                 bound,
-            } => Answer::Replied {
-                name,
-                reply,
-                moves: told_moves(tells_moves, moves, bound),
-            },
+            } => {
+                let told = tells_moves.then_some(Moves { made, bound });
+                Answer::Replied { name, reply, told }
+            }
             Progress::Moved(page) => Answer::Moved { name, ward, page },
             Progress::MustSplit => Answer::MustSplit { name },
             Progress::Stray => Answer::Stray { name },
         }
     }
-}
-
-// The moves that a reply's line tells, and their bound.
-fn told_moves(tells_moves: bool, made: u64, bound: u64) -> Option<Moves>
-    ensures { result ≡ told_moves tells_moves made bound }
-{
-    tells_moves.then_some(Moves { made, bound })
 }
 
 // The request that an event's line names, 0 where it names none.

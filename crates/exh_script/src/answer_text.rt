@@ -2,7 +2,7 @@ ghost use Rattle.std.specs.Prelude.{◌≡◌, ◌++◌, OnOk};
 ghost use Rattle.exh_script.specs.Answer.{answer_text, copy_text, moves_text, notice_text, reply_text, request_text};
 ghost use Rattle.exh_script.specs.declared.answer.Answer.TheVariants.{Refused};
 
-use crate::{Answer, Moves, Refusal};
+use crate::{Answer, Refusal, Told};
 use exh_calls::Reply;
 use exh_notice::Notice;
 use exh_text::{push_entry, push_number, push_place, push_refused, push_text, push_value};
@@ -18,11 +18,11 @@ pub(crate) fn push_answer(out: &mut Vec<u8>, answer: &Answer) -> Result<(), Allo
             push_text(out, " at ")?;
             push_place(out, u32::from(*ward), u64::from(*page))?;
         }
-        Answer::Replied { name, reply, moves } => {
+        Answer::Replied { name, reply, told } => {
             push_request(out, *name)?;
             push_text(out, " ")?;
             push_reply(out, reply)?;
-            push_moves(out, *moves)?;
+            push_moves(out, *told)?;
         }
         Answer::Moved { name, ward, page } => {
             push_request(out, *name)?;
@@ -113,10 +113,10 @@ fn push_reply(out: &mut Vec<u8>, reply: &Reply) -> Result<(), AllocError>
 }
 
 // The moves of a request and their bound, where they are told.
-fn push_moves(out: &mut Vec<u8>, moves: Option<Moves>) -> Result<(), AllocError>
-    ensures { OnOk result (out.new.items ≡ out.old.items ++ moves_text moves) }
+fn push_moves(out: &mut Vec<u8>, told: Told) -> Result<(), AllocError>
+    ensures { OnOk result (out.new.items ≡ out.old.items ++ moves_text told) }
 {
-    let Some(moves) = moves else {
+    let Some(moves) = told else {
         return Ok(());
     };
     push_text(out, " moves ")?;

@@ -2,7 +2,9 @@
 
 ghost use Rattle.std.specs.Prelude.{◌≡◌};
 ghost use Rattle.exh_script.specs.Answer.{answer_text, told_answer, HasWidths};
+ghost use Rattle.exh_script.specs.AnyStart.{BeginsSound, RepliesFollowAnyStart};
 ghost use Rattle.exh_script.specs.Replies.{RepliesAreOneMaps};
+ghost use Rattle.exh_script.specs.Text.{new_file};
 ghost use Rattle.exh_script.specs.declared.answer.Answer.{Answer};
 
 use exh_keyer::AnyKeyer;
@@ -23,6 +25,20 @@ pub fn printed_answers_are_one()
 /// copies that took the same is the same. A script that is refused prints none.
 pub fn replies_are_one_maps()
     ensures { RepliesAreOneMaps }
+{
+    new_worlds_are_sound::<AnyKeyer>();
+    steps_have_outcomes::<AnyKeyer>();
+    steps_keep_worlds_sound::<AnyKeyer>();
+    runs_carry_the_headline::<AnyKeyer>();
+    runs_keep_wards_sound_and_one_map::<AnyKeyer>();
+}
+
+/// The same over whatever world the first line begins, where that is sound and has no request in flight: the replies are
+/// those of the map machine from the map there, and each ward's journal has its own of these calls more. A new file is
+/// such a world.
+pub fn replies_follow_any_start()
+    ensures follow { RepliesFollowAnyStart }
+    ensures new_file { BeginsSound new_file }
 {
     new_worlds_are_sound::<AnyKeyer>();
     steps_have_outcomes::<AnyKeyer>();

@@ -3,9 +3,9 @@
 
 use answer::Answer;
 pub use ended::Ended;
-pub use laws::{printed_answers_are_one, replies_are_one_maps};
+pub use laws::{printed_answers_are_one, replies_are_one_maps, replies_follow_any_start};
 use line::Line;
-use moves::Moves;
+use moves::{Moves, Told};
 use refusal::Refusal;
 use run::Run;
 pub use serve_fault::ServeFault;

@@ -4,3 +4,6 @@ pub(crate) struct Moves {
     pub(crate) made: u64,
     pub(crate) bound: u64,
 }
+
+/// The moves that a reply's line tells, or none.
+pub(crate) type Told = Option<Moves>;

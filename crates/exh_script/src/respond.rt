@@ -4,7 +4,7 @@ ghost use Rattle.exh_text.specs.Lines.{lines_of};
 ghost use Rattle.exh_stream.specs.Output.{SameWriter, Takes, TakesBeginning, writer_failed};
 ghost use Rattle.exh_script.specs.Served.{PrintsFront, PrintsFrontIn};
 ghost use Rattle.exh_script.specs.Answer.{answer_text};
-ghost use Rattle.exh_script.specs.Text.{text_from, settings_of, text_of_lines, ended_of_lines};
+ghost use Rattle.exh_script.specs.Text.{text_from, new_file, settings_of, text_of_lines, ended_of_lines};
 ghost use Rattle.exh_prefix.specs.declared.prefix.TheConstants.{WARD_BITS_LIMIT};
 ghost use Rattle.exh_world.specs.NewWorld.{new_world};
 ghost use Rattle.exh_script.specs.declared.answer.Answer.TheVariants.{Refused};
@@ -21,6 +21,7 @@ use std::io::Write;
 
 /// Answers a script, and says how its run ended. On an `Err` a beginning of its text went out, after `Memory` that of a
 /// beginning of its lines.
+#[tactic(auto, unfolding(crate::specs::Text::start_of))]
 pub(crate) fn respond<W: Write>(
     alloc: Global,
     output: &mut Output<'_, W>,
@@ -28,11 +29,11 @@ pub(crate) fn respond<W: Write>(
 ) -> Result<Ended, ServeFault>
     requires { IsFalse (writer_failed output.old) }
     ensures same_writer { SameWriter output.old output.new }
-    ensures text { OnOk result (Takes W.contents output.old output.new (text_of_lines (lines_of script.now))) }
-    ensures ended { IfOk result (λ ended. ended ≡ ended_of_lines (lines_of script.now)) }
-    ensures err { OnErr result (TakesBeginning W.contents output.old output.new (text_of_lines (lines_of script.now))) }
+    ensures text { OnOk result (Takes W.contents output.old output.new (text_of_lines new_file (lines_of script.now))) }
+    ensures ended { IfOk result (λ ended. ended ≡ ended_of_lines new_file (lines_of script.now)) }
+    ensures err { OnErr result (TakesBeginning W.contents output.old output.new (text_of_lines new_file (lines_of script.now))) }
     ensures memory { IsErrOf result ServeFault.Memory → Takes W.contents output.old output.new []
-        ⊎ PrintsFront (Takes W.contents output.old output.new) (lines_of script.now) }
+        ⊎ PrintsFront new_file (Takes W.contents output.old output.new) (lines_of script.now) }
     ensures failed { IsErrOf result ServeFault.Write ↔ IsTrue (writer_failed output.new) }
 {
     let mut lines = Lines::new(script);

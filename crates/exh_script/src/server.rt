@@ -1,6 +1,7 @@
 ghost use Rattle.std.specs.Prelude.{◌≡◌, ◌⊎◌, ◌↔◌, [], MatchBool, IfOk, OnErr, IsErrOf, IsTrue, IsFalse};
 ghost use Rattle.std.specs.Io.KnownBytes.{Appends};
 ghost use Rattle.exh_script.specs.Served.{PrintsLines, PrintsText, PrintsUnread, PrintsWhole, unread_text};
+ghost use Rattle.exh_script.specs.Text.{new_file};
 ghost use Rattle.exh_stream.specs.Output.{AppendsBeginning, SameWriter, Takes, TakesBeginning, held, pending, writer_failed};
 ghost use Rattle.exh_stream.specs.Source.{SameReader, reader_failed, unread};
 
@@ -24,13 +25,13 @@ pub fn serve<R: Read, W: Write>(
     writer: &mut W,
 ) -> Result<Ended, ServeFault>
     ensures ok { IfOk result (λ ended.
-        PrintsWhole (Appends (W.contents writer.old) (W.contents writer.new)) (R.remaining reader.old) ended
+        PrintsWhole new_file (Appends (W.contents writer.old) (W.contents writer.new)) (R.remaining reader.old) ended
         ⊎ PrintsUnread (Appends (W.contents writer.old) (W.contents writer.new)) ended) }
     ensures err { OnErr result (
-        PrintsText (AppendsBeginning (W.contents writer.old) (W.contents writer.new)) (R.remaining reader.old)
+        PrintsText new_file (AppendsBeginning (W.contents writer.old) (W.contents writer.new)) (R.remaining reader.old)
         ⊎ AppendsBeginning (W.contents writer.old) (W.contents writer.new) unread_text) }
     ensures memory { IsErrOf result ServeFault.Memory →
-        PrintsLines (Appends (W.contents writer.old) (W.contents writer.new)) (R.remaining reader.old) }
+        PrintsLines new_file (Appends (W.contents writer.old) (W.contents writer.new)) (R.remaining reader.old) }
 {
     serve_source(alloc, &mut Source::new(reader), &mut Output::new(writer))
 }
@@ -48,12 +49,12 @@ fn serve_source<R: Read, W: Write>(
     ensures same_writer { SameWriter output.old output.new }
     ensures text { IfOk result (λ ended. MatchBool (reader_failed source.new)
         (PrintsUnread (Appends (held W.contents output.old) (held W.contents output.new)) ended)
-        (PrintsWhole (Appends (held W.contents output.old) (held W.contents output.new)) (unread R.remaining source.old) ended)) }
+        (PrintsWhole new_file (Appends (held W.contents output.old) (held W.contents output.new)) (unread R.remaining source.old) ended)) }
     ensures err { OnErr result (MatchBool (reader_failed source.new)
         (AppendsBeginning (held W.contents output.old) (held W.contents output.new) unread_text)
-        (PrintsText (AppendsBeginning (held W.contents output.old) (held W.contents output.new)) (unread R.remaining source.old))) }
+        (PrintsText new_file (AppendsBeginning (held W.contents output.old) (held W.contents output.new)) (unread R.remaining source.old))) }
     ensures memory { IsErrOf result ServeFault.Memory →
-        PrintsLines (Appends (held W.contents output.old) (held W.contents output.new)) (unread R.remaining source.old) }
+        PrintsLines new_file (Appends (held W.contents output.old) (held W.contents output.new)) (unread R.remaining source.old) }
     ensures failed { IsErrOf result ServeFault.Write ↔ IsTrue (writer_failed output.new) }
 {
     let served = answer_source(alloc, source, output);
@@ -73,13 +74,13 @@ fn answer_source<R: Read, W: Write>(
     ensures same_writer { SameWriter output.old output.new }
     ensures text { IfOk result (λ ended. MatchBool (reader_failed source.new)
         (PrintsUnread (Takes W.contents output.old output.new) ended)
-        (PrintsWhole (Takes W.contents output.old output.new) (unread R.remaining source.old) ended)) }
+        (PrintsWhole new_file (Takes W.contents output.old output.new) (unread R.remaining source.old) ended)) }
     ensures err { OnErr result (MatchBool (reader_failed source.new)
         (TakesBeginning W.contents output.old output.new unread_text)
-        (PrintsText (TakesBeginning W.contents output.old output.new) (unread R.remaining source.old))) }
+        (PrintsText new_file (TakesBeginning W.contents output.old output.new) (unread R.remaining source.old))) }
     ensures memory { IsErrOf result ServeFault.Memory → MatchBool (reader_failed source.new)
         (Takes W.contents output.old output.new [])
-        (PrintsLines (Takes W.contents output.old output.new) (unread R.remaining source.old)) }
+        (PrintsLines new_file (Takes W.contents output.old output.new) (unread R.remaining source.old)) }
     ensures failed { IsErrOf result ServeFault.Write ↔ IsTrue (writer_failed output.new) }
 {
     match source.read_whole(alloc, SCRIPT_LIMIT) {

@@ -5,37 +5,38 @@ use Rattle.exh_stream.specs.Source.{reader_failed}
 use Rattle.exh_stream.specs.SourceLemmas.{Consumes-all_given, LosesLonger-had}
 use Rattle.exh_script.specs.Served.{unread_text}
 use Rattle.exh_script.specs.declared.serve_fault.ServeFault.TheVariants.{Memory}
+use Rattle.exh_script.specs.Text.{new_file}
 use Rattle.exh_script.proofs.ServedLemmas.{whole_ok, whole_err, whole_memory, long_ok, long_err, none_memory, none_text, unread_ok, unread_err}
 use Rattle.exh_script.proofs.server.answer_source.Goals as goal
 
 pub returns-in-Ok-clause-text : goal.returns-in-Ok-clause-text
 returns-in-Ok-clause-text g c =
-    whole_ok (Takes g.W.Write.contents c.args.output.now c.respond.new.output) _ (reader_failed c.read_whole.new.self) (search rules) c.in-Ok.script.items c.deref.result.now
+    whole_ok new_file (Takes g.W.Write.contents c.args.output.now c.respond.new.output) _ (reader_failed c.read_whole.new.self) (search rules) c.in-Ok.script.items c.deref.result.now
     (Consumes-all_given _ _ _ c.in-Ok.ensures.ok c.in-Ok.ensures.end) c.deref.ensures.value (omega (arith, c.in-Ok.script.ok.0, c.in-Ok.ensures.within)) c.respond.result c.respond.ensures.text c.respond.ensures.ended
 
 pub returns-in-Ok-clause-err : goal.returns-in-Ok-clause-err
 returns-in-Ok-clause-err g c =
-    whole_err (TakesBeginning g.W.Write.contents c.args.output.now c.respond.new.output) _ (reader_failed c.read_whole.new.self) (search rules) c.in-Ok.script.items c.deref.result.now
+    whole_err new_file (TakesBeginning g.W.Write.contents c.args.output.now c.respond.new.output) _ (reader_failed c.read_whole.new.self) (search rules) c.in-Ok.script.items c.deref.result.now
     (Consumes-all_given _ _ _ c.in-Ok.ensures.ok c.in-Ok.ensures.end) c.deref.ensures.value (omega (arith, c.in-Ok.script.ok.0, c.in-Ok.ensures.within)) c.respond.result _ c.respond.ensures.err
 
 pub returns-in-Ok-clause-memory : goal.returns-in-Ok-clause-memory
 returns-in-Ok-clause-memory g c = λ is.
-    whole_memory (Takes g.W.Write.contents c.args.output.now c.respond.new.output) _ (reader_failed c.read_whole.new.self) (search rules) c.in-Ok.script.items c.deref.result.now
+    whole_memory new_file (Takes g.W.Write.contents c.args.output.now c.respond.new.output) _ (reader_failed c.read_whole.new.self) (search rules) c.in-Ok.script.items c.deref.result.now
     (Consumes-all_given _ _ _ c.in-Ok.ensures.ok c.in-Ok.ensures.end) c.deref.ensures.value (omega (arith, c.in-Ok.script.ok.0, c.in-Ok.ensures.within)) _ (c.respond.ensures.memory is)
 
 pub returns-in-Err-TooLong-clause-text : goal.returns-in-Err-TooLong-clause-text
 returns-in-Err-TooLong-clause-text g c =
     let lost = c.in-Err-TooLong.ensures.too_long (ap Err c.in-Err-TooLong.field-0-is) in
-    long_ok (Takes g.W.Write.contents c.args.output.now c.refuse.new.output) _ (reader_failed c.read_whole.new.self) (search rules) lost.0 lost.1 (LosesLonger-had _ _ _ lost) c.refuse.result c.refuse.ensures.text c.refuse.ensures.ended
+    long_ok new_file (Takes g.W.Write.contents c.args.output.now c.refuse.new.output) _ (reader_failed c.read_whole.new.self) (search rules) lost.0 lost.1 (LosesLonger-had _ _ _ lost) c.refuse.result c.refuse.ensures.text c.refuse.ensures.ended
 
 pub returns-in-Err-TooLong-clause-err : goal.returns-in-Err-TooLong-clause-err
 returns-in-Err-TooLong-clause-err g c =
     let lost = c.in-Err-TooLong.ensures.too_long (ap Err c.in-Err-TooLong.field-0-is) in
-    long_err (TakesBeginning g.W.Write.contents c.args.output.now c.refuse.new.output) _ (reader_failed c.read_whole.new.self) (search rules) lost.0 lost.1 (LosesLonger-had _ _ _ lost) c.refuse.result _ c.refuse.ensures.err
+    long_err new_file (TakesBeginning g.W.Write.contents c.args.output.now c.refuse.new.output) _ (reader_failed c.read_whole.new.self) (search rules) lost.0 lost.1 (LosesLonger-had _ _ _ lost) c.refuse.result _ c.refuse.ensures.err
 
 pub returns-in-Err-TooLong-clause-memory : goal.returns-in-Err-TooLong-clause-memory
 returns-in-Err-TooLong-clause-memory g c = λ is.
-    none_memory (Takes g.W.Write.contents c.args.output.now c.refuse.new.output) _ (reader_failed c.read_whole.new.self) (search rules) _ (c.refuse.ensures.memory is)
+    none_memory new_file (Takes g.W.Write.contents c.args.output.now c.refuse.new.output) _ (reader_failed c.read_whole.new.self) (search rules) _ (c.refuse.ensures.memory is)
 
 pub returns-in-Err-Read-clause-text : goal.returns-in-Err-Read-clause-text
 unfolding unread_text
@@ -49,8 +50,8 @@ returns-in-Err-Read-clause-err g c =
 
 pub returns-in-Err-Memory-clause-memory : goal.returns-in-Err-Memory-clause-memory
 returns-in-Err-Memory-clause-memory g c = λ _.
-    none_memory (Takes g.W.Write.contents c.args.output.now c.args.output.now) _ (reader_failed c.read_whole.new.self) (search rules) _ (Takes-none g.W.Write.contents c.args.output.now)
+    none_memory new_file (Takes g.W.Write.contents c.args.output.now c.args.output.now) _ (reader_failed c.read_whole.new.self) (search rules) _ (Takes-none g.W.Write.contents c.args.output.now)
 
 pub returns-in-Err-Memory-clause-err : goal.returns-in-Err-Memory-clause-err
 returns-in-Err-Memory-clause-err g c =
-    none_text (TakesBeginning g.W.Write.contents c.args.output.now c.args.output.now) _ (reader_failed c.read_whole.new.self) (search rules) (Err Memory) _ (TakesBeginning-none g.W.Write.contents c.args.output.now)
+    none_text new_file (TakesBeginning g.W.Write.contents c.args.output.now c.args.output.now) _ (reader_failed c.read_whole.new.self) (search rules) (Err Memory) _ (TakesBeginning-none g.W.Write.contents c.args.output.now)
