@@ -21,6 +21,7 @@ use Rattle.exh_keyer.specs.declared.any_keyer.AnyKeyer.{AnyKeyer}
 use Rattle.exh_notice.specs.declared.entry.Entry.{Entry}
 use Rattle.exh_notice.specs.declared.entry.Kind.{Kind}
 use Rattle.exh_notice.specs.declared.entry.Kind.TheVariants.{Split, Merge}
+use Rattle.exh_notice.specs.ByteLemmas.{zeros_are_zero}
 use Rattle.exh_table.specs.SetLemmas.{none_below}
 use Rattle.exh_table.specs.Table.{TableMap}
 use Rattle.exh_table.specs.TableLemmas.{same_from_tie}
@@ -37,7 +38,7 @@ use Rattle.exh_reasons.specs.Laws.{IsLegalFile, LegalTablesHaveRoom}
 use Rattle.exh_ward.specs.WardState.{WardState, own_prefix}
 use Rattle.exh_open.specs.Opened.{AreWardsOf, OpenedState}
 use Rattle.exh_save.specs.Saved.{AreShort, AreSound, entries_in, entries_of, file_entry, header_of, pages_in}
-use Rattle.exh_save.proofs.Lists.{all_zeros, there_in}
+use Rattle.exh_save.proofs.Lists.{there_in}
 
 -- ---- what holds of each ward's part holds of all
 
@@ -167,5 +168,5 @@ module _ (opened : OpenedState) (are : AreWardsOf opened) (sound : AreSound open
         entries = few_entries room;
         counts = omega (arith, length-append lens rest, length-replicate {A = ℕ} (16 - length lens) 0, many, within);
         pages = subst (AllByRecursion (IsPageCount LIMIT opened.ward_bits)) (sym (take_at lens rest (2 ^ opened.ward_bits) many)) (all_counts (IsPageCount LIMIT opened.ward_bits) opened.wards (page_count few));
-        others = subst (AllByRecursion (λ (count : ℕ). count ≡ 0)) (sym (drop_at lens rest (2 ^ opened.ward_bits) many)) (all_zeros (16 - length lens));
+        others = subst (AllByRecursion (λ (count : ℕ). count ≡ 0)) (sym (drop_at lens rest (2 ^ opened.ward_bits) many)) (zeros_are_zero (16 - length lens));
       }

@@ -41,10 +41,6 @@ pub set_zero : (numbers : List ℕ) (more number : ℕ) → set (numbers ++ repl
 set_zero [] more number = refl
 set_zero (first ∷ numbers) more number = ap (λ (l : List ℕ). first ∷ l) (set_zero numbers more number)
 
-pub all_zeros : (count : ℕ) → AllByRecursion (λ (number : ℕ). number ≡ 0) (replicate count 0)
-all_zeros zero = tt
-all_zeros (suc count) = (refl, all_zeros count)
-
 -- ---- of what a list was made
 
 pub there_in : {A B : Type 0} (f : A → B) (xs : List A) (at : ℕ) (y : B) → slice_get (map f xs) at ≡ Some y → (x : A) × (slice_get xs at ≡ Some x) × (f x ≡ y)
