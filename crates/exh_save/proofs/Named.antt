@@ -132,8 +132,8 @@ all_rise size base (ward ∷ wards) each =
     let later : AllByRecursion (ComesBefore (entries_in wards)) (entries_of ward) =
     AllByRecursion-weaker (λ (item : FileEntry). IsPlaced size (base + 0) item.prefix) (ComesBefore (entries_in wards))
     (λ item here. all_in (λ (next : FileEntry). prefix_cmp item.prefix next.prefix ≡ Less) wards (λ at other is.
-        AllByRecursion-weaker (λ (next : FileEntry). IsPlaced size (base + suc at) next.prefix) (λ (next : FileEntry). prefix_cmp item.prefix next.prefix ≡ Less)
-        (λ next there. apart size (base + 0) (base + suc at) item.prefix next.prefix (omega arith) here there) (entries_of other) (each (suc at) other is)))
+    AllByRecursion-weaker (λ (next : FileEntry). IsPlaced size (base + suc at) next.prefix) (λ (next : FileEntry). prefix_cmp item.prefix next.prefix ≡ Less)
+    (λ next there. apart size (base + 0) (base + suc at) item.prefix next.prefix (omega arith) here there) (entries_of other) (each (suc at) other is)))
     (entries_of ward) (each 0 ward refl) in
     both_rise (entries_of ward) (entries_in wards) (own_rise ward.number (entries ward.table) (entries_sorted ward.table))
     (all_rise size (suc base) wards (λ at other is. subst (λ (n : ℕ). AllByRecursion (λ (item : FileEntry). IsPlaced size n item.prefix) (entries_of other)) (let same : base + suc at ≡ suc base + at = omega arith in same) (each (suc at) other is)))

@@ -94,22 +94,22 @@ module _ (opened : OpenedState) (are : AreWardsOf opened) (sound : AreSound open
   rising =
       let size = 2 ^ (64 - opened.ward_bits) in
       all_rise size 0 opened.wards (λ number ward is.
-          let own = are.each number ward is in
-          let legal = (sound number ward is).legal in
-          let bits : opened.ward_bits ≤ 64 = (let small = are.bits in omega (arith, small)) in
-          let less : number < 2 ^ opened.ward_bits = omega (arith, slice_get_within opened.wards number ward is, are.count) in
-          let within : (prefix : List Bool) (entry : Entry) → find prefix_cmp prefix (entries ward.table) ≡ Some entry → IsFront (ward_prefix opened.ward_bits number) prefix × (length prefix < LIMIT)
-          = λ prefix entry found. (
-            subst (λ (n : ℕ). IsFront (ward_prefix opened.ward_bits n) prefix) own.number_is
+      let own = are.each number ward is in
+      let legal = (sound number ward is).legal in
+      let bits : opened.ward_bits ≤ 64 = (let small = are.bits in omega (arith, small)) in
+      let less : number < 2 ^ opened.ward_bits = omega (arith, slice_get_within opened.wards number ward is, are.count) in
+      let within : (prefix : List Bool) (entry : Entry) → find prefix_cmp prefix (entries ward.table) ≡ Some entry → IsFront (ward_prefix opened.ward_bits number) prefix × (length prefix < LIMIT)
+      = λ prefix entry found. (
+        subst (λ (n : ℕ). IsFront (ward_prefix opened.ward_bits n) prefix) own.number_is
             (subst (λ (bits : ℕ). IsFront (ward_prefix bits ward.number) prefix) own.bits (legal.fits.entries prefix entry (get-entries ward.table prefix ∙ found)).within),
-            short_at ward.pages legal.legal.legal.linked legal.fits prefix entry entry.kind refl (get-entries ward.table prefix ∙ found),
-          ) in
-          let each_placed : (prefix : List Bool) (entry : Entry) → find prefix_cmp prefix (entries ward.table) ≡ Some entry → IsPlaced size (0 + number) prefix
-          = λ prefix entry found.
-              let here = within prefix entry found in
-              let zero_more : number ≡ 0 + number = omega arith in
-              subst (λ (n : ℕ). IsPlaced size n prefix) zero_more (placed opened.ward_bits number prefix bits less (let short = here.1 in omega (arith, short)) here.0) in
-          all_told (IsPlaced size (0 + number)) ward.number (entries ward.table) (each (IsPlaced size (0 + number)) (entries ward.table) (entries_sorted ward.table) each_placed))
+        short_at ward.pages legal.legal.legal.linked legal.fits prefix entry entry.kind refl (get-entries ward.table prefix ∙ found),
+      ) in
+      let each_placed : (prefix : List Bool) (entry : Entry) → find prefix_cmp prefix (entries ward.table) ≡ Some entry → IsPlaced size (0 + number) prefix
+      = λ prefix entry found.
+      let here = within prefix entry found in
+      let zero_more : number ≡ 0 + number = omega arith in
+      subst (λ (n : ℕ). IsPlaced size n prefix) zero_more (placed opened.ward_bits number prefix bits less (let short = here.1 in omega (arith, short)) here.0) in
+      all_told (IsPlaced size (0 + number)) ward.number (entries ward.table) (each (IsPlaced size (0 + number)) (entries ward.table) (entries_sorted ward.table) each_placed))
 
   -- ---- it is a legal page file
 
