@@ -9,16 +9,18 @@
 # on /dev/shm where there is one. Timed are, in turns:
 # - in crates/bench_file, over the file's bytes in memory: the SHA-256 of its blocks alone, compared with those that
 #   they have; as many pseudokeys as it has records; reading it with the tests of legality; opening it, which makes
-#   wards too; writing it to nowhere. That is the time from the beginning to the end, on one thread that waits for
-#   nothing;
+#   wards too; writing it to nowhere. That is the processor's time;
 # - the program itself, by the processor that it takes: `exhash check` and `exhash dump` of the file, to nowhere;
 # - bench_file once more, as it opens the file and writes it to another one, for the most memory that it takes;
 # - file_walk.c: walks of gdbm and LMDB over files of the same records, with those that were turned away, from
-#   opening to closing. Neither has digests.
+#   opening to closing, and gdbm_dump of gdbm's file, to nowhere. Neither library has digests.
+# Where the program has the command, also `exhash load` of the longest input of pairs, 1 MiB, beside gdbmtool's `store`
+# of the same pairs, by the processor that they take; gdbmtool doesn't synchronize, and its fastest setting counts.
 #
 # Wanted: opening and writing at most 1.3 times the time of the digests, under keyer sha with the keys' hashes beside
 # them; `check` at most 1.3 times that and `dump` at most 1.6 times, also the time from the start of the program to its
-# end; memory at most 2.5 times the file.
+# end; memory at most 2.5 times the file. `load` at most 0.4 times gdbmtool's time without the digests of its file, and
+# at most as long with them.
 #
 # Status: 0 where all that is met, 1 where something isn't, 2 where nothing could be measured.
 set -u
@@ -27,6 +29,8 @@ export LC_ALL=C
 RUNS=${1:-5}
 # Pages, and how many records it takes for as many: by keyer plain, by keyer sha.
 SIZES=('1000 10929 10929' '10000 112666 112575' '60000 684805 683848')
+# Settings of gdbmtool that were worth a try.
+SETTINGS=('' '--cache-size=100' '--cache-size=4000' '--block-size=512' '--block-size=4096' '--no-mmap')
 
 die() {
     echo "bench/file.sh: $*" >&2
@@ -72,8 +76,41 @@ measure() {
         for walk in gdbm lmdb; do
             tell "$walk" "$keyer" "$pages" -- "$folder/file_walk" "$walk" "$folder/$walk"
         done
+        tell gdbm_dump "$keyer" "$pages" -- "$folder/clock" /dev/null /dev/null gdbm_dump "$folder/gdbm"
     done
     rm -f "$folder"/*.exh "$folder"/gdbm "$folder"/lmdb
+}
+
+# Writes the longest input of pairs to $folder/pairs, and stores of the same pairs to $folder/stores.
+write_pairs() {
+    awk -v left=1048576 -v pairs="$folder/pairs" -v stores="$folder/stores" 'BEGIN {
+        srand(7)
+        first = "file cap=16 wards=0 copies=1 keyer=plain"
+        print first > pairs
+        for (left -= length(first) + 1; left >= 27; left -= 27) {
+            key = ""
+            for (i = 0; i < 4; i++) key = key sprintf("%04x", int(rand() * 65536))
+            print "#" key " " substr(key, 9) > pairs
+            print "store " key " " substr(key, 9) > stores
+        }
+    }'
+}
+
+# Times the loading of pairs, where the program has that command.
+measure_load() {
+    local run setting
+    write_pairs
+    "$program" load "$folder/load.exh" < "$folder/pairs" > "$folder/loaded" 2> "$folder/log" || return 0
+    [ "$(tail -n 1 "$folder/loaded")" = "loaded $(sort -u "$folder/stores" | wc -l)" ] || die 'a load lacks pairs'
+    for ((run = 0; run < RUNS; run++)); do
+        tell load plain pairs -- "$folder/clock" "$folder/pairs" /dev/null "$program" load "$folder/load.exh"
+        tell loaded plain pairs -- "$timed" time "$folder/load.exh"
+        for setting in "${SETTINGS[@]}"; do
+            # shellcheck disable=SC2086 # None or one word.
+            tell store plain pairs -- "$folder/clock" "$folder/stores" /dev/null \
+                gdbmtool --norc --quiet --newdb --no-lock $setting "$folder/base"
+        done
+    done
 }
 
 for name in clock file_walk; do
@@ -91,6 +128,7 @@ for size in "${SIZES[@]}"; do
     measure "$pages" plain "$plain"
     measure "$pages" sha "$sha"
 done > "$folder/times" || exit 2
+measure_load >> "$folder/times" || exit 2
 machine="$(nproc) x $(sed -n 's/^model name[^:]*: //p' /proc/cpuinfo | head -n 1)"
 echo "machine: $machine, load $(cut -d ' ' -f 1 /proc/loadavg); best of $RUNS runs; milliseconds"
 awk '
@@ -130,8 +168,17 @@ awk '
         tell("dump", keyer, pages, 1, 1.6)
         printf "%6d  %-5s  memory   %9.2f times the file to open and write it, %.2f of check, %.2f of dump\n", pages,
             keyer, memory("copy", keyer, pages), memory("check", keyer, pages), memory("dump", keyer, pages)
-        printf "%6d  %-5s  walks    gdbm %.2f, LMDB %.2f\n", pages, keyer, cost("gdbm", keyer, pages),
-            cost("lmdb", keyer, pages)
+        printf "%6d  %-5s  walks    gdbm %.2f, LMDB %.2f, gdbm_dump %.2f\n", pages, keyer, cost("gdbm", keyer, pages),
+            cost("lmdb", keyer, pages), cost("gdbm_dump", keyer, pages)
+    }
+    # Prints what loading pairs takes, beside the stores of gdbmtool.
+    function tell_load(    load, own, store) {
+        load = cost("load", "plain", "pairs")
+        own = cost("load digests", "plain", "pairs")
+        store = cost("store", "plain", "pairs")
+        printf "load of 1 MiB: %.2f, of which digests %.2f; gdbmtool %.2f\n", load, own, store
+        judge("load without its digests by gdbmtool", (load - own) / store, 0.4)
+        judge("load by gdbmtool", load / store, 1)
     }
     $1 == "size" { size[$2, $3] = $4 }
     $1 == "time" {
@@ -142,6 +189,8 @@ awk '
         keep("open", $8)
         keep("write", $9)
     }
+    $1 == "load" || $1 == "store" || $1 == "gdbm_dump" { keep($1, $4 * 1000) }
+    $1 == "loaded" { keep("load digests", $6) }
     $1 == "check" || $1 == "dump" {
         keep($1, $4 * 1000)
         keep_most($1, $6)
@@ -162,6 +211,7 @@ awk '
         for (i = 1; i <= 3; i++) {
             for (k = 1; k <= 2; k++) tell_all(keyers[k], sizes[i])
         }
+        if (("load", "plain", "pairs") in best) tell_load()
         for (i = 1; i <= short; i++) print falls[i]
         exit (short > 0)
     }' "$folder/times"

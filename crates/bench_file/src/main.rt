@@ -2,8 +2,9 @@
 //!
 //! - `make PATH KEYER RECORDS` puts records into a new file of one ward, writes it to the path, and prints how many
 //!   pages it has;
-//! - `time PATH` prints how many records the file has, and the nanoseconds of as many pseudokeys, of the digests of its
-//!   blocks, of reading it with the tests of legality, of opening it, and of writing it to nowhere, all from memory;
+//! - `time PATH` prints how many records the file has, and the processor's nanoseconds of as many pseudokeys, of the
+//!   digests of its blocks, of reading it with the tests of legality, of opening it, and of writing it to nowhere, all
+//!   from memory;
 //! - `copy PATH TO` opens the file and writes it to another path, and prints nothing, for what memory it takes.
 //!
 //! Without words it makes a small file of each keyer in memory, times it, and prints nothing.

@@ -8,10 +8,10 @@ use exh_legal_file::{LegalFile, read_legal_file};
 use exh_open::{Opened, open};
 use exh_page::Page;
 use exh_page_file::FileParts;
-use std::time::{Clock, Instant};
+use std::time::{CpuClock, Duration};
 use std::{fmt, io};
 
-/// The records of a page file that lies in memory, and the nanoseconds of what is done with it.
+/// The records of a page file that lies in memory, and the processor's nanoseconds of what is done with it.
 #[derive(Clone, Copy, Debug)]
 pub(crate) struct Times {
     records: u32,
@@ -29,7 +29,10 @@ pub(crate) struct Times {
 
 impl Times {
     /// Times the file of these bytes.
-    pub(crate) fn measure(rt: &(impl Clock + AllocGlobal), bytes: &[u8]) -> anyhow::Result<Times> {
+    pub(crate) fn measure(
+        rt: &(impl CpuClock + AllocGlobal),
+        bytes: &[u8],
+    ) -> anyhow::Result<Times> {
         let digests = digest_time(rt, bytes)?;
         let (file, check) = check_time(rt, bytes)?;
         let (keyer, records) = (file.parts.header.keyer, record_count(&file.parts));
@@ -58,8 +61,13 @@ impl fmt::Display for Times {
     }
 }
 
-fn digest_time(clock: &impl Clock, bytes: &[u8]) -> anyhow::Result<u128> {
-    let start = Instant::now(clock)?;
+// The processor's nanoseconds since a time of it.
+fn since(clock: &impl CpuClock, start: Duration) -> io::Result<u128> {
+    Ok(clock.process_cpu_time()?.saturating_sub(start).as_nanos())
+}
+
+fn digest_time(clock: &impl CpuClock, bytes: &[u8]) -> anyhow::Result<u128> {
+    let start = clock.process_cpu_time()?;
     let mut block = [0; BLOCK_LEN];
     for bytes in bytes.chunks_exact(BLOCK_LEN) {
         block.copy_from_slice(bytes);
@@ -67,15 +75,18 @@ fn digest_time(clock: &impl Clock, bytes: &[u8]) -> anyhow::Result<u128> {
             bail!("a block's digest isn't right");
         }
     }
-    Ok(start.elapsed(clock)?.as_nanos())
+    Ok(since(clock, start)?)
 }
 
 // The file comes first.
-fn check_time(rt: &(impl Clock + AllocGlobal), bytes: &[u8]) -> anyhow::Result<(LegalFile, u128)> {
-    let start = Instant::now(rt)?;
+fn check_time(
+    rt: &(impl CpuClock + AllocGlobal),
+    bytes: &[u8],
+) -> anyhow::Result<(LegalFile, u128)> {
+    let start = rt.process_cpu_time()?;
     let mut rest = bytes;
     let file = read_legal_file(rt.alloc(), &mut rest)?;
-    Ok((file, start.elapsed(rt)?.as_nanos()))
+    Ok((file, since(rt, start)?))
 }
 
 fn record_count(parts: &FileParts) -> u32 {
@@ -91,8 +102,8 @@ fn record_count(parts: &FileParts) -> u32 {
     count
 }
 
-fn key_time(clock: &impl Clock, keyer: AnyKeyer, records: u32) -> anyhow::Result<u128> {
-    let start = Instant::now(clock)?;
+fn key_time(clock: &impl CpuClock, keyer: AnyKeyer, records: u32) -> anyhow::Result<u128> {
+    let start = clock.process_cpu_time()?;
     let mut mixed = 0;
     for i in 0..records {
         mixed ^= keyer.pseudo(&key_bytes(i));
@@ -101,24 +112,24 @@ fn key_time(clock: &impl Clock, keyer: AnyKeyer, records: u32) -> anyhow::Result
     if mixed == 0 {
         bail!("the pseudokeys are no mixture");
     }
-    Ok(start.elapsed(clock)?.as_nanos())
+    Ok(since(clock, start)?)
 }
 
 // The wards come first.
 fn open_time(
-    rt: &(impl Clock + AllocGlobal),
+    rt: &(impl CpuClock + AllocGlobal),
     bytes: &[u8],
 ) -> anyhow::Result<(Opened<PlainPages>, u128)> {
-    let start = Instant::now(rt)?;
+    let start = rt.process_cpu_time()?;
     let mut rest = bytes;
     let opened = open::<&[u8], PlainPages>(rt.alloc(), &mut rest)?;
-    Ok((opened, start.elapsed(rt)?.as_nanos()))
+    Ok((opened, since(rt, start)?))
 }
 
-fn write_time(clock: &impl Clock, opened: Opened<PlainPages>) -> anyhow::Result<u128> {
-    let start = Instant::now(clock)?;
+fn write_time(clock: &impl CpuClock, opened: Opened<PlainPages>) -> anyhow::Result<u128> {
+    let start = clock.process_cpu_time()?;
     let wards = save(opened, &mut io::sink())?;
-    let nanoseconds = start.elapsed(clock)?.as_nanos();
+    let nanoseconds = since(clock, start)?;
     drop(wards);
     Ok(nanoseconds)
 }
