@@ -7,3 +7,5 @@ pub mod Legal
 -- of opening what was written
 pub mod Named
 pub mod Reopened
+-- of writing what was opened
+pub mod Again

@@ -30,11 +30,11 @@ use Rattle.exh_save.specs.Saved.{entries_in, entries_of, file_entry}
 
 -- ---- those that name a ward
 
-abbrev told_by : List FileEntry → ℕ → List (List Bool × Entry)
+abbrev pub told_by : List FileEntry → ℕ → List (List Bool × Entry)
 told_by items ward = map told_of (naming items ward)
 
 -- the entries behind one, with it or without it
-abbrev with_one : FileEntry → List FileEntry → ℕ → Bool → List (List Bool × Entry)
+abbrev pub with_one : FileEntry → List FileEntry → ℕ → Bool → List (List Bool × Entry)
 with_one item items ward named = map told_of (cond named (item ∷ naming items ward) (naming items ward))
 
 own_told : (ward : ℕ) (told : List (List Bool × Entry)) → told_by (map (file_entry ward) told) ward ≡ told

@@ -65,15 +65,15 @@ module _ (opened : OpenedState) (are : AreWardsOf opened) (sound : AreSound open
 
   -- ---- its tables
 
-  own_named : (number : ℕ) (ward : WardState AnyKeyer) → slice_get opened.wards number ≡ Some ward → table_naming items number ≡ ward.table
+  pub own_named : (number : ℕ) (ward : WardState AnyKeyer) → slice_get opened.wards number ≡ Some ward → table_naming items number ≡ ward.table
   own_named number ward is =
       ap (from_entries {R = prefix_cmp}) (own_in opened.wards number number ward is (are.each number ward is).number_is (λ place other there named. sym (are.each place other there).number_is ∙ named))
       ∙ own_table ward.table
 
-  none_named : (number : ℕ) → length opened.wards ≤ number → table_naming items number ≡ empty
+  pub none_named : (number : ℕ) → length opened.wards ≤ number → table_naming items number ≡ empty
   none_named number past = ap (from_entries {R = prefix_cmp}) (none_in opened.wards number (λ at ward is named. absurd (omega (arith, past, slice_get_within opened.wards at ward is, (are.each at ward is).number_is, named))))
 
-  few : length opened.wards ≤ 16
+  pub few : length opened.wards ≤ 16
   few = omega (arith, are.count, pow-le-pow_right {n = 2} (omega arith) are.bits)
 
   own_there : (number : ℕ) (ward : WardState AnyKeyer) → slice_get opened.wards number ≡ Some ward → get_or (tables_of items) number empty ≡ ward.table
@@ -90,7 +90,7 @@ module _ (opened : OpenedState) (are : AreWardsOf opened) (sound : AreSound open
 
   -- ---- its entries' prefixes rise
 
-  rising : AreRising (prefixes_of items)
+  pub rising : AreRising (prefixes_of items)
   rising =
       let size = 2 ^ (64 - opened.ward_bits) in
       all_rise size 0 opened.wards (λ number ward is.

@@ -3,7 +3,8 @@ use Rattle.std.specs.Prelude.{◌≡◌, ℕ, List, [], length, slice_get, Some}
 use Rattle.exh_keyer.specs.declared.any_keyer.AnyKeyer.{AnyKeyer}
 use Rattle.exh_legal.specs.Pages.{map_of}
 use Rattle.exh_file.specs.FileVersion.{first_file}
-use Rattle.exh_page_file.specs.PageFile.{PageFile}
+use Rattle.exh_page_file.specs.PageFile.{PageFile, file_bytes}
+use Rattle.exh_page_file.specs.Reading.{AreBytes}
 use Rattle.exh_legal_file.specs.LegalFile.{IsLegalPageFile}
 use Rattle.exh_ward.specs.WardState.{WardState}
 use Rattle.exh_open.specs.Opened.{OpenedState}
@@ -32,3 +33,7 @@ pub record IsReopened (old new : OpenedState) : Type 0 where
 pub record IsKept (opened : OpenedState) (bytes : List ℕ) : Type 0 where
   pub legal : IsLegalPageFile first_file (file_of opened) bytes
   pub same : (other : OpenedState) → OpensAs bytes other → IsReopened opened other
+
+-- where these wards are what opening some bytes gives, their page file is these bytes again
+abbrev pub IsWrittenAgain : OpenedState → Type 0
+IsWrittenAgain opened = (bytes : List ℕ) → AreBytes bytes → OpensAs bytes opened → bytes ≡ file_bytes first_file (file_of opened)

@@ -7,6 +7,7 @@ use Rattle.exh_file.specs.declared.header.Header.{Header}
 use Rattle.exh_page_file.specs.PageFile.{file_bytes}
 use Rattle.exh_page_file.specs.Writing.{written}
 use Rattle.exh_save.specs.Saved.{file_with, in_file}
+use Rattle.exh_save.proofs.Again.{is_again}
 use Rattle.exh_save.proofs.Legal.{are_short, is_header}
 use Rattle.exh_save.proofs.Reopened.{both_ok, is_kept}
 use Rattle.exh_save.proofs.saving.write_file.Goals as goal
@@ -36,3 +37,6 @@ returns-clause-opens g c =
     both_ok
     (λ ranges valid. is_kept opened c.requires.wards c.header_of-header.ensures.sound c.fitting_tables_begin_wards.ensures c.legal_files_pass.ensures c.pages_are_few.ensures c.legal_tables_have_room.ensures ranges valid c.one_file.ensures)
     c.write_parts.result c.write_parts.ensures.pages c.write_parts.ensures.entries
+
+pub returns-clause-again : goal.returns-clause-again
+returns-clause-again g c = is_again (in_file c.args.cap c.args.ward_bits c.args.keyer c.args.wards.now) c.requires.wards c.header_of-header.ensures.sound c.fitting_tables_begin_wards.ensures
