@@ -21,7 +21,7 @@ use Rattle.clap.proofs.OnLiterals.{clap_on_literals}
 use Rattle.clap.proofs.WalkLemmas.{both, first_value-rows, walk_stopped}
 use Rattle.clap.proofs.FaultLemmas.{stopped_fault}
 use Rattle.exh_cli.specs.Fault.{IsFaultOf, TellsVersion}
-use Rattle.exh_cli.specs.Job.{AskForVersion, Named, Serve, Check, Dump, alone, command_of, ends_options, is_option, job_named, only_word, path_named, path_of, serve_named}
+use Rattle.exh_cli.specs.Job.{AskForVersion, Named, Serve, Check, Dump, Load, alone, command_of, ends_options, is_option, job_named, only_word, path_named, path_of, serve_named}
 use Rattle.exh_cli.specs.Parser.{ReadsJobs, about_path, path_id, path_rule, told}
 use Rattle.exh_cli.specs.declared.fault.CliFault.{CliFault}
 
@@ -34,7 +34,7 @@ abbrev pub bare_program : App
 bare_program = on_top (λ s. record s { has_version = true; subcommand_required = true; arg_required_else_help = true }) (new_app (codes "exhash"))
 
 abbrev pub program : App
-program = with_subcommand (with_subcommand (with_subcommand bare_program serve) (about_path (codes "check"))) (about_path (codes "dump"))
+program = with_subcommand (with_subcommand (with_subcommand (with_subcommand bare_program serve) (about_path (codes "check"))) (about_path (codes "dump"))) (about_path (codes "load"))
 
 is_exact : is_simple_and_free program ≡ true
 unfolding clap_on_literals
@@ -340,6 +340,7 @@ unfolding clap_on_literals
 one_met word true e Serve named = subst (λ w. first_of path_id (rows_after serve_flags [] (w ∷ [])) ≡ None) (is_end word e) refl
 one_met word true e (Check path) named = cc
 one_met word true e (Dump path) named = cc
+one_met word true e (Load path) named = cc
 one_met word false e job named = cc
 
 leaf_met : (words : List Text) (job : Named) → serve_named words ≡ Some job → first_of path_id (rows_after serve_flags [] words) ≡ path_of job
@@ -347,6 +348,7 @@ unfolding clap_on_literals
 leaf_met [] Serve named = refl
 leaf_met [] (Check path) named = cc
 leaf_met [] (Dump path) named = cc
+leaf_met [] (Load path) named = cc
 leaf_met (word ∷ []) job named = one_met word (ends_options word) refl job named
 leaf_met (word ∷ next ∷ rest) job named = cc
 
@@ -514,6 +516,10 @@ dump_leaves : (words : List Text) → top_kinds (codes "dump" ∷ words) ≡ pat
 unfolding clap_on_literals
 dump_leaves words = stopped_is (codes "dump") words ∙ or_nothing (path_kinds words)
 
+load_leaves : (words : List Text) → top_kinds (codes "load" ∷ words) ≡ path_kinds words
+unfolding clap_on_literals
+load_leaves words = stopped_is (codes "load") words ∙ or_nothing (path_kinds words)
+
 help_fails : (words : List Text) → Fails (top_kinds (codes "help" ∷ words))
 unfolding clap_on_literals
 help_fails words = tt
@@ -524,9 +530,10 @@ end_fails [] = tt
 end_fails (word ∷ rest) = tt
 
 -- a word that names no command
-module _ (word : Text) (no_serve : bytes_eq (codes "serve") word ≡ false) (no_check : bytes_eq (codes "check") word ≡ false) (no_dump : bytes_eq (codes "dump") word ≡ false) where
+module _ (word : Text) (no_serve : bytes_eq (codes "serve") word ≡ false) (no_check : bytes_eq (codes "check") word ≡ false) (no_dump : bytes_eq (codes "dump") word ≡ false)
+    (no_load : bytes_eq (codes "load") word ≡ false) where
   unnamed : bytes_eq (codes "help") word ≡ false → subcommand_met names idle word ≡ None
-  unnamed no_help = rw (no_serve, no_check, no_dump, no_help) refl
+  unnamed no_help = rw (no_serve, no_check, no_dump, no_load, no_help) refl
 
   other_fails : (rest : List Text) (helps ends : Bool) → bytes_eq (codes "help") word ≡ helps → ends_options word ≡ ends → Fails (top_kinds (word ∷ rest))
   unfolding clap_on_literals
@@ -535,24 +542,27 @@ module _ (word : Text) (no_serve : bytes_eq (codes "serve") word ≡ false) (no_
   other_fails rest false false no_help no_end =
       first_fails _ _ (first_fails _ _ (word_fails top flags long_asking short_asking None 1 word refl names (unnamed no_help) no_end))
 
-command_agrees : (word : Text) (rest : List Text) (serves checks dumps : Bool) → bytes_eq (codes "serve") word ≡ serves → bytes_eq (codes "check") word ≡ checks → bytes_eq (codes "dump") word ≡ dumps
-    → Agrees (cond serves (serve_named rest) (cond checks (option_map Check (path_named rest)) (cond dumps (option_map Dump (path_named rest)) None))) (top_kinds (word ∷ rest))
-command_agrees word rest true checks dumps s c d =
+command_agrees : (word : Text) (rest : List Text) (serves checks dumps loads : Bool) → bytes_eq (codes "serve") word ≡ serves → bytes_eq (codes "check") word ≡ checks → bytes_eq (codes "dump") word ≡ dumps → bytes_eq (codes "load") word ≡ loads
+    → Agrees (cond serves (serve_named rest) (cond checks (option_map Check (path_named rest)) (cond dumps (option_map Dump (path_named rest)) (cond loads (option_map Load (path_named rest)) None)))) (top_kinds (word ∷ rest))
+command_agrees word rest true checks dumps loads s c d l =
     let left = subst (Agrees (serve_named rest)) (sym (serve_leaves rest)) (leaf_agrees rest) in
     subst (λ w. Agrees (serve_named rest) (top_kinds (w ∷ rest))) (is_name (codes "serve") word s) left
-command_agrees word rest false true dumps s c d =
+command_agrees word rest false true dumps loads s c d l =
     let left = subst (Agrees (option_map Check (path_named rest))) (sym (check_leaves rest)) (agrees_as Check _ _ (path_agrees rest)) in
     subst (λ w. Agrees (option_map Check (path_named rest)) (top_kinds (w ∷ rest))) (is_name (codes "check") word c) left
-command_agrees word rest false false true s c d =
+command_agrees word rest false false true loads s c d l =
     let left = subst (Agrees (option_map Dump (path_named rest))) (sym (dump_leaves rest)) (agrees_as Dump _ _ (path_agrees rest)) in
     subst (λ w. Agrees (option_map Dump (path_named rest)) (top_kinds (w ∷ rest))) (is_name (codes "dump") word d) left
-command_agrees word rest false false false s c d = other_fails word s c d rest (bytes_eq (codes "help") word) (ends_options word) refl refl
+command_agrees word rest false false false true s c d l =
+    let left = subst (Agrees (option_map Load (path_named rest))) (sym (load_leaves rest)) (agrees_as Load _ _ (path_agrees rest)) in
+    subst (λ w. Agrees (option_map Load (path_named rest)) (top_kinds (w ∷ rest))) (is_name (codes "load") word l) left
+command_agrees word rest false false false false s c d l = other_fails word s c d l rest (bytes_eq (codes "help") word) (ends_options word) refl refl
 
 words_agree : (words : List Text) → Agrees (job_named words) (fault_of program words)
 unfolding clap_on_literals
 words_agree [] = tt
 words_agree (name ∷ []) = tt
-words_agree (name ∷ command ∷ rest) = command_agrees command rest (bytes_eq (codes "serve") command) (bytes_eq (codes "check") command) (bytes_eq (codes "dump") command) refl refl refl
+words_agree (name ∷ command ∷ rest) = command_agrees command rest (bytes_eq (codes "serve") command) (bytes_eq (codes "check") command) (bytes_eq (codes "dump") command) (bytes_eq (codes "load") command) refl refl refl refl
 
 -- ---- the command that is met, and its path
 
@@ -574,6 +584,10 @@ check_met name words = met_at (codes "check") words
 dump_met : (name : Text) (words : List Text) → met_by (name ∷ codes "dump" ∷ words) ≡ Some (codes "dump", path_rows words)
 unfolding clap_on_literals
 dump_met name words = met_at (codes "dump") words
+
+load_met : (name : Text) (words : List Text) → met_by (name ∷ codes "load" ∷ words) ≡ Some (codes "load", path_rows words)
+unfolding clap_on_literals
+load_met name words = met_at (codes "load") words
 
 abbrev IsMet : List Text → Named → Type 0
 IsMet words job = met_by words ≡ Some (command_of job, path_of job)
@@ -601,6 +615,17 @@ serve_is_met name rest (Dump path) named = absurd (serves rest path named)
         one false named = cc
     serves (word ∷ next ∷ rest) path named = cc
 
+serve_is_met name rest (Load path) named = absurd (serves rest path named)
+  where
+    serves : (rest : List Text) (path : Text) → serve_named rest ≡ Some (Load path) → ⊥
+    serves [] path named = cc
+    serves (word ∷ []) path named = one (ends_options word) named
+      where
+        one : (ends : Bool) → cond ends (Some Serve) None ≡ Some (Load path) → ⊥
+        one true named = cc
+        one false named = cc
+    serves (word ∷ next ∷ rest) path named = cc
+
 check_is_met : (name : Text) (rest : List Text) (found : Option Text) (job : Named) → path_named rest ≡ found → option_map Check found ≡ Some job → IsMet (name ∷ codes "check" ∷ rest) job
 check_is_met name rest None job named same = cc
 check_is_met name rest (Some path) job named same =
@@ -611,17 +636,23 @@ dump_is_met name rest None job named same = cc
 dump_is_met name rest (Some path) job named same =
     subst (IsMet (name ∷ codes "dump" ∷ rest)) (some_is same) (dump_met name rest ∙ ap (λ p. Some (codes "dump", p)) (path_met rest path named))
 
-command_met : (name word : Text) (rest : List Text) (serves checks dumps : Bool) (job : Named) → bytes_eq (codes "serve") word ≡ serves → bytes_eq (codes "check") word ≡ checks → bytes_eq (codes "dump") word ≡ dumps
-    → cond serves (serve_named rest) (cond checks (option_map Check (path_named rest)) (cond dumps (option_map Dump (path_named rest)) None)) ≡ Some job → IsMet (name ∷ word ∷ rest) job
-command_met name word rest true checks dumps job s c d named = subst (λ w. IsMet (name ∷ w ∷ rest) job) (is_name (codes "serve") word s) (serve_is_met name rest job named)
-command_met name word rest false true dumps job s c d named = subst (λ w. IsMet (name ∷ w ∷ rest) job) (is_name (codes "check") word c) (check_is_met name rest (path_named rest) job refl named)
-command_met name word rest false false true job s c d named = subst (λ w. IsMet (name ∷ w ∷ rest) job) (is_name (codes "dump") word d) (dump_is_met name rest (path_named rest) job refl named)
-command_met name word rest false false false job s c d named = cc
+load_is_met : (name : Text) (rest : List Text) (found : Option Text) (job : Named) → path_named rest ≡ found → option_map Load found ≡ Some job → IsMet (name ∷ codes "load" ∷ rest) job
+load_is_met name rest None job named same = cc
+load_is_met name rest (Some path) job named same =
+    subst (IsMet (name ∷ codes "load" ∷ rest)) (some_is same) (load_met name rest ∙ ap (λ p. Some (codes "load", p)) (path_met rest path named))
+
+command_met : (name word : Text) (rest : List Text) (serves checks dumps loads : Bool) (job : Named) → bytes_eq (codes "serve") word ≡ serves → bytes_eq (codes "check") word ≡ checks → bytes_eq (codes "dump") word ≡ dumps → bytes_eq (codes "load") word ≡ loads
+    → cond serves (serve_named rest) (cond checks (option_map Check (path_named rest)) (cond dumps (option_map Dump (path_named rest)) (cond loads (option_map Load (path_named rest)) None))) ≡ Some job → IsMet (name ∷ word ∷ rest) job
+command_met name word rest true checks dumps loads job s c d l named = subst (λ w. IsMet (name ∷ w ∷ rest) job) (is_name (codes "serve") word s) (serve_is_met name rest job named)
+command_met name word rest false true dumps loads job s c d l named = subst (λ w. IsMet (name ∷ w ∷ rest) job) (is_name (codes "check") word c) (check_is_met name rest (path_named rest) job refl named)
+command_met name word rest false false true loads job s c d l named = subst (λ w. IsMet (name ∷ w ∷ rest) job) (is_name (codes "dump") word d) (dump_is_met name rest (path_named rest) job refl named)
+command_met name word rest false false false true job s c d l named = subst (λ w. IsMet (name ∷ w ∷ rest) job) (is_name (codes "load") word l) (load_is_met name rest (path_named rest) job refl named)
+command_met name word rest false false false false job s c d l named = cc
 
 job_met : (words : List Text) (job : Named) → job_named words ≡ Some job → IsMet words job
 job_met [] job named = cc
 job_met (name ∷ []) job named = cc
-job_met (name ∷ command ∷ rest) job named = command_met name command rest (bytes_eq (codes "serve") command) (bytes_eq (codes "check") command) (bytes_eq (codes "dump") command) job refl refl refl named
+job_met (name ∷ command ∷ rest) job named = command_met name command rest (bytes_eq (codes "serve") command) (bytes_eq (codes "check") command) (bytes_eq (codes "dump") command) (bytes_eq (codes "load") command) job refl refl refl refl named
 
 -- ---- the version
 
@@ -684,16 +715,25 @@ pub serves : (job : Named) → path_of job ≡ None → job ≡ Serve
 serves Serve none = refl
 serves (Check path) none = cc
 serves (Dump path) none = cc
+serves (Load path) none = cc
 
 pub checks : (job : Named) (path : Text) → path_of job ≡ Some path → codes "check" ≡ command_of job → job ≡ Check path
 checks Serve path named command = cc
 checks (Check other) path named command = ap Check (some_is named)
 checks (Dump other) path named command = absurd (let never : 99 ≡ 100 = ap (λ (word : Text). slice_index_or word 0 0) command in omega arith)
+checks (Load other) path named command = absurd (let never : 99 ≡ 108 = ap (λ (word : Text). slice_index_or word 0 0) command in omega arith)
 
-pub dumps : (job : Named) (path : Text) → path_of job ≡ Some path → (codes "check" ≡ command_of job → ⊥) → job ≡ Dump path
-dumps Serve path named other = cc
-dumps (Check found) path named other = absurd (other refl)
-dumps (Dump found) path named other = ap Dump (some_is named)
+pub loads : (job : Named) (path : Text) → path_of job ≡ Some path → codes "load" ≡ command_of job → job ≡ Load path
+loads Serve path named command = cc
+loads (Check other) path named command = absurd (let never : 108 ≡ 99 = ap (λ (word : Text). slice_index_or word 0 0) command in omega arith)
+loads (Dump other) path named command = absurd (let never : 108 ≡ 100 = ap (λ (word : Text). slice_index_or word 0 0) command in omega arith)
+loads (Load other) path named command = ap Load (some_is named)
+
+pub dumps : (job : Named) (path : Text) → path_of job ≡ Some path → (codes "check" ≡ command_of job → ⊥) → (codes "load" ≡ command_of job → ⊥) → job ≡ Dump path
+dumps Serve path named check load = cc
+dumps (Check found) path named check load = absurd (check refl)
+dumps (Dump found) path named check load = ap Dump (some_is named)
+dumps (Load found) path named check load = absurd (load refl)
 
 -- ---- a parse that fails
 

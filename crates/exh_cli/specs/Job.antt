@@ -9,11 +9,13 @@ pub data Named : Type 0 where
   Serve : Named
   Check : List ℕ → Named
   Dump : List ℕ → Named
+  Load : List ℕ → Named
 
 abbrev pub named_of : Job → Named
 named_of jobs.Serve = Serve
 named_of (jobs.Check path) = Check path.now
 named_of (jobs.Dump path) = Dump path.now
+named_of (jobs.Load path) = Load path.now
 
 -- ---- the words behind a command
 
@@ -60,7 +62,8 @@ job_named (program ∷ []) = None
 job_named (program ∷ command ∷ rest) =
     if bytes_eq (codes "serve") command then serve_named rest
     else (if bytes_eq (codes "check") command then option_map Check (path_named rest)
-    else (if bytes_eq (codes "dump") command then option_map Dump (path_named rest) else None))
+    else (if bytes_eq (codes "dump") command then option_map Dump (path_named rest)
+    else (if bytes_eq (codes "load") command then option_map Load (path_named rest) else None)))
 
 -- words that ask for the program's version and name no job: `--version` alone behind its name
 abbrev pub AskForVersion : List (List ℕ) → Type 0
@@ -71,9 +74,11 @@ abbrev pub command_of : Named → List ℕ
 command_of Serve = codes "serve"
 command_of (Check path) = codes "check"
 command_of (Dump path) = codes "dump"
+command_of (Load path) = codes "load"
 
 -- the path that a job is about, if it is about one
 abbrev pub path_of : Named → Option (List ℕ)
 path_of Serve = None
 path_of (Check path) = Some path
 path_of (Dump path) = Some path
+path_of (Load path) = Some path

@@ -4,3 +4,4 @@ pub mod Parser
 pub mod Status
 pub mod Run
 pub mod FileRun
+pub mod LoadRun

@@ -4,7 +4,7 @@ ghost use Rattle.exh_cli.specs.Fault.{IsWrong, TellsVersion};
 ghost use Rattle.exh_cli.specs.Job.{AskForVersion, job_named, named_of};
 
 use crate::fault::CliFault;
-use crate::parser::{CHECK, PATH, parser};
+use crate::parser::{CHECK, LOAD, PATH, parser};
 use std::alloc::Global;
 use std::convert::AsStr;
 
@@ -17,6 +17,8 @@ pub enum Job<'w> {
     Check { path: &'w str },
     /// Tell what a legal page file has.
     Dump { path: &'w str },
+    /// Save the pairs on standard input as the page file of a path.
+    Load { path: &'w str },
 }
 
 /// The job that the words of a command line name, of which the first is the program's name.
@@ -41,6 +43,7 @@ pub fn job_of<'w, S: AsStr>(alloc: Global, words: &'w [S]) -> Result<Job<'w>, Cl
     };
     match command {
         CHECK => Ok(Job::Check { path }),
+        LOAD => Ok(Job::Load { path }),
         _ => Ok(Job::Dump { path }),
     }
 }

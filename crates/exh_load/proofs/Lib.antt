@@ -7,5 +7,8 @@ pub mod Turns
 pub mod Items
 pub mod FreshWards
 pub mod PutIn
--- of load_text: lines
+-- of load_text: lines, and how many records there are
 pub mod Lines
+pub mod Records
+-- of load_source: what is printed of a load
+pub mod Loads

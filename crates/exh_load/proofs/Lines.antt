@@ -1,5 +1,5 @@
 -- The text of lines, line by line.
-use Rattle.std.proofs.Common.{◌≡◌, ℕ, List, [], ◌∷◌, ◌++◌, Option, refl, sym, ap, ◌∙◌, subst, append_assoc, append-nil}
+use Rattle.std.proofs.Common.{◌≡◌, ℕ, List, [], ◌∷◌, ◌++◌, Option, refl, sym, ap, ◌∙◌, subst, append_assoc, append-nil, Result, Ok, Err, IfErr}
 use Rattle.exh_stream.specs.Output.{Takes, TakesBeginning}
 use Rattle.exh_stream.specs.declared.output.Output.{Output}
 use Rattle.exh_stream.specs.OutputLemmas.{AppendsBeginning-from, Takes-then, TakesBeginning-then, TakesBeginning-of_more}
@@ -8,6 +8,11 @@ use Rattle.exh_load.specs.Loading.{Loading, after_line, line_text, loaded_from, 
 -- what is printed of a line, where a text is built anew
 pub line_is : (loading : Loading) (line cleared built bytes : List ℕ) → cleared ≡ [] → built ≡ cleared ++ line_text loading line → bytes ≡ built → bytes ≡ line_text loading line
 line_is loading line cleared built bytes is_cleared is_built is_bytes = is_bytes ∙ is_built ∙ ap (λ front. front ++ line_text loading line) is_cleared
+
+-- what holds of any error
+pub IfErr-from : {T E : Type 0} {P : E → Type 0} (result : Result T E) → ((fault : E) → P fault) → IfErr result P
+IfErr-from (Ok value) holds = tt
+IfErr-from (Err fault) holds = holds fault
 
 -- these lines lead from one loading to another, where the text goes on
 pub record LeadTo (first now : Loading) (lines : List (List ℕ)) : Type 0 where

@@ -16,7 +16,7 @@ use Rattle.exh_script.specs.declared.ended.Ended.TheVariants as ended
 use Rattle.exh_script.specs.declared.refusal.Refusal.TheVariants.{TooLong}
 use Rattle.exh_script.specs.declared.serve_fault.ServeFault.{ServeFault}
 use Rattle.exh_script.specs.declared.serve_fault.ServeFault.TheVariants.{Write, Memory}
-use Rattle.exh_script.specs.declared.server.TheConstants.{SCRIPT_LIMIT}
+use Rattle.exh_script.specs.declared.script.TheConstants.{SCRIPT_LIMIT}
 use Rattle.exh_script.proofs.Responded.{front_begins}
 
 -- ---- the test of the length, where it is decided

@@ -21,7 +21,7 @@ use Rattle.exh_script.specs.declared.answer.Answer.TheVariants.{Refused}
 use Rattle.exh_script.specs.declared.ended.Ended.{Ended}
 use Rattle.exh_script.specs.declared.ended.Ended.TheVariants as ended
 use Rattle.exh_script.specs.declared.refusal.Refusal.{Refusal}
-use Rattle.exh_script.specs.declared.server.TheConstants.{SCRIPT_LIMIT}
+use Rattle.exh_script.specs.declared.script.TheConstants.{SCRIPT_LIMIT}
 
 -- each world that a right first line begins is sound, and no request is in flight there
 abbrev pub BeginsSound : Beginning → Type 0

@@ -7,7 +7,7 @@ use Rattle.exh_script.specs.declared.answer.Answer.TheVariants.{Refused}
 use Rattle.exh_script.specs.declared.ended.Ended.{Ended}
 use Rattle.exh_script.specs.declared.ended.Ended.TheVariants as ended
 use Rattle.exh_script.specs.declared.refusal.Refusal.TheVariants.{Read}
-use Rattle.exh_script.specs.declared.server.TheConstants.{SCRIPT_LIMIT}
+use Rattle.exh_script.specs.declared.script.TheConstants.{SCRIPT_LIMIT}
 
 -- the only line where the reader failed
 unfoldable pub unread_text : List ℕ

@@ -3,14 +3,16 @@
 
 use answer::Answer;
 pub use ended::Ended;
+pub use file_line::parse_file_line;
 pub use laws::{printed_answers_are_one, replies_are_one_maps, replies_follow_any_start};
 use line::Line;
 use moves::{Moves, Told};
 use refusal::Refusal;
 use run::Run;
 pub use serve_fault::ServeFault;
+pub use script::SCRIPT_LIMIT;
 pub use server::serve;
-use settings::Settings;
+pub use settings::Settings;
 use view::View;
 
 mod answer;
@@ -24,6 +26,7 @@ mod refusal;
 mod respond;
 mod response;
 mod run;
+mod script;
 mod serve_fault;
 mod server;
 mod settings;

@@ -6,13 +6,10 @@ ghost use Rattle.exh_stream.specs.Output.{AppendsBeginning, SameWriter, Takes, T
 ghost use Rattle.exh_stream.specs.Source.{SameReader, reader_failed, unread};
 
 use crate::respond::{refuse, respond};
-use crate::{Ended, Refusal, ServeFault};
+use crate::{Ended, Refusal, SCRIPT_LIMIT, ServeFault};
 use exh_stream::{InputFault, Output, Source};
 use std::alloc::Global;
 use std::io::{Read, Write};
-
-/// Bytes that a script may have.
-pub(crate) const SCRIPT_LIMIT: usize = 1_048_576;
 
 /// Reads a whole script, and writes its text and nothing else. Where the reader fails, that is the line `refused 41`
 /// alone. No fault is tried again.

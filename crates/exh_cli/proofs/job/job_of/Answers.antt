@@ -1,6 +1,6 @@
 use Rattle.std.proofs.Common.{◌∙◌, Some, None, map, ap, sym}
 use Rattle.clap.specs.Words.{app_of}
-use Rattle.exh_cli.proofs.ParserLemmas.{checks, dumps, met_is, parse_meets, serves, some_met, version_told}
+use Rattle.exh_cli.proofs.ParserLemmas.{checks, dumps, loads, met_is, parse_meets, serves, some_met, version_told}
 use Rattle.exh_cli.proofs.job.job_of.Goals as goal
 
 pub returns-in_err-matches-clause-version : goal.returns-in_err-matches-clause-version
@@ -37,4 +37,12 @@ returns-clause-named g c =
     let met = parse_meets (app_of c.in_ok-parser.field-0) (map g.S.AsStr.text c.args.words.now) c.in_ok-matches.matches c.in_ok-parser.ensures (parse.kinds c.in_ok-parser.ensures.exact) parse.matches in
     let path = c.in-Some-get_str.path.now in
     let own = met_is c.in_ok-matches.matches c.in-Some.command.now c.in-Some.own.now (Some path) met.0 c.in-Some.ensures.name c.in-Some.ensures.rows c.in-Some-get_str.ensures met.1.1 in
-    met.1.0 ∙ ap (λ job. Some job) (dumps met.0 path (sym own.1) (λ same. c.in_default-command.not-check (own.0 ∙ sym same)))
+    met.1.0 ∙ ap (λ job. Some job) (dumps met.0 path (sym own.1) (λ same. c.in_default-command.not-check (own.0 ∙ sym same)) (λ same. c.in_default-command.not-load (own.0 ∙ sym same)))
+
+pub returns-in-load-clause-named : goal.returns-in-load-clause-named
+returns-in-load-clause-named g c =
+    let parse = c.in_ok-matches.ensures in
+    let met = parse_meets (app_of c.in_ok-parser.field-0) (map g.S.AsStr.text c.args.words.now) c.in_ok-matches.matches c.in_ok-parser.ensures (parse.kinds c.in_ok-parser.ensures.exact) parse.matches in
+    let path = c.in-Some-get_str.path.now in
+    let own = met_is c.in_ok-matches.matches c.in-Some.command.now c.in-Some.own.now (Some path) met.0 c.in-Some.ensures.name c.in-Some.ensures.rows c.in-Some-get_str.ensures met.1.1 in
+    met.1.0 ∙ ap (λ job. Some job) (loads met.0 path (sym own.1) (sym c.in-load.is ∙ own.0))
