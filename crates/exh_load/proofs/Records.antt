@@ -30,7 +30,7 @@ use Rattle.exh_load.specs.Loading.{Loading, after_pair, loading_of, map_at, pair
 -- a map after a put, by what stood there and whether new keys are turned away
 put_len : (m : KeyMap) (key value : List ℕ) (full : Bool) (got : Option (List ℕ)) → fin.get m key ≡ got
     → fin.len (changed (effect_of (Put key value) full got).change key m) ≡ new_count (effect_of (Put key value) full got).reply + fin.len m
-put_len m key value full (Some old) is = fin.len-insert nat_list_cmp_total m key value ∙ ap (λ b. cond b (fin.len m) (fin.len m + 1)) (ap is_some is)
+put_len m key value full (Some old) is = fin.len-insert nat_list_cmp_total m key value ∙ ap (λ b. cond b (fin.len m) (fin.len m + 1)) (ap is_some is) ∙ omega arith
 put_len m key value true None is = omega arith
 put_len m key value false None is = fin.len-insert nat_list_cmp_total m key value ∙ ap (λ b. cond b (fin.len m) (fin.len m + 1)) (ap is_some is) ∙ omega arith
 
