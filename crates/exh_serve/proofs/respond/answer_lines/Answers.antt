@@ -1,8 +1,8 @@
-use Rattle.std.proofs.Common.{◌≡◌, [], ◌∷◌, ◌∙◌, ◌++◌, refl, sym, ap, subst, append_assoc, rules}
+use Rattle.std.proofs.Common.{◌≡◌, [], ◌∷◌, ◌∙◌, ◌++◌, sym, ap, subst, append_assoc, rules}
 use Rattle.exh_stream.specs.Output.{Takes}
-use Rattle.exh_stream.specs.OutputLemmas.{OnErr-from, Takes-none, TakesBeginning-none}
+use Rattle.exh_stream.specs.OutputLemmas.{OnErr-from, Takes-none}
 use Rattle.exh_script.specs.Text.{line_response, response_text, text_from}
-use Rattle.exh_serve.proofs.Responded.{LeadTo, stopped, line_is, text_of_next, line_out, line_stopped, LeadTo-none, LeadTo-more, text_of_left, text_of_more, world_of_all}
+use Rattle.exh_serve.proofs.Responded.{stopped, line_is, text_of_next, line_out, line_stopped, LeadTo-none, LeadTo-more, text_of_left, text_of_more, world_of_all}
 use Rattle.exh_serve.proofs.respond.answer_lines.Goals as goal
 
 pub loop-line-init : goal.loop-line-init

@@ -14,8 +14,7 @@ returns-in_err-world-clause-err g c = OnErr-from c.from_residual.result (TakesBe
 pub returns-in_err-answer_lines-in-Ok-clause-memory : goal.returns-in_err-answer_lines-in-Ok-clause-memory
 returns-in_err-answer_lines-in-Ok-clause-memory g c = λ memory.
     let begun : Ok c.in-Ok.world ≡ beginning c.args.from c.args.settings.now.file = search rules in
-    let fault : c.answer_lines.result ≡ Err c.in_err-answer_lines-in-Ok.field-0.0 = search rules in
-    let stopped = fault ∙ ap Err (same_fault c.from_residual-in_err-answer_lines-in-Ok.result _ c.from_residual-in_err-answer_lines-in-Ok.ensures Memory memory) in
+    let stopped = ap Err (same_fault c.from_residual-in_err-answer_lines-in-Ok.result _ c.from_residual-in_err-answer_lines-in-Ok.ensures Memory memory) in
     inr (front_in c.args.settings.now.tells_moves (beginning c.args.from c.args.settings.now.file) c.in-Ok.world begun c.args.lines (c.in_err-answer_lines-in-Ok.ensures.memory stopped))
 
 pub leave-requires-clause-settings : goal.leave-requires-clause-settings
