@@ -1,5 +1,5 @@
 -- The wards of an opened file under settings that are its own.
-use Rattle.std.proofs.Common.{◌≡◌, ℕ, ◌^◌, ◌≤◌, List, [], length, cond, slice_get, Bool, true, false, Some, Ok, Err, eqb, refl, sym, ap, ap₂, ◌∙◌, subst}
+use Rattle.std.proofs.Common.{◌≡◌, ◌^◌, ◌≤◌, List, [], length, cond, Bool, true, false, Ok, Err, eqb, refl, sym, ap, ap₂, ◌∙◌, subst}
 use Rattle.std.specs.Prelude.{◌&&◌}
 use Rattle.std.proofs.lemmas.Bool.{and_parts, eqb-true}
 use Rattle.exh_keyer.specs.declared.any_keyer.AnyKeyer.{AnyKeyer}
@@ -12,7 +12,6 @@ use Rattle.exh_world.specs.NewWorld.{AreWardsFor, settings_of, world_of_wards}
 use Rattle.exh_world.specs.Sound.{IsSoundWorld}
 use Rattle.exh_world.specs.declared.config.Config.{Config}
 use Rattle.exh_script.specs.AnyStart.{BeginsSound}
-use Rattle.exh_script.specs.Grammar.{file_in_range}
 use Rattle.exh_script.specs.Text.{ScriptWorld}
 use Rattle.exh_script.specs.declared.refusal.Refusal.TheVariants.{Differs}
 use Rattle.exh_page.specs.declared.page.TheConstants.{CAP_LIMIT}

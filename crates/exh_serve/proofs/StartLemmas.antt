@@ -1,5 +1,5 @@
 -- A script whose first line was read.
-use Rattle.std.proofs.Common.{◌≡◌, ℕ, List, [], ◌∷◌, ◌++◌, Bool, Option, Some, None, Result, Ok, Err, refl, sym, ap, ◌∙◌, subst}
+use Rattle.std.proofs.Common.{◌≡◌, ℕ, List, ◌∷◌, Bool, Some, Result, Ok, Err, sym, ap, ◌∙◌, subst}
 use Rattle.std.specs.Prelude.{IsErr, IsErrAnd}
 use Rattle.exh_serve.specs.declared.serve_fault.ServeFault.{ServeFault}
 use Rattle.exh_text.specs.declared.line_fault.LineFault.{LineFault}
@@ -7,7 +7,6 @@ use Rattle.exh_script.specs.Grammar.{file_line_of}
 use Rattle.exh_script.specs.Replies.{world_left}
 use Rattle.exh_script.specs.Text.{ScriptWorld, Beginning, Start, opened, settings_of, start_in, started, start_of, text_from, text_after, text_of_lines}
 use Rattle.exh_script.specs.declared.refusal.Refusal.{Refusal}
-use Rattle.exh_script.specs.declared.refusal.Refusal.TheVariants.{Line as LineRefusal}
 use Rattle.exh_script.specs.declared.settings.Settings.{Settings}
 use Rattle.exh_serve.specs.Left.{file_left, left_after, left_of_lines}
 use Rattle.exh_serve.specs.Served.{PrintsFront, PrintsFrontFrom}
