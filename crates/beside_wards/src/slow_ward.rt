@@ -54,7 +54,7 @@ pub(crate) fn hop_at(
                     None => Hop::Stray,
                 });
             }
-            if puts_new(call, machine) && records.len() >= cap && prefix.len() < LIMIT {
+            if sets_new_key(call, machine) && records.len() >= cap && prefix.len() < LIMIT {
                 return Ok(Hop::MustSplit);
             }
             Ok(Hop::Done(answer(machine, call)?))
@@ -62,12 +62,9 @@ pub(crate) fn hop_at(
     }
 }
 
-// Whether a call puts a key that the machine's map lacks.
-fn puts_new(call: &Call, machine: &MapMachine<PlainKeyer>) -> bool {
-    match call {
-        Call::Put { key, .. } => machine.map().get(key).is_none(),
-        Call::Get { .. } | Call::Del { .. } => false,
-    }
+// Whether a call sets a key that the machine's map lacks.
+fn sets_new_key(call: &Call, machine: &MapMachine<PlainKeyer>) -> bool {
+    call.sets_new() && machine.map().get(call.key()).is_none()
 }
 
 /// The notice of a split, or why it is refused.

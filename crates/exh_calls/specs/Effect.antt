@@ -3,6 +3,8 @@ use Rattle.std.specs.Prelude.{ℕ, Bool, true, false, List, Option, Some, None}
 use Rattle.std.specs.Option.{is_some}
 use Rattle.exh_calls.specs.declared.call.Call.{Call}
 use Rattle.exh_calls.specs.declared.call.Call.TheVariants.{Get, Put, Del}
+use Rattle.exh_calls.specs.declared.key_change.KeyChange.{KeyChange}
+use Rattle.exh_calls.specs.declared.key_change.KeyChange.TheVariants.{Keep as Kept, Set as Given, Remove as Taken}
 use Rattle.exh_calls.specs.declared.reply.Reply.{Reply}
 use Rattle.exh_calls.specs.declared.reply.Reply.TheVariants.{Is, None as Absent, New, Was, Full}
 
@@ -11,6 +13,12 @@ pub data Change : Type 0 where
   Keep : Change
   Set : (value : List ℕ) → Change
   Remove : Change
+
+-- the code's change of a key, whose value stands with its call, as one of these
+abbrev pub change_of : KeyChange → Change
+change_of Kept = Keep
+change_of (Given value) = Set value.now
+change_of Taken = Remove
 
 pub record Effect : Type 0 where
   pub reply : Reply

@@ -1,5 +1,6 @@
 ghost use Rattle.std.specs.Prelude.{◌≡◌};
 
+use crate::{KeyChange, Reply};
 use exh_page::{Key, Value};
 
 /// A call on the map from keys to values. A copy takes no memory.
@@ -16,7 +17,7 @@ pub enum Call {
 impl Call {
     ghost use Rattle.std.specs.Prelude.{◌≡◌};
     ghost use Rattle.exh_calls.specs.Call.{key_of};
-    ghost use Rattle.exh_calls.specs.Effect.{sets_new};
+    ghost use Rattle.exh_calls.specs.Effect.{change_of, effect_of, sets_new};
 
     /// The key that the call is about. It takes no memory.
     pub fn key(&self) -> &Key
@@ -24,6 +25,41 @@ impl Call {
     {
         match self {
             Call::Get { key } | Call::Put { key, .. } | Call::Del { key } => key,
+        }
+    }
+
+    /// What the call is answered, by whether new keys are turned away and the value that the key has.
+    /// It takes no memory.
+    pub fn reply(&self, full: bool, stood: &Option<Value>) -> Reply
+        ensures { result ≡ (effect_of self.now full stood.now).reply }
+    {
+        match stood {
+            Some(value) => match self {
+                Call::Get { .. } => Reply::Is(*value),
+                Call::Put { .. } | Call::Del { .. } => Reply::Was(*value),
+            },
+            None => match self {
+                Call::Get { .. } | Call::Del { .. } => Reply::None,
+                Call::Put { .. } => { if full { Reply::Full } else { Reply::New } }
+            },
+        }
+    }
+
+    /// What becomes of the key, by the same. It takes no memory.
+    pub fn change(&self, full: bool, stood: &Option<Value>) -> KeyChange<'_>
+        ensures { change_of result ≡ (effect_of self.now full stood.now).change }
+    {
+        match stood {
+            Some(_) => match self {
+                Call::Get { .. } => KeyChange::Keep,
+                Call::Put { value, .. } => KeyChange::Set(value),
+                Call::Del { .. } => KeyChange::Remove,
+            },
+            None => match self {
+                Call::Get { .. } | Call::Del { .. } => KeyChange::Keep,
+                Call::Put { .. } if full => KeyChange::Keep,
+                Call::Put { value, .. } => KeyChange::Set(value),
+            },
         }
     }
 

@@ -5,6 +5,7 @@ pub use base::Base;
 pub use call::Call;
 pub use journal::{Entries, Journal};
 pub use journal_entry::JournalEntry;
+pub use key_change::KeyChange;
 pub use laws::{histories_go_on, history_is_determined, sharers_begin};
 pub use reply::Reply;
 
@@ -12,6 +13,7 @@ mod base;
 mod call;
 mod journal;
 mod journal_entry;
+mod key_change;
 mod laws;
 mod reply;
 mod stored_entry;

@@ -5,11 +5,11 @@ use Rattle.std.specs.Io.KnownBytes.{Appends}
 use Rattle.std.proofs.KnownBytes.{Appends-trans}
 use Rattle.exh_stream.specs.Output.{AppendsBeginning}
 use Rattle.exh_stream.specs.OutputLemmas.{AppendsBeginning-after}
-use Rattle.exh_script.specs.Served.{PrintsFront, PrintsLines}
+use Rattle.exh_serve.specs.Served.{PrintsFront, PrintsLines}
 use Rattle.exh_script.specs.Text.{new_file}
-use Rattle.exh_script.specs.declared.ended.Ended.{Ended}
-use Rattle.exh_script.specs.declared.serve_fault.ServeFault.{ServeFault}
-use Rattle.exh_script.specs.declared.serve_fault.ServeFault.TheVariants.{Write}
+use Rattle.exh_open.specs.Opened.{OpenedState}
+use Rattle.exh_serve.specs.declared.serve_fault.ServeFault.{ServeFault}
+use Rattle.exh_serve.specs.declared.serve_fault.ServeFault.TheVariants.{Write}
 use Rattle.exh_page_file.specs.PageFile.{PageFile}
 use Rattle.exh_report.specs.Lines.{Lines}
 use Rattle.exh_report.specs.Report.{Reports, Tells}
@@ -39,9 +39,9 @@ module _ {P Q : List ℕ → Type 0} (more : (text : List ℕ) → P text → Q 
 pub line_cut : (old mid new unread : Option (List ℕ)) → PrintsLines new_file (Appends old mid) unread → AppendsBeginning mid new memory_line → RunPrints old new unread (Err Write)
 line_cut old mid new unread lines line = inr (lines_more (λ text held. AppendsBeginning-after (record { front = text; gone = held; split = refl }) line) lines)
 
-pub write_fault : (old new unread : Option (List ℕ)) (outcome : Result Ended ServeFault) → IsErr outcome × IsErrAnd outcome (λ fault. fault ≡ Write)
+pub write_fault : (old new unread : Option (List ℕ)) (outcome : Result (Option OpenedState) ServeFault) → IsErr outcome × IsErrAnd outcome (λ fault. fault ≡ Write)
     → RunPrints old new unread (Err Write) → RunPrints old new unread outcome
-write_fault old new unread (Ok ended) is printed = absurd is.1
+write_fault old new unread (Ok left) is printed = absurd is.1
 write_fault old new unread (Err fault) is printed = subst (λ f. RunPrints old new unread (Err f)) (sym is.1) printed
 
 -- ---- a run about a file

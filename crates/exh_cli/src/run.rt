@@ -3,7 +3,9 @@ ghost use Rattle.exh_cli.specs.Run.{EndsWith, RunPrints};
 
 use crate::last_line::print_out_of_memory;
 use crate::status::Status;
-use exh_script::{Ended, ServeFault, serve};
+use exh_frames::PlainPages;
+use exh_open::Opened;
+use exh_serve::{ServeFault, serve_from};
 use exh_stream::Output;
 use std::alloc::Global;
 use std::io::{Read, Write};
@@ -21,10 +23,10 @@ fn run<R: Read, W: Write>(
     alloc: Global,
     reader: &mut R,
     writer: &mut W,
-) -> Result<Ended, ServeFault>
+) -> Result<Option<Opened<PlainPages>>, ServeFault>
     ensures { RunPrints (W.contents writer.old) (W.contents writer.new) (R.remaining reader.old) result }
 {
-    match serve(alloc, reader, writer) {
+    match serve_from(alloc, None, reader, writer) {
         Err(ServeFault::Memory) => {
             print_out_of_memory(&mut Output::new(writer))?;
             Err(ServeFault::Memory)

@@ -4,8 +4,10 @@ ghost use Rattle.std.specs.Process.{exit_status};
 ghost use Rattle.exh_cli.specs.Status.{code_of, fault_status, file_status, run_status};
 
 use crate::fault::CliFault;
+use exh_frames::PlainPages;
+use exh_open::Opened;
 use exh_report::{ReportFault, Verdict};
-use exh_script::{Ended, ServeFault};
+use exh_serve::ServeFault;
 use std::process::ExitCode;
 
 /// How the program ended.
@@ -20,13 +22,13 @@ pub enum Status {
 }
 
 impl Status {
-    /// The status of a script's run.
-    pub fn of_run(outcome: Result<Ended, ServeFault>) -> Status
+    /// The status of a script's run, which left wards where it is done.
+    pub fn of_run(outcome: Result<Option<Opened<PlainPages>>, ServeFault>) -> Status
         ensures { result ≡ run_status outcome }
     {
         match outcome {
-            Ok(Ended::Done) => Status::Done,
-            Ok(Ended::Refused) | Err(_) => Status::Refused,
+            Ok(Some(_)) => Status::Done,
+            Ok(None) | Err(_) => Status::Refused,
         }
     }
 

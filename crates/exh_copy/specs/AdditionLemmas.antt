@@ -8,10 +8,9 @@ use Rattle.exh_prefix.specs.Prefix.{prefix_cmp}
 use Rattle.exh_notice.specs.declared.entry.Entry.{Entry}
 use Rattle.exh_notice.specs.declared.notice.Notice.{Notice}
 use Rattle.exh_notice.specs.Entry.{entry_of}
-use Rattle.exh_notice.specs.EntryLemmas.{entry_laws}
 use Rattle.exh_table.specs.Table.{TableMap, IsTableOf, raised, greater_of, told_by}
 use Rattle.exh_table.specs.TableOrder.{IsOptionUpTo, IsTableUpTo, table_join}
-use Rattle.exh_table.specs.TableLemmas.{joined, get-table_join, same_table, same_from_tie, table_laws}
+use Rattle.exh_table.specs.TableLemmas.{joined, joined_first, get-table_join, same_table, same_from_tie, table_laws}
 use Rattle.exh_table.specs.RaisedLemmas.{get-raised}
 use Rattle.exh_table.specs.SetLemmas.{joined_none, union_is_join, one_more, own_entries}
 use Rattle.exh_copy.specs.declared.addition.Addition.{Addition}
@@ -20,15 +19,11 @@ use Rattle.exh_copy.specs.Additions.{added, table_after, told_in, BeginsWith}
 
 -- ---- the order
 
-kept_first : (stood : Option Entry) (entry : Entry) → IsOptionUpTo stood (Some (greater_of stood entry))
-kept_first None entry = tt
-kept_first (Some old) entry = entry_laws.bound.above_first old entry
-
 raised_up : (table : TableMap) (key : List Bool) (entry : Entry) → IsTableUpTo table (raised table key entry)
 raised_up table key entry prefix =
     subst (IsOptionUpTo (get table prefix)) (sym (get-raised table key entry prefix))
     (elim (eq_by_cmp prefix_cmp prefix key) as (λ here. eq_by_cmp prefix_cmp prefix key ≡ here → IsOptionUpTo (get table prefix) (cond here (Some (greater_of (get table key) entry)) (get table prefix))) [
-      | true ↦ λ here. subst (λ p. IsOptionUpTo (get table p) (Some (greater_of (get table key) entry))) (sym (same_from_tie prefix key here)) (kept_first (get table key) entry)
+      | true ↦ λ here. subst (λ p. IsOptionUpTo (get table p) (Some (greater_of (get table key) entry))) (sym (same_from_tie prefix key here)) (joined_first (get table key) (Some entry))
       | false ↦ λ here. table_laws.order.reflexive table prefix
     ] refl)
 

@@ -7,6 +7,7 @@ pub use identity::Identity;
 pub use ledgers::{ANSWER_PARTS, Answers, ENTRY_PARTS, Entries, LedgerNames};
 pub use live_file::LiveFile;
 pub use seat::{NoSeat, Seat};
+pub use ward_journals::WardJournals;
 
 mod ask;
 mod close;
@@ -20,3 +21,4 @@ mod tallied_ward;
 mod tally;
 #[cfg(test)]
 mod tests;
+mod ward_journals;

@@ -5,7 +5,7 @@ ghost use Rattle.exh_prefix.specs.declared.prefix.TheConstants.{LIMIT};
 ghost use Rattle.exh_prefix.specs.Leading.{leading};
 
 use crate::PairMap;
-use exh_calls::{Call, Reply};
+use exh_calls::{Call, KeyChange, Reply};
 use exh_keyer::Keyer;
 use exh_page::Key;
 use exh_prefix::LIMIT;
@@ -62,28 +62,19 @@ impl<K: Keyer> MapMachine<K> {
         ensures ok { IfOk result (λ _. self.new ≡ record self.old { map = map_after self.old.cap (K.pseudokey_of self.old.keyer) self.old.map call.now }) }
         ensures err { OnErr result (self.new ≡ self.old) }
     {
-        match call {
-            Call::Get { key } => Ok(match self.map.get(key) {
-                Some(value) => Reply::Is(value),
-                None => Reply::None,
-            }),
-            Call::Put { key, value } => {
-                if self.map.get(key).is_none() && self.is_full(key) {
-                    return Ok(Reply::Full);
-                }
-                Ok(match self.map.insert(*key, *value)? {
-                    Some(old) => Reply::Was(old),
-                    None => Reply::New,
-                })
+        let key = call.key();
+        let stood = self.map.get(key);
+        let full = stood.is_none() && call.sets_new() && self.is_full(key);
+        match call.change(full, &stood) {
+            KeyChange::Keep => {}
+            KeyChange::Set(value) => {
+                self.map.insert(*key, *value)?;
             }
-            Call::Del { key } => match self.map.get(key) {
-                Some(old) => {
-                    self.map.remove(key);
-                    Ok(Reply::Was(old))
-                }
-                None => Ok(Reply::None),
-            },
+            KeyChange::Remove => {
+                self.map.remove(key);
+            }
         }
+        Ok(call.reply(full, &stood))
     }
 
     // Whether at least `cap` keys share the `LIMIT` leading bits of this key's pseudokey.

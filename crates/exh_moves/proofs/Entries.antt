@@ -1,75 +1,27 @@
 -- At one prefix of tables: what a notice or a join makes of the entry there.
-use Rattle.std.proofs.Common.{◌≡◌, ◌⊎◌, ℕ, Bool, true, false, cond, List, [], ◌∷◌, ◌++◌, ◌<◌, ◌^◌, take, Option, None, Some, inl, inr, refl, sym, ap, ◌∙◌, subst, arith}
+use Rattle.std.proofs.Common.{◌≡◌, ◌⊎◌, Bool, true, false, cond, List, [], ◌∷◌, ◌++◌, ◌<◌, Option, None, Some, inl, inr, refl, sym, ap, ◌∙◌, subst, arith}
 use Rattle.std.specs.Prelude.{Contains}
 use Rattle.std.specs.FinMap.{get, get-insert}
-use Rattle.std.specs.Ordering.{is_lt, eq_by_cmp}
+use Rattle.std.specs.Ordering.{eq_by_cmp}
 use Rattle.std.proofs.lemmas.List.Elements.{Contains-append_left, Contains-append_right}
-use Rattle.exh_prefix.specs.Bits.{bits_of, number_of}
-use Rattle.exh_prefix.specs.BitLemmas.{length-bits_of, number_of-bits_of}
-use Rattle.exh_prefix.specs.Leading.{ward_prefix}
 use Rattle.exh_prefix.specs.Prefix.{IsFront, prefix_cmp}
 use Rattle.exh_prefix.specs.PrefixLemmas.{prefix_cmp-total}
 use Rattle.exh_notice.specs.declared.entry.Entry.{Entry}
 use Rattle.exh_notice.specs.declared.notice.Notice.{Notice}
-use Rattle.exh_notice.specs.Entry.{entry_cmp, entry_of}
-use Rattle.exh_notice.specs.EntryLemmas.{entry_laws}
+use Rattle.exh_notice.specs.Entry.{entry_of}
 use Rattle.exh_table.specs.Table.{TableMap, IsEntryOf, told_by, greater_of, table_with}
-use Rattle.exh_table.specs.TableLemmas.{joined, get-table_join, same_from_tie}
+use Rattle.exh_table.specs.TableLemmas.{get-table_join, greater_is, joined_first, joined_least, same_from_tie, up_to_itself}
 use Rattle.exh_table.specs.TableOrder.{IsOptionUpTo, IsTableUpTo, table_join}
 use Rattle.exh_moves.specs.Taken.{ComesFrom}
-
--- ---- the order at a prefix
-
-pub up_to_itself : (one : Option Entry) → IsOptionUpTo one one
-up_to_itself None = tt
-up_to_itself (Some entry) = entry_laws.order.reflexive entry
-
-pub up_to_both : (one other : Option Entry) → IsOptionUpTo one other → IsOptionUpTo other one → one ≡ other
-up_to_both None None h k = refl
-up_to_both None (Some entry) h k = absurd k
-up_to_both (Some entry) None h k = absurd h
-up_to_both (Some entry) (Some other) h k = ap Some (entry_laws.order.antisymmetric entry other h k)
-
-pub up_to_third : (one other third : Option Entry) → IsOptionUpTo one other → IsOptionUpTo other third → IsOptionUpTo one third
-up_to_third None other third h k = tt
-up_to_third (Some entry) None third h k = absurd h
-up_to_third (Some entry) (Some other) None h k = absurd k
-up_to_third (Some entry) (Some other) (Some third) h k = entry_laws.order.transitive entry other third h k
 
 -- what a set has at a prefix, its table has there, or a greater one
 pub told_up : (told : List (List Bool × Entry)) (prefix : List Bool) (found : Option Entry) → IsEntryOf told prefix found → (entry : Entry) → Contains told (prefix, entry) → IsOptionUpTo (Some entry) found
 told_up told prefix None is entry among = absurd (is entry among)
 told_up told prefix (Some found) is entry among = is.greatest entry among
 
--- ---- the greater of two
-
-one_of : (b : Bool) (old new : Entry) → (cond b new old ≡ old) ⊎ (cond b new old ≡ new)
-one_of true old new = inr refl
-one_of false old new = inl refl
-
-greater_is : (old : Option Entry) (new : Entry) → (old ≡ Some (greater_of old new)) ⊎ (greater_of old new ≡ new)
-greater_is None new = inr refl
-greater_is (Some old) new = elim (one_of (is_lt (entry_cmp old new)) old new) [
-  | inl kept ↦ inl (ap Some (sym kept))
-  | inr taken ↦ inr taken
-]
-
-greater_up : (old bound : Option Entry) (new : Entry) → IsOptionUpTo old bound → IsOptionUpTo (Some new) bound → IsOptionUpTo (Some (greater_of old new)) bound
-greater_up old bound new first second = elim (greater_is old new) [
-  | inl kept ↦ subst (λ e. IsOptionUpTo e bound) kept first
-  | inr taken ↦ subst (λ e. IsOptionUpTo (Some e) bound) (sym taken) second
-]
-
-above_old : (old : Option Entry) (new : Entry) → IsOptionUpTo old (Some (greater_of old new))
-above_old None new = tt
-above_old (Some old) new = entry_laws.bound.above_first old new
-
-joined_up : (one other bound : Option Entry) → IsOptionUpTo one bound → IsOptionUpTo other bound → IsOptionUpTo (joined one other) bound
-joined_up one None bound h k = h
-joined_up one (Some entry) bound h k = greater_up one bound entry h k
-
+-- what is up to a bound in two tables, is so in their join
 pub join_up : (table other bound : TableMap) (prefix : List Bool) → IsOptionUpTo (get table prefix) (get bound prefix) → IsOptionUpTo (get other prefix) (get bound prefix) → IsOptionUpTo (get (table_join table other) prefix) (get bound prefix)
-join_up table other bound prefix one two = subst (λ e. IsOptionUpTo e (get bound prefix)) (sym (get-table_join table other prefix)) (joined_up (get table prefix) (get other prefix) (get bound prefix) one two)
+join_up table other bound prefix one two = subst (λ e. IsOptionUpTo e (get bound prefix)) (sym (get-table_join table other prefix)) (joined_least (get table prefix) (get other prefix) (get bound prefix) one two)
 
 -- ---- a table with a notice more
 
@@ -85,14 +37,14 @@ module _ (table : TableMap) (notice : Notice) where
   up_at bound prefix false is old own = old
   up_at bound prefix true is old own =
       let same = same_from_tie prefix notice.prefix is in
-      greater_up (get table notice.prefix) bound (entry_of notice) (subst (λ p. IsOptionUpTo (get table p) bound) same old) (own same)
+      joined_least (get table notice.prefix) (Some (entry_of notice)) bound (subst (λ p. IsOptionUpTo (get table p) bound) same old) (own same)
 
   pub notice_up : (bound : Option Entry) (prefix : List Bool) → IsOptionUpTo (get table prefix) bound → (prefix ≡ notice.prefix → IsOptionUpTo (Some (entry_of notice)) bound) → IsOptionUpTo (get (table_with table notice) prefix) bound
   notice_up bound prefix old own = subst (λ e. IsOptionUpTo e bound) (sym (with_notice prefix)) (up_at bound prefix (eq_by_cmp prefix_cmp prefix notice.prefix) refl old own)
 
   above_at : (prefix : List Bool) (here : Bool) → eq_by_cmp prefix_cmp prefix notice.prefix ≡ here → IsOptionUpTo (get table prefix) (cond here (Some new) (get table prefix))
   above_at prefix false is = up_to_itself (get table prefix)
-  above_at prefix true is = subst (λ p. IsOptionUpTo (get table p) (Some new)) (sym (same_from_tie prefix notice.prefix is)) (above_old (get table notice.prefix) (entry_of notice))
+  above_at prefix true is = subst (λ p. IsOptionUpTo (get table p) (Some new)) (sym (same_from_tie prefix notice.prefix is)) (joined_first (get table notice.prefix) (Some (entry_of notice)))
 
   pub above_notice : IsTableUpTo table (table_with table notice)
   above_notice prefix = subst (IsOptionUpTo (get table prefix)) (sym (with_notice prefix)) (above_at prefix (eq_by_cmp prefix_cmp prefix notice.prefix) refl)
@@ -124,12 +76,3 @@ module _ (table : TableMap) (notice : Notice) where
 
     pub comes_with : ComesFrom ward start (changes ++ notice ∷ []) (table_with table notice)
     comes_with prefix entry front is = from_at prefix entry (eq_by_cmp prefix_cmp prefix notice.prefix) refl front (sym (with_notice prefix) ∙ is)
-
--- ---- wards
-
--- bits begin with the prefix of one ward alone
-pub one_front : (ward_bits one other : ℕ) (bits : List Bool) → one < 2 ^ ward_bits → other < 2 ^ ward_bits → IsFront (ward_prefix ward_bits one) bits → IsFront (ward_prefix ward_bits other) bits → one ≡ other
-one_front ward_bits one other bits fits fits_too front front_too =
-    let lengths = length-bits_of ward_bits one ∙ sym (length-bits_of ward_bits other) in
-    let same : bits_of ward_bits one ≡ bits_of ward_bits other = sym front ∙ ap (λ n. take n bits) lengths ∙ front_too in
-    sym (number_of-bits_of ward_bits one fits) ∙ ap number_of same ∙ number_of-bits_of ward_bits other fits_too

@@ -5,19 +5,20 @@ use Rattle.std.specs.FinMap.{get}
 use Rattle.std.specs.List.{fold}
 use Rattle.std.proofs.lemmas.Option.{slice_get_within}
 use Rattle.exh_prefix.specs.Leading.{ward_prefix}
+use Rattle.exh_prefix.specs.LeadingLemmas.{one_front}
 use Rattle.exh_prefix.specs.ListLemmas.{one_there}
 use Rattle.exh_prefix.specs.Prefix.{IsFront, prefix_cmp}
 use Rattle.exh_notice.specs.declared.entry.Entry.{Entry}
 use Rattle.exh_table.specs.Table.{TableMap}
-use Rattle.exh_table.specs.TableLemmas.{table_laws}
+use Rattle.exh_table.specs.TableLemmas.{table_laws, up_to_itself, up_to_both}
 use Rattle.exh_table.specs.TableOrder.{IsOptionUpTo, IsTableUpTo, table_join}
 use Rattle.exh_ward.specs.WardState.{WardState, own_prefix}
 use Rattle.exh_world.specs.NewWorld.{AreWardsFor, tables_joined, world_of_wards}
+use Rattle.exh_world.specs.ListLemmas.{numbered_is, numbered_none}
 use Rattle.exh_world.specs.World.{WorldState}
 use Rattle.exh_world.specs.declared.config.Config.{Config}
 use Rattle.exh_moves.specs.Taken.{AreSoundWards, TellsTruly, IsToldTruly}
-use Rattle.exh_moves.proofs.Entries.{up_to_itself, up_to_both, join_up, one_front}
-use Rattle.exh_moves.proofs.Told.{replicated, none_sent}
+use Rattle.exh_moves.proofs.Entries.{join_up}
 
 -- ---- tables joined one after another
 
@@ -92,7 +93,7 @@ module _ {K : Type 0} (pseudokey_of : K → List ℕ → ℕ) (config : Config K
   pub given_told : IsToldTruly given
   given_told = record {
     start = start_truly;
-    copies = λ copy table is. subst (TellsTruly given) (sym (replicated config.copies start table copy is)) start_truly;
-    sent = λ number table is. absurd (none_sent number table is);
+    copies = λ copy table is. subst (TellsTruly given) (sym (numbered_is config.copies start table copy is)) start_truly;
+    sent = λ number table is. absurd (numbered_none number table is);
     wards = λ number ward is prefix entry front has. inl (start_is number ward is prefix front ∙ has);
   }

@@ -1,24 +1,24 @@
 -- Each step leaves a world told truly; and copies that took all changes of a ward are current in it.
-use Rattle.std.proofs.Common.{◌≡◌, ℕ, zero, suc, ◌-◌, ◌<◌, ◌^◌, Bool, List, [], ◌∷◌, ◌++◌, drop, map, replicate, slice_get, Option, None, Some, Result, Ok, Err, inl, inr, refl, sym, ap, ◌∙◌, subst, arith}
+use Rattle.std.proofs.Common.{◌≡◌, ℕ, zero, suc, ◌-◌, ◌<◌, ◌^◌, Bool, List, [], ◌∷◌, ◌++◌, drop, map, slice_get, Option, None, Some, Result, Ok, Err, inl, inr, refl, sym, ap, ◌∙◌, subst, arith}
 use Rattle.std.specs.Prelude.{Contains, slice_set}
 use Rattle.std.specs.FinMap as fin
 use Rattle.std.specs.FinMap.{entries, get}
 use Rattle.std.specs.Option.{option_map_or}
-use Rattle.std.proofs.lemmas.List.{length-replicate, get_or-replicate}
 use Rattle.std.proofs.lemmas.List.Elements.{Contains-append_right}
-use Rattle.std.proofs.lemmas.Option.{get_or_from_slice_get, slice_get_within}
+use Rattle.std.proofs.lemmas.Option.{slice_get_within}
 use Rattle.exh_prefix.specs.Leading.{ward_prefix}
+use Rattle.exh_prefix.specs.LeadingLemmas.{one_front}
 use Rattle.exh_prefix.specs.ListLemmas.{Contains-map, drop_push, one_there, set_else, set_here, set_is}
 use Rattle.exh_prefix.specs.Prefix.{IsFront, prefix_cmp}
 use Rattle.exh_notice.specs.declared.entry.Entry.{Entry}
 use Rattle.exh_notice.specs.declared.notice.Notice.{Notice}
 use Rattle.exh_notice.specs.Entry.{entry_of}
 use Rattle.exh_table.specs.Table.{TableMap, IsTableOf, told_by, table_with}
-use Rattle.exh_table.specs.TableLemmas.{table_laws}
+use Rattle.exh_table.specs.TableLemmas.{table_laws, up_to_both, up_to_third}
 use Rattle.exh_table.specs.TableOrder.{IsOptionUpTo, IsTableUpTo, table_join}
 use Rattle.exh_ward.specs.WardState.{WardState, own_prefix}
 use Rattle.exh_world.specs.EffectLemmas.{on_effect, on_refusal}
-use Rattle.exh_world.specs.ListLemmas.{mapped_is, numbered_push, numbered_set}
+use Rattle.exh_world.specs.ListLemmas.{mapped_is, numbered_is, numbered_none, numbered_push, numbered_set}
 use Rattle.exh_world.specs.NewWorld.{new_ward, new_world}
 use Rattle.exh_world.specs.Run.{Told}
 use Rattle.exh_world.specs.Sound.{IsSoundWorld}
@@ -30,7 +30,7 @@ use Rattle.exh_world.specs.declared.outcome.Outcome.{Outcome}
 use Rattle.exh_world.specs.declared.step_fault.StepFault.{StepFault}
 use Rattle.exh_moves.specs.Current.{IsCurrentIn}
 use Rattle.exh_moves.specs.Taken.{TellsTruly, ComesFrom, IsToldTruly}
-use Rattle.exh_moves.proofs.Entries.{up_to_both, up_to_third, told_up, join_up, notice_up, above_notice, comes_with, one_front}
+use Rattle.exh_moves.proofs.Entries.{told_up, join_up, notice_up, above_notice, comes_with}
 use Rattle.exh_moves.proofs.GoingOn.{changes_of, same_changes}
 use Rattle.exh_moves.proofs.WardTurns.{IsWardTurn, Turns, Tells, step_turn}
 
@@ -245,16 +245,6 @@ module _ {K : Type 0} (pseudokey_of : K → List ℕ → ℕ) (old : WorldState 
 
 -- ---- a new file
 
-pub replicated : {A : Type 0} (n : ℕ) (x y : A) (number : ℕ) → numbered (replicate n x) number ≡ Some y → y ≡ x
-replicated n x y zero is = cc
-replicated n x y (suc at) is =
-    let within = subst (λ length. at < length) (length-replicate n x) (slice_get_within (replicate n x) at y is) in
-    sym (get_or_from_slice_get (replicate n x) at y x is) ∙ get_or-replicate n at x x within
-
-pub none_sent : (number : ℕ) (table : TableMap) → numbered (let none : List TableMap = [] in none) number ≡ Some table → ⊥
-none_sent zero table is = cc
-none_sent (suc number) table is = cc
-
 module _ {K : Type 0} (config : Config K) where
   abbrev fresh : WorldState K
   fresh = new_world config
@@ -271,8 +261,8 @@ module _ {K : Type 0} (config : Config K) where
   pub new_told : IsToldTruly fresh
   new_told = record {
     start = empty_truly;
-    copies = λ copy table is. subst (TellsTruly fresh) (sym (replicated config.copies fin.empty table copy is)) empty_truly;
-    sent = λ number table is. absurd (none_sent number table is);
+    copies = λ copy table is. subst (TellsTruly fresh) (sym (numbered_is config.copies fin.empty table copy is)) empty_truly;
+    sent = λ number table is. absurd (numbered_none number table is);
     wards = λ number ward is prefix entry front has.
         let own : ward ≡ new_ward config number = (mapped_is (new_ward config) (2 ^ config.ward_bits) number ward is).1 in
         let none : None ≡ Some entry = sym (nothing prefix) ∙ ap (λ (w : WardState K). get w.table prefix) (sym own) ∙ has in

@@ -6,7 +6,7 @@ use Rattle.std.specs.List.{range_with_len}
 use Rattle.std.specs.Option.{option_map}
 use Rattle.std.proofs.lemmas.List.{length-map}
 use Rattle.std.proofs.lemmas.List.FromFn.{get_or-map-range_with_len, length-map-range_with_len}
-use Rattle.std.proofs.lemmas.Option.{get_or_from_slice_get, slice_get-map, slice_get_cases, slice_get_within}
+use Rattle.std.proofs.lemmas.Option.{get_or_from_slice_get, same_Some, slice_get-map, slice_get_cases, slice_get_within}
 use Rattle.exh_prefix.specs.Leading.{ward_prefix}
 use Rattle.exh_prefix.specs.declared.prefix.TheConstants.{WARD_BITS_LIMIT}
 use Rattle.exh_keyer.specs.Pseudokey.{any_pseudokey}
@@ -44,9 +44,6 @@ pushed (first ∷ items) item other (suc at) is = elim (pushed items item other 
   | inr last ↦ inr (ap suc last.0, last.1)
 ]
 
-same_some : {X : Type 0} (one other : X) → Some one ≡ Some other → one ≡ other
-same_some one other is = cc
-
 -- ---- one ward more
 
 pub more_opened : (header : Header) (pages : List (Vec Page Global)) (tables : List TableMap) (wards : List (WardState AnyKeyer)) (ward : WardState AnyKeyer) (number : ℕ) (own : Vec Page Global) (table : TableMap)
@@ -56,8 +53,8 @@ more_opened header pages tables wards ward number own table count at_own at_tabl
   | inl there ↦ opened at other_own other_table other po pt there
   | inr last ↦
       let here : at ≡ number = last.0 ∙ count in
-      let own_is : own ≡ other_own = same_some own other_own (sym at_own ∙ ap (slice_get pages) (sym here) ∙ po) in
-      let table_is : table ≡ other_table = same_some table other_table (sym at_table ∙ ap (slice_get tables) (sym here) ∙ pt) in
+      let own_is : own ≡ other_own = same_Some own other_own (sym at_own ∙ ap (slice_get pages) (sym here) ∙ po) in
+      let table_is : table ≡ other_table = same_Some table other_table (sym at_table ∙ ap (slice_get tables) (sym here) ∙ pt) in
       subst (λ (n : ℕ). IsOpenedWard header n other_own.items other_table other) (sym here)
       (subst (λ (w : WardState AnyKeyer). IsOpenedWard header number other_own.items other_table w) (sym last.1)
       (subst (λ (t : TableMap). IsOpenedWard header number other_own.items t ward) table_is

@@ -4,9 +4,9 @@ use Rattle.std.proofs.lemmas.List.{length-take-le, length-drop, take-append-drop
 use Rattle.std.proofs.lemmas.Nat.{div-mul-add, shl_below}
 use Rattle.exh_prefix.specs.Bits.{number_of, bits_of, word_bits}
 use Rattle.exh_prefix.specs.BitLemmas.{length-bits_of, number_of-lt, number_of-bits_of, number_of-append, same_bits}
-use Rattle.exh_prefix.specs.Prefix.{Begins, low_of}
+use Rattle.exh_prefix.specs.Prefix.{Begins, IsFront, low_of}
 use Rattle.exh_prefix.specs.PrefixLemmas.{length-word_bits, word_split, word_rest-lt, low_of-product, low_of-left_child, take-word-low_of}
-use Rattle.exh_prefix.specs.Leading.{leading, first_pseudokey}
+use Rattle.exh_prefix.specs.Leading.{leading, first_pseudokey, ward_prefix}
 
 pub length-leading_bits : (count pseudokey : ℕ) → count ≤ 64 → length (take count (word_bits pseudokey)) ≡ count
 length-leading_bits count pseudokey short = length-take-le count (word_bits pseudokey) (omega (arith, length-word_bits pseudokey))
@@ -97,3 +97,12 @@ begins_by-sharing prefix count one other long short begins =
       λ is. own other is ∙ sym (own one begins),
       λ same. shared_begins prefix count one other (omega (arith, long)) short begins same,
     )
+
+-- ---- wards
+
+-- bits begin with the prefix of one ward alone
+pub one_front : (ward_bits one other : ℕ) (bits : List Bool) → one < 2 ^ ward_bits → other < 2 ^ ward_bits → IsFront (ward_prefix ward_bits one) bits → IsFront (ward_prefix ward_bits other) bits → one ≡ other
+one_front ward_bits one other bits fits fits_too front front_too =
+    let lengths = length-bits_of ward_bits one ∙ sym (length-bits_of ward_bits other) in
+    let same : bits_of ward_bits one ≡ bits_of ward_bits other = sym front ∙ ap (λ n. take n bits) lengths ∙ front_too in
+    sym (number_of-bits_of ward_bits one fits) ∙ ap number_of same ∙ number_of-bits_of ward_bits other fits_too

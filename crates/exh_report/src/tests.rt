@@ -1,9 +1,12 @@
 //! The three-pair file, and what it is after a change: a table, and a function that walks it.
 
 use crate::{ReportFault, Verdict, check_text, dump_text};
-use exh_codec::{BLOCK_LEN, seal};
+use exh_codec::{BLOCK_LEN, CONTENT_LEN, seal};
 use std::alloc::{AllocError, Global};
 use std::test::Fail;
+
+mod full_tables;
+mod turned;
 
 // The blocks of the three-pair file: how each begins.
 const HEADER: [u8; 24] =
@@ -49,16 +52,29 @@ fn three_pairs(
     let mut bytes = Vec::new(alloc);
     let fronts: [&[u8]; 4] = [&HEADER, &PAGE_0, &PAGE_1, &TABLE];
     for (number, front) in fronts.iter().enumerate() {
-        let mut block = [0; BLOCK_LEN];
-        let len = front.len().min(BLOCK_LEN);
-        block[..len].copy_from_slice(&front[..len]);
-        if number == changed && place < BLOCK_LEN {
-            block[place] = byte;
+        let mut content = padded(front);
+        if number == changed && place < CONTENT_LEN {
+            content[place] = byte;
         }
-        seal(&mut block);
-        bytes.extend_from_slice(&block)?;
+        push_block(&mut bytes, &content)?;
     }
     Ok(bytes)
+}
+
+// The content of a block that begins so.
+fn padded(front: &[u8]) -> [u8; CONTENT_LEN] {
+    let mut content = [0; CONTENT_LEN];
+    let len = front.len().min(CONTENT_LEN);
+    content[..len].copy_from_slice(&front[..len]);
+    content
+}
+
+// Adds the block that begins so, its digest right.
+fn push_block(bytes: &mut Vec<u8>, front: &[u8]) -> Result<(), AllocError> {
+    let mut block = [0; BLOCK_LEN];
+    block[..CONTENT_LEN].copy_from_slice(&padded(front));
+    seal(&mut block);
+    bytes.extend_from_slice(&block)
 }
 
 fn is_checked(

@@ -1,5 +1,5 @@
 -- The header of sound wards, and that they are a legal file.
-use Rattle.std.proofs.Common.{◌≡◌, ℕ, zero, suc, ◌+◌, ◌-◌, ◌^◌, ◌<◌, ◌≤◌, Bool, true, false, cond, T, List, [], ◌∷◌, ◌++◌, length, map, take, drop, get_or, replicate, slice_get, Option, None, Some, refl, sym, ap, ◌∙◌, subst, length-append, arith}
+use Rattle.std.proofs.Common.{◌≡◌, ℕ, suc, ◌-◌, ◌^◌, ◌<◌, ◌≤◌, Bool, true, false, cond, T, List, [], ◌∷◌, length, map, get_or, replicate, slice_get, None, Some, refl, sym, ap, ◌∙◌, subst, length-append, arith}
 use Rattle.std.specs.FinMap.{empty, entries, entries_sorted, get, get-entries}
 use Rattle.std.specs.FinMap.Entries.{find, is_sorted}
 use Rattle.std.specs.List.{AllByRecursion, sum_by}
@@ -21,6 +21,7 @@ use Rattle.exh_keyer.specs.declared.any_keyer.AnyKeyer.{AnyKeyer}
 use Rattle.exh_notice.specs.declared.entry.Entry.{Entry}
 use Rattle.exh_notice.specs.declared.entry.Kind.{Kind}
 use Rattle.exh_notice.specs.declared.entry.Kind.TheVariants.{Split, Merge}
+use Rattle.exh_notice.specs.ByteLemmas.{zeros_are_zero}
 use Rattle.exh_table.specs.SetLemmas.{none_below}
 use Rattle.exh_table.specs.Table.{TableMap}
 use Rattle.exh_table.specs.TableLemmas.{same_from_tie}
@@ -31,12 +32,13 @@ use Rattle.exh_legal.specs.Laws.{FittingTablesBeginWards, IsWard, PagesAreFew}
 use Rattle.exh_legal.specs.Pages.{AreLinked, IsAt, bare}
 use Rattle.exh_file.specs.FileVersion.{first_file}
 use Rattle.exh_file.specs.HeaderImage.{IsHeader, IsPageCount}
+use Rattle.exh_file.specs.declared.file_entry.FileEntry.{FileEntry}
 use Rattle.exh_reasons.specs.FileParts.{parts_of}
 use Rattle.exh_reasons.specs.Laws.{IsLegalFile, LegalTablesHaveRoom}
 use Rattle.exh_ward.specs.WardState.{WardState, own_prefix}
 use Rattle.exh_open.specs.Opened.{AreWardsOf, OpenedState}
 use Rattle.exh_save.specs.Saved.{AreShort, AreSound, entries_in, entries_of, file_entry, header_of, pages_in}
-use Rattle.exh_save.proofs.Lists.{all_zeros, there_in}
+use Rattle.exh_save.proofs.Lists.{there_in}
 
 -- ---- what holds of each ward's part holds of all
 
@@ -48,18 +50,18 @@ module _ (P : ℕ → Type 0) where
 abbrev IsShortAt : List Bool × Entry → Type 0
 IsShortAt told = length told.0 < LIMIT
 
-all_told : (ward : ℕ) (told : List (List Bool × Entry)) → AllByRecursion IsShortAt told → AreShort (map (file_entry ward) told)
-all_told ward [] all = tt
-all_told ward (one ∷ told) all = (all.0, all_told ward told all.1)
+pub all_told : (P : List Bool → Type 0) (ward : ℕ) (told : List (List Bool × Entry)) → AllByRecursion (λ (one : List Bool × Entry). P one.0) told → AllByRecursion (λ (item : FileEntry). P item.prefix) (map (file_entry ward) told)
+all_told P ward [] all = tt
+all_told P ward (one ∷ told) all = (all.0, all_told P ward told all.1)
 
 all_short : (wards : List (WardState AnyKeyer)) → ((number : ℕ) (ward : WardState AnyKeyer) → slice_get wards number ≡ Some ward → AllByRecursion IsShortAt (entries ward.table)) → AreShort (entries_in wards)
 all_short [] each = tt
-all_short (ward ∷ wards) each = AllByRecursion-append _ (entries_of ward) (entries_in wards) (all_told ward.number (entries ward.table) (each 0 ward refl)) (all_short wards (λ number other is. each (suc number) other is))
+all_short (ward ∷ wards) each = AllByRecursion-append _ (entries_of ward) (entries_in wards) (all_told (λ prefix. length prefix < LIMIT) ward.number (entries ward.table) (each 0 ward refl)) (all_short wards (λ number other is. each (suc number) other is))
 
 -- ---- the entries of one table
 
 module _ (P : List Bool → Type 0) where
-  each : (es : List (List Bool × Entry)) → T (is_sorted prefix_cmp es) → ((prefix : List Bool) (entry : Entry) → find prefix_cmp prefix es ≡ Some entry → P prefix) → AllByRecursion (λ (told : List Bool × Entry). P told.0) es
+  pub each : (es : List (List Bool × Entry)) → T (is_sorted prefix_cmp es) → ((prefix : List Bool) (entry : Entry) → find prefix_cmp prefix es ≡ Some entry → P prefix) → AllByRecursion (λ (told : List Bool × Entry). P told.0) es
   each [] sorted holds = tt
   each (item ∷ es) sorted holds = (
     holds item.0 item.1 (ap (λ b. cond b (Some item.1) (find prefix_cmp item.0 es)) (ap is_eq (tied_itself prefix_cmp-total item.0))),
@@ -73,7 +75,7 @@ module _ (P : List Bool → Type 0) where
   )
 
 module _ {ward : List Bool} {table : TableMap} (pages : List Page) (linked : AreLinked ward (bare pages)) (fits : FitsPages ward table (bare pages)) where
-  short_at : (prefix : List Bool) (entry : Entry) (kind : Kind) → entry.kind ≡ kind → get table prefix ≡ Some entry → length prefix < LIMIT
+  pub short_at : (prefix : List Bool) (entry : Entry) (kind : Kind) → entry.kind ≡ kind → get table prefix ≡ Some entry → length prefix < LIMIT
   short_at prefix entry (Split right) is found =
       let split : split_at table prefix ≡ Some right = ap right_of found ∙ ap right_of_kind is in
       let inner = ((fits.splits prefix).0 (right, split)).1 in
@@ -166,5 +168,5 @@ module _ (opened : OpenedState) (are : AreWardsOf opened) (sound : AreSound open
         entries = few_entries room;
         counts = omega (arith, length-append lens rest, length-replicate {A = ℕ} (16 - length lens) 0, many, within);
         pages = subst (AllByRecursion (IsPageCount LIMIT opened.ward_bits)) (sym (take_at lens rest (2 ^ opened.ward_bits) many)) (all_counts (IsPageCount LIMIT opened.ward_bits) opened.wards (page_count few));
-        others = subst (AllByRecursion (λ (count : ℕ). count ≡ 0)) (sym (drop_at lens rest (2 ^ opened.ward_bits) many)) (all_zeros (16 - length lens));
+        others = subst (AllByRecursion (λ (count : ℕ). count ≡ 0)) (sym (drop_at lens rest (2 ^ opened.ward_bits) many)) (zeros_are_zero (16 - length lens));
       }

@@ -4,3 +4,6 @@ pub mod Going
 pub mod Left
 -- of the header
 pub mod Legal
+-- of opening what was written
+pub mod Named
+pub mod Reopened

@@ -1,7 +1,7 @@
 -- Lists that are gone through one by one.
-use Rattle.std.proofs.Common.{◌≡◌, ℕ, zero, suc, ◌+◌, ◌-◌, ◌<◌, List, [], ◌∷◌, ◌++◌, length, map, take, drop, get_or, set, replicate, slice_get, Some, refl, sym, ap, ◌∙◌, subst, arith}
+use Rattle.std.proofs.Common.{◌≡◌, ℕ, zero, suc, ◌+◌, List, [], ◌∷◌, ◌++◌, length, map, take, drop, set, replicate, slice_get, Some, refl, sym, ap, ◌∙◌, subst, arith}
 use Rattle.std.specs.List.{AllByRecursion, sum_by}
-use Rattle.std.proofs.lemmas.List.{take-append-drop, take_more, append_assoc}
+use Rattle.std.proofs.lemmas.List.{take-append-drop, take_more}
 use Rattle.std.proofs.lemmas.List.Sums.{sum_by-cons}
 use Rattle.std.proofs.lemmas.Option.{get_or_from_slice_get, slice_get_within}
 use Rattle.exh_prefix.specs.ListLemmas.{AllByRecursion-append}
@@ -40,10 +40,6 @@ module _ {A : Type 0} (f : A → ℕ) where
 pub set_zero : (numbers : List ℕ) (more number : ℕ) → set (numbers ++ replicate (suc more) 0) (length numbers) number ≡ (numbers ++ number ∷ []) ++ replicate more 0
 set_zero [] more number = refl
 set_zero (first ∷ numbers) more number = ap (λ (l : List ℕ). first ∷ l) (set_zero numbers more number)
-
-pub all_zeros : (count : ℕ) → AllByRecursion (λ (number : ℕ). number ≡ 0) (replicate count 0)
-all_zeros zero = tt
-all_zeros (suc count) = (refl, all_zeros count)
 
 -- ---- of what a list was made
 

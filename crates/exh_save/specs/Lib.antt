@@ -1,2 +1,3 @@
 pub mod SaveFault
 pub mod Saved
+pub mod Reopened

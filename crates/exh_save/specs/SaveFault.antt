@@ -1,5 +1,5 @@
 -- Faults of writing wards, and their numbers among all refusals.
-use Rattle.std.specs.Prelude.{◌≡◌, ℕ, ◌<◌, Result, Ok, Err}
+use Rattle.std.specs.Prelude.{◌≡◌, ℕ, ◌<◌, Result, Err}
 use Rattle.exh_ward.specs.declared.ward_fault.WardFault.{WardFault}
 use Rattle.exh_ward.specs.declared.ward_fault.WardFault.TheVariants.{Page as OutOfReach}
 use Rattle.exh_save.specs.declared.save_fault.SaveFault.{SaveFault}

@@ -17,6 +17,7 @@ ghost use Rattle.exh_frames.specs.PageStore.{IfPage};
 ghost use Rattle.exh_file.specs.declared.header.TheConstants.{COUNTS_LEN};
 ghost use Rattle.exh_ward.specs.WardState.{IsUnchanged};
 ghost use Rattle.exh_open.specs.Opened.{AreWardsOf};
+ghost use Rattle.exh_save.specs.Reopened.{IsKept};
 ghost use Rattle.exh_save.specs.SaveFault.{CountsFailures};
 ghost use Rattle.exh_save.specs.Saved.{AreNumbered, AreShort, AreUnchanged, HasCaps, entries_in, failures_in, file_entry, file_of, file_with, in_file, pages_in};
 
@@ -27,9 +28,9 @@ use exh_frames::Pages;
 use exh_keyer::AnyKeyer;
 use exh_legal::{fitting_tables_begin_wards, pages_are_few};
 use exh_page::Page;
-use exh_page_file::FileWriter;
+use exh_page_file::{FileWriter, one_file};
 use exh_prefix::PageNo;
-use exh_reasons::legal_tables_have_room;
+use exh_reasons::{legal_files_pass, legal_tables_have_room};
 use exh_stream::WriteFault;
 use exh_table::Table;
 use exh_ward::Ward;
@@ -37,8 +38,9 @@ use std::io::Write;
 
 /// Appends the page file of these wards to the writer of a file of which nothing is on its way, in the
 /// first version: one ward for each number, in order, of at most `cap` records a page, 1 to 16, of
-/// 2^`ward_bits` wards, cut by 0 to 4 leading bits, and of this keyer. The writer isn't flushed. It takes
-/// memory for a copy of one page at a time.
+/// 2^`ward_bits` wards, cut by 0 to 4 leading bits, and of this keyer. What was written whole is a legal
+/// page file, and opening it gives wards of the same pages and tables. The writer isn't flushed. It
+/// takes memory for a copy of one page at a time.
 ///
 /// `Write`: the writer failed or took no bytes. `Page`: a page is out of reach. `Memory`: a growth was
 /// refused. Then a beginning of the file went out. The wards are as before.
@@ -53,12 +55,15 @@ pub fn write_file<P: Pages + Drop, W: Write>(
     requires bare { IsBare file.old }
     ensures same_target { SameTarget file.old file.new }
     ensures ok { OnOk result (Appends (written W.contents file.old) (written W.contents file.new) (file_bytes first_file (file_of (in_file cap ward_bits keyer wards.old)))) }
+    ensures opens { OnOk result (IsKept (in_file cap ward_bits keyer wards.old) (file_bytes first_file (file_of (in_file cap ward_bits keyer wards.old)))) }
     ensures err { OnErr result (AppendsBeginning (written W.contents file.old) (written W.contents file.new) (file_bytes first_file (file_of (in_file cap ward_bits keyer wards.old)))) }
     ensures wards { AreUnchanged wards.old wards.new }
     ensures failures { CountsFailures result (failures_in wards.old) (failures_in wards.new) }
 {
     fitting_tables_begin_wards();
+    legal_files_pass();
     legal_tables_have_room();
+    one_file();
     pages_are_few();
     let header = header_of(cap, ward_bits, keyer, wards);
     write_parts(file, &header, wards)

@@ -2,7 +2,7 @@
 use Rattle.std.proofs.Common.{◌≡◌, ℕ, zero, suc, ◌+◌, ◌<◌, ◌≤◌, ◌^◌, Bool, true, false, if◌then◌else◌, List, [], ◌∷◌, ◌++◌, length, take, drop, slice_get, Option, Some, None, IsSome, refl, sym, ap, ◌∙◌, subst, arith}
 use Rattle.std.specs.Option.{option_map_or}
 use Rattle.std.proofs.lemmas.List.{append_assoc, append-nil, append_cancel_left, length-append, take_at, take-append-drop, take-take, length-drop}
-use Rattle.std.proofs.lemmas.Option.{slice_get_within}
+use Rattle.std.proofs.lemmas.Option.{same_Some, slice_get_within}
 use Rattle.exh_prefix.specs.Bits.{word_bits}
 use Rattle.exh_prefix.specs.Prefix.{IsFront, Begins}
 use Rattle.exh_prefix.specs.PrefixLemmas.{front_of_front}
@@ -24,9 +24,6 @@ pub record IsWay (splits : List Bool → Option ℕ) (bits : List Bool) (at leaf
   pub stops : length over < length bits → splits leaf.prefix ≡ None
   pub turned : (n : ℕ) → slice_get over n ≡ Some true → ((later : ℕ) → n < later → later < length over → slice_get over later ≡ Some false) → splits (at.prefix ++ take n over) ≡ Some leaf.page
   pub straight : ((n : ℕ) → n < length over → slice_get over n ≡ Some false) → leaf.page ≡ at.page
-
-same_some : {A : Type 0} (one other : A) → Some one ≡ Some other → one ≡ other
-same_some one other is = cc
 
 no_way : (splits : List Bool → Option ℕ) (bits : List Bool) (at : Leaf) → (0 < length bits → splits at.prefix ≡ None) → IsWay splits bits at at
 no_way splits bits at stops = record {
@@ -57,10 +54,10 @@ longer_way splits bit bits at leaf right split way =
       stops = λ less. way.stops (omega arith);
       turned = λ n. elim n as (λ n. slice_get (bit ∷ way.over) n ≡ Some true → ((later : ℕ) → n < later → later < suc (length way.over) → slice_get (bit ∷ way.over) later ≡ Some false)
           → splits (at.prefix ++ take n (bit ∷ way.over)) ≡ Some leaf.page) [
-            | zero ↦ λ is later. here ∙ ap Some (ap (λ b. if b then right else at.page) (sym (same_some bit true is)) ∙ sym (way.straight (λ n within. later (suc n) (omega arith) (omega arith))))
+            | zero ↦ λ is later. here ∙ ap Some (ap (λ b. if b then right else at.page) (sym (same_Some bit true is)) ∙ sym (way.straight (λ n within. later (suc n) (omega arith) (omega arith))))
             | suc n ↦ λ is later. ap splits (sym (further n)) ∙ way.turned n is (λ m above within. later (suc m) (omega arith) (omega arith))
           ];
-      straight = λ all. way.straight (λ n within. all (suc n) (omega arith)) ∙ ap (λ b. if b then right else at.page) (same_some bit false (all 0 (omega arith)));
+      straight = λ all. way.straight (λ n within. all (suc n) (omega arith)) ∙ ap (λ b. if b then right else at.page) (same_Some bit false (all 0 (omega arith)));
     }
 
 pub walk_has_way : (splits : List Bool → Option ℕ) (bits : List Bool) (at : Leaf) → IsWay splits bits at (walk_on splits bits at)

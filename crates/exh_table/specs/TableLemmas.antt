@@ -1,42 +1,55 @@
 -- The order of tables is partial, and the join is the least table that is at least both.
-use Rattle.std.proofs.Common.{◌≡◌, Bool, true, false, cond, List, [], ◌∷◌, ◌++◌, map, Option, Some, None, refl, sym, ap, ◌∙◌, subst}
+use Rattle.std.proofs.Common.{◌≡◌, Bool, true, false, cond, List, [], ◌∷◌, ◌++◌, map, Option, Some, None, ◌⊎◌, inl, inr, refl, sym, ap, ◌∙◌, subst}
 use Rattle.std.specs.FinMap.{entries, get, get-entries, get-from_entries, same_map}
 use Rattle.std.specs.FinMap.Entries.{find}
-use Rattle.std.specs.Ordering.{eq_by_cmp}
+use Rattle.std.specs.Ordering.{is_lt, eq_by_cmp}
 use Rattle.exh_prefix.specs.Prefix.{prefix_cmp}
 use Rattle.exh_prefix.specs.PrefixLemmas.{prefix_cmp-total, prefix_cmp-exact}
 use Rattle.exh_prefix.specs.ListLemmas.{is_equal}
 use Rattle.exh_join.specs.Laws.{IsPartialOrder, IsLeastAboveBoth, JoinLaws}
 use Rattle.exh_join.specs.LawsLemmas.{join_laws}
 use Rattle.exh_notice.specs.declared.entry.Entry.{Entry}
+use Rattle.exh_notice.specs.Entry.{entry_cmp}
 use Rattle.exh_notice.specs.EntryLemmas.{entry_laws}
 use Rattle.exh_table.specs.Table.{TableMap, greater_of}
 use Rattle.exh_table.specs.TableOrder.{IsOptionUpTo, IsTableUpTo, table_join}
 
 -- ---- at one prefix
 
-up_to_itself : (one : Option Entry) → IsOptionUpTo one one
+pub up_to_itself : (one : Option Entry) → IsOptionUpTo one one
 up_to_itself None = tt
 up_to_itself (Some entry) = entry_laws.order.reflexive entry
 
-up_to_both : (one other : Option Entry) → IsOptionUpTo one other → IsOptionUpTo other one → one ≡ other
+pub up_to_both : (one other : Option Entry) → IsOptionUpTo one other → IsOptionUpTo other one → one ≡ other
 up_to_both None None h k = refl
 up_to_both None (Some entry) h k = absurd k
 up_to_both (Some entry) None h k = absurd h
 up_to_both (Some entry) (Some other) h k = ap Some (entry_laws.order.antisymmetric entry other h k)
 
-up_to_third : (one other third : Option Entry) → IsOptionUpTo one other → IsOptionUpTo other third → IsOptionUpTo one third
+pub up_to_third : (one other third : Option Entry) → IsOptionUpTo one other → IsOptionUpTo other third → IsOptionUpTo one third
 up_to_third None other third h k = tt
 up_to_third (Some entry) None third h k = absurd h
 up_to_third (Some entry) (Some other) None h k = absurd k
 up_to_third (Some entry) (Some other) (Some third) h k = entry_laws.order.transitive entry other third h k
+
+-- the greater of what was there and an entry is one of them
+one_of : (greater : Bool) (old new : Entry) → (cond greater new old ≡ old) ⊎ (cond greater new old ≡ new)
+one_of true old new = inr refl
+one_of false old new = inl refl
+
+pub greater_is : (old : Option Entry) (new : Entry) → (old ≡ Some (greater_of old new)) ⊎ (greater_of old new ≡ new)
+greater_is None new = inr refl
+greater_is (Some old) new = elim (one_of (is_lt (entry_cmp old new)) old new) [
+  | inl kept ↦ inl (ap Some (sym kept))
+  | inr taken ↦ inr taken
+]
 
 -- what the join has where the tables have these
 abbrev pub joined : Option Entry → Option Entry → Option Entry
 joined one None = one
 joined one (Some entry) = Some (greater_of one entry)
 
-joined_first : (one other : Option Entry) → IsOptionUpTo one (joined one other)
+pub joined_first : (one other : Option Entry) → IsOptionUpTo one (joined one other)
 joined_first one None = up_to_itself one
 joined_first None (Some entry) = tt
 joined_first (Some old) (Some entry) = entry_laws.bound.above_first old entry
@@ -46,7 +59,7 @@ joined_second one None = tt
 joined_second None (Some entry) = entry_laws.order.reflexive entry
 joined_second (Some old) (Some entry) = entry_laws.bound.above_second old entry
 
-joined_least : (one other bound : Option Entry) → IsOptionUpTo one bound → IsOptionUpTo other bound → IsOptionUpTo (joined one other) bound
+pub joined_least : (one other bound : Option Entry) → IsOptionUpTo one bound → IsOptionUpTo other bound → IsOptionUpTo (joined one other) bound
 joined_least one None bound h k = h
 joined_least None (Some entry) bound h k = k
 joined_least (Some old) (Some entry) None h k = absurd h

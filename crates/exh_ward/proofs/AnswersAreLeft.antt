@@ -15,11 +15,11 @@ use Rattle.exh_page.specs.Search.{IsSought}
 use Rattle.exh_legal.specs.Laws.{PagesAreFew}
 use Rattle.exh_legal.specs.Pages.{map_of, IsAt}
 use Rattle.exh_calls.specs.Call.{key_of}
-use Rattle.exh_calls.specs.Effect.{effect_of}
+use Rattle.exh_calls.specs.Effect.{Change, effect_of}
 use Rattle.exh_ward.specs.HopTable.{HopOf, pages_after}
 use Rattle.exh_ward.specs.Kept.{IsKeptWard}
 use Rattle.exh_calls.specs.MapMachine.{reply_of, map_after}
-use Rattle.exh_ward.specs.PageAnswer.{effect_at, reply_by, records_after}
+use Rattle.exh_ward.specs.PageAnswer.{effect_at, reply_by, records_changed, records_after}
 use Rattle.exh_legal.specs.PageIndex.{IndexMap}
 use Rattle.exh_ward.specs.Sight.{IsSeenAt, SightIn}
 use Rattle.exh_ward.specs.WardState.{WardState, IsAnswered, own_prefix}
@@ -92,13 +92,14 @@ module _ {K : Type 0} {pseudo : List ℕ → ℕ} {takes : Page → Type 0} {own
   there_is other is = one_there w.pages at other page is answers.home.there
 
   -- what was seen is what the page has
-  pub sought_there : (other : Page) → IsAt w.pages at other → IsSought (pseudokey, key_of call) (records_of other) seen.spot
-  sought_there other is =
+  pub sought_there : (key : List ℕ) → key ≡ key_of call → (other : Page) → IsAt w.pages at other → IsSought (pseudokey, key) (records_of other) seen.spot
+  sought_there key same other is =
       let P : ℕ → Type 0 = λ k. IsSought (k, key_of call) answers.records seen.spot in
       let Q : Page → Type 0 = λ other. IsSought (pseudokey, key_of call) (records_of other) seen.spot in
-      subst Q (sym (there_is other is)) (subst P (sym answers.hashed) answers.seen_is.sought)
+      let R : List ℕ → Type 0 = λ key. IsSought (pseudokey, key) (records_of other) seen.spot in
+      subst R (sym same) (subst Q (sym (there_is other is)) (subst P (sym answers.hashed) answers.seen_is.sought))
 
-  pub stood_there : (other : Page) → IsAt w.pages at other → seen.stood ≡ value_at (pseudokey, key_of call) (records_of other)
+  stood_there : (other : Page) → IsAt w.pages at other → seen.stood ≡ value_at (pseudokey, key_of call) (records_of other)
   stood_there other is =
       answers.seen_is.stood ∙ ap (λ k. value_at (k, key_of call) answers.records) (sym answers.hashed)
       ∙ ap (λ other. value_at (pseudokey, key_of call) (records_of other)) (sym (there_is other is))
@@ -106,11 +107,26 @@ module _ {K : Type 0} {pseudo : List ℕ → ℕ} {takes : Page → Type 0} {own
   pub reply_there : (reply : Reply) → reply ≡ (effect_of call full seen.stood).reply → (other : Page) → IsAt w.pages at other → reply ≡ reply_by full pseudokey call other
   reply_there reply by_stood other is = by_stood ∙ ap (λ stood. (effect_of call full stood).reply) (stood_there other is)
 
-  pub written_taken : length w.pages < 2 ^ 32 - 1 → (other : Page) → IsAt w.pages at other → takes (with_records (records_after full pseudokey call (records_of other)) other)
-  written_taken few other is =
+  -- so the change that it comes to leaves the records after the call
+  changed_there : (key : List ℕ) (change : Change) → key ≡ key_of call → change ≡ (effect_of call full seen.stood).change → (other : Page) → IsAt w.pages at other
+      → records_changed change pseudokey key (records_of other) ≡ records_after full pseudokey call (records_of other)
+  changed_there key change same by_stood other is =
+      ap (λ key. records_changed change pseudokey key (records_of other)) same
+      ∙ ap (λ change. records_changed change pseudokey (key_of call) (records_of other)) (by_stood ∙ ap (λ stood. (effect_of call full stood).change) (stood_there other is))
+
+  pub stored : (key : List ℕ) (change : Change) → key ≡ key_of call → change ≡ (effect_of call full seen.stood).change → (pages : List Page)
+      → ((other : Page) → IsAt w.pages at other → pages ≡ slice_set w.pages at (with_records (records_changed change pseudokey key (records_of other)) other))
+      → (other : Page) → IsAt w.pages at other → pages ≡ slice_set w.pages at (with_records (records_after full pseudokey call (records_of other)) other)
+  stored key change same by_stood pages by_store other is =
+      by_store other is ∙ ap (λ records. slice_set w.pages at (with_records records other)) (changed_there key change same by_stood other is)
+
+  pub written_taken : (key : List ℕ) (change : Change) → key ≡ key_of call → change ≡ (effect_of call full seen.stood).change → length w.pages < 2 ^ 32 - 1
+      → (other : Page) → IsAt w.pages at other → takes (with_records (records_changed change pseudokey key (records_of other)) other)
+  written_taken key change same by_stood few other is =
       let formed = well_formed w.pages kept.sound.legal.legal.legal.linked few kept.most at answers.prefix answers.link answers.records left answers.home.there (left_legal fit answers.home) in
       let P : Page → Type 0 = λ other. takes (with_records (records_after full pseudokey call (records_of other)) other) in
-      subst P (sym (there_is other is)) (subst takes (sym written) (kept.takes_all _ formed))
+      let S : List Record → Type 0 = λ records. takes (with_records records other) in
+      subst S (sym (changed_there key change same by_stood other is)) (subst P (sym (there_is other is)) (subst takes (sym written) (kept.takes_all _ formed)))
 
   pub replied : (reply : Reply) → ((other : Page) → IsAt w.pages at other → reply ≡ reply_by full pseudokey call other) → reply ≡ reply_of w.cap pseudo (map_of w.pages) call
   replied reply by_page =

@@ -7,7 +7,6 @@ pub mod MadeOfPages
 pub mod NoticesAbove
 -- hops: a call's home answers what the map machine does, and its pages stay legal
 pub mod StoredPages
-pub mod PageWrites
 pub mod RecordCount
 pub mod HomeReplies
 pub mod AnswersKeepLegal

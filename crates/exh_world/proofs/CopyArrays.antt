@@ -6,8 +6,8 @@ use Rattle.std.proofs.lemmas.Option.{slice_get-map}
 use Rattle.exh_prefix.specs.ListLemmas.{set_is, set_same}
 use Rattle.exh_array.specs.Pointers.{DirectoryState, HasArrayOf}
 use Rattle.exh_world.specs.Kept.{HaveArrays, IsPlaceOf, tables_of}
+use Rattle.exh_world.specs.ListLemmas.{replicate_is}
 use Rattle.exh_world.specs.World.{numbered}
-use Rattle.exh_world.proofs.FreshWorld.{replicate_is}
 
 -- ---- places
 

@@ -1,11 +1,11 @@
 -- The world of a new file is sound.
-use Rattle.std.proofs.Common.{◌≡◌, ℕ, zero, suc, ◌+◌, ◌-◌, ◌^◌, ◌<◌, ◌≤◌, inl, inr, Bool, List, [], ◌∷◌, ◌++◌, map, take, replicate, slice_get, Some, None, refl, sym, ap, ◌∙◌, subst, arith, lit<}
+use Rattle.std.proofs.Common.{◌≡◌, ℕ, ◌+◌, ◌-◌, ◌^◌, ◌<◌, ◌≤◌, inl, inr, Bool, List, [], ◌∷◌, ◌++◌, map, take, replicate, slice_get, Some, None, refl, sym, ap, ◌∙◌, subst, arith, lit<}
 use Rattle.std.specs.FinMap as fin
 use Rattle.std.specs.List.{range_with_len}
 use Rattle.std.proofs.lemmas.List.{length-replicate, get_or-replicate}
 use Rattle.std.proofs.Math.Seq.{take-nil}
 use Rattle.std.proofs.lemmas.List.FromFn.{length-map-range_with_len, map-range_with_len_more}
-use Rattle.std.proofs.lemmas.Option.{get_or_from_slice_get, slice_get_within, slice_get-get_or}
+use Rattle.std.proofs.lemmas.Option.{slice_get-get_or}
 use Rattle.exh_prefix.specs.Prefix.{prefix_cmp}
 use Rattle.exh_prefix.specs.ListLemmas.{push_is}
 use Rattle.exh_table.specs.Table.{TableMap}
@@ -16,23 +16,10 @@ use Rattle.exh_prefix.specs.declared.prefix.TheConstants.{WARD_BITS_LIMIT}
 use Rattle.exh_world.specs.Kept.{IsKeptWorld}
 use Rattle.exh_world.specs.NewWorld.{new_ward, new_world}
 use Rattle.exh_world.specs.Sound.{LeadsRight, LeadsRightIn, IsWardOf, IsSoundWorld}
-use Rattle.exh_world.specs.World.{WorldState, numbered}
+use Rattle.exh_world.specs.World.{WorldState}
 use Rattle.exh_world.specs.InFlight.{Requests}
 use Rattle.exh_world.specs.declared.config.Config.{Config}
-use Rattle.exh_world.specs.ListLemmas.{mapped_is}
-
-pub replicate_is : {A : Type 0} (n : ℕ) (x y : A) (at : ℕ) → slice_get (replicate n x) at ≡ Some y → y ≡ x
-replicate_is n x y at is =
-    let within = subst (λ length. at < length) (length-replicate n x) (slice_get_within (replicate n x) at y is) in
-    sym (get_or_from_slice_get (replicate n x) at y x is) ∙ get_or-replicate n at x x within
-
-pub numbered_is : {A : Type 0} (n : ℕ) (x y : A) (number : ℕ) → numbered (replicate n x) number ≡ Some y → y ≡ x
-numbered_is n x y zero is = cc
-numbered_is n x y (suc number) is = replicate_is n x y number is
-
-pub numbered_none : {A : Type 0} (number : ℕ) (y : A) → numbered (let none : List A = [] in none) number ≡ Some y → ⊥
-numbered_none zero y is = cc
-numbered_none (suc number) y is = cc
+use Rattle.exh_world.specs.ListLemmas.{mapped_is, numbered_is, numbered_none}
 
 replicate_there : {A : Type 0} (n : ℕ) (x : A) (at : ℕ) → at < n → slice_get (replicate n x) at ≡ Some x
 replicate_there n x at within =

@@ -6,9 +6,9 @@ use Rattle.std.specs.Option.{option_map, option_or}
 use Rattle.std.proofs.lemmas.Grind.{flat_map-append}
 use Rattle.std.proofs.lemmas.List.Folds.{find-append}
 use Rattle.std.proofs.lemmas.Option.{slice_get_within}
-use Rattle.exh_prefix.specs.Bits.{bits_of, number_of, word_bits}
-use Rattle.exh_prefix.specs.BitLemmas.{number_of-bits_of, length-bits_of}
-use Rattle.exh_prefix.specs.Prefix.{IsFront, Begins}
+use Rattle.exh_prefix.specs.Bits.{word_bits}
+use Rattle.exh_prefix.specs.LeadingLemmas.{one_front}
+use Rattle.exh_prefix.specs.Prefix.{Begins}
 use Rattle.exh_prefix.specs.PrefixLemmas.{front_of_front}
 use Rattle.exh_page.specs.declared.page.Page.{Page}
 use Rattle.exh_page.specs.declared.page.Page.TheVariants.{Live, Forward}
@@ -37,14 +37,7 @@ each_legal cap pseudo ward_bits first (pages ∷ wards) legal = AllByRecursion-a
 
 -- ---- the ward of a pseudokey
 
--- bits begin with the prefix of one ward alone
-pub one_front : (ward_bits one other : ℕ) (bits : List Bool) → one < 2 ^ ward_bits → other < 2 ^ ward_bits → IsFront (ward_prefix ward_bits one) bits → IsFront (ward_prefix ward_bits other) bits → one ≡ other
-one_front ward_bits one other bits fits fits_too front front_too =
-    let lengths = length-bits_of ward_bits one ∙ sym (length-bits_of ward_bits other) in
-    let same : bits_of ward_bits one ≡ bits_of ward_bits other = sym front ∙ ap (λ n. take n bits) lengths ∙ front_too in
-    sym (number_of-bits_of ward_bits one fits) ∙ ap number_of same ∙ number_of-bits_of ward_bits other fits_too
-
--- so a pseudokey is in one ward alone
+-- a pseudokey is in one ward alone
 pub one_ward : (ward_bits one other pseudokey : ℕ) → one < 2 ^ ward_bits → other < 2 ^ ward_bits → Begins (ward_prefix ward_bits one) pseudokey → Begins (ward_prefix ward_bits other) pseudokey → one ≡ other
 one_ward ward_bits one other pseudokey = one_front ward_bits one other (word_bits pseudokey)
 

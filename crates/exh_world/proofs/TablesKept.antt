@@ -10,7 +10,7 @@ use Rattle.exh_notice.specs.declared.entry.Kind.TheVariants.{Split, Merge}
 use Rattle.exh_notice.specs.declared.notice.Notice.{Notice}
 use Rattle.exh_notice.specs.Entry.{entry_cmp, entry_of}
 use Rattle.exh_table.specs.Table.{TableMap, table_with, greater_of}
-use Rattle.exh_table.specs.TableLemmas.{joined, get-table_join, same_from_tie}
+use Rattle.exh_table.specs.TableLemmas.{joined, get-table_join, greater_is, same_from_tie}
 use Rattle.exh_table.specs.TableOrder.{table_join}
 use Rattle.exh_table.specs.Walk.{right_of_kind, right_of}
 use Rattle.exh_page.specs.declared.page.Page.{Page}
@@ -18,22 +18,10 @@ use Rattle.exh_legal.specs.Fit.{IsTrueNotice}
 use Rattle.exh_legal.specs.Growth.{IsPageOf}
 use Rattle.exh_world.specs.Sound.{LeadsRight}
 
--- the greater of two entries is one of them
-one_of : (b : Bool) (old new : Entry) → (cond b new old ≡ old) ⊎ (cond b new old ≡ new)
-one_of true old new = inr refl
-one_of false old new = inl refl
-
-greater_is : (old : Option Entry) (new : Entry) → ((entry : Entry) × (old ≡ Some entry) × (greater_of old new ≡ entry)) ⊎ (greater_of old new ≡ new)
-greater_is None new = inr refl
-greater_is (Some old) new = elim (one_of (is_lt (entry_cmp old new)) old new) [
-  | inl kept ↦ inl (old, refl, kept)
-  | inr taken ↦ inr taken
-]
-
 -- a split that the greater entry tells of, one of the two tells of
 split_of_greater : (old : Option Entry) (new : Entry) (right : ℕ) → right_of (Some (greater_of old new)) ≡ Some right → (right_of old ≡ Some right) ⊎ (right_of (Some new) ≡ Some right)
 split_of_greater old new right split = elim (greater_is old new) [
-  | inl kept ↦ inl (ap right_of kept.1 ∙ ap (λ e. right_of (Some e)) (sym kept.2) ∙ split)
+  | inl kept ↦ inl (ap right_of kept ∙ split)
   | inr taken ↦ inr (ap (λ e. right_of (Some e)) (sym taken) ∙ split)
 ]
 

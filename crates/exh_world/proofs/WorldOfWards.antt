@@ -22,16 +22,17 @@ use Rattle.exh_legal.specs.Laws.{IsWard, WalksNameHomes}
 use Rattle.exh_prefix.specs.LowLemmas.{own_front, front_shorter, front_of_longer, low_of-small, begins_own_low}
 use Rattle.exh_prefix.specs.ListLemmas.{push_is}
 use Rattle.exh_prefix.specs.Leading.{ward_prefix}
+use Rattle.exh_prefix.specs.LeadingLemmas.{one_front}
 use Rattle.exh_ward.specs.WardState.{WardState, IsSoundWard, notices_above}
 use Rattle.exh_prefix.specs.declared.prefix.TheConstants.{WARD_BITS_LIMIT}
 use Rattle.exh_world.specs.declared.config.Config.{Config}
 use Rattle.exh_world.specs.InFlight.{Requests}
 use Rattle.exh_world.specs.Kept.{IsKeptWorld}
+use Rattle.exh_world.specs.ListLemmas.{numbered_is, numbered_none}
 use Rattle.exh_world.specs.NewWorld.{IsWardFor, AreWardsFor, tables_joined, world_of_wards}
 use Rattle.exh_world.specs.Sound.{LeadsRight, LeadsRightIn, IsWardOf}
 use Rattle.exh_world.proofs.CopySteps.{all_above}
-use Rattle.exh_world.proofs.FreshWorld.{AreSoundWards, made_of, numbered_is, numbered_none}
-use Rattle.exh_world.proofs.MapsOfWards.{one_front}
+use Rattle.exh_world.proofs.FreshWorld.{AreSoundWards, made_of}
 use Rattle.exh_world.proofs.MappedLists.{map_there, map_from}
 
 -- ---- tables joined one after another

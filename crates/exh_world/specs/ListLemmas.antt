@@ -1,11 +1,27 @@
 -- Lists after one place is written, and things numbered from 1 on.
-use Rattle.std.proofs.Common.{◌≡◌, ℕ, zero, suc, ◌-◌, ◌<◌, List, [], ◌∷◌, ◌++◌, length, map, get_or, slice_get, Some, ◌⊎◌, inl, inr, refl, sym, ap, ◌∙◌, subst, arith}
+use Rattle.std.proofs.Common.{◌≡◌, ℕ, zero, suc, ◌-◌, ◌<◌, List, [], ◌∷◌, ◌++◌, length, map, replicate, get_or, slice_get, Some, ◌⊎◌, inl, inr, refl, sym, ap, ◌∙◌, subst, arith}
 use Rattle.std.specs.Prelude.{slice_set}
 use Rattle.std.specs.List.{range_with_len}
+use Rattle.std.proofs.lemmas.List.{length-replicate, get_or-replicate}
 use Rattle.std.proofs.lemmas.List.FromFn.{length-map-range_with_len, get_or-map-range_with_len}
 use Rattle.std.proofs.lemmas.Option.{get_or_from_slice_get, slice_get_read, slice_get_within}
 use Rattle.exh_prefix.specs.ListLemmas.{push_is, set_is, set_here}
 use Rattle.exh_world.specs.World.{numbered}
+
+-- ---- what stands in a list of one value over and over, and in none
+
+pub replicate_is : {A : Type 0} (n : ℕ) (x y : A) (at : ℕ) → slice_get (replicate n x) at ≡ Some y → y ≡ x
+replicate_is n x y at is =
+    let within = subst (λ length. at < length) (length-replicate n x) (slice_get_within (replicate n x) at y is) in
+    sym (get_or_from_slice_get (replicate n x) at y x is) ∙ get_or-replicate n at x x within
+
+pub numbered_is : {A : Type 0} (n : ℕ) (x y : A) (number : ℕ) → numbered (replicate n x) number ≡ Some y → y ≡ x
+numbered_is n x y zero is = cc
+numbered_is n x y (suc number) is = replicate_is n x y number is
+
+pub numbered_none : {A : Type 0} (number : ℕ) (y : A) → numbered (let none : List A = [] in none) number ≡ Some y → ⊥
+numbered_none zero y is = cc
+numbered_none (suc number) y is = cc
 
 module _ {A : Type 0} where
   -- ---- numbered from 1 on

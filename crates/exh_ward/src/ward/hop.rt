@@ -6,7 +6,7 @@ ghost use Rattle.exh_ward.specs.Sight.{SightIn};
 ghost use Rattle.exh_ward.specs.WardFault.{IsStoreFault, CountsFailures};
 ghost use Rattle.exh_ward.specs.WardState.{IsSoundWard, IsUnchanged, LeavesAfter, own_prefix};
 
-use self::answer::{reply_to, write};
+use self::answer::write;
 use self::home_sight::HomeSight;
 use self::sight::Sight;
 use super::Ward;
@@ -91,8 +91,16 @@ impl<P: Pages + Drop, K: Keyer> Ward<P, K> {
         pages_are_few();
         // Room for the entry first: nothing may fail once the page has changed.
         self.journal.reserve()?;
-        write(&mut self.store, at, pseudokey, call, home)?;
-        let reply = reply_to(call, home.full, &home.stood);
+        let change = call.change(home.full, &home.stood);
+        write(
+            &mut self.store,
+            at,
+            home.spot,
+            pseudokey,
+            call.key(),
+            change,
+        )?;
+        let reply = call.reply(home.full, &home.stood);
         self.journal.push_reserved(client, call, &reply);
         Ok(Hop::Done(reply))
     }

@@ -1,7 +1,6 @@
 use Rattle.std.proofs.Common.{◌≡◌, ℕ, suc, ◌+◌, ◌-◌, ◌<◌, ◌≤◌, ◌∷◌, [], ◌++◌, List, length, map, take, replicate, set, slice_get, Some, refl, sym, ap, ◌∙◌, arith}
 use Rattle.std.proofs.lemmas.List.{length-map, length_push, length-take-le, map-append}
 use Rattle.std.proofs.lemmas.Option.{slice_get_read}
-use Rattle.exh_page.specs.declared.page.Page.{Page}
 use Rattle.exh_keyer.specs.declared.any_keyer.AnyKeyer.{AnyKeyer}
 use Rattle.exh_ward.specs.WardState.{WardState}
 use Rattle.exh_save.specs.Saved.{counts_in, pages_in}

@@ -1,4 +1,4 @@
-use Rattle.std.proofs.Common.{◌≡◌, length, take}
+use Rattle.std.proofs.Common.{◌≡◌, take}
 use Rattle.exh_save.specs.Saved.{counts_in}
 use Rattle.exh_save.proofs.header.page_counts_of.Given as goal
 

@@ -1,4 +1,4 @@
-use Rattle.std.proofs.Common.{◌≡◌, OnOk, OnErr, sym, subst}
+use Rattle.std.proofs.Common.{OnOk, OnErr, sym, subst}
 use Rattle.std.specs.Io.KnownBytes.{Appends}
 use Rattle.exh_stream.specs.Output.{AppendsBeginning}
 use Rattle.exh_file.specs.FileVersion.{first_file}
@@ -8,6 +8,7 @@ use Rattle.exh_page_file.specs.PageFile.{file_bytes}
 use Rattle.exh_page_file.specs.Writing.{written}
 use Rattle.exh_save.specs.Saved.{file_with, in_file}
 use Rattle.exh_save.proofs.Legal.{are_short, is_header}
+use Rattle.exh_save.proofs.Reopened.{both_ok, is_kept}
 use Rattle.exh_save.proofs.saving.write_file.Goals as goal
 
 pub write_parts-requires-clause-header : goal.write_parts-requires-clause-header
@@ -28,3 +29,10 @@ pub returns-clause-err : goal.returns-clause-err
 returns-clause-err g c =
     subst (λ (header : Header). OnErr c.write_parts.result (AppendsBeginning (written g.W.Write.contents c.args.file.now) (written g.W.Write.contents c.write_parts.new.file) (file_bytes first_file (file_with header c.args.wards.now))))
     c.header_of-header.ensures.header c.write_parts.ensures.err
+
+pub returns-clause-opens : goal.returns-clause-opens
+returns-clause-opens g c =
+    let opened = in_file c.args.cap c.args.ward_bits c.args.keyer c.args.wards.now in
+    both_ok
+    (λ ranges valid. is_kept opened c.requires.wards c.header_of-header.ensures.sound c.fitting_tables_begin_wards.ensures c.legal_files_pass.ensures c.pages_are_few.ensures c.legal_tables_have_room.ensures ranges valid c.one_file.ensures)
+    c.write_parts.result c.write_parts.ensures.pages c.write_parts.ensures.entries

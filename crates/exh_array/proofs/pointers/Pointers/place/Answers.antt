@@ -1,6 +1,7 @@
 use Rattle.std.proofs.Common.{◌≡◌, ◌+◌, ◌-◌, ◌<◌, ◌≤◌, List, ◌++◌, Bool, false, length, take, Some, refl, sym, ap, ◌∙◌, arith, inl, inr}
 use Rattle.std.proofs.Math.Seq.{take-append-add}
 use Rattle.std.proofs.lemmas.List.{take-replicate}
+use Rattle.std.proofs.lemmas.Option.{same_Some}
 use Rattle.exh_prefix.specs.Bits.{word_bits}
 use Rattle.exh_prefix.specs.Prefix.{low_of, zeros}
 use Rattle.exh_prefix.specs.PrefixLemmas.{word_bits-low_of, low_of-word}
@@ -26,9 +27,6 @@ low_bits prefix short =
     ap (take LIMIT) (word_bits-low_of prefix (omega arith)) ∙ ap (λ n. take n (prefix ++ zeros (64 - length prefix))) parts ∙ take-append-add prefix (zeros (64 - length prefix)) rest
     ∙ ap (λ bits. prefix ++ bits) (take-replicate rest (64 - length prefix) false (omega arith))
 
-same_some : (one other : Pointer) → Some one ≡ Some other → one ≡ other
-same_some one other is = cc
-
 module _ (table : TableMap) (array : PointerArray) (prefix : List Bool) (first : Pointer) (has : HasLeavesOf table array) (within : array.ward_bits ≤ LIMIT) (short : length prefix ≤ LIMIT)
     (is : pointer_at array (low_of prefix) ≡ Some first) where
   along : Leaf
@@ -38,7 +36,7 @@ module _ (table : TableMap) (array : PointerArray) (prefix : List Bool) (first :
   first_is : first ≡ pointer_to (walk_on (splits_above table array.ward_bits) (zeros (LIMIT - length prefix)) along)
   unfolding along
   first_is =
-      same_some _ _ (sym is ∙ has.each (low_of prefix) (low_of-word prefix (omega arith)))
+      same_Some _ _ (sym is ∙ has.each (low_of prefix) (low_of-word prefix (omega arith)))
       ∙ ap pointer_to (sym (walk_from_root table array.ward_bits (low_of prefix) within) ∙ ap (λ bits. walk_on (splits_above table array.ward_bits) bits root) (low_bits prefix short)
       ∙ walk_on-append (splits_above table array.ward_bits) prefix (zeros (LIMIT - length prefix)) root)
 

@@ -3,7 +3,7 @@ use Rattle.exh_ward.specs.HopTable.{HopOf}
 use Rattle.exh_ward.specs.WardState.{WardState}
 use Rattle.exh_ward.specs.declared.hop.Hop.TheVariants.{Done}
 use Rattle.exh_calls.specs.declared.journal_entry.JournalEntry.{JournalEntry}
-use Rattle.exh_ward.proofs.AnswersAreLeft.{few_pages, answers_here, sought_there, stood_there, written_taken, reply_there, replied, pages_are, hop_is_done, answered_seen}
+use Rattle.exh_ward.proofs.AnswersAreLeft.{few_pages, answers_here, sought_there, written_taken, stored, reply_there, replied, pages_are, hop_is_done, answered_seen}
 use Rattle.exh_ward.proofs.StepsKeepSound.{kept_read, kept_answered}
 use Rattle.exh_ward.proofs.ward.Ward.answer_at.Goals as goal
 
@@ -12,21 +12,14 @@ write-requires-clause-taken g c =
     let pseudokey_of = g.K.Keyer.pseudokey_of in
     let fit = g.met.K.Keyer.pseudokey_fits c.self.inside.keyer in
     let answers = answers_here pseudokey_of c.self.view_is c.self.invariant c.args.at c.args.call.now c.args.pseudokey c.args.home.now c.requires.hashed c.requires.home in
-    written_taken fit c.self.invariant answers (few_pages c.pages_are_few.ensures c.self.invariant)
+    written_taken fit c.self.invariant answers _ _ c.key.ensures c.change-change.ensures (few_pages c.pages_are_few.ensures c.self.invariant)
 
 pub write-requires-clause-sought : goal.write-requires-clause-sought
 write-requires-clause-sought g c =
     let pseudokey_of = g.K.Keyer.pseudokey_of in
     let fit = g.met.K.Keyer.pseudokey_fits c.self.inside.keyer in
     let answers = answers_here pseudokey_of c.self.view_is c.self.invariant c.args.at c.args.call.now c.args.pseudokey c.args.home.now c.requires.hashed c.requires.home in
-    sought_there fit c.self.invariant answers
-
-pub write-requires-clause-stood : goal.write-requires-clause-stood
-write-requires-clause-stood g c =
-    let pseudokey_of = g.K.Keyer.pseudokey_of in
-    let fit = g.met.K.Keyer.pseudokey_fits c.self.inside.keyer in
-    let answers = answers_here pseudokey_of c.self.view_is c.self.invariant c.args.at c.args.call.now c.args.pseudokey c.args.home.now c.requires.hashed c.requires.home in
-    stood_there fit c.self.invariant answers
+    sought_there fit c.self.invariant answers _ c.key.ensures
 
 pub invariant_of-self-in_err-write : goal.invariant_of-self-in_err-write
 invariant_of-self-in_err-write g c = kept_read c.self.invariant _ c.write.ensures.takes _ _ _ c.in_err-write.ensures.err c.reserve.ensures.entries
@@ -39,29 +32,29 @@ invariant_of-self-2 g c =
     let pseudokey_of = g.K.Keyer.pseudokey_of in
     let fit = g.met.K.Keyer.pseudokey_fits c.self.inside.keyer in
     let answers = answers_here pseudokey_of c.self.view_is c.self.invariant c.args.at c.args.call.now c.args.pseudokey c.args.home.now c.requires.hashed c.requires.home in
-    let is_reply = replied fit c.self.invariant answers c.reply_to-reply.result (reply_there fit c.self.invariant answers c.reply_to-reply.result c.reply_to-reply.ensures) in
-    let entry : JournalEntry = record { client = c.args.client; call = c.args.call.now; reply = c.reply_to-reply.result } in
+    let is_reply = replied fit c.self.invariant answers c.reply-reply.result (reply_there fit c.self.invariant answers c.reply-reply.result c.reply-reply.ensures) in
+    let entry : JournalEntry = record { client = c.args.client; call = c.args.call.now; reply = c.reply-reply.result } in
     let pushed = c.push_reserved.ensures ∙ ap (λ entries. entries ++ entry ∷ []) c.reserve.ensures.entries in
-    kept_answered c.self.invariant _ c.write.ensures.takes fit answers.home c.args.client c.reply_to-reply.result is_reply _ _ _
-    (pages_are fit c.self.invariant answers _ c.in_ok-write.ensures.pages) pushed
+    kept_answered c.self.invariant _ c.write.ensures.takes fit answers.home c.args.client c.reply-reply.result is_reply _ _ _
+    (pages_are fit c.self.invariant answers _ (stored fit c.self.invariant answers _ _ c.key.ensures c.change-change.ensures _ c.in_ok-write.ensures.pages)) pushed
 
 pub returns-clause-hop : goal.returns-clause-hop
 returns-clause-hop g c =
     let pseudokey_of = g.K.Keyer.pseudokey_of in
     let fit = g.met.K.Keyer.pseudokey_fits c.self.inside.keyer in
     let answers = answers_here pseudokey_of c.self.view_is c.self.invariant c.args.at c.args.call.now c.args.pseudokey c.args.home.now c.requires.hashed c.requires.home in
-    let is_reply = replied fit c.self.invariant answers c.reply_to-reply.result (reply_there fit c.self.invariant answers c.reply_to-reply.result c.reply_to-reply.ensures) in
-    let P : WardState g.row.K.Denot → Type 0 = λ w. HopOf w.cap (pseudokey_of w.keyer) w.pages c.args.at c.args.call.now (Done c.reply_to-reply.result) in
-    subst P c.self.view_is (hop_is_done fit c.self.invariant answers c.reply_to-reply.result is_reply)
+    let is_reply = replied fit c.self.invariant answers c.reply-reply.result (reply_there fit c.self.invariant answers c.reply-reply.result c.reply-reply.ensures) in
+    let P : WardState g.row.K.Denot → Type 0 = λ w. HopOf w.cap (pseudokey_of w.keyer) w.pages c.args.at c.args.call.now (Done c.reply-reply.result) in
+    subst P c.self.view_is (hop_is_done fit c.self.invariant answers c.reply-reply.result is_reply)
 
 pub returns-clause-leaves : goal.returns-clause-leaves
 returns-clause-leaves g c =
     let pseudokey_of = g.K.Keyer.pseudokey_of in
     let fit = g.met.K.Keyer.pseudokey_fits c.self.inside.keyer in
     let answers = answers_here pseudokey_of c.self.view_is c.self.invariant c.args.at c.args.call.now c.args.pseudokey c.args.home.now c.requires.hashed c.requires.home in
-    let entry : JournalEntry = record { client = c.args.client; call = c.args.call.now; reply = c.reply_to-reply.result } in
+    let entry : JournalEntry = record { client = c.args.client; call = c.args.call.now; reply = c.reply-reply.result } in
     let pushed = c.push_reserved.ensures ∙ ap (λ entries. entries ++ entry ∷ []) c.reserve.ensures.entries in
-    answered_seen pseudokey_of c.self.view_is fit c.self.invariant answers c.args.client c.reply_to-reply.result _ _ _ c.in_ok-write.ensures.pages pushed c.in_ok-write.ensures.failures
+    answered_seen pseudokey_of c.self.view_is fit c.self.invariant answers c.args.client c.reply-reply.result _ _ _ (stored fit c.self.invariant answers _ _ c.key.ensures c.change-change.ensures _ c.in_ok-write.ensures.pages) pushed c.in_ok-write.ensures.failures
 
 pub returns-clause-sound : goal.returns-clause-sound
 returns-clause-sound g c = (invariant_of-self-2 g c).sound
