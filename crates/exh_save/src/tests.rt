@@ -85,9 +85,7 @@ fn writes_what_was_opened(rt: HostRuntime) -> Result<(), Fail> {
 #[test]
 fn gives_a_beginning_to_a_writer_that_refuses(rt: HostRuntime) -> Result<(), Fail> {
     let bytes = blocks(rt.alloc(), &THREE_PAIRS)?;
-    // 61 has no factor in common with a block's length, so these are all places of blocks.
-    for nth in 0..268_usize {
-        let room = 61 * nth;
+    for room in 0..4 * BLOCK_LEN {
         let mut some = writer(rt.alloc(), Some(room));
         assert_eq!(rt; written(rt.alloc(), &bytes, &mut some), Err(42));
         assert!(rt; Some(some.taken.as_slice()) == bytes.get(..room));
