@@ -46,10 +46,10 @@ impl<P: Pages + Drop, K: Keyer> World<P, K> {
     /// lost or repeated, copies that took the same notices are equal, and combining two is their
     /// least upper bound; a request begun at any copy is answered only at the page that the current
     /// directory names (Fagin et al. 1979); and the replies, in the order of the answering hops, are
-    /// one map's. Each answer comes with the moves that its request made, which are at most its
-    /// distance when begun and the changes in its ward since; the same counted from any moment. A
-    /// request begun at a copy that took all changes of its ward doesn't move before the next one.
-    /// An `AllocError` where memory for all turns is refused first, and then nothing has happened.
+    /// one map's. Each answer comes with the moves that its request made, at most its distance when
+    /// begun and the changes in its ward since; so from any moment on; and one begun at a copy that
+    /// took all changes of its ward doesn't move before the next. Room for all answers is made first:
+    /// an `AllocError` where memory for it is refused, and then nothing has happened.
     pub fn run(&mut self, events: &[Event]) -> Result<Vec<Turn>, AllocError>
         ensures turns { IfOk result (λ turns. map (λ turn. turn.event) turns.items ≡ events.now) }
         ensures headline { IfOk result (λ turns. IsHeadline K.pseudokey_of self.old turns.items self.new) }

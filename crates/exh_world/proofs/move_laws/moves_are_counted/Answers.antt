@@ -1,4 +1,4 @@
-use Rattle.std.proofs.Common.{Ok, [], refl, subst}
+use Rattle.std.proofs.Common.{[], refl, subst}
 use Rattle.std.specs.Prelude.{Result}
 use Rattle.std.proofs.lemmas.List.Elements.{All-from_recursion, recursion_from_All}
 use Rattle.exh_world.specs.Counted.{LeavesOpen, moves_over}
@@ -9,8 +9,6 @@ use Rattle.exh_world.specs.Step.{Step}
 use Rattle.exh_world.specs.declared.event.Event.{Event}
 use Rattle.exh_world.specs.declared.event.Event.TheVariants.{Hop}
 use Rattle.exh_world.specs.declared.outcome.Outcome.{Outcome}
-use Rattle.exh_world.specs.declared.outcome.Outcome.TheVariants.{Hopped}
-use Rattle.exh_world.specs.declared.progress.Progress.TheVariants.{Done}
 use Rattle.exh_world.specs.declared.step_fault.StepFault.{StepFault}
 use Rattle.exh_world.proofs.BegunNear.{begun_near}
 use Rattle.exh_world.proofs.BoundedAnswers.{run_bounded}
