@@ -11,7 +11,7 @@ pub use headline_laws::{
 };
 pub use laws::{
     new_worlds_are_sound, page_faults_are_counted, runs_carry_the_headline, steps_are_computed,
-    steps_have_outcomes, steps_keep_worlds_sound,
+    steps_have_outcomes, steps_keep_worlds_sound, worlds_of_wards_are_sound,
 };
 pub use move_laws::answers_are_bounded;
 pub use outcome::Outcome;
