@@ -23,6 +23,7 @@ pub mod HalvesOfPages
 pub mod SplitsAreSteps
 -- merges
 pub mod MergesAreSteps
+pub mod BuddySums
 -- splits and merges as functions
 pub mod PlacedPages
 pub mod SplitsAreComputed

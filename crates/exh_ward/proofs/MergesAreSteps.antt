@@ -69,24 +69,24 @@ module _ {K : Type 0} {pseudo : List ℕ → ℕ} {takes : Page → Type 0} {own
   no_left_half at left is Memory refused = absurd refused
 
   module _ (at : ℕ) {left : Page} (there : IsAt w.pages at left) {half : LeftHalf} (is : IsLeftHalf own left half) where
-    live_left : IsAt w.pages at (Live (half.parent ++ false ∷ []) half.right is.records)
+    pub live_left : IsAt w.pages at (Live (half.parent ++ false ∷ []) half.right is.records)
     live_left = there ∙ ap Some is.live
 
     inner : length (own_prefix w) ≤ length half.parent
     inner = subst (λ (own : List Bool). length own ≤ length half.parent) kept.own_is is.inner
 
-    left_child : IsLeftChild w at half.parent is.records
+    pub left_child : IsLeftChild w at half.parent is.records
     left_child = record { link = half.right; there = live_left; inner = inner }
 
     pub few_left : half.count ≤ CAP_LIMIT
     few_left = omega (arith, is.count, few_at at _ live_left)
 
     module _ (law : LeftChildrenLinkToSiblings) where
-      to_sibling : LinksToSibling w.pages half.parent half.right
+      pub to_sibling : LinksToSibling w.pages half.parent half.right
       to_sibling = law (own_prefix w) w.pages at half.parent half.right is.records kept.sound.legal.legal.legal.linked live_left inner
 
       module _ {right : ℕ} (found : half.right ≡ Some right) where
-        right_is : to_sibling.right ≡ right
+        pub right_is : to_sibling.right ≡ right
         right_is = let both : Some to_sibling.right ≡ Some right = sym to_sibling.link_is ∙ found in cc
 
         pub right_within : right < length w.pages

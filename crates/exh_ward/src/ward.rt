@@ -20,6 +20,7 @@ use exh_table::Table;
 use std::alloc::Global;
 use std::marker::Model;
 
+mod buddy_sum;
 mod change;
 mod from_pages;
 mod hop;

@@ -1,10 +1,10 @@
 -- Laws of worlds.
-use Rattle.std.specs.Prelude.{◌≡◌, ◌≢◌, ⊤, ◌⊎◌, ℕ, ◌^◌, ◌<◌, ◌≤◌, List, map, slice_get, Some, All, Result, Ok, Err}
+use Rattle.std.specs.Prelude.{◌≡◌, ◌≢◌, ⊤, ◌⊎◌, ℕ, ◌^◌, ◌<◌, ◌≤◌, List, length, map, slice_get, Some, All, Result, Ok, Err}
 use Rattle.exh_ward.specs.WardState.{WardState, IsSoundWard}
 use Rattle.exh_prefix.specs.declared.prefix.TheConstants.{WARD_BITS_LIMIT}
 use Rattle.exh_ward.specs.declared.ward_fault.WardFault.TheVariants.{Memory, Page}
 use Rattle.exh_world.specs.Headline.{IsHeadline}
-use Rattle.exh_world.specs.NewWorld.{new_world}
+use Rattle.exh_world.specs.NewWorld.{AreWardsFor, new_world, world_of_wards}
 use Rattle.exh_world.specs.Run.{Moment, IsRun}
 use Rattle.exh_world.specs.Sound.{IsSoundWorld}
 use Rattle.exh_world.specs.Step.{CountsFailure, ReachesInto, Step}
@@ -67,3 +67,8 @@ RunsCarryTheHeadline {K} pseudokey_of = (start : WorldState K) (moments : List (
 -- the world of a new file is sound
 abbrev pub NewWorldsAreSound : {K : Type 0} → (K → List ℕ → ℕ) → Type 0
 NewWorldsAreSound {K} pseudokey_of = (config : Config K) → config.ward_bits ≤ WARD_BITS_LIMIT → IsSoundWorld pseudokey_of (new_world config)
+
+-- and that of sound wards, one for each number
+abbrev pub WorldsOfWardsAreSound : {K : Type 0} → (K → List ℕ → ℕ) → Type 0
+WorldsOfWardsAreSound {K} pseudokey_of = (config : Config K) (wards : List (WardState K)) → config.ward_bits ≤ WARD_BITS_LIMIT → length wards ≡ 2 ^ config.ward_bits → AreWardsFor config wards
+    → ((number : ℕ) (ward : WardState K) → slice_get wards number ≡ Some ward → IsSoundWard pseudokey_of ward) → IsSoundWorld pseudokey_of (world_of_wards config wards)

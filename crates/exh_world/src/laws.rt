@@ -1,10 +1,10 @@
 //! What holds of every step and every run of a world. Each function does nothing.
 
-ghost use Rattle.exh_world.specs.Laws.{NewWorldsAreSound, PageFaultsAreCounted, RunsCarryTheHeadline, StepsAreComputed, StepsHaveOutcomes, StepsKeepWorldsSound};
+ghost use Rattle.exh_world.specs.Laws.{NewWorldsAreSound, PageFaultsAreCounted, RunsCarryTheHeadline, StepsAreComputed, StepsHaveOutcomes, StepsKeepWorldsSound, WorldsOfWardsAreSound};
 
 use exh_calls::sharers_begin;
 use exh_keyer::Keyer;
-use exh_legal::{lone_pages_are_legal, right_links_lead_on, targets_lead_on};
+use exh_legal::{lone_pages_are_legal, right_links_lead_on, targets_lead_on, walks_name_homes};
 use exh_route::{distances_are_computed, gets_go_home, moves_come_nearer, steps_add_changes};
 use exh_table::{
     members_decide, one_notice_more_is_taken, own_entries_give_the_table, union_is_join,
@@ -73,4 +73,11 @@ pub fn new_worlds_are_sound<K: Keyer>()
     ensures { NewWorldsAreSound K.pseudokey_of }
 {
     lone_pages_are_legal();
+}
+
+/// The world of sound wards, one for each number, is sound.
+pub fn worlds_of_wards_are_sound<K: Keyer>()
+    ensures { WorldsOfWardsAreSound K.pseudokey_of }
+{
+    walks_name_homes();
 }

@@ -53,6 +53,13 @@ impl<P: Pages + Drop, K: Keyer> Ward<P, K> {
         &self.start
     }
 
+    /// The most records that a page of the ward may hold. It takes no memory.
+    pub fn cap(&self) -> usize
+        ensures { result ≡ self.now.cap }
+    {
+        self.cap
+    }
+
     /// How many pages the ward has. It takes no memory.
     pub fn page_count(&self) -> PageNo
         ensures count { result ≡ length self.now.pages }
