@@ -6,7 +6,7 @@ pub use file_entry::FileEntry;
 pub use file_fault::FileFault;
 pub use header::{COUNTS_LEN, Header};
 pub use laws::{images_are_blocks, images_pass, one_image, one_value};
-pub use table_block::{BLOCK_ENTRIES, decode_entries, encode_entries};
+pub use table_block::{BLOCK_ENTRIES, decode_entries};
 
 mod file_entry;
 mod file_fault;

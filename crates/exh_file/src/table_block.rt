@@ -13,74 +13,14 @@ ghost use Rattle.exh_file.specs.ReadEntries.{FailsAtEntry, MayPrecede};
 ghost use Rattle.exh_file.specs.TableTests.{IsFirstFault, entry_fault};
 
 use crate::FileEntry;
-use exh_codec::{BLOCK_LEN, CONTENT_LEN, ImageFault, are_zero, is_sealed, seal};
-use exh_notice::{ENTRY_IMAGE_LEN, Entry, Kind, NoticeFault};
-use exh_prefix::{PageNo, Prefix};
+use exh_codec::{BLOCK_LEN, CONTENT_LEN, ImageFault, are_zero, is_sealed};
+use exh_notice::{ENTRY_IMAGE_LEN, Entry, NoticeFault};
+use exh_prefix::Prefix;
 use std::alloc::{AllocError, Global};
 use std::cmp::Ordering;
 
 /// The most entries of a table block.
 pub const BLOCK_ENTRIES: usize = CONTENT_LEN / ENTRY_IMAGE_LEN;
-
-/// The block of at most 254 entries, its image in the first version of the page file. It takes no
-/// memory.
-pub fn encode_entries(entries: &[FileEntry]) -> [u8; BLOCK_LEN]
-    requires few { length entries.now ≤ BLOCK_ENTRIES }
-    requires shorter { AllByRecursion (λ item. length item.prefix < LIMIT) entries.now }
-    ensures { IsTableImage first_version entries.now result }
-{
-    let mut block = [0; BLOCK_LEN];
-    put_entries(&mut block, entries);
-    seal(&mut block);
-    block
-}
-
-// Writes entries, one after the other, over the first bytes.
-fn put_entries(block: &mut [u8], entries: &[FileEntry])
-    requires room { ENTRY_IMAGE_LEN * length entries.now ≤ length block.old }
-    requires shorter { AllByRecursion (λ item. length item.prefix < LIMIT) entries.now }
-    ensures bytes { block.new ≡ flat_map (image_of first_version) entries.now ++ drop (ENTRY_IMAGE_LEN * length entries.now) block.old }
-    ensures valid { AllByRecursion (IsFileEntry first_version) entries.now }
-{
-    let mut end = 0;
-    for item in entries {
-        block[end..end + ENTRY_IMAGE_LEN].copy_from_slice(&image_of(item));
-        end += ENTRY_IMAGE_LEN;
-    }
-}
-
-// The image of an entry.
-fn image_of(item: &FileEntry) -> [u8; ENTRY_IMAGE_LEN]
-    requires { length item.now.prefix < LIMIT }
-    ensures image { result ≡ image_of first_version item.now }
-    ensures valid { IsFileEntry first_version item.now }
-{
-    let FileEntry {
-        ward,
-        prefix,
-        entry,
-    } = *item;
-    let _number = number_of(entry);
-    let _right = right_of(entry.kind);
-    entry.to_image(ward, prefix)
-}
-
-// The number in an entry's image.
-fn number_of(entry: Entry) -> u32
-    ensures { result ≡ entry.number }
-{
-    entry.number
-}
-
-// The page in an entry's image, 0 for a merge.
-fn right_of(kind: Kind) -> PageNo
-    ensures { result ≡ right_field kind }
-{
-    match kind {
-        Kind::Split { right } => right,
-        Kind::Merge => 0,
-    }
-}
 
 /// So many entries, at most 254, of which a block is the image in the first version, and whose
 /// prefixes rise from the one before them, if there is one. Where there are none, the fault is that

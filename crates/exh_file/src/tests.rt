@@ -4,7 +4,7 @@ ghost use Rattle.std.specs.Prelude.{◌≤◌, length};
 ghost use Rattle.exh_codec.specs.declared.block.TheConstants.{CONTENT_LEN};
 ghost use Rattle.exh_file.specs.declared.table_block.TheConstants.{BLOCK_ENTRIES};
 
-use crate::{FileEntry, Header, decode_entries, encode_entries, images_pass, one_image, one_value};
+use crate::{FileEntry, Header, decode_entries, images_pass, one_image, one_value};
 use exh_codec::{BLOCK_LEN, CONTENT_LEN, seal};
 use exh_keyer::AnyKeyer;
 use exh_notice::{Entry, Kind};
@@ -176,7 +176,7 @@ fn table_number(alloc: Global, block: &[u8; BLOCK_LEN], count: usize, before: Op
     }
 }
 
-// Whether one entry at the empty prefix has this block, and is read from it.
+// Whether one entry at the empty prefix has the image `ENTRY`, and is read from this block.
 fn is_table(alloc: Global, block: &[u8; BLOCK_LEN]) -> Option<bool> {
     let item = FileEntry {
         ward: 0,
@@ -190,7 +190,7 @@ fn is_table(alloc: Global, block: &[u8; BLOCK_LEN]) -> Option<bool> {
         return None;
     }
     let read = decode_entries(alloc, block, 1, None).ok()?;
-    Some(encode_entries(&[item]) == *block && read.first() == Some(&item) && read.len() == 1)
+    Some(item.to_image() == ENTRY && read.first() == Some(&item) && read.len() == 1)
 }
 
 // A byte of the table block that is turned into another, its digest made right, how many entries are

@@ -1,3 +1,4 @@
 pub mod Closing
 pub mod LiveFile
+pub mod Spare
 pub mod Units

@@ -3,7 +3,6 @@ ghost use Rattle.exh_live.specs.Closing.{AreDiariesOf, IsClosed, IsCloseFault, a
 ghost use Rattle.exh_live.specs.declared.close.CloseFault.TheVariants.{Memory};
 
 use crate::ledgers::{Answers, Entries};
-use crate::spare::Spare;
 use crate::tallied_ward::TalliedWard;
 use crate::{Identity, LiveFile, Seat};
 use exh_frames::Pages;
@@ -112,14 +111,16 @@ impl<P: Pages + Drop, K: Keyer, F: Identity> LiveFile<P, K, F> {
             keyer: _,
             wards: locks,
             tally,
-            answers: Spare { share: mut answers },
-            entries: Spare { share: mut entries },
+            answers,
+            entries,
             seats: _,
         } = self;
         let Closed {
             mut wards,
             mut diaries,
         } = room;
+        let mut answers = answers.into_share();
+        let mut entries = entries.into_share();
         unlock(locks, &mut wards, &mut entries);
         stand_up(seats, &mut diaries, &mut answers);
         tally.into_inner().audit(&mut answers, &mut entries);

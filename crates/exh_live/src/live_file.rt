@@ -44,8 +44,8 @@ impl<P: Pages + Drop, K: Keyer, F: Identity> Model for LiveFile<P, K, F> {
     ghost view = { λ a. record { ward_bits = a.ward_bits; keyer = a.keyer; seats = a.seats } };
 
     ghost invariant = { λ a. (a.ward_bits ≤ WARD_BITS_LIMIT) × (vec_len a.wards ≡ 2 ^ a.ward_bits) × (K.pseudokey_of a.keyer ≡ F.hashing)
-        × (a.seats ≤ CALLER_LIMIT) × (a.answers.share.parts + a.seats ≡ ANSWER_PARTS) × (a.answers.share.amount ≡ 0)
-        × (a.entries.share.parts + vec_len a.wards ≡ ENTRY_PARTS) × (a.entries.share.amount ≡ 0) };
+        × (a.seats ≤ CALLER_LIMIT) × (a.answers.parts + a.seats ≡ ANSWER_PARTS) × (a.answers.amount ≡ 0)
+        × (a.entries.parts + vec_len a.wards ≡ ENTRY_PARTS) × (a.entries.amount ≡ 0) };
 }
 
 impl<P: Pages + Drop, K: Keyer, F: Identity> LiveFile<P, K, F> {
@@ -76,8 +76,8 @@ impl<P: Pages + Drop, K: Keyer, F: Identity> LiveFile<P, K, F> {
             keyer,
             wards,
             tally: Mutex::new(Tally::new(given, made)),
-            answers: Spare { share: answers },
-            entries: Spare { share: entries },
+            answers: Spare::new(answers),
+            entries: Spare::new(entries),
             seats: 0,
         })
     }
@@ -95,7 +95,7 @@ impl<P: Pages + Drop, K: Keyer, F: Identity> LiveFile<P, K, F> {
             return Err(NoSeat);
         }
         self.seats += 1;
-        let answers = self.answers.share.split_off(1, 0);
+        let answers = self.answers.part();
         Ok(Seat::new(self.alloc, self.seats, answers))
     }
 

@@ -3,7 +3,6 @@ ghost use Rattle.std.specs.Io.KnownBytes.{Appends};
 ghost use Rattle.exh_prefix.specs.declared.prefix.TheConstants.{LIMIT};
 ghost use Rattle.exh_prefix.specs.Version.{first_version};
 ghost use Rattle.exh_stream.specs.Output.{AppendsBeginning, Takes, TakesBeginning};
-ghost use Rattle.exh_notice.specs.Images.{right_field};
 ghost use Rattle.exh_page.specs.declared.page.TheConstants.{CAP_LIMIT};
 ghost use Rattle.exh_page.specs.Page.{records_of};
 ghost use Rattle.exh_codec.specs.declared.block.TheConstants.{CONTENT_LEN};
@@ -11,16 +10,14 @@ ghost use Rattle.exh_codec.specs.Block.{sealed};
 ghost use Rattle.exh_codec.specs.PageImage.{IsInRange, padded};
 ghost use Rattle.exh_file.specs.FileVersion.{first_file};
 ghost use Rattle.exh_file.specs.HeaderImage.{IsHeader};
-ghost use Rattle.exh_file.specs.TableImage.{IsFileEntry, image_of};
+ghost use Rattle.exh_file.specs.TableImage.{IsFileEntry};
 ghost use Rattle.exh_page_file.specs.PageFile.{header_block, page_block};
 ghost use Rattle.exh_page_file.specs.Writing.{GoesTo, IsBare, SameTarget, TakesBlocks, TakesBlocksBeginning, TakesEntries, TakesEntriesBeginning, TargetUntouched, file_failed, unsent, waiting_images, written};
 
 use crate::waiting_images::WaitingImages;
 use exh_codec::{lay_out, seal};
 use exh_file::{FileEntry, Header};
-use exh_notice::{ENTRY_IMAGE_LEN, Entry, Kind};
 use exh_page::Page;
-use exh_prefix::PageNo;
 use exh_stream::{Output, WriteFault};
 use std::io::Write;
 
@@ -91,7 +88,7 @@ impl<'w, W: Write> FileWriter<'w, W> {
         ensures failed { IsErr result ↔ IsTrue (file_failed self.new) }
         ensures closed { IsTrue (file_failed self.old) → IsErr result × TargetUntouched self.old self.new }
     {
-        let image = image_of(item);
+        let image = item.to_image();
         if self.images.is_full() {
             self.write_images()?;
         } else {
@@ -132,38 +129,5 @@ impl<'w, W: Write> FileWriter<'w, W> {
         self.output.push(&self.images.to_block())?;
         self.images.clear();
         Ok(())
-    }
-}
-
-// The image of an entry.
-fn image_of(item: &FileEntry) -> [u8; ENTRY_IMAGE_LEN]
-    requires { length item.now.prefix < LIMIT }
-    ensures image { result ≡ image_of first_version item.now }
-    ensures valid { IsFileEntry first_version item.now }
-{
-    let FileEntry {
-        ward,
-        prefix,
-        entry,
-    } = *item;
-    let _number = number_of(entry);
-    let _right = right_of(entry.kind);
-    entry.to_image(ward, prefix)
-}
-
-// The number in an entry's image.
-fn number_of(entry: Entry) -> u32
-    ensures { result ≡ entry.number }
-{
-    entry.number
-}
-
-// The page in an entry's image, 0 for a merge.
-fn right_of(kind: Kind) -> PageNo
-    ensures { result ≡ right_field kind }
-{
-    match kind {
-        Kind::Split { right } => right,
-        Kind::Merge => 0,
     }
 }

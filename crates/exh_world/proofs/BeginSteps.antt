@@ -1,5 +1,5 @@
 -- What beginning a request leaves of the world.
-use Rattle.std.proofs.Common.{◌≡◌, ℕ, ◌-◌, ◌^◌, ◌<◌, ◌≤◌, List, [], ◌∷◌, ◌++◌, length, get_or, slice_get, Option, None, Some, false, refl, sym, ap, ◌∙◌, subst, arith}
+use Rattle.std.proofs.Common.{◌≡◌, ℕ, ◌-◌, ◌^◌, ◌<◌, ◌≤◌, List, [], ◌∷◌, ◌++◌, length, get_or, slice_get, Option, None, Some, Ok, false, refl, sym, ap, ◌∙◌, subst, arith}
 use Rattle.std.specs.Prelude.{is_some, slice_set}
 use Rattle.std.proofs.lemmas.Option.{get_or_from_slice_get, slice_get_read, slice_get_within}
 use Rattle.exh_prefix.specs.declared.prefix.TheConstants.{WARD_BITS_LIMIT}
@@ -25,10 +25,13 @@ use Rattle.exh_ward.specs.WardState.{WardState}
 use Rattle.exh_world.specs.Step.{request_begun, HasBegun}
 use Rattle.exh_prefix.specs.Leading.{ward_of}
 use Rattle.exh_world.specs.World.{WorldState, changes_in, numbered}
+use Rattle.exh_world.specs.declared.event.Event.TheVariants.{Begin}
+use Rattle.exh_world.specs.declared.outcome.Outcome.TheVariants.{Begun}
 use Rattle.exh_world.specs.declared.request.Request.{Request}
 use Rattle.exh_world.specs.declared.world.World.TheInside.{Inside}
 use Rattle.exh_world.proofs.InsideWorld.{with_ward, world_of}
 use Rattle.exh_world.proofs.StepSound.{after_begun}
+use Rattle.exh_world.proofs.ToldTruly.{step_told}
 
 pub none_there : (request : Option Request) → is_some request ≡ false → request ≡ None
 none_there None is = refl
@@ -109,7 +112,7 @@ module _ {P K : Type 0} (pseudokey_of : K → List ℕ → ℕ) (i : Inside P K)
 
   pub begun_kept : (ward page : ℕ) (new : WorldState K) → new.ward_bits ≡ i.ward_bits → new.sent ≡ i.sent.items → IsKeptWorld pseudokey_of (world_of i) → HasBegun pseudokey_of (world_of i) name client copy call ward page new → IsKeptWorld pseudokey_of new
   begun_kept ward page new bits sent kept has = record {
-    sound = after_begun pseudokey_of (world_of i) kept.sound new name client copy call ward page has;
+    sound = after_begun pseudokey_of (world_of i) kept.sound new name client copy call ward page has (step_told pseudokey_of (world_of i) kept.sound (Begin name client copy call) (Ok (Begun ward page)) new has);
     few_wards = subst (λ n. n ≤ WARD_BITS_LIMIT) (sym bits) kept.few_wards;
     few_sent = subst (λ (tables : List TableMap). length tables < 2 ^ 32) (sym sent) kept.few_sent;
   }

@@ -23,7 +23,7 @@ use Rattle.exh_world.specs.World.{WorldState, changes_in, numbered}
 use Rattle.exh_world.specs.declared.request.Request.{Request}
 use Rattle.exh_world.specs.RequestLemmas.{AllRequests, all_weaker, all_push}
 use Rattle.exh_world.proofs.WalksBelow.{walk_below}
-use Rattle.exh_world.proofs.SoundKept.{same_ward}
+use Rattle.exh_world.proofs.SoundKept.{IsSoundAsTold, same_ward}
 
 module _ {K : Type 0} (pseudokey_of : K → List ℕ → ℕ) (old : WorldState K) (sound : IsSoundWorld pseudokey_of old) where
   -- ---- the ward of a pseudokey
@@ -70,8 +70,8 @@ module _ {K : Type 0} (pseudokey_of : K → List ℕ → ℕ) (old : WorldState 
   same_way : (requests : Requests) (request : Request) → IsOnTheWay pseudokey_of old request → IsOnTheWay pseudokey_of (with_requests requests) request
   same_way requests request is = record { pseudokey_is = is.pseudokey_is; ward = is.ward; there = is.there; begins = is.begins; below = is.below; since = is.since; left = is.left; is_left = is.is_left; few = is.few }
 
-  pub requests_sound : (requests : Requests) → AllRequests (IsOnTheWay pseudokey_of old) requests → IsSoundWorld pseudokey_of (with_requests requests)
-  requests_sound requests all = record {
+  pub requests_sound : (requests : Requests) → AllRequests (IsOnTheWay pseudokey_of old) requests → IsSoundAsTold pseudokey_of (with_requests requests)
+  requests_sound requests all told = record {
     bits = sound.bits;
     words = sound.words;
     count = sound.count;
@@ -79,13 +79,14 @@ module _ {K : Type 0} (pseudokey_of : K → List ℕ → ℕ) (old : WorldState 
     start = sound.start;
     copies = sound.copies;
     sent = sound.sent;
+    told = told;
     requests = all_weaker _ _ (same_way requests) requests all;
   }
 
   pub begun_sound : (name client : ℕ) (call : Call) (table : TableMap) (copy : ℕ) → numbered old.copies copy ≡ Some table
       → (ward : WardState K) → slice_get old.wards (ward_of old.ward_bits (pseudokey_in pseudokey_of old call)) ≡ Some ward
       → (distance : ℕ) → IsDistance ward.pages (walk_of table old.ward_bits (pseudokey_in pseudokey_of old call)).page (pseudokey_in pseudokey_of old call) distance
-      → IsSoundWorld pseudokey_of (with_requests (old.in_flight
+      → IsSoundAsTold pseudokey_of (with_requests (old.in_flight
       ++ (name, request_begun client call (pseudokey_in pseudokey_of old call) (ward_of old.ward_bits (pseudokey_in pseudokey_of old call)) (walk_of table old.ward_bits (pseudokey_in pseudokey_of old call)).page distance (length (changes_in old (ward_of old.ward_bits (pseudokey_in pseudokey_of old call))))) ∷ []))
   begun_sound name client call table copy is ward there distance is_distance =
       let k = pseudokey_in pseudokey_of old call in

@@ -16,7 +16,7 @@ use Rattle.exh_route.specs.WardRun.{WardEvent, SplitAt, MergeAt, WardStep, chang
 use Rattle.exh_world.specs.Sound.{IsWardOf, IsSoundWorld}
 use Rattle.exh_world.specs.World.{WorldState}
 use Rattle.exh_world.specs.RequestLemmas.{all_weaker}
-use Rattle.exh_world.proofs.SoundKept.{KeepsWays, alike_push, after, way_kept, sound_after}
+use Rattle.exh_world.proofs.SoundKept.{IsSoundAsTold, KeepsWays, alike_push, after, way_kept, sound_after}
 
 module _ {K : Type 0} (pseudokey_of : K → List ℕ → ℕ) (old : WorldState K) (sound : IsSoundWorld pseudokey_of old) (at : ℕ) (before left : WardState K) (found : slice_get old.wards at ≡ Some before) where
   abbrev pub own : List Bool
@@ -51,7 +51,7 @@ module _ {K : Type 0} (pseudokey_of : K → List ℕ → ℕ) (old : WorldState 
           (subst (λ changes. ward_leaves old.start own changes prefix ↔ ward_leaves before.start own (before.notices ++ notice ∷ []) prefix) (sym dropped) more));
     }
 
-    pub changed_sound : IsSoundWorld pseudokey_of new
+    pub changed_sound : IsSoundAsTold pseudokey_of new
     changed_sound = sound_after pseudokey_of old sound at before left found ways old.in_flight left_is
         (all_weaker _ _ (way_kept pseudokey_of old sound at before left found ways old.in_flight) old.in_flight sound.requests)
 
@@ -75,8 +75,8 @@ module _ {K : Type 0} (pseudokey_of : K → List ℕ → ℕ) (old : WorldState 
   pub merge_ways : IsMergeStep before page notice left → KeepsWays before left
   merge_ways has = ways_of has.others has.places (MergeAt page (Ok notice)) refl has
 
-  pub split_sound : (has : IsSplitStep before page notice left) → IsSoundWorld pseudokey_of (after pseudokey_of old sound at before left found (split_ways has) old.in_flight)
+  pub split_sound : (has : IsSplitStep before page notice left) → IsSoundAsTold pseudokey_of (after pseudokey_of old sound at before left found (split_ways has) old.in_flight)
   split_sound has = changed_sound pseudokey_of old sound at before left found notice has.others (split_ways has) left_sound
 
-  pub merge_sound : (has : IsMergeStep before page notice left) → IsSoundWorld pseudokey_of (after pseudokey_of old sound at before left found (merge_ways has) old.in_flight)
+  pub merge_sound : (has : IsMergeStep before page notice left) → IsSoundAsTold pseudokey_of (after pseudokey_of old sound at before left found (merge_ways has) old.in_flight)
   merge_sound has = changed_sound pseudokey_of old sound at before left found notice has.others (merge_ways has) left_sound

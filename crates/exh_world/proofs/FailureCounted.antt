@@ -8,6 +8,7 @@ use Rattle.exh_world.specs.RequestLemmas.{all_weaker}
 use Rattle.exh_world.specs.Sound.{IsWardOf, IsSoundWorld}
 use Rattle.exh_world.specs.World.{WorldState, map_in}
 use Rattle.exh_world.proofs.SoundKept.{KeepsWays, after, way_kept, sound_after}
+use Rattle.exh_world.proofs.ToldTruly.{counted_told}
 
 module _ {K : Type 0} (pseudokey_of : K → List ℕ → ℕ) where
   pub counted_ward : (ward : WardState K) (failures : ℕ) → IsSoundWard pseudokey_of ward → IsSoundWard pseudokey_of (record ward { failures = failures })
@@ -52,6 +53,7 @@ module _ {K : Type 0} (pseudokey_of : K → List ℕ → ℕ) (old : WorldState 
   pub counted_sound : IsSoundWorld pseudokey_of (record old { wards = slice_set old.wards at left })
   counted_sound = sound_after pseudokey_of old sound at before left found ways old.in_flight left_is
       (all_weaker _ _ (way_kept pseudokey_of old sound at before left found ways old.in_flight) old.in_flight sound.requests)
+      (counted_told pseudokey_of old sound at before failures found)
 
 -- the pages are as before
 same_pages : {K : Type 0} (wards : List (WardState K)) (at : ℕ) (before : WardState K) (failures : ℕ) → slice_get wards at ≡ Some before

@@ -20,6 +20,7 @@ use Rattle.exh_world.specs.World.{WorldState}
 use Rattle.exh_world.specs.InFlight.{Requests}
 use Rattle.exh_world.specs.declared.config.Config.{Config}
 use Rattle.exh_world.specs.ListLemmas.{mapped_is, numbered_is, numbered_none}
+use Rattle.exh_world.proofs.ToldTruly.{new_told}
 
 replicate_there : {A : Type 0} (n : ℕ) (x : A) (at : ℕ) → at < n → slice_get (replicate n x) at ≡ Some x
 replicate_there n x at within =
@@ -102,6 +103,7 @@ module _ {K : Type 0} (pseudokey_of : K → List ℕ → ℕ) where
       start = λ number ward is. no_splits (ward_prefix config.ward_bits number) ward.pages;
       copies = λ copy table is. subst (LeadsRightIn (new_world config)) (sym (numbered_is config.copies fin.empty table copy is)) (λ number ward is. no_splits (ward_prefix config.ward_bits number) ward.pages);
       sent = λ number table is. absurd (numbered_none number table is);
+      told = new_told config;
       requests = tt;
     }
 

@@ -23,7 +23,7 @@ use Rattle.exh_world.specs.Sound.{IsWardOf, IsOnTheWay, IsSoundWorld}
 use Rattle.exh_world.specs.World.{WorldState}
 use Rattle.exh_world.specs.declared.request.Request.{Request}
 use Rattle.exh_world.specs.RequestLemmas.{AllRequests, all_weaker, all_without, all_moved}
-use Rattle.exh_world.proofs.SoundKept.{KeepsWays, after, way_kept, sound_after}
+use Rattle.exh_world.proofs.SoundKept.{IsSoundAsTold, KeepsWays, after, way_kept, sound_after}
 use Rattle.exh_world.proofs.BegunSound.{requests_sound}
 
 module _ {K : Type 0} (pseudokey_of : K → List ℕ → ℕ) (old : WorldState K) (sound : IsSoundWorld pseudokey_of old) (request : Request) (way : IsOnTheWay pseudokey_of old request) (before : WardState K) (found : slice_get old.wards request.ward ≡ Some before) where
@@ -63,10 +63,10 @@ module _ {K : Type 0} (pseudokey_of : K → List ℕ → ℕ) (old : WorldState 
   hopped requests left = record old { wards = slice_set old.wards request.ward left; in_flight = requests }
 
   -- where the ward is as it was
-  pub same_sound : (requests : Requests) (left : WardState K) → left ≡ before → AllRequests (IsOnTheWay pseudokey_of old) requests → IsSoundWorld pseudokey_of (hopped requests left)
+  pub same_sound : (requests : Requests) (left : WardState K) → left ≡ before → AllRequests (IsOnTheWay pseudokey_of old) requests → IsSoundAsTold pseudokey_of (hopped requests left)
   same_sound requests left same all =
       let wards_are : old.wards ≡ slice_set old.wards request.ward left = sym (set_same old.wards request.ward before found) ∙ ap (slice_set old.wards request.ward) (sym same) in
-      subst (λ wards. IsSoundWorld pseudokey_of (record old { wards = wards; in_flight = requests })) wards_are (requests_sound pseudokey_of old sound requests all)
+      subst (λ wards. IsSoundAsTold pseudokey_of (record old { wards = wards; in_flight = requests })) wards_are (requests_sound pseudokey_of old sound requests all)
 
   begins_own : Begins (own_prefix before) (pseudo (key_of request.call))
   begins_own = subst (λ p. Begins p (pseudo (key_of request.call))) (sym own_is) (subst (Begins (ward_prefix old.ward_bits request.ward)) way.pseudokey_is way.begins)
@@ -80,7 +80,7 @@ module _ {K : Type 0} (pseudokey_of : K → List ℕ → ℕ) (old : WorldState 
       (nearer.0, nearer.1, subst (λ k. IsDistance before.pages next k nearer.0) (sym way.pseudokey_is) nearer.2)
 
   pub moved_sound : RightLinksLeadOn → TargetsLeadOn → MovesComeNearer → (name next : ℕ) (left : WardState K) → request_named name old.in_flight ≡ Some request → left ≡ before
-      → HopOf old.cap pseudo before.pages request.page request.call (Moved next) → IsSoundWorld pseudokey_of (hopped (requests_after name (Moved next) old.in_flight) left)
+      → HopOf old.cap pseudo before.pages request.page request.call (Moved next) → IsSoundAsTold pseudokey_of (hopped (requests_after name (Moved next) old.in_flight) left)
   moved_sound links targets moves name next left named same hop =
       same_sound (requests_after name (Moved next) old.in_flight) left same
       (all_moved _ name next old.in_flight sound.requests (λ other is.
@@ -140,7 +140,7 @@ module _ {K : Type 0} (pseudokey_of : K → List ℕ → ℕ) (old : WorldState 
               (subst (λ start. ward_leaves old.start own (drop is_own.before before.notices) prefix ↔ ward_leaves start own before.notices prefix) (sym start_is) (is_own.directory prefix));
         }
 
-    pub answered_sound : (name : ℕ) → IsSoundWorld pseudokey_of (hopped (requests_after name (Done reply) old.in_flight) left)
+    pub answered_sound : (name : ℕ) → IsSoundAsTold pseudokey_of (hopped (requests_after name (Done reply) old.in_flight) left)
     answered_sound name =
         let requests = requests_after name (Done reply) old.in_flight in
         sound_after pseudokey_of old sound request.ward before left found ways requests (left_is requests)

@@ -13,6 +13,13 @@ pub mod HoppedSound
 pub mod ChangedSound
 pub mod ToldSound
 pub mod StepSound
+-- of the tables of a world, which tell truly, and of the wards' steps
+pub mod NamedRequests
+pub mod WardTurns
+pub mod GoingOn
+pub mod NoticeEntries
+pub mod ToldTruly
+pub mod GivenWards
 -- of runs_carry_the_headline: one map, one step, a run
 pub mod OneMap
 pub mod MapsOfWards
@@ -26,6 +33,11 @@ pub mod Runs
 pub mod HeadlineOf
 -- of answers_are_bounded
 pub mod BoundedAnswers
+-- of moves_are_counted and current_copies_look_once
+pub mod CountedAnswers
+pub mod BegunNear
+pub mod TakersCurrent
+pub mod CountedParts
 -- of the headline in other words
 pub mod RunWords
 -- of steps_are_computed and steps_have_outcomes

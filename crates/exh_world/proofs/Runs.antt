@@ -8,6 +8,7 @@ use Rattle.exh_prefix.specs.ListLemmas.{AllByRecursion-append}
 use Rattle.exh_world.specs.Headline.{IsHeadline}
 use Rattle.exh_world.specs.Laws.{AreWardsSound, RunsCarryTheHeadline}
 use Rattle.exh_world.specs.Moves.{AnswersAreBounded, HasBoundedAnswers}
+use Rattle.exh_world.specs.Parts.{HasCountedMoves, HasCurrentCopies, RunsCountMoves, RunsHaveCurrentCopies}
 use Rattle.exh_world.specs.Run.{Moment, IsRun}
 use Rattle.exh_world.specs.Sound.{IsSoundWorld}
 use Rattle.exh_world.specs.Step.{Step}
@@ -73,3 +74,12 @@ module _ {K : Type 0} (pseudokey_of : K → List ℕ → ℕ) where
   headline_of carry start events turns now sound has =
       subst (λ ts. IsHeadline pseudokey_of start ts now) has.turns_are
       (carry start has.moments now sound (All-from_recursion (λ (moment : Moment K). AreWardsSound pseudokey_of moment.after) has.moments has.wards) has.run).0
+
+  -- and its moves are counted
+  pub moves_of : RunsCountMoves pseudokey_of → (start : WorldState K) (events : List Event) (turns : List Turn) (now : WorldState K) → IsSoundWorld pseudokey_of start
+      → HasRun pseudokey_of start events turns now → HasCountedMoves pseudokey_of start turns now
+  moves_of law start events turns now sound has = subst (λ ts. HasCountedMoves pseudokey_of start ts now) has.turns_are (law start has.moments now sound has.run).0
+
+  pub current_of : RunsHaveCurrentCopies pseudokey_of → (start : WorldState K) (events : List Event) (turns : List Turn) (now : WorldState K) → IsSoundWorld pseudokey_of start
+      → HasRun pseudokey_of start events turns now → HasCurrentCopies pseudokey_of start turns now
+  current_of law start events turns now sound has = subst (λ ts. HasCurrentCopies pseudokey_of start ts now) has.turns_are (law start has.moments now sound has.run).0

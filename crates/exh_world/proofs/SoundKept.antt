@@ -21,6 +21,7 @@ use Rattle.exh_route.specs.Distance.{IsDistance}
 use Rattle.exh_route.specs.DistanceLaws.{IsDistanceUpTo}
 use Rattle.exh_world.specs.InFlight.{Requests}
 use Rattle.exh_world.specs.Sound.{LeadsRight, IsWardOf, LeadsRightIn, IsOnTheWay, IsSoundWorld}
+use Rattle.exh_world.specs.Tables.{IsToldTruly}
 use Rattle.exh_world.specs.World.{WorldState, changes_in}
 use Rattle.exh_world.specs.declared.request.Request.{Request}
 use Rattle.exh_world.specs.RequestLemmas.{AllRequests}
@@ -77,6 +78,10 @@ pub record KeepsWays {K : Type 0} (before left : WardState K) : Type 0 where
   pub more : ℕ
   pub adds : (from pseudokey distance : ℕ) → IsDistance before.pages from pseudokey distance → IsDistanceUpTo left.pages from pseudokey (distance + more)
   pub grown : length left.notices ≡ length before.notices + more
+
+-- the world is sound where it is told truly
+abbrev pub IsSoundAsTold : {K : Type 0} → (K → List ℕ → ℕ) → WorldState K → Type 0
+IsSoundAsTold pseudokey_of world = IsToldTruly world → IsSoundWorld pseudokey_of world
 
 -- ---- one ward changed
 
@@ -143,8 +148,8 @@ module _ {K : Type 0} (pseudokey_of : K → List ℕ → ℕ) (old : WorldState 
         }
   ]
 
-  pub sound_after : IsWardOf pseudokey_of after at left → AllRequests (IsOnTheWay pseudokey_of after) requests → IsSoundWorld pseudokey_of after
-  sound_after left_is on_the_way = record {
+  pub sound_after : IsWardOf pseudokey_of after at left → AllRequests (IsOnTheWay pseudokey_of after) requests → IsSoundAsTold pseudokey_of after
+  sound_after left_is on_the_way told = record {
     bits = sound.bits;
     words = sound.words;
     count = length-set old.wards at left ∙ sound.count;
@@ -155,5 +160,6 @@ module _ {K : Type 0} (pseudokey_of : K → List ℕ → ℕ) (old : WorldState 
     start = leads_after old.start sound.start;
     copies = λ copy table is. leads_after table (sound.copies copy table is);
     sent = λ number table is. leads_after table (sound.sent number table is);
+    told = told;
     requests = on_the_way;
   }

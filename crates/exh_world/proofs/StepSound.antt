@@ -33,6 +33,8 @@ use Rattle.exh_world.proofs.BegunSound.{begun_sound}
 use Rattle.exh_world.proofs.HoppedSound.{same_sound, moved_sound, answered_sound, no_stray}
 use Rattle.exh_world.proofs.ChangedSound.{split_sound, merge_sound}
 use Rattle.exh_world.proofs.FailureCounted.{counted_sound}
+use Rattle.exh_world.proofs.SoundKept.{IsSoundAsTold}
+use Rattle.exh_world.proofs.ToldTruly.{step_told}
 use Rattle.exh_world.proofs.ToldSound.{copy_sound, notice_leads, join_leads, sent_sound}
 
 -- what is known of the ways in wards
@@ -43,15 +45,15 @@ pub record WayLaws {K : Type 0} (pseudokey_of : K → List ℕ → ℕ) : Type 0
   pub steps : StepsAddChanges pseudokey_of
 
 module _ {K : Type 0} (pseudokey_of : K → List ℕ → ℕ) (old : WorldState K) (sound : IsSoundWorld pseudokey_of old) (new : WorldState K) where
-  pub after_begun : (name client copy : ℕ) (call : Call) (ward page : ℕ) → HasBegun pseudokey_of old name client copy call ward page new → IsSoundWorld pseudokey_of new
+  pub after_begun : (name client copy : ℕ) (call : Call) (ward page : ℕ) → HasBegun pseudokey_of old name client copy call ward page new → IsSoundAsTold pseudokey_of new
   after_begun name client copy call ward page begun =
       let k = pseudokey_in pseudokey_of old call in
       let World : ℕ → ℕ → WorldState K = λ w p. record old { in_flight = old.in_flight ++ (name, request_begun client call k w p begun.distance (length (changes_in old w))) ∷ [] } in
       let found = subst (λ w. slice_get old.wards w ≡ Some begun.before) begun.ward_is begun.found in
       let far = subst (λ p. IsDistance begun.before.pages p k begun.distance) begun.page_is begun.is_distance in
-      subst (IsSoundWorld pseudokey_of) (sym begun.after)
-      (subst (λ w. IsSoundWorld pseudokey_of (World w page)) (sym begun.ward_is)
-      (subst (λ p. IsSoundWorld pseudokey_of (World (ward_of old.ward_bits k) p)) (sym begun.page_is) (begun_sound pseudokey_of old sound name client call begun.table copy begun.there begun.before found begun.distance far)))
+      subst (IsSoundAsTold pseudokey_of) (sym begun.after)
+      (subst (λ w. IsSoundAsTold pseudokey_of (World w page)) (sym begun.ward_is)
+      (subst (λ p. IsSoundAsTold pseudokey_of (World (ward_of old.ward_bits k) p)) (sym begun.page_is) (begun_sound pseudokey_of old sound name client call begun.table copy begun.there begun.before found begun.distance far)))
 
   pub way_of : (name ward : ℕ) (hop : Progress) (hopped : HasHopped pseudokey_of old name ward hop new) → IsOnTheWay pseudokey_of old hopped.request
   way_of name ward hop hopped = all_named (IsOnTheWay pseudokey_of old) name old.in_flight hopped.request sound.requests hopped.there
@@ -63,17 +65,17 @@ module _ {K : Type 0} (pseudokey_of : K → List ℕ → ℕ) (old : WorldState 
     way = all_named (IsOnTheWay pseudokey_of old) name old.in_flight request sound.requests named
 
     by_hop : (hop : Hop) → HopOf old.cap (pseudokey_of old.keyer) before.pages request.page request.call hop → LeavesAfter pseudokey_of before request.page request.client request.call hop left
-        → IsSoundWorld pseudokey_of (record old { wards = slice_set old.wards request.ward left; in_flight = requests_after name hop old.in_flight })
+        → IsSoundAsTold pseudokey_of (record old { wards = slice_set old.wards request.ward left; in_flight = requests_after name hop old.in_flight })
     by_hop (Done reply) hop leaves = answered_sound pseudokey_of old sound request way before found left reply request.client leaves left_sound laws.steps hop name
     by_hop (Moved next) hop leaves = moved_sound pseudokey_of old sound request way before found laws.links laws.targets laws.moves name next left named leaves hop
     by_hop MustSplit hop leaves = same_sound pseudokey_of old sound request way before found old.in_flight left leaves sound.requests
     by_hop Stray hop leaves = same_sound pseudokey_of old sound request way before found old.in_flight left leaves sound.requests
 
-  pub after_hopped : WayLaws pseudokey_of → (name ward : ℕ) (hop : Progress) (hopped : HasHopped pseudokey_of old name ward hop new) → IsSoundWard pseudokey_of hopped.left → IsSoundWorld pseudokey_of new
+  pub after_hopped : WayLaws pseudokey_of → (name ward : ℕ) (hop : Progress) (hopped : HasHopped pseudokey_of old name ward hop new) → IsSoundWard pseudokey_of hopped.left → IsSoundAsTold pseudokey_of new
   after_hopped laws name ward hop hopped left_sound =
       let found = subst (λ n. slice_get old.wards n ≡ Some hopped.before) hopped.ward_is hopped.found in
-      subst (IsSoundWorld pseudokey_of) (sym hopped.after)
-      (subst (λ n. IsSoundWorld pseudokey_of (record old { wards = slice_set old.wards n hopped.left; in_flight = requests_after name (hop_in hop) old.in_flight })) (sym hopped.ward_is)
+      subst (IsSoundAsTold pseudokey_of) (sym hopped.after)
+      (subst (λ n. IsSoundAsTold pseudokey_of (record old { wards = slice_set old.wards n hopped.left; in_flight = requests_after name (hop_in hop) old.in_flight })) (sym hopped.ward_is)
       (by_hop laws name hopped.request hopped.there hopped.before hopped.left found left_sound (hop_in hop) hopped.outcome hopped.leaves))
 
   pub does_not_stray : (name ward : ℕ) → HasHopped pseudokey_of old name ward progresses.Stray new → ⊥
@@ -83,31 +85,31 @@ module _ {K : Type 0} (pseudokey_of : K → List ℕ → ℕ) (old : WorldState 
 
   -- ---- splits and merges
 
-  pub after_split : StepsAddChanges pseudokey_of → (ward page : ℕ) (notice : Notice) (changed : HasChanged IsSplitStep old ward page notice new) → IsSoundWard pseudokey_of changed.left → IsSoundWorld pseudokey_of new
+  pub after_split : StepsAddChanges pseudokey_of → (ward page : ℕ) (notice : Notice) (changed : HasChanged IsSplitStep old ward page notice new) → IsSoundWard pseudokey_of changed.left → IsSoundAsTold pseudokey_of new
   after_split steps ward page notice changed left_sound =
-      subst (IsSoundWorld pseudokey_of) (sym changed.after) (split_sound pseudokey_of old sound ward changed.before changed.left changed.found left_sound steps page notice changed.change)
+      subst (IsSoundAsTold pseudokey_of) (sym changed.after) (split_sound pseudokey_of old sound ward changed.before changed.left changed.found left_sound steps page notice changed.change)
 
-  pub after_merge : StepsAddChanges pseudokey_of → (ward page : ℕ) (notice : Notice) (changed : HasChanged IsMergeStep old ward page notice new) → IsSoundWard pseudokey_of changed.left → IsSoundWorld pseudokey_of new
+  pub after_merge : StepsAddChanges pseudokey_of → (ward page : ℕ) (notice : Notice) (changed : HasChanged IsMergeStep old ward page notice new) → IsSoundWard pseudokey_of changed.left → IsSoundAsTold pseudokey_of new
   after_merge steps ward page notice changed left_sound =
-      subst (IsSoundWorld pseudokey_of) (sym changed.after) (merge_sound pseudokey_of old sound ward changed.before changed.left changed.found left_sound steps page notice changed.change)
+      subst (IsSoundAsTold pseudokey_of) (sym changed.after) (merge_sound pseudokey_of old sound ward changed.before changed.left changed.found left_sound steps page notice changed.change)
 
   -- ---- told
 
-  pub after_sent : (copy number : ℕ) → HasSent old copy number new → IsSoundWorld pseudokey_of new
-  after_sent copy number has = subst (IsSoundWorld pseudokey_of) (sym has.after) (sent_sound pseudokey_of old sound has.table (sound.copies copy has.table has.there))
+  pub after_sent : (copy number : ℕ) → HasSent old copy number new → IsSoundAsTold pseudokey_of new
+  after_sent copy number has = subst (IsSoundAsTold pseudokey_of) (sym has.after) (sent_sound pseudokey_of old sound has.table (sound.copies copy has.table has.there))
 
-  pub after_joined : (copy table : ℕ) → HasJoined old copy table new → IsSoundWorld pseudokey_of new
+  pub after_joined : (copy table : ℕ) → HasJoined old copy table new → IsSoundAsTold pseudokey_of new
   after_joined copy table has =
-      subst (IsSoundWorld pseudokey_of) (sym has.after)
+      subst (IsSoundAsTold pseudokey_of) (sym has.after)
       (copy_sound pseudokey_of old sound copy has.own _ has.there (join_leads pseudokey_of old sound has.own has.other (sound.copies copy has.own has.there) (sound.sent table has.other has.sent)))
 
-  pub after_taken : (copy ward index : ℕ) (notice : Notice) → HasTaken old copy ward index notice new → IsSoundWorld pseudokey_of new
+  pub after_taken : (copy ward index : ℕ) (notice : Notice) → HasTaken old copy ward index notice new → IsSoundAsTold pseudokey_of new
   after_taken copy ward index notice has =
-      subst (IsSoundWorld pseudokey_of) (sym has.after)
+      subst (IsSoundAsTold pseudokey_of) (sym has.after)
       (copy_sound pseudokey_of old sound copy has.table _ has.there (notice_leads pseudokey_of old sound ward notice has.table has.issued (sound.copies copy has.table has.there)))
 
-  pub after_restarted : (copy : ℕ) → HasRestarted old copy new → IsSoundWorld pseudokey_of new
-  after_restarted copy has = subst (IsSoundWorld pseudokey_of) (sym has.after) (copy_sound pseudokey_of old sound copy has.own old.start has.there sound.start)
+  pub after_restarted : (copy : ℕ) → HasRestarted old copy new → IsSoundAsTold pseudokey_of new
+  after_restarted copy has = subst (IsSoundAsTold pseudokey_of) (sym has.after) (copy_sound pseudokey_of old sound copy has.own old.start has.there sound.start)
 
 -- ---- every step
 
@@ -118,7 +120,7 @@ module _ {K : Type 0} (pseudokey_of : K → List ℕ → ℕ) (old : WorldState 
   changed_ward new at before left requests found is wards = wards at left (ap (λ (w : WorldState K). slice_get w.wards at) is ∙ set_here old.wards at before left found)
 
   abbrev Keeps : Event → Outcome → WorldState K → Type 0
-  Keeps event outcome new = AreWardsSound pseudokey_of new → IsSoundWorld pseudokey_of new
+  Keeps event outcome new = AreWardsSound pseudokey_of new → IsSoundAsTold pseudokey_of new
 
   pub effect_sound : (event : Event) (outcome : Outcome) (new : WorldState K) → HasEffect pseudokey_of old event outcome new → Keeps event outcome new
   effect_sound = on_effect pseudokey_of old Keeps record {
@@ -133,5 +135,5 @@ module _ {K : Type 0} (pseudokey_of : K → List ℕ → ℕ) (old : WorldState 
   }
 
   pub step_sound : (event : Event) (result : Result Outcome StepFault) (new : WorldState K) → Step pseudokey_of old event result new → AreWardsSound pseudokey_of new → IsSoundWorld pseudokey_of new
-  step_sound event (Ok outcome) new step wards = effect_sound event outcome new step wards
+  step_sound event (Ok outcome) new step wards = effect_sound event outcome new step wards (step_told pseudokey_of old sound event (Ok outcome) new step)
   step_sound event (Err fault) new step wards = on_refusal pseudokey_of old (IsSoundWorld pseudokey_of) sound (λ number before failures found. counted_sound pseudokey_of old sound number before found failures) event fault new step

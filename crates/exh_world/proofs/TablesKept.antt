@@ -1,14 +1,14 @@
 -- A table whose splits lead right still has such splits after it was told more of the like.
 use Rattle.std.proofs.Common.{◌≡◌, ℕ, Bool, true, false, cond, List, [], ◌∷◌, ◌++◌, Option, None, Some, ◌⊎◌, inl, inr, refl, sym, ap, ◌∙◌, subst}
 use Rattle.std.specs.FinMap as fin
-use Rattle.std.specs.Ordering.{is_lt, eq_by_cmp}
+use Rattle.std.specs.Ordering.{eq_by_cmp}
 use Rattle.exh_prefix.specs.Prefix.{IsFront, prefix_cmp, low_of}
 use Rattle.exh_prefix.specs.PrefixLemmas.{prefix_cmp-total}
 use Rattle.exh_notice.specs.declared.entry.Entry.{Entry}
 use Rattle.exh_notice.specs.declared.entry.Kind.{Kind}
 use Rattle.exh_notice.specs.declared.entry.Kind.TheVariants.{Split, Merge}
 use Rattle.exh_notice.specs.declared.notice.Notice.{Notice}
-use Rattle.exh_notice.specs.Entry.{entry_cmp, entry_of}
+use Rattle.exh_notice.specs.Entry.{entry_of}
 use Rattle.exh_table.specs.Table.{TableMap, table_with, greater_of}
 use Rattle.exh_table.specs.TableLemmas.{joined, get-table_join, greater_is, same_from_tie}
 use Rattle.exh_table.specs.TableOrder.{table_join}

@@ -18,7 +18,7 @@ use Rattle.exh_world.specs.declared.request.Request.{Request}
 use Rattle.exh_world.specs.ListLemmas.{numbered_push, numbered_set}
 use Rattle.exh_world.specs.RequestLemmas.{all_weaker}
 use Rattle.exh_world.proofs.TablesKept.{leads_with, leads_joined}
-use Rattle.exh_world.proofs.SoundKept.{same_ward}
+use Rattle.exh_world.proofs.SoundKept.{IsSoundAsTold, same_ward}
 
 module _ {K : Type 0} (pseudokey_of : K → List ℕ → ℕ) (old : WorldState K) (sound : IsSoundWorld pseudokey_of old) where
   -- the world with other tables
@@ -29,8 +29,8 @@ module _ {K : Type 0} (pseudokey_of : K → List ℕ → ℕ) (old : WorldState 
     same_way : (request : Request) → IsOnTheWay pseudokey_of old request → IsOnTheWay pseudokey_of with_tables request
     same_way request is = record { pseudokey_is = is.pseudokey_is; ward = is.ward; there = is.there; begins = is.begins; below = is.below; since = is.since; left = is.left; is_left = is.is_left; few = is.few }
 
-    pub tables_sound : IsSoundWorld pseudokey_of with_tables
-    tables_sound = record {
+    pub tables_sound : IsSoundAsTold pseudokey_of with_tables
+    tables_sound told = record {
       bits = sound.bits;
       words = sound.words;
       count = sound.count;
@@ -38,6 +38,7 @@ module _ {K : Type 0} (pseudokey_of : K → List ℕ → ℕ) (old : WorldState 
       start = sound.start;
       copies = copies_lead;
       sent = sent_lead;
+      told = told;
       requests = all_weaker _ _ same_way old.in_flight sound.requests;
     }
 
@@ -48,7 +49,7 @@ module _ {K : Type 0} (pseudokey_of : K → List ℕ → ℕ) (old : WorldState 
     | inr else ↦ sound.copies other now else.1
   ]
 
-  pub copy_sound : (copy : ℕ) (own table : TableMap) → numbered old.copies copy ≡ Some own → LeadsRightIn old table → IsSoundWorld pseudokey_of (record old { copies = slice_set old.copies (copy - 1) table })
+  pub copy_sound : (copy : ℕ) (own table : TableMap) → numbered old.copies copy ≡ Some own → LeadsRightIn old table → IsSoundAsTold pseudokey_of (record old { copies = slice_set old.copies (copy - 1) table })
   copy_sound copy own table there leads = tables_sound (slice_set old.copies (copy - 1) table) old.sent (copy_leads copy own table there leads) sound.sent
 
   -- ---- a notice taken
@@ -91,5 +92,5 @@ module _ {K : Type 0} (pseudokey_of : K → List ℕ → ℕ) (old : WorldState 
     | inr last ↦ subst (LeadsRightIn old) (sym last) leads
   ]
 
-  pub sent_sound : (table : TableMap) → LeadsRightIn old table → IsSoundWorld pseudokey_of (record old { sent = old.sent ++ table ∷ [] })
+  pub sent_sound : (table : TableMap) → LeadsRightIn old table → IsSoundAsTold pseudokey_of (record old { sent = old.sent ++ table ∷ [] })
   sent_sound table leads = tables_sound old.copies (old.sent ++ table ∷ []) sound.copies (sent_leads table leads)

@@ -33,6 +33,7 @@ use Rattle.exh_world.specs.NewWorld.{IsWardFor, AreWardsFor, tables_joined, worl
 use Rattle.exh_world.specs.Sound.{LeadsRight, LeadsRightIn, IsWardOf}
 use Rattle.exh_world.proofs.CopySteps.{all_above}
 use Rattle.exh_world.proofs.FreshWorld.{AreSoundWards, made_of}
+use Rattle.exh_world.proofs.GivenWards.{given_told}
 use Rattle.exh_world.proofs.MappedLists.{map_there, map_from}
 
 -- ---- tables joined one after another
@@ -171,6 +172,7 @@ module _ {K : Type 0} (pseudokey_of : K → List ℕ → ℕ) (config : Config K
       start = leads_in;
       copies = λ copy table is. subst (LeadsRightIn (world_of_wards config wards)) (sym (numbered_is config.copies (tables_joined wards) table copy is)) leads_in;
       sent = λ number table is. absurd (numbered_none number table is);
+      told = given_told pseudokey_of config wards count each sound;
       requests = tt;
     };
     few_wards = bits;

@@ -6,9 +6,15 @@ pub mod StepFunction
 pub mod Run
 pub mod Headline
 pub mod HeadlineLaws
+pub mod Tables
 pub mod Sound
 pub mod Laws
 pub mod Moves
+pub mod Counted
+pub mod Current
+pub mod Taken
+pub mod Begun
+pub mod Parts
 pub mod StepFault
 pub mod Kept
 pub mod NewWorld

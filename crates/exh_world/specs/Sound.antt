@@ -14,6 +14,7 @@ use Rattle.exh_legal.specs.Laws.{IsBelow}
 use Rattle.exh_ward.specs.WardState.{WardState, IsSoundWard}
 use Rattle.exh_route.specs.Distance.{IsDistance}
 use Rattle.exh_world.specs.Progress.{bound_in}
+use Rattle.exh_world.specs.Tables.{IsToldTruly}
 use Rattle.exh_world.specs.World.{WorldState, changes_in, numbered}
 use Rattle.exh_world.specs.declared.request.Request.{Request}
 
@@ -61,4 +62,6 @@ pub record IsSoundWorld {K : Type 0} (pseudokey_of : K → List ℕ → ℕ) (wo
   pub start : LeadsRightIn world world.start
   pub copies : (copy : ℕ) (table : TableMap) → numbered world.copies copy ≡ Some table → LeadsRightIn world table
   pub sent : (number : ℕ) (table : TableMap) → numbered world.sent number ≡ Some table → LeadsRightIn world table
+  -- and tells of each ward no more than the ward's own
+  pub told : IsToldTruly world
   pub requests : AllByRecursion (λ (e : ℕ × Request). IsOnTheWay pseudokey_of world e.1) world.in_flight

@@ -13,7 +13,7 @@ pub use laws::{
     new_worlds_are_sound, page_faults_are_counted, runs_carry_the_headline, steps_are_computed,
     steps_have_outcomes, steps_keep_worlds_sound, worlds_of_wards_are_sound,
 };
-pub use move_laws::answers_are_bounded;
+pub use move_laws::{current_copies_look_once, moves_are_counted};
 pub use outcome::Outcome;
 pub use progress::Progress;
 pub use request::Request;

@@ -1,12 +1,14 @@
 ghost use Rattle.std.specs.Prelude.{◌≡◌, map, IfOk, OnErr};
+ghost use Rattle.exh_world.specs.Counted.{CountsMoves};
 ghost use Rattle.exh_world.specs.Headline.{AreEqualCopies, IsHeadline};
 ghost use Rattle.exh_world.specs.Moves.{HasBoundedAnswers};
+ghost use Rattle.exh_world.specs.Parts.{HasCountedMoves, HasCurrentCopies};
 ghost use Rattle.exh_world.specs.Sound.{IsSoundWorld};
 ghost use Rattle.exh_world.specs.Step.{Step};
 
 use super::World;
 use crate::laws::runs_carry_the_headline;
-use crate::move_laws::answers_are_bounded;
+use crate::move_laws::{current_copies_look_once, moves_are_counted};
 use crate::{Event, Outcome, StepFault, Turn};
 use exh_frames::Pages;
 use exh_keyer::Keyer;
@@ -17,8 +19,11 @@ impl<P: Pages + Drop, K: Keyer> World<P, K> {
     /// as before, but that a ward whose page was out of reach has counted that.
     pub fn step(&mut self, event: &Event) -> Result<Outcome, StepFault>
         ensures step { Step K.pseudokey_of self.old event.now result self.new }
+        ensures moves { CountsMoves self.old event.now result self.new }
         ensures sound { IsSoundWorld K.pseudokey_of self.new }
     {
+        moves_are_counted::<K>();
+        let _ = &self.alloc;
         match event {
             Event::Begin {
                 name,
@@ -41,19 +46,23 @@ impl<P: Pages + Drop, K: Keyer> World<P, K> {
     /// lost or repeated, copies that took the same notices are equal, and combining two is their
     /// least upper bound; a request begun at any copy is answered only at the page that the current
     /// directory names (Fagin et al. 1979); and the replies, in the order of the answering hops, are
-    /// one map's. Each answer comes with the moves that its request made, which are at most its
-    /// distance when begun and the changes in its ward since. Room for all answers is made first: an
-    /// `AllocError` where memory for it is refused, and then nothing has happened.
+    /// one map's. Each answer comes with the moves that its request made, at most its distance when
+    /// begun and the changes in its ward since; so from any moment on; and one begun at a copy that
+    /// took all changes of its ward doesn't move before the next. Room for all answers is made first:
+    /// an `AllocError` where memory for it is refused, and then nothing has happened.
     pub fn run(&mut self, events: &[Event]) -> Result<Vec<Turn>, AllocError>
         ensures turns { IfOk result (λ turns. map (λ turn. turn.event) turns.items ≡ events.now) }
         ensures headline { IfOk result (λ turns. IsHeadline K.pseudokey_of self.old turns.items self.new) }
         ensures bounded { IfOk result (λ turns. HasBoundedAnswers K.pseudokey_of self.old turns.items self.new) }
+        ensures moves { IfOk result (λ turns. HasCountedMoves K.pseudokey_of self.old turns.items self.new) }
+        ensures current { IfOk result (λ turns. HasCurrentCopies K.pseudokey_of self.old turns.items self.new) }
         ensures equal { IfOk result (λ turns. AreEqualCopies self.old turns.items self.new) }
         ensures err { OnErr result (self.new ≡ self.old) }
         ensures sound { IsSoundWorld K.pseudokey_of self.new }
     {
         runs_carry_the_headline::<K>();
-        answers_are_bounded::<K>();
+        moves_are_counted::<K>();
+        current_copies_look_once::<K>();
         let mut turns: Vec<Turn> = Vec::with_capacity(self.alloc, events.len())?;
         for event in events {
             let result = self.step(event);

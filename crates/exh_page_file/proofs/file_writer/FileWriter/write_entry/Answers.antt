@@ -22,9 +22,9 @@ returns-clause-ok g c =
     elim c.if-is_full.branch [
       | then-is_full+in_ok-write_images w ↦
           let full : length (waiting_images old) ≡ 4064 = search rules in
-          let waits = c.push-2.ensures ∙ ap (λ bytes. bytes ++ c.image_of-image.result) (ap waiting_images w.self-is ∙ w.in_ok-write_images.ensures.none) ∙ c.image_of-image.ensures.image in
+          let waits = c.push-2.ensures ∙ ap (λ bytes. bytes ++ c.to_image-image.result) (ap waiting_images w.self-is ∙ w.in_ok-write_images.ensures.none) ∙ c.to_image-image.ensures.image in
           follows contents first_version old _ c.args.item.now full (subst (λ mid. Takes contents old.output mid.output _) (sym w.self-is) w.in_ok-write_images.ensures.ok) waits
       | else-is_full+in_ok-push w ↦
           joins contents first_version old _ c.args.item.now (subst (λ mid. Takes contents old.output mid.output []) (sym w.self-is) w.in_ok-push.ensures.ok)
-          (c.push-2.ensures ∙ ap (λ bytes. bytes ++ c.image_of-image.result) (ap waiting_images w.self-is) ∙ ap (λ image. waiting_images old ++ image) c.image_of-image.ensures.image)
+          (c.push-2.ensures ∙ ap (λ bytes. bytes ++ c.to_image-image.result) (ap waiting_images w.self-is) ∙ ap (λ image. waiting_images old ++ image) c.to_image-image.ensures.image)
     ]

@@ -1,6 +1,6 @@
 use Rattle.std.proofs.Common.{subst, arith}
 use Rattle.exh_world.specs.Sound.{IsSoundWorld}
-use Rattle.exh_world.proofs.Runs.{one_more, bounded_of, headline_of}
+use Rattle.exh_world.proofs.Runs.{one_more, bounded_of, current_of, headline_of, moves_of}
 use Rattle.exh_world.proofs.world.World.run.Goals as goal
 
 pub loop-event-preserved : goal.loop-event-preserved
@@ -22,7 +22,19 @@ returns-clause-headline g c =
 pub returns-clause-bounded : goal.returns-clause-bounded
 returns-clause-bounded g c =
     let pseudokey_of = g.K.Keyer.pseudokey_of in
-    bounded_of pseudokey_of c.answers_are_bounded.ensures c.args.self.now _ c.loop-event.turns.items c.loop-event.self
+    bounded_of pseudokey_of c.moves_are_counted.ensures.bounded c.args.self.now _ c.loop-event.turns.items c.loop-event.self
+    (subst (IsSoundWorld pseudokey_of) c.self.view_is c.self.invariant.0.sound) c.loop-event.invariant.has_run
+
+pub returns-clause-moves : goal.returns-clause-moves
+returns-clause-moves g c =
+    let pseudokey_of = g.K.Keyer.pseudokey_of in
+    moves_of pseudokey_of c.moves_are_counted.ensures.runs c.args.self.now _ c.loop-event.turns.items c.loop-event.self
+    (subst (IsSoundWorld pseudokey_of) c.self.view_is c.self.invariant.0.sound) c.loop-event.invariant.has_run
+
+pub returns-clause-current : goal.returns-clause-current
+returns-clause-current g c =
+    let pseudokey_of = g.K.Keyer.pseudokey_of in
+    current_of pseudokey_of c.current_copies_look_once.ensures.runs c.args.self.now _ c.loop-event.turns.items c.loop-event.self
     (subst (IsSoundWorld pseudokey_of) c.self.view_is c.self.invariant.0.sound) c.loop-event.invariant.has_run
 
 pub returns-clause-equal : goal.returns-clause-equal

@@ -1,0 +1,39 @@
+use Rattle.std.proofs.Common.{◌≡◌, ℕ, List, Result, sym, subst}
+use Rattle.exh_world.specs.Counted.{CountsMoves, StepsCountMoves}
+use Rattle.exh_world.specs.Sound.{IsSoundWorld}
+use Rattle.exh_world.specs.Step.{Step}
+use Rattle.exh_world.specs.World.{WorldState}
+use Rattle.exh_world.specs.declared.event.Event.{Event}
+use Rattle.exh_world.specs.declared.outcome.Outcome.{Outcome}
+use Rattle.exh_world.specs.declared.step_fault.StepFault.{StepFault}
+use Rattle.exh_world.proofs.world.World.step.Goals as goal
+
+-- of the event that was asked, which is the method's
+counted : {K : Type 0} (pseudokey_of : K → List ℕ → ℕ) → StepsCountMoves pseudokey_of → (shown old : WorldState K) → shown ≡ old → IsSoundWorld pseudokey_of shown → (event made : Event) → event ≡ made
+    → (result : Result Outcome StepFault) (new : WorldState K) → Step pseudokey_of old made result new → CountsMoves old event result new
+counted pseudokey_of law shown old view_is sound event made is result new step =
+    law old event result new (subst (IsSoundWorld pseudokey_of) view_is sound) (subst (λ e. Step pseudokey_of old e result new) (sym is) step)
+
+pub returns-in-Begin-clause-moves : goal.returns-in-Begin-clause-moves
+returns-in-Begin-clause-moves g c = counted g.K.Keyer.pseudokey_of c.moves_are_counted.ensures.steps _ c.args.self.now c.self.view_is c.self.invariant.0.sound c.args.event.now _ c.in-Begin.is c.begin.result c.begin.new.self c.begin.ensures.step
+
+pub returns-in-Hop-clause-moves : goal.returns-in-Hop-clause-moves
+returns-in-Hop-clause-moves g c = counted g.K.Keyer.pseudokey_of c.moves_are_counted.ensures.steps _ c.args.self.now c.self.view_is c.self.invariant.0.sound c.args.event.now _ c.in-Hop.is c.hop.result c.hop.new.self c.hop.ensures.step
+
+pub returns-in-Split-clause-moves : goal.returns-in-Split-clause-moves
+returns-in-Split-clause-moves g c = counted g.K.Keyer.pseudokey_of c.moves_are_counted.ensures.steps _ c.args.self.now c.self.view_is c.self.invariant.0.sound c.args.event.now _ c.in-Split.is c.split.result c.split.new.self c.split.ensures.step
+
+pub returns-in-Merge-clause-moves : goal.returns-in-Merge-clause-moves
+returns-in-Merge-clause-moves g c = counted g.K.Keyer.pseudokey_of c.moves_are_counted.ensures.steps _ c.args.self.now c.self.view_is c.self.invariant.0.sound c.args.event.now _ c.in-Merge.is c.merge.result c.merge.new.self c.merge.ensures.step
+
+pub returns-in-Deliver-clause-moves : goal.returns-in-Deliver-clause-moves
+returns-in-Deliver-clause-moves g c = counted g.K.Keyer.pseudokey_of c.moves_are_counted.ensures.steps _ c.args.self.now c.self.view_is c.self.invariant.0.sound c.args.event.now _ c.in-Deliver.is c.deliver.result c.deliver.new.self c.deliver.ensures.step
+
+pub returns-in-Send-clause-moves : goal.returns-in-Send-clause-moves
+returns-in-Send-clause-moves g c = counted g.K.Keyer.pseudokey_of c.moves_are_counted.ensures.steps _ c.args.self.now c.self.view_is c.self.invariant.0.sound c.args.event.now _ c.in-Send.is c.send.result c.send.new.self c.send.ensures.step
+
+pub returns-in-Combine-clause-moves : goal.returns-in-Combine-clause-moves
+returns-in-Combine-clause-moves g c = counted g.K.Keyer.pseudokey_of c.moves_are_counted.ensures.steps _ c.args.self.now c.self.view_is c.self.invariant.0.sound c.args.event.now _ c.in-Combine.is c.combine.result c.combine.new.self c.combine.ensures.step
+
+pub returns-in-Restart-clause-moves : goal.returns-in-Restart-clause-moves
+returns-in-Restart-clause-moves g c = counted g.K.Keyer.pseudokey_of c.moves_are_counted.ensures.steps _ c.args.self.now c.self.view_is c.self.invariant.0.sound c.args.event.now _ c.in-Restart.is c.restart.result c.restart.new.self c.restart.ensures.step
