@@ -13,9 +13,10 @@
 # - the program itself, by the processor that it takes: `exhash check` and `exhash dump` of the file, to nowhere;
 # - bench_file once more, as it opens the file and writes it to another one, for the most memory that it takes;
 # - file_walk.c: walks of gdbm and LMDB over files of the same records, with those that were turned away, from
-#   opening to closing, and gdbm_dump of gdbm's file, to nowhere. Neither library has digests.
-# Where the program has the command, also `exhash load` of the longest input of pairs, 1 MiB, beside gdbmtool's `store`
-# of the same pairs, by the processor that they take; gdbmtool doesn't synchronize, and its fastest setting counts.
+#   opening to closing; gdbm_dump of gdbm's file and db5.3_dump of a file of Berkeley DB of the records that exhash
+#   has, to nowhere. None of them has digests.
+# Then `exhash load` of the longest input of pairs, 1 MiB, beside gdbmtool's `store` and db5.3_load of the same pairs,
+# by the processor that they take; they don't synchronize, and the fastest setting of each counts. exhash does.
 #
 # Wanted: opening and writing at most 1.3 times the time of the digests, under keyer sha with the keys' hashes beside
 # them; `check` at most 1.3 times that and `dump` at most 1.6 times, also the time from the start of the program to its
@@ -58,6 +59,22 @@ tell() {
     echo "${words[*]} $line"
 }
 
+# Turns the pairs of a dump into lines that db5.3_load reads: a key, then its value.
+to_db() {
+    awk '$1 == "pair" {
+        for (i = 2; i <= 3; i++) {
+            word = $i
+            if (word ~ /^#/) {
+                word = substr(word, 2)
+                gsub(/../, "\\\\&", word)
+            } else {
+                gsub(/\\/, "\\5c", word)
+            }
+            print word
+        }
+    }'
+}
+
 # Makes the files of $1 pages and $3 records under the keyer $2, and runs all programs on them, in turns.
 measure() {
     local pages=$1 keyer=$2 records=$3 file=$folder/file.exh run walk made
@@ -67,6 +84,7 @@ measure() {
     for walk in gdbm lmdb; do
         "$folder/file_walk" "$walk" "$folder/$walk" "$records" || die "$walk made no file"
     done
+    "$program" dump "$file" | to_db | db5.3_load -T -t btree "$folder/db" || die 'db5.3_load made no file'
     for ((run = 0; run < RUNS; run++)); do
         tell time "$keyer" "$pages" -- "$timed" time "$file"
         tell check "$keyer" "$pages" -- "$folder/clock" /dev/null /dev/null "$program" check "$file"
@@ -77,13 +95,14 @@ measure() {
             tell "$walk" "$keyer" "$pages" -- "$folder/file_walk" "$walk" "$folder/$walk"
         done
         tell gdbm_dump "$keyer" "$pages" -- "$folder/clock" /dev/null /dev/null gdbm_dump "$folder/gdbm"
+        tell db_dump "$keyer" "$pages" -- "$folder/clock" /dev/null /dev/null db5.3_dump "$folder/db"
     done
-    rm -f "$folder"/*.exh "$folder"/gdbm "$folder"/lmdb
+    rm -f "$folder"/*.exh "$folder"/gdbm "$folder"/lmdb "$folder"/db
 }
 
-# Writes the longest input of pairs to $folder/pairs, and stores of the same pairs to $folder/stores.
+# Writes the longest input of pairs to $folder/pairs, and for others the same pairs to $folder/stores and $folder/lines.
 write_pairs() {
-    awk -v left=1048576 -v pairs="$folder/pairs" -v stores="$folder/stores" 'BEGIN {
+    awk -v left=1048576 -v pairs="$folder/pairs" -v stores="$folder/stores" -v lines="$folder/lines" 'BEGIN {
         srand(7)
         first = "file cap=16 wards=0 copies=1 keyer=plain"
         print first > pairs
@@ -92,15 +111,16 @@ write_pairs() {
             for (i = 0; i < 4; i++) key = key sprintf("%04x", int(rand() * 65536))
             print "#" key " " substr(key, 9) > pairs
             print "store " key " " substr(key, 9) > stores
+            print key "\n" substr(key, 9) > lines
         }
     }'
 }
 
-# Times the loading of pairs, where the program has that command.
+# Times the loading of pairs.
 measure_load() {
-    local run setting
+    local run setting kind
     write_pairs
-    "$program" load "$folder/load.exh" < "$folder/pairs" > "$folder/loaded" 2> "$folder/log" || return 0
+    "$program" load "$folder/load.exh" < "$folder/pairs" > "$folder/loaded" || die 'pairs could not be loaded'
     [ "$(tail -n 1 "$folder/loaded")" = "loaded $(sort -u "$folder/stores" | wc -l)" ] || die 'a load lacks pairs'
     for ((run = 0; run < RUNS; run++)); do
         tell load plain pairs -- "$folder/clock" "$folder/pairs" /dev/null "$program" load "$folder/load.exh"
@@ -110,12 +130,19 @@ measure_load() {
             tell store plain pairs -- "$folder/clock" "$folder/stores" /dev/null \
                 gdbmtool --norc --quiet --newdb --no-lock $setting "$folder/base"
         done
+        for kind in btree hash; do
+            rm -f "$folder/db"
+            tell db_load plain pairs -- "$folder/clock" "$folder/lines" /dev/null db5.3_load -T -t "$kind" "$folder/db"
+        done
     done
 }
 
 for name in clock file_walk; do
     cc -O2 -Wall -Wextra -o "$folder/$name" "$bench/$name.c" -lgdbm -llmdb ||
         die "$name.c could not be built (Debian: apt-get install libgdbm-dev liblmdb-dev)"
+done
+for name in gdbmtool gdbm_dump db5.3_load db5.3_dump; do
+    [ -n "$(command -v "$name")" ] || die "there is no $name (Debian: apt-get install gdbmtool db5.3-util)"
 done
 (cd "$root/crates/bench_file" && rt run) > "$folder/log" 2>&1 || {
     cat "$folder/log" >&2
@@ -168,15 +195,17 @@ awk '
         tell("dump", keyer, pages, 1, 1.6)
         printf "%6d  %-5s  memory   %9.2f times the file to open and write it, %.2f of check, %.2f of dump\n", pages,
             keyer, memory("copy", keyer, pages), memory("check", keyer, pages), memory("dump", keyer, pages)
-        printf "%6d  %-5s  walks    gdbm %.2f, LMDB %.2f, gdbm_dump %.2f\n", pages, keyer, cost("gdbm", keyer, pages),
-            cost("lmdb", keyer, pages), cost("gdbm_dump", keyer, pages)
+        printf "%6d  %-5s  others   walks of gdbm %.2f and LMDB %.2f, gdbm_dump %.2f, db5.3_dump %.2f\n", pages, keyer,
+            cost("gdbm", keyer, pages), cost("lmdb", keyer, pages), cost("gdbm_dump", keyer, pages),
+            cost("db_dump", keyer, pages)
     }
     # Prints what loading pairs takes, beside the stores of gdbmtool.
     function tell_load(    load, own, store) {
         load = cost("load", "plain", "pairs")
         own = cost("load digests", "plain", "pairs")
         store = cost("store", "plain", "pairs")
-        printf "load of 1 MiB: %.2f, of which digests %.2f; gdbmtool %.2f\n", load, own, store
+        printf "load of 1 MiB: %.2f, of which digests %.2f; gdbmtool %.2f, db5.3_load %.2f\n", load, own, store,
+            cost("db_load", "plain", "pairs")
         judge("load without its digests by gdbmtool", (load - own) / store, 0.4)
         judge("load by gdbmtool", load / store, 1)
     }
@@ -189,7 +218,7 @@ awk '
         keep("open", $8)
         keep("write", $9)
     }
-    $1 == "load" || $1 == "store" || $1 == "gdbm_dump" { keep($1, $4 * 1000) }
+    $1 == "load" || $1 == "store" || $1 == "db_load" || $1 == "gdbm_dump" || $1 == "db_dump" { keep($1, $4 * 1000) }
     $1 == "loaded" { keep("load digests", $6) }
     $1 == "check" || $1 == "dump" {
         keep($1, $4 * 1000)
@@ -211,7 +240,7 @@ awk '
         for (i = 1; i <= 3; i++) {
             for (k = 1; k <= 2; k++) tell_all(keyers[k], sizes[i])
         }
-        if (("load", "plain", "pairs") in best) tell_load()
+        tell_load()
         for (i = 1; i <= short; i++) print falls[i]
         exit (short > 0)
     }' "$folder/times"

@@ -2,3 +2,5 @@ pub mod WordLemmas
 pub mod OptionLemmas
 pub mod ParserLemmas
 pub mod RunLemmas
+-- of load_run
+pub mod LoadLemmas

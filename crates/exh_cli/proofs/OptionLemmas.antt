@@ -334,18 +334,24 @@ module _ (command : Text) (rules : List Rule) (names : List Text) (is : IsOption
       filled_walked = ap (λ met. after_step rules word wants met.0 met.1) value_is.0 ∙ rw (is.by_id name named, same_name name) refl
 
       at_filled : (again : Bool) → list_any (is_use_of name) uses ≡ again → Steps wants (cond again Wrong (Between (more name word uses))) word
-      at_filled true e = inl (filled_passes, record {
-        rows = rows_so_far;
-        pending = Some (name, word ∷ []);
-        place = inl filled_walked;
-        lost = rw (is.by_id name named) (use_again_fails name word uses e);
-      })
-      at_filled false e = inl (filled_passes, record {
-        rows = rows_so_far;
-        pending = Some (name, word ∷ []);
-        walk_is = filled_walked;
-        stands = record { settles = rw (is.by_id name named) (use_passes name word uses e); rows_are = rw (is.by_id name named) (used_more name word uses e) };
-      })
+      at_filled true e = inl (
+        filled_passes,
+        record {
+          rows = rows_so_far;
+          pending = Some (name, word ∷ []);
+          place = inl filled_walked;
+          lost = rw (is.by_id name named) (use_again_fails name word uses e);
+        },
+      )
+      at_filled false e = inl (
+        filled_passes,
+        record {
+          rows = rows_so_far;
+          pending = Some (name, word ∷ []);
+          walk_is = filled_walked;
+          stands = record { settles = rw (is.by_id name named) (use_passes name word uses e); rows_are = rw (is.by_id name named) (used_more name word uses e) };
+        },
+      )
 
     ends_is_option : is_option word ≡ false → ends_options word ≡ true → ⊥
     unfolding clap_on_literals

@@ -20,7 +20,7 @@ use Rattle.clap.proofs.WalkLemmas.{both, first_value-rows, walk_stopped}
 use Rattle.clap.proofs.FaultLemmas.{stopped_fault}
 use Rattle.exh_cli.specs.Fault.{IsFaultOf, TellsVersion}
 use Rattle.exh_cli.specs.Words.{Use, alone, ends_options, is_named, is_option, only_word, path_named, uses_named}
-use Rattle.exh_cli.specs.Job.{AskForVersion, Named, Serve, Check, Dump, command_of, job_named, open_name, save_name, serve_named, served_by}
+use Rattle.exh_cli.specs.Job.{AskForVersion, Named, Serve, Check, Dump, Load, command_of, job_named, open_name, save_name, serve_named, served_by}
 use Rattle.exh_cli.specs.Parser.{HasValues, Meets, ReadsJobs, about_path, option_rule, path_id, path_rule, with_options}
 use Rattle.exh_cli.specs.declared.fault.CliFault.{CliFault}
 use Rattle.exh_cli.proofs.OptionLemmas.{IsOptionLeaf, Reads, first_of-rows_of_uses, leaf_of, option_built, options_read}
@@ -35,7 +35,7 @@ abbrev pub bare_program : App
 bare_program = on_top (λ s. record s { has_version = true; subcommand_required = true; arg_required_else_help = true }) (new_app (codes "exhash"))
 
 abbrev pub program : App
-program = with_subcommand (with_subcommand (with_subcommand bare_program serve) (about_path (codes "check"))) (about_path (codes "dump"))
+program = with_subcommand (with_subcommand (with_subcommand (with_subcommand bare_program serve) (about_path (codes "check"))) (about_path (codes "dump"))) (about_path (codes "load"))
 
 is_exact : is_simple_and_free program ≡ true
 unfolding clap_on_literals
@@ -89,8 +89,11 @@ keeps_rows rows =
 no_defaults : (rows : List Row) → defaults_fault rows serve_flags ≡ []
 unfolding defaults_fault
 no_defaults rows = rw (
-  or-true (has_row open_name rows), default_kept (has_row open_name rows) rows, or-true (has_row save_name rows),
-  default_kept (has_row save_name rows) rows, or-true (has_row (codes "help") rows),
+  or-true (has_row open_name rows),
+  default_kept (has_row open_name rows) rows,
+  or-true (has_row save_name rows),
+  default_kept (has_row save_name rows) rows,
+  or-true (has_row (codes "help") rows),
 ) refl
 
 serve_leaf : IsOptionLeaf (codes "serve") serve_flags own_names
@@ -305,6 +308,10 @@ dump_leaves : (words : List Text) → top_kinds (codes "dump" ∷ words) ≡ pat
 unfolding clap_on_literals
 dump_leaves words = stopped_is (codes "dump") words ∙ or_nothing (path_kinds words)
 
+load_leaves : (words : List Text) → top_kinds (codes "load" ∷ words) ≡ path_kinds words
+unfolding clap_on_literals
+load_leaves words = stopped_is (codes "load") words ∙ or_nothing (path_kinds words)
+
 help_fails : (words : List Text) → Fails (top_kinds (codes "help" ∷ words))
 unfolding clap_on_literals
 help_fails words = tt
@@ -315,9 +322,10 @@ end_fails [] = tt
 end_fails (word ∷ rest) = tt
 
 -- a word that names no command
-module _ (word : Text) (no_serve : bytes_eq (codes "serve") word ≡ false) (no_check : bytes_eq (codes "check") word ≡ false) (no_dump : bytes_eq (codes "dump") word ≡ false) where
+module _ (word : Text) (no_serve : bytes_eq (codes "serve") word ≡ false) (no_check : bytes_eq (codes "check") word ≡ false) (no_dump : bytes_eq (codes "dump") word ≡ false)
+    (no_load : bytes_eq (codes "load") word ≡ false) where
   unnamed : bytes_eq (codes "help") word ≡ false → subcommand_met names idle word ≡ None
-  unnamed no_help = rw (no_serve, no_check, no_dump, no_help) refl
+  unnamed no_help = rw (no_serve, no_check, no_dump, no_load, no_help) refl
 
   other_fails : (rest : List Text) (helps ends : Bool) → bytes_eq (codes "help") word ≡ helps → ends_options word ≡ ends → Fails (top_kinds (word ∷ rest))
   unfolding clap_on_literals
@@ -326,24 +334,29 @@ module _ (word : Text) (no_serve : bytes_eq (codes "serve") word ≡ false) (no_
   other_fails rest false false no_help no_end =
       first_fails _ _ (first_fails _ _ (word_fails top flags short_asking [] None 1 word refl (all_ask flags long_asking (long_of word)) names (unnamed no_help) no_end))
 
-command_agrees : (word : Text) (rest : List Text) (serves checks dumps : Bool) → bytes_eq (codes "serve") word ≡ serves → bytes_eq (codes "check") word ≡ checks → bytes_eq (codes "dump") word ≡ dumps
-    → Agrees (cond serves (serve_named rest) (cond checks (option_map Check (path_named rest)) (cond dumps (option_map Dump (path_named rest)) None))) (top_kinds (word ∷ rest))
-command_agrees word rest true checks dumps s c d =
+command_agrees : (word : Text) (rest : List Text) (serves checks dumps loads : Bool) → bytes_eq (codes "serve") word ≡ serves → bytes_eq (codes "check") word ≡ checks → bytes_eq (codes "dump") word ≡ dumps
+    → bytes_eq (codes "load") word ≡ loads
+    → Agrees (cond serves (serve_named rest) (cond checks (option_map Check (path_named rest)) (cond dumps (option_map Dump (path_named rest)) (cond loads (option_map Load (path_named rest)) None)))) (top_kinds (word ∷ rest))
+command_agrees word rest true checks dumps loads s c d l =
     let left = subst (Agrees (serve_named rest)) (sym (serve_leaves rest)) (leaf_agrees rest) in
     subst (λ w. Agrees (serve_named rest) (top_kinds (w ∷ rest))) (is_name (codes "serve") word s) left
-command_agrees word rest false true dumps s c d =
+command_agrees word rest false true dumps loads s c d l =
     let left = subst (Agrees (option_map Check (path_named rest))) (sym (check_leaves rest)) (agrees_as Check _ _ (path_agrees rest)) in
     subst (λ w. Agrees (option_map Check (path_named rest)) (top_kinds (w ∷ rest))) (is_name (codes "check") word c) left
-command_agrees word rest false false true s c d =
+command_agrees word rest false false true loads s c d l =
     let left = subst (Agrees (option_map Dump (path_named rest))) (sym (dump_leaves rest)) (agrees_as Dump _ _ (path_agrees rest)) in
     subst (λ w. Agrees (option_map Dump (path_named rest)) (top_kinds (w ∷ rest))) (is_name (codes "dump") word d) left
-command_agrees word rest false false false s c d = other_fails word s c d rest (bytes_eq (codes "help") word) (ends_options word) refl refl
+command_agrees word rest false false false true s c d l =
+    let left = subst (Agrees (option_map Load (path_named rest))) (sym (load_leaves rest)) (agrees_as Load _ _ (path_agrees rest)) in
+    subst (λ w. Agrees (option_map Load (path_named rest)) (top_kinds (w ∷ rest))) (is_name (codes "load") word l) left
+command_agrees word rest false false false false s c d l = other_fails word s c d l rest (bytes_eq (codes "help") word) (ends_options word) refl refl
 
 words_agree : (words : List Text) → Agrees (job_named words) (fault_of program words)
 unfolding clap_on_literals
 words_agree [] = tt
 words_agree (name ∷ []) = tt
-words_agree (name ∷ command ∷ rest) = command_agrees command rest (bytes_eq (codes "serve") command) (bytes_eq (codes "check") command) (bytes_eq (codes "dump") command) refl refl refl
+words_agree (name ∷ command ∷ rest) =
+    command_agrees command rest (bytes_eq (codes "serve") command) (bytes_eq (codes "check") command) (bytes_eq (codes "dump") command) (bytes_eq (codes "load") command) refl refl refl refl
 
 -- ---- the command that is met, and its values
 
@@ -362,6 +375,10 @@ check_met name words = met_at (codes "check") words
 dump_met : (name : Text) (words : List Text) → subcommand_of program (name ∷ codes "dump" ∷ words) ≡ Some (codes "dump", rows_after path_flags [] words)
 unfolding clap_on_literals
 dump_met name words = met_at (codes "dump") words
+
+load_met : (name : Text) (words : List Text) → subcommand_of program (name ∷ codes "load" ∷ words) ≡ Some (codes "load", rows_after path_flags [] words)
+unfolding clap_on_literals
+load_met name words = met_at (codes "load") words
 
 -- `serve` names no job of another command
 is_serve : (words : List Text) (job : Named) → serve_named words ≡ Some job → codes "serve" ≡ command_of job
@@ -389,19 +406,23 @@ path_is_met name command of is values rest met (Some path) job named same = subs
   values = values path (rows_after path_flags [] rest) (path_met rest path named);
 })
 
-command_met : (name word : Text) (rest : List Text) (serves checks dumps : Bool) (job : Named) → bytes_eq (codes "serve") word ≡ serves → bytes_eq (codes "check") word ≡ checks → bytes_eq (codes "dump") word ≡ dumps
-    → cond serves (serve_named rest) (cond checks (option_map Check (path_named rest)) (cond dumps (option_map Dump (path_named rest)) None)) ≡ Some job → Meets program (name ∷ word ∷ rest) job
-command_met name word rest true checks dumps job s c d named = subst (λ w. Meets program (name ∷ w ∷ rest) job) (is_name (codes "serve") word s) (serve_is_met name rest job named)
-command_met name word rest false true dumps job s c d named =
+command_met : (name word : Text) (rest : List Text) (serves checks dumps loads : Bool) (job : Named) → bytes_eq (codes "serve") word ≡ serves → bytes_eq (codes "check") word ≡ checks → bytes_eq (codes "dump") word ≡ dumps
+    → bytes_eq (codes "load") word ≡ loads
+    → cond serves (serve_named rest) (cond checks (option_map Check (path_named rest)) (cond dumps (option_map Dump (path_named rest)) (cond loads (option_map Load (path_named rest)) None))) ≡ Some job → Meets program (name ∷ word ∷ rest) job
+command_met name word rest true checks dumps loads job s c d l named = subst (λ w. Meets program (name ∷ w ∷ rest) job) (is_name (codes "serve") word s) (serve_is_met name rest job named)
+command_met name word rest false true dumps loads job s c d l named =
     subst (λ w. Meets program (name ∷ w ∷ rest) job) (is_name (codes "check") word c) (path_is_met name (codes "check") Check (λ path. refl) (λ path rows is. is) rest (check_met name rest) (path_named rest) job refl named)
-command_met name word rest false false true job s c d named =
+command_met name word rest false false true loads job s c d l named =
     subst (λ w. Meets program (name ∷ w ∷ rest) job) (is_name (codes "dump") word d) (path_is_met name (codes "dump") Dump (λ path. refl) (λ path rows is. is) rest (dump_met name rest) (path_named rest) job refl named)
-command_met name word rest false false false job s c d named = cc
+command_met name word rest false false false true job s c d l named =
+    subst (λ w. Meets program (name ∷ w ∷ rest) job) (is_name (codes "load") word l) (path_is_met name (codes "load") Load (λ path. refl) (λ path rows is. is) rest (load_met name rest) (path_named rest) job refl named)
+command_met name word rest false false false false job s c d l named = cc
 
 job_met : (words : List Text) (job : Named) → job_named words ≡ Some job → Meets program words job
 job_met [] job named = cc
 job_met (name ∷ []) job named = cc
-job_met (name ∷ command ∷ rest) job named = command_met name command rest (bytes_eq (codes "serve") command) (bytes_eq (codes "check") command) (bytes_eq (codes "dump") command) job refl refl refl named
+job_met (name ∷ command ∷ rest) job named =
+    command_met name command rest (bytes_eq (codes "serve") command) (bytes_eq (codes "check") command) (bytes_eq (codes "dump") command) (bytes_eq (codes "load") command) job refl refl refl refl named
 
 -- ---- the version
 
@@ -474,6 +495,7 @@ serves (Serve opening saving) own opened saved is opens saves =
     ap₂ (λ opened saved. Some (Serve opened saved)) (sym (opens ∙ first_value-rows (found_of own) open_name ∙ is.values.0)) (sym (saves ∙ first_value-rows (found_of own) save_name ∙ is.values.1))
 serves (Check path) own opened saved is opens saves = absurd (let never : 115 ≡ 99 = ap (λ (word : Text). slice_index_or word 0 0) is.command_is in omega arith)
 serves (Dump path) own opened saved is opens saves = absurd (let never : 115 ≡ 100 = ap (λ (word : Text). slice_index_or word 0 0) is.command_is in omega arith)
+serves (Load path) own opened saved is opens saves = absurd (let never : 115 ≡ 108 = ap (λ (word : Text). slice_index_or word 0 0) is.command_is in omega arith)
 
 -- a path, as it was read
 same_path : (own : ArgMatches) (path found : Text) → first_of path_id (rows_of (found_of own)) ≡ Some path → Some found ≡ first_value (found_of own) path_id → path ≡ found
@@ -486,27 +508,38 @@ pub checks : (job : Named) (own : ArgMatches) → IsOwn (codes "check") own job 
 checks (Serve opening saving) own is path read = absurd (let never : 99 ≡ 115 = ap (λ (word : Text). slice_index_or word 0 0) is.command_is in omega arith)
 checks (Check other) own is path read = ap (λ path. Some (Check path)) (same_path own other path is.values read)
 checks (Dump other) own is path read = absurd (let never : 99 ≡ 100 = ap (λ (word : Text). slice_index_or word 0 0) is.command_is in omega arith)
+checks (Load other) own is path read = absurd (let never : 99 ≡ 108 = ap (λ (word : Text). slice_index_or word 0 0) is.command_is in omega arith)
 
 pub dumps : (job : Named) (own : ArgMatches) → IsOwn (codes "dump") own job → (path : Text) → Some path ≡ first_value (found_of own) path_id → Some job ≡ Some (Dump path)
 dumps (Serve opening saving) own is path read = absurd (let never : 100 ≡ 115 = ap (λ (word : Text). slice_index_or word 0 0) is.command_is in omega arith)
 dumps (Check other) own is path read = absurd (let never : 100 ≡ 99 = ap (λ (word : Text). slice_index_or word 0 0) is.command_is in omega arith)
 dumps (Dump other) own is path read = ap (λ path. Some (Dump path)) (same_path own other path is.values read)
+dumps (Load other) own is path read = absurd (let never : 100 ≡ 108 = ap (λ (word : Text). slice_index_or word 0 0) is.command_is in omega arith)
+
+pub loads : (job : Named) (own : ArgMatches) → IsOwn (codes "load") own job → (path : Text) → Some path ≡ first_value (found_of own) path_id → Some job ≡ Some (Load path)
+loads (Serve opening saving) own is path read = absurd (let never : 108 ≡ 115 = ap (λ (word : Text). slice_index_or word 0 0) is.command_is in omega arith)
+loads (Check other) own is path read = absurd (let never : 108 ≡ 99 = ap (λ (word : Text). slice_index_or word 0 0) is.command_is in omega arith)
+loads (Dump other) own is path read = absurd (let never : 108 ≡ 100 = ap (λ (word : Text). slice_index_or word 0 0) is.command_is in omega arith)
+loads (Load other) own is path read = ap (λ path. Some (Load path)) (same_path own other path is.values read)
 
 -- a command but `serve` is given a path
 pub path_given : (job : Named) (command : Text) (own : ArgMatches) → IsOwn command own job → (command ≡ codes "serve" → ⊥) → IsSome (first_value (found_of own) path_id)
 path_given (Serve opening saving) command own is other = absurd (other is.command_is)
 path_given (Check path) command own is other = has_path own path is.values
 path_given (Dump path) command own is other = has_path own path is.values
+path_given (Load path) command own is other = has_path own path is.values
 
-pub no_serve : (command : Text) → (command ≡ codes "check") ⊎ (command ≡ codes "dump") → command ≡ codes "serve" → ⊥
+pub no_serve : (command : Text) → (command ≡ codes "check") ⊎ (command ≡ codes "dump") ⊎ (command ≡ codes "load") → command ≡ codes "serve" → ⊥
 no_serve command (inl is) same = let never : 99 ≡ 115 = ap (λ (word : Text). slice_index_or word 0 0) (sym is ∙ same) in absurd (omega (arith, never))
-no_serve command (inr is) same = let never : 100 ≡ 115 = ap (λ (word : Text). slice_index_or word 0 0) (sym is ∙ same) in absurd (omega (arith, never))
+no_serve command (inr (inl is)) same = let never : 100 ≡ 115 = ap (λ (word : Text). slice_index_or word 0 0) (sym is ∙ same) in absurd (omega (arith, never))
+no_serve command (inr (inr is)) same = let never : 108 ≡ 115 = ap (λ (word : Text). slice_index_or word 0 0) (sym is ∙ same) in absurd (omega (arith, never))
 
 -- there is no other command
-pub is_command : (job : Named) (command : Text) (own : ArgMatches) → IsOwn command own job → (command ≡ codes "serve" → ⊥) → (command ≡ codes "check" → ⊥) → (command ≡ codes "dump" → ⊥) → ⊥
-is_command (Serve opening saving) command own is no_serve no_check no_dump = no_serve is.command_is
-is_command (Check path) command own is no_serve no_check no_dump = no_check is.command_is
-is_command (Dump path) command own is no_serve no_check no_dump = no_dump is.command_is
+pub is_command : (job : Named) (command : Text) (own : ArgMatches) → IsOwn command own job → (command ≡ codes "serve" → ⊥) → (command ≡ codes "check" → ⊥) → (command ≡ codes "dump" → ⊥) → (command ≡ codes "load" → ⊥) → ⊥
+is_command (Serve opening saving) command own is no_serve no_check no_dump no_load = no_serve is.command_is
+is_command (Check path) command own is no_serve no_check no_dump no_load = no_check is.command_is
+is_command (Dump path) command own is no_serve no_check no_dump no_load = no_dump is.command_is
+is_command (Load path) command own is no_serve no_check no_dump no_load = no_load is.command_is
 
 -- ---- a parse that fails
 

@@ -11,11 +11,13 @@ pub data Named : Type 0 where
   Serve : Option (List ℕ) → Option (List ℕ) → Named
   Check : List ℕ → Named
   Dump : List ℕ → Named
+  Load : List ℕ → Named
 
 abbrev pub named_of : Job → Named
 named_of (jobs.Serve opened saved) = Serve (option_map (λ path. path.now) opened) (option_map (λ path. path.now) saved)
 named_of (jobs.Check path) = Check path.now
 named_of (jobs.Dump path) = Dump path.now
+named_of (jobs.Load path) = Load path.now
 
 -- ---- the words behind a command
 
@@ -41,7 +43,8 @@ job_named (program ∷ []) = None
 job_named (program ∷ command ∷ rest) =
     if bytes_eq (codes "serve") command then serve_named rest
     else (if bytes_eq (codes "check") command then option_map Check (path_named rest)
-    else (if bytes_eq (codes "dump") command then option_map Dump (path_named rest) else None))
+    else (if bytes_eq (codes "dump") command then option_map Dump (path_named rest)
+    else (if bytes_eq (codes "load") command then option_map Load (path_named rest) else None)))
 
 -- words that ask for the program's version and name no job: `--version` alone behind its name
 abbrev pub AskForVersion : List (List ℕ) → Type 0
@@ -52,3 +55,4 @@ abbrev pub command_of : Named → List ℕ
 command_of (Serve opened saved) = codes "serve"
 command_of (Check path) = codes "check"
 command_of (Dump path) = codes "dump"
+command_of (Load path) = codes "load"

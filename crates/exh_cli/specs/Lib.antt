@@ -6,3 +6,4 @@ pub mod Status
 pub mod Run
 pub mod FileRun
 pub mod OpenRun
+pub mod LoadRun

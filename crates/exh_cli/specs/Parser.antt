@@ -5,7 +5,7 @@ use Rattle.clap.specs.Simple.{new_shape}
 use Rattle.clap.specs.declared.builder.command.Command.{Command}
 use Rattle.clap.specs.declared.builder.command.Command.TheViews.{out-Command}
 use Rattle.clap.specs.declared.error.kind.ErrorKind.TheVariants.{DisplayVersion}
-use Rattle.exh_cli.specs.Job.{Check, Dump, Named, Serve, command_of, job_named, open_name, save_name}
+use Rattle.exh_cli.specs.Job.{Check, Dump, Load, Named, Serve, command_of, job_named, open_name, save_name}
 
 -- ---- arguments
 
@@ -43,6 +43,7 @@ abbrev pub HasValues : Named → List Row → Type 0
 HasValues (Serve opened saved) rows = (first_of open_name rows ≡ opened) × (first_of save_name rows ≡ saved)
 HasValues (Check path) rows = first_of path_id rows ≡ Some path
 HasValues (Dump path) rows = first_of path_id rows ≡ Some path
+HasValues (Load path) rows = first_of path_id rows ≡ Some path
 
 -- the parser meets a job's command, and its values
 pub record Meets (parser : App) (words : List (List ℕ)) (job : Named) : Type 0 where

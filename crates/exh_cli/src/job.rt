@@ -6,7 +6,7 @@ ghost use Rattle.exh_cli.specs.Job.{AskForVersion, job_named, named_of};
 ghost use Rattle.exh_cli.specs.Parser.{path_id};
 
 use crate::fault::CliFault;
-use crate::parser::{CHECK, DUMP, OPEN, PATH, SAVE, SERVE, parser};
+use crate::parser::{CHECK, DUMP, LOAD, OPEN, PATH, SAVE, SERVE, parser};
 use clap::ArgMatches;
 use std::alloc::Global;
 use std::convert::AsStr;
@@ -21,9 +21,17 @@ pub enum Job<'w> {
         save: Option<&'w str>,
     },
     /// Say whether the file of a path is a legal page file.
-    Check { path: &'w str },
+    Check {
+        path: &'w str,
+    },
     /// Tell what a legal page file has.
-    Dump { path: &'w str },
+    Dump {
+        path: &'w str,
+    },
+    /// Save the pairs on standard input as the page file of a path.
+    Load {
+        path: &'w str,
+    },
 }
 
 /// The job that the words of a command line name, of which the first is the program's name.
@@ -50,6 +58,7 @@ pub fn job_of<'w, S: AsStr>(alloc: Global, words: &'w [S]) -> Result<Job<'w>, Cl
         }),
         CHECK => Ok(Job::Check { path: path_in(own) }),
         DUMP => Ok(Job::Dump { path: path_in(own) }),
+        LOAD => Ok(Job::Load { path: path_in(own) }),
         _ => unreachable!(),
     }
 }

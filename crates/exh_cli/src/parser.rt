@@ -17,6 +17,9 @@ pub const CHECK: &str = "check";
 /// The command that tells what a legal page file has.
 pub const DUMP: &str = "dump";
 
+/// The command that saves pairs as a page file.
+pub const LOAD: &str = "load";
+
 /// What help calls the path of the file that a command is about.
 pub const PATH: &str = "PATH";
 
@@ -32,11 +35,13 @@ const VERSION: &str = "0.1.0";
 const USAGE: &str = "exhash serve [--open PATH] [--save PATH] < SCRIPT
        exhash check PATH
        exhash dump PATH
+       exhash load PATH < PAIRS
 
 Examples:
   ./exhash serve < examples/untold-copy.script
   ./exhash check examples/three-pairs.files/three-pairs.exh
-  ./exhash dump examples/three-pairs.files/three-pairs.exh";
+  ./exhash dump examples/three-pairs.files/three-pairs.exh
+  ./exhash load my-pairs.exh < examples/three-pairs-loaded.script";
 
 const SERVE_USAGE: &str = "exhash serve [--open PATH] [--save PATH] < SCRIPT
 
@@ -147,6 +152,32 @@ Exit status: 0 where the file is legal; 1 where it is refused or the run breaks
 off; 2 where the command line is wrong, or asks for help.
 The formats are in docs/FORMATS.md.";
 
+const LOAD_USAGE: &str = "exhash load PATH < PAIRS
+
+Example:
+  ./exhash load my-pairs.exh < examples/three-pairs-loaded.script";
+
+const LOADED: &str = "\
+It reads a `file` line, as of a script, and then lines of a key and a value:
+  file cap=2 wards=0 copies=1 keyer=plain
+  #00 a
+  #80 b
+It saves their page file, and prints a line for each that isn't in it, and how
+many records the file has:
+  refused 60   the line is no pair
+  refused 61   its key or value is out of range
+  full KEY     there is no room for it, whatever is split
+  loaded 2
+A later value of a key replaces the earlier. The file that was there stays as it
+was until the new one is whole. These stand alone or come last, and nothing is
+saved: 60 or 61 for the `file` line, 62 for more than 1048576 bytes, 41 where
+reading fails, 10 where memory ends. Where the path can't be written, nothing
+more is printed.
+
+Exit status: 0 where the file is saved, also with refused lines; 1 where it
+isn't; 2 where the command line is wrong, or asks for help.
+The formats are in docs/FORMATS.md.";
+
 // What holds of every command.
 const ENDS: &str = "\
 Exit status: 0 where the run is done, also with refused lines, or the file is
@@ -170,9 +201,11 @@ pub fn parser<'a>(alloc: Global) -> Result<Command<'a>, AllocError>
     let serve = serve(alloc)?;
     let check = check(alloc)?;
     let dump = dump(alloc)?;
+    let load = load(alloc)?;
     let serving = exhash.subcommand(serve)?;
     let checking = serving.subcommand(check)?;
-    checking.subcommand(dump)
+    let dumping = checking.subcommand(dump)?;
+    dumping.subcommand(load)
 }
 
 // The parser of `serve`.
@@ -180,10 +213,9 @@ fn serve<'a>(alloc: Global) -> Result<Command<'a>, AllocError>
     ensures own { IfOk result HasOwnArgs }
     ensures is { IfOk result (λ command. app_of command ≡ only (with_options (codes "serve") (open_name ∷ save_name ∷ []))) }
 {
-    let open = Arg::new(alloc, OPEN)
-        .long(OPEN)
-        .value_name(PATH)
-        .help("The page file that the script runs over; a new one without it");
+    let open = Arg::new(alloc, OPEN).long(OPEN).value_name(PATH).help(
+        "The page file that the script runs over; a new one without it",
+    );
     let save = Arg::new(alloc, SAVE)
         .long(SAVE)
         .value_name(PATH)
@@ -219,6 +251,19 @@ fn dump<'a>(alloc: Global) -> Result<Command<'a>, AllocError>
         .about("Tells what a legal page file has: pages, pairs and the table")
         .after_help(DUMPED)
         .override_usage(DUMP_USAGE)
+        .arg(path)
+}
+
+// The parser of `load`.
+fn load<'a>(alloc: Global) -> Result<Command<'a>, AllocError>
+    ensures own { IfOk result HasOwnArgs }
+    ensures is { IfOk result (λ command. app_of command ≡ only (about_path (codes "load"))) }
+{
+    let path = Arg::new(alloc, PATH).required(true);
+    Command::new(alloc, LOAD)
+        .about("Saves the pairs on standard input as a page file")
+        .after_help(LOADED)
+        .override_usage(LOAD_USAGE)
         .arg(path)
 }
 

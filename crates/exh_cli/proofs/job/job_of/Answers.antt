@@ -1,6 +1,6 @@
 use Rattle.std.proofs.Common.{map, ap, sym, subst, inl, inr, codes, ◌∙◌}
 use Rattle.clap.specs.Words.{app_of}
-use Rattle.exh_cli.proofs.ParserLemmas.{IsOwn, checks, dumps, is_command, no_serve, own_is, parse_meets, path_given, serves, some_met, version_told}
+use Rattle.exh_cli.proofs.ParserLemmas.{IsOwn, checks, dumps, is_command, loads, no_serve, own_is, parse_meets, path_given, serves, some_met, version_told}
 use Rattle.exh_cli.proofs.job.job_of.Goals as goal
 
 pub returns-in_err-matches-clause-version : goal.returns-in_err-matches-clause-version
@@ -42,7 +42,7 @@ path_in-requires-in-dump g c =
     let parse = c.in_ok-matches.ensures in
     let met = parse_meets (app_of c.in_ok-parser.field-0) (map g.S.AsStr.text c.args.words.now) c.in_ok-matches.matches c.in_ok-parser.ensures (parse.kinds c.in_ok-parser.ensures.exact) parse.matches in
     let own = own_is c.in_ok-matches.matches c.in-Some.command.now c.in-Some.own.now met.0 c.in-Some.ensures.name c.in-Some.ensures.rows met.2 in
-    path_given met.0 c.in-Some.command.now c.in-Some.own.now own (no_serve c.in-Some.command.now (inr c.in-dump.is))
+    path_given met.0 c.in-Some.command.now c.in-Some.own.now own (no_serve c.in-Some.command.now (inr (inl c.in-dump.is)))
 
 pub returns-in-dump-clause-named : goal.returns-in-dump-clause-named
 returns-in-dump-clause-named g c =
@@ -51,9 +51,23 @@ returns-in-dump-clause-named g c =
     let own = own_is c.in_ok-matches.matches c.in-Some.command.now c.in-Some.own.now met.0 c.in-Some.ensures.name c.in-Some.ensures.rows met.2 in
     met.1 ∙ dumps met.0 c.in-Some.own.now (subst (λ command. IsOwn command c.in-Some.own.now met.0) c.in-dump.is own) _ c.path_in-in-dump.ensures
 
+pub path_in-requires-in-load : goal.path_in-requires-in-load
+path_in-requires-in-load g c =
+    let parse = c.in_ok-matches.ensures in
+    let met = parse_meets (app_of c.in_ok-parser.field-0) (map g.S.AsStr.text c.args.words.now) c.in_ok-matches.matches c.in_ok-parser.ensures (parse.kinds c.in_ok-parser.ensures.exact) parse.matches in
+    let own = own_is c.in_ok-matches.matches c.in-Some.command.now c.in-Some.own.now met.0 c.in-Some.ensures.name c.in-Some.ensures.rows met.2 in
+    path_given met.0 c.in-Some.command.now c.in-Some.own.now own (no_serve c.in-Some.command.now (inr (inr c.in-load.is)))
+
+pub returns-in-load-clause-named : goal.returns-in-load-clause-named
+returns-in-load-clause-named g c =
+    let parse = c.in_ok-matches.ensures in
+    let met = parse_meets (app_of c.in_ok-parser.field-0) (map g.S.AsStr.text c.args.words.now) c.in_ok-matches.matches c.in_ok-parser.ensures (parse.kinds c.in_ok-parser.ensures.exact) parse.matches in
+    let own = own_is c.in_ok-matches.matches c.in-Some.command.now c.in-Some.own.now met.0 c.in-Some.ensures.name c.in-Some.ensures.rows met.2 in
+    met.1 ∙ loads met.0 c.in-Some.own.now (subst (λ command. IsOwn command c.in-Some.own.now met.0) c.in-load.is own) _ c.path_in-in-load.ensures
+
 pub unreachable-requires-in_default-command : goal.unreachable-requires-in_default-command
 unreachable-requires-in_default-command g c =
     let parse = c.in_ok-matches.ensures in
     let met = parse_meets (app_of c.in_ok-parser.field-0) (map g.S.AsStr.text c.args.words.now) c.in_ok-matches.matches c.in_ok-parser.ensures (parse.kinds c.in_ok-parser.ensures.exact) parse.matches in
     let own = own_is c.in_ok-matches.matches c.in-Some.command.now c.in-Some.own.now met.0 c.in-Some.ensures.name c.in-Some.ensures.rows met.2 in
-    is_command met.0 c.in-Some.command.now c.in-Some.own.now own c.in_default-command.not-serve c.in_default-command.not-check c.in_default-command.not-dump
+    is_command met.0 c.in-Some.command.now c.in-Some.own.now own c.in_default-command.not-serve c.in_default-command.not-check c.in_default-command.not-dump c.in_default-command.not-load
