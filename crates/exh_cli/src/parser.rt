@@ -2,6 +2,7 @@
 ghost use Rattle.std.specs.Prelude.{◌≡◌, ◌∷◌, [], IfOk, codes};
 ghost use Rattle.clap.specs.Words.{app_of, kind_of};
 ghost use Rattle.exh_cli.specs.Job.{open_name, save_name};
+ghost use Rattle.exh_cli.specs.Program.{bare_program};
 ghost use Rattle.exh_cli.specs.Parser.{HasOwnArgs, ReadsJobs, about_path, only, option_rule, with_options};
 
 use clap::error::{Error, ErrorKind};
@@ -190,14 +191,7 @@ said of a file, docs/FORMATS.md the formats.";
 pub fn parser<'a>(alloc: Global) -> Result<Command<'a>, AllocError>
     ensures { IfOk result (λ parser. ReadsJobs (app_of parser)) }
 {
-    let exhash = Command::new(alloc, "exhash")
-        .about("An extendible hash file whose directory is copied to several nodes")
-        .version(VERSION)
-        .after_help(ENDS)
-        .override_usage(USAGE)
-        .subcommand_required(true)
-        .arg_required_else_help(true)
-        .bin_name("exhash")?;
+    let exhash = bare_program(alloc)?;
     let serve = serve(alloc)?;
     let check = check(alloc)?;
     let dump = dump(alloc)?;
@@ -206,6 +200,20 @@ pub fn parser<'a>(alloc: Global) -> Result<Command<'a>, AllocError>
     let checking = serving.subcommand(check)?;
     let dumping = checking.subcommand(dump)?;
     dumping.subcommand(load)
+}
+
+// The program's own command, with none below it.
+fn bare_program<'a>(alloc: Global) -> Result<Command<'a>, AllocError>
+    ensures { IfOk result (λ command. app_of command ≡ bare_program) }
+{
+    Command::new(alloc, "exhash")
+        .about("An extendible hash file whose directory is copied to several nodes")
+        .version(VERSION)
+        .after_help(ENDS)
+        .override_usage(USAGE)
+        .subcommand_required(true)
+        .arg_required_else_help(true)
+        .bin_name("exhash")
 }
 
 // The parser of `serve`.
