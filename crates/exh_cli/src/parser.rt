@@ -221,9 +221,10 @@ fn serve<'a>(alloc: Global) -> Result<Command<'a>, AllocError>
     ensures own { IfOk result HasOwnArgs }
     ensures is { IfOk result (λ command. app_of command ≡ only (with_options (codes "serve") (open_name ∷ save_name ∷ []))) }
 {
-    let open = Arg::new(alloc, OPEN).long(OPEN).value_name(PATH).help(
-        "The page file that the script runs over; a new one without it",
-    );
+    let open = Arg::new(alloc, OPEN)
+        .long(OPEN)
+        .value_name(PATH)
+        .help("The page file that the script runs over, or a new one");
     let save = Arg::new(alloc, SAVE)
         .long(SAVE)
         .value_name(PATH)
