@@ -1,2 +1,4 @@
+pub mod WordLemmas
+pub mod OptionLemmas
 pub mod ParserLemmas
 pub mod RunLemmas

@@ -1,34 +1,35 @@
--- Which words the program's parser takes, and which command and path it then meets.
-use Rattle.std.proofs.Common.{◌≡◌, ◌∙◌, ℕ, Bool, true, false, List, [], ◌∷◌, Option, Some, None, Result, Ok, Err, IfErr, refl, sym, ap, ap₂, subst, codes, length, cond, slice_index_or, is_some, inl, inr, eqb, ltb, lt-ltb, arith, Global}
-use Rattle.std.specs.Prelude.{not, ◌&&◌, ◌⊎◌, ◌≢◌, Box, IsErrAnd, find, fold, slice_get, option_map, ◌↔◌, IsSome}
+-- Which words the program's parser takes, and which command and values it then meets.
+use Rattle.std.proofs.Common.{◌≡◌, ◌∙◌, ℕ, Bool, true, false, List, [], ◌∷◌, ◌++◌, Option, Some, None, Result, Ok, Err, IfErr, refl, sym, ap, ap₂, subst, codes, cond, slice_index_or, is_some, inl, inr, arith, Global}
+use Rattle.std.specs.Prelude.{not, ◌&&◌, ◌⊎◌, ◌≢◌, Box, IsErrAnd, find, fold, map, option_map, ◌↔◌, IsSome, ◌||◌}
 use Rattle.std.specs.Box.{box_value}
-use Rattle.std.specs.Option.{option_map_or}
-use Rattle.std.specs.Str.{bytes_eq, chars, chars_after, continuation_len, lead_bits}
-use Rattle.std.proofs.lemmas.Bool.{eqb-true}
+use Rattle.std.specs.Str.{bytes_eq}
 use Rattle.std.proofs.lemmas.Slice.Eq.{bytes_eq-Decides}
 use Rattle.clap.specs.declared.parser.matches.ArgMatches.{ArgMatches}
 use Rattle.clap.specs.declared.parser.matches.SubCommand.{SubCommand}
 use Rattle.clap.specs.declared.parser.matches.ArgMatches.TheViews.{out-ArgMatches, out-SubCommand}
-use Rattle.clap.specs.Words.{App, HasKind, found_of, rows_of, subcommand_name_of, HasMatchesOf, IsAmong, Kinds, Rule, Shape, Text, fault_of, first_of, first_value, is_simple, is_simple_and_free, kind_of, new_app, subcommand_of, subcommand_rows, subcommand_rows_of, with_subcommand}
+use Rattle.clap.specs.Words.{App, HasKind, found_of, rows_of, subcommand_name_of, HasMatchesOf, IsAmong, Kinds, Row, Rule, Shape, Text, fault_of, first_of, first_value, is_simple, is_simple_and_free, kind_of, new_app, subcommand_of, subcommand_rows, subcommand_rows_of, with_subcommand}
 use Rattle.clap.specs.Kinds.{or_else}
-use Rattle.clap.specs.Lexer.{long_of, short_of}
-use Rattle.clap.specs.Simple.{built, entered, filled_from, help_rule, names_of, new_shape, on_top, version_rule}
-use Rattle.clap.specs.Walk.{Held, Names, Walk, after_flag, after_step, arg_by_index, arg_by_long, arg_by_short, bundle_met, bundle_step, finished, has_long, has_short, idle, long_or_other, nothing_held, plain, rows_after, settled, short_or_plain, subcommand_met, subcommand_or_other, value, walk_from, walked}
-use Rattle.clap.specs.Faults.{built_fault, bundle_fault, bundle_step_fault, check_fault, defaults_fault, entered_fault, flag_word_fault, flags_fault, level_fault, long_fault, other_fault, react_fault, settle_fault, short_fault, step_fault, turn_fault, use_fault, walk_fault}
+use Rattle.clap.specs.Lexer.{long_of}
+use Rattle.clap.specs.Simple.{built, entered, filled_from, help_rule, names_of, new_shape, on_top}
+use Rattle.clap.specs.Walk.{Names, Walk, after_step, arg_by_id, arg_by_long, arg_by_short, finished, has_long, has_row, has_short, idle, nothing_held, rows_after, settled, subcommand_met, walk_from, walked, with_default}
+use Rattle.clap.specs.Faults.{built_fault, check_fault, defaults_fault, entered_fault, level_fault, settle_fault, step_fault, turn_fault, walk_fault}
 use Rattle.clap.specs.declared.error.Error.{Error}
 use Rattle.clap.specs.declared.error.kind.ErrorKind.TheVariants as kind
 use Rattle.clap.proofs.OnLiterals.{clap_on_literals}
 use Rattle.clap.proofs.WalkLemmas.{both, first_value-rows, walk_stopped}
 use Rattle.clap.proofs.FaultLemmas.{stopped_fault}
 use Rattle.exh_cli.specs.Fault.{IsFaultOf, TellsVersion}
-use Rattle.exh_cli.specs.Job.{AskForVersion, Named, Serve, Check, Dump, alone, command_of, ends_options, is_option, job_named, only_word, path_named, path_of, serve_named}
-use Rattle.exh_cli.specs.Parser.{ReadsJobs, about_path, path_id, path_rule, told}
+use Rattle.exh_cli.specs.Words.{Use, alone, ends_options, is_named, is_option, only_word, path_named, uses_named}
+use Rattle.exh_cli.specs.Job.{AskForVersion, Named, Serve, Check, Dump, command_of, job_named, open_name, save_name, serve_named, served_by}
+use Rattle.exh_cli.specs.Parser.{HasValues, Meets, ReadsJobs, about_path, option_rule, path_id, path_rule, with_options}
 use Rattle.exh_cli.specs.declared.fault.CliFault.{CliFault}
+use Rattle.exh_cli.proofs.OptionLemmas.{IsOptionLeaf, Reads, first_of-rows_of_uses, leaf_of, option_built, options_read}
+use Rattle.exh_cli.proofs.WordLemmas.{Agrees, Fails, IsAsking, IsValue, agreed, agrees_as, all_ask, first_fails, flags, help, is_end, is_name, is_plain_word, is_value, option_fails, or_nothing, some_is, version, word_fails}
 
 -- ---- the parser, as clap's clauses see it
 
 abbrev pub serve : Shape
-serve = new_shape (codes "serve")
+serve = with_options (codes "serve") (open_name ∷ save_name ∷ [])
 
 abbrev pub bare_program : App
 bare_program = on_top (λ s. record s { has_version = true; subcommand_required = true; arg_required_else_help = true }) (new_app (codes "exhash"))
@@ -40,320 +41,110 @@ is_exact : is_simple_and_free program ≡ true
 unfolding clap_on_literals
 is_exact = refl
 
--- its flags, those of `serve`, and those of a command about a path
-abbrev flags : List Rule
-flags = filled_from 1 (help_rule ∷ version_rule ∷ [])
-
+-- the arguments of `serve`, and those of a command about a path
 abbrev serve_flags : List Rule
-serve_flags = filled_from 1 (help_rule ∷ [])
+serve_flags = filled_from 1 (option_rule open_name ∷ option_rule save_name ∷ help_rule ∷ [])
 
 abbrev path_flags : List Rule
 path_flags = filled_from 1 (path_rule ∷ help_rule ∷ [])
-
-abbrev help : Rule
-help = slice_index_or flags 0 help_rule
-
-abbrev version : Rule
-version = slice_index_or flags 1 version_rule
-
--- ---- errors
-
--- some kind of error comes
-abbrev Fails : Kinds → Type 0
-Fails [] = ⊥
-Fails (k ∷ ks) = Unit {0}
-
-first_fails : (a b : Kinds) → Fails a → Fails (or_else a b)
-first_fails [] b h = absurd h
-first_fails (k ∷ ks) b h = tt
-
-second_fails : (a b : Kinds) → Fails b → Fails (or_else a b)
-second_fails [] b h = h
-second_fails (k ∷ ks) b h = tt
-
-or_nothing : (kinds : Kinds) → or_else kinds [] ≡ kinds
-or_nothing [] = refl
-or_nothing (k ∷ ks) = refl
-
--- the parser takes words that name something, and refuses others
-abbrev Agrees : {A : Type 0} → Option A → Kinds → Type 0
-Agrees None kinds = Fails kinds
-Agrees (Some named) kinds = kinds ≡ []
-
-agreed : {A : Type 0} (named : Option A) (kinds : Kinds) → Agrees named kinds → (kinds ≡ []) ↔ IsSome named
-agreed None [] h = absurd h
-agreed None (k ∷ ks) h = (λ none. cc, λ some. cc)
-agreed (Some named) kinds h = (λ none. refl, λ some. h)
-
-some_is : {A : Type 0} {a b : A} → Some a ≡ Some b → a ≡ b
-some_is same = cc
-
-agrees_as : {A B : Type 0} (f : A → B) (named : Option A) (kinds : Kinds) → Agrees named kinds → Agrees (option_map f named) kinds
-agrees_as f None kinds h = h
-agrees_as f (Some named) kinds h = h
-
--- ---- words
-
-is_end : (word : Text) → ends_options word ≡ true → codes "--" ≡ word
-is_end word same = sym ((bytes_eq-Decides word (codes "--")).0 same)
-
-is_name : (name word : Text) → bytes_eq name word ≡ true → name ≡ word
-is_name name word same = (bytes_eq-Decides name word).0 same
-
--- the first character of the flags of a bundle
-abbrev first_of_bundle : ℕ → Text → Option ℕ
-first_of_bundle x xs = slice_get (chars (x ∷ xs)) 0
-
--- an option has a long name, or a bundle of flags that begins with a character
-abbrev IsFlagged : Text → Type 0
-IsFlagged word = IsSome (long_of word) ⊎ ((x : ℕ) × (xs : Text) × (long_of word ≡ None) × (short_of word ≡ Some (x ∷ xs)) × IsSome (first_of_bundle x xs))
-
--- another word has neither
-abbrev IsPlainWord : Text → Type 0
-IsPlainWord word = (long_of word ≡ None) × ((short_of word ≡ None) ⊎ ((x : ℕ) × (xs : Text) × (short_of word ≡ Some (x ∷ xs)) × (first_of_bundle x xs ≡ None)))
-
-more_than_none : (c : ℕ) (cs : List ℕ) → ltb 0 (length (c ∷ cs)) ≡ true
-more_than_none c cs = lt-ltb 0 (length (c ∷ cs)) (omega arith)
-
-some_first : (cs : List ℕ) → ltb 0 (length cs) ≡ true → IsSome (slice_get cs 0)
-some_first [] more = cc
-some_first (c ∷ cs) more = refl
-
-no_first : (cs : List ℕ) → ltb 0 (length cs) ≡ false → slice_get cs 0 ≡ None
-no_first [] none = refl
-no_first (c ∷ cs) none = absurd (let never : true ≡ false = sym (more_than_none c cs) ∙ none in cc)
-
-no_chars : ltb 0 (length (chars [])) ≡ false
-unfolding chars
-no_chars = refl
-
-hyphen_first : (rest : Text) → ltb 0 (length (chars (45 ∷ rest))) ≡ true
-unfolding chars
-hyphen_first [] = refl
-hyphen_first (x ∷ xs) = more_than_none 45 (chars_after (continuation_len x) (lead_bits x) xs)
-
--- by the byte behind the hyphen
-flagged_behind : (y : ℕ) (ys : Text) (hyphen : Bool) → eqb y 45 ≡ hyphen → ltb 0 (length (chars (y ∷ ys))) ≡ true → ends_options (45 ∷ y ∷ ys) ≡ false → IsFlagged (45 ∷ y ∷ ys)
-flagged_behind y [] true e some no_end = absurd (let never : true ≡ false = subst (λ z. ends_options (45 ∷ z ∷ []) ≡ false) (eqb-true y 45 e) no_end in cc)
-flagged_behind y (z ∷ zs) true e some no_end = inl (rw e refl)
-flagged_behind y ys false e some no_end = inr (y, ys, rw e refl, rw e refl, some_first (chars (y ∷ ys)) some)
-
-flagged : (word : Text) → is_option word ≡ true → ends_options word ≡ false → IsFlagged word
-flagged [] option no_end = cc
-flagged (x ∷ rest) option no_end = go (eqb x 45) refl
-  where
-    behind : (rest : Text) → ltb 0 (length (chars rest)) ≡ true → ends_options (45 ∷ rest) ≡ false → IsFlagged (45 ∷ rest)
-    behind [] some no_end = absurd (let never : true ≡ false = sym some ∙ no_chars in cc)
-    behind (y ∷ ys) some no_end = flagged_behind y ys (eqb y 45) refl some no_end
-
-    go : (hyphen : Bool) → eqb x 45 ≡ hyphen → IsFlagged (x ∷ rest)
-    go true e =
-        let same : x ≡ 45 = eqb-true x 45 e in
-        subst (λ z. IsFlagged (z ∷ rest)) (sym same) (behind rest (rw e at option) (subst (λ z. ends_options (z ∷ rest) ≡ false) same no_end))
-    go false e = absurd (let never : false ≡ true = rw e at option in cc)
-
-plain_behind : (y : ℕ) (ys : Text) (hyphen : Bool) → eqb y 45 ≡ hyphen → ltb 0 (length (chars (y ∷ ys))) ≡ false → IsPlainWord (45 ∷ y ∷ ys)
-plain_behind y ys true e none = absurd (let never : true ≡ false = sym (hyphen_first ys) ∙ subst (λ z. ltb 0 (length (chars (z ∷ ys))) ≡ false) (eqb-true y 45 e) none in cc)
-plain_behind y ys false e none = (rw e refl, inr (y, ys, rw e refl, no_first (chars (y ∷ ys)) none))
-
-is_plain_word : (word : Text) → is_option word ≡ false → IsPlainWord word
-is_plain_word [] option = (refl, inl refl)
-is_plain_word (x ∷ rest) option = go (eqb x 45) refl
-  where
-    behind : (rest : Text) → ltb 0 (length (chars rest)) ≡ false → IsPlainWord (45 ∷ rest)
-    behind [] none = (refl, inl refl)
-    behind (y ∷ ys) none = plain_behind y ys (eqb y 45) refl none
-
-    go : (hyphen : Bool) → eqb x 45 ≡ hyphen → IsPlainWord (x ∷ rest)
-    go true e = subst (λ z. IsPlainWord (z ∷ rest)) (sym (eqb-true x 45 e)) (behind rest (rw e at option))
-    go false e = (rw e refl, inl (rw e refl))
-
--- ---- a word at a command whose flags ask for help or for the version
-
--- what a name may stand for among them
-abbrev IsAsking : Option Rule → Type 0
-IsAsking found = (found ≡ None) ⊎ (found ≡ Some help) ⊎ (found ≡ Some version)
-
--- of a walk that holds at most what waits to be used
-module _ (s : Shape) (flags : List Rule) (asking_long : (name : Text) → IsAsking (arg_by_long flags name)) (asking_short : (c : ℕ) → IsAsking (arg_by_short flags c))
-    (waits : Option (Text × List Text)) (position : ℕ) (word : Text) where
-  abbrev level : Shape
-  level = record s { rules = flags }
-
-  abbrev holding : Held
-  holding = record nothing_held { pending = waits }
-
-  abbrev here : Walk
-  here = record (walk_from holding) { position = position }
-
-  -- the errors of the word, by the subcommand that it names, by its long flag, by its short flags
-  -- and by the first of these
-  abbrev by_name : Option Text → Kinds
-  by_name name =
-      let met = subcommand_or_other flags name idle position word holding in
-      or_else (other_fault level name word holding) (step_fault level position met.0 met.1)
-
-  abbrev by_long : Option (Text × Option Text) → Kinds
-  by_long long =
-      let met = long_or_other flags idle word long holding in
-      or_else (flag_word_fault flags s.args_override_self long word holding) (step_fault level position met.0 met.1)
-
-  abbrev by_short : Option Text → Kinds
-  by_short short =
-      let met = short_or_plain flags idle word short holding in
-      or_else (option_map_or (λ f. bundle_fault flags s.args_override_self f holding) short []) (step_fault level position met.0 met.1)
-
-  abbrev by_char : Text → Option ℕ → Kinds
-  by_char [] first = []
-  by_char (x ∷ xs) first =
-      let end = bundle_step flags first (x ∷ xs) 0 plain holding (bundle_met flags (length xs)) in
-      let met = after_flag flags idle word end.0 end.1 in
-      or_else (bundle_step_fault flags s.args_override_self first (x ∷ xs) 0 holding (flags_fault flags s.args_override_self (length xs))) (step_fault level position met.0 met.1)
-
-  -- a flag is unknown, or asks for help or the version
-  help_asked : Fails (react_fault flags s.args_override_self help [] holding)
-  help_asked = second_fails (settle_fault flags s.args_override_self holding) (use_fault s.args_override_self help [] (settled flags holding).rows) tt
-
-  version_asked_for : Fails (react_fault flags s.args_override_self version [] holding)
-  version_asked_for = second_fails (settle_fault flags s.args_override_self holding) (use_fault s.args_override_self version [] (settled flags holding).rows) tt
-
-  long_fails : (v : Option Text) (found : Option Rule) → IsAsking found → Fails (long_fault flags s.args_override_self found v holding)
-  long_fails v found (inl none) = subst (λ f. Fails (long_fault flags s.args_override_self f v holding)) (sym none) tt
-  long_fails (Some v) found (inr (inl asks)) = subst (λ f. Fails (long_fault flags s.args_override_self f (Some v) holding)) (sym asks) tt
-  long_fails None found (inr (inl asks)) = subst (λ f. Fails (long_fault flags s.args_override_self f None holding)) (sym asks) help_asked
-  long_fails (Some v) found (inr (inr asks)) = subst (λ f. Fails (long_fault flags s.args_override_self f (Some v) holding)) (sym asks) tt
-  long_fails None found (inr (inr asks)) = subst (λ f. Fails (long_fault flags s.args_override_self f None holding)) (sym asks) version_asked_for
-
-  short_fails : (rest : Text) (next : Held → Kinds) (found : Option Rule) → IsAsking found → Fails (short_fault flags s.args_override_self found rest holding next)
-  short_fails rest next found (inl none) = subst (λ f. Fails (short_fault flags s.args_override_self f rest holding next)) (sym none) tt
-  short_fails rest next found (inr (inl asks)) = subst (λ f. Fails (short_fault flags s.args_override_self f rest holding next)) (sym asks) (first_fails _ _ help_asked)
-  short_fails rest next found (inr (inr asks)) = subst (λ f. Fails (short_fault flags s.args_override_self f rest holding next)) (sym asks) (first_fails _ _ version_asked_for)
-
-  char_fails : (x : ℕ) (xs : Text) (c : ℕ) → Fails (by_char (x ∷ xs) (Some c))
-  char_fails x xs c = first_fails _ _ (short_fails _ _ (arg_by_short flags c) (asking_short c))
-
-  -- a word that is no flag is one too many, where no place is left
-  module _ (none_placed : arg_by_index flags position ≡ None) where
-    stray_fails : (leaf : Bool) → s.is_leaf ≡ leaf → Fails (step_fault level position holding value)
-    stray_fails true e = rw (none_placed, e) tt
-    stray_fails false e = rw (none_placed, e) tt
-
-    by_char_fails : (x : ℕ) (xs : Text) (first : Option ℕ) → Fails (by_char (x ∷ xs) first)
-    by_char_fails x xs None = stray_fails s.is_leaf refl
-    by_char_fails x xs (Some c) = char_fails x xs c
-
-    by_short_fails : (short : Option Text) → Fails (by_short short)
-    unfolding flags_fault bundle_met
-    by_short_fails None = stray_fails s.is_leaf refl
-    by_short_fails (Some []) = stray_fails s.is_leaf refl
-    by_short_fails (Some (x ∷ xs)) = by_char_fails x xs (slice_get (chars (x ∷ xs)) 0)
-
-    by_long_fails : (long : Option (Text × Option Text)) → Fails (by_long long)
-    by_long_fails (Some p) = first_fails _ _ (long_fails p.1 (arg_by_long flags p.0) (asking_long p.0))
-    by_long_fails None = by_short_fails (short_of word)
-
-    -- any word fails but `--` and the name of a subcommand
-    word_fails : (names : Names) → subcommand_met names idle word ≡ None → ends_options word ≡ false → Fails (turn_fault level names here word)
-    word_fails names unnamed no_end = subst (λ name. Fails (by_name name)) (sym unnamed) (rw no_end (by_long_fails (long_of word)))
-
-  -- an option fails also where a place is left
-  by_first_fails : (x : ℕ) (xs : Text) (first : Option ℕ) → IsSome first → Fails (by_char (x ∷ xs) first)
-  by_first_fails x xs None some = cc
-  by_first_fails x xs (Some c) some = char_fails x xs c
-
-  by_bundle_fails : (x : ℕ) (xs : Text) → IsSome (first_of_bundle x xs) → Fails (by_short (Some (x ∷ xs)))
-  unfolding flags_fault bundle_met
-  by_bundle_fails x xs some = by_first_fails x xs (slice_get (chars (x ∷ xs)) 0) some
-
-  long_name_fails : (long : Option (Text × Option Text)) → IsSome long → Fails (by_long long)
-  long_name_fails None some = cc
-  long_name_fails (Some p) some = first_fails _ _ (long_fails p.1 (arg_by_long flags p.0) (asking_long p.0))
-
-  flagged_fails : IsFlagged word → Fails (by_long (long_of word))
-  flagged_fails (inl long) = long_name_fails (long_of word) long
-  flagged_fails (inr (x, xs, none, short, some)) = rw (none, short) (by_bundle_fails x xs some)
-
-  option_fails : (names : Names) → subcommand_met names idle word ≡ None → ends_options word ≡ false → is_option word ≡ true → Fails (turn_fault level names here word)
-  option_fails names unnamed no_end option = subst (λ name. Fails (by_name name)) (sym unnamed) (rw no_end (flagged_fails (flagged word option no_end)))
-
-  -- another word is a value
-  bundle_ends : (x : ℕ) (xs : Text) → first_of_bundle x xs ≡ None
-      → (short_or_plain flags idle word (Some (x ∷ xs)) holding ≡ (holding, value)) × (bundle_fault flags s.args_override_self (x ∷ xs) holding ≡ [])
-  unfolding flags_fault bundle_met
-  bundle_ends x xs none = (rw none refl, rw none refl)
-
-  abbrev IsValue : Option Text → Type 0
-  IsValue name = (subcommand_or_other flags name idle position word holding ≡ (holding, value)) × (other_fault level name word holding ≡ [])
-
-  is_value : ends_options word ≡ false → IsPlainWord word → IsValue None
-  is_value no_end (none, inl short) = (rw (no_end, none, short) refl, rw (no_end, none, short) refl)
-  is_value no_end (none, inr (x, xs, short, first)) =
-      let ends = bundle_ends x xs first in
-      (rw (no_end, none, short) ends.0, rw (no_end, none, short) ends.1)
 
 -- ---- the words after `serve`
 
 abbrev leaf : Shape
 leaf = slice_index_or (built program).subs 0 serve
 
-help_asking : (p : Rule → Bool) → IsAsking (find p serve_flags)
-help_asking p = go (p help)
-  where
-    go : (is_help : Bool) → IsAsking (cond is_help (Some help) None)
-    go true = inr (inl refl)
-    go false = inl refl
+abbrev own_names : List Text
+own_names = open_name ∷ save_name ∷ []
 
-long_help : (name : Text) → IsAsking (arg_by_long serve_flags name)
-long_help name = help_asking (λ a. not (is_some a.index) && has_long a name)
+-- the argument of a name, by its two tests
+by_test : (is_open is_save : Bool) → (is_open || (is_save || false)) ≡ true → (found : Option Rule) (name : Text) → (is_open ≡ true → open_name ≡ name) → (is_save ≡ true → save_name ≡ name)
+    → cond is_open (Some (option_built open_name)) (cond is_save (Some (option_built save_name)) found) ≡ Some (option_built name)
+by_test true is_save named found name opens saves = ap (λ name. Some (option_built name)) (opens refl)
+by_test false true named found name opens saves = ap (λ name. Some (option_built name)) (saves refl)
+by_test false false named found name opens saves = cc
 
-short_help : (c : ℕ) → IsAsking (arg_by_short serve_flags c)
-short_help c = help_asking (λ a. not (is_some a.index) && has_short a c)
+or-false : (b : Bool) → (b || false) ≡ b
+or-false true = refl
+or-false false = refl
+
+asking_by : (is_open is_save is_help : Bool) → (is_open || (is_save || false)) ≡ false
+    → IsAsking (cond is_open (Some (option_built open_name)) (cond is_save (Some (option_built save_name)) (cond is_help (Some help) None)))
+asking_by true is_save is_help none = cc
+asking_by false true is_help none = cc
+asking_by false false true none = inr (inl refl)
+asking_by false false false none = inl refl
+
+default_kept : (b : Bool) (rows : List Row) → cond b rows rows ≡ rows
+default_kept true rows = refl
+default_kept false rows = refl
+
+or-true : (b : Bool) → (b || true) ≡ true
+or-true true = refl
+or-true false = refl
+
+keeps_rows : (rows : List Row) → fold with_default rows serve_flags ≡ rows
+keeps_rows rows =
+    rw (default_kept (has_row open_name rows) rows, default_kept (has_row save_name rows) rows, default_kept (has_row (codes "help") rows) rows) refl
+
+no_defaults : (rows : List Row) → defaults_fault rows serve_flags ≡ []
+unfolding defaults_fault
+no_defaults rows = rw (
+  or-true (has_row open_name rows), default_kept (has_row open_name rows) rows, or-true (has_row save_name rows),
+  default_kept (has_row save_name rows) rows, or-true (has_row (codes "help") rows),
+) refl
+
+serve_leaf : IsOptionLeaf (codes "serve") serve_flags own_names
+serve_leaf = record {
+  by_long_name = λ name named. rw (or-false (bytes_eq open_name name), or-false (bytes_eq save_name name))
+      (by_test (bytes_eq open_name name) (bytes_eq save_name name) named _ name (is_name open_name name) (is_name save_name name));
+  by_id = λ name named. by_test (bytes_eq open_name name) (bytes_eq save_name name) named _ name (is_name open_name name) (is_name save_name name);
+  asks = λ name other. rw (or-false (bytes_eq open_name name), or-false (bytes_eq save_name name))
+      (asking_by (bytes_eq open_name name) (bytes_eq save_name name) (has_long help name) other);
+  asks_short = λ c. asking_by false false (has_short help c) refl;
+  none_placed = refl;
+  ends = λ rows. ap₂ or_else (no_defaults rows) refl;
+  keeps = keeps_rows;
+}
 
 abbrev leaf_kinds : List Text → Kinds
 leaf_kinds words = level_fault leaf [] nothing_held words false []
 
-serve_fails : (word : Text) → ends_options word ≡ false → Fails (turn_fault leaf [] (walk_from nothing_held) word)
-serve_fails word no_end = word_fails leaf serve_flags long_help short_help None 1 word refl [] refl no_end
-
-one_agrees : (word : Text) (ends : Bool) → ends_options word ≡ ends
-    → Agrees (cond ends (Some Serve) None) (leaf_kinds (word ∷ []))
-unfolding clap_on_literals
-one_agrees word true e = subst (λ w. leaf_kinds (w ∷ []) ≡ []) (is_end word e) refl
-one_agrees word false e = first_fails _ _ (first_fails _ _ (serve_fails word e))
-
-two_fail : (word next : Text) (rest : List Text) (ends : Bool) → ends_options word ≡ ends
-    → Fails (leaf_kinds (word ∷ next ∷ rest))
-unfolding clap_on_literals
-two_fail word next rest true e = subst (λ w. Fails (leaf_kinds (w ∷ next ∷ rest))) (is_end word e) tt
-two_fail word next rest false e = first_fails _ _ (first_fails _ _ (serve_fails word e))
+leaf_reads : (words : List Text) → Reads (codes "serve") serve_flags own_names serve_leaf (walk_from nothing_held) words (uses_named own_names words)
+leaf_reads words = options_read (codes "serve") serve_flags own_names serve_leaf words
 
 leaf_agrees : (words : List Text) → Agrees (serve_named words) (leaf_kinds words)
-unfolding clap_on_literals
-leaf_agrees [] = refl
-leaf_agrees (word ∷ []) = one_agrees word (ends_options word) refl
-leaf_agrees (word ∷ next ∷ rest) = two_fail word next rest (ends_options word) refl
+leaf_agrees words = go (uses_named own_names words) (leaf_reads words)
+  where
+    go : (read : Option (List Use)) → Reads (codes "serve") serve_flags own_names serve_leaf (walk_from nothing_held) words read → Agrees (option_map served_by read) (leaf_kinds words)
+    go None fails = fails
+    go (Some uses) reads = reads.0
 
--- it meets no path
-one_met : (word : Text) (ends : Bool) → ends_options word ≡ ends → (job : Named) → cond ends (Some Serve) None ≡ Some job
-    → first_of path_id (rows_after serve_flags [] (word ∷ [])) ≡ path_of job
-unfolding clap_on_literals
-one_met word true e Serve named = subst (λ w. first_of path_id (rows_after serve_flags [] (w ∷ [])) ≡ None) (is_end word e) refl
-one_met word true e (Check path) named = cc
-one_met word true e (Dump path) named = cc
-one_met word false e job named = cc
-
-leaf_met : (words : List Text) (job : Named) → serve_named words ≡ Some job → first_of path_id (rows_after serve_flags [] words) ≡ path_of job
-unfolding clap_on_literals
-leaf_met [] Serve named = refl
-leaf_met [] (Check path) named = cc
-leaf_met [] (Dump path) named = cc
-leaf_met (word ∷ []) job named = one_met word (ends_options word) refl job named
-leaf_met (word ∷ next ∷ rest) job named = cc
+-- it meets their values
+leaf_met : (words : List Text) (job : Named) → serve_named words ≡ Some job → HasValues job (rows_after serve_flags [] words)
+leaf_met words job named = go (uses_named own_names words) (leaf_reads words) named
+  where
+    go : (read : Option (List Use)) → Reads (codes "serve") serve_flags own_names serve_leaf (walk_from nothing_held) words read → option_map served_by read ≡ Some job
+        → HasValues job (rows_after serve_flags [] words)
+    go None fails named = cc
+    go (Some uses) reads named = subst (λ job. HasValues job (rows_after serve_flags [] words)) (some_is named) (
+      ap (first_of open_name) reads.1 ∙ first_of-rows_of_uses open_name uses,
+      ap (first_of save_name) reads.1 ∙ first_of-rows_of_uses save_name uses,
+    )
 
 -- ---- the words after a command about a path
 
 abbrev path_leaf : Shape
 path_leaf = slice_index_or (built program).subs 1 serve
+
+help_asking : (is_help : Bool) → IsAsking (cond is_help (Some help) None)
+help_asking true = inr (inl refl)
+help_asking false = inl refl
+
+long_help : (name : Text) → IsAsking (arg_by_long path_flags name)
+long_help name = help_asking (not (is_some help.index) && has_long help name)
+
+short_help : (c : ℕ) → IsAsking (arg_by_short path_flags c)
+short_help c = help_asking (not (is_some help.index) && has_short help c)
 
 abbrev path_kinds : List Text → Kinds
 path_kinds words = level_fault path_leaf [] nothing_held words false []
@@ -377,8 +168,8 @@ abbrev rows_from : List Text → Walk → Option Text
 rows_from rest behind = first_of path_id (finished path_flags (fold (walked path_flags []) behind rest).held)
 
 module _ (path : Text) (no_end : ends_options path ≡ false) (no_option : is_option path ≡ false) where
-  path_value : IsValue path_leaf path_flags long_help short_help None 1 path None
-  path_value = is_value path_leaf path_flags long_help short_help None 1 path no_end (is_plain_word path no_option)
+  path_value : IsValue path_leaf path_flags short_help [] None 1 path idle
+  path_value = is_value path_leaf path_flags short_help [] None 1 path idle no_end (is_plain_word path no_option)
 
   path_walked : walked path_flags [] (walk_from nothing_held) path ≡ behind_path path
   unfolding walked
@@ -392,7 +183,7 @@ module _ (path : Text) (no_end : ends_options path ≡ false) (no_option : is_op
   path_then rest = ap₂ (kinds_from rest) path_passes path_walked
 
   more_fails : (word : Text) → ends_options word ≡ false → Fails (turn_fault path_leaf [] (behind_path path) word)
-  more_fails word no_end = word_fails path_leaf path_flags long_help short_help (Some (path_id, path ∷ [])) 2 word refl [] refl no_end
+  more_fails word no_end = word_fails path_leaf path_flags short_help [] (Some (path_id, path ∷ [])) 2 word refl (all_ask path_flags long_help (long_of word)) [] refl no_end
 
   alone_agrees : (word : Text) (ends : Bool) → ends_options word ≡ ends → Agrees (cond ends (Some path) None) (kinds_from (word ∷ []) [] (behind_path path))
   unfolding clap_on_literals
@@ -438,7 +229,7 @@ first_agrees : (word : Text) (rest : List Text) (ends option : Bool) → ends_op
 unfolding walk_fault
 first_agrees word rest true option e o = subst (λ w. Agrees (only_word rest) (path_kinds (w ∷ rest))) (is_end word e) (end_agrees rest)
 first_agrees word rest false true e o =
-    first_fails _ _ (first_fails _ _ (option_fails path_leaf path_flags long_help short_help None 1 word [] refl e o))
+    first_fails _ _ (first_fails _ _ (option_fails path_leaf path_flags short_help [] None 1 word (all_ask path_flags long_help (long_of word)) [] refl e o))
 first_agrees word rest false false e o = subst (Agrees (alone word rest)) (sym (path_then word e o rest)) (rest_agrees word e o rest)
 
 path_agrees : (words : List Text) → Agrees (path_named words) (path_kinds words)
@@ -533,7 +324,7 @@ module _ (word : Text) (no_serve : bytes_eq (codes "serve") word ≡ false) (no_
   other_fails rest true ends help end = subst (λ w. Fails (top_kinds (w ∷ rest))) (is_name (codes "help") word help) (help_fails rest)
   other_fails rest false true no_help end = subst (λ w. Fails (top_kinds (w ∷ rest))) (is_end word end) (end_fails rest)
   other_fails rest false false no_help no_end =
-      first_fails _ _ (first_fails _ _ (word_fails top flags long_asking short_asking None 1 word refl names (unnamed no_help) no_end))
+      first_fails _ _ (first_fails _ _ (word_fails top flags short_asking [] None 1 word refl (all_ask flags long_asking (long_of word)) names (unnamed no_help) no_end))
 
 command_agrees : (word : Text) (rest : List Text) (serves checks dumps : Bool) → bytes_eq (codes "serve") word ≡ serves → bytes_eq (codes "check") word ≡ checks → bytes_eq (codes "dump") word ≡ dumps
     → Agrees (cond serves (serve_named rest) (cond checks (option_map Check (path_named rest)) (cond dumps (option_map Dump (path_named rest)) None))) (top_kinds (word ∷ rest))
@@ -554,71 +345,60 @@ words_agree [] = tt
 words_agree (name ∷ []) = tt
 words_agree (name ∷ command ∷ rest) = command_agrees command rest (bytes_eq (codes "serve") command) (bytes_eq (codes "check") command) (bytes_eq (codes "dump") command) refl refl refl
 
--- ---- the command that is met, and its path
-
-abbrev met_by : List Text → Option (Text × Option Text)
-met_by words = told (subcommand_of program words)
+-- ---- the command that is met, and its values
 
 -- what is met at a command is what it leaves to itself
-met_at : (name : Text) (words : List Text) → told (entered (built program) (fold (walked flags names) (at_command name) words).stopped) ≡ told (entered (built program) (Some (name, words)))
-met_at name words = ap (λ (end : Walk). told (entered (built program) end.stopped)) (sym (walk_stopped flags names (at_command name) name [] words))
+met_at : (name : Text) (words : List Text) → entered (built program) (fold (walked flags names) (at_command name) words).stopped ≡ entered (built program) (Some (name, words))
+met_at name words = ap (λ (end : Walk). entered (built program) end.stopped) (sym (walk_stopped flags names (at_command name) name [] words))
 
-serve_met : (name : Text) (words : List Text) → met_by (name ∷ codes "serve" ∷ words) ≡ Some (codes "serve", first_of path_id (rows_after serve_flags [] words))
+serve_met : (name : Text) (words : List Text) → subcommand_of program (name ∷ codes "serve" ∷ words) ≡ Some (codes "serve", rows_after serve_flags [] words)
 unfolding clap_on_literals
 serve_met name words = met_at (codes "serve") words
 
-check_met : (name : Text) (words : List Text) → met_by (name ∷ codes "check" ∷ words) ≡ Some (codes "check", path_rows words)
+check_met : (name : Text) (words : List Text) → subcommand_of program (name ∷ codes "check" ∷ words) ≡ Some (codes "check", rows_after path_flags [] words)
 unfolding clap_on_literals
 check_met name words = met_at (codes "check") words
 
-dump_met : (name : Text) (words : List Text) → met_by (name ∷ codes "dump" ∷ words) ≡ Some (codes "dump", path_rows words)
+dump_met : (name : Text) (words : List Text) → subcommand_of program (name ∷ codes "dump" ∷ words) ≡ Some (codes "dump", rows_after path_flags [] words)
 unfolding clap_on_literals
 dump_met name words = met_at (codes "dump") words
 
-abbrev IsMet : List Text → Named → Type 0
-IsMet words job = met_by words ≡ Some (command_of job, path_of job)
-
-serve_is_met : (name : Text) (rest : List Text) (job : Named) → serve_named rest ≡ Some job → IsMet (name ∷ codes "serve" ∷ rest) job
-serve_is_met name rest Serve named = serve_met name rest ∙ ap (λ path. Some (codes "serve", path)) (leaf_met rest Serve named)
-serve_is_met name rest (Check path) named = absurd (serves rest path named)
+-- `serve` names no job of another command
+is_serve : (words : List Text) (job : Named) → serve_named words ≡ Some job → codes "serve" ≡ command_of job
+is_serve words job named = go (uses_named own_names words) named
   where
-    serves : (rest : List Text) (path : Text) → serve_named rest ≡ Some (Check path) → ⊥
-    serves [] path named = cc
-    serves (word ∷ []) path named = one (ends_options word) named
-      where
-        one : (ends : Bool) → cond ends (Some Serve) None ≡ Some (Check path) → ⊥
-        one true named = cc
-        one false named = cc
-    serves (word ∷ next ∷ rest) path named = cc
-serve_is_met name rest (Dump path) named = absurd (serves rest path named)
-  where
-    serves : (rest : List Text) (path : Text) → serve_named rest ≡ Some (Dump path) → ⊥
-    serves [] path named = cc
-    serves (word ∷ []) path named = one (ends_options word) named
-      where
-        one : (ends : Bool) → cond ends (Some Serve) None ≡ Some (Dump path) → ⊥
-        one true named = cc
-        one false named = cc
-    serves (word ∷ next ∷ rest) path named = cc
+    go : (read : Option (List Use)) → option_map served_by read ≡ Some job → codes "serve" ≡ command_of job
+    go None named = cc
+    go (Some uses) named = ap command_of (some_is named)
 
-check_is_met : (name : Text) (rest : List Text) (found : Option Text) (job : Named) → path_named rest ≡ found → option_map Check found ≡ Some job → IsMet (name ∷ codes "check" ∷ rest) job
-check_is_met name rest None job named same = cc
-check_is_met name rest (Some path) job named same =
-    subst (IsMet (name ∷ codes "check" ∷ rest)) (some_is same) (check_met name rest ∙ ap (λ p. Some (codes "check", p)) (path_met rest path named))
+serve_is_met : (name : Text) (rest : List Text) (job : Named) → serve_named rest ≡ Some job → Meets program (name ∷ codes "serve" ∷ rest) job
+serve_is_met name rest job named = record {
+  rows = rows_after serve_flags [] rest;
+  met = serve_met name rest ∙ ap (λ command. Some (command, rows_after serve_flags [] rest)) (is_serve rest job named);
+  values = leaf_met rest job named;
+}
 
-dump_is_met : (name : Text) (rest : List Text) (found : Option Text) (job : Named) → path_named rest ≡ found → option_map Dump found ≡ Some job → IsMet (name ∷ codes "dump" ∷ rest) job
-dump_is_met name rest None job named same = cc
-dump_is_met name rest (Some path) job named same =
-    subst (IsMet (name ∷ codes "dump" ∷ rest)) (some_is same) (dump_met name rest ∙ ap (λ p. Some (codes "dump", p)) (path_met rest path named))
+-- and so of a command about a path
+path_is_met : (name command : Text) (of : Text → Named) → ((path : Text) → command_of (of path) ≡ command) → ((path : Text) (rows : List Row) → first_of path_id rows ≡ Some path → HasValues (of path) rows)
+    → (rest : List Text) → subcommand_of program (name ∷ command ∷ rest) ≡ Some (command, rows_after path_flags [] rest)
+    → (found : Option Text) (job : Named) → path_named rest ≡ found → option_map of found ≡ Some job → Meets program (name ∷ command ∷ rest) job
+path_is_met name command of is values rest met None job named same = cc
+path_is_met name command of is values rest met (Some path) job named same = subst (Meets program (name ∷ command ∷ rest)) (some_is same) (record {
+  rows = rows_after path_flags [] rest;
+  met = met ∙ ap (λ command. Some (command, rows_after path_flags [] rest)) (sym (is path));
+  values = values path (rows_after path_flags [] rest) (path_met rest path named);
+})
 
 command_met : (name word : Text) (rest : List Text) (serves checks dumps : Bool) (job : Named) → bytes_eq (codes "serve") word ≡ serves → bytes_eq (codes "check") word ≡ checks → bytes_eq (codes "dump") word ≡ dumps
-    → cond serves (serve_named rest) (cond checks (option_map Check (path_named rest)) (cond dumps (option_map Dump (path_named rest)) None)) ≡ Some job → IsMet (name ∷ word ∷ rest) job
-command_met name word rest true checks dumps job s c d named = subst (λ w. IsMet (name ∷ w ∷ rest) job) (is_name (codes "serve") word s) (serve_is_met name rest job named)
-command_met name word rest false true dumps job s c d named = subst (λ w. IsMet (name ∷ w ∷ rest) job) (is_name (codes "check") word c) (check_is_met name rest (path_named rest) job refl named)
-command_met name word rest false false true job s c d named = subst (λ w. IsMet (name ∷ w ∷ rest) job) (is_name (codes "dump") word d) (dump_is_met name rest (path_named rest) job refl named)
+    → cond serves (serve_named rest) (cond checks (option_map Check (path_named rest)) (cond dumps (option_map Dump (path_named rest)) None)) ≡ Some job → Meets program (name ∷ word ∷ rest) job
+command_met name word rest true checks dumps job s c d named = subst (λ w. Meets program (name ∷ w ∷ rest) job) (is_name (codes "serve") word s) (serve_is_met name rest job named)
+command_met name word rest false true dumps job s c d named =
+    subst (λ w. Meets program (name ∷ w ∷ rest) job) (is_name (codes "check") word c) (path_is_met name (codes "check") Check (λ path. refl) (λ path rows is. is) rest (check_met name rest) (path_named rest) job refl named)
+command_met name word rest false false true job s c d named =
+    subst (λ w. Meets program (name ∷ w ∷ rest) job) (is_name (codes "dump") word d) (path_is_met name (codes "dump") Dump (λ path. refl) (λ path rows is. is) rest (dump_met name rest) (path_named rest) job refl named)
 command_met name word rest false false false job s c d named = cc
 
-job_met : (words : List Text) (job : Named) → job_named words ≡ Some job → IsMet words job
+job_met : (words : List Text) (job : Named) → job_named words ≡ Some job → Meets program words job
 job_met [] job named = cc
 job_met (name ∷ []) job named = cc
 job_met (name ∷ command ∷ rest) job named = command_met name command rest (bytes_eq (codes "serve") command) (bytes_eq (codes "check") command) (bytes_eq (codes "dump") command) job refl refl refl named
@@ -640,60 +420,93 @@ program_reads = record {
 
 -- ---- a parse that succeeds
 
--- the words name the job, and the parse met its command and its path
-abbrev pub IsJobMet : List Text → ArgMatches → Named → Type 0
-IsJobMet words m job = (job_named words ≡ Some job) × (told (subcommand_rows_of m) ≡ Some (command_of job, path_of job))
+-- a parse met a job's command, and its values
+pub record IsJobMet (m : ArgMatches) (job : Named) : Type 0 where
+  pub rows : List Row
+  pub met : subcommand_rows_of m ≡ Some (command_of job, rows)
+  pub values : HasValues job rows
 
 pub parse_meets : (parser : App) (words : List Text) (m : ArgMatches) → ReadsJobs parser → fault_of parser words ≡ []
-    → HasMatchesOf parser words m → (job : Named) × IsJobMet words m job
+    → HasMatchesOf parser words m → (job : Named) × (job_named words ≡ Some job) × IsJobMet m job
 parse_meets parser words m reads passed matches = go (job_named words) refl ((reads.takes words).0 passed)
   where
     simple : is_simple parser ≡ true
     simple = (both (is_simple parser) _ reads.exact).0
 
-    go : (job : Option Named) → job_named words ≡ job → IsSome job → (job : Named) × IsJobMet words m job
+    go : (job : Option Named) → job_named words ≡ job → IsSome job → (job : Named) × (job_named words ≡ Some job) × IsJobMet m job
     go None named some = cc
-    go (Some job) named some = (job, (named, ap told (matches simple).1 ∙ reads.meets words job named))
+    go (Some job) named some =
+        let meets = reads.meets words job named in
+        (job, named, record { rows = meets.rows; met = (matches simple).1 ∙ meets.met; values = meets.values })
 
 -- a command is met
-pub some_met : (m : ArgMatches) (job : Named) → None ≡ subcommand_name_of m → told (subcommand_rows_of m) ≡ Some (command_of job, path_of job) → ⊥
-some_met m job unnamed met = go (out-ArgMatches m).subcommand unnamed met
+pub some_met : (m : ArgMatches) (job : Named) → None ≡ subcommand_name_of m → IsJobMet m job → ⊥
+some_met m job unnamed is = go (out-ArgMatches m).subcommand unnamed is.met
   where
-    go : (sub : Option (Box SubCommand Global)) → None ≡ option_map (λ b. (out-SubCommand (box_value b)).name.now) sub → told (subcommand_rows sub) ≡ Some (command_of job, path_of job) → ⊥
+    go : (sub : Option (Box SubCommand Global)) → None ≡ option_map (λ b. (out-SubCommand (box_value b)).name.now) sub → subcommand_rows sub ≡ Some (command_of job, is.rows) → ⊥
     go None unnamed met = cc
     go (Some b) unnamed met = cc
 
--- a command and its own matches, as the parse tells them, are the job's, and their value of the path is the job's
-pub met_is : (m : ArgMatches) (command : Text) (own : ArgMatches) (path : Option Text) (job : Named) → Some command ≡ subcommand_name_of m
-    → Some (rows_of (found_of own)) ≡ option_map (λ p. p.1) (subcommand_rows_of m) → path ≡ first_value (found_of own) path_id
-    → told (subcommand_rows_of m) ≡ Some (command_of job, path_of job) → (command ≡ command_of job) × (path ≡ path_of job)
-met_is m command own path job named behind read met = go (out-ArgMatches m).subcommand named behind met
+-- a command and its own matches, as the parse tells them, are the job's
+pub record IsOwn (command : Text) (own : ArgMatches) (job : Named) : Type 0 where
+  pub command_is : command ≡ command_of job
+  pub values : HasValues job (rows_of (found_of own))
+
+pub own_is : (m : ArgMatches) (command : Text) (own : ArgMatches) (job : Named) → Some command ≡ subcommand_name_of m
+    → Some (rows_of (found_of own)) ≡ option_map (λ p. p.1) (subcommand_rows_of m) → IsJobMet m job → IsOwn command own job
+own_is m command own job named behind is = go (out-ArgMatches m).subcommand named behind is.met
   where
     go : (sub : Option (Box SubCommand Global)) → Some command ≡ option_map (λ b. (out-SubCommand (box_value b)).name.now) sub
         → Some (rows_of (found_of own)) ≡ option_map (λ p. p.1) (subcommand_rows sub)
-        → told (subcommand_rows sub) ≡ Some (command_of job, path_of job) → (command ≡ command_of job) × (path ≡ path_of job)
+        → subcommand_rows sub ≡ Some (command_of job, is.rows) → IsOwn command own job
     go None named behind met = cc
     go (Some b) named behind met =
-        let rows : Some (rows_of (found_of own)) ≡ Some (rows_of (found_of (out-SubCommand (box_value b)).matches)) = behind in (
-          some_is named ∙ ap (λ (p : Text × Option Text). p.0) (some_is met),
-          read ∙ first_value-rows (found_of own) path_id ∙ ap (first_of path_id) (some_is rows) ∙ ap (λ (p : Text × Option Text). p.1) (some_is met),
-        )
+        let rows : Some (rows_of (found_of own)) ≡ Some (rows_of (found_of (out-SubCommand (box_value b)).matches)) = behind in record {
+          command_is = some_is named ∙ ap (λ (p : Text × List Row). p.0) (some_is met);
+          values = subst (HasValues job) (sym (some_is rows ∙ ap (λ (p : Text × List Row). p.1) (some_is met))) is.values;
+        }
 
--- the job, by its command and its path
-pub serves : (job : Named) → path_of job ≡ None → job ≡ Serve
-serves Serve none = refl
-serves (Check path) none = cc
-serves (Dump path) none = cc
+-- ---- the job, by its command and its values
 
-pub checks : (job : Named) (path : Text) → path_of job ≡ Some path → codes "check" ≡ command_of job → job ≡ Check path
-checks Serve path named command = cc
-checks (Check other) path named command = ap Check (some_is named)
-checks (Dump other) path named command = absurd (let never : 99 ≡ 100 = ap (λ (word : Text). slice_index_or word 0 0) command in omega arith)
+pub serves : (job : Named) (own : ArgMatches) (opened saved : Option Text) → IsOwn (codes "serve") own job → opened ≡ first_value (found_of own) open_name → saved ≡ first_value (found_of own) save_name
+    → Some job ≡ Some (Serve opened saved)
+serves (Serve opening saving) own opened saved is opens saves =
+    ap₂ (λ opened saved. Some (Serve opened saved)) (sym (opens ∙ first_value-rows (found_of own) open_name ∙ is.values.0)) (sym (saves ∙ first_value-rows (found_of own) save_name ∙ is.values.1))
+serves (Check path) own opened saved is opens saves = absurd (let never : 115 ≡ 99 = ap (λ (word : Text). slice_index_or word 0 0) is.command_is in omega arith)
+serves (Dump path) own opened saved is opens saves = absurd (let never : 115 ≡ 100 = ap (λ (word : Text). slice_index_or word 0 0) is.command_is in omega arith)
 
-pub dumps : (job : Named) (path : Text) → path_of job ≡ Some path → (codes "check" ≡ command_of job → ⊥) → job ≡ Dump path
-dumps Serve path named other = cc
-dumps (Check found) path named other = absurd (other refl)
-dumps (Dump found) path named other = ap Dump (some_is named)
+-- a path, as it was read
+same_path : (own : ArgMatches) (path found : Text) → first_of path_id (rows_of (found_of own)) ≡ Some path → Some found ≡ first_value (found_of own) path_id → path ≡ found
+same_path own path found is read = some_is (sym (read ∙ first_value-rows (found_of own) path_id ∙ is))
+
+has_path : (own : ArgMatches) (path : Text) → first_of path_id (rows_of (found_of own)) ≡ Some path → IsSome (first_value (found_of own) path_id)
+has_path own path is = subst IsSome (sym (first_value-rows (found_of own) path_id ∙ is)) refl
+
+pub checks : (job : Named) (own : ArgMatches) → IsOwn (codes "check") own job → (path : Text) → Some path ≡ first_value (found_of own) path_id → Some job ≡ Some (Check path)
+checks (Serve opening saving) own is path read = absurd (let never : 99 ≡ 115 = ap (λ (word : Text). slice_index_or word 0 0) is.command_is in omega arith)
+checks (Check other) own is path read = ap (λ path. Some (Check path)) (same_path own other path is.values read)
+checks (Dump other) own is path read = absurd (let never : 99 ≡ 100 = ap (λ (word : Text). slice_index_or word 0 0) is.command_is in omega arith)
+
+pub dumps : (job : Named) (own : ArgMatches) → IsOwn (codes "dump") own job → (path : Text) → Some path ≡ first_value (found_of own) path_id → Some job ≡ Some (Dump path)
+dumps (Serve opening saving) own is path read = absurd (let never : 100 ≡ 115 = ap (λ (word : Text). slice_index_or word 0 0) is.command_is in omega arith)
+dumps (Check other) own is path read = absurd (let never : 100 ≡ 99 = ap (λ (word : Text). slice_index_or word 0 0) is.command_is in omega arith)
+dumps (Dump other) own is path read = ap (λ path. Some (Dump path)) (same_path own other path is.values read)
+
+-- a command but `serve` is given a path
+pub path_given : (job : Named) (command : Text) (own : ArgMatches) → IsOwn command own job → (command ≡ codes "serve" → ⊥) → IsSome (first_value (found_of own) path_id)
+path_given (Serve opening saving) command own is other = absurd (other is.command_is)
+path_given (Check path) command own is other = has_path own path is.values
+path_given (Dump path) command own is other = has_path own path is.values
+
+pub no_serve : (command : Text) → (command ≡ codes "check") ⊎ (command ≡ codes "dump") → command ≡ codes "serve" → ⊥
+no_serve command (inl is) same = let never : 99 ≡ 115 = ap (λ (word : Text). slice_index_or word 0 0) (sym is ∙ same) in absurd (omega (arith, never))
+no_serve command (inr is) same = let never : 100 ≡ 115 = ap (λ (word : Text). slice_index_or word 0 0) (sym is ∙ same) in absurd (omega (arith, never))
+
+-- there is no other command
+pub is_command : (job : Named) (command : Text) (own : ArgMatches) → IsOwn command own job → (command ≡ codes "serve" → ⊥) → (command ≡ codes "check" → ⊥) → (command ≡ codes "dump" → ⊥) → ⊥
+is_command (Serve opening saving) command own is no_serve no_check no_dump = no_serve is.command_is
+is_command (Check path) command own is no_serve no_check no_dump = no_check is.command_is
+is_command (Dump path) command own is no_serve no_check no_dump = no_dump is.command_is
 
 -- ---- a parse that fails
 

@@ -5,11 +5,11 @@ use Rattle.std.specs.Io.KnownBytes.{Appends}
 use Rattle.std.proofs.KnownBytes.{Appends-trans}
 use Rattle.exh_stream.specs.Output.{AppendsBeginning}
 use Rattle.exh_stream.specs.OutputLemmas.{AppendsBeginning-after}
-use Rattle.exh_script.specs.Served.{PrintsFront, PrintsLines}
-use Rattle.exh_script.specs.Text.{new_file}
-use Rattle.exh_script.specs.declared.ended.Ended.{Ended}
-use Rattle.exh_script.specs.declared.serve_fault.ServeFault.{ServeFault}
-use Rattle.exh_script.specs.declared.serve_fault.ServeFault.TheVariants.{Write}
+use Rattle.exh_serve.specs.Served.{PrintsFront, PrintsLines}
+use Rattle.exh_script.specs.Text.{Beginning}
+use Rattle.exh_open.specs.Opened.{OpenedState}
+use Rattle.exh_serve.specs.declared.serve_fault.ServeFault.{ServeFault}
+use Rattle.exh_serve.specs.declared.serve_fault.ServeFault.TheVariants.{Memory, Write}
 use Rattle.exh_page_file.specs.PageFile.{PageFile}
 use Rattle.exh_report.specs.Lines.{Lines}
 use Rattle.exh_report.specs.Report.{Reports, Tells}
@@ -24,25 +24,30 @@ pub OnErr-weaker : {T E P Q : Type 0} (r : Result T E) → (P → Q) → OnErr r
 OnErr-weaker (Ok x) f p = tt
 OnErr-weaker (Err e) f p = f p
 
-module _ {P Q : List ℕ → Type 0} (more : (text : List ℕ) → P text → Q text) where
-  front_more : (lines : List (List ℕ)) → PrintsFront new_file P lines → PrintsFront new_file Q lines
-  front_more lines h = record { first = h.first; front = h.front; rest = h.rest; split = h.split; text = more _ h.text }
+module _ (begin : Beginning) where
+  module _ {P Q : List ℕ → Type 0} (more : (text : List ℕ) → P text → Q text) where
+    front_more : (lines : List (List ℕ)) → PrintsFront begin P lines → PrintsFront begin Q lines
+    front_more lines h = record { first = h.first; front = h.front; rest = h.rest; split = h.split; text = more _ h.text }
 
-  either_more : (A : Type 0) (lines : List (List ℕ)) → P [] ⊎ (A × PrintsFront new_file P lines) → Q [] ⊎ (A × PrintsFront new_file Q lines)
-  either_more A lines (inl none) = inl (more [] none)
-  either_more A lines (inr some) = inr (some.0, front_more lines some.1)
+    either_more : (A : Type 0) (lines : List (List ℕ)) → P [] ⊎ (A × PrintsFront begin P lines) → Q [] ⊎ (A × PrintsFront begin Q lines)
+    either_more A lines (inl none) = inl (more [] none)
+    either_more A lines (inr some) = inr (some.0, front_more lines some.1)
 
-  pub lines_more : {known : Option (List ℕ)} → PrintsLines new_file P known → PrintsLines new_file Q known
-  lines_more h = record { script = h.script; read = h.read; lines = either_more _ _ h.lines }
+    pub lines_more : {known : Option (List ℕ)} → PrintsLines begin P known → PrintsLines begin Q known
+    lines_more h = record { script = h.script; read = h.read; lines = either_more _ _ h.lines }
 
--- the last line was cut
-pub line_cut : (old mid new unread : Option (List ℕ)) → PrintsLines new_file (Appends old mid) unread → AppendsBeginning mid new memory_line → RunPrints old new unread (Err Write)
-line_cut old mid new unread lines line = inr (lines_more (λ text held. AppendsBeginning-after (record { front = text; gone = held; split = refl }) line) lines)
+  -- the last line was cut
+  pub line_cut : (old mid new unread : Option (List ℕ)) → PrintsLines begin (Appends old mid) unread → AppendsBeginning mid new memory_line → RunPrints begin old new unread (Err Write)
+  line_cut old mid new unread lines line = inr (lines_more (λ text held. AppendsBeginning-after (record { front = text; gone = held; split = refl }) line) lines)
 
-pub write_fault : (old new unread : Option (List ℕ)) (outcome : Result Ended ServeFault) → IsErr outcome × IsErrAnd outcome (λ fault. fault ≡ Write)
-    → RunPrints old new unread (Err Write) → RunPrints old new unread outcome
-write_fault old new unread (Ok ended) is printed = absurd is.1
-write_fault old new unread (Err fault) is printed = subst (λ f. RunPrints old new unread (Err f)) (sym is.1) printed
+  -- or printed
+  pub line_printed : (old mid new unread : Option (List ℕ)) → PrintsLines begin (Appends old mid) unread → Appends mid new memory_line → RunPrints begin old new unread (Err Memory)
+  line_printed old mid new unread lines line = lines_more (λ text held. Appends-trans old mid new text memory_line held line) lines
+
+  pub write_fault : (old new unread : Option (List ℕ)) (outcome : Result (Option OpenedState) ServeFault) → IsErr outcome × IsErrAnd outcome (λ fault. fault ≡ Write)
+      → RunPrints begin old new unread (Err Write) → RunPrints begin old new unread outcome
+  write_fault old new unread (Ok left) is printed = absurd is.1
+  write_fault old new unread (Err fault) is printed = subst (λ f. RunPrints begin old new unread (Err f)) (sym is.1) printed
 
 -- ---- a run about a file
 

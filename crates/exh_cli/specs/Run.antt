@@ -1,32 +1,36 @@
--- What a run of a script prints, and with which status the program then ends.
-use Rattle.std.specs.Prelude.{◌≡◌, ◌⊎◌, ℕ, List, [], ◌∷◌, ◌++◌, codes, Option, Result, Ok, Err}
+-- What a run of a script prints, and how the program then ends.
+use Rattle.std.specs.Prelude.{◌≡◌, ◌⊎◌, ℕ, List, [], ◌∷◌, ◌++◌, codes, Option, None, Some, Result, Ok, Err}
+use Rattle.std.specs.Borrow.{Bor}
 use Rattle.std.specs.Io.KnownBytes.{Appends}
 use Rattle.exh_stream.specs.Output.{AppendsBeginning}
-use Rattle.exh_script.specs.Served.{PrintsLines, PrintsText, PrintsUnread, PrintsWhole, unread_text}
-use Rattle.exh_script.specs.Text.{new_file}
-use Rattle.exh_script.specs.declared.ended.Ended.{Ended}
-use Rattle.exh_script.specs.declared.serve_fault.ServeFault.{ServeFault}
-use Rattle.exh_script.specs.declared.serve_fault.ServeFault.TheVariants.{Write, Memory}
+use Rattle.exh_open.specs.Opened.{OpenedState}
+use Rattle.exh_script.specs.Text.{Beginning}
+use Rattle.exh_serve.specs.Served.{PrintsLines, PrintsText, PrintsUnread, PrintsWhole, unread_text}
+use Rattle.exh_serve.specs.declared.serve_fault.ServeFault.{ServeFault}
+use Rattle.exh_serve.specs.declared.serve_fault.ServeFault.TheVariants.{Write, Memory}
 use Rattle.exh_cli.specs.Status.{run_status}
+use Rattle.exh_cli.specs.declared.run.Ending.{Ending}
+use Rattle.exh_cli.specs.declared.run.Ending.TheVariants.{Over, Save}
 use Rattle.exh_cli.specs.declared.status.Status.{Status}
 
 -- the last line of a program that memory ended
 abbrev pub memory_line : List ℕ
 memory_line = codes "refused 10" ++ 10 ∷ []
 
--- Of a writer that held `old` bytes before a run and `new` ones after it, where these are known, and of a reader that had
--- `unread` bytes left.
-module _ (old new unread : Option (List ℕ)) where
+-- Of what a first line begins, of a writer that held `old` bytes before a run and `new` ones after it, where these are
+-- known, and of a reader that had `unread` bytes left.
+module _ (begin : Beginning) (old new unread : Option (List ℕ)) where
   -- what was printed: the script's text, or the line of a reader that failed; after want of memory the text of a beginning
   -- of the script's lines, and the last line; after a fault of the writer a beginning of one of these
-  abbrev pub RunPrints : Result Ended ServeFault → Type 0
-  RunPrints (Ok ended) = PrintsWhole new_file (Appends old new) unread ended ⊎ PrintsUnread (Appends old new) ended
-  RunPrints (Err Memory) = PrintsLines new_file (λ text. Appends old new (text ++ memory_line)) unread
-  RunPrints (Err Write) = (PrintsText new_file (AppendsBeginning old new) unread ⊎ AppendsBeginning old new unread_text)
-      ⊎ PrintsLines new_file (λ text. AppendsBeginning old new (text ++ memory_line)) unread
+  abbrev pub RunPrints : Result (Option OpenedState) ServeFault → Type 0
+  RunPrints (Ok left) = PrintsWhole begin (Appends old new) unread left ⊎ PrintsUnread (Appends old new) left
+  RunPrints (Err Memory) = PrintsLines begin (λ text. Appends old new (text ++ memory_line)) unread
+  RunPrints (Err Write) = (PrintsText begin (AppendsBeginning old new) unread ⊎ AppendsBeginning old new unread_text)
+      ⊎ PrintsLines begin (λ text. AppendsBeginning old new (text ++ memory_line)) unread
 
-  -- the status is that of a run that printed so
-  pub record EndsWith (status : Status) : Type 0 where
-    pub outcome : Result Ended ServeFault
-    pub printed : RunPrints outcome
-    pub status_of_run : status ≡ run_status outcome
+-- After a run the program ends with its status; or the wards that it left are saved first, where it is done and a path for
+-- them was named.
+abbrev pub IsEnding : Result (Option OpenedState) ServeFault → Option (Bor (List ℕ)) → Ending → Type 0
+IsEnding outcome path (Save at wards) = (outcome ≡ Ok (Some wards)) × (path ≡ Some at)
+IsEnding (Ok (Some wards)) path (Over status) = (path ≡ None) × (status ≡ run_status (Ok (Some wards)))
+IsEnding outcome path (Over status) = status ≡ run_status outcome

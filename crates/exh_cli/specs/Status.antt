@@ -1,20 +1,19 @@
 -- The program's exit status.
-use Rattle.std.specs.Prelude.{ℕ, Result, Ok, Err}
+use Rattle.std.specs.Prelude.{ℕ, Option, None, Some, Result, Ok, Err}
 use Rattle.exh_report.specs.declared.report_fault.ReportFault.{ReportFault}
 use Rattle.exh_report.specs.declared.verdict.Verdict.{Verdict}
 use Rattle.exh_report.specs.declared.verdict.Verdict.TheVariants as verdict
-use Rattle.exh_script.specs.declared.ended.Ended.{Ended}
-use Rattle.exh_script.specs.declared.ended.Ended.TheVariants as ended
-use Rattle.exh_script.specs.declared.serve_fault.ServeFault.{ServeFault}
+use Rattle.exh_open.specs.Opened.{OpenedState}
+use Rattle.exh_serve.specs.declared.serve_fault.ServeFault.{ServeFault}
 use Rattle.exh_cli.specs.declared.fault.CliFault.{CliFault}
 use Rattle.exh_cli.specs.declared.fault.CliFault.TheVariants as fault
 use Rattle.exh_cli.specs.declared.status.Status.{Status}
 use Rattle.exh_cli.specs.declared.status.Status.TheVariants.{Done, Refused, WrongWords}
 
--- after the run of a script: done, or refused as a whole, or cut off by the writer or by want of memory
-abbrev pub run_status : Result Ended ServeFault → Status
-run_status (Ok ended.Done) = Done
-run_status (Ok ended.Refused) = Refused
+-- after the run of a script: done, with wards left, or refused as a whole, or cut off by the writer or want of memory
+abbrev pub run_status : Result (Option OpenedState) ServeFault → Status
+run_status (Ok (Some left)) = Done
+run_status (Ok None) = Refused
 run_status (Err stopped) = Refused
 
 -- after a run about a file: it is legal, or refused, or the run was cut off

@@ -11,7 +11,8 @@ use std::alloc::Global;
 use std::io;
 use std::io::{Read, Write};
 
-const UNOPENED: &[u8] = b"refused 41\n";
+/// The only line where a file can't be opened.
+pub const UNOPENED: &[u8] = b"refused 41\n";
 
 /// What a command tells of a legal page file.
 #[derive(Clone, Copy, Debug, PartialEq, Eq)]

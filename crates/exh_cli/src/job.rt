@@ -1,18 +1,25 @@
 //! What a command line asks for.
-ghost use Rattle.std.specs.Prelude.{◌≡◌, Some, None, map, IfOk, IfErr};
+ghost use Rattle.std.specs.Prelude.{◌≡◌, Some, None, map, IfOk, IfErr, IsSome};
+ghost use Rattle.clap.specs.Words.{first_value, found_of};
 ghost use Rattle.exh_cli.specs.Fault.{IsWrong, TellsVersion};
 ghost use Rattle.exh_cli.specs.Job.{AskForVersion, job_named, named_of};
+ghost use Rattle.exh_cli.specs.Parser.{path_id};
 
 use crate::fault::CliFault;
-use crate::parser::{CHECK, PATH, parser};
+use crate::parser::{CHECK, DUMP, OPEN, PATH, SAVE, SERVE, parser};
+use clap::ArgMatches;
 use std::alloc::Global;
 use std::convert::AsStr;
 
 /// A command of the program, with its paths and numbers.
 #[derive(Clone, Copy, Debug, PartialEq, Eq)]
 pub enum Job<'w> {
-    /// Answer the script on standard input.
-    Serve,
+    /// Answer the script on standard input, over the page file of a path where one is to be opened, and save the wards
+    /// that it leaves where a path for them is named.
+    Serve {
+        open: Option<&'w str>,
+        save: Option<&'w str>,
+    },
     /// Say whether the file of a path is a legal page file.
     Check { path: &'w str },
     /// Tell what a legal page file has.
@@ -36,11 +43,24 @@ pub fn job_of<'w, S: AsStr>(alloc: Global, words: &'w [S]) -> Result<Job<'w>, Cl
     let Some((command, own)) = matches.subcommand() else {
         unreachable!()
     };
-    let Some(path) = own.get_str(PATH) else {
-        return Ok(Job::Serve);
-    };
     match command {
-        CHECK => Ok(Job::Check { path }),
-        _ => Ok(Job::Dump { path }),
+        SERVE => Ok(Job::Serve {
+            open: own.get_str(OPEN),
+            save: own.get_str(SAVE),
+        }),
+        CHECK => Ok(Job::Check { path: path_in(own) }),
+        DUMP => Ok(Job::Dump { path: path_in(own) }),
+        _ => unreachable!(),
     }
+}
+
+// The path that a command about one was given.
+fn path_in<'w>(own: &ArgMatches<'w>) -> &'w str
+    requires { IsSome (first_value (found_of own.now) path_id) }
+    ensures { Some result.now ≡ first_value (found_of own.now) path_id }
+{
+    let Some(path) = own.get_str(PATH) else {
+        unreachable!()
+    };
+    path
 }

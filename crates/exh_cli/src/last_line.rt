@@ -7,7 +7,8 @@ ghost use Rattle.exh_cli.specs.Run.{memory_line};
 use exh_stream::{Output, WriteFault};
 use std::io::Write;
 
-const OUT_OF_MEMORY: &[u8] = b"refused 10\n";
+/// The last line where memory ended the program.
+pub const OUT_OF_MEMORY: &[u8] = b"refused 10\n";
 
 /// Prints the last line of a program that memory ended, as `print_line` does.
 pub fn print_out_of_memory<W: Write>(output: &mut Output<'_, W>) -> Result<(), WriteFault>

@@ -1,8 +1,8 @@
 //! The parser of the command line, with the texts that a stranger reads.
-ghost use Rattle.std.specs.Prelude.{◌≡◌, IfOk, codes};
+ghost use Rattle.std.specs.Prelude.{◌≡◌, ◌∷◌, [], IfOk, codes};
 ghost use Rattle.clap.specs.Words.{app_of, kind_of};
-ghost use Rattle.clap.specs.Simple.{new_shape};
-ghost use Rattle.exh_cli.specs.Parser.{HasOwnArgs, ReadsJobs, about_path, only};
+ghost use Rattle.exh_cli.specs.Job.{open_name, save_name};
+ghost use Rattle.exh_cli.specs.Parser.{HasOwnArgs, ReadsJobs, about_path, only, option_rule, with_options};
 
 use clap::error::{Error, ErrorKind};
 use clap::{Arg, Command};
@@ -20,10 +20,16 @@ pub const DUMP: &str = "dump";
 /// What help calls the path of the file that a command is about.
 pub const PATH: &str = "PATH";
 
+/// The option of `serve` that names the page file to open.
+pub const OPEN: &str = "open";
+
+/// The option of `serve` that names where the wards that a run leaves are saved.
+pub const SAVE: &str = "save";
+
 // The program's own, which says nothing of the formats'.
 const VERSION: &str = "0.1.0";
 
-const USAGE: &str = "exhash serve < SCRIPT
+const USAGE: &str = "exhash serve [--open PATH] [--save PATH] < SCRIPT
        exhash check PATH
        exhash dump PATH
 
@@ -32,15 +38,17 @@ Examples:
   ./exhash check examples/three-pairs.files/three-pairs.exh
   ./exhash dump examples/three-pairs.files/three-pairs.exh";
 
-const SERVE_USAGE: &str = "exhash serve < SCRIPT
+const SERVE_USAGE: &str = "exhash serve [--open PATH] [--save PATH] < SCRIPT
 
-Example:
-  ./exhash serve < examples/untold-copy.script";
+Examples:
+  ./exhash serve < examples/untold-copy.script
+  ./exhash serve --open examples/opened-pairs.files/three-pairs.exh \\
+    --save my-pairs.exh < examples/opened-pairs.script";
 
 // What a stranger writes a script from. Each line of it has at most 80 columns.
 const LINES: &str = "\
 Lines of a script, of which `file` is the first:
-  file cap=N wards=N copies=N keyer=K  an empty file, with 2^wards wards
+  file cap=N wards=N copies=N keyer=K  an empty file, or the opened one's
   begin rN cN COPY CALL    request N, of client N, at the page that a copy names
   hop rN                   the request is answered, moves, or wants a split
   split WARD PAGE          a full page shares its records with a new page
@@ -55,8 +63,9 @@ Lines of a script, of which `file` is the first:
 
 A script has at most 1048576 bytes. Words have one space between them, and no
 line begins or ends with one.
-  file        cap, the records of a page, 1 to 16; wards 0 to 4; copies 1 to 8;
-              K is sha or plain: how a key's bytes lead to its page
+  file        cap, the records of a page, 1 to 16; wards 0 to 4, for 2^wards
+              of them; copies 1 to 8; K is sha or plain: how a key's bytes lead
+              to its page. Of an opened file the cap, wards and K are its own.
               `moves=yes` may stand behind it: each reply then ends with its
               moves and their bound, as ` moves 1 of 1`
   rN, cN      r or c and a number from 1 to 4294967295
@@ -76,7 +85,10 @@ done prints `refused` and a number, and changes nothing:
    8  too many records together        60  no line of a script
    9  too many changes at a prefix     61  a number, key or value out of range
 These stand alone or come last, and the run ends: 60 or 61 for the `file` line,
-62 for a script that is too long, 41 where reading fails, 10 where memory ends.
+63 where it isn't the opened file's, 62 for a script that is too long, 41 where
+reading fails, 10 where memory ends. A file that isn't opened is told of as by
+`exhash check`, and the script isn't read. Where the run is done its pages are
+saved, and what was there stays until they are; nothing is printed of that.
 
 Example, with what its lines print:
   file cap=1 wards=0 copies=1 keyer=plain
@@ -88,8 +100,8 @@ Example, with what its lines print:
   hop r2                     r2 is x
 
 Exit status: 0 where the run is done, also with refused lines; 1 where it is
-refused or breaks off; 2 where the command line is wrong, or asks for help or
-for the version.
+refused or breaks off, or a file isn't opened or saved; 2 where the command line
+is wrong, or asks for help or for the version.
 The formats are in docs/FORMATS.md.";
 
 const CHECK_USAGE: &str = "exhash check PATH
@@ -155,22 +167,33 @@ pub fn parser<'a>(alloc: Global) -> Result<Command<'a>, AllocError>
         .subcommand_required(true)
         .arg_required_else_help(true)
         .bin_name("exhash")?;
+    let serve = serve(alloc)?;
     let check = check(alloc)?;
     let dump = dump(alloc)?;
-    let serving = exhash.subcommand(serve(alloc))?;
+    let serving = exhash.subcommand(serve)?;
     let checking = serving.subcommand(check)?;
     checking.subcommand(dump)
 }
 
 // The parser of `serve`.
-fn serve<'a>(alloc: Global) -> Command<'a>
-    ensures own { HasOwnArgs result }
-    ensures is { app_of result ≡ only (new_shape (codes "serve")) }
+fn serve<'a>(alloc: Global) -> Result<Command<'a>, AllocError>
+    ensures own { IfOk result HasOwnArgs }
+    ensures is { IfOk result (λ command. app_of command ≡ only (with_options (codes "serve") (open_name ∷ save_name ∷ []))) }
 {
+    let open = Arg::new(alloc, OPEN)
+        .long(OPEN)
+        .value_name(PATH)
+        .help("The page file that the script runs over; a new one without it");
+    let save = Arg::new(alloc, SAVE)
+        .long(SAVE)
+        .value_name(PATH)
+        .help("Where the pages are saved once the run is done");
     Command::new(alloc, SERVE)
         .about("Answers the script on standard input, line by line, on standard output")
         .after_help(LINES)
         .override_usage(SERVE_USAGE)
+        .arg(open)?
+        .arg(save)
 }
 
 // The parser of `check`.

@@ -1,11 +1,10 @@
 //! The program's exit status.
 ghost use Rattle.std.specs.Prelude.{◌≡◌};
 ghost use Rattle.std.specs.Process.{exit_status};
-ghost use Rattle.exh_cli.specs.Status.{code_of, fault_status, file_status, run_status};
+ghost use Rattle.exh_cli.specs.Status.{code_of, fault_status, file_status};
 
 use crate::fault::CliFault;
 use exh_report::{ReportFault, Verdict};
-use exh_script::{Ended, ServeFault};
 use std::process::ExitCode;
 
 /// How the program ended.
@@ -20,16 +19,6 @@ pub enum Status {
 }
 
 impl Status {
-    /// The status of a script's run.
-    pub fn of_run(outcome: Result<Ended, ServeFault>) -> Status
-        ensures { result ≡ run_status outcome }
-    {
-        match outcome {
-            Ok(Ended::Done) => Status::Done,
-            Ok(Ended::Refused) | Err(_) => Status::Refused,
-        }
-    }
-
     /// The status of a run about a file.
     pub fn of_file(outcome: Result<Verdict, ReportFault>) -> Status
         ensures { result ≡ file_status outcome }

@@ -1,15 +1,20 @@
 //! How far the reading of a page file is, as a terminal is told.
 
-use exh_progress::{Unit, Work};
+use exh_progress::{BLOCK_LEN, Console, Meter, Unit, Work};
 use std::fs::File;
 use std::io;
+use std::io::Stderr;
 
-/// The reading of an opened file's blocks: of so many, where it is a regular file.
-pub fn blocks_read(opened: &io::Result<File>) -> Work {
-    Work {
+/// Of the reading of an opened file, which begins now: told where standard error is a terminal.
+pub fn reading_meter<'r>(
+    rt: &'r HostRuntime,
+    opened: &io::Result<File>,
+) -> Meter<Console<'r, HostRuntime, Stderr>> {
+    let work = Work {
         unit: Unit::BlocksRead,
         of: blocks_of(opened),
-    }
+    };
+    Meter::new(Console::new(rt, rt.stderr()), work)
 }
 
 // How many blocks a regular file has, a last one that is cut off among them.

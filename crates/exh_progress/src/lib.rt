@@ -7,7 +7,7 @@ pub use meter::Meter;
 pub use metered_reader::MeteredReader;
 pub use metered_writer::MeteredWriter;
 pub use terminal::Terminal;
-pub use work::{Unit, Work};
+pub use work::{BLOCK_LEN, Unit, Work};
 
 mod clearing_writer;
 mod console;

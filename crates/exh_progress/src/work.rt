@@ -19,8 +19,8 @@ pub struct Work {
     pub of: Option<u64>,
 }
 
-/// Bytes of a block.
-pub(crate) const BLOCK_LEN: u64 = 4096;
+/// Bytes of a block of a page file.
+pub const BLOCK_LEN: u64 = 4096;
 
 const NEWLINE: u8 = b'\n';
 

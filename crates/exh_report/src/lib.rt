@@ -1,6 +1,7 @@
 //! What `check` and `dump` say of the bytes of a reader: the texts of a legal page file, and of a refusal.
 #![tactic(auto)]
 
+pub use refusal_line::push_refusal;
 pub use report::{check_text, dump_text};
 pub use report_fault::ReportFault;
 pub use verdict::Verdict;

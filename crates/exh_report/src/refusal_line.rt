@@ -7,7 +7,7 @@ use exh_text::{push_number, push_refused, push_text};
 use std::alloc::AllocError;
 
 /// Adds the line of a refusal: its number, and the block that it is of or the reason.
-pub(crate) fn push_refusal(out: &mut Vec<u8>, fault: LegalFileFault) -> Result<(), AllocError>
+pub fn push_refusal(out: &mut Vec<u8>, fault: LegalFileFault) -> Result<(), AllocError>
     ensures { OnOk result (out.new.items ≡ out.old.items ++ on_line (refusal_words fault)) }
 {
     push_refused(out, u32::from(fault.number()))?;

@@ -1,12 +1,10 @@
--- of the text of a script: respond, answer_lines, serve
-pub mod Responded
-pub mod ServedLemmas
--- of replies_are_one_maps, replies_follow_any_start
+-- of replies_are_one_maps, replies_follow_any_start, lines_keep_settings
 pub mod NewFile
 pub mod RequestLemmas
 pub mod Stepped
 pub mod LineMoments
 pub mod KeptWorlds
+pub mod KeptSettings
 pub mod WardSteps
 pub mod Journals
 pub mod BegunRequests

@@ -31,7 +31,7 @@ use Rattle.exh_script.specs.declared.answer.Answer.{Answer}
 use Rattle.exh_script.specs.declared.answer.Answer.TheVariants.{Begun, Replied, Moved, MustSplit, Stray, Changed, Taken, Sent, Joined, Restarted, Refused}
 use Rattle.exh_script.specs.declared.moves.Moves.{Moves}
 use Rattle.exh_script.specs.declared.refusal.Refusal.{Refusal}
-use Rattle.exh_script.specs.declared.refusal.Refusal.TheVariants.{Line, Step, Read, TooLong}
+use Rattle.exh_script.specs.declared.refusal.Refusal.TheVariants.{Line, Step, Read, TooLong, Differs}
 
 -- ---- reading the words of an answer
 
@@ -45,7 +45,7 @@ refusals =
     (1, Step (Ward NoPage)) ∷ (3, Step (Ward NotLive)) ∷ (4, Step (Ward NotFull)) ∷ (5, Step (Ward AtLimit)) ∷ (6, Step (Ward NoBuddy))
     ∷ (7, Step (Ward BuddySplit)) ∷ (8, Step (Ward (TooMany 0))) ∷ (9, Step (Ward Worn)) ∷ (10, Step (Ward Memory)) ∷ (11, Step (Ward Page))
     ∷ (20, Step NoCopy) ∷ (21, Step NoRequest) ∷ (22, Step NoNotice) ∷ (23, Step NoTable) ∷ (24, Step NoWard) ∷ (25, Step NameTaken)
-    ∷ (41, Read) ∷ (60, Line Syntax) ∷ (61, Line Range) ∷ (62, TooLong) ∷ []
+    ∷ (41, Read) ∷ (60, Line Syntax) ∷ (61, Line Range) ∷ (62, TooLong) ∷ (63, Differs) ∷ []
 
 -- the two numbers of a place
 abbrev numbers_told : List (List ℕ) → Option (ℕ × ℕ)
@@ -336,6 +336,7 @@ refusal_numbered (Line Range) = refl
 refusal_numbered (Step fault) = step_numbered fault
 refusal_numbered Read = refl
 refusal_numbered TooLong = refl
+refusal_numbered Differs = refl
 
 ward_small : (fault : WardFault) → ward_fault_number fault < 100
 ward_small NoPage = omega arith
@@ -364,6 +365,7 @@ refusal_small (Line Range) = omega arith
 refusal_small (Step fault) = step_small fault
 refusal_small Read = omega arith
 refusal_small TooLong = omega arith
+refusal_small Differs = omega arith
 
 refused_told : (refusal : Refusal) → Tells (Refused refusal)
 unfolding Tells

@@ -9,6 +9,7 @@ use Rattle.exh_calls.specs.declared.journal_entry.JournalEntry.{JournalEntry}
 use Rattle.exh_ward.specs.WardState.{WardState}
 use Rattle.exh_prefix.specs.Leading.{ward_of}
 use Rattle.exh_world.specs.Headline.{IsHeadline}
+use Rattle.exh_world.specs.NewWorld.{settings_of}
 use Rattle.exh_world.specs.Run.{answered_in, journal_entry_of}
 use Rattle.exh_world.specs.Sound.{IsSoundWorld}
 use Rattle.exh_world.specs.World.{map_in}
@@ -21,7 +22,7 @@ use Rattle.exh_script.specs.declared.answer.Answer.TheVariants.{Refused}
 use Rattle.exh_script.specs.declared.ended.Ended.{Ended}
 use Rattle.exh_script.specs.declared.ended.Ended.TheVariants as ended
 use Rattle.exh_script.specs.declared.refusal.Refusal.{Refusal}
-use Rattle.exh_script.specs.declared.server.TheConstants.{SCRIPT_LIMIT}
+use Rattle.exh_script.specs.declared.script.TheConstants.{SCRIPT_LIMIT}
 
 -- each world that a right first line begins is sound, and no request is in flight there
 abbrev pub BeginsSound : Beginning → Type 0
@@ -72,3 +73,7 @@ module _ (begin : Beginning) where
 -- from every start the replies that a script prints are, in the order of the answering hops, those of the map machine from the map there
 abbrev pub RepliesFollowAnyStart : Type 0
 RepliesFollowAnyStart = (begin : Beginning) → BeginsSound begin → (script : List ℕ) → PrintsFrom begin script (ended_of begin script)
+
+-- lines leave the settings of a sound world as they were
+abbrev pub LinesKeepSettings : Type 0
+LinesKeepSettings = (world : ScriptWorld) → IsSoundWorld any_pseudokey world → (lines : List (List ℕ)) (copies : ℕ) → settings_of (world_left world lines) copies ≡ settings_of world copies

@@ -27,7 +27,7 @@ use Rattle.exh_script.specs.declared.answer.Answer.TheVariants.{Begun, Replied, 
 use Rattle.exh_script.specs.declared.ended.Ended.{Ended}
 use Rattle.exh_script.specs.declared.ended.Ended.TheVariants as ended
 use Rattle.exh_script.specs.declared.settings.Settings.{Settings}
-use Rattle.exh_script.specs.declared.server.TheConstants.{SCRIPT_LIMIT}
+use Rattle.exh_script.specs.declared.script.TheConstants.{SCRIPT_LIMIT}
 use Rattle.exh_script.specs.declared.line.Line.{Line}
 use Rattle.exh_script.specs.declared.line.Line.TheVariants.{Step}
 use Rattle.exh_script.specs.declared.refusal.Refusal.{Refusal}

@@ -62,7 +62,7 @@ pub(crate) fn push_answer(out: &mut Vec<u8>, answer: &Answer) -> Result<(), Allo
 }
 
 /// Adds the line of a refusal.
-pub(crate) fn push_refusal(out: &mut Vec<u8>, refusal: Refusal) -> Result<(), AllocError>
+pub fn push_refusal(out: &mut Vec<u8>, refusal: Refusal) -> Result<(), AllocError>
     ensures { OnOk result (out.new.items ≡ out.old.items ++ answer_text (Refused refusal)) }
 {
     push_refused(out, refusal.number())?;

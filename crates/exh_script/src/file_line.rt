@@ -15,7 +15,7 @@ pub(crate) const COPIES_LIMIT: u32 = 8;
 /// Reads the settings of the first line of a script, without its newline. What isn't a file line is `Syntax`; a file line with a number
 /// out of its range is `Range`.
 #[tactic(auto, unfolding(crate::specs::Grammar::file_line_of, crate::specs::Grammar::spelled_file))]
-pub(crate) fn parse_file_line(line: &[u8]) -> Result<Settings, LineFault>
+pub fn parse_file_line(line: &[u8]) -> Result<Settings, LineFault>
     ensures line { result ≡ file_line_of line.now }
     ensures range { IfOk result (λ settings. IsTrue (settings_in_range settings)) }
 {

@@ -2,7 +2,7 @@
 
 ghost use Rattle.std.specs.Prelude.{◌≡◌};
 ghost use Rattle.exh_script.specs.Answer.{answer_text, told_answer, HasWidths};
-ghost use Rattle.exh_script.specs.AnyStart.{BeginsSound, RepliesFollowAnyStart};
+ghost use Rattle.exh_script.specs.AnyStart.{BeginsSound, LinesKeepSettings, RepliesFollowAnyStart};
 ghost use Rattle.exh_script.specs.Replies.{RepliesAreOneMaps};
 ghost use Rattle.exh_script.specs.Text.{new_file};
 ghost use Rattle.exh_script.specs.declared.answer.Answer.{Answer};
@@ -44,5 +44,14 @@ pub fn replies_follow_any_start()
     steps_have_outcomes::<AnyKeyer>();
     steps_keep_worlds_sound::<AnyKeyer>();
     runs_carry_the_headline::<AnyKeyer>();
+    runs_keep_wards_sound_and_one_map::<AnyKeyer>();
+}
+
+/// Lines leave the settings of a sound world as they were: its cap, its wards and its keyer.
+pub fn lines_keep_settings()
+    ensures { LinesKeepSettings }
+{
+    steps_have_outcomes::<AnyKeyer>();
+    steps_keep_worlds_sound::<AnyKeyer>();
     runs_keep_wards_sound_and_one_map::<AnyKeyer>();
 }

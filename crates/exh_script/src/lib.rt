@@ -1,16 +1,20 @@
-//! The script server: from the bytes of a script to the bytes of its replies.
+//! Scripts: what each line asks, what it prints, and the text of a whole script over whatever world its first line begins.
 #![tactic(auto)]
 
 use answer::Answer;
+pub use answer_text::push_refusal;
 pub use ended::Ended;
-pub use laws::{printed_answers_are_one, replies_are_one_maps, replies_follow_any_start};
+pub use file_line::parse_file_line;
+pub use laws::{
+    lines_keep_settings, printed_answers_are_one, replies_are_one_maps, replies_follow_any_start,
+};
 use line::Line;
 use moves::{Moves, Told};
-use refusal::Refusal;
-use run::Run;
-pub use serve_fault::ServeFault;
-pub use server::serve;
-use settings::Settings;
+pub use refusal::Refusal;
+pub use response::push_response;
+pub use run::Run;
+pub use script::SCRIPT_LIMIT;
+pub use settings::Settings;
 use view::View;
 
 mod answer;
@@ -21,11 +25,9 @@ mod laws;
 mod line;
 mod moves;
 mod refusal;
-mod respond;
 mod response;
 mod run;
-mod serve_fault;
-mod server;
+mod script;
 mod settings;
 mod view;
 mod view_text;

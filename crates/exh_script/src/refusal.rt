@@ -3,7 +3,7 @@ use exh_world::StepFault;
 
 /// Why a line, a script or a run of it is refused.
 #[derive(Clone, Copy, Debug, PartialEq, Eq)]
-pub(crate) enum Refusal {
+pub enum Refusal {
     /// The line can't be read, or stands at the wrong place.
     Line(LineFault),
     /// The step that the line asks for is refused.
@@ -12,6 +12,8 @@ pub(crate) enum Refusal {
     Read,
     /// The script is longer than a script may be.
     TooLong,
+    /// The script's `file` line isn't that of the opened file.
+    Differs,
 }
 
 impl Refusal {
@@ -19,7 +21,7 @@ impl Refusal {
     ghost use Rattle.exh_script.specs.Refusal.{refusal_number};
 
     /// The number by which the refusal is printed.
-    pub(crate) fn number(self) -> u32
+    pub fn number(self) -> u32
         ensures { result ≡ refusal_number self }
     {
         match self {
@@ -27,6 +29,7 @@ impl Refusal {
             Refusal::Step(fault) => u32::from(fault.number()),
             Refusal::Read => 41,
             Refusal::TooLong => 62,
+            Refusal::Differs => 63,
         }
     }
 }

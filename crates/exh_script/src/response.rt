@@ -22,7 +22,7 @@ use std::alloc::AllocError;
 /// Does what a line after the first asks, as it stands in the script, and adds what it prints. `Err` comes for memory
 /// alone.
 #[tactic(auto, unfolding(crate::specs::Text::line_response, crate::specs::Text::after_line))]
-pub(crate) fn push_response(out: &mut Vec<u8>, run: &mut Run, line: &[u8]) -> Result<(), AllocError>
+pub fn push_response(out: &mut Vec<u8>, run: &mut Run, line: &[u8]) -> Result<(), AllocError>
     requires { IsSoundWorld any_pseudokey run.old.world }
     ensures text { OnOk result (out.new.items ≡ out.old.items ++ response_text (line_response run.old.tells_moves run.old.world line.now)) }
     ensures world { OnOk result (run.new.world ≡ after_line run.old.world line.now) }

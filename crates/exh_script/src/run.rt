@@ -4,7 +4,7 @@ use exh_world::World;
 
 /// A run of a script: the world that its lines work on, and whether a reply's line tells the moves of its request.
 #[derive(Drop)]
-pub(crate) struct Run {
-    pub(crate) world: World<PlainPages, AnyKeyer>,
-    pub(crate) tells_moves: bool,
+pub struct Run {
+    pub world: World<PlainPages, AnyKeyer>,
+    pub tells_moves: bool,
 }

@@ -4,7 +4,7 @@ use exh_world::Config;
 /// What the first line of a script says: the settings of its file, and whether a reply's line tells the moves of its
 /// request.
 #[derive(Clone, Copy, Debug)]
-pub(crate) struct Settings {
-    pub(crate) file: Config<AnyKeyer>,
-    pub(crate) tells_moves: bool,
+pub struct Settings {
+    pub file: Config<AnyKeyer>,
+    pub tells_moves: bool,
 }

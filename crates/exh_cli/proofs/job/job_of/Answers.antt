@@ -1,6 +1,6 @@
-use Rattle.std.proofs.Common.{◌∙◌, Some, None, map, ap, sym}
+use Rattle.std.proofs.Common.{map, ap, sym, subst, inl, inr, codes, ◌∙◌}
 use Rattle.clap.specs.Words.{app_of}
-use Rattle.exh_cli.proofs.ParserLemmas.{checks, dumps, met_is, parse_meets, serves, some_met, version_told}
+use Rattle.exh_cli.proofs.ParserLemmas.{IsOwn, checks, dumps, is_command, no_serve, own_is, parse_meets, path_given, serves, some_met, version_told}
 use Rattle.exh_cli.proofs.job.job_of.Goals as goal
 
 pub returns-in_err-matches-clause-version : goal.returns-in_err-matches-clause-version
@@ -14,27 +14,46 @@ pub unreachable-requires : goal.unreachable-requires
 unreachable-requires g c =
     let parse = c.in_ok-matches.ensures in
     let met = parse_meets (app_of c.in_ok-parser.field-0) (map g.S.AsStr.text c.args.words.now) c.in_ok-matches.matches c.in_ok-parser.ensures (parse.kinds c.in_ok-parser.ensures.exact) parse.matches in
-    some_met c.in_ok-matches.matches met.0 c.in_default.ensures.name met.1.1
+    some_met c.in_ok-matches.matches met.0 c.in_default.ensures.name met.2
 
-pub returns-in_default-get_str-clause-named : goal.returns-in_default-get_str-clause-named
-returns-in_default-get_str-clause-named g c =
+pub returns-in-serve-clause-named : goal.returns-in-serve-clause-named
+returns-in-serve-clause-named g c =
     let parse = c.in_ok-matches.ensures in
     let met = parse_meets (app_of c.in_ok-parser.field-0) (map g.S.AsStr.text c.args.words.now) c.in_ok-matches.matches c.in_ok-parser.ensures (parse.kinds c.in_ok-parser.ensures.exact) parse.matches in
-    let own = met_is c.in_ok-matches.matches c.in-Some.command.now c.in-Some.own.now None met.0 c.in-Some.ensures.name c.in-Some.ensures.rows c.in_default-get_str.ensures met.1.1 in
-    met.1.0 ∙ ap (λ job. Some job) (serves met.0 (sym own.1))
+    let own = own_is c.in_ok-matches.matches c.in-Some.command.now c.in-Some.own.now met.0 c.in-Some.ensures.name c.in-Some.ensures.rows met.2 in
+    met.1 ∙ serves met.0 c.in-Some.own.now _ _ (subst (λ command. IsOwn command c.in-Some.own.now met.0) c.in-serve.is own) c.get_str.ensures c.get_str-in-serve.ensures
+
+pub path_in-requires : goal.path_in-requires
+path_in-requires g c =
+    let parse = c.in_ok-matches.ensures in
+    let met = parse_meets (app_of c.in_ok-parser.field-0) (map g.S.AsStr.text c.args.words.now) c.in_ok-matches.matches c.in_ok-parser.ensures (parse.kinds c.in_ok-parser.ensures.exact) parse.matches in
+    let own = own_is c.in_ok-matches.matches c.in-Some.command.now c.in-Some.own.now met.0 c.in-Some.ensures.name c.in-Some.ensures.rows met.2 in
+    path_given met.0 c.in-Some.command.now c.in-Some.own.now own (no_serve c.in-Some.command.now (inl c.in-check.is))
 
 pub returns-in-check-clause-named : goal.returns-in-check-clause-named
 returns-in-check-clause-named g c =
     let parse = c.in_ok-matches.ensures in
     let met = parse_meets (app_of c.in_ok-parser.field-0) (map g.S.AsStr.text c.args.words.now) c.in_ok-matches.matches c.in_ok-parser.ensures (parse.kinds c.in_ok-parser.ensures.exact) parse.matches in
-    let path = c.in-Some-get_str.path.now in
-    let own = met_is c.in_ok-matches.matches c.in-Some.command.now c.in-Some.own.now (Some path) met.0 c.in-Some.ensures.name c.in-Some.ensures.rows c.in-Some-get_str.ensures met.1.1 in
-    met.1.0 ∙ ap (λ job. Some job) (checks met.0 path (sym own.1) (sym c.in-check.is ∙ own.0))
+    let own = own_is c.in_ok-matches.matches c.in-Some.command.now c.in-Some.own.now met.0 c.in-Some.ensures.name c.in-Some.ensures.rows met.2 in
+    met.1 ∙ checks met.0 c.in-Some.own.now (subst (λ command. IsOwn command c.in-Some.own.now met.0) c.in-check.is own) _ c.path_in.ensures
 
-pub returns-clause-named : goal.returns-clause-named
-returns-clause-named g c =
+pub path_in-requires-in-dump : goal.path_in-requires-in-dump
+path_in-requires-in-dump g c =
     let parse = c.in_ok-matches.ensures in
     let met = parse_meets (app_of c.in_ok-parser.field-0) (map g.S.AsStr.text c.args.words.now) c.in_ok-matches.matches c.in_ok-parser.ensures (parse.kinds c.in_ok-parser.ensures.exact) parse.matches in
-    let path = c.in-Some-get_str.path.now in
-    let own = met_is c.in_ok-matches.matches c.in-Some.command.now c.in-Some.own.now (Some path) met.0 c.in-Some.ensures.name c.in-Some.ensures.rows c.in-Some-get_str.ensures met.1.1 in
-    met.1.0 ∙ ap (λ job. Some job) (dumps met.0 path (sym own.1) (λ same. c.in_default-command.not-check (own.0 ∙ sym same)))
+    let own = own_is c.in_ok-matches.matches c.in-Some.command.now c.in-Some.own.now met.0 c.in-Some.ensures.name c.in-Some.ensures.rows met.2 in
+    path_given met.0 c.in-Some.command.now c.in-Some.own.now own (no_serve c.in-Some.command.now (inr c.in-dump.is))
+
+pub returns-in-dump-clause-named : goal.returns-in-dump-clause-named
+returns-in-dump-clause-named g c =
+    let parse = c.in_ok-matches.ensures in
+    let met = parse_meets (app_of c.in_ok-parser.field-0) (map g.S.AsStr.text c.args.words.now) c.in_ok-matches.matches c.in_ok-parser.ensures (parse.kinds c.in_ok-parser.ensures.exact) parse.matches in
+    let own = own_is c.in_ok-matches.matches c.in-Some.command.now c.in-Some.own.now met.0 c.in-Some.ensures.name c.in-Some.ensures.rows met.2 in
+    met.1 ∙ dumps met.0 c.in-Some.own.now (subst (λ command. IsOwn command c.in-Some.own.now met.0) c.in-dump.is own) _ c.path_in-in-dump.ensures
+
+pub unreachable-requires-in_default-command : goal.unreachable-requires-in_default-command
+unreachable-requires-in_default-command g c =
+    let parse = c.in_ok-matches.ensures in
+    let met = parse_meets (app_of c.in_ok-parser.field-0) (map g.S.AsStr.text c.args.words.now) c.in_ok-matches.matches c.in_ok-parser.ensures (parse.kinds c.in_ok-parser.ensures.exact) parse.matches in
+    let own = own_is c.in_ok-matches.matches c.in-Some.command.now c.in-Some.own.now met.0 c.in-Some.ensures.name c.in-Some.ensures.rows met.2 in
+    is_command met.0 c.in-Some.command.now c.in-Some.own.now own c.in_default-command.not-serve c.in_default-command.not-check c.in_default-command.not-dump

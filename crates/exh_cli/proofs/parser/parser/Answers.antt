@@ -8,7 +8,7 @@ use Rattle.exh_cli.proofs.parser.parser.Goals as goal
 pub returns : goal.returns
 returns c =
     let exhash_is : app_of c.in_ok-exhash.exhash ≡ bare_program = search rules in
-    let serving = c.in_ok-serving.ensures.shape c.serve.ensures.own ∙ ap₂ with_subcommand exhash_is (ap (λ (a : App). a.top) c.serve.ensures.is) in
+    let serving = c.in_ok-serving.ensures.shape c.in_ok-serve.ensures.own ∙ ap₂ with_subcommand exhash_is (ap (λ (a : App). a.top) c.in_ok-serve.ensures.is) in
     let checking = c.in_ok-checking.ensures.shape c.in_ok-check.ensures.own ∙ ap₂ with_subcommand serving (ap (λ (a : App). a.top) c.in_ok-check.ensures.is) in
     IfOk-weaker c.subcommand-3.result _ _ (λ command added.
     let same : app_of command ≡ program = added.shape c.in_ok-dump.ensures.own ∙ ap₂ with_subcommand checking (ap (λ (a : App). a.top) c.in_ok-dump.ensures.is) in

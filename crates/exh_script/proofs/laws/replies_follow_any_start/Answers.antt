@@ -14,7 +14,7 @@ use Rattle.exh_script.specs.declared.ended.Ended.TheVariants as ended
 use Rattle.exh_script.specs.declared.refusal.Refusal.{Refusal}
 use Rattle.exh_script.specs.declared.refusal.Refusal.TheVariants.{Line as LineRefusal, TooLong}
 use Rattle.exh_script.specs.declared.settings.Settings.{Settings}
-use Rattle.exh_script.specs.declared.server.TheConstants.{SCRIPT_LIMIT}
+use Rattle.exh_script.specs.declared.script.TheConstants.{SCRIPT_LIMIT}
 use Rattle.exh_script.proofs.KeptWorlds.{WorldLaws}
 use Rattle.exh_script.proofs.LineMoments.{entries_from}
 use Rattle.exh_script.proofs.NewFile.{bits_in_range, in_range}

@@ -1,0 +1,428 @@
+-- Which words a command takes that has options with a value, and what it then holds.
+use Rattle.std.proofs.Common.{◌≡◌, ◌∙◌, ℕ, Bool, true, false, List, [], ◌∷◌, ◌++◌, Option, Some, None, refl, sym, ap, ap₂, subst, codes, cond, inl, inr, append-nil}
+use Rattle.std.specs.Prelude.{◌⊎◌, ◌||◌, find, fold, map, option_and_then, option_map, slice_get, IsSome}
+use Rattle.std.specs.List.{list_any}
+use Rattle.std.specs.Str.{bytes_eq}
+use Rattle.std.proofs.lemmas.Slice.Eq.{bytes_eq-Decides}
+use Rattle.clap.specs.Words.{Kinds, Row, Rule, Shape, Text, first_of, new_rule}
+use Rattle.clap.specs.Kinds.{or_else}
+use Rattle.clap.specs.Lexer.{long_of, short_of}
+use Rattle.clap.specs.Simple.{filled, new_shape, with_index}
+use Rattle.clap.specs.Walk.{Held, Waiting, Walk, after_step, long_or_other, arg_by_id, arg_by_index, arg_by_long, arg_by_short, at_row, finished, has_row, idle, more_values, nothing_held, option, plain_word, reading_by, settled, used, value, walk_from, walked, with_default, without}
+use Rattle.clap.specs.Faults.{check_fault, defaults_fault, level_fault, react_fault, repeat_fault, set_fault, settle_fault, step_fault, turn_fault, use_fault, walk_fault}
+use Rattle.clap.specs.declared.parser.matches.ValueSource.TheVariants.{CommandLine}
+use Rattle.clap.proofs.WalkLemmas.{find-map, list_any-map}
+use Rattle.exh_cli.specs.Parser.{option_rule}
+use Rattle.clap.proofs.OnLiterals.{clap_on_literals}
+use Rattle.exh_cli.specs.Words.{uses_named, Between, Ended, Reading, Use, Wanting, Wrong, after_option, after_word, ends_options, is_named, is_option, is_use_of, used_by, uses_read, value_given, with_use}
+use Rattle.exh_cli.proofs.WordLemmas.{AsksLong, Fails, IsAsking, IsFlagged, IsPlainWord, IsValue, or_nothing, by_bundle_fails, by_long, by_long_fails, first_fails, flagged, is_end, is_plain_word, is_value, long_fails, second_fails, word_fails}
+
+-- ---- an option, as it is when its command is built, and what is held of its use
+
+abbrev pub option_built : Text → Rule
+option_built name = with_index 1 (filled (option_rule name))
+
+abbrev row_of_use : Use → Row
+row_of_use one = record { id = one.name; values = one.value ∷ []; count = None; source = Some CommandLine; reading = reading_by (option_built one.name) }
+
+abbrev pub rows_of_uses : List Use → List Row
+rows_of_uses uses = map row_of_use uses
+
+has_row-rows_of_uses : (name : Text) (uses : List Use) → has_row name (rows_of_uses uses) ≡ list_any (is_use_of name) uses
+has_row-rows_of_uses name uses = sym (list_any-map (λ (r : Row). bytes_eq r.id name) row_of_use uses)
+
+-- the value of an option
+first_of_found : (found : Option Use) → option_and_then (λ (r : Row). slice_get r.values 0) (option_map row_of_use found) ≡ option_map (λ one. one.value) found
+first_of_found None = refl
+first_of_found (Some one) = refl
+
+pub first_of-rows_of_uses : (name : Text) (uses : List Use) → first_of name (rows_of_uses uses) ≡ value_given name uses
+first_of-rows_of_uses name uses =
+    ap (option_and_then (λ (r : Row). slice_get r.values 0)) (sym (find-map (λ (r : Row). bytes_eq r.id name) row_of_use uses)) ∙ first_of_found (find (is_use_of name) uses)
+
+-- ---- rows without a name
+
+false-or : (a b : Bool) → (a || b) ≡ false → (a ≡ false) × (b ≡ false)
+false-or true b none = cc
+false-or false b none = (refl, none)
+
+at_row-unused : (name : Text) (change : Row → List Row) (missing : List Row) (uses : List Use) → list_any (is_use_of name) uses ≡ false → at_row name change missing (rows_of_uses uses) ≡ rows_of_uses uses ++ missing
+at_row-unused name change missing [] unused = refl
+at_row-unused name change missing (one ∷ uses) unused =
+    let parts = false-or (is_use_of name one) (list_any (is_use_of name) uses) unused in
+    rw parts.0 (ap (λ rows. row_of_use one ∷ rows) (at_row-unused name change missing uses parts.1))
+
+map-append : {A B : Type 0} (f : A → B) (xs ys : List A) → map f (xs ++ ys) ≡ map f xs ++ map f ys
+map-append f [] ys = refl
+map-append f (x ∷ xs) ys = ap (λ l. f x ∷ l) (map-append f xs ys)
+
+module _ (name value' : Text) (uses : List Use) where
+  abbrev more : List Use
+  more = uses ++ record { name = name; value = value' } ∷ []
+
+  used_more : list_any (is_use_of name) uses ≡ false → used (option_built name) (value' ∷ []) (rows_of_uses uses) ≡ rows_of_uses more
+  used_more unused =
+      let gone : without name (rows_of_uses uses) ≡ rows_of_uses uses = at_row-unused name (λ r. []) [] uses unused ∙ append-nil (rows_of_uses uses) in
+      rw gone (at_row-unused name (more_values CommandLine (value' ∷ [])) (rows_of_uses (record { name = name; value = value' } ∷ [])) uses unused ∙ sym (map-append row_of_use uses (record { name = name; value = value' } ∷ [])))
+
+  use_passes : list_any (is_use_of name) uses ≡ false → use_fault false (option_built name) (value' ∷ []) (rows_of_uses uses) ≡ []
+  use_passes unused = rw (has_row-rows_of_uses name uses, unused) refl
+
+  use_again_fails : list_any (is_use_of name) uses ≡ true → Fails (use_fault false (option_built name) (value' ∷ []) (rows_of_uses uses))
+  use_again_fails again = rw (has_row-rows_of_uses name uses, again) tt
+
+-- an option without its value
+bare_fails : (name : Text) (rows : List Row) → Fails (use_fault false (option_built name) [] rows)
+bare_fails name rows = tt
+
+-- ---- a command with options
+
+-- as it is when it is built
+abbrev pub leaf_of : Text → List Rule → Shape
+leaf_of command rules = record (new_shape command) { rules = rules; disable_help_subcommand = true; is_built = true }
+
+-- its arguments are the options of these names, and flags that ask for help
+pub record IsOptionLeaf (command : Text) (rules : List Rule) (names : List Text) : Type 0 where
+  pub by_long_name : (name : Text) → is_named names name ≡ true → arg_by_long rules name ≡ Some (option_built name)
+  pub by_id : (name : Text) → is_named names name ≡ true → arg_by_id rules name ≡ Some (option_built name)
+  pub asks : (name : Text) → is_named names name ≡ false → IsAsking (arg_by_long rules name)
+  pub asks_short : (c : ℕ) → IsAsking (arg_by_short rules c)
+  pub none_placed : arg_by_index rules 1 ≡ None
+  pub ends : (rows : List Row) → or_else (defaults_fault rows rules) (check_fault (leaf_of command rules) (fold with_default rows rules) false) ≡ []
+  pub keeps : (rows : List Row) → fold with_default rows rules ≡ rows
+
+module _ (command : Text) (rules : List Rule) (names : List Text) (is : IsOptionLeaf command rules names) where
+  abbrev own : Shape
+  own = leaf_of command rules
+
+  abbrev holds : List Row → Option (Text × List Text) → Held
+  holds rows pending = record { rows = rows; pending = pending; skip = 0 }
+
+  abbrev turn : Walk → Text → Kinds
+  turn w word = turn_fault own [] w word
+
+  abbrev next_walk : Walk → Text → Walk
+  next_walk w word = walked rules [] w word
+
+  -- ---- where a walk stands, by how far the words were read
+
+  -- what it holds passes, and comes to these uses
+  pub record Stands (held : Held) (uses : List Use) : Type 0 where
+    settles : settle_fault rules false held ≡ []
+    rows_are : (settled rules held).rows ≡ rows_of_uses uses
+
+  pub record StandsBetween (w : Walk) (uses : List Use) : Type 0 where
+    rows : List Row
+    pending : Option (Text × List Text)
+    walk_is : w ≡ walk_from (holds rows pending)
+    stands : Stands (holds rows pending) uses
+
+  abbrev wanting : Text → List Row → Walk
+  wanting name rows = record (walk_from (holds rows (Some (name, [])))) { waiting = option name }
+
+  abbrev trailing' : Waiting → Held → Walk
+  trailing' waiting held = record (walk_from held) { waiting = waiting; is_trailing = true }
+
+  pub record StandsBehind (w : Walk) (uses : List Use) : Type 0 where
+    waiting : Waiting
+    held : Held
+    walk_is : w ≡ trailing' waiting held
+    stands : Stands held uses
+
+  -- what it holds doesn't pass
+  pub record IsLost (w : Walk) : Type 0 where
+    rows : List Row
+    pending : Option (Text × List Text)
+    place : (w ≡ walk_from (holds rows pending)) ⊎ ((waiting : Waiting) × (w ≡ trailing' waiting (holds rows pending)))
+    lost : Fails (settle_fault rules false (holds rows pending))
+
+  abbrev Follows : Walk → Reading → Type 0
+  Follows w (Between uses) = StandsBetween w uses
+  Follows w (Wanting name uses) = (w ≡ wanting name (rows_of_uses uses)) × (is_named names name ≡ true)
+  Follows w (Ended uses) = StandsBehind w uses
+  Follows w Wrong = IsLost w
+
+  -- a word more: it passes and the walk still stands so, or it fails and the words are wrong
+  abbrev Steps : Walk → Reading → Text → Type 0
+  Steps w after word = ((turn w word ≡ []) × Follows (next_walk w word) after) ⊎ ((after ≡ Wrong) × Fails (turn w word))
+
+  -- ---- behind `--`
+
+  behind_fails : (waiting : Waiting) (held : Held) (word : Text) → Fails (turn (trailing' waiting held) word)
+  behind_fails waiting held word = rw is.none_placed tt
+
+  -- ---- between two options
+
+  module _ (rows : List Row) (pending : Option (Text × List Text)) (word : Text) where
+    abbrev between : Walk
+    between = walk_from (holds rows pending)
+
+    -- its errors at a word that isn't `--`, and where it goes, by the long option that the word is
+    abbrev kinds_by : Waiting → Option (Text × Option Text) → Kinds
+    kinds_by waiting long = by_long own rules is.asks_short rows pending 1 word waiting long
+
+    abbrev walk_by : Option (Text × Option Text) → Walk
+    walk_by long = let met = long_or_other rules idle word long (holds rows pending) in after_step rules word between met.0 met.1
+
+    module _ (no_end : ends_options word ≡ false) where
+      turn_is : turn between word ≡ kinds_by idle (long_of word)
+      turn_is = rw no_end refl
+
+      walk_is : next_walk between word ≡ walk_by (long_of word)
+      unfolding walked
+      walk_is = rw no_end refl
+
+    -- `--` passes
+    end_passes : ends_options word ≡ true → turn between word ≡ []
+    end_passes ends = rw ends refl
+
+    end_walked : ends_options word ≡ true → next_walk between word ≡ trailing' idle (holds rows pending)
+    unfolding walked
+    end_walked ends = rw ends refl
+
+    -- a name that is no option's
+    other_fails : (waiting : Waiting) (p : Text × Option Text) → is_named names p.0 ≡ false → Fails (kinds_by waiting (Some p))
+    other_fails waiting p other = first_fails _ _ (long_fails own rules is.asks_short rows pending 1 word p.1 (arg_by_long rules p.0) (is.asks p.0 other))
+
+    -- where what is held doesn't pass, no option does
+    lost_named : (waiting : Waiting) (name : Text) (v : Option Text) → Fails (settle_fault rules false (holds rows pending)) → is_named names name ≡ true → Fails (kinds_by waiting (Some (name, v)))
+    lost_named waiting name None lost e = rw (is.by_long_name name e) (first_fails _ _ lost)
+    lost_named waiting name (Some v) lost e = rw (is.by_long_name name e) (first_fails _ _ (first_fails _ _ lost))
+
+    lost_option : (waiting : Waiting) (p : Text × Option Text) → Fails (settle_fault rules false (holds rows pending)) → (named : Bool) → is_named names p.0 ≡ named → Fails (kinds_by waiting (Some p))
+    lost_option waiting p lost true e = lost_named waiting p.0 p.1 lost e
+    lost_option waiting p lost false e = other_fails waiting p e
+
+    -- nor any other word but `--`
+    lost_by : Fails (settle_fault rules false (holds rows pending)) → (long : Option (Text × Option Text)) → Fails (kinds_by idle long)
+    lost_by lost None = by_long_fails own rules is.asks_short rows pending 1 word is.none_placed None tt
+    lost_by lost (Some p) = lost_option idle p lost (is_named names p.0) refl
+
+    lost_fails : Fails (settle_fault rules false (holds rows pending)) → ends_options word ≡ false → Fails (turn between word)
+    lost_fails lost no_end = subst Fails (sym (turn_is no_end)) (lost_by lost (long_of word))
+
+    -- an option without its value, of what passes
+    module _ (uses : List Use) (stands : Stands (holds rows pending) uses) (name : Text) (named : is_named names name ≡ true) where
+      option_kinds : kinds_by idle (Some (name, None)) ≡ []
+      option_kinds = rw (is.by_long_name name named) (or_nothing (settle_fault rules false (holds rows pending)) ∙ stands.settles)
+
+      option_walk : walk_by (Some (name, None)) ≡ wanting name (rows_of_uses uses)
+      option_walk = rw (is.by_long_name name named) (ap (wanting name) stands.rows_are)
+
+      -- and with its value
+      module _ (value' : Text) where
+        valued_kinds : list_any (is_use_of name) uses ≡ false → kinds_by idle (Some (name, Some value')) ≡ []
+        valued_kinds unused =
+            rw (is.by_long_name name named)
+            (or_nothing _ ∙ ap₂ or_else stands.settles (ap (use_fault false (option_built name) (value' ∷ [])) stands.rows_are ∙ use_passes name value' uses unused))
+
+        valued_walk : list_any (is_use_of name) uses ≡ false → walk_by (Some (name, Some value')) ≡ walk_from (holds (rows_of_uses (more name value' uses)) None)
+        valued_walk unused =
+            rw (is.by_long_name name named) (ap (λ rows. walk_from (holds rows None)) (ap (used (option_built name) (value' ∷ [])) stands.rows_are ∙ used_more name value' uses unused))
+
+        valued_again : list_any (is_use_of name) uses ≡ true → Fails (kinds_by idle (Some (name, Some value')))
+        valued_again again =
+            rw (is.by_long_name name named)
+            (first_fails _ _ (second_fails (settle_fault rules false (holds rows pending)) _ (subst (λ rows. Fails (use_fault false (option_built name) (value' ∷ []) rows)) (sym stands.rows_are) (use_again_fails name value' uses again))))
+
+  step_lost : (w : Walk) → IsLost w → (word : Text) → Steps w Wrong word
+  step_lost w l word = go l.place
+    where
+      at_word : (ends : Bool) → ends_options word ≡ ends → Steps (walk_from (holds l.rows l.pending)) Wrong word
+      at_word true e = inl (end_passes l.rows l.pending word e, record { rows = l.rows; pending = l.pending; place = inr (idle, end_walked l.rows l.pending word e); lost = l.lost })
+      at_word false e = inr (refl, lost_fails l.rows l.pending word l.lost e)
+
+      go : (w ≡ walk_from (holds l.rows l.pending)) ⊎ ((waiting : Waiting) × (w ≡ trailing' waiting (holds l.rows l.pending))) → Steps w Wrong word
+      go (inl same) = subst (λ w. Steps w Wrong word) (sym same) (at_word (ends_options word) refl)
+      go (inr (waiting, same)) = subst (λ w. Steps w Wrong word) (sym same) (inr (refl, behind_fails waiting (holds l.rows l.pending) word))
+
+  module _ (rows : List Row) (pending : Option (Text × List Text)) (uses : List Use) (stands : Stands (holds rows pending) uses) (word : Text) where
+    module _ (no_end : ends_options word ≡ false) where
+      abbrev here : Walk
+      here = walk_from (holds rows pending)
+
+      -- by the errors and the walk of the long option that the word is
+      by_kinds : (long : Option (Text × Option Text)) → long_of word ≡ long → Fails (kinds_by rows pending word idle long) → Fails (turn here word)
+      by_kinds long same fails = subst Fails (sym (turn_is rows pending word no_end ∙ ap (kinds_by rows pending word idle) same)) fails
+
+      by_none : (long : Option (Text × Option Text)) → long_of word ≡ long → kinds_by rows pending word idle long ≡ [] → turn here word ≡ []
+      by_none long same none = turn_is rows pending word no_end ∙ ap (kinds_by rows pending word idle) same ∙ none
+
+      by_walk : (long : Option (Text × Option Text)) (next : Walk) → long_of word ≡ long → walk_by rows pending word long ≡ next → next_walk here word ≡ next
+      by_walk long next same goes = walk_is rows pending word no_end ∙ ap (walk_by rows pending word) same ∙ goes
+
+      at_use : (name value' : Text) → long_of word ≡ Some (name, Some value') → is_named names name ≡ true → (again : Bool) → list_any (is_use_of name) uses ≡ again
+          → Steps here (cond again Wrong (Between (more name value' uses))) word
+      at_use name value' same named true e = inr (refl, by_kinds _ same (valued_again rows pending word uses stands name named value' e))
+      at_use name value' same named false e = inl (
+        by_none _ same (valued_kinds rows pending word uses stands name named value' e),
+        record {
+          rows = rows_of_uses (more name value' uses);
+          pending = None;
+          walk_is = by_walk _ _ same (valued_walk rows pending word uses stands name named value' e);
+          stands = record { settles = refl; rows_are = refl };
+        },
+      )
+
+      at_value : (name : Text) (v : Option Text) → long_of word ≡ Some (name, v) → is_named names name ≡ true → Steps here (used_by name v uses) word
+      at_value name None same named = inl (
+        by_none _ same (option_kinds rows pending word uses stands name named),
+        (by_walk _ _ same (option_walk rows pending word uses stands name named), named),
+      )
+      at_value name (Some value') same named = at_use name value' same named (list_any (is_use_of name) uses) refl
+
+      at_named : (p : Text × Option Text) → long_of word ≡ Some p → (named : Bool) → is_named names p.0 ≡ named → Steps here (cond named (used_by p.0 p.1 uses) Wrong) word
+      at_named p same true e = at_value p.0 p.1 same e
+      at_named p same false e = inr (refl, by_kinds _ same (other_fails rows pending word idle p e))
+
+      at_long : (long : Option (Text × Option Text)) → long_of word ≡ long → Steps here (after_option names long uses) word
+      at_long None same = inr (refl, by_kinds _ same (by_long_fails own rules is.asks_short rows pending 1 word is.none_placed None tt))
+      at_long (Some p) same = at_named p same (is_named names p.0) refl
+
+    at_between : (ends : Bool) → ends_options word ≡ ends → Steps (walk_from (holds rows pending)) (cond ends (Ended uses) (after_option names (long_of word) uses)) word
+    at_between true e = inl (end_passes rows pending word e, record { waiting = idle; held = holds rows pending; walk_is = end_walked rows pending word e; stands = stands })
+    at_between false e = at_long e (long_of word) refl
+
+  step_between : (w : Walk) (uses : List Use) → StandsBetween w uses → (word : Text) → Steps w (after_word names (Between uses) word) word
+  step_between w uses s word = subst (λ w. Steps w (after_word names (Between uses) word) word) (sym s.walk_is) (at_between s.rows s.pending uses s.stands word (ends_options word) refl)
+
+  -- ---- behind an option that wants its value
+
+  same_name : (name : Text) → bytes_eq name name ≡ true
+  same_name name = (bytes_eq-Decides name name).1 refl
+
+  module _ (name : Text) (named : is_named names name ≡ true) (uses : List Use) (word : Text) where
+    abbrev rows_so_far : List Row
+    rows_so_far = rows_of_uses uses
+
+    abbrev bare : Option (Text × List Text)
+    bare = Some (name, [])
+
+    abbrev wants : Walk
+    wants = wanting name (rows_of_uses uses)
+
+    bare_lost : Fails (settle_fault rules false (holds rows_so_far bare))
+    bare_lost = rw (is.by_id name named) tt
+
+    wanted_end : ends_options word ≡ true → (turn wants word ≡ []) × (next_walk wants word ≡ trailing' (option name) (holds rows_so_far bare))
+    unfolding walked
+    wanted_end ends = (rw ends refl, rw ends refl)
+
+    flag_fails : ends_options word ≡ false → IsFlagged word → Fails (turn wants word)
+    flag_fails no_end is_flag = rw no_end (go is_flag)
+      where
+        by_some : (long : Option (Text × Option Text)) → IsSome long → Fails (kinds_by rows_so_far bare word (option name) long)
+        by_some None some = cc
+        by_some (Some p) some = lost_option rows_so_far bare word (option name) p bare_lost (is_named names p.0) refl
+
+        go : IsFlagged word → Fails (kinds_by rows_so_far bare word (option name) (long_of word))
+        go (inl long) = by_some (long_of word) long
+        go (inr (x, xs, none, short, some)) = rw (none, short) (by_bundle_fails own rules is.asks_short rows_so_far bare 1 word (option name) x xs some)
+
+    module _ (no_end : ends_options word ≡ false) (no_option : is_option word ≡ false) where
+      value_is : IsValue own rules is.asks_short rows_so_far bare 1 word (option name)
+      value_is = is_value own rules is.asks_short rows_so_far bare 1 word (option name) no_end (is_plain_word word no_option)
+
+      abbrev filled_walk : Walk
+      filled_walk = walk_from (holds rows_so_far (Some (name, word ∷ [])))
+
+      filled_passes : turn wants word ≡ []
+      filled_passes = ap₂ (λ fault met. or_else fault (step_fault own 1 met.0 met.1)) value_is.1 value_is.0
+
+      filled_walked : next_walk wants word ≡ filled_walk
+      unfolding walked
+      filled_walked = ap (λ met. after_step rules word wants met.0 met.1) value_is.0 ∙ rw (is.by_id name named, same_name name) refl
+
+      at_filled : (again : Bool) → list_any (is_use_of name) uses ≡ again → Steps wants (cond again Wrong (Between (more name word uses))) word
+      at_filled true e = inl (filled_passes, record {
+        rows = rows_so_far;
+        pending = Some (name, word ∷ []);
+        place = inl filled_walked;
+        lost = rw (is.by_id name named) (use_again_fails name word uses e);
+      })
+      at_filled false e = inl (filled_passes, record {
+        rows = rows_so_far;
+        pending = Some (name, word ∷ []);
+        walk_is = filled_walked;
+        stands = record { settles = rw (is.by_id name named) (use_passes name word uses e); rows_are = rw (is.by_id name named) (used_more name word uses e) };
+      })
+
+    ends_is_option : is_option word ≡ false → ends_options word ≡ true → ⊥
+    unfolding clap_on_literals
+    ends_is_option no_option ends = let never : is_option (codes "--") ≡ false = subst (λ w. is_option w ≡ false) (sym (is_end word ends)) no_option in end_is_option never
+      where
+        end_is_option : is_option (codes "--") ≡ false → ⊥
+        end_is_option never = cc
+
+    at_wanted : (is_flag ends : Bool) → is_option word ≡ is_flag → ends_options word ≡ ends → Steps wants (cond is_flag Wrong (with_use name word uses)) word
+    at_wanted true true o e = let end = wanted_end e in inl (end.0, record { rows = rows_so_far; pending = bare; place = inr (option name, end.1); lost = bare_lost })
+    at_wanted true false o e = inr (refl, flag_fails e (flagged word o e))
+    at_wanted false true o e = absurd (ends_is_option o e)
+    at_wanted false false o e = at_filled e o (list_any (is_use_of name) uses) refl
+
+  step_wanting : (w : Walk) (name : Text) (uses : List Use) → (w ≡ wanting name (rows_of_uses uses)) × (is_named names name ≡ true) → (word : Text) → Steps w (after_word names (Wanting name uses) word) word
+  step_wanting w name uses s word = subst (λ w. Steps w (after_word names (Wanting name uses) word) word) (sym s.0) (at_wanted name s.1 uses word (is_option word) (ends_options word) refl refl)
+
+  -- ---- all words
+
+  step : (w : Walk) (reading : Reading) → Follows w reading → (word : Text) → Steps w (after_word names reading word) word
+  step w (Between uses) s word = step_between w uses s word
+  step w (Wanting name uses) s word = step_wanting w name uses s word
+  step w (Ended uses) s word = inr (refl, subst (λ w. Fails (turn w word)) (sym s.walk_is) (behind_fails s.waiting s.held word))
+  step w Wrong l word = step_lost w l word
+
+  abbrev ending : Held → Kinds
+  ending held = or_else (settle_fault rules false held) (or_else (defaults_fault (settled rules held).rows rules) (check_fault own (finished rules held) false))
+
+  abbrev kinds_left : Walk → List Text → Kinds
+  kinds_left w words = or_else (walk_fault own [] w words) (ending (fold (walked rules []) w words).held)
+
+  abbrev rows_left : Walk → List Text → List Row
+  rows_left w words = finished rules (fold (walked rules []) w words).held
+
+  -- words that use options, or fail
+  abbrev pub Reads : Walk → List Text → Option (List Use) → Type 0
+  Reads w words None = Fails (kinds_left w words)
+  Reads w words (Some uses) = (kinds_left w words ≡ []) × (rows_left w words ≡ rows_of_uses uses)
+
+  stands_end : (held : Held) (uses : List Use) → Stands held uses → (ending held ≡ []) × (finished rules held ≡ rows_of_uses uses)
+  stands_end held uses s = (ap₂ or_else s.settles (is.ends (settled rules held).rows), is.keeps (settled rules held).rows ∙ s.rows_are)
+
+  lost_end : (w : Walk) → IsLost w → Fails (ending w.held)
+  lost_end w l = go l.place
+    where
+      ends : Fails (ending (holds l.rows l.pending))
+      ends = first_fails _ _ l.lost
+
+      go : (w ≡ walk_from (holds l.rows l.pending)) ⊎ ((waiting : Waiting) × (w ≡ trailing' waiting (holds l.rows l.pending))) → Fails (ending w.held)
+      go (inl same) = subst (λ (w : Walk). Fails (ending w.held)) (sym same) ends
+      go (inr (waiting, same)) = subst (λ (w : Walk). Fails (ending w.held)) (sym same) ends
+
+  at_end : (w : Walk) (reading : Reading) → Follows w reading → Reads w [] (uses_read reading)
+  unfolding walk_fault
+  at_end w (Between uses) s = subst (λ w. Reads w [] (Some uses)) (sym s.walk_is) (stands_end (holds s.rows s.pending) uses s.stands)
+  at_end w (Wanting name uses) s = subst (λ w. Reads w [] None) (sym s.0) (first_fails _ _ (bare_lost name s.1 uses []))
+  at_end w (Ended uses) s = subst (λ w. Reads w [] (Some uses)) (sym s.walk_is) (stands_end s.held uses s.stands)
+  at_end w Wrong l = lost_end w l
+
+  wrong_stays : (words : List Text) → uses_read (fold (after_word names) Wrong words) ≡ None
+  wrong_stays [] = refl
+  wrong_stays (word ∷ words) = wrong_stays words
+
+  reads_on : (words : List Text) (w : Walk) (reading : Reading) → Follows w reading → Reads w words (uses_read (fold (after_word names) reading words))
+  unfolding walk_fault
+  reads_on [] w reading s = at_end w reading s
+  reads_on (word ∷ words) w reading s = go (reads_on words) (step w reading s word)
+    where
+      passed : (read : Option (List Use)) → turn w word ≡ [] → Reads (next_walk w word) words read → Reads w (word ∷ words) read
+      passed None none fails = rw none fails
+      passed (Some uses) none reads = (rw none reads.0, reads.1)
+
+      go : ((w : Walk) (reading : Reading) → Follows w reading → Reads w words (uses_read (fold (after_word names) reading words))) → Steps w (after_word names reading word) word → Reads w (word ∷ words) (uses_read (fold (after_word names) (after_word names reading word) words))
+      go on (inl (none, follows)) = passed (uses_read (fold (after_word names) (after_word names reading word) words)) none (on (next_walk w word) (after_word names reading word) follows)
+      go on (inr (wrong, fails)) =
+          subst (Reads w (word ∷ words)) (sym (ap (λ reading. uses_read (fold (after_word names) reading words)) wrong ∙ wrong_stays words)) (first_fails _ _ (first_fails _ _ fails))
+
+  -- the words behind the command
+  pub options_read : (words : List Text) → Reads (walk_from nothing_held) words (uses_named names words)
+  options_read words = reads_on words (walk_from nothing_held) (Between []) (record { rows = []; pending = None; walk_is = refl; stands = record { settles = refl; rows_are = refl } })

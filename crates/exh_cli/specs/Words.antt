@@ -1,0 +1,93 @@
+-- The words behind a command: options with their values, and paths.
+use Rattle.std.specs.Prelude.{◌&&◌, ◌==◌, ◌++◌, ℕ, Bool, false, List, [], ◌∷◌, fold, find, length, nat_lt, Option, Some, None, option_map, codes, if◌then◌else◌}
+use Rattle.std.specs.List.{list_any}
+use Rattle.std.specs.Str.{bytes_eq, chars}
+use Rattle.clap.specs.Lexer.{long_of}
+
+-- `--` ends the options of any command, and asks for nothing
+abbrev pub ends_options : List ℕ → Bool
+ends_options word = bytes_eq word (codes "--")
+
+-- the word is an option: a hyphen, and a character behind it
+abbrev pub is_option : List ℕ → Bool
+is_option [] = false
+is_option (first ∷ rest) = first == 45 && nat_lt 0 (length (chars rest))
+
+-- ---- a path
+
+-- behind `--` any word is a path, and there is just one
+abbrev pub only_word : List (List ℕ) → Option (List ℕ)
+only_word [] = None
+only_word (path ∷ []) = Some path
+only_word (path ∷ next ∷ rest) = None
+
+-- behind a path there is nothing, but for `--`
+abbrev pub alone : List ℕ → List (List ℕ) → Option (List ℕ)
+alone path [] = Some path
+alone path (word ∷ []) = if ends_options word then Some path else None
+alone path (word ∷ next ∷ rest) = None
+
+-- the one path that the words name, which is no option
+abbrev pub path_named : List (List ℕ) → Option (List ℕ)
+path_named [] = None
+path_named (word ∷ rest) =
+    if ends_options word then only_word rest
+    else (if is_option word then None else alone word rest)
+
+-- ---- options, each with a value
+
+-- an option's name, and its value
+pub record Use : Type 0 where
+  pub name : List ℕ
+  pub value : List ℕ
+
+abbrev pub is_use_of : List ℕ → Use → Bool
+is_use_of name one = bytes_eq one.name name
+
+-- the value that was given to a name
+abbrev pub value_given : List ℕ → List Use → Option (List ℕ)
+value_given name uses = option_map (λ one. one.value) (find (is_use_of name) uses)
+
+-- how far words were read, and the options so far: between two options, behind an option whose value is yet to come, or
+-- behind `--`; or they are wrong
+pub data Reading : Type 0 where
+  Between : List Use → Reading
+  Wanting : List ℕ → List Use → Reading
+  Ended : List Use → Reading
+  Wrong : Reading
+
+-- an option is used once
+abbrev pub with_use : List ℕ → List ℕ → List Use → Reading
+with_use name value uses =
+    if list_any (is_use_of name) uses then Wrong else Between (uses ++ record { name = name; value = value } ∷ [])
+
+-- its value stands behind `=`, or is the next word
+abbrev pub used_by : List ℕ → Option (List ℕ) → List Use → Reading
+used_by name None uses = Wanting name uses
+used_by name (Some value) uses = with_use name value uses
+
+-- the options, where the words may end so
+abbrev pub uses_read : Reading → Option (List Use)
+uses_read (Between uses) = Some uses
+uses_read (Wanting name uses) = None
+uses_read (Ended uses) = Some uses
+uses_read Wrong = None
+
+module _ (names : List (List ℕ)) where
+  abbrev pub is_named : List ℕ → Bool
+  is_named name = list_any (λ own. bytes_eq own name) names
+
+  -- by the name and value of `--name` or `--name=value`
+  abbrev pub after_option : Option (List ℕ × Option (List ℕ)) → List Use → Reading
+  after_option None uses = Wrong
+  after_option (Some long) uses = if is_named long.0 then used_by long.0 long.1 uses else Wrong
+
+  abbrev pub after_word : Reading → List ℕ → Reading
+  after_word (Between uses) word = if ends_options word then Ended uses else after_option (long_of word) uses
+  after_word (Wanting name uses) word = if is_option word then Wrong else with_use name word uses
+  after_word (Ended uses) word = Wrong
+  after_word Wrong word = Wrong
+
+  -- the options that the words use, each of these names at most once, in any order; `--` may stand behind them
+  abbrev pub uses_named : List (List ℕ) → Option (List Use)
+  uses_named words = uses_read (fold after_word (Between []) words)

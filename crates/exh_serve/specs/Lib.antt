@@ -1,0 +1,4 @@
+pub mod Opened
+pub mod Left
+pub mod Served
+pub mod Laws

@@ -1,0 +1,27 @@
+-- The world that a script's first line begins, over the wards of an opened file or over none.
+use Rattle.std.specs.Prelude.{◌==◌, ◌&&◌, Bool, true, false, if◌then◌else◌, Option, None, Some, Ok, Err}
+use Rattle.exh_keyer.specs.declared.any_keyer.AnyKeyer.{AnyKeyer}
+use Rattle.exh_keyer.specs.declared.any_keyer.AnyKeyer.TheVariants.{Plain, Sha}
+use Rattle.exh_open.specs.Opened.{OpenedState}
+use Rattle.exh_world.specs.NewWorld.{world_of_wards}
+use Rattle.exh_world.specs.declared.config.Config.{Config}
+use Rattle.exh_script.specs.Text.{Beginning, new_file}
+use Rattle.exh_script.specs.declared.refusal.Refusal.TheVariants.{Differs}
+
+abbrev pub is_same_keyer : AnyKeyer → AnyKeyer → Bool
+is_same_keyer Plain Plain = true
+is_same_keyer Sha Sha = true
+is_same_keyer keyer other = false
+
+-- whether settings are those of an opened file: its cap, wards and keyer, and any number of copies
+abbrev pub is_of_file : OpenedState → Config AnyKeyer → Bool
+is_of_file opened file = (opened.cap == file.cap) && (opened.ward_bits == file.ward_bits) && is_same_keyer opened.keyer file.keyer
+
+-- with these the world of its wards, each copy at the file's table; with others none
+abbrev pub opened_file : OpenedState → Beginning
+opened_file opened file = if is_of_file opened file then Ok (world_of_wards file opened.wards) else Err Differs
+
+-- over an opened file, or over a new one
+abbrev pub beginning : Option OpenedState → Beginning
+beginning None = new_file
+beginning (Some opened) = opened_file opened

@@ -1,0 +1,86 @@
+ghost use Rattle.std.specs.Prelude.{◌≡◌, ◌≤◌, IfOk};
+ghost use Rattle.exh_keyer.specs.Pseudokey.{any_pseudokey};
+ghost use Rattle.exh_open.specs.Opened.{AreWardsOf};
+ghost use Rattle.exh_page.specs.declared.page.TheConstants.{CAP_LIMIT};
+ghost use Rattle.exh_prefix.specs.declared.prefix.TheConstants.{WARD_BITS_LIMIT};
+ghost use Rattle.exh_script.specs.Text.{new_file};
+ghost use Rattle.exh_serve.specs.Left.{file_left};
+ghost use Rattle.exh_serve.specs.Opened.{beginning, is_of_file, is_same_keyer, opened_file};
+ghost use Rattle.exh_world.specs.NewWorld.{settings_of};
+ghost use Rattle.exh_world.specs.Sound.{IsSoundWorld};
+
+use exh_frames::PlainPages;
+use exh_keyer::AnyKeyer;
+use exh_open::Opened;
+use exh_script::Refusal;
+use exh_world::{Config, World};
+use std::alloc::{AllocError, Global};
+
+/// The world that a first line of these settings begins, over an opened file or over none: a new file's, or that of the
+/// opened wards. `Refusal::Differs` where the settings' cap, ward bits or keyer aren't the opened file's.
+pub(crate) fn begin(
+    alloc: Global,
+    from: Option<Opened<PlainPages>>,
+    file: &Config<AnyKeyer>,
+) -> Result<Result<World<PlainPages, AnyKeyer>, Refusal>, AllocError>
+    requires some { 1 ≤ file.now.cap }
+    requires most { file.now.cap ≤ CAP_LIMIT }
+    requires bits { file.now.ward_bits ≤ WARD_BITS_LIMIT }
+    ensures begun { IfOk result (λ begun. begun ≡ beginning from file.now) }
+    ensures sound { IfOk result (λ begun. IfOk begun (IsSoundWorld any_pseudokey)) }
+    ensures settings { IfOk result (λ begun. IfOk begun (λ world. settings_of world file.now.copies ≡ file.now)) }
+{
+    match from {
+        None => Ok(Ok(World::new(alloc, file)?)),
+        Some(opened) => begin_over(alloc, opened, file),
+    }
+}
+
+// The same over an opened file.
+fn begin_over(
+    alloc: Global,
+    opened: Opened<PlainPages>,
+    file: &Config<AnyKeyer>,
+) -> Result<Result<World<PlainPages, AnyKeyer>, Refusal>, AllocError>
+    requires bits { file.now.ward_bits ≤ WARD_BITS_LIMIT }
+    ensures begun { IfOk result (λ begun. begun ≡ opened_file opened file.now) }
+    ensures sound { IfOk result (λ begun. IfOk begun (IsSoundWorld any_pseudokey)) }
+    ensures settings { IfOk result (λ begun. IfOk begun (λ world. settings_of world file.now.copies ≡ file.now)) }
+{
+    if !is_of_file(&opened, file) {
+        return Ok(Err(Refusal::Differs));
+    }
+    Ok(Ok(World::from_wards(alloc, file, opened.into_wards())?))
+}
+
+// Whether settings are those of an opened file.
+fn is_of_file(opened: &Opened<PlainPages>, file: &Config<AnyKeyer>) -> bool
+    ensures { result ≡ is_of_file opened.now file.now }
+{
+    opened.cap() == file.cap
+        && opened.ward_bits() == file.ward_bits
+        && is_same_keyer(opened.keyer(), file.keyer)
+}
+
+fn is_same_keyer(keyer: AnyKeyer, other: AnyKeyer) -> bool
+    ensures { result ≡ is_same_keyer keyer other }
+{
+    match (keyer, other) {
+        (AnyKeyer::Plain, AnyKeyer::Plain) | (AnyKeyer::Sha, AnyKeyer::Sha) => true,
+        _ => false,
+    }
+}
+
+/// The wards of a world of these settings, as those of a file. It takes no memory.
+pub(crate) fn leave(
+    file: &Config<AnyKeyer>,
+    world: World<PlainPages, AnyKeyer>,
+) -> Opened<PlainPages>
+    requires some { 1 ≤ file.now.cap }
+    requires most { file.now.cap ≤ CAP_LIMIT }
+    requires bits { file.now.ward_bits ≤ WARD_BITS_LIMIT }
+    requires settings { settings_of world file.now.copies ≡ file.now }
+    ensures { result ≡ file_left world }
+{
+    Opened::new(file.cap, file.ward_bits, file.keyer, world.into_wards())
+}

@@ -1,0 +1,100 @@
+ghost use Rattle.std.specs.Prelude.{◌≡◌, ◌⊎◌, ◌↔◌, [], MatchBool, IfOk, OnErr, IsErrOf, IsTrue, IsFalse};
+ghost use Rattle.std.specs.Io.KnownBytes.{Appends};
+ghost use Rattle.exh_serve.specs.Served.{PrintsLines, PrintsText, PrintsUnread, PrintsWhole, unread_text};
+ghost use Rattle.exh_serve.specs.Opened.{beginning};
+ghost use Rattle.exh_stream.specs.Output.{AppendsBeginning, SameWriter, Takes, TakesBeginning, held, pending, writer_failed};
+ghost use Rattle.exh_stream.specs.Source.{SameReader, reader_failed, unread};
+
+use crate::ServeFault;
+use crate::respond::{refuse, respond};
+use exh_frames::PlainPages;
+use exh_open::Opened;
+use exh_script::{Refusal, SCRIPT_LIMIT};
+use exh_stream::{InputFault, Output, Source};
+use std::alloc::Global;
+use std::io::{Read, Write};
+
+/// Reads a whole script, and writes its text and nothing else. Where the reader fails, that is the line `refused 41`
+/// alone. No fault is tried again.
+///
+/// `Write`: the writer failed or took no bytes, and got a beginning of it. `Memory`: a growth was refused, and the
+/// writer got the text of a beginning of the script's lines, each line whole.
+pub fn serve_from<R: Read, W: Write>(
+    alloc: Global,
+    from: Option<Opened<PlainPages>>,
+    reader: &mut R,
+    writer: &mut W,
+) -> Result<Option<Opened<PlainPages>>, ServeFault>
+    ensures ok { IfOk result (λ left.
+        PrintsWhole (beginning from) (Appends (W.contents writer.old) (W.contents writer.new)) (R.remaining reader.old) left
+        ⊎ PrintsUnread (Appends (W.contents writer.old) (W.contents writer.new)) left) }
+    ensures err { OnErr result (
+        PrintsText (beginning from) (AppendsBeginning (W.contents writer.old) (W.contents writer.new)) (R.remaining reader.old)
+        ⊎ AppendsBeginning (W.contents writer.old) (W.contents writer.new) unread_text) }
+    ensures memory { IsErrOf result ServeFault.Memory →
+        PrintsLines (beginning from) (Appends (W.contents writer.old) (W.contents writer.new)) (R.remaining reader.old) }
+{
+    serve_source(
+        alloc,
+        from,
+        &mut Source::new(reader),
+        &mut Output::new(writer),
+    )
+}
+
+// The same, where the source tells whether the reader failed. What waits is written after want of memory too.
+fn serve_source<R: Read, W: Write>(
+    alloc: Global,
+    from: Option<Opened<PlainPages>>,
+    source: &mut Source<'_, R>,
+    output: &mut Output<'_, W>,
+) -> Result<Option<Opened<PlainPages>>, ServeFault>
+    requires open { IsFalse (reader_failed source.old) }
+    requires open_output { IsFalse (writer_failed output.old) }
+    requires empty { pending output.old ≡ [] }
+    ensures same_reader { SameReader source.old source.new }
+    ensures same_writer { SameWriter output.old output.new }
+    ensures text { IfOk result (λ left. MatchBool (reader_failed source.new)
+        (PrintsUnread (Appends (held W.contents output.old) (held W.contents output.new)) left)
+        (PrintsWhole (beginning from) (Appends (held W.contents output.old) (held W.contents output.new)) (unread R.remaining source.old) left)) }
+    ensures err { OnErr result (MatchBool (reader_failed source.new)
+        (AppendsBeginning (held W.contents output.old) (held W.contents output.new) unread_text)
+        (PrintsText (beginning from) (AppendsBeginning (held W.contents output.old) (held W.contents output.new)) (unread R.remaining source.old))) }
+    ensures memory { IsErrOf result ServeFault.Memory →
+        PrintsLines (beginning from) (Appends (held W.contents output.old) (held W.contents output.new)) (unread R.remaining source.old) }
+    ensures failed { IsErrOf result ServeFault.Write ↔ IsTrue (writer_failed output.new) }
+{
+    let served = answer_source(alloc, from, source, output);
+    output.finish()?;
+    served
+}
+
+// Answers the script of a source. Where its reader fails, the answer is that alone.
+fn answer_source<R: Read, W: Write>(
+    alloc: Global,
+    from: Option<Opened<PlainPages>>,
+    source: &mut Source<'_, R>,
+    output: &mut Output<'_, W>,
+) -> Result<Option<Opened<PlainPages>>, ServeFault>
+    requires open { IsFalse (reader_failed source.old) }
+    requires open_output { IsFalse (writer_failed output.old) }
+    ensures same_reader { SameReader source.old source.new }
+    ensures same_writer { SameWriter output.old output.new }
+    ensures text { IfOk result (λ left. MatchBool (reader_failed source.new)
+        (PrintsUnread (Takes W.contents output.old output.new) left)
+        (PrintsWhole (beginning from) (Takes W.contents output.old output.new) (unread R.remaining source.old) left)) }
+    ensures err { OnErr result (MatchBool (reader_failed source.new)
+        (TakesBeginning W.contents output.old output.new unread_text)
+        (PrintsText (beginning from) (TakesBeginning W.contents output.old output.new) (unread R.remaining source.old))) }
+    ensures memory { IsErrOf result ServeFault.Memory → MatchBool (reader_failed source.new)
+        (Takes W.contents output.old output.new [])
+        (PrintsLines (beginning from) (Takes W.contents output.old output.new) (unread R.remaining source.old)) }
+    ensures failed { IsErrOf result ServeFault.Write ↔ IsTrue (writer_failed output.new) }
+{
+    match source.read_whole(alloc, SCRIPT_LIMIT) {
+        Ok(script) => respond(alloc, output, &script, from),
+        Err(InputFault::TooLong) => refuse(alloc, output, Refusal::TooLong),
+        Err(InputFault::Read) => refuse(alloc, output, Refusal::Read),
+        Err(InputFault::Memory) => Err(ServeFault::Memory),
+    }
+}
