@@ -1,12 +1,24 @@
 -- The wards of a new file, and a directory of no entry for each.
-use Rattle.std.proofs.Common.{ℕ, ◌≤◌, ◌^◌, List, refl, sym, ap, ◌∙◌}
+use Rattle.std.proofs.Common.{◌≡◌, ℕ, zero, suc, ◌≤◌, ◌^◌, List, [], ◌∷◌, length, slice_get, map, Some, refl, sym, ap, ◌∙◌}
+use Rattle.std.specs.Prelude.{replicate}
+use Rattle.std.specs.FinMap as fin
+use Rattle.exh_page.specs.KeyMap.{KeyMap}
+use Rattle.exh_legal.specs.Pages.{map_of}
 use Rattle.exh_prefix.specs.declared.prefix.TheConstants.{WARD_BITS_LIMIT}
 use Rattle.exh_keyer.specs.declared.any_keyer.AnyKeyer.{AnyKeyer}
 use Rattle.exh_array.specs.Pointers.{DirectoryState}
 use Rattle.exh_page.specs.declared.page.TheConstants.{CAP_LIMIT}
 use Rattle.exh_ward.specs.WardState.{WardState}
 use Rattle.exh_open.specs.Opened.{AreWardsOf}
+use Rattle.exh_load.specs.Load.{empty_loading}
+use Rattle.exh_load.specs.Loading.{Loading, loading_of}
 use Rattle.exh_load.specs.Loader.{AreEach, IsEmptyDirectory, IsEmptyLoader, IsFreshWard, IsLoading, LoaderState, file_in}
+
+-- a list whose items all come to one
+all_one : {A B : Type 0} (f : A → B) (items : List A) (one : B) → ((number : ℕ) (item : A) → slice_get items number ≡ Some item → f item ≡ one) → map f items ≡ replicate (length items) one
+all_one f [] one are = refl
+all_one f (item ∷ items) one are =
+    ap (λ (first : _). first ∷ map f items) (are zero item refl) ∙ ap (λ (rest : List _). one ∷ rest) (all_one f items one (λ number other there. are (suc number) other there))
 
 module _ (cap ward_bits : ℕ) (keyer : AnyKeyer) (wards : List (WardState AnyKeyer)) (directories : List DirectoryState) (are : AreEach (IsFreshWard cap ward_bits keyer) (2 ^ ward_bits) wards) where
   abbrev pub fresh : LoaderState
@@ -42,3 +54,11 @@ module _ (cap ward_bits : ℕ) (keyer : AnyKeyer) (wards : List (WardState AnyKe
           bits = none.bits ∙ sym (ap (λ (w : WardState AnyKeyer). w.ward_bits) is);
         };
   }
+
+  -- no record is there yet
+  pub fresh_maps : loading_of fresh ≡ empty_loading cap ward_bits keyer
+  fresh_maps =
+      let f : WardState AnyKeyer → KeyMap = λ (w : WardState AnyKeyer). map_of w.pages in
+      let maps : map f wards ≡ replicate (2 ^ ward_bits) fin.empty =
+      all_one f wards fin.empty (λ number ward there. ap f (are.each number ward there)) ∙ ap (λ (n : ℕ). replicate n (let none : KeyMap = fin.empty in none)) are.count_is in
+      ap (λ (ms : List KeyMap). let loading : Loading = record { cap = cap; ward_bits = ward_bits; keyer = keyer; maps = ms } in loading) maps

@@ -7,5 +7,9 @@ pub mod Turns
 pub mod Items
 pub mod FreshWards
 pub mod PutIn
--- of load_text: lines
+-- of load_text: lines, and how many records there are
 pub mod Lines
+pub mod Records
+-- of load_source: what is printed of a load, and of the lines of a new file
+pub mod Loads
+pub mod Pairs

@@ -1,13 +1,52 @@
 -- The text of lines, line by line.
-use Rattle.std.proofs.Common.{◌≡◌, ℕ, List, [], ◌∷◌, ◌++◌, Option, refl, sym, ap, ◌∙◌, subst, append_assoc, append-nil}
+use Rattle.std.proofs.Common.{◌≡◌, ℕ, List, [], ◌∷◌, ◌++◌, Option, refl, sym, ap, ◌∙◌, subst, append_assoc, append-nil, Result, Ok, Err, IfErr, inl, inr}
+use Rattle.std.specs.Prelude.{codes}
 use Rattle.exh_stream.specs.Output.{Takes, TakesBeginning}
 use Rattle.exh_stream.specs.declared.output.Output.{Output}
 use Rattle.exh_stream.specs.OutputLemmas.{AppendsBeginning-from, Takes-then, TakesBeginning-then, TakesBeginning-of_more}
-use Rattle.exh_load.specs.Loading.{Loading, after_line, line_text, loaded_from, text_from}
+use Rattle.exh_text.specs.LineFault.{line_fault_number}
+use Rattle.exh_text.specs.Printing.{printed, refused_text}
+use Rattle.exh_text.specs.declared.line_fault.LineFault.{LineFault}
+use Rattle.exh_calls.specs.declared.reply.Reply.{Reply}
+use Rattle.exh_calls.specs.declared.reply.Reply.TheVariants as replies
+use Rattle.exh_load.specs.Load.{AreWholeLines}
+use Rattle.exh_load.specs.Loading.{Loading, after_line, line_text, loaded_from, pair_of, pair_reply, parsed_text, reply_text, text_from}
 
 -- what is printed of a line, where a text is built anew
 pub line_is : (loading : Loading) (line cleared built bytes : List ℕ) → cleared ≡ [] → built ≡ cleared ++ line_text loading line → bytes ≡ built → bytes ≡ line_text loading line
 line_is loading line cleared built bytes is_cleared is_built is_bytes = is_bytes ∙ is_built ∙ ap (λ front. front ++ line_text loading line) is_cleared
+
+-- what holds of any error
+pub IfErr-from : {T E : Type 0} {P : E → Type 0} (result : Result T E) → ((fault : E) → P fault) → IfErr result P
+IfErr-from (Ok value) holds = tt
+IfErr-from (Err fault) holds = holds fault
+
+-- ---- whole lines
+
+pub lines_then : (one other : List ℕ) → AreWholeLines one → AreWholeLines other → AreWholeLines (one ++ other)
+lines_then one other h (inl none) = subst AreWholeLines (sym (ap (λ l. one ++ l) none ∙ append-nil one)) h
+lines_then one other h (inr some) = inr (one ++ some.0, ap (λ l. one ++ l) some.1 ∙ sym (append_assoc one some.0 (codes "\n")))
+
+reply_lines : (key : List ℕ) (reply : Reply) → AreWholeLines (reply_text key reply)
+reply_lines key (replies.Is value) = inl refl
+reply_lines key replies.None = inl refl
+reply_lines key replies.New = inl refl
+reply_lines key (replies.Was value) = inl refl
+reply_lines key replies.Full = inr (codes "full " ++ printed key, sym (append_assoc (codes "full ") (printed key) (codes "\n")))
+
+parsed_lines : (loading : Loading) (parsed : Result (List ℕ × List ℕ) LineFault) → AreWholeLines (parsed_text loading parsed)
+parsed_lines loading (Ok pair) = reply_lines pair.0 (pair_reply loading pair.0 pair.1)
+parsed_lines loading (Err fault) = inr (refused_text (line_fault_number fault), refl)
+
+line_lines : (loading : Loading) (line : List ℕ) → AreWholeLines (line_text loading line)
+unfolding line_text
+line_lines loading line = parsed_lines loading (pair_of line)
+
+pub text_lines : (loading : Loading) (lines : List (List ℕ)) → AreWholeLines (text_from loading lines)
+text_lines loading [] = inl refl
+text_lines loading (line ∷ lines) = lines_then (line_text loading line) (text_from (after_line loading line) lines) (line_lines loading line) (text_lines (after_line loading line) lines)
+
+-- ---- line by line
 
 -- these lines lead from one loading to another, where the text goes on
 pub record LeadTo (first now : Loading) (lines : List (List ℕ)) : Type 0 where

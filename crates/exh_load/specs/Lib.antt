@@ -1,3 +1,4 @@
 pub mod Put
 pub mod Loader
 pub mod Loading
+pub mod Load

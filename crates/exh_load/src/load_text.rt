@@ -1,17 +1,20 @@
-ghost use Rattle.std.specs.Prelude.{◌≡◌, ◌≢◌, ◌++◌, ◌↔◌, IfErr, OnOk, OnErr, IsErrOf, IsTrue, IsFalse};
+ghost use Rattle.std.specs.Prelude.{◌≡◌, ◌≢◌, ◌+◌, ◌<◌, ◌≤◌, ◌^◌, ◌++◌, ◌↔◌, length, IfOk, IfErr, OnOk, OnErr, IsErrOf, IsTrue, IsFalse};
 ghost use Rattle.exh_stream.specs.Output.{SameWriter, Takes, TakesBeginning, writer_failed};
+ghost use Rattle.exh_load.specs.Load.{TakesFront, new_count, records_in};
 ghost use Rattle.exh_load.specs.Loader.{IsLoading};
 ghost use Rattle.exh_load.specs.Loading.{after_line, line_text, loaded_from, loading_of, text_from};
 
 use crate::pair_line::{parse_pair_line, push_reply};
 use crate::{LoadFault, Loader};
+use exh_calls::Reply;
 use exh_stream::Output;
 use exh_text::{Lines, push_refused, push_text};
 use std::alloc::Global;
 use std::io::Write;
 
-/// Puts the pairs of lines, and tells those that are turned away and the lines that are none. On an
-/// `Err` a beginning of that text went out, and the loader can be used no more.
+/// Puts the pairs of lines, tells those that are turned away and the lines that are none, and answers how many records
+/// there are more, the greatest `u64` where they are still more. On an `Err` a beginning of that text went out, and the
+/// loader can be used no more.
 ///
 /// `Write`: the writer failed or took no bytes. `Memory`: a growth was refused. `Page`: a page couldn't be reached.
 pub fn load_lines<W: Write>(
@@ -19,7 +22,7 @@ pub fn load_lines<W: Write>(
     output: &mut Output<'_, W>,
     loader: &mut Loader,
     lines: Lines<'_>,
-) -> Result<(), LoadFault>
+) -> Result<u64, LoadFault>
     requires open { IsFalse (writer_failed output.old) }
     requires loading { IsLoading loader.old }
     ensures same_writer { SameWriter output.old output.new }
@@ -27,35 +30,53 @@ pub fn load_lines<W: Write>(
     ensures loaded { OnOk result (loading_of loader.new ≡ loaded_from (loading_of loader.old) lines.entry) }
     ensures loading { OnOk result (IsLoading loader.new) }
     ensures err { OnErr result (TakesBeginning W.contents output.old output.new (text_from (loading_of loader.old) lines.entry)) }
+    ensures front { IfErr result (λ fault. fault ≢ LoadFault.Write → TakesFront W.contents output.old output.new (text_from (loading_of loader.old) lines.entry)) }
+    ensures records { IfOk result (λ records. length lines.entry < 2 ^ 64 → records + records_in (loading_of loader.old) ≡ records_in (loading_of loader.new)) }
     ensures failed { IsErrOf result LoadFault.Write ↔ IsTrue (writer_failed output.new) }
 {
+    let mut records = 0u64;
     let mut text = Vec::new(alloc);
     'lines: for line in lines {
         text.clear();
-        push_line(&mut text, loader, line)?;
+        let more = push_line(&mut text, loader, line)?;
         output.push(&text)?;
+        records = records.saturating_add(more);
     }
-    Ok(())
+    Ok(records)
 }
 
-// Puts the pair of a line, and adds what is printed of it.
+// Puts the pair of a line, adds what is printed of it, and answers how many records there are more.
 #[tactic(auto, unfolding(crate::specs::Loading::line_text, crate::specs::Loading::after_line))]
-fn push_line(out: &mut Vec<u8>, loader: &mut Loader, line: &[u8]) -> Result<(), LoadFault>
+fn push_line(out: &mut Vec<u8>, loader: &mut Loader, line: &[u8]) -> Result<u64, LoadFault>
     requires { IsLoading loader.old }
     ensures text { OnOk result (out.new.items ≡ out.old.items ++ line_text (loading_of loader.old) line.now) }
     ensures loaded { OnOk result (loading_of loader.new ≡ after_line (loading_of loader.old) line.now) }
     ensures loading { OnOk result (IsLoading loader.new) }
+    ensures records { IfOk result (λ more. more + records_in (loading_of loader.old) ≡ records_in (loading_of loader.new)) }
+    ensures few { IfOk result (λ more. more ≤ 1) }
     ensures fault { IfErr result (λ fault. fault ≢ LoadFault.Write) }
 {
     match parse_pair_line(line) {
         Ok((key, value)) => {
             let reply = loader.put(key, value).map_err(LoadFault::of_ward)?;
             push_reply(out, &key, &reply)?;
+            Ok(new_count(&reply))
         }
         Err(fault) => {
             push_refused(out, fault.number())?;
             push_text(out, "\n")?;
+            Ok(0)
         }
     }
-    Ok(())
+}
+
+// How many records more a reply tells of.
+fn new_count(reply: &Reply) -> u64
+    ensures is { result ≡ new_count reply.now }
+    ensures few { result ≤ 1 }
+{
+    match reply {
+        Reply::New => 1,
+        _ => 0,
+    }
 }

@@ -1,12 +1,13 @@
-use Rattle.std.proofs.Common.{[], ◌∷◌, ◌∙◌, ◌++◌, sym, ap, subst, append_assoc, rules}
+use Rattle.std.proofs.Common.{[], ◌∷◌, arith, ◌∙◌, ◌++◌, sym, ap, subst, append_assoc, rules}
+use Rattle.std.proofs.lemmas.List.{length_push}
 use Rattle.exh_stream.specs.Output.{Takes}
 use Rattle.exh_stream.specs.OutputLemmas.{OnErr-from}
 use Rattle.exh_load.specs.Loading.{line_text, loading_of, text_from}
-use Rattle.exh_load.proofs.Lines.{LeadTo-more, line_is, line_out, line_stopped, stopped, text_of_left, text_of_more, text_of_next}
+use Rattle.exh_load.proofs.Lines.{IfErr-from, LeadTo-more, line_is, line_out, line_stopped, stopped, text_lines, text_of_left, text_of_more, text_of_next}
 use Rattle.exh_load.proofs.load_text.load_lines.Goals as goal
 
-pub returns-in_err-push_line-clause-err : goal.returns-in_err-push_line-clause-err
-returns-in_err-push_line-clause-err g c =
+pub returns-in_err-more-clause-err : goal.returns-in_err-more-clause-err
+returns-in_err-more-clause-err g c =
     let i = c.lines.invariant in
     OnErr-from c.from_residual.result (stopped g.W.Write.contents c.args.output.now c.lines.output _ _ _ i.passed (text_of_left _ _ i.answered i.lead _ _ i.split))
 
@@ -18,15 +19,17 @@ lines-preserved g c =
     let next = loading_of c.push_line.new.loader in
     let line = c.in-Some.line.now in
     let whole = text_of_left first now i.answered i.lead _ _ i.split in
-    let split = text_of_next now next c.lines.line-iterator c.next.new.self line c.in-Some.ensures.steps c.in_ok-push_line.ensures.loaded in
-    let is = line_is now line c.clear.new.self.items c.push_line.new.out.items c.deref.result.now c.clear.ensures.items c.in_ok-push_line.ensures.text c.deref.ensures.value in
+    let split = text_of_next now next c.lines.line-iterator c.next.new.self line c.in-Some.ensures.steps c.in_ok-more.ensures.loaded in
+    let is = line_is now line c.clear.new.self.items c.push_line.new.out.items c.deref.result.now c.clear.ensures.items c.in_ok-more.ensures.text c.deref.ensures.value in
     record {
       same_writer = c.in_ok-push.ensures.same_writer ∙ i.same_writer;
       open_still = search rules;
-      loading = c.in_ok-push_line.ensures.loading;
+      loading = c.in_ok-more.ensures.loading;
       answered = i.answered ++ line ∷ [];
       split = i.split ∙ ap (λ l. i.answered ++ l) c.in-Some.ensures.steps ∙ sym (append_assoc i.answered (line ∷ []) c.next.new.self);
-      lead = LeadTo-more first now i.answered i.lead line next c.in_ok-push_line.ensures.loaded;
+      lead = LeadTo-more first now i.answered i.lead line next c.in_ok-more.ensures.loaded;
+      counted = λ fits. let before = i.counted (omega (arith, fits, length_push i.answered line)) in omega (arith, before, i.few, fits, length_push i.answered line, c.in_ok-more.ensures.few, c.in_ok-more.ensures.records, c.saturating_add-records.ensures);
+      few = omega (arith, i.few, c.in_ok-more.ensures.few, length_push i.answered line, c.saturating_add-records.ensures);
       passed = subst (Takes g.W.Write.contents c.args.output.now c.push.new.self) (sym (text_of_more first now i.answered i.lead line))
           (line_out g.W.Write.contents c.args.output.now c.lines.output _ _ _ i.passed whole c.push.new.self (line_text now line) (text_from next c.next.new.self) _ split is c.in_ok-push.ensures.ok);
     }
@@ -39,6 +42,11 @@ returns-in_err-push-clause-err g c =
     let next = loading_of c.push_line.new.loader in
     let line = c.in-Some.line.now in
     let whole = text_of_left first now i.answered i.lead _ _ i.split in
-    let split = text_of_next now next c.lines.line-iterator c.next.new.self line c.in-Some.ensures.steps c.in_ok-push_line.ensures.loaded in
-    let is = line_is now line c.clear.new.self.items c.push_line.new.out.items c.deref.result.now c.clear.ensures.items c.in_ok-push_line.ensures.text c.deref.ensures.value in
+    let split = text_of_next now next c.lines.line-iterator c.next.new.self line c.in-Some.ensures.steps c.in_ok-more.ensures.loaded in
+    let is = line_is now line c.clear.new.self.items c.push_line.new.out.items c.deref.result.now c.clear.ensures.items c.in_ok-more.ensures.text c.deref.ensures.value in
     OnErr-from c.from_residual-in_err-push.result (line_stopped g.W.Write.contents c.args.output.now c.lines.output _ _ _ i.passed whole c.push.new.self (line_text now line) (text_from next c.next.new.self) _ split is c.in_err-push.ensures.err)
+
+pub returns-in_err-more-clause-front : goal.returns-in_err-more-clause-front
+returns-in_err-more-clause-front g c =
+    let i = c.lines.invariant in
+    IfErr-from c.from_residual.result (λ fault _. record { front = text_from (loading_of c.args.loader.now) i.answered; rest = text_from (loading_of c.lines.loader) c.lines.line-iterator; split = sym (text_of_left _ _ i.answered i.lead _ _ i.split); lines = text_lines (loading_of c.args.loader.now) i.answered; taken = i.passed })

@@ -1,0 +1,117 @@
+-- What is printed of a load: a front of it, and all of it.
+use Rattle.std.proofs.Common.{◌≡◌, ◌≢◌, ℕ, ◌≤◌, ◌<◌, List, [], ◌++◌, length, Option, Some, None, IfSome, Bool, true, false, cond, leb, Result, Ok, Err, IfOk, IfErr, OnOk, OnErr, refl, sym, ap, ◌∙◌, subst, append_assoc, append-nil, inl}
+use Rattle.std.specs.Option.{option_map}
+use Rattle.std.proofs.lemmas.Bool.{le-leb, lt-leb}
+use Rattle.std.specs.Io.KnownBytes.{Appends}
+use Rattle.exh_stream.specs.Output.{AppendsBeginning, Takes, TakesBeginning, WriterUntouched, held, pending}
+use Rattle.exh_stream.specs.OutputLemmas.{AppendsBeginning-from, AppendsBeginning-of_more, Takes-finished, Takes-cut, Takes-none, TakesBeginning-left}
+use Rattle.exh_stream.specs.declared.output.Output.{Output}
+use Rattle.exh_text.specs.Lines.{lines_of}
+use Rattle.exh_script.specs.declared.script.TheConstants.{SCRIPT_LIMIT}
+use Rattle.exh_open.specs.Opened.{OpenedState}
+use Rattle.exh_load.specs.Load.{IsLoadOf, Load, Loads, Prints, PrintsFront, TakesFront, load_of, load_of_lines, loading_in, refused}
+use Rattle.exh_load.specs.declared.load_fault.LoadFault.{LoadFault}
+use Rattle.exh_load.specs.declared.load_fault.LoadFault.TheVariants.{Write, Memory, Page}
+
+-- ---- the load of a text
+
+text_at : (text : List ℕ) (b : Bool) → leb (length text) SCRIPT_LIMIT ≡ b → load_of text ≡ cond b (load_of_lines (lines_of text)) (refused 62)
+unfolding load_of
+text_at text b is = ap (λ b. cond b (load_of_lines (lines_of text)) (refused 62)) is
+
+-- a text that was read whole
+pub load_read : (known : Option (List ℕ)) (items given : List ℕ) → IfSome known (λ bytes. items ≡ bytes) → given ≡ items → length items ≤ SCRIPT_LIMIT → IsLoadOf known (load_of_lines (lines_of given))
+load_read known items given read is fits = inl (record {
+  text = items;
+  read = read;
+  is = ap (λ text. load_of_lines (lines_of text)) is ∙ sym (text_at items true (le-leb (length items) SCRIPT_LIMIT fits));
+})
+
+-- a text that is too long
+abbrev text_in : Option (List ℕ) → List ℕ → List ℕ
+text_in None other = other
+text_in (Some bytes) other = bytes
+
+text_in_is : (known : Option (List ℕ)) (other : List ℕ) → IfSome known (λ bytes. text_in known other ≡ bytes)
+text_in_is None other = tt
+text_in_is (Some bytes) other = refl
+
+long_in : (known : Option (List ℕ)) (other : List ℕ) → SCRIPT_LIMIT < length other → IfSome known (λ bytes. SCRIPT_LIMIT < length bytes) → SCRIPT_LIMIT < length (text_in known other)
+long_in None other long had = long
+long_in (Some bytes) other long had = had
+
+pub load_long : (known : Option (List ℕ)) (front : List ℕ) → SCRIPT_LIMIT < length front → IfSome known (λ bytes. SCRIPT_LIMIT < length bytes) → IsLoadOf known (refused 62)
+load_long known front long had = inl (record {
+  text = text_in known front;
+  read = text_in_is known front;
+  is = sym (text_at (text_in known front) false (lt-leb (length (text_in known front)) SCRIPT_LIMIT (long_in known front long had)));
+})
+
+-- ---- what goes out
+
+module _ (prints : List ℕ → Type 0) (known : Option (List ℕ)) (load : Load) (of_reader : IsLoadOf known load) where
+  pub loads_ok : (result : Result (Option OpenedState) LoadFault) → OnOk result (prints load.printed) → IfOk result (λ file. option_map loading_in file ≡ load.left) → IfOk result (λ file. Loads prints known file)
+  loads_ok (Ok file) text left = record { whole = record { load = load; of_reader = of_reader; text = text }; left = left }
+  loads_ok (Err fault) text left = tt
+
+  pub loads_err : (result : Result (Option OpenedState) LoadFault) → OnErr result (prints load.printed) → OnErr result (Prints prints known)
+  loads_err (Ok file) text = tt
+  loads_err (Err fault) text = record { load = load; of_reader = of_reader; text = text }
+
+  pub loads_front : (result : Result (Option OpenedState) LoadFault) → IfErr result (λ fault. fault ≢ Write → prints load.printed) → IfErr result (λ fault. fault ≢ Write → Prints prints known)
+  loads_front (Ok file) text = tt
+  loads_front (Err fault) text = λ other. record { load = load; of_reader = of_reader; text = text other }
+
+-- ---- a front of what goes out
+
+module _ {W : Type 0} (contents : W → Option (List ℕ)) where
+  pub front_none : (output : Output W) (bytes : List ℕ) → TakesFront contents output output bytes
+  front_none output bytes = record { front = []; rest = bytes; split = refl; lines = inl refl; taken = Takes-none contents output }
+
+  pub front_of_more : (old new : Output W) (bytes more : List ℕ) → TakesFront contents old new bytes → TakesFront contents old new (bytes ++ more)
+  front_of_more old new bytes more taken = record { front = taken.front; rest = taken.rest ++ more; split = ap (λ l. l ++ more) taken.split ∙ append_assoc taken.front taken.rest more; lines = taken.lines; taken = taken.taken }
+
+  module _ (old mid new : Output W) (start : pending old ≡ []) (known : Option (List ℕ)) where
+    abbrev Begun : List ℕ → Type 0
+    Begun = AppendsBeginning (held contents old) (held contents new)
+
+    begun_of : {P : List ℕ → Type 0} → ((bytes : List ℕ) → P bytes → Begun bytes) → Prints P known → Prints Begun known
+    begun_of f printed = record { load = printed.load; of_reader = printed.of_reader; text = f printed.load.printed printed.text }
+
+    front_begun : AppendsBeginning (held contents mid) (held contents new) (pending mid) → (bytes : List ℕ) → TakesFront contents old mid bytes → Begun bytes
+    front_begun gone bytes taken = subst Begun (sym taken.split) (AppendsBeginning-of_more taken.rest (Takes-cut contents old mid new start taken.front taken.taken gone))
+
+    -- all that waited was written
+    module _ (gone : Appends (held contents mid) (held contents new) (pending mid)) where
+      abbrev cut : AppendsBeginning (held contents mid) (held contents new) (pending mid)
+      cut = AppendsBeginning-from (record { front = pending mid; gone = gone; split = sym (append-nil (pending mid)) })
+
+      pub finished_ok : (result : Result (Option OpenedState) LoadFault) → IfOk result (λ file. Loads (Takes contents old mid) known file) → IfOk result (λ file. Loads (Appends (held contents old) (held contents new)) known file)
+      finished_ok (Ok file) taken =
+          record { whole = record { load = taken.whole.load; of_reader = taken.whole.of_reader; text = Takes-finished contents old mid new start taken.whole.load.printed taken.whole.text gone }; left = taken.left }
+      finished_ok (Err fault) taken = tt
+
+      pub finished_err : (result : Result (Option OpenedState) LoadFault) → IfErr result (λ fault. fault ≢ Write → Prints (TakesFront contents old mid) known) → (result ≡ Err Write → ⊥) → OnErr result (Prints Begun known)
+      finished_err (Ok file) taken never = tt
+      finished_err (Err fault) taken never = begun_of (front_begun cut) (taken (λ is. never (ap Err is)))
+
+      pub finished_front : (result : Result (Option OpenedState) LoadFault) → IfErr result (λ fault. fault ≢ Write → Prints (TakesFront contents old mid) known) → IfErr result (λ fault. fault ≢ Write → PrintsFront (Appends (held contents old) (held contents new)) known)
+      finished_front (Ok file) taken = tt
+      finished_front (Err fault) taken = λ other. let printed = taken other in record {
+        load = printed.load;
+        of_reader = printed.of_reader;
+        front = printed.text.front;
+        rest = printed.text.rest;
+        split = printed.text.split;
+        lines = printed.text.lines;
+        text = Takes-finished contents old mid new start printed.text.front printed.text.taken gone;
+      }
+
+    -- or a beginning of it was
+    module _ (gone : AppendsBeginning (held contents mid) (held contents new) (pending mid)) where
+      pub cut_err : (result : Result (Option OpenedState) LoadFault) → IfOk result (λ file. Loads (Takes contents old mid) known file) → OnErr result (Prints (TakesBeginning contents old mid) known)
+          → IfErr result (λ fault. fault ≢ Write → Prints (TakesFront contents old mid) known) → (result ≡ Err Write → WriterUntouched mid new) → Prints Begun known
+      cut_err (Ok file) taken begun front left = begun_of (λ bytes text. Takes-cut contents old mid new start bytes text gone) taken.whole
+      cut_err (Err Write) taken begun front left = begun_of (λ bytes text. TakesBeginning-left contents old mid new start bytes text (left refl)) begun
+      cut_err (Err Memory) taken begun front left = begun_of (front_begun gone) (front (λ is. cc))
+      cut_err (Err Page) taken begun front left = begun_of (front_begun gone) (front (λ is. cc))

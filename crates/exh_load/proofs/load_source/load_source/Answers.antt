@@ -1,0 +1,56 @@
+use Rattle.std.proofs.Common.{Err, ap, arith, inr, length, refl}
+use Rattle.exh_stream.specs.Output.{Takes, TakesBeginning}
+use Rattle.exh_stream.specs.OutputLemmas.{TakesBeginning-none}
+use Rattle.exh_stream.specs.SourceLemmas.{Consumes-all_given, LosesLonger-had}
+use Rattle.exh_load.specs.Load.{TakesFront, refused}
+use Rattle.exh_load.proofs.Loads.{front_none, load_long, load_read, loads_err, loads_front, loads_ok}
+use Rattle.exh_load.proofs.Records.{lines_few}
+use Rattle.exh_load.proofs.load_source.load_source.Goals as goal
+
+pub load_text-requires-clause-few : goal.load_text-requires-clause-few
+load_text-requires-clause-few g c = omega (arith, lines_few c.deref.result.now, ap length c.deref.ensures.value, c.in-Ok.text.ok.0, c.in-Ok.ensures.within)
+
+pub returns-in-Ok-clause-ok : goal.returns-in-Ok-clause-ok
+returns-in-Ok-clause-ok g c =
+    loads_ok (Takes g.W.Write.contents c.args.output.now c.load_text.new.output) _ _ (load_read _ c.in-Ok.text.items c.deref.result.now (Consumes-all_given _ _ _ c.in-Ok.ensures.ok c.in-Ok.ensures.end) c.deref.ensures.value
+    (omega (arith, c.in-Ok.text.ok.0, c.in-Ok.ensures.within))) c.load_text.result c.load_text.ensures.text c.load_text.ensures.left
+
+pub returns-in-Ok-clause-err : goal.returns-in-Ok-clause-err
+returns-in-Ok-clause-err g c =
+    loads_err (TakesBeginning g.W.Write.contents c.args.output.now c.load_text.new.output) _ _ (load_read _ c.in-Ok.text.items c.deref.result.now (Consumes-all_given _ _ _ c.in-Ok.ensures.ok c.in-Ok.ensures.end) c.deref.ensures.value
+    (omega (arith, c.in-Ok.text.ok.0, c.in-Ok.ensures.within))) c.load_text.result c.load_text.ensures.err
+
+pub returns-in-Ok-clause-front : goal.returns-in-Ok-clause-front
+returns-in-Ok-clause-front g c =
+    loads_front (TakesFront g.W.Write.contents c.args.output.now c.load_text.new.output) _ _ (load_read _ c.in-Ok.text.items c.deref.result.now (Consumes-all_given _ _ _ c.in-Ok.ensures.ok c.in-Ok.ensures.end) c.deref.ensures.value
+    (omega (arith, c.in-Ok.text.ok.0, c.in-Ok.ensures.within))) c.load_text.result c.load_text.ensures.front
+
+pub returns-in-Err-TooLong-clause-ok : goal.returns-in-Err-TooLong-clause-ok
+returns-in-Err-TooLong-clause-ok g c =
+    let lost = c.in-Err-TooLong.ensures.too_long (ap Err c.in-Err-TooLong.field-0-is) in
+    loads_ok (Takes g.W.Write.contents c.args.output.now c.refuse.new.output) _ _ (load_long _ lost.0 lost.1 (LosesLonger-had _ _ _ lost)) c.refuse.result c.refuse.ensures.text c.refuse.ensures.left
+
+pub returns-in-Err-TooLong-clause-err : goal.returns-in-Err-TooLong-clause-err
+returns-in-Err-TooLong-clause-err g c =
+    let lost = c.in-Err-TooLong.ensures.too_long (ap Err c.in-Err-TooLong.field-0-is) in
+    loads_err (TakesBeginning g.W.Write.contents c.args.output.now c.refuse.new.output) _ _ (load_long _ lost.0 lost.1 (LosesLonger-had _ _ _ lost)) c.refuse.result c.refuse.ensures.err
+
+pub returns-in-Err-TooLong-clause-front : goal.returns-in-Err-TooLong-clause-front
+returns-in-Err-TooLong-clause-front g c =
+    let lost = c.in-Err-TooLong.ensures.too_long (ap Err c.in-Err-TooLong.field-0-is) in
+    loads_front (TakesFront g.W.Write.contents c.args.output.now c.refuse.new.output) _ _ (load_long _ lost.0 lost.1 (LosesLonger-had _ _ _ lost)) c.refuse.result c.refuse.ensures.front
+
+pub returns-in-Err-Read-clause-ok : goal.returns-in-Err-Read-clause-ok
+returns-in-Err-Read-clause-ok g c = loads_ok (Takes g.W.Write.contents c.args.output.now c.refuse-in-Err-Read.new.output) _ (refused 41) (inr refl) c.refuse-in-Err-Read.result c.refuse-in-Err-Read.ensures.text c.refuse-in-Err-Read.ensures.left
+
+pub returns-in-Err-Read-clause-err : goal.returns-in-Err-Read-clause-err
+returns-in-Err-Read-clause-err g c = loads_err (TakesBeginning g.W.Write.contents c.args.output.now c.refuse-in-Err-Read.new.output) _ (refused 41) (inr refl) c.refuse-in-Err-Read.result c.refuse-in-Err-Read.ensures.err
+
+pub returns-in-Err-Read-clause-front : goal.returns-in-Err-Read-clause-front
+returns-in-Err-Read-clause-front g c = loads_front (TakesFront g.W.Write.contents c.args.output.now c.refuse-in-Err-Read.new.output) _ (refused 41) (inr refl) c.refuse-in-Err-Read.result c.refuse-in-Err-Read.ensures.front
+
+pub returns-in-Err-Memory-clause-err : goal.returns-in-Err-Memory-clause-err
+returns-in-Err-Memory-clause-err g c = record { load = refused 41; of_reader = inr refl; text = TakesBeginning-none g.W.Write.contents c.args.output.now _ }
+
+pub returns-in-Err-Memory-clause-front : goal.returns-in-Err-Memory-clause-front
+returns-in-Err-Memory-clause-front g c = λ _. record { load = refused 41; of_reader = inr refl; text = front_none g.W.Write.contents c.args.output.now _ }

@@ -1,0 +1,124 @@
+-- What a load of a whole text prints, and the maps that it leaves.
+use Rattle.std.specs.Prelude.{◌≡◌, ◌⊎◌, ◌^◌, ℕ, List, [], ◌∷◌, ◌++◌, length, replicate, nat_le, if◌then◌else◌, decimal, codes, Option, Some, None, IfSome, Result, Ok, Err}
+use Rattle.std.specs.List.{sum_by}
+use Rattle.std.specs.Option.{option_map}
+use Rattle.std.specs.FinMap as fin
+use Rattle.exh_keyer.specs.declared.any_keyer.AnyKeyer.{AnyKeyer}
+use Rattle.exh_calls.specs.declared.reply.Reply.{Reply}
+use Rattle.exh_calls.specs.declared.reply.Reply.TheVariants.{New}
+use Rattle.exh_text.specs.LineFault.{line_fault_number}
+use Rattle.exh_text.specs.Lines.{lines_of}
+use Rattle.exh_text.specs.declared.line_fault.LineFault.{LineFault}
+use Rattle.exh_stream.specs.Output.{Takes}
+use Rattle.exh_stream.specs.declared.output.Output.{Output}
+use Rattle.exh_world.specs.declared.config.Config.{Config}
+use Rattle.exh_script.specs.Grammar.{file_line_of}
+use Rattle.exh_script.specs.declared.settings.Settings.{Settings}
+use Rattle.exh_script.specs.declared.script.TheConstants.{SCRIPT_LIMIT}
+use Rattle.exh_open.specs.Opened.{OpenedState}
+use Rattle.exh_load.specs.Loader.{LoaderState}
+use Rattle.exh_load.specs.Loading.{Loading, loaded_from, loading_of, text_from}
+
+-- what the wards of a file have
+abbrev pub loading_in : OpenedState → Loading
+loading_in file = loading_of (let loader : LoaderState = record { cap = file.cap; ward_bits = file.ward_bits; keyer = file.keyer; wards = file.wards; directories = [] } in loader)
+
+-- a new file, where no ward has a record
+abbrev pub empty_loading : ℕ → ℕ → AnyKeyer → Loading
+empty_loading cap ward_bits keyer = record { cap = cap; ward_bits = ward_bits; keyer = keyer; maps = replicate (2 ^ ward_bits) fin.empty }
+
+abbrev pub new_loading : Config AnyKeyer → Loading
+new_loading file = empty_loading file.cap file.ward_bits file.keyer
+
+-- how many records there are
+abbrev pub records_in : Loading → ℕ
+records_in loading = sum_by fin.len loading.maps
+
+-- ---- a load
+
+-- what is printed, and what the file has that comes out, if one does
+pub record Load : Type 0 where
+  pub printed : List ℕ
+  pub left : Option Loading
+
+-- a line of a word and a number
+abbrev pub number_line : List ℕ → ℕ → List ℕ
+number_line word number = word ++ (decimal number ++ codes "\n")
+
+-- the number of a refusal alone
+abbrev pub refused : ℕ → Load
+refused number = record { printed = number_line (codes "refused ") number; left = None }
+
+-- the text of the lines, and how many records there are at last
+abbrev pub text_of_pairs : Loading → List (List ℕ) → List ℕ
+text_of_pairs first lines = text_from first lines ++ number_line (codes "loaded ") (records_in (loaded_from first lines))
+
+abbrev pub loaded : Loading → List (List ℕ) → Load
+loaded first lines = record { printed = text_of_pairs first lines; left = Some (loaded_from first lines) }
+
+abbrev pub load_after : Result Settings LineFault → List (List ℕ) → Load
+load_after (Ok settings) lines = loaded (new_loading settings.file) lines
+load_after (Err fault) lines = refused (line_fault_number fault)
+
+-- where there is no line, the first is wrong
+abbrev pub load_of_lines : List (List ℕ) → Load
+load_of_lines [] = refused 60
+load_of_lines (first ∷ lines) = load_after (file_line_of first) lines
+
+-- of a text: one that is too long is refused
+unfoldable pub load_of : List ℕ → Load
+load_of text = if nat_le (length text) SCRIPT_LIMIT then load_of_lines (lines_of text) else refused 62
+
+-- ---- a load of a reader
+
+-- the load of a text, which is the reader's bytes where they are known
+pub record IsOfText (known : Option (List ℕ)) (load : Load) : Type 0 where
+  pub text : List ℕ
+  pub read : IfSome known (λ bytes. text ≡ bytes)
+  pub is : load ≡ load_of text
+
+-- that, or the load of a reader that failed
+abbrev pub IsLoadOf : Option (List ℕ) → Load → Type 0
+IsLoadOf known load = IsOfText known load ⊎ (load ≡ refused 41)
+
+-- nothing, or bytes that end with a newline
+abbrev pub AreWholeLines : List ℕ → Type 0
+AreWholeLines bytes = (bytes ≡ []) ⊎ ((front : List ℕ) × (bytes ≡ front ++ codes "\n"))
+
+-- `prints bytes` says how bytes go out: that a writer holds them, or a beginning of them, or that an output took them.
+module _ (prints : List ℕ → Type 0) (known : Option (List ℕ)) where
+  -- a load's text goes out
+  pub record Prints : Type 0 where
+    pub load : Load
+    pub of_reader : IsLoadOf known load
+    pub text : prints load.printed
+
+  -- or a front of it, of whole lines
+  pub record PrintsFront : Type 0 where
+    pub load : Load
+    pub of_reader : IsLoadOf known load
+    pub front : List ℕ
+    pub rest : List ℕ
+    pub split : load.printed ≡ front ++ rest
+    pub lines : AreWholeLines front
+    pub text : prints front
+
+  -- the text goes out, and the load's file comes out
+  pub record Loads (file : Option OpenedState) : Type 0 where
+    pub whole : Prints
+    pub left : option_map loading_in file ≡ whole.load.left
+
+-- ---- of private functions
+
+-- the output takes a front of these bytes, of whole lines
+pub record TakesFront {W : Type 0} (contents : W → Option (List ℕ)) (old new : Output W) (bytes : List ℕ) : Type 0 where
+  pub front : List ℕ
+  pub rest : List ℕ
+  pub split : bytes ≡ front ++ rest
+  pub lines : AreWholeLines front
+  pub taken : Takes contents old new front
+
+-- how many records more a reply tells of
+abbrev pub new_count : Reply → ℕ
+new_count New = 1
+new_count reply = 0
