@@ -15,7 +15,7 @@ use std::alloc::{AllocError, Global};
 
 type FailingWard = Ward<FailingPages, PlainKeyer>;
 
-const STEPS: usize = 20;
+const STEPS: usize = 26;
 
 // More accesses than the steps make.
 const MOST: u64 = 1000;
@@ -45,7 +45,7 @@ pub(crate) fn run(run: &mut Run) -> Result<(), Difference> {
 }
 
 // Steps of a ward of pages of two records, each of which reaches a page: hops that come to anything
-// but `Stray`, splits that grow or revive a page, merges, also refused ones.
+// but `Stray`, splits that grow or revive a page, merges, also refused ones, sums of two pages.
 fn steps() -> Result<[WardStep; STEPS], Difference> {
     let root = prefix("")?;
     let right = prefix("1")?;
@@ -60,17 +60,23 @@ fn steps() -> Result<[WardStep; STEPS], Difference> {
         WardStep::Hop(0, put_y, Hop::MustSplit),
         WardStep::Split(0, Ok(split(1, root, 1, 1))),
         WardStep::Hop(1, put_y, new),
+        WardStep::Sum(0, Ok(Some(3))),
         WardStep::Merge(0, Err(WardFault::TooMany(3))),
         WardStep::Split(1, Ok(split(2, right, 1, 2))),
         WardStep::Merge(0, Err(WardFault::BuddySplit)),
+        WardStep::Sum(0, Ok(None)),
+        WardStep::Sum(1, Ok(Some(2))),
+        WardStep::Sum(2, Ok(None)),
         WardStep::Hop(1, get, Hop::Moved(2)),
         WardStep::Hop(2, get, Hop::Done(Reply::Is(y))),
         WardStep::Merge(1, Ok(merge(3, right, 2))),
         WardStep::Look(2, Ok(0xc000_0000_0000_0000)),
+        WardStep::Sum(2, Ok(None)),
         WardStep::Split(1, Ok(split(4, right, 3, 2))),
         WardStep::Hop(2, put_z, Hop::Done(Reply::Was(y))),
         WardStep::Merge(1, Ok(merge(5, right, 4))),
         WardStep::Hop(1, Asked::Del(b"\x80").call()?, Hop::Done(Reply::Was(b))),
+        WardStep::Sum(0, Ok(Some(2))),
         WardStep::Merge(0, Ok(merge(6, root, 2))),
         WardStep::Split(0, Ok(split(7, root, 3, 1))),
         WardStep::Look(1, Ok(HALF)),

@@ -35,7 +35,7 @@ fn worn_notices() -> Result<(Notice, Notice), Difference> {
 
 // No merge at the root can follow its split: what is refused for another reason still is, and changes
 // elsewhere are made.
-fn worn_steps() -> Result<[WardStep; 12], Difference> {
+fn worn_steps() -> Result<[WardStep; 15], Difference> {
     let new = Hop::Done(Reply::New);
     let (divided, merged) = worn_notices()?;
     let b = Hop::Done(Reply::Is(value(b"b")?));
@@ -43,6 +43,9 @@ fn worn_steps() -> Result<[WardStep; 12], Difference> {
         WardStep::Merge(2, Err(WardFault::NoPage)),
         WardStep::Merge(1, Err(WardFault::NoBuddy)),
         WardStep::Merge(0, Err(WardFault::Worn)),
+        WardStep::Sum(2, Ok(None)),
+        WardStep::Sum(1, Ok(None)),
+        WardStep::Sum(0, Ok(Some(0))),
         WardStep::Hop(0, Asked::Put(b"\0", b"a").call()?, new),
         WardStep::Hop(0, Asked::Put(b"\x40", b"x").call()?, new),
         WardStep::Merge(0, Err(WardFault::Worn)),

@@ -15,6 +15,8 @@ pub(crate) enum WardStep {
     Hop(PageNo, Call, Hop),
     Split(PageNo, Result<Notice, WardFault>),
     Merge(PageNo, Result<Notice, WardFault>),
+    /// How many records a page and its right buddy have together.
+    Sum(PageNo, Result<Option<u32>, WardFault>),
     /// A page is read, and has this low bound.
     Look(PageNo, Result<u64, WardFault>),
 }
@@ -30,12 +32,21 @@ impl WardStep {
             WardStep::Hop(at, call, want) => is_answered(&hop(ward, *at, call), &Ok(*want)),
             WardStep::Split(at, want) => is_answered(&split_page(ward, *at), want),
             WardStep::Merge(at, want) => is_answered(&merge_page(ward, *at), want),
+            WardStep::Sum(at, want) => is_answered(&sum(ward, *at), want),
             WardStep::Look(at, want) => {
                 let low = page(ward, *at).map(|page| page.low());
                 is_answered(&low, want)
             }
         }
     }
+}
+
+// It needs nothing of the ward: what calls it is proved with less.
+fn sum<P: Pages + Drop>(
+    ward: &mut Ward<P, PlainKeyer>,
+    page: PageNo,
+) -> Result<Option<u32>, WardFault> {
+    ward.buddy_sum(page)
 }
 
 // Whether an answer is the wanted one, where no page was out of reach.
