@@ -183,7 +183,7 @@ fn serve<'a>(alloc: Global) -> Result<Command<'a>, AllocError>
     let open = Arg::new(alloc, OPEN)
         .long(OPEN)
         .value_name(PATH)
-        .help("The page file that the script runs over; a new one without it");
+        .help("The page file that the script runs over, or a new one");
     let save = Arg::new(alloc, SAVE)
         .long(SAVE)
         .value_name(PATH)
