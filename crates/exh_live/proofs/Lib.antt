@@ -1,2 +1,3 @@
+mod Rounds
 mod Walks
 mod Wards

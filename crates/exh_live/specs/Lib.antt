@@ -1,4 +1,5 @@
 pub mod Closing
 pub mod LiveFile
+pub mod Rounds
 pub mod Spare
 pub mod Units

@@ -3,6 +3,7 @@
 #![tactic(auto)]
 
 pub use close::{CloseFault, Closed, NotClosed};
+pub use cursors::Cursors;
 pub use identity::Identity;
 pub use ledgers::{ANSWER_PARTS, Answers, ENTRY_PARTS, Entries, LedgerNames};
 pub use live_file::LiveFile;
@@ -11,7 +12,10 @@ pub use ward_journals::WardJournals;
 
 mod ask;
 mod close;
+mod courier;
+mod cursors;
 mod identity;
+mod keeper;
 mod ledgers;
 mod live_file;
 mod locked_ward;

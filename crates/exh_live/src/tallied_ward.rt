@@ -1,4 +1,4 @@
-ghost use Rattle.std.specs.Prelude.{◌≡◌, ◌+◌, ◌<◌, [], true, length, IfOk, IfErr, OnErr};
+ghost use Rattle.std.specs.Prelude.{◌≡◌, ◌+◌, ◌<◌, [], ◌++◌, true, false, length, List, IfOk, IfErr, OnErr};
 ghost use Rattle.exh_prefix.specs.Prefix.{Begins};
 ghost use Rattle.exh_calls.specs.Call.{key_of};
 ghost use Rattle.exh_ward.specs.HopTable.{HopOf};
@@ -6,6 +6,9 @@ ghost use Rattle.exh_ward.specs.SplitStep.{IsSplitStep};
 ghost use Rattle.exh_ward.specs.WardFault.{IsStoreFault, SplitRefused};
 ghost use Rattle.exh_ward.specs.WardState.{IsUnchanged, LeavesAfter, own_prefix};
 ghost use Rattle.exh_route.specs.WardRun.{HopAt, answer_of};
+ghost use Rattle.exh_notice.specs.declared.notice.Notice.{Notice as NoticeValue};
+ghost use Rattle.exh_ward.specs.declared.ward_fault.WardFault.TheVariants.{Worn};
+ghost use Rattle.exh_live.specs.Rounds.{AreFromTo, IsKept, MayRefuseKeeper};
 
 use crate::Identity;
 use crate::ledgers::{Answers, Entries};
@@ -16,6 +19,7 @@ use exh_keyer::Keyer;
 use exh_notice::Notice;
 use exh_prefix::PageNo;
 use exh_ward::{Hop, Ward, WardFault};
+use std::alloc::AllocError;
 use std::sync::ledger::Share;
 use std::sync::{Mutex, Wait};
 
@@ -97,4 +101,74 @@ impl<P: Pages + Drop, K: Keyer, F: Identity> TalliedWard<P, K, F> {
     {
         self.ward.split(page)
     }
+
+    /// How many pages the ward has.
+    pub(crate) fn page_count(&self) -> PageNo
+        ensures { result ≡ length self.now.ward.pages }
+    {
+        self.ward.page_count()
+    }
+
+    /// A keeper's turn at a page: a look at it and its right buddy, and a merge where they are sparse, the
+    /// method that the world's step calls. It answers whether it merged them; not where the number at
+    /// their parent is the greatest. No unit is added.
+    pub(crate) fn keep(&mut self, page: PageNo) -> Result<bool, WardFault>
+        ensures kept { IfOk result (λ merged. IsKept self.old.ward page merged self.new.ward) }
+        ensures err { OnErr result (IsUnchanged self.old.ward self.new.ward) }
+        ensures fault { IfErr result IsStoreFault }
+    {
+        let Some(sum) = self.ward.buddy_sum(page)? else {
+            return Ok(false);
+        };
+        if sum as usize > self.ward.cap() / 2 {
+            return Ok(false);
+        }
+        match self.ward.merge(page) {
+            Ok(_) => Ok(true),
+            Err(fault) => passed_over(fault),
+        }
+    }
+
+    /// Pushes the notices after a place in the ward of this number, as long as each has the next index,
+    /// and answers the last one's index, or the place where there is none. Some may have been pushed
+    /// where memory is refused, an `AllocError`.
+    pub(crate) fn push_notices(
+        &self,
+        ward: u8,
+        place: u64,
+        notices: &mut Vec<Notice>,
+    ) -> Result<u64, AllocError>
+        ensures { IfOk result (λ last. (more : List NoticeValue) × (notices.new.items ≡ notices.old.items ++ more) × AreFromTo ward place more last) }
+    {
+        let mut last = place;
+        for notice in self.ward.notices_after(place) {
+            if !is_next(notice, ward, last) {
+                break;
+            }
+            notices.push(*notice)?;
+            last = notice.index;
+        }
+        Ok(last)
+    }
+}
+
+// What a merge of sparse pages that was refused comes to: at the greatest number they are passed over.
+fn passed_over(fault: WardFault) -> Result<bool, WardFault>
+    requires { MayRefuseKeeper fault }
+    ensures worn { IfOk result (λ merged. (merged ≡ false) × (fault ≡ Worn)) }
+    ensures err { IfErr result (λ other. other ≡ fault) }
+    ensures fault { IfErr result IsStoreFault }
+{
+    match fault {
+        WardFault::Worn => Ok(false),
+        WardFault::Memory | WardFault::Page => Err(fault),
+        _ => unreachable!(),
+    }
+}
+
+// Whether a notice is of the ward of this number, with the index after a place.
+fn is_next(notice: &Notice, ward: u8, place: u64) -> bool
+    ensures { result ≡ true → (notice.now.ward ≡ ward) × (notice.now.index ≡ place + 1) }
+{
+    notice.ward == ward && notice.index > place && notice.index - place == 1
 }

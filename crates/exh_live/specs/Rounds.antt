@@ -1,0 +1,71 @@
+-- What the rounds of keepers and couriers come to.
+use Rattle.std.specs.Prelude.{◌≡◌, ⊤, ℕ, ◌+◌, ◌*◌, ◌^◌, ◌≤◌, Bool, true, false, ◌&&◌, nat_eq, leb, if◌then◌else◌, List, [], ◌∷◌, ◌++◌, length, slice_get, sum_by, Some}
+use Rattle.std.specs.FinMap.{entries}
+use Rattle.exh_prefix.specs.Leading.{ward_of}
+use Rattle.exh_prefix.specs.Prefix.{low_of}
+use Rattle.exh_notice.specs.declared.entry.Entry.{Entry}
+use Rattle.exh_notice.specs.declared.notice.Notice.{Notice}
+use Rattle.exh_table.specs.Table.{TableMap}
+use Rattle.exh_copy.specs.Additions.{Additions, BeginsWith}
+use Rattle.exh_ward.specs.BuddySum.{HasBuddySum}
+use Rattle.exh_ward.specs.MergeStep.{IsMergeStep}
+use Rattle.exh_ward.specs.WardFault.{MergeRefused}
+use Rattle.exh_ward.specs.WardState.{WardState}
+use Rattle.exh_ward.specs.declared.ward_fault.WardFault.{WardFault}
+use Rattle.exh_ward.specs.declared.ward_fault.WardFault.TheVariants.{Worn, Memory, Page}
+
+-- ---- keepers
+
+-- the page and its right buddy have together at most half as many records as a page may
+abbrev pub AreSparse : {K : Type 0} → WardState K → ℕ → Type 0
+AreSparse ward at = (sum : ℕ) × HasBuddySum ward at sum × (2 * sum ≤ ward.cap)
+
+-- a keeper's turn at a page: they were sparse and are merged, or nothing changed, since they aren't sparse or the number at the parent is the greatest
+abbrev pub IsKept : {K : Type 0} → WardState K → ℕ → Bool → WardState K → Type 0
+IsKept old at true new = AreSparse old at × ((notice : Notice) × IsMergeStep old at notice new)
+IsKept old at false new = (new ≡ old) × (AreSparse old at → MergeRefused old at Worn)
+
+-- what a merge of sparse pages may be refused for
+abbrev pub MayRefuseKeeper : WardFault → Type 0
+MayRefuseKeeper Worn = ⊤
+MayRefuseKeeper Memory = ⊤
+MayRefuseKeeper Page = ⊤
+MayRefuseKeeper fault = ⊥
+
+-- ---- couriers
+
+-- the prefix begins with the ward's own
+abbrev pub is_of_ward : ℕ → ℕ → List Bool → Bool
+is_of_ward ward_bits number prefix = leb ward_bits (length prefix) && nat_eq (ward_of ward_bits (low_of prefix)) number
+
+-- what an entry at a prefix adds to the place in a ward: its number, where the prefix is the ward's
+abbrev pub told_of : ℕ → ℕ → List Bool × Entry → ℕ
+told_of ward_bits number e = if is_of_ward ward_bits number e.0 then e.1.number else 0
+
+-- how many changes of a ward's pages a table tells of: the sum of the numbers at the ward's prefixes
+abbrev pub changes_told : ℕ → TableMap → ℕ → ℕ
+changes_told ward_bits table number = sum_by (told_of ward_bits number) (entries table)
+
+-- the first places are those that a table tells of
+abbrev pub AreToldPlaces : ℕ → TableMap → ℕ → List ℕ → Type 0
+AreToldPlaces ward_bits table count places = (length places ≡ count) × ((number place : ℕ) → slice_get places number ≡ Some place → place ≡ changes_told ward_bits table number)
+
+-- a courier's places at first, one a ward: what the copy's start table tells of
+abbrev pub AreFirstPlaces : ℕ → TableMap → List ℕ → Type 0
+AreFirstPlaces ward_bits table places = AreToldPlaces ward_bits table (2 ^ ward_bits) places
+
+-- notices of a ward with consecutive indexes, from the one after a place to another
+abbrev pub AreFromTo : ℕ → ℕ → List Notice → ℕ → Type 0
+AreFromTo ward place [] last = last ≡ place
+AreFromTo ward place (notice ∷ notices) last = (notice.ward ≡ ward) × (notice.index ≡ place + 1) × AreFromTo ward notice.index notices last
+
+-- such notices ward by ward, from a number on, each ward's from its old place to its new one
+abbrev pub AreCarried : ℕ → List ℕ → List Notice → List ℕ → Type 0
+AreCarried ward [] notices new = (notices ≡ []) × (new ≡ [])
+AreCarried ward (place ∷ places) notices new =
+    (first rest : List Notice) × (last : ℕ) × (lasts : List ℕ)
+    × (notices ≡ first ++ rest) × (new ≡ last ∷ lasts) × AreFromTo ward place first last × AreCarried (ward + 1) places rest lasts
+
+-- nothing was published, and what was pending is
+abbrev pub KeepsPending : Additions → Additions → Type 0
+KeepsPending old new = (new.published ≡ old.published) × BeginsWith new.pending old.pending

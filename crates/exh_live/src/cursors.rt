@@ -1,0 +1,64 @@
+ghost use Rattle.std.specs.Prelude.{◌≡◌, ◌^◌, ◌<◌, ◌≤◌, length, IfOk};
+ghost use Rattle.std.specs.FinMap as map;
+ghost use Rattle.exh_prefix.specs.declared.prefix.TheConstants.{WARD_BITS_LIMIT};
+ghost use Rattle.exh_live.specs.Rounds.{AreFirstPlaces, changes_told, is_of_ward};
+
+use exh_prefix::{Prefix, ward_number};
+use exh_table::Table;
+use std::alloc::{AllocError, Global};
+use std::marker::Model;
+
+/// A courier's places, one for each ward: the index of the last notice that it carried. Contracts see
+/// them in the order of the wards' numbers.
+#[derive(Drop)]
+pub struct Cursors {
+    pub(crate) places: Vec<u64>,
+}
+
+impl Model for Cursors {
+    ghost use Rattle.std.specs.Prelude.{ℕ, List};
+
+    ghost Value = { List ℕ };
+
+    ghost view = { λ a. a.places.items };
+}
+
+impl Cursors {
+    /// The places of a courier to a copy that begins with this table, in a file that is cut into
+    /// 2^`ward_bits` wards: of each ward how many changes of its pages the table tells of. The table has
+    /// fewer than 2^32 entries. An `AllocError` where memory is refused.
+    pub fn new(alloc: Global, ward_bits: u8, table: &Table) -> Result<Cursors, AllocError>
+        requires bits { ward_bits ≤ WARD_BITS_LIMIT }
+        requires few { length (map.entries table.now) < 2 ^ 32 }
+        ensures { IfOk result (AreFirstPlaces ward_bits table.now) }
+    {
+        let mut places = Vec::new(alloc);
+        for number in 0..1 << ward_bits {
+            places.push(changes_of(table, ward_bits, number))?;
+        }
+        Ok(Cursors { places })
+    }
+}
+
+// How many changes of a ward's pages a table tells of.
+fn changes_of(table: &Table, ward_bits: u8, number: u8) -> u64
+    requires bits { ward_bits ≤ WARD_BITS_LIMIT }
+    requires few { length (map.entries table.now) < 2 ^ 32 }
+    ensures { result ≡ changes_told ward_bits table.now number }
+{
+    let mut told = 0;
+    for (prefix, entry) in table.entries() {
+        if is_of(*prefix, ward_bits, number) {
+            told += u64::from(entry.number);
+        }
+    }
+    told
+}
+
+// Whether a prefix begins with that of the ward of this number.
+fn is_of(prefix: Prefix, ward_bits: u8, number: u8) -> bool
+    requires { ward_bits ≤ WARD_BITS_LIMIT }
+    ensures { result ≡ is_of_ward ward_bits number prefix }
+{
+    ward_bits <= prefix.len() && ward_number(ward_bits, prefix.low()) == number
+}
