@@ -1,9 +1,9 @@
-//! How far the reading of a page file is, as a terminal is told.
+//! How far reading and saving are, as a terminal is told.
 
 use exh_progress::{BLOCK_LEN, Console, Meter, Unit, Work};
 use std::fs::File;
 use std::io;
-use std::io::Stderr;
+use std::io::{IsTerminal, Stderr};
 
 /// Of the reading of an opened file, which begins now: told where standard error is a terminal.
 pub fn reading_meter<'r>(
@@ -13,6 +13,30 @@ pub fn reading_meter<'r>(
     let work = Work {
         unit: Unit::BlocksRead,
         of: blocks_of(opened),
+    };
+    Meter::new(Console::new(rt, rt.stderr()), work)
+}
+
+/// Of the reading of pairs from standard input, which begins now: told where standard error is a terminal and standard
+/// input is none, at which they would be typed.
+pub fn pairs_meter(rt: &HostRuntime) -> Meter<Console<'_, HostRuntime, Stderr>> {
+    let console = if rt.stdin().is_terminal() {
+        None
+    } else {
+        Console::new(rt, rt.stderr())
+    };
+    let work = Work {
+        unit: Unit::PairsRead,
+        of: None,
+    };
+    Meter::new(console, work)
+}
+
+/// Of the saving of a page file, which begins now: told where standard error is a terminal.
+pub fn saving_meter(rt: &HostRuntime) -> Meter<Console<'_, HostRuntime, Stderr>> {
+    let work = Work {
+        unit: Unit::BlocksWritten,
+        of: None,
     };
     Meter::new(Console::new(rt, rt.stderr()), work)
 }

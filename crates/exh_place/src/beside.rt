@@ -5,6 +5,7 @@ use crate::write_opened;
 use exh_frames::Pages;
 use exh_open::Opened;
 use exh_page_file::FileWriter;
+use exh_progress::{Meter, MeteredWriter, Terminal};
 use exh_save::SaveFault;
 use std::alloc::{AllocError, Global};
 use std::fs::{File, Metadata, OpenOptions};
@@ -17,16 +18,17 @@ const SAVING: &str = ".exhash-saving";
 
 /// Writes the page file of wards beside a place, and renames it over what is there, whose owner and permissions it then
 /// has. On an `Err` what is there is as before, and nothing is left beside it.
-pub(crate) fn save_beside<P: Pages + Drop>(
+pub(crate) fn save_beside<P: Pages + Drop, T: Terminal>(
     rt: &HostRuntime,
     place: &str,
     found: Option<Metadata>,
     opened: Opened<P>,
+    meter: &Meter<T>,
 ) -> Result<(), SaveFault> {
     let beside = name_beside(rt.alloc(), place).map_err(|_| SaveFault::Memory)?;
     // It is open, and so locked, until the file has its place.
     let mut file = claim(rt, &beside).map_err(|error| fault_of(&error))?;
-    let saved = fill(&mut file, found, opened).and_then(|()| put(rt, &beside, place));
+    let saved = fill(&mut file, found, opened, meter).and_then(|()| put(rt, &beside, place));
     if saved.is_err() {
         let _ = fs::remove_file(rt, beside.as_str());
     }
@@ -61,15 +63,17 @@ pub(crate) fn is_same(one: &Metadata, other: &Metadata) -> bool {
 }
 
 // Writes an empty file, and synchronizes it.
-fn fill<P: Pages + Drop>(
+fn fill<P: Pages + Drop, T: Terminal>(
     file: &mut File,
     found: Option<Metadata>,
     opened: Opened<P>,
+    meter: &Meter<T>,
 ) -> Result<(), SaveFault> {
     if let Some(found) = found {
         resemble(file, &found).map_err(|error| fault_of(&error))?;
     }
-    write_opened(opened, &mut FileWriter::new(file))?;
+    let mut counted = MeteredWriter::new(&mut *file, meter);
+    write_opened(opened, &mut FileWriter::new(&mut counted))?;
     file.sync_all().map_err(|error| fault_of(&error))
 }
 
