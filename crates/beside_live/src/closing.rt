@@ -1,0 +1,104 @@
+//! Closing with a seat missing and with all, and wards with the diaries of another file.
+ghost use Rattle.std.specs.Prelude.{◌≡◌};
+ghost use Rattle.exh_keyer.specs.Pseudokey.{plain_pseudokey};
+ghost use Rattle.exh_live.specs.declared.ledgers.TheConstants.{ANSWER_PARTS, ENTRY_PARTS};
+
+use exh_callers::{CAP, PlainFile, Reader, close, is_told, new_file, next_caller, settled};
+use exh_calls::Reply;
+use exh_fixtures::Asked;
+use exh_frames::PlainPages;
+use exh_keyer::PlainKeyer;
+use exh_live::{ANSWER_PARTS, Closed, ENTRY_PARTS, Identity, NotClosed, Seat};
+use exh_runs::{Difference, Part, Run, same};
+use exh_walk::OpenGate;
+use std::alloc::Global;
+use std::marker::Brand;
+use std::sync::Wait;
+use std::sync::ledger::Blank;
+
+type PlainClosed = Closed<PlainPages, PlainKeyer>;
+
+/// Runs it: seat 1 of a file puts a key, and seat 1 of another one gets it.
+pub(crate) fn run<R: Wait>(
+    rt: &R,
+    run: &mut Run,
+    copies: &mut Vec<Reader>,
+) -> Result<(), Difference> {
+    let alloc = run.alloc;
+    let put = answered(rt, alloc, copies, Asked::Put(b"k", b"a"), Reply::New)?;
+    let got = answered(rt, alloc, copies, Asked::Get(b"k"), Reply::None)?;
+    let own = if run.lie.is_due() { 2 } else { 1 };
+    run.tally.step(settles(&put, &put, Ok(own)));
+    run.tally.step(settles(&got, &got, Ok(1)));
+    run.tally.step(settles(&put, &got, Err(51)));
+    run.tally.step(settles(&got, &put, Err(51)));
+    Ok(())
+}
+
+// Whether the wards of a file come to so many answers with the diaries of another, or are refused so.
+fn settles(
+    wards: &PlainClosed,
+    diaries: &PlainClosed,
+    want: Result<u128, u8>,
+) -> Result<(), Difference> {
+    let count = settled(0, wards.wards.as_slice(), diaries.diaries.as_slice());
+    same(count == want, Part::Journal)
+}
+
+// What a file leaves of whose two seats the first was answered one call.
+fn answered<R: Wait>(
+    rt: &R,
+    alloc: Global,
+    copies: &mut Vec<Reader>,
+    asked: Asked<'_>,
+    reply: Reply,
+) -> Result<PlainClosed, Difference> {
+    let answers = Blank::new(ANSWER_PARTS);
+    let entries = Blank::new(ENTRY_PARTS);
+    answered_by::<R, Brand>(rt, alloc, copies, asked, reply, answers, entries)
+}
+
+fn answered_by<R: Wait, F: Identity>(
+    rt: &R,
+    alloc: Global,
+    copies: &mut Vec<Reader>,
+    asked: Asked<'_>,
+    reply: Reply,
+    answers: Blank,
+    entries: Blank,
+) -> Result<PlainClosed, Difference>
+    requires answers { (answers.name ≡ F.answers) × (answers.parts ≡ ANSWER_PARTS) }
+    requires entries { (entries.name ≡ F.entries) × (entries.parts ≡ ENTRY_PARTS) }
+    requires hashed { F.hashing ≡ plain_pseudokey }
+{
+    let mut file = new_file::<F>(alloc, CAP, 0, answers, entries)?;
+    let mut first = next_caller(&mut file, copies)?;
+    let second = next_caller(&mut file, copies)?;
+    is_told(rt, &file, &mut first, asked, &OpenGate, reply)?;
+    let mut seats = Vec::new(alloc);
+    seats.push(second.seat)?;
+    close_twice(file, seats, first.seat)
+}
+
+// Closes a file of two seats without the last one, which is refused, and then with it.
+fn close_twice<F: Identity>(
+    file: PlainFile<F>,
+    seats: Vec<Seat<F>>,
+    last: Seat<F>,
+) -> Result<PlainClosed, Difference> {
+    match file.close(seats) {
+        Ok(_) => Err(Difference::Apart(Part::Outcome)),
+        Err(back) => close_whole(back, last),
+    }
+}
+
+fn close_whole<F: Identity>(
+    back: NotClosed<PlainPages, PlainKeyer, F>,
+    last: Seat<F>,
+) -> Result<PlainClosed, Difference> {
+    let is_whole = back.seats.len() == 1 && back.file.seats() == 2;
+    same(is_whole && back.fault.number() == 52, Part::Outcome)?;
+    let mut seats = back.seats;
+    seats.push(last)?;
+    close(back.file, seats).map_err(Difference::Refused)
+}

@@ -1,0 +1,104 @@
+//! Plays stories of live files, and prints for each how many steps it took, and how many of them
+//! differed from what was worked out by hand.
+//!
+//! Each growth that is refused is asked for once more, and a refused call is asked once more: so it
+//! prints the same where memory is refused once, wherever that is.
+#![tactic(auto)]
+
+ghost use Rattle.std.specs.Prelude.{◌≡◌, ⊤};
+
+mod closing;
+mod told_copy;
+
+use exh_callers::Reader;
+use exh_copy::{CopyWriter, NewCopyFault, new_copy};
+use exh_runs::{Difference, Part, Run, RunKind, again, run_program};
+use exh_table::Table;
+use std::alloc::AllocError;
+use std::marker::Brand;
+use std::process::ExitCode;
+use std::sync::Wait;
+
+// How many readers of the copy a story may have.
+const READERS: u16 = 4;
+
+#[derive(Clone, Copy)]
+enum Story {
+    /// Copies that are told of a split, of nothing, and of a page that isn't there.
+    ToldCopy,
+    /// Closing, and settling.
+    Closing,
+}
+
+/// A story, with the handle of a program that may wait.
+struct Told<'a, R: Wait> {
+    rt: &'a R,
+    story: Story,
+}
+
+impl<R: Wait> Clone for Told<'_, R> {
+    ghost is_clone = { λ x y. y ≡ x };
+
+    ghost is_infallible = { λ _. ⊤ };
+
+    fn clone(&self) -> Result<Self, AllocError> {
+        Ok(*self)
+    }
+}
+
+impl<R: Wait> Copy for Told<'_, R> {}
+
+impl<R: Wait> RunKind for Told<'_, R> {
+    fn name(self) -> &'static str {
+        match self.story {
+            Story::ToldCopy => "told-copy",
+            Story::Closing => "closing",
+        }
+    }
+
+    fn take_steps(self, run: &mut Run) -> Result<(), Difference> {
+        again!(Err(Difference::Memory(_)) => with_copy(self.rt, self.story, run))
+    }
+}
+
+// Plays a story with a new copy of the directory.
+fn with_copy<R: Wait>(rt: &R, story: Story, run: &mut Run) -> Result<(), Difference> {
+    match new_copy::<Brand>(run.alloc, 0, &Table::new(run.alloc), READERS) {
+        Ok((mut writer, readers)) => {
+            let outcome = play(rt, story, run, &mut writer, readers);
+            drop(writer.close(rt));
+            outcome
+        }
+        Err(NewCopyFault::Memory) => Err(Difference::Memory(AllocError)),
+        Err(NewCopyFault::NoPlace(writer)) => {
+            drop(writer.close(rt));
+            Err(Difference::Apart(Part::Run))
+        }
+    }
+}
+
+fn play<R: Wait>(
+    rt: &R,
+    story: Story,
+    run: &mut Run,
+    writer: &mut CopyWriter<Brand>,
+    readers: Vec<Reader>,
+) -> Result<(), Difference> {
+    let mut copies = readers;
+    match story {
+        Story::ToldCopy => told_copy::run(rt, run, writer, &mut copies),
+        Story::Closing => closing::run(rt, run, &mut copies),
+    }
+}
+
+fn main(rt: HostRuntime) -> ExitCode {
+    let told_copy = Told {
+        rt: &rt,
+        story: Story::ToldCopy,
+    };
+    let closing = Told {
+        rt: &rt,
+        story: Story::Closing,
+    };
+    run_program(&rt, "beside_live", &[told_copy, closing])
+}

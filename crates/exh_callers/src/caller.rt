@@ -1,0 +1,90 @@
+//! Callers of a live file.
+
+use exh_calls::{Call, Reply};
+use exh_copy::CopyReader;
+use exh_fixtures::Asked;
+use exh_frames::{Pages, PlainPages};
+use exh_keyer::PlainKeyer;
+use exh_live::{Identity, LiveFile, Seat};
+use exh_runs::{Difference, Part, again, same};
+use exh_walk::{AskFault, Gate};
+use std::marker::Brand;
+use std::sync::Wait;
+
+pub type File<P, F> = LiveFile<P, PlainKeyer, F>;
+
+pub type PlainFile<F> = File<PlainPages, F>;
+
+pub type Reader = CopyReader<Brand>;
+
+/// A caller: its seat, and the copy of the directory that it looks at.
+#[derive(Drop)]
+pub struct Caller<F: Identity> {
+    pub seat: Seat<F>,
+    pub copy: Reader,
+}
+
+/// The next caller of a file, with one of these copies.
+pub fn next_caller<P: Pages + Drop, F: Identity>(
+    file: &mut File<P, F>,
+    copies: &mut Vec<Reader>,
+) -> Result<Caller<F>, Difference> {
+    let Some(copy) = copies.pop() else {
+        return Err(Difference::Apart(Part::Run));
+    };
+    match file.seat() {
+        Ok(seat) => Ok(Caller { seat, copy }),
+        Err(_) => Err(Difference::Apart(Part::Run)),
+    }
+}
+
+// This asks once, and needs nothing of the file: what calls it is proved with less.
+fn ask_once<R: Wait, P: Pages + Drop, F: Identity, G: Gate>(
+    rt: &R,
+    file: &File<P, F>,
+    caller: &mut Caller<F>,
+    call: &Call,
+    gate: &G,
+) -> Result<Reply, AskFault> {
+    file.ask(rt, &mut caller.seat, &mut caller.copy, call, gate)
+}
+
+/// Asks a call, once more where memory was refused.
+pub fn ask<R: Wait, P: Pages + Drop, F: Identity, G: Gate>(
+    rt: &R,
+    file: &File<P, F>,
+    caller: &mut Caller<F>,
+    call: &Call,
+    gate: &G,
+) -> Result<Reply, AskFault> {
+    again!(Err(AskFault::Memory) => ask_once(rt, file, caller, call, gate))
+}
+
+/// Asks a call, to which this is the reply.
+pub fn is_told<R: Wait, P: Pages + Drop, F: Identity, G: Gate>(
+    rt: &R,
+    file: &File<P, F>,
+    caller: &mut Caller<F>,
+    asked: Asked<'_>,
+    gate: &G,
+    reply: Reply,
+) -> Result<(), Difference> {
+    let call = asked.call()?;
+    match ask(rt, file, caller, &call, gate) {
+        Ok(told) => same(told == reply, Part::Reply),
+        Err(fault) => Err(Difference::Refused(fault.number())),
+    }
+}
+
+/// Asks a call at which the gate holds the caller.
+pub fn is_held<R: Wait, P: Pages + Drop, F: Identity, G: Gate>(
+    rt: &R,
+    file: &File<P, F>,
+    caller: &mut Caller<F>,
+    asked: Asked<'_>,
+    gate: &G,
+) -> Result<(), Difference> {
+    let call = asked.call()?;
+    let answer = ask(rt, file, caller, &call, gate);
+    same(answer == Err(AskFault::Held), Part::Walk)
+}
