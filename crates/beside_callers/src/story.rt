@@ -1,0 +1,26 @@
+//! The stories.
+
+/// A story.
+#[derive(Clone, Copy, PartialEq, Eq)]
+pub(crate) enum Story {
+    /// A caller is held between its look and its first hop.
+    HeldLook,
+    /// A caller waits in one ward, another one is answered in another.
+    Locks,
+    /// Many callers.
+    Callers,
+}
+
+/// All of them, in the order in which they are played.
+pub(crate) const STORIES: [Story; 3] = [Story::HeldLook, Story::Locks, Story::Callers];
+
+impl Story {
+    /// The word that names it.
+    pub(crate) fn name(self) -> &'static str {
+        match self {
+            Story::HeldLook => "held-look",
+            Story::Locks => "locks",
+            Story::Callers => "callers",
+        }
+    }
+}
