@@ -14,7 +14,7 @@ use Rattle.clap.specs.declared.parser.matches.ValueSource.TheVariants.{CommandLi
 use Rattle.clap.proofs.WalkLemmas.{find-map, list_any-map}
 use Rattle.exh_cli.specs.Parser.{option_rule}
 use Rattle.clap.proofs.OnLiterals.{clap_on_literals}
-use Rattle.exh_cli.specs.Words.{uses_named, Between, Ended, Reading, Use, Wanting, Wrong, after_option, after_word, ends_options, is_named, is_option, is_use_of, used_by, uses_read, value_given, with_use}
+use Rattle.exh_cli.specs.Words.{uses_named, Between, Ended, Reading, Use, Wanting, Wrong, after_option, after_word, ends_options, is_named, is_option, is_use_of, used_by, uses_read, option_given, with_use}
 use Rattle.exh_cli.proofs.WordLemmas.{AsksLong, Fails, IsAsking, IsFlagged, IsPlainWord, IsValue, or_nothing, by_bundle_fails, by_long, by_long_fails, first_fails, flagged, is_end, is_plain_word, is_value, long_fails, second_fails, word_fails}
 
 -- ---- an option, as it is when its command is built, and what is held of its use
@@ -36,7 +36,7 @@ first_of_found : (found : Option Use) → option_and_then (λ (r : Row). slice_g
 first_of_found None = refl
 first_of_found (Some one) = refl
 
-pub first_of-rows_of_uses : (name : Text) (uses : List Use) → first_of name (rows_of_uses uses) ≡ value_given name uses
+pub first_of-rows_of_uses : (name : Text) (uses : List Use) → first_of name (rows_of_uses uses) ≡ option_given name uses
 first_of-rows_of_uses name uses =
     ap (option_and_then (λ (r : Row). slice_get r.values 0)) (sym (find-map (λ (r : Row). bytes_eq r.id name) row_of_use uses)) ∙ first_of_found (find (is_use_of name) uses)
 

@@ -1,7 +1,7 @@
 -- The job that a command line names.
 use Rattle.std.specs.Prelude.{◌≡◌, ℕ, List, [], ◌∷◌, Option, Some, None, option_map, codes, if◌then◌else◌}
 use Rattle.std.specs.Str.{bytes_eq}
-use Rattle.exh_cli.specs.Words.{Use, path_named, uses_named, value_given}
+use Rattle.exh_cli.specs.Words.{Use, path_named, uses_named, option_given}
 use Rattle.exh_cli.specs.declared.job.Job.{Job}
 use Rattle.exh_cli.specs.declared.job.Job.TheVariants as jobs
 
@@ -29,7 +29,7 @@ abbrev pub save_name : List ℕ
 save_name = codes "save"
 
 abbrev pub served_by : List Use → Named
-served_by uses = Serve (value_given open_name uses) (value_given save_name uses)
+served_by uses = Serve (option_given open_name uses) (option_given save_name uses)
 
 abbrev pub serve_named : List (List ℕ) → Option Named
 serve_named words = option_map served_by (uses_named (open_name ∷ save_name ∷ []) words)

@@ -45,8 +45,8 @@ abbrev pub is_use_of : List ℕ → Use → Bool
 is_use_of name one = bytes_eq one.name name
 
 -- the value that was given to a name
-abbrev pub value_given : List ℕ → List Use → Option (List ℕ)
-value_given name uses = option_map (λ one. one.value) (find (is_use_of name) uses)
+abbrev pub option_given : List ℕ → List Use → Option (List ℕ)
+option_given name uses = option_map (λ one. one.value) (find (is_use_of name) uses)
 
 -- how far words were read, and the options so far: between two options, behind an option whose value is yet to come, or
 -- behind `--`; or they are wrong

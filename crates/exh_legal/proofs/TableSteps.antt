@@ -19,6 +19,7 @@ use Rattle.exh_notice.specs.declared.notice.Notice.{Notice}
 use Rattle.exh_notice.specs.Entry.{entry_of}
 use Rattle.exh_table.specs.Table.{TableMap, table_with, greater_of}
 use Rattle.exh_legal.specs.Numbers.{number_at, index_of}
+use Rattle.exh_legal.specs.OrderLemmas.{is_less}
 
 pub cases_prefix : (one other : List Bool) → (one ≡ other) ⊎ (one ≡ other → ⊥)
 cases_prefix one other = elim (cases_Bool (eq_by_cmp prefix_cmp one other)) [
@@ -50,13 +51,8 @@ get_with_same table notice later =
 
 -- ---- the sum of the numbers
 
-abbrev weight : List Bool × Entry → ℕ
+abbrev pub weight : List Bool × Entry → ℕ
 weight e = e.1.number
-
-is_less : (o : Ordering) → T (is_lt o) → o ≡ Less
-is_less Less h = refl
-is_less Equal h = absurd h
-is_less Greater h = absurd h
 
 -- a key below the first of sorted entries isn't among them
 none_below : (prefix first : List Bool) (es : List (List Bool × Entry)) → prefix_cmp prefix first ≡ Less → T (below_all prefix_cmp first es) → find prefix_cmp prefix es ≡ None

@@ -9,3 +9,4 @@ pub mod BareLemmas
 pub mod PlaceLemmas
 pub mod MapLemmas
 pub mod NoticeLemmas
+pub mod OrderLemmas

@@ -14,7 +14,7 @@ use Rattle.exh_legal.specs.MapLemmas.{page_at}
 use Rattle.exh_codec.specs.PageImage.{IsPage}
 use Rattle.exh_file.specs.FileVersion.{FitsFile, first_file}
 use Rattle.exh_page_file.specs.PageFile.{IsFile, PageFile, pages_of}
-use Rattle.exh_reasons.specs.FileParts.{HasRanges, IsBounded, OfEachWard}
+use Rattle.exh_reasons.specs.FileParts.{HasPartRanges, IsBounded, OfEachWard}
 use Rattle.exh_reasons.specs.Laws.{AreFormed, IsLegalFile, LegalFilesPass}
 use Rattle.exh_reasons.specs.Reasons.{IsFirstReason}
 use Rattle.exh_reasons.specs.declared.reason.Reason.{Reason}

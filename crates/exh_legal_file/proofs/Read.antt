@@ -11,11 +11,11 @@ use Rattle.exh_reasons.specs.Reasons.{IsFirstReason}
 use Rattle.exh_legal_file.specs.declared.legal_file.LegalFile.{LegalFile}
 use Rattle.exh_legal_file.specs.declared.legal_file_fault.LegalFileFault.{LegalFileFault}
 use Rattle.exh_legal_file.specs.declared.legal_file_fault.LegalFileFault.TheVariants.{File, Illegal, Memory, Read}
-use Rattle.exh_legal_file.specs.LegalFile.{IsLegalFileFault, IsLegalFileFaultOf, IsLegalPageFile, IsOther, parts_in}
+use Rattle.exh_legal_file.specs.LegalFile.{IsLegalFileFault, IsLegalFileFaultOf, IsLegalPageFile, IsOtherFault, parts_in}
 use Rattle.exh_legal_file.proofs.Parts.{first_file_fits, no_reason}
 
 module _ (one : OneFile) (pass : FilesPass) (none : PassedHasNoFault) (law : LegalFilesPass) (known : Option (List ℕ)) where
-  other_fault : (fault : LegalFileFault) (file : PageFile) (bytes : List ℕ) → known ≡ Some bytes → AreBytes bytes → IsLegalPageFile first_file file bytes → IsLegalFileFaultOf first_file known fault → IsOther fault
+  other_fault : (fault : LegalFileFault) (file : PageFile) (bytes : List ℕ) → known ≡ Some bytes → AreBytes bytes → IsLegalPageFile first_file file bytes → IsLegalFileFaultOf first_file known fault → IsOtherFault fault
   other_fault Memory file bytes knows small is fault = tt
   other_fault Read file bytes knows small is fault = tt
   other_fault (File f) file bytes knows small is fault =
@@ -27,7 +27,7 @@ module _ (one : OneFile) (pass : FilesPass) (none : PassedHasNoFault) (law : Leg
 
   pub every : (result : Result LegalFile LegalFileFault)
       → IfOk result (λ legal. (bytes : List ℕ) × IsAll known bytes × AreBytes bytes × IsLegalPageFile first_file (file_of legal.parts) bytes) → IfErr result (IsLegalFileFaultOf first_file known)
-      → (file : PageFile) (bytes : List ℕ) → known ≡ Some bytes → AreBytes bytes → IsLegalPageFile first_file file bytes → MatchResult result (λ legal. file_of legal.parts ≡ file) IsOther
+      → (file : PageFile) (bytes : List ℕ) → known ≡ Some bytes → AreBytes bytes → IsLegalPageFile first_file file bytes → MatchResult result (λ legal. file_of legal.parts ≡ file) IsOtherFault
   every (Ok legal) ok err file bytes knows small is =
       let same : bytes ≡ ok.0 = subst (λ (known : Option (List ℕ)). IsAll known ok.0) knows ok.1 in
       one first_file first_file_fits bytes (file_of legal.parts) file (subst (IsPageFile first_file (file_of legal.parts)) (sym same) ok.3.is) is.is

@@ -65,8 +65,8 @@ IsLegalFileFaultOf version known Read = ⊤
 IsLegalFileFaultOf version known Memory = ⊤
 
 -- the fault isn't one of the bytes
-abbrev pub IsOther : LegalFileFault → Type 0
-IsOther (File fault) = ⊥
-IsOther (Illegal reason) = ⊥
-IsOther Read = ⊤
-IsOther Memory = ⊤
+abbrev pub IsOtherFault : LegalFileFault → Type 0
+IsOtherFault (File fault) = ⊥
+IsOtherFault (Illegal reason) = ⊥
+IsOtherFault Read = ⊤
+IsOtherFault Memory = ⊤

@@ -5,7 +5,7 @@ use Rattle.exh_file.specs.declared.file_fault.FileFault.{FileFault}
 use Rattle.exh_file.specs.declared.file_fault.FileFault.TheVariants as faults
 use Rattle.exh_page_file.specs.declared.read_file_fault.ReadFileFault.{ReadFileFault}
 use Rattle.exh_page_file.specs.declared.read_file_fault.ReadFileFault.TheVariants as reads
-use Rattle.exh_reasons.specs.Reasons.{place_of}
+use Rattle.exh_reasons.specs.Reasons.{rank_of}
 use Rattle.exh_legal_file.specs.declared.legal_file_fault.LegalFileFault.{LegalFileFault}
 use Rattle.exh_legal_file.specs.declared.legal_file_fault.LegalFileFault.TheVariants.{File, Illegal, Memory, Read}
 
@@ -31,7 +31,7 @@ fault_place Memory = None
 
 abbrev pub fault_reason : LegalFileFault → Option ℕ
 fault_reason (File fault) = None
-fault_reason (Illegal reason) = Some (place_of reason)
+fault_reason (Illegal reason) = Some (rank_of reason)
 fault_reason Read = None
 fault_reason Memory = None
 

@@ -9,7 +9,7 @@ use Rattle.exh_page.specs.declared.page.Page.{Page}
 use Rattle.exh_file.specs.declared.file_entry.FileEntry.{FileEntry}
 use Rattle.exh_file.specs.FileVersion.{FitsFile, first_file}
 use Rattle.exh_page_file.specs.PageFile.{IsFile, PageFile}
-use Rattle.exh_reasons.specs.FileParts.{HasRanges}
+use Rattle.exh_reasons.specs.FileParts.{HasPartRanges}
 use Rattle.exh_legal_file.specs.LegalFile.{parts_in, table_naming, tables_of}
 use Rattle.exh_legal_file.specs.declared.tables.TheConstants.{NAMED_WARDS}
 
@@ -24,7 +24,7 @@ few_wards bits few = elim (cases_lt 4 bits) [
 pub few_bits : (file : PageFile) → IsFile first_file file → file.header.ward_bits ≤ 4
 few_bits file valid = few_wards file.header.ward_bits valid.header.wards
 
-pub ranges_of : (file : PageFile) → IsFile first_file file → HasRanges (parts_in file)
+pub ranges_of : (file : PageFile) → IsFile first_file file → HasPartRanges (parts_in file)
 ranges_of file valid = record { cap = valid.header.few; bits = (let few = few_bits file valid in omega arith) }
 
 pub count_of_wards : (file : PageFile) → IsFile first_file file → length file.wards ≡ 2 ^ file.header.ward_bits
@@ -34,6 +34,6 @@ count_of_wards file valid =
 
 -- ---- the tables of its wards
 
-pub table_at : (entries : List FileEntry) (ward : ℕ) → ward < NAMED_WARDS → get_or (tables_of entries) ward empty ≡ table_naming entries ward
+pub table_naming_at : (entries : List FileEntry) (ward : ℕ) → ward < NAMED_WARDS → get_or (tables_of entries) ward empty ≡ table_naming entries ward
 unfolding tables_of
-table_at entries ward less = get_or-map-range_with_len (table_naming entries) 0 NAMED_WARDS ward ward empty less (omega arith)
+table_naming_at entries ward less = get_or-map-range_with_len (table_naming entries) 0 NAMED_WARDS ward ward empty less (omega arith)

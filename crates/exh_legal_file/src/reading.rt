@@ -4,7 +4,7 @@ ghost use Rattle.exh_page_file.specs.FileParts.{file_of};
 ghost use Rattle.exh_page_file.specs.PageFile.{PageFile, IsFile};
 ghost use Rattle.exh_page_file.specs.Reading.{AreBytes, IsAll};
 ghost use Rattle.exh_reasons.specs.Reasons.{IsFirstReason};
-ghost use Rattle.exh_legal_file.specs.LegalFile.{IsLegalFileFaultOf, IsLegalPageFile, IsOther, parts_in, tables_of, ward_tables};
+ghost use Rattle.exh_legal_file.specs.LegalFile.{IsLegalFileFaultOf, IsLegalPageFile, IsOtherFault, parts_in, tables_of, ward_tables};
 
 use crate::tables::tables_of;
 use crate::{LegalFile, LegalFileFault};
@@ -27,7 +27,7 @@ pub fn read_legal_file<R: Read>(alloc: Global, reader: &mut R) -> Result<LegalFi
     ensures tables { IfOk result (λ legal. legal.tables.items ≡ ward_tables (file_of legal.parts)) }
     ensures fault { IfErr result (IsLegalFileFaultOf first_file (R.remaining reader.old)) }
     ensures every { (file : PageFile) (bytes : List ℕ) → R.remaining reader.old ≡ Some bytes → AreBytes bytes → IsLegalPageFile first_file file bytes
-        → MatchResult result (λ legal. file_of legal.parts ≡ file) IsOther }
+        → MatchResult result (λ legal. file_of legal.parts ≡ file) IsOtherFault }
 {
     one_file();
     files_pass();

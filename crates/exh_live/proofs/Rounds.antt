@@ -14,7 +14,7 @@ use Rattle.exh_ward.specs.WardFault.{CountsFailures, MergeRefused}
 use Rattle.exh_ward.specs.WardState.{WardState, IsUnchanged, own_prefix}
 use Rattle.exh_ward.specs.declared.ward_fault.WardFault.{WardFault}
 use Rattle.exh_ward.specs.declared.ward_fault.WardFault.TheVariants.{NoPage, NotLive, NotFull, AtLimit, NoBuddy, BuddySplit, TooMany, Worn, Memory, Page}
-use Rattle.exh_live.specs.Rounds.{AreCarried, AreFromTo, AreSparse, IsKept, MayRefuseKeeper}
+use Rattle.exh_live.specs.Rounds.{AreCarried, AreFromTo, AreSparse, IsKeeperTurn, MayRefuseKeeper}
 
 -- ---- keepers
 
@@ -48,17 +48,17 @@ module _ {K : Type 0} (ward : WardState K) (at sum : ℕ) (has : HasBuddySum war
   may_refuse Page refused = tt
 
 module _ {K : Type 0} {ward now : WardState K} {at : ℕ} where
-  pub kept_alone : now ≡ ward → IsBuddySum ward at None → IsKept ward at false now
+  pub kept_alone : now ≡ ward → IsBuddySum ward at None → IsKeeperTurn ward at false now
   kept_alone same none = (same, λ sparse. absurd (none sparse.0 sparse.1))
 
   module _ {sum : ℕ} (is : IsBuddySum ward at (Some sum)) where
-    pub kept_full : now ≡ ward → ward.cap < 2 * sum → IsKept ward at false now
+    pub kept_full : now ≡ ward → ward.cap < 2 * sum → IsKeeperTurn ward at false now
     kept_full same many = (same, λ sparse. absurd (omega (arith, many, sparse.2, is.1 sparse.0 sparse.1)))
 
-    pub kept_merged : (notice : Notice) (new : WardState K) → now ≡ ward → 2 * sum ≤ ward.cap → IsMergeStep now at notice new → IsKept ward at true new
+    pub kept_merged : (notice : Notice) (new : WardState K) → now ≡ ward → 2 * sum ≤ ward.cap → IsMergeStep now at notice new → IsKeeperTurn ward at true new
     kept_merged notice new same few merge = ((sum, is.0, few), (notice, subst (λ w. IsMergeStep w at notice new) same merge))
 
-    kept_worn : (fault : WardFault) (new : WardState K) → fault ≡ Worn → now ≡ ward → IsUnchanged now new → CountsFailures {T = Notice} (Err fault) now.failures new.failures → MergeRefused now at fault → IsKept ward at false new
+    kept_worn : (fault : WardFault) (new : WardState K) → fault ≡ Worn → now ≡ ward → IsUnchanged now new → CountsFailures {T = Notice} (Err fault) now.failures new.failures → MergeRefused now at fault → IsKeeperTurn ward at false new
     kept_worn fault new worn same unchanged failures refused =
         let none : new.failures ≡ now.failures = subst (λ f. CountsFailures {T = Notice} (Err f) now.failures new.failures) worn failures in
         let still : new ≡ now = unchanged ∙ ap (λ n. record now { failures = n }) none in
@@ -66,8 +66,8 @@ module _ {K : Type 0} {ward now : WardState K} {at : ℕ} where
         (still ∙ same, λ sparse. subst (λ w. MergeRefused w at Worn) same why)
 
     pub kept_refused : (fault : WardFault) (new : WardState K) → now ≡ ward → IsUnchanged now new → CountsFailures {T = Notice} (Err fault) now.failures new.failures → MergeRefused now at fault
-        → (result : Result Bool WardFault) → IfOk result (λ merged. (merged ≡ false) × (fault ≡ Worn)) → IfOk result (λ merged. IsKept ward at merged new)
-    kept_refused fault new same unchanged failures refused (Ok merged) worn = subst (λ b. IsKept ward at b new) (sym worn.0) (kept_worn fault new worn.1 same unchanged failures refused)
+        → (result : Result Bool WardFault) → IfOk result (λ merged. (merged ≡ false) × (fault ≡ Worn)) → IfOk result (λ merged. IsKeeperTurn ward at merged new)
+    kept_refused fault new same unchanged failures refused (Ok merged) worn = subst (λ b. IsKeeperTurn ward at b new) (sym worn.0) (kept_worn fault new worn.1 same unchanged failures refused)
     kept_refused fault new same unchanged failures refused (Err other) worn = tt
 
     pub refused_sparse : (fault : WardFault) → now ≡ ward → 2 * sum ≤ ward.cap → MergeRefused now at fault → MayRefuseKeeper fault

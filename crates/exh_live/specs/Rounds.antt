@@ -21,9 +21,9 @@ abbrev pub AreSparse : {K : Type 0} → WardState K → ℕ → Type 0
 AreSparse ward at = (sum : ℕ) × HasBuddySum ward at sum × (2 * sum ≤ ward.cap)
 
 -- a keeper's turn at a page: they were sparse and are merged, or nothing changed, since they aren't sparse or the number at the parent is the greatest
-abbrev pub IsKept : {K : Type 0} → WardState K → ℕ → Bool → WardState K → Type 0
-IsKept old at true new = AreSparse old at × ((notice : Notice) × IsMergeStep old at notice new)
-IsKept old at false new = (new ≡ old) × (AreSparse old at → MergeRefused old at Worn)
+abbrev pub IsKeeperTurn : {K : Type 0} → WardState K → ℕ → Bool → WardState K → Type 0
+IsKeeperTurn old at true new = AreSparse old at × ((notice : Notice) × IsMergeStep old at notice new)
+IsKeeperTurn old at false new = (new ≡ old) × (AreSparse old at → MergeRefused old at Worn)
 
 -- what a merge of sparse pages may be refused for
 abbrev pub MayRefuseKeeper : WardFault → Type 0

@@ -8,7 +8,7 @@ ghost use Rattle.exh_ward.specs.WardState.{IsUnchanged, LeavesAfter, own_prefix}
 ghost use Rattle.exh_route.specs.WardRun.{HopAt, answer_of};
 ghost use Rattle.exh_notice.specs.declared.notice.Notice.{Notice as NoticeValue};
 ghost use Rattle.exh_ward.specs.declared.ward_fault.WardFault.TheVariants.{Worn};
-ghost use Rattle.exh_live.specs.Rounds.{AreFromTo, IsKept, MayRefuseKeeper};
+ghost use Rattle.exh_live.specs.Rounds.{AreFromTo, IsKeeperTurn, MayRefuseKeeper};
 
 use crate::Identity;
 use crate::ledgers::{Answers, Entries};
@@ -113,7 +113,7 @@ impl<P: Pages + Drop, K: Keyer, F: Identity> TalliedWard<P, K, F> {
     /// method that the world's step calls. It answers whether it merged them; not where the number at
     /// their parent is the greatest. No unit is added.
     pub(crate) fn keep(&mut self, page: PageNo) -> Result<bool, WardFault>
-        ensures kept { IfOk result (λ merged. IsKept self.old.ward page merged self.new.ward) }
+        ensures kept { IfOk result (λ merged. IsKeeperTurn self.old.ward page merged self.new.ward) }
         ensures err { OnErr result (IsUnchanged self.old.ward self.new.ward) }
         ensures fault { IfErr result IsStoreFault }
     {

@@ -10,7 +10,7 @@ use Rattle.exh_text.specs.declared.line_fault.LineFault.{LineFault}
 use Rattle.exh_calls.specs.declared.reply.Reply.{Reply}
 use Rattle.exh_calls.specs.declared.reply.Reply.TheVariants as replies
 use Rattle.exh_load.specs.Load.{AreWholeLines}
-use Rattle.exh_load.specs.Loading.{Loading, after_line, line_text, loaded_from, pair_of, pair_reply, parsed_text, reply_text, text_from}
+use Rattle.exh_load.specs.Loading.{Loading, after_pair_line, line_text, loaded_from, pair_told, pair_reply, parsed_text, put_text, load_text_from}
 
 -- what is printed of a line, where a text is built anew
 pub line_is : (loading : Loading) (line cleared built bytes : List ℕ) → cleared ≡ [] → built ≡ cleared ++ line_text loading line → bytes ≡ built → bytes ≡ line_text loading line
@@ -27,7 +27,7 @@ pub lines_then : (one other : List ℕ) → AreWholeLines one → AreWholeLines 
 lines_then one other h (inl none) = subst AreWholeLines (sym (ap (λ l. one ++ l) none ∙ append-nil one)) h
 lines_then one other h (inr some) = inr (one ++ some.0, ap (λ l. one ++ l) some.1 ∙ sym (append_assoc one some.0 (codes "\n")))
 
-reply_lines : (key : List ℕ) (reply : Reply) → AreWholeLines (reply_text key reply)
+reply_lines : (key : List ℕ) (reply : Reply) → AreWholeLines (put_text key reply)
 reply_lines key (replies.Is value) = inl refl
 reply_lines key replies.None = inl refl
 reply_lines key replies.New = inl refl
@@ -40,47 +40,47 @@ parsed_lines loading (Err fault) = inr (refused_text (line_fault_number fault), 
 
 line_lines : (loading : Loading) (line : List ℕ) → AreWholeLines (line_text loading line)
 unfolding line_text
-line_lines loading line = parsed_lines loading (pair_of line)
+line_lines loading line = parsed_lines loading (pair_told line)
 
-pub text_lines : (loading : Loading) (lines : List (List ℕ)) → AreWholeLines (text_from loading lines)
+pub text_lines : (loading : Loading) (lines : List (List ℕ)) → AreWholeLines (load_text_from loading lines)
 text_lines loading [] = inl refl
-text_lines loading (line ∷ lines) = lines_then (line_text loading line) (text_from (after_line loading line) lines) (line_lines loading line) (text_lines (after_line loading line) lines)
+text_lines loading (line ∷ lines) = lines_then (line_text loading line) (load_text_from (after_pair_line loading line) lines) (line_lines loading line) (text_lines (after_pair_line loading line) lines)
 
 -- ---- line by line
 
 -- these lines lead from one loading to another, where the text goes on
 pub record LeadTo (first now : Loading) (lines : List (List ℕ)) : Type 0 where
-  pub goes_on : (more : List (List ℕ)) → text_from first (lines ++ more) ≡ text_from first lines ++ text_from now more
+  pub goes_on : (more : List (List ℕ)) → load_text_from first (lines ++ more) ≡ load_text_from first lines ++ load_text_from now more
   pub leaves : (more : List (List ℕ)) → loaded_from first (lines ++ more) ≡ loaded_from now more
 
 pub LeadTo-none : (first : Loading) → LeadTo first first []
 LeadTo-none first = record { goes_on = λ more. refl; leaves = λ more. refl }
 
 module _ (first now : Loading) (lines : List (List ℕ)) (lead : LeadTo first now lines) where
-  pub text_of_left : (left whole : List (List ℕ)) → whole ≡ lines ++ left → text_from first lines ++ text_from now left ≡ text_from first whole
-  text_of_left left whole split = sym (lead.goes_on left) ∙ ap (text_from first) (sym split)
+  pub text_of_left : (left whole : List (List ℕ)) → whole ≡ lines ++ left → load_text_from first lines ++ load_text_from now left ≡ load_text_from first whole
+  text_of_left left whole split = sym (lead.goes_on left) ∙ ap (load_text_from first) (sym split)
 
   pub loaded_by_all : (whole : List (List ℕ)) → whole ≡ lines ++ [] → now ≡ loaded_from first whole
   loaded_by_all whole split = sym (lead.leaves []) ∙ ap (loaded_from first) (sym split)
 
   module _ (line : List ℕ) where
-    pub text_of_more : text_from first (lines ++ line ∷ []) ≡ text_from first lines ++ line_text now line
-    text_of_more = lead.goes_on (line ∷ []) ∙ ap (λ l. text_from first lines ++ l) (append-nil (line_text now line))
+    pub text_of_more : load_text_from first (lines ++ line ∷ []) ≡ load_text_from first lines ++ line_text now line
+    text_of_more = lead.goes_on (line ∷ []) ∙ ap (λ l. load_text_from first lines ++ l) (append-nil (line_text now line))
 
-    pub LeadTo-more : (next : Loading) → next ≡ after_line now line → LeadTo first next (lines ++ line ∷ [])
+    pub LeadTo-more : (next : Loading) → next ≡ after_pair_line now line → LeadTo first next (lines ++ line ∷ [])
     LeadTo-more next is = record {
       goes_on = λ more.
-          ap (text_from first) (append_assoc lines (line ∷ []) more)
+          ap (load_text_from first) (append_assoc lines (line ∷ []) more)
           ∙ lead.goes_on (line ∷ more)
-          ∙ ap (λ l. text_from first lines ++ (line_text now line ++ text_from l more)) (sym is)
-          ∙ sym (append_assoc (text_from first lines) (line_text now line) (text_from next more))
-          ∙ ap (λ l. l ++ text_from next more) (sym text_of_more);
+          ∙ ap (λ l. load_text_from first lines ++ (line_text now line ++ load_text_from l more)) (sym is)
+          ∙ sym (append_assoc (load_text_from first lines) (line_text now line) (load_text_from next more))
+          ∙ ap (λ l. l ++ load_text_from next more) (sym text_of_more);
       leaves = λ more. ap (loaded_from first) (append_assoc lines (line ∷ []) more) ∙ lead.leaves (line ∷ more) ∙ ap (λ l. loaded_from l more) (sym is);
     }
 
 -- the text of the lines left is that of the next one and of those after it
-pub text_of_next : (now next : Loading) (lines left : List (List ℕ)) (line : List ℕ) → lines ≡ line ∷ left → next ≡ after_line now line → text_from now lines ≡ line_text now line ++ text_from next left
-text_of_next now next lines left line split is = ap (text_from now) split ∙ ap (λ l. line_text now line ++ text_from l left) (sym is)
+pub text_of_next : (now next : Loading) (lines left : List (List ℕ)) (line : List ℕ) → lines ≡ line ∷ left → next ≡ after_pair_line now line → load_text_from now lines ≡ line_text now line ++ load_text_from next left
+text_of_next now next lines left line split is = ap (load_text_from now) split ∙ ap (λ l. line_text now line ++ load_text_from l left) (sym is)
 
 module _ {W : Type 0} (contents : W → Option (List ℕ)) (first now : Output W) (told rest whole : List ℕ) (passed : Takes contents first now told) (text : told ++ rest ≡ whole) where
   -- the text so far is a beginning of the whole

@@ -5,8 +5,8 @@ use Rattle.exh_keyer.specs.declared.any_keyer.AnyKeyer.{AnyKeyer}
 use Rattle.exh_stream.specs.Output.{Takes, TakesBeginning}
 use Rattle.exh_stream.specs.OutputLemmas.{Takes-then, TakesBeginning-of_more, TakesBeginning-then}
 use Rattle.exh_stream.specs.declared.output.Output.{Output}
-use Rattle.exh_load.specs.Load.{TakesFront, empty_loading, number_line, records_in, text_of_pairs}
-use Rattle.exh_load.specs.Loading.{Loading, loaded_from, text_from}
+use Rattle.exh_load.specs.Load.{TakesFront, empty_loading, number_line, record_count, text_of_pairs}
+use Rattle.exh_load.specs.Loading.{Loading, loaded_from, load_text_from}
 use Rattle.exh_load.specs.declared.load_fault.LoadFault.{LoadFault}
 use Rattle.exh_load.specs.declared.load_fault.LoadFault.TheVariants.{Write}
 use Rattle.exh_load.proofs.Lines.{lines_then, text_lines}
@@ -23,23 +23,23 @@ module _ (cap ward_bits : ℕ) (keyer : AnyKeyer) (now left : Loading) (lines : 
   abbrev first : Loading
   first = empty_loading cap ward_bits keyer
 
-  pub records_told : (records : ℕ) → left ≡ loaded_from now lines → records + records_in now ≡ records_in left → records ≡ records_in (loaded_from first lines)
+  pub records_told : (records : ℕ) → left ≡ loaded_from now lines → records + record_count now ≡ record_count left → records ≡ record_count (loaded_from first lines)
   records_told records left_is counted =
-      omega (arith, counted, ap records_in is, none_counted cap ward_bits keyer, ap records_in left_is, ap (λ l. records_in (loaded_from l lines)) is)
+      omega (arith, counted, ap record_count is, none_counted cap ward_bits keyer, ap record_count left_is, ap (λ l. record_count (loaded_from l lines)) is)
 
   module _ {W : Type 0} (contents : W → Option (List ℕ)) (old mid : Output W) where
     abbrev last : List ℕ
-    last = number_line (codes "loaded ") (records_in (loaded_from first lines))
+    last = number_line (codes "loaded ") (record_count (loaded_from first lines))
 
-    pub lines_begun : TakesBeginning contents old mid (text_from now lines) → TakesBeginning contents old mid (text_of_pairs first lines)
-    lines_begun begun = TakesBeginning-of_more last (subst (λ l. TakesBeginning contents old mid (text_from l lines)) is begun)
+    pub lines_begun : TakesBeginning contents old mid (load_text_from now lines) → TakesBeginning contents old mid (text_of_pairs first lines)
+    lines_begun begun = TakesBeginning-of_more last (subst (λ l. TakesBeginning contents old mid (load_text_from l lines)) is begun)
 
-    pub lines_front : TakesFront contents old mid (text_from now lines) → TakesFront contents old mid (text_of_pairs first lines)
-    lines_front front = front_of_more contents old mid (text_from first lines) last (subst (λ l. TakesFront contents old mid (text_from l lines)) is front)
+    pub lines_front : TakesFront contents old mid (load_text_from now lines) → TakesFront contents old mid (text_of_pairs first lines)
+    lines_front front = front_of_more contents old mid (load_text_from first lines) last (subst (λ l. TakesFront contents old mid (load_text_from l lines)) is front)
 
-    module _ (new : Output W) (taken : Takes contents old mid (text_from now lines)) (records : ℕ) (told : records ≡ records_in (loaded_from first lines)) where
-      abbrev all_lines : Takes contents old mid (text_from first lines)
-      all_lines = subst (λ l. Takes contents old mid (text_from l lines)) is taken
+    module _ (new : Output W) (taken : Takes contents old mid (load_text_from now lines)) (records : ℕ) (told : records ≡ record_count (loaded_from first lines)) where
+      abbrev all_lines : Takes contents old mid (load_text_from first lines)
+      all_lines = subst (λ l. Takes contents old mid (load_text_from l lines)) is taken
 
       pub pairs_out : Takes contents mid new (number_line (codes "loaded ") records) → Takes contents old new (text_of_pairs first lines)
       pairs_out line = Takes-then all_lines (subst (λ n. Takes contents mid new (number_line (codes "loaded ") n)) told line)
@@ -51,9 +51,9 @@ module _ (cap ward_bits : ℕ) (keyer : AnyKeyer) (now left : Loading) (lines : 
       pairs_front line =
           let front : TakesFront contents mid new last = subst (λ n. TakesFront contents mid new (number_line (codes "loaded ") n)) told line in
           record {
-            front = text_from first lines ++ front.front;
+            front = load_text_from first lines ++ front.front;
             rest = front.rest;
-            split = ap (λ l. text_from first lines ++ l) front.split ∙ sym (append_assoc (text_from first lines) front.front front.rest);
-            lines = lines_then (text_from first lines) front.front (text_lines first lines) front.lines;
+            split = ap (λ l. load_text_from first lines ++ l) front.split ∙ sym (append_assoc (load_text_from first lines) front.front front.rest);
+            lines = lines_then (load_text_from first lines) front.front (text_lines first lines) front.lines;
             taken = Takes-then all_lines front.taken;
           }

@@ -27,7 +27,7 @@ use Rattle.exh_open.specs.Opened.{AreWardsOf, IsWardOf}
 use Rattle.exh_load.specs.Put.{AreSplitsAtMost, IsDirectoryOf, IsPut}
 use Rattle.exh_load.specs.Loader.{IsLoading, IsPutIn, LoaderState, file_in, ward_in}
 use Rattle.exh_load.specs.Loading.{Loading, after_pair, loading_of, map_at, pair_reply}
-use Rattle.exh_load.specs.Load.{new_count, records_in}
+use Rattle.exh_load.specs.Load.{new_count, record_count}
 use Rattle.exh_load.proofs.Records.{put_counted}
 use Rattle.exh_load.proofs.Splits.{splits_keep}
 
@@ -182,9 +182,9 @@ module _ (old now : LoaderState) (view_is : old ≡ now) (are : AreWardsOf (file
         pub maps_in : (value : List ℕ) → IfOk result (λ reply. IsPut any_pseudokey ward (Put key value) reply after) → OnOk result (loading_of left ≡ after_pair (loading_of now) key value)
         maps_in value put = on_if_ok result (λ reply has. subst (λ o. loading_of left ≡ after_pair (loading_of o) key value) view_is (maps_here value reply has)) put
 
-        pub records_left : (value : List ℕ) → IfOk result (λ reply. IsPut any_pseudokey ward (Put key value) reply after) → IfOk result (λ reply. new_count reply + records_in (loading_of now) ≡ records_in (loading_of left))
+        pub records_left : (value : List ℕ) → IfOk result (λ reply. IsPut any_pseudokey ward (Put key value) reply after) → IfOk result (λ reply. new_count reply + record_count (loading_of now) ≡ record_count (loading_of left))
         records_left value put =
-            if_ok result (λ reply has. subst (λ o. new_count reply + records_in (loading_of o) ≡ records_in (loading_of left)) view_is (put_counted old left key value reply (is_put value reply has) (reply_here value reply has) (maps_here value reply has))) put
+            if_ok result (λ reply has. subst (λ o. new_count reply + record_count (loading_of o) ≡ record_count (loading_of left)) view_is (put_counted old left key value reply (is_put value reply has) (reply_here value reply has) (maps_here value reply has))) put
 
         pub wards_left : HasSettings ward after → AreWardsOf (file_in left)
         wards_left kept = record {

@@ -21,7 +21,7 @@ use Rattle.exh_keyer.specs.Pseudokey.{any_pseudokey}
 use Rattle.exh_legal.specs.Pages.{map_of}
 use Rattle.exh_ward.specs.WardState.{WardState}
 use Rattle.exh_text.specs.Lines.{is_empty, lines_of, newline, parts_at}
-use Rattle.exh_load.specs.Load.{empty_loading, new_count, records_in}
+use Rattle.exh_load.specs.Load.{empty_loading, new_count, record_count}
 use Rattle.exh_load.specs.Loader.{IsPutIn, LoaderState}
 use Rattle.exh_load.specs.Loading.{Loading, after_pair, loading_of, map_at, pair_reply, ward_at}
 
@@ -34,7 +34,7 @@ put_len m key value false None is = fin.len-insert nat_list_cmp_total m key valu
 
 -- of all maps, where the key's ward is there
 pub pair_counted : (loading : Loading) (key value : List ℕ) → ward_at loading key < length loading.maps
-    → new_count (pair_reply loading key value) + records_in loading ≡ records_in (after_pair loading key value)
+    → new_count (pair_reply loading key value) + record_count loading ≡ record_count (after_pair loading key value)
 pair_counted loading key value within =
     let at = ward_at loading key in
     let m = map_at loading key in
@@ -45,12 +45,12 @@ pair_counted loading key value within =
 
 -- of a loader that a pair was put into
 pub put_counted : (old new : LoaderState) (key value : List ℕ) (reply : Reply) → IsPutIn old key value reply new → reply ≡ pair_reply (loading_of old) key value → loading_of new ≡ after_pair (loading_of old) key value
-    → new_count reply + records_in (loading_of old) ≡ records_in (loading_of new)
+    → new_count reply + record_count (loading_of old) ≡ record_count (loading_of new)
 put_counted old new key value reply put reply_is maps =
     let within : ward_at (loading_of old) key < length (loading_of old).maps = omega (arith, slice_get_within old.wards _ put.ward put.there, length-map old.wards (λ (w : WardState AnyKeyer). map_of w.pages)) in
-    ap (λ r. new_count r + records_in (loading_of old)) reply_is ∙ pair_counted (loading_of old) key value within ∙ sym (ap records_in maps)
+    ap (λ r. new_count r + record_count (loading_of old)) reply_is ∙ pair_counted (loading_of old) key value within ∙ sym (ap record_count maps)
 
-pub none_counted : (most ward_bits : ℕ) (keyer : AnyKeyer) → records_in (empty_loading most ward_bits keyer) ≡ 0
+pub none_counted : (most ward_bits : ℕ) (keyer : AnyKeyer) → record_count (empty_loading most ward_bits keyer) ≡ 0
 none_counted most ward_bits keyer = sum_by-replicate fin.len (2 ^ ward_bits) (let none : KeyMap = fin.empty in none) ∙ ap (λ (k : ℕ). 2 ^ ward_bits * k) (fin.len-empty (slice_cmp nat_cmp) (List ℕ)) ∙ omega arith
 
 -- a text has at most a line more than it has bytes

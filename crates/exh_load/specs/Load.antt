@@ -17,7 +17,7 @@ use Rattle.exh_script.specs.declared.settings.Settings.{Settings}
 use Rattle.exh_script.specs.declared.script.TheConstants.{SCRIPT_LIMIT}
 use Rattle.exh_open.specs.Opened.{OpenedState}
 use Rattle.exh_load.specs.Loader.{LoaderState}
-use Rattle.exh_load.specs.Loading.{Loading, loaded_from, loading_of, text_from}
+use Rattle.exh_load.specs.Loading.{Loading, loaded_from, loading_of, load_text_from}
 
 -- what the wards of a file have
 abbrev pub loading_in : OpenedState → Loading
@@ -31,8 +31,8 @@ abbrev pub new_loading : Config AnyKeyer → Loading
 new_loading file = empty_loading file.cap file.ward_bits file.keyer
 
 -- how many records there are
-abbrev pub records_in : Loading → ℕ
-records_in loading = sum_by fin.len loading.maps
+abbrev pub record_count : Loading → ℕ
+record_count loading = sum_by fin.len loading.maps
 
 -- ---- a load
 
@@ -51,7 +51,7 @@ refused number = record { printed = number_line (codes "refused ") number; left 
 
 -- the text of the lines, and how many records there are at last
 abbrev pub text_of_pairs : Loading → List (List ℕ) → List ℕ
-text_of_pairs first lines = text_from first lines ++ number_line (codes "loaded ") (records_in (loaded_from first lines))
+text_of_pairs first lines = load_text_from first lines ++ number_line (codes "loaded ") (record_count (loaded_from first lines))
 
 abbrev pub loaded : Loading → List (List ℕ) → Load
 loaded first lines = record { printed = text_of_pairs first lines; left = Some (loaded_from first lines) }

@@ -53,35 +53,35 @@ abbrev pub spelled_words : List (List ℕ) → Option (List ℕ × List ℕ)
 spelled_words (key ∷ value ∷ []) = spelled_pair key value
 spelled_words words = None
 
-unfoldable pub pair_of : List ℕ → Result (List ℕ × List ℕ) LineFault
-pair_of line = ranged pair_in_range (words_of line >>= spelled_words)
+unfoldable pub pair_told : List ℕ → Result (List ℕ × List ℕ) LineFault
+pair_told line = ranged pair_in_range (words_of line >>= spelled_words)
 
 -- a pair is told only where it is turned away
-abbrev pub reply_text : List ℕ → Reply → List ℕ
-reply_text key Full = codes "full " ++ (printed key ++ codes "\n")
-reply_text key reply = []
+abbrev pub put_text : List ℕ → Reply → List ℕ
+put_text key Full = codes "full " ++ (printed key ++ codes "\n")
+put_text key reply = []
 
 abbrev pub parsed_text : Loading → Result (List ℕ × List ℕ) LineFault → List ℕ
-parsed_text loading (Ok pair) = reply_text pair.0 (pair_reply loading pair.0 pair.1)
+parsed_text loading (Ok pair) = put_text pair.0 (pair_reply loading pair.0 pair.1)
 parsed_text loading (Err fault) = refused_text (line_fault_number fault) ++ codes "\n"
 
-abbrev pub after_parsed : Loading → Result (List ℕ × List ℕ) LineFault → Loading
-after_parsed loading (Ok pair) = after_pair loading pair.0 pair.1
-after_parsed loading (Err fault) = loading
+abbrev pub after_read_pair : Loading → Result (List ℕ × List ℕ) LineFault → Loading
+after_read_pair loading (Ok pair) = after_pair loading pair.0 pair.1
+after_read_pair loading (Err fault) = loading
 
 unfoldable pub line_text : Loading → List ℕ → List ℕ
-line_text loading line = parsed_text loading (pair_of line)
+line_text loading line = parsed_text loading (pair_told line)
 
-unfoldable pub after_line : Loading → List ℕ → Loading
-after_line loading line = after_parsed loading (pair_of line)
+unfoldable pub after_pair_line : Loading → List ℕ → Loading
+after_pair_line loading line = after_read_pair loading (pair_told line)
 
 -- ---- lines
 
-abbrev pub text_from : Loading → List (List ℕ) → List ℕ
-text_from loading [] = []
-text_from loading (line ∷ lines) = line_text loading line ++ text_from (after_line loading line) lines
+abbrev pub load_text_from : Loading → List (List ℕ) → List ℕ
+load_text_from loading [] = []
+load_text_from loading (line ∷ lines) = line_text loading line ++ load_text_from (after_pair_line loading line) lines
 
 -- what they leave
 abbrev pub loaded_from : Loading → List (List ℕ) → Loading
 loaded_from loading [] = loading
-loaded_from loading (line ∷ lines) = loaded_from (after_line loading line) lines
+loaded_from loading (line ∷ lines) = loaded_from (after_pair_line loading line) lines

@@ -1,8 +1,8 @@
 ghost use Rattle.std.specs.Prelude.{◌≡◌, ◌≢◌, ◌+◌, ◌<◌, ◌≤◌, ◌^◌, ◌++◌, ◌↔◌, length, IfOk, IfErr, OnOk, OnErr, IsErrOf, IsTrue, IsFalse};
 ghost use Rattle.exh_stream.specs.Output.{SameWriter, Takes, TakesBeginning, writer_failed};
-ghost use Rattle.exh_load.specs.Load.{TakesFront, new_count, records_in};
+ghost use Rattle.exh_load.specs.Load.{TakesFront, new_count, record_count};
 ghost use Rattle.exh_load.specs.Loader.{IsLoading};
-ghost use Rattle.exh_load.specs.Loading.{after_line, line_text, loaded_from, loading_of, text_from};
+ghost use Rattle.exh_load.specs.Loading.{after_pair_line, line_text, loaded_from, loading_of, load_text_from};
 
 use crate::pair_line::{parse_pair_line, push_reply};
 use crate::{LoadFault, Loader};
@@ -26,12 +26,12 @@ pub fn load_lines<W: Write>(
     requires open { IsFalse (writer_failed output.old) }
     requires loading { IsLoading loader.old }
     ensures same_writer { SameWriter output.old output.new }
-    ensures text { OnOk result (Takes W.contents output.old output.new (text_from (loading_of loader.old) lines.entry)) }
+    ensures text { OnOk result (Takes W.contents output.old output.new (load_text_from (loading_of loader.old) lines.entry)) }
     ensures loaded { OnOk result (loading_of loader.new ≡ loaded_from (loading_of loader.old) lines.entry) }
     ensures loading { OnOk result (IsLoading loader.new) }
-    ensures err { OnErr result (TakesBeginning W.contents output.old output.new (text_from (loading_of loader.old) lines.entry)) }
-    ensures front { IfErr result (λ fault. fault ≢ LoadFault.Write → TakesFront W.contents output.old output.new (text_from (loading_of loader.old) lines.entry)) }
-    ensures records { IfOk result (λ records. length lines.entry < 2 ^ 64 → records + records_in (loading_of loader.old) ≡ records_in (loading_of loader.new)) }
+    ensures err { OnErr result (TakesBeginning W.contents output.old output.new (load_text_from (loading_of loader.old) lines.entry)) }
+    ensures front { IfErr result (λ fault. fault ≢ LoadFault.Write → TakesFront W.contents output.old output.new (load_text_from (loading_of loader.old) lines.entry)) }
+    ensures records { IfOk result (λ records. length lines.entry < 2 ^ 64 → records + record_count (loading_of loader.old) ≡ record_count (loading_of loader.new)) }
     ensures failed { IsErrOf result LoadFault.Write ↔ IsTrue (writer_failed output.new) }
 {
     let mut records = 0u64;
@@ -46,13 +46,13 @@ pub fn load_lines<W: Write>(
 }
 
 // Puts the pair of a line, adds what is printed of it, and answers how many records there are more.
-#[tactic(auto, unfolding(crate::specs::Loading::line_text, crate::specs::Loading::after_line))]
+#[tactic(auto, unfolding(crate::specs::Loading::line_text, crate::specs::Loading::after_pair_line))]
 fn push_line(out: &mut Vec<u8>, loader: &mut Loader, line: &[u8]) -> Result<u64, LoadFault>
     requires { IsLoading loader.old }
     ensures text { OnOk result (out.new.items ≡ out.old.items ++ line_text (loading_of loader.old) line.now) }
-    ensures loaded { OnOk result (loading_of loader.new ≡ after_line (loading_of loader.old) line.now) }
+    ensures loaded { OnOk result (loading_of loader.new ≡ after_pair_line (loading_of loader.old) line.now) }
     ensures loading { OnOk result (IsLoading loader.new) }
-    ensures records { IfOk result (λ more. more + records_in (loading_of loader.old) ≡ records_in (loading_of loader.new)) }
+    ensures records { IfOk result (λ more. more + record_count (loading_of loader.old) ≡ record_count (loading_of loader.new)) }
     ensures few { IfOk result (λ more. more ≤ 1) }
     ensures fault { IfErr result (λ fault. fault ≢ LoadFault.Write) }
 {

@@ -3,7 +3,7 @@ ghost use Rattle.exh_page.specs.declared.page.TheConstants.{CAP_LIMIT};
 ghost use Rattle.exh_prefix.specs.declared.prefix.TheConstants.{WARD_BITS_LIMIT};
 ghost use Rattle.exh_array.specs.Pointers.{DirectoryState};
 ghost use Rattle.exh_ward.specs.WardFault.{IsStoreFault};
-ghost use Rattle.exh_load.specs.Load.{empty_loading, new_count, records_in};
+ghost use Rattle.exh_load.specs.Load.{empty_loading, new_count, record_count};
 ghost use Rattle.exh_load.specs.Loading.{after_pair, loading_of, pair_reply};
 ghost use Rattle.exh_load.specs.Loader.{AreEach, IsEmptyDirectory, IsEmptyLoader, IsFreshWard, IsLoading, IsPutIn, file_in};
 
@@ -81,7 +81,7 @@ impl Loader {
         ensures put { IfOk result (λ reply. IsPutIn self.old key value reply self.new) }
         ensures reply { IfOk result (λ reply. reply ≡ pair_reply (loading_of self.old) key value) }
         ensures maps { OnOk result (loading_of self.new ≡ after_pair (loading_of self.old) key value) }
-        ensures records { IfOk result (λ reply. new_count reply + records_in (loading_of self.old) ≡ records_in (loading_of self.new)) }
+        ensures records { IfOk result (λ reply. new_count reply + record_count (loading_of self.old) ≡ record_count (loading_of self.new)) }
         ensures loading { OnOk result (IsLoading self.new) }
         ensures fault { IfErr result IsStoreFault }
     {

@@ -1,5 +1,5 @@
 ghost use Rattle.std.specs.Prelude.{◌≡◌, ◌++◌, OnOk};
-ghost use Rattle.exh_load.specs.Loading.{pair_of, reply_text};
+ghost use Rattle.exh_load.specs.Loading.{pair_told, put_text};
 
 use exh_calls::Reply;
 use exh_page::{Key, Value};
@@ -8,9 +8,9 @@ use std::alloc::AllocError;
 
 /// The pair that a line spells, as `KEY VALUE`. `Syntax`: it spells none. `Range`: the key has none or
 /// more than 64 bytes, or the value more than 128.
-#[tactic(auto, unfolding(crate::specs::Loading::pair_of))]
+#[tactic(auto, unfolding(crate::specs::Loading::pair_told))]
 pub(crate) fn parse_pair_line(line: &[u8]) -> Result<(Key, Value), LineFault>
-    ensures { result ≡ pair_of line.now }
+    ensures { result ≡ pair_told line.now }
 {
     let mut words = split_words(line).ok_or(LineFault::Syntax)?;
     let key = words.next().ok_or(LineFault::Syntax)?;
@@ -23,7 +23,7 @@ pub(crate) fn parse_pair_line(line: &[u8]) -> Result<(Key, Value), LineFault>
 
 /// Adds what is printed of a pair: a line where its key is turned away, else nothing.
 pub(crate) fn push_reply(out: &mut Vec<u8>, key: &Key, reply: &Reply) -> Result<(), AllocError>
-    ensures { OnOk result (out.new.items ≡ out.old.items ++ reply_text key.now reply.now) }
+    ensures { OnOk result (out.new.items ≡ out.old.items ++ put_text key.now reply.now) }
 {
     if let Reply::Full = reply {
         push_text(out, "full ")?;

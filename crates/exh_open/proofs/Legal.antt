@@ -22,7 +22,7 @@ use Rattle.exh_page_file.specs.PageFile.{IsFile, PageFile}
 use Rattle.exh_reasons.specs.Laws.{IsLegalFile, LegalFilesPass}
 use Rattle.exh_ward.specs.WardState.{WardState}
 use Rattle.exh_legal_file.specs.LegalFile.{parts_in, table_naming, ward_tables}
-use Rattle.exh_legal_file.specs.LegalFileLemmas.{count_of_wards, few_bits, ranges_of, table_at}
+use Rattle.exh_legal_file.specs.LegalFileLemmas.{count_of_wards, few_bits, ranges_of, table_naming_at}
 use Rattle.exh_open.specs.Opened.{AreWardsOf, IsWardOf, OpenedState}
 use Rattle.exh_open.specs.Opening.{AreLegalWards, AreOpened, IsLegalWard, IsOpenedFile, IsOpenedWard}
 
@@ -70,7 +70,7 @@ legal_ward law file valid legal number pages there =
     let less : number < 256 = omega (arith, slice_get_within file.wards number pages there, count_of_wards file valid, valid.header.wards) in
     let formed = (((law pseudo (parts_in file) (ranges_of file valid)).1 legal).formed number pages there).formed in
     record {
-      legal = subst (λ (table : TableMap). IsWard file.header.cap pseudo (ward_prefix file.header.ward_bits number) table [] table pages) (table_at file.entries number less) (legal.wards number pages there);
+      legal = subst (λ (table : TableMap). IsWard file.header.cap pseudo (ward_prefix file.header.ward_bits number) table [] table pages) (table_naming_at file.entries number less) (legal.wards number pages there);
       formed = all_pages (IsWellFormed pseudo) pages formed;
     }
 

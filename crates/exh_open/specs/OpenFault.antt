@@ -1,6 +1,6 @@
 -- Faults of opening a page file, and their numbers among all refusals.
 use Rattle.std.specs.Prelude.{⊤, ℕ, Option, None}
-use Rattle.exh_legal_file.specs.LegalFile.{IsOther as IsOtherOfFile}
+use Rattle.exh_legal_file.specs.LegalFile.{IsOtherFault}
 use Rattle.exh_legal_file.specs.LegalFileFault.{fault_place, fault_reason, legal_file_fault_number}
 use Rattle.exh_open.specs.declared.open_fault.OpenFault.{OpenFault}
 use Rattle.exh_open.specs.declared.open_fault.OpenFault.TheVariants.{File, Page}
@@ -18,6 +18,6 @@ open_fault_reason (File fault) = fault_reason fault
 open_fault_reason Page = None
 
 -- the fault isn't one of the bytes
-abbrev pub IsOther : OpenFault → Type 0
-IsOther (File fault) = IsOtherOfFile fault
-IsOther Page = ⊤
+abbrev pub IsOtherOpening : OpenFault → Type 0
+IsOtherOpening (File fault) = IsOtherFault fault
+IsOtherOpening Page = ⊤

@@ -7,7 +7,7 @@ ghost use Rattle.exh_page_file.specs.PageFile.{IsFile, PageFile};
 ghost use Rattle.exh_page_file.specs.Reading.{AreBytes, IsAll};
 ghost use Rattle.exh_reasons.specs.Laws.{IsLegalFile};
 ghost use Rattle.exh_legal_file.specs.LegalFile.{IsLegalPageFile, parts_in, ward_tables};
-ghost use Rattle.exh_open.specs.OpenFault.{IsOther};
+ghost use Rattle.exh_open.specs.OpenFault.{IsOtherOpening};
 ghost use Rattle.exh_open.specs.Opening.{AreLegalWards, AreOpened, IsLegalWard, IsOpenFaultOf, IsOpenedFile, IsOpenedWard};
 
 use crate::{OpenFault, Opened};
@@ -37,7 +37,7 @@ pub fn open<R: Read, P: StoreOfPages + Drop>(
     ensures opened { IfOk result (λ opened. (file : PageFile) × (bytes : List ℕ) × IsAll (R.remaining reader.old) bytes × AreBytes bytes × IsLegalPageFile first_file file bytes × IsOpenedFile file opened) }
     ensures fault { IfErr result (IsOpenFaultOf first_file (R.remaining reader.old)) }
     ensures every { (file : PageFile) (bytes : List ℕ) → R.remaining reader.old ≡ Some bytes → AreBytes bytes → IsLegalPageFile first_file file bytes
-        → MatchResult result (IsOpenedFile file) IsOther }
+        → MatchResult result (IsOpenedFile file) IsOtherOpening }
 {
     let mut legal = read_legal_file(alloc, reader)?;
     open_legal(alloc, &mut legal)
@@ -52,7 +52,7 @@ fn open_legal<P: StoreOfPages + Drop>(
     requires file { IsFile first_file (file_of legal.old.parts) }
     requires tables { legal.old.tables.items ≡ ward_tables (file_of legal.old.parts) }
     ensures opened { IfOk result (IsOpenedFile (file_of legal.old.parts)) }
-    ensures fault { IfErr result IsOther }
+    ensures fault { IfErr result IsOtherOpening }
 {
     legal_files_pass();
     let header = legal.parts.header;
@@ -74,7 +74,7 @@ fn open_wards<P: StoreOfPages + Drop>(
     requires legal { AreLegalWards header.now pages.old tables.old }
     ensures count { IfOk result (λ wards. length wards.items ≡ 2 ^ header.now.ward_bits) }
     ensures opened { IfOk result (λ wards. AreOpened header.now pages.old tables.old wards.items) }
-    ensures fault { IfErr result IsOther }
+    ensures fault { IfErr result IsOtherOpening }
 {
     let mut wards = Vec::new(alloc);
     for number in 0..pages.len() {
@@ -98,7 +98,7 @@ fn open_ward<P: StoreOfPages + Drop>(
     requires number { number < 2 ^ header.now.ward_bits }
     requires legal { IsLegalWard header.now number pages.items table }
     ensures opened { IfOk result (IsOpenedWard header.now number pages.items table) }
-    ensures fault { IfErr result IsOther }
+    ensures fault { IfErr result IsOtherOpening }
 {
     pages_are_few();
     let store = P::of_pages(alloc, header.keyer, pages)?;

@@ -23,7 +23,7 @@ use Rattle.exh_file.specs.FileVersion.{FileVersion, FitsFile, first_file}
 use Rattle.exh_file.specs.HeaderImage.{IsHeader, IsHeaderImage, IsPageCount}
 use Rattle.exh_file.specs.Laws.{TablesAreBlocks, TablesPass}
 use Rattle.exh_prefix.specs.Version.{first_version}
-use Rattle.exh_page_file.specs.FileTests.{End, FailsFirst, HeaderFails, IsFileFault, NextFails, PassesAt, bytes_from, page_places, places_behind, table_places}
+use Rattle.exh_page_file.specs.FileTests.{End, FileFailsFirst, HeaderFails, IsFileFault, NextFails, PassesAt, bytes_from, page_places, places_behind, table_places}
 use Rattle.exh_page_file.specs.PageFile.{IsPageFile, PageFile, header_block, page_block, pages_of, table_blocks, table_bytes}
 use Rattle.exh_page_file.specs.Reading.{AreBytes, FailsInPages, FailsInTable, GivesEntries, GivesPages, IsAll, IsBlock}
 use Rattle.exh_page_file.proofs.Elements.{all_join}
@@ -76,7 +76,7 @@ fault_of_header version (Some bytes) fault fails = inl fails
 
 module _ (version : FileVersion) (fits : FitsFile version) (pages_law : ImagesPass) (page_blocks : ImagesAreBlocks) (tables_law : TablesPass) (table_blocks_law : TablesAreBlocks) where
   behind_header : (bytes rest block : List ℕ) (header : Header) (fault : FileFault) → bytes ≡ block ++ rest → IsHeaderImage version header block → length block ≡ 4096
-      → FailsFirst version (any_pseudokey header.keyer) bytes (places_behind header) fault → IsFileFault version bytes fault
+      → FileFailsFirst version (any_pseudokey header.keyer) bytes (places_behind header) fault → IsFileFault version bytes fault
   behind_header bytes rest block header fault is image len fails =
       inr (header, subst (IsHeaderImage version header) (sym (block_there 0 bytes block rest is len)) image, fails)
 

@@ -13,7 +13,7 @@ use Rattle.exh_file.specs.FileVersion.{FileVersion, FitsFile}
 use Rattle.exh_file.specs.FirstFailing.{IsFirstFailing}
 use Rattle.exh_file.specs.HeaderImage.{IsHeaderImage}
 use Rattle.exh_file.specs.Laws.{HeadersAreBlocks, HeadersPass, OneHeader, TablesAreBlocks, TablesPass}
-use Rattle.exh_page_file.specs.FileTests.{End, FailsAt, FailsFirst, HeaderFails, IsFileFault, NextFails, OfPage, OfTable, PageFails, PassesAt, PassesFile, Place, block_at, bytes_from, page_places, prefix_before, TableFails, places_behind, table_places}
+use Rattle.exh_page_file.specs.FileTests.{End, FailsAt, FileFailsFirst, HeaderFails, IsFileFault, NextFails, OfPage, OfTable, PageFails, PassesAt, PassesFile, FilePlace, block_at, bytes_from, page_places, prefix_before, TableFails, places_behind, table_places}
 use Rattle.exh_page_file.specs.PageFile.{IsPageFile, PageFile, header_block, page_block, pages_of, table_blocks, table_bytes}
 use Rattle.exh_page_file.specs.Reading.{AreBytes}
 use Rattle.exh_page_file.proofs.Elements.{all_back, all_front, all_join, byte_at}
@@ -32,14 +32,14 @@ none_next : (Fails : List ℕ → FileFault → Type 0) (bytes : List ℕ) (faul
 none_next Fails bytes fault long none (inl cut) = omega (arith, cut.0, long)
 none_next Fails bytes fault long none (inr fails) = none fails.1
 
-none_at : (version : FileVersion) (pseudo : List ℕ → ℕ) (bytes : List ℕ) (place : Place) (fault : FileFault) → PassesAt version pseudo bytes place → FailsAt version pseudo bytes place fault → ⊥
+none_at : (version : FileVersion) (pseudo : List ℕ → ℕ) (bytes : List ℕ) (place : FilePlace) (fault : FileFault) → PassesAt version pseudo bytes place → FailsAt version pseudo bytes place fault → ⊥
 none_at version pseudo bytes (OfPage place) fault passes fails =
     none_next (PageFails version.images pseudo place) (bytes_from place bytes) fault passes.0 (λ (named : PageFails version.images pseudo place (block_at place bytes) fault). none_first_image _ _ named.0 named.1 passes.1) fails
 none_at version pseudo bytes (OfTable place begins count) fault passes fails =
     none_next (TableFails version.images place count (prefix_before version.images place begins bytes)) (bytes_from place bytes) fault passes.0 (λ (named : TableFails version.images place count (prefix_before version.images place begins bytes) (block_at place bytes) fault). none_first _ _ named.1.0 named.1.1 passes.1) fails
 none_at version pseudo bytes (End place) fault passes fails = omega (arith, ap length passes, fails.0)
 
-none_among : (version : FileVersion) (pseudo : List ℕ → ℕ) (bytes : List ℕ) (places : List Place) (fault : FileFault) → AllByRecursion (PassesAt version pseudo bytes) places → FailsFirst version pseudo bytes places fault → ⊥
+none_among : (version : FileVersion) (pseudo : List ℕ → ℕ) (bytes : List ℕ) (places : List FilePlace) (fault : FileFault) → AllByRecursion (PassesAt version pseudo bytes) places → FileFailsFirst version pseudo bytes places fault → ⊥
 none_among version pseudo bytes places fault all first =
     none_at version pseudo bytes first.place fault (all_back (PassesAt version pseudo bytes) first.before (first.place ∷ first.after) (subst (AllByRecursion (PassesAt version pseudo bytes)) first.stands all)).0 first.fails
 
@@ -82,7 +82,7 @@ module _ (version : FileVersion) (fits : FitsFile version) (pages_law : ImagesPa
       let tables = tables_pass version pseudo bytes fits tables_law table_blocks_law place true None blocks entries [] an_entry (omega arith)
       (record { valid = is.valid.entries; rising = is.valid.rising; small = all_back (λ (byte : ℕ). byte < 256) bodies table behind; is_before = refl; whole = late }) in
       let last : bytes_from (place + blocks) bytes ≡ [] = tables_behind version pseudo bytes fits tables_law table_blocks_law place true None blocks entries [] is.valid.entries late in
-      let places : (pages count : ℕ) → List Place = λ pages count. page_places 1 pages ++ (table_places (1 + pages) true (table_blocks count) count ++ End (1 + pages + table_blocks count) ∷ []) in
+      let places : (pages count : ℕ) → List FilePlace = λ pages count. page_places 1 pages ++ (table_places (1 + pages) true (table_blocks count) count ++ End (1 + pages + table_blocks count) ∷ []) in
       let passed = all_join (PassesAt version pseudo bytes) (page_places 1 (length pages)) _ pages_passed (all_join (PassesAt version pseudo bytes) (table_places place true blocks (length entries)) (End (place + blocks) ∷ []) tables (last, tt)) in (
         whole_there 0 bytes block (bodies ++ table) is.whole len,
         subst (IsHeaderImage version header) (sym (block_there 0 bytes block (bodies ++ table) is.whole len)) image,

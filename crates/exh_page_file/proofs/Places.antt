@@ -9,7 +9,7 @@ use Rattle.exh_codec.specs.ImageTests.{Passes, image_tests}
 use Rattle.exh_codec.specs.Laws.{ImagesAreBlocks, ImagesPass}
 use Rattle.exh_file.specs.declared.file_fault.FileFault.{FileFault}
 use Rattle.exh_file.specs.FileVersion.{FileVersion, FitsFile}
-use Rattle.exh_page_file.specs.FileTests.{Place, OfPage, FailsAt, FailsFirst, NextFails, PageFails, PassesAt, block_at, bytes_from, page_places}
+use Rattle.exh_page_file.specs.FileTests.{FilePlace, OfPage, FailsAt, FileFailsFirst, NextFails, PageFails, PassesAt, block_at, bytes_from, page_places}
 use Rattle.exh_page_file.specs.PageFile.{page_block}
 use Rattle.exh_page_file.specs.Reading.{AreBytes, FailsInPages}
 use Rattle.exh_page_file.proofs.Elements.{all_front, all_back, byte_at}
@@ -28,8 +28,8 @@ whole_there place bytes block rest is len = omega (arith, ap length is, length-a
 
 module _ (version : FileVersion) (pseudo : List ℕ → ℕ) (bytes : List ℕ) where
   -- a place that is passed, and then others
-  pub fails_behind : (front : List Place) (places : List Place) (fault : FileFault) → AllByRecursion (PassesAt version pseudo bytes) front → FailsFirst version pseudo bytes places fault
-      → FailsFirst version pseudo bytes (front ++ places) fault
+  pub fails_behind : (front : List FilePlace) (places : List FilePlace) (fault : FileFault) → AllByRecursion (PassesAt version pseudo bytes) front → FileFailsFirst version pseudo bytes places fault
+      → FileFailsFirst version pseudo bytes (front ++ places) fault
   fails_behind [] places fault passed fails = fails
   fails_behind (place ∷ front) places fault passed fails =
       let rest = fails_behind front places fault passed.1 fails in
@@ -37,12 +37,12 @@ module _ (version : FileVersion) (pseudo : List ℕ → ℕ) (bytes : List ℕ) 
         before = place ∷ rest.before;
         place = rest.place;
         after = rest.after;
-        stands = ap (λ (places : List Place). place ∷ places) rest.stands;
+        stands = ap (λ (places : List FilePlace). place ∷ places) rest.stands;
         passed = (passed.0, rest.passed);
         fails = rest.fails;
       }
 
-  pub fails_here : (place : Place) (places : List Place) (fault : FileFault) → FailsAt version pseudo bytes place fault → FailsFirst version pseudo bytes (place ∷ places) fault
+  pub fails_here : (place : FilePlace) (places : List FilePlace) (fault : FileFault) → FailsAt version pseudo bytes place fault → FileFailsFirst version pseudo bytes (place ∷ places) fault
   fails_here place places fault fails = record { before = []; place = place; after = places; stands = refl; passed = tt; fails = fails }
 
   -- ---- pages
@@ -84,9 +84,9 @@ module _ (version : FileVersion) (pseudo : List ℕ → ℕ) (bytes : List ℕ) 
         ∙ pages_behind (suc place) pages rest valid.1 (from_next place bytes block (more ++ rest) (is ∙ append_assoc block more rest) (length-page page valid.0))
 
     -- the first page that fails
-    next_page_fails : (place count : ℕ) (places : List Place) (pages : List Page) (rest : List ℕ) (fault : FileFault) → length pages < count → AllByRecursion (IsPage version.images pseudo) pages → AreBytes (flat_map page_block pages)
+    next_page_fails : (place count : ℕ) (places : List FilePlace) (pages : List Page) (rest : List ℕ) (fault : FileFault) → length pages < count → AllByRecursion (IsPage version.images pseudo) pages → AreBytes (flat_map page_block pages)
         → bytes_from place bytes ≡ flat_map page_block pages ++ rest → NextFails (PageFails version.images pseudo (place + length pages)) rest fault
-        → FailsFirst version pseudo bytes (page_places place count ++ places) fault
+        → FileFailsFirst version pseudo bytes (page_places place count ++ places) fault
     next_page_fails place zero places pages rest fault fewer valid small is fails = absurd (omega (arith, fewer))
     next_page_fails place (suc count) places [] rest fault fewer valid small is fails =
         let same : place + 0 ≡ place = omega arith in
@@ -103,6 +103,6 @@ module _ (version : FileVersion) (pseudo : List ℕ → ℕ) (bytes : List ℕ) 
         (from_next place bytes block (more ++ rest) here (length-page page valid.0))
         (subst (λ (place : ℕ). NextFails (PageFails version.images pseudo place) rest fault) same fails))
 
-    pub pages_fail : (place count : ℕ) (places : List Place) (fault : FileFault) → FailsInPages version.images pseudo place count (bytes_from place bytes) fault
-        → FailsFirst version pseudo bytes (page_places place count ++ places) fault
+    pub pages_fail : (place count : ℕ) (places : List FilePlace) (fault : FileFault) → FailsInPages version.images pseudo place count (bytes_from place bytes) fault
+        → FileFailsFirst version pseudo bytes (page_places place count ++ places) fault
     pages_fail place count places fault fails = next_page_fails place count places fails.pages fails.rest fault fails.fewer fails.valid fails.are_bytes fails.whole fails.fails

@@ -11,7 +11,7 @@ use Rattle.exh_file.specs.FileVersion.{FileVersion, FitsFile}
 use Rattle.exh_file.specs.Laws.{IsOfTable, TablesAreBlocks, TablesPass}
 use Rattle.exh_file.specs.TableImage.{AreRising, IsFileEntry, IsTableImage, prefixes_of}
 use Rattle.exh_file.specs.TableTests.{PassesTable, table_tests}
-use Rattle.exh_page_file.specs.FileTests.{Place, OfTable, FailsFirst, NextFails, PassesAt, TableFails, block_at, bytes_from, last_prefix_in, prefix_before, table_places}
+use Rattle.exh_page_file.specs.FileTests.{FilePlace, OfTable, FileFailsFirst, NextFails, PassesAt, TableFails, block_at, bytes_from, last_prefix_in, prefix_before, table_places}
 use Rattle.exh_page_file.specs.PageFile.{table_block, table_blocks, table_bytes}
 use Rattle.exh_page_file.specs.Reading.{AreBytes, FailsInTable, last_prefix}
 use Rattle.exh_page_file.proofs.Elements.{all_front, all_back, byte_at}
@@ -123,10 +123,10 @@ module _ (version : FileVersion) (pseudo : List ℕ → ℕ) (bytes : List ℕ) 
       )
 
   -- the first block that fails, behind full ones
-  pub next_table_fails : (place : ℕ) (begins : Bool) (before : Option (List Bool)) (blocks more count : ℕ) (entries : List FileEntry) (rest : List ℕ) (places : List Place) (fault : FileFault) (d : FileEntry) → length entries ≡ 254 * blocks → length entries < count
+  pub next_table_fails : (place : ℕ) (begins : Bool) (before : Option (List Bool)) (blocks more count : ℕ) (entries : List FileEntry) (rest : List ℕ) (places : List FilePlace) (fault : FileFault) (d : FileEntry) → length entries ≡ 254 * blocks → length entries < count
       → Stands place begins before blocks entries rest
       → NextFails (TableFails version.images (place + blocks) (min 254 (count - length entries)) (last_prefix before entries)) rest fault
-      → FailsFirst version pseudo bytes (table_places place begins (blocks + suc more) count ++ places) fault
+      → FileFailsFirst version pseudo bytes (table_places place begins (blocks + suc more) count ++ places) fault
   next_table_fails place begins before zero more count (item ∷ entries) rest places fault d full fewer stands fails = absurd (omega (arith, full))
   next_table_fails place begins before zero more count [] rest places fault d full fewer stands fails =
       let one : zero + suc more ≡ suc more = omega arith in
@@ -136,7 +136,7 @@ module _ (version : FileVersion) (pseudo : List ℕ → ℕ) (bytes : List ℕ) 
       subst (λ (rest : List ℕ). NextFails (TableFails version.images place (min 254 count) before) rest fault) (sym stands.whole)
       (subst (λ (place : ℕ). NextFails (TableFails version.images place (min 254 count) before) rest fault) here
       (subst (λ (count : ℕ). NextFails (TableFails version.images (place + 0) (min 254 count) before) rest fault) all fails)) in
-      subst (λ (n : ℕ). FailsFirst version pseudo bytes (table_places place begins n count ++ places) fault) (sym one)
+      subst (λ (n : ℕ). FileFailsFirst version pseudo bytes (table_places place begins n count ++ places) fault) (sym one)
       (fails_here version pseudo bytes (OfTable place begins (min 254 count)) (table_places (suc place) false more (count - 254) ++ places) fault
       (subst (λ (before : Option (List Bool)). NextFails (TableFails version.images place (min 254 count) before) (bytes_from place bytes) fault) (sym stands.is_before) there))
   next_table_fails place begins before (suc blocks) more count entries rest places fault d full fewer stands fails =
@@ -152,19 +152,19 @@ module _ (version : FileVersion) (pseudo : List ℕ → ℕ) (bytes : List ℕ) 
       subst (λ (place : ℕ). NextFails (TableFails version.images place (min 254 (count - 254 - length (drop 254 entries))) (last_prefix (last_prefix before (take 254 entries)) (drop 254 entries))) rest fault) there
       (subst (λ (left : ℕ). NextFails (TableFails version.images (place + suc blocks) (min 254 left) (last_prefix (last_prefix before (take 254 entries)) (drop 254 entries))) rest fault) others
       (subst (λ (last : Option (List Bool)). NextFails (TableFails version.images (place + suc blocks) (min 254 (count - length entries)) last) rest fault) last fails)) in
-      subst (λ (n : ℕ). FailsFirst version pseudo bytes (table_places place begins n count ++ places) fault) (sym number)
+      subst (λ (n : ℕ). FileFailsFirst version pseudo bytes (table_places place begins n count ++ places) fault) (sym number)
       (fails_behind version pseudo bytes (OfTable place begins (min 254 count) ∷ []) (table_places (suc place) false (blocks + suc more) (count - 254) ++ places) fault
       (subst (λ (count : ℕ). PassesAt version pseudo bytes (OfTable place begins count)) some (first_passes place begins before blocks entries rest stands), tt)
       (next_table_fails (suc place) false (last_prefix before (take 254 entries)) blocks more (count - 254) (drop 254 entries) rest places fault d (omega (arith, left, full)) (omega (arith, left, enough, fewer))
       (others_stand place begins before blocks entries rest d enough stands) later))
 
   -- a table that fails
-  pub table_fails : (place count : ℕ) (places : List Place) (fault : FileFault) (d : FileEntry) → FailsInTable version.images place count (bytes_from place bytes) fault
-      → FailsFirst version pseudo bytes (table_places place true (table_blocks count) count ++ places) fault
+  pub table_fails : (place count : ℕ) (places : List FilePlace) (fault : FileFault) (d : FileEntry) → FailsInTable version.images place count (bytes_from place bytes) fault
+      → FileFailsFirst version pseudo bytes (table_places place true (table_blocks count) count ++ places) fault
   table_fails place count places fault d fails =
       let more = table_blocks count - suc fails.blocks in
       let number : fails.blocks + suc more ≡ table_blocks count = omega (arith, fails.fewer, fails.full) in
-      subst (λ (n : ℕ). FailsFirst version pseudo bytes (table_places place true n count ++ places) fault) number
+      subst (λ (n : ℕ). FileFailsFirst version pseudo bytes (table_places place true n count ++ places) fault) number
       (next_table_fails place true None fails.blocks more count fails.entries fails.rest places fault d fails.full fails.fewer
       (record { valid = fails.valid; rising = fails.rising; small = fails.are_bytes; is_before = refl; whole = fails.whole }) fails.fails)
 

@@ -22,22 +22,22 @@ use Rattle.exh_page_file.specs.PageFile.{table_blocks}
 -- ---- places
 
 -- what stands behind the header: a page, so many entries of the table, which begins there or doesn't, and the end
-pub data Place : Type 0 where
-  OfPage : (place : ℕ) → Place
-  OfTable : (place : ℕ) → (begins : Bool) → (count : ℕ) → Place
-  End : (place : ℕ) → Place
+pub data FilePlace : Type 0 where
+  OfPage : (place : ℕ) → FilePlace
+  OfTable : (place : ℕ) → (begins : Bool) → (count : ℕ) → FilePlace
+  End : (place : ℕ) → FilePlace
 
-abbrev pub page_places : ℕ → ℕ → List Place
+abbrev pub page_places : ℕ → ℕ → List FilePlace
 page_places place zero = []
 page_places place (suc count) = OfPage place ∷ page_places (suc place) count
 
 -- so many blocks of a table of so many entries: each has as many as there is room for, the last the others
-abbrev pub table_places : ℕ → Bool → ℕ → ℕ → List Place
+abbrev pub table_places : ℕ → Bool → ℕ → ℕ → List FilePlace
 table_places place begins zero count = []
 table_places place begins (suc blocks) count = OfTable place begins (min BLOCK_ENTRIES count) ∷ table_places (suc place) false blocks (count - BLOCK_ENTRIES)
 
 -- those of a file with this header, which is the block of place 0
-abbrev pub places_behind : Header → List Place
+abbrev pub places_behind : Header → List FilePlace
 places_behind header =
     let pages = sum header.page_counts in
     let blocks = table_blocks header.entry_count in
@@ -69,7 +69,7 @@ prefix_before version place begins bytes = cond begins None (Some (last_prefix_i
 -- ---- their tests
 
 -- bytes pass what is asked of a place
-abbrev pub PassesAt : FileVersion → (List ℕ → ℕ) → List ℕ → Place → Type 0
+abbrev pub PassesAt : FileVersion → (List ℕ → ℕ) → List ℕ → FilePlace → Type 0
 PassesAt version pseudo bytes (OfPage place) = IsWhole place bytes × AllByRecursion (Passes version.images pseudo (block_at place bytes)) image_tests
 PassesAt version pseudo bytes (OfTable place begins count) =
     IsWhole place bytes × AllByRecursion (PassesTable version.images count (prefix_before version.images place begins bytes) (block_at place bytes)) (table_tests count)
@@ -90,7 +90,7 @@ abbrev pub TableFails : Version → ℕ → ℕ → Option (List Bool) → List 
 TableFails version place count before block fault = (image : ImageFault) × (IsFirstFault version count before block image) × (fault ≡ faults.Block place image)
 
 -- bytes fail what is asked of a place, first by this fault
-abbrev pub FailsAt : FileVersion → (List ℕ → ℕ) → List ℕ → Place → FileFault → Type 0
+abbrev pub FailsAt : FileVersion → (List ℕ → ℕ) → List ℕ → FilePlace → FileFault → Type 0
 FailsAt version pseudo bytes (OfPage place) fault = NextFails (PageFails version.images pseudo place) (bytes_from place bytes) fault
 FailsAt version pseudo bytes (OfTable place begins count) fault =
     NextFails (TableFails version.images place count (prefix_before version.images place begins bytes)) (bytes_from place bytes) fault
@@ -99,10 +99,10 @@ FailsAt version pseudo bytes (End place) fault = (0 < length (bytes_from place b
 -- ---- their order
 
 -- of places in their order, the fault is that of the first at which the bytes fail
-pub record FailsFirst (version : FileVersion) (pseudo : List ℕ → ℕ) (bytes : List ℕ) (places : List Place) (fault : FileFault) : Type 0 where
-  pub before : List Place
-  pub place : Place
-  pub after : List Place
+pub record FileFailsFirst (version : FileVersion) (pseudo : List ℕ → ℕ) (bytes : List ℕ) (places : List FilePlace) (fault : FileFault) : Type 0 where
+  pub before : List FilePlace
+  pub place : FilePlace
+  pub after : List FilePlace
   pub stands : places ≡ before ++ place ∷ after
   pub passed : AllByRecursion (PassesAt version pseudo bytes) before
   pub fails : FailsAt version pseudo bytes place fault
@@ -114,4 +114,4 @@ PassesFile version bytes header = IsWhole 0 bytes × IsHeaderImage version heade
 -- the fault is that of the first test that the bytes fail: one of the header, or one behind it, which says what follows
 abbrev pub IsFileFault : FileVersion → List ℕ → FileFault → Type 0
 IsFileFault version bytes fault = NextFails (HeaderFails version) bytes fault
-    ⊎ ((header : Header) × IsHeaderImage version header (block_at 0 bytes) × FailsFirst version (any_pseudokey header.keyer) bytes (places_behind header) fault)
+    ⊎ ((header : Header) × IsHeaderImage version header (block_at 0 bytes) × FileFailsFirst version (any_pseudokey header.keyer) bytes (places_behind header) fault)

@@ -9,8 +9,8 @@ use Rattle.exh_page_file.specs.Reading.{AreBytes}
 use Rattle.exh_page_file.specs.PageFile.{IsFile, IsPageFile, PageFile, file_bytes}
 
 -- a file has exactly one list of bytes
-abbrev pub OneImage : Type 0
-OneImage = (version : FileVersion) (file : PageFile) → IsFile version file → (bytes : List ℕ) × IsPageFile version file bytes × ((other : List ℕ) → IsPageFile version file other → other ≡ bytes)
+abbrev pub OneFileImage : Type 0
+OneFileImage = (version : FileVersion) (file : PageFile) → IsFile version file → (bytes : List ℕ) × IsPageFile version file bytes × ((other : List ℕ) → IsPageFile version file other → other ≡ bytes)
 
 -- and bytes are those of one file
 abbrev pub OneFile : Type 0

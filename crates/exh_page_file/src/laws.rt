@@ -1,10 +1,10 @@
 //! What holds of all page files, for the proofs of callers. Each function changes nothing.
 
-ghost use Rattle.exh_page_file.specs.Laws.{FilesPass, OneFile, OneImage, PassedHasNoFault, WrittenIsFile};
+ghost use Rattle.exh_page_file.specs.Laws.{FilesPass, OneFile, OneFileImage, PassedHasNoFault, WrittenIsFile};
 
 /// In every version of the page file a file has exactly one list of bytes.
 pub fn one_image()
-    ensures { OneImage }
+    ensures { OneFileImage }
 {}
 
 /// In every version that fits bytes are those of one file.

@@ -4,7 +4,7 @@ ghost use Rattle.exh_stream.specs.Output.{AppendsBeginning};
 ghost use Rattle.exh_file.specs.FileVersion.{first_file};
 ghost use Rattle.exh_page_file.specs.PageFile.{file_bytes};
 ghost use Rattle.exh_page_file.specs.Writing.{IsBare, SameTarget, written};
-ghost use Rattle.exh_save.specs.Saved.{file_of};
+ghost use Rattle.exh_save.specs.Saved.{written_file};
 ghost use Rattle.exh_save.specs.Reopened.{IsKept};
 
 use exh_frames::Pages;
@@ -24,9 +24,9 @@ pub fn write_opened<P: Pages + Drop, W: Write>(
 ) -> Result<(), SaveFault>
     requires { IsBare file.old }
     ensures same_target { SameTarget file.old file.new }
-    ensures ok { OnOk result (Appends (written W.contents file.old) (written W.contents file.new) (file_bytes first_file (file_of opened))) }
-    ensures opens { OnOk result (IsKept opened (file_bytes first_file (file_of opened))) }
-    ensures err { OnErr result (AppendsBeginning (written W.contents file.old) (written W.contents file.new) (file_bytes first_file (file_of opened))) }
+    ensures ok { OnOk result (Appends (written W.contents file.old) (written W.contents file.new) (file_bytes first_file (written_file opened))) }
+    ensures opens { OnOk result (IsKept opened (file_bytes first_file (written_file opened))) }
+    ensures err { OnErr result (AppendsBeginning (written W.contents file.old) (written W.contents file.new) (file_bytes first_file (written_file opened))) }
 {
     let cap = opened.cap();
     let ward_bits = opened.ward_bits();

@@ -2,10 +2,10 @@
 use Rattle.std.proofs.Common.{◌<◌, arith}
 use Rattle.exh_reasons.specs.declared.reason.Reason.{Reason}
 use Rattle.exh_reasons.specs.declared.reason.Reason.TheVariants.{Cap, LowBounds, Leaves, Links, Forwards, Table}
-use Rattle.exh_reasons.specs.Reasons.{place_of}
+use Rattle.exh_reasons.specs.Reasons.{rank_of}
 
 module _ (P : Reason → Type 0) where
-  pub before_table : P Cap → P LowBounds → P Leaves → P Links → P Forwards → (reason : Reason) → place_of reason < 6 → P reason
+  pub before_table : P Cap → P LowBounds → P Leaves → P Links → P Forwards → (reason : Reason) → rank_of reason < 6 → P reason
   before_table cap lows leaves links targets Cap less = cap
   before_table cap lows leaves links targets LowBounds less = lows
   before_table cap lows leaves links targets Leaves less = leaves

@@ -25,7 +25,7 @@ use Rattle.exh_legal.specs.Growth.{IsLiveAt}
 use Rattle.exh_prefix.specs.LowLemmas.{begins_own_low, child_short, front_shorter, low_of-HasPrefix, low_of-small, right_above, right_tells_parent}
 use Rattle.exh_legal.specs.Pages.{IsAt, IsHome}
 use Rattle.exh_reasons.specs.FileParts.{IsBounded}
-use Rattle.exh_reasons.specs.PageIndex.{AreIndex, IsOwnEntry, IsRecordedBy, IsToldBy, page_at}
+use Rattle.exh_reasons.specs.PageIndex.{AreIndex, IsOwnEntry, IsRecordedBy, IsToldBy, page_number_at}
 use Rattle.exh_reasons.specs.Reasons.{HasLows, HasLeaves}
 use Rattle.exh_reasons.proofs.Index.{same_page}
 use Rattle.exh_reasons.proofs.LeafTests.{home_begun}
@@ -288,16 +288,16 @@ abbrev pub RecordedBelow : TableMap → List Page → ℕ → Type 0
 RecordedBelow table pages count = (number : ℕ) (page : Page) → number < count → IsAt pages number page → 0 < number → IsRecordedBy table page
 
 pub told_there : (pages : List Page) (entries : List (ℕ × ℕ)) → AreIndex entries pages → (ward prefix : List Bool) (entry : Entry) → IsWardEntry ward prefix entry → length prefix < LIMIT
-    → (number : ℕ) (page : Page) → page_at entries (low_of (prefix ++ true ∷ [])) ≡ Some number → IsAt pages number page → IsToldBy entry.kind number page → IsOwnEntry ward pages prefix entry
+    → (number : ℕ) (page : Page) → page_number_at entries (low_of (prefix ++ true ∷ [])) ≡ Some number → IsAt pages number page → IsToldBy entry.kind number page → IsOwnEntry ward pages prefix entry
 told_there pages entries index ward prefix entry own short number page found at told =
     let there = (index (low_of (prefix ++ true ∷ [])) number).0 found in
     record { own = own; short = short; told = (number, page, at, sym (ap low_bound (same_page pages number there.0 page there.1 at)) ∙ there.2, told) }
 
-pub index_number : (pages : List Page) (entries : List (ℕ × ℕ)) → AreIndex entries pages → (ward prefix : List Bool) (entry : Entry) → (own : IsOwnEntry ward pages prefix entry) → page_at entries (low_of (prefix ++ true ∷ [])) ≡ Some own.told.0
+pub index_number : (pages : List Page) (entries : List (ℕ × ℕ)) → AreIndex entries pages → (ward prefix : List Bool) (entry : Entry) → (own : IsOwnEntry ward pages prefix entry) → page_number_at entries (low_of (prefix ++ true ∷ [])) ≡ Some own.told.0
 index_number pages entries index ward prefix entry own = (index (low_of (prefix ++ true ∷ [])) own.told.0).1 (own.told.1, own.told.2, own.told.3)
 
 pub there_told : (pages : List Page) (entries : List (ℕ × ℕ)) → AreIndex entries pages → (ward prefix : List Bool) (entry : Entry) → IsOwnEntry ward pages prefix entry
-    → (number : ℕ) (page : Page) → page_at entries (low_of (prefix ++ true ∷ [])) ≡ Some number → IsAt pages number page → IsToldBy entry.kind number page
+    → (number : ℕ) (page : Page) → page_number_at entries (low_of (prefix ++ true ∷ [])) ≡ Some number → IsAt pages number page → IsToldBy entry.kind number page
 there_told pages entries index ward prefix entry own number page found at =
     let both : Some own.told.0 ≡ Some number = sym (index_number pages entries index ward prefix entry own) ∙ found in
     let same : own.told.0 ≡ number = cc in

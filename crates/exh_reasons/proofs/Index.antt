@@ -13,7 +13,7 @@ use Rattle.exh_page.specs.declared.page.Page.{Page}
 use Rattle.exh_page.specs.Page.{IsLive, low_bound}
 use Rattle.exh_legal.specs.Growth.{IsPageOf}
 use Rattle.exh_legal.specs.Pages.{IsAt}
-use Rattle.exh_reasons.specs.PageIndex.{page_at, AreIndex}
+use Rattle.exh_reasons.specs.PageIndex.{page_number_at, AreIndex}
 use Rattle.exh_reasons.specs.Reasons.{HasLows}
 
 pub at_same : (key query : ℕ) → key ≡ query → is_at (nat_cmp key) query ≡ true
@@ -30,7 +30,7 @@ same_page pages number one other is too = let both : Some one ≡ Some other = s
 
 -- the index of the pages before a number, each of the ward
 pub record IsBegunIndex (ward : List Bool) (pages : List Page) (count : ℕ) (entries : List (ℕ × ℕ)) : Type 0 where
-  pub found : (low number : ℕ) → (page_at entries low ≡ Some number) ↔ ((number < count) × IsPageOf pages low number)
+  pub found : (low number : ℕ) → (page_number_at entries low ≡ Some number) ↔ ((number < count) × IsPageOf pages low number)
   pub within : (number : ℕ) (page : Page) → number < count → IsAt pages number page → Begins ward (low_bound page)
 
 pub no_index : (ward : List Bool) (pages : List Page) (entries : List (ℕ × ℕ)) → entries ≡ [] → IsBegunIndex ward pages 0 entries
@@ -38,12 +38,12 @@ no_index ward pages [] none = record { found = λ low number. (λ is. cc, λ is.
 no_index ward pages (entry ∷ entries) none = cc
 
 pub more_index : (ward : List Bool) (pages : List Page) (count : ℕ) (entries new : List (ℕ × ℕ)) (page : Page) → IsBegunIndex ward pages count entries → IsAt pages count page → Begins ward (low_bound page)
-    → page_at entries (low_bound page) ≡ None → ((query : ℕ) → page_at new query ≡ cond (is_at (nat_cmp (low_bound page)) query) (Some count) (page_at entries query)) → IsBegunIndex ward pages (count + 1) new
+    → page_number_at entries (low_bound page) ≡ None → ((query : ℕ) → page_number_at new query ≡ cond (is_at (nat_cmp (low_bound page)) query) (Some count) (page_number_at entries query)) → IsBegunIndex ward pages (count + 1) new
 more_index ward pages count entries new page begun is within none updates =
-    let here : (low number : ℕ) → low_bound page ≡ low → page_at new low ≡ Some number → number ≡ count =
-    λ low number same found. let value : Some number ≡ Some count = sym found ∙ updates low ∙ ap (λ b. cond b (Some count) (page_at entries low)) (at_same (low_bound page) low same) in cc in
-    let elsewhere : (low : ℕ) → low_bound page ≢ low → page_at new low ≡ page_at entries low =
-    λ low differ. updates low ∙ ap (λ b. cond b (Some count) (page_at entries low)) (at_other (low_bound page) low differ) in
+    let here : (low number : ℕ) → low_bound page ≡ low → page_number_at new low ≡ Some number → number ≡ count =
+    λ low number same found. let value : Some number ≡ Some count = sym found ∙ updates low ∙ ap (λ b. cond b (Some count) (page_number_at entries low)) (at_same (low_bound page) low same) in cc in
+    let elsewhere : (low : ℕ) → low_bound page ≢ low → page_number_at new low ≡ page_number_at entries low =
+    λ low differ. updates low ∙ ap (λ b. cond b (Some count) (page_number_at entries low)) (at_other (low_bound page) low differ) in
     record {
       found = λ low number. (
         λ found. elim (cases_eq (low_bound page) low) [
@@ -53,11 +53,11 @@ more_index ward pages count entries new page begun is within none updates =
         λ there. elim (cases_eq number count) [
           | inl last ↦
               let own : low_bound page ≡ low = ap low_bound (same_page pages count page there.1.0 is (subst (λ n. IsAt pages n there.1.0) last there.1.1)) ∙ there.1.2 in
-              updates low ∙ ap (λ b. cond b (Some count) (page_at entries low)) (at_same (low_bound page) low own) ∙ ap (λ n. Some n) (sym last)
+              updates low ∙ ap (λ b. cond b (Some count) (page_number_at entries low)) (at_same (low_bound page) low own) ∙ ap (λ n. Some n) (sym last)
           | inr before ↦
               let old = (begun.found low number).1 (omega (arith, there.0, before), there.1) in
               elim (cases_eq (low_bound page) low) [
-                | inl same ↦ let clash : Some number ≡ None = sym old ∙ ap (page_at entries) (sym same) ∙ none in cc
+                | inl same ↦ let clash : Some number ≡ None = sym old ∙ ap (page_number_at entries) (sym same) ∙ none in cc
                 | inr differ ↦ elsewhere low differ ∙ old
               ]
         ],
@@ -68,10 +68,10 @@ more_index ward pages count entries new page begun is within none updates =
       ];
     }
 
-abbrev IsFirst : List Bool → List Page → Type 0
-IsFirst ward pages = (page : Page) × IsAt pages 0 page × IsLive page × (low_bound page ≡ low_of ward)
+abbrev IsFirstReason : List Bool → List Page → Type 0
+IsFirstReason ward pages = (page : Page) × IsAt pages 0 page × IsLive page × (low_bound page ≡ low_of ward)
 
-pub all_indexed : (ward : List Bool) (pages : List Page) (entries : List (ℕ × ℕ)) → IsBegunIndex ward pages (length pages) entries → IsFirst ward pages → HasLows ward pages × AreIndex entries pages
+pub all_indexed : (ward : List Bool) (pages : List Page) (entries : List (ℕ × ℕ)) → IsBegunIndex ward pages (length pages) entries → IsFirstReason ward pages → HasLows ward pages × AreIndex entries pages
 all_indexed ward pages entries begun first = (
   record {
     first = first;
@@ -89,19 +89,19 @@ all_indexed ward pages entries begun first = (
 )
 
 -- a low bound that is there already is shared
-pub shared_low : (ward : List Bool) (pages : List Page) (count : ℕ) (entries : List (ℕ × ℕ)) (page : Page) (number : ℕ) → IsBegunIndex ward pages count entries → IsAt pages count page → page_at entries (low_bound page) ≡ Some number → HasLows ward pages → ⊥
+pub shared_low : (ward : List Bool) (pages : List Page) (count : ℕ) (entries : List (ℕ × ℕ)) (page : Page) (number : ℕ) → IsBegunIndex ward pages count entries → IsAt pages count page → page_number_at entries (low_bound page) ≡ Some number → HasLows ward pages → ⊥
 shared_low ward pages count entries page number begun is found lows =
     let old = (begun.found (low_bound page) number).0 found in
     absurd (omega (arith, old.0, lows.apart number count old.1.0 page old.1.1 is old.1.2))
 
-pub shared_low_found : (ward : List Bool) (pages : List Page) (count : ℕ) (entries : List (ℕ × ℕ)) (page : Page) → IsBegunIndex ward pages count entries → IsAt pages count page → (low : ℕ) → low ≡ low_bound page → is_some (page_at entries low) ≡ true → HasLows ward pages → ⊥
-shared_low_found ward pages count entries page begun is low same some lows = elim (page_at entries low) as (λ found. page_at entries low ≡ found → is_some found ≡ true → ⊥) [
+pub shared_low_found : (ward : List Bool) (pages : List Page) (count : ℕ) (entries : List (ℕ × ℕ)) (page : Page) → IsBegunIndex ward pages count entries → IsAt pages count page → (low : ℕ) → low ≡ low_bound page → is_some (page_number_at entries low) ≡ true → HasLows ward pages → ⊥
+shared_low_found ward pages count entries page begun is low same some lows = elim (page_number_at entries low) as (λ found. page_number_at entries low ≡ found → is_some found ≡ true → ⊥) [
   | None ↦ λ found some. absurd (false≢true some)
-  | Some number ↦ λ found some. shared_low ward pages count entries page number begun is (ap (page_at entries) (sym same) ∙ found) lows
+  | Some number ↦ λ found some. shared_low ward pages count entries page number begun is (ap (page_number_at entries) (sym same) ∙ found) lows
 ] refl some
 
-pub none_found : (entries : List (ℕ × ℕ)) (low other : ℕ) → low ≡ other → is_some (page_at entries low) ≡ false → page_at entries other ≡ None
-none_found entries low other same none = elim (page_at entries low) as (λ found. page_at entries low ≡ found → is_some found ≡ false → page_at entries other ≡ None) [
-  | None ↦ λ found none. ap (page_at entries) (sym same) ∙ found
+pub none_found : (entries : List (ℕ × ℕ)) (low other : ℕ) → low ≡ other → is_some (page_number_at entries low) ≡ false → page_number_at entries other ≡ None
+none_found entries low other same none = elim (page_number_at entries low) as (λ found. page_number_at entries low ≡ found → is_some found ≡ false → page_number_at entries other ≡ None) [
+  | None ↦ λ found none. ap (page_number_at entries) (sym same) ∙ found
   | Some number ↦ λ found none. absurd (false≢true (sym none))
 ] refl none

@@ -17,7 +17,7 @@ use Rattle.exh_legal.specs.Growth.{IsLiveAt}
 use Rattle.exh_prefix.specs.LowLemmas.{begins_own_low, front_shorter}
 use Rattle.exh_legal.specs.Pages.{IsAt, IsHome}
 use Rattle.exh_reasons.specs.FileParts.{IsBounded}
-use Rattle.exh_reasons.specs.PageIndex.{AreIndex, end_after, end_of, end_over}
+use Rattle.exh_reasons.specs.PageIndex.{AreIndex, way_end_after, end_of, end_over}
 use Rattle.exh_reasons.specs.Reasons.{HasLows, HasLeaves}
 use Rattle.exh_reasons.proofs.Tiles.{AreTiled, InSpan, IsListed, among_found, complete, end_above, end_small, rising, sound}
 
@@ -89,7 +89,7 @@ module _ {ward : List Bool} {pages : List Page} (short : length ward ≤ LIMIT) 
 stopped : (pages : List Page) (least from : ℕ) (entry : ℕ × ℕ) (entries : List (ℕ × ℕ)) (prefix : List Bool) (right : Option ℕ) (records : List Record) → slice_get pages entry.1 ≡ Some (Live prefix right records)
     → (leb least (length prefix) && eqb (low_of prefix) from) ≡ false → end_over pages least from (entry ∷ entries) ≡ None
 stopped pages least from entry entries prefix right records is fails =
-    ap (λ found. option_map_or (λ page. option_map_or (λ next. end_over pages least next entries) (end_after least from page) None) found None) is
+    ap (λ found. option_map_or (λ page. option_map_or (λ next. end_over pages least next entries) (way_end_after least from page) None) found None) is
     ∙ ap (λ b. option_map_or (λ next. end_over pages least next entries) (cond b (Some (end_of prefix)) None) None) fails
 
 pub stopped_short : (pages : List Page) (least from : ℕ) (entry : ℕ × ℕ) (entries : List (ℕ × ℕ)) (prefix : List Bool) (right : Option ℕ) (records : List Record) → slice_get pages entry.1 ≡ Some (Live prefix right records)

@@ -12,7 +12,7 @@ use Rattle.exh_legal.specs.Growth.{IsPageOf}
 use Rattle.exh_prefix.specs.LowLemmas.{begins_own_low}
 use Rattle.exh_legal.specs.Pages.{IsAt, IsHome, IsRightLink}
 use Rattle.exh_reasons.specs.FileParts.{IsBounded}
-use Rattle.exh_reasons.specs.PageIndex.{AreIndex, IsAimedBy, IsLinkedBy, end_of, next_of, page_at}
+use Rattle.exh_reasons.specs.PageIndex.{AreIndex, IsAimedBy, IsLinkedBy, end_of, next_of, page_number_at}
 use Rattle.exh_prefix.specs.Bits.{lowest_cleared}
 use Rattle.exh_reasons.specs.Reasons.{HasLows, HasLeaves, HasLinks, HasTargets}
 use Rattle.exh_reasons.proofs.Index.{same_page}
@@ -119,7 +119,7 @@ module _ {ward : List Bool} {pages : List Page} (short : length ward ≤ LIMIT) 
 
     module _ (entries : List (ℕ × ℕ)) (index : AreIndex entries pages) where
       indexed : IsOwnLink (next_of entries prefix)
-      indexed = elim (page_at entries (end_of prefix)) as (λ found. page_at entries (end_of prefix) ≡ found → IsOwnLink found) [
+      indexed = elim (page_number_at entries (end_of prefix)) as (λ found. page_number_at entries (end_of prefix) ≡ found → IsOwnLink found) [
         | None ↦ λ none. none_link (λ other page. let clash : None ≡ Some other = sym none ∙ (index (end_of prefix) other).1 page in cc)
         | Some other ↦ λ found. some_link other ((index (end_of prefix) other).0 found)
       ] refl
@@ -134,7 +134,7 @@ low_small : (page : Page) → IsBounded page → low_bound page < 2 ^ 64
 low_small (Live prefix right records) is = omega (arith, end_above prefix, end_small prefix is)
 low_small (Forward low target) is = is
 
-pub index_small : (pages : List Page) (entries : List (ℕ × ℕ)) → ((number : ℕ) (page : Page) → IsAt pages number page → IsBounded page) → AreIndex entries pages → (low number : ℕ) → page_at entries low ≡ Some number → low < 2 ^ 64
+pub index_small : (pages : List Page) (entries : List (ℕ × ℕ)) → ((number : ℕ) (page : Page) → IsAt pages number page → IsBounded page) → AreIndex entries pages → (low number : ℕ) → page_number_at entries low ≡ Some number → low < 2 ^ 64
 index_small pages entries bounded index low number found =
     let page = (index low number).0 found in
     omega (arith, page.2, low_small page.0 (bounded number page.0 page.1))

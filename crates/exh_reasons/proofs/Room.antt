@@ -13,7 +13,7 @@ use Rattle.exh_prefix.specs.declared.prefix.TheConstants.{LIMIT}
 use Rattle.exh_notice.specs.declared.entry.Entry.{Entry}
 use Rattle.exh_legal.specs.Laws.{EntriesAreFew}
 use Rattle.exh_table.specs.Table.{TableMap}
-use Rattle.exh_reasons.specs.FileParts.{FileParts, HasRanges, table_of}
+use Rattle.exh_reasons.specs.FileParts.{FileParts, HasPartRanges, table_of}
 use Rattle.exh_reasons.specs.Laws.{IsLegalFile}
 
 abbrev entry_count : TableMap → ℕ
@@ -44,7 +44,7 @@ module _ (most : ℕ) where
 none_in_empty : entry_count (empty {X = Entry} {R = prefix_cmp}) ≡ 0
 none_in_empty = sym (len-entries (empty {X = Entry} {R = prefix_cmp})) ∙ len-empty prefix_cmp Entry
 
-module _ (law : EntriesAreFew) (pseudo : List ℕ → ℕ) (parts : FileParts) (ranges : HasRanges parts) (count : length parts.wards ≡ 2 ^ parts.ward_bits) (legal : IsLegalFile pseudo parts) where
+module _ (law : EntriesAreFew) (pseudo : List ℕ → ℕ) (parts : FileParts) (ranges : HasPartRanges parts) (count : length parts.wards ≡ 2 ^ parts.ward_bits) (legal : IsLegalFile pseudo parts) where
   few_in_ward : (number : ℕ) → number < 2 ^ parts.ward_bits → entry_count (table_of parts number) < 2 ^ (LIMIT - parts.ward_bits)
   few_in_ward number less =
       let own = ward_prefix parts.ward_bits number in

@@ -20,7 +20,7 @@ use Rattle.exh_legal.specs.Growth.{IsPageOf}
 use Rattle.exh_prefix.specs.LowLemmas.{begins_own_low, low_of-small}
 use Rattle.exh_legal.specs.Pages.{IsAt, IsHome}
 use Rattle.exh_reasons.specs.FileParts.{IsBounded}
-use Rattle.exh_reasons.specs.PageIndex.{end_after, end_of, end_over, page_at}
+use Rattle.exh_reasons.specs.PageIndex.{way_end_after, end_of, end_over, page_number_at}
 use Rattle.exh_reasons.proofs.Index.{at_same, at_other, same_page}
 
 -- the entries have the number
@@ -151,7 +151,7 @@ module _ (pages : List Page) (bounded : (number : ℕ) (page : Page) → IsAt pa
   onward entries next = option_map_or (λ from. end_over pages least from entries) next None
 
   sound_page : (entry : ℕ × ℕ) (entries : List (ℕ × ℕ)) → ((from to : ℕ) → end_over pages least from entries ≡ Some to → AreTiled pages least from to entries)
-      → (from to : ℕ) (page : Page) → IsAt pages entry.1 page → onward entries (end_after least from page) ≡ Some to → AreTiled pages least from to (entry ∷ entries)
+      → (from to : ℕ) (page : Page) → IsAt pages entry.1 page → onward entries (way_end_after least from page) ≡ Some to → AreTiled pages least from to (entry ∷ entries)
   sound_page entry entries rest from to (Live prefix right records) at is =
       let short : length prefix ≤ LIMIT = bounded entry.1 _ at in
       elim (leb least (length prefix)) as (λ b. leb least (length prefix) ≡ b → onward entries (cond (b && eqb (low_of prefix) from) (Some (end_of prefix)) None) ≡ Some to → AreTiled pages least from to (entry ∷ entries)) [
@@ -168,7 +168,7 @@ module _ (pages : List Page) (bounded : (number : ℕ) (page : Page) → IsAt pa
   pub sound : (entries : List (ℕ × ℕ)) (from to : ℕ) → end_over pages least from entries ≡ Some to → AreTiled pages least from to entries
   sound [] from to is = let same : from ≡ to = cc in no_tiles from to same
   sound (entry ∷ entries) from to is =
-      elim (slice_get pages entry.1) as (λ found. slice_get pages entry.1 ≡ found → option_map_or (λ page. onward entries (end_after least from page)) found None ≡ Some to → AreTiled pages least from to (entry ∷ entries)) [
+      elim (slice_get pages entry.1) as (λ found. slice_get pages entry.1 ≡ found → option_map_or (λ page. onward entries (way_end_after least from page)) found None ≡ Some to → AreTiled pages least from to (entry ∷ entries)) [
         | None ↦ λ at is. cc
         | Some page ↦ λ at is. sound_page entry entries (sound entries) from to page at is
       ] refl is
@@ -211,7 +211,7 @@ module _ (pages : List Page) (bounded : (number : ℕ) (page : Page) → IsAt pa
   past_first to entry entries page prefix few at low short homes rises from tiled number (Forward own target) is = tt
 
   complete_page : (entry : ℕ × ℕ) (entries : List (ℕ × ℕ)) (to : ℕ) → to ≤ 2 ^ 64 → ((from : ℕ) → AreTiled pages least from to entries → end_over pages least from entries ≡ Some to)
-      → (from : ℕ) (page : Page) → IsAt pages entry.1 page → ((number : ℕ) (other : Page) → IsListed pages entries number other → low_bound page < low_bound other) → AreTiled pages least from to (entry ∷ entries) → onward entries (end_after least from page) ≡ Some to
+      → (from : ℕ) (page : Page) → IsAt pages entry.1 page → ((number : ℕ) (other : Page) → IsListed pages entries number other → low_bound page < low_bound other) → AreTiled pages least from to (entry ∷ entries) → onward entries (way_end_after least from page) ≡ Some to
   complete_page entry entries to few rest from (Live prefix right records) at rises tiled =
       let page : Page = Live prefix right records in
       let short : length prefix ≤ LIMIT = bounded entry.1 _ at in
@@ -247,16 +247,16 @@ module _ (pages : List Page) (bounded : (number : ℕ) (page : Page) → IsAt pa
   ]
   complete (entry ∷ entries) from to few rising tiled =
       let first = rising.0 in
-      ap (λ found. option_map_or (λ page. onward entries (end_after least from page)) found None) first.1
+      ap (λ found. option_map_or (λ page. onward entries (way_end_after least from page)) found None) first.1
       ∙ complete_page entry entries to few (λ next. complete entries next to few rising.2) from first.0 first.1 (λ number other is. omega (arith, rising.1 number other is, first.2)) tiled
 
 -- ---- the entries of an index rise
 
-above_found : (key : ℕ) (entries : List (ℕ × ℕ)) → AllByRecursion (λ y. nat_cmp key y ≡ Less) (map (λ e. e.0) entries) → (low number : ℕ) → page_at entries low ≡ Some number → key < low
+above_found : (key : ℕ) (entries : List (ℕ × ℕ)) → AllByRecursion (λ y. nat_cmp key y ≡ Less) (map (λ e. e.0) entries) → (low number : ℕ) → page_number_at entries low ≡ Some number → key < low
 above_found key [] all low number is = cc
 above_found key (entry ∷ entries) all low number is = elim (cases_eq low entry.0) [
   | inl same ↦ omega (arith, ranked key entry.0 Less (sym all.0), same)
-  | inr differ ↦ above_found key entries all.1 low number (sym (ap (λ b. cond b (Some entry.1) (page_at entries low)) (at_other low entry.0 differ)) ∙ is)
+  | inr differ ↦ above_found key entries all.1 low number (sym (ap (λ b. cond b (Some entry.1) (page_number_at entries low)) (at_other low entry.0 differ)) ∙ is)
 ]
 
 above_listed : (pages : List Page) (key : ℕ) (entries : List (ℕ × ℕ)) → AllByRecursion (λ y. nat_cmp key y ≡ Less) (map (λ e. e.0) entries) → AreRising pages entries → (number : ℕ) (page : Page) → IsListed pages entries number page → key < low_bound page
@@ -266,18 +266,18 @@ above_listed pages key (entry ∷ entries) all rising number page is = elim (lis
   | inr rest ↦ above_listed pages key entries all.1 rising.2 number page rest
 ]
 
-pub rising : (pages : List Page) (entries : List (ℕ × ℕ)) → IsStrictlySortedBy nat_cmp (map (λ e. e.0) entries) → ((low number : ℕ) → page_at entries low ≡ Some number → IsPageOf pages low number) → AreRising pages entries
+pub rising : (pages : List Page) (entries : List (ℕ × ℕ)) → IsStrictlySortedBy nat_cmp (map (λ e. e.0) entries) → ((low number : ℕ) → page_number_at entries low ≡ Some number → IsPageOf pages low number) → AreRising pages entries
 unfolding IsStrictlySortedBy
 rising pages [] sorted each = tt
 rising pages (entry ∷ entries) sorted each =
     let rest : AreRising pages entries = rising pages entries sorted.1 (λ low number is.
     let less = above_found entry.0 entries sorted.0 low number is in
-    each low number (ap (λ b. cond b (Some entry.1) (page_at entries low)) (at_other low entry.0 (λ same. absurd (omega (arith, less, same)))) ∙ is)) in
-    (each entry.0 entry.1 (ap (λ b. cond b (Some entry.1) (page_at entries entry.0)) (at_same entry.0 entry.0 refl)), above_listed pages entry.0 entries sorted.0 rest, rest)
+    each low number (ap (λ b. cond b (Some entry.1) (page_number_at entries low)) (at_other low entry.0 (λ same. absurd (omega (arith, less, same)))) ∙ is)) in
+    (each entry.0 entry.1 (ap (λ b. cond b (Some entry.1) (page_number_at entries entry.0)) (at_same entry.0 entry.0 refl)), above_listed pages entry.0 entries sorted.0 rest, rest)
 
-pub among_found : (entries : List (ℕ × ℕ)) (low number : ℕ) → page_at entries low ≡ Some number → Among entries number
+pub among_found : (entries : List (ℕ × ℕ)) (low number : ℕ) → page_number_at entries low ≡ Some number → Among entries number
 among_found [] low number is = cc
-among_found (entry ∷ entries) low number is = elim (is_at (nat_cmp low) entry.0) as (λ b. cond b (Some entry.1) (page_at entries low) ≡ Some number → Among (entry ∷ entries) number) [
+among_found (entry ∷ entries) low number is = elim (is_at (nat_cmp low) entry.0) as (λ b. cond b (Some entry.1) (page_number_at entries low) ≡ Some number → Among (entry ∷ entries) number) [
   | true ↦ λ is. inl (let same : entry.1 ≡ number = cc in same)
   | false ↦ λ is. inr (among_found entries low number is)
 ] is

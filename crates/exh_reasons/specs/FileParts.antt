@@ -28,7 +28,7 @@ abbrev pub HasNoStrays : FileParts → Type 0
 HasNoStrays parts = (number : ℕ) → length parts.wards ≤ number → table_of parts number ≡ empty
 
 -- as a header has them
-pub record HasRanges (parts : FileParts) : Type 0 where
+pub record HasPartRanges (parts : FileParts) : Type 0 where
   pub cap : parts.cap ≤ CAP_LIMIT
   pub bits : parts.ward_bits ≤ LIMIT
 

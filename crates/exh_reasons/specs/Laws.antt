@@ -8,8 +8,8 @@ use Rattle.exh_page.specs.Page.{IsWellFormed}
 use Rattle.exh_legal.specs.Laws.{IsWard}
 use Rattle.exh_legal.specs.Pages.{IsAt}
 use Rattle.exh_reasons.specs.declared.reason.Reason.{Reason}
-use Rattle.exh_reasons.specs.FileParts.{FileParts, HasRanges, IsBounded, OfEachWard, HasNoStrays}
-use Rattle.exh_reasons.specs.Reasons.{Passes}
+use Rattle.exh_reasons.specs.FileParts.{FileParts, HasPartRanges, IsBounded, OfEachWard, HasNoStrays}
+use Rattle.exh_reasons.specs.Reasons.{ReasonPasses}
 
 -- ---- pages as readers give them
 
@@ -27,11 +27,11 @@ pub record IsLegalFile (pseudo : List ℕ → ℕ) (parts : FileParts) : Type 0 
 -- a file of pages as readers give them that passes all six tests
 pub record IsPassed (pseudo : List ℕ → ℕ) (parts : FileParts) : Type 0 where
   pub formed : OfEachWard parts (λ ward table pages. AreFormed pseudo pages)
-  pub passed : (reason : Reason) → Passes parts reason
+  pub passed : (reason : Reason) → ReasonPasses parts reason
 
 abbrev pub LegalFilesPass : Type 0
-LegalFilesPass = (pseudo : List ℕ → ℕ) (parts : FileParts) → HasRanges parts → IsPassed pseudo parts ↔ IsLegalFile pseudo parts
+LegalFilesPass = (pseudo : List ℕ → ℕ) (parts : FileParts) → HasPartRanges parts → IsPassed pseudo parts ↔ IsLegalFile pseudo parts
 
 -- the entries of a legal file are fewer than there are prefixes of LIMIT bits
 abbrev pub LegalTablesHaveRoom : Type 0
-LegalTablesHaveRoom = (pseudo : List ℕ → ℕ) (parts : FileParts) → HasRanges parts → length parts.wards ≡ 2 ^ parts.ward_bits → IsLegalFile pseudo parts → sum_by (λ table. length (entries table)) parts.tables < 2 ^ LIMIT
+LegalTablesHaveRoom = (pseudo : List ℕ → ℕ) (parts : FileParts) → HasPartRanges parts → length parts.wards ≡ 2 ^ parts.ward_bits → IsLegalFile pseudo parts → sum_by (λ table. length (entries table)) parts.tables < 2 ^ LIMIT

@@ -20,29 +20,29 @@ use Rattle.exh_legal.specs.Growth.{IsPageOf}
 use Rattle.exh_legal.specs.Pages.{IsAt}
 
 -- what the entries have at a low bound
-abbrev pub page_at : List (ℕ × ℕ) → ℕ → Option ℕ
-page_at entries low = lookup (is_at (nat_cmp low)) entries
+abbrev pub page_number_at : List (ℕ × ℕ) → ℕ → Option ℕ
+page_number_at entries low = lookup (is_at (nat_cmp low)) entries
 
 -- the entries are the pages by their low bounds
 abbrev pub AreIndex : List (ℕ × ℕ) → List Page → Type 0
-AreIndex entries pages = (low number : ℕ) → (page_at entries low ≡ Some number) ↔ IsPageOf pages low number
+AreIndex entries pages = (low number : ℕ) → (page_number_at entries low ≡ Some number) ↔ IsPageOf pages low number
 
 -- where the pseudokeys end that a prefix begins
 abbrev pub end_of : List Bool → ℕ
 end_of prefix = low_of prefix + 2 ^ (64 - length prefix)
 
 -- where the live pages end, one beside the other from a number on, and none shorter than the ward's prefix; none where they don't
-abbrev pub end_after : ℕ → ℕ → Page → Option ℕ
-end_after least from (Live prefix right records) = cond (nat_le least (length prefix) && nat_eq (low_of prefix) from) (Some (end_of prefix)) None
-end_after least from (Forward low target) = Some from
+abbrev pub way_end_after : ℕ → ℕ → Page → Option ℕ
+way_end_after least from (Live prefix right records) = cond (nat_le least (length prefix) && nat_eq (low_of prefix) from) (Some (end_of prefix)) None
+way_end_after least from (Forward low target) = Some from
 
 abbrev pub end_over : List Page → ℕ → ℕ → List (ℕ × ℕ) → Option ℕ
 end_over pages least from [] = Some from
-end_over pages least from (entry ∷ entries) = option_map_or (λ page. option_map_or (λ next. end_over pages least next entries) (end_after least from page) None) (slice_get pages entry.1) None
+end_over pages least from (entry ∷ entries) = option_map_or (λ page. option_map_or (λ next. end_over pages least next entries) (way_end_after least from page) None) (slice_get pages entry.1) None
 
 -- the page that a live page's right link names, where the leaves are legal
 abbrev pub next_of : List (ℕ × ℕ) → List Bool → Option ℕ
-next_of entries prefix = page_at entries (end_of prefix)
+next_of entries prefix = page_number_at entries (end_of prefix)
 
 -- ---- what is asked of one page
 
@@ -54,7 +54,7 @@ IsLinkedBy entries (Forward low target) = ⊤
 -- a target is the page that the index has at the low bound with the lowest set bit cleared
 abbrev pub IsAimedBy : List (ℕ × ℕ) → Page → Type 0
 IsAimedBy entries (Live prefix right records) = ⊤
-IsAimedBy entries (Forward low target) = page_at entries (lowest_cleared low) ≡ Some target
+IsAimedBy entries (Forward low target) = page_number_at entries (lowest_cleared low) ≡ Some target
 
 -- ---- what is asked of one entry, and of one page, for the table
 

@@ -53,36 +53,36 @@ WardPasses cap ward table pages Table = FitsPages ward table pages
 -- ---- the reasons of a file
 
 -- the reason doesn't hold of the file
-abbrev pub Passes : FileParts → Reason → Type 0
-Passes parts Cap = OfEachWard parts (λ ward table pages. KeepsCap parts.cap pages)
-Passes parts LowBounds = OfEachWard parts (λ ward table pages. HasLows ward pages)
-Passes parts Leaves = OfEachWard parts (λ ward table pages. HasLeaves ward pages)
-Passes parts Links = OfEachWard parts (λ ward table pages. HasLinks pages)
-Passes parts Forwards = OfEachWard parts (λ ward table pages. HasTargets pages)
-Passes parts Table = OfEachWard parts FitsPages × HasNoStrays parts
+abbrev pub ReasonPasses : FileParts → Reason → Type 0
+ReasonPasses parts Cap = OfEachWard parts (λ ward table pages. KeepsCap parts.cap pages)
+ReasonPasses parts LowBounds = OfEachWard parts (λ ward table pages. HasLows ward pages)
+ReasonPasses parts Leaves = OfEachWard parts (λ ward table pages. HasLeaves ward pages)
+ReasonPasses parts Links = OfEachWard parts (λ ward table pages. HasLinks pages)
+ReasonPasses parts Forwards = OfEachWard parts (λ ward table pages. HasTargets pages)
+ReasonPasses parts Table = OfEachWard parts FitsPages × HasNoStrays parts
 
 -- the place of a reason in the order in which they are tested
-abbrev pub place_of : Reason → ℕ
-place_of Cap = 1
-place_of LowBounds = 2
-place_of Leaves = 3
-place_of Links = 4
-place_of Forwards = 5
-place_of Table = 6
+abbrev pub rank_of : Reason → ℕ
+rank_of Cap = 1
+rank_of LowBounds = 2
+rank_of Leaves = 3
+rank_of Links = 4
+rank_of Forwards = 5
+rank_of Table = 6
 
 -- the first reason that doesn't pass, or none where all do
-abbrev pub IsFirst : (Reason → Type 0) → Option Reason → Type 0
-IsFirst Passed None = (reason : Reason) → Passed reason
-IsFirst Passed (Some reason) = (Passed reason → ⊥) × ((earlier : Reason) → place_of earlier < place_of reason → Passed earlier)
+abbrev pub IsFirstReason : (Reason → Type 0) → Option Reason → Type 0
+IsFirstReason Passed None = (reason : Reason) → Passed reason
+IsFirstReason Passed (Some reason) = (Passed reason → ⊥) × ((earlier : Reason) → rank_of earlier < rank_of reason → Passed earlier)
 
 abbrev pub IsFirstOfWard : ℕ → List Bool → TableMap → List Page → Option Reason → Type 0
-IsFirstOfWard cap ward table pages found = IsFirst (WardPasses cap ward table pages) found
+IsFirstOfWard cap ward table pages found = IsFirstReason (WardPasses cap ward table pages) found
 
 abbrev pub IsFirstReason : FileParts → Option Reason → Type 0
-IsFirstReason parts found = IsFirst (Passes parts) found
+IsFirstReason parts found = IsFirstReason (ReasonPasses parts) found
 
 -- of two reasons the one that is tested first
 abbrev pub lesser_of : Option Reason → Option Reason → Option Reason
 lesser_of None other = other
 lesser_of (Some one) None = Some one
-lesser_of (Some one) (Some other) = cond (nat_le (place_of one) (place_of other)) (Some one) (Some other)
+lesser_of (Some one) (Some other) = cond (nat_le (rank_of one) (rank_of other)) (Some one) (Some other)

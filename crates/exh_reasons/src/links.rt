@@ -2,7 +2,7 @@ ghost use Rattle.std.specs.Prelude.{◌≡◌, ◌↔◌, ℕ, ◌<◌, ◌^◌,
 ghost use Rattle.exh_page.specs.declared.page.Page.{Page};
 ghost use Rattle.exh_legal.specs.Pages.{IsAt};
 ghost use Rattle.exh_reasons.specs.FileParts.{IsBounded};
-ghost use Rattle.exh_reasons.specs.PageIndex.{AreIndex, IsAimedBy, IsLinkedBy, next_of, page_at};
+ghost use Rattle.exh_reasons.specs.PageIndex.{AreIndex, IsAimedBy, IsLinkedBy, next_of, page_number_at};
 ghost use Rattle.exh_reasons.specs.Reasons.{HasLows, HasLeaves, HasLinks, HasTargets};
 
 use crate::PageList;
@@ -32,7 +32,7 @@ pub(crate) fn has_links<P: PageList>(ward: Prefix, pages: &P, index: &PageIndex)
 
 // Whether a page's right link is the page whose low bound is where its prefix ends.
 fn is_linked(page: &Page, index: &PageIndex) -> bool
-    requires { (low number : ℕ) → page_at index.now.entries low ≡ Some number → low < 2 ^ 64 }
+    requires { (low number : ℕ) → page_number_at index.now.entries low ≡ Some number → low < 2 ^ 64 }
     ensures { IsTrue result ↔ IsLinkedBy index.now.entries page.now }
 {
     match page {
@@ -45,7 +45,7 @@ fn is_linked(page: &Page, index: &PageIndex) -> bool
 
 // The page whose low bound is where a prefix ends.
 fn next_page(prefix: Prefix, index: &PageIndex) -> Option<usize>
-    requires { (low number : ℕ) → page_at index.now.entries low ≡ Some number → low < 2 ^ 64 }
+    requires { (low number : ℕ) → page_number_at index.now.entries low ≡ Some number → low < 2 ^ 64 }
     ensures { result ≡ next_of index.now.entries prefix }
 {
     let end = u64::try_from(prefix_end(prefix)).ok()?;

@@ -1,5 +1,5 @@
 ghost use Rattle.std.specs.Prelude.{◌≡◌};
-ghost use Rattle.exh_reasons.specs.Reasons.{place_of};
+ghost use Rattle.exh_reasons.specs.Reasons.{rank_of};
 
 use thiserror::Error;
 
@@ -32,7 +32,7 @@ pub enum Reason {
 impl Reason {
     /// The reason's number among the six, 1 to 6.
     pub fn number(self) -> u8
-        ensures { result ≡ place_of self }
+        ensures { result ≡ rank_of self }
     {
         match self {
             Reason::Cap => 1,

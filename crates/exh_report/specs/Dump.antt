@@ -25,16 +25,16 @@ file_words header = codes "file cap=" ++ (decimal header.cap ++ (codes " wards="
 
 -- ---- the pages
 
-abbrev pub page_words : ℕ → ℕ → Page → List ℕ
-page_words ward number (Live prefix right records) = live_page_words ward number prefix right (length records)
-page_words ward number (Forward low target) = forward_page_words ward number target
+abbrev pub live_pages_told : ℕ → ℕ → Page → List ℕ
+live_pages_told ward number (Live prefix right records) = live_page_words ward number prefix right (length records)
+live_pages_told ward number (Forward low target) = forward_page_words ward number target
 
 abbrev pub pair_words : Record → List ℕ
 pair_words item = codes "pair " ++ (printed item.key ++ (codes " " ++ printed item.value))
 
 -- a page with its number, and its records in their order
 abbrev pub page_lines : ℕ → ℕ × Page → Lines
-page_lines ward page = page_words ward page.0 page.1 ∷ map pair_words (records_of page.1)
+page_lines ward page = live_pages_told ward page.0 page.1 ∷ map pair_words (records_of page.1)
 
 abbrev pub ward_words : ℕ → ℕ → List ℕ
 ward_words ward count = codes "ward " ++ (decimal ward ++ (codes " pages " ++ decimal count))

@@ -2,7 +2,7 @@ ghost use Rattle.std.specs.Prelude.{◌≡◌, ◌++◌, [], ◌∷◌, OnOk, ma
 ghost use Rattle.exh_page.specs.Page.{records_of};
 ghost use Rattle.exh_text.specs.Contents.{on_line};
 ghost use Rattle.exh_report.specs.Check.{legal_words, pages_text, totals_text};
-ghost use Rattle.exh_report.specs.Dump.{file_words, keyer_name, page_lines, page_words, pair_words, ward_words};
+ghost use Rattle.exh_report.specs.Dump.{file_words, keyer_name, page_lines, live_pages_told, pair_words, ward_words};
 ghost use Rattle.exh_report.specs.Lines.{lines_text};
 
 use crate::counts::Counts;

@@ -29,12 +29,12 @@ use Rattle.exh_file.specs.declared.header.Header.{Header}
 use Rattle.exh_page_file.specs.PageFile.{PageFile, file_bytes, header_block, page_block, pages_of, table_block, table_blocks, table_bytes}
 use Rattle.exh_page_file.specs.Reading.{AreBytes}
 use Rattle.exh_legal_file.specs.LegalFile.{IsLegalPageFile, table_naming, told_of}
-use Rattle.exh_legal_file.specs.LegalFileLemmas.{table_at}
+use Rattle.exh_legal_file.specs.LegalFileLemmas.{table_naming_at}
 use Rattle.exh_ward.specs.WardState.{WardState}
 use Rattle.exh_open.specs.Opened.{AreWardsOf, OpenedState}
 use Rattle.exh_open.specs.Opening.{IsOpenedFile}
 use Rattle.exh_save.specs.Reopened.{IsWrittenAgain}
-use Rattle.exh_save.specs.Saved.{AreSound, counts_in, entries_in, file_entry, file_of, header_of, pages_in}
+use Rattle.exh_save.specs.Saved.{AreSound, counts_in, entries_of_all, file_entry, written_file, header_of, pages_of_all}
 use Rattle.exh_save.proofs.Named.{none_in, told_by, with_one}
 use Rattle.exh_save.proofs.Reopened.{few, none_named, own_named, rising}
 
@@ -186,9 +186,9 @@ padded_front counts many len long zeros =
 
 module _ (opened : OpenedState) (are : AreWardsOf opened) (sound : AreSound opened.wards) (begin : FittingTablesBeginWards) (file : PageFile) (bytes : List ℕ) (are_bytes : AreBytes bytes) (legal : IsLegalPageFile first_file file bytes) (is : IsOpenedFile file opened) where
   abbrev items : List FileEntry
-  items = entries_in opened.wards
+  items = entries_of_all opened.wards
 
-  pages_again : pages_in opened.wards ≡ file.wards
+  pages_again : pages_of_all opened.wards ≡ file.wards
   pages_again = made_of (λ (w : WardState AnyKeyer). w.pages) opened.wards file.wards [] is.count (λ number ward there. ap (λ (w : WardState AnyKeyer). w.pages) (is.each number ward there).is)
 
   tables_again : (number : ℕ) → number < 256 → table_naming items number ≡ table_naming file.entries number
@@ -196,7 +196,7 @@ module _ (opened : OpenedState) (are : AreWardsOf opened) (sound : AreSound open
     | inl found ↦ own_named opened are sound begin number found.0 found.2 ∙ ap (λ (w : WardState AnyKeyer). w.table) (is.each number found.0 found.2).is
     | inr past ↦
         let stray = legal.legal.strays number (omega (arith, past.0, is.count)) in
-        none_named opened are sound begin number past.0 ∙ sym (sym (table_at file.entries number less) ∙ stray)
+        none_named opened are sound begin number past.0 ∙ sym (sym (table_naming_at file.entries number less) ∙ stray)
   ]
 
   told_again : (number : ℕ) → told_by items number ≡ told_by file.entries number
@@ -226,10 +226,10 @@ module _ (opened : OpenedState) (are : AreWardsOf opened) (sound : AreSound open
       ∙ ap (λ (count : ℕ). made header.cap header.ward_bits header.keyer count (counts_in opened.wards)) (ap (λ (l : List FileEntry). length l) entries_again ∙ legal.is.valid.count)
       ∙ ap (made header.cap header.ward_bits header.keyer header.entry_count) counts_again
 
-  file_again : file_of opened ≡ file
+  file_again : written_file opened ≡ file
   file_again =
       let made : Header → List (List Page) → List FileEntry → PageFile = λ header wards entries. record { header = header; wards = wards; entries = entries } in
-      ap (λ (header : Header). made header (pages_in opened.wards) items) header_again
+      ap (λ (header : Header). made header (pages_of_all opened.wards) items) header_again
       ∙ ap (λ (wards : List (List Page)). made file.header wards items) pages_again
       ∙ ap (made file.header file.wards) entries_again
 

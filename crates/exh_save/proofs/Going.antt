@@ -12,7 +12,7 @@ use Rattle.exh_page_file.specs.PageFile.{page_block, pages_of}
 use Rattle.exh_page_file.specs.Writing.{TakesBlocks, TakesBlocksBeginning, TakesEntries, TakesEntriesBeginning}
 use Rattle.exh_page_file.specs.WritingLemmas.{TakesBlocks-then, TakesBlocksBeginning-then, TakesBlocksBeginning-of_more, TakesEntries-then, TakesEntriesBeginning-then, TakesEntriesBeginning-of_more}
 use Rattle.exh_ward.specs.WardState.{WardState}
-use Rattle.exh_save.specs.Saved.{entries_in, entries_of, pages_in}
+use Rattle.exh_save.specs.Saved.{entries_of_all, entries_of, pages_of_all}
 use Rattle.exh_save.proofs.Lists.{next_is, whole_is}
 
 -- ---- blocks
@@ -42,10 +42,10 @@ pub one_page : (page : Page) → flat_map page_block (page ∷ []) ≡ page_bloc
 one_page page = append-nil (page_block page)
 
 abbrev pub all_pages_in : List (WardState AnyKeyer) → List Page
-all_pages_in wards = pages_of (pages_in wards)
+all_pages_in wards = pages_of (pages_of_all wards)
 
 pub pages_join : (front back : List (WardState AnyKeyer)) → all_pages_in (front ++ back) ≡ all_pages_in front ++ all_pages_in back
-pages_join front back = ap pages_of (map-append (λ (ward : WardState AnyKeyer). ward.pages) front back) ∙ flat_map-append (λ (ward : List Page). ward) (pages_in front) (pages_in back)
+pages_join front back = ap pages_of (map-append (λ (ward : WardState AnyKeyer). ward.pages) front back) ∙ flat_map-append (λ (ward : List Page). ward) (pages_of_all front) (pages_of_all back)
 
 pub one_ward : (ward : WardState AnyKeyer) → all_pages_in (ward ∷ []) ≡ ward.pages
 one_ward ward = append-nil ward.pages
@@ -56,8 +56,8 @@ ward_blocks_join front back = ap (flat_map page_block) (pages_join front back) �
 pub one_ward_blocks : (ward : WardState AnyKeyer) → flat_map page_block (all_pages_in (ward ∷ [])) ≡ flat_map page_block ward.pages
 one_ward_blocks ward = ap (flat_map page_block) (one_ward ward)
 
-pub entries_join : (front back : List (WardState AnyKeyer)) → entries_in (front ++ back) ≡ entries_in front ++ entries_in back
+pub entries_join : (front back : List (WardState AnyKeyer)) → entries_of_all (front ++ back) ≡ entries_of_all front ++ entries_of_all back
 entries_join = flat_map-append entries_of
 
-pub one_wards_entries : (ward : WardState AnyKeyer) → entries_in (ward ∷ []) ≡ entries_of ward
+pub one_wards_entries : (ward : WardState AnyKeyer) → entries_of_all (ward ∷ []) ≡ entries_of ward
 one_wards_entries ward = append-nil (entries_of ward)

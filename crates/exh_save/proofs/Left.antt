@@ -12,7 +12,7 @@ use Rattle.exh_legal.specs.MapLemmas.{page_at}
 use Rattle.exh_keyer.specs.declared.any_keyer.AnyKeyer.{AnyKeyer}
 use Rattle.exh_keyer.specs.Pseudokey.{any_pseudokey}
 use Rattle.exh_ward.specs.WardState.{IsSoundWard, IsUnchanged, WardState}
-use Rattle.exh_save.specs.SaveFault.{CountsFailures}
+use Rattle.exh_save.specs.SaveFault.{CountsSaveFailures}
 use Rattle.exh_save.specs.Saved.{AreUnchanged, failures_in}
 use Rattle.exh_save.specs.declared.save_fault.SaveFault.{SaveFault}
 use Rattle.exh_save.specs.declared.save_fault.SaveFault.TheVariants.{Write, Page, Memory}
@@ -51,7 +51,7 @@ module _ (wards : List (WardState AnyKeyer)) (at : ℕ) (ward left : WardState A
     ];
   }
 
-  pub one_counted : {T : Type 0} (result : Result T SaveFault) → CountsFailures result ward.failures left.failures → CountsFailures result (failures_in wards) (failures_in (set wards at left))
+  pub one_counted : {T : Type 0} (result : Result T SaveFault) → CountsSaveFailures result ward.failures left.failures → CountsSaveFailures result (failures_in wards) (failures_in (set wards at left))
   one_counted (Ok value) same = omega (arith, sum_of-set (λ (w : WardState AnyKeyer). w.failures) wards at ward left is, same)
   one_counted (Err Write) same = omega (arith, sum_of-set (λ (w : WardState AnyKeyer). w.failures) wards at ward left is, same)
   one_counted (Err Memory) same = omega (arith, sum_of-set (λ (w : WardState AnyKeyer). w.failures) wards at ward left is, same)

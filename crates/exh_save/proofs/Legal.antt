@@ -37,13 +37,13 @@ use Rattle.exh_reasons.specs.FileParts.{parts_of}
 use Rattle.exh_reasons.specs.Laws.{IsLegalFile, LegalTablesHaveRoom}
 use Rattle.exh_ward.specs.WardState.{WardState, own_prefix}
 use Rattle.exh_open.specs.Opened.{AreWardsOf, OpenedState}
-use Rattle.exh_save.specs.Saved.{AreShort, AreSound, entries_in, entries_of, file_entry, header_of, pages_in}
+use Rattle.exh_save.specs.Saved.{AreShort, AreSound, entries_of_all, entries_of, file_entry, header_of, pages_of_all}
 use Rattle.exh_save.proofs.Lists.{there_in}
 
 -- ---- what holds of each ward's part holds of all
 
 module _ (P : ℕ → Type 0) where
-  all_counts : (wards : List (WardState AnyKeyer)) → ((number : ℕ) (ward : WardState AnyKeyer) → slice_get wards number ≡ Some ward → P (length ward.pages)) → AllByRecursion P (map length (pages_in wards))
+  all_counts : (wards : List (WardState AnyKeyer)) → ((number : ℕ) (ward : WardState AnyKeyer) → slice_get wards number ≡ Some ward → P (length ward.pages)) → AllByRecursion P (map length (pages_of_all wards))
   all_counts [] each = tt
   all_counts (ward ∷ wards) each = (each 0 ward refl, all_counts wards (λ number other is. each (suc number) other is))
 
@@ -54,9 +54,9 @@ pub all_told : (P : List Bool → Type 0) (ward : ℕ) (told : List (List Bool �
 all_told P ward [] all = tt
 all_told P ward (one ∷ told) all = (all.0, all_told P ward told all.1)
 
-all_short : (wards : List (WardState AnyKeyer)) → ((number : ℕ) (ward : WardState AnyKeyer) → slice_get wards number ≡ Some ward → AllByRecursion IsShortAt (entries ward.table)) → AreShort (entries_in wards)
+all_short : (wards : List (WardState AnyKeyer)) → ((number : ℕ) (ward : WardState AnyKeyer) → slice_get wards number ≡ Some ward → AllByRecursion IsShortAt (entries ward.table)) → AreShort (entries_of_all wards)
 all_short [] each = tt
-all_short (ward ∷ wards) each = AllByRecursion-append _ (entries_of ward) (entries_in wards) (all_told (λ prefix. length prefix < LIMIT) ward.number (entries ward.table) (each 0 ward refl)) (all_short wards (λ number other is. each (suc number) other is))
+all_short (ward ∷ wards) each = AllByRecursion-append _ (entries_of ward) (entries_of_all wards) (all_told (λ prefix. length prefix < LIMIT) ward.number (entries ward.table) (each 0 ward refl)) (all_short wards (λ number other is. each (suc number) other is))
 
 -- ---- the entries of one table
 
@@ -99,10 +99,10 @@ tables_in wards = map (λ ward. ward.table) wards
 abbrev entry_len : TableMap → ℕ
 entry_len table = length (entries table)
 
-entries_count : (wards : List (WardState AnyKeyer)) → length (entries_in wards) ≡ sum_by entry_len (tables_in wards)
+entries_count : (wards : List (WardState AnyKeyer)) → length (entries_of_all wards) ≡ sum_by entry_len (tables_in wards)
 entries_count [] = refl
 entries_count (ward ∷ wards) =
-    omega (arith, length-append (entries_of ward) (entries_in wards), length-map (entries ward.table) (file_entry ward.number), entries_count wards, sum_by-cons entry_len ward.table (tables_in wards))
+    omega (arith, length-append (entries_of ward) (entries_of_all wards), length-map (entries ward.table) (file_entry ward.number), entries_count wards, sum_by-cons entry_len ward.table (tables_in wards))
 
 -- ---- all wards
 
@@ -121,7 +121,7 @@ module _ (opened : OpenedState) (are : AreWardsOf opened) (sound : AreSound open
       (subst (λ (n : ℕ). IsWard ward.cap (any_pseudokey ward.keyer) (ward_prefix ward.ward_bits n) ward.table [] ward.table ward.pages) own.number_is begun)))
 
   pub legal_parts : (tables : List TableMap) → ((number : ℕ) (ward : WardState AnyKeyer) → slice_get opened.wards number ≡ Some ward → get_or tables number empty ≡ ward.table)
-      → ((number : ℕ) → length opened.wards ≤ number → get_or tables number empty ≡ empty) → IsLegalFile pseudo (parts_of opened.cap opened.ward_bits (pages_in opened.wards) tables)
+      → ((number : ℕ) → length opened.wards ≤ number → get_or tables number empty ≡ empty) → IsLegalFile pseudo (parts_of opened.cap opened.ward_bits (pages_of_all opened.wards) tables)
   legal_parts tables own none = record {
     wards = λ number pages there.
         let ward = there_in (λ (w : WardState AnyKeyer). w.pages) opened.wards number pages there in
@@ -130,7 +130,7 @@ module _ (opened : OpenedState) (are : AreWardsOf opened) (sound : AreSound open
     strays = λ number past. none number (omega (arith, past, length-map opened.wards (λ (w : WardState AnyKeyer). w.pages)));
   }
 
-  few_entries : LegalTablesHaveRoom → length (entries_in opened.wards) < 2 ^ LIMIT
+  few_entries : LegalTablesHaveRoom → length (entries_of_all opened.wards) < 2 ^ LIMIT
   few_entries room =
       let tables = tables_in opened.wards in
       let table_of : WardState AnyKeyer → TableMap = λ ward. ward.table in
@@ -138,10 +138,10 @@ module _ (opened : OpenedState) (are : AreWardsOf opened) (sound : AreSound open
       λ number ward is. get_or_from_slice_get tables number ward.table empty (slice_get-map table_of opened.wards number ∙ ap (option_map table_of) is) in
       let none : (number : ℕ) → length opened.wards ≤ number → get_or tables number empty ≡ empty = λ number past. get_or_past tables number empty (omega (arith, past, length-map opened.wards table_of)) in
       let bits = are.bits in
-      let few = room pseudo (parts_of opened.cap opened.ward_bits (pages_in opened.wards) tables) (record { cap = are.most; bits = omega (arith, bits) }) (length-map opened.wards (λ (w : WardState AnyKeyer). w.pages) ∙ are.count) (legal_parts tables own none) in
+      let few = room pseudo (parts_of opened.cap opened.ward_bits (pages_of_all opened.wards) tables) (record { cap = are.most; bits = omega (arith, bits) }) (length-map opened.wards (λ (w : WardState AnyKeyer). w.pages) ∙ are.count) (legal_parts tables own none) in
       omega (arith, few, entries_count opened.wards)
 
-  pub are_short : AreShort (entries_in opened.wards)
+  pub are_short : AreShort (entries_of_all opened.wards)
   are_short = all_short opened.wards (λ number ward is. let legal = (sound number ward is).legal in short_entries ward.pages legal.legal.legal.linked legal.fits)
 
   page_count : PagesAreFew → (number : ℕ) (ward : WardState AnyKeyer) → slice_get opened.wards number ≡ Some ward → IsPageCount LIMIT opened.ward_bits (length ward.pages)
@@ -157,9 +157,9 @@ module _ (opened : OpenedState) (are : AreWardsOf opened) (sound : AreSound open
 
   pub is_header : PagesAreFew → LegalTablesHaveRoom → IsHeader first_file (header_of opened)
   is_header few room =
-      let lens = map length (pages_in opened.wards) in
+      let lens = map length (pages_of_all opened.wards) in
       let rest = replicate (16 - length lens) 0 in
-      let many : length lens ≡ 2 ^ opened.ward_bits = length-map (pages_in opened.wards) (λ (pages : List Page). length pages) ∙ length-map opened.wards (λ (w : WardState AnyKeyer). w.pages) ∙ are.count in
+      let many : length lens ≡ 2 ^ opened.ward_bits = length-map (pages_of_all opened.wards) (λ (pages : List Page). length pages) ∙ length-map opened.wards (λ (w : WardState AnyKeyer). w.pages) ∙ are.count in
       let within : 2 ^ opened.ward_bits ≤ 16 = omega (arith, pow-le-pow_right {n = 2} (omega arith) are.bits) in
       record {
         some = are.some;

@@ -25,8 +25,9 @@ use Rattle.exh_table.specs.Table.{TableMap}
 use Rattle.exh_file.specs.TableImage.{AreRising, prefixes_of}
 use Rattle.exh_file.specs.declared.file_entry.FileEntry.{FileEntry}
 use Rattle.exh_legal_file.specs.LegalFile.{naming, told_of}
+use Rattle.exh_legal.specs.OrderLemmas.{is_less}
 use Rattle.exh_ward.specs.WardState.{WardState}
-use Rattle.exh_save.specs.Saved.{entries_in, entries_of, file_entry}
+use Rattle.exh_save.specs.Saved.{entries_of_all, entries_of, file_entry}
 
 -- ---- those that name a ward
 
@@ -55,27 +56,27 @@ told_joins : (front back : List FileEntry) (ward : ℕ) → told_by (front ++ ba
 told_joins front back ward = ap (map told_of) (filter-append (λ (item : FileEntry). eqb item.ward ward) front back) ∙ map-append told_of (naming front ward) (naming back ward)
 
 -- of a number that no ward has there are none
-pub none_in : (wards : List (WardState AnyKeyer)) (number : ℕ) → ((at : ℕ) (ward : WardState AnyKeyer) → slice_get wards at ≡ Some ward → ward.number ≡ number → ⊥) → told_by (entries_in wards) number ≡ []
+pub none_in : (wards : List (WardState AnyKeyer)) (number : ℕ) → ((at : ℕ) (ward : WardState AnyKeyer) → slice_get wards at ≡ Some ward → ward.number ≡ number → ⊥) → told_by (entries_of_all wards) number ≡ []
 none_in [] number none = refl
 none_in (ward ∷ wards) number none =
-    told_joins (entries_of ward) (entries_in wards) number
-    ∙ ap (λ (l : List (List Bool × Entry)). l ++ told_by (entries_in wards) number) (none_told ward.number number (entries ward.table) (none 0 ward refl))
+    told_joins (entries_of ward) (entries_of_all wards) number
+    ∙ ap (λ (l : List (List Bool × Entry)). l ++ told_by (entries_of_all wards) number) (none_told ward.number number (entries ward.table) (none 0 ward refl))
     ∙ none_in wards number (λ at other is. none (suc at) other is)
 
 -- of a number that one ward has they are that ward's
 pub own_in : (wards : List (WardState AnyKeyer)) (number at : ℕ) (ward : WardState AnyKeyer) → slice_get wards at ≡ Some ward → ward.number ≡ number
-    → ((place : ℕ) (other : WardState AnyKeyer) → slice_get wards place ≡ Some other → other.number ≡ number → place ≡ at) → told_by (entries_in wards) number ≡ entries ward.table
+    → ((place : ℕ) (other : WardState AnyKeyer) → slice_get wards place ≡ Some other → other.number ≡ number → place ≡ at) → told_by (entries_of_all wards) number ≡ entries ward.table
 own_in [] number at ward is own one = cc
 own_in (first ∷ wards) number zero ward is own one =
     let same : first ≡ ward = cc in
-    told_joins (entries_of first) (entries_in wards) number
+    told_joins (entries_of first) (entries_of_all wards) number
     ∙ ap (λ (l : List (List Bool × Entry)). told_by (entries_of first) number ++ l) (none_in wards number (λ at other there named. absurd (omega (arith, one (suc at) other there named))))
     ∙ append-nil (told_by (entries_of first) number)
     ∙ subst (λ (n : ℕ). told_by (entries_of first) n ≡ entries first.table) (ap (λ (w : WardState AnyKeyer). w.number) same ∙ own) (own_told first.number (entries first.table))
     ∙ ap (λ (w : WardState AnyKeyer). entries w.table) same
 own_in (first ∷ wards) number (suc at) ward is own one =
-    told_joins (entries_of first) (entries_in wards) number
-    ∙ ap (λ (l : List (List Bool × Entry)). l ++ told_by (entries_in wards) number) (none_told first.number number (entries first.table) (λ named. absurd (omega (arith, one 0 first refl named))))
+    told_joins (entries_of first) (entries_of_all wards) number
+    ∙ ap (λ (l : List (List Bool × Entry)). l ++ told_by (entries_of_all wards) number) (none_told first.number number (entries first.table) (λ named. absurd (omega (arith, one 0 first refl named))))
     ∙ own_in wards number at ward is own (λ place other there named. omega (arith, one (suc place) other there named))
 
 -- a table is that of its entries
@@ -83,9 +84,6 @@ pub own_table : (table : TableMap) → from_entries {R = prefix_cmp} (entries ta
 own_table table = same_map prefix_cmp-total prefix_cmp-exact _ _ (λ prefix. get-from_entries prefix_cmp-total (entries table) prefix ∙ sym (get-entries table prefix))
 
 -- ---- their prefixes rise
-
-is_less : (order : Ordering) → T (is_lt order) → order ≡ Less
-is_less order less = elim order as (λ (o : Ordering). T (is_lt o) → o ≡ Less) [ Less ↦ λ _. refl | Equal ↦ λ h. absurd h | Greater ↦ λ h. absurd h ] less
 
 all_above : (ward : ℕ) (prefix : List Bool) (told : List (List Bool × Entry)) → T (below_all prefix_cmp prefix told) → AllByRecursion (λ (next : List Bool). prefix_cmp prefix next ≡ Less) (prefixes_of (map (file_entry ward) told))
 all_above ward prefix [] below = tt
@@ -110,9 +108,9 @@ both_rise (item ∷ front) back one other across =
       both_rise front back one.1 other across.1,
     )
 
-pub all_in : (P : FileEntry → Type 0) (wards : List (WardState AnyKeyer)) → ((at : ℕ) (ward : WardState AnyKeyer) → slice_get wards at ≡ Some ward → AllByRecursion P (entries_of ward)) → AllByRecursion P (entries_in wards)
+pub all_in : (P : FileEntry → Type 0) (wards : List (WardState AnyKeyer)) → ((at : ℕ) (ward : WardState AnyKeyer) → slice_get wards at ≡ Some ward → AllByRecursion P (entries_of ward)) → AllByRecursion P (entries_of_all wards)
 all_in P [] each = tt
-all_in P (ward ∷ wards) each = AllByRecursion-append P (entries_of ward) (entries_in wards) (each 0 ward refl) (all_in P wards (λ at other is. each (suc at) other is))
+all_in P (ward ∷ wards) each = AllByRecursion-append P (entries_of ward) (entries_of_all wards) (each 0 ward refl) (all_in P wards (λ at other is. each (suc at) other is))
 
 -- the low bounds of a ward's prefixes lie within its place of so many
 pub IsPlaced : ℕ → ℕ → List Bool → Type 0
@@ -126,16 +124,16 @@ apart size one other prefix next less here there =
     ap (λ (order : Ordering). ordering_then order (nat_cmp (length prefix) (length next))) (sym (nat_cmp_is (low_of prefix) (low_of next) Less lower))
 
 pub all_rise : (size base : ℕ) (wards : List (WardState AnyKeyer)) → ((at : ℕ) (ward : WardState AnyKeyer) → slice_get wards at ≡ Some ward → AllByRecursion (λ (item : FileEntry). IsPlaced size (base + at) item.prefix) (entries_of ward))
-    → AreRising (prefixes_of (entries_in wards))
+    → AreRising (prefixes_of (entries_of_all wards))
 all_rise size base [] each = tt
 all_rise size base (ward ∷ wards) each =
-    let later : AllByRecursion (ComesBefore (entries_in wards)) (entries_of ward) =
-    AllByRecursion-weaker (λ (item : FileEntry). IsPlaced size (base + 0) item.prefix) (ComesBefore (entries_in wards))
+    let later : AllByRecursion (ComesBefore (entries_of_all wards)) (entries_of ward) =
+    AllByRecursion-weaker (λ (item : FileEntry). IsPlaced size (base + 0) item.prefix) (ComesBefore (entries_of_all wards))
     (λ item here. all_in (λ (next : FileEntry). prefix_cmp item.prefix next.prefix ≡ Less) wards (λ at other is.
     AllByRecursion-weaker (λ (next : FileEntry). IsPlaced size (base + suc at) next.prefix) (λ (next : FileEntry). prefix_cmp item.prefix next.prefix ≡ Less)
     (λ next there. apart size (base + 0) (base + suc at) item.prefix next.prefix (omega arith) here there) (entries_of other) (each (suc at) other is)))
     (entries_of ward) (each 0 ward refl) in
-    both_rise (entries_of ward) (entries_in wards) (own_rise ward.number (entries ward.table) (entries_sorted ward.table))
+    both_rise (entries_of ward) (entries_of_all wards) (own_rise ward.number (entries ward.table) (entries_sorted ward.table))
     (all_rise size (suc base) wards (λ at other is. subst (λ (n : ℕ). AllByRecursion (λ (item : FileEntry). IsPlaced size n item.prefix) (entries_of other)) (let same : base + suc at ≡ suc base + at = omega arith in same) (each (suc at) other is)))
     later
 

@@ -31,12 +31,12 @@ use Rattle.exh_page_file.specs.Laws.{OneFile}
 use Rattle.exh_page_file.specs.PageFile.{IsFile, PageFile, file_bytes, pages_of}
 use Rattle.exh_reasons.specs.Laws.{IsLegalFile, LegalFilesPass, LegalTablesHaveRoom}
 use Rattle.exh_legal_file.specs.LegalFile.{IsLegalPageFile, parts_in, table_naming, tables_of}
-use Rattle.exh_legal_file.specs.LegalFileLemmas.{table_at}
+use Rattle.exh_legal_file.specs.LegalFileLemmas.{table_naming_at}
 use Rattle.exh_ward.specs.WardState.{WardState}
 use Rattle.exh_open.specs.Opened.{AreWardsOf, OpenedState}
 use Rattle.exh_open.specs.Opening.{IsOpenedFile, ward_opened}
 use Rattle.exh_save.specs.Reopened.{IsKept, IsReopened}
-use Rattle.exh_save.specs.Saved.{AreSound, entries_in, file_of, header_of, pages_in}
+use Rattle.exh_save.specs.Saved.{AreSound, entries_of_all, written_file, header_of, pages_of_all}
 use Rattle.exh_save.proofs.Legal.{all_told, each, is_header, legal_parts, short_at}
 use Rattle.exh_save.proofs.Named.{IsPlaced, all_rise, none_in, own_in, own_table, placed}
 
@@ -58,10 +58,10 @@ all_formed pseudo (pages ∷ wards) formed = AllByRecursion-append (IsWellFormed
 
 module _ (opened : OpenedState) (are : AreWardsOf opened) (sound : AreSound opened.wards) (begin : FittingTablesBeginWards) where
   abbrev items : List FileEntry
-  items = entries_in opened.wards
+  items = entries_of_all opened.wards
 
   abbrev file : PageFile
-  file = file_of opened
+  file = written_file opened
 
   -- ---- its tables
 
@@ -77,11 +77,11 @@ module _ (opened : OpenedState) (are : AreWardsOf opened) (sound : AreSound open
   few = omega (arith, are.count, pow-le-pow_right {n = 2} (omega arith) are.bits)
 
   own_there : (number : ℕ) (ward : WardState AnyKeyer) → slice_get opened.wards number ≡ Some ward → get_or (tables_of items) number empty ≡ ward.table
-  own_there number ward is = table_at items number (omega (arith, few, slice_get_within opened.wards number ward is)) ∙ own_named number ward is
+  own_there number ward is = table_naming_at items number (omega (arith, few, slice_get_within opened.wards number ward is)) ∙ own_named number ward is
 
   none_there : (number : ℕ) → length opened.wards ≤ number → get_or (tables_of items) number empty ≡ empty
   none_there number past = elim (cases_lt number 256) [
-    | inl less ↦ table_at items number less ∙ none_named number past
+    | inl less ↦ table_naming_at items number less ∙ none_named number past
     | inr beyond ↦ past_tables items number beyond
   ]
 
@@ -113,21 +113,21 @@ module _ (opened : OpenedState) (are : AreWardsOf opened) (sound : AreSound open
 
   -- ---- it is a legal page file
 
-  module _ (pass : LegalFilesPass) (few_pages : PagesAreFew) (room : LegalTablesHaveRoom) (ranges : AllByRecursion (IsInRange first_version) (pages_of (pages_in opened.wards))) (valid : AllByRecursion (IsFileEntry first_version) items) where
-    formed : AllByRecursion (IsWellFormed (any_pseudokey opened.keyer)) (pages_of (pages_in opened.wards))
-    formed = all_formed (any_pseudokey opened.keyer) (pages_in opened.wards) (λ number pages there.
+  module _ (pass : LegalFilesPass) (few_pages : PagesAreFew) (room : LegalTablesHaveRoom) (ranges : AllByRecursion (IsInRange first_version) (pages_of (pages_of_all opened.wards))) (valid : AllByRecursion (IsFileEntry first_version) items) where
+    formed : AllByRecursion (IsWellFormed (any_pseudokey opened.keyer)) (pages_of (pages_of_all opened.wards))
+    formed = all_formed (any_pseudokey opened.keyer) (pages_of_all opened.wards) (λ number pages there.
         let bits = are.bits in
         let passed = (pass (any_pseudokey opened.keyer) (parts_in file) (record { cap = are.most; bits = omega (arith, bits) })).1 is_legal in
         all_pages (IsWellFormed (any_pseudokey opened.keyer)) pages (passed.formed number pages there).formed)
 
     is_file : IsFile first_file file
     is_file =
-        let lens = map length (pages_in opened.wards) in
-        let many : length lens ≡ 2 ^ opened.ward_bits = length-map (pages_in opened.wards) (λ (pages : List Page). length pages) ∙ length-map opened.wards (λ (w : WardState AnyKeyer). w.pages) ∙ are.count in
+        let lens = map length (pages_of_all opened.wards) in
+        let many : length lens ≡ 2 ^ opened.ward_bits = length-map (pages_of_all opened.wards) (λ (pages : List Page). length pages) ∙ length-map opened.wards (λ (w : WardState AnyKeyer). w.pages) ∙ are.count in
         record {
           header = is_header opened are sound begin few_pages room;
           counts = sym (take_at lens (replicate (16 - length lens) 0) (2 ^ opened.ward_bits) many);
-          pages = all_valid (any_pseudokey opened.keyer) (pages_of (pages_in opened.wards)) ranges formed;
+          pages = all_valid (any_pseudokey opened.keyer) (pages_of (pages_of_all opened.wards)) ranges formed;
           count = refl;
           entries = valid;
           rising = rising;
@@ -147,7 +147,7 @@ module _ (opened : OpenedState) (are : AreWardsOf opened) (sound : AreSound open
       each = λ number ward made there at.
           let own = are.each number ward there in
           let header = header_of opened in
-          let pages : get_or (pages_in opened.wards) number [] ≡ ward.pages = get_or_from_slice_get (pages_in opened.wards) number ward.pages [] (slice_get-map (λ (w : WardState AnyKeyer). w.pages) opened.wards number ∙ ap (option_map (λ (w : WardState AnyKeyer). w.pages)) there) in
+          let pages : get_or (pages_of_all opened.wards) number [] ≡ ward.pages = get_or_from_slice_get (pages_of_all opened.wards) number ward.pages [] (slice_get-map (λ (w : WardState AnyKeyer). w.pages) opened.wards number ∙ ap (option_map (λ (w : WardState AnyKeyer). w.pages)) there) in
           let with_settings : ℕ → ℕ → ℕ → AnyKeyer → WardState AnyKeyer
           = λ cap bits number keyer. record { pages = ward.pages; base = map_of ward.pages; journal = []; start = ward.table; notices = []; table = ward.table; failures = made.failures; cap = cap; ward_bits = bits; number = number; keyer = keyer } in
           (is.each number made at).is

@@ -9,7 +9,7 @@ use Rattle.exh_legal_file.specs.LegalFile.{IsLegalPageFile}
 use Rattle.exh_ward.specs.WardState.{WardState}
 use Rattle.exh_open.specs.Opened.{OpenedState}
 use Rattle.exh_open.specs.Opening.{IsOpenedFile}
-use Rattle.exh_save.specs.Saved.{file_of}
+use Rattle.exh_save.specs.Saved.{written_file}
 
 -- the bytes are a legal page file, and the wards are what opening it gives
 pub record OpensAs (bytes : List ℕ) (opened : OpenedState) : Type 0 where
@@ -31,9 +31,9 @@ pub record IsReopened (old new : OpenedState) : Type 0 where
 
 -- the bytes are the legal page file of these wards, and whatever opening them gives is these wards begun anew
 pub record IsKept (opened : OpenedState) (bytes : List ℕ) : Type 0 where
-  pub legal : IsLegalPageFile first_file (file_of opened) bytes
+  pub legal : IsLegalPageFile first_file (written_file opened) bytes
   pub same : (other : OpenedState) → OpensAs bytes other → IsReopened opened other
 
 -- where these wards are what opening some bytes gives, their page file is these bytes again
 abbrev pub IsWrittenAgain : OpenedState → Type 0
-IsWrittenAgain opened = (bytes : List ℕ) → AreBytes bytes → OpensAs bytes opened → bytes ≡ file_bytes first_file (file_of opened)
+IsWrittenAgain opened = (bytes : List ℕ) → AreBytes bytes → OpensAs bytes opened → bytes ≡ file_bytes first_file (written_file opened)

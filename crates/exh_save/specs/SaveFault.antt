@@ -11,11 +11,11 @@ save_fault_number Page = 11
 save_fault_number Memory = 10
 
 -- the fault that a ward's refusal to give a page becomes
-abbrev pub fault_of : WardFault → SaveFault
-fault_of OutOfReach = Page
-fault_of fault = Memory
+abbrev pub save_fault_of : WardFault → SaveFault
+save_fault_of OutOfReach = Page
+save_fault_of fault = Memory
 
 -- a page fault is answered only where the count of failures rises, and that rises nowhere else
-abbrev pub CountsFailures : {T : Type 0} → Result T SaveFault → ℕ → ℕ → Type 0
-CountsFailures (Err Page) old new = old < new
-CountsFailures result old new = new ≡ old
+abbrev pub CountsSaveFailures : {T : Type 0} → Result T SaveFault → ℕ → ℕ → Type 0
+CountsSaveFailures (Err Page) old new = old < new
+CountsSaveFailures result old new = new ≡ old

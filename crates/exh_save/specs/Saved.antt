@@ -30,27 +30,27 @@ abbrev pub entries_of : WardState AnyKeyer → List FileEntry
 entries_of ward = map (file_entry ward.number) (entries ward.table)
 
 -- that of all wards, one after the other
-abbrev pub entries_in : List (WardState AnyKeyer) → List FileEntry
-entries_in wards = flat_map entries_of wards
+abbrev pub entries_of_all : List (WardState AnyKeyer) → List FileEntry
+entries_of_all wards = flat_map entries_of wards
 
 -- the pages of each ward
-abbrev pub pages_in : List (WardState AnyKeyer) → List (List Page)
-pages_in wards = map (λ ward. ward.pages) wards
+abbrev pub pages_of_all : List (WardState AnyKeyer) → List (List Page)
+pages_of_all wards = map (λ ward. ward.pages) wards
 
 -- how many pages each ward has, and zeros up to sixteen
 abbrev pub counts_in : List (WardState AnyKeyer) → List ℕ
-counts_in wards = padded COUNTS_LEN (map length (pages_in wards))
+counts_in wards = padded COUNTS_LEN (map length (pages_of_all wards))
 
 abbrev pub header_of : OpenedState → Header
-header_of opened = record { cap = opened.cap; ward_bits = opened.ward_bits; keyer = opened.keyer; entry_count = length (entries_in opened.wards); page_counts = counts_in opened.wards }
+header_of opened = record { cap = opened.cap; ward_bits = opened.ward_bits; keyer = opened.keyer; entry_count = length (entries_of_all opened.wards); page_counts = counts_in opened.wards }
 
 -- a header, and the pages and tables of wards
 abbrev pub file_with : Header → List (WardState AnyKeyer) → PageFile
-file_with header wards = record { header = header; wards = pages_in wards; entries = entries_in wards }
+file_with header wards = record { header = header; wards = pages_of_all wards; entries = entries_of_all wards }
 
 -- the page file of wards as they stand
-abbrev pub file_of : OpenedState → PageFile
-file_of opened = file_with (header_of opened) opened.wards
+abbrev pub written_file : OpenedState → PageFile
+written_file opened = file_with (header_of opened) opened.wards
 
 -- ---- what is known of wards
 
@@ -62,8 +62,8 @@ abbrev pub HasCaps : List (WardState AnyKeyer) → Type 0
 HasCaps wards = (number : ℕ) (ward : WardState AnyKeyer) → slice_get wards number ≡ Some ward → ward.cap ≤ CAP_LIMIT
 
 -- each has the number of its place
-abbrev pub AreNumbered : List (WardState AnyKeyer) → Type 0
-AreNumbered wards = (number : ℕ) (ward : WardState AnyKeyer) → slice_get wards number ≡ Some ward → ward.number ≡ number
+abbrev pub AreInOrder : List (WardState AnyKeyer) → Type 0
+AreInOrder wards = (number : ℕ) (ward : WardState AnyKeyer) → slice_get wards number ≡ Some ward → ward.number ≡ number
 
 -- each entry's prefix has children
 abbrev pub AreShort : List FileEntry → Type 0

@@ -6,7 +6,7 @@ ghost use Rattle.exh_keyer.specs.declared.any_keyer.AnyKeyer.{AnyKeyer};
 ghost use Rattle.exh_file.specs.declared.header.TheConstants.{COUNTS_LEN};
 ghost use Rattle.exh_open.specs.Opened.{AreWardsOf};
 ghost use Rattle.exh_ward.specs.WardState.{IsSoundWard, WardState};
-ghost use Rattle.exh_save.specs.Saved.{AreSound, counts_in, entries_in, header_of, in_file};
+ghost use Rattle.exh_save.specs.Saved.{AreSound, counts_in, entries_of_all, header_of, in_file};
 
 use exh_file::{COUNTS_LEN, Header};
 use exh_frames::Pages;
@@ -51,7 +51,7 @@ fn page_counts_of<P: Pages + Drop>(wards: &[Ward<P, AnyKeyer>]) -> [u32; COUNTS_
 fn entry_count_of<P: Pages + Drop>(wards: &[Ward<P, AnyKeyer>]) -> u32
     requires few { length wards.now ≤ COUNTS_LEN }
     requires bits { (number : ℕ) (ward : WardState AnyKeyer) → slice_get wards.now number ≡ Some ward → ward.ward_bits ≤ WARD_BITS_LIMIT }
-    ensures count { result ≡ length (entries_in wards.now) }
+    ensures count { result ≡ length (entries_of_all wards.now) }
     ensures sound { AreSound wards.now }
 {
     let mut count = 0;

@@ -1,6 +1,6 @@
 ghost use Rattle.std.specs.Prelude.{◌≡◌};
 ghost use Rattle.exh_ward.specs.WardFault.{IsStoreFault};
-ghost use Rattle.exh_save.specs.SaveFault.{fault_of, save_fault_number};
+ghost use Rattle.exh_save.specs.SaveFault.{save_fault_of, save_fault_number};
 ghost use Rattle.exh_save.specs.declared.save_fault.SaveFault.TheVariants.{Write};
 
 use exh_stream::WriteFault;
@@ -36,7 +36,7 @@ impl SaveFault {
     // What a ward's refusal to give a page becomes.
     pub(crate) fn of_ward(fault: WardFault) -> SaveFault
         requires { IsStoreFault fault }
-        ensures { result ≡ fault_of fault }
+        ensures { result ≡ save_fault_of fault }
     {
         if fault == WardFault::Page {
             SaveFault::Page

@@ -18,8 +18,8 @@ ghost use Rattle.exh_file.specs.declared.header.TheConstants.{COUNTS_LEN};
 ghost use Rattle.exh_ward.specs.WardState.{IsUnchanged};
 ghost use Rattle.exh_open.specs.Opened.{AreWardsOf};
 ghost use Rattle.exh_save.specs.Reopened.{IsKept, IsWrittenAgain};
-ghost use Rattle.exh_save.specs.SaveFault.{CountsFailures};
-ghost use Rattle.exh_save.specs.Saved.{AreNumbered, AreShort, AreUnchanged, HasCaps, entries_in, failures_in, file_entry, file_of, file_with, in_file, pages_in};
+ghost use Rattle.exh_save.specs.SaveFault.{CountsSaveFailures};
+ghost use Rattle.exh_save.specs.Saved.{AreInOrder, AreShort, AreUnchanged, HasCaps, entries_of_all, failures_in, file_entry, written_file, file_with, in_file, pages_of_all};
 
 use crate::SaveFault;
 use crate::header::header_of;
@@ -55,12 +55,12 @@ pub fn write_file<P: Pages + Drop, W: Write>(
     requires wards { AreWardsOf (in_file cap ward_bits keyer wards.old) }
     requires bare { IsBare file.old }
     ensures same_target { SameTarget file.old file.new }
-    ensures ok { OnOk result (Appends (written W.contents file.old) (written W.contents file.new) (file_bytes first_file (file_of (in_file cap ward_bits keyer wards.old)))) }
-    ensures opens { OnOk result (IsKept (in_file cap ward_bits keyer wards.old) (file_bytes first_file (file_of (in_file cap ward_bits keyer wards.old)))) }
+    ensures ok { OnOk result (Appends (written W.contents file.old) (written W.contents file.new) (file_bytes first_file (written_file (in_file cap ward_bits keyer wards.old)))) }
+    ensures opens { OnOk result (IsKept (in_file cap ward_bits keyer wards.old) (file_bytes first_file (written_file (in_file cap ward_bits keyer wards.old)))) }
     ensures again { IsWrittenAgain (in_file cap ward_bits keyer wards.old) }
-    ensures err { OnErr result (AppendsBeginning (written W.contents file.old) (written W.contents file.new) (file_bytes first_file (file_of (in_file cap ward_bits keyer wards.old)))) }
+    ensures err { OnErr result (AppendsBeginning (written W.contents file.old) (written W.contents file.new) (file_bytes first_file (written_file (in_file cap ward_bits keyer wards.old)))) }
     ensures wards { AreUnchanged wards.old wards.new }
-    ensures failures { CountsFailures result (failures_in wards.old) (failures_in wards.new) }
+    ensures failures { CountsSaveFailures result (failures_in wards.old) (failures_in wards.new) }
 {
     fitting_tables_begin_wards();
     legal_files_pass();
@@ -80,16 +80,16 @@ fn write_parts<P: Pages + Drop, W: Write>(
     requires bare { IsBare file.old }
     requires header { IsHeader first_file header.now }
     requires caps { HasCaps wards.old }
-    requires numbers { AreNumbered wards.old }
+    requires numbers { AreInOrder wards.old }
     requires few { length wards.old ≤ COUNTS_LEN }
-    requires short { AreShort (entries_in wards.old) }
+    requires short { AreShort (entries_of_all wards.old) }
     ensures same_target { SameTarget file.old file.new }
     ensures ok { OnOk result (Appends (written W.contents file.old) (written W.contents file.new) (file_bytes first_file (file_with header.now wards.old))) }
-    ensures pages { OnOk result (AllByRecursion (IsInRange first_version) (pages_of (pages_in wards.old))) }
-    ensures entries { OnOk result (AllByRecursion (IsFileEntry first_version) (entries_in wards.old)) }
+    ensures pages { OnOk result (AllByRecursion (IsInRange first_version) (pages_of (pages_of_all wards.old))) }
+    ensures entries { OnOk result (AllByRecursion (IsFileEntry first_version) (entries_of_all wards.old)) }
     ensures err { OnErr result (AppendsBeginning (written W.contents file.old) (written W.contents file.new) (file_bytes first_file (file_with header.now wards.old))) }
     ensures wards { AreUnchanged wards.old wards.new }
-    ensures failures { CountsFailures result (failures_in wards.old) (failures_in wards.new) }
+    ensures failures { CountsSaveFailures result (failures_in wards.old) (failures_in wards.new) }
 {
     file.write_header(header)?;
     write_pages(file, wards)?;
@@ -104,12 +104,12 @@ fn write_pages<P: Pages + Drop, W: Write>(
 ) -> Result<(), SaveFault>
     requires { HasCaps wards.old }
     ensures same_target { SameTarget file.old file.new }
-    ensures ok { OnOk result (TakesBlocks W.contents file.old file.new (flat_map page_block (pages_of (pages_in wards.old)))) }
-    ensures pages { OnOk result (AllByRecursion (IsInRange first_version) (pages_of (pages_in wards.old))) }
-    ensures err { OnErr result (TakesBlocksBeginning W.contents file.old file.new (flat_map page_block (pages_of (pages_in wards.old)))) }
+    ensures ok { OnOk result (TakesBlocks W.contents file.old file.new (flat_map page_block (pages_of (pages_of_all wards.old)))) }
+    ensures pages { OnOk result (AllByRecursion (IsInRange first_version) (pages_of (pages_of_all wards.old))) }
+    ensures err { OnErr result (TakesBlocksBeginning W.contents file.old file.new (flat_map page_block (pages_of (pages_of_all wards.old)))) }
     ensures same { OnOk result (wards.new ≡ wards.old) }
     ensures wards { AreUnchanged wards.old wards.new }
-    ensures failures { CountsFailures result (failures_in wards.old) (failures_in wards.new) }
+    ensures failures { CountsSaveFailures result (failures_in wards.old) (failures_in wards.new) }
 {
     for number in 0..wards.len() {
         write_ward(file, &mut wards[number])?;
@@ -129,7 +129,7 @@ fn write_ward<P: Pages + Drop, W: Write>(
     ensures err { OnErr result (TakesBlocksBeginning W.contents file.old file.new (flat_map page_block ward.old.pages)) }
     ensures same { OnOk result (ward.new ≡ ward.old) }
     ensures ward { IsUnchanged ward.old ward.new }
-    ensures failures { CountsFailures result ward.old.failures ward.new.failures }
+    ensures failures { CountsSaveFailures result ward.old.failures ward.new.failures }
 {
     for number in 0..ward.page_count() {
         write_page(file, ward, number)?;
@@ -150,7 +150,7 @@ fn write_page<P: Pages + Drop, W: Write>(
     ensures err { OnErr result (IfPage ward.old.pages number (λ page. TakesBlocksBeginning W.contents file.old file.new (page_block page))) }
     ensures same { OnOk result (ward.new ≡ ward.old) }
     ensures ward { IsUnchanged ward.old ward.new }
-    ensures failures { CountsFailures result ward.old.failures ward.new.failures }
+    ensures failures { CountsSaveFailures result ward.old.failures ward.new.failures }
 {
     let page = read_page(ward, number)?;
     Ok(file.write_page(&page)?)
@@ -167,7 +167,7 @@ fn read_page<P: Pages + Drop>(
     ensures few { IfOk result (λ page. length (records_of page) ≤ CAP_LIMIT) }
     ensures same { OnOk result (ward.new ≡ ward.old) }
     ensures ward { IsUnchanged ward.old ward.new }
-    ensures failures { CountsFailures result ward.old.failures ward.new.failures }
+    ensures failures { CountsSaveFailures result ward.old.failures ward.new.failures }
 {
     match ward.page(number) {
         Ok(page) => Ok(page),
@@ -180,13 +180,13 @@ fn write_table<P: Pages + Drop, W: Write>(
     file: &mut FileWriter<'_, W>,
     wards: &[Ward<P, AnyKeyer>],
 ) -> Result<(), WriteFault>
-    requires numbers { AreNumbered wards.now }
+    requires numbers { AreInOrder wards.now }
     requires few { length wards.now ≤ COUNTS_LEN }
-    requires short { AreShort (entries_in wards.now) }
+    requires short { AreShort (entries_of_all wards.now) }
     ensures same_target { SameTarget file.old file.new }
-    ensures ok { OnOk result (TakesEntries W.contents first_version file.old file.new (entries_in wards.now)) }
-    ensures entries { OnOk result (AllByRecursion (IsFileEntry first_version) (entries_in wards.now)) }
-    ensures err { OnErr result (TakesEntriesBeginning W.contents first_version file.old file.new (entries_in wards.now)) }
+    ensures ok { OnOk result (TakesEntries W.contents first_version file.old file.new (entries_of_all wards.now)) }
+    ensures entries { OnOk result (AllByRecursion (IsFileEntry first_version) (entries_of_all wards.now)) }
+    ensures err { OnErr result (TakesEntriesBeginning W.contents first_version file.old file.new (entries_of_all wards.now)) }
 {
     for number in 0..wards.len() {
         write_entries(file, number as u8, wards[number].table())?;

@@ -17,12 +17,12 @@ use Rattle.exh_legal.specs.Numbers.{index_of}
 use Rattle.exh_legal.specs.Pages.{AreLinked, bare, map_of}
 use Rattle.exh_prefix.specs.Leading.{ward_prefix}
 use Rattle.exh_calls.specs.declared.journal_entry.JournalEntry.{JournalEntry}
-use Rattle.exh_ward.specs.FromPages.{AreApart}
+use Rattle.exh_ward.specs.FromPages.{HaveOwnBounds}
 use Rattle.exh_ward.specs.Kept.{IsKeptWard}
 use Rattle.exh_legal.specs.PageIndex.{IndexMap, IsIndexOf}
 use Rattle.exh_ward.specs.WardState.{WardState}
 
-pub apart_from : (ward : List Bool) (pages : List Page) → AreLinked ward (bare pages) → AreApart pages
+pub apart_from : (ward : List Bool) (pages : List Page) → AreLinked ward (bare pages) → HaveOwnBounds pages
 apart_from ward pages linked one other page twin is too same =
     linked.apart one other _ _ (bare_at pages one page is) (bare_at pages other twin too) (bare_low page ∙ same ∙ sym (bare_low twin))
 

@@ -1,23 +1,19 @@
 -- What is read of a ward's pages: their index, the pairs of their records, and the numbers of the entries of their table.
-use Rattle.std.proofs.Common.{◌≡◌, ℕ, zero, suc, ◌+◌, Bool, List, [], ◌∷◌, ◌++◌, append-nil, length, map, nat_cmp, take, None, Some, refl, sym, ap, ◌∙◌, subst, arith}
+use Rattle.std.proofs.Common.{◌≡◌, ℕ, zero, suc, ◌+◌, List, [], ◌∷◌, ◌++◌, append-nil, length, map, nat_cmp, take, None, Some, refl, sym, ap, ◌∙◌, subst, arith}
 use Rattle.std.specs.FinMap as fin
 use Rattle.std.specs.List.{flat_map}
 use Rattle.std.proofs.lemmas.Grind.{flat_map-append}
 use Rattle.std.proofs.lemmas.List.{length-take-le, map-append, take_more}
 use Rattle.std.proofs.lemmas.Option.{get_or_from_slice_get, slice_get_within}
-use Rattle.exh_notice.specs.declared.entry.Entry.{Entry}
 use Rattle.exh_page.specs.declared.page.Page.{Page}
 use Rattle.exh_page.specs.Page.{low_bound, records_of, with_records}
 use Rattle.exh_legal.specs.Laws.{KeepsPlaces}
 use Rattle.exh_legal.specs.Pages.{IsAt, bare}
 use Rattle.exh_page.specs.KeyMap.{pair_of}
-use Rattle.exh_ward.specs.FromPages.{AreApart, index_with, pairs_of}
+use Rattle.exh_ward.specs.FromPages.{HaveOwnBounds, index_with, pairs_of}
 use Rattle.exh_legal.specs.PageIndex.{IndexMap, IsIndexOf}
 use Rattle.exh_ward.proofs.ChangesAreTold.{index_grown}
 use Rattle.exh_ward.proofs.NewWardsAreSound.{first_alone}
-
-abbrev pub number_of_entry : List Bool × Entry → ℕ
-number_of_entry e = e.1.number
 
 -- ---- pages up to a number
 
@@ -52,7 +48,7 @@ first_only index page none low number = (
   λ is. absurd (first_alone page low number is.0 is.1),
 )
 
-pub one_page_more : (index next : IndexMap) (pages : List Page) (number : ℕ) (page : Page) → AreApart pages → IsAt pages number page → IsIndexOf index (bare (take number pages)) → next ≡ index_with index number page
+pub one_page_more : (index next : IndexMap) (pages : List Page) (number : ℕ) (page : Page) → HaveOwnBounds pages → IsAt pages number page → IsIndexOf index (bare (take number pages)) → next ≡ index_with index number page
     → IsIndexOf next (bare (take (number + 1) pages))
 one_page_more index next pages zero page apart is indexed next_is =
     subst (λ pages. IsIndexOf next (bare pages)) (sym (one_taken pages 0 page is)) (subst (λ index. IsIndexOf index (bare (page ∷ []))) (sym next_is) (first_only index (with_records [] page) indexed))

@@ -9,8 +9,8 @@ use Rattle.exh_page.specs.KeyMap.{pair_of}
 use Rattle.exh_legal.specs.PageIndex.{IndexMap}
 
 -- no two pages share a low bound
-abbrev pub AreApart : List Page → Type 0
-AreApart pages = (one other : ℕ) (page twin : Page) → IsAt pages one page → IsAt pages other twin → low_bound page ≡ low_bound twin → one ≡ other
+abbrev pub HaveOwnBounds : List Page → Type 0
+HaveOwnBounds pages = (one other : ℕ) (page twin : Page) → IsAt pages one page → IsAt pages other twin → low_bound page ≡ low_bound twin → one ≡ other
 
 -- the pairs of all records, page by page
 abbrev pub pairs_of : List Page → List (List ℕ × List ℕ)

@@ -1,5 +1,5 @@
 -- Laws of the hop table, of splits and merges, and of histories, that the crates above cite.
-use Rattle.std.specs.Prelude.{◌≡◌, ◌⊎◌, ℕ, ◌<◌, ◌^◌, Bool, List, map, Result, Ok, Err}
+use Rattle.std.specs.Prelude.{◌≡◌, ◌⊎◌, ℕ, ◌<◌, ◌^◌, Bool, List, Result, Ok, Err}
 use Rattle.exh_prefix.specs.Prefix.{Begins}
 use Rattle.exh_notice.specs.declared.notice.Notice.{Notice}
 use Rattle.exh_page.specs.declared.page.Page.{Page}

@@ -1,5 +1,5 @@
 -- Refusals of a ward: their numbers, where each comes, and what a page's store refuses.
-use Rattle.std.specs.Prelude.{◌≡◌, ⊤, ◌⊎◌, ℕ, ◌+◌, ◌-◌, ◌^◌, ◌<◌, ◌≤◌, Bool, true, List, [], ◌∷◌, ◌++◌, length, Option, Result, Err}
+use Rattle.std.specs.Prelude.{◌≡◌, ⊤, ℕ, ◌+◌, ◌-◌, ◌^◌, ◌<◌, ◌≤◌, Bool, List, length, Option, Result, Err}
 use Rattle.exh_prefix.specs.declared.prefix.TheConstants.{LIMIT}
 use Rattle.exh_page.specs.declared.page.Page.{Page as PageType}
 use Rattle.exh_page.specs.declared.page.Page.TheVariants.{Live, Forward}

@@ -11,7 +11,7 @@ use super::Ward;
 use crate::WardFault;
 use exh_frames::Pages;
 use exh_keyer::Keyer;
-use exh_legal::pages_are_few;
+use exh_legal::{number_at, pages_are_few};
 use exh_notice::{Kind, Notice};
 use exh_page::Page;
 use exh_prefix::{PageNo, Prefix};
@@ -35,10 +35,7 @@ impl<P: Pages + Drop, K: Keyer> Ward<P, K> {
     pub(super) fn number_at(&self, prefix: Prefix) -> u32
         ensures { result ≡ number_at self.now.table prefix }
     {
-        match self.table.get(prefix) {
-            Some(entry) => entry.number,
-            None => 0,
-        }
+        number_at(&self.table, prefix)
     }
 
     /// Changes two pages, with the notice of it. What comes of the pages is legal.

@@ -1,16 +1,14 @@
 ghost use Rattle.std.specs.Prelude.{◌≡◌, ◌^◌, ◌<◌, ◌≤◌, ◌++◌, [], length, map, IfOk, IfErr, OnOk};
-ghost use Rattle.std.specs.FinMap as fin;
-ghost use Rattle.exh_prefix.specs.declared.prefix.TheConstants.{LIMIT, WARD_BITS_LIMIT};
+ghost use Rattle.exh_prefix.specs.declared.prefix.TheConstants.{WARD_BITS_LIMIT};
 ghost use Rattle.exh_page.specs.declared.page.TheConstants.{CAP_LIMIT};
 ghost use Rattle.exh_page.specs.declared.page.Page.{Page};
 ghost use Rattle.exh_page.specs.Page.{IsWellFormed, records_of};
 ghost use Rattle.exh_frames.specs.PageStore.{TakesTheSame};
 ghost use Rattle.exh_legal.specs.Laws.{IsWard};
-ghost use Rattle.exh_legal.specs.Numbers.{index_of};
 ghost use Rattle.exh_legal.specs.Pages.{bare, map_of};
 ghost use Rattle.exh_page.specs.KeyMap.{pair_of};
 ghost use Rattle.exh_prefix.specs.Leading.{ward_prefix};
-ghost use Rattle.exh_ward.specs.FromPages.{AreApart, index_with, pairs_of};
+ghost use Rattle.exh_ward.specs.FromPages.{HaveOwnBounds, index_with, pairs_of};
 ghost use Rattle.exh_legal.specs.PageIndex.{IsIndexOf};
 ghost use Rattle.exh_ward.specs.WardFault.{CountsFailures, IsStoreFault};
 ghost use Rattle.exh_ward.specs.WardState.{IsSoundWard};
@@ -22,7 +20,7 @@ use exh_calls::{Base, Journal};
 use exh_frames::Pages;
 use exh_join::Join;
 use exh_keyer::Keyer;
-use exh_legal::{PageIndex, entries_are_few};
+use exh_legal::{PageIndex, entries_are_few, index_of};
 use exh_page::{CAP_LIMIT, Key, Page, Records, Value};
 use exh_prefix::PageNo;
 use exh_table::{Table, own_entries_give_the_table};
@@ -73,7 +71,7 @@ impl<P: Pages + Drop, K: Keyer> Ward<P, K> {
             base: Base::from_pairs(pairs),
             journal: Journal::new(alloc),
             start,
-            told: changes_of(&table),
+            told: index_of(&table),
             notices: Vec::new(alloc),
             table,
         })
@@ -85,7 +83,7 @@ fn read_pages<P: Pages>(
     alloc: Global,
     store: &mut P,
 ) -> Result<(PageIndex, Vec<(Key, Value)>), WardFault>
-    requires apart { AreApart (P.pages store.old) }
+    requires apart { HaveOwnBounds (P.pages store.old) }
     ensures index { IfOk result (λ read. IsIndexOf read.0 (bare (P.pages store.old))) }
     ensures pairs { IfOk result (λ read. read.1.items ≡ pairs_of (P.pages store.old)) }
     ensures pages { P.pages store.new ≡ P.pages store.old }
@@ -127,17 +125,4 @@ fn push_pairs(pairs: &mut Vec<(Key, Value)>, records: &Records) -> Result<(), Al
         pairs.push((item.key, item.value))?;
     }
     Ok(())
-}
-
-// How many changes a table tells of.
-fn changes_of(table: &Table) -> u64
-    requires { length (fin.entries table.now) < 2 ^ LIMIT }
-    ensures index { result ≡ index_of table.now }
-    ensures few { result < 2 ^ 62 }
-{
-    let mut told = 0;
-    for (_, entry) in table.entries() {
-        told += u64::from(entry.number);
-    }
-    told
 }

@@ -2,7 +2,7 @@ use Rattle.std.proofs.Common.{[], ◌∷◌, arith, ◌∙◌, ◌++◌, sym, ap
 use Rattle.std.proofs.lemmas.List.{length_push}
 use Rattle.exh_stream.specs.Output.{Takes}
 use Rattle.exh_stream.specs.OutputLemmas.{OnErr-from}
-use Rattle.exh_load.specs.Loading.{line_text, loading_of, text_from}
+use Rattle.exh_load.specs.Loading.{line_text, loading_of, load_text_from}
 use Rattle.exh_load.proofs.Lines.{IfErr-from, LeadTo-more, line_is, line_out, line_stopped, stopped, text_lines, text_of_left, text_of_more, text_of_next}
 use Rattle.exh_load.proofs.load_text.load_lines.Goals as goal
 
@@ -31,7 +31,7 @@ lines-preserved g c =
       counted = λ fits. let before = i.counted (omega (arith, fits, length_push i.answered line)) in omega (arith, before, i.few, fits, length_push i.answered line, c.in_ok-more.ensures.few, c.in_ok-more.ensures.records, c.saturating_add-records.ensures);
       few = omega (arith, i.few, c.in_ok-more.ensures.few, length_push i.answered line, c.saturating_add-records.ensures);
       passed = subst (Takes g.W.Write.contents c.args.output.now c.push.new.self) (sym (text_of_more first now i.answered i.lead line))
-          (line_out g.W.Write.contents c.args.output.now c.lines.output _ _ _ i.passed whole c.push.new.self (line_text now line) (text_from next c.next.new.self) _ split is c.in_ok-push.ensures.ok);
+          (line_out g.W.Write.contents c.args.output.now c.lines.output _ _ _ i.passed whole c.push.new.self (line_text now line) (load_text_from next c.next.new.self) _ split is c.in_ok-push.ensures.ok);
     }
 
 pub returns-in_err-push-clause-err : goal.returns-in_err-push-clause-err
@@ -44,9 +44,9 @@ returns-in_err-push-clause-err g c =
     let whole = text_of_left first now i.answered i.lead _ _ i.split in
     let split = text_of_next now next c.lines.line-iterator c.next.new.self line c.in-Some.ensures.steps c.in_ok-more.ensures.loaded in
     let is = line_is now line c.clear.new.self.items c.push_line.new.out.items c.deref.result.now c.clear.ensures.items c.in_ok-more.ensures.text c.deref.ensures.value in
-    OnErr-from c.from_residual-in_err-push.result (line_stopped g.W.Write.contents c.args.output.now c.lines.output _ _ _ i.passed whole c.push.new.self (line_text now line) (text_from next c.next.new.self) _ split is c.in_err-push.ensures.err)
+    OnErr-from c.from_residual-in_err-push.result (line_stopped g.W.Write.contents c.args.output.now c.lines.output _ _ _ i.passed whole c.push.new.self (line_text now line) (load_text_from next c.next.new.self) _ split is c.in_err-push.ensures.err)
 
 pub returns-in_err-more-clause-front : goal.returns-in_err-more-clause-front
 returns-in_err-more-clause-front g c =
     let i = c.lines.invariant in
-    IfErr-from c.from_residual.result (λ fault _. record { front = text_from (loading_of c.args.loader.now) i.answered; rest = text_from (loading_of c.lines.loader) c.lines.line-iterator; split = sym (text_of_left _ _ i.answered i.lead _ _ i.split); lines = text_lines (loading_of c.args.loader.now) i.answered; taken = i.passed })
+    IfErr-from c.from_residual.result (λ fault _. record { front = load_text_from (loading_of c.args.loader.now) i.answered; rest = load_text_from (loading_of c.lines.loader) c.lines.line-iterator; split = sym (text_of_left _ _ i.answered i.lead _ _ i.split); lines = text_lines (loading_of c.args.loader.now) i.answered; taken = i.passed })

@@ -1,8 +1,8 @@
 use Rattle.std.proofs.Common.{◌≡◌, ◌+◌, ◌<◌, ◌≤◌, ◌^◌, List, ℕ, ◌++◌, IsFalse, length}
 use Rattle.exh_stream.specs.Output.{SameWriter, Takes, writer_failed}
-use Rattle.exh_load.specs.Load.{records_in}
+use Rattle.exh_load.specs.Load.{record_count}
 use Rattle.exh_load.specs.Loader.{IsLoading}
-use Rattle.exh_load.specs.Loading.{loading_of, text_from}
+use Rattle.exh_load.specs.Loading.{loading_of, load_text_from}
 use Rattle.exh_load.proofs.Lines.{LeadTo}
 use Rattle.exh_load.proofs.load_text.load_lines.Given as goal
 
@@ -15,7 +15,7 @@ invariant-lines g l = record {
   answered : List (List ℕ);
   split : l.fn.lines ≡ answered ++ l.line-iterator;
   lead : LeadTo (loading_of l.fn.loader) (loading_of l.loader) answered;
-  counted : length answered < 2 ^ 64 → l.records + records_in (loading_of l.fn.loader) ≡ records_in (loading_of l.loader);
+  counted : length answered < 2 ^ 64 → l.records + record_count (loading_of l.fn.loader) ≡ record_count (loading_of l.loader);
   few : l.records ≤ length answered;
-  passed : Takes g.W.Write.contents l.fn.output l.output (text_from (loading_of l.fn.loader) answered);
+  passed : Takes g.W.Write.contents l.fn.output l.output (load_text_from (loading_of l.fn.loader) answered);
 }

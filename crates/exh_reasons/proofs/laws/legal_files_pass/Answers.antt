@@ -4,16 +4,16 @@ use Rattle.exh_prefix.specs.declared.prefix.TheConstants.{LIMIT}
 use Rattle.exh_legal.specs.Laws.{FittingTablesBeginWards, PagesAreFew}
 use Rattle.exh_legal.specs.Pages.{bare}
 use Rattle.exh_prefix.specs.Leading.{ward_prefix}
-use Rattle.exh_reasons.specs.FileParts.{FileParts, HasRanges}
+use Rattle.exh_reasons.specs.FileParts.{FileParts, HasPartRanges}
 use Rattle.exh_reasons.specs.Laws.{IsLegalFile, IsPassed}
-use Rattle.exh_reasons.specs.Reasons.{Passes}
+use Rattle.exh_reasons.specs.Reasons.{ReasonPasses}
 use Rattle.exh_reasons.specs.declared.reason.Reason.{Reason}
 use Rattle.exh_reasons.specs.declared.reason.Reason.TheVariants.{Cap, LowBounds, Leaves, Links, Forwards, Table}
 use Rattle.exh_reasons.proofs.Bare.{bare_bare, fits_to}
 use Rattle.exh_reasons.proofs.Passed.{to_legal, to_cap, to_lows, to_leaves, to_links, to_targets, to_formed}
 use Rattle.exh_reasons.proofs.laws.legal_files_pass.Goals as goal
 
-module _ (begin : FittingTablesBeginWards) (few : PagesAreFew) (pseudo : List ℕ → ℕ) (parts : FileParts) (ranges : HasRanges parts) where
+module _ (begin : FittingTablesBeginWards) (few : PagesAreFew) (pseudo : List ℕ → ℕ) (parts : FileParts) (ranges : HasPartRanges parts) where
   short : (number : ℕ) → length (ward_prefix parts.ward_bits number) ≤ LIMIT
   short number = omega (arith, length-bits_of parts.ward_bits number, ranges.bits)
 
@@ -25,7 +25,7 @@ module _ (begin : FittingTablesBeginWards) (few : PagesAreFew) (pseudo : List �
     strays = (is.passed Table).1;
   }
 
-  passed : IsLegalFile pseudo parts → (reason : Reason) → Passes parts reason
+  passed : IsLegalFile pseudo parts → (reason : Reason) → ReasonPasses parts reason
   passed is Cap = λ number pages there. to_cap (is.wards number pages there).legal.legal
   passed is LowBounds = λ number pages there. to_lows (is.wards number pages there).legal.legal
   passed is Leaves = λ number pages there. to_leaves (is.wards number pages there).legal.legal

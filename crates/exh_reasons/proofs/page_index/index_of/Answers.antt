@@ -4,7 +4,7 @@ use Rattle.std.specs.Ordering.{nat_cmp}
 use Rattle.std.proofs.lemmas.Bool.{false≢true}
 use Rattle.exh_prefix.specs.Prefix.{Begins}
 use Rattle.exh_page.specs.Page.{low_bound}
-use Rattle.exh_reasons.specs.PageIndex.{page_at}
+use Rattle.exh_reasons.specs.PageIndex.{page_number_at}
 use Rattle.exh_reasons.specs.FileParts.{IsBounded}
 use Rattle.exh_reasons.proofs.Each.{each_all, each_more}
 use Rattle.exh_reasons.proofs.Index.{IsBegunIndex, all_indexed, more_index, shared_low_found, none_found}
@@ -23,7 +23,7 @@ pub loop-number-preserved : goal.loop-number-preserved
 loop-number-preserved g c =
     let same : low_bound c.page.result.now ≡ c.low_bound_of-low.result = sym c.low_bound_of-low.ensures.low in (
       more_index c.args.ward _ c.loop-number.number c.loop-number.index.entries c.insert.new.self.entries c.page.result.now c.loop-number.invariant.0 c.page.ensures (subst (Begins c.args.ward) c.low_bound_of-low.ensures.low ((c.begins.ensures).0 c.if-not-begins.false))
-          (none_found c.loop-number.index.entries c.low_bound_of-low.result (low_bound c.page.result.now) (sym same) (sym c.contains_key.ensures ∙ c.if-contains_key.false)) (λ query. c.in_ok-insert.ensures.updates.0 query ∙ ap (λ key. cond (is_at (nat_cmp key) query) (Some c.loop-number.number) (page_at c.loop-number.index.entries query)) c.low_bound_of-low.ensures.low),
+          (none_found c.loop-number.index.entries c.low_bound_of-low.result (low_bound c.page.result.now) (sym same) (sym c.contains_key.ensures ∙ c.if-contains_key.false)) (λ query. c.in_ok-insert.ensures.updates.0 query ∙ ap (λ key. cond (is_at (nat_cmp key) query) (Some c.loop-number.number) (page_number_at c.loop-number.index.entries query)) c.low_bound_of-low.ensures.low),
       each_more IsBounded (g.P.PageList.pages c.args.pages.now) c.loop-number.number c.loop-number.invariant.1 c.page.result.now c.page.ensures c.low_bound_of-low.ensures.bounded,
     )
 

@@ -7,7 +7,7 @@ use Rattle.exh_prefix.specs.ListLemmas.{one_there}
 use Rattle.exh_keyer.specs.Pseudokey.{any_pseudokey}
 use Rattle.exh_keyer.specs.declared.any_keyer.AnyKeyer.{AnyKeyer}
 use Rattle.exh_ward.specs.WardState.{IsSoundWard, WardState}
-use Rattle.exh_save.specs.Saved.{entries_in, entries_of, file_entry}
+use Rattle.exh_save.specs.Saved.{entries_of_all, entries_of, file_entry}
 use Rattle.exh_save.proofs.Going.{entries_join, one_wards_entries}
 use Rattle.exh_save.proofs.Lists.{next_is}
 use Rattle.exh_save.proofs.header.entry_count_of.Goals as goal
@@ -27,10 +27,10 @@ loop-number-preserved g c =
     let less : number < length wards = omega (arith, c.loop-number-test.true) in
     let is = slice_get_read wards (length wards) number ward refl less c.index-wards-number.is in
     let inv = c.loop-number.invariant in
-    let next = ap length (next_is entries_in entries_join wards number ward is (entries_of ward) (one_wards_entries ward)) in
+    let next = ap length (next_is entries_of_all entries_join wards number ward is (entries_of ward) (one_wards_entries ward)) in
     let own = length-map (entries ward.table) (file_entry ward.number) in
     record {
-      count = omega (arith, inv.count, next, own, length-append (entries_in (take number wards)) (entries_of ward), c.entry_count_in-count.ensures.count);
+      count = omega (arith, inv.count, next, own, length-append (entries_of_all (take number wards)) (entries_of ward), c.entry_count_in-count.ensures.count);
       few = omega (arith, inv.few, c.entry_count_in-count.ensures.few);
       sound = λ at other before there. elim (cases_lt at number) [
         | inl earlier ↦ inv.sound at other earlier there

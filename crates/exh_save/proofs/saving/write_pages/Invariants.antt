@@ -4,14 +4,14 @@ use Rattle.exh_prefix.specs.Version.{first_version}
 use Rattle.exh_codec.specs.PageImage.{IsInRange}
 use Rattle.exh_page_file.specs.PageFile.{page_block, pages_of}
 use Rattle.exh_page_file.specs.Writing.{SameTarget, TakesBlocks}
-use Rattle.exh_save.specs.Saved.{pages_in}
+use Rattle.exh_save.specs.Saved.{pages_of_all}
 use Rattle.exh_save.proofs.saving.write_pages.Given as goal
 
 -- the pages of the wards so far went to the file
 abbrev pub invariant-loop-number : goal.invariant-loop-number
 invariant-loop-number g l = record {
   target : SameTarget l.fn.file l.file;
-  taken : TakesBlocks g.W.Write.contents l.fn.file l.file (flat_map page_block (pages_of (pages_in (take l.number l.fn.wards))));
-  ranges : AllByRecursion (IsInRange first_version) (pages_of (pages_in (take l.number l.fn.wards)));
+  taken : TakesBlocks g.W.Write.contents l.fn.file l.file (flat_map page_block (pages_of (pages_of_all (take l.number l.fn.wards))));
+  ranges : AllByRecursion (IsInRange first_version) (pages_of (pages_of_all (take l.number l.fn.wards)));
   wards : l.wards ≡ l.fn.wards;
 }

@@ -13,7 +13,7 @@ use Rattle.exh_file.specs.TableImage.{IsFileEntry}
 use Rattle.exh_page_file.specs.Writing.{TakesEntries, TakesEntriesBeginning}
 use Rattle.exh_page_file.specs.WritingLemmas.{TakesEntries-none}
 use Rattle.exh_ward.specs.WardState.{WardState}
-use Rattle.exh_save.specs.Saved.{AreShort, entries_in, entries_of, file_entry}
+use Rattle.exh_save.specs.Saved.{AreShort, entries_of_all, entries_of, file_entry}
 use Rattle.exh_save.proofs.Going.{entries_cut, entries_join, entries_next, one_wards_entries}
 use Rattle.exh_save.proofs.Lists.{next_all, whole_is}
 use Rattle.exh_save.proofs.saving.write_table.Goals as goal
@@ -24,11 +24,11 @@ own_entries ward number table here same = ap (λ (n : ℕ). map (file_entry n) (
 abbrev IsShort : FileEntry → Type 0
 IsShort item = length item.prefix < LIMIT
 
-short_here : (wards : List (WardState AnyKeyer)) (at : ℕ) (ward : WardState AnyKeyer) → slice_get wards at ≡ Some ward → AreShort (entries_in wards) → AreShort (entries_of ward)
+short_here : (wards : List (WardState AnyKeyer)) (at : ℕ) (ward : WardState AnyKeyer) → slice_get wards at ≡ Some ward → AreShort (entries_of_all wards) → AreShort (entries_of ward)
 short_here wards at ward is short =
-    AllByRecursion-append_right IsShort (entries_in (take at wards)) (entries_of ward)
-    (AllByRecursion-append_left IsShort (entries_in (take at wards) ++ entries_of ward) (entries_in (drop (at + 1) wards))
-    (subst (AllByRecursion IsShort) (sym (whole_is entries_in entries_join wards at ward is (entries_of ward) (one_wards_entries ward))) short))
+    AllByRecursion-append_right IsShort (entries_of_all (take at wards)) (entries_of ward)
+    (AllByRecursion-append_left IsShort (entries_of_all (take at wards) ++ entries_of ward) (entries_of_all (drop (at + 1) wards))
+    (subst (AllByRecursion IsShort) (sym (whole_is entries_of_all entries_join wards at ward is (entries_of ward) (one_wards_entries ward))) short))
 
 pub loop-number-init : goal.loop-number-init
 loop-number-init g c = record { target = refl; taken = TakesEntries-none c.args.file.now; valid = tt }
@@ -50,7 +50,7 @@ returns-in_err-write_entries-clause-err g c =
     let less : number < length wards = omega (arith, c.loop-number-test.true) in
     let is = slice_get_read wards (length wards) number ward refl less c.index-wards-number.is in
     let own = own_entries ward number c.table.result.now (c.requires.numbers number ward is) c.table.ensures.table in
-    OnErr-from c.from_residual.result (entries_cut entries_in entries_join wards number ward is (entries_of ward) (one_wards_entries ward) c.loop-number.invariant.taken
+    OnErr-from c.from_residual.result (entries_cut entries_of_all entries_join wards number ward is (entries_of ward) (one_wards_entries ward) c.loop-number.invariant.taken
     (subst (TakesEntriesBeginning g.W.Write.contents first_version c.loop-number.file c.write_entries.new.file) own c.in_err-write_entries.ensures.err))
 
 pub loop-number-preserved : goal.loop-number-preserved
@@ -64,8 +64,8 @@ loop-number-preserved g c =
     let own = own_entries ward number c.table.result.now (c.requires.numbers number ward is) c.table.ensures.table in
     record {
       target = c.in_ok-write_entries.ensures.same_target ∙ inv.target;
-      taken = entries_next entries_in entries_join wards number ward is (entries_of ward) (one_wards_entries ward) inv.taken
+      taken = entries_next entries_of_all entries_join wards number ward is (entries_of ward) (one_wards_entries ward) inv.taken
           (subst (TakesEntries g.W.Write.contents first_version c.loop-number.file c.write_entries.new.file) own c.in_ok-write_entries.ensures.ok);
-      valid = next_all entries_in entries_join wards number ward is (entries_of ward) (one_wards_entries ward) (IsFileEntry first_version) inv.valid
+      valid = next_all entries_of_all entries_join wards number ward is (entries_of ward) (one_wards_entries ward) (IsFileEntry first_version) inv.valid
           (subst (AllByRecursion (IsFileEntry first_version)) own c.in_ok-write_entries.ensures.entries);
     }

@@ -1,4 +1,4 @@
-use Rattle.std.proofs.Common.{◌≡◌, ◌<◌, length, List, refl, sym, subst}
+use Rattle.std.proofs.Common.{◌<◌, length, List, refl, sym, subst}
 use Rattle.exh_page.specs.declared.page.Page.{Page}
 use Rattle.exh_legal.specs.Pages.{IsAt}
 use Rattle.exh_ward.specs.WardFault.{MergeRefused, fault_of_halves}
