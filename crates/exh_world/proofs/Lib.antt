@@ -31,7 +31,7 @@ pub mod StepFacts
 pub mod RunFacts
 pub mod Runs
 pub mod HeadlineOf
--- of answers_are_bounded
+-- of moves_are_counted
 pub mod BoundedAnswers
 -- of moves_are_counted and current_copies_look_once
 pub mod CountedAnswers
