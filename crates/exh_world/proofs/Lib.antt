@@ -31,9 +31,8 @@ pub mod StepFacts
 pub mod RunFacts
 pub mod Runs
 pub mod HeadlineOf
--- of moves_are_counted
-pub mod BoundedAnswers
 -- of moves_are_counted and current_copies_look_once
+pub mod BoundedAnswers
 pub mod CountedAnswers
 pub mod BegunNear
 pub mod TakersCurrent
