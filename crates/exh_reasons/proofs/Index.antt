@@ -68,10 +68,10 @@ more_index ward pages count entries new page begun is within none updates =
       ];
     }
 
-abbrev IsFirstReason : List Bool → List Page → Type 0
-IsFirstReason ward pages = (page : Page) × IsAt pages 0 page × IsLive page × (low_bound page ≡ low_of ward)
+abbrev IsFirstUnpassed : List Bool → List Page → Type 0
+IsFirstUnpassed ward pages = (page : Page) × IsAt pages 0 page × IsLive page × (low_bound page ≡ low_of ward)
 
-pub all_indexed : (ward : List Bool) (pages : List Page) (entries : List (ℕ × ℕ)) → IsBegunIndex ward pages (length pages) entries → IsFirstReason ward pages → HasLows ward pages × AreIndex entries pages
+pub all_indexed : (ward : List Bool) (pages : List Page) (entries : List (ℕ × ℕ)) → IsBegunIndex ward pages (length pages) entries → IsFirstUnpassed ward pages → HasLows ward pages × AreIndex entries pages
 all_indexed ward pages entries begun first = (
   record {
     first = first;

@@ -7,24 +7,24 @@ use Rattle.std.proofs.lemmas.Option.{slice_get_within}
 use Rattle.exh_page.specs.declared.page.Page.{Page}
 use Rattle.exh_prefix.specs.Leading.{ward_prefix}
 use Rattle.exh_reasons.specs.FileParts.{FileParts, HasNoStrays, table_of}
-use Rattle.exh_reasons.specs.Reasons.{IsFirstReason, IsFirstReason, ReasonPasses, WardPasses, lesser_of, rank_of}
+use Rattle.exh_reasons.specs.Reasons.{IsFirstUnpassed, IsFirstReason, ReasonPasses, WardPasses, lesser_of, rank_of}
 use Rattle.exh_reasons.specs.declared.reason.Reason.{Reason}
 use Rattle.exh_reasons.specs.declared.reason.Reason.TheVariants.{Cap, LowBounds, Leaves, Links, Forwards, Table}
 
 -- ---- the lesser of two
 
 module _ (P Q R : Reason → Type 0) (both : (reason : Reason) → P reason → Q reason → R reason) (left : (reason : Reason) → R reason → P reason) (right : (reason : Reason) → R reason → Q reason) where
-  pub lesser_first : (one other : Option Reason) → IsFirstReason P one → IsFirstReason Q other → IsFirstReason R (lesser_of one other)
+  pub lesser_first : (one other : Option Reason) → IsFirstUnpassed P one → IsFirstUnpassed Q other → IsFirstUnpassed R (lesser_of one other)
   lesser_first None None is too = λ reason. both reason (is reason) (too reason)
   lesser_first None (Some other) is too = (λ all. too.0 (right other all), λ earlier less. both earlier (is earlier) (too.1 earlier less))
   lesser_first (Some one) None is too = (λ all. is.0 (left one all), λ earlier less. both earlier (is.1 earlier less) (too earlier))
   lesser_first (Some one) (Some other) is too = elim (leb_tells (rank_of one) (rank_of other)) [
     | inl first ↦
-        let here : IsFirstReason R (Some one) = (λ all. is.0 (left one all), λ earlier less. both earlier (is.1 earlier less) (too.1 earlier (omega (arith, less, first.1)))) in
-        subst (IsFirstReason R) (sym (ap (λ b. cond b (Some one) (Some other)) first.0)) here
+        let here : IsFirstUnpassed R (Some one) = (λ all. is.0 (left one all), λ earlier less. both earlier (is.1 earlier less) (too.1 earlier (omega (arith, less, first.1)))) in
+        subst (IsFirstUnpassed R) (sym (ap (λ b. cond b (Some one) (Some other)) first.0)) here
     | inr second ↦
-        let here : IsFirstReason R (Some other) = (λ all. too.0 (right other all), λ earlier less. both earlier (is.1 earlier (omega (arith, less, second.1))) (too.1 earlier less)) in
-        subst (IsFirstReason R) (sym (ap (λ b. cond b (Some one) (Some other)) second.0)) here
+        let here : IsFirstUnpassed R (Some other) = (λ all. too.0 (right other all), λ earlier less. both earlier (is.1 earlier (omega (arith, less, second.1))) (too.1 earlier less)) in
+        subst (IsFirstUnpassed R) (sym (ap (λ b. cond b (Some one) (Some other)) second.0)) here
   ]
 
 -- ---- ward by ward
@@ -33,11 +33,11 @@ module _ (P Q R : Reason → Type 0) (both : (reason : Reason) → P reason → 
 abbrev pub PassedBelow : FileParts → ℕ → Reason → Type 0
 PassedBelow parts count reason = (number : ℕ) (pages : List Page) → number < count → slice_get parts.wards number ≡ Some pages → WardPasses parts.cap (ward_prefix parts.ward_bits number) (table_of parts number) pages reason
 
-pub none_below : (parts : FileParts) → IsFirstReason (PassedBelow parts 0) None
+pub none_below : (parts : FileParts) → IsFirstUnpassed (PassedBelow parts 0) None
 none_below parts = λ reason number pages less is. absurd (omega (arith, less))
 
-pub one_more : (parts : FileParts) (count : ℕ) (pages : List Page) → slice_get parts.wards count ≡ Some pages → (first found : Option Reason) → IsFirstReason (PassedBelow parts count) first
-    → IsFirstReason (WardPasses parts.cap (ward_prefix parts.ward_bits count) (table_of parts count) pages) found → IsFirstReason (PassedBelow parts (count + 1)) (lesser_of first found)
+pub one_more : (parts : FileParts) (count : ℕ) (pages : List Page) → slice_get parts.wards count ≡ Some pages → (first found : Option Reason) → IsFirstUnpassed (PassedBelow parts count) first
+    → IsFirstUnpassed (WardPasses parts.cap (ward_prefix parts.ward_bits count) (table_of parts count) pages) found → IsFirstUnpassed (PassedBelow parts (count + 1)) (lesser_of first found)
 one_more parts count pages at first found below here =
     lesser_first (PassedBelow parts count) (WardPasses parts.cap (ward_prefix parts.ward_bits count) (table_of parts count) pages) (PassedBelow parts (count + 1))
     (λ reason before own number others less is. elim (cases_eq number count) [
@@ -77,7 +77,7 @@ from_passes parts Links all = λ number pages less is. all number pages is
 from_passes parts Forwards all = λ number pages less is. all number pages is
 from_passes parts Table all = λ number pages less is. all.0 number pages is
 
-pub without_strays : (parts : FileParts) (first : Option Reason) → HasNoStrays parts → IsFirstReason (PassedBelow parts (length parts.wards)) first → IsFirstReason parts first
+pub without_strays : (parts : FileParts) (first : Option Reason) → HasNoStrays parts → IsFirstUnpassed (PassedBelow parts (length parts.wards)) first → IsFirstReason parts first
 without_strays parts None strays below = λ reason. to_passes parts strays reason (below reason)
 without_strays parts (Some reason) strays below = (λ all. below.0 (from_passes parts reason all), λ earlier less. to_passes parts strays earlier (below.1 earlier less))
 
@@ -92,7 +92,7 @@ place_most Table = omega arith
 table_first : (parts : FileParts) → (HasNoStrays parts → ⊥) → ((reason : Reason) → rank_of reason < 6 → PassedBelow parts (length parts.wards) reason) → IsFirstReason parts (Some Table)
 table_first parts astray below = (λ all. astray all.1, λ earlier less. early_passes parts earlier less (below earlier less))
 
-pub with_strays : (parts : FileParts) (first : Option Reason) → (HasNoStrays parts → ⊥) → IsFirstReason (PassedBelow parts (length parts.wards)) first → IsFirstReason parts (lesser_of first (Some Table))
+pub with_strays : (parts : FileParts) (first : Option Reason) → (HasNoStrays parts → ⊥) → IsFirstUnpassed (PassedBelow parts (length parts.wards)) first → IsFirstReason parts (lesser_of first (Some Table))
 with_strays parts None astray below = table_first parts astray (λ reason less. below reason)
 with_strays parts (Some reason) astray below = elim (leb_tells (rank_of reason) 6) [
   | inl first ↦ subst (IsFirstReason parts) (sym (ap (λ b. cond b (Some reason) (Some Table)) first.0)) (λ all. below.0 (from_passes parts reason all), λ earlier less. early_passes parts earlier (omega (arith, less, first.1)) (below.1 earlier less))

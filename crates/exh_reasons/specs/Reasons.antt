@@ -71,15 +71,15 @@ rank_of Forwards = 5
 rank_of Table = 6
 
 -- the first reason that doesn't pass, or none where all do
-abbrev pub IsFirstReason : (Reason → Type 0) → Option Reason → Type 0
-IsFirstReason Passed None = (reason : Reason) → Passed reason
-IsFirstReason Passed (Some reason) = (Passed reason → ⊥) × ((earlier : Reason) → rank_of earlier < rank_of reason → Passed earlier)
+abbrev pub IsFirstUnpassed : (Reason → Type 0) → Option Reason → Type 0
+IsFirstUnpassed Passed None = (reason : Reason) → Passed reason
+IsFirstUnpassed Passed (Some reason) = (Passed reason → ⊥) × ((earlier : Reason) → rank_of earlier < rank_of reason → Passed earlier)
 
 abbrev pub IsFirstOfWard : ℕ → List Bool → TableMap → List Page → Option Reason → Type 0
-IsFirstOfWard cap ward table pages found = IsFirstReason (WardPasses cap ward table pages) found
+IsFirstOfWard cap ward table pages found = IsFirstUnpassed (WardPasses cap ward table pages) found
 
 abbrev pub IsFirstReason : FileParts → Option Reason → Type 0
-IsFirstReason parts found = IsFirstReason (ReasonPasses parts) found
+IsFirstReason parts found = IsFirstUnpassed (ReasonPasses parts) found
 
 -- of two reasons the one that is tested first
 abbrev pub lesser_of : Option Reason → Option Reason → Option Reason

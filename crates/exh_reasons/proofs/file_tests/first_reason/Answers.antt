@@ -6,7 +6,7 @@ use Rattle.std.proofs.lemmas.Bool.Decides.{leb_tells}
 use Rattle.std.proofs.lemmas.List.{get_or_past, length-map}
 use Rattle.std.proofs.lemmas.Option.{get_or_from_slice_get, slice_get-map, slice_get_read}
 use Rattle.exh_reasons.specs.FileParts.{HasNoStrays, parts_of, table_of}
-use Rattle.exh_reasons.specs.Reasons.{IsFirstReason, IsFirstReason, WardPasses}
+use Rattle.exh_reasons.specs.Reasons.{IsFirstUnpassed, IsFirstReason, WardPasses}
 use Rattle.exh_reasons.proofs.Whole.{PassedBelow, one_more, with_strays, without_strays}
 use Rattle.exh_reasons.proofs.file_tests.first_reason.Goals as goal
 
@@ -18,9 +18,9 @@ loop-number-preserved g c =
     let within : c.loop-number.number < length c.args.tables.now = omega (arith, less, c.requires.tables) in
     let at = slice_get-map pages_of c.args.wards.now c.loop-number.number ∙ ap (option_map pages_of) (slice_get_read c.args.wards.now (length c.args.wards.now) c.loop-number.number c.index-wards-number.result refl less c.index-wards-number.is) in
     let table : table_of parts c.loop-number.number ≡ c.index-tables-number.result = get_or_from_slice_get c.args.tables.now c.loop-number.number c.index-tables-number.result empty (slice_get_read c.args.tables.now (length c.args.tables.now) c.loop-number.number c.index-tables-number.result refl within c.index-tables-number.is) in
-    let found = subst (λ ward. IsFirstReason (WardPasses c.args.cap ward (table_of parts c.loop-number.number) (pages_of c.index-wards-number.result)) c.in_ok-found.found) c.own_prefix-ward.ensures
-    (subst (λ table. IsFirstReason (WardPasses c.args.cap c.own_prefix-ward.result table (pages_of c.index-wards-number.result)) c.in_ok-found.found) (sym table) c.in_ok-found.ensures) in
-    subst (IsFirstReason (PassedBelow parts (c.loop-number.number + 1))) (sym c.lesser-first.ensures) (one_more parts c.loop-number.number (pages_of c.index-wards-number.result) at c.loop-number.first c.in_ok-found.found c.loop-number.invariant found)
+    let found = subst (λ ward. IsFirstUnpassed (WardPasses c.args.cap ward (table_of parts c.loop-number.number) (pages_of c.index-wards-number.result)) c.in_ok-found.found) c.own_prefix-ward.ensures
+    (subst (λ table. IsFirstUnpassed (WardPasses c.args.cap c.own_prefix-ward.result table (pages_of c.index-wards-number.result)) c.in_ok-found.found) (sym table) c.in_ok-found.ensures) in
+    subst (IsFirstUnpassed (PassedBelow parts (c.loop-number.number + 1))) (sym c.lesser-first.ensures) (one_more parts c.loop-number.number (pages_of c.index-wards-number.result) at c.loop-number.first c.in_ok-found.found c.loop-number.invariant found)
 
 pub returns-then-not-is_bare : goal.returns-then-not-is_bare
 returns-then-not-is_bare g c =
@@ -31,7 +31,7 @@ returns-then-not-is_bare g c =
     let past : length (map pages_of c.args.wards.now) ≤ c.loop-number-2.number = omega (arith, c.loop-number-2.auto.number, length-map c.args.wards.now pages_of) in
     let table : table_of parts c.loop-number-2.number ≡ c.index-tables-number-in-loop-number-2.result = get_or_from_slice_get c.args.tables.now c.loop-number-2.number c.index-tables-number-in-loop-number-2.result empty (slice_get_read c.args.tables.now (length c.args.tables.now) c.loop-number-2.number c.index-tables-number-in-loop-number-2.result refl within c.index-tables-number-in-loop-number-2.is) in
     subst (IsFirstReason parts) (sym c.lesser.ensures)
-    (with_strays parts c.loop-number.first (λ strays. absurd (false≢true (sym c.if-not-is_bare.true ∙ c.is_bare.ensures.1 (sym table ∙ strays c.loop-number-2.number past)))) (subst (λ n. IsFirstReason (PassedBelow parts n) c.loop-number.first) all c.loop-number.invariant))
+    (with_strays parts c.loop-number.first (λ strays. absurd (false≢true (sym c.if-not-is_bare.true ∙ c.is_bare.ensures.1 (sym table ∙ strays c.loop-number-2.number past)))) (subst (λ n. IsFirstUnpassed (PassedBelow parts n) c.loop-number.first) all c.loop-number.invariant))
 
 pub loop-number-2-preserved : goal.loop-number-2-preserved
 loop-number-2-preserved g c number past less =
@@ -52,4 +52,4 @@ returns g c =
       | inl beyond ↦ get_or_past c.args.tables.now number empty beyond.1
       | inr within ↦ c.loop-number-2.invariant number (omega (arith, past, length-map c.args.wards.now pages_of)) (omega (arith, within.1, c.loop-number-2-test.false))
     ] in
-    without_strays parts c.loop-number.first strays (subst (λ n. IsFirstReason (PassedBelow parts n) c.loop-number.first) all c.loop-number.invariant)
+    without_strays parts c.loop-number.first strays (subst (λ n. IsFirstUnpassed (PassedBelow parts n) c.loop-number.first) all c.loop-number.invariant)
