@@ -1,1 +1,3 @@
+pub mod StormCalls
 pub mod StormConfig
+pub mod StormFault

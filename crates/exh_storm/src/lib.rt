@@ -1,6 +1,19 @@
-//! A storm: callers, keepers and couriers over one new live file.
+//! A storm: callers, keepers and couriers over one new live file, each on a thread of its own, all at
+//! once; and what they leave is settled.
 #![tactic(auto)]
 
+pub use call::storm_call;
+pub use caller::Caller;
 pub use config::{CALLERS_LIMIT, CALLS_LIMIT, COPIES_LIMIT, StormConfig};
+pub use courier::{COURIER_CLIENT, Courier};
+pub use fault::StormFault;
+pub use keeper::{KEEPER_CLIENT, Keeper};
+pub use open_copy::OpenCopy;
 
+mod call;
+mod caller;
 mod config;
+mod courier;
+mod fault;
+mod keeper;
+mod open_copy;

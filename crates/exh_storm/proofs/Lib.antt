@@ -1,0 +1,4 @@
+mod Calls
+mod Carried
+mod Each
+mod Tables

@@ -1,0 +1,42 @@
+ghost use Rattle.std.specs.Prelude.{◌≡◌, [], IfOk};
+ghost use Rattle.exh_storm.specs.StormCalls.{IsServed};
+
+use crate::{StormFault, storm_call};
+use exh_copy::{CopyReader, Start};
+use exh_frames::Pages;
+use exh_keyer::Keyer;
+use exh_live::{Identity, LiveFile, Seat};
+use exh_walk::Gate;
+use std::sync::Wait;
+
+/// A caller of a storm: its seat, which was answered nothing, and the copy of the directory that it
+/// looks at.
+#[derive(Drop)]
+pub struct Caller<F: Identity, S: Start> {
+    pub seat: Seat<F>,
+    pub copy: CopyReader<S>,
+    ghost fresh: { seat.entries ≡ [] },
+}
+
+impl<F: Identity, S: Start> Caller<F, S> {
+    /// Makes the caller's first so many calls, one after the other, and gives its seat back. The file is
+    /// that of the seat. It ends with the first call that is refused: `Held`, `Memory`, `Page`. It may
+    /// wait for other workers.
+    pub fn run<R: Wait, P: Pages + Drop, K: Keyer, G: Gate>(
+        self,
+        rt: &R,
+        file: &LiveFile<P, K, F>,
+        calls: u32,
+        gate: &G,
+    ) -> Result<Seat<F>, StormFault>
+        ensures { IfOk result (IsServed calls) }
+    {
+        let Caller { mut seat, mut copy } = self;
+        let client = seat.diary().client();
+        for done in 0..calls {
+            let call = storm_call(client, done + 1);
+            file.ask(rt, &mut seat, &mut copy, &call, gate)?;
+        }
+        Ok(seat)
+    }
+}

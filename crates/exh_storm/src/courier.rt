@@ -1,0 +1,50 @@
+ghost use Rattle.std.specs.Prelude.{◌≡◌, ◌≤◌, ◌^◌, length};
+ghost use Rattle.exh_prefix.specs.declared.prefix.TheConstants.{WARD_BITS_LIMIT};
+
+use crate::{OpenCopy, StormFault};
+use exh_copy::Start;
+use exh_frames::Pages;
+use exh_keyer::Keyer;
+use exh_live::{Cursors, Identity, LiveFile};
+use exh_table::Table;
+use exh_walk::Gate;
+use std::alloc::Global;
+use std::sync::Wait;
+
+/// As which client the courier to a copy asks the gate: this and the copy's number, from 1 on.
+pub const COURIER_CLIENT: u32 = 65_600;
+
+/// A courier of a storm, which carries the notices of all wards to one copy of the directory, by the
+/// copy's number. The copy is that of a new file.
+#[derive(Drop)]
+pub struct Courier<'a, R: Wait, S: Start> {
+    pub number: u8,
+    pub copy: OpenCopy<'a, R, S>,
+}
+
+impl<R: Wait, S: Start> Courier<'_, R, S> {
+    /// Makes so many rounds to its copy, from a new file's places on. The file has 2^`ward_bits` wards.
+    /// Before each round it asks the gate, as the client of its copy, at turns 1, 2, .. Refused: `Held`
+    /// where the gate says no, `Memory`. It may wait for other workers.
+    #[tactic(auto, using(crate::proofs::Carried::same_places))]
+    pub fn run<P: Pages + Drop, K: Keyer, F: Identity, G: Gate>(
+        &mut self,
+        alloc: Global,
+        file: &LiveFile<P, K, F>,
+        ward_bits: u8,
+        rounds: u32,
+        gate: &G,
+    ) -> Result<(), StormFault>
+        requires limit { ward_bits ≤ WARD_BITS_LIMIT }
+        requires bits { ward_bits ≡ file.now.ward_bits }
+    {
+        let mut cursors = Cursors::new(alloc, ward_bits, &Table::new(alloc))?;
+        for done in 0..rounds {
+            if !gate.pass(COURIER_CLIENT + u32::from(self.number), done + 1) {
+                return Err(StormFault::Held);
+            }
+            file.courier_round(self.copy.rt, &mut self.copy.writer, &mut cursors)?;
+        }
+        Ok(())
+    }
+}

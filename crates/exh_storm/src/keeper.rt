@@ -1,0 +1,42 @@
+ghost use Rattle.std.specs.Prelude.{◌^◌, ◌<◌};
+
+use crate::StormFault;
+use exh_frames::Pages;
+use exh_keyer::Keyer;
+use exh_live::{Identity, LiveFile};
+use exh_walk::Gate;
+use std::sync::Wait;
+
+/// As which client the keeper of ward 0 asks the gate; that of ward n asks n further on.
+pub const KEEPER_CLIENT: u32 = 65_536;
+
+/// A keeper of a storm, which merges the sparse pages of one ward.
+#[derive(Clone, Copy, Debug)]
+pub struct Keeper {
+    pub ward: u8,
+}
+
+impl Keeper {
+    /// Makes so many rounds over its ward, which is one of the file. Before each it asks the gate, as the
+    /// client of its ward, at turns 1, 2, .. Refused, with the merges made kept: `Held` where the gate
+    /// says no, `Memory`, `Page`. It may wait for other workers.
+    pub fn run<R: Wait, P: Pages + Drop, K: Keyer, F: Identity, G: Gate>(
+        self,
+        rt: &R,
+        file: &LiveFile<P, K, F>,
+        rounds: u32,
+        gate: &G,
+    ) -> Result<(), StormFault>
+        requires { self.ward < 2 ^ file.now.ward_bits }
+    {
+        for done in 0..rounds {
+            if !gate.pass(KEEPER_CLIENT + u32::from(self.ward), done + 1) {
+                return Err(StormFault::Held);
+            }
+            if let Err(fault) = file.keeper_round(rt, self.ward) {
+                return Err(StormFault::of_round(fault));
+            }
+        }
+        Ok(())
+    }
+}
