@@ -1,5 +1,5 @@
 -- Rounds: why sparse pages aren't merged, and notices that are taken one by one and ward by ward.
-use Rattle.std.proofs.Common.{◌≡◌, ◌⊎◌, ℕ, ◌+◌, ◌*◌, ◌<◌, ◌≤◌, Bool, true, false, List, [], ◌∷◌, ◌++◌, append-nil, append_assoc, length, take, get_or, Option, Some, None, Result, Ok, Err, IfOk, inl, inr, refl, sym, ap, ◌∙◌, subst, arith}
+use Rattle.std.proofs.Common.{◌≡◌, ℕ, ◌+◌, ◌*◌, ◌<◌, ◌≤◌, Bool, true, false, List, [], ◌∷◌, ◌++◌, append-nil, append_assoc, length, take, get_or, Some, None, Result, Ok, Err, IfOk, inl, inr, refl, sym, ap, ◌∙◌, subst, arith}
 use Rattle.std.proofs.lemmas.Bool.{false≢true}
 use Rattle.std.proofs.lemmas.List.{length-take-le, length_push, same_from_push, take_more}
 use Rattle.std.proofs.lemmas.Option.{slice_get_within}
@@ -7,14 +7,13 @@ use Rattle.exh_prefix.specs.ListLemmas.{one_there}
 use Rattle.exh_notice.specs.declared.notice.Notice.{Notice}
 use Rattle.exh_page.specs.declared.page.Page.{Page as PageType}
 use Rattle.exh_page.specs.declared.page.Page.TheVariants.{Live, Forward}
-use Rattle.exh_page.specs.declared.record.Record.{Record}
 use Rattle.exh_ward.specs.BuddySum.{HasBuddySum, IsBuddySum}
 use Rattle.exh_ward.specs.MergeStep.{IsBuddy, IsMergeStep}
 use Rattle.exh_ward.specs.WardFault.{CountsFailures, MergeRefused}
-use Rattle.exh_ward.specs.WardState.{WardState, IsUnchanged, own_prefix}
+use Rattle.exh_ward.specs.WardState.{WardState, IsUnchanged}
 use Rattle.exh_ward.specs.declared.ward_fault.WardFault.{WardFault}
 use Rattle.exh_ward.specs.declared.ward_fault.WardFault.TheVariants.{NoPage, NotLive, NotFull, AtLimit, NoBuddy, BuddySplit, TooMany, Worn, Memory, Page}
-use Rattle.exh_live.specs.Rounds.{AreCarried, AreFromTo, AreSparse, IsKeeperTurn, MayRefuseKeeper}
+use Rattle.exh_live.specs.Rounds.{AreCarried, AreFromTo, IsKeeperTurn, MayRefuseKeeper}
 
 -- ---- keepers
 

@@ -1,4 +1,4 @@
-ghost use Rattle.std.specs.Prelude.{◌≡◌, ◌+◌, ◌<◌, ◌^◌, [], ◌∷◌, ◌++◌, IfOk, OnErr};
+ghost use Rattle.std.specs.Prelude.{◌≡◌, ◌+◌, [], ◌∷◌, ◌++◌, IfOk, OnErr};
 ghost use Rattle.exh_calls.specs.Call.{key_of};
 ghost use Rattle.exh_copy.specs.Additions.{BeginsWith};
 ghost use Rattle.exh_live.specs.Units.{units_of};

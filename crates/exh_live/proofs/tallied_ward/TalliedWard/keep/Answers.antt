@@ -1,4 +1,4 @@
-use Rattle.std.proofs.Common.{◌≡◌, ◌+◌, ◌*◌, ◌<◌, ◌≤◌, ◌∙◌, None, Some, ap, subst, arith}
+use Rattle.std.proofs.Common.{ap, subst, arith}
 use Rattle.exh_ward.specs.BuddySum.{IsBuddySum}
 use Rattle.exh_ward.specs.WardState.{WardState}
 use Rattle.exh_live.proofs.Rounds.{kept_alone, kept_full, kept_merged, kept_refused, refused_sparse}
