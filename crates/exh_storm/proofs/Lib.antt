@@ -1,4 +1,5 @@
 mod Calls
 mod Carried
 mod Each
+mod Sums
 mod Tables

@@ -1,3 +1,4 @@
+pub mod Refusals
 pub mod StormCalls
 pub mod StormConfig
 pub mod StormFault

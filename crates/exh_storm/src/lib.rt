@@ -9,11 +9,16 @@ pub use courier::{COURIER_CLIENT, Courier};
 pub use fault::StormFault;
 pub use keeper::{KEEPER_CLIENT, Keeper};
 pub use open_copy::OpenCopy;
+pub use run::storm;
 
 mod call;
 mod caller;
 mod config;
 mod courier;
 mod fault;
+mod file;
 mod keeper;
 mod open_copy;
+mod run;
+mod threads;
+mod workers;

@@ -1,0 +1,25 @@
+use Rattle.std.proofs.Common.{◌≡◌, length, IfOk, ap, arith}
+use Rattle.std.proofs.lemmas.List.Elements.{All-push, All-rest, All-same}
+use Rattle.std.specs.Vec.Iter.{into_iter_items}
+use Rattle.exh_storm.proofs.Sums.{IsAnswered}
+use Rattle.exh_storm.proofs.threads.join_callers.Goals as goal
+
+pub loop-thread-preserved-in-Continue-branch-3 : goal.loop-thread-preserved-in-Continue-branch-3
+loop-thread-preserved-in-Continue-branch-3 g c =
+    let step = c.in-Some.ensures.steps in
+    let was = c.loop-thread.invariant in
+    record {
+      len = omega (arith, was.len, step.1, ap length step.0);
+      left = All-rest (λ thread. IfOk thread (λ handle. handle.promise.calls ≡ c.args.calls)) c.in-Some.thread (into_iter_items c.next.new.self) (into_iter_items c.loop-thread.thread-iterator) step.0 was.left;
+      seats = All-same (IsAnswered c.args.calls) c.push.new.self.items _ c.in_ok-push-in-Ok.ensures.items (All-push (IsAnswered c.args.calls) c.loop-thread.seats.items c.in-Ok.seat was.seats c.in-Ok.ensures);
+    }
+
+pub loop-thread-preserved : goal.loop-thread-preserved
+loop-thread-preserved g c =
+    let step = c.in-Some.ensures.steps in
+    let was = c.loop-thread.invariant in
+    record {
+      len = omega (arith, was.len, step.1, ap length step.0);
+      left = All-rest (λ thread. IfOk thread (λ handle. handle.promise.calls ≡ c.args.calls)) c.in-Some.thread (into_iter_items c.next.new.self) (into_iter_items c.loop-thread.thread-iterator) step.0 was.left;
+      seats = was.seats;
+    }

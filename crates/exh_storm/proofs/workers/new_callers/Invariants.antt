@@ -1,0 +1,10 @@
+use Rattle.std.proofs.Common.{◌≡◌, ◌<◌, length}
+use Rattle.exh_storm.proofs.workers.new_callers.Given as goal
+
+-- there are readers, and a seat for each caller so far
+abbrev pub invariant-loop-at : goal.invariant-loop-at
+invariant-loop-at g l = record {
+  some : 0 < length l.readers.items;
+  bits : l.file.ward_bits ≡ l.fn.file.ward_bits;
+  seats : l.file.seats ≡ l.at;
+}

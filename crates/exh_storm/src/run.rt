@@ -1,0 +1,113 @@
+ghost use Rattle.std.specs.Prelude.{◌≡◌, ◌≤◌, ◌*◌, length, All, IfOk, OnOk};
+ghost use Rattle.std.specs.FinMap as map;
+ghost use Rattle.exh_keyer.specs.Pseudokey.{sha_pseudokey};
+ghost use Rattle.exh_live.specs.declared.ledgers.TheConstants.{ANSWER_PARTS, ENTRY_PARTS};
+ghost use Rattle.exh_storm.specs.StormConfig.{IsStormConfig};
+
+use crate::file::{StormFile, new_file, settled};
+use crate::threads::{Rounds, run_all};
+use crate::workers::new_workers;
+use crate::{StormConfig, StormFault};
+use exh_copy::Start;
+use exh_live::{ANSWER_PARTS, ENTRY_PARTS, Identity, Seat};
+use exh_walk::Gate;
+use std::alloc::Global;
+use std::marker::Brand;
+use std::sync::Wait;
+use std::sync::ledger::Blank;
+use std::thread::Threads;
+
+/// Runs a storm over a new file in memory, of keyer sha, and answers how many answers were settled. Each
+/// caller makes its calls, each keeper and each courier as many rounds, all at once, each on a thread
+/// of its own; the gate is asked by each hop of a caller and before each round of a keeper and of a
+/// courier. All are joined, the file is closed, and diaries and journals are settled. Refused, with the
+/// first refusal by caller, then keeper, then courier: `Memory`, also where a thread can't be made,
+/// `Page`, `Held`; and `Seats` before, `Mismatch` after them. It may wait: for a gate that does, and for
+/// locks.
+pub fn storm<R: Threads + Wait + Sync, G: Gate + Sync>(
+    rt: &R,
+    alloc: Global,
+    config: &StormConfig,
+    gate: &G,
+) -> Result<u64, StormFault>
+    requires { IsStormConfig config.now }
+    ensures { IfOk result (λ count. count ≡ config.now.callers * config.now.calls) }
+{
+    let answers = Blank::new(ANSWER_PARTS);
+    let entries = Blank::new(ENTRY_PARTS);
+    storm_of::<R, G, Brand, Brand>(rt, alloc, config, gate, answers, entries)
+}
+
+// A storm over a file and copies of these names.
+fn storm_of<
+    R: Threads + Wait + Sync,
+    G: Gate + Sync,
+    F: Identity + Send + Sync,
+    S: Start + Send + Sync,
+>(
+    rt: &R,
+    alloc: Global,
+    config: &StormConfig,
+    gate: &G,
+    answers: Blank,
+    entries: Blank,
+) -> Result<u64, StormFault>
+    requires config { IsStormConfig config.now }
+    requires answers { (answers.name ≡ F.answers) × (answers.parts ≡ ANSWER_PARTS) }
+    requires entries { (entries.name ≡ F.entries) × (entries.parts ≡ ENTRY_PARTS) }
+    requires hashed { F.hashing ≡ sha_pseudokey }
+    requires bits { S.ward_bits ≡ config.now.ward_bits }
+    requires table { S.table ≡ map.empty }
+    ensures { IfOk result (λ count. count ≡ config.now.callers * config.now.calls) }
+{
+    let mut file = new_file::<F>(alloc, config, answers, entries)?;
+    match serve::<R, G, F, S>(rt, alloc, config, gate, &mut file) {
+        Ok(seats) => close(config, file, seats),
+        Err(fault) => Err(fault),
+    }
+}
+
+// Runs all workers over a file that has given no seat, and gives the callers' seats.
+fn serve<
+    R: Threads + Wait + Sync,
+    G: Gate + Sync,
+    F: Identity + Send + Sync,
+    S: Start + Send + Sync,
+>(
+    rt: &R,
+    alloc: Global,
+    config: &StormConfig,
+    gate: &G,
+    file: &mut StormFile<F>,
+) -> Result<Vec<Seat<F>>, StormFault>
+    requires config { IsStormConfig config.now }
+    requires bits { S.ward_bits ≡ config.now.ward_bits }
+    requires table { S.table ≡ map.empty }
+    requires file { (file.old.ward_bits ≡ config.now.ward_bits) × (file.old.seats ≡ 0) }
+    ensures seats { OnOk result (file.new.seats ≡ config.now.callers) }
+    ensures served { IfOk result (λ seats. All (λ seat. length seat.entries ≡ config.now.calls) seats.items) }
+{
+    let workers = new_workers::<R, F, S>(rt, alloc, config, file)?;
+    let rounds = Rounds {
+        count: config.calls,
+        ward_bits: config.ward_bits,
+    };
+    run_all(rt, alloc, file, workers, rounds, gate)
+}
+
+// Closes the file, with the seats of all its callers, and settles what it leaves.
+fn close<F: Identity>(
+    config: &StormConfig,
+    file: StormFile<F>,
+    seats: Vec<Seat<F>>,
+) -> Result<u64, StormFault>
+    requires config { IsStormConfig config.now }
+    requires seats { file.seats ≡ config.now.callers }
+    requires served { All (λ seat. length seat.entries ≡ config.now.calls) seats.items }
+    ensures { IfOk result (λ count. count ≡ config.now.callers * config.now.calls) }
+{
+    match file.close(seats) {
+        Ok(closed) => settled(config, closed.wards.as_slice(), closed.diaries.as_slice()),
+        Err(back) => Err(back.fault.into()),
+    }
+}
