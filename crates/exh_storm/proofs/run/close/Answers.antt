@@ -1,4 +1,4 @@
-use Rattle.std.proofs.Common.{◌≡◌, ◌*◌, ap, ◌∙◌}
+use Rattle.std.proofs.Common.{◌*◌, ap, ◌∙◌}
 use Rattle.exh_settle.specs.Settled.{answer_count}
 use Rattle.exh_storm.proofs.Sums.{answered, counted, few_answered}
 use Rattle.exh_storm.proofs.run.close.Goals as goal
