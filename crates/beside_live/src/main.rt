@@ -7,11 +7,19 @@
 
 ghost use Rattle.std.specs.Prelude.{◌≡◌, ⊤};
 
+mod carried;
 mod closing;
+mod courier;
+mod half;
+mod keeper;
+mod one_ward;
+mod replies;
+mod three_keys;
 mod told_copy;
 
-use exh_callers::Reader;
-use exh_copy::{CopyWriter, NewCopyFault, new_copy};
+use crate::one_ward::OneWard;
+use exh_callers::{Reader, Writer};
+use exh_copy::{NewCopyFault, new_copy};
 use exh_runs::{Difference, Part, Run, RunKind, again, run_program};
 use exh_table::Table;
 use std::alloc::AllocError;
@@ -24,10 +32,33 @@ const READERS: u16 = 4;
 
 #[derive(Clone, Copy)]
 enum Story {
-    /// Copies that are told of a split, of nothing, and of a page that isn't there.
-    ToldCopy,
+    /// Of a new file of one ward.
+    OneWard(OneWard),
     /// Closing, and settling.
     Closing,
+}
+
+// All of them, in the order in which they are played.
+const STORIES: [Story; 6] = [
+    Story::OneWard(OneWard::ToldCopy),
+    Story::Closing,
+    Story::OneWard(OneWard::Courier),
+    Story::OneWard(OneWard::Keeper),
+    Story::OneWard(OneWard::EvenHalf),
+    Story::OneWard(OneWard::OddHalf),
+];
+
+impl Story {
+    fn name(self) -> &'static str {
+        match self {
+            Story::OneWard(OneWard::ToldCopy) => "told-copy",
+            Story::OneWard(OneWard::Courier) => "courier",
+            Story::OneWard(OneWard::Keeper) => "keeper",
+            Story::OneWard(OneWard::EvenHalf) => "even-half",
+            Story::OneWard(OneWard::OddHalf) => "odd-half",
+            Story::Closing => "closing",
+        }
+    }
 }
 
 /// A story, with the handle of a program that may wait.
@@ -50,10 +81,7 @@ impl<R: Wait> Copy for Told<'_, R> {}
 
 impl<R: Wait> RunKind for Told<'_, R> {
     fn name(self) -> &'static str {
-        match self.story {
-            Story::ToldCopy => "told-copy",
-            Story::Closing => "closing",
-        }
+        self.story.name()
     }
 
     fn take_steps(self, run: &mut Run) -> Result<(), Difference> {
@@ -81,24 +109,17 @@ fn play<R: Wait>(
     rt: &R,
     story: Story,
     run: &mut Run,
-    writer: &mut CopyWriter<Brand>,
+    writer: &mut Writer,
     readers: Vec<Reader>,
 ) -> Result<(), Difference> {
     let mut copies = readers;
     match story {
-        Story::ToldCopy => told_copy::run(rt, run, writer, &mut copies),
+        Story::OneWard(story) => one_ward::run(rt, run, story, writer, &mut copies),
         Story::Closing => closing::run(rt, run, &mut copies),
     }
 }
 
 fn main(rt: HostRuntime) -> ExitCode {
-    let told_copy = Told {
-        rt: &rt,
-        story: Story::ToldCopy,
-    };
-    let closing = Told {
-        rt: &rt,
-        story: Story::Closing,
-    };
-    run_program(&rt, "beside_live", &[told_copy, closing])
+    let told = STORIES.map(|story| Told { rt: &rt, story });
+    run_program(&rt, "beside_live", &told)
 }

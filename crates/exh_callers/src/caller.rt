@@ -1,4 +1,5 @@
 //! Callers of a live file.
+ghost use Rattle.std.specs.Prelude.{◌≡◌};
 
 use exh_calls::{Call, Reply};
 use exh_copy::CopyReader;
@@ -28,7 +29,9 @@ pub struct Caller<F: Identity> {
 pub fn next_caller<P: Pages + Drop, F: Identity>(
     file: &mut File<P, F>,
     copies: &mut Vec<Reader>,
-) -> Result<Caller<F>, Difference> {
+) -> Result<Caller<F>, Difference>
+    ensures { file.new.ward_bits ≡ file.old.ward_bits }
+{
     let Some(copy) = copies.pop() else {
         return Err(Difference::Apart(Part::Run));
     };

@@ -78,6 +78,7 @@ pub fn new_file<F: Identity>(
     requires answers { (answers.name ≡ F.answers) × (answers.parts ≡ ANSWER_PARTS) }
     requires entries { (entries.name ≡ F.entries) × (entries.parts ≡ ENTRY_PARTS) }
     requires hashed { F.hashing ≡ plain_pseudokey }
+    ensures { IfOk result (λ file. file.ward_bits ≡ ward_bits) }
 {
     let keyer = PlainKeyer;
     let wards = new_wards(alloc, keyer, cap, ward_bits)?;

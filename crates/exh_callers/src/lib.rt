@@ -1,9 +1,12 @@
 //! What stories of live files are made of: new files and their callers, the calls that these ask, and
-//! what the files leave. A call or a close that is refused memory is asked once more.
+//! what the files leave; rounds of their keepers and couriers. What is refused memory is asked once
+//! more.
 #![tactic(auto)]
 
 pub use caller::{Caller, File, PlainFile, Reader, ask, is_held, is_told, next_caller};
 pub use files::{CAP, PlainWard, close, new_file, new_wards, settled};
+pub use rounds::{Writer, is_carried, is_kept, keep};
 
 mod caller;
 mod files;
+mod rounds;
