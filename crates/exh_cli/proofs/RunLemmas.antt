@@ -1,5 +1,5 @@
 -- What a run printed, from what the server and the last line printed.
-use Rattle.std.proofs.Common.{ℕ, List, [], Option, Result, Ok, Err, OnErr, refl, sym, subst, inl, inr}
+use Rattle.std.proofs.Common.{ℕ, List, [], Option, Result, Ok, Err, OnErr, ◌≢◌, ◌∙◌, refl, sym, subst, inl, inr}
 use Rattle.std.specs.Prelude.{◌≡◌, ◌⊎◌, IsErr, IsErrAnd}
 use Rattle.std.specs.Io.KnownBytes.{Appends}
 use Rattle.std.proofs.KnownBytes.{Appends-trans}
@@ -48,6 +48,10 @@ module _ (begin : Beginning) where
       → RunPrints begin old new unread (Err Write) → RunPrints begin old new unread outcome
   write_fault old new unread (Ok left) is printed = absurd is.1
   write_fault old new unread (Err fault) is printed = subst (λ f. RunPrints begin old new unread (Err f)) (sym is.1) printed
+
+-- want of memory isn't the writer's fault
+pub memory_differs : (fault : ServeFault) → fault ≡ Memory → fault ≢ Write
+memory_differs fault is = λ same. let never : Memory ≡ Write = sym is ∙ same in cc
 
 -- ---- a run about a file
 

@@ -7,7 +7,7 @@ use Rattle.exh_open.specs.Opened.{OpenedState}
 use Rattle.exh_script.specs.Text.{Beginning}
 use Rattle.exh_serve.specs.Served.{PrintsLines, PrintsText, PrintsUnread, PrintsWhole, unread_text}
 use Rattle.exh_serve.specs.declared.serve_fault.ServeFault.{ServeFault}
-use Rattle.exh_serve.specs.declared.serve_fault.ServeFault.TheVariants.{Write, Memory}
+use Rattle.exh_serve.specs.declared.serve_fault.ServeFault.TheVariants.{Write, Memory, Page}
 use Rattle.exh_cli.specs.Status.{run_status}
 use Rattle.exh_cli.specs.declared.run.Ending.{Ending}
 use Rattle.exh_cli.specs.declared.run.Ending.TheVariants.{Over, Save}
@@ -21,10 +21,12 @@ memory_line = codes "refused 10" ++ 10 ∷ []
 -- known, and of a reader that had `unread` bytes left.
 module _ (begin : Beginning) (old new unread : Option (List ℕ)) where
   -- what was printed: the script's text, or the line of a reader that failed; after want of memory the text of a beginning
-  -- of the script's lines, and the last line; after a fault of the writer a beginning of one of these
+  -- of the script's lines, and the last line; after a fault of the writer a beginning of one of these; a page out of reach
+  -- ends it with the text of a beginning of the lines
   abbrev pub RunPrints : Result (Option OpenedState) ServeFault → Type 0
   RunPrints (Ok left) = PrintsWhole begin (Appends old new) unread left ⊎ PrintsUnread (Appends old new) left
   RunPrints (Err Memory) = PrintsLines begin (λ text. Appends old new (text ++ memory_line)) unread
+  RunPrints (Err Page) = PrintsLines begin (Appends old new) unread
   RunPrints (Err Write) = (PrintsText begin (AppendsBeginning old new) unread ⊎ AppendsBeginning old new unread_text)
       ⊎ PrintsLines begin (λ text. AppendsBeginning old new (text ++ memory_line)) unread
 

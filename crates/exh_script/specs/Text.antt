@@ -6,6 +6,7 @@ use Rattle.exh_text.specs.Lines.{lines_of}
 use Rattle.exh_text.specs.declared.line_fault.LineFault.{LineFault}
 use Rattle.exh_text.specs.declared.line_fault.LineFault.TheVariants.{Syntax}
 use Rattle.exh_world.specs.NewWorld.{new_world}
+use Rattle.exh_world.specs.Step.{CountsFailure}
 use Rattle.exh_world.specs.StepFunction.{result_of, world_after}
 use Rattle.exh_world.specs.World.{WorldState}
 use Rattle.exh_world.specs.declared.config.Config.{Config}
@@ -71,6 +72,10 @@ response_text (Shown text) = text
 abbrev pub text_from : Bool → ScriptWorld → List (List ℕ) → List ℕ
 text_from tells_moves world [] = []
 text_from tells_moves world (line ∷ lines) = response_text (line_response tells_moves world line) ++ text_from tells_moves (after_line world line) lines
+
+-- a line that met a page out of reach has no response: a ward of the world has counted that, and nothing else differs
+abbrev pub CountsPageFault : ScriptWorld → ScriptWorld → Type 0
+CountsPageFault old new = (number : ℕ) × CountsFailure old number new
 
 -- ---- the first line
 

@@ -1,9 +1,9 @@
-ghost use Rattle.std.specs.Prelude.{◌≡◌, ◌++◌, OnOk, IfOk, OnErr};
+ghost use Rattle.std.specs.Prelude.{◌≡◌, ◌⊎◌, ◌++◌, OnOk, IfOk, IsErrOf};
 ghost use Rattle.exh_keyer.specs.Pseudokey.{any_pseudokey};
 ghost use Rattle.exh_world.specs.Sound.{IsSoundWorld};
 ghost use Rattle.exh_world.specs.StepFunction.{result_of, world_after};
 ghost use Rattle.exh_script.specs.Answer.{step_answer};
-ghost use Rattle.exh_script.specs.Text.{after_asked, after_line, line_response, response_text, response_to, view_response};
+ghost use Rattle.exh_script.specs.Text.{CountsPageFault, after_asked, after_line, line_response, response_text, response_to, view_response};
 ghost use Rattle.exh_script.specs.View.{view_result};
 ghost use Rattle.exh_script.specs.declared.line.Line.TheVariants.{Step};
 ghost use Rattle.exh_script.specs.declared.view.View.TheVariants.{Copy, Page};
@@ -11,81 +11,103 @@ ghost use Rattle.exh_script.specs.declared.view.View.TheVariants.{Copy, Page};
 use crate::answer_text::{push_answer, push_refusal};
 use crate::line::parse_line;
 use crate::view_text::{push_in_flight, push_page, push_shown};
-use crate::{Answer, Line, Run, View};
-use exh_frames::PlainPages;
+use crate::{Answer, Line, ResponseFault, Run, View};
+use exh_frames::Pages;
 use exh_keyer::AnyKeyer;
 use exh_prefix::PageNo;
 use exh_ward::WardFault;
-use exh_world::{Event, StepFault, World, steps_are_computed};
+use exh_world::{Event, StepFault, World, page_faults_are_counted, steps_are_computed};
 use std::alloc::AllocError;
 
-/// Does what a line after the first asks, as it stands in the script, and adds what it prints. `Err` comes for memory
-/// alone.
+/// Does what a line after the first asks, as it stands in the script, and adds what it prints.
+///
+/// `Memory`: a growth was refused, and the world is as before the line or as after it. `Page`: a page couldn't be
+/// reached; then nothing was added, and the world is as before, but that a ward has counted that, so that a caller may
+/// go on.
 #[tactic(auto, unfolding(crate::specs::Text::line_response, crate::specs::Text::after_line))]
-pub fn push_response(out: &mut Vec<u8>, run: &mut Run, line: &[u8]) -> Result<(), AllocError>
+pub fn push_response<P: Pages + Drop>(
+    out: &mut Vec<u8>,
+    run: &mut Run<P>,
+    line: &[u8],
+) -> Result<(), ResponseFault>
     requires { IsSoundWorld any_pseudokey run.old.world }
     ensures text { OnOk result (out.new.items ≡ out.old.items ++ response_text (line_response run.old.tells_moves run.old.world line.now)) }
     ensures world { OnOk result (run.new.world ≡ after_line run.old.world line.now) }
     ensures sound { IsSoundWorld any_pseudokey run.new.world }
     ensures telling { run.new.tells_moves ≡ run.old.tells_moves }
+    ensures silent { IsErrOf result ResponseFault.Page → out.new.items ≡ out.old.items }
+    ensures counted { IsErrOf result ResponseFault.Page → CountsPageFault run.old.world run.new.world }
+    ensures memory { IsErrOf result ResponseFault.Memory → (run.new.world ≡ run.old.world) ⊎ (run.new.world ≡ after_line run.old.world line.now) }
 {
     match parse_line(line) {
         Ok(Line::Step(event)) => push_event(out, run, &event),
         Ok(Line::View(view)) => push_view(out, &mut run.world, view),
-        Err(fault) => push_refusal(out, fault.into()),
+        Err(fault) => Ok(push_refusal(out, fault.into())?),
     }
 }
 
-fn push_event(out: &mut Vec<u8>, run: &mut Run, event: &Event) -> Result<(), AllocError>
+fn push_event<P: Pages + Drop>(
+    out: &mut Vec<u8>,
+    run: &mut Run<P>,
+    event: &Event,
+) -> Result<(), ResponseFault>
     requires { IsSoundWorld any_pseudokey run.old.world }
     ensures text { OnOk result (out.new.items ≡ out.old.items ++ response_text (response_to run.old.tells_moves run.old.world (Step event.now))) }
     ensures world { OnOk result (run.new.world ≡ after_asked run.old.world (Step event.now)) }
     ensures sound { IsSoundWorld any_pseudokey run.new.world }
     ensures telling { run.new.tells_moves ≡ run.old.tells_moves }
+    ensures silent { IsErrOf result ResponseFault.Page → out.new.items ≡ out.old.items }
+    ensures counted { IsErrOf result ResponseFault.Page → CountsPageFault run.old.world run.new.world }
+    ensures memory { IsErrOf result ResponseFault.Memory → (run.new.world ≡ run.old.world) ⊎ (run.new.world ≡ after_asked run.old.world (Step event.now)) }
 {
-    match answer_event(run, event) {
-        Ok(answer) => push_answer(out, &answer),
-        Err(error) => Err(error),
-    }
+    let answer = answer_event(run, event)?;
+    Ok(push_answer(out, &answer)?)
 }
 
-// A step that is refused for want of memory has no answer. Pages in memory are never out of reach.
-fn answer_event(run: &mut Run, event: &Event) -> Result<Answer, AllocError>
+// A step that is refused for want of memory, or for a page out of reach, has no answer.
+fn answer_event<P: Pages + Drop>(run: &mut Run<P>, event: &Event) -> Result<Answer, ResponseFault>
     requires { IsSoundWorld any_pseudokey run.old.world }
     ensures answer { IfOk result (λ answer. answer ≡ step_answer run.old.tells_moves event.now (result_of any_pseudokey run.old.world event.now)) }
     ensures world { OnOk result (run.new.world ≡ world_after any_pseudokey run.old.world event.now) }
     ensures sound { IsSoundWorld any_pseudokey run.new.world }
     ensures telling { run.new.tells_moves ≡ run.old.tells_moves }
+    ensures counted { IsErrOf result ResponseFault.Page → CountsPageFault run.old.world run.new.world }
+    ensures memory { IsErrOf result ResponseFault.Memory → run.new.world ≡ run.old.world }
 {
     steps_are_computed::<AnyKeyer>();
+    page_faults_are_counted::<AnyKeyer>();
     match run.world.step(event) {
         Ok(outcome) => Ok(Answer::of_outcome(event, &outcome, run.tells_moves)),
-        Err(StepFault::Ward(WardFault::Memory | WardFault::Page)) => Err(AllocError),
+        Err(StepFault::Ward(WardFault::Memory)) => Err(ResponseFault::Memory),
+        Err(StepFault::Ward(WardFault::Page)) => Err(ResponseFault::Page),
         Err(fault) => Ok(Answer::Refused(fault.into())),
     }
 }
 
 // A view, or its refusal, and the world as it was.
-fn push_view(
+fn push_view<P: Pages + Drop>(
     out: &mut Vec<u8>,
-    world: &mut World<PlainPages, AnyKeyer>,
+    world: &mut World<P, AnyKeyer>,
     view: View,
-) -> Result<(), AllocError>
+) -> Result<(), ResponseFault>
     requires { IsSoundWorld any_pseudokey world.old }
     ensures text { OnOk result (out.new.items ≡ out.old.items ++ response_text (view_response (view_result world.old view))) }
     ensures world { OnOk result (world.new ≡ world.old) }
     ensures sound { IsSoundWorld any_pseudokey world.new }
+    ensures silent { IsErrOf result ResponseFault.Page → out.new.items ≡ out.old.items }
+    ensures counted { IsErrOf result ResponseFault.Page → CountsPageFault world.old world.new }
+    ensures memory { IsErrOf result ResponseFault.Memory → world.new ≡ world.old }
 {
     match view {
-        View::Copy { copy } => push_copy_shown(out, world, copy),
+        View::Copy { copy } => Ok(push_copy_shown(out, world, copy)?),
         View::Page { ward, page } => push_page_shown(out, world, ward, page),
-        View::InFlight => push_in_flight(out, world),
+        View::InFlight => Ok(push_in_flight(out, world)?),
     }
 }
 
-fn push_copy_shown(
+fn push_copy_shown<P: Pages + Drop>(
     out: &mut Vec<u8>,
-    world: &World<PlainPages, AnyKeyer>,
+    world: &World<P, AnyKeyer>,
     copy: u32,
 ) -> Result<(), AllocError>
     ensures { OnOk result (out.new.items ≡ out.old.items ++ response_text (view_response (view_result world.now (Copy copy)))) }
@@ -96,19 +118,23 @@ fn push_copy_shown(
     }
 }
 
-fn push_page_shown(
+fn push_page_shown<P: Pages + Drop>(
     out: &mut Vec<u8>,
-    world: &mut World<PlainPages, AnyKeyer>,
+    world: &mut World<P, AnyKeyer>,
     ward: u32,
     page: PageNo,
-) -> Result<(), AllocError>
+) -> Result<(), ResponseFault>
     ensures text { OnOk result (out.new.items ≡ out.old.items ++ response_text (view_response (view_result world.old (Page ward page)))) }
     ensures same { OnOk result (world.new ≡ world.old) }
     ensures sound { IsSoundWorld any_pseudokey world.new }
+    ensures silent { IsErrOf result ResponseFault.Page → out.new.items ≡ out.old.items }
+    ensures counted { IsErrOf result ResponseFault.Page → CountsPageFault world.old world.new }
+    ensures memory { IsErrOf result ResponseFault.Memory → world.new ≡ world.old }
 {
     match world.page_line(ward, page) {
-        Ok(line) => push_page(out, ward, page, &line),
-        Err(StepFault::Ward(WardFault::Memory | WardFault::Page)) => Err(AllocError),
-        Err(fault) => push_refusal(out, fault.into()),
+        Ok(line) => Ok(push_page(out, ward, page, &line)?),
+        Err(StepFault::Ward(WardFault::Memory)) => Err(ResponseFault::Memory),
+        Err(StepFault::Ward(WardFault::Page)) => Err(ResponseFault::Page),
+        Err(fault) => Ok(push_refusal(out, fault.into())?),
     }
 }

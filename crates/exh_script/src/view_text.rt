@@ -8,7 +8,7 @@ ghost use Rattle.exh_script.specs.View.{entry_line, in_flight_text, leaf_line, p
 
 use crate::answer_text::{push_copy, push_request};
 use exh_array::Directory;
-use exh_frames::PlainPages;
+use exh_frames::Pages;
 use exh_keyer::AnyKeyer;
 use exh_prefix::{PageNo, ward_number};
 use exh_table::Table;
@@ -87,9 +87,9 @@ pub(crate) fn push_page(
 }
 
 /// Adds the number of the requests in flight, and a line for each, in the order begun.
-pub(crate) fn push_in_flight(
+pub(crate) fn push_in_flight<P: Pages + Drop>(
     out: &mut Vec<u8>,
-    world: &World<PlainPages, AnyKeyer>,
+    world: &World<P, AnyKeyer>,
 ) -> Result<(), AllocError>
     ensures { OnOk result (out.new.items ≡ out.old.items ++ in_flight_text world.now.in_flight) }
 {
@@ -99,7 +99,10 @@ pub(crate) fn push_in_flight(
     push_requests(out, world)
 }
 
-fn push_requests(out: &mut Vec<u8>, world: &World<PlainPages, AnyKeyer>) -> Result<(), AllocError>
+fn push_requests<P: Pages + Drop>(
+    out: &mut Vec<u8>,
+    world: &World<P, AnyKeyer>,
+) -> Result<(), AllocError>
     ensures { OnOk result (out.new.items ≡ out.old.items ++ flat_map request_line world.now.in_flight) }
 {
     for (name, request) in world.in_flight() {

@@ -1,26 +1,51 @@
 -- What is printed of a script, and of a reader that failed.
-use Rattle.std.proofs.Common.{◌≡◌, ℕ, ◌<◌, ◌≤◌, List, [], ◌∷◌, length, Option, Some, None, IfSome, Bool, true, false, cond, leb, IsFalse, Result, Ok, Err, IfOk, OnOk, OnErr, refl, sym, ap, ◌∙◌, subst, append-nil, inl, inr}
-use Rattle.std.specs.Prelude.{◌⊎◌, MatchBool}
+use Rattle.std.proofs.Common.{◌≡◌, ◌≢◌, ℕ, ◌<◌, ◌≤◌, List, [], ◌∷◌, length, Option, Some, None, IfSome, Bool, true, false, cond, leb, IsFalse, Result, Ok, Err, IfOk, IfErr, OnOk, OnErr, refl, sym, ap, ◌∙◌, subst, append-nil, inl, inr}
+use Rattle.std.specs.Prelude.{◌⊎◌, IsErr, IsErrAnd, MatchBool}
 use Rattle.std.proofs.lemmas.Bool.{le-leb, lt-leb}
 use Rattle.std.specs.Io.KnownBytes.{Appends}
 use Rattle.exh_stream.specs.Output.{AppendsBeginning, Takes, TakesBeginning, WriterUntouched, held, pending}
 use Rattle.exh_stream.specs.OutputLemmas.{AppendsBeginning-from, AppendsBeginning-of_more, Takes-finished, Takes-cut, TakesBeginning-left}
 use Rattle.exh_stream.specs.declared.output.Output.{Output}
 use Rattle.exh_text.specs.Lines.{lines_of}
-use Rattle.exh_serve.specs.Served.{PrintsText, PrintsWhole, PrintsUnread, PrintsFront, PrintsLines, unread_text}
+use Rattle.exh_serve.specs.Served.{PrintsText, PrintsWhole, PrintsUnread, PrintsFront, PrintsLines, fault_of, unread_text}
 use Rattle.exh_script.specs.RefusalText.{refusal_text}
 use Rattle.exh_script.specs.Text.{Beginning, text_of_lines, text_of}
 use Rattle.exh_open.specs.Opened.{OpenedState}
 use Rattle.exh_serve.specs.Left.{left_of_lines, left_of}
 use Rattle.exh_script.specs.declared.refusal.Refusal.TheVariants.{TooLong}
+use Rattle.exh_script.specs.declared.response_fault.ResponseFault.{ResponseFault}
+use Rattle.exh_script.specs.declared.response_fault.ResponseFault.TheVariants as line
 use Rattle.exh_serve.specs.declared.serve_fault.ServeFault.{ServeFault}
-use Rattle.exh_serve.specs.declared.serve_fault.ServeFault.TheVariants.{Write, Memory}
+use Rattle.exh_serve.specs.declared.serve_fault.ServeFault.TheVariants.{Write, Memory, Page}
 use Rattle.exh_script.specs.declared.script.TheConstants.{SCRIPT_LIMIT}
 use Rattle.exh_serve.proofs.Responded.{front_begins}
 
 -- what a run leaves
 abbrev Left : Type 0
 Left = Option OpenedState
+
+-- ---- what holds of a run that was cut off, and not by its writer
+
+abbrev pub IfCut : {T : Type 0} → Result T ServeFault → Type 0 → Type 0
+IfCut result P = IfErr result (λ fault. fault ≢ Write → P)
+
+pub IfCut-from : {T P : Type 0} (result : Result T ServeFault) → P → IfCut result P
+IfCut-from (Ok value) holds = tt
+IfCut-from (Err fault) holds = λ differs. holds
+
+pub IfCut-map : {T P Q : Type 0} (result : Result T ServeFault) → (P → Q) → IfCut result P → IfCut result Q
+IfCut-map (Ok value) more holds = tt
+IfCut-map (Err fault) more holds = λ differs. more (holds differs)
+
+-- of a fault that is handed on
+pub IfCut-handed : {T P : Type 0} (result : Result T ServeFault) (fault : ServeFault) → IsErr result × IsErrAnd result (λ f. f ≡ fault) → (fault ≢ Write → P) → IfCut result P
+IfCut-handed (Ok value) fault is holds = tt
+IfCut-handed (Err other) fault is holds = λ differs. holds (λ same. differs (is.1 ∙ same))
+
+-- a line without a response isn't the writer's fault
+pub fault_differs : (fault : ResponseFault) → fault_of fault ≢ Write
+fault_differs line.Memory = λ is. cc
+fault_differs line.Page = λ is. cc
 
 -- ---- the test of the length, where it is decided
 
@@ -86,9 +111,9 @@ module _ (begin : Beginning) (P : List ℕ → Type 0) (known : Option (List ℕ
     whole_err (Ok outcome) unread text = tt
     whole_err (Err fault) unread text = by_false _ _ b is_open (whole_text text)
 
-    pub whole_memory : (unread : Type 0) → P [] ⊎ PrintsFront begin P (lines_of given) → MatchBool b unread (PrintsLines begin P known)
-    whole_memory unread (inl none) = by_false _ _ b is_open (record { script = given; read = whole_read; lines = inl none })
-    whole_memory unread (inr front) = by_false _ _ b is_open (record { script = given; read = whole_read; lines = inr (whole_fits, front) })
+    pub whole_front : (unread : Type 0) → P [] ⊎ PrintsFront begin P (lines_of given) → MatchBool b unread (PrintsLines begin P known)
+    whole_front unread (inl none) = by_false _ _ b is_open (record { script = given; read = whole_read; lines = inl none })
+    whole_front unread (inr front) = by_false _ _ b is_open (record { script = given; read = whole_read; lines = inr (whole_fits, front) })
 
   -- or too long
   module _ (front : List ℕ) (long : SCRIPT_LIMIT < length front) (had : IfSome known (λ bytes. SCRIPT_LIMIT < length bytes)) where
@@ -108,8 +133,8 @@ module _ (begin : Beginning) (P : List ℕ → Type 0) (known : Option (List ℕ
     long_err (Err fault) unread text = by_false _ _ b is_open (long_text text)
 
   -- or not, for want of memory
-  pub none_memory : (unread : Type 0) → P [] → MatchBool b unread (PrintsLines begin P known)
-  none_memory unread none = by_false _ _ b is_open (record { script = script_in known []; read = script_in_is known []; lines = inl none })
+  pub none_front : (unread : Type 0) → P [] → MatchBool b unread (PrintsLines begin P known)
+  none_front unread none = by_false _ _ b is_open (record { script = script_in known []; read = script_in_is known []; lines = inl none })
 
   pub none_text : (result : Result Left ServeFault) (unread : Type 0) → ((bytes : List ℕ) → P bytes) → OnErr result (MatchBool b unread (PrintsText begin P known))
   none_text (Ok outcome) unread none = tt
@@ -170,30 +195,30 @@ module _ (begin : Beginning) {W : Type 0} (contents : W → Option (List ℕ)) (
     finished_ok (Ok outcome) false taken =
         record { whole = record { script = taken.whole.script; read = taken.whole.read; text = written (text_of begin taken.whole.script) taken.whole.text }; left_is = taken.left_is }
 
-    pub finished_err : (result : Result Left ServeFault) (b : Bool) → (result ≡ Err Memory → MatchBool b (Taken []) (PrintsLines begin Taken known)) → (result ≡ Err Write → ⊥)
+    pub finished_err : (result : Result Left ServeFault) (b : Bool) → IfCut result (MatchBool b (Taken []) (PrintsLines begin Taken known)) → (result ≡ Err Write → ⊥)
         → OnErr result (MatchBool b (Begun unread_text) (PrintsText begin Begun known))
     finished_err (Ok outcome) b lines never = tt
-    finished_err (Err Memory) b lines never = lines_text begun b (lines refl)
-    finished_err (Err Write) b lines never = absurd (never refl)
+    finished_err (Err fault) b lines never = lines_text begun b (lines (λ is. never (ap Err is)))
 
     written_lines : (script : List ℕ) → Taken [] ⊎ ((length script ≤ SCRIPT_LIMIT) × PrintsFront begin Taken (lines_of script)) → Written [] ⊎ ((length script ≤ SCRIPT_LIMIT) × PrintsFront begin Written (lines_of script))
     written_lines script (inl none) = inl (written [] none)
     written_lines script (inr (fits, printed)) =
         inr (fits, record { first = printed.first; front = printed.front; rest = printed.rest; split = printed.split; text = written (text_of_lines begin (printed.first ∷ printed.front)) printed.text })
 
-    pub finished_memory : (b : Bool) → MatchBool b (Taken []) (PrintsLines begin Taken known) → PrintsLines begin Written known
-    finished_memory true none = record { script = script_in known []; read = script_in_is known []; lines = inl (written [] none) }
-    finished_memory false lines = record { script = lines.script; read = lines.read; lines = written_lines lines.script lines.lines }
+    pub finished_front : (b : Bool) → MatchBool b (Taken []) (PrintsLines begin Taken known) → PrintsLines begin Written known
+    finished_front true none = record { script = script_in known []; read = script_in_is known []; lines = inl (written [] none) }
+    finished_front false lines = record { script = lines.script; read = lines.read; lines = written_lines lines.script lines.lines }
 
   -- or a beginning was
   module _ (gone : AppendsBeginning (held contents mid) (held contents new) (pending mid)) where
     pub cut_err : (result : Result Left ServeFault) (b : Bool) → IfOk result (λ outcome. MatchBool b (PrintsUnread Taken outcome) (PrintsWhole begin Taken known outcome))
-        → (result ≡ Err Memory → MatchBool b (Taken []) (PrintsLines begin Taken known))
+        → IfCut result (MatchBool b (Taken []) (PrintsLines begin Taken known))
         → OnErr result (MatchBool b (TakesBeginning contents old mid unread_text) (PrintsText begin (TakesBeginning contents old mid) known))
         → (result ≡ Err Write → WriterUntouched mid new)
         → MatchBool b (Begun unread_text) (PrintsText begin Begun known)
     cut_err (Ok outcome) b taken lines text left = whole_begins (λ bytes taken. Takes-cut contents old mid new start bytes taken gone) b outcome taken
-    cut_err (Err Memory) b taken lines text left = lines_text (λ bytes taken. Takes-cut contents old mid new start bytes taken gone) b (lines refl)
+    cut_err (Err Memory) b taken lines text left = lines_text (λ bytes taken. Takes-cut contents old mid new start bytes taken gone) b (lines (λ is. cc))
+    cut_err (Err Page) b taken lines text left = lines_text (λ bytes taken. Takes-cut contents old mid new start bytes taken gone) b (lines (λ is. cc))
     cut_err (Err Write) true taken lines text left = TakesBeginning-left contents old mid new start unread_text text (left refl)
     cut_err (Err Write) false taken lines text left =
         record { script = text.script; read = text.read; text = TakesBeginning-left contents old mid new start (text_of begin text.script) text.text (left refl) }

@@ -1,7 +1,5 @@
 -- A script whose first line was read.
-use Rattle.std.proofs.Common.{◌≡◌, ℕ, List, ◌∷◌, Bool, Some, Result, Ok, Err, sym, ap, ◌∙◌, subst}
-use Rattle.std.specs.Prelude.{IsErr, IsErrAnd}
-use Rattle.exh_serve.specs.declared.serve_fault.ServeFault.{ServeFault}
+use Rattle.std.proofs.Common.{◌≡◌, ℕ, List, ◌∷◌, Bool, Some, Result, Ok, sym, ap, ◌∙◌, subst}
 use Rattle.exh_text.specs.declared.line_fault.LineFault.{LineFault}
 use Rattle.exh_script.specs.Grammar.{file_line_of}
 use Rattle.exh_script.specs.Replies.{world_left}
@@ -44,10 +42,3 @@ module _ (tells_moves : Bool) (begun : Result ScriptWorld Refusal) where
 
   pub front_in : {P : List ℕ → Type 0} (world : ScriptWorld) → Ok world ≡ begun → (lines : List (List ℕ)) → PrintsFrontFrom P (start_in tells_moves (Ok world)) lines → PrintsFrontFrom P (start_in tells_moves begun) lines
   front_in {P} world is lines = subst (λ begun. PrintsFrontFrom P (start_in tells_moves begun) lines) is
-
--- ---- faults
-
--- the fault that is handed on is the one that came
-pub same_fault : {T : Type 0} (result : Result T ServeFault) (came : ServeFault) → IsErr result × IsErrAnd result (λ fault. fault ≡ came) → (fault : ServeFault) → result ≡ Err fault → came ≡ fault
-same_fault (Ok x) came is fault same = absurd is.1
-same_fault (Err handed) came is fault same = let on : handed ≡ fault = cc in sym is.1 ∙ on

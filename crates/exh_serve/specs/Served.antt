@@ -6,8 +6,17 @@ use Rattle.exh_script.specs.RefusalText.{refusal_text}
 use Rattle.exh_script.specs.Text.{Beginning, Start, text_after, text_of_lines, text_of}
 use Rattle.exh_script.specs.declared.refusal.Refusal.{Refusal}
 use Rattle.exh_script.specs.declared.refusal.Refusal.TheVariants.{Read}
+use Rattle.exh_script.specs.declared.response_fault.ResponseFault.{ResponseFault}
+use Rattle.exh_script.specs.declared.response_fault.ResponseFault.TheVariants as line
 use Rattle.exh_script.specs.declared.script.TheConstants.{SCRIPT_LIMIT}
 use Rattle.exh_serve.specs.Left.{left_of}
+use Rattle.exh_serve.specs.declared.serve_fault.ServeFault.{ServeFault}
+use Rattle.exh_serve.specs.declared.serve_fault.ServeFault.TheVariants.{Memory, Page}
+
+-- how a run ends at a line that has no response
+abbrev pub fault_of : ResponseFault → ServeFault
+fault_of line.Memory = Memory
+fault_of line.Page = Page
 
 -- the only line where the reader failed
 unfoldable pub unread_text : List ℕ

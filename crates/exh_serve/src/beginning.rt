@@ -9,7 +9,7 @@ ghost use Rattle.exh_serve.specs.Opened.{beginning, is_of_file, is_same_keyer, o
 ghost use Rattle.exh_world.specs.NewWorld.{settings_of};
 ghost use Rattle.exh_world.specs.Sound.{IsSoundWorld};
 
-use exh_frames::PlainPages;
+use exh_frames::{Pages, PlainPages};
 use exh_keyer::AnyKeyer;
 use exh_open::Opened;
 use exh_script::Refusal;
@@ -37,11 +37,11 @@ pub(crate) fn begin(
 }
 
 // The same over an opened file.
-fn begin_over(
+fn begin_over<P: Pages + Drop>(
     alloc: Global,
-    opened: Opened<PlainPages>,
+    opened: Opened<P>,
     file: &Config<AnyKeyer>,
-) -> Result<Result<World<PlainPages, AnyKeyer>, Refusal>, AllocError>
+) -> Result<Result<World<P, AnyKeyer>, Refusal>, AllocError>
     requires bits { file.now.ward_bits ≤ WARD_BITS_LIMIT }
     ensures begun { IfOk result (λ begun. begun ≡ opened_file opened file.now) }
     ensures sound { IfOk result (λ begun. IfOk begun (IsSoundWorld any_pseudokey)) }
@@ -54,7 +54,7 @@ fn begin_over(
 }
 
 // Whether settings are those of an opened file.
-fn is_of_file(opened: &Opened<PlainPages>, file: &Config<AnyKeyer>) -> bool
+fn is_of_file<P: Pages + Drop>(opened: &Opened<P>, file: &Config<AnyKeyer>) -> bool
     ensures { result ≡ is_of_file opened.now file.now }
 {
     opened.cap() == file.cap
@@ -72,10 +72,10 @@ fn is_same_keyer(keyer: AnyKeyer, other: AnyKeyer) -> bool
 }
 
 /// The wards of a world of these settings, as those of a file. It takes no memory.
-pub(crate) fn leave(
+pub(crate) fn leave<P: Pages + Drop>(
     file: &Config<AnyKeyer>,
-    world: World<PlainPages, AnyKeyer>,
-) -> Opened<PlainPages>
+    world: World<P, AnyKeyer>,
+) -> Opened<P>
     requires some { 1 ≤ file.now.cap }
     requires most { file.now.cap ≤ CAP_LIMIT }
     requires bits { file.now.ward_bits ≤ WARD_BITS_LIMIT }

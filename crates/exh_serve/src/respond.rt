@@ -1,4 +1,4 @@
-ghost use Rattle.std.specs.Prelude.{◌≡◌, ◌⊎◌, ◌≤◌, ◌↔◌, [], Ok, None, IfOk, OnOk, OnErr, IsErrOf, IsFalse, IsTrue};
+ghost use Rattle.std.specs.Prelude.{◌≡◌, ◌≢◌, ◌⊎◌, ◌≤◌, ◌↔◌, [], Ok, None, IfOk, IfErr, OnOk, OnErr, IsErrOf, IsFalse, IsTrue};
 ghost use Rattle.exh_keyer.specs.Pseudokey.{any_pseudokey};
 ghost use Rattle.exh_page.specs.declared.page.TheConstants.{CAP_LIMIT};
 ghost use Rattle.exh_prefix.specs.declared.prefix.TheConstants.{WARD_BITS_LIMIT};
@@ -14,7 +14,7 @@ ghost use Rattle.exh_world.specs.Sound.{IsSoundWorld};
 
 use crate::ServeFault;
 use crate::beginning::{begin, leave};
-use exh_frames::PlainPages;
+use exh_frames::{Pages, PlainPages};
 use exh_open::Opened;
 use exh_script::{
     Refusal, Run, Settings, lines_keep_settings, parse_file_line, push_refusal, push_response,
@@ -25,8 +25,8 @@ use std::alloc::Global;
 use std::io::Write;
 
 /// Answers a script over an opened file or over none. On an `Ok` with wards its run is done, and these are what it
-/// leaves; without them it was refused. On an `Err` a beginning of its text went out, after `Memory` that of a
-/// beginning of its lines.
+/// leaves; without them it was refused. On an `Err` a beginning of its text went out, after `Memory` and `Page` that of
+/// a beginning of its lines.
 #[tactic(auto, unfolding(exh_script::specs::Text::start_of, exh_script::specs::Text::settings_of))]
 pub(crate) fn respond<W: Write>(
     alloc: Global,
@@ -39,8 +39,8 @@ pub(crate) fn respond<W: Write>(
     ensures text { OnOk result (Takes W.contents output.old output.new (text_of_lines (beginning from) (lines_of script.now))) }
     ensures left { IfOk result (λ left. left ≡ left_of_lines (beginning from) (lines_of script.now)) }
     ensures err { OnErr result (TakesBeginning W.contents output.old output.new (text_of_lines (beginning from) (lines_of script.now))) }
-    ensures memory { IsErrOf result ServeFault.Memory → Takes W.contents output.old output.new []
-        ⊎ PrintsFront (beginning from) (Takes W.contents output.old output.new) (lines_of script.now) }
+    ensures front { IfErr result (λ fault. fault ≢ ServeFault.Write → Takes W.contents output.old output.new []
+        ⊎ PrintsFront (beginning from) (Takes W.contents output.old output.new) (lines_of script.now)) }
     ensures failed { IsErrOf result ServeFault.Write ↔ IsTrue (writer_failed output.new) }
 {
     let mut lines = Lines::new(script);
@@ -54,17 +54,17 @@ pub(crate) fn respond<W: Write>(
 }
 
 /// Answers with a refusal alone, and leaves no wards.
-pub(crate) fn refuse<W: Write>(
+pub(crate) fn refuse<P: Pages + Drop, W: Write>(
     alloc: Global,
     output: &mut Output<'_, W>,
     refusal: Refusal,
-) -> Result<Option<Opened<PlainPages>>, ServeFault>
+) -> Result<Option<Opened<P>>, ServeFault>
     requires { IsFalse (writer_failed output.old) }
     ensures same_writer { SameWriter output.old output.new }
     ensures text { OnOk result (Takes W.contents output.old output.new (refusal_text refusal)) }
     ensures left { IfOk result (λ left. left ≡ None) }
     ensures err { OnErr result (TakesBeginning W.contents output.old output.new (refusal_text refusal)) }
-    ensures memory { IsErrOf result ServeFault.Memory → Takes W.contents output.old output.new [] }
+    ensures front { IfErr result (λ fault. fault ≢ ServeFault.Write → Takes W.contents output.old output.new []) }
     ensures failed { IsErrOf result ServeFault.Write ↔ IsTrue (writer_failed output.new) }
 {
     let mut text = Vec::new(alloc);
@@ -89,8 +89,8 @@ fn serve_file<W: Write>(
     ensures text { OnOk result (Takes W.contents output.old output.new (text_after (start_in settings.now.tells_moves (beginning from settings.now.file)) lines.entry)) }
     ensures left { IfOk result (λ left. left ≡ left_after (start_in settings.now.tells_moves (beginning from settings.now.file)) lines.entry) }
     ensures err { OnErr result (TakesBeginning W.contents output.old output.new (text_after (start_in settings.now.tells_moves (beginning from settings.now.file)) lines.entry)) }
-    ensures memory { IsErrOf result ServeFault.Memory → Takes W.contents output.old output.new []
-        ⊎ PrintsFrontFrom (Takes W.contents output.old output.new) (start_in settings.now.tells_moves (beginning from settings.now.file)) lines.entry }
+    ensures front { IfErr result (λ fault. fault ≢ ServeFault.Write → Takes W.contents output.old output.new []
+        ⊎ PrintsFrontFrom (Takes W.contents output.old output.new) (start_in settings.now.tells_moves (beginning from settings.now.file)) lines.entry) }
     ensures failed { IsErrOf result ServeFault.Write ↔ IsTrue (writer_failed output.new) }
 {
     lines_keep_settings();
@@ -105,11 +105,11 @@ fn serve_file<W: Write>(
     }
 }
 
-// Answers lines. Want of memory leaves each line whole or out.
-fn answer_lines<W: Write>(
+// Answers lines, over whatever store of pages. Want of memory and a page out of reach leave each line whole or out.
+fn answer_lines<P: Pages + Drop, W: Write>(
     alloc: Global,
     output: &mut Output<'_, W>,
-    run: &mut Run,
+    run: &mut Run<P>,
     lines: Lines<'_>,
 ) -> Result<(), ServeFault>
     requires open { IsFalse (writer_failed output.old) }
@@ -118,7 +118,7 @@ fn answer_lines<W: Write>(
     ensures ok { OnOk result (Takes W.contents output.old output.new (text_from run.old.tells_moves run.old.world lines.entry)) }
     ensures world { OnOk result (run.new.world ≡ world_left run.old.world lines.entry) }
     ensures err { OnErr result (TakesBeginning W.contents output.old output.new (text_from run.old.tells_moves run.old.world lines.entry)) }
-    ensures memory { IsErrOf result ServeFault.Memory → PrintsFrontFrom (Takes W.contents output.old output.new) (start_in run.old.tells_moves (Ok run.old.world)) lines.entry }
+    ensures front { IfErr result (λ fault. fault ≢ ServeFault.Write → PrintsFrontFrom (Takes W.contents output.old output.new) (start_in run.old.tells_moves (Ok run.old.world)) lines.entry) }
     ensures failed { IsErrOf result ServeFault.Write ↔ IsTrue (writer_failed output.new) }
 {
     let mut text = Vec::new(alloc);

@@ -1,6 +1,8 @@
 ghost use Rattle.std.specs.Prelude.{◌≡◌};
+ghost use Rattle.exh_serve.specs.Served.{fault_of};
 ghost use Rattle.exh_serve.specs.declared.serve_fault.ServeFault.TheVariants.{Write, Memory};
 
+use exh_script::ResponseFault;
 use exh_stream::WriteFault;
 use std::alloc::AllocError;
 use thiserror::Error;
@@ -14,6 +16,9 @@ pub enum ServeFault {
     /// A growth was refused (refusal 10).
     #[error("out of memory")]
     Memory,
+    /// A page couldn't be reached (refusal 11).
+    #[error("a page is out of reach")]
+    Page,
 }
 
 impl From<WriteFault> for ServeFault {
@@ -29,5 +34,16 @@ impl From<AllocError> for ServeFault {
 
     fn from(_error: AllocError) -> ServeFault {
         ServeFault::Memory
+    }
+}
+
+impl From<ResponseFault> for ServeFault {
+    ghost from_gives = { λ fault served. served ≡ fault_of fault };
+
+    fn from(fault: ResponseFault) -> ServeFault {
+        match fault {
+            ResponseFault::Memory => ServeFault::Memory,
+            ResponseFault::Page => ServeFault::Page,
+        }
     }
 }

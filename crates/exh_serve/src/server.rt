@@ -1,4 +1,4 @@
-ghost use Rattle.std.specs.Prelude.{◌≡◌, ◌⊎◌, ◌↔◌, [], MatchBool, IfOk, OnErr, IsErrOf, IsTrue, IsFalse};
+ghost use Rattle.std.specs.Prelude.{◌≡◌, ◌≢◌, ◌⊎◌, ◌↔◌, [], MatchBool, IfOk, IfErr, OnErr, IsErrOf, IsTrue, IsFalse};
 ghost use Rattle.std.specs.Io.KnownBytes.{Appends};
 ghost use Rattle.exh_serve.specs.Served.{PrintsLines, PrintsText, PrintsUnread, PrintsWhole, unread_text};
 ghost use Rattle.exh_serve.specs.Opened.{beginning};
@@ -17,8 +17,8 @@ use std::io::{Read, Write};
 /// Reads a whole script, and writes its text and nothing else. Where the reader fails, that is the line `refused 41`
 /// alone. No fault is tried again.
 ///
-/// `Write`: the writer failed or took no bytes, and got a beginning of it. `Memory`: a growth was refused, and the
-/// writer got the text of a beginning of the script's lines, each line whole.
+/// `Write`: the writer failed or took no bytes, and got a beginning of it. `Memory`: a growth was refused. `Page`: a page
+/// couldn't be reached. After these two the writer got the text of a beginning of the script's lines, each line whole.
 pub fn serve_from<R: Read, W: Write>(
     alloc: Global,
     from: Option<Opened<PlainPages>>,
@@ -31,8 +31,8 @@ pub fn serve_from<R: Read, W: Write>(
     ensures err { OnErr result (
         PrintsText (beginning from) (AppendsBeginning (W.contents writer.old) (W.contents writer.new)) (R.remaining reader.old)
         ⊎ AppendsBeginning (W.contents writer.old) (W.contents writer.new) unread_text) }
-    ensures memory { IsErrOf result ServeFault.Memory →
-        PrintsLines (beginning from) (Appends (W.contents writer.old) (W.contents writer.new)) (R.remaining reader.old) }
+    ensures front { IfErr result (λ fault. fault ≢ ServeFault.Write →
+        PrintsLines (beginning from) (Appends (W.contents writer.old) (W.contents writer.new)) (R.remaining reader.old)) }
 {
     serve_source(
         alloc,
@@ -42,7 +42,7 @@ pub fn serve_from<R: Read, W: Write>(
     )
 }
 
-// The same, where the source tells whether the reader failed. What waits is written after want of memory too.
+// The same, where the source tells whether the reader failed. What waits is written after each fault.
 fn serve_source<R: Read, W: Write>(
     alloc: Global,
     from: Option<Opened<PlainPages>>,
@@ -60,8 +60,8 @@ fn serve_source<R: Read, W: Write>(
     ensures err { OnErr result (MatchBool (reader_failed source.new)
         (AppendsBeginning (held W.contents output.old) (held W.contents output.new) unread_text)
         (PrintsText (beginning from) (AppendsBeginning (held W.contents output.old) (held W.contents output.new)) (unread R.remaining source.old))) }
-    ensures memory { IsErrOf result ServeFault.Memory →
-        PrintsLines (beginning from) (Appends (held W.contents output.old) (held W.contents output.new)) (unread R.remaining source.old) }
+    ensures front { IfErr result (λ fault. fault ≢ ServeFault.Write →
+        PrintsLines (beginning from) (Appends (held W.contents output.old) (held W.contents output.new)) (unread R.remaining source.old)) }
     ensures failed { IsErrOf result ServeFault.Write ↔ IsTrue (writer_failed output.new) }
 {
     let served = answer_source(alloc, from, source, output);
@@ -86,9 +86,9 @@ fn answer_source<R: Read, W: Write>(
     ensures err { OnErr result (MatchBool (reader_failed source.new)
         (TakesBeginning W.contents output.old output.new unread_text)
         (PrintsText (beginning from) (TakesBeginning W.contents output.old output.new) (unread R.remaining source.old))) }
-    ensures memory { IsErrOf result ServeFault.Memory → MatchBool (reader_failed source.new)
+    ensures front { IfErr result (λ fault. fault ≢ ServeFault.Write → MatchBool (reader_failed source.new)
         (Takes W.contents output.old output.new [])
-        (PrintsLines (beginning from) (Takes W.contents output.old output.new) (unread R.remaining source.old)) }
+        (PrintsLines (beginning from) (Takes W.contents output.old output.new) (unread R.remaining source.old))) }
     ensures failed { IsErrOf result ServeFault.Write ↔ IsTrue (writer_failed output.new) }
 {
     match source.read_whole(alloc, SCRIPT_LIMIT) {

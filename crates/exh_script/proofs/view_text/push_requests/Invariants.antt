@@ -3,4 +3,4 @@ use Rattle.exh_script.specs.View.{request_line}
 use Rattle.exh_script.proofs.view_text.push_requests.Given as goal
 
 abbrev pub invariant-loop-name : goal.invariant-loop-name
-invariant-loop-name l = l.out.items ++ flat_map request_line l.name-iterator ≡ l.fn.out.items ++ flat_map request_line l.fn.world.in_flight
+invariant-loop-name g l = l.out.items ++ flat_map request_line l.name-iterator ≡ l.fn.out.items ++ flat_map request_line l.fn.world.in_flight

@@ -3,6 +3,7 @@ use Rattle.exh_stream.specs.Output.{Takes}
 use Rattle.exh_stream.specs.OutputLemmas.{OnErr-from, Takes-none}
 use Rattle.exh_script.specs.Text.{line_response, response_text, text_from}
 use Rattle.exh_serve.proofs.Responded.{stopped, line_is, text_of_next, line_out, line_stopped, LeadTo-none, LeadTo-more, text_of_left, text_of_more, world_of_all}
+use Rattle.exh_serve.proofs.ServedLemmas.{IfCut-from}
 use Rattle.exh_serve.proofs.respond.answer_lines.Goals as goal
 
 pub loop-line-init : goal.loop-line-init
@@ -22,8 +23,10 @@ returns-in_err-push_response-clause-err g c =
     let i = c.loop-line.invariant in
     OnErr-from c.from_residual.result (stopped g.W.Write.contents c.args.output.now c.loop-line.output _ _ _ i.passed (text_of_left _ _ _ i.answered i.lead _ _ i.split))
 
-pub returns-in_err-push_response-clause-memory : goal.returns-in_err-push_response-clause-memory
-returns-in_err-push_response-clause-memory g c = λ _. let i = c.loop-line.invariant in record { front = i.answered; rest = c.loop-line.line-iterator; split = i.split; text = i.passed }
+pub returns-in_err-push_response-clause-front : goal.returns-in_err-push_response-clause-front
+returns-in_err-push_response-clause-front g c =
+    let i = c.loop-line.invariant in
+    IfCut-from c.from_residual.result (record { front = i.answered; rest = c.loop-line.line-iterator; split = i.split; text = i.passed })
 
 pub loop-line-preserved : goal.loop-line-preserved
 loop-line-preserved g c =
