@@ -154,8 +154,8 @@ awk -v processors="$processors" '
         if (processors >= 4) least("four callers by one over 4 wards", rate["live", 4, 4] / one, 2)
         most("one caller by a ward by itself", rate["plain", 1, 1] / rate["live", 1, 1], 1.7)
         for (callers = 1; callers <= 4; callers *= 2) {
-            least(callers " callers over 4 wards by LMDB", rate["live", 4, callers] / rate["lmdb", 0, callers], 1)
-            least(callers " callers over 4 wards by gdbm", rate["live", 4, callers] / rate["gdbm", 0, callers], 1)
+            least("calls over 4 wards by LMDB, callers " callers, rate["live", 4, callers] / rate["lmdb", 0, callers], 1)
+            least("calls over 4 wards by gdbm, callers " callers, rate["live", 4, callers] / rate["gdbm", 0, callers], 1)
         }
         for (i = 1; i <= short; i++) print falls[i]
         exit (short > 0)
