@@ -1,6 +1,6 @@
 -- Which words the program's parser takes, and which command and values it then meets.
 use Rattle.std.proofs.Common.{◌≡◌, ◌∙◌, ℕ, Bool, true, false, List, [], ◌∷◌, ◌++◌, Option, Some, None, Result, Ok, Err, IfErr, refl, sym, ap, ap₂, subst, codes, cond, slice_index_or, is_some, inl, inr, arith, Global}
-use Rattle.std.specs.Prelude.{not, ◌&&◌, ◌⊎◌, ◌≢◌, Box, IsErrAnd, find, fold, map, option_map, ◌↔◌, IsSome, ◌||◌}
+use Rattle.std.specs.Prelude.{not, ◌&&◌, ◌⊎◌, ◌≢◌, Box, IsErrAnd, find, fold, map, option_map, option_and_then, ◌↔◌, IsSome}
 use Rattle.std.specs.Box.{box_value}
 use Rattle.std.specs.Str.{bytes_eq}
 use Rattle.std.proofs.lemmas.Slice.Eq.{bytes_eq-Decides}
@@ -20,128 +20,84 @@ use Rattle.clap.proofs.WalkLemmas.{both, first_value-rows, walk_stopped}
 use Rattle.clap.proofs.FaultLemmas.{stopped_fault}
 use Rattle.exh_cli.specs.Fault.{IsFaultOf, TellsVersion}
 use Rattle.exh_cli.specs.Words.{Use, alone, ends_options, is_named, is_option, only_word, path_named, uses_named}
-use Rattle.exh_cli.specs.Job.{AskForVersion, Named, Serve, Check, Dump, Load, command_of, job_named, open_name, save_name, serve_named, served_by}
-use Rattle.exh_cli.specs.Parser.{HasValues, Meets, ReadsJobs, about_path, option_rule, path_id, path_rule, with_options}
+use Rattle.exh_cli.specs.Job.{AskForVersion, Asked, Serve, Check, Dump, Load, Storm, asked_by, callers_name, calls_name, cap_name, command_of, copies_name, job_asked, job_named, open_name, save_name, serve_asked, serve_names, served_by, storm_asked, storm_names, stormed_by, wards_name}
+use Rattle.exh_cli.specs.Parser.{HasTexts, HasValues, Meets, ReadsJobs, about_path, path_id, path_rule, texts_of, with_options}
 use Rattle.exh_cli.specs.declared.fault.CliFault.{CliFault}
-use Rattle.exh_cli.proofs.OptionLemmas.{IsOptionLeaf, Reads, first_of-rows_of_uses, leaf_of, option_built, options_read}
+use Rattle.exh_cli.proofs.OptionLemmas.{IsOptionLeaf, first_of-rows_of_uses, rows_of_uses}
+use Rattle.exh_cli.proofs.OptionFlags.{flags_agree, flags_met, help_asking, no_defaults, option_flags, option_leaf}
 use Rattle.exh_cli.proofs.WordLemmas.{Agrees, Fails, IsAsking, IsValue, agreed, agrees_as, all_ask, first_fails, flags, help, is_end, is_name, is_plain_word, is_value, option_fails, or_nothing, some_is, version, word_fails}
 
 -- ---- the parser, as clap's clauses see it
 
 abbrev pub serve : Shape
-serve = with_options (codes "serve") (open_name ∷ save_name ∷ [])
+serve = with_options (codes "serve") serve_names
+
+abbrev pub storm : Shape
+storm = with_options (codes "storm") storm_names
 
 abbrev pub bare_program : App
 bare_program = on_top (λ s. record s { has_version = true; subcommand_required = true; arg_required_else_help = true }) (new_app (codes "exhash"))
 
 abbrev pub program : App
-program = with_subcommand (with_subcommand (with_subcommand (with_subcommand bare_program serve) (about_path (codes "check"))) (about_path (codes "dump"))) (about_path (codes "load"))
+program = with_subcommand (with_subcommand (with_subcommand (with_subcommand (with_subcommand bare_program serve) (about_path (codes "check"))) (about_path (codes "dump"))) (about_path (codes "load"))) storm
 
 is_exact : is_simple_and_free program ≡ true
 unfolding clap_on_literals
 is_exact = refl
 
--- the arguments of `serve`, and those of a command about a path
+-- the arguments of `serve` and of `storm`, and those of a command about a path
 abbrev serve_flags : List Rule
-serve_flags = filled_from 1 (option_rule open_name ∷ option_rule save_name ∷ help_rule ∷ [])
+serve_flags = option_flags serve_names
+
+abbrev storm_flags : List Rule
+storm_flags = option_flags storm_names
 
 abbrev path_flags : List Rule
 path_flags = filled_from 1 (path_rule ∷ help_rule ∷ [])
 
--- ---- the words after `serve`
+-- ---- the words after `serve`, and after `storm`
 
-abbrev leaf : Shape
-leaf = slice_index_or (built program).subs 0 serve
+serve_leaf : IsOptionLeaf (codes "serve") serve_flags serve_names
+serve_leaf = option_leaf (codes "serve") serve_names (λ rows. ap₂ or_else (no_defaults serve_names rows) refl)
 
-abbrev own_names : List Text
-own_names = open_name ∷ save_name ∷ []
-
--- the argument of a name, by its two tests
-by_test : (is_open is_save : Bool) → (is_open || (is_save || false)) ≡ true → (found : Option Rule) (name : Text) → (is_open ≡ true → open_name ≡ name) → (is_save ≡ true → save_name ≡ name)
-    → cond is_open (Some (option_built open_name)) (cond is_save (Some (option_built save_name)) found) ≡ Some (option_built name)
-by_test true is_save named found name opens saves = ap (λ name. Some (option_built name)) (opens refl)
-by_test false true named found name opens saves = ap (λ name. Some (option_built name)) (saves refl)
-by_test false false named found name opens saves = cc
-
-or-false : (b : Bool) → (b || false) ≡ b
-or-false true = refl
-or-false false = refl
-
-asking_by : (is_open is_save is_help : Bool) → (is_open || (is_save || false)) ≡ false
-    → IsAsking (cond is_open (Some (option_built open_name)) (cond is_save (Some (option_built save_name)) (cond is_help (Some help) None)))
-asking_by true is_save is_help none = cc
-asking_by false true is_help none = cc
-asking_by false false true none = inr (inl refl)
-asking_by false false false none = inl refl
-
-default_kept : (b : Bool) (rows : List Row) → cond b rows rows ≡ rows
-default_kept true rows = refl
-default_kept false rows = refl
-
-or-true : (b : Bool) → (b || true) ≡ true
-or-true true = refl
-or-true false = refl
-
-keeps_rows : (rows : List Row) → fold with_default rows serve_flags ≡ rows
-keeps_rows rows =
-    rw (default_kept (has_row open_name rows) rows, default_kept (has_row save_name rows) rows, default_kept (has_row (codes "help") rows) rows) refl
-
-no_defaults : (rows : List Row) → defaults_fault rows serve_flags ≡ []
-unfolding defaults_fault
-no_defaults rows = rw (
-  or-true (has_row open_name rows),
-  default_kept (has_row open_name rows) rows,
-  or-true (has_row save_name rows),
-  default_kept (has_row save_name rows) rows,
-  or-true (has_row (codes "help") rows),
-) refl
-
-serve_leaf : IsOptionLeaf (codes "serve") serve_flags own_names
-serve_leaf = record {
-  by_long_name = λ name named. rw (or-false (bytes_eq open_name name), or-false (bytes_eq save_name name))
-      (by_test (bytes_eq open_name name) (bytes_eq save_name name) named _ name (is_name open_name name) (is_name save_name name));
-  by_id = λ name named. by_test (bytes_eq open_name name) (bytes_eq save_name name) named _ name (is_name open_name name) (is_name save_name name);
-  asks = λ name other. rw (or-false (bytes_eq open_name name), or-false (bytes_eq save_name name))
-      (asking_by (bytes_eq open_name name) (bytes_eq save_name name) (has_long help name) other);
-  asks_short = λ c. asking_by false false (has_short help c) refl;
-  none_placed = refl;
-  ends = λ rows. ap₂ or_else (no_defaults rows) refl;
-  keeps = keeps_rows;
-}
+storm_leaf : IsOptionLeaf (codes "storm") storm_flags storm_names
+storm_leaf = option_leaf (codes "storm") storm_names (λ rows. ap₂ or_else (no_defaults storm_names rows) refl)
 
 abbrev leaf_kinds : List Text → Kinds
-leaf_kinds words = level_fault leaf [] nothing_held words false []
+leaf_kinds words = level_fault (slice_index_or (built program).subs 0 serve) [] nothing_held words false []
 
-leaf_reads : (words : List Text) → Reads (codes "serve") serve_flags own_names serve_leaf (walk_from nothing_held) words (uses_named own_names words)
-leaf_reads words = options_read (codes "serve") serve_flags own_names serve_leaf words
+abbrev storm_kinds : List Text → Kinds
+storm_kinds words = level_fault (slice_index_or (built program).subs 4 serve) [] nothing_held words false []
 
-leaf_agrees : (words : List Text) → Agrees (serve_named words) (leaf_kinds words)
-leaf_agrees words = go (uses_named own_names words) (leaf_reads words)
-  where
-    go : (read : Option (List Use)) → Reads (codes "serve") serve_flags own_names serve_leaf (walk_from nothing_held) words read → Agrees (option_map served_by read) (leaf_kinds words)
-    go None fails = fails
-    go (Some uses) reads = reads.0
+leaf_agrees : (words : List Text) → Agrees (serve_asked words) (leaf_kinds words)
+leaf_agrees words = flags_agree (codes "serve") serve_names serve_leaf served_by words
 
--- it meets their values
-leaf_met : (words : List Text) (job : Named) → serve_named words ≡ Some job → HasValues job (rows_after serve_flags [] words)
-leaf_met words job named = go (uses_named own_names words) (leaf_reads words) named
-  where
-    go : (read : Option (List Use)) → Reads (codes "serve") serve_flags own_names serve_leaf (walk_from nothing_held) words read → option_map served_by read ≡ Some job
-        → HasValues job (rows_after serve_flags [] words)
-    go None fails named = cc
-    go (Some uses) reads named = subst (λ job. HasValues job (rows_after serve_flags [] words)) (some_is named) (
-      ap (first_of open_name) reads.1 ∙ first_of-rows_of_uses open_name uses,
-      ap (first_of save_name) reads.1 ∙ first_of-rows_of_uses save_name uses,
-    )
+storm_agrees : (words : List Text) → Agrees (storm_asked words) (storm_kinds words)
+storm_agrees words = flags_agree (codes "storm") storm_names storm_leaf stormed_by words
+
+served_values : (uses : List Use) → HasValues (served_by uses) (rows_of_uses uses)
+served_values uses = (first_of-rows_of_uses open_name uses, first_of-rows_of_uses save_name uses)
+
+stormed_values : (uses : List Use) → HasValues (stormed_by uses) (rows_of_uses uses)
+stormed_values uses = record {
+  callers = first_of-rows_of_uses callers_name uses;
+  calls = first_of-rows_of_uses calls_name uses;
+  cap = first_of-rows_of_uses cap_name uses;
+  wards = first_of-rows_of_uses wards_name uses;
+  copies = first_of-rows_of_uses copies_name uses;
+}
+
+-- they meet their values
+leaf_met : (words : List Text) (asked : Asked) → serve_asked words ≡ Some asked → HasValues asked (rows_after serve_flags [] words)
+leaf_met words asked named = flags_met (codes "serve") serve_names serve_leaf served_by served_values words asked named
+
+storm_leaf_met : (words : List Text) (asked : Asked) → storm_asked words ≡ Some asked → HasValues asked (rows_after storm_flags [] words)
+storm_leaf_met words asked named = flags_met (codes "storm") storm_names storm_leaf stormed_by stormed_values words asked named
 
 -- ---- the words after a command about a path
 
 abbrev path_leaf : Shape
 path_leaf = slice_index_or (built program).subs 1 serve
-
-help_asking : (is_help : Bool) → IsAsking (cond is_help (Some help) None)
-help_asking true = inr (inl refl)
-help_asking false = inl refl
 
 long_help : (name : Text) → IsAsking (arg_by_long path_flags name)
 long_help name = help_asking (not (is_some help.index) && has_long help name)
@@ -312,6 +268,10 @@ load_leaves : (words : List Text) → top_kinds (codes "load" ∷ words) ≡ pat
 unfolding clap_on_literals
 load_leaves words = stopped_is (codes "load") words ∙ or_nothing (path_kinds words)
 
+storm_leaves : (words : List Text) → top_kinds (codes "storm" ∷ words) ≡ storm_kinds words
+unfolding clap_on_literals
+storm_leaves words = stopped_is (codes "storm") words ∙ or_nothing (storm_kinds words)
+
 help_fails : (words : List Text) → Fails (top_kinds (codes "help" ∷ words))
 unfolding clap_on_literals
 help_fails words = tt
@@ -323,9 +283,9 @@ end_fails (word ∷ rest) = tt
 
 -- a word that names no command
 module _ (word : Text) (no_serve : bytes_eq (codes "serve") word ≡ false) (no_check : bytes_eq (codes "check") word ≡ false) (no_dump : bytes_eq (codes "dump") word ≡ false)
-    (no_load : bytes_eq (codes "load") word ≡ false) where
+    (no_load : bytes_eq (codes "load") word ≡ false) (no_storm : bytes_eq (codes "storm") word ≡ false) where
   unnamed : bytes_eq (codes "help") word ≡ false → subcommand_met names idle word ≡ None
-  unnamed no_help = rw (no_serve, no_check, no_dump, no_load, no_help) refl
+  unnamed no_help = rw (no_serve, no_check, no_dump, no_load, no_storm, no_help) refl
 
   other_fails : (rest : List Text) (helps ends : Bool) → bytes_eq (codes "help") word ≡ helps → ends_options word ≡ ends → Fails (top_kinds (word ∷ rest))
   unfolding clap_on_literals
@@ -334,29 +294,34 @@ module _ (word : Text) (no_serve : bytes_eq (codes "serve") word ≡ false) (no_
   other_fails rest false false no_help no_end =
       first_fails _ _ (first_fails _ _ (word_fails top flags short_asking [] None 1 word refl (all_ask flags long_asking (long_of word)) names (unnamed no_help) no_end))
 
-command_agrees : (word : Text) (rest : List Text) (serves checks dumps loads : Bool) → bytes_eq (codes "serve") word ≡ serves → bytes_eq (codes "check") word ≡ checks → bytes_eq (codes "dump") word ≡ dumps
-    → bytes_eq (codes "load") word ≡ loads
-    → Agrees (cond serves (serve_named rest) (cond checks (option_map Check (path_named rest)) (cond dumps (option_map Dump (path_named rest)) (cond loads (option_map Load (path_named rest)) None)))) (top_kinds (word ∷ rest))
-command_agrees word rest true checks dumps loads s c d l =
-    let left = subst (Agrees (serve_named rest)) (sym (serve_leaves rest)) (leaf_agrees rest) in
-    subst (λ w. Agrees (serve_named rest) (top_kinds (w ∷ rest))) (is_name (codes "serve") word s) left
-command_agrees word rest false true dumps loads s c d l =
+command_agrees : (word : Text) (rest : List Text) (serves checks dumps loads storms : Bool) → bytes_eq (codes "serve") word ≡ serves → bytes_eq (codes "check") word ≡ checks → bytes_eq (codes "dump") word ≡ dumps
+    → bytes_eq (codes "load") word ≡ loads → bytes_eq (codes "storm") word ≡ storms
+    → Agrees (cond serves (serve_asked rest) (cond checks (option_map Check (path_named rest)) (cond dumps (option_map Dump (path_named rest)) (cond loads (option_map Load (path_named rest)) (cond storms (storm_asked rest) None)))))
+    (top_kinds (word ∷ rest))
+command_agrees word rest true checks dumps loads storms s c d l o =
+    let left = subst (Agrees (serve_asked rest)) (sym (serve_leaves rest)) (leaf_agrees rest) in
+    subst (λ w. Agrees (serve_asked rest) (top_kinds (w ∷ rest))) (is_name (codes "serve") word s) left
+command_agrees word rest false true dumps loads storms s c d l o =
     let left = subst (Agrees (option_map Check (path_named rest))) (sym (check_leaves rest)) (agrees_as Check _ _ (path_agrees rest)) in
     subst (λ w. Agrees (option_map Check (path_named rest)) (top_kinds (w ∷ rest))) (is_name (codes "check") word c) left
-command_agrees word rest false false true loads s c d l =
+command_agrees word rest false false true loads storms s c d l o =
     let left = subst (Agrees (option_map Dump (path_named rest))) (sym (dump_leaves rest)) (agrees_as Dump _ _ (path_agrees rest)) in
     subst (λ w. Agrees (option_map Dump (path_named rest)) (top_kinds (w ∷ rest))) (is_name (codes "dump") word d) left
-command_agrees word rest false false false true s c d l =
+command_agrees word rest false false false true storms s c d l o =
     let left = subst (Agrees (option_map Load (path_named rest))) (sym (load_leaves rest)) (agrees_as Load _ _ (path_agrees rest)) in
     subst (λ w. Agrees (option_map Load (path_named rest)) (top_kinds (w ∷ rest))) (is_name (codes "load") word l) left
-command_agrees word rest false false false false s c d l = other_fails word s c d l rest (bytes_eq (codes "help") word) (ends_options word) refl refl
+command_agrees word rest false false false false true s c d l o =
+    let left = subst (Agrees (storm_asked rest)) (sym (storm_leaves rest)) (storm_agrees rest) in
+    subst (λ w. Agrees (storm_asked rest) (top_kinds (w ∷ rest))) (is_name (codes "storm") word o) left
+command_agrees word rest false false false false false s c d l o = other_fails word s c d l o rest (bytes_eq (codes "help") word) (ends_options word) refl refl
 
-words_agree : (words : List Text) → Agrees (job_named words) (fault_of program words)
+words_agree : (words : List Text) → Agrees (asked_by words) (fault_of program words)
 unfolding clap_on_literals
 words_agree [] = tt
 words_agree (name ∷ []) = tt
 words_agree (name ∷ command ∷ rest) =
-    command_agrees command rest (bytes_eq (codes "serve") command) (bytes_eq (codes "check") command) (bytes_eq (codes "dump") command) (bytes_eq (codes "load") command) refl refl refl refl
+    command_agrees command rest (bytes_eq (codes "serve") command) (bytes_eq (codes "check") command) (bytes_eq (codes "dump") command) (bytes_eq (codes "load") command) (bytes_eq (codes "storm") command)
+    refl refl refl refl refl
 
 -- ---- the command that is met, and its values
 
@@ -380,49 +345,60 @@ load_met : (name : Text) (words : List Text) → subcommand_of program (name ∷
 unfolding clap_on_literals
 load_met name words = met_at (codes "load") words
 
--- `serve` names no job of another command
-is_serve : (words : List Text) (job : Named) → serve_named words ≡ Some job → codes "serve" ≡ command_of job
-is_serve words job named = go (uses_named own_names words) named
-  where
-    go : (read : Option (List Use)) → option_map served_by read ≡ Some job → codes "serve" ≡ command_of job
-    go None named = cc
-    go (Some uses) named = ap command_of (some_is named)
+storm_met : (name : Text) (words : List Text) → subcommand_of program (name ∷ codes "storm" ∷ words) ≡ Some (codes "storm", rows_after storm_flags [] words)
+unfolding clap_on_literals
+storm_met name words = met_at (codes "storm") words
 
-serve_is_met : (name : Text) (rest : List Text) (job : Named) → serve_named rest ≡ Some job → Meets program (name ∷ codes "serve" ∷ rest) job
-serve_is_met name rest job named = record {
+-- the words behind a command with options ask for no other command
+is_by : (by : List Use → Asked) (command : Text) → ((uses : List Use) → command ≡ command_of (by uses)) → (read : Option (List Use)) (asked : Asked) → option_map by read ≡ Some asked → command ≡ command_of asked
+is_by by command is None asked named = cc
+is_by by command is (Some uses) asked named = is uses ∙ ap command_of (some_is named)
+
+serve_is_met : (name : Text) (rest : List Text) (asked : Asked) → serve_asked rest ≡ Some asked → Meets program (name ∷ codes "serve" ∷ rest) asked
+serve_is_met name rest asked named = record {
   rows = rows_after serve_flags [] rest;
-  met = serve_met name rest ∙ ap (λ command. Some (command, rows_after serve_flags [] rest)) (is_serve rest job named);
-  values = leaf_met rest job named;
+  met = serve_met name rest ∙ ap (λ command. Some (command, rows_after serve_flags [] rest)) (is_by served_by (codes "serve") (λ uses. refl) (uses_named serve_names rest) asked named);
+  values = leaf_met rest asked named;
+}
+
+storm_is_met : (name : Text) (rest : List Text) (asked : Asked) → storm_asked rest ≡ Some asked → Meets program (name ∷ codes "storm" ∷ rest) asked
+storm_is_met name rest asked named = record {
+  rows = rows_after storm_flags [] rest;
+  met = storm_met name rest ∙ ap (λ command. Some (command, rows_after storm_flags [] rest)) (is_by stormed_by (codes "storm") (λ uses. refl) (uses_named storm_names rest) asked named);
+  values = storm_leaf_met rest asked named;
 }
 
 -- and so of a command about a path
-path_is_met : (name command : Text) (of : Text → Named) → ((path : Text) → command_of (of path) ≡ command) → ((path : Text) (rows : List Row) → first_of path_id rows ≡ Some path → HasValues (of path) rows)
+path_is_met : (name command : Text) (of : Text → Asked) → ((path : Text) → command_of (of path) ≡ command) → ((path : Text) (rows : List Row) → first_of path_id rows ≡ Some path → HasValues (of path) rows)
     → (rest : List Text) → subcommand_of program (name ∷ command ∷ rest) ≡ Some (command, rows_after path_flags [] rest)
-    → (found : Option Text) (job : Named) → path_named rest ≡ found → option_map of found ≡ Some job → Meets program (name ∷ command ∷ rest) job
-path_is_met name command of is values rest met None job named same = cc
-path_is_met name command of is values rest met (Some path) job named same = subst (Meets program (name ∷ command ∷ rest)) (some_is same) (record {
+    → (found : Option Text) (asked : Asked) → path_named rest ≡ found → option_map of found ≡ Some asked → Meets program (name ∷ command ∷ rest) asked
+path_is_met name command of is values rest met None asked named same = cc
+path_is_met name command of is values rest met (Some path) asked named same = subst (Meets program (name ∷ command ∷ rest)) (some_is same) (record {
   rows = rows_after path_flags [] rest;
   met = met ∙ ap (λ command. Some (command, rows_after path_flags [] rest)) (sym (is path));
   values = values path (rows_after path_flags [] rest) (path_met rest path named);
 })
 
-command_met : (name word : Text) (rest : List Text) (serves checks dumps loads : Bool) (job : Named) → bytes_eq (codes "serve") word ≡ serves → bytes_eq (codes "check") word ≡ checks → bytes_eq (codes "dump") word ≡ dumps
-    → bytes_eq (codes "load") word ≡ loads
-    → cond serves (serve_named rest) (cond checks (option_map Check (path_named rest)) (cond dumps (option_map Dump (path_named rest)) (cond loads (option_map Load (path_named rest)) None))) ≡ Some job → Meets program (name ∷ word ∷ rest) job
-command_met name word rest true checks dumps loads job s c d l named = subst (λ w. Meets program (name ∷ w ∷ rest) job) (is_name (codes "serve") word s) (serve_is_met name rest job named)
-command_met name word rest false true dumps loads job s c d l named =
-    subst (λ w. Meets program (name ∷ w ∷ rest) job) (is_name (codes "check") word c) (path_is_met name (codes "check") Check (λ path. refl) (λ path rows is. is) rest (check_met name rest) (path_named rest) job refl named)
-command_met name word rest false false true loads job s c d l named =
-    subst (λ w. Meets program (name ∷ w ∷ rest) job) (is_name (codes "dump") word d) (path_is_met name (codes "dump") Dump (λ path. refl) (λ path rows is. is) rest (dump_met name rest) (path_named rest) job refl named)
-command_met name word rest false false false true job s c d l named =
-    subst (λ w. Meets program (name ∷ w ∷ rest) job) (is_name (codes "load") word l) (path_is_met name (codes "load") Load (λ path. refl) (λ path rows is. is) rest (load_met name rest) (path_named rest) job refl named)
-command_met name word rest false false false false job s c d l named = cc
+command_met : (name word : Text) (rest : List Text) (serves checks dumps loads storms : Bool) (asked : Asked) → bytes_eq (codes "serve") word ≡ serves → bytes_eq (codes "check") word ≡ checks → bytes_eq (codes "dump") word ≡ dumps
+    → bytes_eq (codes "load") word ≡ loads → bytes_eq (codes "storm") word ≡ storms
+    → cond serves (serve_asked rest) (cond checks (option_map Check (path_named rest)) (cond dumps (option_map Dump (path_named rest)) (cond loads (option_map Load (path_named rest)) (cond storms (storm_asked rest) None)))) ≡ Some asked
+    → Meets program (name ∷ word ∷ rest) asked
+command_met name word rest true checks dumps loads storms asked s c d l o named = subst (λ w. Meets program (name ∷ w ∷ rest) asked) (is_name (codes "serve") word s) (serve_is_met name rest asked named)
+command_met name word rest false true dumps loads storms asked s c d l o named =
+    subst (λ w. Meets program (name ∷ w ∷ rest) asked) (is_name (codes "check") word c) (path_is_met name (codes "check") Check (λ path. refl) (λ path rows is. is) rest (check_met name rest) (path_named rest) asked refl named)
+command_met name word rest false false true loads storms asked s c d l o named =
+    subst (λ w. Meets program (name ∷ w ∷ rest) asked) (is_name (codes "dump") word d) (path_is_met name (codes "dump") Dump (λ path. refl) (λ path rows is. is) rest (dump_met name rest) (path_named rest) asked refl named)
+command_met name word rest false false false true storms asked s c d l o named =
+    subst (λ w. Meets program (name ∷ w ∷ rest) asked) (is_name (codes "load") word l) (path_is_met name (codes "load") Load (λ path. refl) (λ path rows is. is) rest (load_met name rest) (path_named rest) asked refl named)
+command_met name word rest false false false false true asked s c d l o named = subst (λ w. Meets program (name ∷ w ∷ rest) asked) (is_name (codes "storm") word o) (storm_is_met name rest asked named)
+command_met name word rest false false false false false asked s c d l o named = cc
 
-job_met : (words : List Text) (job : Named) → job_named words ≡ Some job → Meets program words job
-job_met [] job named = cc
-job_met (name ∷ []) job named = cc
-job_met (name ∷ command ∷ rest) job named =
-    command_met name command rest (bytes_eq (codes "serve") command) (bytes_eq (codes "check") command) (bytes_eq (codes "dump") command) (bytes_eq (codes "load") command) job refl refl refl refl named
+asked_met : (words : List Text) (asked : Asked) → asked_by words ≡ Some asked → Meets program words asked
+asked_met [] asked named = cc
+asked_met (name ∷ []) asked named = cc
+asked_met (name ∷ command ∷ rest) asked named =
+    command_met name command rest (bytes_eq (codes "serve") command) (bytes_eq (codes "check") command) (bytes_eq (codes "dump") command) (bytes_eq (codes "load") command) (bytes_eq (codes "storm") command) asked
+    refl refl refl refl refl named
 
 -- ---- the version
 
@@ -430,72 +406,73 @@ version_asked : (name : Text) → fault_of program (name ∷ codes "--version" �
 unfolding clap_on_literals
 version_asked name = refl
 
--- the program's parser takes just the words that name a job
+-- the program's parser takes just the words that ask for a command
 pub program_reads : ReadsJobs program
 program_reads = record {
   exact = is_exact;
-  takes = λ words. agreed (job_named words) (fault_of program words) (words_agree words);
-  meets = job_met;
+  takes = λ words. agreed (asked_by words) (fault_of program words) (words_agree words);
+  meets = asked_met;
   version = version_asked;
 }
 
 -- ---- a parse that succeeds
 
--- a parse met a job's command, and its values
-pub record IsJobMet (m : ArgMatches) (job : Named) : Type 0 where
+-- a parse met a command, and its values
+pub record IsJobMet (m : ArgMatches) (asked : Asked) : Type 0 where
   pub rows : List Row
-  pub met : subcommand_rows_of m ≡ Some (command_of job, rows)
-  pub values : HasValues job rows
+  pub met : subcommand_rows_of m ≡ Some (command_of asked, rows)
+  pub values : HasValues asked rows
 
 pub parse_meets : (parser : App) (words : List Text) (m : ArgMatches) → ReadsJobs parser → fault_of parser words ≡ []
-    → HasMatchesOf parser words m → (job : Named) × (job_named words ≡ Some job) × IsJobMet m job
-parse_meets parser words m reads passed matches = go (job_named words) refl ((reads.takes words).0 passed)
+    → HasMatchesOf parser words m → (asked : Asked) × (asked_by words ≡ Some asked) × IsJobMet m asked
+parse_meets parser words m reads passed matches = go (asked_by words) refl ((reads.takes words).0 passed)
   where
     simple : is_simple parser ≡ true
     simple = (both (is_simple parser) _ reads.exact).0
 
-    go : (job : Option Named) → job_named words ≡ job → IsSome job → (job : Named) × (job_named words ≡ Some job) × IsJobMet m job
+    go : (asked : Option Asked) → asked_by words ≡ asked → IsSome asked → (asked : Asked) × (asked_by words ≡ Some asked) × IsJobMet m asked
     go None named some = cc
-    go (Some job) named some =
-        let meets = reads.meets words job named in
-        (job, named, record { rows = meets.rows; met = (matches simple).1 ∙ meets.met; values = meets.values })
+    go (Some asked) named some =
+        let meets = reads.meets words asked named in
+        (asked, named, record { rows = meets.rows; met = (matches simple).1 ∙ meets.met; values = meets.values })
 
 -- a command is met
-pub some_met : (m : ArgMatches) (job : Named) → None ≡ subcommand_name_of m → IsJobMet m job → ⊥
-some_met m job unnamed is = go (out-ArgMatches m).subcommand unnamed is.met
+pub some_met : (m : ArgMatches) (asked : Asked) → None ≡ subcommand_name_of m → IsJobMet m asked → ⊥
+some_met m asked unnamed is = go (out-ArgMatches m).subcommand unnamed is.met
   where
-    go : (sub : Option (Box SubCommand Global)) → None ≡ option_map (λ b. (out-SubCommand (box_value b)).name.now) sub → subcommand_rows sub ≡ Some (command_of job, is.rows) → ⊥
+    go : (sub : Option (Box SubCommand Global)) → None ≡ option_map (λ b. (out-SubCommand (box_value b)).name.now) sub → subcommand_rows sub ≡ Some (command_of asked, is.rows) → ⊥
     go None unnamed met = cc
     go (Some b) unnamed met = cc
 
--- a command and its own matches, as the parse tells them, are the job's
-pub record IsOwn (command : Text) (own : ArgMatches) (job : Named) : Type 0 where
-  pub command_is : command ≡ command_of job
-  pub values : HasValues job (rows_of (found_of own))
+-- a command and its own matches, as the parse tells them, are those that are asked for
+pub record IsOwn (command : Text) (own : ArgMatches) (asked : Asked) : Type 0 where
+  pub command_is : command ≡ command_of asked
+  pub values : HasValues asked (rows_of (found_of own))
 
-pub own_is : (m : ArgMatches) (command : Text) (own : ArgMatches) (job : Named) → Some command ≡ subcommand_name_of m
-    → Some (rows_of (found_of own)) ≡ option_map (λ p. p.1) (subcommand_rows_of m) → IsJobMet m job → IsOwn command own job
-own_is m command own job named behind is = go (out-ArgMatches m).subcommand named behind is.met
+pub own_is : (m : ArgMatches) (command : Text) (own : ArgMatches) (asked : Asked) → Some command ≡ subcommand_name_of m
+    → Some (rows_of (found_of own)) ≡ option_map (λ p. p.1) (subcommand_rows_of m) → IsJobMet m asked → IsOwn command own asked
+own_is m command own asked named behind is = go (out-ArgMatches m).subcommand named behind is.met
   where
     go : (sub : Option (Box SubCommand Global)) → Some command ≡ option_map (λ b. (out-SubCommand (box_value b)).name.now) sub
         → Some (rows_of (found_of own)) ≡ option_map (λ p. p.1) (subcommand_rows sub)
-        → subcommand_rows sub ≡ Some (command_of job, is.rows) → IsOwn command own job
+        → subcommand_rows sub ≡ Some (command_of asked, is.rows) → IsOwn command own asked
     go None named behind met = cc
     go (Some b) named behind met =
         let rows : Some (rows_of (found_of own)) ≡ Some (rows_of (found_of (out-SubCommand (box_value b)).matches)) = behind in record {
           command_is = some_is named ∙ ap (λ (p : Text × List Row). p.0) (some_is met);
-          values = subst (HasValues job) (sym (some_is rows ∙ ap (λ (p : Text × List Row). p.1) (some_is met))) is.values;
+          values = subst (HasValues asked) (sym (some_is rows ∙ ap (λ (p : Text × List Row). p.1) (some_is met))) is.values;
         }
 
--- ---- the job, by its command and its values
+-- ---- the command, by its name and its values
 
-pub serves : (job : Named) (own : ArgMatches) (opened saved : Option Text) → IsOwn (codes "serve") own job → opened ≡ first_value (found_of own) open_name → saved ≡ first_value (found_of own) save_name
-    → Some job ≡ Some (Serve opened saved)
+pub serves : (asked : Asked) (own : ArgMatches) (opened saved : Option Text) → IsOwn (codes "serve") own asked → opened ≡ first_value (found_of own) open_name → saved ≡ first_value (found_of own) save_name
+    → Some asked ≡ Some (Serve opened saved)
 serves (Serve opening saving) own opened saved is opens saves =
     ap₂ (λ opened saved. Some (Serve opened saved)) (sym (opens ∙ first_value-rows (found_of own) open_name ∙ is.values.0)) (sym (saves ∙ first_value-rows (found_of own) save_name ∙ is.values.1))
 serves (Check path) own opened saved is opens saves = absurd (let never : 115 ≡ 99 = ap (λ (word : Text). slice_index_or word 0 0) is.command_is in omega arith)
 serves (Dump path) own opened saved is opens saves = absurd (let never : 115 ≡ 100 = ap (λ (word : Text). slice_index_or word 0 0) is.command_is in omega arith)
 serves (Load path) own opened saved is opens saves = absurd (let never : 115 ≡ 108 = ap (λ (word : Text). slice_index_or word 0 0) is.command_is in omega arith)
+serves (Storm texts) own opened saved is opens saves = absurd (let never : 101 ≡ 116 = ap (λ (word : Text). slice_index_or word 1 0) is.command_is in omega arith)
 
 -- a path, as it was read
 same_path : (own : ArgMatches) (path found : Text) → first_of path_id (rows_of (found_of own)) ≡ Some path → Some found ≡ first_value (found_of own) path_id → path ≡ found
@@ -504,42 +481,81 @@ same_path own path found is read = some_is (sym (read ∙ first_value-rows (foun
 has_path : (own : ArgMatches) (path : Text) → first_of path_id (rows_of (found_of own)) ≡ Some path → IsSome (first_value (found_of own) path_id)
 has_path own path is = subst IsSome (sym (first_value-rows (found_of own) path_id ∙ is)) refl
 
-pub checks : (job : Named) (own : ArgMatches) → IsOwn (codes "check") own job → (path : Text) → Some path ≡ first_value (found_of own) path_id → Some job ≡ Some (Check path)
+pub checks : (asked : Asked) (own : ArgMatches) → IsOwn (codes "check") own asked → (path : Text) → Some path ≡ first_value (found_of own) path_id → Some asked ≡ Some (Check path)
 checks (Serve opening saving) own is path read = absurd (let never : 99 ≡ 115 = ap (λ (word : Text). slice_index_or word 0 0) is.command_is in omega arith)
 checks (Check other) own is path read = ap (λ path. Some (Check path)) (same_path own other path is.values read)
 checks (Dump other) own is path read = absurd (let never : 99 ≡ 100 = ap (λ (word : Text). slice_index_or word 0 0) is.command_is in omega arith)
 checks (Load other) own is path read = absurd (let never : 99 ≡ 108 = ap (λ (word : Text). slice_index_or word 0 0) is.command_is in omega arith)
+checks (Storm texts) own is path read = absurd (let never : 99 ≡ 115 = ap (λ (word : Text). slice_index_or word 0 0) is.command_is in omega arith)
 
-pub dumps : (job : Named) (own : ArgMatches) → IsOwn (codes "dump") own job → (path : Text) → Some path ≡ first_value (found_of own) path_id → Some job ≡ Some (Dump path)
+pub dumps : (asked : Asked) (own : ArgMatches) → IsOwn (codes "dump") own asked → (path : Text) → Some path ≡ first_value (found_of own) path_id → Some asked ≡ Some (Dump path)
 dumps (Serve opening saving) own is path read = absurd (let never : 100 ≡ 115 = ap (λ (word : Text). slice_index_or word 0 0) is.command_is in omega arith)
 dumps (Check other) own is path read = absurd (let never : 100 ≡ 99 = ap (λ (word : Text). slice_index_or word 0 0) is.command_is in omega arith)
 dumps (Dump other) own is path read = ap (λ path. Some (Dump path)) (same_path own other path is.values read)
 dumps (Load other) own is path read = absurd (let never : 100 ≡ 108 = ap (λ (word : Text). slice_index_or word 0 0) is.command_is in omega arith)
+dumps (Storm texts) own is path read = absurd (let never : 100 ≡ 115 = ap (λ (word : Text). slice_index_or word 0 0) is.command_is in omega arith)
 
-pub loads : (job : Named) (own : ArgMatches) → IsOwn (codes "load") own job → (path : Text) → Some path ≡ first_value (found_of own) path_id → Some job ≡ Some (Load path)
+pub loads : (asked : Asked) (own : ArgMatches) → IsOwn (codes "load") own asked → (path : Text) → Some path ≡ first_value (found_of own) path_id → Some asked ≡ Some (Load path)
 loads (Serve opening saving) own is path read = absurd (let never : 108 ≡ 115 = ap (λ (word : Text). slice_index_or word 0 0) is.command_is in omega arith)
 loads (Check other) own is path read = absurd (let never : 108 ≡ 99 = ap (λ (word : Text). slice_index_or word 0 0) is.command_is in omega arith)
 loads (Dump other) own is path read = absurd (let never : 108 ≡ 100 = ap (λ (word : Text). slice_index_or word 0 0) is.command_is in omega arith)
 loads (Load other) own is path read = ap (λ path. Some (Load path)) (same_path own other path is.values read)
+loads (Storm texts) own is path read = absurd (let never : 108 ≡ 115 = ap (λ (word : Text). slice_index_or word 0 0) is.command_is in omega arith)
 
--- a command but `serve` is given a path
-pub path_given : (job : Named) (command : Text) (own : ArgMatches) → IsOwn command own job → (command ≡ codes "serve" → ⊥) → IsSome (first_value (found_of own) path_id)
-path_given (Serve opening saving) command own is other = absurd (other is.command_is)
+-- a text, as it was read
+same_text : (own : ArgMatches) (name : Text) (text : Option Text) → first_of name (rows_of (found_of own)) ≡ text → text ≡ first_value (found_of own) name
+same_text own name text is = sym (first_value-rows (found_of own) name ∙ is)
+
+pub storms : (asked : Asked) (own : ArgMatches) → IsOwn (codes "storm") own asked → Some asked ≡ Some (Storm (texts_of (found_of own)))
+storms (Serve opening saving) own is = absurd (let never : 116 ≡ 101 = ap (λ (word : Text). slice_index_or word 1 0) is.command_is in omega arith)
+storms (Check path) own is = absurd (let never : 115 ≡ 99 = ap (λ (word : Text). slice_index_or word 0 0) is.command_is in omega arith)
+storms (Dump path) own is = absurd (let never : 115 ≡ 100 = ap (λ (word : Text). slice_index_or word 0 0) is.command_is in omega arith)
+storms (Load path) own is = absurd (let never : 115 ≡ 108 = ap (λ (word : Text). slice_index_or word 0 0) is.command_is in omega arith)
+storms (Storm texts) own is = ap (λ texts. Some (Storm texts)) (same_texts is.values)
+  where
+    same_texts : HasTexts texts (rows_of (found_of own)) → texts ≡ texts_of (found_of own)
+    same_texts has =
+        let callers = same_text own callers_name texts.callers has.callers in
+        let calls = same_text own calls_name texts.calls has.calls in
+        let cap = same_text own cap_name texts.cap has.cap in
+        let wards = same_text own wards_name texts.wards has.wards in
+        let copies = same_text own copies_name texts.copies has.copies in
+        ap₂ (λ (p : Option Text × Option Text) (q : Option Text × Option Text × Option Text). record { callers = p.0; calls = p.1; cap = q.0; wards = q.1; copies = q.2 })
+        (ap₂ (λ a b. (a, b)) callers calls) (ap₂ (λ a (b : Option Text × Option Text). (a, b.0, b.1)) cap (ap₂ (λ a b. (a, b)) wards copies))
+
+-- a command but `serve` and `storm` is given a path
+pub path_given : (asked : Asked) (command : Text) (own : ArgMatches) → IsOwn command own asked → (command ≡ codes "serve" → ⊥) × (command ≡ codes "storm" → ⊥) → IsSome (first_value (found_of own) path_id)
+path_given (Serve opening saving) command own is other = absurd (other.0 is.command_is)
 path_given (Check path) command own is other = has_path own path is.values
 path_given (Dump path) command own is other = has_path own path is.values
 path_given (Load path) command own is other = has_path own path is.values
+path_given (Storm texts) command own is other = absurd (other.1 is.command_is)
 
-pub no_serve : (command : Text) → (command ≡ codes "check") ⊎ (command ≡ codes "dump") ⊎ (command ≡ codes "load") → command ≡ codes "serve" → ⊥
-no_serve command (inl is) same = let never : 99 ≡ 115 = ap (λ (word : Text). slice_index_or word 0 0) (sym is ∙ same) in absurd (omega (arith, never))
-no_serve command (inr (inl is)) same = let never : 100 ≡ 115 = ap (λ (word : Text). slice_index_or word 0 0) (sym is ∙ same) in absurd (omega (arith, never))
-no_serve command (inr (inr is)) same = let never : 108 ≡ 115 = ap (λ (word : Text). slice_index_or word 0 0) (sym is ∙ same) in absurd (omega (arith, never))
+pub no_options : (command : Text) → (command ≡ codes "check") ⊎ (command ≡ codes "dump") ⊎ (command ≡ codes "load") → (command ≡ codes "serve" → ⊥) × (command ≡ codes "storm" → ⊥)
+no_options command is = (λ same. begins_apart is (ap (λ (word : Text). slice_index_or word 0 0) same), λ same. begins_apart is (ap (λ (word : Text). slice_index_or word 0 0) same))
+  where
+    begins_apart : (command ≡ codes "check") ⊎ (command ≡ codes "dump") ⊎ (command ≡ codes "load") → slice_index_or command 0 0 ≡ 115 → ⊥
+    begins_apart (inl is) begins = let never : 99 ≡ 115 = ap (λ (word : Text). slice_index_or word 0 0) (sym is) ∙ begins in absurd (omega (arith, never))
+    begins_apart (inr (inl is)) begins = let never : 100 ≡ 115 = ap (λ (word : Text). slice_index_or word 0 0) (sym is) ∙ begins in absurd (omega (arith, never))
+    begins_apart (inr (inr is)) begins = let never : 108 ≡ 115 = ap (λ (word : Text). slice_index_or word 0 0) (sym is) ∙ begins in absurd (omega (arith, never))
 
 -- there is no other command
-pub is_command : (job : Named) (command : Text) (own : ArgMatches) → IsOwn command own job → (command ≡ codes "serve" → ⊥) → (command ≡ codes "check" → ⊥) → (command ≡ codes "dump" → ⊥) → (command ≡ codes "load" → ⊥) → ⊥
-is_command (Serve opening saving) command own is no_serve no_check no_dump no_load = no_serve is.command_is
-is_command (Check path) command own is no_serve no_check no_dump no_load = no_check is.command_is
-is_command (Dump path) command own is no_serve no_check no_dump no_load = no_dump is.command_is
-is_command (Load path) command own is no_serve no_check no_dump no_load = no_load is.command_is
+pub is_command : (asked : Asked) (command : Text) (own : ArgMatches) → IsOwn command own asked → (command ≡ codes "serve" → ⊥) → (command ≡ codes "check" → ⊥) → (command ≡ codes "dump" → ⊥) → (command ≡ codes "load" → ⊥)
+    → (command ≡ codes "storm" → ⊥) → ⊥
+is_command (Serve opening saving) command own is no_serve no_check no_dump no_load no_storm = no_serve is.command_is
+is_command (Check path) command own is no_serve no_check no_dump no_load no_storm = no_check is.command_is
+is_command (Dump path) command own is no_serve no_check no_dump no_load no_storm = no_dump is.command_is
+is_command (Load path) command own is no_serve no_check no_dump no_load no_storm = no_load is.command_is
+is_command (Storm texts) command own is no_serve no_check no_dump no_load no_storm = no_storm is.command_is
+
+-- ---- the job of a command
+
+pub job_is : (words : List Text) (asked wanted : Asked) → asked_by words ≡ Some asked → Some asked ≡ Some wanted → job_named words ≡ job_asked wanted
+job_is words asked wanted named same = ap (option_and_then job_asked) (named ∙ same)
+
+-- words that are taken don't ask for the version
+pub no_version : (parser : App) (words : List Text) → ReadsJobs parser → fault_of parser words ≡ [] → AskForVersion words → ⊥
+no_version parser words reads none asked = let never : [] ≡ kind.DisplayVersion ∷ [] = sym none ∙ ap (fault_of parser) asked.1 ∙ reads.version asked.0 in cc
 
 -- ---- a parse that fails
 

@@ -1,23 +1,55 @@
 -- The job that a command line names.
-use Rattle.std.specs.Prelude.{◌≡◌, ℕ, List, [], ◌∷◌, Option, Some, None, option_map, codes, if◌then◌else◌}
+use Rattle.std.specs.Prelude.{◌≡◌, ⊤, ℕ, ◌&&◌, leb, List, [], ◌∷◌, Option, Some, None, option_map, option_and_then, codes, if◌then◌else◌}
 use Rattle.std.specs.Str.{bytes_eq}
+use Rattle.exh_page.specs.declared.page.TheConstants.{CAP_LIMIT}
+use Rattle.exh_prefix.specs.declared.prefix.TheConstants.{WARD_BITS_LIMIT}
+use Rattle.exh_text.specs.Numbers.{number_spelled}
+use Rattle.exh_storm.specs.StormConfig.{IsStormConfig}
+use Rattle.exh_storm.specs.declared.config.StormConfig.{StormConfig}
+use Rattle.exh_storm.specs.declared.config.TheConstants.{CALLERS_LIMIT, CALLS_LIMIT, COPIES_LIMIT}
 use Rattle.exh_cli.specs.Words.{Use, path_named, uses_named, option_given}
 use Rattle.exh_cli.specs.declared.job.Job.{Job}
 use Rattle.exh_cli.specs.declared.job.Job.TheVariants as jobs
 
--- a job, with the texts of its paths
-pub data Named : Type 0 where
+-- the texts of a storm's numbers, where they were given
+pub record StormTexts : Type 0 where
+  pub callers : Option (List ℕ)
+  pub calls : Option (List ℕ)
+  pub cap : Option (List ℕ)
+  pub wards : Option (List ℕ)
+  pub copies : Option (List ℕ)
+
+-- a command, with the texts of its paths and numbers
+pub data Asked : Type 0 where
   -- the file to open, and where to save
-  Serve : Option (List ℕ) → Option (List ℕ) → Named
-  Check : List ℕ → Named
-  Dump : List ℕ → Named
-  Load : List ℕ → Named
+  Serve : Option (List ℕ) → Option (List ℕ) → Asked
+  Check : List ℕ → Asked
+  Dump : List ℕ → Asked
+  Load : List ℕ → Asked
+  Storm : StormTexts → Asked
+
+-- a job, with the texts of its paths, and its numbers
+pub data Named : Type 0 where
+  Serving : Option (List ℕ) → Option (List ℕ) → Named
+  Checking : List ℕ → Named
+  Dumping : List ℕ → Named
+  Loading : List ℕ → Named
+  Storming : StormConfig → Named
 
 abbrev pub named_of : Job → Named
-named_of (jobs.Serve opened saved) = Serve (option_map (λ path. path.now) opened) (option_map (λ path. path.now) saved)
-named_of (jobs.Check path) = Check path.now
-named_of (jobs.Dump path) = Dump path.now
-named_of (jobs.Load path) = Load path.now
+named_of (jobs.Serve opened saved) = Serving (option_map (λ path. path.now) opened) (option_map (λ path. path.now) saved)
+named_of (jobs.Check path) = Checking path.now
+named_of (jobs.Dump path) = Dumping path.now
+named_of (jobs.Load path) = Loading path.now
+named_of (jobs.Storm config) = Storming config
+
+-- a storm's numbers are within the limits
+abbrev pub IsWithinLimits : Job → Type 0
+IsWithinLimits (jobs.Serve opened saved) = ⊤
+IsWithinLimits (jobs.Check path) = ⊤
+IsWithinLimits (jobs.Dump path) = ⊤
+IsWithinLimits (jobs.Load path) = ⊤
+IsWithinLimits (jobs.Storm config) = IsStormConfig config
 
 -- ---- the words behind a command
 
@@ -28,31 +60,103 @@ open_name = codes "open"
 abbrev pub save_name : List ℕ
 save_name = codes "save"
 
-abbrev pub served_by : List Use → Named
+abbrev pub serve_names : List (List ℕ)
+serve_names = open_name ∷ save_name ∷ []
+
+abbrev pub served_by : List Use → Asked
 served_by uses = Serve (option_given open_name uses) (option_given save_name uses)
 
-abbrev pub serve_named : List (List ℕ) → Option Named
-serve_named words = option_map served_by (uses_named (open_name ∷ save_name ∷ []) words)
+abbrev pub serve_asked : List (List ℕ) → Option Asked
+serve_asked words = option_map served_by (uses_named serve_names words)
+
+-- `storm` takes five
+abbrev pub callers_name : List ℕ
+callers_name = codes "callers"
+
+abbrev pub calls_name : List ℕ
+calls_name = codes "calls"
+
+abbrev pub cap_name : List ℕ
+cap_name = codes "cap"
+
+abbrev pub wards_name : List ℕ
+wards_name = codes "wards"
+
+abbrev pub copies_name : List ℕ
+copies_name = codes "copies"
+
+abbrev pub storm_names : List (List ℕ)
+storm_names = callers_name ∷ calls_name ∷ cap_name ∷ wards_name ∷ copies_name ∷ []
+
+abbrev pub stormed_by : List Use → Asked
+stormed_by uses = Storm (record {
+  callers = option_given callers_name uses;
+  calls = option_given calls_name uses;
+  cap = option_given cap_name uses;
+  wards = option_given wards_name uses;
+  copies = option_given copies_name uses;
+})
+
+abbrev pub storm_asked : List (List ℕ) → Option Asked
+storm_asked words = option_map stormed_by (uses_named storm_names words)
 
 -- ---- a whole command line
 
--- the job of the program's name, a command, and the command's own words
-abbrev pub job_named : List (List ℕ) → Option Named
-job_named [] = None
-job_named (program ∷ []) = None
-job_named (program ∷ command ∷ rest) =
-    if bytes_eq (codes "serve") command then serve_named rest
+-- the program's name, a command, and the command's own words
+abbrev pub asked_by : List (List ℕ) → Option Asked
+asked_by [] = None
+asked_by (program ∷ []) = None
+asked_by (program ∷ command ∷ rest) =
+    if bytes_eq (codes "serve") command then serve_asked rest
     else (if bytes_eq (codes "check") command then option_map Check (path_named rest)
     else (if bytes_eq (codes "dump") command then option_map Dump (path_named rest)
-    else (if bytes_eq (codes "load") command then option_map Load (path_named rest) else None)))
+    else (if bytes_eq (codes "load") command then option_map Load (path_named rest)
+    else (if bytes_eq (codes "storm") command then storm_asked rest else None))))
+
+-- ---- the numbers of a storm
+
+-- from the least to the greatest
+abbrev pub within : ℕ → ℕ → ℕ → Option ℕ
+within least greatest number = if leb least number && leb number greatest then Some number else None
+
+-- the number that a text spells, within its range; or the usual one, where there is no text
+abbrev pub number_of : ℕ → ℕ → ℕ → Option (List ℕ) → Option ℕ
+number_of usual least greatest None = Some usual
+number_of usual least greatest (Some word) = option_and_then (within least greatest) (number_spelled word)
+
+abbrev pub storm_of : StormTexts → Option StormConfig
+storm_of texts =
+    option_and_then (λ callers.
+    option_and_then (λ calls.
+    option_and_then (λ cap.
+    option_and_then (λ wards.
+    option_and_then (λ copies. Some (record { callers = callers; calls = calls; cap = cap; ward_bits = wards; copies = copies }))
+    (number_of 2 1 COPIES_LIMIT texts.copies))
+    (number_of 0 0 WARD_BITS_LIMIT texts.wards))
+    (number_of 2 1 CAP_LIMIT texts.cap))
+    (number_of 100 1 CALLS_LIMIT texts.calls))
+    (number_of 2 1 CALLERS_LIMIT texts.callers)
+
+-- the job that a command comes to: of a storm where all its numbers are some
+abbrev pub job_asked : Asked → Option Named
+job_asked (Serve opened saved) = Some (Serving opened saved)
+job_asked (Check path) = Some (Checking path)
+job_asked (Dump path) = Some (Dumping path)
+job_asked (Load path) = Some (Loading path)
+job_asked (Storm texts) = option_map Storming (storm_of texts)
+
+-- the job that the words of a command line name
+abbrev pub job_named : List (List ℕ) → Option Named
+job_named words = option_and_then job_asked (asked_by words)
 
 -- words that ask for the program's version and name no job: `--version` alone behind its name
 abbrev pub AskForVersion : List (List ℕ) → Type 0
 AskForVersion words = (program : List ℕ) × (words ≡ program ∷ codes "--version" ∷ [])
 
--- the command that asks for a job
-abbrev pub command_of : Named → List ℕ
+-- the command that is asked for
+abbrev pub command_of : Asked → List ℕ
 command_of (Serve opened saved) = codes "serve"
 command_of (Check path) = codes "check"
 command_of (Dump path) = codes "dump"
 command_of (Load path) = codes "load"
+command_of (Storm texts) = codes "storm"

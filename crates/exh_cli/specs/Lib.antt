@@ -8,3 +8,4 @@ pub mod Run
 pub mod FileRun
 pub mod OpenRun
 pub mod LoadRun
+pub mod StormRun

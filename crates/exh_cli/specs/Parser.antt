@@ -1,11 +1,12 @@
 -- What the parser of the command line does with words.
 use Rattle.std.specs.Prelude.{◌≡◌, ◌↔◌, ℕ, List, [], ◌∷◌, map, Some, IsSome, codes, true, false}
-use Rattle.clap.specs.Words.{App, Row, Rule, Shape, fault_of, first_of, is_simple_and_free, new_rule, subcommand_of}
+use Rattle.clap.specs.Words.{App, Row, Rule, Shape, fault_of, first_of, first_value, is_simple_and_free, new_rule, subcommand_of}
 use Rattle.clap.specs.Simple.{new_shape}
 use Rattle.clap.specs.declared.builder.command.Command.{Command}
 use Rattle.clap.specs.declared.builder.command.Command.TheViews.{out-Command}
+use Rattle.clap.specs.declared.parser.matches.Found.{Found}
 use Rattle.clap.specs.declared.error.kind.ErrorKind.TheVariants.{DisplayVersion}
-use Rattle.exh_cli.specs.Job.{Check, Dump, Load, Named, Serve, command_of, job_named, open_name, save_name}
+use Rattle.exh_cli.specs.Job.{Asked, Check, Dump, Load, Serve, Storm, StormTexts, asked_by, callers_name, calls_name, cap_name, command_of, copies_name, open_name, save_name, wards_name}
 
 -- ---- arguments
 
@@ -38,24 +39,43 @@ HasOwnArgs command = (out-Command command).has_globals ≡ false
 
 -- ---- the parser
 
--- what was met of a command gives a job its values
-abbrev pub HasValues : Named → List Row → Type 0
+-- what was met of a storm gives these texts
+pub record HasTexts (texts : StormTexts) (rows : List Row) : Type 0 where
+  pub callers : first_of callers_name rows ≡ texts.callers
+  pub calls : first_of calls_name rows ≡ texts.calls
+  pub cap : first_of cap_name rows ≡ texts.cap
+  pub wards : first_of wards_name rows ≡ texts.wards
+  pub copies : first_of copies_name rows ≡ texts.copies
+
+-- what was met of a command gives these values
+abbrev pub HasValues : Asked → List Row → Type 0
 HasValues (Serve opened saved) rows = (first_of open_name rows ≡ opened) × (first_of save_name rows ≡ saved)
 HasValues (Check path) rows = first_of path_id rows ≡ Some path
 HasValues (Dump path) rows = first_of path_id rows ≡ Some path
 HasValues (Load path) rows = first_of path_id rows ≡ Some path
+HasValues (Storm texts) rows = HasTexts texts rows
 
--- the parser meets a job's command, and its values
-pub record Meets (parser : App) (words : List (List ℕ)) (job : Named) : Type 0 where
+-- the parser meets a command, and its values
+pub record Meets (parser : App) (words : List (List ℕ)) (asked : Asked) : Type 0 where
   pub rows : List Row
-  pub met : subcommand_of parser words ≡ Some (command_of job, rows)
-  pub values : HasValues job rows
+  pub met : subcommand_of parser words ≡ Some (command_of asked, rows)
+  pub values : HasValues asked rows
 
--- a parser that takes just the words that name a job, and there meets that job
+-- a parser that takes just the words that ask for a command, and there meets that command
 pub record ReadsJobs (parser : App) : Type 0 where
   -- it is of the form of which clap says exactly when a parse fails and what it finds
   pub exact : is_simple_and_free parser ≡ true
-  pub takes : (words : List (List ℕ)) → (fault_of parser words ≡ []) ↔ IsSome (job_named words)
-  pub meets : (words : List (List ℕ)) (job : Named) → job_named words ≡ Some job → Meets parser words job
+  pub takes : (words : List (List ℕ)) → (fault_of parser words ≡ []) ↔ IsSome (asked_by words)
+  pub meets : (words : List (List ℕ)) (asked : Asked) → asked_by words ≡ Some asked → Meets parser words asked
   -- `--version` alone asks for the version
   pub version : (name : List ℕ) → fault_of parser (name ∷ codes "--version" ∷ []) ≡ DisplayVersion ∷ []
+
+-- the texts that were found for a storm's numbers
+abbrev pub texts_of : Found → StormTexts
+texts_of found = record {
+  callers = first_value found callers_name;
+  calls = first_value found calls_name;
+  cap = first_value found cap_name;
+  wards = first_value found wards_name;
+  copies = first_value found copies_name;
+}

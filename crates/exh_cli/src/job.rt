@@ -1,13 +1,21 @@
 //! What a command line asks for.
-ghost use Rattle.std.specs.Prelude.{◌≡◌, Some, None, map, IfOk, IfErr, IsSome};
+ghost use Rattle.std.specs.Prelude.{◌≡◌, ◌<◌, ◌≤◌, ◌^◌, Some, None, map, option_map, IfOk, IfErr, IfSome, IsSome};
 ghost use Rattle.clap.specs.Words.{first_value, found_of};
 ghost use Rattle.exh_cli.specs.Fault.{IsWrong, TellsVersion};
-ghost use Rattle.exh_cli.specs.Job.{AskForVersion, job_named, named_of};
-ghost use Rattle.exh_cli.specs.Parser.{path_id};
+ghost use Rattle.exh_cli.specs.Job.{AskForVersion, IsWithinLimits, Storm, job_asked, job_named, named_of, number_of, storm_of};
+ghost use Rattle.exh_cli.specs.Parser.{path_id, texts_of};
+ghost use Rattle.exh_storm.specs.StormConfig.{IsStormConfig};
 
 use crate::fault::CliFault;
-use crate::parser::{CHECK, DUMP, LOAD, OPEN, PATH, SAVE, SERVE, parser};
+use crate::parser::{
+    CALLERS, CALLS, CAP, CHECK, COPIES, DUMP, LOAD, OPEN, PATH, SAVE, SERVE, STORM, WARDS,
+    out_of_range, parser,
+};
 use clap::ArgMatches;
+use exh_page::CAP_LIMIT;
+use exh_prefix::WARD_BITS_LIMIT;
+use exh_storm::{CALLERS_LIMIT, CALLS_LIMIT, COPIES_LIMIT, StormConfig};
+use exh_text::parse_u32;
 use std::alloc::Global;
 use std::convert::AsStr;
 
@@ -32,6 +40,10 @@ pub enum Job<'w> {
     Load {
         path: &'w str,
     },
+    /// Run callers, keepers and couriers at once over a new file.
+    Storm {
+        config: StormConfig,
+    },
 }
 
 /// The job that the words of a command line name, of which the first is the program's name.
@@ -39,9 +51,11 @@ pub enum Job<'w> {
 /// # Errors
 ///
 /// `CliFault::Wrong` only where the words name no job, as in a call for help, or for the version,
-/// which its text then tells. `CliFault::Memory` may come at any words.
+/// which its text then tells; a number that is none, or out of range, is such words too.
+/// `CliFault::Memory` may come at any words.
 pub fn job_of<'w, S: AsStr>(alloc: Global, words: &'w [S]) -> Result<Job<'w>, CliFault>
     ensures named { IfOk result (λ job. job_named (map S.text words.now) ≡ Some (named_of job)) }
+    ensures limits { IfOk result IsWithinLimits }
     ensures wrong { IfErr result (λ fault.
         IsWrong fault → job_named (map S.text words.now) ≡ None) }
     ensures version { IfErr result (λ fault.
@@ -59,6 +73,7 @@ pub fn job_of<'w, S: AsStr>(alloc: Global, words: &'w [S]) -> Result<Job<'w>, Cl
         CHECK => Ok(Job::Check { path: path_in(own) }),
         DUMP => Ok(Job::Dump { path: path_in(own) }),
         LOAD => Ok(Job::Load { path: path_in(own) }),
+        STORM => storm_job(alloc, own),
         _ => unreachable!(),
     }
 }
@@ -72,4 +87,55 @@ fn path_in<'w>(own: &ArgMatches<'w>) -> &'w str
         unreachable!()
     };
     path
+}
+
+// The storm of the settings that were given.
+fn storm_job<'w>(alloc: Global, own: &ArgMatches<'w>) -> Result<Job<'w>, CliFault>
+    ensures named { IfOk result (λ job. job_asked (Storm (texts_of (found_of own.now))) ≡ Some (named_of job)) }
+    ensures limits { IfOk result IsWithinLimits }
+    ensures wrong { IfErr result (λ fault. IsWrong fault → job_asked (Storm (texts_of (found_of own.now))) ≡ None) }
+{
+    match storm_in(own) {
+        Some(config) => Ok(Job::Storm { config }),
+        None => Err(CliFault::Wrong(out_of_range(alloc)?)),
+    }
+}
+
+// The settings that `storm` was given, and the usual ones for the others.
+fn storm_in(own: &ArgMatches<'_>) -> Option<StormConfig>
+    ensures storm { result ≡ storm_of (texts_of (found_of own.now)) }
+    ensures limits { IfSome result IsStormConfig }
+{
+    Some(StormConfig {
+        callers: number_in(own, CALLERS, 2, 1, u32::from(CALLERS_LIMIT))? as u8,
+        calls: number_in(own, CALLS, 100, 1, CALLS_LIMIT)?,
+        cap: number_in(own, CAP, 2, 1, CAP_LIMIT as u32)? as usize,
+        ward_bits: number_in(own, WARDS, 0, 0, u32::from(WARD_BITS_LIMIT))? as u8,
+        copies: number_in(own, COPIES, 2, 1, u32::from(COPIES_LIMIT))? as u8,
+    })
+}
+
+// The number that an option was given, from the least to the greatest; the usual one where it was given none.
+fn number_in(
+    own: &ArgMatches<'_>,
+    option: &str,
+    usual: u32,
+    least: u32,
+    greatest: u32,
+) -> Option<u32>
+    requires least { least ≤ usual }
+    requires greatest { usual ≤ greatest }
+    ensures number { result ≡ number_of usual least greatest (first_value (found_of own.now) option.now) }
+    ensures least { IfSome result (λ number. least ≤ number) }
+    ensures greatest { IfSome result (λ number. number ≤ greatest) }
+{
+    let Some(word) = own.get_str(option) else {
+        return Some(usual);
+    };
+    let number = parse_u32(word.as_bytes())?;
+    if least <= number && number <= greatest {
+        Some(number)
+    } else {
+        None
+    }
 }

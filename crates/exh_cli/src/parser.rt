@@ -1,7 +1,7 @@
 //! The parser of the command line, with the texts that a stranger reads.
-ghost use Rattle.std.specs.Prelude.{◌≡◌, ◌∷◌, [], IfOk, codes};
-ghost use Rattle.clap.specs.Words.{app_of, kind_of};
-ghost use Rattle.exh_cli.specs.Job.{open_name, save_name};
+ghost use Rattle.std.specs.Prelude.{◌≡◌, IfOk, codes, false};
+ghost use Rattle.clap.specs.Words.{app_of, kind_of, rule_of};
+ghost use Rattle.exh_cli.specs.Job.{serve_names, storm_names};
 ghost use Rattle.exh_cli.specs.Program.{bare_program};
 ghost use Rattle.exh_cli.specs.Parser.{HasOwnArgs, ReadsJobs, about_path, only, option_rule, with_options};
 
@@ -21,6 +21,9 @@ pub const DUMP: &str = "dump";
 /// The command that saves pairs as a page file.
 pub const LOAD: &str = "load";
 
+/// The command that runs callers, keepers and couriers at once.
+pub const STORM: &str = "storm";
+
 /// What help calls the path of the file that a command is about.
 pub const PATH: &str = "PATH";
 
@@ -30,6 +33,24 @@ pub const OPEN: &str = "open";
 /// The option of `serve` that names where the wards that a run leaves are saved.
 pub const SAVE: &str = "save";
 
+/// The option of `storm` that tells how many callers there are.
+pub const CALLERS: &str = "callers";
+
+/// The option of `storm` that tells how many calls each caller makes.
+pub const CALLS: &str = "calls";
+
+/// The option of `storm` that tells how many records a page may have.
+pub const CAP: &str = "cap";
+
+/// The option of `storm` that tells by how many bits the file is cut into wards.
+pub const WARDS: &str = "wards";
+
+/// The option of `storm` that tells how many copies of the directory there are.
+pub const COPIES: &str = "copies";
+
+// What help calls a number.
+const NUMBER: &str = "N";
+
 // The program's own, which says nothing of the formats'.
 const VERSION: &str = "0.1.0";
 
@@ -37,12 +58,15 @@ const USAGE: &str = "exhash serve [--open PATH] [--save PATH] < SCRIPT
        exhash check PATH
        exhash dump PATH
        exhash load PATH < PAIRS
+       exhash storm [--callers N] [--calls N] [--cap N] [--wards N]
+         [--copies N]
 
 Examples:
   ./exhash serve < examples/untold-copy.script
   ./exhash check examples/three-pairs.files/three-pairs.exh
   ./exhash dump examples/three-pairs.files/three-pairs.exh
-  ./exhash load my-pairs.exh < examples/three-pairs-loaded.script";
+  ./exhash load my-pairs.exh < examples/three-pairs-loaded.script
+  ./exhash storm --callers 4 --calls 100";
 
 const SERVE_USAGE: &str = "exhash serve [--open PATH] [--save PATH] < SCRIPT
 
@@ -179,11 +203,31 @@ Exit status: 0 where the file is saved, also with refused lines; 1 where it
 isn't; 2 where the command line is wrong, or asks for help.
 The formats are in docs/FORMATS.md.";
 
+const STORM_USAGE: &str = "exhash storm [--callers N] [--calls N] [--cap N] [--wards N]
+         [--copies N]
+
+Example:
+  ./exhash storm --callers 4 --calls 100";
+
+const STORMED: &str = "\
+It makes a new file in memory, of keyer sha, and then all at once, each on a
+thread of its own: callers put, get and delete 50 keys, a keeper of each ward
+merges pages that have grown empty, and a courier of each copy of the directory
+carries it the notices. At the end it is found out whether the callers' answers
+are those of one history of each ward. It prints one line:
+  settled A     they are; A is how many answers there were
+  refused N     10 where memory ends, or a thread can't be made; 50 where a call
+                took too many turns; 51 where the answers are not; 11, 52
+
+Exit status: 0 where all is settled; 1 where it is refused; 2 where the command
+line is wrong, or asks for help.
+The formats are in docs/FORMATS.md.";
+
 // What holds of every command.
 const ENDS: &str = "\
 Exit status: 0 where the run is done, also with refused lines, or the file is
-legal; 1 where either is refused or the run breaks off; 2 where the command line
-is wrong, or asks for help or for the version.
+legal, or all is settled; 1 where it is refused or the run breaks off; 2 where
+the command line is wrong, or asks for help or for the version.
 `exhash serve --help` has the lines of a script, `exhash check --help` what is
 said of a file, docs/FORMATS.md the formats.";
 
@@ -196,10 +240,12 @@ pub fn parser<'a>(alloc: Global) -> Result<Command<'a>, AllocError>
     let check = check(alloc)?;
     let dump = dump(alloc)?;
     let load = load(alloc)?;
+    let storm = storm(alloc)?;
     let serving = exhash.subcommand(serve)?;
     let checking = serving.subcommand(check)?;
     let dumping = checking.subcommand(dump)?;
-    dumping.subcommand(load)
+    let loading = dumping.subcommand(load)?;
+    loading.subcommand(storm)
 }
 
 // The program's own command, with none below it.
@@ -219,7 +265,7 @@ fn bare_program<'a>(alloc: Global) -> Result<Command<'a>, AllocError>
 // The parser of `serve`.
 fn serve<'a>(alloc: Global) -> Result<Command<'a>, AllocError>
     ensures own { IfOk result HasOwnArgs }
-    ensures is { IfOk result (λ command. app_of command ≡ only (with_options (codes "serve") (open_name ∷ save_name ∷ []))) }
+    ensures is { IfOk result (λ command. app_of command ≡ only (with_options (codes "serve") serve_names)) }
 {
     let open = Arg::new(alloc, OPEN)
         .long(OPEN)
@@ -274,6 +320,65 @@ fn load<'a>(alloc: Global) -> Result<Command<'a>, AllocError>
         .after_help(LOADED)
         .override_usage(LOAD_USAGE)
         .arg(path)
+}
+
+// The parser of `storm`.
+fn storm<'a>(alloc: Global) -> Result<Command<'a>, AllocError>
+    ensures own { IfOk result HasOwnArgs }
+    ensures is { IfOk result (λ command. app_of command ≡ only (with_options (codes "storm") storm_names)) }
+{
+    let callers = number(
+        alloc,
+        CALLERS,
+        "How many callers there are, 1 to 16 [default: 2]",
+    );
+    let calls = number(
+        alloc,
+        CALLS,
+        "How many calls each caller makes, 1 to 10000 [default: 100]",
+    );
+    let cap = number(
+        alloc,
+        CAP,
+        "How many records a page may have, 1 to 16 [default: 2]",
+    );
+    let wards = number(alloc, WARDS, "0 to 4, for 2^N wards [default: 0]");
+    let copies = number(
+        alloc,
+        COPIES,
+        "How many copies of the directory there are, 1 to 8 [default: 2]",
+    );
+    Command::new(alloc, STORM)
+        .about("Runs callers, keepers and couriers at once, and settles what they were answered")
+        .after_help(STORMED)
+        .override_usage(STORM_USAGE)
+        .arg(callers)?
+        .arg(calls)?
+        .arg(cap)?
+        .arg(wards)?
+        .arg(copies)
+}
+
+// An option with a number.
+fn number<'a>(alloc: Global, name: &'a str, help: &'a str) -> Arg<'a>
+    ensures rule { rule_of result ≡ option_rule name.now }
+    ensures own { result.global ≡ false }
+{
+    Arg::new(alloc, name)
+        .long(name)
+        .value_name(NUMBER)
+        .help(help)
+}
+
+/// The error of a number of `storm` that is none, or out of its range.
+pub fn out_of_range(alloc: Global) -> Result<Error, AllocError>
+    ensures { IfOk result (λ error. kind_of error ≡ ErrorKind.ValueValidation) }
+{
+    parser(alloc)?.error(
+        ErrorKind::ValueValidation,
+        "a number of `storm` is none, or out of its range: callers 1 to 16, calls
+1 to 10000, cap 1 to 16, wards 0 to 4, copies 1 to 8",
+    )
 }
 
 /// The error of a command line with a word that is not UTF-8.

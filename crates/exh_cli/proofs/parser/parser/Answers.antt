@@ -11,6 +11,7 @@ returns c =
     let serving = c.in_ok-serving.ensures.shape c.in_ok-serve.ensures.own ∙ ap₂ with_subcommand exhash_is (ap (λ (a : App). a.top) c.in_ok-serve.ensures.is) in
     let checking = c.in_ok-checking.ensures.shape c.in_ok-check.ensures.own ∙ ap₂ with_subcommand serving (ap (λ (a : App). a.top) c.in_ok-check.ensures.is) in
     let dumping = c.in_ok-dumping.ensures.shape c.in_ok-dump.ensures.own ∙ ap₂ with_subcommand checking (ap (λ (a : App). a.top) c.in_ok-dump.ensures.is) in
-    IfOk-weaker c.subcommand-4.result _ _ (λ command added.
-    let same : app_of command ≡ program = added.shape c.in_ok-load.ensures.own ∙ ap₂ with_subcommand dumping (ap (λ (a : App). a.top) c.in_ok-load.ensures.is) in
-    subst ReadsJobs (sym same) program_reads) c.subcommand-4.ensures
+    let loading = c.in_ok-loading.ensures.shape c.in_ok-load.ensures.own ∙ ap₂ with_subcommand dumping (ap (λ (a : App). a.top) c.in_ok-load.ensures.is) in
+    IfOk-weaker c.subcommand-5.result _ _ (λ command added.
+    let same : app_of command ≡ program = added.shape c.in_ok-storm.ensures.own ∙ ap₂ with_subcommand loading (ap (λ (a : App). a.top) c.in_ok-storm.ensures.is) in
+    subst ReadsJobs (sym same) program_reads) c.subcommand-5.ensures
