@@ -10,6 +10,7 @@ mod faults;
 mod line;
 mod lives;
 mod opened;
+mod scripts;
 
 use exh_runs::{Difference, Run, RunKind, run_program};
 use std::process::ExitCode;
@@ -20,6 +21,8 @@ enum Kind {
     Anew,
     /// Page faults.
     WorldFaults,
+    /// Page faults under a script.
+    ScriptFaults,
     /// Wards as of a file that was written.
     OpenedWorlds,
 }
@@ -29,6 +32,7 @@ impl RunKind for Kind {
         match self {
             Kind::Anew => "anew",
             Kind::WorldFaults => "world-faults",
+            Kind::ScriptFaults => "script-faults",
             Kind::OpenedWorlds => "opened-worlds",
         }
     }
@@ -37,12 +41,18 @@ impl RunKind for Kind {
         match self {
             Kind::Anew => anew::run(run),
             Kind::WorldFaults => faults::run(run),
+            Kind::ScriptFaults => scripts::run(run),
             Kind::OpenedWorlds => opened::run(run),
         }
     }
 }
 
 fn main(rt: HostRuntime) -> ExitCode {
-    let kinds = [Kind::Anew, Kind::WorldFaults, Kind::OpenedWorlds];
+    let kinds = [
+        Kind::Anew,
+        Kind::WorldFaults,
+        Kind::ScriptFaults,
+        Kind::OpenedWorlds,
+    ];
     run_program(&rt, "beside_world_events", &kinds)
 }
