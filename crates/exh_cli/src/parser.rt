@@ -346,10 +346,10 @@ fn storm<'a>(alloc: Global) -> Result<Command<'a>, AllocError>
     let copies = number(
         alloc,
         COPIES,
-        "How many copies of the directory there are, 1 to 8 [default: 2]",
+        "How many copies the directory has, 1 to 8 [default: 2]",
     );
     Command::new(alloc, STORM)
-        .about("Runs callers, keepers and couriers at once, and settles what they were answered")
+        .about("Runs callers, keepers and couriers at once, and settles it all")
         .after_help(STORMED)
         .override_usage(STORM_USAGE)
         .arg(callers)?
