@@ -9,6 +9,7 @@ use exh_prefix::PageNo;
 use exh_runs::{Difference, Part, again, same};
 use exh_table::Table;
 use std::alloc::{AllocError, Global};
+use std::sync::Wait;
 
 // More entries than any start table of the stories has.
 const MANY: usize = 1000;
@@ -46,4 +47,15 @@ pub(crate) fn is_named(
         copy.look(PlainKeyer.pseudo(key)) == Some(page),
         Part::Pointer,
     )
+}
+
+/// Tells a copy what a table has.
+pub(crate) fn tell_table<R: Wait>(
+    rt: &R,
+    writer: &mut Writer,
+    table: &Table,
+) -> Result<(), Difference> {
+    again!(Err(AllocError) => writer.combine(table))?;
+    again!(Err(AllocError) => writer.publish(rt))?;
+    Ok(())
 }

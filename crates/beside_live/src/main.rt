@@ -13,11 +13,16 @@ mod courier;
 mod half;
 mod keeper;
 mod one_ward;
+mod opened;
+mod opened_courier;
+mod opened_ward;
 mod replies;
 mod three_keys;
 mod told_copy;
+mod worn_keeper;
 
 use crate::one_ward::OneWard;
+use crate::opened_ward::OpenedWard;
 use exh_callers::{Reader, Writer};
 use exh_copy::{NewCopyFault, new_copy};
 use exh_runs::{Difference, Part, Run, RunKind, again, run_program};
@@ -36,16 +41,20 @@ enum Story {
     OneWard(OneWard),
     /// Closing, and settling.
     Closing,
+    /// Of an opened file of one ward.
+    OpenedWard(OpenedWard),
 }
 
 // All of them, in the order in which they are played.
-const STORIES: [Story; 6] = [
+const STORIES: [Story; 8] = [
     Story::OneWard(OneWard::ToldCopy),
     Story::Closing,
     Story::OneWard(OneWard::Courier),
     Story::OneWard(OneWard::Keeper),
     Story::OneWard(OneWard::EvenHalf),
     Story::OneWard(OneWard::OddHalf),
+    Story::OpenedWard(OpenedWard::OpenedCourier),
+    Story::OpenedWard(OpenedWard::WornKeeper),
 ];
 
 impl Story {
@@ -57,6 +66,8 @@ impl Story {
             Story::OneWard(OneWard::EvenHalf) => "even-half",
             Story::OneWard(OneWard::OddHalf) => "odd-half",
             Story::Closing => "closing",
+            Story::OpenedWard(OpenedWard::OpenedCourier) => "opened-courier",
+            Story::OpenedWard(OpenedWard::WornKeeper) => "worn-keeper",
         }
     }
 }
@@ -116,6 +127,7 @@ fn play<R: Wait>(
     match story {
         Story::OneWard(story) => one_ward::run(rt, run, story, writer, &mut copies),
         Story::Closing => closing::run(rt, run, &mut copies),
+        Story::OpenedWard(story) => opened_ward::run(rt, run, story, writer, &mut copies),
     }
 }
 
