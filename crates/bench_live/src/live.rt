@@ -140,7 +140,6 @@ fn run<
 }
 
 // Puts the records, with a courier's round to the copy after each part.
-#[tactic(auto, using(crate::proofs::Places::as_many))]
 fn fill_all<'a, R: Wait + AllocGlobal, F: Identity, S: Start>(
     rt: &'a R,
     ward_bits: u8,

@@ -1,2 +1,1 @@
-mod Carried
 mod NewWards

@@ -1,5 +1,5 @@
 -- Rounds: why sparse pages aren't merged, and notices that are taken one by one and ward by ward.
-use Rattle.std.proofs.Common.{◌≡◌, ℕ, ◌+◌, ◌*◌, ◌<◌, ◌≤◌, Bool, true, false, List, [], ◌∷◌, ◌++◌, append-nil, append_assoc, length, take, get_or, Some, None, Result, Ok, Err, IfOk, inl, inr, refl, sym, ap, ◌∙◌, subst, arith}
+use Rattle.std.proofs.Common.{◌≡◌, ℕ, suc, ◌+◌, ◌*◌, ◌<◌, ◌≤◌, Bool, true, false, List, [], ◌∷◌, ◌++◌, append-nil, append_assoc, length, take, get_or, Some, None, Result, Ok, Err, IfOk, inl, inr, refl, sym, ap, ◌∙◌, subst, arith}
 use Rattle.std.proofs.lemmas.Bool.{false≢true}
 use Rattle.std.proofs.lemmas.List.{length-take-le, length_push, same_from_push, take_more}
 use Rattle.std.proofs.lemmas.Option.{slice_get_within}
@@ -94,6 +94,11 @@ one_ward_more ward (first_place ∷ places) notices lasts place more last (first
       first_from,
       one_ward_more (ward + 1) places rest rest_lasts place more last carried (subst (λ n. AreFromTo n place more last) here from),
     )
+
+-- there are as many places as before
+pub as_many_places : (ward : ℕ) (places : List ℕ) (notices : List Notice) (lasts : List ℕ) → AreCarried ward places notices lasts → length lasts ≡ length places
+as_many_places ward [] notices lasts carried = ap length carried.1
+as_many_places ward (place ∷ places) notices lasts (first, rest, last, ends, is, lasts_are, from, carried) = ap length lasts_are ∙ ap suc (as_many_places (ward + 1) places rest ends carried)
 
 -- the notices and places of one ward more
 pub one_place_more : (places : List ℕ) (number : ℕ) (notices more all : List Notice) (lasts ends : List ℕ) (last : ℕ) → number < length places → AreCarried 0 (take number places) notices lasts → (spot : ℕ) → spot ≡ number → AreFromTo number (get_or places spot 0) more last

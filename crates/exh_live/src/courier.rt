@@ -19,6 +19,7 @@ impl<P: Pages + Drop, K: Keyer, F: Identity> LiveFile<P, K, F> {
     /// answers how many it took. Where memory is refused, an `AllocError`, it moves no place and
     /// publishes nothing, and what it has taken is pending: to take it once more changes nothing. It may
     /// wait for callers, and for readers of the copy.
+    #[tactic(auto, using(crate::proofs::Rounds::as_many_places))]
     pub fn courier_round<R: Wait, S: Start>(
         &self,
         rt: &R,
@@ -27,6 +28,7 @@ impl<P: Pages + Drop, K: Keyer, F: Identity> LiveFile<P, K, F> {
     ) -> Result<u64, AllocError>
         requires { length cursors.old ≡ 2 ^ self.now.ward_bits }
         ensures carried { IfOk result (λ count. (notices : List NoticeValue) × AreCarried 0 cursors.old notices cursors.new × (count ≡ length notices) × (copy.new ≡ record { published = copy.old.published ++ copy.old.pending ++ map Take notices; pending = [] })) }
+        ensures places { length cursors.new ≡ length cursors.old }
         ensures err { OnErr result ((cursors.new ≡ cursors.old) × KeepsPending copy.old copy.new) }
     {
         let (notices, places) = self.notices_after(rt, cursors.places.as_slice())?;

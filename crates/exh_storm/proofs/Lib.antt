@@ -1,5 +1,3 @@
 mod Calls
-mod Carried
 mod Each
 mod Sums
-mod Tables

@@ -26,7 +26,6 @@ impl<R: Wait, S: Start> Courier<'_, R, S> {
     /// Makes so many rounds to its copy, from a new file's places on. The file has 2^`ward_bits` wards.
     /// Before each round it asks the gate, as the client of its copy, at turns 1, 2, .. Refused: `Held`
     /// where the gate says no, `Memory`. It may wait for other workers.
-    #[tactic(auto, using(crate::proofs::Carried::same_places))]
     pub fn run<P: Pages + Drop, K: Keyer, F: Identity, G: Gate>(
         &mut self,
         alloc: Global,

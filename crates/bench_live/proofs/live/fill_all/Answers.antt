@@ -1,4 +1,4 @@
-use Rattle.bench_live.proofs.Tables.{nothing_told}
+use Rattle.exh_live.specs.RoundLemmas.{nothing_told}
 use Rattle.bench_live.proofs.live.fill_all.Goals as goal
 
 pub new-requires-2-clause-few : goal.new-requires-2-clause-few
