@@ -25,7 +25,7 @@ use crate::one_ward::OneWard;
 use crate::opened_ward::OpenedWard;
 use exh_callers::{Reader, Writer};
 use exh_copy::{NewCopyFault, new_copy};
-use exh_runs::{Difference, Part, Run, RunKind, again, run_program};
+use exh_runs::{Difference, Named, Part, Run, RunKind, again, run_program};
 use exh_table::Table;
 use std::alloc::AllocError;
 use std::marker::Brand;
@@ -90,11 +90,13 @@ impl<R: Wait> Clone for Told<'_, R> {
 
 impl<R: Wait> Copy for Told<'_, R> {}
 
-impl<R: Wait> RunKind for Told<'_, R> {
+impl<R: Wait> Named for Told<'_, R> {
     fn name(self) -> &'static str {
         self.story.name()
     }
+}
 
+impl<R: Wait> RunKind for Told<'_, R> {
     fn take_steps(self, run: &mut Run) -> Result<(), Difference> {
         again!(Err(Difference::Memory(_)) => with_copy(self.rt, self.story, run))
     }

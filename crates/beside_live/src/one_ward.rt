@@ -4,9 +4,9 @@ ghost use Rattle.exh_keyer.specs.Pseudokey.{plain_pseudokey};
 ghost use Rattle.exh_live.specs.declared.ledgers.TheConstants.{ANSWER_PARTS, ENTRY_PARTS};
 
 use crate::{courier, half, keeper, told_copy};
-use exh_callers::{Caller, PlainFile, Reader, Writer, close, new_file, next_caller, settled};
+use exh_callers::{Caller, PlainFile, Reader, Writer, close_settled, new_file, next_caller};
 use exh_live::{ANSWER_PARTS, ENTRY_PARTS, Identity};
-use exh_runs::{Difference, Part, Run, same};
+use exh_runs::{Difference, Run};
 use std::marker::Brand;
 use std::sync::Wait;
 use std::sync::ledger::Blank;
@@ -102,9 +102,6 @@ fn run_file<R: Wait, F: Identity>(
     let taken = story.take_steps(rt, run, &file, &mut caller, writer);
     run.tally.check(taken);
     seats.push_reserved(caller.seat);
-    let closed = close(file, seats).map_err(Difference::Refused)?;
-    let count = settled(0, closed.wards.as_slice(), closed.diaries.as_slice());
-    run.tally
-        .step(same(count == Ok(story.answers()), Part::Journal));
+    close_settled(run, 0, file, seats, story.answers())?;
     Ok(())
 }

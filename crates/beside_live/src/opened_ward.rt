@@ -6,9 +6,9 @@ ghost use Rattle.exh_live.specs.declared.ledgers.TheConstants.{ANSWER_PARTS, ENT
 use crate::carried::tell_table;
 use crate::opened::{opened_file, start_table};
 use crate::{opened_courier, worn_keeper};
-use exh_callers::{Caller, PlainFile, Reader, Writer, close, next_caller, settled};
+use exh_callers::{Caller, PlainFile, Reader, Writer, close_settled, next_caller};
 use exh_live::{ANSWER_PARTS, ENTRY_PARTS, Identity};
-use exh_runs::{Difference, Part, Run, same};
+use exh_runs::{Difference, Run};
 use exh_table::Table;
 use std::marker::Brand;
 use std::sync::Wait;
@@ -95,9 +95,6 @@ fn run_file<R: Wait, F: Identity>(
     let taken = story.take_steps(rt, run, &file, &mut caller, writer, &start);
     run.tally.check(taken);
     seats.push_reserved(caller.seat);
-    let closed = close(file, seats).map_err(Difference::Refused)?;
-    let count = settled(0, closed.wards.as_slice(), closed.diaries.as_slice());
-    run.tally
-        .step(same(count == Ok(story.answers()), Part::Journal));
+    close_settled(run, 0, file, seats, story.answers())?;
     Ok(())
 }

@@ -1,5 +1,7 @@
 //! The stories.
 
+use exh_runs::Named;
+
 /// A story.
 #[derive(Clone, Copy, PartialEq, Eq)]
 pub(crate) enum Story {
@@ -24,9 +26,8 @@ pub(crate) const STORIES: [Story; 5] = [
     Story::Small,
 ];
 
-impl Story {
-    /// The word that names it.
-    pub(crate) fn name(self) -> &'static str {
+impl Named for Story {
+    fn name(self) -> &'static str {
         match self {
             Story::HeldCaller => "held-caller",
             Story::Company => "company",

@@ -13,7 +13,7 @@ mod machines;
 mod slow_leaves;
 mod tables;
 
-use exh_runs::{Difference, Run, RunKind, run_program};
+use exh_runs::{Difference, Named, Run, RunKind, run_program};
 use std::process::ExitCode;
 
 #[derive(Clone, Copy)]
@@ -30,7 +30,7 @@ enum Kind {
     Chains,
 }
 
-impl RunKind for Kind {
+impl Named for Kind {
     fn name(self) -> &'static str {
         match self {
             Kind::Machines => "machines",
@@ -40,7 +40,9 @@ impl RunKind for Kind {
             Kind::Chains => "chains",
         }
     }
+}
 
+impl RunKind for Kind {
     fn take_steps(self, run: &mut Run) -> Result<(), Difference> {
         match self {
             Kind::Machines => machines::run(run),

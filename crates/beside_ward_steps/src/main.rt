@@ -12,7 +12,7 @@ mod plain_ward;
 mod routes;
 mod ward_step;
 
-use exh_runs::{Difference, Run, RunKind, run_program};
+use exh_runs::{Difference, Named, Run, RunKind, run_program};
 use std::process::ExitCode;
 
 #[derive(Clone, Copy)]
@@ -27,7 +27,7 @@ enum Kind {
     OpenedWards,
 }
 
-impl RunKind for Kind {
+impl Named for Kind {
     fn name(self) -> &'static str {
         match self {
             Kind::Routes => "routes",
@@ -36,7 +36,9 @@ impl RunKind for Kind {
             Kind::OpenedWards => "opened-wards",
         }
     }
+}
 
+impl RunKind for Kind {
     fn take_steps(self, run: &mut Run) -> Result<(), Difference> {
         match self {
             Kind::Routes => routes::run(run),

@@ -10,7 +10,7 @@ mod slow_ward;
 mod small_ward;
 mod wards;
 
-use exh_runs::{Difference, Run, RunKind, run_program};
+use exh_runs::{Difference, Named, Run, RunKind, run_program};
 use std::process::ExitCode;
 
 #[derive(Clone, Copy)]
@@ -19,13 +19,15 @@ enum Kind {
     Wards,
 }
 
-impl RunKind for Kind {
+impl Named for Kind {
     fn name(self) -> &'static str {
         match self {
             Kind::Wards => "wards",
         }
     }
+}
 
+impl RunKind for Kind {
     fn take_steps(self, run: &mut Run) -> Result<(), Difference> {
         match self {
             Kind::Wards => wards::run(run),

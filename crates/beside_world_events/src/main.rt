@@ -12,7 +12,7 @@ mod lives;
 mod opened;
 mod scripts;
 
-use exh_runs::{Difference, Run, RunKind, run_program};
+use exh_runs::{Difference, Named, Run, RunKind, run_program};
 use std::process::ExitCode;
 
 #[derive(Clone, Copy)]
@@ -27,7 +27,7 @@ enum Kind {
     OpenedWorlds,
 }
 
-impl RunKind for Kind {
+impl Named for Kind {
     fn name(self) -> &'static str {
         match self {
             Kind::Anew => "anew",
@@ -36,7 +36,9 @@ impl RunKind for Kind {
             Kind::OpenedWorlds => "opened-worlds",
         }
     }
+}
 
+impl RunKind for Kind {
     fn take_steps(self, run: &mut Run) -> Result<(), Difference> {
         match self {
             Kind::Anew => anew::run(run),

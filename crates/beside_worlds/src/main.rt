@@ -9,7 +9,7 @@ mod known;
 mod slow_world;
 mod worlds;
 
-use exh_runs::{Difference, Run, RunKind, run_program};
+use exh_runs::{Difference, Named, Run, RunKind, run_program};
 use std::process::ExitCode;
 
 #[derive(Clone, Copy)]
@@ -18,13 +18,15 @@ enum Kind {
     Worlds,
 }
 
-impl RunKind for Kind {
+impl Named for Kind {
     fn name(self) -> &'static str {
         match self {
             Kind::Worlds => "worlds",
         }
     }
+}
 
+impl RunKind for Kind {
     fn take_steps(self, run: &mut Run) -> Result<(), Difference> {
         match self {
             Kind::Worlds => worlds::run(run),

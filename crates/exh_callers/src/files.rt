@@ -14,7 +14,7 @@ use exh_live::{
     ANSWER_PARTS, CloseFault, Closed, ENTRY_PARTS, Identity, LiveFile, Seat, WardJournals,
 };
 use exh_page::CAP_LIMIT;
-use exh_runs::Difference;
+use exh_runs::{Difference, Part, Run, same};
 use exh_settle::{Diary, Mismatch, settle};
 use exh_ward::Ward;
 use std::alloc::{AllocError, Global};
@@ -106,6 +106,27 @@ fn close_once<P: Pages + Drop, F: Identity>(
         Ok(closed) => Ok(closed),
         Err(back) => Err(back.fault.number()),
     }
+}
+
+/// Closes a file of 2^`ward_bits` wards with these seats, and counts as a step whether its diaries and
+/// wards settle to so many answers. A `Difference` where it can't be closed.
+pub fn close_settled<P: Pages + Drop, F: Identity>(
+    run: &mut Run,
+    ward_bits: u8,
+    file: File<P, F>,
+    seats: Vec<Seat<F>>,
+    answers: u128,
+) -> Result<Closed<P, PlainKeyer>, Difference>
+    requires { ward_bits ≤ WARD_BITS_LIMIT }
+{
+    let closed = close(file, seats).map_err(Difference::Refused)?;
+    let count = settled(
+        ward_bits,
+        closed.wards.as_slice(),
+        closed.diaries.as_slice(),
+    );
+    run.tally.step(same(count == Ok(answers), Part::Journal));
+    Ok(closed)
 }
 
 /// How many answers the diaries and the wards settle to, or else the refusal's number.

@@ -4,11 +4,13 @@
 
 pub use dice::Dice;
 pub use difference::{Difference, Part, same};
-pub use kind::RunKind;
+pub use job::Job;
+pub use kind::{Named, RunKind};
 pub use lie::Lie;
 pub use list::push;
-pub use program::run_program;
+pub use program::{has_told_difference, run_program};
 pub use run::Run;
+pub use status::Status;
 pub use tally::Tally;
 
 mod again;

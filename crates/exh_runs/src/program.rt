@@ -2,11 +2,11 @@
 
 use crate::job::Job;
 use crate::status::Status;
-use crate::{Run, RunKind, Tally};
+use crate::{RunKind, Tally};
 use std::alloc::Global;
 use std::env::Env;
+use std::io;
 use std::process::ExitCode;
-use std::{env, io};
 
 /// Makes the runs that the program's own words ask for, and prints what each came to. The exit status
 /// is 0 where no step differed, 1 where one did or a line couldn't be written, and 2 where the words
@@ -16,55 +16,35 @@ pub fn run_program<K: RunKind>(
     program: &str,
     kinds: &[K],
 ) -> ExitCode {
-    let status = match asked(rt, kinds) {
-        Some(job) => run_all(rt, &job),
-        None => {
-            // Where the line cannot be written, the status alone tells.
-            let _ = eprintln!(rt; "usage: {program} [SEED ROUNDS [all|KIND [wrong]]]");
-            Status::WrongWords
-        }
+    let Some(job) = Job::asked(rt, program, kinds) else {
+        return Status::WrongWords.code();
     };
-    status.code()
-}
-
-// What the program's words ask for, if they ask for a run.
-fn asked<'a, K: RunKind>(rt: &(impl Env + AllocGlobal), kinds: &'a [K]) -> Option<Job<'a, K>> {
-    let words = match words(rt) {
-        Err(error) if error.kind() == io::ErrorKind::OutOfMemory => words(rt),
-        words => words,
-    };
-    Job::of_words(words.ok()?.get(1..)?, kinds)
-}
-
-// The program's name and words.
-fn words(rt: &(impl Env + AllocGlobal)) -> io::Result<Vec<String>> {
-    Ok(env::args(rt)?.collect(rt.alloc())?)
-}
-
-// Makes each run that is asked for. What cannot be printed counts as a difference.
-fn run_all<K: RunKind>(rt: &(impl Print + Eprint + AllocGlobal), job: &Job<'_, K>) -> Status {
     let mut has_differed = false;
     for kind in job.kinds {
-        let tally = run_kind(rt.alloc(), *kind, job);
-        let printed = print(rt, kind.name(), &tally);
-        has_differed |= tally.has_differed() || printed.is_err();
+        has_differed |= has_told_difference(rt, kind.name(), &run_kind(rt.alloc(), *kind, &job));
     }
-    Status::of_runs(has_differed)
+    Status::of_runs(has_differed).code()
 }
 
 // Makes a run.
 fn run_kind<K: RunKind>(alloc: Global, kind: K, job: &Job<'_, K>) -> Tally {
-    let mut run = Run::new(alloc, job.seed, job.rounds, job.is_wrong);
+    let mut run = job.new_run(alloc);
     let outcome = kind.take_steps(&mut run);
     run.tally.check(outcome);
     run.tally
 }
 
-// Prints what a run came to, and on standard error its first difference.
-fn print(rt: &(impl Print + Eprint), kind: &str, tally: &Tally) -> io::Result<()> {
-    println!(rt; "{kind}: {tally}")?;
+/// Prints what a run came to, and on standard error its first difference. Answers whether there is one;
+/// a line that can't be written is one.
+pub fn has_told_difference(rt: &(impl Print + Eprint), name: &str, tally: &Tally) -> bool {
+    let printed = print(rt, name, tally);
+    tally.has_differed() || printed.is_err()
+}
+
+fn print(rt: &(impl Print + Eprint), name: &str, tally: &Tally) -> io::Result<()> {
+    println!(rt; "{name}: {tally}")?;
     match tally.first() {
-        Some((steps, difference)) => eprintln!(rt; "{kind}, step {steps}: {difference}"),
+        Some((steps, difference)) => eprintln!(rt; "{name}, step {steps}: {difference}"),
         None => Ok(()),
     }
 }

@@ -7,7 +7,7 @@ use std::process::ExitCode;
 
 /// How the program ended.
 #[derive(Clone, Copy)]
-pub(crate) enum Status {
+pub enum Status {
     /// No step differed: 0.
     Same,
     /// Some step differed: 1.
@@ -18,7 +18,7 @@ pub(crate) enum Status {
 
 impl Status {
     /// The status of runs of which some step differed, or none.
-    pub(crate) fn of_runs(has_differed: bool) -> Status
+    pub fn of_runs(has_differed: bool) -> Status
         ensures differed { IsTrue has_differed → result ≡ Status.Differed }
         ensures same { IsFalse has_differed → result ≡ Status.Same }
     {
@@ -30,7 +30,7 @@ impl Status {
     }
 
     /// What the program hands to the system.
-    pub(crate) fn code(self) -> ExitCode
+    pub fn code(self) -> ExitCode
         ensures { exit_status result ≡ code_of self }
     {
         ExitCode::from(match self {
