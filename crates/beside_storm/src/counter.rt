@@ -26,11 +26,16 @@ impl Counter {
         self.count.fetch_add(1, Ordering::SeqCst);
     }
 
+    /// How many were counted.
+    pub(crate) fn count(&self) -> u32 {
+        self.count.load(Ordering::SeqCst)
+    }
+
     /// Waits until so many were counted, and lets other threads run meanwhile. Answers whether they
     /// were; it gives up after 100,000 turns.
     pub(crate) fn wait_for<R: Clock>(&self, clock: &R, count: u32) -> bool {
         for _ in 0..TURNS {
-            if self.count.load(Ordering::SeqCst) >= count {
+            if self.count() >= count {
                 return true;
             }
             thread::sleep(clock, Duration::from_micros(10));

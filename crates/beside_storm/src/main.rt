@@ -5,8 +5,11 @@
 mod company_gate;
 mod counter;
 mod held_gate;
+mod order_gate;
 mod stories;
 mod story;
+mod told;
+mod told_watch;
 
 use crate::stories::play;
 use crate::story::{STORIES, Story};

@@ -4,10 +4,14 @@ ghost use Rattle.exh_storm.specs.StormConfig.{IsStormConfig};
 
 use crate::company_gate::CompanyGate;
 use crate::held_gate::HeldGate;
+use crate::order_gate::OrderGate;
 use crate::story::Story;
+use crate::told::Told;
+use crate::told_watch::ToldWatch;
 use exh_runs::{Difference, Part, Run, again, same};
-use exh_storm::{COURIER_CLIENT, KEEPER_CLIENT, StormConfig, StormFault, storm};
+use exh_storm::{COURIER_CLIENT, KEEPER_CLIENT, NoWatch, StormConfig, StormFault, storm};
 use exh_walk::{Gate, OpenGate};
+use std::alloc::Global;
 use std::sync::Wait;
 use std::thread::Threads;
 use std::time::Clock;
@@ -35,6 +39,7 @@ pub(crate) fn play<R: Threads + Wait + Clock + Sync>(rt: &R, story: Story, run: 
         Story::Open => play_open(rt, run),
         Story::Closed => play_closed(rt, run),
         Story::Small => step(rt, run, &small(), &OpenGate, Ok(1)),
+        Story::Told => play_told(rt, run),
     }
 }
 
@@ -74,6 +79,20 @@ fn four() -> StormConfig
         cap: 2,
         ward_bits: 0,
         copies: 2,
+    }
+}
+
+// One caller, and one copy. By the pseudokeys of its keys the caller splits pages 15 times, and two of
+// these splits can be merged when all is answered.
+fn alone() -> StormConfig
+    ensures { IsStormConfig result }
+{
+    StormConfig {
+        callers: 1,
+        calls: 100,
+        cap: 2,
+        ward_bits: 0,
+        copies: 1,
     }
 }
 
@@ -124,6 +143,47 @@ fn play_closed<R: Threads + Wait + Sync>(rt: &R, run: &mut Run) {
     }
 }
 
+// Storms that are watched. In one the keeper runs after the caller, and the courier after both; in the
+// other one of two callers is held.
+fn play_told<R: Threads + Wait + Clock + Sync>(rt: &R, run: &mut Run) {
+    let told = again!(Err(StormFault::Memory) => told_in_order(rt, run.alloc));
+    let is_told = match told {
+        Ok(told) => (run.lie.number(told.calls), told.merges, told.notices) == (100, 2, 17),
+        Err(_) => false,
+    };
+    run.tally.step(same(is_told, Part::Run));
+    let calls = again!(Err(StormFault::Memory) => calls_told_of_one(rt, run.alloc));
+    run.tally.step(same(calls == Ok(10), Part::Run));
+}
+
+// What is told of a storm of one caller whose workers run one after the other.
+fn told_in_order<R: Threads + Wait + Clock + Sync>(
+    rt: &R,
+    alloc: Global,
+) -> Result<Told, StormFault> {
+    let config = alone();
+    let watch = ToldWatch::new();
+    let gate = OrderGate {
+        clock: rt,
+        watch: &watch,
+        calls: config.calls,
+    };
+    storm(rt, alloc, &config, &gate, &watch)?;
+    Ok(watch.told())
+}
+
+// How many answers are told of where one of two callers is held at its first call. It is refused, too,
+// where that isn't why the storm is.
+fn calls_told_of_one<R: Threads + Wait + Sync>(rt: &R, alloc: Global) -> Result<u32, StormFault> {
+    let watch = ToldWatch::new();
+    let gate = NoGate { client: 1, turn: 1 };
+    match storm(rt, alloc, &few(), &gate, &watch) {
+        Err(StormFault::Held) => Ok(watch.told().calls),
+        Err(fault) => Err(fault),
+        Ok(_) => Err(StormFault::Mismatch),
+    }
+}
+
 // Runs a storm, which comes to this; once more where memory was refused.
 fn step<R: Threads + Wait + Sync, G: Gate + Sync>(
     rt: &R,
@@ -134,7 +194,7 @@ fn step<R: Threads + Wait + Sync, G: Gate + Sync>(
 )
     requires { IsStormConfig config.now }
 {
-    let told = again!(Err(StormFault::Memory) => storm(rt, run.alloc, config, gate));
+    let told = again!(Err(StormFault::Memory) => storm(rt, run.alloc, config, gate, &NoWatch));
     let outcome = match told {
         Ok(count) => Ok(if run.lie.is_due() {
             count.wrapping_add(1)

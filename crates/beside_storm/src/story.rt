@@ -15,15 +15,18 @@ pub(crate) enum Story {
     Closed,
     /// The smallest storm.
     Small,
+    /// What a watch is told.
+    Told,
 }
 
 /// All of them, in the order in which they are played.
-pub(crate) const STORIES: [Story; 5] = [
+pub(crate) const STORIES: [Story; 6] = [
     Story::HeldCaller,
     Story::Company,
     Story::Open,
     Story::Closed,
     Story::Small,
+    Story::Told,
 ];
 
 impl Named for Story {
@@ -34,6 +37,7 @@ impl Named for Story {
             Story::Open => "open",
             Story::Closed => "closed",
             Story::Small => "small",
+            Story::Told => "told",
         }
     }
 }

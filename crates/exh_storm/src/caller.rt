@@ -1,7 +1,7 @@
 ghost use Rattle.std.specs.Prelude.{◌≡◌, [], IfOk};
 ghost use Rattle.exh_storm.specs.StormCalls.{IsServed};
 
-use crate::{StormFault, storm_call};
+use crate::{StormFault, Watch, storm_call};
 use exh_copy::{CopyReader, Start};
 use exh_frames::Pages;
 use exh_keyer::Keyer;
@@ -20,14 +20,15 @@ pub struct Caller<F: Identity, S: Start> {
 
 impl<F: Identity, S: Start> Caller<F, S> {
     /// Makes the caller's first so many calls, one after the other, and gives its seat back. The file is
-    /// that of the seat. It ends with the first call that is refused: `Held`, `Memory`, `Page`. It may
-    /// wait for other workers.
-    pub fn run<R: Wait, P: Pages + Drop, K: Keyer, G: Gate>(
+    /// that of the seat, and the watch is told of each answer. It ends with the first call that is
+    /// refused: `Held`, `Memory`, `Page`. It may wait for other workers.
+    pub fn run<R: Wait, P: Pages + Drop, K: Keyer, G: Gate, W: Watch>(
         self,
         rt: &R,
         file: &LiveFile<P, K, F>,
         calls: u32,
         gate: &G,
+        watch: &W,
     ) -> Result<Seat<F>, StormFault>
         ensures { IfOk result (IsServed calls) }
     {
@@ -36,6 +37,7 @@ impl<F: Identity, S: Start> Caller<F, S> {
         for done in 0..calls {
             let call = storm_call(client, done + 1);
             file.ask(rt, &mut seat, &mut copy, &call, gate)?;
+            watch.answered();
         }
         Ok(seat)
     }

@@ -1,7 +1,7 @@
 ghost use Rattle.std.specs.Prelude.{◌≡◌, ◌≤◌, ◌^◌, length};
 ghost use Rattle.exh_prefix.specs.declared.prefix.TheConstants.{WARD_BITS_LIMIT};
 
-use crate::{OpenCopy, StormFault};
+use crate::{OpenCopy, StormFault, Watch};
 use exh_copy::Start;
 use exh_frames::Pages;
 use exh_keyer::Keyer;
@@ -24,15 +24,17 @@ pub struct Courier<'a, R: Wait, S: Start> {
 
 impl<R: Wait, S: Start> Courier<'_, R, S> {
     /// Makes so many rounds to its copy, from a new file's places on. The file has 2^`ward_bits` wards.
-    /// Before each round it asks the gate, as the client of its copy, at turns 1, 2, .. Refused: `Held`
-    /// where the gate says no, `Memory`. It may wait for other workers.
-    pub fn run<P: Pages + Drop, K: Keyer, F: Identity, G: Gate>(
+    /// Before each round it asks the gate, as the client of its copy, at turns 1, 2, ..; after each it
+    /// tells the watch how many notices it carried. Refused: `Held` where the gate says no, `Memory`. It
+    /// may wait for other workers.
+    pub fn run<P: Pages + Drop, K: Keyer, F: Identity, G: Gate, W: Watch>(
         &mut self,
         alloc: Global,
         file: &LiveFile<P, K, F>,
         ward_bits: u8,
         rounds: u32,
         gate: &G,
+        watch: &W,
     ) -> Result<(), StormFault>
         requires limit { ward_bits ≤ WARD_BITS_LIMIT }
         requires bits { ward_bits ≡ file.now.ward_bits }
@@ -42,7 +44,8 @@ impl<R: Wait, S: Start> Courier<'_, R, S> {
             if !gate.pass(COURIER_CLIENT + u32::from(self.number), done + 1) {
                 return Err(StormFault::Held);
             }
-            file.courier_round(self.copy.rt, &mut self.copy.writer, &mut cursors)?;
+            let notices = file.courier_round(self.copy.rt, &mut self.copy.writer, &mut cursors)?;
+            watch.carried(notices);
         }
         Ok(())
     }

@@ -1,6 +1,6 @@
 ghost use Rattle.std.specs.Prelude.{◌^◌, ◌<◌};
 
-use crate::StormFault;
+use crate::{StormFault, Watch};
 use exh_frames::Pages;
 use exh_keyer::Keyer;
 use exh_live::{Identity, LiveFile};
@@ -18,14 +18,15 @@ pub struct Keeper {
 
 impl Keeper {
     /// Makes so many rounds over its ward, which is one of the file. Before each it asks the gate, as the
-    /// client of its ward, at turns 1, 2, .. Refused, with the merges made kept: `Held` where the gate
-    /// says no, `Memory`, `Page`. It may wait for other workers.
-    pub fn run<R: Wait, P: Pages + Drop, K: Keyer, F: Identity, G: Gate>(
+    /// client of its ward, at turns 1, 2, ..; after each it tells the watch its merges. Refused, with the
+    /// merges made kept: `Held` where the gate says no, `Memory`, `Page`. It may wait for other workers.
+    pub fn run<R: Wait, P: Pages + Drop, K: Keyer, F: Identity, G: Gate, W: Watch>(
         self,
         rt: &R,
         file: &LiveFile<P, K, F>,
         rounds: u32,
         gate: &G,
+        watch: &W,
     ) -> Result<(), StormFault>
         requires { self.ward < 2 ^ file.now.ward_bits }
     {
@@ -33,8 +34,9 @@ impl Keeper {
             if !gate.pass(KEEPER_CLIENT + u32::from(self.ward), done + 1) {
                 return Err(StormFault::Held);
             }
-            if let Err(fault) = file.keeper_round(rt, self.ward) {
-                return Err(StormFault::of_round(fault));
+            match file.keeper_round(rt, self.ward) {
+                Ok(merges) => watch.merged(merges),
+                Err(fault) => return Err(StormFault::of_round(fault)),
             }
         }
         Ok(())

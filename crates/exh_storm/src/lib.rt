@@ -10,6 +10,7 @@ pub use fault::StormFault;
 pub use keeper::{KEEPER_CLIENT, Keeper};
 pub use open_copy::OpenCopy;
 pub use run::storm;
+pub use watch::{NoWatch, Watch};
 
 mod call;
 mod caller;
@@ -19,6 +20,8 @@ mod fault;
 mod file;
 mod keeper;
 mod open_copy;
+mod overseers;
 mod run;
 mod threads;
+mod watch;
 mod workers;

@@ -5,9 +5,10 @@ ghost use Rattle.exh_live.specs.declared.ledgers.TheConstants.{ANSWER_PARTS, ENT
 ghost use Rattle.exh_storm.specs.StormConfig.{IsStormConfig};
 
 use crate::file::{StormFile, new_file, settled};
+use crate::overseers::Overseers;
 use crate::threads::{Rounds, run_all};
 use crate::workers::new_workers;
-use crate::{StormConfig, StormFault};
+use crate::{StormConfig, StormFault, Watch};
 use exh_copy::Start;
 use exh_live::{ANSWER_PARTS, ENTRY_PARTS, Identity, Seat};
 use exh_walk::Gate;
@@ -20,35 +21,38 @@ use std::thread::Threads;
 /// Runs a storm over a new file in memory, of keyer sha, and answers how many answers were settled. Each
 /// caller makes its calls, each keeper and each courier as many rounds, all at once, each on a thread
 /// of its own; the gate is asked by each hop of a caller and before each round of a keeper and of a
-/// courier. All are joined, the file is closed, and diaries and journals are settled. Refused, with the
-/// first refusal by caller, then keeper, then courier: `Memory`, also where a thread can't be made,
-/// `Page`, `Held`; and `Seats` before, `Mismatch` after them. It may wait: for a gate that does, and for
-/// locks.
-pub fn storm<R: Threads + Wait + Sync, G: Gate + Sync>(
+/// courier, and the watch is told of each answer and after each round. All are joined, the file is
+/// closed, and diaries and journals are settled. Refused, with the first refusal by caller, then keeper,
+/// then courier: `Memory`, also where a thread can't be made, `Page`, `Held`; and `Seats` before,
+/// `Mismatch` after them. It may wait: for a gate that does, and for locks.
+pub fn storm<R: Threads + Wait + Sync, G: Gate + Sync, W: Watch + Sync>(
     rt: &R,
     alloc: Global,
     config: &StormConfig,
     gate: &G,
+    watch: &W,
 ) -> Result<u64, StormFault>
     requires { IsStormConfig config.now }
     ensures { IfOk result (λ count. count ≡ config.now.callers * config.now.calls) }
 {
     let answers = Blank::new(ANSWER_PARTS);
     let entries = Blank::new(ENTRY_PARTS);
-    storm_of::<R, G, Brand, Brand>(rt, alloc, config, gate, answers, entries)
+    let overseers = Overseers { gate, watch };
+    storm_of::<R, G, W, Brand, Brand>(rt, alloc, config, overseers, answers, entries)
 }
 
 // A storm over a file and copies of these names.
 fn storm_of<
     R: Threads + Wait + Sync,
     G: Gate + Sync,
+    W: Watch + Sync,
     F: Identity + Send + Sync,
     S: Start + Send + Sync,
 >(
     rt: &R,
     alloc: Global,
     config: &StormConfig,
-    gate: &G,
+    overseers: Overseers<'_, G, W>,
     answers: Blank,
     entries: Blank,
 ) -> Result<u64, StormFault>
@@ -61,7 +65,7 @@ fn storm_of<
     ensures { IfOk result (λ count. count ≡ config.now.callers * config.now.calls) }
 {
     let mut file = new_file::<F>(alloc, config, answers, entries)?;
-    match serve::<R, G, F, S>(rt, alloc, config, gate, &mut file) {
+    match serve::<R, G, W, F, S>(rt, alloc, config, overseers, &mut file) {
         Ok(seats) => close(config, file, seats),
         Err(fault) => Err(fault),
     }
@@ -71,13 +75,14 @@ fn storm_of<
 fn serve<
     R: Threads + Wait + Sync,
     G: Gate + Sync,
+    W: Watch + Sync,
     F: Identity + Send + Sync,
     S: Start + Send + Sync,
 >(
     rt: &R,
     alloc: Global,
     config: &StormConfig,
-    gate: &G,
+    overseers: Overseers<'_, G, W>,
     file: &mut StormFile<F>,
 ) -> Result<Vec<Seat<F>>, StormFault>
     requires config { IsStormConfig config.now }
@@ -92,7 +97,7 @@ fn serve<
         count: config.calls,
         ward_bits: config.ward_bits,
     };
-    run_all(rt, alloc, file, workers, rounds, gate)
+    run_all(rt, alloc, file, workers, rounds, overseers)
 }
 
 // Closes the file, with the seats of all its callers, and settles what it leaves.

@@ -4,8 +4,9 @@ ghost use Rattle.exh_prefix.specs.declared.prefix.TheConstants.{WARD_BITS_LIMIT}
 ghost use Rattle.exh_storm.specs.Refusals.{first_refusal};
 
 use crate::file::StormFile;
+use crate::overseers::Overseers;
 use crate::workers::Workers;
-use crate::{Caller, Courier, Keeper, StormFault};
+use crate::{Caller, Courier, Keeper, StormFault, Watch};
 use exh_copy::Start;
 use exh_live::{Identity, Seat};
 use exh_walk::Gate;
@@ -53,13 +54,14 @@ pub(crate) fn run_all<
     F: Identity + Send + Sync,
     S: Start + Send + Sync,
     G: Gate + Sync,
+    W: Watch + Sync,
 >(
     rt: &R,
     alloc: Global,
     file: &StormFile<F>,
     workers: Workers<'_, R, F, S>,
     rounds: Rounds,
-    gate: &G,
+    overseers: Overseers<'_, G, W>,
 ) -> Result<Vec<Seat<F>>, StormFault>
     requires limit { rounds.ward_bits ≤ WARD_BITS_LIMIT }
     requires bits { rounds.ward_bits ≡ file.now.ward_bits }
@@ -73,9 +75,9 @@ pub(crate) fn run_all<
             requires { (rounds.ward_bits ≤ WARD_BITS_LIMIT) × (rounds.ward_bits ≡ file.now.ward_bits) }
             ensures { IfOk result (λ seats. All (λ seat. length seat.entries ≡ rounds.count) seats.items) }
         {
-            let calling = start_callers(scope, rt, alloc, file, callers, rounds, gate)?;
-            let keeping = start_keepers(scope, rt, alloc, file, rounds, gate)?;
-            let carrying = start_couriers(scope, alloc, file, couriers, rounds, gate)?;
+            let calling = start_callers(scope, rt, alloc, file, callers, rounds, overseers)?;
+            let keeping = start_keepers(scope, rt, alloc, file, rounds, overseers)?;
+            let carrying = start_couriers(scope, alloc, file, couriers, rounds, overseers)?;
             let mut outcomes = Vec::new(alloc);
             let seats = join_callers(rt, alloc, calling, rounds.count, &mut outcomes)?;
             join_keepers(rt, keeping, &mut outcomes)?;
@@ -94,6 +96,7 @@ fn start_callers<
     F: Identity + Send + Sync + 's,
     S: Start + Send + Sync + 's,
     G: Gate + Sync,
+    W: Watch + Sync,
 >(
     scope: &Scope<'s, E>,
     rt: &'s R,
@@ -101,14 +104,18 @@ fn start_callers<
     file: &'s StormFile<F>,
     callers: Vec<Caller<F, S>>,
     rounds: Rounds,
-    gate: &'s G,
+    overseers: Overseers<'s, G, W>,
 ) -> Result<Vec<Calling<F>>, AllocError>
     ensures { IfOk result (λ threads. All (λ thread. IfOk thread (λ handle. handle.promise.calls ≡ rounds.count)) threads.items) }
 {
     let calls = rounds.count;
+    let Overseers { gate, watch } = overseers;
     let mut threads = Vec::with_capacity(alloc, callers.len())?;
     for caller in callers {
-        let spawned = scope.spawn_with(Serves { calls }, move || caller.run(rt, file, calls, gate));
+        let spawned = scope.spawn_with(
+            Serves { calls },
+            move || caller.run(rt, file, calls, gate, watch),
+        );
         threads.push(match spawned {
             Ok(handle) => Ok(handle),
             Err(_) => Err(StormFault::Memory),
@@ -118,21 +125,29 @@ fn start_callers<
 }
 
 // Starts a keeper for each ward.
-fn start_keepers<'s, E, R: Threads + Wait + Sync, F: Identity + Send + Sync + 's, G: Gate + Sync>(
+fn start_keepers<
+    's,
+    E,
+    R: Threads + Wait + Sync,
+    F: Identity + Send + Sync + 's,
+    G: Gate + Sync,
+    W: Watch + Sync,
+>(
     scope: &Scope<'s, E>,
     rt: &'s R,
     alloc: Global,
     file: &'s StormFile<F>,
     rounds: Rounds,
-    gate: &'s G,
+    overseers: Overseers<'s, G, W>,
 ) -> Result<Vec<Keeping>, AllocError>
     requires limit { rounds.ward_bits ≤ WARD_BITS_LIMIT }
     requires bits { rounds.ward_bits ≡ file.now.ward_bits }
 {
+    let Overseers { gate, watch } = overseers;
     let mut threads = Vec::with_capacity(alloc, 1 << rounds.ward_bits)?;
     for ward in 0..1u8 << rounds.ward_bits {
         let keeper = Keeper { ward };
-        let spawned = scope.spawn(move || keeper.run(rt, file, rounds.count, gate));
+        let spawned = scope.spawn(move || keeper.run(rt, file, rounds.count, gate, watch));
         threads.push(spawned.map_err(|_| StormFault::Memory))?;
     }
     Ok(threads)
@@ -146,38 +161,40 @@ fn start_couriers<
     F: Identity + Send + Sync + 's,
     S: Start + Send + Sync + 's,
     G: Gate + Sync,
+    W: Watch + Sync,
 >(
     scope: &Scope<'s, E>,
     alloc: Global,
     file: &'s StormFile<F>,
     couriers: Vec<Courier<'s, R, S>>,
     rounds: Rounds,
-    gate: &'s G,
+    overseers: Overseers<'s, G, W>,
 ) -> Result<Vec<Carrying<'s, R, S>>, AllocError>
     requires limit { rounds.ward_bits ≤ WARD_BITS_LIMIT }
     requires bits { rounds.ward_bits ≡ file.now.ward_bits }
 {
     let mut threads = Vec::with_capacity(alloc, couriers.len())?;
     for courier in couriers {
-        let spawned = scope.spawn(move || carry(courier, alloc, file, rounds, gate));
+        let spawned = scope.spawn(move || carry(courier, alloc, file, rounds, overseers));
         threads.push(spawned.map_err(|_| StormFault::Memory))?;
     }
     Ok(threads)
 }
 
 // A courier's rounds.
-fn carry<'a, R: Wait, F: Identity, S: Start, G: Gate>(
+fn carry<'a, R: Wait, F: Identity, S: Start, G: Gate, W: Watch>(
     courier: Courier<'a, R, S>,
     alloc: Global,
     file: &StormFile<F>,
     rounds: Rounds,
-    gate: &G,
+    overseers: Overseers<'_, G, W>,
 ) -> (Courier<'a, R, S>, Outcome)
     requires limit { rounds.ward_bits ≤ WARD_BITS_LIMIT }
     requires bits { rounds.ward_bits ≡ file.now.ward_bits }
 {
     let mut courier = courier;
-    let outcome = courier.run(alloc, file, rounds.ward_bits, rounds.count, gate);
+    let Overseers { gate, watch } = overseers;
+    let outcome = courier.run(alloc, file, rounds.ward_bits, rounds.count, gate, watch);
     (courier, outcome)
 }
 
