@@ -1,5 +1,5 @@
 -- How many bytes digits take with their commas.
-use Rattle.std.proofs.Common.{◌≡◌, ℕ, ◌+◌, ◌*◌, ◌≤◌, Bool, true, false, if◌then◌else◌, List, [], ◌∷◌, ◌++◌, length, length-append, arith}
+use Rattle.std.proofs.Common.{ℕ, ◌*◌, ◌≤◌, Bool, true, false, if◌then◌else◌, List, [], ◌∷◌, length, length-append, arith}
 use Rattle.exh_progress.specs.Line.{digit_text, has_comma, in_threes}
 
 pub two_at_most : (comma : Bool) (digit : ℕ) → length (let text : List ℕ = if comma then digit ∷ 44 ∷ [] else digit ∷ [] in text) ≤ 2

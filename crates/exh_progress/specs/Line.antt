@@ -4,6 +4,7 @@ use Rattle.exh_progress.specs.declared.work.TheConstants.{BLOCK_LEN, NEWLINE}
 use Rattle.exh_progress.specs.declared.work.Unit.{Unit}
 use Rattle.exh_progress.specs.declared.work.Unit.TheVariants.{BlocksRead, BlocksWritten, PairsRead}
 use Rattle.exh_progress.specs.declared.work.Work.{Work}
+use Rattle.exh_progress.specs.declared.storm_counts.StormCounts.{StormCounts}
 
 -- how much these bytes add: their number, or that of their newlines
 abbrev pub amount_of : Unit → List ℕ → ℕ
@@ -46,3 +47,7 @@ of_text (Some of) = codes " of " ++ number_text of
 -- the line of work of which so much is done, from the left edge on, with nothing behind it
 abbrev pub line_text : Work → ℕ → List ℕ
 line_text work amount = codes "\rexhash: " ++ number_text (count_of work.unit amount) ++ of_text work.of ++ unit_words work.unit ++ codes "\u{1b}[K"
+
+-- the line of a storm that is so far
+abbrev pub storm_text : StormCounts → List ℕ
+storm_text counts = codes "\rexhash: " ++ number_text counts.calls ++ codes " calls answered, " ++ number_text counts.merges ++ codes " merges, " ++ number_text counts.notices ++ codes " notices carried\u{1b}[K"

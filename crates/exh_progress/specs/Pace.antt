@@ -1,5 +1,5 @@
 -- When work that goes on is told of. Times are in milliseconds.
-use Rattle.std.specs.Prelude.{◌≡◌, ⊤, ℕ, ◌+◌, ◌-◌, ◌≤◌, Option, None, Some}
+use Rattle.std.specs.Prelude.{◌≡◌, ⊤, ℕ, ◌-◌, ◌≤◌, true, Option, None, Some}
 use Rattle.exh_progress.specs.declared.pace.TheConstants.{APART, QUIET}
 use Rattle.exh_progress.specs.declared.pace.Pace.{Pace}
 
@@ -12,3 +12,7 @@ IsApart (Some told) now = APART ≤ now - told
 pub record IsTold (pace : Pace) (now : ℕ) : Type 0 where
   pub long : QUIET ≤ now - pace.began
   pub apart : IsApart pace.told now
+
+-- one step further, at which a line was shown: the clock said a time at which one is
+abbrev pub IsToldStep : Pace → Pace → Type 0
+IsToldStep old new = (now : ℕ) × IsTold old now × (new.told ≡ Some now) × (new.stands ≡ true)

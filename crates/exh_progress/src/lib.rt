@@ -6,6 +6,7 @@ pub use console::Console;
 pub use meter::Meter;
 pub use metered_reader::MeteredReader;
 pub use metered_writer::MeteredWriter;
+pub use storm_meter::StormMeter;
 pub use terminal::Terminal;
 pub use work::{BLOCK_LEN, Unit, Work};
 
@@ -16,6 +17,12 @@ mod meter;
 mod metered_reader;
 mod metered_writer;
 mod pace;
+#[cfg(test)]
+mod screen;
+mod storm_counts;
+mod storm_meter;
+#[cfg(test)]
+mod storm_tests;
 mod terminal;
 #[cfg(test)]
 mod tests;

@@ -1,13 +1,14 @@
 //! The text of a line.
 ghost use Rattle.std.specs.Prelude.{◌≡◌, ◌+◌, ◌*◌, ◌≤◌, ◌++◌, [], length, decimal, codes};
-ghost use Rattle.exh_progress.specs.Line.{digit_text, has_comma, in_threes, line_text, number_text, of_text};
+ghost use Rattle.exh_progress.specs.Line.{digit_text, has_comma, in_threes, line_text, number_text, of_text, storm_text};
 
 use crate::Work;
+use crate::storm_counts::StormCounts;
 use arrayvec::ArrayVec;
 use itoa::Buffer;
 
 /// The most bytes of a line.
-pub(crate) const LINE_LEN: usize = 256;
+pub(crate) const LINE_LEN: usize = 320;
 
 /// The most bytes of a number.
 const NUMBER_LEN: usize = 80;
@@ -30,6 +31,21 @@ pub(crate) fn line(work: Work, amount: u64) -> Line
     }
     put(&mut line, work.unit.words());
     put(&mut line, b"\x1b[K");
+    line
+}
+
+// The line of a storm that is so far.
+pub(crate) fn storm_line(counts: StormCounts) -> Line
+    ensures { result.items ≡ storm_text counts }
+{
+    let mut line = ArrayVec::new();
+    put(&mut line, b"\rexhash: ");
+    put_number(&mut line, counts.calls);
+    put(&mut line, b" calls answered, ");
+    put_number(&mut line, counts.merges);
+    put(&mut line, b" merges, ");
+    put_number(&mut line, counts.notices);
+    put(&mut line, b" notices carried\x1b[K");
     line
 }
 

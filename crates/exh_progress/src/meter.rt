@@ -31,8 +31,11 @@ impl<T: Terminal> Meter<T> {
     /// The work came further, by these bytes that were read or written.
     pub fn pass(&self, bytes: &[u8]) {
         if let (Some(terminal), Some(pace)) = (&self.terminal, self.pace.get()) {
-            let further = pace.pass(self.work.unit.amount(bytes));
-            self.pace.set(Some(self.told(terminal, further)));
+            let (further, is_told) = pace.step(self.work.unit.amount(bytes), terminal);
+            if is_told {
+                terminal.show(line(self.work, further.done).as_slice());
+            }
+            self.pace.set(Some(further));
         }
     }
 
@@ -44,21 +47,5 @@ impl<T: Terminal> Meter<T> {
             terminal.show(CLEARED);
             self.pace.set(Some(pace.clear()));
         }
-    }
-
-    // Looks at the clock, where that is due, and shows the line, where that is.
-    fn told(&self, terminal: &T, pace: Pace) -> Pace {
-        if !pace.is_due() {
-            return pace;
-        }
-        let Some(now) = terminal.milliseconds() else {
-            return pace;
-        };
-        let asked = pace.ask(now);
-        if !asked.is_told(now) {
-            return asked;
-        }
-        terminal.show(line(self.work, asked.done).as_slice());
-        asked.tell(now)
     }
 }

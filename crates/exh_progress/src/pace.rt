@@ -1,6 +1,8 @@
 //! When a line is shown, and when the clock is asked for that. Times are in milliseconds of one clock.
 ghost use Rattle.std.specs.Prelude.{◌≡◌, ◌+◌, ◌-◌, ◌*◌, ◌<◌, ◌≤◌, ◌↔◌, min, true, false, None, Some, IsTrue};
-ghost use Rattle.exh_progress.specs.Pace.{IsApart, IsTold};
+ghost use Rattle.exh_progress.specs.Pace.{IsApart, IsTold, IsToldStep};
+
+use crate::Terminal;
 
 /// How long work goes on before it is told of.
 pub(crate) const QUIET: u64 = 2000;
@@ -43,6 +45,29 @@ impl Pace {
             asked: now,
             steps: 1,
             left: 1,
+        }
+    }
+
+    // One step further, by this much, with a look at the terminal's clock where that is due. Answers how far the work is
+    // then, and whether a line is to be shown now, which it takes as shown.
+    pub(crate) fn step<T: Terminal>(self, amount: u64, terminal: &T) -> (Pace, bool)
+        ensures done { result.0.done ≡ min (self.done + amount) u64.MAX }
+        ensures began { result.0.began ≡ self.began }
+        ensures told { result.1 ≡ true → IsToldStep self result.0 }
+        ensures quiet { result.1 ≡ false → (result.0.told ≡ self.told) × (result.0.stands ≡ self.stands) }
+    {
+        let further = self.pass(amount);
+        if !further.is_due() {
+            return (further, false);
+        }
+        let Some(now) = terminal.milliseconds() else {
+            return (further, false);
+        };
+        let asked = further.ask(now);
+        if asked.is_told(now) {
+            (asked.tell(now), true)
+        } else {
+            (asked, false)
         }
     }
 

@@ -1,66 +1,10 @@
 //! What a terminal shows, by a clock that a test sets.
 
-use crate::{ClearingWriter, Meter, MeteredReader, MeteredWriter, Terminal, Unit, Work};
+use crate::screen::Screen;
+use crate::{ClearingWriter, Meter, MeteredReader, MeteredWriter, Unit, Work};
 use std::alloc::{AllocError, Global};
-use std::cell::{Cell, RefCell};
-use std::io;
 use std::io::{Read, Write};
 use std::test::Fail;
-
-// What was shown, and how often the clock was asked.
-#[derive(Drop)]
-struct Screen {
-    now: Cell<Option<u64>>,
-    asked: Cell<u32>,
-    shown: RefCell<Vec<u8>>,
-}
-
-impl Screen {
-    fn new(alloc: Global) -> Screen {
-        Screen {
-            now: Cell::new(Some(0)),
-            asked: Cell::new(0),
-            shown: RefCell::new(Vec::new(alloc)),
-        }
-    }
-
-    // Whether this was shown since the last call.
-    fn has_shown(&self, text: &[u8]) -> bool {
-        match self.shown.try_borrow_mut() {
-            Ok(mut shown) => {
-                let is_same = shown.as_slice() == text;
-                shown.clear();
-                is_same
-            }
-            Err(_) => false,
-        }
-    }
-}
-
-impl Terminal for &Screen {
-    fn milliseconds(&self) -> Option<u64> {
-        self.asked.set(self.asked.get().saturating_add(1));
-        self.now.get()
-    }
-
-    fn show(&self, bytes: &[u8]) {
-        if let Ok(mut shown) = self.shown.try_borrow_mut() {
-            let _ = shown.extend_from_slice(bytes);
-        }
-    }
-}
-
-// A writer to the screen itself.
-impl Write for &Screen {
-    fn write(&mut self, bytes: &[u8]) -> io::Result<usize> {
-        self.show(bytes);
-        Ok(bytes.len())
-    }
-
-    fn flush(&mut self) -> io::Result<()> {
-        Ok(())
-    }
-}
 
 const BLOCK: [u8; 4096] = [7; 4096];
 
