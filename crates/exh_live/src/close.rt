@@ -123,7 +123,10 @@ impl<P: Pages + Drop, K: Keyer, F: Identity> LiveFile<P, K, F> {
         let mut entries = entries.into_share();
         unlock(locks, &mut wards, &mut entries);
         stand_up(seats, &mut diaries, &mut answers);
-        tally.into_inner().audit(&mut answers, &mut entries);
+        tally
+            .into_inner()
+            .into_inner()
+            .audit(&mut answers, &mut entries);
         Closed { wards, diaries }
     }
 }

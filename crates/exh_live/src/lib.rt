@@ -18,6 +18,7 @@ mod identity;
 mod keeper;
 mod ledgers;
 mod live_file;
+mod lock;
 mod locked_ward;
 mod seat;
 mod spare;

@@ -9,6 +9,7 @@ use crate::spare::Spare;
 use crate::tallied_ward::TalliedWard;
 use crate::tally::Tally;
 use crate::{Identity, NoSeat, Seat};
+use crossbeam_utils::CachePadded;
 use exh_frames::Pages;
 use exh_keyer::Keyer;
 use exh_settle::CALLER_LIMIT;
@@ -26,7 +27,7 @@ pub struct LiveFile<P: Pages + Drop, K: Keyer, F: Identity> {
     pub(crate) ward_bits: u8,
     pub(crate) keyer: K,
     pub(crate) wards: Vec<Mutex<TalliedWard<P, K, F>>>,
-    pub(crate) tally: Mutex<Tally<F>>,
+    pub(crate) tally: CachePadded<Mutex<Tally<F>>>,
     pub(crate) answers: Spare<Answers<F>>,
     pub(crate) entries: Spare<Entries<F>>,
     pub(crate) seats: u32,
@@ -75,7 +76,7 @@ impl<P: Pages + Drop, K: Keyer, F: Identity> LiveFile<P, K, F> {
             ward_bits,
             keyer,
             wards,
-            tally: Mutex::new(Tally::new(given, made)),
+            tally: CachePadded::new(Mutex::new(Tally::new(given, made))),
             answers: Spare::new(answers),
             entries: Spare::new(entries),
             seats: 0,

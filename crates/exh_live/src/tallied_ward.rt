@@ -12,6 +12,7 @@ ghost use Rattle.exh_live.specs.Rounds.{AreFromTo, IsKeeperTurn, MayRefuseKeeper
 
 use crate::Identity;
 use crate::ledgers::{Answers, Entries};
+use crate::lock::lock;
 use crate::tally::Tally;
 use exh_calls::Call;
 use exh_frames::Pages;
@@ -88,7 +89,7 @@ impl<P: Pages + Drop, K: Keyer, F: Identity> TalliedWard<P, K, F> {
         let TalliedWard { ward, entries } = self;
         let hop = ward.hop_hashed(at, client, call, pseudokey)?;
         if let Hop::Done(_) = hop {
-            tally.lock(rt).count(answers, entries);
+            lock(tally, rt).count(answers, entries);
         }
         Ok(hop)
     }

@@ -19,8 +19,8 @@ invariant_of-result g c =
       count,
       sym c.requires.hashed,
       omega arith,
-      omega (arith, c.new-3.ensures.parts, c.open-given.ensures.parts),
-      omega (arith, c.new-3.ensures.amount, c.open-given.ensures.amount),
-      omega (arith, c.new-4.ensures.parts, made.parts, made.count, c.open-made.ensures.parts),
-      omega (arith, c.new-4.ensures.amount, c.locked.ensures.amount),
+      omega (arith, c.new-4.ensures.parts, c.open-given.ensures.parts),
+      omega (arith, c.new-4.ensures.amount, c.open-given.ensures.amount),
+      omega (arith, c.new-5.ensures.parts, made.parts, made.count, c.open-made.ensures.parts),
+      omega (arith, c.new-5.ensures.amount, c.locked.ensures.amount),
     )

@@ -1,0 +1,17 @@
+use std::hint::spin_loop;
+use std::sync::{Mutex, MutexGuard, Wait};
+
+// How often a lock is looked at before its taker sleeps: some 20 microseconds long.
+const LOOKS: u32 = 400;
+
+/// Takes a lock. It may wait. What is done under a lock is shorter than a sleep, so the lock is looked at
+/// for a while first, also where others sleep for it already.
+pub(crate) fn lock<'a, T, R: Wait>(mutex: &'a Mutex<T>, rt: &R) -> MutexGuard<'a, T> {
+    for _ in 0..LOOKS {
+        if let Some(guard) = mutex.try_lock() {
+            return guard;
+        }
+        spin_loop();
+    }
+    mutex.lock(rt)
+}
