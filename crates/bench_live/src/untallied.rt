@@ -11,6 +11,7 @@ use exh_callers::{PlainWard, new_wards};
 use exh_calls::{Call, Reply};
 use exh_copy::{CopyReader, CopyWriter, Start};
 use exh_keyer::{Keyer, PlainKeyer};
+use exh_live::lock_soon;
 use exh_notice::Notice;
 use exh_page::CAP_LIMIT;
 use exh_prefix::{PageNo, ward_number};
@@ -50,7 +51,7 @@ impl<R: Wait> Steps for UntalliedWard<'_, R> {
         call: &Call,
         pseudokey: u64,
     ) -> Result<Hop, WardFault> {
-        let mut ward = self.ward.lock(self.rt);
+        let mut ward = lock_soon(self.ward, self.rt);
         if !ward.covers(pseudokey) {
             return Ok(Hop::Stray);
         }
@@ -58,7 +59,7 @@ impl<R: Wait> Steps for UntalliedWard<'_, R> {
     }
 
     fn split(&mut self, at: PageNo) -> Result<Notice, WardFault> {
-        self.ward.lock(self.rt).split(at)
+        lock_soon(self.ward, self.rt).split(at)
     }
 }
 

@@ -7,6 +7,7 @@ pub use cursors::Cursors;
 pub use identity::Identity;
 pub use ledgers::{ANSWER_PARTS, Answers, ENTRY_PARTS, Entries, LedgerNames};
 pub use live_file::LiveFile;
+pub use lock::lock_soon;
 pub use seat::{NoSeat, Seat};
 pub use ward_journals::WardJournals;
 

@@ -6,7 +6,7 @@ const LOOKS: u32 = 400;
 
 /// Takes a lock. It may wait. What is done under a lock is shorter than a sleep, so the lock is looked at
 /// for a while first, also where others sleep for it already.
-pub(crate) fn lock<'a, T, R: Wait>(mutex: &'a Mutex<T>, rt: &R) -> MutexGuard<'a, T> {
+pub fn lock_soon<'a, T, R: Wait>(mutex: &'a Mutex<T>, rt: &R) -> MutexGuard<'a, T> {
     for _ in 0..LOOKS {
         if let Some(guard) = mutex.try_lock() {
             return guard;

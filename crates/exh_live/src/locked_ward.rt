@@ -4,7 +4,7 @@ ghost use Rattle.exh_route.specs.WardRun.{answer_of};
 
 use crate::Identity;
 use crate::ledgers::Answers;
-use crate::lock::lock;
+use crate::lock::lock_soon;
 use crate::tallied_ward::TalliedWard;
 use crate::tally::Tally;
 use exh_calls::Call;
@@ -64,7 +64,7 @@ impl<'a, P: Pages + Drop, K: Keyer, F: Identity, R: Wait> Steps for LockedWard<'
         call: &Call,
         pseudokey: u64,
     ) -> Result<Hop, WardFault> {
-        let mut ward = lock(self.ward, self.rt);
+        let mut ward = lock_soon(self.ward, self.rt);
         if !ward.covers(pseudokey) {
             return Ok(Hop::Stray);
         }
@@ -80,6 +80,6 @@ impl<'a, P: Pages + Drop, K: Keyer, F: Identity, R: Wait> Steps for LockedWard<'
     }
 
     fn split(&mut self, at: PageNo) -> Result<Notice, WardFault> {
-        lock(self.ward, self.rt).split(at)
+        lock_soon(self.ward, self.rt).split(at)
     }
 }

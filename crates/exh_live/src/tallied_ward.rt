@@ -12,7 +12,7 @@ ghost use Rattle.exh_live.specs.Rounds.{AreFromTo, IsKeeperTurn, MayRefuseKeeper
 
 use crate::Identity;
 use crate::ledgers::{Answers, Entries};
-use crate::lock::lock;
+use crate::lock::lock_soon;
 use crate::tally::Tally;
 use exh_calls::Call;
 use exh_frames::Pages;
@@ -89,7 +89,7 @@ impl<P: Pages + Drop, K: Keyer, F: Identity> TalliedWard<P, K, F> {
         let TalliedWard { ward, entries } = self;
         let hop = ward.hop_hashed(at, client, call, pseudokey)?;
         if let Hop::Done(_) = hop {
-            lock(tally, rt).count(answers, entries);
+            lock_soon(tally, rt).count(answers, entries);
         }
         Ok(hop)
     }
