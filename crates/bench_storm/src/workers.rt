@@ -1,0 +1,110 @@
+//! The workers of a storm before it begins.
+ghost use Rattle.std.specs.Prelude.{◌≡◌, ◌<◌, ◌≤◌, vec_len};
+ghost use Rattle.std.specs.FinMap as map;
+ghost use Rattle.exh_prefix.specs.declared.prefix.TheConstants.{WARD_BITS_LIMIT};
+ghost use Rattle.exh_storm.specs.StormConfig.{IsStormConfig};
+
+use crate::file::ShaFile;
+use anyhow::{Context, bail};
+use exh_copy::{CopyReader, NewCopyFault, Start, new_copy};
+use exh_live::Identity;
+use exh_storm::{Caller, Courier, OpenCopy, StormConfig};
+use exh_table::Table;
+use std::alloc::Global;
+use std::sync::Wait;
+
+/// The callers of a storm by their numbers, and a courier to each copy of the directory.
+#[derive(Drop)]
+pub(crate) struct Workers<'a, R: Wait, F: Identity, S: Start> {
+    pub(crate) callers: Vec<Caller<F, S>>,
+    pub(crate) couriers: Vec<Courier<'a, R, S>>,
+}
+
+// Where the callers look: for each copy its readers.
+type Readers<S> = Vec<Vec<CopyReader<S>>>;
+
+/// The workers of a storm over a new file.
+pub(crate) fn new_workers<'a, R: Wait, F: Identity, S: Start>(
+    rt: &'a R,
+    alloc: Global,
+    config: &StormConfig,
+    file: &mut ShaFile<F>,
+) -> anyhow::Result<Workers<'a, R, F, S>>
+    requires config { IsStormConfig config.now }
+    requires bits { S.ward_bits ≡ config.now.ward_bits }
+    requires table { S.table ≡ map.empty }
+    ensures { file.new.ward_bits ≡ file.old.ward_bits }
+{
+    let mut couriers = Vec::new(alloc);
+    let mut readers = Vec::new(alloc);
+    for at in 0..config.copies {
+        let looks = callers_of(config, at);
+        let (courier, copy) = new_courier(rt, alloc, config.ward_bits, at + 1, looks)?;
+        couriers.push(courier)?;
+        readers.push(copy)?;
+    }
+    let callers = new_callers(alloc, config.callers, file, readers)?;
+    Ok(Workers { callers, couriers })
+}
+
+// How many callers use the copy at a place: caller i uses that at the place (i - 1) mod copies.
+fn callers_of(config: &StormConfig, at: u8) -> u16
+    requires config { IsStormConfig config.now }
+    requires within { at < config.now.copies }
+{
+    u16::from((config.callers + config.copies - 1 - at) / config.copies)
+}
+
+// The courier to a new copy of this number that has so many readers, and these.
+fn new_courier<'a, R: Wait, S: Start>(
+    rt: &'a R,
+    alloc: Global,
+    ward_bits: u8,
+    number: u8,
+    readers: u16,
+) -> anyhow::Result<(Courier<'a, R, S>, Vec<CopyReader<S>>)>
+    requires limit { ward_bits ≤ WARD_BITS_LIMIT }
+    requires bits { S.ward_bits ≡ ward_bits }
+    requires table { S.table ≡ map.empty }
+{
+    match new_copy::<S>(alloc, ward_bits, &Table::new(alloc), readers) {
+        Ok((writer, readers)) => {
+            let copy = OpenCopy::new(rt, writer);
+            Ok((Courier { number, copy }, readers))
+        }
+        Err(NewCopyFault::Memory) => bail!("memory was refused"),
+        Err(NewCopyFault::NoPlace(writer)) => {
+            drop(OpenCopy::new(rt, writer));
+            bail!("no reader was given")
+        }
+    }
+}
+
+// So many callers, each with a seat of the file and a reader of its copy.
+fn new_callers<F: Identity, S: Start>(
+    alloc: Global,
+    count: u8,
+    file: &mut ShaFile<F>,
+    readers: Readers<S>,
+) -> anyhow::Result<Vec<Caller<F, S>>>
+    requires { 0 < vec_len readers }
+    ensures { file.new.ward_bits ≡ file.old.ward_bits }
+{
+    let mut readers = readers;
+    let mut callers = Vec::new(alloc);
+    for at in 0..count {
+        let copy = next_reader(&mut readers, at)?;
+        let seat = file.seat()?;
+        callers.push(Caller { seat, copy })?;
+    }
+    Ok(callers)
+}
+
+// A reader of the copy of the caller at a place.
+fn next_reader<S: Start>(readers: &mut Readers<S>, at: u8) -> anyhow::Result<CopyReader<S>>
+    requires { 0 < vec_len readers.old }
+    ensures { vec_len readers.new ≡ vec_len readers.old }
+{
+    let copy = usize::from(at) % readers.len();
+    readers[copy].pop().context("a place at a copy")
+}
