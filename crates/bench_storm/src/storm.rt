@@ -15,7 +15,7 @@ use crate::workers::new_workers;
 use anyhow::bail;
 use exh_copy::Start;
 use exh_keyer::ShaKeyer;
-use exh_live::{ANSWER_PARTS, ENTRY_PARTS, Identity, Seat, WardJournals};
+use exh_live::{Identity, Seat, WardJournals};
 use exh_settle::settle;
 use exh_storm::StormConfig;
 use std::alloc::Global;
