@@ -3,13 +3,16 @@
 #![tactic(auto)]
 
 mod callers;
+mod filler;
 mod held_look;
 mod hold_gate;
 mod job;
 mod locks;
+mod refill;
 mod sign;
 mod story;
 mod waiting_pages;
+mod watched_pages;
 
 use crate::callers::CALLERS;
 use crate::job::Job;
@@ -56,6 +59,7 @@ fn play<R: Threads + Wait + Clock + Sync>(
     match story {
         Story::HeldLook => held_look::run(rt, run, &mut copies),
         Story::Locks => locks::run(rt, run, &mut copies),
+        Story::Refill => refill::run(rt, run, &mut copies),
         Story::Callers => callers::run(rt, run, &mut copies),
     }
 }

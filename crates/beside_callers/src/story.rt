@@ -7,12 +7,19 @@ pub(crate) enum Story {
     HeldLook,
     /// A caller waits in one ward, another one is answered in another.
     Locks,
+    /// A keeper merges pages, a caller fills them again.
+    Refill,
     /// Many callers.
     Callers,
 }
 
 /// All of them, in the order in which they are played.
-pub(crate) const STORIES: [Story; 3] = [Story::HeldLook, Story::Locks, Story::Callers];
+pub(crate) const STORIES: [Story; 4] = [
+    Story::HeldLook,
+    Story::Locks,
+    Story::Refill,
+    Story::Callers,
+];
 
 impl Story {
     /// The word that names it.
@@ -20,6 +27,7 @@ impl Story {
         match self {
             Story::HeldLook => "held-look",
             Story::Locks => "locks",
+            Story::Refill => "refill",
             Story::Callers => "callers",
         }
     }
