@@ -54,7 +54,7 @@ fn run_file<R: Threads + Wait + Clock + Sync, F: Identity + Sync + Send>(
     seats.reserve(1)?;
     let mut file = one_ward::<R, F>(rt, run.alloc, watch, answers, entries)?;
     let mut caller = next_caller(&mut file, copies)?;
-    let turns = run.rounds / 8 + 1;
+    let turns = run.rounds / 4 + 1;
     let merges = take_turns(rt, run, &file, &mut caller, watch, turns);
     run.tally
         .step(same(!watch.is_over.is_given(), Part::Change));
