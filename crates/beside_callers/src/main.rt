@@ -6,7 +6,6 @@ mod callers;
 mod filler;
 mod held_look;
 mod hold_gate;
-mod job;
 mod locks;
 mod refill;
 mod sign;
@@ -15,14 +14,12 @@ mod waiting_pages;
 mod watched_pages;
 
 use crate::callers::CALLERS;
-use crate::job::Job;
 use crate::story::{STORIES, Story};
 use exh_callers::Reader;
 use exh_copy::{NewCopyFault, new_copy};
-use exh_runs::{Difference, Part, Run, Tally, again};
+use exh_runs::{Difference, Job, Named, Part, Run, Status, Tally, again, has_told_difference};
 use exh_table::Table;
 use std::alloc::AllocError;
-use std::io;
 use std::marker::Brand;
 use std::process::ExitCode;
 use std::sync::Wait;
@@ -68,45 +65,22 @@ fn play<R: Threads + Wait + Clock + Sync>(
 fn play_counted<R: Threads + Wait + Clock + AllocGlobal + Sync>(
     rt: &R,
     story: Story,
-    job: &Job,
+    job: &Job<'_, Story>,
 ) -> Tally {
-    let mut run = Run::new(rt.alloc(), job.seed, job.rounds, job.is_wrong);
+    let mut run = job.new_run(rt.alloc());
     let outcome = again!(Err(Difference::Memory(_)) => with_copies(rt, story, &mut run));
     run.tally.check(outcome);
     run.tally
 }
 
-// Prints what a story came to, and on standard error its first difference.
-fn print(rt: &(impl Print + Eprint), story: Story, tally: &Tally) -> io::Result<()> {
-    let name = story.name();
-    println!(rt; "{name}: {tally}")?;
-    match tally.first() {
-        Some((steps, difference)) => eprintln!(rt; "{name}, step {steps}: {difference}"),
-        None => Ok(()),
-    }
-}
-
-// Plays each story that is asked for. What cannot be printed counts as a difference.
-fn play_all<R: Threads + Wait + Clock + Print + Eprint + AllocGlobal + Sync>(
-    rt: &R,
-    job: &Job,
-) -> bool {
-    let mut has_differed = false;
-    for story in STORIES {
-        if job.asks_for(story) {
-            let tally = play_counted(rt, story, job);
-            let printed = print(rt, story, &tally);
-            has_differed |= tally.has_differed() || printed.is_err();
-        }
-    }
-    has_differed
-}
-
 fn main(rt: HostRuntime) -> ExitCode {
-    let Some(job) = Job::asked(&rt) else {
-        // Where the line cannot be written, the status alone tells.
-        let _ = eprintln!(rt; "usage: beside_callers [SEED ROUNDS [all|KIND [wrong]]]");
-        return ExitCode::from(2);
+    let Some(job) = Job::asked(&rt, "beside_callers", &STORIES) else {
+        return Status::WrongWords.code();
     };
-    ExitCode::from(u8::from(play_all(&rt, &job)))
+    let mut has_differed = false;
+    for story in job.kinds {
+        let tally = play_counted(&rt, *story, &job);
+        has_differed |= has_told_difference(&rt, story.name(), &tally);
+    }
+    Status::of_runs(has_differed).code()
 }

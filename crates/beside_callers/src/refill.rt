@@ -8,11 +8,13 @@ ghost use Rattle.exh_live.specs.declared.ledgers.TheConstants.{ANSWER_PARTS, ENT
 use crate::filler::{Filler, answers_of};
 use crate::sign::Sign;
 use crate::watched_pages::{Watch, WatchedPages};
-use exh_callers::{CAP, Caller, File, Reader, close_settled, is_kept, keep, next_caller};
+use exh_callers::{
+    CAP, Caller, File, Reader, close_settled, is_kept, keep, next_caller, one_ward_file,
+};
 use exh_calls::Reply;
 use exh_fixtures::{first_store, merge, prefix, split, told_reply};
 use exh_keyer::PlainKeyer;
-use exh_live::{ANSWER_PARTS, ENTRY_PARTS, Identity, LiveFile};
+use exh_live::{ANSWER_PARTS, ENTRY_PARTS, Identity};
 use exh_runs::{Difference, Part, Run, same};
 use exh_ward::Ward;
 use std::alloc::{AllocError, Global};
@@ -174,9 +176,8 @@ fn one_ward<'a, R: Clock, F: Identity>(
     ensures { IfOk result (λ file. file.ward_bits ≡ 0) }
 {
     let keyer = PlainKeyer;
-    let mut wards = Vec::new(alloc);
-    wards.push(new_ward(clock, alloc, watch, keyer)?)?;
-    LiveFile::new(alloc, 0, keyer, wards, answers, entries)
+    let ward = new_ward(clock, alloc, watch, keyer)?;
+    one_ward_file(alloc, keyer, ward, answers, entries)
 }
 
 fn new_ward<'a, R: Clock>(

@@ -1,5 +1,7 @@
 //! The stories.
 
+use exh_runs::Named;
+
 /// A story.
 #[derive(Clone, Copy, PartialEq, Eq)]
 pub(crate) enum Story {
@@ -21,9 +23,8 @@ pub(crate) const STORIES: [Story; 4] = [
     Story::Callers,
 ];
 
-impl Story {
-    /// The word that names it.
-    pub(crate) fn name(self) -> &'static str {
+impl Named for Story {
+    fn name(self) -> &'static str {
         match self {
             Story::HeldLook => "held-look",
             Story::Locks => "locks",

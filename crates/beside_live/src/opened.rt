@@ -4,10 +4,10 @@ ghost use Rattle.exh_keyer.specs.Pseudokey.{plain_pseudokey};
 ghost use Rattle.exh_live.specs.LiveFile.{IsNewWardOf};
 ghost use Rattle.exh_live.specs.declared.ledgers.TheConstants.{ANSWER_PARTS, ENTRY_PARTS};
 
-use exh_callers::{PlainFile, PlainWard};
+use exh_callers::{PlainFile, PlainWard, one_ward_file};
 use exh_fixtures::{opened_ward, prefix, refused};
 use exh_keyer::PlainKeyer;
-use exh_live::{ANSWER_PARTS, ENTRY_PARTS, Identity, LiveFile};
+use exh_live::{ANSWER_PARTS, ENTRY_PARTS, Identity};
 use exh_notice::{Entry, Kind};
 use exh_runs::{Difference, Part, again};
 use exh_table::Table;
@@ -28,9 +28,8 @@ pub(crate) fn opened_file<F: Identity>(
     ensures { IfOk result (λ file. file.ward_bits ≡ 0) }
 {
     let keyer = PlainKeyer;
-    let mut wards = Vec::new(alloc);
-    wards.push(written_ward(alloc, keyer, changes)?)?;
-    Ok(LiveFile::new(alloc, 0, keyer, wards, answers, entries)?)
+    let ward = written_ward(alloc, keyer, changes)?;
+    Ok(one_ward_file(alloc, keyer, ward, answers, entries)?)
 }
 
 fn written_ward(alloc: Global, keyer: PlainKeyer, changes: u32) -> Result<PlainWard, Difference>

@@ -1,1 +1,2 @@
 mod NewWards
+mod OneNewWard
