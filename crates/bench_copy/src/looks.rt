@@ -168,30 +168,49 @@ fn of_lock<R: Threads + Wait + Clock + AllocGlobal + Sync>(
             is_over.store(true, Ordering::SeqCst);
             timed
         },
-        || take_in_turns(rt, &lock, setting, notices, &is_over),
+        || Taker::Lock(&lock).take_in_turns(rt, setting, notices, &is_over),
     );
     total(setting, timed?, published?)
 }
 
-// Takes a notice each millisecond, until the looks are over.
-fn take_in_turns<R: Wait + Clock>(
-    rt: &R,
-    lock: &RwLock<Directory>,
-    setting: Setting,
-    notices: &[Notice],
-    is_over: &AtomicBool,
-) -> anyhow::Result<u32> {
-    let (true, Some(last)) = (setting.is_written, notices.last()) else {
-        return Ok(0);
-    };
-    for i in 0..NOTICES {
-        if is_over.load(Ordering::SeqCst) {
-            return Ok(i);
+// Who takes notices while others look.
+enum Taker<'a> {
+    Lock(&'a RwLock<Directory>),
+    Copy(&'a mut CopyWriter<Brand>),
+}
+
+impl Taker<'_> {
+    fn take<R: Wait>(&mut self, rt: &R, notice: &Notice) -> anyhow::Result<()> {
+        match self {
+            Taker::Lock(lock) => lock.write(rt).take(notice)?,
+            Taker::Copy(writer) => {
+                writer.take(notice)?;
+                writer.publish(rt)?;
+            }
         }
-        lock.write(rt).take(&later(last, i))?;
-        thread::sleep(rt, Duration::from_millis(1));
+        Ok(())
     }
-    Ok(NOTICES)
+
+    // Takes a notice each millisecond, until the looks are over. How many it took.
+    fn take_in_turns<R: Wait + Clock>(
+        &mut self,
+        rt: &R,
+        setting: Setting,
+        notices: &[Notice],
+        is_over: &AtomicBool,
+    ) -> anyhow::Result<u32> {
+        let (true, Some(last)) = (setting.is_written, notices.last()) else {
+            return Ok(0);
+        };
+        for i in 0..NOTICES {
+            if is_over.load(Ordering::SeqCst) {
+                return Ok(i);
+            }
+            self.take(rt, &later(last, i))?;
+            thread::sleep(rt, Duration::from_millis(1));
+        }
+        Ok(NOTICES)
+    }
 }
 
 fn of_new_copy<R: Threads + Wait + Clock + AllocGlobal + Sync>(
@@ -241,7 +260,7 @@ fn of_copy<R: Threads + Wait + Clock + AllocGlobal + Sync>(
             is_over.store(true, Ordering::SeqCst);
             timed
         },
-        || publish_in_turns(rt, writer, setting, notices, &is_over),
+        || Taker::Copy(writer).take_in_turns(rt, setting, notices, &is_over),
     );
     total(setting, timed?, published?)
 }
@@ -253,28 +272,6 @@ fn by_owned_reader(
 ) -> anyhow::Result<Timed> {
     let mut reader = reader;
     by_reader(clock, &mut reader, looks)
-}
-
-// Publishes a notice each millisecond, until the looks are over.
-fn publish_in_turns<R: Wait + Clock>(
-    rt: &R,
-    writer: &mut CopyWriter<Brand>,
-    setting: Setting,
-    notices: &[Notice],
-    is_over: &AtomicBool,
-) -> anyhow::Result<u32> {
-    let (true, Some(last)) = (setting.is_written, notices.last()) else {
-        return Ok(0);
-    };
-    for i in 0..NOTICES {
-        if is_over.load(Ordering::SeqCst) {
-            return Ok(i);
-        }
-        writer.take(&later(last, i))?;
-        writer.publish(rt)?;
-        thread::sleep(rt, Duration::from_millis(1));
-    }
-    Ok(NOTICES)
 }
 
 // Times so many takes of a directory, and as many of a copy that are published one by one.

@@ -7,11 +7,11 @@ ghost use Rattle.exh_prefix.specs.declared.prefix.TheConstants.{WARD_BITS_LIMIT}
 use crate::asks::{Asks, Timed, fill, time};
 use crate::load::{Load, Share, Times};
 use anyhow::{Context, bail};
-use exh_callers::{PlainFile, close, new_wards, settled};
+use exh_callers::{PlainFile, close, settled};
 use exh_calls::{Call, Reply};
 use exh_copy::{CopyReader, CopyWriter, Start};
 use exh_keyer::PlainKeyer;
-use exh_live::{ANSWER_PARTS, Cursors, ENTRY_PARTS, Identity, LiveFile, Seat};
+use exh_live::{ANSWER_PARTS, Cursors, ENTRY_PARTS, Identity, LiveFile, Seat, new_wards};
 use exh_page::CAP_LIMIT;
 use exh_table::Table;
 use exh_walk::{AskFault, OpenGate};

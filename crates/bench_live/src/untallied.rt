@@ -7,11 +7,11 @@ ghost use Rattle.exh_prefix.specs.declared.prefix.TheConstants.{WARD_BITS_LIMIT}
 use crate::asks::{Asks, Timed, fill, time};
 use crate::load::{Load, Share, Times};
 use anyhow::Context;
-use exh_callers::{PlainWard, new_wards};
+use exh_callers::PlainWard;
 use exh_calls::{Call, Reply};
 use exh_copy::{CopyReader, CopyWriter, Start};
 use exh_keyer::{Keyer, PlainKeyer};
-use exh_live::lock_soon;
+use exh_live::{lock_soon, new_wards};
 use exh_notice::Notice;
 use exh_page::CAP_LIMIT;
 use exh_prefix::{PageNo, ward_number};

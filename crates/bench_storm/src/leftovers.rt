@@ -1,9 +1,9 @@
 //! What a storm leaves.
 ghost use Rattle.std.specs.Prelude.{◌≤◌};
 
-use crate::file::ShaWard;
 use crate::texts::text_len;
 use exh_notice::Kind;
+use exh_storm::StormWard;
 use exh_ward::{PageLine, WardFault};
 use std::fmt;
 
@@ -21,7 +21,7 @@ pub(crate) struct Leftovers {
 
 impl Leftovers {
     /// What wards of pages of at most `cap` records have.
-    pub(crate) fn of(cap: usize, wards: &mut [ShaWard]) -> Result<Leftovers, WardFault>
+    pub(crate) fn of(cap: usize, wards: &mut [StormWard]) -> Result<Leftovers, WardFault>
         requires { 1 ≤ cap }
     {
         let mut leftovers = Leftovers {
@@ -41,7 +41,7 @@ impl Leftovers {
     }
 
     // A ward tells of each split and each merge once.
-    fn add_notices(&mut self, ward: &ShaWard) {
+    fn add_notices(&mut self, ward: &StormWard) {
         for notice in ward.notices_after(0) {
             match notice.kind {
                 Kind::Split { .. } => self.splits = self.splits.wrapping_add(1),
@@ -50,7 +50,7 @@ impl Leftovers {
         }
     }
 
-    fn add_pages(&mut self, cap: usize, ward: &mut ShaWard) -> Result<(), WardFault>
+    fn add_pages(&mut self, cap: usize, ward: &mut StormWard) -> Result<(), WardFault>
         requires { 1 ≤ cap }
     {
         let mut records = 0usize;
@@ -68,7 +68,7 @@ impl Leftovers {
         Ok(())
     }
 
-    fn add_texts(&mut self, ward: &ShaWard) {
+    fn add_texts(&mut self, ward: &StormWard) {
         for entry in ward.journal().iter() {
             let texts = text_len(&entry.call, &entry.reply);
             self.texts = self.texts.wrapping_add(texts);

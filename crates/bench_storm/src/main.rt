@@ -14,7 +14,6 @@ ghost use Rattle.exh_storm.specs.StormConfig.{IsStormConfig};
 mod caller_gate;
 mod carried_notices;
 mod courier_gate;
-mod file;
 mod halfway;
 mod kept;
 mod leftovers;
@@ -24,7 +23,6 @@ mod texts;
 mod threads;
 mod times;
 mod way;
-mod workers;
 
 use anyhow::{Context, bail};
 use exh_live::{ANSWER_PARTS, ENTRY_PARTS};

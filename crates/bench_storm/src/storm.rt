@@ -6,18 +6,16 @@ ghost use Rattle.exh_live.specs.declared.ledgers.TheConstants.{ANSWER_PARTS, ENT
 ghost use Rattle.exh_storm.specs.StormConfig.{IsStormConfig};
 
 use crate::carried_notices::CarriedNotices;
-use crate::file::{ShaFile, new_file};
 use crate::leftovers::Leftovers;
 use crate::measured::Measured;
 use crate::threads::{Rounds, run_all};
 use crate::times::Times;
-use crate::workers::new_workers;
 use anyhow::bail;
 use exh_copy::Start;
 use exh_keyer::ShaKeyer;
 use exh_live::{Identity, Seat, WardJournals};
 use exh_settle::settle;
-use exh_storm::StormConfig;
+use exh_storm::{StormConfig, StormFile, new_file, new_workers};
 use std::alloc::Global;
 use std::sync::Wait;
 use std::sync::ledger::Blank;
@@ -58,13 +56,13 @@ fn serve<R: Threads + Wait + Clock + Sync, F: Identity + Send + Sync, S: Start +
     alloc: Global,
     config: &StormConfig,
     awaited: u32,
-    file: &mut ShaFile<F>,
+    file: &mut StormFile<F>,
     watch: &CarriedNotices,
 ) -> anyhow::Result<(Vec<Seat<F>>, Times)>
     requires config { IsStormConfig config.now }
     requires bits { S.ward_bits ≡ config.now.ward_bits }
     requires table { S.table ≡ map.empty }
-    requires file { file.old.ward_bits ≡ config.now.ward_bits }
+    requires file { (file.old.ward_bits ≡ config.now.ward_bits) × (file.old.seats ≡ 0) }
 {
     let workers = new_workers::<R, F, S>(rt, alloc, config, file)?;
     let rounds = Rounds {
@@ -78,7 +76,7 @@ fn serve<R: Threads + Wait + Clock + Sync, F: Identity + Send + Sync, S: Start +
 // Closes the file, with the seats of all its callers, and settles what it leaves.
 fn close<F: Identity>(
     config: &StormConfig,
-    file: ShaFile<F>,
+    file: StormFile<F>,
     seats: Vec<Seat<F>>,
     times: &Times,
     carried: u64,

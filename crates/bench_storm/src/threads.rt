@@ -5,13 +5,11 @@ ghost use Rattle.exh_prefix.specs.declared.prefix.TheConstants.{WARD_BITS_LIMIT}
 use crate::caller_gate::CallerGate;
 use crate::carried_notices::CarriedNotices;
 use crate::courier_gate::CourierGate;
-use crate::file::ShaFile;
 use crate::halfway::Halfway;
 use crate::times::{Called, Times};
-use crate::workers::Workers;
 use exh_copy::Start;
 use exh_live::{Identity, Seat};
-use exh_storm::{Caller, Courier, Keeper, NoWatch, StormFault};
+use exh_storm::{Caller, Courier, Keeper, NoWatch, StormFault, StormFile, Workers};
 use exh_walk::OpenGate;
 use std::alloc::{AllocError, Global};
 use std::sync::Wait;
@@ -50,7 +48,7 @@ pub(crate) fn run_all<
 >(
     rt: &R,
     alloc: Global,
-    file: &ShaFile<F>,
+    file: &StormFile<F>,
     workers: Workers<'_, R, F, S>,
     rounds: Rounds,
     watch: &CarriedNotices,
@@ -94,7 +92,7 @@ fn start_callers<
     scope: &Scope<'s, E>,
     rt: &'s R,
     alloc: Global,
-    file: &'s ShaFile<F>,
+    file: &'s StormFile<F>,
     callers: Vec<Caller<F, S>>,
     rounds: Rounds,
     halfway: &'s Halfway,
@@ -111,7 +109,7 @@ fn start_callers<
 fn call<R: Wait + Clock, F: Identity, S: Start>(
     caller: Caller<F, S>,
     rt: &R,
-    file: &ShaFile<F>,
+    file: &StormFile<F>,
     calls: u32,
     halfway: &Halfway,
 ) -> anyhow::Result<(Seat<F>, Called)> {
@@ -131,7 +129,7 @@ fn start_keepers<'s, E, R: Threads + Wait + Sync, F: Identity + Send + Sync + 's
     scope: &Scope<'s, E>,
     rt: &'s R,
     alloc: Global,
-    file: &'s ShaFile<F>,
+    file: &'s StormFile<F>,
     rounds: Rounds,
 ) -> Result<Vec<Keeping>, AllocError>
     requires limit { rounds.ward_bits ≤ WARD_BITS_LIMIT }
@@ -161,7 +159,7 @@ fn start_couriers<
 >(
     scope: &Scope<'s, E>,
     alloc: Global,
-    file: &'s ShaFile<F>,
+    file: &'s StormFile<F>,
     couriers: Vec<Courier<'s, R, S>>,
     rounds: Rounds,
     gate: &'s CourierGate<'s, R>,
@@ -181,7 +179,7 @@ fn start_couriers<
 fn carry<'a, R: Wait + Clock, F: Identity, S: Start>(
     courier: Courier<'a, R, S>,
     alloc: Global,
-    file: &ShaFile<F>,
+    file: &StormFile<F>,
     rounds: Rounds,
     gate: &CourierGate<'_, R>,
     watch: &CarriedNotices,

@@ -5,7 +5,7 @@ ghost use Rattle.exh_keyer.specs.Pseudokey.{plain_pseudokey};
 ghost use Rattle.exh_live.specs.declared.ledgers.TheConstants.{ANSWER_PARTS, ENTRY_PARTS};
 
 use exh_callers::{
-    CAP, Caller, PlainFile, PlainWard, Reader, ask, close, new_file, next_caller, settled,
+    CAP, Caller, PlainFile, PlainWard, Reader, ask, close_settled, new_file, next_caller,
 };
 use exh_calls::Call;
 use exh_fixtures::{Asked, told_reply};
@@ -65,10 +65,8 @@ fn run_file<R: Threads + Wait + Sync, F: Identity + Sync + Send>(
     let mut seats = Vec::new(run.alloc);
     seats.push(last.seat)?;
     stand_up(run, jobs, &mut seats)?;
-    let closed = close(file, seats).map_err(Difference::Refused)?;
-    let count = settled(2, closed.wards.as_slice(), closed.diaries.as_slice());
     let want = u128::from(calls) * u128::from(CALLERS) + u128::from(KEYS);
-    run.tally.step(same(count == Ok(want), Part::Journal));
+    let closed = close_settled(run, 2, file, seats, want)?;
     replay(run, closed.wards.as_slice());
     Ok(())
 }

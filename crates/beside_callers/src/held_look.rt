@@ -5,7 +5,7 @@ ghost use Rattle.exh_keyer.specs.Pseudokey.{plain_pseudokey};
 ghost use Rattle.exh_live.specs.declared.ledgers.TheConstants.{ANSWER_PARTS, ENTRY_PARTS};
 
 use crate::hold_gate::HoldGate;
-use exh_callers::{CAP, Caller, PlainFile, Reader, close, is_told, new_file, next_caller, settled};
+use exh_callers::{CAP, Caller, PlainFile, Reader, close_settled, is_told, new_file, next_caller};
 use exh_calls::Reply;
 use exh_fixtures::{Asked, told_reply, value};
 use exh_live::{ANSWER_PARTS, ENTRY_PARTS, Identity};
@@ -46,9 +46,7 @@ fn run_file<R: Threads + Wait + Clock + Sync, F: Identity + Sync + Send>(
     let mut seats = Vec::new(run.alloc);
     seats.push(first.seat)?;
     seats.push(second.seat)?;
-    let closed = close(file, seats).map_err(Difference::Refused)?;
-    let count = settled(0, closed.wards.as_slice(), closed.diaries.as_slice());
-    run.tally.step(same(count == Ok(5), Part::Journal));
+    close_settled(run, 0, file, seats, 5)?;
     Ok(())
 }
 

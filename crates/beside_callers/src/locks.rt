@@ -1,18 +1,17 @@
 //! A lock for each ward: a caller is answered in ward 1 while the lock of ward 0 is held.
-ghost use Rattle.std.specs.Prelude.{◌≡◌, ◌∷◌, [], ◌<◌, None, IfOk};
+ghost use Rattle.std.specs.Prelude.{◌≡◌};
 ghost use Rattle.exh_keyer.specs.Pseudokey.{plain_pseudokey};
-ghost use Rattle.exh_live.specs.LiveFile.{IsNewWardOf};
 ghost use Rattle.exh_live.specs.declared.ledgers.TheConstants.{ANSWER_PARTS, ENTRY_PARTS};
 
-use crate::waiting_pages::{Signs, WaitingPages};
+use crate::first_look::{FirstLook, Signs};
+use crate::watched_pages::{WatchedPages, new_ward};
 use exh_callers::{Caller, File, Reader, is_told, next_caller};
 use exh_calls::Reply;
-use exh_fixtures::{Asked, first_store, told_reply};
+use exh_fixtures::{Asked, told_reply};
 use exh_keyer::PlainKeyer;
 use exh_live::{ANSWER_PARTS, ENTRY_PARTS, Identity, LiveFile};
 use exh_runs::{Difference, Part, Run, same};
 use exh_walk::OpenGate;
-use exh_ward::Ward;
 use std::alloc::{AllocError, Global};
 use std::marker::Brand;
 use std::sync::Wait;
@@ -20,7 +19,7 @@ use std::sync::ledger::Blank;
 use std::thread::{Threads, join};
 use std::time::Clock;
 
-type WaitingFile<'a, R, F> = File<WaitingPages<'a, R>, F>;
+type WaitingFile<'a, R, F> = File<WatchedPages<FirstLook<'a, R>>, F>;
 
 /// Runs it.
 pub(crate) fn run<R: Threads + Wait + Clock + Sync>(
@@ -103,23 +102,13 @@ fn two_wards<'a, R: Clock, F: Identity>(
     requires entries { (entries.name ≡ F.entries) × (entries.parts ≡ ENTRY_PARTS) }
     requires hashed { F.hashing ≡ plain_pseudokey }
 {
-    let keyer = PlainKeyer;
+    let waits = FirstLook {
+        clock,
+        signs: Some(signs),
+    };
+    let goes = FirstLook { clock, signs: None };
     let mut wards = Vec::new(alloc);
-    wards.push(new_ward(clock, alloc, keyer, Some(signs), 0)?)?;
-    wards.push(new_ward(clock, alloc, keyer, None, 1)?)?;
-    LiveFile::new(alloc, 1, keyer, wards, answers, entries)
-}
-
-fn new_ward<'a, R: Clock>(
-    clock: &'a R,
-    alloc: Global,
-    keyer: PlainKeyer,
-    signs: Option<&'a Signs>,
-    number: u8,
-) -> Result<Ward<WaitingPages<'a, R>, PlainKeyer>, AllocError>
-    requires { number < 2 }
-    ensures { IfOk result (IsNewWardOf 2 1 keyer number) }
-{
-    let store = WaitingPages::new(first_store(alloc, 1, number)?, clock, signs);
-    Ok(Ward::new(alloc, store, 2, 1, number, keyer))
+    wards.push(new_ward(alloc, waits, 1, 0)?)?;
+    wards.push(new_ward(alloc, goes, 1, 1)?)?;
+    LiveFile::new(alloc, 1, PlainKeyer, wards, answers, entries)
 }

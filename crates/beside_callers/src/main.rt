@@ -4,13 +4,14 @@
 
 mod callers;
 mod filler;
+mod first_look;
 mod held_look;
 mod hold_gate;
 mod locks;
+mod merge_look;
 mod refill;
 mod sign;
 mod story;
-mod waiting_pages;
 mod watched_pages;
 
 use crate::callers::CALLERS;

@@ -1,22 +1,21 @@
 //! The refill: a keeper makes rounds over a ward, while a caller on another thread empties its pages and
 //! fills them again.
-ghost use Rattle.std.specs.Prelude.{◌≡◌, ◌∷◌, [], None, IfOk};
+ghost use Rattle.std.specs.Prelude.{◌≡◌, IfOk};
 ghost use Rattle.exh_keyer.specs.Pseudokey.{plain_pseudokey};
-ghost use Rattle.exh_live.specs.LiveFile.{IsNewWardOf};
 ghost use Rattle.exh_live.specs.declared.ledgers.TheConstants.{ANSWER_PARTS, ENTRY_PARTS};
 
 use crate::filler::{Filler, answers_of};
+use crate::merge_look::{MergeLook, Watch};
 use crate::sign::Sign;
-use crate::watched_pages::{Watch, WatchedPages};
+use crate::watched_pages::{WatchedPages, WatchedWard, new_ward};
 use exh_callers::{
     CAP, Caller, File, Reader, close_settled, is_kept, keep, next_caller, one_ward_file,
 };
 use exh_calls::Reply;
-use exh_fixtures::{first_store, merge, prefix, split, told_reply};
+use exh_fixtures::{merge, prefix, split, told_reply};
 use exh_keyer::PlainKeyer;
 use exh_live::{ANSWER_PARTS, ENTRY_PARTS, Identity};
 use exh_runs::{Difference, Part, Run, same};
-use exh_ward::Ward;
 use std::alloc::{AllocError, Global};
 use std::marker::Brand;
 use std::sync::Wait;
@@ -24,9 +23,7 @@ use std::sync::ledger::Blank;
 use std::thread::{Threads, join};
 use std::time::Clock;
 
-type WatchedFile<'a, R, F> = File<WatchedPages<'a, R>, F>;
-
-type WatchedWard<'a, R> = Ward<WatchedPages<'a, R>, PlainKeyer>;
+type WatchedFile<'a, R, F> = File<WatchedPages<MergeLook<'a, R>>, F>;
 
 /// Runs it, over a copy that is told of nothing.
 pub(crate) fn run<R: Threads + Wait + Clock + Sync>(
@@ -124,7 +121,7 @@ fn keep_beside<R: Wait + Clock, F: Identity>(
 // In its first turn it waits for the keeper's first merge, and so it fills merged pages once at least.
 fn refill<R: Wait + Clock, F: Identity>(
     rt: &R,
-    filler: &mut Filler<'_, R, WatchedPages<'_, R>, F>,
+    filler: &mut Filler<'_, R, WatchedPages<MergeLook<'_, R>>, F>,
     watch: &Watch,
     turns: u32,
 ) {
@@ -142,7 +139,7 @@ fn refill<R: Wait + Clock, F: Identity>(
 // the one after it. By turns it tells of a split of its first page, whose right half is page 1, and of a
 // merge of both.
 fn are_told<R: Clock>(
-    wards: &[WatchedWard<'_, R>],
+    wards: &[WatchedWard<MergeLook<'_, R>>],
     merges: Result<u32, Difference>,
 ) -> Result<(), Difference> {
     let merges = u64::from(merges?);
@@ -175,19 +172,6 @@ fn one_ward<'a, R: Clock, F: Identity>(
     requires hashed { F.hashing ≡ plain_pseudokey }
     ensures { IfOk result (λ file. file.ward_bits ≡ 0) }
 {
-    let keyer = PlainKeyer;
-    let ward = new_ward(clock, alloc, watch, keyer)?;
-    one_ward_file(alloc, keyer, ward, answers, entries)
-}
-
-fn new_ward<'a, R: Clock>(
-    clock: &'a R,
-    alloc: Global,
-    watch: &'a Watch,
-    keyer: PlainKeyer,
-) -> Result<WatchedWard<'a, R>, AllocError>
-    ensures { IfOk result (IsNewWardOf 2 0 keyer 0) }
-{
-    let store = WatchedPages::new(first_store(alloc, 0, 0)?, clock, watch);
-    Ok(Ward::new(alloc, store, CAP, 0, 0, keyer))
+    let ward = new_ward(alloc, MergeLook { clock, watch }, 0, 0)?;
+    one_ward_file(alloc, PlainKeyer, ward, answers, entries)
 }

@@ -1,69 +1,53 @@
-//! A store of pages that takes its time, and looks at what merges join.
-ghost use Rattle.std.specs.Prelude.{◌≡◌};
+//! A store of pages with an onlooker.
+ghost use Rattle.std.specs.Prelude.{◌≡◌, ◌<◌, ◌≤◌, ◌^◌, IfOk};
+ghost use Rattle.exh_live.specs.LiveFile.{IsNewWardOf};
+ghost use Rattle.exh_prefix.specs.declared.prefix.TheConstants.{WARD_BITS_LIMIT};
 
-use crate::sign::Sign;
+use exh_callers::CAP;
+use exh_fixtures::first_store;
 use exh_frames::{Pages, PagesFault, PlainPages};
+use exh_keyer::PlainKeyer;
 use exh_page::{Key, Page, Spot, Value};
 use exh_prefix::PageNo;
-use std::thread;
-use std::time::{Clock, Duration};
+use exh_ward::Ward;
+use std::alloc::{AllocError, Global};
 
-/// What a store's merges were, where a keeper may join at most `half` records.
-#[derive(Drop)]
-pub(crate) struct Watch {
-    half: usize,
-    /// That pages were merged.
-    pub(crate) has_merged: Sign,
-    /// That pages were merged which had more records together than half.
-    pub(crate) is_over: Sign,
+/// Sees what is done with a store of pages, before it is done.
+pub(crate) trait Onlooker {
+    /// A page is looked at.
+    fn look(&mut self);
+
+    /// Two pages are written at once.
+    fn set_two(&mut self, page: &Page, twin: &Page);
 }
 
-impl Watch {
-    pub(crate) fn new(half: usize) -> Watch {
-        Watch {
-            half,
-            has_merged: Sign::new(),
-            is_over: Sign::new(),
-        }
-    }
-
-    // Looks at two pages that are written at once. Where one is a forwarding page, they are a merge's, and
-    // the other has the records of both; a split that takes such a page's place writes two live ones.
-    fn see(&self, page: &Page, twin: &Page) {
-        if twin.is_live() {
-            return;
-        }
-        if let Page::Live { records, .. } = page {
-            if records.len() > self.half {
-                self.is_over.give();
-            }
-            self.has_merged.give();
-        }
-    }
-}
-
-/// Pages in memory, whose merges are watched. Each look at a page takes 10 microseconds or more, so
-/// that others wait for the lock meanwhile.
+/// Pages in memory, and who looks on.
 #[derive(Drop)]
-pub(crate) struct WatchedPages<'a, R: Clock> {
+pub(crate) struct WatchedPages<W: Onlooker> {
     inner: PlainPages,
-    clock: &'a R,
-    watch: &'a Watch,
+    onlooker: W,
 }
 
-impl<'a, R: Clock> WatchedPages<'a, R> {
-    pub(crate) fn new(inner: PlainPages, clock: &'a R, watch: &'a Watch) -> WatchedPages<'a, R>
-        ensures { result.inner ≡ inner }
-    {
-        WatchedPages {
-            inner,
-            clock,
-            watch,
-        }
-    }
+/// A ward of such pages, of two records each and of keyer plain.
+pub(crate) type WatchedWard<W> = Ward<WatchedPages<W>, PlainKeyer>;
+
+/// The new ward of a number, which has an onlooker. An `AllocError` where memory is refused.
+pub(crate) fn new_ward<W: Onlooker>(
+    alloc: Global,
+    onlooker: W,
+    ward_bits: u8,
+    number: u8,
+) -> Result<WatchedWard<W>, AllocError>
+    requires bits { ward_bits ≤ WARD_BITS_LIMIT }
+    requires number { number < 2 ^ ward_bits }
+    ensures { IfOk result (IsNewWardOf 2 ward_bits PlainKeyer number) }
+{
+    let inner = first_store(alloc, ward_bits, number)?;
+    let store = WatchedPages { inner, onlooker };
+    Ok(Ward::new(alloc, store, CAP, ward_bits, number, PlainKeyer))
 }
 
-impl<R: Clock> Pages for WatchedPages<'_, R> {
+impl<W: Onlooker> Pages for WatchedPages<W> {
     ghost use Rattle.std.specs.Prelude.{⊤};
 
     ghost pages = { λ store. store.inner };
@@ -85,7 +69,7 @@ impl<R: Clock> Pages for WatchedPages<'_, R> {
     }
 
     fn lend(&mut self, number: PageNo) -> Result<&Page, PagesFault> {
-        thread::sleep(self.clock, Duration::from_micros(10));
+        self.onlooker.look();
         self.inner.lend(number)
     }
 
@@ -115,7 +99,7 @@ impl<R: Clock> Pages for WatchedPages<'_, R> {
         other: PageNo,
         twin: Page,
     ) -> Result<(), PagesFault> {
-        self.watch.see(&page, &twin);
+        self.onlooker.set_two(&page, &twin);
         self.inner.set_two(number, page, other, twin)
     }
 

@@ -1,2 +1,1 @@
-mod NewWards
 mod OneNewWard

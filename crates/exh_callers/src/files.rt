@@ -1,17 +1,17 @@
 //! New live files of keyer plain, and what they leave.
-ghost use Rattle.std.specs.Prelude.{◌≡◌, ℕ, ◌<◌, ◌≤◌, ◌^◌, IfOk};
+ghost use Rattle.std.specs.Prelude.{◌≡◌, ℕ, ◌≤◌, IfOk};
 ghost use Rattle.exh_keyer.specs.Pseudokey.{plain_pseudokey};
-ghost use Rattle.exh_live.specs.LiveFile.{AreNewWardsOf, IsNewWardOf};
+ghost use Rattle.exh_live.specs.LiveFile.{IsNewWardOf};
 ghost use Rattle.exh_page.specs.declared.page.TheConstants.{CAP_LIMIT};
 ghost use Rattle.exh_live.specs.declared.ledgers.TheConstants.{ANSWER_PARTS, ENTRY_PARTS};
 ghost use Rattle.exh_prefix.specs.declared.prefix.TheConstants.{WARD_BITS_LIMIT};
 
 use crate::caller::{File, PlainFile};
-use exh_fixtures::first_store;
 use exh_frames::{Pages, PlainPages};
 use exh_keyer::PlainKeyer;
 use exh_live::{
     ANSWER_PARTS, CloseFault, Closed, ENTRY_PARTS, Identity, LiveFile, Seat, WardJournals,
+    new_wards,
 };
 use exh_page::CAP_LIMIT;
 use exh_runs::{Difference, Part, Run, same};
@@ -24,44 +24,6 @@ use std::sync::ledger::Blank;
 pub const CAP: usize = 2;
 
 pub type PlainWard = Ward<PlainPages, PlainKeyer>;
-
-// The ward of a number.
-fn new_ward(
-    alloc: Global,
-    keyer: PlainKeyer,
-    cap: usize,
-    ward_bits: u8,
-    number: u8,
-) -> Result<PlainWard, AllocError>
-    requires some { 1 ≤ cap }
-    requires most { cap ≤ CAP_LIMIT }
-    requires bits { ward_bits ≤ WARD_BITS_LIMIT }
-    requires number { number < 2 ^ ward_bits }
-    ensures { IfOk result (IsNewWardOf cap ward_bits keyer number) }
-{
-    let store = first_store(alloc, ward_bits, number)?;
-    Ok(Ward::new(alloc, store, cap, ward_bits, number, keyer))
-}
-
-/// New wards of a file of 2^`ward_bits` wards, one for each number, in order, of pages of at most `cap`
-/// records. An `AllocError` where memory is refused.
-pub fn new_wards(
-    alloc: Global,
-    keyer: PlainKeyer,
-    cap: usize,
-    ward_bits: u8,
-) -> Result<Vec<PlainWard>, AllocError>
-    requires some { 1 ≤ cap }
-    requires most { cap ≤ CAP_LIMIT }
-    requires bits { ward_bits ≤ WARD_BITS_LIMIT }
-    ensures { IfOk result (λ wards. AreNewWardsOf cap ward_bits keyer wards.items) }
-{
-    let mut wards = Vec::new(alloc);
-    for number in 0..1 << ward_bits {
-        wards.push(new_ward(alloc, keyer, cap, ward_bits, number)?)?;
-    }
-    Ok(wards)
-}
 
 /// A new file of 2^`ward_bits` wards, of pages of at most `cap` records and of keyer plain. An
 /// `AllocError` where memory is refused.

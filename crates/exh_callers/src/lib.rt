@@ -4,9 +4,7 @@
 #![tactic(auto)]
 
 pub use caller::{Caller, File, PlainFile, Reader, ask, is_held, is_told, next_caller};
-pub use files::{
-    CAP, PlainWard, close, close_settled, new_file, new_wards, one_ward_file, settled,
-};
+pub use files::{CAP, PlainWard, close, close_settled, new_file, one_ward_file, settled};
 pub use rounds::{Writer, is_carried, is_kept, keep};
 
 mod caller;

@@ -8,6 +8,7 @@ pub use identity::Identity;
 pub use ledgers::{ANSWER_PARTS, Answers, ENTRY_PARTS, Entries, LedgerNames};
 pub use live_file::LiveFile;
 pub use lock::lock_soon;
+pub use new_wards::new_wards;
 pub use seat::{NoSeat, Seat};
 pub use ward_journals::WardJournals;
 
@@ -21,6 +22,7 @@ mod ledgers;
 mod live_file;
 mod lock;
 mod locked_ward;
+mod new_wards;
 mod seat;
 mod spare;
 mod tallied_ward;

@@ -1,14 +1,12 @@
 //! Live files: seats, closing, and hops under locks by callers on threads of their own.
-ghost use Rattle.std.specs.Prelude.{◌≡◌, ◌<◌, IfOk};
+ghost use Rattle.std.specs.Prelude.{◌≡◌, IfOk};
 ghost use Rattle.exh_keyer.specs.Pseudokey.{plain_pseudokey};
 ghost use Rattle.exh_live.specs.declared.ledgers.TheConstants.{ANSWER_PARTS, ENTRY_PARTS};
-ghost use Rattle.exh_live.specs.LiveFile.{IsNewWardOf};
 
-use crate::{ANSWER_PARTS, CloseFault, ENTRY_PARTS, Identity, LiveFile, NoSeat, Seat};
+use crate::{ANSWER_PARTS, CloseFault, ENTRY_PARTS, Identity, LiveFile, NoSeat, Seat, new_wards};
 use exh_frames::PlainPages;
 use exh_keyer::PlainKeyer;
 use exh_settle::CALLER_LIMIT;
-use exh_ward::{Ward, first_page};
 use std::alloc::{AllocError, Global};
 use std::marker::Brand;
 use std::sync::ledger::Blank;
@@ -28,24 +26,8 @@ fn two_wards<F: Identity>(
     ensures { IfOk result (λ file. file.seats ≡ 0) }
 {
     let keyer = PlainKeyer;
-    let first = new_ward(alloc, keyer, 0)?;
-    let second = new_ward(alloc, keyer, 1)?;
-    let mut wards = Vec::new(alloc);
-    wards.push(first)?;
-    wards.push(second)?;
+    let wards = new_wards(alloc, keyer, 2, 1)?;
     LiveFile::new(alloc, 1, keyer, wards, answers, entries)
-}
-
-fn new_ward(
-    alloc: Global,
-    keyer: PlainKeyer,
-    number: u8,
-) -> Result<Ward<PlainPages, PlainKeyer>, AllocError>
-    requires { number < 2 }
-    ensures { IfOk result (IsNewWardOf 2 1 keyer number) }
-{
-    let store = PlainPages::new(alloc, first_page(alloc, 1, number))?;
-    Ok(Ward::new(alloc, store, 2, 1, number, keyer))
 }
 
 // A file with a seat for each of two callers.

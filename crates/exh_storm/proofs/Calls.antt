@@ -5,7 +5,7 @@ use Rattle.exh_calls.specs.declared.reply.Reply.{Reply}
 use Rattle.exh_settle.specs.declared.diary_entry.DiaryEntry.{DiaryEntry}
 use Rattle.exh_live.specs.LiveFile.{SeatState}
 use Rattle.exh_storm.specs.StormCalls.{AreStormCalls, storm_call}
-use Rattle.exh_storm.proofs.Each.{one_more}
+use Rattle.exh_live.specs.PlaceLemmas.{one_more}
 
 -- the seat is this caller's, which was answered so many calls
 abbrev pub IsServedSo : ℕ → ℕ → SeatState → Type 0

@@ -1,3 +1,2 @@
 mod Calls
-mod Each
 mod Sums

@@ -1,66 +1,29 @@
 //! The new file of a storm, and what it leaves.
-ghost use Rattle.std.specs.Prelude.{◌≡◌, ◌<◌, ◌≤◌, ◌^◌, map, IfOk, OnOk};
+ghost use Rattle.std.specs.Prelude.{◌≡◌, ◌<◌, ◌^◌, map, IfOk, OnOk};
 ghost use Rattle.exh_prefix.specs.Leading.{ward_of};
 ghost use Rattle.exh_settle.specs.Settled.{IsSettled, answer_count};
 ghost use Rattle.exh_keyer.specs.Pseudokey.{sha_pseudokey};
-ghost use Rattle.exh_live.specs.LiveFile.{AreNewWardsOf, IsNewWardOf};
-ghost use Rattle.exh_page.specs.declared.page.TheConstants.{CAP_LIMIT};
 ghost use Rattle.exh_live.specs.declared.ledgers.TheConstants.{ANSWER_PARTS, ENTRY_PARTS};
-ghost use Rattle.exh_prefix.specs.declared.prefix.TheConstants.{WARD_BITS_LIMIT};
 ghost use Rattle.exh_storm.specs.StormConfig.{IsStormConfig};
 
 use crate::{StormConfig, StormFault};
 use exh_frames::PlainPages;
 use exh_keyer::ShaKeyer;
-use exh_live::{Identity, LiveFile, WardJournals};
+use exh_live::{Identity, LiveFile, WardJournals, new_wards};
 use exh_settle::{Diary, settle};
-use exh_ward::{Ward, first_page};
+use exh_ward::Ward;
 use std::alloc::{AllocError, Global};
 use std::sync::ledger::Blank;
 
-pub(crate) type StormFile<F> = LiveFile<PlainPages, ShaKeyer, F>;
+/// The file of a storm: its pages in memory, of keyer sha.
+pub type StormFile<F> = LiveFile<PlainPages, ShaKeyer, F>;
 
-pub(crate) type StormWard = Ward<PlainPages, ShaKeyer>;
+/// A ward of it.
+pub type StormWard = Ward<PlainPages, ShaKeyer>;
 
-// The ward of a number.
-fn new_ward(
-    alloc: Global,
-    keyer: ShaKeyer,
-    cap: usize,
-    ward_bits: u8,
-    number: u8,
-) -> Result<StormWard, AllocError>
-    requires some { 1 ≤ cap }
-    requires most { cap ≤ CAP_LIMIT }
-    requires bits { ward_bits ≤ WARD_BITS_LIMIT }
-    requires number { number < 2 ^ ward_bits }
-    ensures { IfOk result (IsNewWardOf cap ward_bits keyer number) }
-{
-    let store = PlainPages::new(alloc, first_page(alloc, ward_bits, number))?;
-    Ok(Ward::new(alloc, store, cap, ward_bits, number, keyer))
-}
-
-// New wards, one for each number, in order.
-fn new_wards(
-    alloc: Global,
-    keyer: ShaKeyer,
-    cap: usize,
-    ward_bits: u8,
-) -> Result<Vec<StormWard>, AllocError>
-    requires some { 1 ≤ cap }
-    requires most { cap ≤ CAP_LIMIT }
-    requires bits { ward_bits ≤ WARD_BITS_LIMIT }
-    ensures { IfOk result (λ wards. AreNewWardsOf cap ward_bits keyer wards.items) }
-{
-    let mut wards = Vec::new(alloc);
-    for number in 0..1 << ward_bits {
-        wards.push(new_ward(alloc, keyer, cap, ward_bits, number)?)?;
-    }
-    Ok(wards)
-}
-
-/// The new file of a storm, of keyer sha. An `AllocError` where memory is refused.
-pub(crate) fn new_file<F: Identity>(
+/// The new file of a storm, of the cap and the ward bits that it asks for. An `AllocError` where memory
+/// is refused.
+pub fn new_file<F: Identity>(
     alloc: Global,
     config: &StormConfig,
     answers: Blank,

@@ -7,10 +7,12 @@ pub use caller::Caller;
 pub use config::{CALLERS_LIMIT, CALLS_LIMIT, COPIES_LIMIT, StormConfig};
 pub use courier::{COURIER_CLIENT, Courier};
 pub use fault::StormFault;
+pub use file::{StormFile, StormWard, new_file};
 pub use keeper::{KEEPER_CLIENT, Keeper};
 pub use open_copy::OpenCopy;
 pub use run::storm;
 pub use watch::{NoWatch, Watch};
+pub use workers::{Workers, new_workers};
 
 mod call;
 mod caller;

@@ -15,16 +15,16 @@ use std::sync::Wait;
 
 /// The callers of a storm by their numbers, and a courier to each copy of the directory.
 #[derive(Drop)]
-pub(crate) struct Workers<'a, R: Wait, F: Identity, S: Start> {
-    pub(crate) callers: Vec<Caller<F, S>>,
-    pub(crate) couriers: Vec<Courier<'a, R, S>>,
+pub struct Workers<'a, R: Wait, F: Identity, S: Start> {
+    pub callers: Vec<Caller<F, S>>,
+    pub couriers: Vec<Courier<'a, R, S>>,
 }
 
 // Where the callers look: for each copy its readers.
 type Readers<S> = Vec<Vec<CopyReader<S>>>;
 
 /// The workers of a storm over a new file that has given no seat. Refused: `Memory`, `Seats`.
-pub(crate) fn new_workers<'a, R: Wait, F: Identity, S: Start>(
+pub fn new_workers<'a, R: Wait, F: Identity, S: Start>(
     rt: &'a R,
     alloc: Global,
     config: &StormConfig,

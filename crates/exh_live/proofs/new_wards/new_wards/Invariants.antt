@@ -1,6 +1,6 @@
 use Rattle.exh_live.specs.LiveFile.{IsNewWardOf}
-use Rattle.exh_storm.proofs.Each.{AreFirst}
-use Rattle.exh_storm.proofs.file.new_wards.Given as goal
+use Rattle.exh_live.specs.PlaceLemmas.{AreFirst}
+use Rattle.exh_live.proofs.new_wards.new_wards.Given as goal
 
 -- the wards of the numbers so far
 abbrev pub invariant-loop-number : goal.invariant-loop-number

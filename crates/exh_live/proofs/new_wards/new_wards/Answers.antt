@@ -1,6 +1,6 @@
 use Rattle.exh_live.specs.LiveFile.{IsNewWardOf}
-use Rattle.bench_storm.proofs.Each.{one_more}
-use Rattle.bench_storm.proofs.file.new_wards.Goals as goal
+use Rattle.exh_live.specs.PlaceLemmas.{one_more}
+use Rattle.exh_live.proofs.new_wards.new_wards.Goals as goal
 
 pub loop-number-preserved : goal.loop-number-preserved
 loop-number-preserved c =

@@ -1,7 +1,0 @@
-use Rattle.exh_live.specs.LiveFile.{IsNewWardOf}
-use Rattle.bench_storm.proofs.Each.{AreFirst}
-use Rattle.bench_storm.proofs.file.new_wards.Given as goal
-
--- the wards of the numbers so far
-abbrev pub invariant-loop-number : goal.invariant-loop-number
-invariant-loop-number l = AreFirst (IsNewWardOf l.cap l.ward_bits l.keyer) l.number l.wards.items
