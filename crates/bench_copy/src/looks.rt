@@ -174,6 +174,7 @@ fn of_lock<R: Threads + Wait + Clock + AllocGlobal + Sync>(
 }
 
 // Who takes notices while others look.
+#[derive(Drop)]
 enum Taker<'a> {
     Lock(&'a RwLock<Directory>),
     Copy(&'a mut CopyWriter<Brand>),
@@ -182,7 +183,9 @@ enum Taker<'a> {
 impl Taker<'_> {
     fn take<R: Wait>(&mut self, rt: &R, notice: &Notice) -> anyhow::Result<()> {
         match self {
-            Taker::Lock(lock) => lock.write(rt).take(notice)?,
+            Taker::Lock(lock) => {
+                lock.write(rt).take(notice)?;
+            }
             Taker::Copy(writer) => {
                 writer.take(notice)?;
                 writer.publish(rt)?;

@@ -102,13 +102,14 @@ fn two_wards<'a, R: Clock, F: Identity>(
     requires entries { (entries.name ≡ F.entries) × (entries.parts ≡ ENTRY_PARTS) }
     requires hashed { F.hashing ≡ plain_pseudokey }
 {
+    let keyer = PlainKeyer;
     let waits = FirstLook {
         clock,
         signs: Some(signs),
     };
     let goes = FirstLook { clock, signs: None };
     let mut wards = Vec::new(alloc);
-    wards.push(new_ward(alloc, waits, 1, 0)?)?;
-    wards.push(new_ward(alloc, goes, 1, 1)?)?;
-    LiveFile::new(alloc, 1, PlainKeyer, wards, answers, entries)
+    wards.push(new_ward(alloc, keyer, waits, 1, 0)?)?;
+    wards.push(new_ward(alloc, keyer, goes, 1, 1)?)?;
+    LiveFile::new(alloc, 1, keyer, wards, answers, entries)
 }

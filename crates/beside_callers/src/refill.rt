@@ -172,6 +172,7 @@ fn one_ward<'a, R: Clock, F: Identity>(
     requires hashed { F.hashing ≡ plain_pseudokey }
     ensures { IfOk result (λ file. file.ward_bits ≡ 0) }
 {
-    let ward = new_ward(alloc, MergeLook { clock, watch }, 0, 0)?;
-    one_ward_file(alloc, PlainKeyer, ward, answers, entries)
+    let keyer = PlainKeyer;
+    let ward = new_ward(alloc, keyer, MergeLook { clock, watch }, 0, 0)?;
+    one_ward_file(alloc, keyer, ward, answers, entries)
 }

@@ -23,7 +23,7 @@ pub(crate) trait Onlooker {
 
 /// Pages in memory, and who looks on.
 #[derive(Drop)]
-pub(crate) struct WatchedPages<W: Onlooker> {
+pub(crate) struct WatchedPages<W: Onlooker + Drop> {
     inner: PlainPages,
     onlooker: W,
 }
@@ -32,22 +32,23 @@ pub(crate) struct WatchedPages<W: Onlooker> {
 pub(crate) type WatchedWard<W> = Ward<WatchedPages<W>, PlainKeyer>;
 
 /// The new ward of a number, which has an onlooker. An `AllocError` where memory is refused.
-pub(crate) fn new_ward<W: Onlooker>(
+pub(crate) fn new_ward<W: Onlooker + Drop>(
     alloc: Global,
+    keyer: PlainKeyer,
     onlooker: W,
     ward_bits: u8,
     number: u8,
 ) -> Result<WatchedWard<W>, AllocError>
     requires bits { ward_bits ≤ WARD_BITS_LIMIT }
     requires number { number < 2 ^ ward_bits }
-    ensures { IfOk result (IsNewWardOf 2 ward_bits PlainKeyer number) }
+    ensures { IfOk result (IsNewWardOf 2 ward_bits keyer number) }
 {
     let inner = first_store(alloc, ward_bits, number)?;
     let store = WatchedPages { inner, onlooker };
-    Ok(Ward::new(alloc, store, CAP, ward_bits, number, PlainKeyer))
+    Ok(Ward::new(alloc, store, CAP, ward_bits, number, keyer))
 }
 
-impl<W: Onlooker> Pages for WatchedPages<W> {
+impl<W: Onlooker + Drop> Pages for WatchedPages<W> {
     ghost use Rattle.std.specs.Prelude.{⊤};
 
     ghost pages = { λ store. store.inner };

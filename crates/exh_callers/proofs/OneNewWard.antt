@@ -1,5 +1,5 @@
 -- The one ward that a live file begins with.
-use Rattle.std.proofs.Common.{◌≡◌, ℕ, zero, suc, ◌+◌, List, [], ◌∷◌, length, slice_get, Some, refl, sym, ap, ◌∙◌, subst}
+use Rattle.std.proofs.Common.{◌≡◌, ℕ, zero, suc, List, [], ◌∷◌, slice_get, Some, refl, sym, subst}
 use Rattle.exh_ward.specs.WardState.{WardState}
 use Rattle.exh_live.specs.LiveFile.{AreNewWardsOf, IsNewWardOf}
 

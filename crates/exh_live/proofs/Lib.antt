@@ -1,3 +1,3 @@
 mod Rounds
+mod ToBeTallied
 mod Walks
-mod Wards

@@ -3,14 +3,13 @@ ghost use Rattle.exh_live.specs.Closing.{AreDiariesOf, IsClosed, IsCloseFault, a
 ghost use Rattle.exh_live.specs.declared.close.CloseFault.TheVariants.{Memory};
 
 use crate::ledgers::{Answers, Entries};
-use crate::tallied_ward::TalliedWard;
+use crate::tallied_ward::WardLock;
 use crate::{Identity, LiveFile, Seat};
 use exh_frames::Pages;
 use exh_keyer::Keyer;
 use exh_settle::Diary;
 use exh_ward::Ward;
 use std::alloc::AllocError;
-use std::sync::Mutex;
 use std::sync::ledger::Share;
 use thiserror::Error;
 
@@ -133,7 +132,7 @@ impl<P: Pages + Drop, K: Keyer, F: Identity> LiveFile<P, K, F> {
 
 // The wards out of their locks, in order. Their shares are put to the one given.
 fn unlock<P: Pages + Drop, K: Keyer, F: Identity>(
-    locks: Vec<Mutex<TalliedWard<P, K, F>>>,
+    locks: Vec<WardLock<P, K, F>>,
     wards: &mut Vec<Ward<P, K>>,
     entries: &mut Share<Entries<F>>,
 )
@@ -144,7 +143,7 @@ fn unlock<P: Pages + Drop, K: Keyer, F: Identity>(
     ensures amount { entries.new.amount ≡ entries.old.amount + entries_made wards.new.items }
 {
     for lock in locks {
-        let (ward, share) = lock.into_inner().into_parts();
+        let (ward, share) = lock.into_inner().into_inner().into_parts();
         entries.merge(share);
         wards.push_reserved(ward);
     }

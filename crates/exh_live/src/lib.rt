@@ -8,9 +8,9 @@ pub use identity::Identity;
 pub use ledgers::{ANSWER_PARTS, Answers, ENTRY_PARTS, Entries, LedgerNames};
 pub use live_file::LiveFile;
 pub use lock::lock_soon;
-pub use new_wards::new_wards;
 pub use seat::{NoSeat, Seat};
 pub use ward_journals::WardJournals;
+pub use wards::new_wards;
 
 mod ask;
 mod close;
@@ -22,7 +22,6 @@ mod ledgers;
 mod live_file;
 mod lock;
 mod locked_ward;
-mod new_wards;
 mod seat;
 mod spare;
 mod tallied_ward;
@@ -30,3 +29,4 @@ mod tally;
 #[cfg(test)]
 mod tests;
 mod ward_journals;
+mod wards;

@@ -6,7 +6,7 @@ ghost use Rattle.exh_live.specs.LiveFile.{AreNewWardsOf, AreToBeTallied};
 
 use crate::ledgers::{Answers, Entries};
 use crate::spare::Spare;
-use crate::tallied_ward::TalliedWard;
+use crate::tallied_ward::{TalliedWard, WardLock};
 use crate::tally::Tally;
 use crate::{Identity, NoSeat, Seat};
 use crossbeam_utils::CachePadded;
@@ -26,7 +26,7 @@ pub struct LiveFile<P: Pages + Drop, K: Keyer, F: Identity> {
     pub(crate) alloc: Global,
     pub(crate) ward_bits: u8,
     pub(crate) keyer: K,
-    pub(crate) wards: Vec<Mutex<TalliedWard<P, K, F>>>,
+    pub(crate) wards: Vec<WardLock<P, K, F>>,
     pub(crate) tally: CachePadded<Mutex<Tally<F>>>,
     pub(crate) answers: Spare<Answers<F>>,
     pub(crate) entries: Spare<Entries<F>>,
@@ -113,7 +113,7 @@ fn locked<P: Pages + Drop, K: Keyer, F: Identity>(
     alloc: Global,
     wards: Vec<Ward<P, K>>,
     spare: &mut Share<Entries<F>>,
-) -> Result<Vec<Mutex<TalliedWard<P, K, F>>>, AllocError>
+) -> Result<Vec<WardLock<P, K, F>>, AllocError>
     requires wards { AreToBeTallied (λ keyer. K.pseudokey_of keyer) F.hashing wards.items }
     requires parts { vec_len wards < spare.old.parts }
     requires amount { spare.old.amount ≡ 0 }
@@ -124,7 +124,7 @@ fn locked<P: Pages + Drop, K: Keyer, F: Identity>(
     let mut locks = Vec::new(alloc);
     for ward in wards {
         let part = spare.split_off(1, 0);
-        locks.push(Mutex::new(TalliedWard::new(ward, part)))?;
+        locks.push(Mutex::new(CachePadded::new(TalliedWard::new(ward, part))))?;
     }
     Ok(locks)
 }

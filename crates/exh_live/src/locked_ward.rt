@@ -5,7 +5,7 @@ ghost use Rattle.exh_route.specs.WardRun.{answer_of};
 use crate::Identity;
 use crate::ledgers::Answers;
 use crate::lock::lock_soon;
-use crate::tallied_ward::TalliedWard;
+use crate::tallied_ward::WardLock;
 use crate::tally::Tally;
 use exh_calls::Call;
 use exh_frames::Pages;
@@ -21,7 +21,7 @@ use std::sync::{Mutex, Wait};
 /// The lock is taken once for each hop and each split.
 pub(crate) struct LockedWard<'a, P: Pages + Drop, K: Keyer, F: Identity, R: Wait> {
     pub(crate) rt: &'a R,
-    pub(crate) ward: &'a Mutex<TalliedWard<P, K, F>>,
+    pub(crate) ward: &'a WardLock<P, K, F>,
     pub(crate) tally: &'a Mutex<Tally<F>>,
     pub(crate) answers: Share<Answers<F>>,
     // That of the call's key.

@@ -14,6 +14,7 @@ use crate::Identity;
 use crate::ledgers::{Answers, Entries};
 use crate::lock::lock_soon;
 use crate::tally::Tally;
+use crossbeam_utils::CachePadded;
 use exh_calls::Call;
 use exh_frames::Pages;
 use exh_keyer::Keyer;
@@ -23,6 +24,10 @@ use exh_ward::{Hop, Ward, WardFault};
 use std::alloc::AllocError;
 use std::sync::ledger::Share;
 use std::sync::{Mutex, Wait};
+
+/// The lock of a ward. Who waits for it looks at another cache line than who holds it, and the wards
+/// have no line in common.
+pub(crate) type WardLock<P, K, F> = Mutex<CachePadded<TalliedWard<P, K, F>>>;
 
 /// What a ward's lock keeps: the ward, which is sound as every ward is, with its share of the journal
 /// entries, which is its journal's length. It turns keys into the file's pseudokeys.

@@ -1,5 +1,5 @@
 use Rattle.std.proofs.Common.{◌≡◌, ◌^◌, vec_len, sym, arith}
-use Rattle.exh_live.proofs.Wards.{to_be_tallied, wards_are_few}
+use Rattle.exh_live.proofs.ToBeTallied.{to_be_tallied, wards_are_few}
 use Rattle.exh_live.proofs.live_file.LiveFile.new.Goals as goal
 
 pub locked-requires-clause-wards : goal.locked-requires-clause-wards
