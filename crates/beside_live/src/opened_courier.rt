@@ -2,14 +2,11 @@
 ghost use Rattle.std.specs.Prelude.{◌≡◌};
 
 use crate::carried::{first_places, is_named};
-use crate::three_keys::put_new;
-use exh_callers::{Caller, PlainFile, Writer, is_carried, is_told};
-use exh_calls::Reply;
-use exh_fixtures::{Asked, told_reply};
+use crate::three_keys::{put_first, put_new};
+use exh_callers::{Caller, PlainFile, Writer, is_carried};
 use exh_live::Identity;
 use exh_runs::{Difference, Run};
 use exh_table::Table;
-use exh_walk::OpenGate;
 use std::sync::Wait;
 
 /// Of the first page the table tells that its split was this change.
@@ -62,9 +59,7 @@ fn split_both<R: Wait, F: Identity>(
     file: &PlainFile<F>,
     caller: &mut Caller<F>,
 ) {
-    let new = told_reply(&mut run.lie, Reply::New);
-    let put = is_told(rt, file, caller, Asked::Put(b"\0", b"a"), &OpenGate, new);
-    run.tally.step(put);
+    put_first(rt, run, file, caller);
     for key in [0x10, 0x40, 0x80, 0x90, 0xc0] {
         run.tally.step(put_new(rt, file, caller, &[key], b"b"));
     }

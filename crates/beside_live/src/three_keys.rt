@@ -16,11 +16,21 @@ pub(crate) fn put_three<R: Wait, F: Identity>(
     file: &PlainFile<F>,
     caller: &mut Caller<F>,
 ) {
+    put_first(rt, run, file, caller);
+    run.tally.step(put_new(rt, file, caller, b"\x80", b"b"));
+    run.tally.step(put_new(rt, file, caller, b"\x40", b"x"));
+}
+
+/// Puts `#00`. The reply is a wrong one where that is due.
+pub(crate) fn put_first<R: Wait, F: Identity>(
+    rt: &R,
+    run: &mut Run,
+    file: &PlainFile<F>,
+    caller: &mut Caller<F>,
+) {
     let new = told_reply(&mut run.lie, Reply::New);
     let put = is_told(rt, file, caller, Asked::Put(b"\0", b"a"), &OpenGate, new);
     run.tally.step(put);
-    run.tally.step(put_new(rt, file, caller, b"\x80", b"b"));
-    run.tally.step(put_new(rt, file, caller, b"\x40", b"x"));
 }
 
 /// Puts a key that isn't there.
