@@ -1,4 +1,4 @@
-//! Closing with a seat missing and with all, and wards with the diaries of another file.
+//! Closing with a seat missing and with all, wards with the diaries of another file, and all seats of one.
 ghost use Rattle.std.specs.Prelude.{◌≡◌};
 ghost use Rattle.exh_keyer.specs.Pseudokey.{plain_pseudokey};
 ghost use Rattle.exh_live.specs.declared.ledgers.TheConstants.{ANSWER_PARTS, ENTRY_PARTS};
@@ -18,7 +18,11 @@ use std::sync::ledger::Blank;
 
 type PlainClosed = Closed<PlainPages, PlainKeyer>;
 
-/// Runs it: seat 1 of a file puts a key, and seat 1 of another one gets it.
+// How many seats a file gives.
+const SEATS: u32 = 65_535;
+
+/// Runs it: seat 1 of a file puts a key, and seat 1 of another one gets it; a third file gives seats until
+/// it gives no more.
 pub(crate) fn run<R: Wait>(
     rt: &R,
     run: &mut Run,
@@ -32,7 +36,31 @@ pub(crate) fn run<R: Wait>(
     run.tally.step(settles(&got, &got, Ok(1)));
     run.tally.step(settles(&put, &got, Err(51)));
     run.tally.step(settles(&got, &put, Err(51)));
+    run.tally.step(gives_all_seats(alloc));
     Ok(())
+}
+
+// Whether a file gives so many seats, and no more.
+fn gives_all_seats(alloc: Global) -> Result<(), Difference> {
+    let answers = Blank::new(ANSWER_PARTS);
+    let entries = Blank::new(ENTRY_PARTS);
+    gives_all_seats_of::<Brand>(alloc, answers, entries)
+}
+
+fn gives_all_seats_of<F: Identity>(
+    alloc: Global,
+    answers: Blank,
+    entries: Blank,
+) -> Result<(), Difference>
+    requires answers { (answers.name ≡ F.answers) × (answers.parts ≡ ANSWER_PARTS) }
+    requires entries { (entries.name ≡ F.entries) × (entries.parts ≡ ENTRY_PARTS) }
+    requires hashed { F.hashing ≡ plain_pseudokey }
+{
+    let mut file = new_file::<F>(alloc, CAP, 0, answers, entries)?;
+    for _ in 0..SEATS {
+        same(file.seat().is_ok(), Part::Outcome)?;
+    }
+    same(file.seat().is_err() && file.seats() == SEATS, Part::Outcome)
 }
 
 // Whether the wards of a file come to so many answers with the diaries of another, or are refused so.

@@ -26,7 +26,5 @@ mod seat;
 mod spare;
 mod tallied_ward;
 mod tally;
-#[cfg(test)]
-mod tests;
 mod ward_journals;
 mod wards;
