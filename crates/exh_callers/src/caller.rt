@@ -12,10 +12,13 @@ use exh_walk::{AskFault, Gate};
 use std::marker::Brand;
 use std::sync::Wait;
 
+/// A live file of keyer plain.
 pub type File<P, F> = LiveFile<P, PlainKeyer, F>;
 
+/// One whose pages are in memory.
 pub type PlainFile<F> = File<PlainPages, F>;
 
+/// Who looks at a copy of the directory.
 pub type Reader = CopyReader<Brand>;
 
 /// A caller: its seat, and the copy of the directory that it looks at.

@@ -23,6 +23,7 @@ use std::sync::ledger::Blank;
 /// How many records a page of a story's file holds.
 pub const CAP: usize = 2;
 
+/// A ward of a file of keyer plain, with its pages in memory.
 pub type PlainWard = Ward<PlainPages, PlainKeyer>;
 
 /// A new file of 2^`ward_bits` wards, of pages of at most `cap` records and of keyer plain. An

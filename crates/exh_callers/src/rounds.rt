@@ -11,6 +11,7 @@ use std::alloc::AllocError;
 use std::marker::Brand;
 use std::sync::Wait;
 
+/// Who tells a copy of the directory.
 pub type Writer = CopyWriter<Brand>;
 
 // These make a round once.
