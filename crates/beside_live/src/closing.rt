@@ -11,7 +11,7 @@ use exh_keyer::PlainKeyer;
 use exh_live::{ANSWER_PARTS, Closed, ENTRY_PARTS, Identity, NotClosed, Seat};
 use exh_runs::{Difference, Part, Run, same};
 use exh_walk::OpenGate;
-use std::alloc::Global;
+use std::alloc::{AllocError, Global};
 use std::marker::Brand;
 use std::sync::Wait;
 use std::sync::ledger::Blank;
@@ -31,17 +31,18 @@ pub(crate) fn run<R: Wait>(
     let alloc = run.alloc;
     let put = answered(rt, alloc, copies, Asked::Put(b"k", b"a"), Reply::New)?;
     let got = answered(rt, alloc, copies, Asked::Get(b"k"), Reply::None)?;
+    let has_all = gives_all_seats(alloc)?;
     let own = if run.lie.is_due() { 2 } else { 1 };
     run.tally.step(settles(&put, &put, Ok(own)));
     run.tally.step(settles(&got, &got, Ok(1)));
     run.tally.step(settles(&put, &got, Err(51)));
     run.tally.step(settles(&got, &put, Err(51)));
-    run.tally.step(gives_all_seats(alloc));
+    run.tally.step(same(has_all, Part::Outcome));
     Ok(())
 }
 
 // Whether a file gives so many seats, and no more.
-fn gives_all_seats(alloc: Global) -> Result<(), Difference> {
+fn gives_all_seats(alloc: Global) -> Result<bool, AllocError> {
     let answers = Blank::new(ANSWER_PARTS);
     let entries = Blank::new(ENTRY_PARTS);
     gives_all_seats_of::<Brand>(alloc, answers, entries)
@@ -51,16 +52,18 @@ fn gives_all_seats_of<F: Identity>(
     alloc: Global,
     answers: Blank,
     entries: Blank,
-) -> Result<(), Difference>
+) -> Result<bool, AllocError>
     requires answers { (answers.name ≡ F.answers) × (answers.parts ≡ ANSWER_PARTS) }
     requires entries { (entries.name ≡ F.entries) × (entries.parts ≡ ENTRY_PARTS) }
     requires hashed { F.hashing ≡ plain_pseudokey }
 {
     let mut file = new_file::<F>(alloc, CAP, 0, answers, entries)?;
     for _ in 0..SEATS {
-        same(file.seat().is_ok(), Part::Outcome)?;
+        if file.seat().is_err() {
+            return Ok(false);
+        }
     }
-    same(file.seat().is_err() && file.seats() == SEATS, Part::Outcome)
+    Ok(file.seat().is_err() && file.seats() == SEATS)
 }
 
 // Whether the wards of a file come to so many answers with the diaries of another, or are refused so.
