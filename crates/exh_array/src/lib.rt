@@ -8,5 +8,3 @@ pub use pointers::Pointers;
 mod directory;
 mod pointer;
 mod pointers;
-#[cfg(test)]
-mod tests;

@@ -4,5 +4,3 @@
 pub use replay::audit;
 
 mod replay;
-#[cfg(test)]
-mod tests;

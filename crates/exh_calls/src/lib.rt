@@ -17,5 +17,3 @@ mod key_change;
 mod laws;
 mod reply;
 mod stored_entry;
-#[cfg(test)]
-mod tests;

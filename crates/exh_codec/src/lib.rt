@@ -18,5 +18,3 @@ mod image_fault;
 mod kind;
 mod laws;
 mod pages;
-#[cfg(test)]
-mod tests;

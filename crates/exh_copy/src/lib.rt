@@ -19,7 +19,5 @@ mod published;
 mod reader;
 mod rule;
 mod start;
-#[cfg(test)]
-mod tests;
 mod told;
 mod writer;

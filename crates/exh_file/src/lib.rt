@@ -13,5 +13,3 @@ mod file_fault;
 mod header;
 mod laws;
 mod table_block;
-#[cfg(test)]
-mod tests;

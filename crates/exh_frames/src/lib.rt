@@ -15,5 +15,3 @@ mod pages_call;
 mod pages_fault;
 mod plain_pages;
 mod store_of_pages;
-#[cfg(test)]
-mod tests;

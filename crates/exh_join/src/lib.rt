@@ -15,5 +15,3 @@ mod joined;
 mod laws;
 mod pair_of;
 mod replica;
-#[cfg(test)]
-mod tests;

@@ -6,8 +6,6 @@ mod any_keyer;
 mod keyer;
 mod plain_keyer;
 mod sha_keyer;
-#[cfg(test)]
-mod tests;
 
 pub use any_keyer::AnyKeyer;
 pub use keyer::{Keyer, pseudo_of_both};

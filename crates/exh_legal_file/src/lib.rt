@@ -9,5 +9,3 @@ mod legal_file;
 mod legal_file_fault;
 mod reading;
 mod tables;
-#[cfg(test)]
-mod tests;

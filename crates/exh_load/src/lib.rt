@@ -13,5 +13,3 @@ mod load_text;
 mod loader;
 mod pair_line;
 mod put;
-#[cfg(test)]
-mod tests;

@@ -10,11 +10,7 @@ pub use notice_image::NOTICE_IMAGE_LEN;
 
 mod entry;
 mod entry_image;
-#[cfg(test)]
-mod image_tests;
 mod laws;
 mod notice;
 mod notice_fault;
 mod notice_image;
-#[cfg(test)]
-mod tests;

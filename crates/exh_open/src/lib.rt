@@ -8,5 +8,3 @@ pub use opening::open;
 mod open_fault;
 mod opened;
 mod opening;
-#[cfg(test)]
-mod tests;

@@ -21,6 +21,4 @@ mod short_bytes;
 mod size_fault;
 mod spot;
 mod stored_record;
-#[cfg(test)]
-mod tests;
 mod value;

@@ -16,6 +16,4 @@ mod read_file_fault;
 mod read_pages;
 mod read_table;
 mod reading;
-#[cfg(test)]
-mod tests;
 mod waiting_images;

@@ -10,9 +10,6 @@ use crate::leading_bits::first_pseudokey;
 use std::fmt;
 use std::marker::Model;
 
-#[cfg(test)]
-mod tests;
-
 /// The greatest length of a prefix, in bits.
 pub const LIMIT: u8 = 16;
 

@@ -17,13 +17,7 @@ mod meter;
 mod metered_reader;
 mod metered_writer;
 mod pace;
-#[cfg(test)]
-mod screen;
 mod storm_counts;
 mod storm_meter;
-#[cfg(test)]
-mod storm_tests;
 mod terminal;
-#[cfg(test)]
-mod tests;
 mod work;

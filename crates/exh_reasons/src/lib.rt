@@ -16,6 +16,4 @@ mod page_index;
 mod page_list;
 mod reason;
 mod table_fit;
-#[cfg(test)]
-mod tests;
 mod ward_tests;

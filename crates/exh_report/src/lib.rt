@@ -13,6 +13,4 @@ mod file_lines;
 mod refusal_line;
 mod report;
 mod report_fault;
-#[cfg(test)]
-mod tests;
 mod verdict;

@@ -7,5 +7,3 @@ pub use saving::write_file;
 mod header;
 mod save_fault;
 mod saving;
-#[cfg(test)]
-mod tests;

@@ -17,5 +17,3 @@ mod journals;
 mod laws;
 mod mismatch;
 mod settlement;
-#[cfg(test)]
-mod tests;

@@ -12,6 +12,4 @@ mod join;
 mod laws;
 mod leaf;
 mod table;
-#[cfg(test)]
-mod tests;
 mod walk;

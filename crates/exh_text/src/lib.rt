@@ -22,5 +22,3 @@ mod lines;
 mod number;
 mod parts;
 mod printing;
-#[cfg(test)]
-mod tests;

@@ -11,8 +11,6 @@ pub use ward_walk::walk_ward;
 mod ask_fault;
 mod gate;
 mod steps;
-#[cfg(test)]
-mod tests;
 mod walk;
 mod ward_steps;
 mod ward_walk;
