@@ -2,15 +2,15 @@
 
 use exh_calls::{Call, Journal, Reply};
 use exh_keyer::PlainKeyer;
-use exh_page::{Key, Value};
+use exh_page::{Key, SizeFault, Value};
 use exh_settle::{CALLER_LIMIT, Diary, FileJournals, settle};
 use std::alloc::Global;
 use std::test::Fail;
 
-// A key and what a get of it was answered: a value, or none.
-type Line = (&'static [u8], Option<&'static [u8]>);
+// A key; the value that a put gave it, which was new, or none of a get; and the value that a get was answered.
+type Line = (&'static [u8], Option<&'static [u8]>, Option<&'static [u8]>);
 
-// An entry of a journal: the caller, and its get.
+// An entry of a journal: the caller, and its call.
 type Row = (u32, Line);
 
 // The journals of a file's two wards, the diaries by their callers, and how many answers they settle to.
@@ -20,58 +20,67 @@ type Case = (
     Option<u128>,
 );
 
-const GET_00: Line = (b"\x00", Some(b"a"));
+const PUT_00: Line = (b"\x00", Some(b"a"), None);
 
-const GET_40: Line = (b"\x40", None);
+const PUT_40: Line = (b"\x40", Some(b"x"), None);
 
-const GET_80: Line = (b"\x80", Some(b"b"));
+const PUT_80: Line = (b"\x80", Some(b"b"), None);
 
-const JOURNALS: [&[Row]; 2] = [&[(2, GET_00), (2, GET_40)], &[(2, GET_80), (1, GET_80)]];
+const GET_40: Line = (b"\x40", None, Some(b"x"));
+
+const GET_80: Line = (b"\x80", None, Some(b"b"));
+
+// Caller 1 was held between its look and its hop.
+const HELD_LOOK: [&[Row]; 2] = [
+    &[(2, PUT_00), (2, PUT_40), (2, GET_40)],
+    &[(2, PUT_80), (1, GET_80)],
+];
+
+const HOLDER: &[Line] = &[PUT_00, PUT_80, PUT_40, GET_40];
 
 const CASES: [Case; 9] = [
-    (
-        JOURNALS,
-        &[(1, &[GET_80]), (2, &[GET_00, GET_40, GET_80])],
-        Some(4),
-    ),
+    (HELD_LOOK, &[(1, &[GET_80]), (2, HOLDER)], Some(5)),
     // Another order between the wards and of the diaries, and one diary more.
     (
-        JOURNALS,
+        HELD_LOOK,
         &[
-            (2, &[GET_80, GET_00, GET_40]),
+            (2, &[PUT_80, PUT_00, PUT_40, GET_40]),
             (65_535, &[]),
             (1, &[GET_80]),
         ],
-        Some(4),
+        Some(5),
     ),
     ([&[], &[]], &[], Some(0)),
     // Out of order within one ward.
     (
-        JOURNALS,
-        &[(1, &[GET_80]), (2, &[GET_40, GET_00, GET_80])],
+        HELD_LOOK,
+        &[(1, &[GET_80]), (2, &[PUT_40, PUT_00, PUT_80, GET_40])],
         None,
     ),
     // An entry of no caller, and of another.
-    (JOURNALS, &[(2, &[GET_00, GET_40, GET_80])], None),
-    (
-        JOURNALS,
-        &[(3, &[GET_80]), (2, &[GET_00, GET_40, GET_80])],
-        None,
-    ),
+    (HELD_LOOK, &[(2, HOLDER)], None),
+    (HELD_LOOK, &[(3, &[GET_80]), (2, HOLDER)], None),
     // Two diaries of one caller.
     ([&[], &[]], &[(1, &[]), (1, &[])], None),
     // Another reply, and an entry in the journal of another ward.
-    ([&[(1, GET_40)], &[]], &[(1, &[(b"\x40", Some(b""))])], None),
+    (
+        [&[(1, GET_40)], &[]],
+        &[(1, &[(b"\x40", None, Some(b""))])],
+        None,
+    ),
     ([&[(1, GET_80)], &[]], &[(1, &[GET_80])], None),
 ];
 
-fn call_and_reply(line: Line) -> Result<(Call, Reply), Fail> {
-    let call = Call::Get {
-        key: Key::from_bytes(line.0)?,
-    };
-    match line.1 {
-        Some(value) => Ok((call, Reply::Is(Value::from_bytes(value)?))),
-        None => Ok((call, Reply::None)),
+fn call_and_reply(line: Line) -> Result<(Call, Reply), SizeFault> {
+    let (key, put, got) = line;
+    let key = Key::from_bytes(key)?;
+    match (put, got) {
+        (Some(value), _) => {
+            let value = Value::from_bytes(value)?;
+            Ok((Call::Put { key, value }, Reply::New))
+        }
+        (None, Some(value)) => Ok((Call::Get { key }, Reply::Is(Value::from_bytes(value)?))),
+        (None, None) => Ok((Call::Get { key }, Reply::None)),
     }
 }
 
