@@ -1,0 +1,130 @@
+//! A store of pages of which one call fails: the call of each kind is refused where its turn has come, and else done.
+
+ghost use Rattle.std.specs.Prelude.{◌≡◌, ◌<◌, length, IfSome};
+ghost use Rattle.exh_page.specs.Page.{records_of, IsLive};
+ghost use Rattle.exh_page.specs.Place.{place_of};
+ghost use Rattle.exh_page.specs.Search.{IsSought};
+ghost use Rattle.exh_frames.specs.PageStore.{IfPage};
+
+use exh_frames::{FailingPages, Pages, PagesCall, PagesFault, PlainPages};
+use exh_page::{Key, Page, Record, Records, Spot, Value};
+use exh_prefix::{PageNo, Prefix};
+use std::alloc::Global;
+
+// A record of the key `k`.
+fn record(value: &[u8]) -> Option<Record> {
+    Some(Record {
+        pseudokey: 3 << 62,
+        key: Key::from_bytes(b"k").ok()?,
+        value: Value::from_bytes(value).ok()?,
+    })
+}
+
+fn live(alloc: Global, len: u8, bits: u64, right: Option<PageNo>) -> Option<Page>
+    ensures { IfSome result IsLive }
+{
+    Some(Page::Live {
+        prefix: Prefix::new(len, bits)?,
+        right,
+        records: Records::new(alloc),
+    })
+}
+
+// Pages of the prefixes 0 and 1, the first with a record of the key `k`.
+fn two_pages(alloc: Global) -> Option<PlainPages>
+    ensures two { IfSome result (λ store. length store ≡ 2) }
+    ensures live { IfSome result (λ store. IfPage store 0 IsLive) }
+{
+    let mut records = Records::new(alloc);
+    records.put(record(b"a")?).ok()?;
+    let left = Page::Live {
+        prefix: Prefix::new(1, 0)?,
+        right: Some(1),
+        records,
+    };
+    let right = live(alloc, 1, 1 << 63, None)?;
+    let mut store = PlainPages::new(alloc, live(alloc, 0, 0, None)?).ok()?;
+    store.grow_and_set(right, 0, left).ok()?;
+    Some(store)
+}
+
+fn forward(low: u64) -> Page {
+    Page::Forward { low, target: 1 }
+}
+
+// Where a record stands in the first page, or would.
+fn spot_of(store: &mut PlainPages, item: &Record) -> Option<Result<Spot, Spot>>
+    requires { 0 < length store.old }
+    ensures spot { IfSome result (λ spot. IfPage store.old 0 (λ page. IsSought (place_of item.now) (records_of page) spot)) }
+    ensures pages { store.new ≡ store.old }
+{
+    match store.lend(0).ok()? {
+        Page::Live { records, .. } => Some(records.seek(item.pseudokey, &item.key).0),
+        Page::Forward { .. } => None,
+    }
+}
+
+// The answer to one call of a kind.
+fn answer(
+    store: &mut FailingPages,
+    call: PagesCall,
+    item: &Record,
+    spot: Result<Spot, Spot>,
+) -> Option<PagesFault>
+    requires two { length (store.old).pages ≡ 2 }
+    requires live { IfPage (store.old).pages 0 IsLive }
+    requires sought { IfPage (store.old).pages 0 (λ page. IsSought (place_of item.now) (records_of page) spot) }
+{
+    match call {
+        PagesCall::Get => store.get(0).err(),
+        PagesCall::Lend => store.lend(0).err(),
+        PagesCall::Put => store
+            .put_at(0, spot, item.pseudokey, &item.key, &item.value)
+            .err(),
+        PagesCall::Remove => store.remove_at(0, spot.ok()?).err(),
+        PagesCall::Set => store.set(0, forward(0)).err(),
+        PagesCall::SetTwo => store.set_two(0, forward(0), 1, forward(1)).err(),
+        PagesCall::GrowAndSet => store.grow_and_set(forward(2), 0, forward(0)).err(),
+    }
+}
+
+// The answer to a call of a kind where the call of a place fails, the call that failed, and how many did.
+type Answers = (Option<PagesFault>, Option<PagesCall>, u64);
+
+fn answers(alloc: Global, call: PagesCall, at: u64) -> Option<Answers> {
+    let item = record(b"a")?;
+    let mut pages = two_pages(alloc)?;
+    let spot = spot_of(&mut pages, &item)?;
+    let mut store = FailingPages::new(pages, at);
+    let answer = answer(&mut store, call, &item, spot);
+    Some((answer, store.failed(), store.failures()))
+}
+
+const CALLS: [PagesCall; 7] = [
+    PagesCall::Get,
+    PagesCall::Lend,
+    PagesCall::Put,
+    PagesCall::Remove,
+    PagesCall::Set,
+    PagesCall::SetTwo,
+    PagesCall::GrowAndSet,
+];
+
+fn wrong_call(alloc: Global) -> Option<PagesCall> {
+    for call in CALLS {
+        let failed = (Some(PagesFault::Page), Some(call), 1);
+        if answers(alloc, call, 0) != Some((None, None, 0))
+            || answers(alloc, call, 1) != Some(failed)
+            || answers(alloc, call, 2) != Some((None, None, 0))
+        {
+            return Some(call);
+        }
+    }
+    None
+}
+
+// Each kind of call is refused where its turn has come, and else done.
+#[test]
+fn the_call_of_a_place_fails(rt: HostRuntime) {
+    assert_eq!(rt; wrong_call(rt.alloc()), None);
+}

@@ -1,0 +1,267 @@
+//! Copies worked out by hand: stories of one writer and its readers, and more readers than there are places.
+
+use exh_copy::{CopyReader, CopyWriter, NewCopyFault, NoPlace, new_copy};
+use exh_notice::{Kind, Notice};
+use exh_prefix::PageNo;
+use exh_table::{Leaf, Table};
+use std::alloc::{AllocError, Global};
+use std::marker::Brand;
+use std::sync::Wait;
+
+type Writer = CopyWriter<Brand>;
+
+type Reader = CopyReader<Brand>;
+
+// The pseudokey `#80`.
+const HALF: u64 = 0x8000_0000_0000_0000;
+
+// A notice at the root: its number, and a split's right page.
+type Row = (u32, Option<PageNo>);
+
+const SPLIT: Row = (1, Some(1));
+
+const MERGE: Row = (2, None);
+
+#[derive(Clone, Copy)]
+enum Step {
+    Take(Row),
+    // Joins the table that has the notice alone.
+    Combine(Row),
+    Publish,
+    // The writer tells the reader, which learns it.
+    Tell(usize),
+    // The reader names this page for `#80`.
+    Look(usize, PageNo),
+    // The reader names one of two pages that follow on one another.
+    LookEither(usize, PageNo),
+}
+
+// How many readers there are, and what happens.
+type Story = (u16, &'static [Step]);
+
+const STORIES: [Story; 3] = [
+    (
+        2,
+        &[
+            Step::Look(0, 0),
+            Step::Take(SPLIT),
+            Step::Look(0, 0),
+            Step::Look(1, 0),
+            Step::Publish,
+            Step::Tell(0),
+            Step::Look(0, 1),
+            Step::LookEither(1, 0),
+            Step::LookEither(1, 0),
+            Step::Tell(1),
+            Step::Look(1, 1),
+        ],
+    ),
+    // A table that was sent before the merge comes late, and takes nothing back.
+    (
+        1,
+        &[
+            Step::Take(SPLIT),
+            Step::Publish,
+            Step::Tell(0),
+            Step::Look(0, 1),
+            Step::Take(MERGE),
+            Step::Publish,
+            Step::Tell(0),
+            Step::Look(0, 0),
+            Step::Combine(SPLIT),
+            Step::Publish,
+            Step::Tell(0),
+            Step::Look(0, 0),
+        ],
+    ),
+    // All that is pending is published at once, the notice that was told late with it.
+    (
+        1,
+        &[
+            Step::Take(MERGE),
+            Step::Take(SPLIT),
+            Step::Combine((3, Some(5))),
+            Step::Look(0, 0),
+            Step::Publish,
+            Step::Tell(0),
+            Step::Look(0, 5),
+            Step::Publish,
+            Step::Tell(0),
+            Step::Look(0, 5),
+        ],
+    ),
+];
+
+fn notice(row: Row) -> Notice {
+    let (number, right) = row;
+    Notice {
+        ward: 0,
+        index: u64::from(number),
+        prefix: Leaf::root().prefix,
+        number,
+        kind: match right {
+            Some(right) => Kind::Split { right },
+            None => Kind::Merge,
+        },
+    }
+}
+
+fn table_of(alloc: Global, row: Row) -> Result<Table, AllocError> {
+    let mut table = Table::new(alloc);
+    table.take(&notice(row))?;
+    Ok(table)
+}
+
+// What was refused is asked for once more, here and below.
+fn take(writer: &mut Writer, row: Row) -> Result<(), AllocError> {
+    match writer.take(&notice(row)) {
+        Ok(()) => Ok(()),
+        Err(_) => writer.take(&notice(row)),
+    }
+}
+
+fn combine(alloc: Global, writer: &mut Writer, row: Row) -> Result<(), AllocError> {
+    match table_of(alloc, row) {
+        Ok(table) => combine_table(writer, &table),
+        Err(_) => combine_table(writer, &table_of(alloc, row)?),
+    }
+}
+
+fn combine_table(writer: &mut Writer, table: &Table) -> Result<(), AllocError> {
+    match writer.combine(table) {
+        Ok(()) => Ok(()),
+        Err(_) => writer.combine(table),
+    }
+}
+
+fn publish<R: Wait>(rt: &R, writer: &mut Writer) -> Result<(), AllocError> {
+    match writer.publish(rt) {
+        Ok(()) => Ok(()),
+        Err(_) => writer.publish(rt),
+    }
+}
+
+fn tell(writer: &mut Writer, reader: &mut Reader) -> bool {
+    match writer.tell() {
+        Ok(told) => {
+            reader.learn(told);
+            true
+        }
+        Err(_) => false,
+    }
+}
+
+// Whether a step comes to what is wanted. `seen` is the last page of a look at either of two.
+fn steps<R: Wait>(
+    rt: &R,
+    alloc: Global,
+    writer: &mut Writer,
+    readers: &mut [Reader],
+    seen: &mut PageNo,
+    step: Step,
+) -> Option<bool> {
+    match step {
+        Step::Take(row) => take(writer, row).ok()?,
+        Step::Combine(row) => combine(alloc, writer, row).ok()?,
+        Step::Publish => publish(rt, writer).ok()?,
+        Step::Tell(reader) => return Some(tell(writer, readers.get_mut(reader)?)),
+        Step::Look(reader, page) => return Some(readers.get_mut(reader)?.look(HALF) == Some(page)),
+        Step::LookEither(reader, first) => {
+            let page = readers.get_mut(reader)?.look(HALF)?;
+            let is_right = *seen <= page && (page == first || Some(page) == first.checked_add(1));
+            *seen = page;
+            return Some(is_right);
+        }
+    }
+    Some(true)
+}
+
+fn play<R: Wait>(
+    rt: &R,
+    alloc: Global,
+    writer: &mut Writer,
+    readers: &mut [Reader],
+    story: &[Step],
+) -> bool {
+    let mut seen = 0;
+    for step in story {
+        if steps(rt, alloc, writer, readers, &mut seen, *step) != Some(true) {
+            return false;
+        }
+    }
+    true
+}
+
+// A copy of a new file; what was handed back is closed.
+fn made<R: Wait>(rt: &R, alloc: Global, readers: u16) -> Option<(Writer, Vec<Reader>)> {
+    match new_copy::<Brand>(alloc, 0, &Table::new(alloc), readers) {
+        Ok(copy) => Some(copy),
+        Err(NewCopyFault::Memory) => None,
+        Err(NewCopyFault::NoPlace(writer)) => {
+            drop(writer.close(rt));
+            None
+        }
+    }
+}
+
+fn made_again<R: Wait>(rt: &R, alloc: Global, readers: u16) -> Option<(Writer, Vec<Reader>)> {
+    match made(rt, alloc, readers) {
+        Some(copy) => Some(copy),
+        None => made(rt, alloc, readers),
+    }
+}
+
+// A story, after which the copy is closed: then no reader names a page.
+fn is_story<R: Wait>(rt: &R, alloc: Global, story: &Story) -> bool {
+    let Some((mut writer, mut readers)) = made_again(rt, alloc, story.0) else {
+        return false;
+    };
+    let is_played = readers.len() == usize::from(story.0)
+        && play(rt, alloc, &mut writer, readers.as_mut_slice(), story.1);
+    drop(writer.close(rt));
+    is_played && are_closed(readers.as_mut_slice())
+}
+
+fn are_closed(readers: &mut [Reader]) -> bool {
+    for reader in readers {
+        if reader.look(HALF).is_some() {
+            return false;
+        }
+    }
+    true
+}
+
+#[test]
+fn stories(rt: HostRuntime) {
+    for story in &STORIES {
+        assert!(rt; is_story(&rt, rt.alloc(), story));
+    }
+}
+
+// There is room for one reader, one more, and what was told once. Who lets it go makes room again.
+fn has_three_places(writer: &mut Writer) -> bool {
+    let Ok(first) = writer.tell() else {
+        return false;
+    };
+    let Ok(_second) = writer.tell() else {
+        return false;
+    };
+    let is_full = writer.tell().is_err();
+    drop(first);
+    is_full && writer.tell().is_ok()
+}
+
+fn is_full_in_the_end<R: Wait>(rt: &R, alloc: Global) -> bool {
+    let Some((mut writer, readers)) = made_again(rt, alloc, 1) else {
+        return false;
+    };
+    let is_full = has_three_places(&mut writer);
+    drop(writer.close(rt));
+    is_full && readers.len() == 1
+}
+
+#[test]
+fn more_readers_than_places(rt: HostRuntime) {
+    assert!(rt; NoPlace::NUMBER == 52);
+    assert!(rt; is_full_in_the_end(&rt, rt.alloc()));
+}

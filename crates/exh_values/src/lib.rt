@@ -1,0 +1,20 @@
+//! Values worked out by hand that no contract has, and that no script and no file can ask of the program. It has tests
+//! alone.
+#![tactic(auto)]
+
+#[cfg(test)]
+mod audits;
+#[cfg(test)]
+mod copies;
+#[cfg(test)]
+mod diaries;
+#[cfg(test)]
+mod joins;
+#[cfg(test)]
+mod keys;
+#[cfg(test)]
+mod notices;
+#[cfg(test)]
+mod texts;
+#[cfg(test)]
+mod walks;
