@@ -25,6 +25,8 @@ PLACES = ("page live", "page forward", "several requests in flight", "longest pr
 COPIES = ("doubled array", "halved array", "late notice", "late table")
 SETTINGS = ("keyer plain", "keyer sha", *(f"wards {2**bits}" for bits in range(5)))
 REFUSED_SCRIPTS = tuple(f"script refused {number}" for number in (60, 61, 62, 63))
+FAULTS = (*range(30, 40), *(f"40 reason {reason}" for reason in range(1, 7)))
+DAMAGED_FILES = ("damaged file that is legal", *(f"damaged file refused {fault}" for fault in FAULTS))
 FILES = ("saved file", "opened file", "opened file that no run saved", "loaded file", "file told by check")
 TEXTS = ("file told by dump", "pair dumped", "full pair of a load", "refused line of a load")
 
@@ -34,7 +36,8 @@ def wanted():
     lines = [f"line {line}" for line in LINES]
     words = ("file", "begin", *FORMS, "another word")
     refusals = [f"refused {number} of {word}" for word in words for number in (*REFUSALS.get(word, ()), 60)]
-    return [*lines, *refusals, *OUTCOMES, *PLACES, *COPIES, *SETTINGS, *REFUSED_SCRIPTS, *FILES, *TEXTS]
+    of_scripts = [*lines, *refusals, *OUTCOMES, *PLACES, *COPIES, *SETTINGS, *REFUSED_SCRIPTS]
+    return [*of_scripts, *FILES, *TEXTS, *DAMAGED_FILES]
 
 
 def printed_counts(met):

@@ -1,31 +1,37 @@
-"""Scripts by chance, in which rare things happen often.
-
-Who writes a script sees what it has come to so far, and so splits the pages where requests wait, merges those that fit
-into one, and tells copies late. Whatever it writes is answered by `script`, which knows nothing of chance.
-"""
+"""Settings, keys, values and wrong lines by chance, so that rare things happen often."""
 
 import collections
 import functools
 import random
+import re
 from typing import NamedTuple
 
-from .bits import low_bound, parent_of, pseudokey_of
-from .file import Call
+from .bits import pseudokey_of
 from .grammar import hexadecimal, printed
-from .script import Script
-from .tables import table_of
-from .version import INDEX_LIMIT, KEY_LIMIT, LIMIT, NUMBER_LIMIT, VALUE_LIMIT
+from .version import KEY_LIMIT, LIMIT, NUMBER_LIMIT, VALUE_LIMIT
 
-# Names and clients that are seldom taken.
-RARE_NAMES = (NUMBER_LIMIT, NUMBER_LIMIT - 1, 10**9)
 WARD_BITS = (0, 0, 0, 1, 1, 2, 2, 3, 3, 4, 4)
 CAPS = (1, 1, 1, 2, 2, 2, 2, 3, 3, 4, 5, 15, 16)
 COPIES = (1, 2, 2, 3, 3, 4, 8)
 KEYERS = ("plain", "plain", "plain", "sha")
+# Right lines of each kind.
+RIGHT_LINES = (
+    ("begin r1 c1 1 get a", "begin r1 c1 1 del a", "begin r1 c1 1 put a b"),
+    ("hop r1",),
+    ("split 0 0",),
+    ("merge 0 0",),
+    ("deliver 1 0 1",),
+    ("send 1",),
+    ("combine 1 1",),
+    ("restart 1",),
+    ("show 1",),
+    ("page 0 0",),
+    ("inflight",),
+)
 # What is in no number, name, key, value or line of the grammar.
-WRONG_NUMBERS = ("", "01", "00", "-1", "+1", "1.", "1x", "x", "0x1", str(NUMBER_LIMIT + 1), str(INDEX_LIMIT + 1), "\xb2")
+WRONG_NUMBERS = ("", "01", "00", "-1", "+1", "1.", "1x", "x", "0x1", str(2**32), str(2**64), "\xb2")
 WRONG_BYTES = ("#0", "#0g", "#AB", "#\xe9", "\xe9", "a\x7f", "a\tb", "\x00", "##")
-WRONG_LINES = (" ", "hop", "HOP r1", "hop r1 ", " hop r1", "hop  r1", "hop r1\r", "stop", "inflight 1", "\xff\xfe", "#")
+WRONG_LINES = (" ", "#", "HOP r1", " hop r1", "stop", "take 1", "\xff\xfe", "\x00", "hop\tr1", "# hop r1")
 
 
 class Taste(NamedTuple):
@@ -119,314 +125,44 @@ def wrong_file_line(dice, taste, is_opened):
     return dice.choice(dice.choice([outside, out_of_range, another] if is_opened else [outside, out_of_range]))
 
 
-class Writer:
-    """Writes a script, line by line, and keeps with each line what it must print."""
-
-    def __init__(self, dice, taste, opened=None):
-        self.dice = dice
-        self.taste = taste
-        self.script = Script(opened)
-        # Pairs of a line and the lines that it prints.
-        self.told = []
-
-    @property
-    def world(self):
-        return self.script.world
-
-    @property
-    def file(self):
-        return self.world.file
-
-    def say(self, line):
-        """Writes a line. Gives the lines that it prints."""
-        content = line.encode("latin-1")
-        lines = self.script.line(content)
-        self.told.append((content, lines))
-        return lines
-
-    def chance(self, of_hundred):
-        return self.dice.randrange(100) < of_hundred
-
-    def some_copy(self):
-        return self.dice.randint(1, len(self.world.copies))
-
-    def some_ward(self):
-        return self.dice.choice(self.file.wards)
-
-    def some_page(self, ward):
-        """A page of a ward, a forwarding one rather than a live one."""
-        forwards = [page for page in range(len(ward.lows)) if ward.leaf_of(page) is None]
-        return self.dice.choice(forwards) if forwards and self.chance(60) else self.dice.randrange(len(ward.lows))
-
-    def some_notices(self, count):
-        """Notices of one ward, in any order, the last ones rather than the first."""
-        notices = self.some_ward().notices
-        front = notices if self.chance(40) else notices[-count:]
-        return self.dice.sample(front, min(count, len(front)))
-
-    def write(self, length):
-        """Writes so many lines and some more."""
-        plans = {
-            self.ask: 30,
-            self.drill: 3,
-            self.shrink: 9,
-            self.gossip: 10,
-            self.go_on: 8,
-            self.exchange: 6,
-            self.restart: 2,
-            self.look: 5,
-            self.leave_the_way: 5,
-            self.step_that_is_refused: 9,
-            self.wrong_line: 5,
-        }
-        while len(self.told) < length:
-            [plan] = self.dice.choices(list(plans), list(plans.values()))
-            plan()
-        self.finish()
-
-    # Requests.
-
-    def call_by(self, key):
-        word = self.dice.choice(("get", "put", "put", "put", "del"))
-        return Call(word, key, value_by(self.dice) if word == "put" else b"")
-
-    def begin(self, call, copy=None):
-        """Begins a request. Gives its name, or nothing where it is refused."""
-        free = [name for name in range(1, 9) if name not in self.world.flights]
-        name = self.dice.choice(free) if free and not self.chance(3) else self.dice.choice((1, *RARE_NAMES))
-        client = self.dice.choice((1, 2, NUMBER_LIMIT))
-        words = [call.word, spelled(self.dice, call.key)]
-        words += [spelled(self.dice, call.value)] if call.word == "put" else []
-        self.say(f"begin r{name} c{client} {copy or self.some_copy()} {' '.join(words)}")
-        return name
-
-    def follow(self, name, patience=4 * LIMIT):
-        """Hops until the request is answered, with a split where it waits for one."""
-        for _ in range(patience):
-            flight = self.world.flights.get(name)
-            if flight is None:
-                return
-            [line] = self.say(f"hop r{name}")
-            if line.endswith(" split") and not self.split(flight.ward, flight.page):
-                return
-
-    def split(self, ward, page):
-        """Splits a page, and seldom tells of it. Gives whether it was split."""
-        [line] = self.say(f"split {ward} {page}")
-        if line.startswith("notice") and self.chance(15):
-            self.say(f"deliver {self.some_copy()} {ward} {self.file.wards[ward].notices[-1].index}")
-        return line.startswith("notice")
-
-    def ask(self):
-        """A request, which is mostly followed to its end."""
-        name = self.begin(self.call_by(self.dice.choice(self.taste.keys)))
-        if self.chance(80):
-            self.follow(name, self.dice.choice((1, 2, 4 * LIMIT)))
-
-    def go_on(self):
-        """Goes on with a request in flight, or with all."""
-        flights = list(self.world.flights)
-        for name in self.dice.sample(flights, min(len(flights), self.dice.choice((1, 2, 8)))):
-            self.follow(name, self.dice.choice((1, 3, 4 * LIMIT)))
-
-    def leave_the_way(self):
-        """Splits, merges and answers while other requests are on their way."""
-        names = [self.begin(self.call_by(self.dice.choice(self.taste.keys)), 1) for _ in range(3)]
-        self.dice.choice((self.shrink, self.ask, self.some_split))()
-        for name in names:
-            self.follow(name, self.dice.choice((2, 4 * LIMIT)))
-
-    def some_split(self):
-        """A split of a full page, where there is one."""
-        full = [
-            (ward, leaf)
-            for ward in self.file.wards
-            for leaf in sorted(ward.leaves)
-            if self.file.count_under(leaf) >= self.taste.cap
-        ]
-        if full:
-            ward, leaf = self.dice.choice(full)
-            self.split(ward.number, ward.page_at(low_bound(leaf)))
-
-    def drill(self):
-        """Puts keys that share as many digits as a prefix may have, until their page is split no more."""
-        if self.taste.cap > 5:
-            return
-        digits = self.file.pseudokey(self.dice.choice(self.taste.keys))[:LIMIT]
-        shared = [key for key in self.taste.keys if self.file.pseudokey(key).startswith(digits)]
-        for key in self.dice.sample(shared, len(shared)):
-            self.follow(self.begin(Call("put", key, value_by(self.dice))))
-        ward = self.file.ward_of(shared[0])
-        if digits in ward.leaves:
-            self.say(f"split {ward.number} {ward.page_at(low_bound(digits))}")
-
-    def shrink(self):
-        """Merges a page with its buddy, mostly after their records were taken out, and often on and on."""
-        ward = self.some_ward()
-        leaf = self.dice.choice(sorted(ward.leaves))
-        deepest = max(ward.leaves, key=len)
-        leaf = deepest if self.chance(50) else leaf
-        for _ in range(self.dice.choice((1, 2, LIMIT))):
-            if leaf == ward.prefix or not self.merge_into(ward, parent_of(leaf)):
-                return
-            leaf = parent_of(leaf)
-
-    def merge_into(self, ward, parent):
-        """Takes records out until two pages fit into one, and merges them. Gives whether they were merged."""
-        page = ward.page_at(low_bound(parent))
-        keys = self.file.keys_under(parent)
-        if parent + "0" in ward.leaves and parent + "1" in ward.leaves and self.chance(90):
-            for key in keys[: max(0, len(keys) - self.taste.cap)]:
-                self.follow(self.begin(Call("del", key)))
-        [line] = self.say(f"merge {ward.number} {page}")
-        if line.startswith("notice") and self.chance(40):
-            self.say(f"deliver {self.some_copy()} {ward.number} {ward.notices[-1].index}")
-        return line.startswith("notice")
-
-    # Copies.
-
-    def gossip(self):
-        """Tells a copy of changes, in any order, and asks it where keys are."""
-        copy = self.some_copy()
-        for notice in self.some_notices(self.dice.choice((1, 2, 3, 6))):
-            self.say(f"deliver {copy} {notice.ward} {notice.index}")
-            if self.chance(20):
-                self.show(copy)
-        self.probe(copy)
-
-    def exchange(self):
-        """Sends a table, or joins one that was sent, rather an old one."""
-        if not self.world.sent or self.chance(35):
-            self.say(f"send {self.some_copy()}")
-            return
-        copy = self.some_copy()
-        sent = len(self.world.sent)
-        self.say(f"combine {copy} {self.dice.choice((1, sent, self.dice.randint(1, sent)))}")
-        self.probe(copy)
-
-    def restart(self):
-        copy = self.some_copy()
-        self.say(f"restart {copy}")
-        self.probe(copy)
-
-    def probe(self, copy):
-        """Asks what a copy knows, and at which pages requests begin there."""
-        if self.chance(50):
-            self.show(copy)
-        for _ in range(self.dice.randrange(3)):
-            name = self.begin(Call("get", self.dice.choice(self.taste.keys)), copy)
-            self.follow(name)
-
-    def show(self, copy):
-        self.say(f"show {copy}")
-
-    # Views, and lines that are refused.
-
-    def look(self):
-        ward = self.some_ward()
-        match self.dice.randrange(5):
-            case 0:
-                self.say("inflight")
-            case 1:
-                self.show(self.some_copy())
-            case _:
-                self.say(f"page {ward.number} {self.dice.randrange(len(ward.lows))}")
-
-    def step_that_is_refused(self):
-        """A step or a view of something that isn't there, or of any page."""
-        ward, copy = self.some_ward(), self.some_copy()
-        page = self.some_page(ward)
-        no_copy = self.dice.choice((0, len(self.world.copies) + 1, NUMBER_LIMIT))
-        no_ward = self.dice.choice((len(self.file.wards), NUMBER_LIMIT))
-        no_page = self.dice.choice((len(ward.lows), NUMBER_LIMIT))
-        indexes = {notice.index for notice in ward.notices}
-        no_indexes = {0, 1, max(indexes, default=0) + 1, INDEX_LIMIT} - indexes
-        no_index = self.dice.choice(sorted(no_indexes))
-        no_table = self.dice.choice((0, len(self.world.sent) + 1, NUMBER_LIMIT))
-        taken = self.dice.choice([*self.world.flights, 1])
-        change = self.dice.choice(("split", "merge"))
-        place = self.dice.choice((f"{no_ward} {page}", f"{ward.number} {no_page}", *[f"{ward.number} {page}"] * 3))
-        self.say(
-            self.dice.choice(
-                (
-                    f"{change} {place}",
-                    f"{change} {place}",
-                    f"{change} {place}",
-                    f"page {self.dice.choice((f'{no_ward} {page}', f'{ward.number} {no_page}'))}",
-                    f"begin r{taken} c1 {self.dice.choice((copy, no_copy))} get a",
-                    f"begin r77 c1 {no_copy} get a",
-                    f"hop r{self.dice.choice((78, NUMBER_LIMIT))}",
-                    f"deliver {no_copy} {no_ward} {no_index}",
-                    f"deliver {copy} {no_ward} {no_index}",
-                    f"deliver {copy} {ward.number} {no_index}",
-                    f"{self.dice.choice(('send', 'restart', 'show'))} {no_copy}",
-                    f"combine {no_copy} {no_table}",
-                    f"combine {copy} {no_table}",
-                )
-            )
-        )
-
-    def wrong_line(self):
-        """A line outside the grammar, or one with something out of range."""
-        number = self.dice.choice(WRONG_NUMBERS)
-        key = self.dice.choice(WRONG_BYTES)
-        call = self.dice.choice(("get a", "del a", "put a b"))
-        long_key, long_value = "#" + "00" * (KEY_LIMIT + 1), "#" + "00" * (VALUE_LIMIT + 1)
-        outside = (
-            f"begin r{number} c1 1 {call}",
-            f"begin r1 c{number} 1 {call}",
-            f"begin r1 c1 {number} {call}",
-            f"begin r0 c0 1 {self.dice.choice((f'get {key}', f'put a {key}', 'put a', 'get a b', 'take a', ''))}",
-            f"hop r{number}",
-            f"hop {self.dice.choice(('1', 'c1', 'r1 r1'))}",
-            f"{self.dice.choice(('split', 'merge', 'page', 'combine'))} 0 {number}",
-            f"{self.dice.choice(('split', 'merge', 'page', 'combine'))} {number} 0",
-            f"{self.dice.choice(('split', 'merge', 'page', 'combine'))} 0",
-            f"deliver 1 0 {self.dice.choice(('18446744073709551616', 'x', '', '01'))}",
-            f"deliver {number} 0 1",
-            f"{self.dice.choice(('send', 'restart', 'show'))} {self.dice.choice((number, '1 1', ''))}",
-            self.dice.choice(WRONG_LINES),
-            f"inflight {number}",
-            file_line(self.taste, 1, False),
-        )
-        out_of_range = (
-            f"begin r0 c1 1 {call}",
-            f"begin r1 c0 1 {call}",
-            f"begin r1 c1 0 get {self.dice.choice(('#', long_key))}",
-            f"begin r1 c1 9 put a {long_value}",
-            f"begin r1 c1 1 put {self.dice.choice(('#', long_key))} {self.dice.choice(('b', long_value))}",
-            "hop r0",
-        )
-        self.say(self.dice.choice(outside if self.chance(70) else out_of_range))
-
-    def finish(self):
-        """Asks what has become of all."""
-        for copy in range(1, len(self.world.copies) + 1):
-            self.show(copy)
-        ward = self.some_ward()
-        for page in range(len(ward.lows)):
-            self.say(f"page {ward.number} {page}")
-        self.say("inflight")
+def broken(dice, line):
+    """A line outside the grammar, made of a right one; seldom a right line again."""
+    words = line.split(" ")
+    at = dice.randrange(len(words))
+    match dice.randrange(6):
+        case 0:
+            return " ".join(words[:at] + words[at + 1 :]) or " "
+        case 1:
+            return " ".join([*words, dice.choice(("1", "r1", "", "a"))])
+        case 2:
+            return " ".join([*words[: at + 1], "", *words[at + 1 :]])
+        case 3:
+            return line + dice.choice(("\r", "\t", "\x00", "\xa0"))
+    wrong = WRONG_BYTES if words[at] in ("a", "b") else WRONG_NUMBERS
+    words[at] = re.sub(r"\d+$|^[ab]$", lambda _: dice.choice(wrong), words[at])
+    return " ".join(words)
 
 
-def strange(dice, file):
-    """An opened file with greater numbers in its tables, and its pages numbered in another order."""
-    file = file.opened()
-    for ward in file.wards:
-        others = ward.lows[1:]
-        dice.shuffle(others)
-        places = [0] + [1 + others.index(low) for low in ward.lows[1:]]
-        ward.lows[1:] = others
-        table = table_of(ward.start)
-        ward.start = frozenset((it, raised(dice, entry, places)) for it, entry in table.items())
-    return file
+def line_outside(dice, taste):
+    """A line outside the grammar; seldom a right one."""
+    kind = dice.randrange(len(RIGHT_LINES) + 2)
+    if kind < len(RIGHT_LINES):
+        return broken(dice, dice.choice(RIGHT_LINES[kind]))
+    return dice.choice(WRONG_LINES) if kind == len(RIGHT_LINES) else file_line(taste, 1, False)
 
 
-def raised(dice, entry, places):
-    """An entry with a greater number of its kind, whose page has another number."""
-    most = NUMBER_LIMIT - (NUMBER_LIMIT - entry.number) % 2
-    number = dice.choice((entry.number, entry.number + 2, most, most))
-    return entry._replace(number=min(number, most), right=places[entry.right])
+def line_out_of_range(dice):
+    """A line in the grammar with a name, a client, a key or a value out of range."""
+    call = dice.choice(("get a", "del a", "put a b"))
+    long_key, long_value = "#" + "00" * (KEY_LIMIT + 1), "v" * (VALUE_LIMIT + 1)
+    lines = (
+        f"begin r0 c1 1 {call}",
+        f"begin r1 c0 1 {call}",
+        f"begin r1 c1 0 get {dice.choice(('#', long_key))}",
+        f"begin r1 c1 9 put a {long_value}",
+        f"begin r1 c1 1 put {dice.choice(('#', long_key))} {dice.choice(('b', long_value))}",
+    )
+    return dice.choice(lines) if dice.random() < 0.6 else "hop r0"
 
 
 def dice_of(seed):

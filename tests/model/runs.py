@@ -13,8 +13,8 @@ ENVIRONMENT = {"PATH": "/usr/local/bin:/usr/bin:/bin", "LANG": "C.UTF-8"}
 def difference_in(program, story):
     """What is told of the first run that differs; nothing where none does."""
     with tempfile.TemporaryDirectory(prefix="exhash-story-") as folder:
-        for number, (run, laid) in enumerate(zip(story.runs, story.laid), 1):
-            for name, content in laid.items():
+        for number, run in enumerate(story.runs, 1):
+            for name, content in run.laid.items():
                 (Path(folder) / name).write_bytes(content)
             found = difference_in_run(program, run, Path(folder))
             if found:

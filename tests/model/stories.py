@@ -4,24 +4,19 @@ import collections
 from dataclasses import dataclass, field
 from typing import NamedTuple
 
-from .dice import (
-    COPIES,
-    WRONG_BYTES,
-    WRONG_LINES,
-    Writer,
-    dice_of,
-    file_line,
-    spelled,
-    strange,
-    taste_of,
-    value_by,
-    wrong_file_line,
-)
-from .page_file import bytes_of_file, check_text, dump_text, load_of
-from .script import text_of
+from .dice import COPIES, WRONG_BYTES, WRONG_LINES, dice_of, file_line, spelled, taste_of, value_by, wrong_file_line
+from .file_reader import file_of
+from .other_files import damaged, strange
+from .page_file import bytes_of_file
+from .program import outcome_of
 from .version import KEY_LIMIT, SCRIPT_LIMIT, VALUE_LIMIT
+from .writer import Writer
 
+# Lines of a script, and pairs of a load.
 LENGTHS = (20, 60, 100, 150, 250)
+PAIRS = 40
+# The most damaged files of a file that was saved.
+DAMAGED = 5
 
 
 class Run(NamedTuple):
@@ -29,133 +24,140 @@ class Run(NamedTuple):
 
     words: list
     given: bytes
-    # Pairs of a line of what is given and the lines that it prints; what is printed at the end has no line.
+    # Pairs of a line of what is given and the lines that it prints; where these aren't told apart, one without a line.
     told: list
     status: int
-    # The bytes of each file in the folder afterwards.
+    # The bytes of each file that is laid into the folder before, and of all files there afterwards.
+    laid: dict
     files: dict
 
 
 @dataclass
 class Story:
-    """Runs one after the other, in one folder; the files that are laid there before a run; and what came up in them."""
+    """Runs one after the other, in one folder, and what came up in them."""
 
     runs: list = field(default_factory=list)
-    laid: list = field(default_factory=list)
     met: collections.Counter = field(default_factory=collections.Counter)
 
 
 class Teller:
     """Tells a story by dice."""
 
-    def __init__(self, seed):
-        self.dice = dice_of(seed)
-        self.taste = taste_of(self.dice)
+    def __init__(self, dice):
+        self.dice = dice
+        self.taste = taste_of(dice)
         self.story = Story()
+        # The files in the folder, and those among them that are laid there before the next run.
         self.files = {}
+        self.laid = {}
 
     def chance(self, of_hundred):
         return self.dice.randrange(100) < of_hundred
 
-    def run(self, words, given, told, status=0, **written):
-        """Adds a run, after which there are these files too; those that are laid before it are laid already."""
-        laid = {name: content for name, content in self.files.items() if name not in self.seen()}
-        self.files |= {f"{name}.exh": content for name, content in written.items()}
-        self.story.laid.append(laid)
-        self.story.runs.append(Run(words, given, told, status, dict(self.files)))
+    def lay(self, name, content):
+        self.files[name] = self.laid[name] = content
+        return name
 
-    def seen(self):
-        """The names of the files after the last run."""
-        return self.story.runs[-1].files if self.story.runs else {}
+    def add(self, words, given, told, status, files):
+        """Adds a run."""
+        self.story.runs.append(Run(words, given, told, status, self.laid, files))
+        self.files, self.laid = dict(files), {}
+
+    def ask(self, words, given=b""):
+        """Adds a run that comes to what the documents say. Gives the lines that it prints."""
+        outcome = outcome_of(words, given, self.files)
+        self.add(words, given, [(None, outcome.lines)], outcome.status, outcome.files)
+        return outcome.lines
 
     def tell(self):
         """A new file or a loaded one, and then, mostly, what is opened."""
-        file = self.load() if self.chance(20) else self.serve("first")
-        if self.chance(50):
-            self.refuse(None)
-        for name in ("second", "third"):
-            if file is None or self.chance(25):
+        name = self.load() if self.chance(20) else self.serve("first.exh")
+        if self.chance(60):
+            self.refuse()
+        for following in ("second.exh", "third.exh"):
+            if name is None or self.chance(25):
                 break
-            file = self.serve(name, file)
+            name = self.serve(following, name)
         return self.story
 
-    def serve(self, name, opened=None):
-        """A script over a new file or an opened one. Gives the file that is saved, if it is."""
-        words = ["serve"]
-        if opened is not None:
-            opened, source = self.lay(opened)
+    def serve(self, name, source=None):
+        """A script over a new file or an opened one. Gives the name of the file that is saved, if one is."""
+        words, opened = ["serve"], None
+        if source:
+            source = self.source_of(source)
             words += ["--open", source]
-            if self.chance(60):
-                self.refuse(opened, source)
-        writer = Writer(self.dice, self.taste, opened and opened.opened())
+            opened = file_of(self.files[source])
+            if self.chance(80):
+                self.refuse(source)
+        writer = Writer(self.dice, self.taste, opened)
         writer.say(file_line(self.taste, self.dice.choice(COPIES), self.chance(50)))
         writer.write(self.dice.choice(LENGTHS))
         self.story.met += writer.script.met
         given = self.joined([line for line, _ in writer.told])
-        left = writer.script.left()
         if self.chance(15):
-            self.run(words, given, writer.told)
+            self.add(words, given, writer.told, 0, self.files)
             return None
-        self.run([*words, "--save", f"{name}.exh"], given, writer.told, **{name: bytes_of_file(left)})
+        saved = bytes_of_file(writer.script.left())
+        self.add([*words, "--save", name], given, writer.told, 0, self.files | {name: saved})
         self.story.met["saved file"] += 1
-        self.report(f"{name}.exh", left)
-        return left
+        self.report(name)
+        return name
 
-    def lay(self, file):
-        """The file to be opened, and its name: the one that was saved, or a strange one."""
+    def source_of(self, name):
+        """The file to be opened: the one that was saved, or a strange one."""
         self.story.met["opened file"] += 1
         if self.chance(60):
-            return file, self.last_name()
-        file = strange(self.dice, file)
-        name = f"strange-{len(self.story.runs)}.exh"
-        self.files[name] = bytes_of_file(file)
+            return name
         self.story.met["opened file that no run saved"] += 1
-        return file, name
-
-    def last_name(self):
-        return list(self.files)[-1]
+        file = strange(self.dice, file_of(self.files[name]))
+        return self.lay(f"strange-{len(self.story.runs)}.exh", bytes_of_file(file))
 
     def joined(self, lines):
-        """The bytes of a text: some empty lines among the others, and maybe no newline at the end."""
-        end = b"" if lines[-1] and self.chance(20) else b"\n"
-        return b"\n\n".join([b"\n".join(lines[:2]), b"\n".join(lines[2:])]) + end if len(lines) > 2 else lines[0] + end
+        """The bytes of a text: an empty line among the others, and maybe no newline at the end."""
+        at = self.dice.randrange(len(lines))
+        end = b"" if self.chance(20) else b"\n"
+        return b"\n".join([*lines[:at], b"", *lines[at:]]) + end
 
-    def report(self, name, file):
-        """`check` and `dump` of a file."""
-        for command, text in (("check", check_text), ("dump", dump_text)):
+    def report(self, name):
+        """`check` and `dump` of a file that was saved, and runs over damaged ones."""
+        for command in ("check", "dump"):
             if self.chance(60):
-                self.run([command, name], b"", [(None, text(file))])
+                lines = self.ask([command, name])
                 self.story.met[f"file told by {command}"] += 1
-                self.note_dump(text(file) if command == "dump" else [])
+                self.story.met["pair dumped"] += sum(line.startswith("pair") for line in lines)
+        for _ in range(self.dice.randint(0, DAMAGED)):
+            self.damage(self.files[name])
 
-    def note_dump(self, lines):
-        self.story.met["pair dumped"] += sum(line.startswith("pair") for line in lines)
+    def damage(self, content):
+        """A run over a damaged file, which is refused, or is another one."""
+        name = self.lay("damaged.exh", damaged(self.dice, content))
+        words = self.dice.choice((["check", name], ["dump", name], ["serve", "--open", name, "--save", name]))
+        [first, *_] = self.ask(words, b"inflight")
+        fault = first.partition(" at ")[0]
+        is_refused = fault.startswith(("refused 3", "refused 40"))
+        self.story.met[f"damaged file {fault}" if is_refused else "damaged file that is legal"] += 1
 
-    def refuse(self, opened, source=None):
+    def refuse(self, source=None):
         """A script that is refused as a whole, over a new file or an opened one: nothing is saved."""
-        lines = [wrong_file_line(self.dice, self.taste, opened is not None), "inflight"]
+        lines = [wrong_file_line(self.dice, self.taste, source is not None), "inflight"]
         given = "\n".join(lines).encode("latin-1")
         if self.chance(15):
             given = self.dice.choice((b"", b"\n\n"))
         elif self.chance(15):
             given = file_line(self.taste, 1, False).encode().ljust(SCRIPT_LIMIT + 1, b"\n")
-        lines, script = text_of(given, opened)
-        words = ["serve", *(["--open", source] if source else []), "--save", "refused.exh"]
-        self.run(words, given, [(None, lines)], status=1)
-        self.story.met[f"script {lines[0]}"] += 1
+        [line] = self.ask(["serve", *(["--open", source] if source else []), "--save", "refused.exh"], given)
+        self.story.met[f"script {line}"] += 1
 
     def load(self):
-        """A load of pairs. Gives the file that it makes."""
-        lines = [file_line(self.taste, 1, self.chance(50)), *(self.pair() for _ in range(self.dice.randrange(40)))]
-        given = self.joined([line.encode("latin-1") for line in lines])
-        printed, load = load_of(given)
-        left = load.left()
-        self.run(["load", "loaded.exh"], given, [(None, printed)], loaded=bytes_of_file(left))
+        """A load of pairs. Gives the name of the file that it makes."""
+        pairs = [self.pair() for _ in range(self.dice.randrange(PAIRS))]
+        lines = [file_line(self.taste, 1, self.chance(50)), *pairs]
+        told = self.ask(["load", "loaded.exh"], self.joined([line.encode("latin-1") for line in lines]))
         self.story.met["loaded file"] += 1
-        self.story.met["full pair of a load"] += sum(line.startswith("full") for line in printed)
-        self.story.met["refused line of a load"] += sum(line.startswith("refused") for line in printed)
-        self.report("loaded.exh", left)
-        return left
+        self.story.met["full pair of a load"] += sum(line.startswith("full") for line in told)
+        self.story.met["refused line of a load"] += sum(line.startswith("refused") for line in told)
+        self.report("loaded.exh")
+        return "loaded.exh"
 
     def pair(self):
         """A line of a pair, seldom a wrong one."""
@@ -169,4 +171,4 @@ class Teller:
 
 def story_of(seed):
     """The story of a seed."""
-    return Teller(seed).tell()
+    return Teller(dice_of(seed)).tell()
