@@ -98,6 +98,8 @@ class Script:
     def note_depths(self, taken):
         self.met["doubled array"] += taken.after > taken.before
         self.met["halved array"] += taken.after < taken.before
+        self.met["array doubled eight times at once"] += taken.after >= taken.before + 8
+        self.met["array halved eight times at once"] += taken.after <= taken.before - 8
 
     def send(self, copy):
         return [f"table {self.world.send(copy)}"]

@@ -12,6 +12,14 @@ from .version import INDEX_LIMIT, LIMIT, NUMBER_LIMIT
 
 # Names and clients that are seldom taken.
 RARE_NAMES = (NUMBER_LIMIT, NUMBER_LIMIT - 1, 10**9)
+# Of a ward that is told at once: by how many digits its leaves are longer than its prefix, and the most notices.
+DEEP = 8
+MANY = 80
+
+
+def deepest_of(ward):
+    """The first of a ward's longest leaves."""
+    return max(sorted(ward.leaves), key=len)
 
 
 class Writer:
@@ -59,10 +67,15 @@ class Writer:
         return self.dice.choice(forwards) if forwards and self.chance(60) else self.dice.randrange(len(ward.lows))
 
     def some_notices(self, count):
-        """Notices of one ward, in any order, the last ones rather than the first."""
-        notices = self.some_ward().notices
-        front = notices if self.chance(40) else notices[-count:]
-        return self.dice.sample(front, min(count, len(front)))
+        """Notices of one ward: the last ones in any order, any in any order, or the last ones backwards."""
+        notices = self.some_worn_ward().notices
+        last = notices[-count:]
+        match self.dice.randrange(4):
+            case 0:
+                return last[::-1]
+            case 1:
+                return self.dice.sample(notices, min(count, len(notices)))
+        return self.dice.sample(last, len(last))
 
     def write(self, length):
         """Writes so many lines and some more."""
@@ -72,6 +85,7 @@ class Writer:
             self.shrink: 9,
             self.gossip: 10,
             self.go_on: 8,
+            self.tell_at_once: 3,
             self.exchange: 6,
             self.restart: 2,
             self.look: 5,
@@ -165,8 +179,7 @@ class Writer:
         """Merges a page with its buddy, mostly after their records were taken out, and often on and on."""
         ward = self.some_ward()
         leaf = self.dice.choice(sorted(ward.leaves))
-        deepest = max(ward.leaves, key=len)
-        leaf = deepest if self.chance(50) else leaf
+        leaf = deepest_of(ward) if self.chance(50) else leaf
         for _ in range(self.dice.choice((1, 2, LIMIT))):
             if leaf == ward.prefix or not self.merge_into(ward, parent_of(leaf)):
                 return
@@ -189,11 +202,28 @@ class Writer:
     def gossip(self):
         """Tells a copy of changes, in any order, and asks it where keys are."""
         copy = self.some_copy()
-        for notice in self.some_notices(self.dice.choice((1, 2, 3, 6))):
+        for notice in self.some_notices(self.dice.choice((1, 1, 2, 3, 6, 30))):
             self.say(f"deliver {copy} {notice.ward} {notice.index}")
             if self.chance(20):
                 self.show(copy)
         self.probe(copy)
+
+    def tell_at_once(self):
+        """Tells a copy of a deep ward, the first split last, and then maybe of its last merge alone."""
+        ward = max(self.file.wards, key=lambda ward: len(deepest_of(ward)))
+        if len(deepest_of(ward)) < len(ward.prefix) + DEEP or not 0 < len(ward.notices) <= MANY:
+            self.drill()
+            return
+        copy = self.some_copy()
+        self.say(f"restart {copy}")
+        for notice in ward.notices[::-1]:
+            self.say(f"deliver {copy} {notice.ward} {notice.index}")
+        self.probe(copy)
+        if self.chance(60):
+            while ward.leaves != {ward.prefix} and self.merge_into(ward, parent_of(deepest_of(ward))):
+                pass
+            self.say(f"deliver {copy} {ward.number} {ward.notices[-1].index}")
+            self.probe(copy)
 
     def exchange(self):
         """Sends a table, or joins one that was sent, rather an old one."""
