@@ -7,11 +7,10 @@ from typing import NamedTuple
 
 from .bits import WORD_BITS, digits_of, low_bound, lowest_cleared, pseudokey_of
 from .file import File, Ward
-from .page_file import CONTENT, ENTRIES_OF_BLOCK, FORWARD, KEYERS, LIVE, MAGIC, MERGE, NO_LINK, SPLIT
+from .page_file import BLOCK, CONTENT, ENTRIES_OF_BLOCK, FORWARD, KEYERS, LIVE, MAGIC, MERGE, NO_LINK, SPLIT
 from .tables import Entry, Kind
 from .version import CAP_LIMIT, CURRENT, KEY_LIMIT, VALUE_LIMIT, WARD_BITS_LIMIT
 
-BLOCK = CONTENT + 32
 KIND, LENGTH, ORDER, PADDING, DIGEST, PREFIX = range(30, 36)
 OF_MAGIC, OF_VERSION, TRUNCATED, TRAILING, ILLEGAL = range(36, 41)
 HEAD = 16

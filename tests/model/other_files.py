@@ -2,11 +2,10 @@
 
 import struct
 
-from .page_file import CONTENT, FORWARD, LIVE, sealed
+from .page_file import BLOCK, CONTENT, FORWARD, LIVE, sealed
 from .tables import table_of
 from .version import NUMBER_LIMIT
 
-BLOCK = CONTENT + 32
 HEAD_END = 16
 # The bytes of a header, a page's head and an entry that say something, and some that don't.
 HEADER = (8, 9, 10, 11, 12, 13, 15, 16, 18, 19, 23, 27, 31, 84, 4000)

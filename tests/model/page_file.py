@@ -9,6 +9,8 @@ from .grammar import WrongLine, bytes_of, entry_text, is_call_in_range, page_tex
 from .tables import Kind
 from .version import CURRENT, SCRIPT_LIMIT
 
+# The bytes of a block, and those before its digest.
+BLOCK = 4096
 CONTENT = 4064
 MAGIC = b"EXHASHPF"
 KEYERS = {"sha": 1, "plain": 2}

@@ -5,8 +5,9 @@ import subprocess
 import tempfile
 from pathlib import Path
 
+from .page_file import BLOCK
+
 SECONDS = 60
-BLOCK = 4096
 ENVIRONMENT = {"PATH": "/usr/local/bin:/usr/bin:/bin", "LANG": "C.UTF-8"}
 
 
@@ -40,7 +41,8 @@ def difference_in_run(program, run, folder):
 def difference_in_text(run, text):
     """The first line that differs, and the script up to the line that prints it."""
     wanted = [(at, line) for at, (_, lines) in enumerate(run.told) for line in lines]
-    got = text.splitlines() if text.endswith("\n") else [*text.splitlines(), "no newline"][: None if text else 0]
+    *got, end = text.split("\n")
+    got += [f"{end} without a newline"] if end else []
     for number, (want, one) in enumerate(itertools.zip_longest(wanted, got), 1):
         at, line = want or (len(run.told) - 1, None)
         if line != one:
