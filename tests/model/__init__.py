@@ -1,0 +1,29 @@
+"""A second reader of docs/DEFINITIONS.md and docs/FORMATS.md: what each script must print, and what it must save.
+
+It is slow and plain, and shares no code with the program. A ward is a set of leaves, the low bounds of its pages in the
+order of their birth, and a list of notices; a copy of the directory is the set of entries that it was told; the records
+of all pages are one map. Whatever else is asked of them, as whether a page is live, where it links to or what a copy's
+walk names, is worked out from these each time.
+
+    version        the limit of a prefix and the version of a page file: what differs when these grow
+    bits           prefixes and pseudokeys
+    tables         entries and notices; the table, walks and leaves of what somebody was told
+    file           wards and the one map: hops, splits, merges
+    world          copies of the directory, sent tables, requests in flight
+    grammar        the words of lines, and how values are printed
+    script         what each line prints
+    page_file      the bytes of a page file, and what `check`, `dump` and `load` print
+    file_reader    what the bytes of a page file say, or their first fault
+    program        what the program does with its words: what it prints, its status, and the files it leaves
+
+The others make scripts by chance, and run the program over them.
+
+    dice           settings, keys, values and wrong lines
+    writer         scripts
+    other_files    page files that no run saves
+    stories        runs that belong together
+    runs           runs the program, and names the first line that differs
+    counts         what must have come up
+    wrong_answers  a program that gives a wrong answer, for `check`
+    check          sees that wrong answers are found, and that the cases of tests/ are read as they say
+"""

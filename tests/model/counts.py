@@ -1,0 +1,51 @@
+"""What must have come up in the runs of the usual number of scripts, and how often."""
+
+from .grammar import FORMS
+
+LEAST = 100
+CALLS = ("get", "put", "del")
+# The lines of a script, the first word and of a `begin` its call.
+LINES = ("file", "file with moves=yes", *(f"begin {call}" for call in CALLS), *FORMS)
+# The numbers with which each line is refused, but for 60, with which all are.
+REFUSALS = {
+    "begin": (20, 25, 61),
+    "hop": (21, 61),
+    "split": (1, 3, 4, 5, 24),
+    "merge": (1, 3, 6, 7, 8, 9, 24),
+    "deliver": (20, 22, 24),
+    "send": (20,),
+    "combine": (20, 23),
+    "restart": (20,),
+    "show": (20,),
+    "page": (1, 24),
+}
+REPLIES = ("get answered is", "get answered none", "put answered new", "put answered was", "put answered full")
+OUTCOMES = (*REPLIES, "del answered was", "del answered none", "hop moved", "hop split")
+PLACES = ("page live", "page forward", "several requests in flight", "longest prefix", "revived page")
+ARRAYS = ("doubled array", "halved array", "array doubled eight times at once", "array halved eight times at once")
+COPIES = (*ARRAYS, "late notice", "late table")
+SETTINGS = ("keyer plain", "keyer sha", *(f"wards {2**bits}" for bits in range(5)))
+REFUSED_SCRIPTS = tuple(f"script refused {number}" for number in (60, 61, 62, 63))
+FAULTS = (*range(30, 40), *(f"40 reason {reason}" for reason in range(1, 7)))
+DAMAGED_FILES = ("damaged file that is legal", *(f"damaged file refused {fault}" for fault in FAULTS))
+FILES = ("saved file", "opened file", "opened file that no run saved", "loaded file", "file told by check")
+TEXTS = ("file told by dump", "pair dumped", "full pair of a load", "refused line of a load")
+
+
+def wanted():
+    """The names of all that must have come up."""
+    lines = [f"line {line}" for line in LINES]
+    words = ("file", "begin", *FORMS, "another word")
+    refusals = [f"refused {number} of {word}" for word in words for number in (*REFUSALS.get(word, ()), 60)]
+    of_scripts = [*lines, *refusals, *OUTCOMES, *PLACES, *COPIES, *SETTINGS, *REFUSED_SCRIPTS]
+    return [*of_scripts, *FILES, *TEXTS, *DAMAGED_FILES]
+
+
+def printed_counts(met):
+    """A line for each thing that came up or should have."""
+    return [f"{met[name]:8} {name}" for name in sorted({*met, *wanted()})]
+
+
+def lacking(met):
+    """The names of what came up too seldom."""
+    return [name for name in wanted() if met[name] < LEAST]

@@ -1,0 +1,72 @@
+"""Runs the program over a story, and names the first line that differs."""
+
+import itertools
+import subprocess
+import tempfile
+from pathlib import Path
+
+from .page_file import BLOCK
+
+SECONDS = 60
+ENVIRONMENT = {"PATH": "/usr/local/bin:/usr/bin:/bin", "LANG": "C.UTF-8"}
+
+
+def difference_in(program, story):
+    """What is told of the first run that differs; nothing where none does."""
+    with tempfile.TemporaryDirectory(prefix="exhash-story-") as folder:
+        for number, run in enumerate(story.runs, 1):
+            for name, content in run.laid.items():
+                (Path(folder) / name).write_bytes(content)
+            found = difference_in_run(program, run, Path(folder))
+            if found:
+                return [f"run {number}, `{' '.join(run.words)}`: {found[0]}", *found[1:]]
+    return []
+
+
+def difference_in_run(program, run, folder):
+    """In what a run differs from what it must come to."""
+    how = {"cwd": folder, "env": ENVIRONMENT, "input": run.given, "capture_output": True, "timeout": SECONDS}
+    try:
+        ended = subprocess.run([program, *run.words], check=False, **how)
+    except subprocess.TimeoutExpired:
+        return ["it had not ended in time"]
+    found = difference_in_text(run, ended.stdout.decode("latin-1"))
+    if not found and ended.returncode != run.status:
+        found = [f"status: wanted {run.status}, got {ended.returncode}"]
+    if not found and ended.stderr:
+        found = [f"standard error: wanted nothing, got {ended.stderr.decode('latin-1')!r}"]
+    return found or difference_in_files(run.files, folder)
+
+
+def difference_in_text(run, text):
+    """The first line that differs, and the script up to the line that prints it."""
+    wanted = [(at, line) for at, (_, lines) in enumerate(run.told) for line in lines]
+    *got, end = text.split("\n")
+    got += [f"{end} without a newline"] if end else []
+    for number, (want, one) in enumerate(itertools.zip_longest(wanted, got), 1):
+        at, line = want or (len(run.told) - 1, None)
+        if line != one:
+            return [f"line {number}: wanted {shown(line)}, got {shown(one)}", *script_up_to(run.told[: at + 1])]
+    return []
+
+
+def shown(line):
+    return "nothing" if line is None else repr(line)
+
+
+def script_up_to(told):
+    """The lines of a script; the last is the one that prints what differs."""
+    return [f"    {line.decode('latin-1')}" for line, _ in told if line]
+
+
+def difference_in_files(wanted, folder):
+    """The first file that differs, and from which byte on."""
+    got = {file.name: file.read_bytes() for file in folder.iterdir()}
+    for name in sorted({*wanted, *got}):
+        if name not in got or name not in wanted:
+            return [f"file {name}: " + ("it isn't there" if name in wanted else "it should not be there")]
+        if got[name] != wanted[name]:
+            pairs = itertools.zip_longest(wanted[name], got[name])
+            at = next(at for at, (one, other) in enumerate(pairs) if one != other)
+            return [f"file {name}: block {at // BLOCK} differs from byte {at % BLOCK} on"]
+    return []

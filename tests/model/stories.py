@@ -1,0 +1,174 @@
+"""Stories: runs of the program that belong together, each with what it must print, end with and leave."""
+
+import collections
+from dataclasses import dataclass, field
+from typing import NamedTuple
+
+from .dice import COPIES, WRONG_BYTES, WRONG_LINES, dice_of, file_line, spelled, taste_of, value_by, wrong_file_line
+from .file_reader import file_of
+from .other_files import damaged, strange
+from .page_file import bytes_of_file
+from .program import outcome_of
+from .version import KEY_LIMIT, SCRIPT_LIMIT, VALUE_LIMIT
+from .writer import Writer
+
+# Lines of a script, and pairs of a load.
+LENGTHS = (20, 60, 100, 150, 250)
+PAIRS = 40
+# The most damaged files of a file that was saved.
+DAMAGED = 5
+
+
+class Run(NamedTuple):
+    """One run of the program."""
+
+    words: list
+    given: bytes
+    # Pairs of a line of what is given and the lines that it prints; where these aren't told apart, one without a line.
+    told: list
+    status: int
+    # The bytes of each file that is laid into the folder before, and of all files there afterwards.
+    laid: dict
+    files: dict
+
+
+@dataclass
+class Story:
+    """Runs one after the other, in one folder, and what came up in them."""
+
+    runs: list = field(default_factory=list)
+    met: collections.Counter = field(default_factory=collections.Counter)
+
+
+class Teller:
+    """Tells a story by dice."""
+
+    def __init__(self, dice):
+        self.dice = dice
+        self.taste = taste_of(dice)
+        self.story = Story()
+        # The files in the folder, and those among them that are laid there before the next run.
+        self.files = {}
+        self.laid = {}
+
+    def chance(self, of_hundred):
+        return self.dice.randrange(100) < of_hundred
+
+    def lay(self, name, content):
+        self.files[name] = self.laid[name] = content
+        return name
+
+    def add(self, words, given, told, status, files):
+        """Adds a run."""
+        self.story.runs.append(Run(words, given, told, status, self.laid, files))
+        self.files, self.laid = dict(files), {}
+
+    def ask(self, words, given=b""):
+        """Adds a run that comes to what the documents say. Gives the lines that it prints."""
+        outcome = outcome_of(words, given, self.files)
+        self.add(words, given, [(None, outcome.lines)], outcome.status, outcome.files)
+        return outcome.lines
+
+    def tell(self):
+        """A new file or a loaded one, and then, mostly, what is opened."""
+        name = self.load() if self.chance(20) else self.serve("first.exh")
+        if self.chance(60):
+            self.refuse()
+        for following in ("second.exh", "third.exh"):
+            if name is None or self.chance(25):
+                break
+            name = self.serve(following, name)
+        return self.story
+
+    def serve(self, name, source=None):
+        """A script over a new file or an opened one. Gives the name of the file that is saved, if one is."""
+        words, opened = ["serve"], None
+        if source:
+            source = self.source_of(source)
+            words += ["--open", source]
+            opened = file_of(self.files[source])
+            if self.chance(80):
+                self.refuse(source)
+        writer = Writer(self.dice, self.taste, opened)
+        writer.say(file_line(self.taste, self.dice.choice(COPIES), self.chance(50)))
+        writer.write(self.dice.choice(LENGTHS))
+        self.story.met += writer.script.met
+        given = self.joined([line for line, _ in writer.told])
+        if self.chance(15):
+            self.add(words, given, writer.told, 0, self.files)
+            return None
+        saved = bytes_of_file(writer.script.left())
+        self.add([*words, "--save", name], given, writer.told, 0, self.files | {name: saved})
+        self.story.met["saved file"] += 1
+        self.report(name)
+        return name
+
+    def source_of(self, name):
+        """The file to be opened: the one that was saved, or a strange one."""
+        self.story.met["opened file"] += 1
+        if self.chance(60):
+            return name
+        self.story.met["opened file that no run saved"] += 1
+        file = strange(self.dice, file_of(self.files[name]))
+        return self.lay(f"strange-{len(self.story.runs)}.exh", bytes_of_file(file))
+
+    def joined(self, lines):
+        """The bytes of a text: an empty line among the others, and maybe no newline at the end."""
+        at = self.dice.randrange(len(lines))
+        end = b"" if self.chance(20) else b"\n"
+        return b"\n".join([*lines[:at], b"", *lines[at:]]) + end
+
+    def report(self, name):
+        """`check` and `dump` of a file that was saved, and runs over damaged ones."""
+        for command in ("check", "dump"):
+            if self.chance(60):
+                lines = self.ask([command, name])
+                self.story.met[f"file told by {command}"] += 1
+                self.story.met["pair dumped"] += sum(line.startswith("pair") for line in lines)
+        for _ in range(self.dice.randint(0, DAMAGED)):
+            self.damage(self.files[name])
+
+    def damage(self, content):
+        """A run over a damaged file, which is refused, or is another one."""
+        name = self.lay("damaged.exh", damaged(self.dice, content))
+        words = self.dice.choice((["check", name], ["dump", name], ["serve", "--open", name, "--save", name]))
+        [first, *_] = self.ask(words, b"inflight")
+        fault = first.partition(" at ")[0]
+        is_refused = fault.startswith(("refused 3", "refused 40"))
+        self.story.met[f"damaged file {fault}" if is_refused else "damaged file that is legal"] += 1
+
+    def refuse(self, source=None):
+        """A script that is refused as a whole, over a new file or an opened one: nothing is saved."""
+        lines = [wrong_file_line(self.dice, self.taste, source is not None), "inflight"]
+        given = "\n".join(lines).encode("latin-1")
+        if self.chance(15):
+            given = self.dice.choice((b"", b"\n\n"))
+        elif self.chance(15):
+            given = file_line(self.taste, 1, False).encode().ljust(SCRIPT_LIMIT + 1, b"\n")
+        [line] = self.ask(["serve", *(["--open", source] if source else []), "--save", "refused.exh"], given)
+        self.story.met[f"script {line}"] += 1
+
+    def load(self):
+        """A load of pairs. Gives the name of the file that it makes."""
+        pairs = [self.pair() for _ in range(self.dice.randrange(PAIRS))]
+        lines = [file_line(self.taste, 1, self.chance(50)), *pairs]
+        told = self.ask(["load", "loaded.exh"], self.joined([line.encode("latin-1") for line in lines]))
+        self.story.met["loaded file"] += 1
+        self.story.met["full pair of a load"] += sum(line.startswith("full") for line in told)
+        self.story.met["refused line of a load"] += sum(line.startswith("refused") for line in told)
+        self.report("loaded.exh")
+        return "loaded.exh"
+
+    def pair(self):
+        """A line of a pair, seldom a wrong one."""
+        key, value = spelled(self.dice, self.dice.choice(self.taste.keys)), spelled(self.dice, value_by(self.dice))
+        if self.chance(90):
+            return f"{key} {value}"
+        long_key, long_value = "#" + "61" * (KEY_LIMIT + 1), "#" + "62" * (VALUE_LIMIT + 1)
+        wrong = (key, f"{key}  {value}", f"{key} {value} ", f"{self.dice.choice(WRONG_BYTES)} {value}", "# a")
+        return self.dice.choice((*wrong, f"{long_key} a", f"a {long_value}", self.dice.choice(WRONG_LINES)))
+
+
+def story_of(seed):
+    """The story of a seed."""
+    return Teller(dice_of(seed)).tell()

@@ -1,0 +1,102 @@
+"""A program that does what another does, but for one wrong answer.
+
+    wrong_answers.py PROGRAM KIND WORDS ..
+
+Of what PROGRAM prints the last line of the kind is altered; or it is another kind of wrong end.
+"""
+
+import re
+import subprocess
+import sys
+from pathlib import Path
+
+# Of each kind of line what it looks like, and what is printed in its place.
+KINDS = {
+    "request at another page": (r"(r\d+ at \d+/)(\d+)", r"\g<1>9\2"),
+    "request in another ward": (r"(r\d+ at )(\d+/\d+)", r"\g<1>9\2"),
+    "another value": (r"(r\d+ is )(\S+.*)", r"\g<1>x\2"),
+    "another value before": (r"(r\d+ was )(\S+.*)", r"\g<1>x\2"),
+    "new for none": (r"(r\d+) none(.*)", r"\1 new\2"),
+    "none for new": (r"(r\d+) new(.*)", r"\1 none\2"),
+    "new for full": (r"(r\d+) full(.*)", r"\1 new\2"),
+    "moved to another page": (r"(r\d+ moved \d+/)(\d+)", r"\g<1>9\2"),
+    "new for split": (r"(r\d+) split", r"\1 new"),
+    "more moves": (r"(r\d+ .*) moves (\d+) of (\d+)", r"\1 moves 9\2 of \3"),
+    "a greater bound": (r"(r\d+ .*) moves (\d+) of (\d+)", r"\1 moves \2 of 9\3"),
+    "split to another page": (r"(notice .* split right )(\d+)", r"\g<1>9\2"),
+    "split at another prefix": (r"(notice .* prefix )(\S+)( .* split .*)", r"\g<1>\g<2>0\3"),
+    "split of another number": (r"(notice .* number )(\d+)( split .*)", r"\g<1>9\2\3"),
+    "split with another index": (r"(notice \d+/)(\d+ .* split .*)", r"\g<1>9\2"),
+    "merge of another number": (r"(notice .* number )(\d+)( merge)", r"\g<1>9\2\3"),
+    "merge at another prefix": (r"(notice .* prefix )(\S+)( .* merge)", r"\g<1>\g<2>0\3"),
+    "another notice taken": (r"(copy \d+ took \d+/)(\d+)", r"\g<1>9\2"),
+    "another table joined": (r"(copy \d+ joined )(\d+)", r"\g<1>9\2"),
+    "another copy restarted": (r"copy (\d+) restarted", r"copy 9\1 restarted"),
+    "another table sent": (r"table (\d+)", r"table 9\1"),
+    "another depth": (r"(copy \d+ depth )(\d+)", r"\g<1>9\2"),
+    "entry of another split": (r"(entry .* split right )(\d+)", r"\g<1>9\2"),
+    "entry of another number": (r"(entry \S+ number )(\d+ .*)", r"\g<1>9\2"),
+    "entry of a merge at another prefix": (r"(entry \S+)( .* merge)", r"\g<1>0\2"),
+    "leaf of another prefix": (r"(leaf \S+)( .*)", r"\g<1>0\2"),
+    "leaf on another page": (r"(leaf \S+ \d+/)(\d+)", r"\g<1>9\2"),
+    "live page of another prefix": (r"(page \S+ live prefix \S+)( .*)", r"\g<1>0\2"),
+    "live page with another link": (r"(page \S+ live .* right )(\d+ .*)", r"\g<1>9\2"),
+    "live page without its link": (r"(page \S+ live .* right )\d+( .*)", r"\1none\2"),
+    "live page of more records": (r"(page \S+ live .* records )(\d+)", r"\g<1>9\2"),
+    "forwarding page to another page": (r"(page \S+ forward \d+/)(\d+)", r"\g<1>9\2"),
+    "more requests in flight": (r"(inflight )(\d+)", r"\g<1>9\2"),
+    "another refusal of a step": (r"refused ([1-9]|2\d)", r"refused 3\1"),
+    "range for syntax": (r"refused 60", r"refused 61"),
+    "syntax for range": (r"refused 61", r"refused 60"),
+    "range for another file": (r"refused 63", r"refused 61"),
+    "range for a script that is too long": (r"refused 62", r"refused 61"),
+    "more pairs loaded": (r"(loaded )(\d+)", r"\g<1>9\2"),
+    "another key that is full": (r"(full )(\S+)", r"\g<1>x\2"),
+    "legal file of more pages": (r"(legal .* pages )(\d+ .*)", r"\g<1>9\2"),
+    "legal file of more records": (r"(legal .* records )(\d+ .*)", r"\g<1>9\2"),
+    "file of another cap": (r"(file cap=)(\d+ .*)", r"\g<1>9\2"),
+    "ward of more pages": (r"(ward \d+ pages )(\d+)", r"\g<1>9\2"),
+    "pair of another key": (r"(pair )(\S+ \S+)", r"\g<1>x\2"),
+    "pair of another value": (r"(pair \S+ )(\S+)", r"\g<1>x\2"),
+    "a line twice": (r"(r\d+ .*)", r"\1\n\1"),
+}
+BYTE_TURNED, NOTHING_SAVED = "a byte turned in a saved file", "nothing saved"
+ANOTHER_STATUS, STANDARD_ERROR = "another status", "a word on standard error"
+# The byte of the file that is turned: one of a page block, behind its records and before its digest.
+TURNED = 4096 + 4000
+
+
+def altered(lines, kind):
+    """The lines, of which the last of the kind is altered."""
+    pattern, instead = KINDS.get(kind, ("", ""))
+    places = [at for at, line in enumerate(lines) if line and re.fullmatch(pattern, line)]
+    if not places:
+        return lines
+    wrong = re.sub(pattern, instead, lines[places[-1]])
+    return [*lines[: places[-1]], *wrong.split("\n"), *lines[places[-1] + 1 :]]
+
+
+def spoil(file, kind):
+    """Alters a file that was saved."""
+    if kind == NOTHING_SAVED:
+        file.unlink()
+    if kind == BYTE_TURNED:
+        content = bytearray(file.read_bytes())
+        content[TURNED] ^= 1
+        file.write_bytes(content)
+
+
+def main():
+    program, kind, *words = sys.argv[1:]
+    ended = subprocess.run([program, *words], stdout=subprocess.PIPE, check=False)
+    lines = altered(ended.stdout.decode("latin-1").split("\n"), kind)
+    sys.stdout.buffer.write("\n".join(lines).encode("latin-1"))
+    if "--save" in words and not ended.returncode:
+        spoil(Path(words[-1]), kind)
+    if kind == STANDARD_ERROR:
+        print("exhash:", file=sys.stderr)
+    return ended.returncode + (kind == ANOTHER_STATUS)
+
+
+if __name__ == "__main__":
+    sys.exit(main())
