@@ -2,7 +2,6 @@
 
 import collections
 import functools
-import random
 import re
 from typing import NamedTuple
 
@@ -10,6 +9,8 @@ from .bits import pseudokey_of
 from .grammar import hexadecimal, printed
 from .version import KEY_LIMIT, LIMIT, NUMBER_LIMIT, VALUE_LIMIT
 
+# How many bytes the longest prefix takes.
+FRONT = -(-LIMIT // 8)
 WARD_BITS = (0, 0, 0, 1, 1, 2, 2, 3, 3, 4, 4)
 CAPS = (1, 1, 1, 2, 2, 2, 2, 3, 3, 4, 5, 15, 16)
 COPIES = (1, 2, 2, 3, 3, 4, 8)
@@ -57,10 +58,12 @@ def keys_that_share():
 def plain_keys(dice):
     """Keys for keyer plain: their pseudokeys differ early or late, or share as many digits as a prefix may have."""
     firsts = [dice.randrange(256) for _ in range(dice.choice((1, 1, 2, 3, 8)))]
+    front = bytes([firsts[0]]).ljust(FRONT, b"\0")
+    turned = dice.sample(range(8 * FRONT), dice.randrange(6))
     spread = [bytes([dice.randrange(256)]) for _ in range(dice.randrange(8))]
-    chain = [(firsts[0] << 8 ^ 1 << digit).to_bytes(2, "big") for digit in dice.sample(range(16), dice.randrange(6))]
+    chain = [(int.from_bytes(front, "big") ^ 1 << digit).to_bytes(FRONT, "big") for digit in turned]
     near = [bytes([dice.choice(firsts), dice.randrange(4)]) for _ in range(dice.randrange(6))]
-    crowd = [bytes([firsts[0], 0, third]) for third in dice.sample(range(256), dice.choice((2, 3, 6)))]
+    crowd = [front + bytes([last]) for last in dice.sample(range(256), dice.choice((2, 3, 6)))]
     return [*spread, *chain, *near, *crowd]
 
 
@@ -164,8 +167,3 @@ def line_out_of_range(dice):
         f"begin r1 c1 1 put {dice.choice(('#', long_key))} {dice.choice(('b', long_value))}",
     )
     return dice.choice(lines) if dice.random() < 0.6 else "hop r0"
-
-
-def dice_of(seed):
-    """The dice of a seed."""
-    return random.Random(seed)

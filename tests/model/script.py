@@ -6,7 +6,7 @@ from .bits import prefix_text
 from .file import File, Moved, MustSplit, Refused
 from .grammar import FORMS, WrongLine, entry_text, line_of, page_text, printed, settings_of, words_of
 from .tables import Kind
-from .version import SCRIPT_LIMIT
+from .version import LIMIT, SCRIPT_LIMIT
 from .world import World
 
 
@@ -85,7 +85,7 @@ class Script:
         return [self.notice_text(self.world.file.merge(ward, page))]
 
     def notice_text(self, notice):
-        self.met["longest prefix"] += notice.entry.kind is Kind.SPLIT and len(notice.prefix) == 15
+        self.met["longest prefix"] += notice.entry.kind is Kind.SPLIT and len(notice.prefix) == LIMIT - 1
         place = f"{notice.ward}/{notice.index}"
         return f"notice {place} prefix {prefix_text(notice.prefix)} {notice.entry.text()}"
 

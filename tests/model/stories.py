@@ -1,10 +1,11 @@
 """Stories: runs of the program that belong together, each with what it must print, end with and leave."""
 
 import collections
+import random
 from dataclasses import dataclass, field
 from typing import NamedTuple
 
-from .dice import COPIES, WRONG_BYTES, WRONG_LINES, dice_of, file_line, spelled, taste_of, value_by, wrong_file_line
+from .dice import COPIES, WRONG_BYTES, WRONG_LINES, file_line, spelled, taste_of, value_by, wrong_file_line
 from .file_reader import file_of
 from .other_files import damaged, strange
 from .page_file import bytes_of_file
@@ -171,4 +172,4 @@ class Teller:
 
 def story_of(seed):
     """The story of a seed."""
-    return Teller(dice_of(seed)).tell()
+    return Teller(random.Random(seed)).tell()

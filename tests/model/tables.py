@@ -8,6 +8,7 @@ import enum
 import functools
 from typing import NamedTuple
 
+from .bits import low_bound
 from .version import LIMIT
 
 
@@ -66,7 +67,7 @@ def walk(told, ward_bits, pseudokey):
 @functools.lru_cache(maxsize=256)
 def leaves_of(told, ward_bits):
     """Where walks stop: pairs of a prefix and a page, in the order of prefixes."""
-    leaves, low = [], "0" * 64
+    leaves, low = [], low_bound("")
     while low is not None:
         prefix, page = walk(told, ward_bits, low)
         leaves.append((prefix, page))
@@ -77,7 +78,7 @@ def leaves_of(told, ward_bits):
 def next_low(prefix):
     """The least pseudokey above all that the prefix begins; none behind the last."""
     front = prefix.rstrip("1")
-    return (front[:-1] + "1").ljust(64, "0") if front else None
+    return low_bound(front[:-1] + "1") if front else None
 
 
 def depth_of(told, ward_bits):

@@ -101,12 +101,13 @@ class Writer:
 
     # Requests.
 
-    def call_by(self, key):
+    def some_call(self):
+        key = self.dice.choice(self.taste.keys)
         word = self.dice.choice(("get", "put", "put", "put", "del"))
         return Call(word, key, value_by(self.dice) if word == "put" else b"")
 
     def begin(self, call, copy=None):
-        """Begins a request. Gives its name, or nothing where it is refused."""
+        """Begins a request, mostly under a name that is free. Gives the name."""
         free = [name for name in range(1, 9) if name not in self.world.flights]
         name = self.dice.choice(free) if free and not self.chance(3) else self.dice.choice((1, *RARE_NAMES))
         client = self.dice.choice((1, 2, NUMBER_LIMIT))
@@ -134,7 +135,7 @@ class Writer:
 
     def ask(self):
         """A request, which is mostly followed to its end."""
-        name = self.begin(self.call_by(self.dice.choice(self.taste.keys)))
+        name = self.begin(self.some_call())
         if self.chance(80):
             self.follow(name, self.dice.choice((1, 2, 4 * LIMIT)))
 
@@ -146,7 +147,7 @@ class Writer:
 
     def leave_the_way(self):
         """Splits, merges and answers while other requests are on their way."""
-        names = [self.begin(self.call_by(self.dice.choice(self.taste.keys)), 1) for _ in range(3)]
+        names = [self.begin(self.some_call(), 1) for _ in range(3)]
         self.dice.choice((self.shrink, self.ask, self.some_split))()
         for name in names:
             self.follow(name, self.dice.choice((2, 4 * LIMIT)))

@@ -10,7 +10,7 @@ import subprocess
 import sys
 from pathlib import Path
 
-# Of each kind of line what it looks like, and what is printed in its place.
+# Of each kind of line what it looks like, and what is printed in its place; nothing where that is empty.
 KINDS = {
     "request at another page": (r"(r\d+ at \d+/)(\d+)", r"\g<1>9\2"),
     "request in another ward": (r"(r\d+ at )(\d+/\d+)", r"\g<1>9\2"),
@@ -58,7 +58,12 @@ KINDS = {
     "ward of more pages": (r"(ward \d+ pages )(\d+)", r"\g<1>9\2"),
     "pair of another key": (r"(pair )(\S+ \S+)", r"\g<1>x\2"),
     "pair of another value": (r"(pair \S+ )(\S+)", r"\g<1>x\2"),
+    "fault at another place": (r"(refused 3\d at )(\d+)", r"\g<1>9\2"),
+    "another fault of a block": (r"refused 3(\d at \d+)", r"refused 2\1"),
+    "another fault of a file": (r"refused 3([6-9])", r"refused 2\1"),
+    "illegal for another reason": (r"(refused 40 reason )(\d)", r"\g<1>9\2"),
     "a line twice": (r"(r\d+ .*)", r"\1\n\1"),
+    "a line left out": (r"(r\d+ .*)", ""),
 }
 BYTE_TURNED, NOTHING_SAVED = "a byte turned in a saved file", "nothing saved"
 ANOTHER_STATUS, STANDARD_ERROR = "another status", "a word on standard error"
@@ -73,7 +78,7 @@ def altered(lines, kind):
     if not places:
         return lines
     wrong = re.sub(pattern, instead, lines[places[-1]])
-    return [*lines[: places[-1]], *wrong.split("\n"), *lines[places[-1] + 1 :]]
+    return [*lines[: places[-1]], *(wrong.split("\n") if wrong else []), *lines[places[-1] + 1 :]]
 
 
 def spoil(file, kind):
