@@ -258,12 +258,12 @@ class Ward:
         fronts = {it.prefix[:length] for it in self.live for length in range(self.ward_bits, len(it.prefix))}
         # The low bound of q1 is that of q with a one behind it.
         merged = {it.low_bound.rstrip("0")[:-1] for it in self.pages if isinstance(it, Forward)}
-        rights = all(self.numbers.get((it.prefix + "1").ljust(LIMIT, "0")) == it.right for it in self.entries if it.is_split)
-        return splits == fronts and merges == merged and rights and all(map(self.fits_entry, self.entries))
+        return splits == fronts and merges == merged and all(map(self.fits_entry, self.entries))
 
     def fits_entry(self, entry):
         is_here = len(entry.prefix) >= self.ward_bits and entry.prefix.startswith(self.prefix)
-        return is_here and entry.number >= 1 and entry.is_split == (entry.number % 2 == 1)
+        is_right = not entry.is_split or self.numbers.get((entry.prefix + "1").ljust(LIMIT, "0")) == entry.right
+        return is_here and is_right and entry.number >= 1 and entry.is_split == (entry.number % 2 == 1)
 
 
 def bits_of(number, length):
