@@ -9,7 +9,7 @@
 #![tactic(auto)]
 
 ghost use Rattle.std.specs.Prelude.{IfOk};
-ghost use Rattle.exh_storm.specs.StormConfig.{IsStormConfig};
+ghost use Rattle.exh_storm_config.specs.StormConfig.{IsStormConfig};
 
 mod caller_gate;
 mod carried_notices;
@@ -28,7 +28,7 @@ use anyhow::{Context, bail};
 use exh_live::{ANSWER_PARTS, ENTRY_PARTS};
 use exh_page::CAP_LIMIT;
 use exh_prefix::WARD_BITS_LIMIT;
-use exh_storm::{CALLERS_LIMIT, CALLS_LIMIT, StormConfig};
+use exh_storm_config::{CALLERS_LIMIT, CALLS_LIMIT, StormConfig};
 use kept::keep;
 use measured::Measured;
 use std::env::{self, Env};

@@ -3,7 +3,7 @@ ghost use Rattle.std.specs.Prelude.{◌≡◌};
 ghost use Rattle.std.specs.FinMap as map;
 ghost use Rattle.exh_keyer.specs.Pseudokey.{sha_pseudokey};
 ghost use Rattle.exh_live.specs.declared.ledgers.TheConstants.{ANSWER_PARTS, ENTRY_PARTS};
-ghost use Rattle.exh_storm.specs.StormConfig.{IsStormConfig};
+ghost use Rattle.exh_storm_config.specs.StormConfig.{IsStormConfig};
 
 use crate::carried_notices::CarriedNotices;
 use crate::leftovers::Leftovers;
@@ -15,7 +15,8 @@ use exh_copy::Start;
 use exh_keyer::ShaKeyer;
 use exh_live::{Identity, Seat, WardJournals};
 use exh_settle::settle;
-use exh_storm::{StormConfig, StormFile, new_file, new_workers};
+use exh_storm::{StormFile, new_file, new_workers};
+use exh_storm_config::StormConfig;
 use std::alloc::Global;
 use std::sync::Wait;
 use std::sync::ledger::Blank;

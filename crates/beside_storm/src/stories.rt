@@ -1,6 +1,6 @@
 //! What happens in each story.
 ghost use Rattle.std.specs.Prelude.{⊤};
-ghost use Rattle.exh_storm.specs.StormConfig.{IsStormConfig};
+ghost use Rattle.exh_storm_config.specs.StormConfig.{IsStormConfig};
 
 use crate::company_gate::CompanyGate;
 use crate::held_gate::HeldGate;
@@ -9,7 +9,8 @@ use crate::story::Story;
 use crate::told::Told;
 use crate::told_watch::ToldWatch;
 use exh_runs::{Difference, Part, Run, again, same};
-use exh_storm::{COURIER_CLIENT, KEEPER_CLIENT, NoWatch, StormConfig, StormFault, storm};
+use exh_storm::{COURIER_CLIENT, KEEPER_CLIENT, NoWatch, StormFault, storm};
+use exh_storm_config::StormConfig;
 use exh_walk::{Gate, OpenGate};
 use std::alloc::Global;
 use std::sync::Wait;

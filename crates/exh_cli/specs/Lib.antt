@@ -1,8 +1,3 @@
-pub mod Fault
-pub mod Words
-pub mod Job
-pub mod Parser
-pub mod Program
 pub mod Status
 pub mod Run
 pub mod FileRun

@@ -5,8 +5,8 @@ use Rattle.exh_report.specs.declared.verdict.Verdict.{Verdict}
 use Rattle.exh_report.specs.declared.verdict.Verdict.TheVariants as verdict
 use Rattle.exh_open.specs.Opened.{OpenedState}
 use Rattle.exh_serve.specs.declared.serve_fault.ServeFault.{ServeFault}
-use Rattle.exh_cli.specs.declared.fault.CliFault.{CliFault}
-use Rattle.exh_cli.specs.declared.fault.CliFault.TheVariants as fault
+use Rattle.exh_command.specs.declared.fault.CliFault.{CliFault}
+use Rattle.exh_command.specs.declared.fault.CliFault.TheVariants as fault
 use Rattle.exh_cli.specs.declared.status.Status.{Status}
 use Rattle.exh_cli.specs.declared.status.Status.TheVariants.{Done, Refused, WrongWords}
 

@@ -3,7 +3,7 @@ ghost use Rattle.std.specs.Prelude.{◌≡◌};
 ghost use Rattle.std.specs.Process.{exit_status};
 ghost use Rattle.exh_cli.specs.Status.{code_of, fault_status, file_status};
 
-use crate::fault::CliFault;
+use exh_command::CliFault;
 use exh_report::{ReportFault, Verdict};
 use std::process::ExitCode;
 

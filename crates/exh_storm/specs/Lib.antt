@@ -1,4 +1,3 @@
 pub mod Refusals
 pub mod StormCalls
-pub mod StormConfig
 pub mod StormFault

@@ -4,13 +4,14 @@ ghost use Rattle.exh_prefix.specs.Leading.{ward_of};
 ghost use Rattle.exh_settle.specs.Settled.{IsSettled, answer_count};
 ghost use Rattle.exh_keyer.specs.Pseudokey.{sha_pseudokey};
 ghost use Rattle.exh_live.specs.declared.ledgers.TheConstants.{ANSWER_PARTS, ENTRY_PARTS};
-ghost use Rattle.exh_storm.specs.StormConfig.{IsStormConfig};
+ghost use Rattle.exh_storm_config.specs.StormConfig.{IsStormConfig};
 
-use crate::{StormConfig, StormFault};
+use crate::StormFault;
 use exh_frames::PlainPages;
 use exh_keyer::ShaKeyer;
 use exh_live::{Identity, LiveFile, WardJournals, new_wards};
 use exh_settle::{Diary, settle};
+use exh_storm_config::StormConfig;
 use exh_ward::Ward;
 use std::alloc::{AllocError, Global};
 use std::sync::ledger::Blank;

@@ -4,7 +4,6 @@
 
 pub use call::storm_call;
 pub use caller::Caller;
-pub use config::{CALLERS_LIMIT, CALLS_LIMIT, COPIES_LIMIT, StormConfig};
 pub use courier::{COURIER_CLIENT, Courier};
 pub use fault::StormFault;
 pub use file::{StormFile, StormWard, new_file};
@@ -16,7 +15,6 @@ pub use workers::{Workers, new_workers};
 
 mod call;
 mod caller;
-mod config;
 mod courier;
 mod fault;
 mod file;

@@ -2,15 +2,16 @@ ghost use Rattle.std.specs.Prelude.{◌≡◌, ◌≤◌, ◌*◌, length, All, 
 ghost use Rattle.std.specs.FinMap as map;
 ghost use Rattle.exh_keyer.specs.Pseudokey.{sha_pseudokey};
 ghost use Rattle.exh_live.specs.declared.ledgers.TheConstants.{ANSWER_PARTS, ENTRY_PARTS};
-ghost use Rattle.exh_storm.specs.StormConfig.{IsStormConfig};
+ghost use Rattle.exh_storm_config.specs.StormConfig.{IsStormConfig};
 
 use crate::file::{StormFile, new_file, settled};
 use crate::overseers::Overseers;
 use crate::threads::{Rounds, run_all};
 use crate::workers::new_workers;
-use crate::{StormConfig, StormFault, Watch};
+use crate::{StormFault, Watch};
 use exh_copy::Start;
 use exh_live::{ANSWER_PARTS, ENTRY_PARTS, Identity, Seat};
+use exh_storm_config::StormConfig;
 use exh_walk::Gate;
 use std::alloc::Global;
 use std::marker::Brand;

@@ -3,12 +3,13 @@ ghost use Rattle.std.specs.Prelude.{◌≡◌, ◌+◌, ◌<◌, ◌≤◌, ◌*
 ghost use Rattle.std.specs.FinMap as map;
 ghost use Rattle.exh_prefix.specs.declared.prefix.TheConstants.{WARD_BITS_LIMIT};
 ghost use Rattle.exh_settle.specs.declared.diary.TheConstants.{CALLER_LIMIT};
-ghost use Rattle.exh_storm.specs.StormConfig.{IsStormConfig};
+ghost use Rattle.exh_storm_config.specs.StormConfig.{IsStormConfig};
 
 use crate::file::StormFile;
-use crate::{Caller, Courier, OpenCopy, StormConfig, StormFault};
+use crate::{Caller, Courier, OpenCopy, StormFault};
 use exh_copy::{CopyReader, NewCopyFault, Start, new_copy};
 use exh_live::Identity;
+use exh_storm_config::StormConfig;
 use exh_table::Table;
 use std::alloc::Global;
 use std::sync::Wait;

@@ -1,12 +1,13 @@
 -- What the parser of the command line does with words.
 use Rattle.std.specs.Prelude.{◌≡◌, ◌↔◌, ℕ, List, [], ◌∷◌, map, Some, IsSome, codes, true, false}
-use Rattle.clap.specs.Words.{App, Row, Rule, Shape, fault_of, first_of, first_value, is_simple_and_free, new_rule, subcommand_of}
+use Rattle.clap.specs.Words.{App, Row, Rule, Shape, fault_of, first_of, first_value, is_simple_and_free, new_rule, subcommand_of, subcommand_rows_of}
 use Rattle.clap.specs.Simple.{new_shape}
 use Rattle.clap.specs.declared.builder.command.Command.{Command}
 use Rattle.clap.specs.declared.builder.command.Command.TheViews.{out-Command}
+use Rattle.clap.specs.declared.parser.matches.ArgMatches.{ArgMatches}
 use Rattle.clap.specs.declared.parser.matches.Found.{Found}
 use Rattle.clap.specs.declared.error.kind.ErrorKind.TheVariants.{DisplayVersion}
-use Rattle.exh_cli.specs.Job.{Asked, Check, Dump, Load, Serve, Storm, StormTexts, asked_by, callers_name, calls_name, cap_name, command_of, copies_name, open_name, save_name, wards_name}
+use Rattle.exh_command.specs.Job.{Asked, Check, Dump, Load, Serve, Storm, StormTexts, asked_by, callers_name, calls_name, cap_name, command_of, copies_name, open_name, save_name, wards_name}
 
 -- ---- arguments
 
@@ -69,6 +70,16 @@ pub record ReadsJobs (parser : App) : Type 0 where
   pub meets : (words : List (List ℕ)) (asked : Asked) → asked_by words ≡ Some asked → Meets parser words asked
   -- `--version` alone asks for the version
   pub version : (name : List ℕ) → fault_of parser (name ∷ codes "--version" ∷ []) ≡ DisplayVersion ∷ []
+
+-- a parse met a command, and its values
+pub record IsJobMet (matches : ArgMatches) (asked : Asked) : Type 0 where
+  pub rows : List Row
+  pub met : subcommand_rows_of matches ≡ Some (command_of asked, rows)
+  pub values : HasValues asked rows
+
+-- and so of some command
+abbrev pub IsSomeJobMet : ArgMatches → Type 0
+IsSomeJobMet matches = (asked : Asked) × IsJobMet matches asked
 
 -- the texts that were found for a storm's numbers
 abbrev pub texts_of : Found → StormTexts

@@ -18,14 +18,15 @@ use Rattle.clap.specs.declared.error.kind.ErrorKind.TheVariants as kind
 use Rattle.clap.proofs.OnLiterals.{clap_on_literals}
 use Rattle.clap.proofs.WalkLemmas.{both, first_value-rows, walk_stopped}
 use Rattle.clap.proofs.FaultLemmas.{stopped_fault}
-use Rattle.exh_cli.specs.Fault.{IsFaultOf, TellsVersion}
-use Rattle.exh_cli.specs.Words.{Use, alone, ends_options, is_named, is_option, only_word, path_named, uses_named}
-use Rattle.exh_cli.specs.Job.{AskForVersion, Asked, Serve, Check, Dump, Load, Storm, asked_by, callers_name, calls_name, cap_name, command_of, copies_name, job_asked, job_named, open_name, save_name, serve_asked, serve_names, served_by, storm_asked, storm_names, stormed_by, wards_name}
-use Rattle.exh_cli.specs.Parser.{HasTexts, HasValues, Meets, ReadsJobs, about_path, path_id, path_rule, texts_of, with_options}
-use Rattle.exh_cli.specs.declared.fault.CliFault.{CliFault}
-use Rattle.exh_cli.proofs.OptionLemmas.{IsOptionLeaf, first_of-rows_of_uses, rows_of_uses}
-use Rattle.exh_cli.proofs.OptionFlags.{flags_agree, flags_met, help_asking, no_defaults, option_flags, option_leaf}
-use Rattle.exh_cli.proofs.WordLemmas.{Agrees, Fails, IsAsking, IsValue, agreed, agrees_as, all_ask, first_fails, flags, help, is_end, is_name, is_plain_word, is_value, option_fails, or_nothing, some_is, version, word_fails}
+use Rattle.exh_command.specs.Fault.{IsFaultOf, IsWrong, TellsVersion}
+use Rattle.exh_command.specs.Words.{Use, alone, ends_options, is_named, is_option, only_word, path_named, uses_named}
+use Rattle.exh_command.specs.Job.{AskForVersion, Asked, Serve, Check, Dump, Load, Storm, asked_by, callers_name, calls_name, cap_name, command_of, copies_name, job_asked, job_named, open_name, save_name, serve_asked, serve_names, served_by, storm_asked, storm_names, stormed_by, wards_name}
+use Rattle.exh_command.specs.Parser.{HasTexts, HasValues, IsJobMet, Meets, ReadsJobs, about_path, path_id, path_rule, texts_of, with_options}
+use Rattle.exh_command.specs.Program.{bare_program}
+use Rattle.exh_command.specs.declared.fault.CliFault.{CliFault}
+use Rattle.exh_command.proofs.OptionLemmas.{IsOptionLeaf, first_of-rows_of_uses, rows_of_uses}
+use Rattle.exh_command.proofs.OptionFlags.{flags_agree, flags_met, help_asking, no_defaults, option_flags, option_leaf}
+use Rattle.exh_command.proofs.WordLemmas.{Agrees, Fails, IsAsking, IsValue, agreed, agrees_as, all_ask, first_fails, flags, help, is_end, is_name, is_plain_word, is_value, option_fails, or_nothing, some_is, version, word_fails}
 
 -- ---- the parser, as clap's clauses see it
 
@@ -34,9 +35,6 @@ serve = with_options (codes "serve") serve_names
 
 abbrev pub storm : Shape
 storm = with_options (codes "storm") storm_names
-
-abbrev pub bare_program : App
-bare_program = on_top (λ s. record s { has_version = true; subcommand_required = true; arg_required_else_help = true }) (new_app (codes "exhash"))
 
 abbrev pub program : App
 program = with_subcommand (with_subcommand (with_subcommand (with_subcommand (with_subcommand bare_program serve) (about_path (codes "check"))) (about_path (codes "dump"))) (about_path (codes "load"))) storm
@@ -417,12 +415,6 @@ program_reads = record {
 
 -- ---- a parse that succeeds
 
--- a parse met a command, and its values
-pub record IsJobMet (m : ArgMatches) (asked : Asked) : Type 0 where
-  pub rows : List Row
-  pub met : subcommand_rows_of m ≡ Some (command_of asked, rows)
-  pub values : HasValues asked rows
-
 pub parse_meets : (parser : App) (words : List Text) (m : ArgMatches) → ReadsJobs parser → fault_of parser words ≡ []
     → HasMatchesOf parser words m → (asked : Asked) × (asked_by words ≡ Some asked) × IsJobMet m asked
 parse_meets parser words m reads passed matches = go (asked_by words) refl ((reads.takes words).0 passed)
@@ -462,6 +454,11 @@ own_is m command own asked named behind is = go (out-ArgMatches m).subcommand na
           command_is = some_is named ∙ ap (λ (p : Text × List Row). p.0) (some_is met);
           values = subst (HasValues asked) (sym (some_is rows ∙ ap (λ (p : Text × List Row). p.1) (some_is met))) is.values;
         }
+
+-- and so of a command of a known name
+pub own_of : (m : ArgMatches) (command : Text) (own : ArgMatches) (known : Text) → Some command ≡ subcommand_name_of m
+    → Some (rows_of (found_of own)) ≡ option_map (λ p. p.1) (subcommand_rows_of m) → command ≡ known → (asked : Asked) → IsJobMet m asked → IsOwn known own asked
+own_of m command own known named behind same asked is = subst (λ command. IsOwn command own asked) same (own_is m command own asked named behind is)
 
 -- ---- the command, by its name and its values
 
@@ -550,8 +547,11 @@ is_command (Storm texts) command own is no_serve no_check no_dump no_load no_sto
 
 -- ---- the job of a command
 
-pub job_is : (words : List Text) (asked wanted : Asked) → asked_by words ≡ Some asked → Some asked ≡ Some wanted → job_named words ≡ job_asked wanted
-job_is words asked wanted named same = ap (option_and_then job_asked) (named ∙ same)
+pub job_is : (asked wanted : Asked) → Some asked ≡ Some wanted → job_asked asked ≡ job_asked wanted
+job_is asked wanted same = ap (option_and_then job_asked) same
+
+pub job_of_words : (words : List Text) (asked : Asked) → asked_by words ≡ Some asked → job_named words ≡ job_asked asked
+job_of_words words asked named = ap (option_and_then job_asked) named
 
 -- words that are taken don't ask for the version
 pub no_version : (parser : App) (words : List Text) → ReadsJobs parser → fault_of parser words ≡ [] → AskForVersion words → ⊥
@@ -574,6 +574,27 @@ module _ (parser : App) (words : List Text) (error : Error) (reads : ReadsJobs p
       go (inr among) =
           let told = is_told among asked in
           subst TellsVersion (sym (is.wrong (λ memory. apart (sym told ∙ memory)))) told
+
+  names_none : IsAmong (kind_of error) (fault_of parser words) → job_named words ≡ None
+  names_none among = go (asked_by words) refl
+    where
+      go : (asked : Option Asked) → asked_by words ≡ asked → job_named words ≡ None
+      go None named = ap (option_and_then job_asked) named
+      go (Some asked) named =
+          let none : fault_of parser words ≡ [] = (reads.takes words).1 (subst IsSome (sym named) refl) in
+          absurd (subst (IsAmong (kind_of error)) none among)
+
+  fault_is_wrong : (fault : CliFault) → IsFaultOf error fault → IsWrong fault → job_named words ≡ None
+  fault_is_wrong fault is wrong = go kinds
+    where
+      go : HasKind (fault_of parser words) error → job_named words ≡ None
+      go (inl memory) = absurd (subst IsWrong (is.memory memory) wrong)
+      go (inr among) = names_none among
+
+  -- wrong words name no job
+  pub wrong_words : {T : Type 0} (result : Result T CliFault) → IsErrAnd result (IsFaultOf error) → IfErr result (λ fault. IsWrong fault → job_named words ≡ None)
+  wrong_words (Ok x) is = tt
+  wrong_words (Err fault) is = fault_is_wrong fault is
 
   -- words that ask for the version are told it
   pub version_told : {T : Type 0} (result : Result T CliFault) → IsErrAnd result (IsFaultOf error) → IfErr result (λ fault. AskForVersion words → TellsVersion fault)

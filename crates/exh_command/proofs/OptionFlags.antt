@@ -6,11 +6,11 @@ use Rattle.clap.specs.Words.{Kinds, Row, Rule, Text}
 use Rattle.clap.specs.Walk.{arg_by_id, arg_by_index, arg_by_long, arg_by_short, has_long, has_row, has_short, nothing_held, rows_after, walk_from, with_default}
 use Rattle.clap.specs.Kinds.{or_else}
 use Rattle.clap.specs.Faults.{check_fault, defaults_fault, level_fault}
-use Rattle.exh_cli.specs.Words.{Use, is_named, uses_named}
-use Rattle.exh_cli.specs.Job.{Asked}
-use Rattle.exh_cli.specs.Parser.{HasValues}
-use Rattle.exh_cli.proofs.OptionLemmas.{IsOptionLeaf, Reads, leaf_of, option_built, options_read, rows_of_uses}
-use Rattle.exh_cli.proofs.WordLemmas.{Agrees, IsAsking, help, is_name, some_is}
+use Rattle.exh_command.specs.Words.{Use, is_named, uses_named}
+use Rattle.exh_command.specs.Job.{Asked}
+use Rattle.exh_command.specs.Parser.{HasValues}
+use Rattle.exh_command.proofs.OptionLemmas.{IsOptionLeaf, Reads, leaf_of, option_built, options_read, rows_of_uses}
+use Rattle.exh_command.proofs.WordLemmas.{Agrees, IsAsking, help, is_name, some_is}
 
 -- ---- what is said of a flag by one test
 

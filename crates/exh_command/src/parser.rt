@@ -1,52 +1,52 @@
 //! The parser of the command line, with the texts that a stranger reads.
 ghost use Rattle.std.specs.Prelude.{◌≡◌, IfOk, codes, false};
-ghost use Rattle.clap.specs.Words.{app_of, kind_of, rule_of};
-ghost use Rattle.exh_cli.specs.Job.{serve_names, storm_names};
-ghost use Rattle.exh_cli.specs.Program.{bare_program};
-ghost use Rattle.exh_cli.specs.Parser.{HasOwnArgs, ReadsJobs, about_path, only, option_rule, with_options};
+ghost use Rattle.clap.specs.Words.{app_of, kind_of, new_app, rule_of};
+ghost use Rattle.exh_command.specs.Job.{serve_names, storm_names};
+ghost use Rattle.exh_command.specs.Program.{bare_program};
+ghost use Rattle.exh_command.specs.Parser.{HasOwnArgs, ReadsJobs, about_path, only, option_rule, path_rule, with_options};
 
 use clap::error::{Error, ErrorKind};
 use clap::{Arg, Command};
 use std::alloc::{AllocError, Global};
 
 /// The command that answers a script.
-pub const SERVE: &str = "serve";
+pub(crate) const SERVE: &str = "serve";
 
 /// The command that says whether a file is a legal page file.
-pub const CHECK: &str = "check";
+pub(crate) const CHECK: &str = "check";
 
 /// The command that tells what a legal page file has.
-pub const DUMP: &str = "dump";
+pub(crate) const DUMP: &str = "dump";
 
 /// The command that saves pairs as a page file.
-pub const LOAD: &str = "load";
+pub(crate) const LOAD: &str = "load";
 
 /// The command that runs callers, keepers and couriers at once.
-pub const STORM: &str = "storm";
+pub(crate) const STORM: &str = "storm";
 
 /// What help calls the path of the file that a command is about.
-pub const PATH: &str = "PATH";
+pub(crate) const PATH: &str = "PATH";
 
 /// The option of `serve` that names the page file to open.
-pub const OPEN: &str = "open";
+pub(crate) const OPEN: &str = "open";
 
 /// The option of `serve` that names where the wards that a run leaves are saved.
-pub const SAVE: &str = "save";
+pub(crate) const SAVE: &str = "save";
 
 /// The option of `storm` that tells how many callers there are.
-pub const CALLERS: &str = "callers";
+pub(crate) const CALLERS: &str = "callers";
 
 /// The option of `storm` that tells how many calls each caller makes.
-pub const CALLS: &str = "calls";
+pub(crate) const CALLS: &str = "calls";
 
 /// The option of `storm` that tells how many records a page may have.
-pub const CAP: &str = "cap";
+pub(crate) const CAP: &str = "cap";
 
 /// The option of `storm` that tells by how many bits the file is cut into wards.
-pub const WARDS: &str = "wards";
+pub(crate) const WARDS: &str = "wards";
 
 /// The option of `storm` that tells how many copies of the directory there are.
-pub const COPIES: &str = "copies";
+pub(crate) const COPIES: &str = "copies";
 
 // What help calls a number.
 const NUMBER: &str = "N";
@@ -232,19 +232,36 @@ the command line is wrong, or asks for help or for the version.
 said of a file, docs/FORMATS.md the formats.";
 
 /// The parser of the program's command line.
-pub fn parser<'a>(alloc: Global) -> Result<Command<'a>, AllocError>
+pub(crate) fn parser<'a>(alloc: Global) -> Result<Command<'a>, AllocError>
     ensures { IfOk result (λ parser. ReadsJobs (app_of parser)) }
 {
-    let exhash = bare_program(alloc)?;
     let serve = serve(alloc)?;
-    let check = check(alloc)?;
-    let dump = dump(alloc)?;
-    let load = load(alloc)?;
-    let storm = storm(alloc)?;
-    let serving = exhash.subcommand(serve)?;
+    let serving = bare_program(alloc)?.subcommand(serve)?;
+    let check = path_command(
+        alloc,
+        CHECK,
+        "Says whether a file is a legal page file",
+        CHECK_USAGE,
+        CHECKED,
+    )?;
     let checking = serving.subcommand(check)?;
+    let dump = path_command(
+        alloc,
+        DUMP,
+        "Tells what a legal page file has: pages, pairs and the table",
+        DUMP_USAGE,
+        DUMPED,
+    )?;
     let dumping = checking.subcommand(dump)?;
+    let load = path_command(
+        alloc,
+        LOAD,
+        "Saves the pairs on standard input as a page file",
+        LOAD_USAGE,
+        LOADED,
+    )?;
     let loading = dumping.subcommand(load)?;
+    let storm = storm(alloc)?;
     loading.subcommand(storm)
 }
 
@@ -267,59 +284,25 @@ fn serve<'a>(alloc: Global) -> Result<Command<'a>, AllocError>
     ensures own { IfOk result HasOwnArgs }
     ensures is { IfOk result (λ command. app_of command ≡ only (with_options (codes "serve") serve_names)) }
 {
-    let open = Arg::new(alloc, OPEN)
-        .long(OPEN)
-        .value_name(PATH)
-        .help("The page file that the script runs over, or a new one");
-    let save = Arg::new(alloc, SAVE)
-        .long(SAVE)
-        .value_name(PATH)
-        .help("Where the pages are saved once the run is done");
-    Command::new(alloc, SERVE)
-        .about("Answers the script on standard input, line by line, on standard output")
-        .after_help(LINES)
-        .override_usage(SERVE_USAGE)
-        .arg(open)?
-        .arg(save)
-}
-
-// The parser of `check`.
-fn check<'a>(alloc: Global) -> Result<Command<'a>, AllocError>
-    ensures own { IfOk result HasOwnArgs }
-    ensures is { IfOk result (λ command. app_of command ≡ only (about_path (codes "check"))) }
-{
-    let path = Arg::new(alloc, PATH).required(true);
-    Command::new(alloc, CHECK)
-        .about("Says whether a file is a legal page file")
-        .after_help(CHECKED)
-        .override_usage(CHECK_USAGE)
-        .arg(path)
-}
-
-// The parser of `dump`.
-fn dump<'a>(alloc: Global) -> Result<Command<'a>, AllocError>
-    ensures own { IfOk result HasOwnArgs }
-    ensures is { IfOk result (λ command. app_of command ≡ only (about_path (codes "dump"))) }
-{
-    let path = Arg::new(alloc, PATH).required(true);
-    Command::new(alloc, DUMP)
-        .about("Tells what a legal page file has: pages, pairs and the table")
-        .after_help(DUMPED)
-        .override_usage(DUMP_USAGE)
-        .arg(path)
-}
-
-// The parser of `load`.
-fn load<'a>(alloc: Global) -> Result<Command<'a>, AllocError>
-    ensures own { IfOk result HasOwnArgs }
-    ensures is { IfOk result (λ command. app_of command ≡ only (about_path (codes "load"))) }
-{
-    let path = Arg::new(alloc, PATH).required(true);
-    Command::new(alloc, LOAD)
-        .about("Saves the pairs on standard input as a page file")
-        .after_help(LOADED)
-        .override_usage(LOAD_USAGE)
-        .arg(path)
+    bare_command(
+        alloc,
+        SERVE,
+        "Answers the script on standard input, line by line, on standard output",
+        SERVE_USAGE,
+        LINES,
+    )
+    .arg(option(
+        alloc,
+        OPEN,
+        PATH,
+        "The page file that the script runs over, or a new one",
+    ))?
+    .arg(option(
+        alloc,
+        SAVE,
+        PATH,
+        "Where the pages are saved once the run is done",
+    ))
 }
 
 // The parser of `storm`.
@@ -327,54 +310,96 @@ fn storm<'a>(alloc: Global) -> Result<Command<'a>, AllocError>
     ensures own { IfOk result HasOwnArgs }
     ensures is { IfOk result (λ command. app_of command ≡ only (with_options (codes "storm") storm_names)) }
 {
-    let callers = number(
+    bare_command(
+        alloc,
+        STORM,
+        "Runs callers, keepers and couriers at once, and settles it all",
+        STORM_USAGE,
+        STORMED,
+    )
+    .arg(option(
         alloc,
         CALLERS,
+        NUMBER,
         "How many callers there are, 1 to 16 [default: 2]",
-    );
-    let calls = number(
+    ))?
+    .arg(option(
         alloc,
         CALLS,
+        NUMBER,
         "How many calls each caller makes, 1 to 10000 [default: 100]",
-    );
-    let cap = number(
+    ))?
+    .arg(option(
         alloc,
         CAP,
+        NUMBER,
         "How many records a page may have, 1 to 16 [default: 2]",
-    );
-    let wards = number(alloc, WARDS, "0 to 4, for 2^N wards [default: 0]");
-    let copies = number(
+    ))?
+    .arg(option(alloc, WARDS, NUMBER, "0 to 4, for 2^N wards [default: 0]"))?
+    .arg(option(
         alloc,
         COPIES,
+        NUMBER,
         "How many copies the directory has, 1 to 8 [default: 2]",
-    );
-    Command::new(alloc, STORM)
-        .about("Runs callers, keepers and couriers at once, and settles it all")
-        .after_help(STORMED)
-        .override_usage(STORM_USAGE)
-        .arg(callers)?
-        .arg(calls)?
-        .arg(cap)?
-        .arg(wards)?
-        .arg(copies)
+    ))
 }
 
-// An option with a number.
-fn number<'a>(alloc: Global, name: &'a str, help: &'a str) -> Arg<'a>
+// The parser of a command about the file of one path.
+fn path_command<'a>(
+    alloc: Global,
+    name: &'a str,
+    about: &'a str,
+    usage: &'a str,
+    more: &'a str,
+) -> Result<Command<'a>, AllocError>
+    ensures own { IfOk result HasOwnArgs }
+    ensures is { IfOk result (λ command. app_of command ≡ only (about_path name.now)) }
+{
+    bare_command(alloc, name, about, usage, more).arg(path(alloc))
+}
+
+// A command without arguments: what it does, how it is used, and what help says behind its options.
+fn bare_command<'a>(
+    alloc: Global,
+    name: &'a str,
+    about: &'a str,
+    usage: &'a str,
+    more: &'a str,
+) -> Command<'a>
+    ensures own { HasOwnArgs result }
+    ensures is { app_of result ≡ new_app name.now }
+{
+    Command::new(alloc, name)
+        .about(about)
+        .override_usage(usage)
+        .after_help(more)
+}
+
+// A path, which has to be there.
+fn path<'a>(alloc: Global) -> Arg<'a>
+    ensures rule { rule_of result ≡ path_rule }
+    ensures own { result.global ≡ false }
+{
+    Arg::new(alloc, PATH).required(true)
+}
+
+// An option, what help calls its value, and what it tells.
+fn option<'a>(alloc: Global, name: &'a str, value: &'a str, help: &'a str) -> Arg<'a>
     ensures rule { rule_of result ≡ option_rule name.now }
     ensures own { result.global ≡ false }
 {
     Arg::new(alloc, name)
         .long(name)
-        .value_name(NUMBER)
+        .value_name(value)
         .help(help)
 }
 
 /// The error of a number of `storm` that is none, or out of its range.
-pub fn out_of_range(alloc: Global) -> Result<Error, AllocError>
+pub(crate) fn out_of_range(alloc: Global) -> Result<Error, AllocError>
     ensures { IfOk result (λ error. kind_of error ≡ ErrorKind.ValueValidation) }
 {
-    parser(alloc)?.error(
+    error_of(
+        alloc,
         ErrorKind::ValueValidation,
         "a number of `storm` is none, or out of its range: callers 1 to 16, calls
 1 to 10000, cap 1 to 16, wards 0 to 4, copies 1 to 8",
@@ -385,8 +410,16 @@ pub fn out_of_range(alloc: Global) -> Result<Error, AllocError>
 pub fn not_text(alloc: Global) -> Result<Error, AllocError>
     ensures { IfOk result (λ error. kind_of error ≡ ErrorKind.InvalidValue) }
 {
-    parser(alloc)?.error(
+    error_of(
+        alloc,
         ErrorKind::InvalidValue,
         "a word of the command line is not UTF-8",
     )
+}
+
+// An error as the parser tells it.
+fn error_of(alloc: Global, kind: ErrorKind, message: &str) -> Result<Error, AllocError>
+    ensures { IfOk result (λ error. kind_of error ≡ kind) }
+{
+    parser(alloc)?.error(kind, message)
 }

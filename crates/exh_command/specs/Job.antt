@@ -4,12 +4,12 @@ use Rattle.std.specs.Str.{bytes_eq}
 use Rattle.exh_page.specs.declared.page.TheConstants.{CAP_LIMIT}
 use Rattle.exh_prefix.specs.declared.prefix.TheConstants.{WARD_BITS_LIMIT}
 use Rattle.exh_text.specs.Numbers.{number_spelled}
-use Rattle.exh_storm.specs.StormConfig.{IsStormConfig}
-use Rattle.exh_storm.specs.declared.config.StormConfig.{StormConfig}
-use Rattle.exh_storm.specs.declared.config.TheConstants.{CALLERS_LIMIT, CALLS_LIMIT, COPIES_LIMIT}
-use Rattle.exh_cli.specs.Words.{Use, path_named, uses_named, option_given}
-use Rattle.exh_cli.specs.declared.job.Job.{Job}
-use Rattle.exh_cli.specs.declared.job.Job.TheVariants as jobs
+use Rattle.exh_storm_config.specs.StormConfig.{IsStormConfig}
+use Rattle.exh_storm_config.specs.declared.config.StormConfig.{StormConfig}
+use Rattle.exh_storm_config.specs.declared.config.TheConstants.{CALLERS_LIMIT, CALLS_LIMIT, COPIES_LIMIT}
+use Rattle.exh_command.specs.Words.{Use, path_named, uses_named, option_given}
+use Rattle.exh_command.specs.declared.job.Job.{Job}
+use Rattle.exh_command.specs.declared.job.Job.TheVariants as jobs
 
 -- the texts of a storm's numbers, where they were given
 pub record StormTexts : Type 0 where

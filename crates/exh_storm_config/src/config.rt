@@ -1,3 +1,5 @@
+//! The settings of a storm.
+
 /// The most callers of a storm.
 pub const CALLERS_LIMIT: u8 = 16;
 

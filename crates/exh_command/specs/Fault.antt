@@ -3,8 +3,8 @@ use Rattle.std.specs.Prelude.{◌≡◌, ◌≢◌, ⊤}
 use Rattle.clap.specs.Words.{kind_of}
 use Rattle.clap.specs.declared.error.Error.{Error}
 use Rattle.clap.specs.declared.error.kind.ErrorKind.TheVariants.{DisplayVersion, OutOfMemory}
-use Rattle.exh_cli.specs.declared.fault.CliFault.{CliFault}
-use Rattle.exh_cli.specs.declared.fault.CliFault.TheVariants.{Wrong, Memory}
+use Rattle.exh_command.specs.declared.fault.CliFault.{CliFault}
+use Rattle.exh_command.specs.declared.fault.CliFault.TheVariants.{Wrong, Memory}
 
 -- the words are at fault, and not memory
 abbrev pub IsWrong : CliFault → Type 0

@@ -1,14 +1,13 @@
 use Rattle.std.proofs.Common.{◌≡◌, ◌∙◌, ap, ap₂, subst, sym}
 use Rattle.std.proofs.lemmas.Result.{IfOk-weaker}
 use Rattle.clap.specs.Words.{App, app_of, with_subcommand}
-use Rattle.exh_cli.specs.Parser.{ReadsJobs}
-use Rattle.exh_cli.proofs.ParserLemmas.{bare_program, program, program_reads}
-use Rattle.exh_cli.proofs.parser.parser.Goals as goal
+use Rattle.exh_command.specs.Parser.{ReadsJobs}
+use Rattle.exh_command.proofs.ParserLemmas.{program, program_reads}
+use Rattle.exh_command.proofs.parser.parser.Goals as goal
 
 pub returns : goal.returns
 returns c =
-    let exhash_is : app_of c.in_ok-exhash.exhash ≡ bare_program = c.in_ok-exhash.ensures in
-    let serving = c.in_ok-serving.ensures.shape c.in_ok-serve.ensures.own ∙ ap₂ with_subcommand exhash_is (ap (λ (a : App). a.top) c.in_ok-serve.ensures.is) in
+    let serving = c.in_ok-serving.ensures.shape c.in_ok-serve.ensures.own ∙ ap₂ with_subcommand c.in_ok-bare_program.ensures (ap (λ (a : App). a.top) c.in_ok-serve.ensures.is) in
     let checking = c.in_ok-checking.ensures.shape c.in_ok-check.ensures.own ∙ ap₂ with_subcommand serving (ap (λ (a : App). a.top) c.in_ok-check.ensures.is) in
     let dumping = c.in_ok-dumping.ensures.shape c.in_ok-dump.ensures.own ∙ ap₂ with_subcommand checking (ap (λ (a : App). a.top) c.in_ok-dump.ensures.is) in
     let loading = c.in_ok-loading.ensures.shape c.in_ok-load.ensures.own ∙ ap₂ with_subcommand dumping (ap (λ (a : App). a.top) c.in_ok-load.ensures.is) in

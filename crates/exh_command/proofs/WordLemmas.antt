@@ -11,7 +11,7 @@ use Rattle.clap.specs.Lexer.{long_of, short_of}
 use Rattle.clap.specs.Simple.{filled_from, help_rule, version_rule}
 use Rattle.clap.specs.Walk.{Held, Names, Waiting, Walk, after_flag, arg_by_index, arg_by_long, arg_by_short, bundle_met, bundle_step, idle, long_or_other, plain, plain_word, settled, short_or_plain, subcommand_met, subcommand_or_other, value, walk_from}
 use Rattle.clap.specs.Faults.{bundle_fault, bundle_step_fault, flag_word_fault, flags_fault, long_fault, other_fault, react_fault, settle_fault, short_fault, step_fault, turn_fault, use_fault}
-use Rattle.exh_cli.specs.Words.{ends_options, is_option}
+use Rattle.exh_command.specs.Words.{ends_options, is_option}
 
 -- ---- errors
 

@@ -1,10 +1,10 @@
 //! What a command line asks for.
 ghost use Rattle.std.specs.Prelude.{◌≡◌, ◌<◌, ◌≤◌, ◌^◌, Some, None, map, option_map, IfOk, IfErr, IfSome, IsSome};
 ghost use Rattle.clap.specs.Words.{first_value, found_of};
-ghost use Rattle.exh_cli.specs.Fault.{IsWrong, TellsVersion};
-ghost use Rattle.exh_cli.specs.Job.{AskForVersion, IsWithinLimits, Storm, job_asked, job_named, named_of, number_of, storm_of};
-ghost use Rattle.exh_cli.specs.Parser.{path_id, texts_of};
-ghost use Rattle.exh_storm.specs.StormConfig.{IsStormConfig};
+ghost use Rattle.exh_command.specs.Fault.{IsWrong, TellsVersion};
+ghost use Rattle.exh_command.specs.Job.{AskForVersion, Asked, IsWithinLimits, Storm, job_asked, job_named, named_of, number_of, storm_of};
+ghost use Rattle.exh_command.specs.Parser.{IsJobMet, IsSomeJobMet, path_id, texts_of};
+ghost use Rattle.exh_storm_config.specs.StormConfig.{IsStormConfig};
 
 use crate::fault::CliFault;
 use crate::parser::{
@@ -14,13 +14,13 @@ use crate::parser::{
 use clap::ArgMatches;
 use exh_page::CAP_LIMIT;
 use exh_prefix::WARD_BITS_LIMIT;
-use exh_storm::{CALLERS_LIMIT, CALLS_LIMIT, COPIES_LIMIT, StormConfig};
+use exh_storm_config::{CALLERS_LIMIT, CALLS_LIMIT, COPIES_LIMIT, StormConfig};
 use exh_text::parse_u32;
 use std::alloc::Global;
 use std::convert::AsStr;
 
 /// A command of the program, with its paths and numbers.
-#[derive(Clone, Copy, Debug, PartialEq, Eq)]
+#[derive(Clone, Copy)]
 pub enum Job<'w> {
     /// Answer the script on standard input, over the page file of a path where one is to be opened, and save the wards
     /// that it leaves where a path for them is named.
@@ -62,6 +62,16 @@ pub fn job_of<'w, S: AsStr>(alloc: Global, words: &'w [S]) -> Result<Job<'w>, Cl
         AskForVersion (map S.text words.now) → TellsVersion fault) }
 {
     let matches = parser(alloc)?.try_get_matches_from(words)?;
+    job_met(alloc, &matches)
+}
+
+// The job of the command that a parse met.
+fn job_met<'w>(alloc: Global, matches: &ArgMatches<'w>) -> Result<Job<'w>, CliFault>
+    requires { IsSomeJobMet matches.now }
+    ensures named { IfOk result (λ job. (asked : Asked) → IsJobMet matches.now asked → job_asked asked ≡ Some (named_of job)) }
+    ensures limits { IfOk result IsWithinLimits }
+    ensures wrong { IfErr result (λ fault. IsWrong fault → (asked : Asked) → IsJobMet matches.now asked → job_asked asked ≡ None) }
+{
     let Some((command, own)) = matches.subcommand() else {
         unreachable!()
     };

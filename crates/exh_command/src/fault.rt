@@ -1,7 +1,7 @@
 //! Why a command line gives no job.
 ghost use Rattle.std.specs.Prelude.{◌≡◌};
-ghost use Rattle.exh_cli.specs.Fault.{IsFaultOf};
-ghost use Rattle.exh_cli.specs.declared.fault.CliFault.TheVariants.{Memory};
+ghost use Rattle.exh_command.specs.Fault.{IsFaultOf};
+ghost use Rattle.exh_command.specs.declared.fault.CliFault.TheVariants.{Memory};
 
 use clap::error::ErrorKind;
 use std::alloc::AllocError;

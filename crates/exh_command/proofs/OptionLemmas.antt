@@ -12,10 +12,10 @@ use Rattle.clap.specs.Walk.{Held, Waiting, Walk, after_step, long_or_other, arg_
 use Rattle.clap.specs.Faults.{check_fault, defaults_fault, level_fault, react_fault, repeat_fault, set_fault, settle_fault, step_fault, turn_fault, use_fault, walk_fault}
 use Rattle.clap.specs.declared.parser.matches.ValueSource.TheVariants.{CommandLine}
 use Rattle.clap.proofs.WalkLemmas.{find-map, list_any-map}
-use Rattle.exh_cli.specs.Parser.{option_rule}
+use Rattle.exh_command.specs.Parser.{option_rule}
 use Rattle.clap.proofs.OnLiterals.{clap_on_literals}
-use Rattle.exh_cli.specs.Words.{uses_named, Between, Ended, Reading, Use, Wanting, Wrong, after_option, after_word, ends_options, is_named, is_option, is_use_of, used_by, uses_read, option_given, with_use}
-use Rattle.exh_cli.proofs.WordLemmas.{AsksLong, Fails, IsAsking, IsFlagged, IsPlainWord, IsValue, or_nothing, by_bundle_fails, by_long, by_long_fails, first_fails, flagged, is_end, is_plain_word, is_value, long_fails, second_fails, word_fails}
+use Rattle.exh_command.specs.Words.{uses_named, Between, Ended, Reading, Use, Wanting, Wrong, after_option, after_word, ends_options, is_named, is_option, is_use_of, used_by, uses_read, option_given, with_use}
+use Rattle.exh_command.proofs.WordLemmas.{AsksLong, Fails, IsAsking, IsFlagged, IsPlainWord, IsValue, or_nothing, by_bundle_fails, by_long, by_long_fails, first_fails, flagged, is_end, is_plain_word, is_value, long_fails, second_fails, word_fails}
 
 -- ---- an option, as it is when its command is built, and what is held of its use
 

@@ -1,0 +1,4 @@
+pub mod WordLemmas
+pub mod OptionLemmas
+pub mod OptionFlags
+pub mod ParserLemmas

@@ -1,0 +1,51 @@
+use Rattle.std.proofs.Common.{inl, inr, ◌∙◌}
+use Rattle.std.proofs.lemmas.Result.{IfErr-weaker, IfOk-weaker}
+use Rattle.exh_command.proofs.ParserLemmas.{checks, dumps, is_command, job_is, loads, no_options, own_is, own_of, path_given, serves, some_met, storms}
+use Rattle.exh_command.proofs.job.job_met.Goals as goal
+
+pub unreachable-requires : goal.unreachable-requires
+unreachable-requires c = some_met c.args.matches.now c.requires.0 c.in_default.ensures.name c.requires.1
+
+pub returns-in-serve-clause-named : goal.returns-in-serve-clause-named
+returns-in-serve-clause-named c = λ asked met.
+    job_is asked _ (serves asked c.in-Some.own.now _ _ (own_of c.args.matches.now c.in-Some.command.now c.in-Some.own.now _ c.in-Some.ensures.name c.in-Some.ensures.rows c.in-serve.is asked met) c.get_str.ensures c.get_str-in-serve.ensures)
+
+pub path_in-requires : goal.path_in-requires
+path_in-requires c =
+    let own = own_is c.args.matches.now c.in-Some.command.now c.in-Some.own.now c.requires.0 c.in-Some.ensures.name c.in-Some.ensures.rows c.requires.1 in
+    path_given c.requires.0 c.in-Some.command.now c.in-Some.own.now own (no_options c.in-Some.command.now (inl c.in-check.is))
+
+pub returns-in-check-clause-named : goal.returns-in-check-clause-named
+returns-in-check-clause-named c = λ asked met.
+    job_is asked _ (checks asked c.in-Some.own.now (own_of c.args.matches.now c.in-Some.command.now c.in-Some.own.now _ c.in-Some.ensures.name c.in-Some.ensures.rows c.in-check.is asked met) _ c.path_in.ensures)
+
+pub path_in-requires-in-dump : goal.path_in-requires-in-dump
+path_in-requires-in-dump c =
+    let own = own_is c.args.matches.now c.in-Some.command.now c.in-Some.own.now c.requires.0 c.in-Some.ensures.name c.in-Some.ensures.rows c.requires.1 in
+    path_given c.requires.0 c.in-Some.command.now c.in-Some.own.now own (no_options c.in-Some.command.now (inr (inl c.in-dump.is)))
+
+pub returns-in-dump-clause-named : goal.returns-in-dump-clause-named
+returns-in-dump-clause-named c = λ asked met.
+    job_is asked _ (dumps asked c.in-Some.own.now (own_of c.args.matches.now c.in-Some.command.now c.in-Some.own.now _ c.in-Some.ensures.name c.in-Some.ensures.rows c.in-dump.is asked met) _ c.path_in-in-dump.ensures)
+
+pub path_in-requires-in-load : goal.path_in-requires-in-load
+path_in-requires-in-load c =
+    let own = own_is c.args.matches.now c.in-Some.command.now c.in-Some.own.now c.requires.0 c.in-Some.ensures.name c.in-Some.ensures.rows c.requires.1 in
+    path_given c.requires.0 c.in-Some.command.now c.in-Some.own.now own (no_options c.in-Some.command.now (inr (inr c.in-load.is)))
+
+pub returns-in-load-clause-named : goal.returns-in-load-clause-named
+returns-in-load-clause-named c = λ asked met.
+    job_is asked _ (loads asked c.in-Some.own.now (own_of c.args.matches.now c.in-Some.command.now c.in-Some.own.now _ c.in-Some.ensures.name c.in-Some.ensures.rows c.in-load.is asked met) _ c.path_in-in-load.ensures)
+
+pub returns-in-storm-clause-named : goal.returns-in-storm-clause-named
+returns-in-storm-clause-named c =
+    IfOk-weaker c.storm_job.result _ _ (λ job is asked met. job_is asked _ (storms asked c.in-Some.own.now (own_of c.args.matches.now c.in-Some.command.now c.in-Some.own.now _ c.in-Some.ensures.name c.in-Some.ensures.rows c.in-storm.is asked met)) ∙ is) c.storm_job.ensures.named
+
+pub returns-in-storm-clause-wrong : goal.returns-in-storm-clause-wrong
+returns-in-storm-clause-wrong c =
+    IfErr-weaker c.storm_job.result _ _ (λ fault none wrong asked met. job_is asked _ (storms asked c.in-Some.own.now (own_of c.args.matches.now c.in-Some.command.now c.in-Some.own.now _ c.in-Some.ensures.name c.in-Some.ensures.rows c.in-storm.is asked met)) ∙ none wrong) c.storm_job.ensures.wrong
+
+pub unreachable-requires-in_default-command : goal.unreachable-requires-in_default-command
+unreachable-requires-in_default-command c =
+    let own = own_is c.args.matches.now c.in-Some.command.now c.in-Some.own.now c.requires.0 c.in-Some.ensures.name c.in-Some.ensures.rows c.requires.1 in
+    is_command c.requires.0 c.in-Some.command.now c.in-Some.own.now own c.in_default-command.not-serve c.in_default-command.not-check c.in_default-command.not-dump c.in_default-command.not-load c.in_default-command.not-storm

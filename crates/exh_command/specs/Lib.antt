@@ -1,0 +1,5 @@
+pub mod Fault
+pub mod Words
+pub mod Job
+pub mod Parser
+pub mod Program

@@ -1,0 +1,10 @@
+//! The command line of the program `exhash`: its words, the help, and the job that words name.
+#![tactic(auto)]
+
+pub use fault::CliFault;
+pub use job::{Job, job_of};
+pub use parser::not_text;
+
+mod fault;
+mod job;
+mod parser;
