@@ -5,7 +5,7 @@
 //! prints the same where memory is refused once, wherever that is.
 #![tactic(auto)]
 
-ghost use Rattle.std.specs.Prelude.{◌≡◌, ⊤};
+ghost use Rattle.std.specs.Prelude.{◌≡◌};
 ghost use Rattle.exh_keyer.specs.Pseudokey.{plain_pseudokey};
 ghost use Rattle.exh_live.specs.declared.ledgers.TheConstants.{ANSWER_PARTS, ENTRY_PARTS};
 
@@ -20,7 +20,7 @@ use crate::one_ward::OneWard;
 use exh_callers::{Reader, Writer};
 use exh_copy::{NewCopyFault, new_copy};
 use exh_live::{ANSWER_PARTS, ENTRY_PARTS, Identity};
-use exh_runs::{Difference, Named, Part, Run, RunKind, again, run_program};
+use exh_runs::{Difference, Job, Named, Part, Run, Status, Tally, again, has_told_difference};
 use exh_table::Table;
 use std::alloc::AllocError;
 use std::marker::Brand;
@@ -55,7 +55,7 @@ const STORIES: [Story; 9] = [
     Story::Callers,
 ];
 
-impl Story {
+impl Named for Story {
     fn name(self) -> &'static str {
         match self {
             Story::OneWard(OneWard::ToldCopy) => "told-copy",
@@ -68,36 +68,6 @@ impl Story {
             Story::Closing => "closing",
             Story::Callers => "callers",
         }
-    }
-}
-
-/// A story, with the handle of a program that may wait.
-struct Told<'a, R: Threads + Wait + Sync> {
-    rt: &'a R,
-    story: Story,
-}
-
-impl<R: Threads + Wait + Sync> Clone for Told<'_, R> {
-    ghost is_clone = { λ x y. y ≡ x };
-
-    ghost is_infallible = { λ _. ⊤ };
-
-    fn clone(&self) -> Result<Self, AllocError> {
-        Ok(*self)
-    }
-}
-
-impl<R: Threads + Wait + Sync> Copy for Told<'_, R> {}
-
-impl<R: Threads + Wait + Sync> Named for Told<'_, R> {
-    fn name(self) -> &'static str {
-        self.story.name()
-    }
-}
-
-impl<R: Threads + Wait + Sync> RunKind for Told<'_, R> {
-    fn take_steps(self, run: &mut Run) -> Result<(), Difference> {
-        again!(Err(Difference::Memory(_)) => with_copy(self.rt, self.story, run))
     }
 }
 
@@ -146,7 +116,26 @@ fn play<R: Threads + Wait + Sync, F: Identity + Sync + Send>(
     }
 }
 
+// Plays a story, once more where memory was refused before its first step.
+fn play_counted<R: Threads + Wait + AllocGlobal + Sync>(
+    rt: &R,
+    story: Story,
+    job: &Job<'_, Story>,
+) -> Tally {
+    let mut run = job.new_run(rt.alloc());
+    let outcome = again!(Err(Difference::Memory(_)) => with_copy(rt, story, &mut run));
+    run.tally.check(outcome);
+    run.tally
+}
+
 fn main(rt: HostRuntime) -> ExitCode {
-    let told = STORIES.map(|story| Told { rt: &rt, story });
-    run_program(&rt, "beside_live", &told)
+    let Some(job) = Job::asked(&rt, "beside_live", &STORIES) else {
+        return Status::WrongWords.code();
+    };
+    let mut has_differed = false;
+    for story in job.kinds {
+        let tally = play_counted(&rt, *story, &job);
+        has_differed |= has_told_difference(&rt, story.name(), &tally);
+    }
+    Status::of_runs(has_differed).code()
 }
