@@ -1,12 +1,13 @@
 //! A world that is taken apart, and made anew of its wards, twice; and its events at once. What comes of
 //! them is beside what was worked out by hand.
 
-ghost use Rattle.std.specs.Prelude.{IfOk};
+ghost use Rattle.std.specs.Prelude.{◌≡◌, IfOk, OnOk};
 ghost use Rattle.exh_keyer.specs.Pseudokey.{any_pseudokey};
+ghost use Rattle.exh_keyer.specs.declared.any_keyer.AnyKeyer.TheVariants.{Plain};
 ghost use Rattle.exh_world.specs.Sound.{IsSoundWorld};
 ghost use Rattle.beside_lines.specs.Anew.{AreItsWards, HasSettings};
 
-use crate::answers::{Line, PlainScript, answer_all};
+use crate::answers::{Line, PlainScript, ROOM, answer};
 use crate::lives::{FIRST, GONE, SECOND, THIRD, journal, notices};
 use exh_calls::JournalEntry;
 use exh_fixtures::Asked;
@@ -40,7 +41,9 @@ pub(crate) fn run(run: &mut Run) -> Result<(), Difference> {
 
 // A file of one ward, of pages of two records.
 fn settings(copies: u32) -> Config<AnyKeyer>
-    ensures { result ≡ record { cap = 2; ward_bits = 0; copies = copies; keyer = AnyKeyer.Plain } }
+    ensures cap { result.cap ≡ 2 }
+    ensures bits { result.ward_bits ≡ 0 }
+    ensures keyer { result.keyer ≡ Plain }
 {
     Config {
         cap: 2,
@@ -51,7 +54,8 @@ fn settings(copies: u32) -> Config<AnyKeyer>
 }
 
 fn new_script(alloc: Global) -> Result<PlainScript, AllocError>
-    ensures { IfOk result (λ script. IsSoundWorld any_pseudokey script.world × HasSettings script.world) }
+    ensures sound { IfOk result (λ script. IsSoundWorld any_pseudokey script.world) }
+    ensures settings { IfOk result (λ script. HasSettings script.world) }
 {
     Ok(Script {
         world: World::new(alloc, &settings(2))?,
@@ -68,6 +72,7 @@ fn first_life(run: &mut Run) -> Result<Vec<PlainWard>, AllocError>
 }
 
 // The life of a world that is made of wards.
+#[tactic(auto, using(crate::proofs::Settings::wards_taken))]
 fn next_life(
     run: &mut Run,
     wards: Vec<PlainWard>,
@@ -84,6 +89,7 @@ fn next_life(
 }
 
 // The wards that a script leaves.
+#[tactic(auto, using(crate::proofs::Settings::wards_given))]
 fn live(
     run: &mut Run,
     script: PlainScript,
@@ -95,10 +101,24 @@ fn live(
 {
     let mut script = script;
     let [first, second] = lists;
-    answer_all(run, &mut script, first)?;
-    answer_all(run, &mut script, second)?;
+    take_lines(run, &mut script, first)?;
+    take_lines(run, &mut script, second)?;
     let Script { world, .. } = script;
     Ok(world.into_wards())
+}
+
+// Answers lines, which keep the settings.
+fn take_lines(run: &mut Run, script: &mut PlainScript, lines: &[Line]) -> Result<(), AllocError>
+    requires sound { IsSoundWorld any_pseudokey script.old.world }
+    requires settings { HasSettings script.old.world }
+    ensures sound { OnOk result (IsSoundWorld any_pseudokey script.new.world) }
+    ensures settings { OnOk result (HasSettings script.new.world) }
+{
+    let mut text = Vec::with_capacity(run.alloc, ROOM)?;
+    'lines: for line in lines {
+        answer(run, script, &mut text, line)?;
+    }
+    Ok(())
 }
 
 // The one ward of a world that was taken apart has these notices and this journal.

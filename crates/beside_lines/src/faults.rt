@@ -5,6 +5,7 @@ ghost use Rattle.std.specs.Prelude.{IfOk};
 ghost use Rattle.exh_keyer.specs.Pseudokey.{any_pseudokey};
 ghost use Rattle.exh_world.specs.Sound.{IsSoundWorld};
 
+use crate::answers::ROOM;
 use crate::steps::{STEP_COUNT, STEPS, Step};
 use exh_fixtures::{are_same, first_store, refused};
 use exh_frames::FailingPages;
@@ -21,9 +22,6 @@ type FailingWard = Ward<FailingPages, AnyKeyer>;
 
 // More accesses than the steps make.
 const MOST: u64 = 1000;
-
-// More bytes than a line prints.
-const ROOM: usize = 200;
 
 const CONFIG: Config<AnyKeyer> = Config {
     cap: 2,

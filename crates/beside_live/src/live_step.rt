@@ -1,5 +1,6 @@
 //! Steps of a live file of one ward, each with what it comes to.
-ghost use Rattle.std.specs.Prelude.{◌≡◌, ◌^◌, length, IfOk};
+ghost use Rattle.std.specs.Prelude.{◌≡◌, ◌^◌, ◌≤◌, length, IfOk};
+ghost use Rattle.exh_prefix.specs.declared.prefix.TheConstants.{WARD_BITS_LIMIT};
 
 use exh_callers::{Caller, PlainFile, Reader, Writer, is_carried, is_held, is_kept, is_told};
 use exh_fixtures::{Asked, Said, prefix, split, told_reply};
@@ -48,14 +49,30 @@ pub(crate) fn take_steps<R: Wait, F: Identity>(
 ) -> Result<(), Difference>
     requires { file.now.ward_bits ≡ 0 }
 {
-    let mut cursors = first_places(run.alloc, start)?;
-    for list in lists {
-        for step in list {
-            let outcome = take(rt, run, file, caller, writer, &mut cursors, step);
-            run.tally.step(outcome);
-        }
-    }
+    let mut cursors = first_places(run.alloc, 0, start)?;
+    let [first, second] = lists;
+    take_list(rt, run, file, caller, writer, &mut cursors, first);
+    take_list(rt, run, file, caller, writer, &mut cursors, second);
     Ok(())
+}
+
+fn take_list<R: Wait, F: Identity>(
+    rt: &R,
+    run: &mut Run,
+    file: &PlainFile<F>,
+    caller: &mut Caller<F>,
+    writer: &mut Writer,
+    cursors: &mut Cursors,
+    list: &[LiveStep],
+)
+    requires bits { file.now.ward_bits ≡ 0 }
+    requires places { length cursors.old ≡ 2 ^ file.now.ward_bits }
+    ensures { length cursors.new ≡ 2 ^ file.now.ward_bits }
+{
+    'steps: for step in list {
+        let outcome = take(rt, run, file, caller, writer, cursors, step);
+        run.tally.step(outcome);
+    }
 }
 
 fn take<R: Wait, F: Identity>(
@@ -68,7 +85,7 @@ fn take<R: Wait, F: Identity>(
     step: &LiveStep,
 ) -> Result<(), Difference>
     requires bits { file.now.ward_bits ≡ 0 }
-    requires places { length cursors.old ≡ 1 }
+    requires places { length cursors.old ≡ 2 ^ file.now.ward_bits }
     ensures { length cursors.new ≡ length cursors.old }
 {
     match step {
@@ -87,21 +104,25 @@ fn take<R: Wait, F: Identity>(
         LiveStep::Kept(merges) => is_kept(rt, file, 0, *merges),
         LiveStep::Carried(notices) => is_carried(rt, file, writer, cursors, *notices),
         LiveStep::Stale(notices) => {
-            let mut others = first_places(run.alloc, &Table::new(run.alloc))?;
+            let mut others = first_places(run.alloc, 0, &Table::new(run.alloc))?;
             is_carried(rt, file, writer, &mut others, *notices)
         }
         LiveStep::Named(key, page) => is_named(writer, &mut caller.copy, key, *page),
     }
 }
 
-// The place of a courier to a copy that begins with a table.
-fn first_places(alloc: Global, table: &Table) -> Result<Cursors, Difference>
-    ensures { IfOk result (λ cursors. length cursors ≡ 1) }
+// The places of a courier to a copy that begins with a table.
+fn first_places(alloc: Global, ward_bits: u8, table: &Table) -> Result<Cursors, Difference>
+    requires { ward_bits ≤ WARD_BITS_LIMIT }
+    ensures { IfOk result (λ cursors. length cursors ≡ 2 ^ ward_bits) }
 {
     if table.entries().len() >= MANY {
         return Err(Difference::Apart(Part::Run));
     }
-    Ok(again!(Err(AllocError) => Cursors::new(alloc, 0, table))?)
+    match again!(Err(AllocError) => Cursors::new(alloc, ward_bits, table)) {
+        Ok(cursors) => Ok(cursors),
+        Err(error) => Err(Difference::Memory(error)),
+    }
 }
 
 // Tells the copy of a split.
