@@ -24,7 +24,7 @@
 # at least 2 times; one caller over 1 ward takes at most 1.7 times the time of a ward by itself; and callers over 4
 # wards are ahead of LMDB and gdbm at each number of callers.
 #
-# By `callers` the program beside_callers plays its story of that name: the file is settled each time, all answers are
+# By `callers` the program beside_live plays its story of that name: the file is settled each time, all answers are
 # there, and each reply is the map machine's, told the calls in the journals' order, of which the last ones get each key.
 #
 # Status: 0 where all that is met, 1 where something isn't, 2 where nothing could be measured.
@@ -57,9 +57,9 @@ build() {
 # Plays the story of many callers $1 times.
 play() {
     local time failed=0
-    build beside_callers
+    build beside_live
     for ((time = 1; time <= $1; time++)); do
-        "$root/crates/beside_callers/out/beside_callers" "$time" 10000 callers > "$folder/said" 2>&1 || {
+        "$root/crates/beside_live/out/beside_live" "$time" 10000 callers > "$folder/said" 2>&1 || {
             failed=$((failed + 1))
             echo "FALLS SHORT: time $time: $(tr '\n' ' ' < "$folder/said")"
         }

@@ -5,59 +5,57 @@
 //! prints the same where memory is refused once, wherever that is.
 #![tactic(auto)]
 
-ghost use Rattle.std.specs.Prelude.{◌≡◌, ⊤};
+ghost use Rattle.std.specs.Prelude.{◌≡◌};
+ghost use Rattle.exh_keyer.specs.Pseudokey.{plain_pseudokey};
+ghost use Rattle.exh_live.specs.declared.ledgers.TheConstants.{ANSWER_PARTS, ENTRY_PARTS};
 
-mod carried;
+mod callers;
 mod closing;
-mod courier;
-mod half;
-mod keeper;
+mod lists;
+mod live_step;
 mod one_ward;
-mod opened;
-mod opened_courier;
-mod opened_ward;
-mod replies;
-mod three_keys;
-mod told_copy;
-mod worn_keeper;
 
+use crate::callers::CALLERS;
 use crate::one_ward::OneWard;
-use crate::opened_ward::OpenedWard;
 use exh_callers::{Reader, Writer};
 use exh_copy::{NewCopyFault, new_copy};
-use exh_runs::{Difference, Named, Part, Run, RunKind, again, run_program};
+use exh_live::{ANSWER_PARTS, ENTRY_PARTS, Identity};
+use exh_runs::{Difference, Job, Named, Part, Run, Status, Tally, again, has_told_difference};
 use exh_table::Table;
 use std::alloc::AllocError;
 use std::marker::Brand;
 use std::process::ExitCode;
 use std::sync::Wait;
+use std::sync::ledger::Blank;
+use std::thread::Threads;
 
 // How many readers of the copy a story may have.
-const READERS: u16 = 4;
+const READERS: u16 = CALLERS + 1;
 
 #[derive(Clone, Copy)]
 enum Story {
-    /// Of a new file of one ward.
+    /// Of a file of one ward.
     OneWard(OneWard),
     /// Closing, and settling.
     Closing,
-    /// Of an opened file of one ward.
-    OpenedWard(OpenedWard),
+    /// Many callers on threads of their own.
+    Callers,
 }
 
 // All of them, in the order in which they are played.
-const STORIES: [Story; 8] = [
+const STORIES: [Story; 9] = [
     Story::OneWard(OneWard::ToldCopy),
     Story::Closing,
     Story::OneWard(OneWard::Courier),
     Story::OneWard(OneWard::Keeper),
     Story::OneWard(OneWard::EvenHalf),
     Story::OneWard(OneWard::OddHalf),
-    Story::OpenedWard(OpenedWard::OpenedCourier),
-    Story::OpenedWard(OpenedWard::WornKeeper),
+    Story::OneWard(OneWard::OpenedCourier),
+    Story::OneWard(OneWard::WornKeeper),
+    Story::Callers,
 ];
 
-impl Story {
+impl Named for Story {
     fn name(self) -> &'static str {
         match self {
             Story::OneWard(OneWard::ToldCopy) => "told-copy",
@@ -65,48 +63,25 @@ impl Story {
             Story::OneWard(OneWard::Keeper) => "keeper",
             Story::OneWard(OneWard::EvenHalf) => "even-half",
             Story::OneWard(OneWard::OddHalf) => "odd-half",
+            Story::OneWard(OneWard::OpenedCourier) => "opened-courier",
+            Story::OneWard(OneWard::WornKeeper) => "worn-keeper",
             Story::Closing => "closing",
-            Story::OpenedWard(OpenedWard::OpenedCourier) => "opened-courier",
-            Story::OpenedWard(OpenedWard::WornKeeper) => "worn-keeper",
+            Story::Callers => "callers",
         }
     }
 }
 
-/// A story, with the handle of a program that may wait.
-struct Told<'a, R: Wait> {
-    rt: &'a R,
-    story: Story,
-}
-
-impl<R: Wait> Clone for Told<'_, R> {
-    ghost is_clone = { λ x y. y ≡ x };
-
-    ghost is_infallible = { λ _. ⊤ };
-
-    fn clone(&self) -> Result<Self, AllocError> {
-        Ok(*self)
-    }
-}
-
-impl<R: Wait> Copy for Told<'_, R> {}
-
-impl<R: Wait> Named for Told<'_, R> {
-    fn name(self) -> &'static str {
-        self.story.name()
-    }
-}
-
-impl<R: Wait> RunKind for Told<'_, R> {
-    fn take_steps(self, run: &mut Run) -> Result<(), Difference> {
-        again!(Err(Difference::Memory(_)) => with_copy(self.rt, self.story, run))
-    }
-}
-
 // Plays a story with a new copy of the directory.
-fn with_copy<R: Wait>(rt: &R, story: Story, run: &mut Run) -> Result<(), Difference> {
+fn with_copy<R: Threads + Wait + Sync>(
+    rt: &R,
+    story: Story,
+    run: &mut Run,
+) -> Result<(), Difference> {
     match new_copy::<Brand>(run.alloc, 0, &Table::new(run.alloc), READERS) {
         Ok((mut writer, readers)) => {
-            let outcome = play(rt, story, run, &mut writer, readers);
+            let answers = Blank::new(ANSWER_PARTS);
+            let entries = Blank::new(ENTRY_PARTS);
+            let outcome = play::<R, Brand>(rt, story, run, &mut writer, readers, answers, entries);
             drop(writer.close(rt));
             outcome
         }
@@ -118,22 +93,49 @@ fn with_copy<R: Wait>(rt: &R, story: Story, run: &mut Run) -> Result<(), Differe
     }
 }
 
-fn play<R: Wait>(
+fn play<R: Threads + Wait + Sync, F: Identity + Sync + Send>(
     rt: &R,
     story: Story,
     run: &mut Run,
     writer: &mut Writer,
     readers: Vec<Reader>,
-) -> Result<(), Difference> {
+    answers: Blank,
+    entries: Blank,
+) -> Result<(), Difference>
+    requires answers { (answers.name ≡ F.answers) × (answers.parts ≡ ANSWER_PARTS) }
+    requires entries { (entries.name ≡ F.entries) × (entries.parts ≡ ENTRY_PARTS) }
+    requires hashed { F.hashing ≡ plain_pseudokey }
+{
     let mut copies = readers;
     match story {
-        Story::OneWard(story) => one_ward::run(rt, run, story, writer, &mut copies),
+        Story::OneWard(story) => {
+            one_ward::run::<R, F>(rt, run, story, writer, &mut copies, answers, entries)
+        }
         Story::Closing => closing::run(rt, run, &mut copies),
-        Story::OpenedWard(story) => opened_ward::run(rt, run, story, writer, &mut copies),
+        Story::Callers => callers::run::<R, F>(rt, run, &mut copies, answers, entries),
     }
 }
 
+// Plays a story, once more where memory was refused before its first step.
+fn play_counted<R: Threads + Wait + AllocGlobal + Sync>(
+    rt: &R,
+    story: Story,
+    job: &Job<'_, Story>,
+) -> Tally {
+    let mut run = job.new_run(rt.alloc());
+    let outcome = again!(Err(Difference::Memory(_)) => with_copy(rt, story, &mut run));
+    run.tally.check(outcome);
+    run.tally
+}
+
 fn main(rt: HostRuntime) -> ExitCode {
-    let told = STORIES.map(|story| Told { rt: &rt, story });
-    run_program(&rt, "beside_live", &told)
+    let Some(job) = Job::asked(&rt, "beside_live", &STORIES) else {
+        return Status::WrongWords.code();
+    };
+    let mut has_differed = false;
+    for story in job.kinds {
+        let tally = play_counted(&rt, *story, &job);
+        has_differed |= has_told_difference(&rt, story.name(), &tally);
+    }
+    Status::of_runs(has_differed).code()
 }

@@ -7,6 +7,7 @@ pub use new_ward::first_store;
 pub use notices::{merge, prefix, split};
 pub use opened::opened_ward;
 pub use replies::told_reply;
+pub use said::Said;
 pub use same_pages::are_same;
 pub use ward_calls::{hop, hop_of, merge_page, page, refused, split_page};
 
@@ -15,5 +16,6 @@ mod new_ward;
 mod notices;
 mod opened;
 mod replies;
+mod said;
 mod same_pages;
 mod ward_calls;

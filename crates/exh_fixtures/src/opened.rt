@@ -6,7 +6,7 @@ ghost use Rattle.exh_prefix.specs.Leading.{ward_prefix};
 ghost use Rattle.exh_fixtures.specs.OpenedWard.{entry_of_split, halves};
 
 use exh_frames::{Pages, PlainPages};
-use exh_keyer::PlainKeyer;
+use exh_keyer::Keyer;
 use exh_legal::{fitting_tables_begin_wards, lone_pages_are_legal, splits_keep_legal};
 use exh_notice::{Entry, Kind};
 use exh_page::{Page, Records};
@@ -16,38 +16,42 @@ use exh_table::Table;
 use exh_ward::{Ward, WardFault, first_page};
 use std::alloc::Global;
 
-/// Ward `number` of a file of 2^`ward_bits` wards, of pages of two records and of keyer plain, as of a
+/// Ward `number` of a file of 2^`ward_bits` wards, of pages of two records, as of a
 /// file that was written: it has two empty pages, and its start table says that page 0 was split, which
 /// was change `changes` at the ward's prefix, an odd number. `WardFault::Memory` where memory for
 /// it was refused twice.
-pub fn opened_ward(
+pub fn opened_ward<K: Keyer>(
     alloc: Global,
+    keyer: K,
     ward_bits: u8,
     number: u8,
     changes: u32,
-) -> Result<Ward<PlainPages, PlainKeyer>, WardFault>
+) -> Result<Ward<PlainPages, K>, WardFault>
     requires bits { ward_bits ≤ WARD_BITS_LIMIT }
     requires number { number < 2 ^ ward_bits }
     requires odd { changes % 2 ≡ 1 }
     ensures cap { IfOk result (λ ward. ward.cap ≡ 2) }
     ensures bits { IfOk result (λ ward. ward.ward_bits ≡ ward_bits) }
     ensures number { IfOk result (λ ward. ward.number ≡ number) }
+    ensures keyer { IfOk result (λ ward. ward.keyer ≡ keyer) }
 {
-    again!(Err(WardFault::Memory) => opened_once(alloc, ward_bits, number, changes))
+    again!(Err(WardFault::Memory) => opened_once(alloc, keyer, ward_bits, number, changes))
 }
 
-fn opened_once(
+fn opened_once<K: Keyer>(
     alloc: Global,
+    keyer: K,
     ward_bits: u8,
     number: u8,
     changes: u32,
-) -> Result<Ward<PlainPages, PlainKeyer>, WardFault>
+) -> Result<Ward<PlainPages, K>, WardFault>
     requires bits { ward_bits ≤ WARD_BITS_LIMIT }
     requires number { number < 2 ^ ward_bits }
     requires odd { changes % 2 ≡ 1 }
     ensures cap { IfOk result (λ ward. ward.cap ≡ 2) }
     ensures bits { IfOk result (λ ward. ward.ward_bits ≡ ward_bits) }
     ensures number { IfOk result (λ ward. ward.number ≡ number) }
+    ensures keyer { IfOk result (λ ward. ward.keyer ≡ keyer) }
 {
     lone_pages_are_legal();
     splits_keep_legal();
@@ -56,7 +60,7 @@ fn opened_once(
     let store = two_pages(alloc, own)?;
     let mut table = Table::new(alloc);
     table.put_greater(own, last_entry(changes))?;
-    Ward::from_pages(alloc, 2, ward_bits, number, store, table, PlainKeyer)
+    Ward::from_pages(alloc, 2, ward_bits, number, store, table, keyer)
 }
 
 // The prefix of a ward.

@@ -1,4 +1,2 @@
 pub mod MachineState
 pub mod Pairs
-pub mod Greatest
-pub mod LeafSet

@@ -3,7 +3,7 @@
 use crate::{Dice, Lie, Tally};
 use std::alloc::Global;
 
-/// The rounds of a run with no words. As many are enough for all that may come up in a run.
+/// The rounds of a run with no words.
 pub(crate) const USUAL_ROUNDS: u32 = 1200;
 
 /// What a run carries along: the memory that it takes, its dice, how long it is, the wrong answer
@@ -27,10 +27,5 @@ impl Run {
             lie: Lie::new(is_wrong),
             tally: Tally::new(),
         }
-    }
-
-    /// Whether it is so long that all must have come up in it that may.
-    pub fn is_long(&self) -> bool {
-        self.rounds >= USUAL_ROUNDS
     }
 }

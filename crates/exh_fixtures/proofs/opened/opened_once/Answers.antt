@@ -12,10 +12,10 @@ use Rattle.exh_fixtures.proofs.OpenedWard.{opened_legal, told}
 use Rattle.exh_fixtures.proofs.opened.opened_once.Goals as goal
 
 pub two_pages-requires : goal.two_pages-requires
-two_pages-requires c = omega (arith, c.requires.bits, length-bits_of c.args.ward_bits c.args.number, ap length c.own_prefix-own.ensures)
+two_pages-requires g c = omega (arith, c.requires.bits, length-bits_of c.args.ward_bits c.args.number, ap length c.own_prefix-own.ensures)
 
 pub from_pages-requires-clause-legal : goal.from_pages-requires-clause-legal
-from_pages-requires-clause-legal c =
+from_pages-requires-clause-legal g c =
     let own = ward_prefix c.args.ward_bits c.args.number in
     let short : length own < LIMIT = omega (arith, c.requires.bits, length-bits_of c.args.ward_bits c.args.number) in
     let legal = opened_legal _ c.lone_pages_are_legal.ensures c.splits_keep_legal.ensures c.fitting_tables_begin_wards.ensures own short c.args.changes c.requires.odd 2 in
@@ -23,4 +23,4 @@ from_pages-requires-clause-legal c =
     c.in_ok-put_greater.ensures.ok ∙ ap (λ (table : TableMap). raised table c.own_prefix-own.result c.last_entry.result) c.new-table.ensures
     ∙ ap (λ (prefix : List Bool). raised fin.empty prefix c.last_entry.result) c.own_prefix-own.ensures ∙ ap (λ (entry : Entry). raised fin.empty own entry) c.last_entry.ensures in
     let pages_are : c.in_ok-store.store ≡ halves own = c.in_ok-store.ensures ∙ ap halves c.own_prefix-own.ensures in
-    subst (λ (table : TableMap). IsWard 2 _ own table [] table c.in_ok-store.store) (sym table_is) (subst (λ (pages : List Page). IsWard 2 _ own (told own c.args.changes) [] (told own c.args.changes) pages) (sym pages_are) legal)
+    subst (λ (table : TableMap). IsWard 2 (g.K.Keyer.pseudokey_of c.args.keyer) own table [] table c.in_ok-store.store) (sym table_is) (subst (λ (pages : List Page). IsWard 2 (g.K.Keyer.pseudokey_of c.args.keyer) own (told own c.args.changes) [] (told own c.args.changes) pages) (sym pages_are) legal)

@@ -1,0 +1,6 @@
+use Rattle.std.specs.Prelude.{◌≡◌, ◌^◌, length}
+use Rattle.beside_live.proofs.live_step.take_list.Given as goal
+
+-- the courier has as many places as before
+abbrev pub invariant-steps : goal.invariant-steps
+invariant-steps g l = length l.cursors ≡ 2 ^ l.file.ward_bits

@@ -1,0 +1,55 @@
+//! Takes steps of map machines, directories and wards that no script can ask, beside what was worked out by hand, and
+//! prints for each kind of run how many steps it took, and how many of them differed.
+//!
+//! Each growth that is refused is asked for once more, and a refused step is made once more: so it prints the same where
+//! memory is refused once, wherever that is.
+#![tactic(auto)]
+
+mod joins;
+mod journals;
+mod machines;
+mod plain_ward;
+mod routes;
+
+use exh_runs::{Difference, Named, Run, RunKind, run_program};
+use std::process::ExitCode;
+
+#[derive(Clone, Copy)]
+enum Kind {
+    /// The slow map machine.
+    Machines,
+    /// Directories that no world has.
+    Joins,
+    /// How far pages are from answers.
+    Routes,
+    /// Journals, strays and refusals.
+    Journals,
+}
+
+const KINDS: [Kind; 4] = [Kind::Machines, Kind::Joins, Kind::Routes, Kind::Journals];
+
+impl Named for Kind {
+    fn name(self) -> &'static str {
+        match self {
+            Kind::Machines => "machines",
+            Kind::Joins => "joins",
+            Kind::Routes => "routes",
+            Kind::Journals => "journals",
+        }
+    }
+}
+
+impl RunKind for Kind {
+    fn take_steps(self, run: &mut Run) -> Result<(), Difference> {
+        match self {
+            Kind::Machines => machines::run(run),
+            Kind::Joins => joins::run(run),
+            Kind::Routes => routes::run(run),
+            Kind::Journals => journals::run(run),
+        }
+    }
+}
+
+fn main(rt: HostRuntime) -> ExitCode {
+    run_program(&rt, "beside_rows", &KINDS)
+}

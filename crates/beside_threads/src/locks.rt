@@ -1,0 +1,97 @@
+//! A lock for each ward: a caller is answered in ward 1 while the lock of ward 0 is held.
+ghost use Rattle.std.specs.Prelude.{◌≡◌};
+ghost use Rattle.exh_keyer.specs.Pseudokey.{plain_pseudokey};
+ghost use Rattle.exh_live.specs.declared.ledgers.TheConstants.{ANSWER_PARTS, ENTRY_PARTS};
+
+use crate::conductor::Conductor;
+use crate::watched_pages::{IS_LATE, IS_READ, Look, MAY_GO, WatchedPages, new_ward};
+use exh_callers::{Caller, File, Reader, is_told, next_caller};
+use exh_calls::Reply;
+use exh_fixtures::Asked;
+use exh_keyer::PlainKeyer;
+use exh_live::{ANSWER_PARTS, ENTRY_PARTS, Identity, LiveFile};
+use exh_runs::{Difference, Part, Run, same};
+use exh_walk::OpenGate;
+use std::alloc::{AllocError, Global};
+use std::sync::Wait;
+use std::sync::ledger::Blank;
+use std::thread::{Threads, join};
+use std::time::Clock;
+
+type WaitingFile<'a, R, F> = File<WatchedPages<'a, R>, F>;
+
+/// Runs it.
+pub(crate) fn run<R: Threads + Wait + Clock + Sync, F: Identity + Sync + Send>(
+    rt: &R,
+    run: &mut Run,
+    copies: &mut Vec<Reader>,
+    signs: &Conductor<'_, R>,
+    answers: Blank,
+    entries: Blank,
+) -> Result<(), Difference>
+    requires answers { (answers.name ≡ F.answers) × (answers.parts ≡ ANSWER_PARTS) }
+    requires entries { (entries.name ≡ F.entries) × (entries.parts ≡ ENTRY_PARTS) }
+    requires hashed { F.hashing ≡ plain_pseudokey }
+{
+    let mut file = two_wards::<R, F>(run.alloc, signs, answers, entries)?;
+    let mut first = next_caller(&mut file, copies)?;
+    let mut second = next_caller(&mut file, copies)?;
+    let (waited, told) = join(
+        rt,
+        || put(rt, &file, &mut first, b"\0"),
+        || put_meanwhile(rt, &file, &mut second, signs),
+    );
+    run.tally.step(told);
+    run.tally.step(waited);
+    let is_late = (signs.count(IS_LATE) > 0) != run.lie.is_due();
+    run.tally.step(same(!is_late, Part::Run));
+    Ok(())
+}
+
+fn put<R: Wait + Clock, F: Identity>(
+    rt: &R,
+    file: &WaitingFile<'_, R, F>,
+    caller: &mut Caller<F>,
+    key: &[u8],
+) -> Result<(), Difference> {
+    is_told(
+        rt,
+        file,
+        caller,
+        Asked::Put(key, b"a"),
+        &OpenGate,
+        Reply::New,
+    )
+}
+
+// Puts a key of ward 1 once the other caller reads in ward 0, and lets that one go on then.
+fn put_meanwhile<R: Wait + Clock, F: Identity>(
+    rt: &R,
+    file: &WaitingFile<'_, R, F>,
+    caller: &mut Caller<F>,
+    signs: &Conductor<'_, R>,
+) -> Result<(), Difference> {
+    let is_read = signs.wait_for(IS_READ, 1);
+    let told = put(rt, file, caller, b"\x80");
+    signs.raise(MAY_GO, 1);
+    same(is_read, Part::Run)?;
+    told
+}
+
+// A file of two wards, of which the first one waits at its first reading.
+fn two_wards<'a, R: Clock, F: Identity>(
+    alloc: Global,
+    signs: &'a Conductor<'a, R>,
+    answers: Blank,
+    entries: Blank,
+) -> Result<WaitingFile<'a, R, F>, AllocError>
+    requires answers { (answers.name ≡ F.answers) × (answers.parts ≡ ANSWER_PARTS) }
+    requires entries { (entries.name ≡ F.entries) × (entries.parts ≡ ENTRY_PARTS) }
+    requires hashed { F.hashing ≡ plain_pseudokey }
+{
+    let keyer = PlainKeyer;
+    let mut wards = Vec::new(alloc);
+    wards.push(new_ward(alloc, keyer, signs, Look::Waits, 1, 0)?)?;
+    wards.push(new_ward(alloc, keyer, signs, Look::Nothing, 1, 1)?)?;
+    LiveFile::new(alloc, 1, keyer, wards, answers, entries)
+}

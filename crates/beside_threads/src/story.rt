@@ -1,0 +1,46 @@
+//! The stories.
+
+use crate::storms::Storms;
+use exh_runs::Named;
+
+/// A story.
+#[derive(Clone, Copy)]
+pub(crate) enum Story {
+    /// A caller is held between its look and its first hop.
+    HeldLook,
+    /// A caller waits in one ward, another one is answered in another.
+    Locks,
+    /// A keeper merges pages, a caller fills them again.
+    Refill,
+    /// Of storms.
+    Storms(Storms),
+}
+
+/// All of them, in the order in which they are played.
+pub(crate) const STORIES: [Story; 9] = [
+    Story::HeldLook,
+    Story::Locks,
+    Story::Refill,
+    Story::Storms(Storms::HeldCaller),
+    Story::Storms(Storms::Company),
+    Story::Storms(Storms::Open),
+    Story::Storms(Storms::Closed),
+    Story::Storms(Storms::Small),
+    Story::Storms(Storms::Told),
+];
+
+impl Named for Story {
+    fn name(self) -> &'static str {
+        match self {
+            Story::HeldLook => "held-look",
+            Story::Locks => "locks",
+            Story::Refill => "refill",
+            Story::Storms(Storms::HeldCaller) => "held-caller",
+            Story::Storms(Storms::Company) => "company",
+            Story::Storms(Storms::Open) => "open",
+            Story::Storms(Storms::Closed) => "closed",
+            Story::Storms(Storms::Small) => "small",
+            Story::Storms(Storms::Told) => "told",
+        }
+    }
+}

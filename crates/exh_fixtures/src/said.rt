@@ -1,0 +1,48 @@
+//! Calls by bytes, each with its reply.
+
+use crate::calls::{Asked, value};
+use exh_calls::Reply;
+use exh_runs::Difference;
+
+/// A call, and its reply.
+#[derive(Clone, Copy)]
+pub enum Said<'a> {
+    /// A put of a key that isn't there.
+    New(&'a [u8], &'a [u8]),
+    /// A put of a key that had the last value.
+    Changed(&'a [u8], &'a [u8], &'a [u8]),
+    /// A put of a key that is turned away.
+    Full(&'a [u8], &'a [u8]),
+    /// A get of a key that has this value.
+    Is(&'a [u8], &'a [u8]),
+    /// A get of a key that isn't there.
+    Absent(&'a [u8]),
+    /// A delete of a key that had this value.
+    Was(&'a [u8], &'a [u8]),
+    /// A delete of a key that isn't there.
+    Gone(&'a [u8]),
+}
+
+impl<'a> Said<'a> {
+    /// What is asked.
+    pub fn asked(&self) -> Asked<'a> {
+        match *self {
+            Said::New(key, value) | Said::Changed(key, value, _) | Said::Full(key, value) => {
+                Asked::Put(key, value)
+            }
+            Said::Is(key, _) | Said::Absent(key) => Asked::Get(key),
+            Said::Was(key, _) | Said::Gone(key) => Asked::Del(key),
+        }
+    }
+
+    /// Its reply. A `Difference` where its value is of a wrong size.
+    pub fn reply(&self) -> Result<Reply, Difference> {
+        Ok(match *self {
+            Said::New(..) => Reply::New,
+            Said::Full(..) => Reply::Full,
+            Said::Absent(_) | Said::Gone(_) => Reply::None,
+            Said::Is(_, bytes) => Reply::Is(value(bytes)?),
+            Said::Was(_, bytes) | Said::Changed(_, _, bytes) => Reply::Was(value(bytes)?),
+        })
+    }
+}
