@@ -26,13 +26,14 @@ use std::time::Clock;
 struct LiveCaller<'a, R: Wait, F: Identity> {
     rt: &'a R,
     file: &'a PlainFile<F>,
-    caller: &'a mut Caller<F>,
+    seat: &'a mut Seat<F>,
+    copy: &'a mut Reader,
 }
 
 impl<R: Wait, F: Identity> Asks for LiveCaller<'_, R, F> {
     fn ask(&mut self, call: &Call) -> Result<Reply, AskFault> {
-        let Caller { seat, copy } = self.caller;
-        self.file.ask(self.rt, seat, copy, call, &OpenGate)
+        self.file
+            .ask(self.rt, self.seat, self.copy, call, &OpenGate)
     }
 }
 
@@ -152,9 +153,9 @@ fn run<R: Threads + Wait + Clock + AllocGlobal + Sync, F: Identity + Send + Sync
     requires limit { ward_bits ≤ WARD_BITS_LIMIT }
 {
     let mut readers = readers;
-    let mut filler = next_caller(file, &mut readers)?;
-    fill_all(rt, ward_bits, file, writer, &mut filler)?;
-    seats.push(filler.seat)?;
+    let Caller { mut seat, mut copy } = next_caller(file, &mut readers)?;
+    fill_all(rt, ward_bits, file, writer, &mut seat, &mut copy)?;
+    seats.push(seat)?;
     let mut jobs = Vec::new(rt.alloc());
     for number in 0..load.callers {
         let caller = next_caller(file, &mut readers)?;
@@ -187,37 +188,43 @@ fn collect<F: Identity>(done: Vec<Done<F>>, seats: &mut Vec<Seat<F>>) -> anyhow:
 }
 
 // Puts the records, with a courier's round to the copy after each part.
-fn fill_all<R: Wait + AllocGlobal, F: Identity>(
-    rt: &R,
+fn fill_all<'a, R: Wait + AllocGlobal, F: Identity>(
+    rt: &'a R,
     ward_bits: u8,
-    file: &PlainFile<F>,
+    file: &'a PlainFile<F>,
     writer: &mut Writer,
-    caller: &mut Caller<F>,
+    seat: &mut Seat<F>,
+    copy: &mut Reader,
 ) -> anyhow::Result<()>
     requires bits { file.now.ward_bits ≡ ward_bits }
     requires limit { ward_bits ≤ WARD_BITS_LIMIT }
 {
     let mut cursors = Cursors::new(rt.alloc(), ward_bits, &Table::new(rt.alloc()))?;
     for part in 0..PARTS {
-        fill(&mut LiveCaller { rt, file, caller }, part)?;
+        let mut caller = LiveCaller {
+            rt,
+            file,
+            seat,
+            copy,
+        };
+        fill(&mut caller, part)?;
         file.courier_round(rt, writer, &mut cursors)?;
     }
     Ok(())
 }
 
-fn time_job<R: Wait + Clock, F: Identity>(rt: &R, file: &PlainFile<F>, job: Job<F>) -> Done<F> {
-    let Job { mut caller, share } = job;
-    let times = Times::of_share(
+fn time_job<'a, R: Wait + Clock, F: Identity>(
+    rt: &'a R,
+    file: &'a PlainFile<F>,
+    job: Job<F>,
+) -> Done<F> {
+    let Caller { mut seat, mut copy } = job.caller;
+    let mut caller = LiveCaller {
         rt,
-        &mut LiveCaller {
-            rt,
-            file,
-            caller: &mut caller,
-        },
-        share,
-    );
-    Done {
-        seat: caller.seat,
-        times,
-    }
+        file,
+        seat: &mut seat,
+        copy: &mut copy,
+    };
+    let times = Times::of_share(rt, &mut caller, job.share);
+    Done { seat, times }
 }

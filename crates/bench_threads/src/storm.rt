@@ -138,7 +138,7 @@ fn all_workers<'a, R: Wait, F: Identity>(
 
 // Lets a worker make its rounds.
 fn work<'a, R: Wait, F: Identity>(
-    rt: &'a R,
+    rt: &R,
     field: &Field<'_, F>,
     worker: Worker<'a, R, F>,
 ) -> Result<Done<'a, R, F>, StormFault> {
@@ -150,7 +150,7 @@ fn work<'a, R: Wait, F: Identity>(
 }
 
 fn call<'a, R: Wait, F: Identity>(
-    rt: &'a R,
+    rt: &R,
     field: &Field<'_, F>,
     caller: Caller<F, Brand>,
 ) -> Result<Done<'a, R, F>, StormFault> {
@@ -160,7 +160,7 @@ fn call<'a, R: Wait, F: Identity>(
 }
 
 fn keep<'a, R: Wait, F: Identity>(
-    rt: &'a R,
+    rt: &R,
     field: &Field<'_, F>,
     ward: u8,
 ) -> Result<Done<'a, R, F>, StormFault> {
