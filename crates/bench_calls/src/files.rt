@@ -20,7 +20,7 @@ use std::io::{self, Write};
 use std::time::{CpuClock, Duration};
 
 /// The processor's nanoseconds of what is done with a page file that lies in memory.
-#[derive(Clone, Copy, Debug)]
+#[derive(Clone, Copy)]
 pub(crate) struct FileTimes {
     /// The digests of its blocks, compared with those that they have.
     pub(crate) digests: u128,

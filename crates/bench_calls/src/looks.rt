@@ -14,7 +14,7 @@ use std::thread::{self, Threads, join, map_vec};
 use std::time::{Clock, Duration, Instant};
 
 /// How pages are looked up.
-#[derive(Clone, Copy, Debug)]
+#[derive(Clone, Copy)]
 pub(crate) enum Way {
     /// In the directory itself, on one thread.
     Plain,
@@ -26,7 +26,7 @@ pub(crate) enum Way {
 }
 
 /// What was counted and timed.
-#[derive(Clone, Copy, Debug)]
+#[derive(Clone, Copy)]
 pub(crate) struct Looks {
     /// All looks, or takes, and the nanoseconds of who needed the most.
     pub(crate) count: u64,

@@ -11,7 +11,7 @@ pub(crate) fn value_of(i: u32) -> Result<Value, SizeFault> {
 }
 
 /// The keys of a round: as many as it has records, from key `first` on.
-#[derive(Clone, Copy, Debug)]
+#[derive(Clone, Copy)]
 pub(crate) struct RoundKeys {
     pub(crate) first: u32,
     pub(crate) records: u32,

@@ -7,7 +7,7 @@ use exh_keyer::AnyKeyer;
 use std::time::{Clock, Instant};
 
 /// What rounds over new wards found, and the nanoseconds of each of their parts together.
-#[derive(Clone, Copy, Debug)]
+#[derive(Clone, Copy)]
 pub(crate) struct WardTimes {
     /// How many of the gets found the right value.
     pub(crate) found: u32,

@@ -27,7 +27,7 @@ pub(crate) fn fill<A: Asks>(caller: &mut A, part: u32) -> anyhow::Result<()> {
 }
 
 /// The calls of one caller: so many of all, every so manieth from one on.
-#[derive(Clone, Copy, Debug)]
+#[derive(Clone, Copy)]
 pub(crate) struct Share {
     pub(crate) first: u32,
     pub(crate) step: u32,
@@ -36,7 +36,7 @@ pub(crate) struct Share {
 
 /// What calls came to: how many there were, the nanoseconds of the caller that needed the most, and how
 /// many gets found the right value.
-#[derive(Clone, Copy, Debug)]
+#[derive(Clone, Copy)]
 pub(crate) struct Times {
     pub(crate) calls: u64,
     pub(crate) nanoseconds: u128,

@@ -13,13 +13,13 @@ pub(crate) const RECORDS: u32 = KEYS / 2;
 const FIRST_WORD: u64 = 1 << 32;
 
 /// A call about key number `key`.
-#[derive(Clone, Copy, Debug)]
+#[derive(Clone, Copy)]
 pub(crate) struct Asked {
     key: u32,
     kind: Kind,
 }
 
-#[derive(Clone, Copy, Debug)]
+#[derive(Clone, Copy)]
 enum Kind {
     Get,
     Put,

@@ -59,7 +59,7 @@ impl Kept {
 }
 
 /// How many calls were written down, and the bytes of their keys and values in one journal.
-#[derive(Clone, Copy, Debug)]
+#[derive(Clone, Copy)]
 pub(crate) struct Written {
     pub(crate) calls: u64,
     pub(crate) texts: u64,

@@ -38,7 +38,7 @@ impl<R: Wait, F: Identity> Asks for LiveCaller<'_, R, F> {
 }
 
 /// So many callers, and how many calls each of them makes.
-#[derive(Clone, Copy, Debug)]
+#[derive(Clone, Copy)]
 pub(crate) struct Load {
     pub(crate) callers: u16,
     pub(crate) calls: u32,

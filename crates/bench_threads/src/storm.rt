@@ -25,7 +25,7 @@ use std::thread::{Threads, map_vec};
 
 /// What a storm came to: how many calls were answered and settled, the turns of all callers, the splits
 /// that were made, and the bytes of keys and values in the journals.
-#[derive(Clone, Copy, Debug)]
+#[derive(Clone, Copy)]
 pub(crate) struct Measured {
     pub(crate) calls: u128,
     pub(crate) turns: u64,
@@ -175,15 +175,15 @@ fn carry<'a, R: Wait, F: Identity>(
     courier: Courier<'a, R, Brand>,
 ) -> Result<Done<'a, R, F>, StormFault> {
     let mut courier = courier;
-    let outcome = courier.run(
+    courier.run(
         field.alloc,
         field.file,
         field.ward_bits,
         field.rounds,
         &OpenGate,
         &NoWatch,
-    );
-    outcome.map(|()| Done::Courier(courier))
+    )?;
+    Ok(Done::Courier(courier))
 }
 
 // The turns of all callers. Their seats are given back.
