@@ -1,5 +1,5 @@
 #!/usr/bin/env bash
-# Times looks at a copy of the directory, beside a lock over the same directory and a plain read of it.
+# Times looks at a copy of the directory, beside a plain read of such a directory.
 #
 #   bench/copy.sh [RUNS [LOOKS]]     the best of RUNS runs counts, 5 if left out; each reader makes LOOKS looks a run,
 #                                    4,000,000 if left out
@@ -7,10 +7,9 @@
 # What is measured, over directories of 1,000 and 60,000 pages, for pseudokeys that are evenly spread:
 # - looks a second by 1, 2 and 4 readers of a copy, each on a thread of its own, alone and beside a writer that takes
 #   and publishes 1,000 notices a second;
-# - the same by readers of a `RwLock` over such a directory, whose writer takes as many notices under the lock;
 # - as the limit, a plain read of the directory's array on one thread;
 # - a take of a directory, and a take of a copy with its publish, with no reader on a thread.
-# crates/bench_copy makes each run, and checks nothing but that each look names a page.
+# crates/bench_calls makes each run, and checks nothing but that each look names a page.
 #
 # Wanted: a look by one reader takes at most 4 times a plain read; readers beside a writer make at least 0.9 times as many
 # looks as readers alone; 4 readers, where there are 4 processors, at least 3 times as many as one; and a take with its
@@ -31,33 +30,32 @@ die() {
 
 bench=$(cd "$(dirname "$0")" && pwd) || exit 2
 root=$(dirname "$bench")
-program=$root/crates/bench_copy/out/bench_copy
+program=$root/crates/bench_calls/out/bench_calls
 folder=$(mktemp -d "${TMPDIR:-/tmp}/exhash-bench.XXXXXX") || exit 2
 trap 'rm -rf "$folder"' EXIT
 
-# Makes a run of the way $1 over $2 pages by $3 readers of $4 looks each, `written` or alone, and prints a line.
+# Makes a run by the way $1 over $2 pages, of $3 looks or takes by each of $4 readers, one if left out, `written` or
+# alone, and prints a line.
 clock() {
     local line
     line=$("$program" "$@") || die "$* ended with status $?"
-    echo "$1 $2 $3 ${5:-alone} $line"
+    echo "$1 $2 ${4:-1} ${5:-alone} $line"
 }
 
 # Makes all runs over $1 pages, in turns.
 measure() {
-    local pages=$1 run readers way
+    local pages=$1 run readers
     for ((run = 0; run < RUNS; run++)); do
-        clock plain "$pages" 1 "$LOOKS"
-        clock publish "$pages" 1 "$TAKES"
-        for way in copy lock; do
-            for readers in 1 2 4; do
-                clock "$way" "$pages" "$readers" "$LOOKS"
-                clock "$way" "$pages" "$readers" "$LOOKS" written
-            done
+        clock plain "$pages" "$LOOKS"
+        clock publish "$pages" "$TAKES"
+        for readers in 1 2 4; do
+            clock copy "$pages" "$LOOKS" "$readers"
+            clock copy "$pages" "$LOOKS" "$readers" written
         done
     done
 }
 
-(cd "$root/crates/bench_copy" && rt run) > "$folder/log" 2>&1 || {
+(cd "$root/crates/bench_calls" && rt run) > "$folder/log" 2>&1 || {
     cat "$folder/log" >&2
     die 'the program could not be built'
 }
@@ -87,7 +85,7 @@ awk -v processors="$processors" '
     {
         looks = $6 > 0 ? $5 / $6 * 1000 : 0
         if (!(($1, $2, $3, $4) in rate) || looks > rate[$1, $2, $3, $4]) rate[$1, $2, $3, $4] = looks
-        if ($4 == "written" && $6 > 0) paced[$1] = $7 / $6 * 1e9
+        if ($4 == "written" && $6 > 0) paced = $7 / $6 * 1e9
     }
     END {
         if (!(("plain", 60000, 1, "alone") in rate)) {
@@ -100,7 +98,6 @@ awk -v processors="$processors" '
             pages = sizes[i]
             printf "%6d  plain  alone    %8.2f\n", pages, rate["plain", pages, 1, "alone"]
             tell("copy", pages, "alone"); tell("copy", pages, "written")
-            tell("lock", pages, "alone"); tell("lock", pages, "written")
             printf "%6d  a take %.2f microseconds, with its publish %.2f\n", pages, cost[pages, "take"] / 1000,
                 cost[pages, "publish"] / 1000
             most("a look by a plain read at " pages " pages", rate["plain", pages, 1, "alone"] / rate["copy", pages, 1, "alone"], 4)
@@ -114,7 +111,7 @@ awk -v processors="$processors" '
             }
             most("a take with its publish by a take at " pages " pages", cost[pages, "publish"] / cost[pages, "take"], 5)
         }
-        printf "notices a second beside the last runs: copy %.0f, lock %.0f\n", paced["copy"], paced["lock"]
+        printf "notices a second beside the last run: %.0f\n", paced
         for (i = 1; i <= short; i++) print falls[i]
         exit (short > 0)
     }' "$folder/times"

@@ -13,9 +13,8 @@
 # - live: a live file of 1, 4 and 16 wards of 16 records a page in memory, by keyer plain. Callers look at a copy of the
 #   directory that a courier's rounds told of what filled the file, and of nothing since. Each file is settled
 #   afterwards.
-# - untallied: the same wards, copy, walks and diaries without the tally's lock, which no live file can be. What the
-#   tally costs is what this one has more.
-# - plain: a ward by itself, on one thread, with neither lock nor diary.
+# - alone: a ward by itself, on one thread, with neither lock nor diary.
+# crates/bench_threads makes both.
 # - lmdb, gdbm: live_rivals.c makes the calls by LMDB's threads, of which one writes at a time, and by gdbm behind one
 #   mutex. They are to stand as well as they can: their files are on /dev/shm where there is one, nothing is
 #   synchronized, and the fastest of several settings counts.
@@ -72,7 +71,7 @@ play() {
 
 RUNS=${1:-5}
 CALLS=${2:-400000}
-program=$root/crates/bench_live/out/bench_live
+program=$root/crates/bench_threads/out/bench_threads
 
 # Makes a run of the way $1 over $2 wards by $3 callers by the rest of the words, and prints a line.
 clock() {
@@ -85,11 +84,10 @@ clock() {
 # Makes a run of each way, and of both rivals by each setting.
 measure() {
     local callers bits setting map
-    clock plain 1 1 "$program" plain 0 1 "$CALLS"
+    clock alone 1 1 "$program" alone "$CALLS"
     for callers in 1 2 4; do
         for bits in 0 2 4; do
             clock live $((1 << bits)) "$callers" "$program" live "$bits" "$callers" "$CALLS"
-            clock untallied $((1 << bits)) "$callers" "$program" untallied "$bits" "$callers" "$CALLS"
         done
         for map in 0 1; do
             clock lmdb 0 "$callers" "$folder/live_rivals" lmdb "$folder/lmdb" "$callers" "$CALLS" "$map"
@@ -103,7 +101,7 @@ measure() {
 
 cc -O2 -Wall -Wextra -o "$folder/live_rivals" "$bench/live_rivals.c" -lgdbm -llmdb -lpthread ||
     die "the rivals' libraries could not be built against (Debian: apt-get install liblmdb-dev libgdbm-dev)"
-build bench_live
+build bench_threads
 mkdir "$folder/lmdb" || exit 2
 for ((run = 0; run < RUNS; run++)); do
     measure
@@ -140,19 +138,15 @@ awk -v processors="$processors" '
         split("1 4 16", counts, " ")
         print "way        wards   1 caller  2 callers  4 callers"
         for (i = 1; i <= 3; i++) tell("live", counts[i], counts[i])
-        for (i = 1; i <= 3; i++) tell("untallied", counts[i], counts[i])
-        printf "plain          1  %7.3f\n", rate["plain", 1, 1]
+        printf "alone          1  %7.3f\n", rate["alone", 1, 1]
         tell("lmdb", 0, "")
         tell("gdbm", 0, "")
         one = rate["live", 4, 1]
         printf "over 4 wards: two callers %.2f of one, four %.2f\n", rate["live", 4, 2] / one, rate["live", 4, 4] / one
-        printf "what the tally costs over 4 wards, of the time without: %.2f, %.2f, %.2f\n",
-            rate["untallied", 4, 1] / one, rate["untallied", 4, 2] / rate["live", 4, 2],
-            rate["untallied", 4, 4] / rate["live", 4, 4]
-        printf "one caller over 1 ward takes %.2f of the time of a ward by itself\n", rate["plain", 1, 1] / rate["live", 1, 1]
+        printf "one caller over 1 ward takes %.2f of the time of a ward by itself\n", rate["alone", 1, 1] / rate["live", 1, 1]
         least("two callers by one over 4 wards", rate["live", 4, 2] / one, 1.5)
         if (processors >= 4) least("four callers by one over 4 wards", rate["live", 4, 4] / one, 2)
-        most("one caller by a ward by itself", rate["plain", 1, 1] / rate["live", 1, 1], 1.7)
+        most("one caller by a ward by itself", rate["alone", 1, 1] / rate["live", 1, 1], 1.7)
         for (callers = 1; callers <= 4; callers *= 2) {
             least("calls over 4 wards by LMDB, callers " callers, rate["live", 4, callers] / rate["lmdb", 0, callers], 1)
             least("calls over 4 wards by gdbm, callers " callers, rate["live", 4, callers] / rate["gdbm", 0, callers], 1)

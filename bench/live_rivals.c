@@ -4,7 +4,7 @@
  *   live_rivals gdbm FILE CALLERS CALLS CACHE BLOCK MAP
  *
  * The base is made anew and filled with every other one of 100,000 keys; then CALLERS threads make CALLS calls
- * together, as crates/bench_live/src/calls.rt draws them: half of them gets, a quarter each puts and deletes. Keys and
+ * together, as crates/bench_threads/src/calls.rt draws them: half of them gets, a quarter each puts and deletes. Keys and
  * values have 8 bytes. Each call is a transaction of its own, and nothing is synchronized to the disk.
  * - LMDB: readers have a transaction each, which is renewed for each get; writers wait for one another. WRITEMAP is 1
  *   where its map may be written to.

@@ -7,25 +7,20 @@
 # What is measured: storms of 16 callers by two copies of the directory, of 2 and of 16 records a page, over 1, 4 and 16
 # wards of a file in memory, by keyer sha. They call 50 keys: by turns a put, a get and a delete (`exh_storm`). There is
 # a keeper for each ward and a courier to each copy, and each makes as many rounds as a caller makes calls. After each
-# run the file is closed, and diaries and journals are settled. In runs named 'late' the couriers wait until each caller
-# has made half of its calls.
-# - calls: thousands of calls a second, from the first caller's begin to the last one's end; the best run counts.
+# run the file is closed, and diaries and journals are settled. crates/bench_threads makes each run.
 # - moves: how often a call was sent on to another page, a call, in all runs together; most: in the worst of them. A
 #   gate of each caller counts its turns: it is asked before each hop. A call's hops are those that send it on, those
 #   that find a page full, and the last, which answers it; after each that finds a page full the caller splits it, or
 #   another caller has. So turns less calls less splits are moves, and hops to a page that another caller split
 #   meanwhile: at least the moves. Each split is a caller's, and is counted by its notice.
-# - splits, merges: those that the wards tell of; carried: the notices that couriers took; each a run.
-# - pages: those live at the end by the least possible, a ward's records by a page's, rounded up, and one at least; the
-#   worst run counts.
+# - splits: those that the wards tell of, a run.
 # - memory: the most MiB that the program had at any time, with a quarter of the calls and with all; the worst run
 #   counts. 'kept' is that of a program with no file, no directory and no threads, which writes as many calls down in
 #   journals and diaries alone. Its keys and values have about as many bytes; where they have fewer or more, its memory
 #   is counted with as many.
 #
-# Wanted: at most 0.1 moves a call over 4 wards, where no courier is late; and memory beside journals and diaries that
-# is flat in the number of calls: from a quarter of the calls to all of them a storm takes at most 1.1 times as much
-# more as 'kept' does.
+# Wanted: at most 0.1 moves a call over 4 wards; and memory beside journals and diaries that is flat in the number of
+# calls: from a quarter of the calls to all of them a storm takes at most 1.1 times as much more as 'kept' does.
 #
 # Status: 0 where all that is met, 1 where something isn't, 2 where nothing could be measured.
 set -u
@@ -41,7 +36,7 @@ die() {
 
 bench=$(cd "$(dirname "$0")" && pwd) || exit 2
 root=$(dirname "$bench")
-program=$root/crates/bench_storm/out/bench_storm
+program=$root/crates/bench_threads/out/bench_threads
 folder=$(mktemp -d "${TMPDIR:-/tmp}/exhash-bench.XXXXXX") || exit 2
 trap 'rm -rf "$folder"' EXIT
 
@@ -58,7 +53,6 @@ measure() {
     local cap bits way
     for cap in 2 16; do
         for bits in 0 2 4; do
-            clock late "$cap" "$bits" "$CALLS"
             for way in storm kept; do
                 clock "$way" "$cap" "$bits" "$CALLS"
                 clock "$way" "$cap" "$bits" $((CALLS / 4))
@@ -68,7 +62,7 @@ measure() {
 }
 
 cc -O2 -Wall -Wextra -o "$folder/clock" "$bench/clock.c" || die 'clock.c could not be built'
-(cd "$root/crates/bench_storm" && rt run) > "$folder/log" 2>&1 || {
+(cd "$root/crates/bench_threads" && rt run) > "$folder/log" 2>&1 || {
     cat "$folder/log" >&2
     die 'the program could not be built'
 }
@@ -88,14 +82,13 @@ awk -v all="$CALLS" -v quarter=$((CALLS / 4)) '
     }
     function most(name, value) { if (!(name in greatest) || value > greatest[name]) greatest[name] = value }
     function add(name, value) { sum[name] += value }
-    # Prints a line of a kind of storm.
-    function tell(way, cap, wards,    at, moves) {
-        at = way " " cap " " wards
+    # Prints the moves and splits of storms.
+    function tell(cap, wards,    at, moves) {
+        at = "storm " cap " " wards
         moves = sum[at " moves"] / sum[at " runs"]
-        printf "%-5s  %3d  %5d  %6.1f  %6.3f  %6.3f  %7.1f  %7.1f  %7.1f  %5.2f\n", way, cap, wards,
-            greatest[at " calls"], moves, greatest[at " moves"], sum[at " splits"] / sum[at " runs"],
-            sum[at " merges"] / sum[at " runs"], sum[at " carried"] / sum[at " runs"], greatest[at " pages"]
-        if (way == "storm" && wards == 4) judge("moves a call over 4 wards, " cap " records a page", moves, 0.1)
+        printf "%3d  %5d  %6.3f  %6.3f  %7.1f\n", cap, wards, moves, greatest[at " moves"],
+            sum[at " splits"] / sum[at " runs"]
+        if (wards == 4) judge("moves a call over 4 wards, " cap " records a page", moves, 0.1)
     }
     # Prints the memory of storms and of kept, and how much more it is with all calls.
     function tell_memory(cap, wards,    i, way, at, few, many, more) {
@@ -113,39 +106,30 @@ awk -v all="$CALLS" -v quarter=$((CALLS / 4)) '
         printf "  %5.2f\n", more["storm"] / more["kept"]
         judge("growth of memory by kept, " cap " records a page, wards " wards, more["storm"] / more["kept"], 1.1)
     }
-    # way cap wards calls KiB answers, of a storm nanoseconds turns carried splits merges live dead least, then texts
-    NF != ($1 == "kept" ? 7 : 15) || $6 != 16 * $4 { fail("wrong values: " $0) }
+    # way cap wards calls KiB answers, of a storm turns splits, then texts
+    NF != ($1 == "kept" ? 7 : 9) || $6 != 16 * $4 { fail("wrong values: " $0) }
     {
         at = $1 " " $2 " " $3
         most(at " memory " $4, $5 / 1024)
-    }
-    $1 != "late" {
         # What the last runs have more with all calls.
         texts[at, $4] = $NF
         texts[at] = texts[at, all] - texts[at, quarter]
     }
-    $1 != "kept" && $4 == all {
-        moves = ($8 - $6 - $10) / $6
+    $1 == "storm" && $4 == all {
+        moves = ($7 - $6 - $8) / $6
         add(at " runs", 1)
         add(at " moves", moves)
-        add(at " carried", $9)
-        add(at " splits", $10)
-        add(at " merges", $11)
-        most(at " calls", $6 / $7 * 1e6)
+        add(at " splits", $8)
         most(at " moves", moves)
-        most(at " pages", $12 / $14)
     }
     END {
         if (failed) exit 2
         if (!(("kept 16 16 memory " all) in greatest)) fail("nothing was measured")
         split("2 16", caps, " ")
         split("1 4 16", counts, " ")
-        print "way    cap  wards   calls   moves    most   splits   merges  carried  pages"
+        print "cap  wards   moves    most   splits"
         for (c = 1; c <= 2; c++) {
-            for (i = 1; i <= 3; i++) {
-                tell("storm", caps[c], counts[i])
-                tell("late", caps[c], counts[i])
-            }
+            for (i = 1; i <= 3; i++) tell(caps[c], counts[i])
         }
         print "cap  wards  storm, MiB      kept, MiB       growth by kept"
         for (c = 1; c <= 2; c++) {

@@ -9,17 +9,14 @@
 # What is compared: microseconds a call, at 1,000, 10,000 and 60,000 records. A round begins with an empty file, puts
 # as many new keys as that, with the splits that they bring, and then gets each of them once, in another order. Keys
 # and values have 8 bytes, and the keys' first bits are evenly spread.
-# - crates/bench_ward calls a ward of 16 records a page over pages in memory, by keyer plain and by keyer sha. Its
+# - crates/bench_calls calls a ward of 16 records a page over pages in memory, by keyer plain and by keyer sha. Its
 #   caller hashes a key once, asks a copy of the directory for the page, hops until it is answered, and splits where
-#   that is to be done first; the copy takes each notice at once. Of a get are also timed the walk alone (hash and look
-#   at the pointer) and the hop alone (hash and hop, from the page that a walk came to before), which is printed beside
-#   a get of gdbm.
+#   that is to be done first; the copy takes each notice at once.
 # - ward_gdbm.c calls gdbm_store and gdbm_fetch. It is to stand as well as it can: its file is on /dev/shm where there
 #   is one, it takes no lock and doesn't synchronize, and the fastest of several settings counts.
 # Then the ward's caller deletes until a tenth of the records is left. After each delete it asks the copy for the pair
 # that the page is of, and tries to merge it, and then the pair of the merged page, as long as `Ward::merge` takes them.
-# It keeps no counts of its own: whether a pair fits is found by reading both pages. Printed are the pages live at the
-# end, also as a share of the least possible, the records left by 16, rounded up.
+# It keeps no counts of its own: whether a pair fits is found by reading both pages.
 #
 # Where valgrind is there, it counts the instructions of one round by keyer plain, a call: of puts and gets with their
 # splits, and of deletes with their merges. They hardly differ from run to run, and tell what work grows with the
@@ -47,7 +44,7 @@ die() {
 
 bench=$(cd "$(dirname "$0")" && pwd) || exit 2
 root=$(dirname "$bench")
-program=$root/crates/bench_ward/out/bench_ward
+program=$root/crates/bench_calls/out/bench_calls
 shared=/dev/shm
 [ -d "$shared" ] && [ -w "$shared" ] || shared=${TMPDIR:-/tmp}
 folder=$(mktemp -d "$shared/exhash-bench.XXXXXX") || exit 2
@@ -65,8 +62,8 @@ clock() {
 measure() {
     local records=$1 rounds=$((RECORDS / $1)) run setting
     for ((run = 0; run < RUNS; run++)); do
-        clock plain "$records" "$program" plain "$records" "$rounds"
-        clock sha "$records" "$program" sha "$records" "$rounds"
+        clock plain "$records" "$program" ward plain "$records" "$rounds"
+        clock sha "$records" "$program" ward sha "$records" "$rounds"
         for setting in "${SETTINGS[@]}"; do
             # shellcheck disable=SC2086 # Three words.
             clock gdbm "$records" "$folder/ward_gdbm" "$folder/base" "$records" "$rounds" $setting
@@ -76,20 +73,20 @@ measure() {
 
 # Prints how many instructions a round of $1 records makes in a part of the program, by keyer plain.
 count() {
-    valgrind --tool=callgrind --callgrind-out-file=/dev/null --toggle-collect="bench_ward::$2" "$program" plain "$1" 1 2>&1 |
+    valgrind --tool=callgrind --callgrind-out-file=/dev/null --toggle-collect="bench_calls::$2" "$program" ward plain "$1" 1 2>&1 |
         sed -n 's/.*Collected : *//p'
 }
 
 cc -O2 -Wall -Wextra -o "$folder/ward_gdbm" "$bench/ward_gdbm.c" -lgdbm ||
     die "gdbm's library could not be built against (Debian: apt-get install libgdbm-dev)"
-(cd "$root/crates/bench_ward" && rt run) > "$folder/log" 2>&1 || {
+(cd "$root/crates/bench_calls" && rt run) > "$folder/log" 2>&1 || {
     cat "$folder/log" >&2
     die 'the program could not be built'
 }
 for records in 1000 10000 60000; do
     measure "$records"
     if command -v valgrind > "$folder/log"; then
-        echo "count $records $(count "$records" 'caller::Caller::call') $(count "$records" 'times::delete_time*')"
+        echo "count $records $(count "$records" 'caller::Caller::call') $(count "$records" 'ward_times::delete_time*')"
     fi
 done > "$folder/times"
 machine="$(nproc) x $(sed -n 's/^model name[^:]*: //p' /proc/cpuinfo | head -n 1)"
@@ -107,7 +104,7 @@ awk -v run="$RECORDS" '
     }
     # Microseconds a call. Nine tenths of the records are deleted.
     function cost(name, records, column) {
-        return best[name, records, column] / (column == 8 ? run * 9 / 10 : run) / 1000
+        return best[name, records, column] / (column == 6 ? run * 9 / 10 : run) / 1000
     }
     # Prints a line of a call of the ward, beside the one of gdbm whose times are in column `rival`, if any. Where
     # `share` is given, the call may take that share of the time of gdbm by plain, and as much by sha.
@@ -124,14 +121,6 @@ awk -v run="$RECORDS" '
             judge("a " call " of plain by one of gdbm at " records " records", plain / gdbm, share)
             judge("a " call " of sha by one of gdbm at " records " records", sha / gdbm, 1)
         }
-    }
-    # Prints how many pages are live at the end of a round, in the middle, by plain and by sha.
-    function tell_pages(records,    least, plain, sha) {
-        least = int((records / 10 + 15) / 16)
-        plain = live["plain", records] / (run / records)
-        sha = live["sha", records] / (run / records)
-        printf "%7d  pages   %6.1f  %6.1f  live, %.2f and %.2f of the least possible\n", records, plain, sha,
-            plain / least, sha / least
     }
     # Prints how many instructions a call makes: a put or get, and a delete.
     function tell_work(records) {
@@ -153,14 +142,14 @@ awk -v run="$RECORDS" '
         deletes[$2] = $4 / ($2 * 0.9)
         next
     }
-    $3 != run || (NF > 5 && $9 != run / 10) { fail("wrong values: " $0) }
+    # name records found puts gets, of a ward deletes left
+    $3 != run || (NF > 5 && $7 != run / 10) { fail("wrong values: " $0) }
     {
-        for (column = 4; column <= NF && column <= 8; column++) {
+        for (column = 4; column <= NF && column <= 6; column++) {
             if (!(($1, $2, column) in best) || $column < best[$1, $2, column]) {
                 best[$1, $2, column] = $column
             }
         }
-        live[$1, $2] = $10
     }
     END {
         if (failed) exit 2
@@ -170,15 +159,12 @@ awk -v run="$RECORDS" '
         for (i = 1; i <= 3; i++) {
             tell(sizes[i], "put", 4, 4, 0.25)
             tell(sizes[i], "get", 5, 5, 1)
-            tell(sizes[i], "walk", 6)
-            tell(sizes[i], "hop", 7, 5)
-            tell(sizes[i], "delete", 8)
-            tell_pages(sizes[i])
+            tell(sizes[i], "delete", 6)
             if (sizes[i] in calls) tell_work(sizes[i])
         }
         tell_growth("put", 4)
         tell_growth("get", 5)
-        tell_growth("delete", 8)
+        tell_growth("delete", 6)
         printf "growth   gdbm    %6.2f of a put, %.2f of a get\n", cost("gdbm", 60000, 4) / cost("gdbm", 1000, 4),
             cost("gdbm", 60000, 5) / cost("gdbm", 1000, 5)
         if (1000 in calls) {

@@ -1,0 +1,114 @@
+//! Rounds of calls over new wards.
+
+use crate::caller::Caller;
+use crate::pairs::{RoundKeys, key_of, value_of};
+use exh_calls::{Call, Reply};
+use exh_keyer::AnyKeyer;
+use std::time::{Clock, Instant};
+
+/// What rounds over new wards found, and the nanoseconds of each of their parts together.
+#[derive(Clone, Copy)]
+pub(crate) struct WardTimes {
+    /// How many of the gets found the right value.
+    pub(crate) found: u32,
+    /// The puts of all keys, with their splits.
+    pub(crate) puts: u128,
+    /// A get of each key.
+    pub(crate) gets: u128,
+    /// The deletes of all keys but a tenth, with their merges.
+    pub(crate) deletes: u128,
+    /// How many of the keys that are left have the right value.
+    pub(crate) left: u32,
+}
+
+impl WardTimes {
+    /// Makes so many rounds of so many records, each of other keys, so that none is quicker for having
+    /// been made before.
+    pub(crate) fn of_rounds(
+        rt: &(impl Clock + AllocGlobal),
+        keyer: AnyKeyer,
+        records: u32,
+        rounds: u32,
+    ) -> anyhow::Result<WardTimes> {
+        let mut times = WardTimes {
+            found: 0,
+            puts: 0,
+            gets: 0,
+            deletes: 0,
+            left: 0,
+        };
+        for round in 0..rounds {
+            let first = round.wrapping_mul(records);
+            let mut caller = Caller::new(rt.alloc(), keyer)?;
+            times.add_round(rt, &mut caller, RoundKeys { first, records })?;
+        }
+        Ok(times)
+    }
+
+    // Adds a round of a new caller.
+    fn add_round(
+        &mut self,
+        clock: &impl Clock,
+        caller: &mut Caller,
+        keys: RoundKeys,
+    ) -> anyhow::Result<()> {
+        let deleted = keys.records - keys.records / 10;
+        let puts = put_time(clock, caller, keys)?;
+        let (found, gets) = get_time(clock, caller, 0, keys)?;
+        let deletes = delete_time(clock, caller, deleted, keys)?;
+        let (left, _) = get_time(clock, caller, deleted, keys)?;
+        self.found = self.found.saturating_add(found);
+        self.puts = self.puts.saturating_add(puts);
+        self.gets = self.gets.saturating_add(gets);
+        self.deletes = self.deletes.saturating_add(deletes);
+        self.left = self.left.saturating_add(left);
+        Ok(())
+    }
+}
+
+fn put_time(clock: &impl Clock, caller: &mut Caller, keys: RoundKeys) -> anyhow::Result<u128> {
+    let start = Instant::now(clock)?;
+    for i in 0..keys.records {
+        let number = keys.put(i);
+        let call = Call::Put {
+            key: key_of(number)?,
+            value: value_of(number)?,
+        };
+        caller.call(&call)?;
+    }
+    Ok(start.elapsed(clock)?.as_nanos())
+}
+
+// Gets the keys that are asked for from call `first` on. How many values are right comes first.
+fn get_time(
+    clock: &impl Clock,
+    caller: &mut Caller,
+    first: u32,
+    keys: RoundKeys,
+) -> anyhow::Result<(u32, u128)> {
+    let mut right = 0u32;
+    let start = Instant::now(clock)?;
+    for i in first..keys.records {
+        let number = keys.asked(i);
+        let reply = caller.call(&Call::Get {
+            key: key_of(number)?,
+        })?;
+        if reply == Reply::Is(value_of(number)?) {
+            right = right.saturating_add(1);
+        }
+    }
+    Ok((right, start.elapsed(clock)?.as_nanos()))
+}
+
+fn delete_time(
+    clock: &impl Clock,
+    caller: &mut Caller,
+    deleted: u32,
+    keys: RoundKeys,
+) -> anyhow::Result<u128> {
+    let start = Instant::now(clock)?;
+    for i in 0..deleted {
+        caller.delete(&key_of(keys.asked(i))?)?;
+    }
+    Ok(start.elapsed(clock)?.as_nanos())
+}

@@ -1,0 +1,253 @@
+//! A storm, measured: its workers are all at work at once, each on a thread.
+ghost use Rattle.std.specs.Prelude.{◌≡◌, ◌≤◌};
+ghost use Rattle.exh_keyer.specs.Pseudokey.{sha_pseudokey};
+ghost use Rattle.exh_live.specs.declared.ledgers.TheConstants.{ANSWER_PARTS, ENTRY_PARTS};
+ghost use Rattle.exh_prefix.specs.declared.prefix.TheConstants.{WARD_BITS_LIMIT};
+ghost use Rattle.exh_storm_config.specs.StormConfig.{IsStormConfig};
+
+use crate::texts::text_len;
+use crate::turns::Turns;
+use anyhow::bail;
+use exh_keyer::ShaKeyer;
+use exh_live::{ANSWER_PARTS, ENTRY_PARTS, Identity, Seat, WardJournals};
+use exh_notice::Kind;
+use exh_settle::settle;
+use exh_storm::{
+    Caller, Courier, Keeper, NoWatch, StormConfig, StormFault, StormFile, StormWard, Workers,
+    new_file, new_workers,
+};
+use exh_walk::OpenGate;
+use std::alloc::{AllocError, Global};
+use std::marker::Brand;
+use std::sync::Wait;
+use std::sync::ledger::Blank;
+use std::thread::{Threads, map_vec};
+
+/// What a storm came to: how many calls were answered and settled, the turns of all callers, the splits
+/// that were made, and the bytes of keys and values in the journals.
+#[derive(Clone, Copy)]
+pub(crate) struct Measured {
+    pub(crate) calls: u128,
+    pub(crate) turns: u64,
+    pub(crate) splits: u64,
+    pub(crate) texts: u64,
+}
+
+// A worker of a storm, before its thread begins.
+#[derive(Drop)]
+enum Worker<'a, R: Wait, F: Identity> {
+    Caller(Caller<F, Brand>),
+    Keeper(u8),
+    Courier(Courier<'a, R, Brand>),
+}
+
+// What its thread gives: a caller's seat and turns; the courier too, whose copy is closed where it is
+// let go.
+#[derive(Drop)]
+enum Done<'a, R: Wait, F: Identity> {
+    Caller(Seat<F>, u64),
+    Keeper,
+    Courier(Courier<'a, R, Brand>),
+}
+
+// What all workers have in common.
+#[derive(Drop)]
+struct Field<'a, F: Identity> {
+    file: &'a StormFile<F>,
+    alloc: Global,
+    ward_bits: u8,
+    rounds: u32,
+    ghost limit: { ward_bits ≤ WARD_BITS_LIMIT },
+    ghost bits: { ward_bits ≡ file.now.ward_bits },
+}
+
+/// Runs a storm over a new file. Afterwards the file is closed, and settled.
+pub(crate) fn measure<R: Threads + Wait + AllocGlobal + Sync>(
+    rt: &R,
+    config: &StormConfig,
+) -> anyhow::Result<Measured>
+    requires { IsStormConfig config.now }
+{
+    let answers = Blank::new(ANSWER_PARTS);
+    let entries = Blank::new(ENTRY_PARTS);
+    of_file::<R, Brand>(rt, config, answers, entries)
+}
+
+fn of_file<R: Threads + Wait + AllocGlobal + Sync, F: Identity + Send + Sync>(
+    rt: &R,
+    config: &StormConfig,
+    answers: Blank,
+    entries: Blank,
+) -> anyhow::Result<Measured>
+    requires config { IsStormConfig config.now }
+    requires answers { (answers.name ≡ F.answers) × (answers.parts ≡ ANSWER_PARTS) }
+    requires entries { (entries.name ≡ F.entries) × (entries.parts ≡ ENTRY_PARTS) }
+    requires hashed { F.hashing ≡ sha_pseudokey }
+{
+    let mut file = new_file::<F>(rt.alloc(), config, answers, entries)?;
+    let mut seats = Vec::new(rt.alloc());
+    let turns = run(rt, config, &mut file, &mut seats);
+    close(config, file, seats, turns)
+}
+
+// Runs all workers over a new file, gives the callers' seats, and answers their turns.
+fn run<R: Threads + Wait + AllocGlobal + Sync, F: Identity + Send + Sync>(
+    rt: &R,
+    config: &StormConfig,
+    file: &mut StormFile<F>,
+    seats: &mut Vec<Seat<F>>,
+) -> anyhow::Result<u64>
+    requires config { IsStormConfig config.now }
+    requires file { (file.old.ward_bits ≡ config.now.ward_bits) × (file.old.seats ≡ 0) }
+{
+    let Workers { callers, couriers } = new_workers::<R, F, Brand>(rt, rt.alloc(), config, file)?;
+    let workers = all_workers(rt.alloc(), config.ward_bits, callers, couriers)?;
+    let field = Field {
+        file,
+        alloc: rt.alloc(),
+        ward_bits: config.ward_bits,
+        rounds: config.calls,
+    };
+    collect(
+        map_vec(rt, workers, &|worker| work(rt, &field, worker))?,
+        seats,
+    )
+}
+
+// The callers, a keeper for each ward, and the couriers.
+fn all_workers<'a, R: Wait, F: Identity>(
+    alloc: Global,
+    ward_bits: u8,
+    callers: Vec<Caller<F, Brand>>,
+    couriers: Vec<Courier<'a, R, Brand>>,
+) -> Result<Vec<Worker<'a, R, F>>, AllocError>
+    requires { ward_bits ≤ WARD_BITS_LIMIT }
+{
+    let mut workers = Vec::new(alloc);
+    for caller in callers {
+        workers.push(Worker::Caller(caller))?;
+    }
+    for ward in 0..1u8 << ward_bits {
+        workers.push(Worker::Keeper(ward))?;
+    }
+    for courier in couriers {
+        workers.push(Worker::Courier(courier))?;
+    }
+    Ok(workers)
+}
+
+// Lets a worker make its rounds.
+fn work<'a, R: Wait, F: Identity>(
+    rt: &R,
+    field: &Field<'_, F>,
+    worker: Worker<'a, R, F>,
+) -> Result<Done<'a, R, F>, StormFault> {
+    match worker {
+        Worker::Caller(caller) => call(rt, field, caller),
+        Worker::Keeper(ward) => keep(rt, field, ward),
+        Worker::Courier(courier) => carry(field, courier),
+    }
+}
+
+fn call<'a, R: Wait, F: Identity>(
+    rt: &R,
+    field: &Field<'_, F>,
+    caller: Caller<F, Brand>,
+) -> Result<Done<'a, R, F>, StormFault> {
+    let gate = Turns::new();
+    let seat = caller.run(rt, field.file, field.rounds, &gate, &NoWatch)?;
+    Ok(Done::Caller(seat, gate.count()))
+}
+
+fn keep<'a, R: Wait, F: Identity>(
+    rt: &R,
+    field: &Field<'_, F>,
+    ward: u8,
+) -> Result<Done<'a, R, F>, StormFault> {
+    if ward < 1u8 << field.ward_bits {
+        Keeper { ward }.run(rt, field.file, field.rounds, &OpenGate, &NoWatch)?;
+    }
+    Ok(Done::Keeper)
+}
+
+fn carry<'a, R: Wait, F: Identity>(
+    field: &Field<'_, F>,
+    courier: Courier<'a, R, Brand>,
+) -> Result<Done<'a, R, F>, StormFault> {
+    let mut courier = courier;
+    courier.run(
+        field.alloc,
+        field.file,
+        field.ward_bits,
+        field.rounds,
+        &OpenGate,
+        &NoWatch,
+    )?;
+    Ok(Done::Courier(courier))
+}
+
+// The turns of all callers. Their seats are given back.
+fn collect<R: Wait, F: Identity>(
+    done: Vec<Result<Done<'_, R, F>, StormFault>>,
+    seats: &mut Vec<Seat<F>>,
+) -> anyhow::Result<u64> {
+    let mut turns = 0u64;
+    for one in done {
+        if let Done::Caller(seat, more) = one? {
+            seats.push(seat)?;
+            turns = turns.wrapping_add(more);
+        }
+    }
+    Ok(turns)
+}
+
+// Closes the file, with the seats of all its callers, and settles what it leaves.
+fn close<F: Identity>(
+    config: &StormConfig,
+    file: StormFile<F>,
+    seats: Vec<Seat<F>>,
+    turns: anyhow::Result<u64>,
+) -> anyhow::Result<Measured>
+    requires { IsStormConfig config.now }
+{
+    let turns = turns?;
+    let closed = match file.close(seats) {
+        Ok(closed) => closed,
+        Err(back) => bail!("{}", back.fault),
+    };
+    let journals = WardJournals {
+        ward_bits: config.ward_bits,
+        keyer: ShaKeyer,
+        wards: closed.wards.as_slice(),
+    };
+    Ok(Measured {
+        calls: settle(&journals, closed.diaries.as_slice())?.answers,
+        turns,
+        splits: split_count(closed.wards.as_slice()),
+        texts: texts_len(closed.wards.as_slice()),
+    })
+}
+
+// How many splits the wards tell of.
+fn split_count(wards: &[StormWard]) -> u64 {
+    let mut count = 0u64;
+    for ward in wards {
+        for notice in ward.notices_after(0) {
+            if let Kind::Split { .. } = notice.kind {
+                count = count.wrapping_add(1);
+            }
+        }
+    }
+    count
+}
+
+// The bytes of keys and values in the wards' journals.
+fn texts_len(wards: &[StormWard]) -> u64 {
+    let mut len = 0u64;
+    for ward in wards {
+        for entry in ward.journal().iter() {
+            len = len.wrapping_add(text_len(&entry.call, &entry.reply));
+        }
+    }
+    len
+}
