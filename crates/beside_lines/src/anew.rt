@@ -10,14 +10,16 @@ ghost use Rattle.beside_lines.specs.Anew.{AreItsWards, HasSettings};
 use crate::answers::{Line, PlainScript, ROOM, answer};
 use crate::lives::{FIRST, GONE, SECOND, THIRD, journal, notices};
 use exh_calls::JournalEntry;
+use exh_event::{Event, StepFault, Turn};
 use exh_fixtures::Asked;
 use exh_frames::PlainPages;
 use exh_keyer::AnyKeyer;
 use exh_notice::Notice;
 use exh_runs::{Difference, Part, Run, same};
 use exh_script::Run as Script;
+use exh_settings::Config;
 use exh_ward::{Ward, WardFault};
-use exh_world::{Config, Event, StepFault, Turn, World};
+use exh_world::World;
 use std::alloc::{AllocError, Global};
 
 type PlainWorld = World<PlainPages, AnyKeyer>;

@@ -14,8 +14,9 @@ use exh_page::Page;
 use exh_prefix::PageNo;
 use exh_runs::{Difference, Part, Run, again, same};
 use exh_script::{ResponseFault, Run as Script, push_response};
+use exh_settings::Config;
 use exh_ward::{Ward, WardFault};
-use exh_world::{Config, World};
+use exh_world::World;
 use std::alloc::{AllocError, Global};
 
 type FailingWard = Ward<FailingPages, AnyKeyer>;

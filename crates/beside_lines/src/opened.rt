@@ -14,8 +14,9 @@ use exh_notice::Notice;
 use exh_prefix::PageNo;
 use exh_runs::{Difference, Part, Run, same};
 use exh_script::Run as Script;
+use exh_settings::Config;
 use exh_ward::{Ward, WardFault};
-use exh_world::{Config, World};
+use exh_world::World;
 use std::alloc::Global;
 
 type PlainWard = Ward<PlainPages, AnyKeyer>;
