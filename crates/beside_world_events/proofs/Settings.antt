@@ -6,10 +6,10 @@ use Rattle.exh_world.specs.EffectLemmas.{on_effect, on_refusal}
 use Rattle.exh_world.specs.NewWorld.{AreWardsFor, settings_of}
 use Rattle.exh_world.specs.Step.{HasEffect, Step}
 use Rattle.exh_world.specs.World.{WorldState}
-use Rattle.exh_world.specs.declared.config.Config.{Config}
-use Rattle.exh_world.specs.declared.event.Event.{Event}
-use Rattle.exh_world.specs.declared.outcome.Outcome.{Outcome}
-use Rattle.exh_world.specs.declared.step_fault.StepFault.{StepFault}
+use Rattle.exh_settings.specs.declared.config.Config.{Config}
+use Rattle.exh_event.specs.declared.event.Event.{Event}
+use Rattle.exh_event.specs.declared.outcome.Outcome.{Outcome}
+use Rattle.exh_event.specs.declared.step_fault.StepFault.{StepFault}
 use Rattle.beside_world_events.specs.Anew.{AreItsWards, HasSettings}
 
 module _ {K : Type 0} (pseudokey_of : K → List ℕ → ℕ) (old : WorldState K) (is : HasSettings old) where

@@ -7,12 +7,14 @@ ghost use Rattle.beside_world_events.specs.Anew.{AreItsWards, HasSettings};
 use crate::line::{Line, deliver, done, has_entry};
 use crate::lives::{COPIES, Life, first_lines, journal, notices};
 use exh_calls::JournalEntry;
+use exh_event::{Event, Outcome, StepFault, Turn};
 use exh_frames::PlainPages;
 use exh_keyer::PlainKeyer;
 use exh_notice::Notice;
 use exh_runs::{Difference, Part, Run, again, push, same};
+use exh_settings::Config;
 use exh_ward::{Ward, WardFault};
-use exh_world::{Config, Event, Outcome, StepFault, Turn, World};
+use exh_world::World;
 use std::alloc::{AllocError, Global};
 
 type PlainWorld = World<PlainPages, PlainKeyer>;

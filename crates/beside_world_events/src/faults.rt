@@ -4,13 +4,15 @@
 
 use crate::line::{Line, answered, begin, deliver, done, hop};
 use exh_calls::Reply;
+use exh_event::{Event, Outcome, Progress, StepFault};
 use exh_fixtures::{Asked, first_store, merge, prefix, split, value};
 use exh_frames::FailingPages;
 use exh_keyer::PlainKeyer;
 use exh_prefix::PageNo;
 use exh_runs::{Difference, Part, Run, again, same};
+use exh_settings::Config;
 use exh_ward::{PageLine, Ward, WardFault};
-use exh_world::{Config, Event, Outcome, Progress, StepFault, World};
+use exh_world::World;
 use std::alloc::{AllocError, Global};
 
 type FailingWorld = World<FailingPages, PlainKeyer>;

@@ -2,6 +2,7 @@
 ghost use Rattle.beside_world_events.specs.Anew.{HasSettings};
 
 use exh_calls::Reply;
+use exh_event::{Event, Outcome, Progress, StepFault, Turn};
 use exh_fixtures::Asked;
 use exh_frames::Pages;
 use exh_keyer::PlainKeyer;
@@ -10,7 +11,7 @@ use exh_prefix::PageNo;
 use exh_runs::{Difference, again};
 use exh_table::Table;
 use exh_ward::WardFault;
-use exh_world::{Event, Outcome, Progress, StepFault, Turn, World};
+use exh_world::World;
 
 const UNREACHED: StepFault = StepFault::Ward(WardFault::Page);
 

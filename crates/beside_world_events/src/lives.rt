@@ -3,10 +3,10 @@
 
 use crate::line::{Line, answered, begin, deliver, done, hop, refused};
 use exh_calls::{JournalEntry, Reply};
+use exh_event::{Event, Outcome, Progress, StepFault};
 use exh_fixtures::{Asked, merge, prefix, split, value};
 use exh_notice::Notice;
 use exh_runs::Difference;
-use exh_world::{Event, Outcome, Progress, StepFault};
 
 /// The copies of a world that is made of wards. The first world has one less.
 pub(crate) const COPIES: u32 = 3;

@@ -3,14 +3,16 @@
 
 use crate::line::{Line, done, refused};
 use exh_calls::Reply;
+use exh_event::{Event, Outcome, Progress, StepFault};
 use exh_fixtures::{Asked, merge, opened_ward, prefix, split, value};
 use exh_frames::PlainPages;
 use exh_keyer::PlainKeyer;
 use exh_notice::Notice;
 use exh_prefix::PageNo;
 use exh_runs::{Difference, Part, Run, again, same};
+use exh_settings::Config;
 use exh_ward::WardFault;
-use exh_world::{Config, Event, Outcome, Progress, StepFault, World};
+use exh_world::World;
 use std::alloc::Global;
 
 type PlainWorld = World<PlainPages, PlainKeyer>;

@@ -5,13 +5,16 @@ ghost use Rattle.std.specs.Prelude.{IfOk};
 ghost use Rattle.exh_keyer.specs.Pseudokey.{any_pseudokey};
 ghost use Rattle.exh_world.specs.Sound.{IsSoundWorld};
 
+use exh_event::StepFault;
 use exh_fixtures::first_store;
 use exh_frames::FailingPages;
 use exh_keyer::AnyKeyer;
+use exh_line::{Refusal, push_refusal};
 use exh_runs::{Difference, Part, Run, again, same};
-use exh_script::{Refusal, ResponseFault, Run as Script, push_refusal, push_response};
+use exh_script::{ResponseFault, Run as Script, push_response};
+use exh_settings::Config;
 use exh_ward::{Ward, WardFault};
-use exh_world::{Config, StepFault, World};
+use exh_world::World;
 use std::alloc::{AllocError, Global};
 
 const LINE_COUNT: usize = 19;

@@ -2,6 +2,7 @@
 
 use crate::known::{Known, known_by, learn};
 use exh_calls::{Call, Reply};
+use exh_event::{Event, StepFault};
 use exh_fixtures::{prefix, told_reply};
 use exh_keyer::{Keyer, PlainKeyer};
 use exh_model::{LeafSet, MapMachine, greatest_of};
@@ -10,7 +11,6 @@ use exh_prefix::{LIMIT, PageNo, Prefix};
 use exh_runs::{Difference, Lie, Part, again, push, same};
 use exh_table::Table;
 use exh_ward::WardFault;
-use exh_world::{Event, StepFault};
 use std::alloc::{AllocError, Global};
 
 /// The names that requests have.

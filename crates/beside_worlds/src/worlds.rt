@@ -6,14 +6,16 @@ ghost use Rattle.exh_page.specs.declared.page.TheConstants.{CAP_LIMIT};
 
 use crate::slow_world::{Flight, Met, NAMES, SlowWorld};
 use exh_calls::Call;
+use exh_event::{Event, Outcome, Progress, StepFault};
 use exh_fixtures::Asked;
 use exh_frames::PlainPages;
 use exh_keyer::PlainKeyer;
 use exh_notice::Notice;
 use exh_prefix::{PageNo, Prefix};
 use exh_runs::{Dice, Difference, Part, Run, again, same};
+use exh_settings::Config;
 use exh_ward::{PageLine, WardFault};
-use exh_world::{Config, Event, Outcome, Progress, StepFault, World};
+use exh_world::World;
 use std::alloc::{AllocError, Global};
 
 type PlainWorld = World<PlainPages, PlainKeyer>;

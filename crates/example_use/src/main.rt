@@ -6,8 +6,9 @@ use exh_calls::Call;
 use exh_frames::PlainPages;
 use exh_keyer::PlainKeyer;
 use exh_page::{Key, Value};
+use exh_settings::Config;
 use exh_ward::{Ward, first_page};
-use exh_world::{Config, World};
+use exh_world::World;
 
 // A file of two records a page, one ward and two copies of the directory.
 const TWO_A_PAGE: Config<PlainKeyer> = Config {

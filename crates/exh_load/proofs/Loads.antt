@@ -7,7 +7,7 @@ use Rattle.exh_stream.specs.Output.{AppendsBeginning, Takes, TakesBeginning, Wri
 use Rattle.exh_stream.specs.OutputLemmas.{AppendsBeginning-from, AppendsBeginning-of_more, Takes-finished, Takes-cut, Takes-none, TakesBeginning-left}
 use Rattle.exh_stream.specs.declared.output.Output.{Output}
 use Rattle.exh_text.specs.Lines.{lines_of}
-use Rattle.exh_script.specs.declared.script.TheConstants.{SCRIPT_LIMIT}
+use Rattle.exh_settings.specs.declared.script.TheConstants.{SCRIPT_LIMIT}
 use Rattle.exh_open.specs.Opened.{OpenedState}
 use Rattle.exh_load.specs.Load.{IsLoadOf, Load, Loads, Prints, PrintsFront, TakesFront, load_of, load_of_lines, loading_in, refused}
 use Rattle.exh_load.specs.declared.load_fault.LoadFault.{LoadFault}

@@ -4,8 +4,8 @@ ghost use Rattle.std.specs.Io.KnownBytes.{Appends};
 ghost use Rattle.exh_text.specs.Lines.{lines_of};
 ghost use Rattle.exh_stream.specs.Output.{AppendsBeginning, SameWriter, Takes, TakesBeginning, held, pending, writer_failed};
 ghost use Rattle.exh_stream.specs.Source.{SameReader, reader_failed, unread};
-ghost use Rattle.exh_script.specs.Grammar.{file_in_range};
-ghost use Rattle.exh_script.specs.declared.script.TheConstants.{SCRIPT_LIMIT};
+ghost use Rattle.exh_settings.specs.FileLine.{file_in_range};
+ghost use Rattle.exh_settings.specs.declared.script.TheConstants.{SCRIPT_LIMIT};
 ghost use Rattle.exh_load.specs.Loading.{loaded_from};
 ghost use Rattle.exh_load.specs.Load.{Loads, Prints, PrintsFront, TakesFront, load_of_lines, loading_in, new_loading, number_line, refused, text_of_pairs};
 
@@ -13,10 +13,9 @@ use crate::{LoadFault, Loader, load_lines};
 use exh_frames::PlainPages;
 use exh_keyer::AnyKeyer;
 use exh_open::Opened;
-use exh_script::{SCRIPT_LIMIT, parse_file_line};
+use exh_settings::{Config, SCRIPT_LIMIT, parse_file_line};
 use exh_stream::{InputFault, Output, Source};
 use exh_text::{Lines, push_number, push_text};
-use exh_world::Config;
 use std::alloc::Global;
 use std::io::{Read, Write};
 

@@ -9,8 +9,8 @@ use Rattle.exh_world.specs.InFlight.{Requests, request_named, without}
 use Rattle.exh_world.specs.declared.request.Request.{Request}
 use Rattle.exh_script.specs.Replies.{Turn, is_about, IsBegunLast}
 use Rattle.exh_script.specs.Text.{ScriptWorld, Response, Said}
-use Rattle.exh_script.specs.declared.answer.Answer.TheVariants.{Replied}
-use Rattle.exh_script.specs.declared.moves.Moves.{Moves}
+use Rattle.exh_line.specs.declared.answer.Answer.TheVariants.{Replied}
+use Rattle.exh_line.specs.declared.moves.Moves.{Moves}
 use Rattle.indexmap.specs.IndexMap.{insert_entry}
 use Rattle.exh_script.proofs.RequestLemmas.{AreNamedOnce, once_after, named_after, once_kept, named_without}
 

@@ -7,11 +7,11 @@ use Rattle.exh_keyer.specs.declared.any_keyer.AnyKeyer.{AnyKeyer}
 use Rattle.exh_text.specs.declared.line_fault.LineFault.{LineFault}
 use Rattle.exh_ward.specs.WardState.{WardState}
 use Rattle.exh_calls.specs.declared.journal_entry.JournalEntry.{JournalEntry}
-use Rattle.exh_script.specs.Grammar.{line_of}
+use Rattle.exh_line.specs.Grammar.{line_of}
 use Rattle.exh_script.specs.Replies.{world_left}
 use Rattle.exh_script.specs.Text.{ScriptWorld, after_parsed, after_line}
-use Rattle.exh_script.specs.declared.line.Line.{Line}
-use Rattle.exh_script.specs.declared.line.Line.TheVariants.{Step, View}
+use Rattle.exh_line.specs.declared.line.Line.{Line}
+use Rattle.exh_line.specs.declared.line.Line.TheVariants.{Step, View}
 use Rattle.exh_script.proofs.KeptWorlds.{WorldLaws, IsServedWorld, step_left, line_kept}
 use Rattle.exh_script.proofs.LineMoments.{parsed_entries, entries_from}
 use Rattle.exh_script.proofs.WardSteps.{is_in_ward}

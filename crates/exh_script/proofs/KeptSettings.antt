@@ -8,15 +8,15 @@ use Rattle.exh_world.specs.NewWorld.{settings_of}
 use Rattle.exh_world.specs.Sound.{IsSoundWorld}
 use Rattle.exh_world.specs.Step.{Step}
 use Rattle.exh_world.specs.StepFunction.{result_of, world_after}
-use Rattle.exh_world.specs.declared.config.Config.{Config}
-use Rattle.exh_world.specs.declared.event.Event.{Event}
-use Rattle.exh_world.specs.declared.outcome.Outcome.{Outcome}
-use Rattle.exh_world.specs.declared.step_fault.StepFault.{StepFault}
-use Rattle.exh_script.specs.Grammar.{line_of}
+use Rattle.exh_settings.specs.declared.config.Config.{Config}
+use Rattle.exh_event.specs.declared.event.Event.{Event}
+use Rattle.exh_event.specs.declared.outcome.Outcome.{Outcome}
+use Rattle.exh_event.specs.declared.step_fault.StepFault.{StepFault}
+use Rattle.exh_line.specs.Grammar.{line_of}
 use Rattle.exh_script.specs.Replies.{world_left}
 use Rattle.exh_script.specs.Text.{ScriptWorld, after_parsed, after_line}
-use Rattle.exh_script.specs.declared.line.Line.{Line}
-use Rattle.exh_script.specs.declared.line.Line.TheVariants as lines
+use Rattle.exh_line.specs.declared.line.Line.{Line}
+use Rattle.exh_line.specs.declared.line.Line.TheVariants as lines
 use Rattle.exh_script.proofs.KeptWorlds.{WorldLaws, IsServedWorld, line_kept}
 
 module _ (copies : ℕ) where

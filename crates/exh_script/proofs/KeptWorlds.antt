@@ -10,12 +10,12 @@ use Rattle.exh_world.specs.Laws.{AreWardsSound, StepsHaveOutcomes, StepsKeepWorl
 use Rattle.exh_world.specs.Run.{Moment, IsRun, answered_at, journal_entry_of}
 use Rattle.exh_world.specs.Sound.{IsSoundWorld}
 use Rattle.exh_world.specs.StepFunction.{result_of, world_after}
-use Rattle.exh_world.specs.declared.event.Event.{Event}
-use Rattle.exh_script.specs.Grammar.{line_of}
+use Rattle.exh_event.specs.declared.event.Event.{Event}
+use Rattle.exh_line.specs.Grammar.{line_of}
 use Rattle.exh_script.specs.Replies.{world_left}
 use Rattle.exh_script.specs.Text.{ScriptWorld, after_parsed, after_line}
-use Rattle.exh_script.specs.declared.line.Line.{Line}
-use Rattle.exh_script.specs.declared.line.Line.TheVariants.{Step, View}
+use Rattle.exh_line.specs.declared.line.Line.{Line}
+use Rattle.exh_line.specs.declared.line.Line.TheVariants.{Step, View}
 use Rattle.exh_script.proofs.LineMoments.{parsed_moments, moments_from}
 use Rattle.exh_script.proofs.WardSteps.{AreWardsLeft, wards_left}
 

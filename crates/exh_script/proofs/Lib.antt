@@ -11,5 +11,3 @@ pub mod BegunRequests
 pub mod Strays
 pub mod ReplyLaw
 pub mod StartedReplies
--- of printed_answers_are_one
-pub mod ToldLemmas

@@ -8,14 +8,14 @@ use Rattle.exh_text.specs.declared.line_fault.LineFault.{LineFault}
 use Rattle.exh_calls.specs.declared.journal_entry.JournalEntry.{JournalEntry}
 use Rattle.exh_world.specs.Run.{Moment, Answered, answered_at, answered_in, journal_entry_of}
 use Rattle.exh_world.specs.StepFunction.{result_of, world_after}
-use Rattle.exh_world.specs.declared.event.Event.{Event}
-use Rattle.exh_world.specs.declared.event.Event.TheVariants as events
-use Rattle.exh_world.specs.declared.step_fault.StepFault.{StepFault}
-use Rattle.exh_script.specs.Grammar.{line_of}
+use Rattle.exh_event.specs.declared.event.Event.{Event}
+use Rattle.exh_event.specs.declared.event.Event.TheVariants as events
+use Rattle.exh_event.specs.declared.step_fault.StepFault.{StepFault}
+use Rattle.exh_line.specs.Grammar.{line_of}
 use Rattle.exh_script.specs.Replies.{parsed_steps, steps_from}
 use Rattle.exh_script.specs.Text.{ScriptWorld, after_line}
-use Rattle.exh_script.specs.declared.line.Line.{Line}
-use Rattle.exh_script.specs.declared.line.Line.TheVariants.{Step, View}
+use Rattle.exh_line.specs.declared.line.Line.{Line}
+use Rattle.exh_line.specs.declared.line.Line.TheVariants.{Step, View}
 
 -- ---- moments
 

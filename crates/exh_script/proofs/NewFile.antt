@@ -19,13 +19,13 @@ use Rattle.exh_prefix.specs.declared.prefix.TheConstants.{WARD_BITS_LIMIT}
 use Rattle.exh_world.specs.Laws.{NewWorldsAreSound}
 use Rattle.exh_world.specs.NewWorld.{new_ward, new_world}
 use Rattle.exh_world.specs.World.{map_in}
-use Rattle.exh_world.specs.declared.config.Config.{Config}
+use Rattle.exh_settings.specs.declared.config.Config.{Config}
 use Rattle.exh_world.specs.ListLemmas.{mapped_is}
-use Rattle.exh_script.specs.Grammar.{file_in_range, settings_in_range, file_line_of, spelled_file}
 use Rattle.exh_script.specs.Text.{opened, settings_of}
-use Rattle.exh_script.specs.declared.file_line.TheConstants.{COPIES_LIMIT}
-use Rattle.exh_script.specs.declared.settings.Settings.{Settings}
-use Rattle.exh_script.specs.declared.refusal.Refusal.{Refusal}
+use Rattle.exh_settings.specs.FileLine.{file_in_range, settings_in_range, file_line_of, spelled_file}
+use Rattle.exh_settings.specs.declared.file_line.TheConstants.{COPIES_LIMIT}
+use Rattle.exh_settings.specs.declared.settings.Settings.{Settings}
+use Rattle.exh_line.specs.declared.refusal.Refusal.{Refusal}
 use Rattle.exh_text.specs.declared.line_fault.LineFault.TheVariants.{Range}
 use Rattle.exh_script.proofs.KeptWorlds.{IsServedWorld}
 

@@ -12,11 +12,11 @@ use Rattle.exh_world.specs.Laws.{AreWardsSound, RunsCarryTheHeadline}
 use Rattle.exh_world.specs.Run.{Moment, answered_in, journal_entry_of}
 use Rattle.exh_world.specs.Sound.{IsSoundWorld}
 use Rattle.exh_world.specs.World.{map_in}
-use Rattle.exh_world.specs.declared.turn.Turn.{Turn as StepTurn}
+use Rattle.exh_event.specs.declared.turn.Turn.{Turn as StepTurn}
 use Rattle.exh_script.specs.AnyStart.{HasOwnMore, RepliesFrom}
 use Rattle.exh_script.specs.Replies.{steps_from, world_left, ShowTheSame}
 use Rattle.exh_script.specs.Text.{ScriptWorld, Start, text_from}
-use Rattle.exh_script.specs.View.{shown_text, table_text}
+use Rattle.exh_line.specs.Shown.{shown_text, table_text}
 use Rattle.exh_script.proofs.Journals.{lines_more}
 use Rattle.exh_script.proofs.KeptWorlds.{WorldLaws, IsServedWorld, lines_run}
 use Rattle.exh_script.proofs.LineMoments.{moments_from, turns_are, entries_from, entries_are}

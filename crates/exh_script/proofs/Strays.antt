@@ -6,22 +6,22 @@ use Rattle.std.proofs.lemmas.List.Elements.{All-from_recursion, recursion_from_A
 use Rattle.exh_keyer.specs.declared.any_keyer.AnyKeyer.{AnyKeyer}
 use Rattle.exh_keyer.specs.Pseudokey.{any_pseudokey}
 use Rattle.exh_text.specs.declared.line_fault.LineFault.{LineFault}
-use Rattle.exh_world.specs.declared.progress.Progress.TheVariants as hops
+use Rattle.exh_event.specs.declared.progress.Progress.TheVariants as hops
 use Rattle.exh_world.specs.Headline.{DoesNotStray as KeepsCourse}
 use Rattle.exh_world.specs.Run.{Moment}
 use Rattle.exh_world.specs.StepFunction.{result_of}
-use Rattle.exh_world.specs.declared.event.Event.{Event}
-use Rattle.exh_world.specs.declared.outcome.Outcome.{Outcome}
-use Rattle.exh_world.specs.declared.outcome.Outcome.TheVariants as outcomes
-use Rattle.exh_world.specs.declared.step_fault.StepFault.{StepFault}
-use Rattle.exh_script.specs.Answer.{step_answer}
-use Rattle.exh_script.specs.Grammar.{line_of}
+use Rattle.exh_event.specs.declared.event.Event.{Event}
+use Rattle.exh_event.specs.declared.outcome.Outcome.{Outcome}
+use Rattle.exh_event.specs.declared.outcome.Outcome.TheVariants as outcomes
+use Rattle.exh_event.specs.declared.step_fault.StepFault.{StepFault}
+use Rattle.exh_line.specs.Answer.{step_answer}
+use Rattle.exh_line.specs.Grammar.{line_of}
 use Rattle.exh_script.specs.Replies.{turns_from, SaysNoStray}
 use Rattle.exh_script.specs.Text.{ScriptWorld, Said, view_response, parsed_response, line_response, after_line}
 use Rattle.exh_script.specs.View.{view_result}
-use Rattle.exh_script.specs.declared.answer.Answer.TheVariants.{Stray}
-use Rattle.exh_script.specs.declared.line.Line.{Line}
-use Rattle.exh_script.specs.declared.line.Line.TheVariants as lines
+use Rattle.exh_line.specs.declared.answer.Answer.TheVariants.{Stray}
+use Rattle.exh_line.specs.declared.line.Line.{Line}
+use Rattle.exh_line.specs.declared.line.Line.TheVariants as lines
 use Rattle.exh_script.proofs.LineMoments.{parsed_moments, moments_from}
 
 strays_never : (tells_moves : Bool) (event : Event) (result : Result Outcome StepFault) → ((ward : ℕ) → result ≢ Ok (outcomes.Hopped ward hops.Stray)) → (name : ℕ) → Said (step_answer tells_moves event result) ≢ Said (Stray name)

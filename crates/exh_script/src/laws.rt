@@ -1,23 +1,14 @@
-//! What holds of all scripts and all answers. Each function does nothing.
+//! What holds of all scripts. Each function does nothing.
 
-ghost use Rattle.std.specs.Prelude.{◌≡◌};
-ghost use Rattle.exh_script.specs.Answer.{answer_text, told_answer, HasWidths};
 ghost use Rattle.exh_script.specs.AnyStart.{BeginsSound, LinesKeepSettings, RepliesFollowAnyStart};
 ghost use Rattle.exh_script.specs.Replies.{RepliesAreOneMaps};
 ghost use Rattle.exh_script.specs.Text.{new_file};
-ghost use Rattle.exh_script.specs.declared.answer.Answer.{Answer};
 
 use exh_keyer::AnyKeyer;
 use exh_route::runs_keep_wards_sound_and_one_map;
 use exh_world::{
     new_worlds_are_sound, runs_carry_the_headline, steps_have_outcomes, steps_keep_worlds_sound,
 };
-
-/// A printed line tells its answer: two answers that print the same are the same, their numbers and bytes being as wide
-/// as those of an answer. Only how many records a refused merge would have come to isn't printed.
-pub fn printed_answers_are_one()
-    ensures { (one other : Answer) → HasWidths one → HasWidths other → answer_text one ≡ answer_text other → told_answer one ≡ told_answer other }
-{}
 
 /// The replies that a script prints are, in the order of the answering hops, those of the map machine from the empty
 /// map, to the calls that its lines ask: each is that of the last accepted `begin` of its name before the hop, and no

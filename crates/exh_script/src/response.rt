@@ -2,21 +2,21 @@ ghost use Rattle.std.specs.Prelude.{◌≡◌, ◌⊎◌, ◌++◌, OnOk, IfOk, 
 ghost use Rattle.exh_keyer.specs.Pseudokey.{any_pseudokey};
 ghost use Rattle.exh_world.specs.Sound.{IsSoundWorld};
 ghost use Rattle.exh_world.specs.StepFunction.{result_of, world_after};
-ghost use Rattle.exh_script.specs.Answer.{step_answer};
+ghost use Rattle.exh_line.specs.Answer.{step_answer};
 ghost use Rattle.exh_script.specs.Text.{CountsPageFault, after_asked, after_line, line_response, response_text, response_to, view_response};
 ghost use Rattle.exh_script.specs.View.{view_result};
-ghost use Rattle.exh_script.specs.declared.line.Line.TheVariants.{Step};
-ghost use Rattle.exh_script.specs.declared.view.View.TheVariants.{Copy, Page};
+ghost use Rattle.exh_line.specs.declared.line.Line.TheVariants.{Step};
+ghost use Rattle.exh_line.specs.declared.view.View.TheVariants.{Copy, Page};
 
-use crate::answer_text::{push_answer, push_refusal};
-use crate::line::parse_line;
-use crate::view_text::{push_in_flight, push_page, push_shown};
-use crate::{Answer, Line, ResponseFault, Run, View};
+use crate::in_flight_text::push_in_flight;
+use crate::{ResponseFault, Run};
+use exh_event::{Event, StepFault};
 use exh_frames::Pages;
 use exh_keyer::AnyKeyer;
+use exh_line::{Answer, Line, View, parse_line, push_answer, push_page, push_refusal, push_shown};
 use exh_prefix::PageNo;
 use exh_ward::WardFault;
-use exh_world::{Event, StepFault, World, page_faults_are_counted, steps_are_computed};
+use exh_world::{World, page_faults_are_counted, steps_are_computed};
 use std::alloc::AllocError;
 
 /// Does what a line after the first asks, as it stands in the script, and adds what it prints.

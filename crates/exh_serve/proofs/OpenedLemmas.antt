@@ -10,10 +10,10 @@ use Rattle.exh_open.specs.Opened.{AreWardsOf, OpenedState}
 use Rattle.exh_world.specs.Laws.{WorldsOfWardsAreSound}
 use Rattle.exh_world.specs.NewWorld.{AreWardsFor, settings_of, world_of_wards}
 use Rattle.exh_world.specs.Sound.{IsSoundWorld}
-use Rattle.exh_world.specs.declared.config.Config.{Config}
+use Rattle.exh_settings.specs.declared.config.Config.{Config}
 use Rattle.exh_script.specs.AnyStart.{BeginsSound}
 use Rattle.exh_script.specs.Text.{ScriptWorld}
-use Rattle.exh_script.specs.declared.refusal.Refusal.TheVariants.{Differs}
+use Rattle.exh_line.specs.declared.refusal.Refusal.TheVariants.{Differs}
 use Rattle.exh_page.specs.declared.page.TheConstants.{CAP_LIMIT}
 use Rattle.exh_ward.specs.WardState.{WardState}
 use Rattle.exh_serve.specs.Laws.{IsSoundFile}

@@ -1,10 +1,10 @@
 -- The text of a script, line by line.
 use Rattle.std.proofs.Common.{◌≡◌, ℕ, List, [], ◌∷◌, ◌++◌, Bool, Option, Result, Ok, Err, refl, sym, ap, ◌∙◌, subst, append_assoc, append-nil}
 use Rattle.exh_stream.specs.Output.{Takes, TakesBeginning}
-use Rattle.exh_script.specs.RefusalText.{refusal_text}
+use Rattle.exh_line.specs.RefusalText.{refusal_text}
 use Rattle.exh_script.specs.Replies.{world_left}
 use Rattle.exh_script.specs.Text.{ScriptWorld, line_response, response_text, after_line, Beginning, Start, text_from, start_of, text_after, text_of_lines}
-use Rattle.exh_script.specs.declared.refusal.Refusal.{Refusal}
+use Rattle.exh_line.specs.declared.refusal.Refusal.{Refusal}
 use Rattle.exh_stream.specs.declared.output.Output.{Output}
 use Rattle.exh_stream.specs.OutputLemmas.{AppendsBeginning-from, Takes-then, TakesBeginning-then, TakesBeginning-of_more}
 

@@ -8,16 +8,16 @@ use Rattle.exh_stream.specs.OutputLemmas.{AppendsBeginning-from, AppendsBeginnin
 use Rattle.exh_stream.specs.declared.output.Output.{Output}
 use Rattle.exh_text.specs.Lines.{lines_of}
 use Rattle.exh_serve.specs.Served.{PrintsText, PrintsWhole, PrintsUnread, PrintsFront, PrintsLines, fault_of, unread_text}
-use Rattle.exh_script.specs.RefusalText.{refusal_text}
+use Rattle.exh_line.specs.RefusalText.{refusal_text}
 use Rattle.exh_script.specs.Text.{Beginning, text_of_lines, text_of}
 use Rattle.exh_open.specs.Opened.{OpenedState}
 use Rattle.exh_serve.specs.Left.{left_of_lines, left_of}
-use Rattle.exh_script.specs.declared.refusal.Refusal.TheVariants.{TooLong}
+use Rattle.exh_line.specs.declared.refusal.Refusal.TheVariants.{TooLong}
 use Rattle.exh_script.specs.declared.response_fault.ResponseFault.{ResponseFault}
 use Rattle.exh_script.specs.declared.response_fault.ResponseFault.TheVariants as line
 use Rattle.exh_serve.specs.declared.serve_fault.ServeFault.{ServeFault}
 use Rattle.exh_serve.specs.declared.serve_fault.ServeFault.TheVariants.{Write, Memory, Page}
-use Rattle.exh_script.specs.declared.script.TheConstants.{SCRIPT_LIMIT}
+use Rattle.exh_settings.specs.declared.script.TheConstants.{SCRIPT_LIMIT}
 use Rattle.exh_serve.proofs.Responded.{front_begins}
 
 -- what a run leaves

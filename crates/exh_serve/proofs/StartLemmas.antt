@@ -1,11 +1,11 @@
 -- A script whose first line was read.
 use Rattle.std.proofs.Common.{◌≡◌, ℕ, List, ◌∷◌, Bool, Some, Result, Ok, sym, ap, ◌∙◌, subst}
 use Rattle.exh_text.specs.declared.line_fault.LineFault.{LineFault}
-use Rattle.exh_script.specs.Grammar.{file_line_of}
+use Rattle.exh_settings.specs.FileLine.{file_line_of}
 use Rattle.exh_script.specs.Replies.{world_left}
 use Rattle.exh_script.specs.Text.{ScriptWorld, Beginning, Start, opened, settings_of, start_in, started, start_of, text_from, text_after, text_of_lines}
-use Rattle.exh_script.specs.declared.refusal.Refusal.{Refusal}
-use Rattle.exh_script.specs.declared.settings.Settings.{Settings}
+use Rattle.exh_line.specs.declared.refusal.Refusal.{Refusal}
+use Rattle.exh_settings.specs.declared.settings.Settings.{Settings}
 use Rattle.exh_serve.specs.Left.{file_left, left_after, left_of_lines}
 use Rattle.exh_serve.specs.Served.{PrintsFront, PrintsFrontFrom}
 

@@ -4,9 +4,9 @@ use Rattle.exh_keyer.specs.declared.any_keyer.AnyKeyer.{AnyKeyer}
 use Rattle.exh_keyer.specs.declared.any_keyer.AnyKeyer.TheVariants.{Plain, Sha}
 use Rattle.exh_open.specs.Opened.{OpenedState}
 use Rattle.exh_world.specs.NewWorld.{world_of_wards}
-use Rattle.exh_world.specs.declared.config.Config.{Config}
+use Rattle.exh_settings.specs.declared.config.Config.{Config}
 use Rattle.exh_script.specs.Text.{Beginning, new_file}
-use Rattle.exh_script.specs.declared.refusal.Refusal.TheVariants.{Differs}
+use Rattle.exh_line.specs.declared.refusal.Refusal.TheVariants.{Differs}
 
 abbrev pub is_same_keyer : AnyKeyer → AnyKeyer → Bool
 is_same_keyer Plain Plain = true

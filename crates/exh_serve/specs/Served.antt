@@ -2,13 +2,13 @@
 use Rattle.std.specs.Prelude.{◌≡◌, ◌⊎◌, ◌≤◌, ℕ, List, [], ◌∷◌, ◌++◌, Option, None, IfSome, Result, length}
 use Rattle.exh_text.specs.Lines.{lines_of}
 use Rattle.exh_open.specs.Opened.{OpenedState}
-use Rattle.exh_script.specs.RefusalText.{refusal_text}
+use Rattle.exh_line.specs.RefusalText.{refusal_text}
 use Rattle.exh_script.specs.Text.{Beginning, Start, text_after, text_of_lines, text_of}
-use Rattle.exh_script.specs.declared.refusal.Refusal.{Refusal}
-use Rattle.exh_script.specs.declared.refusal.Refusal.TheVariants.{Read}
+use Rattle.exh_line.specs.declared.refusal.Refusal.{Refusal}
+use Rattle.exh_line.specs.declared.refusal.Refusal.TheVariants.{Read}
 use Rattle.exh_script.specs.declared.response_fault.ResponseFault.{ResponseFault}
 use Rattle.exh_script.specs.declared.response_fault.ResponseFault.TheVariants as line
-use Rattle.exh_script.specs.declared.script.TheConstants.{SCRIPT_LIMIT}
+use Rattle.exh_settings.specs.declared.script.TheConstants.{SCRIPT_LIMIT}
 use Rattle.exh_serve.specs.Left.{left_of}
 use Rattle.exh_serve.specs.declared.serve_fault.ServeFault.{ServeFault}
 use Rattle.exh_serve.specs.declared.serve_fault.ServeFault.TheVariants.{Memory, Page}

@@ -11,9 +11,10 @@ ghost use Rattle.exh_world.specs.Sound.{IsSoundWorld};
 
 use exh_frames::{Pages, PlainPages};
 use exh_keyer::AnyKeyer;
+use exh_line::Refusal;
 use exh_open::Opened;
-use exh_script::Refusal;
-use exh_world::{Config, World};
+use exh_settings::Config;
+use exh_world::World;
 use std::alloc::{AllocError, Global};
 
 /// The world that a first line of these settings begins, over an opened file or over none: a new file's, or that of the

@@ -2,7 +2,7 @@ ghost use Rattle.std.specs.Prelude.{◌≡◌, ◌≢◌, ◌⊎◌, ◌≤◌, 
 ghost use Rattle.exh_keyer.specs.Pseudokey.{any_pseudokey};
 ghost use Rattle.exh_page.specs.declared.page.TheConstants.{CAP_LIMIT};
 ghost use Rattle.exh_prefix.specs.declared.prefix.TheConstants.{WARD_BITS_LIMIT};
-ghost use Rattle.exh_script.specs.RefusalText.{refusal_text};
+ghost use Rattle.exh_line.specs.RefusalText.{refusal_text};
 ghost use Rattle.exh_script.specs.Replies.{world_left};
 ghost use Rattle.exh_script.specs.Text.{start_in, text_after, text_from, text_of_lines};
 ghost use Rattle.exh_serve.specs.Left.{left_after, left_of_lines};
@@ -15,10 +15,10 @@ ghost use Rattle.exh_world.specs.Sound.{IsSoundWorld};
 use crate::ServeFault;
 use crate::beginning::{begin, leave};
 use exh_frames::{Pages, PlainPages};
+use exh_line::{Refusal, push_refusal};
 use exh_open::Opened;
-use exh_script::{
-    Refusal, Run, Settings, lines_keep_settings, parse_file_line, push_refusal, push_response,
-};
+use exh_script::{Run, lines_keep_settings, push_response};
+use exh_settings::{Settings, parse_file_line};
 use exh_stream::Output;
 use exh_text::{LineFault, Lines};
 use std::alloc::Global;

@@ -11,13 +11,13 @@ use Rattle.exh_world.specs.Run.{Moment, IsRun, answered_by, answered_at, answere
 use Rattle.exh_world.specs.Sound.{IsOnTheWay, IsSoundWorld}
 use Rattle.exh_world.specs.Step.{HasHopped, HasEffect, Step}
 use Rattle.exh_world.specs.World.{WorldState}
-use Rattle.exh_world.specs.declared.event.Event.{Event}
-use Rattle.exh_world.specs.declared.event.Event.TheVariants.{Hop as HopOn}
-use Rattle.exh_world.specs.declared.outcome.Outcome.{Outcome}
-use Rattle.exh_world.specs.declared.outcome.Outcome.TheVariants.{Hopped}
-use Rattle.exh_world.specs.declared.progress.Progress.{Progress}
-use Rattle.exh_world.specs.declared.progress.Progress.TheVariants.{Done, Moved, MustSplit, Stray}
-use Rattle.exh_world.specs.declared.step_fault.StepFault.{StepFault}
+use Rattle.exh_event.specs.declared.event.Event.{Event}
+use Rattle.exh_event.specs.declared.event.Event.TheVariants.{Hop as HopOn}
+use Rattle.exh_event.specs.declared.outcome.Outcome.{Outcome}
+use Rattle.exh_event.specs.declared.outcome.Outcome.TheVariants.{Hopped}
+use Rattle.exh_event.specs.declared.progress.Progress.{Progress}
+use Rattle.exh_event.specs.declared.progress.Progress.TheVariants.{Done, Moved, MustSplit, Stray}
+use Rattle.exh_event.specs.declared.step_fault.StepFault.{StepFault}
 
 module _ {K : Type 0} (pseudokey_of : K → List ℕ → ℕ) (old : WorldState K) (sound : IsSoundWorld pseudokey_of old) where
   hop_bounded : (name ward : ℕ) (hop : Progress) (new : WorldState K) → HasHopped pseudokey_of old name ward hop new → AllByRecursion IsBounded (answered_at old (HopOn name) (Ok (Hopped ward hop)))

@@ -17,11 +17,11 @@ use Rattle.exh_world.specs.Laws.{StepsKeepWorldsSound}
 use Rattle.exh_world.specs.Sound.{IsSoundWorld}
 use Rattle.exh_world.specs.Step.{Step, HasTaken, HasSent, HasJoined, HasRestarted}
 use Rattle.exh_world.specs.World.{WorldState, numbered, issued_in}
-use Rattle.exh_world.specs.declared.event.Event.{Event}
-use Rattle.exh_world.specs.declared.outcome.Outcome.{Outcome}
-use Rattle.exh_world.specs.declared.step_fault.StepFault.{StepFault}
-use Rattle.exh_world.specs.declared.step_fault.StepFault.TheVariants.{Ward, NoNotice}
-use Rattle.exh_world.specs.declared.event.Event.TheVariants.{Deliver}
+use Rattle.exh_event.specs.declared.event.Event.{Event}
+use Rattle.exh_event.specs.declared.outcome.Outcome.{Outcome}
+use Rattle.exh_event.specs.declared.step_fault.StepFault.{StepFault}
+use Rattle.exh_event.specs.declared.step_fault.StepFault.TheVariants.{Ward, NoNotice}
+use Rattle.exh_event.specs.declared.event.Event.TheVariants.{Deliver}
 use Rattle.exh_world.proofs.CopyArrays.{table_placed, table_there, tables_set, tables_same}
 
 -- notices of a sound ward

@@ -9,7 +9,7 @@ use Rattle.exh_world.specs.Run.{Moment, IsRun}
 use Rattle.exh_world.specs.Step.{Step}
 use Rattle.exh_world.specs.Taken.{TakersLookOnce, turns_of}
 use Rattle.exh_world.specs.World.{WorldState}
-use Rattle.exh_world.specs.declared.turn.Turn.{Turn}
+use Rattle.exh_event.specs.declared.turn.Turn.{Turn}
 use Rattle.exh_world.proofs.GoingOn.{run_sound}
 
 -- a run is one before each of its turns, that turn's step, and one after it

@@ -15,13 +15,13 @@ use Rattle.exh_world.specs.Run.{Moment, IsRun, known_by, known_at_end, answered_
 use Rattle.exh_world.specs.Sound.{IsSoundWorld}
 use Rattle.exh_world.specs.Step.{HasJoined, HasHopped, HasEffect, Step}
 use Rattle.exh_world.specs.World.{WorldState, numbered}
-use Rattle.exh_world.specs.declared.event.Event.{Event}
-use Rattle.exh_world.specs.declared.event.Event.TheVariants.{Combine}
-use Rattle.exh_world.specs.declared.outcome.Outcome.{Outcome}
-use Rattle.exh_world.specs.declared.outcome.Outcome.TheVariants.{Hopped}
-use Rattle.exh_world.specs.declared.progress.Progress.TheVariants.{Stray}
-use Rattle.exh_world.specs.declared.step_fault.StepFault.{StepFault}
-use Rattle.exh_world.specs.declared.turn.Turn.{Turn}
+use Rattle.exh_event.specs.declared.event.Event.{Event}
+use Rattle.exh_event.specs.declared.event.Event.TheVariants.{Combine}
+use Rattle.exh_event.specs.declared.outcome.Outcome.{Outcome}
+use Rattle.exh_event.specs.declared.outcome.Outcome.TheVariants.{Hopped}
+use Rattle.exh_event.specs.declared.progress.Progress.TheVariants.{Stray}
+use Rattle.exh_event.specs.declared.step_fault.StepFault.{StepFault}
+use Rattle.exh_event.specs.declared.turn.Turn.{Turn}
 use Rattle.exh_world.specs.EffectLemmas.{on_effect}
 use Rattle.exh_world.proofs.Known.{IsKnown, own_sets, set_of}
 use Rattle.exh_world.specs.ListLemmas.{numbered_here}

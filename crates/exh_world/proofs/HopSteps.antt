@@ -15,11 +15,12 @@ use Rattle.exh_world.specs.Kept.{IsKeptWorld}
 use Rattle.exh_world.specs.Laws.{StepsKeepWorldsSound}
 use Rattle.exh_world.specs.Sound.{IsWardOf, IsOnTheWay}
 use Rattle.exh_world.specs.Step.{HasHopped, ReachesInto}
-use Rattle.exh_world.specs.Progress.{hop_in, bound_in, progress_with, progress_of}
+use Rattle.exh_event.specs.Progress.{hop_in, progress_with}
+use Rattle.exh_world.specs.Progress.{bound_in, progress_of}
 use Rattle.exh_world.specs.World.{WorldState, changes_in}
-use Rattle.exh_world.specs.declared.event.Event.TheVariants.{Hop as HopOn}
-use Rattle.exh_world.specs.declared.outcome.Outcome.TheVariants.{Hopped}
-use Rattle.exh_world.specs.declared.progress.Progress.{Progress}
+use Rattle.exh_event.specs.declared.event.Event.TheVariants.{Hop as HopOn}
+use Rattle.exh_event.specs.declared.outcome.Outcome.TheVariants.{Hopped}
+use Rattle.exh_event.specs.declared.progress.Progress.{Progress}
 use Rattle.exh_world.specs.declared.request.Request.{Request}
 use Rattle.exh_world.specs.declared.world.World.TheInside.{Inside}
 use Rattle.exh_world.proofs.InsideWorld.{with_ward, world_of}

@@ -25,7 +25,6 @@ pub mod OneMap
 pub mod MapsOfWards
 pub mod WorldMaps
 pub mod Known
-pub mod CopiesTold
 pub mod Named
 pub mod StepFacts
 pub mod RunFacts
@@ -37,8 +36,6 @@ pub mod CountedAnswers
 pub mod BegunNear
 pub mod TakersCurrent
 pub mod CountedParts
--- of the headline in other words
-pub mod RunWords
 -- of steps_are_computed and steps_have_outcomes
 pub mod StepFunction
 pub mod StepOutcome

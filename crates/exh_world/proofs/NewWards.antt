@@ -7,7 +7,7 @@ use Rattle.exh_prefix.specs.Leading.{ward_prefix}
 use Rattle.exh_ward.specs.WardState.{IsSoundWard}
 use Rattle.exh_prefix.specs.declared.prefix.TheConstants.{WARD_BITS_LIMIT}
 use Rattle.exh_world.specs.NewWorld.{new_ward, new_world}
-use Rattle.exh_world.specs.declared.config.Config.{Config}
+use Rattle.exh_settings.specs.declared.config.Config.{Config}
 use Rattle.exh_world.proofs.FreshWorld.{AreSoundWards}
 use Rattle.exh_world.specs.ListLemmas.{mapped_is}
 

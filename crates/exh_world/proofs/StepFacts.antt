@@ -24,12 +24,12 @@ use Rattle.exh_world.specs.Run.{Knowledge, known_after, answered_by, answered_at
 use Rattle.exh_world.specs.Sound.{IsOnTheWay, IsSoundWorld}
 use Rattle.exh_world.specs.Step.{HasHopped, HasChanged, HasEffect}
 use Rattle.exh_world.specs.World.{WorldState, map_in}
-use Rattle.exh_world.specs.declared.event.Event.{Event}
-use Rattle.exh_world.specs.declared.event.Event.TheVariants.{Begin, Hop as HopOn, Split, Merge, Deliver, Send, Combine, Restart}
-use Rattle.exh_world.specs.declared.outcome.Outcome.{Outcome}
-use Rattle.exh_world.specs.declared.outcome.Outcome.TheVariants.{Begun, Hopped, Changed, Taken, Sent, Joined, Restarted}
-use Rattle.exh_world.specs.declared.progress.Progress.{Progress}
-use Rattle.exh_world.specs.declared.progress.Progress.TheVariants.{Done, Moved, MustSplit, Stray}
+use Rattle.exh_event.specs.declared.event.Event.{Event}
+use Rattle.exh_event.specs.declared.event.Event.TheVariants.{Begin, Hop as HopOn, Split, Merge, Deliver, Send, Combine, Restart}
+use Rattle.exh_event.specs.declared.outcome.Outcome.{Outcome}
+use Rattle.exh_event.specs.declared.outcome.Outcome.TheVariants.{Begun, Hopped, Changed, Taken, Sent, Joined, Restarted}
+use Rattle.exh_event.specs.declared.progress.Progress.{Progress}
+use Rattle.exh_event.specs.declared.progress.Progress.TheVariants.{Done, Moved, MustSplit, Stray}
 use Rattle.exh_world.specs.EffectLemmas.{on_effect}
 use Rattle.exh_world.proofs.Known.{IsKnown, taken_known, joined_known, sent_known, restarted_known}
 use Rattle.exh_world.proofs.Named.{named}

@@ -32,11 +32,11 @@ use Rattle.exh_world.specs.Progress.{bound_in, progress_of}
 use Rattle.exh_world.specs.Step.{pseudokey_in, HasHopped, Step}
 use Rattle.exh_world.specs.StepFunction.{Stepped, pages_in, request_from, begun, ward_after_hop, hopped, after_change, with_copy, step_of, result_of, world_after}
 use Rattle.exh_world.specs.World.{WorldState, numbered, issued_in}
-use Rattle.exh_world.specs.declared.event.Event.{Event}
-use Rattle.exh_world.specs.declared.event.Event.TheVariants.{Begin, Hop as HopOn, Split, Merge, Deliver, Send, Combine, Restart}
-use Rattle.exh_world.specs.declared.outcome.Outcome.TheVariants.{Taken, Sent, Joined, Restarted}
+use Rattle.exh_event.specs.declared.event.Event.{Event}
+use Rattle.exh_event.specs.declared.event.Event.TheVariants.{Begin, Hop as HopOn, Split, Merge, Deliver, Send, Combine, Restart}
+use Rattle.exh_event.specs.declared.outcome.Outcome.TheVariants.{Taken, Sent, Joined, Restarted}
 use Rattle.exh_world.specs.declared.request.Request.{Request}
-use Rattle.exh_world.specs.declared.step_fault.StepFault.TheVariants.{NameTaken, NoCopy, NoRequest, NoWard, NoNotice, NoTable}
+use Rattle.exh_event.specs.declared.step_fault.StepFault.TheVariants.{NameTaken, NoCopy, NoRequest, NoWard, NoNotice, NoTable}
 use Rattle.exh_world.specs.RequestLemmas.{all_named}
 use Rattle.exh_world.proofs.BegunSound.{ward_begins, ward_there, walk_ends_below}
 use Rattle.exh_world.proofs.HopSteps.{hop_of_progress}

@@ -15,14 +15,14 @@ use Rattle.exh_route.specs.Laws.{RunsKeepWardsSound}
 use Rattle.exh_route.specs.WardRun.{WardEvent, HopAt, SplitAt, MergeAt, WardStep, changes_by}
 use Rattle.exh_world.specs.EffectLemmas.{on_effect, on_refusal}
 use Rattle.exh_world.specs.Laws.{AreWardsSound, StepsKeepWorldsSound}
-use Rattle.exh_world.specs.Progress.{hop_in}
+use Rattle.exh_event.specs.Progress.{hop_in}
 use Rattle.exh_world.specs.Sound.{IsSoundWorld}
 use Rattle.exh_world.specs.Step.{HasHopped, HasEffect, Step}
 use Rattle.exh_world.specs.World.{WorldState}
-use Rattle.exh_world.specs.declared.event.Event.{Event}
-use Rattle.exh_world.specs.declared.outcome.Outcome.{Outcome}
-use Rattle.exh_world.specs.declared.progress.Progress.{Progress}
-use Rattle.exh_world.specs.declared.step_fault.StepFault.{StepFault}
+use Rattle.exh_event.specs.declared.event.Event.{Event}
+use Rattle.exh_event.specs.declared.outcome.Outcome.{Outcome}
+use Rattle.exh_event.specs.declared.progress.Progress.{Progress}
+use Rattle.exh_event.specs.declared.step_fault.StepFault.{StepFault}
 
 -- the ward's notices and table are as they were, or it has one notice more, which its table took
 abbrev pub Tells : {K : Type 0} → WardState K → WardState K → Type 0

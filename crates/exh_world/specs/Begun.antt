@@ -10,8 +10,8 @@ use Rattle.exh_world.specs.InFlight.{request_named}
 use Rattle.exh_world.specs.Sound.{IsSoundWorld}
 use Rattle.exh_world.specs.Step.{Step}
 use Rattle.exh_world.specs.World.{WorldState, numbered}
-use Rattle.exh_world.specs.declared.event.Event.TheVariants.{Begin}
-use Rattle.exh_world.specs.declared.outcome.Outcome.TheVariants.{Begun}
+use Rattle.exh_event.specs.declared.event.Event.TheVariants.{Begin}
+use Rattle.exh_event.specs.declared.outcome.Outcome.TheVariants.{Begun}
 use Rattle.exh_world.specs.declared.request.Request.{Request}
 
 -- what the request keeps is the distance of its page; it is few, and where the copy's table is in the ward that of the ward's start table and its first m

@@ -8,13 +8,13 @@ use Rattle.exh_world.specs.Run.{Moment, IsRun}
 use Rattle.exh_world.specs.Sound.{IsSoundWorld}
 use Rattle.exh_world.specs.Step.{Step}
 use Rattle.exh_world.specs.World.{WorldState, changes_in}
-use Rattle.exh_world.specs.declared.event.Event.{Event}
-use Rattle.exh_world.specs.declared.event.Event.TheVariants.{Hop as HopOn}
-use Rattle.exh_world.specs.declared.outcome.Outcome.{Outcome}
-use Rattle.exh_world.specs.declared.outcome.Outcome.TheVariants.{Hopped}
-use Rattle.exh_world.specs.declared.progress.Progress.TheVariants.{Done, Moved}
+use Rattle.exh_event.specs.declared.event.Event.{Event}
+use Rattle.exh_event.specs.declared.event.Event.TheVariants.{Hop as HopOn}
+use Rattle.exh_event.specs.declared.outcome.Outcome.{Outcome}
+use Rattle.exh_event.specs.declared.outcome.Outcome.TheVariants.{Hopped}
+use Rattle.exh_event.specs.declared.progress.Progress.TheVariants.{Done, Moved}
 use Rattle.exh_world.specs.declared.request.Request.{Request}
-use Rattle.exh_world.specs.declared.step_fault.StepFault.{StepFault}
+use Rattle.exh_event.specs.declared.step_fault.StepFault.{StepFault}
 
 -- ---- what is counted
 

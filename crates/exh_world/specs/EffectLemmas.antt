@@ -8,12 +8,12 @@ use Rattle.exh_calls.specs.declared.call.Call.{Call}
 use Rattle.exh_ward.specs.WardState.{WardState}
 use Rattle.exh_world.specs.Step.{HasBegun, HasHopped, HasChanged, HasTaken, HasSent, HasJoined, HasRestarted, HasEffect, Step}
 use Rattle.exh_world.specs.World.{WorldState}
-use Rattle.exh_world.specs.declared.event.Event.{Event}
-use Rattle.exh_world.specs.declared.event.Event.TheVariants.{Begin, Hop as HopOn, Split, Merge, Deliver, Send, Combine, Restart}
-use Rattle.exh_world.specs.declared.outcome.Outcome.{Outcome}
-use Rattle.exh_world.specs.declared.outcome.Outcome.TheVariants.{Begun, Hopped, Changed, Taken, Sent, Joined, Restarted}
-use Rattle.exh_world.specs.declared.progress.Progress.{Progress}
-use Rattle.exh_world.specs.declared.step_fault.StepFault.{StepFault}
+use Rattle.exh_event.specs.declared.event.Event.{Event}
+use Rattle.exh_event.specs.declared.event.Event.TheVariants.{Begin, Hop as HopOn, Split, Merge, Deliver, Send, Combine, Restart}
+use Rattle.exh_event.specs.declared.outcome.Outcome.{Outcome}
+use Rattle.exh_event.specs.declared.outcome.Outcome.TheVariants.{Begun, Hopped, Changed, Taken, Sent, Joined, Restarted}
+use Rattle.exh_event.specs.declared.progress.Progress.{Progress}
+use Rattle.exh_event.specs.declared.step_fault.StepFault.{StepFault}
 
 module _ {K : Type 0} (pseudokey_of : K → List ℕ → ℕ) (old : WorldState K) (P : Event → Outcome → WorldState K → Type 0) where
   pub record ForEach : Type 0 where

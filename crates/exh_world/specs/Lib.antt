@@ -5,7 +5,6 @@ pub mod Step
 pub mod StepFunction
 pub mod Run
 pub mod Headline
-pub mod HeadlineLaws
 pub mod Tables
 pub mod Sound
 pub mod Laws
@@ -15,7 +14,6 @@ pub mod Current
 pub mod Taken
 pub mod Begun
 pub mod Parts
-pub mod StepFault
 pub mod Kept
 pub mod NewWorld
 pub mod ListLemmas

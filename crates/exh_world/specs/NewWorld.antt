@@ -8,7 +8,7 @@ use Rattle.exh_page.specs.declared.page.Page.TheVariants.{Live}
 use Rattle.exh_prefix.specs.Leading.{ward_prefix}
 use Rattle.exh_ward.specs.WardState.{WardState}
 use Rattle.exh_world.specs.World.{WorldState, changes_in, issued_in}
-use Rattle.exh_world.specs.declared.config.Config.{Config}
+use Rattle.exh_settings.specs.declared.config.Config.{Config}
 
 -- a ward of a new file: one page, of all its keys, with no record
 abbrev pub new_ward : {K : Type 0} → Config K → ℕ → WardState K

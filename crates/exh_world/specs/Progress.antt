@@ -1,29 +1,14 @@
--- What the hop of a request comes to, with its moves and their bound where it is answered.
+-- How many moves a request may make, and what its hop comes to.
 use Rattle.std.specs.Prelude.{ℕ, ◌+◌, ◌-◌, length}
 use Rattle.exh_ward.specs.declared.hop.Hop.{Hop}
-use Rattle.exh_ward.specs.declared.hop.Hop.TheVariants as hops
+use Rattle.exh_event.specs.Progress.{progress_with}
+use Rattle.exh_event.specs.declared.progress.Progress.{Progress}
 use Rattle.exh_world.specs.World.{WorldState, changes_in}
-use Rattle.exh_world.specs.declared.progress.Progress.{Progress}
-use Rattle.exh_world.specs.declared.progress.Progress.TheVariants.{Done, Moved, MustSplit, Stray}
 use Rattle.exh_world.specs.declared.request.Request.{Request}
 
 -- as many moves a request may make: its distance when it was begun, and the changes in its ward since
 abbrev pub bound_in : {K : Type 0} → WorldState K → Request → ℕ
 bound_in world request = request.distance + (length (changes_in world request.ward) - request.changes)
 
--- a hop of a request that has made so many moves of at most so many
-abbrev pub progress_with : Hop → ℕ → ℕ → Progress
-progress_with (hops.Done reply) moves bound = Done reply moves bound
-progress_with (hops.Moved next) moves bound = Moved next
-progress_with hops.MustSplit moves bound = MustSplit
-progress_with hops.Stray moves bound = Stray
-
 abbrev pub progress_of : {K : Type 0} → WorldState K → Request → Hop → Progress
 progress_of world request hop = progress_with hop request.moves (bound_in world request)
-
--- the outcome alone
-abbrev pub hop_in : Progress → Hop
-hop_in (Done reply moves bound) = hops.Done reply
-hop_in (Moved next) = hops.Moved next
-hop_in MustSplit = hops.MustSplit
-hop_in Stray = hops.Stray

@@ -11,10 +11,10 @@ use Rattle.exh_world.specs.Run.{Moment, IsRun, Told}
 use Rattle.exh_world.specs.Sound.{IsSoundWorld}
 use Rattle.exh_world.specs.Step.{Step, pseudokey_in, request_begun}
 use Rattle.exh_world.specs.World.{WorldState, changes_in, numbered}
-use Rattle.exh_world.specs.declared.event.Event.TheVariants.{Begin, Hop as HopOn}
-use Rattle.exh_world.specs.declared.outcome.Outcome.TheVariants.{Begun, Hopped}
-use Rattle.exh_world.specs.declared.progress.Progress.{Progress}
-use Rattle.exh_world.specs.declared.turn.Turn.{Turn}
+use Rattle.exh_event.specs.declared.event.Event.TheVariants.{Begin, Hop as HopOn}
+use Rattle.exh_event.specs.declared.outcome.Outcome.TheVariants.{Begun, Hopped}
+use Rattle.exh_event.specs.declared.progress.Progress.{Progress}
+use Rattle.exh_event.specs.declared.turn.Turn.{Turn}
 
 -- over the turns the copy took each change of the ward: they are in the set of what it has taken
 pub record HasTakenAll {K : Type 0} (start : WorldState K) (turns : List Turn) (world : WorldState K) (copy number : ℕ) : Type 0 where

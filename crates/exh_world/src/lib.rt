@@ -2,34 +2,16 @@
 //! flight, with whatever may happen to them as an event.
 #![tactic(auto)]
 
-pub use config::Config;
-pub use event::Event;
-pub use headline_laws::{
-    answers_come_from_the_one_leaf, combines_give_the_join, copies_take_notices, hops_lead_on,
-    only_answers_change_the_map, replies_follow_the_answers_before, runs_go_step_by_step,
-    same_notices_give_same_tables,
-};
 pub use laws::{
     new_worlds_are_sound, page_faults_are_counted, runs_carry_the_headline, steps_are_computed,
     steps_have_outcomes, steps_keep_worlds_sound, worlds_of_wards_are_sound,
 };
 pub use move_laws::{current_copies_look_once, moves_are_counted};
-pub use outcome::Outcome;
-pub use progress::Progress;
 pub use request::Request;
-pub use step_fault::StepFault;
-pub use turn::Turn;
 pub use world::World;
 
-mod config;
-mod event;
-mod headline_laws;
 mod in_flight;
 mod laws;
 mod move_laws;
-mod outcome;
-mod progress;
 mod request;
-mod step_fault;
-mod turn;
 mod world;

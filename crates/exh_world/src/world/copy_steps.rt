@@ -1,12 +1,12 @@
 ghost use Rattle.exh_world.specs.Sound.{IsSoundWorld};
 ghost use Rattle.exh_world.specs.Step.{Step};
-ghost use Rattle.exh_world.specs.declared.event.Event.TheVariants.{Deliver, Send, Combine, Restart};
+ghost use Rattle.exh_event.specs.declared.event.Event.TheVariants.{Deliver, Send, Combine, Restart};
 
 use super::World;
 use super::notice_of::notice_of;
 use super::place::{copy_in, place_in};
 use crate::laws::steps_keep_worlds_sound;
-use crate::{Outcome, StepFault};
+use exh_event::{Outcome, StepFault};
 use exh_frames::Pages;
 use exh_join::Join;
 use exh_keyer::Keyer;

@@ -8,11 +8,11 @@ ghost use Rattle.exh_world.specs.Sound.{IsSoundWorld};
 
 use super::World;
 use super::copies_of::copies_of;
-use crate::Config;
 use crate::in_flight::InFlight;
 use exh_array::Directory;
 use exh_frames::PlainPages;
 use exh_keyer::Keyer;
+use exh_settings::Config;
 use exh_ward::{Ward, first_page};
 use std::alloc::{AllocError, Global};
 

@@ -14,8 +14,9 @@ ghost use Rattle.exh_world.specs.declared.request.Request.{Request as RequestTyp
 
 use super::World;
 use super::place::copy_in;
-use crate::{Request, StepFault};
+use crate::Request;
 use exh_array::Directory;
+use exh_event::StepFault;
 use exh_frames::Pages;
 use exh_keyer::Keyer;
 use exh_prefix::PageNo;

@@ -1,13 +1,14 @@
 ghost use Rattle.exh_world.specs.Sound.{IsSoundWorld};
 ghost use Rattle.exh_world.specs.Step.{Step};
-ghost use Rattle.exh_world.specs.declared.event.Event.TheVariants.{Begin, Hop as HopOn};
+ghost use Rattle.exh_event.specs.declared.event.Event.TheVariants.{Begin, Hop as HopOn};
 
 use super::World;
 use super::changes::changes_since;
 use super::place::copy_in;
+use crate::Request;
 use crate::laws::steps_keep_worlds_sound;
-use crate::{Outcome, Progress, Request, StepFault};
 use exh_calls::Call;
+use exh_event::{Outcome, Progress, StepFault};
 use exh_frames::Pages;
 use exh_keyer::Keyer;
 use exh_prefix::ward_number;

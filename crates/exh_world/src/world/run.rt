@@ -9,7 +9,7 @@ ghost use Rattle.exh_world.specs.Step.{Step};
 use super::World;
 use crate::laws::runs_carry_the_headline;
 use crate::move_laws::{current_copies_look_once, moves_are_counted};
-use crate::{Event, Outcome, StepFault, Turn};
+use exh_event::{Event, Outcome, StepFault, Turn};
 use exh_frames::Pages;
 use exh_keyer::Keyer;
 use std::alloc::AllocError;

@@ -1,10 +1,10 @@
 ghost use Rattle.exh_world.specs.Sound.{IsSoundWorld};
 ghost use Rattle.exh_world.specs.Step.{Step};
-ghost use Rattle.exh_world.specs.declared.event.Event.TheVariants.{Merge, Split};
+ghost use Rattle.exh_event.specs.declared.event.Event.TheVariants.{Merge, Split};
 
 use super::World;
 use crate::laws::steps_keep_worlds_sound;
-use crate::{Outcome, StepFault};
+use exh_event::{Outcome, StepFault};
 use exh_frames::Pages;
 use exh_keyer::Keyer;
 use exh_prefix::PageNo;

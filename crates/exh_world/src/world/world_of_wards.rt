@@ -7,12 +7,12 @@ ghost use Rattle.exh_world.specs.Sound.{IsSoundWorld};
 
 use super::World;
 use super::copies_of::copies_of;
-use crate::Config;
 use crate::in_flight::InFlight;
 use exh_array::Directory;
 use exh_frames::Pages;
 use exh_keyer::Keyer;
 use exh_legal::walks_name_homes;
+use exh_settings::Config;
 use exh_ward::Ward;
 use std::alloc::{AllocError, Global};
 

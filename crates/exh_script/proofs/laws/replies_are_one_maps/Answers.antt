@@ -12,16 +12,16 @@ use Rattle.exh_calls.specs.declared.journal_entry.JournalEntry.{JournalEntry}
 use Rattle.exh_prefix.specs.declared.prefix.TheConstants.{WARD_BITS_LIMIT}
 use Rattle.exh_world.specs.Laws.{NewWorldsAreSound, RunsCarryTheHeadline}
 use Rattle.exh_world.specs.NewWorld.{new_world}
-use Rattle.exh_script.specs.Answer.{answer_text}
+use Rattle.exh_line.specs.Answer.{answer_text}
 use Rattle.exh_script.specs.AnyStart.{RepliesFrom}
 use Rattle.exh_script.specs.Replies.{world_left, is_of_ward, RepliesAsMap, PrintsAs}
 use Rattle.exh_script.specs.Text.{ScriptWorld, Start, new_file, started, start_of, settings_of, text_from, text_after, text_of_lines, ended_after, ended_of_lines, text_of, ended_of}
-use Rattle.exh_script.specs.declared.answer.Answer.TheVariants.{Refused}
+use Rattle.exh_line.specs.declared.answer.Answer.TheVariants.{Refused}
 use Rattle.exh_script.specs.declared.ended.Ended.TheVariants as ended
-use Rattle.exh_script.specs.declared.refusal.Refusal.{Refusal}
-use Rattle.exh_script.specs.declared.refusal.Refusal.TheVariants.{Line as LineRefusal, TooLong}
-use Rattle.exh_script.specs.declared.settings.Settings.{Settings}
-use Rattle.exh_script.specs.declared.script.TheConstants.{SCRIPT_LIMIT}
+use Rattle.exh_line.specs.declared.refusal.Refusal.{Refusal}
+use Rattle.exh_line.specs.declared.refusal.Refusal.TheVariants.{Line as LineRefusal, TooLong}
+use Rattle.exh_settings.specs.declared.settings.Settings.{Settings}
+use Rattle.exh_settings.specs.declared.script.TheConstants.{SCRIPT_LIMIT}
 use Rattle.exh_script.proofs.KeptWorlds.{WorldLaws}
 use Rattle.exh_script.proofs.LineMoments.{entries_from}
 use Rattle.exh_script.proofs.NewFile.{few_ward_bits, new_map, new_journal, new_kept}

@@ -6,15 +6,15 @@ use Rattle.exh_text.specs.declared.line_fault.LineFault.TheVariants.{Syntax}
 use Rattle.exh_world.specs.Laws.{RunsCarryTheHeadline}
 use Rattle.exh_world.specs.NewWorld.{new_world}
 use Rattle.exh_world.specs.Sound.{IsSoundWorld}
-use Rattle.exh_script.specs.Answer.{answer_text}
+use Rattle.exh_line.specs.Answer.{answer_text}
 use Rattle.exh_script.specs.AnyStart.{BeginsSound, PrintsFrom}
 use Rattle.exh_script.specs.Text.{ScriptWorld, Beginning, Start, start_in, started, start_of, settings_of, text_after, text_of_lines, ended_after, ended_of_lines, text_of, ended_of}
-use Rattle.exh_script.specs.declared.answer.Answer.TheVariants.{Refused}
+use Rattle.exh_line.specs.declared.answer.Answer.TheVariants.{Refused}
 use Rattle.exh_script.specs.declared.ended.Ended.TheVariants as ended
-use Rattle.exh_script.specs.declared.refusal.Refusal.{Refusal}
-use Rattle.exh_script.specs.declared.refusal.Refusal.TheVariants.{Line as LineRefusal, TooLong}
-use Rattle.exh_script.specs.declared.settings.Settings.{Settings}
-use Rattle.exh_script.specs.declared.script.TheConstants.{SCRIPT_LIMIT}
+use Rattle.exh_line.specs.declared.refusal.Refusal.{Refusal}
+use Rattle.exh_line.specs.declared.refusal.Refusal.TheVariants.{Line as LineRefusal, TooLong}
+use Rattle.exh_settings.specs.declared.settings.Settings.{Settings}
+use Rattle.exh_settings.specs.declared.script.TheConstants.{SCRIPT_LIMIT}
 use Rattle.exh_script.proofs.KeptWorlds.{WorldLaws}
 use Rattle.exh_script.proofs.LineMoments.{entries_from}
 use Rattle.exh_script.proofs.NewFile.{bits_in_range, in_range}

@@ -1,6 +1,6 @@
 use Rattle.std.proofs.Common.{ap, sym, ◌∙◌, rules, arith}
 use Rattle.exh_world.specs.Laws.{HasNumberOfWord}
-use Rattle.exh_script.specs.Answer.{step_answer}
+use Rattle.exh_line.specs.Answer.{step_answer}
 use Rattle.exh_script.proofs.Stepped.{done_after, done_result}
 use Rattle.exh_script.proofs.response.answer_event.Goals as goal
 

@@ -2,8 +2,8 @@ use Rattle.std.proofs.Common.{◌≡◌, ℕ, List, [], ◌∷◌, length, leb, 
 use Rattle.exh_text.specs.Lines.{lines_of}
 use Rattle.exh_script.specs.Text.{Beginning, Start, start_of, ended_after, ended_of_lines, ended_of}
 use Rattle.exh_script.specs.declared.ended.Ended.TheVariants.{Refused}
-use Rattle.exh_script.specs.declared.refusal.Refusal.{Refusal}
-use Rattle.exh_script.specs.declared.script.TheConstants.{SCRIPT_LIMIT}
+use Rattle.exh_line.specs.declared.refusal.Refusal.{Refusal}
+use Rattle.exh_settings.specs.declared.script.TheConstants.{SCRIPT_LIMIT}
 use Rattle.exh_serve.specs.Left.{ended_with, left_after, left_of_lines, left_of}
 use Rattle.exh_serve.proofs.laws.done_runs_leave_wards.Goals as goal
 

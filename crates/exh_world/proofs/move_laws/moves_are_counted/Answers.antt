@@ -6,10 +6,10 @@ use Rattle.exh_world.specs.Laws.{AreWardsSound}
 use Rattle.exh_world.specs.Moves.{IsBounded}
 use Rattle.exh_world.specs.Run.{Moment, answered_in}
 use Rattle.exh_world.specs.Step.{Step}
-use Rattle.exh_world.specs.declared.event.Event.{Event}
-use Rattle.exh_world.specs.declared.event.Event.TheVariants.{Hop}
-use Rattle.exh_world.specs.declared.outcome.Outcome.{Outcome}
-use Rattle.exh_world.specs.declared.step_fault.StepFault.{StepFault}
+use Rattle.exh_event.specs.declared.event.Event.{Event}
+use Rattle.exh_event.specs.declared.event.Event.TheVariants.{Hop}
+use Rattle.exh_event.specs.declared.outcome.Outcome.{Outcome}
+use Rattle.exh_event.specs.declared.step_fault.StepFault.{StepFault}
 use Rattle.exh_world.proofs.BegunNear.{begun_near}
 use Rattle.exh_world.proofs.BoundedAnswers.{run_bounded}
 use Rattle.exh_world.proofs.CountedAnswers.{counted_of}

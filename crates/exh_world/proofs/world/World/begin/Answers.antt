@@ -10,7 +10,7 @@ use Rattle.exh_world.specs.InFlight.{request_named}
 use Rattle.exh_world.specs.Kept.{IsPlaceOf, tables_of}
 use Rattle.exh_world.specs.Step.{HasBegun, IsRefused, ReachesInto, Step}
 use Rattle.exh_world.specs.World.{WorldState, changes_in, numbered}
-use Rattle.exh_world.specs.declared.event.Event.TheVariants.{Begin}
+use Rattle.exh_event.specs.declared.event.Event.TheVariants.{Begin}
 use Rattle.exh_world.proofs.BeginSteps.{none_there, with_requests, at_within, found_at, noticed_within, had_few, changes_are, no_page_missing, same_ward, begun, begun_kept}
 use Rattle.exh_world.proofs.CopyArrays.{table_numbered}
 use Rattle.exh_world.proofs.InsideWorld.{with_ward, world_of}

@@ -4,8 +4,8 @@ use Rattle.exh_table.specs.Table.{TableMap}
 use Rattle.exh_world.specs.Kept.{IsPlaceOf}
 use Rattle.exh_world.specs.Step.{HasJoined}
 use Rattle.exh_world.specs.World.{WorldState, numbered}
-use Rattle.exh_world.specs.declared.event.Event.TheVariants.{Combine}
-use Rattle.exh_world.specs.declared.outcome.Outcome.TheVariants.{Joined}
+use Rattle.exh_event.specs.declared.event.Event.TheVariants.{Combine}
+use Rattle.exh_event.specs.declared.outcome.Outcome.TheVariants.{Joined}
 use Rattle.exh_world.proofs.CopyArrays.{table_placed, table_there, arrays_kept}
 use Rattle.exh_world.proofs.CopySteps.{kept_after, is_copy, has_joined, with_tables, refused_same, same_copies, lent_there}
 use Rattle.exh_world.proofs.world.World.combine.Given as Given

@@ -7,8 +7,8 @@ use Rattle.exh_array.specs.Pointers.{DirectoryState}
 use Rattle.exh_world.specs.Kept.{IsKeptWorld, IsPlaceOf, HaveIndexesInTurn}
 use Rattle.exh_world.specs.Step.{HasTaken}
 use Rattle.exh_world.specs.World.{WorldState, numbered}
-use Rattle.exh_world.specs.declared.event.Event.TheVariants.{Deliver}
-use Rattle.exh_world.specs.declared.outcome.Outcome.TheVariants.{Taken}
+use Rattle.exh_event.specs.declared.event.Event.TheVariants.{Deliver}
+use Rattle.exh_event.specs.declared.outcome.Outcome.TheVariants.{Taken}
 use Rattle.exh_world.proofs.CopyArrays.{table_placed, table_there, arrays_kept}
 use Rattle.exh_world.proofs.CopySteps.{all_above, kept_after, is_copy, has_taken, with_tables, refused_same, same_copies, lent_there, indexes_in_turn, no_notice}
 use Rattle.exh_world.proofs.world.World.deliver.Given as Given

@@ -2,9 +2,10 @@ use Rattle.std.proofs.Common.{◌≡◌, ◌^◌, ◌<◌, inr, sym, ap, ◌∙�
 use Rattle.exh_ward.specs.declared.hop.Hop.{Hop}
 use Rattle.exh_world.specs.Step.{HasHopped, IsRefused, ReachesInto, Step}
 use Rattle.exh_world.specs.World.{WorldState}
-use Rattle.exh_world.specs.declared.event.Event.TheVariants.{Hop as HopOn}
+use Rattle.exh_event.specs.declared.event.Event.TheVariants.{Hop as HopOn}
 use Rattle.exh_world.proofs.HopSteps.{ward_within, at_within, reaches, hashed, covered, had_few, changed_since, bound_told, bound_small, noticed_within, room, hopped, hopped_kept}
-use Rattle.exh_world.specs.Progress.{progress_of, progress_with}
+use Rattle.exh_event.specs.Progress.{progress_with}
+use Rattle.exh_world.specs.Progress.{progress_of}
 use Rattle.exh_world.proofs.InsideWorld.{with_ward, world_of}
 use Rattle.exh_world.proofs.world.World.hop.Given.{Over}
 use Rattle.exh_world.proofs.WardChanges.{after, leaves_refused, memory_of, of_refusal, same_kept}

@@ -3,8 +3,8 @@ use Rattle.exh_prefix.specs.ListLemmas.{within_there}
 use Rattle.exh_array.specs.Pointers.{DirectoryState, HasArrayOf}
 use Rattle.exh_world.specs.Kept.{IsPlaceOf}
 use Rattle.exh_world.specs.Step.{HasRestarted}
-use Rattle.exh_world.specs.declared.event.Event.TheVariants.{Restart}
-use Rattle.exh_world.specs.declared.outcome.Outcome.TheVariants.{Restarted}
+use Rattle.exh_event.specs.declared.event.Event.TheVariants.{Restart}
+use Rattle.exh_event.specs.declared.outcome.Outcome.TheVariants.{Restarted}
 use Rattle.exh_world.proofs.CopyArrays.{table_placed, table_there, arrays_set}
 use Rattle.exh_world.proofs.CopySteps.{kept_after, has_restarted, with_copy, with_tables}
 use Rattle.exh_world.proofs.world.World.restart.Goals as goal

@@ -2,8 +2,8 @@ use Rattle.std.proofs.Common.{arith, ◌≡◌, suc, length, ◌++◌, ◌∷◌
 use Rattle.exh_array.specs.Pointers.{DirectoryState}
 use Rattle.exh_table.specs.Table.{TableMap}
 use Rattle.exh_world.specs.Kept.{IsPlaceOf}
-use Rattle.exh_world.specs.declared.event.Event.TheVariants.{Send}
-use Rattle.exh_world.specs.declared.outcome.Outcome.TheVariants.{Sent}
+use Rattle.exh_event.specs.declared.event.Event.TheVariants.{Send}
+use Rattle.exh_event.specs.declared.outcome.Outcome.TheVariants.{Sent}
 use Rattle.exh_world.proofs.CopyArrays.{table_placed, table_there}
 use Rattle.exh_world.proofs.CopySteps.{kept_after, has_sent, lent_there}
 use Rattle.std.proofs.lemmas.List.{length_push}

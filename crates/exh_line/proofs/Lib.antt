@@ -1,0 +1,2 @@
+-- of printed_answers_are_one
+pub mod ToldLemmas

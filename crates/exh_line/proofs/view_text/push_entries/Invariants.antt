@@ -1,0 +1,7 @@
+use Rattle.std.proofs.Common.{◌≡◌, ◌++◌, flat_map}
+use Rattle.std.specs.FinMap.{entries}
+use Rattle.exh_line.specs.Shown.{entry_line}
+use Rattle.exh_line.proofs.view_text.push_entries.Given as goal
+
+abbrev pub invariant-loop-prefix : goal.invariant-loop-prefix
+invariant-loop-prefix l = l.out.items ++ flat_map entry_line l.prefix-iterator ≡ l.fn.out.items ++ flat_map entry_line (entries l.fn.table)

@@ -1,0 +1,5 @@
+pub mod Grammar
+pub mod Refusal
+pub mod Answer
+pub mod Shown
+pub mod RefusalText

@@ -1,0 +1,121 @@
+ghost use Rattle.std.specs.Prelude.{◌≡◌};
+ghost use Rattle.exh_line.specs.Answer.{copy_in, hop_answer, outcome_answer, request_in, table_in};
+
+use crate::{Moves, Refusal, Told};
+use exh_calls::Reply;
+use exh_event::{Event, Outcome, Progress};
+use exh_notice::Notice;
+use exh_prefix::PageNo;
+
+/// What a line of a script is answered, unless it asks for a view. Each variant is one printed line.
+#[derive(Clone, Copy, Debug, PartialEq, Eq)]
+pub enum Answer {
+    /// `rN at W/P`: the request stands at a page of a ward.
+    Begun { name: u32, ward: u8, page: PageNo },
+    /// `rN is V`, `rN none`, `rN new`, `rN was V` or `rN full`: the request is answered. Where its moves are told,
+    /// ` moves M of B` stands behind it.
+    Replied { name: u32, reply: Reply, told: Told },
+    /// `rN moved W/P`: the request goes on at another page.
+    Moved { name: u32, ward: u8, page: PageNo },
+    /// `rN split`: the request waits for a split.
+    MustSplit { name: u32 },
+    /// `rN stray`: the request stands where no key of its kind is.
+    Stray { name: u32 },
+    /// `notice W/I prefix P number N split right R`, or with `merge` at its end: a page was split or merged.
+    Changed(Notice),
+    /// `copy C took W/I`: the copy took a ward's notice.
+    Taken { copy: u32, ward: u8, index: u64 },
+    /// `table T`: a copy's table was sent.
+    Sent { table: u32 },
+    /// `copy C joined T`: the copy joined a sent table.
+    Joined { copy: u32, table: u32 },
+    /// `copy C restarted`: the copy has lost what it was told.
+    Restarted { copy: u32 },
+    /// `refused N`: the line changed nothing.
+    Refused(Refusal),
+}
+
+impl Answer {
+    /// What an event's line is answered where it isn't refused. A reply may tell the moves of its request.
+    pub fn of_outcome(event: &Event, outcome: &Outcome, tells_moves: bool) -> Answer
+        ensures { result ≡ outcome_answer tells_moves event.now outcome.now }
+    {
+        match *outcome {
+            Outcome::Begun { ward, page } => Answer::Begun {
+                name: request_in(event),
+                ward,
+                page,
+            },
+            Outcome::Hopped { ward, hop } => Answer::of_hop(
+                request_in(event),
+                ward,
+                &hop,
+                tells_moves,
+            ),
+            Outcome::Changed(notice) => Answer::Changed(notice),
+            Outcome::Taken(notice) => Answer::Taken {
+                copy: copy_in(event),
+                ward: notice.ward,
+                index: notice.index,
+            },
+            Outcome::Sent(table) => Answer::Sent { table },
+            Outcome::Joined => Answer::Joined {
+                copy: copy_in(event),
+                table: table_in(event),
+            },
+            Outcome::Restarted => Answer::Restarted {
+                copy: copy_in(event),
+            },
+        }
+    }
+
+    // What a hop in a ward is answered.
+    fn of_hop(name: u32, ward: u8, hop: &Progress, tells_moves: bool) -> Answer
+        ensures { result ≡ hop_answer tells_moves name ward hop.now }
+    {
+        match *hop {
+            Progress::Done {
+                reply,
+                moves: made,
+                bound,
+            } => {
+                let told = tells_moves.then_some(Moves { made, bound });
+                Answer::Replied { name, reply, told }
+            }
+            Progress::Moved(page) => Answer::Moved { name, ward, page },
+            Progress::MustSplit => Answer::MustSplit { name },
+            Progress::Stray => Answer::Stray { name },
+        }
+    }
+}
+
+// The request that an event's line names, 0 where it names none.
+fn request_in(event: &Event) -> u32
+    ensures { result ≡ request_in event.now }
+{
+    match event {
+        Event::Begin { name, .. } | Event::Hop { name } => *name,
+        _ => 0,
+    }
+}
+
+// The copy, 0 where it names none.
+fn copy_in(event: &Event) -> u32
+    ensures { result ≡ copy_in event.now }
+{
+    match event {
+        Event::Deliver { copy, .. } | Event::Combine { copy, .. } | Event::Restart { copy } =>
+            *copy,
+        _ => 0,
+    }
+}
+
+// The sent table, 0 where it names none.
+fn table_in(event: &Event) -> u32
+    ensures { result ≡ table_in event.now }
+{
+    match event {
+        Event::Combine { table, .. } => *table,
+        _ => 0,
+    }
+}

@@ -1,0 +1,126 @@
+ghost use Rattle.std.specs.Prelude.{◌≡◌, ◌++◌, OnOk};
+ghost use Rattle.exh_line.specs.Answer.{answer_text, copy_text, moves_text, notice_text, reply_text, request_text};
+ghost use Rattle.exh_line.specs.declared.answer.Answer.TheVariants.{Refused};
+
+use crate::{Answer, Refusal, Told};
+use exh_calls::Reply;
+use exh_notice::Notice;
+use exh_text::{push_entry, push_number, push_place, push_refused, push_text, push_value};
+use std::alloc::AllocError;
+
+/// Adds the line that an answer prints.
+pub fn push_answer(out: &mut Vec<u8>, answer: &Answer) -> Result<(), AllocError>
+    ensures { OnOk result (out.new.items ≡ out.old.items ++ answer_text answer.now) }
+{
+    match answer {
+        Answer::Begun { name, ward, page } => {
+            push_request(out, *name)?;
+            push_text(out, " at ")?;
+            push_place(out, u32::from(*ward), u64::from(*page))?;
+        }
+        Answer::Replied { name, reply, told } => {
+            push_request(out, *name)?;
+            push_text(out, " ")?;
+            push_reply(out, reply)?;
+            push_moves(out, *told)?;
+        }
+        Answer::Moved { name, ward, page } => {
+            push_request(out, *name)?;
+            push_text(out, " moved ")?;
+            push_place(out, u32::from(*ward), u64::from(*page))?;
+        }
+        Answer::MustSplit { name } => {
+            push_request(out, *name)?;
+            push_text(out, " split")?;
+        }
+        Answer::Stray { name } => {
+            push_request(out, *name)?;
+            push_text(out, " stray")?;
+        }
+        Answer::Changed(notice) => push_notice(out, notice)?,
+        Answer::Taken { copy, ward, index } => {
+            push_copy(out, *copy)?;
+            push_text(out, " took ")?;
+            push_place(out, u32::from(*ward), *index)?;
+        }
+        Answer::Sent { table } => {
+            push_text(out, "table ")?;
+            push_number(out, u64::from(*table))?;
+        }
+        Answer::Joined { copy, table } => {
+            push_copy(out, *copy)?;
+            push_text(out, " joined ")?;
+            push_number(out, u64::from(*table))?;
+        }
+        Answer::Restarted { copy } => {
+            push_copy(out, *copy)?;
+            push_text(out, " restarted")?;
+        }
+        Answer::Refused(refusal) => push_refused(out, refusal.number())?,
+    }
+    push_text(out, "\n")
+}
+
+/// Adds the line of a refusal.
+pub fn push_refusal(out: &mut Vec<u8>, refusal: Refusal) -> Result<(), AllocError>
+    ensures { OnOk result (out.new.items ≡ out.old.items ++ answer_text (Refused refusal)) }
+{
+    push_refused(out, refusal.number())?;
+    push_text(out, "\n")
+}
+
+/// Adds the name of a request.
+pub fn push_request(out: &mut Vec<u8>, name: u32) -> Result<(), AllocError>
+    ensures { OnOk result (out.new.items ≡ out.old.items ++ request_text name) }
+{
+    push_text(out, "r")?;
+    push_number(out, u64::from(name))
+}
+
+/// Adds the number of a copy.
+pub(crate) fn push_copy(out: &mut Vec<u8>, copy: u32) -> Result<(), AllocError>
+    ensures { OnOk result (out.new.items ≡ out.old.items ++ copy_text copy) }
+{
+    push_text(out, "copy ")?;
+    push_number(out, u64::from(copy))
+}
+
+fn push_notice(out: &mut Vec<u8>, notice: &Notice) -> Result<(), AllocError>
+    ensures { OnOk result (out.new.items ≡ out.old.items ++ notice_text notice.now) }
+{
+    push_text(out, "notice ")?;
+    push_place(out, u32::from(notice.ward), notice.index)?;
+    push_text(out, " prefix ")?;
+    push_entry(out, &notice.prefix, notice.number, &notice.kind)
+}
+
+fn push_reply(out: &mut Vec<u8>, reply: &Reply) -> Result<(), AllocError>
+    ensures { OnOk result (out.new.items ≡ out.old.items ++ reply_text reply.now) }
+{
+    match reply {
+        Reply::Is(value) => {
+            push_text(out, "is ")?;
+            push_value(out, value.as_bytes())
+        }
+        Reply::None => push_text(out, "none"),
+        Reply::New => push_text(out, "new"),
+        Reply::Was(value) => {
+            push_text(out, "was ")?;
+            push_value(out, value.as_bytes())
+        }
+        Reply::Full => push_text(out, "full"),
+    }
+}
+
+// The moves of a request and their bound, where they are told.
+fn push_moves(out: &mut Vec<u8>, told: Told) -> Result<(), AllocError>
+    ensures { OnOk result (out.new.items ≡ out.old.items ++ moves_text told) }
+{
+    let Some(moves) = told else {
+        return Ok(());
+    };
+    push_text(out, " moves ")?;
+    push_number(out, moves.made)?;
+    push_text(out, " of ")?;
+    push_number(out, moves.bound)
+}

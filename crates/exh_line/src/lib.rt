@@ -1,0 +1,20 @@
+//! The lines of a script after its first: what each asks, what it may be answered, and what is printed of that.
+#![tactic(auto)]
+
+pub use answer::Answer;
+pub use answer_text::{push_answer, push_refusal, push_request};
+pub use laws::printed_answers_are_one;
+pub use line::{Line, parse_line};
+pub use moves::{Moves, Told};
+pub use refusal::Refusal;
+pub use view::View;
+pub use view_text::{push_page, push_shown};
+
+mod answer;
+mod answer_text;
+mod laws;
+mod line;
+mod moves;
+mod refusal;
+mod view;
+mod view_text;

@@ -1,0 +1,37 @@
+ghost use Rattle.std.specs.Prelude.{◌≡◌, ◌++◌, flat_map, OnOk};
+ghost use Rattle.exh_script.specs.View.{in_flight_text, request_line};
+
+use exh_frames::Pages;
+use exh_keyer::AnyKeyer;
+use exh_line::push_request;
+use exh_text::{push_number, push_place, push_text};
+use exh_world::World;
+use std::alloc::AllocError;
+
+/// Adds the number of the requests in flight, and a line for each, in the order begun.
+pub(crate) fn push_in_flight<P: Pages + Drop>(
+    out: &mut Vec<u8>,
+    world: &World<P, AnyKeyer>,
+) -> Result<(), AllocError>
+    ensures { OnOk result (out.new.items ≡ out.old.items ++ in_flight_text world.now.in_flight) }
+{
+    push_text(out, "inflight ")?;
+    push_number(out, world.in_flight().len() as u64)?;
+    push_text(out, "\n")?;
+    push_requests(out, world)
+}
+
+fn push_requests<P: Pages + Drop>(
+    out: &mut Vec<u8>,
+    world: &World<P, AnyKeyer>,
+) -> Result<(), AllocError>
+    ensures { OnOk result (out.new.items ≡ out.old.items ++ flat_map request_line world.now.in_flight) }
+{
+    for (name, request) in world.in_flight() {
+        push_request(out, *name)?;
+        push_text(out, " at ")?;
+        push_place(out, u32::from(request.ward), u64::from(request.page))?;
+        push_text(out, "\n")?;
+    }
+    Ok(())
+}

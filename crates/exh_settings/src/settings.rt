@@ -1,0 +1,10 @@
+use crate::Config;
+use exh_keyer::AnyKeyer;
+
+/// What the first line of a script says: the settings of its file, and whether a reply's line tells the moves of its
+/// request.
+#[derive(Clone, Copy, Debug)]
+pub struct Settings {
+    pub file: Config<AnyKeyer>,
+    pub tells_moves: bool,
+}

@@ -1,0 +1,2 @@
+pub mod CopiesTold
+pub mod RunWords
