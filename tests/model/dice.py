@@ -29,6 +29,7 @@ RIGHT_LINES = (
     ("page 0 0",),
     ("inflight",),
     ("inflight",),
+    ("inflight",),
 )
 # What is in no number, name, key, value or line of the grammar.
 WRONG_NUMBERS = ("", "01", "00", "-1", "+1", "1.", "1x", "x", "0x1", str(2**32), str(2**64), "\xb2")

@@ -9,7 +9,7 @@ from .version import NUMBER_LIMIT
 HEAD_END = 16
 # The bytes of a header, a page's head and an entry that say something, and some that don't.
 HEADER = (8, 9, 10, 11, 12, 13, 15, 16, 18, 19, 23, 27, 31, 84, 4000)
-HEAD = (0, 1, 2, 3, 4, 7, 8, 9, 10, 12)
+HEAD = (0, 0, 0, 1, 2, 2, 3, 4, 7, 8, 9, 10, 12)
 IMAGE = (0, 1, 2, 3, 4, 5, 6, 8, 11, 12, 15)
 
 
@@ -63,7 +63,7 @@ def lengthened(dice, content):
 
 
 def turned(dice, content):
-    at = dice.choice((0, 7, 9, dice.randrange(len(content)), dice.randrange(len(content))))
+    at = dice.choice((dice.randrange(8), dice.choice((8, 9)), dice.randrange(len(content))))
     return content[:at] + bytes([content[at] ^ 1 << dice.randrange(8)]) + content[at + 1 :]
 
 
@@ -149,18 +149,18 @@ def with_a_leaf_forwarded(dice, content):
 # The ways of damage, and how often each is taken.
 WAYS = {
     cut: 2,
-    lengthened: 2,
-    turned: 5,
+    lengthened: 3,
+    turned: 11,
     with_another_header: 3,
     with_a_lower_cap: 4,
     with_another_head: 4,
     with_another_record: 3,
-    with_another_entry: 9,
+    with_another_entry: 11,
     with_pages_exchanged: 2,
     with_entries_exchanged: 2,
     with_records_exchanged: 3,
     with_another_target: 6,
-    with_a_leaf_forwarded: 4,
+    with_a_leaf_forwarded: 6,
 }
 
 

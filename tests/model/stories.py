@@ -17,7 +17,7 @@ from .writer import Writer
 LENGTHS = (20, 60, 100, 150, 250)
 PAIRS = 40
 # The most damaged files of a file that was saved.
-DAMAGED = 5
+DAMAGED = 6
 
 
 class Run(NamedTuple):

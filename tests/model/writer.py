@@ -85,7 +85,7 @@ class Writer:
             self.shrink: 9,
             self.gossip: 10,
             self.go_on: 8,
-            self.tell_at_once: 3,
+            self.tell_at_once: 4,
             self.exchange: 6,
             self.restart: 2,
             self.look: 5,
@@ -220,7 +220,7 @@ class Writer:
         for notice in ward.notices[::-1]:
             self.say(f"deliver {copy} {notice.ward} {notice.index}")
         self.probe(copy)
-        if self.chance(60):
+        if self.chance(80):
             while ward.leaves != {ward.prefix} and self.merge_into(ward, parent_of(deepest_of(ward))):
                 pass
             self.say(f"deliver {copy} {ward.number} {ward.notices[-1].index}")
