@@ -17,7 +17,7 @@ use exh_fixtures::{opened_ward, prefix, refused};
 use exh_keyer::PlainKeyer;
 use exh_live::{ANSWER_PARTS, ENTRY_PARTS, Identity};
 use exh_notice::{Entry, Kind};
-use exh_runs::{Difference, Part, Run, again, same};
+use exh_runs::{Difference, Part, Run, again};
 use exh_table::Table;
 use std::alloc::{AllocError, Global};
 use std::sync::Wait;
@@ -154,7 +154,9 @@ fn first_file<F: Identity>(
 fn written_ward(alloc: Global, keyer: PlainKeyer, changes: u32) -> Result<PlainWard, Difference>
     ensures { IfOk result (IsNewWardOf 2 0 keyer 0) }
 {
-    same(changes % 2 == 1, Part::Run)?;
+    if changes % 2 != 1 {
+        return Err(Difference::Apart(Part::Run));
+    }
     let ward = opened_ward(alloc, keyer, 0, 0, changes).map_err(refused)?;
     if ward.journal().is_empty() {
         Ok(ward)
