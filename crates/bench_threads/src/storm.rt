@@ -13,9 +13,10 @@ use exh_live::{ANSWER_PARTS, ENTRY_PARTS, Identity, Seat, WardJournals};
 use exh_notice::Kind;
 use exh_settle::settle;
 use exh_storm::{
-    Caller, Courier, Keeper, NoWatch, StormConfig, StormFault, StormFile, StormWard, Workers,
-    new_file, new_workers,
+    Caller, Courier, Keeper, NoWatch, StormFault, StormFile, StormWard, Workers, new_file,
+    new_workers,
 };
+use exh_storm_config::StormConfig;
 use exh_walk::OpenGate;
 use std::alloc::{AllocError, Global};
 use std::marker::Brand;
