@@ -55,8 +55,8 @@ def shown(line):
 
 
 def script_up_to(told):
-    """The lines of a script; the last is the one that prints what differs."""
-    return [f"    {line.decode('latin-1')}" for line, _ in told if line]
+    """The lines of a script, bytes that aren't printed as Python writes them; the last prints what differs."""
+    return [f"    {repr(line)[2:-1]}" for line, _ in told if line]
 
 
 def difference_in_files(wanted, folder):
