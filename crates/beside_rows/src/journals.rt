@@ -111,38 +111,38 @@ fn ask_many(ward: &mut PlainWard, get: &Call) -> Result<(), Difference> {
 
 // A key is turned away where two have its 16 leading bits, and the journal says so.
 fn has_full_entry(ward: &mut PlainWard) -> Result<(), Difference> {
+    let second = Asked::Put(b"\0\0", b"b");
     let third = Asked::Put(b"\0\0\0", b"c");
-    comes_to(ward, 0, Asked::Put(b"\0\0", b"b"), Hop::Done(Reply::New))?;
+    let new = hop_at(ward, 0, second)?;
+    same(new == Hop::Done(Reply::New), Part::Reply)?;
     for _ in 0..16 {
         split_page(ward, 0).map_err(refused)?;
     }
-    comes_to(ward, 0, third, Hop::Done(Reply::Full))?;
+    let full = hop_at(ward, 0, third)?;
+    same(full == Hop::Done(Reply::Full), Part::Reply)?;
     let entry = JournalEntry::new(1, &third.call()?, &Reply::Full);
     same(ward.journal().iter().last() == Some(entry), Part::Journal)
+}
+
+// A hop of client 1.
+fn hop_at(ward: &mut PlainWard, at: PageNo, asked: Asked<'_>) -> Result<Hop, Difference> {
+    hop_of(ward, at, 1, &asked.call()?).map_err(refused)
 }
 
 // The three keys, and gets that go astray: at a page for greater pseudokeys, and at one that isn't there. The right page
 // answers.
 fn take_strays(ward: &mut PlainWard) -> Result<(), Difference> {
-    let b = Reply::Is(value(b"b")?);
-    comes_to(ward, 0, Asked::Put(b"\0", b"a"), Hop::Done(Reply::New))?;
-    comes_to(ward, 0, Asked::Put(b"\x80", b"b"), Hop::Done(Reply::New))?;
-    comes_to(ward, 0, Asked::Put(b"\x40", b"x"), Hop::MustSplit)?;
+    let new = Hop::Done(Reply::New);
+    let b = Hop::Done(Reply::Is(value(b"b")?));
+    let (first, right) = (Asked::Get(b"\0"), Asked::Get(b"\x80"));
+    let is_first = hop_at(ward, 0, Asked::Put(b"\0", b"a"))? == new;
+    let is_second = hop_at(ward, 0, Asked::Put(b"\x80", b"b"))? == new;
+    let is_full = hop_at(ward, 0, Asked::Put(b"\x40", b"x"))? == Hop::MustSplit;
+    same(is_first && is_second && is_full, Part::Hop)?;
     split_page(ward, 0).map_err(refused)?;
-    comes_to(ward, 1, Asked::Get(b"\0"), Hop::Stray)?;
-    comes_to(ward, 2, Asked::Get(b"\0"), Hop::Stray)?;
-    comes_to(ward, 0, Asked::Get(b"\x80"), Hop::Moved(1))?;
-    comes_to(ward, 1, Asked::Get(b"\x80"), Hop::Done(b))
-}
-
-fn comes_to(
-    ward: &mut PlainWard,
-    at: PageNo,
-    asked: Asked<'_>,
-    want: Hop,
-) -> Result<(), Difference> {
-    let hop = hop_of(ward, at, 1, &asked.call()?).map_err(refused)?;
-    same(hop == want, Part::Hop)
+    let is_stray = hop_at(ward, 1, first)? == Hop::Stray && hop_at(ward, 2, first)? == Hop::Stray;
+    let is_right = hop_at(ward, 0, right)? == Hop::Moved(1) && hop_at(ward, 1, right)? == b;
+    same(is_stray && is_right, Part::Hop)
 }
 
 fn run_strays(run: &mut Run) -> Result<(), Difference> {

@@ -37,13 +37,13 @@ const EQUAL_LEADING_BITS: [Said<'static>; 10] = [
 /// Calls of one key with each keyer; calls of keys that share their leading bits, over a map of one pair more that is
 /// given twice, of which the first counts.
 pub(crate) fn run(run: &mut Run) -> Result<(), Difference> {
-    run_machine(run, PlainKeyer, &ONE_KEY, 1)?;
-    run_machine(run, AnyKeyer::Plain, &ONE_KEY, 1)?;
-    run_machine(run, AnyKeyer::Sha, &ONE_KEY, 1)?;
-    run_machine(run, PlainKeyer, &EQUAL_LEADING_BITS, 3)
+    run_machine(run, PlainKeyer, &ONE_KEY, 2)?;
+    run_machine(run, AnyKeyer::Plain, &ONE_KEY, 2)?;
+    run_machine(run, AnyKeyer::Sha, &ONE_KEY, 2)?;
+    run_machine(run, PlainKeyer, &EQUAL_LEADING_BITS, 4)
 }
 
-// The calls leave so many pairs, beside the one that is there before.
+// The calls leave so many pairs, with the one that is there before.
 fn run_machine<K: Keyer>(
     run: &mut Run,
     keyer: K,
@@ -59,7 +59,7 @@ fn run_machine<K: Keyer>(
         run.tally.step(told);
     }
     let map = machine.map();
-    let is_left = map.pairs().len() == left + 1 && map.get(&pair.0) == Some(pair.1);
+    let is_left = map.pairs().len() == left && map.get(&pair.0) == Some(pair.1);
     run.tally.step(same(is_left, Part::Map));
     Ok(())
 }
