@@ -1,6 +1,4 @@
-ghost use Rattle.std.specs.Prelude.{◌≡◌, ◌≢◌, ◌<◌, ℕ, [], ◌∷◌, ◌++◌, length, slice_set, vec_len, vec_capacity, IfOk, IfErr, OnOk, OnErr, None};
-ghost use Rattle.std.specs.FinMap as map;
-ghost use Rattle.exh_table.specs.Table.{table_with};
+ghost use Rattle.std.specs.Prelude.{◌≡◌, ◌≢◌, ◌<◌, ℕ, [], ◌∷◌, ◌++◌, length, slice_set, IfErr, OnOk, OnErr, None};
 ghost use Rattle.exh_page.specs.declared.page.Page.{Page};
 ghost use Rattle.exh_page.specs.Page.{IsWellFormed, low_bound};
 ghost use Rattle.exh_legal.specs.Numbers.{number_at, next_notice};
@@ -13,12 +11,10 @@ use super::Ward;
 use crate::WardFault;
 use exh_frames::Pages;
 use exh_keyer::Keyer;
-use exh_legal::{PageIndex, number_at, pages_are_few};
-use exh_notice::{Entry, Kind, Notice};
+use exh_legal::{number_at, pages_are_few};
+use exh_notice::{Kind, Notice};
 use exh_page::Page;
 use exh_prefix::{PageNo, Prefix};
-use exh_table::Table;
-use std::alloc::AllocError;
 
 impl<P: Pages + Drop, K: Keyer> Ward<P, K> {
     /// The notice of the next change at a prefix. The number there isn't the greatest.
@@ -64,7 +60,9 @@ impl<P: Pages + Drop, K: Keyer> Ward<P, K> {
         ensures failures { CountsFailures result self.old.failures self.new.failures }
         ensures sound { IsSoundWard K.pseudokey_of self.new }
     {
-        let stood = take(&mut self.notices, &mut self.table, notice)?;
+        // Room for the notice first: nothing may fail once the pages have changed.
+        self.notices.reserve(1)?;
+        let stood = self.table.take(notice)?;
         if let Err(fault) = self.store.set_two(number, page, other, twin) {
             self.table.put_back(notice.prefix, stood);
             return Err(fault.into());
@@ -95,15 +93,16 @@ impl<P: Pages + Drop, K: Keyer> Ward<P, K> {
     {
         pages_are_few();
         let low = new.low();
-        let count = self.store.count();
-        let stood = take_with_page(
-            &mut self.notices,
-            &mut self.table,
-            &mut self.index,
-            notice,
-            low,
-            count,
-        )?;
+        // Room for the notice first: nothing may fail once the pages have changed.
+        self.notices.reserve(1)?;
+        self.index.insert(low, self.store.count())?;
+        let stood = match self.table.take(notice) {
+            Ok(stood) => stood,
+            Err(error) => {
+                self.index.remove(low);
+                return Err(error.into());
+            }
+        };
         if let Err(fault) = self.store.grow_and_set(new, number, page) {
             self.table.put_back(notice.prefix, stood);
             self.index.remove(low);
@@ -112,46 +111,4 @@ impl<P: Pages + Drop, K: Keyer> Ward<P, K> {
         self.notices.push_reserved(*notice);
         Ok(())
     }
-}
-
-// Has the table take a notice, and room for it among the notices: nothing may fail once the pages have changed. It
-// answers what stood in the table. Where memory is refused, both are as before.
-fn take(
-    notices: &mut Vec<Notice>,
-    table: &mut Table,
-    notice: &Notice,
-) -> Result<Option<Entry>, AllocError>
-    ensures items { notices.new.items ≡ notices.old.items }
-    ensures room { OnOk result (vec_len notices.new < vec_capacity notices.new) }
-    ensures stood { IfOk result (λ stood. stood ≡ map.get table.old notice.now.prefix) }
-    ensures ok { OnOk result (table.new ≡ table_with table.old notice.now) }
-    ensures err { OnErr result (table.new ≡ table.old) }
-{
-    notices.reserve(1)?;
-    table.take(notice)
-}
-
-// The same for a notice that comes with a new page, whose number then is in the index.
-fn take_with_page(
-    notices: &mut Vec<Notice>,
-    table: &mut Table,
-    index: &mut PageIndex,
-    notice: &Notice,
-    low: u64,
-    number: PageNo,
-) -> Result<Option<Entry>, AllocError>
-    ensures items { notices.new.items ≡ notices.old.items }
-    ensures room { OnOk result (vec_len notices.new < vec_capacity notices.new) }
-    ensures stood { IfOk result (λ stood. stood ≡ map.get table.old notice.now.prefix) }
-    ensures ok { OnOk result (table.new ≡ table_with table.old notice.now) }
-    ensures indexed { OnOk result (index.new ≡ map.insert index.old low number) }
-    ensures err { OnErr result (table.new ≡ table.old) }
-    ensures index_err { OnErr result (index.new ≡ index.old) }
-{
-    let stood = take(notices, table, notice)?;
-    if let Err(error) = index.insert(low, number) {
-        table.put_back(notice.prefix, stood);
-        return Err(error);
-    }
-    Ok(stood)
 }

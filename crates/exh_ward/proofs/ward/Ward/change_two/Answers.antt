@@ -17,12 +17,12 @@ put_back-requires g c =
 pub invariant_of-self-in-Err : goal.invariant_of-self-in-Err
 invariant_of-self-in-Err g c =
     let undone = c.put_back.ensures ∙ ap (λ (t : TableMap). table_at t c.args.notice.now.prefix c.in_ok-stood.stood) c.in_ok-stood.ensures.ok ∙ taken_back c.self.inside.table c.args.notice.now c.in_ok-stood.stood c.in_ok-stood.ensures.stood in
-    kept_undone c.self.invariant _ c.set_two.ensures.takes _ _ _ _ _ c.in-Err.ensures.err c.take.ensures.items undone refl
+    kept_undone c.self.invariant _ c.set_two.ensures.takes _ _ _ _ _ c.in-Err.ensures.err c.reserve.ensures.items undone refl
 
 pub returns-in-Err-clause-err : goal.returns-in-Err-clause-err
 returns-in-Err-clause-err g c =
     let undone = c.put_back.ensures ∙ ap (λ (t : TableMap). table_at t c.args.notice.now.prefix c.in_ok-stood.stood) c.in_ok-stood.ensures.ok ∙ taken_back c.self.inside.table c.args.notice.now c.in_ok-stood.stood c.in_ok-stood.ensures.stood in
-    unchanged_seen c.self.view_is _ _ _ _ c.in-Err.ensures.err c.take.ensures.items undone
+    unchanged_seen c.self.view_is _ _ _ _ c.in-Err.ensures.err c.reserve.ensures.items undone
 
 pub returns-in-Err-clause-sound : goal.returns-in-Err-clause-sound
 returns-in-Err-clause-sound g c = (invariant_of-self-in-Err g c).sound
@@ -36,7 +36,7 @@ invariant_of-self-2 g c =
     let changed = subst C (sym c.self.view_is) c.requires.changed in
     let new = slice_set (slice_set pages c.args.number c.args.page) c.args.other c.args.twin in
     let same = length-set (slice_set pages c.args.number c.args.page) c.args.other c.args.twin ∙ length-set pages c.args.number c.args.page in
-    let told = c.push_reserved.ensures.items ∙ ap (λ (notices : List Notice). notices ++ c.args.notice.now ∷ []) c.take.ensures.items in
+    let told = c.push_reserved.ensures.items ∙ ap (λ (notices : List Notice). notices ++ c.args.notice.now ∷ []) c.reserve.ensures.items in
     kept_told c.self.invariant _ c.set_two.ensures.takes c.args.notice.now new (subst N (sym c.self.view_is) c.requires.next) changed _ _ _ _ _
     (index_kept c.self.inside.index pages new c.self.invariant.indexed changed.places same) c.in_default.ensures.ok told c.in_ok-stood.ensures.ok
 

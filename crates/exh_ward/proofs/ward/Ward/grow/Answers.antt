@@ -14,29 +14,36 @@ use Rattle.exh_ward.proofs.AnswersAreLeft.{few_pages}
 use Rattle.exh_ward.proofs.ChangesAreTold.{kept_told, kept_undone, index_grown, index_back, taken_back, stands, unchanged_seen, absent}
 use Rattle.exh_ward.proofs.ward.Ward.grow.Goals as goal
 
+pub invariant_of-self-in-Err : goal.invariant_of-self-in-Err
+invariant_of-self-in-Err g c =
+    let A : WardState g.row.K.Denot → Type 0 = λ w. (other : ℕ) (twin : Page) → IsAt w.pages other twin → low_bound twin ≡ low_bound c.args.new → ⊥ in
+    let none = ap (fin.get c.self.inside.index) c.low-low.ensures ∙ absent c.self.inside.index _ (low_bound c.args.new) c.self.invariant.indexed (subst A (sym c.self.view_is) c.requires.alone) in
+    let back = c.remove.ensures ∙ ap (λ (index : IndexMap). fin.remove index c.low-low.result) c.in_ok-insert.ensures.ok ∙ index_back c.self.inside.index c.low-low.result c.count.result none in
+    kept_undone c.self.invariant _ (λ page. (λ x. x, λ x. x)) _ _ _ _ _ refl c.reserve.ensures.items c.in-Err.ensures.err back
+
 pub grow_and_set-requires-clause-room : goal.grow_and_set-requires-clause-room
 grow_and_set-requires-clause-room g c = few_pages c.pages_are_few.ensures c.self.invariant
 
 pub put_back-requires : goal.put_back-requires
 put_back-requires g c =
     let P : TableMap → Type 0 = λ t. IsSome (fin.get t c.args.notice.now.prefix) in
-    subst P (sym c.in_ok-stood.ensures.ok) (stands c.self.inside.table c.args.notice.now)
+    subst P (sym c.in-Ok.ensures.ok) (stands c.self.inside.table c.args.notice.now)
 
-pub invariant_of-self-in-Err : goal.invariant_of-self-in-Err
-invariant_of-self-in-Err g c =
+pub invariant_of-self-in-Err-grow_and_set : goal.invariant_of-self-in-Err-grow_and_set
+invariant_of-self-in-Err-grow_and_set g c =
     let A : WardState g.row.K.Denot → Type 0 = λ w. (other : ℕ) (twin : Page) → IsAt w.pages other twin → low_bound twin ≡ low_bound c.args.new → ⊥ in
     let none = ap (fin.get c.self.inside.index) c.low-low.ensures ∙ absent c.self.inside.index _ (low_bound c.args.new) c.self.invariant.indexed (subst A (sym c.self.view_is) c.requires.alone) in
-    let back = c.remove.ensures ∙ ap (λ (index : IndexMap). fin.remove index c.low-low.result) c.in_ok-stood.ensures.indexed ∙ index_back c.self.inside.index c.low-low.result c.count-count.result none in
-    let undone = c.put_back.ensures ∙ ap (λ (t : TableMap). table_at t c.args.notice.now.prefix c.in_ok-stood.stood) c.in_ok-stood.ensures.ok ∙ taken_back c.self.inside.table c.args.notice.now c.in_ok-stood.stood c.in_ok-stood.ensures.stood in
-    kept_undone c.self.invariant _ c.grow_and_set.ensures.takes _ _ _ _ _ c.in-Err.ensures.err c.take_with_page.ensures.items undone back
+    let back = c.remove-in-Err-grow_and_set.ensures ∙ ap (λ (index : IndexMap). fin.remove index c.low-low.result) c.in_ok-insert.ensures.ok ∙ index_back c.self.inside.index c.low-low.result c.count.result none in
+    let undone = c.put_back.ensures ∙ ap (λ (t : TableMap). table_at t c.args.notice.now.prefix c.in-Ok.stood) c.in-Ok.ensures.ok ∙ taken_back c.self.inside.table c.args.notice.now c.in-Ok.stood c.in-Ok.ensures.stood in
+    kept_undone c.self.invariant _ c.grow_and_set.ensures.takes _ _ _ _ _ c.in-Err-grow_and_set.ensures.err c.reserve.ensures.items undone back
 
-pub returns-in-Err-clause-err : goal.returns-in-Err-clause-err
-returns-in-Err-clause-err g c =
-    let undone = c.put_back.ensures ∙ ap (λ (t : TableMap). table_at t c.args.notice.now.prefix c.in_ok-stood.stood) c.in_ok-stood.ensures.ok ∙ taken_back c.self.inside.table c.args.notice.now c.in_ok-stood.stood c.in_ok-stood.ensures.stood in
-    unchanged_seen c.self.view_is _ _ _ _ c.in-Err.ensures.err c.take_with_page.ensures.items undone
+pub returns-in-Err-grow_and_set-clause-err : goal.returns-in-Err-grow_and_set-clause-err
+returns-in-Err-grow_and_set-clause-err g c =
+    let undone = c.put_back.ensures ∙ ap (λ (t : TableMap). table_at t c.args.notice.now.prefix c.in-Ok.stood) c.in-Ok.ensures.ok ∙ taken_back c.self.inside.table c.args.notice.now c.in-Ok.stood c.in-Ok.ensures.stood in
+    unchanged_seen c.self.view_is _ _ _ _ c.in-Err-grow_and_set.ensures.err c.reserve.ensures.items undone
 
-pub returns-in-Err-clause-sound : goal.returns-in-Err-clause-sound
-returns-in-Err-clause-sound g c = (invariant_of-self-in-Err g c).sound
+pub returns-in-Err-grow_and_set-clause-sound : goal.returns-in-Err-grow_and_set-clause-sound
+returns-in-Err-grow_and_set-clause-sound g c = (invariant_of-self-in-Err-grow_and_set g c).sound
 
 pub invariant_of-self-2 : goal.invariant_of-self-2
 invariant_of-self-2 g c =
@@ -49,13 +56,13 @@ invariant_of-self-2 g c =
     let changed = subst C (sym c.self.view_is) c.requires.changed in
     let there = subst S (sym c.self.view_is) c.requires.there in
     let new = slice_set pages c.args.number c.args.page ++ c.args.new ∷ [] in
-    let told = c.push_reserved.ensures.items ∙ ap (λ (notices : List Notice). notices ++ c.args.notice.now ∷ []) c.take_with_page.ensures.items in
+    let told = c.push_reserved.ensures.items ∙ ap (λ (notices : List Notice). notices ++ c.args.notice.now ∷ []) c.reserve.ensures.items in
     let grown = index_grown c.self.inside.index pages (slice_set pages c.args.number c.args.page) c.args.new c.self.invariant.indexed changed.places (length-set pages c.args.number c.args.page) (omega (arith, there))
     (subst A (sym c.self.view_is) c.requires.alone) in
-    let index_is = c.in_ok-stood.ensures.indexed ∙ ap (λ low. fin.insert c.self.inside.index low c.count-count.result) c.low-low.ensures ∙ ap (fin.insert c.self.inside.index (low_bound c.args.new)) c.count-count.ensures in
+    let index_is = c.in_ok-insert.ensures.ok ∙ ap (λ low. fin.insert c.self.inside.index low c.count.result) c.low-low.ensures ∙ ap (fin.insert c.self.inside.index (low_bound c.args.new)) c.count.ensures in
     let I : IndexMap → Type 0 = λ index. IsIndexOf index (bare new) in
     kept_told c.self.invariant _ c.grow_and_set.ensures.takes c.args.notice.now new (subst N (sym c.self.view_is) c.requires.next) changed _ _ _ _ _
-    (subst I (sym index_is) grown) c.in_default.ensures.ok told c.in_ok-stood.ensures.ok
+    (subst I (sym index_is) grown) c.in_default.ensures.ok told c.in-Ok.ensures.ok
 
 pub returns-clause-sound : goal.returns-clause-sound
 returns-clause-sound g c = (invariant_of-self-2 g c).sound
