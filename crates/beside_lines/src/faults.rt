@@ -136,17 +136,34 @@ fn answer_lines(
     let mut met = false;
     let mut text = Vec::with_capacity(alloc, ROOM)?;
     'lines: for (step, note) in STEPS.iter().zip(notes.iter_mut()) {
-        if let Step::Line(words, want) | Step::Far(words, want) = step {
-            let mut told = is_printed(&mut text, script, words, want)?;
-            if told.is_none() {
-                note.is_refused = true;
-                met = true;
-                told = is_printed(&mut text, script, words, want)?;
-            }
-            note.is_right &= told == Some(true);
-        }
+        met |= answer_step(&mut text, script, step, note)?;
     }
     Ok(met)
+}
+
+// Answers a step that is a line, as its note says then. Answers whether a page was out of reach.
+fn answer_step(
+    text: &mut Vec<u8>,
+    script: &mut Script<FailingPages>,
+    step: &Step,
+    note: &mut Note,
+) -> Result<bool, AllocError>
+    requires { IsSoundWorld any_pseudokey script.old.world }
+    ensures { IsSoundWorld any_pseudokey script.new.world }
+{
+    let (words, want) = match step {
+        Step::Line(words, want) | Step::Far(words, want) => (words, want),
+        Step::Sum(..) | Step::Low(..) => return Ok(false),
+    };
+    let told = is_printed(text, script, words, want)?;
+    if told.is_some() {
+        note.is_right &= told == Some(true);
+        return Ok(false);
+    }
+    note.is_refused = true;
+    let told = is_printed(text, script, words, want)?;
+    note.is_right &= told == Some(true);
+    Ok(true)
 }
 
 // Whether a line prints this text; `None` where a page was out of reach.
