@@ -100,6 +100,8 @@ fn get_time(
     Ok((right, start.elapsed(clock)?.as_nanos()))
 }
 
+// It is kept a function of its own, so that its instructions can be counted.
+#[inline(never)]
 fn delete_time(
     clock: &impl Clock,
     caller: &mut Caller,

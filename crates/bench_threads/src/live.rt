@@ -1,15 +1,16 @@
 //! A live file.
 ghost use Rattle.std.specs.Prelude.{◌≡◌, ◌≤◌};
+ghost use Rattle.std.specs.FinMap as map;
 ghost use Rattle.exh_keyer.specs.Pseudokey.{plain_pseudokey};
 ghost use Rattle.exh_live.specs.declared.ledgers.TheConstants.{ANSWER_PARTS, ENTRY_PARTS};
 ghost use Rattle.exh_prefix.specs.declared.prefix.TheConstants.{WARD_BITS_LIMIT};
 
 use crate::asks::{Asks, PARTS, Share, Times, fill};
 use crate::calls::RECORDS;
-use anyhow::bail;
-use exh_callers::{Caller, PlainFile, Reader, Writer, close, new_file, next_caller, settled};
+use anyhow::{Context, bail};
+use exh_callers::{PlainFile, close, new_file, settled};
 use exh_calls::{Call, Reply};
-use exh_copy::{NewCopyFault, new_copy};
+use exh_copy::{CopyReader, CopyWriter, NewCopyFault, Start, new_copy};
 use exh_live::{ANSWER_PARTS, Cursors, ENTRY_PARTS, Identity, Seat};
 use exh_page::CAP_LIMIT;
 use exh_prefix::WARD_BITS_LIMIT;
@@ -23,14 +24,14 @@ use std::time::Clock;
 
 /// A caller of a live file.
 #[derive(Drop)]
-struct LiveCaller<'a, R: Wait, F: Identity> {
+struct LiveCaller<'a, R: Wait, F: Identity, S: Start> {
     rt: &'a R,
     file: &'a PlainFile<F>,
     seat: &'a mut Seat<F>,
-    copy: &'a mut Reader,
+    copy: &'a mut CopyReader<S>,
 }
 
-impl<R: Wait, F: Identity> Asks for LiveCaller<'_, R, F> {
+impl<R: Wait, F: Identity, S: Start> Asks for LiveCaller<'_, R, F, S> {
     fn ask(&mut self, call: &Call) -> Result<Reply, AskFault> {
         self.file
             .ask(self.rt, self.seat, self.copy, call, &OpenGate)
@@ -46,8 +47,9 @@ pub(crate) struct Load {
 
 // What a caller's thread is given.
 #[derive(Drop)]
-struct Job<F: Identity> {
-    caller: Caller<F>,
+struct Job<F: Identity, S: Start> {
+    seat: Seat<F>,
+    copy: CopyReader<S>,
     share: Share,
 }
 
@@ -68,11 +70,35 @@ pub(crate) fn measure<R: Threads + Wait + Clock + AllocGlobal + Sync>(
     if ward_bits > WARD_BITS_LIMIT {
         bail!("a file has 0 to 4 ward bits");
     }
+    let answers = Blank::new(ANSWER_PARTS);
+    let entries = Blank::new(ENTRY_PARTS);
+    with_copy::<R, Brand, Brand>(rt, ward_bits, load, answers, entries)
+}
+
+fn with_copy<
+    R: Threads + Wait + Clock + AllocGlobal + Sync,
+    F: Identity + Send + Sync,
+    S: Start + Send + Sync,
+>(rt: &R, ward_bits: u8, load: Load, answers: Blank, entries: Blank) -> anyhow::Result<Times>
+    requires bits { ward_bits ≤ WARD_BITS_LIMIT }
+    requires start { (ward_bits ≡ S.ward_bits) × (S.table ≡ map.empty) }
+    requires answers { (answers.name ≡ F.answers) × (answers.parts ≡ ANSWER_PARTS) }
+    requires entries { (entries.name ≡ F.entries) × (entries.parts ≡ ENTRY_PARTS) }
+    requires hashed { F.hashing ≡ plain_pseudokey }
+{
     let table = Table::new(rt.alloc());
     let readers = load.callers.saturating_add(1);
-    match new_copy::<Brand>(rt.alloc(), ward_bits, &table, readers) {
+    match new_copy::<S>(rt.alloc(), ward_bits, &table, readers) {
         Ok((mut writer, readers)) => {
-            let times = with_copy(rt, ward_bits, load, &mut writer, readers);
+            let times = of_file::<R, F, S>(
+                rt,
+                ward_bits,
+                load,
+                &mut writer,
+                readers,
+                answers,
+                entries,
+            );
             drop(writer.close(rt));
             times
         }
@@ -84,26 +110,16 @@ pub(crate) fn measure<R: Threads + Wait + Clock + AllocGlobal + Sync>(
     }
 }
 
-fn with_copy<R: Threads + Wait + Clock + AllocGlobal + Sync>(
+fn of_file<
+    R: Threads + Wait + Clock + AllocGlobal + Sync,
+    F: Identity + Send + Sync,
+    S: Start + Send + Sync,
+>(
     rt: &R,
     ward_bits: u8,
     load: Load,
-    writer: &mut Writer,
-    readers: Vec<Reader>,
-) -> anyhow::Result<Times>
-    requires { ward_bits ≤ WARD_BITS_LIMIT }
-{
-    let answers = Blank::new(ANSWER_PARTS);
-    let entries = Blank::new(ENTRY_PARTS);
-    of_file::<R, Brand>(rt, ward_bits, load, writer, readers, answers, entries)
-}
-
-fn of_file<R: Threads + Wait + Clock + AllocGlobal + Sync, F: Identity + Send + Sync>(
-    rt: &R,
-    ward_bits: u8,
-    load: Load,
-    writer: &mut Writer,
-    readers: Vec<Reader>,
+    writer: &mut CopyWriter<S>,
+    readers: Vec<CopyReader<S>>,
     answers: Blank,
     entries: Blank,
 ) -> anyhow::Result<Times>
@@ -140,12 +156,16 @@ fn settles<F: Identity>(file: PlainFile<F>, ward_bits: u8, seats: Vec<Seat<F>>, 
 }
 
 // Fills the file and makes the calls. All seats are given back.
-fn run<R: Threads + Wait + Clock + AllocGlobal + Sync, F: Identity + Send + Sync>(
+fn run<
+    R: Threads + Wait + Clock + AllocGlobal + Sync,
+    F: Identity + Send + Sync,
+    S: Start + Send + Sync,
+>(
     rt: &R,
     ward_bits: u8,
     load: Load,
-    writer: &mut Writer,
-    readers: Vec<Reader>,
+    writer: &mut CopyWriter<S>,
+    readers: Vec<CopyReader<S>>,
     file: &mut PlainFile<F>,
     seats: &mut Vec<Seat<F>>,
 ) -> anyhow::Result<Times>
@@ -153,18 +173,19 @@ fn run<R: Threads + Wait + Clock + AllocGlobal + Sync, F: Identity + Send + Sync
     requires limit { ward_bits ≤ WARD_BITS_LIMIT }
 {
     let mut readers = readers;
-    let Caller { mut seat, mut copy } = next_caller(file, &mut readers)?;
+    let mut copy = readers.pop().context("a copy for who fills the file")?;
+    let mut seat = file.seat()?;
     fill_all(rt, ward_bits, file, writer, &mut seat, &mut copy)?;
     seats.push(seat)?;
     let mut jobs = Vec::new(rt.alloc());
-    for number in 0..load.callers {
-        let caller = next_caller(file, &mut readers)?;
+    for (number, copy) in (0..load.callers).zip(readers) {
+        let seat = file.seat()?;
         let share = Share {
             first: u32::from(number),
             step: u32::from(load.callers),
             calls: load.calls,
         };
-        jobs.push(Job { caller, share })?;
+        jobs.push(Job { seat, copy, share })?;
     }
     let file = &*file;
     collect(map_vec(rt, jobs, &|job| time_job(rt, file, job))?, seats)
@@ -188,13 +209,13 @@ fn collect<F: Identity>(done: Vec<Done<F>>, seats: &mut Vec<Seat<F>>) -> anyhow:
 }
 
 // Puts the records, with a courier's round to the copy after each part.
-fn fill_all<'a, R: Wait + AllocGlobal, F: Identity>(
+fn fill_all<'a, R: Wait + AllocGlobal, F: Identity, S: Start>(
     rt: &'a R,
     ward_bits: u8,
     file: &'a PlainFile<F>,
-    writer: &mut Writer,
+    writer: &mut CopyWriter<S>,
     seat: &mut Seat<F>,
-    copy: &mut Reader,
+    copy: &mut CopyReader<S>,
 ) -> anyhow::Result<()>
     requires bits { file.now.ward_bits ≡ ward_bits }
     requires limit { ward_bits ≤ WARD_BITS_LIMIT }
@@ -213,18 +234,22 @@ fn fill_all<'a, R: Wait + AllocGlobal, F: Identity>(
     Ok(())
 }
 
-fn time_job<'a, R: Wait + Clock, F: Identity>(
+fn time_job<'a, R: Wait + Clock, F: Identity, S: Start>(
     rt: &'a R,
     file: &'a PlainFile<F>,
-    job: Job<F>,
+    job: Job<F, S>,
 ) -> Done<F> {
-    let Caller { mut seat, mut copy } = job.caller;
+    let Job {
+        mut seat,
+        mut copy,
+        share,
+    } = job;
     let mut caller = LiveCaller {
         rt,
         file,
         seat: &mut seat,
         copy: &mut copy,
     };
-    let times = Times::of_share(rt, &mut caller, job.share);
+    let times = Times::of_share(rt, &mut caller, share);
     Done { seat, times }
 }

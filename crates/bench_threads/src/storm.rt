@@ -1,5 +1,6 @@
 //! A storm, measured: its workers are all at work at once, each on a thread.
 ghost use Rattle.std.specs.Prelude.{◌≡◌, ◌≤◌};
+ghost use Rattle.std.specs.FinMap as map;
 ghost use Rattle.exh_keyer.specs.Pseudokey.{sha_pseudokey};
 ghost use Rattle.exh_live.specs.declared.ledgers.TheConstants.{ANSWER_PARTS, ENTRY_PARTS};
 ghost use Rattle.exh_prefix.specs.declared.prefix.TheConstants.{WARD_BITS_LIMIT};
@@ -8,6 +9,7 @@ ghost use Rattle.exh_storm_config.specs.StormConfig.{IsStormConfig};
 use crate::texts::text_len;
 use crate::turns::Turns;
 use anyhow::bail;
+use exh_copy::Start;
 use exh_keyer::ShaKeyer;
 use exh_live::{ANSWER_PARTS, ENTRY_PARTS, Identity, Seat, WardJournals};
 use exh_notice::Kind;
@@ -18,11 +20,11 @@ use exh_storm::{
 };
 use exh_storm_config::StormConfig;
 use exh_walk::OpenGate;
-use std::alloc::{AllocError, Global};
+use std::alloc::Global;
 use std::marker::Brand;
 use std::sync::Wait;
 use std::sync::ledger::Blank;
-use std::thread::{Threads, map_vec};
+use std::thread::{Threads, join, map_indices, map_vec};
 
 /// What a storm came to: how many calls were answered and settled, the turns of all callers, the splits
 /// that were made, and the bytes of keys and values in the journals.
@@ -34,22 +36,8 @@ pub(crate) struct Measured {
     pub(crate) texts: u64,
 }
 
-// A worker of a storm, before its thread begins.
-#[derive(Drop)]
-enum Worker<'a, R: Wait, F: Identity> {
-    Caller(Caller<F, Brand>),
-    Keeper(u8),
-    Courier(Courier<'a, R, Brand>),
-}
-
-// What its thread gives: a caller's seat and turns; the courier too, whose copy is closed where it is
-// let go.
-#[derive(Drop)]
-enum Done<'a, R: Wait, F: Identity> {
-    Caller(Seat<F>, u64),
-    Keeper,
-    Courier(Courier<'a, R, Brand>),
-}
+// What a caller's thread gives: its seat, and its turns.
+type Called<F> = Result<(Seat<F>, u64), StormFault>;
 
 // What all workers have in common.
 #[derive(Drop)]
@@ -71,110 +59,102 @@ pub(crate) fn measure<R: Threads + Wait + AllocGlobal + Sync>(
 {
     let answers = Blank::new(ANSWER_PARTS);
     let entries = Blank::new(ENTRY_PARTS);
-    of_file::<R, Brand>(rt, config, answers, entries)
+    of_file::<R, Brand, Brand>(rt, config, answers, entries)
 }
 
-fn of_file<R: Threads + Wait + AllocGlobal + Sync, F: Identity + Send + Sync>(
-    rt: &R,
-    config: &StormConfig,
-    answers: Blank,
-    entries: Blank,
-) -> anyhow::Result<Measured>
+fn of_file<
+    R: Threads + Wait + AllocGlobal + Sync,
+    F: Identity + Send + Sync,
+    S: Start + Send + Sync,
+>(rt: &R, config: &StormConfig, answers: Blank, entries: Blank) -> anyhow::Result<Measured>
     requires config { IsStormConfig config.now }
     requires answers { (answers.name ≡ F.answers) × (answers.parts ≡ ANSWER_PARTS) }
     requires entries { (entries.name ≡ F.entries) × (entries.parts ≡ ENTRY_PARTS) }
     requires hashed { F.hashing ≡ sha_pseudokey }
+    requires bits { S.ward_bits ≡ config.now.ward_bits }
+    requires table { S.table ≡ map.empty }
 {
     let mut file = new_file::<F>(rt.alloc(), config, answers, entries)?;
     let mut seats = Vec::new(rt.alloc());
-    let turns = run(rt, config, &mut file, &mut seats);
+    let turns = run::<R, F, S>(rt, config, &mut file, &mut seats);
     close(config, file, seats, turns)
 }
 
 // Runs all workers over a new file, gives the callers' seats, and answers their turns.
-fn run<R: Threads + Wait + AllocGlobal + Sync, F: Identity + Send + Sync>(
+fn run<R: Threads + Wait + AllocGlobal + Sync, F: Identity + Send + Sync, S: Start + Send + Sync>(
     rt: &R,
     config: &StormConfig,
     file: &mut StormFile<F>,
     seats: &mut Vec<Seat<F>>,
 ) -> anyhow::Result<u64>
     requires config { IsStormConfig config.now }
+    requires bits { S.ward_bits ≡ config.now.ward_bits }
+    requires table { S.table ≡ map.empty }
     requires file { (file.old.ward_bits ≡ config.now.ward_bits) × (file.old.seats ≡ 0) }
 {
-    let Workers { callers, couriers } = new_workers::<R, F, Brand>(rt, rt.alloc(), config, file)?;
-    let workers = all_workers(rt.alloc(), config.ward_bits, callers, couriers)?;
+    let Workers { callers, couriers } = new_workers::<R, F, S>(rt, rt.alloc(), config, file)?;
     let field = Field {
         file,
         alloc: rt.alloc(),
         ward_bits: config.ward_bits,
         rounds: config.calls,
     };
-    collect(
-        map_vec(rt, workers, &|worker| work(rt, &field, worker))?,
-        seats,
-    )
+    let called = work(rt, &field, callers, couriers)?;
+    collect(called, seats)
 }
 
-// The callers, a keeper for each ward, and the couriers.
-fn all_workers<'a, R: Wait, F: Identity>(
-    alloc: Global,
-    ward_bits: u8,
-    callers: Vec<Caller<F, Brand>>,
-    couriers: Vec<Courier<'a, R, Brand>>,
-) -> Result<Vec<Worker<'a, R, F>>, AllocError>
-    requires { ward_bits ≤ WARD_BITS_LIMIT }
-{
-    let mut workers = Vec::new(alloc);
-    for caller in callers {
-        workers.push(Worker::Caller(caller))?;
-    }
-    for ward in 0..1u8 << ward_bits {
-        workers.push(Worker::Keeper(ward))?;
-    }
-    for courier in couriers {
-        workers.push(Worker::Courier(courier))?;
-    }
-    Ok(workers)
-}
-
-// Lets a worker make its rounds.
-fn work<'a, R: Wait, F: Identity>(
+// Lets all workers make their rounds at once, a keeper for each ward among them, and gives what came of
+// the callers. The couriers' copies are closed once all are done.
+fn work<R: Threads + Wait + Sync, F: Identity + Send + Sync, S: Start + Send + Sync>(
     rt: &R,
     field: &Field<'_, F>,
-    worker: Worker<'a, R, F>,
-) -> Result<Done<'a, R, F>, StormFault> {
-    match worker {
-        Worker::Caller(caller) => call(rt, field, caller),
-        Worker::Keeper(ward) => keep(rt, field, ward),
-        Worker::Courier(courier) => carry(field, courier),
+    callers: Vec<Caller<F, S>>,
+    couriers: Vec<Courier<'_, R, S>>,
+) -> anyhow::Result<Vec<Called<F>>> {
+    let wards = 1usize << field.ward_bits;
+    let (called, (kept, carried)) = join(
+        rt,
+        || map_vec(rt, callers, &|caller| call(rt, field, caller)),
+        || {
+            join(
+                rt,
+                || map_indices(rt, field.alloc, wards, &|ward| keep(rt, field, ward)),
+                || map_vec(rt, couriers, &|courier| carry(field, courier)),
+            )
+        },
+    );
+    for one in kept? {
+        one?;
     }
+    for one in carried? {
+        one?;
+    }
+    Ok(called?)
 }
 
-fn call<'a, R: Wait, F: Identity>(
+fn call<R: Wait, F: Identity, S: Start>(
     rt: &R,
     field: &Field<'_, F>,
-    caller: Caller<F, Brand>,
-) -> Result<Done<'a, R, F>, StormFault> {
+    caller: Caller<F, S>,
+) -> Called<F> {
     let gate = Turns::new();
     let seat = caller.run(rt, field.file, field.rounds, &gate, &NoWatch)?;
-    Ok(Done::Caller(seat, gate.count()))
+    Ok((seat, gate.count()))
 }
 
-fn keep<'a, R: Wait, F: Identity>(
-    rt: &R,
-    field: &Field<'_, F>,
-    ward: u8,
-) -> Result<Done<'a, R, F>, StormFault> {
-    if ward < 1u8 << field.ward_bits {
-        Keeper { ward }.run(rt, field.file, field.rounds, &OpenGate, &NoWatch)?;
+fn keep<R: Wait, F: Identity>(rt: &R, field: &Field<'_, F>, ward: usize) -> Result<(), StormFault> {
+    if ward >= 1usize << field.ward_bits {
+        return Ok(());
     }
-    Ok(Done::Keeper)
+    let keeper = Keeper { ward: ward as u8 };
+    keeper.run(rt, field.file, field.rounds, &OpenGate, &NoWatch)
 }
 
-fn carry<'a, R: Wait, F: Identity>(
+// Gives the courier back.
+fn carry<'a, R: Wait, F: Identity, S: Start>(
     field: &Field<'_, F>,
-    courier: Courier<'a, R, Brand>,
-) -> Result<Done<'a, R, F>, StormFault> {
+    courier: Courier<'a, R, S>,
+) -> Result<Courier<'a, R, S>, StormFault> {
     let mut courier = courier;
     courier.run(
         field.alloc,
@@ -184,20 +164,16 @@ fn carry<'a, R: Wait, F: Identity>(
         &OpenGate,
         &NoWatch,
     )?;
-    Ok(Done::Courier(courier))
+    Ok(courier)
 }
 
 // The turns of all callers. Their seats are given back.
-fn collect<R: Wait, F: Identity>(
-    done: Vec<Result<Done<'_, R, F>, StormFault>>,
-    seats: &mut Vec<Seat<F>>,
-) -> anyhow::Result<u64> {
+fn collect<F: Identity>(called: Vec<Called<F>>, seats: &mut Vec<Seat<F>>) -> anyhow::Result<u64> {
     let mut turns = 0u64;
-    for one in done {
-        if let Done::Caller(seat, more) = one? {
-            seats.push(seat)?;
-            turns = turns.wrapping_add(more);
-        }
+    for one in called {
+        let (seat, more) = one?;
+        seats.push(seat)?;
+        turns = turns.wrapping_add(more);
     }
     Ok(turns)
 }
