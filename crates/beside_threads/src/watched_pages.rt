@@ -69,21 +69,22 @@ pub(crate) fn new_ward<'a, R: Clock>(
     Ok(Ward::new(alloc, store, CAP, ward_bits, number, keyer))
 }
 
-impl<R: Clock> WatchedPages<'_, R> {
-    fn look(&mut self) {
-        match self.look {
-            Look::Nothing => {}
-            Look::Rests => self.conductor.rest(),
-            Look::Waits => {
-                self.look = Look::Nothing;
-                self.conductor.raise(IS_READ, 1);
-                if !self.conductor.wait_for(MAY_GO, 1) {
-                    self.conductor.raise(IS_LATE, 1);
-                }
+// Looks at a page. It touches no page, so the store stays as it was.
+fn look_on<R: Clock>(look: &mut Look, conductor: &Conductor<'_, R>) {
+    match *look {
+        Look::Nothing => {}
+        Look::Rests => conductor.rest(),
+        Look::Waits => {
+            *look = Look::Nothing;
+            conductor.raise(IS_READ, 1);
+            if !conductor.wait_for(MAY_GO, 1) {
+                conductor.raise(IS_LATE, 1);
             }
         }
     }
+}
 
+impl<R: Clock> WatchedPages<'_, R> {
     // Looks at two pages that are written at once. Where one is a forwarding page, they are a merge's, and
     // the other has the records of both; a split that takes such a page's place writes two live ones.
     fn see(&self, page: &Page, twin: &Page) {
@@ -120,7 +121,7 @@ impl<R: Clock> Pages for WatchedPages<'_, R> {
     }
 
     fn lend(&mut self, number: PageNo) -> Result<&Page, PagesFault> {
-        self.look();
+        look_on(&mut self.look, self.conductor);
         self.inner.lend(number)
     }
 
