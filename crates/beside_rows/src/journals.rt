@@ -126,7 +126,9 @@ fn has_full_entry(ward: &mut PlainWard) -> Result<(), Difference> {
 
 // A hop of client 1.
 fn hop_at(ward: &mut PlainWard, at: PageNo, asked: Asked<'_>) -> Result<Hop, Difference> {
-    hop_of(ward, at, 1, &asked.call()?).map_err(refused)
+    let call = asked.call()?;
+    let hop = hop_of(ward, at, 1, &call).map_err(refused)?;
+    Ok(hop)
 }
 
 // The three keys, and gets that go astray: at a page for greater pseudokeys, and at one that isn't there. The right page
