@@ -90,8 +90,7 @@ fn next_life(
     live(run, script, [&GONE, lines])
 }
 
-// The wards that a script leaves.
-#[tactic(auto, using(crate::proofs::Settings::wards_given))]
+// The wards that a script leaves after two lists of lines.
 fn live(
     run: &mut Run,
     script: PlainScript,
@@ -105,8 +104,18 @@ fn live(
     let [first, second] = lists;
     take_lines(run, &mut script, first)?;
     take_lines(run, &mut script, second)?;
+    Ok(wards_of(script))
+}
+
+// The wards of a script's world.
+#[tactic(auto, using(crate::proofs::Settings::wards_given))]
+fn wards_of(script: PlainScript) -> Vec<PlainWard>
+    requires sound { IsSoundWorld any_pseudokey script.world }
+    requires settings { HasSettings script.world }
+    ensures { AreItsWards result.items }
+{
     let Script { world, .. } = script;
-    Ok(world.into_wards())
+    world.into_wards()
 }
 
 // Answers lines, which keep the settings.
