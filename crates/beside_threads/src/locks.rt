@@ -33,7 +33,7 @@ pub(crate) fn run<R: Threads + Wait + Clock + Sync, F: Identity + Sync + Send>(
     requires entries { (entries.name ≡ F.entries) × (entries.parts ≡ ENTRY_PARTS) }
     requires hashed { F.hashing ≡ plain_pseudokey }
 {
-    let mut file = two_wards::<R, F>(run.alloc, signs, answers, entries)?;
+    let mut file = two_wards::<R, F>(run.alloc, &*signs, answers, entries)?;
     let mut first = next_caller(&mut file, copies)?;
     let mut second = next_caller(&mut file, copies)?;
     let (waited, told) = join(
