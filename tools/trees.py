@@ -18,6 +18,8 @@ PROGRAM = "exh_cli"
 SOURCES = ("src", "specs", "proofs")
 # What `rt` makes of a crate and reads again.
 BUILT = ("rlib", "incremental")
+# A crate is shared out over the processors where its chain is at least so much of the longest one that is left.
+NEARLY_LONGEST = 0.75
 
 
 def listed(root):
@@ -40,8 +42,8 @@ def all_below(name, below):
 
 
 def size_of(folder):
-    files = [f"{at}/{name}" for part in SOURCES for at, _, names in os.walk(f"{folder}/{part}") for name in names]
-    return sum(map(os.path.getsize, files))
+    """Returns the bytes of the crate's code: a proof's time follows these, and hardly those of definitions and laws."""
+    return sum(os.path.getsize(f"{at}/{name}") for at, _, names in os.walk(f"{folder}/src") for name in names)
 
 
 def link(file, to):
@@ -152,8 +154,8 @@ class Trees:
     def bottom_up(self, work, show):
         """Yields each crate with what `work` returns for it and a number of jobs, once it has for those below.
 
-        As many are at work as there are processors, and `show` is called with their names each second. The crate that
-        all of the rest waits for gets each processor, shared with those beside it."""
+        As many are at work as there are processors, and `show` is called with their names each second. The crates for
+        which the longest chains wait get each processor, shared with those beside them."""
         lanes, behind = len(os.sched_getaffinity(0)), self.behind()
         left, done, working = sorted(self.crates, key=lambda it: -behind[it]), set(), {}
         with ThreadPoolExecutor(lanes) as pool:
@@ -163,7 +165,8 @@ class Trees:
                     ready = [it for it in left if done.issuperset(self.below[it])]
                     for name in ready[: lanes - len(working)]:
                         left.remove(name)
-                        working[pool.submit(work, name, lanes if behind[name] >= longest else 1)] = name
+                        jobs = lanes if behind[name] >= NEARLY_LONGEST * longest else 1
+                        working[pool.submit(work, name, jobs)] = name
                     show(working.values())
                     for it in wait(working, timeout=1, return_when=FIRST_COMPLETED).done:
                         name = working.pop(it)
