@@ -5,7 +5,7 @@ ghost use Rattle.exh_disk.specs.Stage.{is_ours};
 
 use crate::fault::Call;
 use crate::names::{SUFFIXES, name_beside};
-use crate::{Disk, DiskFault, Found, Kind};
+use crate::{Disk, DiskFault, Found, Kind, Runner};
 use std::alloc::Global;
 use std::io;
 use std::io::ErrorKind;
@@ -44,20 +44,24 @@ fn claim_name<D: Disk>(
     ensures { IfOk result (λ claimed. IfSome claimed (λ file. D.stage file ≡ Empty)) }
 {
     match disk.ask_name(name) {
-        Ok(found) if is_left_over(&found, disk.runner().user, old) => take_over(disk, name, old),
-        Ok(_) => Ok(None),
+        Ok(found) => {
+            let runner = disk.runner().ok();
+            if is_left_over(&found, runner, old) {
+                take_over(disk, name, old)
+            } else {
+                Ok(None)
+            }
+        }
         Err(error) if error.kind() == ErrorKind::NotFound => Ok(Some(make(disk, name, old)?)),
         Err(error) => Err(DiskFault::at(Call::Make, error)),
     }
 }
 
 // Whether a killed save may have left this: it is of whom the program runs for, or of whom it was to be given to.
-fn is_left_over(found: &Found, user: u32, old: Option<&Found>) -> bool {
-    let is_of_old = match old {
-        Some(old) => found.owner == old.owner,
-        None => false,
-    };
-    found.kind == Kind::Regular && found.links == 1 && (found.owner == user || is_of_old)
+fn is_left_over(found: &Found, runner: Option<Runner>, old: Option<&Found>) -> bool {
+    let is_of_runner = runner.is_some_and(|runner| found.owner == runner.user);
+    let is_of_old = old.is_some_and(|old| found.owner == old.owner);
+    found.kind == Kind::Regular && found.links == 1 && (is_of_runner || is_of_old)
 }
 
 // Makes a file. Where another save took it over at once, that one has it.

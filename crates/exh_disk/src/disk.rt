@@ -21,7 +21,7 @@ pub trait Disk {
     ghost stage: { Self.File → Stage };
 
     /// For whom the program runs.
-    fn runner(&self) -> Runner;
+    fn runner(&mut self) -> io::Result<Runner>;
 
     /// The path of what a path leads to, without links.
     fn whole_path(&mut self, alloc: Global, path: &str) -> io::Result<String>;

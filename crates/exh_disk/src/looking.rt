@@ -21,7 +21,11 @@ fn look_at_folder<D: Disk>(disk: &mut D, folder: &str) -> Result<(), DiskFault> 
     let found = disk
         .ask(folder)
         .map_err(|error| DiskFault::at(Call::Make, error))?;
-    if found.kind != Kind::Folder || found.is_closed_to(disk.runner()) {
+    let is_closed = match disk.runner() {
+        Ok(runner) => found.is_closed_to(runner),
+        Err(_) => false,
+    };
+    if found.kind != Kind::Folder || is_closed {
         return Err(DiskFault::ClosedFolder);
     }
     Ok(())

@@ -4,7 +4,7 @@ use crate::{Disk, Found, Head, Runner, Stage, found_of};
 use std::alloc::Global;
 use std::fs::{File, OpenOptions, Permissions};
 use std::io::{Read, Write};
-use std::os::unix::fs::{OpenOptionsExt, PermissionsExt, fchown};
+use std::os::unix::fs::{MetadataExt, OpenOptionsExt, PermissionsExt, fchown};
 use std::{fs, io};
 
 /// The disk of the system, through a handle of the program's.
@@ -33,11 +33,13 @@ impl Disk for SystemDisk<'_> {
 
     ghost stage = { λ file. file.stage };
 
-    fn runner(&self) -> Runner {
-        Runner {
-            user: libc::geteuid(),
-            group: libc::getegid(),
-        }
+    // The folder that the system has of a process is of whom that runs for.
+    fn runner(&mut self) -> io::Result<Runner> {
+        let about = fs::metadata(self.rt, "/proc/self")?;
+        Ok(Runner {
+            user: about.uid(),
+            group: about.gid(),
+        })
     }
 
     fn whole_path(&mut self, _alloc: Global, path: &str) -> io::Result<String> {
