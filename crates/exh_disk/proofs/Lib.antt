@@ -1,0 +1,2 @@
+-- for what takes a file's name away
+pub mod Stages

@@ -1,0 +1,37 @@
+-- How far a file is on its way to its place: what the calls of a disk ask of it, and what they make of it.
+use Rattle.std.specs.Prelude.{Bool, true, false}
+use Rattle.exh_disk.specs.declared.stage.Stage.{Stage}
+use Rattle.exh_disk.specs.declared.stage.Stage.TheVariants.{Made, Left, Held, HeldLeft, OwnLeft, Restricted, Empty, Dressed, Written, Synchronized, Confirmed, Placed, Settled}
+
+-- once it is locked: what it is may have another name by now
+abbrev pub locked : Stage → Stage
+locked Made = Held
+locked Left = HeldLeft
+locked stage = stage
+
+-- once it was asked whether it is the file of its name: one that this save made is empty
+abbrev pub asked : Stage → Bool → Stage
+asked Held true = Empty
+asked HeldLeft true = OwnLeft
+asked Synchronized true = Confirmed
+asked stage is_own = stage
+
+-- bytes may be written: the file is locked, has its name, and was emptied
+abbrev pub is_fillable : Stage → Bool
+is_fillable Empty = true
+is_fillable Dressed = true
+is_fillable Written = true
+is_fillable stage = false
+
+-- its name may be taken away: this save made it, or has its lock while it is the file of its name
+abbrev pub is_ours : Stage → Bool
+is_ours Made = true
+is_ours Held = true
+is_ours OwnLeft = true
+is_ours Restricted = true
+is_ours Empty = true
+is_ours Dressed = true
+is_ours Written = true
+is_ours Synchronized = true
+is_ours Confirmed = true
+is_ours stage = false

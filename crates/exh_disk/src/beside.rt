@@ -1,0 +1,123 @@
+//! A save of a regular file: it is written beside its place, and renamed over it.
+ghost use Rattle.std.specs.Prelude.{◌≡◌, IfOk, OnErr, OnOk, true};
+ghost use Rattle.exh_disk.specs.declared.stage.Stage.TheVariants.{Confirmed, Empty, Placed, Settled};
+ghost use Rattle.exh_disk.specs.Stage.{is_fillable, is_ours};
+
+use crate::claiming::{claim, confirm_fault};
+use crate::disk_writer::DiskWriter;
+use crate::dressing::dress;
+use crate::fault::Call;
+use crate::names::folder_of;
+use crate::place::{old_at, there_at};
+use crate::writing::write_source;
+use crate::{Disk, DiskFault, Found, Source, Target};
+use std::alloc::Global;
+use std::io;
+
+/// Writes a source beside a place, and renames it over what is there. The answer is the file, and why its folder couldn't
+/// be synchronized, where it couldn't. On an `Err` what is there is as before, and nothing is left beside it.
+pub(crate) fn save_beside<D: Disk, S: Source>(
+    alloc: Global,
+    disk: &mut D,
+    place: &str,
+    target: &Target<'_>,
+    source: S,
+) -> Result<(D::File, Option<io::Error>), DiskFault>
+    ensures { IfOk result (λ saved. D.stage saved.0 ≡ Settled) }
+{
+    let old = old_at(disk, place, target)?;
+    let (file, name) = claim(alloc, disk, place, old.as_ref())?;
+    let (mut file, filled) = fill(disk, file, place, target, &old, source);
+    match put(disk, &mut file, &name, place, &old, filled) {
+        Ok(()) => {
+            let folder = disk.synchronize_folder(&mut file, folder_of(place));
+            Ok((file, folder.err()))
+        }
+        // Another save has the name.
+        Err(DiskFault::Busy) => Err(DiskFault::Busy),
+        Err(fault) => {
+            let _ = disk.remove(&file, &name);
+            Err(fault)
+        }
+    }
+}
+
+// Dresses and writes an empty file. What is at the place is asked again first: by now no other save changes it.
+fn fill<D: Disk, S: Source>(
+    disk: &mut D,
+    mut file: D::File,
+    place: &str,
+    target: &Target<'_>,
+    old: &Option<Found>,
+    source: S,
+) -> (D::File, Result<(), DiskFault>)
+    requires { D.stage file ≡ Empty }
+    ensures { is_fillable (D.stage result.0) ≡ true }
+{
+    match prepare(disk, &mut file, place, target, old) {
+        Ok(()) => {
+            let mut writer = DiskWriter::new(disk, file);
+            let written = write_source(&mut writer, source);
+            (writer.into_file(), written)
+        }
+        Err(fault) => (file, Err(fault)),
+    }
+}
+
+// Sees that what is at the place is what was there, and may be replaced, and dresses the file like it.
+fn prepare<D: Disk>(
+    disk: &mut D,
+    file: &mut D::File,
+    place: &str,
+    target: &Target<'_>,
+    old: &Option<Found>,
+) -> Result<(), DiskFault>
+    requires { D.stage file.old ≡ Empty }
+    ensures { is_fillable (D.stage file.new) ≡ true }
+{
+    let there = old_at(disk, place, target)?;
+    if !is_unchanged(old, &there) {
+        return Err(DiskFault::Changed);
+    }
+    match &there {
+        Some(there) => dress(disk, file, there).map_err(|error| DiskFault::at(Call::Permit, error)),
+        None => Ok(()),
+    }
+}
+
+// Gives a file that is filled its place, once it is on the disk, and if it is still the file of its name and what is at the
+// place is what was there.
+#[tactic(auto, using(crate::proofs::Stages::fillable_ours))]
+fn put<D: Disk>(
+    disk: &mut D,
+    file: &mut D::File,
+    name: &str,
+    place: &str,
+    old: &Option<Found>,
+    filled: Result<(), DiskFault>,
+) -> Result<(), DiskFault>
+    requires { is_fillable (D.stage file.old) ≡ true }
+    ensures ok { OnOk result (D.stage file.new ≡ Placed) }
+    ensures err { OnErr result (is_ours (D.stage file.new) ≡ true) }
+{
+    filled?;
+    disk.synchronize(file)
+        .map_err(|error| DiskFault::at(Call::Synchronize, error))?;
+    if !disk.confirm(file, name).map_err(confirm_fault)? {
+        return Err(DiskFault::Busy);
+    }
+    if !is_unchanged(old, &there_at(disk, place)?) {
+        return Err(DiskFault::Changed);
+    }
+    disk.rename(file, name, place)
+        .map_err(|error| DiskFault::at(Call::Rename, error))
+}
+
+// Whether nothing came, went or was written to in between.
+fn is_unchanged(old: &Option<Found>, there: &Option<Found>) -> bool {
+    match (old, there) {
+        (Some(old), Some(there)) => old.is_unchanged(there),
+        (None, None) => true,
+        _ => false,
+    }
+}

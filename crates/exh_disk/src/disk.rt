@@ -1,0 +1,136 @@
+//! The calls that a save makes of the system.
+ghost use Rattle.std.specs.Prelude.{◌≡◌, ◌≤◌, length, IfOk, OnErr, OnOk, true};
+ghost use Rattle.exh_disk.specs.declared.stage.Stage.{Stage};
+ghost use Rattle.exh_disk.specs.declared.stage.Stage.TheVariants.{Confirmed, Dressed, Empty, Left, Made, OwnLeft, Placed, Restricted, Settled, Synchronized, Written};
+ghost use Rattle.exh_disk.specs.Stage.{asked, is_fillable, is_ours, locked};
+
+use crate::{Found, Head, Runner};
+use std::alloc::Global;
+use std::io;
+use std::io::Write;
+
+/// What a save asks of the system, call by call. Each fails as the system does, and a file is then as far as before.
+pub trait Disk {
+    /// A file that is open, and once it is locked stays so until it is dropped.
+    type File: Drop;
+
+    /// What is no regular file, and is written as it stands.
+    type Device: Write + Drop;
+
+    /// How far a file is.
+    ghost stage: { Self.File → Stage };
+
+    /// For whom the program runs.
+    fn runner(&mut self) -> io::Result<Runner>;
+
+    /// The path of what a path leads to, without links.
+    fn whole_path(&mut self, alloc: Global, path: &str) -> io::Result<String>;
+
+    /// What a path leads to.
+    fn ask(&mut self, path: &str) -> io::Result<Found>;
+
+    /// What has a name, a link itself.
+    fn ask_name(&mut self, name: &str) -> io::Result<Found>;
+
+    /// The first bytes of a file that can be read and written, zeros behind its end.
+    fn head(&mut self, path: &str) -> io::Result<Head>;
+
+    /// Opens what is no regular file, to write to it as it stands.
+    fn open(&mut self, path: &str) -> io::Result<Self::Device>;
+
+    /// What was opened so.
+    fn ask_device(&mut self, device: &Self::Device) -> io::Result<Found>;
+
+    /// Waits until what was written to a device is there.
+    fn synchronize_device(&mut self, device: &mut Self::Device) -> io::Result<()>;
+
+    /// Makes a file where nothing has the name, with these permissions or the part of them that is usual.
+    fn make(&mut self, name: &str, mode: u32) -> io::Result<Self::File>
+        ensures { IfOk result (λ file. stage file ≡ Made) };
+
+    /// Opens the file of a name as it stands.
+    fn take(&mut self, name: &str) -> io::Result<Self::File>
+        ensures { IfOk result (λ file. stage file ≡ Left) };
+
+    /// Takes the lock of a file, which one save has at a time.
+    fn lock(&mut self, file: &mut Self::File) -> io::Result<()>
+        ensures ok { OnOk result (stage file.new ≡ locked (stage file.old)) }
+        ensures err { OnErr result (stage file.new ≡ stage file.old) };
+
+    /// Whether a file is the one of this name, and has no other.
+    fn confirm(&mut self, file: &mut Self::File, name: &str) -> io::Result<bool>
+        ensures ok { IfOk result (λ is_own. stage file.new ≡ asked (stage file.old) is_own) }
+        ensures err { OnErr result (stage file.new ≡ stage file.old) };
+
+    /// Leaves a file to its owner alone.
+    fn restrict(&mut self, file: &mut Self::File) -> io::Result<()>
+        requires { stage file.old ≡ OwnLeft }
+        ensures ok { OnOk result (stage file.new ≡ Restricted) }
+        ensures err { OnErr result (stage file.new ≡ stage file.old) };
+
+    /// Takes away what a file has.
+    fn empty(&mut self, file: &mut Self::File) -> io::Result<()>
+        requires { stage file.old ≡ Restricted }
+        ensures ok { OnOk result (stage file.new ≡ Empty) }
+        ensures err { OnErr result (stage file.new ≡ stage file.old) };
+
+    /// Gives a file an owner and a group, those that are named.
+    fn give(
+        &mut self,
+        file: &mut Self::File,
+        owner: Option<u32>,
+        group: Option<u32>,
+    ) -> io::Result<()>
+        requires { stage file.old ≡ Empty }
+        ensures { stage file.new ≡ stage file.old };
+
+    /// Sets the permissions of a file to which nothing was written.
+    fn permit(&mut self, file: &mut Self::File, mode: u32) -> io::Result<()>
+        requires { stage file.old ≡ Empty }
+        ensures ok { OnOk result (stage file.new ≡ Dressed) }
+        ensures err { OnErr result (stage file.new ≡ stage file.old) };
+
+    /// Writes a beginning of bytes behind those that were written, and answers how many.
+    fn write(&mut self, file: &mut Self::File, bytes: &[u8]) -> io::Result<usize>
+        requires { is_fillable (stage file.old) ≡ true }
+        ensures bound { IfOk result (λ count. count ≤ length bytes.now) }
+        ensures stage { stage file.new ≡ Written };
+
+    /// Waits until all of a file is on the disk.
+    fn synchronize(&mut self, file: &mut Self::File) -> io::Result<()>
+        requires { is_fillable (stage file.old) ≡ true }
+        ensures ok { OnOk result (stage file.new ≡ Synchronized) }
+        ensures err { OnErr result (stage file.new ≡ stage file.old) };
+
+    /// Gives a file the place of another, or a new one.
+    fn rename(&mut self, file: &mut Self::File, name: &str, place: &str) -> io::Result<()>
+        requires { stage file.old ≡ Confirmed }
+        ensures ok { OnOk result (stage file.new ≡ Placed) }
+        ensures err { OnErr result (stage file.new ≡ stage file.old) };
+
+    /// Waits until the names of a folder are on the disk, those of a file that has its place there.
+    fn synchronize_folder(&mut self, file: &mut Self::File, folder: &str) -> io::Result<()>
+        requires { stage file.old ≡ Placed }
+        ensures { stage file.new ≡ Settled };
+
+    /// Takes away the name of a file that this save made or has the lock of.
+    fn remove(&mut self, file: &Self::File, name: &str) -> io::Result<()>
+        requires { is_ours (stage file.now) ≡ true };
+}
+
+/// What is to be written.
+pub trait Source: Drop {
+    /// Writes all of it to a writer.
+    ///
+    /// `Writer`: the writer failed or took no bytes. `Memory`: a growth was refused. `Source`: what is to be written is
+    /// out of reach.
+    fn write_to<W: Write>(self, writer: &mut W) -> Result<(), SourceFault>;
+}
+
+/// Why not all was written.
+#[derive(Clone, Copy, Debug, PartialEq, Eq)]
+pub enum SourceFault {
+    Writer,
+    Memory,
+    Source,
+}

@@ -1,0 +1,102 @@
+//! What the system tells of a file.
+
+use std::fs::Metadata;
+use std::os::unix::fs::MetadataExt;
+
+/// What a name leads to.
+#[derive(Clone, Copy, Debug, PartialEq, Eq)]
+pub enum Kind {
+    Regular,
+    Folder,
+    Link,
+    /// A device, a pipe or a socket.
+    Other,
+}
+
+/// What was found at a name, or of an open file.
+#[derive(Clone, Copy, Debug, PartialEq, Eq)]
+pub struct Found {
+    pub kind: Kind,
+    pub device: u64,
+    pub inode: u64,
+    pub links: u64,
+    pub size: u64,
+    /// When it was last written, in seconds and nanoseconds.
+    pub modified: (i64, i64),
+    pub owner: u32,
+    pub group: u32,
+    /// Its permissions.
+    pub mode: u32,
+}
+
+/// The first bytes of a file that can be read and written.
+#[derive(Clone, Copy, Debug)]
+pub struct Head {
+    pub found: Found,
+    pub bytes: [u8; 8],
+}
+
+/// For whom the program runs.
+#[derive(Clone, Copy, Debug)]
+pub struct Runner {
+    pub user: u32,
+    pub group: u32,
+}
+
+impl Found {
+    /// Whether both tell of one file.
+    pub fn is_same(&self, other: &Found) -> bool {
+        self.kind == other.kind && self.device == other.device && self.inode == other.inode
+    }
+
+    /// Whether both tell of one file that nobody wrote to in between.
+    pub fn is_unchanged(&self, other: &Found) -> bool {
+        self.is_same(other) && self.size == other.size && self.modified == other.modified
+    }
+
+    /// Whether these are of a regular file that has this name alone.
+    pub fn is_only(&self, named: &Found) -> bool {
+        self.kind == Kind::Regular && self.links == 1 && self.is_same(named)
+    }
+
+    /// Whether a folder's permissions surely keep the runner from making a file there.
+    pub fn is_closed_to(&self, runner: Runner) -> bool {
+        let needed = |bits: u32| self.mode >> bits & 0o3 != 0o3;
+        if runner.user == 0 {
+            false
+        } else if runner.user == self.owner {
+            needed(6)
+        } else if runner.group == self.group {
+            needed(3)
+        } else {
+            needed(3) && needed(0)
+        }
+    }
+}
+
+/// What the system tells of a file.
+pub fn found_of(about: &Metadata) -> Found {
+    Found {
+        kind: kind_of(about),
+        device: about.dev(),
+        inode: about.ino(),
+        links: about.nlink(),
+        size: about.len(),
+        modified: (about.mtime(), about.mtime_nsec()),
+        owner: about.uid(),
+        group: about.gid(),
+        mode: about.mode() & 0o7777,
+    }
+}
+
+fn kind_of(about: &Metadata) -> Kind {
+    if about.is_file() {
+        Kind::Regular
+    } else if about.is_dir() {
+        Kind::Folder
+    } else if about.is_symlink() {
+        Kind::Link
+    } else {
+        Kind::Other
+    }
+}

@@ -1,0 +1,103 @@
+use crate::fault::Call;
+use crate::names::file_name_of;
+use crate::{Disk, DiskFault, Found, Kind, Target};
+use std::alloc::Global;
+use std::io::ErrorKind;
+
+/// What a path to be saved to leads to.
+#[derive(Drop)]
+pub(crate) enum Place {
+    /// Nothing, or a regular file: its path without links.
+    File(String),
+    /// A device, a pipe or a socket.
+    Device,
+}
+
+/// What a path to be saved to leads to.
+pub(crate) fn place_of<D: Disk>(
+    alloc: Global,
+    disk: &mut D,
+    path: &str,
+) -> Result<Place, DiskFault> {
+    if file_name_of(path).is_empty() {
+        return Err(DiskFault::NoFileName);
+    }
+    match disk.ask(path) {
+        Ok(found) => place_of_found(alloc, disk, path, found.kind),
+        Err(error) if error.kind() == ErrorKind::NotFound => new_place(alloc, disk, path),
+        Err(error) => Err(DiskFault::at(Call::Ask, error)),
+    }
+}
+
+fn place_of_found<D: Disk>(
+    alloc: Global,
+    disk: &mut D,
+    path: &str,
+    kind: Kind,
+) -> Result<Place, DiskFault> {
+    match kind {
+        Kind::Regular => match disk.whole_path(alloc, path) {
+            Ok(place) => Ok(Place::File(place)),
+            Err(error) => Err(DiskFault::at(Call::Ask, error)),
+        },
+        Kind::Folder => Err(DiskFault::Folder),
+        Kind::Link | Kind::Other => Ok(Place::Device),
+    }
+}
+
+// Of a path that leads to nothing. A link that leads nowhere would be replaced.
+fn new_place<D: Disk>(alloc: Global, disk: &mut D, path: &str) -> Result<Place, DiskFault> {
+    if disk.ask_name(path).is_ok() {
+        return Err(DiskFault::DanglingLink);
+    }
+    match String::from_str(alloc, path) {
+        Ok(place) => Ok(Place::File(place)),
+        Err(_) => Err(DiskFault::Memory),
+    }
+}
+
+/// The file at a place, which a save may replace; `None` where nothing is there.
+pub(crate) fn old_at<D: Disk>(
+    disk: &mut D,
+    place: &str,
+    target: &Target<'_>,
+) -> Result<Option<Found>, DiskFault> {
+    match there_at(disk, place)? {
+        Some(there) => replaceable(disk, place, &there, target).map(|()| Some(there)),
+        None => Ok(None),
+    }
+}
+
+/// What has the name of a place; `None` where nothing has it.
+pub(crate) fn there_at<D: Disk>(disk: &mut D, place: &str) -> Result<Option<Found>, DiskFault> {
+    match disk.ask_name(place) {
+        Ok(there) => Ok(Some(there)),
+        Err(error) if error.kind() == ErrorKind::NotFound => Ok(None),
+        Err(error) => Err(DiskFault::at(Call::Ask, error)),
+    }
+}
+
+// Whether a file may be replaced. What is no regular file by now isn't opened.
+fn replaceable<D: Disk>(
+    disk: &mut D,
+    place: &str,
+    there: &Found,
+    target: &Target<'_>,
+) -> Result<(), DiskFault> {
+    if there.kind != Kind::Regular {
+        return Err(DiskFault::Changed);
+    }
+    let head = disk
+        .head(place)
+        .map_err(|error| DiskFault::at(Call::Open, error))?;
+    if !there.is_unchanged(&head.found) {
+        return Err(DiskFault::Changed);
+    }
+    if there.size > 0 && head.bytes != target.magic {
+        return Err(DiskFault::NoPageFile);
+    }
+    match target.seen {
+        Some(seen) if !seen.allows(place, there) => Err(DiskFault::NotAsOpened),
+        _ => Ok(()),
+    }
+}

@@ -1,0 +1,73 @@
+//! A save.
+ghost use Rattle.std.specs.Prelude.{◌≡◌, IfOk, IfSome};
+ghost use Rattle.exh_disk.specs.declared.stage.Stage.TheVariants.{Settled};
+
+use crate::beside::save_beside;
+use crate::fault::Call;
+use crate::place::{Place, place_of};
+use crate::writing::write_source;
+use crate::{Disk, DiskFault, Kind, Source, Target};
+use std::alloc::Global;
+use std::io;
+use std::io::ErrorKind;
+
+/// What a save came to.
+#[derive(Drop)]
+pub struct Saved<F: Drop> {
+    /// The file, which is locked as long as this is there; `None` where no regular file was written.
+    pub file: Option<F>,
+    /// Why the folder couldn't be synchronized, where it couldn't: then a fault of the machine may bring the old file back.
+    pub folder: Option<io::Error>,
+}
+
+/// Saves a source at a path. A regular file is written beside its place, in a file of its own that this save has the lock
+/// of, synchronized, and renamed over what is there, whose permissions it has, after which its folder is synchronized.
+/// What is no regular file is written as it stands, and synchronized where it can be.
+///
+/// On an `Err` a regular file is as before, and nothing is left beside it.
+pub fn save<D: Disk, S: Source>(
+    alloc: Global,
+    disk: &mut D,
+    target: &Target<'_>,
+    source: S,
+) -> Result<Saved<D::File>, DiskFault>
+    ensures { IfOk result (λ saved. IfSome saved.file (λ file. D.stage file ≡ Settled)) }
+{
+    match place_of(alloc, disk, target.path)? {
+        Place::File(place) => {
+            let (file, folder) = save_beside(alloc, disk, &place, target, source)?;
+            Ok(Saved {
+                file: Some(file),
+                folder,
+            })
+        }
+        Place::Device => {
+            write_device(disk, target.path, source)?;
+            Ok(Saved {
+                file: None,
+                folder: None,
+            })
+        }
+    }
+}
+
+// Writes what is no regular file. One that came there meanwhile isn't written to.
+fn write_device<D: Disk, S: Source>(disk: &mut D, path: &str, source: S) -> Result<(), DiskFault> {
+    let mut device = disk
+        .open(path)
+        .map_err(|error| DiskFault::at(Call::Open, error))?;
+    let found = disk
+        .ask_device(&device)
+        .map_err(|error| DiskFault::at(Call::Ask, error))?;
+    if found.kind == Kind::Regular {
+        return Err(DiskFault::Changed);
+    }
+    write_source(&mut device, source)?;
+    match disk.synchronize_device(&mut device) {
+        // So says the system of what can't be synchronized.
+        Err(error) if error.kind() != ErrorKind::InvalidInput => {
+            Err(DiskFault::at(Call::Synchronize, error))
+        }
+        _ => Ok(()),
+    }
+}

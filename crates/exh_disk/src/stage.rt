@@ -1,0 +1,60 @@
+//! How far a file is on its way to its place.
+ghost use Rattle.std.specs.Prelude.{◌≡◌};
+
+/// How far a file is on its way to its place. What a disk's calls ask of it and make of it is the order of a save.
+#[derive(Clone, Copy, Debug, PartialEq, Eq)]
+pub enum Stage {
+    /// Made by this save, which has no lock of it yet.
+    Made,
+    /// Found there, and not locked: another save may have it.
+    Left,
+    /// Made, and locked.
+    Held,
+    /// Found there, and locked: its name may be another file's by now.
+    HeldLeft,
+    /// Found there, locked, and still the file of its name.
+    OwnLeft,
+    /// The same, and nobody else may open it.
+    Restricted,
+    /// Locked, the file of its name, and empty.
+    Empty,
+    /// The same, with the owner and permissions that it is to have.
+    Dressed,
+    /// Bytes were written that may not be on the disk yet.
+    Written,
+    /// All of it is on the disk.
+    Synchronized,
+    /// The same, and it is still the file of its name.
+    Confirmed,
+    /// It has its place.
+    Placed,
+    /// It has its place on the disk too, as far as the system answers for that.
+    Settled,
+}
+
+impl Stage {
+    ghost use Rattle.exh_disk.specs.Stage.{asked, locked};
+
+    /// Once it is locked.
+    pub fn locked(self) -> Stage
+        ensures { result ≡ locked self }
+    {
+        match self {
+            Stage::Made => Stage::Held,
+            Stage::Left => Stage::HeldLeft,
+            other => other,
+        }
+    }
+
+    /// Once it was asked whether it is still the file of its name.
+    pub fn asked(self, is_own: bool) -> Stage
+        ensures { result ≡ asked self is_own }
+    {
+        match (self, is_own) {
+            (Stage::Held, true) => Stage::Empty,
+            (Stage::HeldLeft, true) => Stage::OwnLeft,
+            (Stage::Synchronized, true) => Stage::Confirmed,
+            (other, _) => other,
+        }
+    }
+}

@@ -1,0 +1,166 @@
+ghost use Rattle.std.specs.Prelude.{◌≡◌};
+
+use crate::{Disk, Found, Head, Runner, Stage, found_of};
+use std::alloc::Global;
+use std::fs::{File, OpenOptions, Permissions};
+use std::io::{Read, Write};
+use std::os::unix::fs::{MetadataExt, OpenOptionsExt, PermissionsExt, fchown};
+use std::{fs, io};
+
+/// The disk of the system, through a handle of the program's.
+#[derive(Drop)]
+pub struct SystemDisk<'r> {
+    rt: &'r HostRuntime,
+}
+
+/// A file of the system, and how far it is.
+#[derive(Drop)]
+pub struct SystemFile {
+    file: File,
+    stage: Stage,
+}
+
+impl<'r> SystemDisk<'r> {
+    pub fn new(rt: &'r HostRuntime) -> SystemDisk<'r> {
+        SystemDisk { rt }
+    }
+}
+
+impl Disk for SystemDisk<'_> {
+    type File = SystemFile;
+
+    type Device = File;
+
+    ghost stage = { λ file. file.stage };
+
+    // The folder that the system has of a process is of whom that runs for.
+    fn runner(&mut self) -> io::Result<Runner> {
+        let about = fs::metadata(self.rt, "/proc/self")?;
+        Ok(Runner {
+            user: about.uid(),
+            group: about.gid(),
+        })
+    }
+
+    fn whole_path(&mut self, _alloc: Global, path: &str) -> io::Result<String> {
+        Ok(fs::canonicalize(self.rt, path)?.into_string())
+    }
+
+    fn ask(&mut self, path: &str) -> io::Result<Found> {
+        Ok(found_of(&fs::metadata(self.rt, path)?))
+    }
+
+    fn ask_name(&mut self, name: &str) -> io::Result<Found> {
+        Ok(found_of(&fs::symlink_metadata(self.rt, name)?))
+    }
+
+    fn head(&mut self, path: &str) -> io::Result<Head> {
+        let mut bytes = [0; 8];
+        let mut file = OpenOptions::new()
+            .read(true)
+            .write(true)
+            .open(self.rt, path)?;
+        let found = found_of(&file.metadata()?);
+        file.read(&mut bytes)?;
+        Ok(Head { found, bytes })
+    }
+
+    fn open(&mut self, path: &str) -> io::Result<File> {
+        OpenOptions::new().write(true).open(self.rt, path)
+    }
+
+    fn ask_device(&mut self, device: &File) -> io::Result<Found> {
+        Ok(found_of(&device.metadata()?))
+    }
+
+    fn synchronize_device(&mut self, device: &mut File) -> io::Result<()> {
+        device.sync_all()
+    }
+
+    fn make(&mut self, name: &str, mode: u32) -> io::Result<SystemFile> {
+        let mut options = OpenOptions::new();
+        let file = options
+            .write(true)
+            .create_new(true)
+            .mode(mode)
+            .open(self.rt, name)?;
+        Ok(SystemFile {
+            file,
+            stage: Stage::Made,
+        })
+    }
+
+    fn take(&mut self, name: &str) -> io::Result<SystemFile> {
+        let file = OpenOptions::new().write(true).open(self.rt, name)?;
+        Ok(SystemFile {
+            file,
+            stage: Stage::Left,
+        })
+    }
+
+    fn lock(&mut self, file: &mut SystemFile) -> io::Result<()> {
+        file.file.try_lock()?;
+        file.stage = file.stage.locked();
+        Ok(())
+    }
+
+    fn confirm(&mut self, file: &mut SystemFile, name: &str) -> io::Result<bool> {
+        let named = found_of(&fs::symlink_metadata(self.rt, name)?);
+        let is_own = found_of(&file.file.metadata()?).is_only(&named);
+        file.stage = file.stage.asked(is_own);
+        Ok(is_own)
+    }
+
+    fn restrict(&mut self, file: &mut SystemFile) -> io::Result<()> {
+        file.file.set_permissions(Permissions::from_mode(0o600))?;
+        file.stage = Stage::Restricted;
+        Ok(())
+    }
+
+    fn empty(&mut self, file: &mut SystemFile) -> io::Result<()> {
+        file.file.set_len(0)?;
+        file.stage = Stage::Empty;
+        Ok(())
+    }
+
+    fn give(
+        &mut self,
+        file: &mut SystemFile,
+        owner: Option<u32>,
+        group: Option<u32>,
+    ) -> io::Result<()> {
+        fchown(&file.file, owner, group)
+    }
+
+    fn permit(&mut self, file: &mut SystemFile, mode: u32) -> io::Result<()> {
+        file.file.set_permissions(Permissions::from_mode(mode))?;
+        file.stage = Stage::Dressed;
+        Ok(())
+    }
+
+    fn write(&mut self, file: &mut SystemFile, bytes: &[u8]) -> io::Result<usize> {
+        file.stage = Stage::Written;
+        file.file.write(bytes)
+    }
+
+    fn synchronize(&mut self, file: &mut SystemFile) -> io::Result<()> {
+        file.file.sync_all()?;
+        file.stage = Stage::Synchronized;
+        Ok(())
+    }
+
+    fn rename(&mut self, file: &mut SystemFile, name: &str, place: &str) -> io::Result<()> {
+        fs::rename(self.rt, name, place)?;
+        file.stage = Stage::Placed;
+        Ok(())
+    }
+
+    fn synchronize_folder(&mut self, file: &mut SystemFile, folder: &str) -> io::Result<()> {
+        file.stage = Stage::Settled;
+        File::open(self.rt, folder)?.sync_all()
+    }
+
+    fn remove(&mut self, _file: &SystemFile, name: &str) -> io::Result<()> {
+        fs::remove_file(self.rt, name)
+    }
+}
