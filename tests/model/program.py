@@ -3,8 +3,11 @@
 from typing import NamedTuple
 
 from .file_reader import Fault, file_of
-from .page_file import bytes_of_file, check_text, dump_text, load_of
+from .page_file import MAGIC, bytes_of_file, check_text, dump_text, load_of
 from .script import text_of
+
+# What stands behind a place's name in that of the file beside it.
+BESIDE = ".exhash-saving"
 
 
 class Outcome(NamedTuple):
@@ -50,4 +53,13 @@ def ended(lines, run, files, name):
     """The end of a script or a load, whose file is saved where there is a name for it."""
     if run.is_refused:
         return Outcome(lines, 1, files)
-    return Outcome(lines, 0, files | {name: bytes_of_file(run.left())} if name else files)
+    return saved(lines, bytes_of_file(run.left()), files, name) if name else Outcome(lines, 0, files)
+
+
+def saved(lines, content, files, name):
+    """A save, which replaces an empty file or one that begins as a page file, and takes over what a killed one left."""
+    old = files.get(name, b"")
+    if old and not old.startswith(MAGIC):
+        return Outcome(lines, 1, files)
+    others = {it: files[it] for it in files if it != name + BESIDE}
+    return Outcome(lines, 0, others | {name: content})
