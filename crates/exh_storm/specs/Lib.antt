@@ -1,3 +1,4 @@
 pub mod Refusals
 pub mod StormCalls
 pub mod StormFault
+pub mod StormLeft

@@ -1,6 +1,9 @@
 ghost use Rattle.std.specs.Prelude.{◌≡◌};
-ghost use Rattle.exh_ward.specs.WardFault.{IsStoreFault};
+ghost use Rattle.exh_live.specs.Closing.{close_fault_number};
+ghost use Rattle.exh_walk.specs.Walk.{ask_fault_number};
+ghost use Rattle.exh_ward.specs.WardFault.{IsStoreFault, ward_fault_number};
 ghost use Rattle.exh_storm.specs.StormFault.{storm_fault_number};
+ghost use Rattle.exh_storm.specs.declared.fault.StormFault.TheVariants.{Memory, Mismatch as NotSettled, Seats};
 
 use exh_live::{CloseFault, NoSeat};
 use exh_settle::Mismatch;
@@ -46,6 +49,7 @@ impl StormFault {
     // What a keeper's refused round comes to.
     pub(crate) fn of_round(fault: WardFault) -> StormFault
         requires { IsStoreFault fault }
+        ensures { storm_fault_number result ≡ ward_fault_number fault }
     {
         match fault {
             WardFault::Memory => StormFault::Memory,
@@ -56,18 +60,24 @@ impl StormFault {
 }
 
 impl From<AllocError> for StormFault {
+    ghost from_gives = { λ _ fault. fault ≡ Memory };
+
     fn from(_: AllocError) -> StormFault {
         StormFault::Memory
     }
 }
 
 impl<T: Drop> From<AllocFailed<T>> for StormFault {
+    ghost from_gives = { λ _ fault. fault ≡ Memory };
+
     fn from(_: AllocFailed<T>) -> StormFault {
         StormFault::Memory
     }
 }
 
 impl From<AskFault> for StormFault {
+    ghost from_gives = { λ asked fault. storm_fault_number fault ≡ ask_fault_number asked };
+
     fn from(fault: AskFault) -> StormFault {
         match fault {
             AskFault::Held => StormFault::Held,
@@ -78,12 +88,16 @@ impl From<AskFault> for StormFault {
 }
 
 impl From<NoSeat> for StormFault {
+    ghost from_gives = { λ _ fault. fault ≡ Seats };
+
     fn from(_: NoSeat) -> StormFault {
         StormFault::Seats
     }
 }
 
 impl From<CloseFault> for StormFault {
+    ghost from_gives = { λ closing fault. storm_fault_number fault ≡ close_fault_number closing };
+
     fn from(fault: CloseFault) -> StormFault {
         match fault {
             CloseFault::Seats => StormFault::Seats,
@@ -93,6 +107,8 @@ impl From<CloseFault> for StormFault {
 }
 
 impl From<Mismatch> for StormFault {
+    ghost from_gives = { λ _ fault. fault ≡ NotSettled };
+
     fn from(_: Mismatch) -> StormFault {
         StormFault::Mismatch
     }

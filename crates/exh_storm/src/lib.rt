@@ -6,10 +6,10 @@ pub use call::storm_call;
 pub use caller::Caller;
 pub use courier::{COURIER_CLIENT, Courier};
 pub use fault::StormFault;
-pub use file::{StormFile, StormWard, new_file};
+pub use file::{StormFile, StormLeft, StormWard, new_file};
 pub use keeper::{KEEPER_CLIENT, Keeper};
 pub use open_copy::OpenCopy;
-pub use run::storm;
+pub use run::{storm, storm_left};
 pub use watch::{NoWatch, Watch};
 pub use workers::{Workers, new_workers};
 

@@ -2,15 +2,19 @@ ghost use Rattle.std.specs.Prelude.{◌≡◌, ◌≤◌, ◌*◌, length, All, 
 ghost use Rattle.std.specs.FinMap as map;
 ghost use Rattle.exh_keyer.specs.Pseudokey.{sha_pseudokey};
 ghost use Rattle.exh_live.specs.declared.ledgers.TheConstants.{ANSWER_PARTS, ENTRY_PARTS};
+ghost use Rattle.exh_settle.specs.Settled.{answer_count};
+ghost use Rattle.exh_storm.specs.StormLeft.{IsLeft};
 ghost use Rattle.exh_storm_config.specs.StormConfig.{IsStormConfig};
 
-use crate::file::{StormFile, new_file, settled};
+use crate::file::{StormFile, StormLeft, new_file, settled};
 use crate::overseers::Overseers;
 use crate::threads::{Rounds, run_all};
 use crate::workers::new_workers;
 use crate::{StormFault, Watch};
 use exh_copy::Start;
-use exh_live::{ANSWER_PARTS, ENTRY_PARTS, Identity, Seat};
+use exh_frames::PlainPages;
+use exh_keyer::ShaKeyer;
+use exh_live::{ANSWER_PARTS, Closed, ENTRY_PARTS, Identity, Seat};
 use exh_storm_config::StormConfig;
 use exh_walk::Gate;
 use std::alloc::Global;
@@ -19,13 +23,7 @@ use std::sync::Wait;
 use std::sync::ledger::Blank;
 use std::thread::Threads;
 
-/// Runs a storm over a new file in memory, of keyer sha, and answers how many answers were settled. Each
-/// caller makes its calls, each keeper and each courier as many rounds, all at once, each on a thread
-/// of its own; the gate is asked by each hop of a caller and before each round of a keeper and of a
-/// courier, and the watch is told of each answer and after each round. All are joined, the file is
-/// closed, and diaries and journals are settled. Refused, with the first refusal by caller, then keeper,
-/// then courier: `Memory`, also where a thread can't be made, `Page`, `Held`; and `Seats` before,
-/// `Mismatch` after them. It may wait: for a gate that does, and for locks.
+/// Runs a storm, as `storm_left`, and answers how many answers were settled. Refused as that.
 pub fn storm<R: Threads + Wait + Sync, G: Gate + Sync, W: Watch + Sync>(
     rt: &R,
     alloc: Global,
@@ -35,6 +33,30 @@ pub fn storm<R: Threads + Wait + Sync, G: Gate + Sync, W: Watch + Sync>(
 ) -> Result<u64, StormFault>
     requires { IsStormConfig config.now }
     ensures { IfOk result (λ count. count ≡ config.now.callers * config.now.calls) }
+{
+    match storm_left(rt, alloc, config, gate, watch) {
+        Ok(left) => Ok(left.answers),
+        Err(fault) => Err(fault),
+    }
+}
+
+/// Runs a storm over a new file in memory, of keyer sha, and gives what it leaves: journals and diaries
+/// that are settled, and how many answers these have. Each caller makes its calls, each keeper and each
+/// courier as many rounds, all at once, each on a thread of its own; the gate is asked by each hop of a
+/// caller and before each round of a keeper and of a courier, and the watch is told of each answer and
+/// after each round. All are joined, the file is closed, and diaries and journals are settled. Refused,
+/// with the first refusal by caller, then keeper, then courier: `Memory`, also where a thread can't be
+/// made, `Page`, `Held`; and `Seats` before, `Mismatch` after them. It may wait: for a gate that does, and
+/// for locks.
+pub fn storm_left<R: Threads + Wait + Sync, G: Gate + Sync, W: Watch + Sync>(
+    rt: &R,
+    alloc: Global,
+    config: &StormConfig,
+    gate: &G,
+    watch: &W,
+) -> Result<StormLeft, StormFault>
+    requires { IsStormConfig config.now }
+    ensures { IfOk result (λ left. IsLeft config.now left.closed.wards.items left.closed.diaries.items left.answers) }
 {
     let answers = Blank::new(ANSWER_PARTS);
     let entries = Blank::new(ENTRY_PARTS);
@@ -56,14 +78,14 @@ fn storm_of<
     overseers: Overseers<'_, G, W>,
     answers: Blank,
     entries: Blank,
-) -> Result<u64, StormFault>
+) -> Result<StormLeft, StormFault>
     requires config { IsStormConfig config.now }
     requires answers { (answers.name ≡ F.answers) × (answers.parts ≡ ANSWER_PARTS) }
     requires entries { (entries.name ≡ F.entries) × (entries.parts ≡ ENTRY_PARTS) }
     requires hashed { F.hashing ≡ sha_pseudokey }
     requires bits { S.ward_bits ≡ config.now.ward_bits }
     requires table { S.table ≡ map.empty }
-    ensures { IfOk result (λ count. count ≡ config.now.callers * config.now.calls) }
+    ensures { IfOk result (λ left. IsLeft config.now left.closed.wards.items left.closed.diaries.items left.answers) }
 {
     let mut file = new_file::<F>(alloc, config, answers, entries)?;
     match serve::<R, G, W, F, S>(rt, alloc, config, overseers, &mut file) {
@@ -106,14 +128,28 @@ fn close<F: Identity>(
     config: &StormConfig,
     file: StormFile<F>,
     seats: Vec<Seat<F>>,
-) -> Result<u64, StormFault>
+) -> Result<StormLeft, StormFault>
     requires config { IsStormConfig config.now }
     requires seats { file.seats ≡ config.now.callers }
     requires served { All (λ seat. length seat.entries ≡ config.now.calls) seats.items }
-    ensures { IfOk result (λ count. count ≡ config.now.callers * config.now.calls) }
+    ensures { IfOk result (λ left. IsLeft config.now left.closed.wards.items left.closed.diaries.items left.answers) }
 {
     match file.close(seats) {
-        Ok(closed) => settled(config, closed.wards.as_slice(), closed.diaries.as_slice()),
+        Ok(closed) => left(config, closed),
         Err(back) => Err(back.fault.into()),
+    }
+}
+
+// What a closed file leaves whose callers were answered all that they were to ask; else `Mismatch`.
+fn left(config: &StormConfig, closed: Closed<PlainPages, ShaKeyer>) -> Result<StormLeft, StormFault>
+    requires config { IsStormConfig config.now }
+    requires all { answer_count closed.diaries.items ≡ config.now.callers * config.now.calls }
+    ensures { IfOk result (λ left. IsLeft config.now left.closed.wards.items left.closed.diaries.items left.answers) }
+{
+    let wards = closed.wards.as_slice();
+    let diaries = closed.diaries.as_slice();
+    match settled(config, wards, diaries) {
+        Ok(answers) => Ok(StormLeft { closed, answers }),
+        Err(fault) => Err(fault),
     }
 }

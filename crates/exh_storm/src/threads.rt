@@ -2,6 +2,7 @@
 ghost use Rattle.std.specs.Prelude.{◌≡◌, ◌≤◌, [], length, All, IfOk};
 ghost use Rattle.exh_prefix.specs.declared.prefix.TheConstants.{WARD_BITS_LIMIT};
 ghost use Rattle.exh_storm.specs.Refusals.{first_refusal};
+ghost use Rattle.exh_storm.specs.declared.fault.StormFault.TheVariants.{Memory};
 
 use crate::file::StormFile;
 use crate::overseers::Overseers;
@@ -88,6 +89,14 @@ pub(crate) fn run_all<
     )
 }
 
+// What a thread that can't be made comes to. What was to run on it, which comes back with the refusal, is let
+// go here, where it is one value and not all that a worker owns.
+fn unmade<X: Drop>(_: X) -> StormFault
+    ensures { result ≡ Memory }
+{
+    StormFault::Memory
+}
+
 // Starts the callers.
 fn start_callers<
     's,
@@ -118,7 +127,7 @@ fn start_callers<
         );
         threads.push(match spawned {
             Ok(handle) => Ok(handle),
-            Err(_) => Err(StormFault::Memory),
+            Err(refused) => Err(unmade(refused)),
         })?;
     }
     Ok(threads)
@@ -176,7 +185,10 @@ fn start_couriers<
     let mut threads = Vec::with_capacity(alloc, couriers.len())?;
     for courier in couriers {
         let spawned = scope.spawn(move || carry(courier, alloc, file, rounds, overseers));
-        threads.push(spawned.map_err(|_| StormFault::Memory))?;
+        threads.push(match spawned {
+            Ok(thread) => Ok(thread),
+            Err(refused) => Err(unmade(refused)),
+        })?;
     }
     Ok(threads)
 }

@@ -1,6 +1,6 @@
 use Rattle.std.specs.FinMap as map
 use Rattle.exh_keyer.specs.Pseudokey.{sha_pseudokey}
-use Rattle.exh_storm.proofs.run.storm.Given as goal
+use Rattle.exh_storm.proofs.run.storm_left.Given as goal
 
 abbrev pub ghosts-storm_of-F-LedgerNames : goal.ghosts-storm_of-F-LedgerNames
 ghosts-storm_of-F-LedgerNames g a = record { answers = a.answers.name; entries = a.entries.name }
