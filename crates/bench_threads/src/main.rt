@@ -17,6 +17,7 @@ mod asks;
 mod calls;
 mod kept;
 mod live;
+mod meanwhile;
 mod storm;
 mod texts;
 mod turns;

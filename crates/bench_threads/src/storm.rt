@@ -6,6 +6,7 @@ ghost use Rattle.exh_live.specs.declared.ledgers.TheConstants.{ANSWER_PARTS, ENT
 ghost use Rattle.exh_prefix.specs.declared.prefix.TheConstants.{WARD_BITS_LIMIT};
 ghost use Rattle.exh_storm_config.specs.StormConfig.{IsStormConfig};
 
+use crate::meanwhile::Meanwhile;
 use crate::texts::text_len;
 use crate::turns::Turns;
 use anyhow::bail;
@@ -19,7 +20,6 @@ use exh_storm::{
     new_workers,
 };
 use exh_storm_config::StormConfig;
-use exh_walk::OpenGate;
 use std::alloc::Global;
 use std::marker::Brand;
 use std::sync::Wait;
@@ -45,7 +45,8 @@ struct Field<'a, F: Identity> {
     file: &'a StormFile<F>,
     alloc: Global,
     ward_bits: u8,
-    rounds: u32,
+    calls: u32,
+    meanwhile: Meanwhile,
     ghost limit: { ward_bits ≤ WARD_BITS_LIMIT },
     ghost bits: { ward_bits ≡ file.now.ward_bits },
 }
@@ -97,14 +98,15 @@ fn run<R: Threads + Wait + AllocGlobal + Sync, F: Identity + Send + Sync, S: Sta
         file,
         alloc: rt.alloc(),
         ward_bits: config.ward_bits,
-        rounds: config.calls,
+        calls: config.calls,
+        meanwhile: Meanwhile::new(),
     };
     let called = work(rt, &field, callers, couriers)?;
     collect(called, seats)
 }
 
-// Lets all workers make their rounds at once, a keeper for each ward among them, and gives what came of
-// the callers. The couriers' copies are closed once all are done.
+// Lets all workers be at work at once, a keeper for each ward among them, and gives what came of the
+// callers. Keepers and couriers make rounds until the callers are done; then the copies are closed.
 fn work<R: Threads + Wait + Sync, F: Identity + Send + Sync, S: Start + Send + Sync>(
     rt: &R,
     field: &Field<'_, F>,
@@ -114,7 +116,11 @@ fn work<R: Threads + Wait + Sync, F: Identity + Send + Sync, S: Start + Send + S
     let wards = 1usize << field.ward_bits;
     let (called, (kept, carried)) = join(
         rt,
-        || map_vec(rt, callers, &|caller| call(rt, field, caller)),
+        || {
+            let called = map_vec(rt, callers, &|caller| call(rt, field, caller));
+            field.meanwhile.end();
+            called
+        },
         || {
             join(
                 rt,
@@ -138,7 +144,7 @@ fn call<R: Wait, F: Identity, S: Start>(
     caller: Caller<F, S>,
 ) -> Called<F> {
     let gate = Turns::new();
-    let seat = caller.run(rt, field.file, field.rounds, &gate, &NoWatch)?;
+    let seat = caller.run(rt, field.file, field.calls, &gate, &NoWatch)?;
     Ok((seat, gate.count()))
 }
 
@@ -147,7 +153,7 @@ fn keep<R: Wait, F: Identity>(rt: &R, field: &Field<'_, F>, ward: usize) -> Resu
         return Ok(());
     }
     let keeper = Keeper { ward: ward as u8 };
-    keeper.run(rt, field.file, field.rounds, &OpenGate, &NoWatch)
+    until_held(keeper.run(rt, field.file, u32::MAX, &field.meanwhile, &NoWatch))
 }
 
 // Gives the courier back.
@@ -156,15 +162,23 @@ fn carry<'a, R: Wait, F: Identity, S: Start>(
     courier: Courier<'a, R, S>,
 ) -> Result<Courier<'a, R, S>, StormFault> {
     let mut courier = courier;
-    courier.run(
+    until_held(courier.run(
         field.alloc,
         field.file,
         field.ward_bits,
-        field.rounds,
-        &OpenGate,
+        u32::MAX,
+        &field.meanwhile,
         &NoWatch,
-    )?;
+    ))?;
     Ok(courier)
+}
+
+// A worker that was held has ended as it should.
+fn until_held(outcome: Result<(), StormFault>) -> Result<(), StormFault> {
+    match outcome {
+        Err(StormFault::Held) => Ok(()),
+        other => other,
+    }
 }
 
 // The turns of all callers. Their seats are given back.

@@ -18,14 +18,15 @@ fn tells_of_a_storm(rt: HostRuntime) {
     assert!(rt; screen.has_shown(b""));
     screen.now.set(Some(2000));
     meter.merged(33);
-    let first = b"\rexhash: 1 calls answered, 33 merges, 0 notices carried\x1b[K";
+    let first = b"\r\x1b[?7lexhash: 1 calls answered, 33 merges, 0 notices carried\x1b[K\x1b[?7h";
     assert!(rt; screen.has_shown(first));
     screen.now.set(Some(2249));
     meter.carried(1_000_000);
     assert!(rt; screen.has_shown(b""));
     screen.now.set(Some(2250));
     meter.carried(234_567);
-    let second = b"\rexhash: 1 calls answered, 33 merges, 1,234,567 notices carried\x1b[K";
+    let second =
+        b"\r\x1b[?7lexhash: 1 calls answered, 33 merges, 1,234,567 notices carried\x1b[K\x1b[?7h";
     assert!(rt; screen.has_shown(second));
     meter.clear();
     assert!(rt; screen.has_shown(b"\r\x1b[K"));
@@ -124,10 +125,10 @@ fn no_thread_waits_for_the_one_that_shows(rt: HostRuntime) {
     let board = Board::new(&rt);
     let mut meter = StormMeter::new(&board);
     told_by_two(&rt, &board, &meter);
-    let first = b"\rexhash: 1 calls answered, 0 merges, 0 notices carried\x1b[K";
+    let first = b"\r\x1b[?7lexhash: 1 calls answered, 0 merges, 0 notices carried\x1b[K\x1b[?7h";
     assert!(rt; board.has_shown(1, first));
     meter.merged(2);
-    let second = b"\rexhash: 2 calls answered, 2 merges, 5 notices carried\x1b[K";
+    let second = b"\r\x1b[?7lexhash: 2 calls answered, 2 merges, 5 notices carried\x1b[K\x1b[?7h";
     assert!(rt; board.has_shown(2, second));
     meter.clear();
     assert!(rt; board.has_shown(3, b"\r\x1b[K"));

@@ -202,17 +202,22 @@ fn parse_call(mut words: Parts<'_>) -> Result<Call, LineFault>
     if words.next().is_some() {
         return Err(LineFault::Syntax);
     }
-    match (verb, value) {
-        (b"get", None) => Ok(Call::Get {
-            key: parse_key(key)?,
-        }),
-        (b"del", None) => Ok(Call::Del {
-            key: parse_key(key)?,
-        }),
-        (b"put", Some(value)) => {
-            let (key, value) = parse_pair(key, value)?;
-            Ok(Call::Put { key, value })
-        }
-        _ => Err(LineFault::Syntax),
+    if verb == b"put".as_slice() {
+        let (key, value) = parse_pair(key, value.ok_or(LineFault::Syntax)?)?;
+        return Ok(Call::Put { key, value });
     }
+    if value.is_some() {
+        return Err(LineFault::Syntax);
+    }
+    if verb == b"get".as_slice() {
+        return Ok(Call::Get {
+            key: parse_key(key)?,
+        });
+    }
+    if verb == b"del".as_slice() {
+        return Ok(Call::Del {
+            key: parse_key(key)?,
+        });
+    }
+    Err(LineFault::Syntax)
 }

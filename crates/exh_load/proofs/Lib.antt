@@ -13,3 +13,5 @@ pub mod Records
 -- of load_source: what is printed of a load, and of the lines of a new file
 pub mod Loads
 pub mod Pairs
+-- of laws: the wards' maps as one
+pub mod OneMap

@@ -1,5 +1,5 @@
 -- What is printed of a load: a front of it, and all of it.
-use Rattle.std.proofs.Common.{◌≡◌, ◌≢◌, ℕ, ◌≤◌, ◌<◌, List, [], ◌++◌, length, Option, Some, None, IfSome, Bool, true, false, cond, leb, Result, Ok, Err, IfOk, IfErr, OnOk, OnErr, refl, sym, ap, ◌∙◌, subst, append_assoc, append-nil, inl}
+use Rattle.std.proofs.Common.{◌≡◌, ◌≢◌, ℕ, ◌≤◌, ◌<◌, List, [], ◌++◌, length, Option, Some, None, IfSome, Bool, true, false, cond, leb, Result, Ok, Err, IfOk, IfErr, OnOk, OnErr, IsFalse, IsTrue, refl, sym, ap, ◌∙◌, subst, append_assoc, append-nil, inl}
 use Rattle.std.specs.Option.{option_map}
 use Rattle.std.proofs.lemmas.Bool.{le-leb, lt-leb}
 use Rattle.std.specs.Io.KnownBytes.{Appends}
@@ -9,7 +9,7 @@ use Rattle.exh_stream.specs.declared.output.Output.{Output}
 use Rattle.exh_text.specs.Lines.{lines_of}
 use Rattle.exh_settings.specs.declared.script.TheConstants.{SCRIPT_LIMIT}
 use Rattle.exh_open.specs.Opened.{OpenedState}
-use Rattle.exh_load.specs.Load.{IsLoadOf, Load, Loads, Prints, PrintsFront, TakesFront, load_of, load_of_lines, loading_in, refused}
+use Rattle.exh_load.specs.Load.{IsLoadBy, IsLoadOf, IsOfText, Load, Loads, Prints, PrintsBy, PrintsFront, TakesFront, load_of, load_of_lines, loading_in, refused}
 use Rattle.exh_load.specs.declared.load_fault.LoadFault.{LoadFault}
 use Rattle.exh_load.specs.declared.load_fault.LoadFault.TheVariants.{Write, Memory, Page}
 
@@ -20,12 +20,15 @@ unfolding load_of
 text_at text b is = ap (λ b. cond b (load_of_lines (lines_of text)) (refused 62)) is
 
 -- a text that was read whole
-pub load_read : (known : Option (List ℕ)) (items given : List ℕ) → IfSome known (λ bytes. items ≡ bytes) → given ≡ items → length items ≤ SCRIPT_LIMIT → IsLoadOf known (load_of_lines (lines_of given))
-load_read known items given read is fits = inl (record {
+pub text_read : (known : Option (List ℕ)) (items given : List ℕ) → IfSome known (λ bytes. items ≡ bytes) → given ≡ items → length items ≤ SCRIPT_LIMIT → IsOfText known (load_of_lines (lines_of given))
+text_read known items given read is fits = record {
   text = items;
   read = read;
   is = ap (λ text. load_of_lines (lines_of text)) is ∙ sym (text_at items true (le-leb (length items) SCRIPT_LIMIT fits));
-})
+}
+
+pub load_read : (known : Option (List ℕ)) (items given : List ℕ) → IfSome known (λ bytes. items ≡ bytes) → given ≡ items → length items ≤ SCRIPT_LIMIT → IsLoadOf known (load_of_lines (lines_of given))
+load_read known items given read is fits = inl (text_read known items given read is fits)
 
 -- a text that is too long
 abbrev text_in : Option (List ℕ) → List ℕ → List ℕ
@@ -40,12 +43,28 @@ long_in : (known : Option (List ℕ)) (other : List ℕ) → SCRIPT_LIMIT < leng
 long_in None other long had = long
 long_in (Some bytes) other long had = had
 
-pub load_long : (known : Option (List ℕ)) (front : List ℕ) → SCRIPT_LIMIT < length front → IfSome known (λ bytes. SCRIPT_LIMIT < length bytes) → IsLoadOf known (refused 62)
-load_long known front long had = inl (record {
+pub text_long : (known : Option (List ℕ)) (front : List ℕ) → SCRIPT_LIMIT < length front → IfSome known (λ bytes. SCRIPT_LIMIT < length bytes) → IsOfText known (refused 62)
+text_long known front long had = record {
   text = text_in known front;
   read = text_in_is known front;
   is = sym (text_at (text_in known front) false (lt-leb (length (text_in known front)) SCRIPT_LIMIT (long_in known front long had)));
-})
+}
+
+pub load_long : (known : Option (List ℕ)) (front : List ℕ) → SCRIPT_LIMIT < length front → IfSome known (λ bytes. SCRIPT_LIMIT < length bytes) → IsLoadOf known (refused 62)
+load_long known front long had = inl (text_long known front long had)
+
+-- ---- of a reader that failed or didn't
+
+module _ (prints : List ℕ → Type 0) (known : Option (List ℕ)) (load : Load) (failed : Bool) where
+  printed_by : IsLoadBy failed known load → (result : Result (Option OpenedState) LoadFault) → OnOk result (prints load.printed) → OnOk result (PrintsBy prints failed known)
+  printed_by is (Ok file) text = record { load = load; by_reader = is; text = text }
+  printed_by is (Err fault) text = tt
+
+  pub printed_read : IsFalse failed → IsOfText known load → (result : Result (Option OpenedState) LoadFault) → OnOk result (prints load.printed) → OnOk result (PrintsBy prints failed known)
+  printed_read unfailed text = printed_by (subst (λ b. IsLoadBy b known load) (sym unfailed) text)
+
+  pub printed_unread : IsTrue failed → load ≡ refused 41 → (result : Result (Option OpenedState) LoadFault) → OnOk result (prints load.printed) → OnOk result (PrintsBy prints failed known)
+  printed_unread is told = printed_by (subst (λ b. IsLoadBy b known load) (sym is) told)
 
 -- ---- what goes out
 
@@ -90,6 +109,10 @@ module _ {W : Type 0} (contents : W → Option (List ℕ)) where
       finished_ok (Ok file) taken =
           record { whole = record { load = taken.whole.load; of_reader = taken.whole.of_reader; text = Takes-finished contents old mid new start taken.whole.load.printed taken.whole.text gone }; left = taken.left }
       finished_ok (Err fault) taken = tt
+
+      pub finished_by : (result : Result (Option OpenedState) LoadFault) (failed : Bool) → OnOk result (PrintsBy (Takes contents old mid) failed known) → OnOk result (PrintsBy (Appends (held contents old) (held contents new)) failed known)
+      finished_by (Ok file) failed taken = record { load = taken.load; by_reader = taken.by_reader; text = Takes-finished contents old mid new start taken.load.printed taken.text gone }
+      finished_by (Err fault) failed taken = tt
 
       pub finished_err : (result : Result (Option OpenedState) LoadFault) → IfErr result (λ fault. fault ≢ Write → Prints (TakesFront contents old mid) known) → (result ≡ Err Write → ⊥) → OnErr result (Prints Begun known)
       finished_err (Ok file) taken never = tt

@@ -1,4 +1,6 @@
+pub mod LoadFault
 pub mod Put
 pub mod Loader
 pub mod Loading
 pub mod Load
+pub mod OneMap

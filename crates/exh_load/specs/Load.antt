@@ -1,5 +1,5 @@
 -- What a load of a whole text prints, and the maps that it leaves.
-use Rattle.std.specs.Prelude.{◌≡◌, ◌⊎◌, ◌^◌, ℕ, List, [], ◌∷◌, ◌++◌, length, replicate, nat_le, if◌then◌else◌, decimal, codes, Option, Some, None, IfSome, Result, Ok, Err}
+use Rattle.std.specs.Prelude.{◌≡◌, ◌⊎◌, ◌^◌, ℕ, Bool, true, false, List, [], ◌∷◌, ◌++◌, length, replicate, nat_le, if◌then◌else◌, decimal, codes, Option, Some, None, IfSome, Result, Ok, Err}
 use Rattle.std.specs.List.{sum_by}
 use Rattle.std.specs.Option.{option_map}
 use Rattle.std.specs.FinMap as fin
@@ -109,6 +109,16 @@ module _ (prints : List ℕ → Type 0) (known : Option (List ℕ)) where
     pub left : option_map loading_in file ≡ whole.load.left
 
 -- ---- of private functions
+
+-- the load of a reader, which failed or didn't: `refused 41` where it did, else the load of its text
+abbrev pub IsLoadBy : Bool → Option (List ℕ) → Load → Type 0
+IsLoadBy true known load = load ≡ refused 41
+IsLoadBy false known load = IsOfText known load
+
+pub record PrintsBy (prints : List ℕ → Type 0) (failed : Bool) (known : Option (List ℕ)) : Type 0 where
+  pub load : Load
+  pub by_reader : IsLoadBy failed known load
+  pub text : prints load.printed
 
 -- the output takes a front of these bytes, of whole lines
 pub record TakesFront {W : Type 0} (contents : W → Option (List ℕ)) (old new : Output W) (bytes : List ℕ) : Type 0 where

@@ -1,5 +1,6 @@
-ghost use Rattle.std.specs.Prelude.{◌≡◌, ◌≢◌};
+ghost use Rattle.std.specs.Prelude.{◌≡◌};
 ghost use Rattle.exh_ward.specs.WardFault.{IsStoreFault};
+ghost use Rattle.exh_load.specs.LoadFault.{load_fault_of};
 ghost use Rattle.exh_load.specs.declared.load_fault.LoadFault.TheVariants.{Memory, Write};
 
 use exh_stream::WriteFault;
@@ -25,7 +26,7 @@ impl LoadFault {
     // What a refused put comes to.
     pub(crate) fn of_ward(fault: WardFault) -> LoadFault
         requires { IsStoreFault fault }
-        ensures { result ≢ Write }
+        ensures { result ≡ load_fault_of fault }
     {
         if fault == WardFault::Page {
             LoadFault::Page

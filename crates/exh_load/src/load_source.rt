@@ -7,7 +7,7 @@ ghost use Rattle.exh_stream.specs.Source.{SameReader, reader_failed, unread};
 ghost use Rattle.exh_settings.specs.FileLine.{file_in_range};
 ghost use Rattle.exh_settings.specs.declared.script.TheConstants.{SCRIPT_LIMIT};
 ghost use Rattle.exh_load.specs.Loading.{loaded_from};
-ghost use Rattle.exh_load.specs.Load.{Loads, Prints, PrintsFront, TakesFront, load_of_lines, loading_in, new_loading, number_line, refused, text_of_pairs};
+ghost use Rattle.exh_load.specs.Load.{Loads, Prints, PrintsBy, PrintsFront, TakesFront, load_of_lines, loading_in, new_loading, number_line, refused, text_of_pairs};
 
 use crate::{LoadFault, Loader, load_lines};
 use exh_frames::PlainPages;
@@ -49,6 +49,7 @@ fn load_all<R: Read, W: Write>(
     ensures same_reader { SameReader source.old source.new }
     ensures same_writer { SameWriter output.old output.new }
     ensures ok { IfOk result (λ file. Loads (Appends (held W.contents output.old) (held W.contents output.new)) (unread R.remaining source.old) file) }
+    ensures reader { OnOk result (PrintsBy (Appends (held W.contents output.old) (held W.contents output.new)) (reader_failed source.new) (unread R.remaining source.old)) }
     ensures err { OnErr result (Prints (AppendsBeginning (held W.contents output.old) (held W.contents output.new)) (unread R.remaining source.old)) }
     ensures memory { IfErr result (λ fault. fault ≢ LoadFault.Write → PrintsFront (Appends (held W.contents output.old) (held W.contents output.new)) (unread R.remaining source.old)) }
 {
@@ -68,6 +69,7 @@ fn load_source<R: Read, W: Write>(
     ensures same_reader { SameReader source.old source.new }
     ensures same_writer { SameWriter output.old output.new }
     ensures ok { IfOk result (λ file. Loads (Takes W.contents output.old output.new) (unread R.remaining source.old) file) }
+    ensures reader { OnOk result (PrintsBy (Takes W.contents output.old output.new) (reader_failed source.new) (unread R.remaining source.old)) }
     ensures err { OnErr result (Prints (TakesBeginning W.contents output.old output.new) (unread R.remaining source.old)) }
     ensures front { IfErr result (λ fault. fault ≢ LoadFault.Write → Prints (TakesFront W.contents output.old output.new) (unread R.remaining source.old)) }
     ensures failed { IsErrOf result LoadFault.Write ↔ IsTrue (writer_failed output.new) }

@@ -1,7 +1,7 @@
 ghost use Rattle.std.specs.Prelude.{◌≡◌};
 ghost use Rattle.exh_legal_file.specs.declared.legal_file_fault.LegalFileFault.TheVariants.{Memory};
 ghost use Rattle.exh_ward.specs.WardFault.{IsStoreFault};
-ghost use Rattle.exh_open.specs.OpenFault.{open_fault_number, open_fault_place, open_fault_reason, IsOtherOpening};
+ghost use Rattle.exh_open.specs.OpenFault.{open_fault_number, open_fault_of, open_fault_place, open_fault_reason};
 ghost use Rattle.exh_open.specs.declared.open_fault.OpenFault.TheVariants.{File};
 
 use exh_legal_file::LegalFileFault;
@@ -54,7 +54,7 @@ impl OpenFault {
     // What a ward's refusal to be made of pages becomes.
     pub(crate) fn of_ward(fault: WardFault) -> OpenFault
         requires { IsStoreFault fault }
-        ensures { IsOtherOpening result }
+        ensures { result ≡ open_fault_of fault }
     {
         if fault == WardFault::Page {
             OpenFault::Page

@@ -7,7 +7,7 @@ ghost use Rattle.exh_page_file.specs.PageFile.{IsFile, PageFile};
 ghost use Rattle.exh_page_file.specs.Reading.{AreBytes, IsAll};
 ghost use Rattle.exh_reasons.specs.Laws.{IsLegalFile};
 ghost use Rattle.exh_legal_file.specs.LegalFile.{IsLegalPageFile, parts_in, ward_tables};
-ghost use Rattle.exh_open.specs.OpenFault.{IsOtherOpening};
+ghost use Rattle.exh_open.specs.OpenFault.{IsCounted, IsOtherOpening};
 ghost use Rattle.exh_open.specs.Opening.{AreLegalWards, AreOpened, IsLegalWard, IsOpenFaultOf, IsOpenedFile, IsOpenedWard};
 
 use crate::{OpenFault, Opened};
@@ -38,6 +38,7 @@ pub fn open<R: Read, P: StoreOfPages + Drop>(
     ensures fault { IfErr result (IsOpenFaultOf first_file (R.remaining reader.old)) }
     ensures every { (file : PageFile) (bytes : List ℕ) → R.remaining reader.old ≡ Some bytes → AreBytes bytes → IsLegalPageFile first_file file bytes
         → MatchResult result (IsOpenedFile file) IsOtherOpening }
+    ensures counted { IsCounted P.failures result }
 {
     let mut legal = read_legal_file(alloc, reader)?;
     open_legal(alloc, &mut legal)
@@ -53,6 +54,7 @@ fn open_legal<P: StoreOfPages + Drop>(
     requires tables { legal.old.tables.items ≡ ward_tables (file_of legal.old.parts) }
     ensures opened { IfOk result (IsOpenedFile (file_of legal.old.parts)) }
     ensures fault { IfErr result IsOtherOpening }
+    ensures counted { IsCounted P.failures result }
 {
     legal_files_pass();
     let header = legal.parts.header;
@@ -75,6 +77,7 @@ fn open_wards<P: StoreOfPages + Drop>(
     ensures count { IfOk result (λ wards. length wards.items ≡ 2 ^ header.now.ward_bits) }
     ensures opened { IfOk result (λ wards. AreOpened header.now pages.old tables.old wards.items) }
     ensures fault { IfErr result IsOtherOpening }
+    ensures counted { IsCounted P.failures result }
 {
     let mut wards = Vec::new(alloc);
     for number in 0..pages.len() {
@@ -99,6 +102,7 @@ fn open_ward<P: StoreOfPages + Drop>(
     requires legal { IsLegalWard header.now number pages.items table }
     ensures opened { IfOk result (IsOpenedWard header.now number pages.items table) }
     ensures fault { IfErr result IsOtherOpening }
+    ensures counted { IsCounted P.failures result }
 {
     pages_are_few();
     let store = P::of_pages(alloc, header.keyer, pages)?;

@@ -3,7 +3,7 @@ use Rattle.std.specs.Prelude.{◌≡◌, ⊤, ℕ, ◌+◌, ◌-◌, ◌*◌, �
 use Rattle.std.specs.List.{AllByRecursion, flat_map}
 use Rattle.std.specs.Io.KnownBytes.{Consumes}
 use Rattle.exh_prefix.specs.Version.{Version}
-use Rattle.exh_stream.specs.Source.{unread}
+use Rattle.exh_stream.specs.Source.{reader_failed, unread}
 use Rattle.exh_page.specs.declared.page.Page.{Page}
 use Rattle.exh_codec.specs.PageImage.{IsPage}
 use Rattle.exh_codec.specs.declared.block.TheConstants.{BLOCK_LEN}
@@ -20,6 +20,10 @@ use Rattle.exh_page_file.specs.FileTests.{NextFails, PageFails, TableFails}
 -- the bytes that the reader has left, where they are known
 abbrev pub left : {R : Type 0} → (R → Option (List ℕ)) → BlockSource R → Option (List ℕ)
 left remaining blocks = unread remaining blocks.source
+
+-- a read of the blocks failed
+abbrev pub blocks_failed : {R : Type 0} → BlockSource R → Bool
+blocks_failed blocks = reader_failed blocks.source
 
 abbrev pub AreBytes : List ℕ → Type 0
 AreBytes bytes = AllByRecursion (λ byte. byte < 256) bytes

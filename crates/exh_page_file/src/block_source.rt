@@ -1,4 +1,4 @@
-ghost use Rattle.std.specs.Prelude.{◌≡◌, ◌+◌, ◌<◌, ◌^◌, ◌≤◌, ◌++◌, length, vec_len, IfOk, OnOk, IfErr};
+ghost use Rattle.std.specs.Prelude.{◌≡◌, ◌+◌, ◌<◌, ◌^◌, ◌≤◌, ◌++◌, ◌↔◌, length, vec_len, IfOk, OnOk, IfErr, IsErrOf, IsTrue, IsFalse};
 ghost use Rattle.std.specs.Option.{option_to_list};
 ghost use Rattle.std.specs.Io.KnownBytes.{Consumes, IsAtEnd};
 ghost use Rattle.exh_keyer.specs.Pseudokey.{any_pseudokey};
@@ -11,7 +11,7 @@ ghost use Rattle.exh_file.specs.TableImage.{AreRising, IsTableImage, prefixes_of
 ghost use Rattle.exh_file.specs.declared.file_fault.FileFault.TheVariants.{Trailing, Truncated};
 ghost use Rattle.exh_file.specs.declared.table_block.TheConstants.{BLOCK_ENTRIES};
 ghost use Rattle.exh_page_file.specs.FileTests.{HeaderFails, NextFails, PageFails, TableFails};
-ghost use Rattle.exh_page_file.specs.Reading.{IsBlock, IsOf, left};
+ghost use Rattle.exh_page_file.specs.Reading.{IsBlock, IsOf, blocks_failed, left};
 ghost use Rattle.exh_codec.specs.declared.block.TheConstants.{BLOCK_LEN};
 
 use crate::ReadFileFault;
@@ -36,6 +36,7 @@ impl<'r, R: Read> BlockSource<'r, R> {
     pub(crate) fn new(reader: &'r mut R) -> BlockSource<'r, R>
         ensures reads_from { ReadsFrom result.source reader.entry }
         ensures place { result.place ≡ 0 }
+        ensures open { IsFalse (blocks_failed result) }
     {
         BlockSource {
             source: Source::new(reader),
@@ -49,6 +50,7 @@ impl<'r, R: Read> BlockSource<'r, R> {
         ensures place { OnOk result (self.new.place ≡ self.old.place + 1) }
         ensures ok { IfOk result (λ header. (block : _) × Consumes (left R.remaining self.old) (left R.remaining self.new) block × IsHeaderImage first_file header block × IsBlock block) }
         ensures err { IfErr result (IsOf (NextFails (HeaderFails first_file)) (left R.remaining self.old)) }
+        ensures failed { IsErrOf result ReadFileFault.Read ↔ IsTrue (blocks_failed self.new) }
     {
         let mut block = [0; BLOCK_LEN];
         self.fill(&mut block)?;
@@ -71,6 +73,7 @@ impl<'r, R: Read> BlockSource<'r, R> {
         ensures place { OnOk result (self.new.place ≡ self.old.place + 1) }
         ensures ok { IfOk result (λ page. (block : _) × Consumes (left R.remaining self.old) (left R.remaining self.new) block × IsImage first_version (any_pseudokey keyer) page block × IsBlock block) }
         ensures err { IfErr result (IsOf (NextFails (PageFails first_version (any_pseudokey keyer) self.old.place)) (left R.remaining self.old)) }
+        ensures failed { IsErrOf result ReadFileFault.Read ↔ IsTrue (blocks_failed self.new) }
     {
         let mut block = [0; BLOCK_LEN];
         self.fill(&mut block)?;
@@ -97,6 +100,7 @@ impl<'r, R: Read> BlockSource<'r, R> {
         ensures count { IfOk result (λ entries. vec_len entries ≡ count) }
         ensures rising { IfOk result (λ entries. AreRising (option_to_list before ++ prefixes_of entries.items)) }
         ensures err { IfErr result (IsOf (NextFails (TableFails first_version self.old.place count before)) (left R.remaining self.old)) }
+        ensures failed { IsErrOf result ReadFileFault.Read ↔ IsTrue (blocks_failed self.new) }
     {
         let mut block = [0; BLOCK_LEN];
         self.fill(&mut block)?;
@@ -113,6 +117,7 @@ impl<'r, R: Read> BlockSource<'r, R> {
     pub(crate) fn read_end(&mut self) -> Result<(), ReadFileFault>
         ensures ok { OnOk result (IsAtEnd (left R.remaining self.old)) }
         ensures err { IfErr result (IsOf (λ bytes fault. (0 < length bytes) × (fault ≡ Trailing)) (left R.remaining self.old)) }
+        ensures failed { IsErrOf result ReadFileFault.Read ↔ IsTrue (blocks_failed self.new) }
     {
         let mut byte = [0; 1];
         if self.source.fill(&mut byte)? == 0 {
@@ -128,6 +133,7 @@ impl<'r, R: Read> BlockSource<'r, R> {
         ensures ok { OnOk result (Consumes (left R.remaining self.old) (left R.remaining self.new) block.new) }
         ensures block { OnOk result (IsBlock block.new) }
         ensures err { IfErr result (IsOf (λ bytes fault. (length bytes < BLOCK_LEN) × (fault ≡ Truncated)) (left R.remaining self.old)) }
+        ensures failed { IsErrOf result ReadFileFault.Read ↔ IsTrue (blocks_failed self.new) }
     {
         if self.source.fill(block)? < BLOCK_LEN {
             return Err(FileFault::Truncated.into());

@@ -1,9 +1,9 @@
-ghost use Rattle.std.specs.Prelude.{◌≡◌, ◌+◌, ◌<◌, ◌^◌, [], ◌∷◌, ◌++◌, length, map, IfOk, OnOk, IfErr};
+ghost use Rattle.std.specs.Prelude.{◌≡◌, ◌+◌, ◌<◌, ◌^◌, [], ◌∷◌, ◌++◌, ◌↔◌, length, map, IfOk, OnOk, IfErr, IsErrOf, IsTrue, IsFalse};
 ghost use Rattle.std.specs.List.{sum};
 ghost use Rattle.exh_keyer.specs.Pseudokey.{any_pseudokey};
 ghost use Rattle.exh_prefix.specs.Version.{first_version};
 ghost use Rattle.exh_page_file.specs.FileParts.{pages_in};
-ghost use Rattle.exh_page_file.specs.Reading.{FailsInPages, GivesPages, IsOf, left};
+ghost use Rattle.exh_page_file.specs.Reading.{FailsInPages, GivesPages, IsOf, blocks_failed, left};
 
 use crate::ReadFileFault;
 use crate::block_source::BlockSource;
@@ -19,13 +19,15 @@ pub(crate) fn read_wards<R: Read>(
     keyer: AnyKeyer,
     counts: &[u32],
 ) -> Result<Vec<Vec<Page>>, ReadFileFault>
-    requires { blocks.old.place + sum counts.now < 2 ^ 32 }
+    requires place { blocks.old.place + sum counts.now < 2 ^ 32 }
+    requires open { IsFalse (blocks_failed blocks.old) }
     ensures place { OnOk result (blocks.new.place ≡ blocks.old.place + sum counts.now) }
     ensures counts { IfOk result (λ wards. map (λ ward. length ward.items) wards.items ≡ counts.now) }
     ensures given { IfOk result (λ wards.
         GivesPages first_version (any_pseudokey keyer) (left R.remaining blocks.old) (left R.remaining blocks.new) (pages_in wards.items)) }
     ensures err { IfErr result (IsOf
         (FailsInPages first_version (any_pseudokey keyer) blocks.old.place (sum counts.now)) (left R.remaining blocks.old)) }
+    ensures failed { IsErrOf result ReadFileFault.Read ↔ IsTrue (blocks_failed blocks.new) }
 {
     let mut wards = Vec::new(alloc);
     for count in counts {
@@ -42,13 +44,15 @@ fn read_pages<R: Read>(
     keyer: AnyKeyer,
     count: u32,
 ) -> Result<Vec<Page>, ReadFileFault>
-    requires { blocks.old.place + count < 2 ^ 32 }
+    requires place { blocks.old.place + count < 2 ^ 32 }
+    requires open { IsFalse (blocks_failed blocks.old) }
     ensures place { OnOk result (blocks.new.place ≡ blocks.old.place + count) }
     ensures count { IfOk result (λ pages. length pages.items ≡ count) }
     ensures given { IfOk result (λ pages.
         GivesPages first_version (any_pseudokey keyer) (left R.remaining blocks.old) (left R.remaining blocks.new) pages.items) }
     ensures err { IfErr result (IsOf
         (FailsInPages first_version (any_pseudokey keyer) blocks.old.place count) (left R.remaining blocks.old)) }
+    ensures failed { IsErrOf result ReadFileFault.Read ↔ IsTrue (blocks_failed blocks.new) }
 {
     let mut pages = Vec::new(alloc);
     for number in 0..count {

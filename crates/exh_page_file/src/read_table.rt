@@ -1,7 +1,7 @@
-ghost use Rattle.std.specs.Prelude.{◌≡◌, ◌+◌, ◌<◌, ◌^◌, ◌++◌, length, None, IfOk, IfErr, OnOk};
+ghost use Rattle.std.specs.Prelude.{◌≡◌, ◌+◌, ◌<◌, ◌^◌, ◌++◌, ◌↔◌, length, None, IfOk, IfErr, OnOk, IsErrOf, IsTrue, IsFalse};
 ghost use Rattle.exh_prefix.specs.Version.{first_version};
 ghost use Rattle.exh_page_file.specs.PageFile.{table_blocks};
-ghost use Rattle.exh_page_file.specs.Reading.{FailsInTable, GivesEntries, IsOf, last_prefix, left};
+ghost use Rattle.exh_page_file.specs.Reading.{FailsInTable, GivesEntries, IsOf, blocks_failed, last_prefix, left};
 
 use crate::ReadFileFault;
 use crate::block_source::BlockSource;
@@ -18,10 +18,12 @@ pub(crate) fn read_table<R: Read>(
 ) -> Result<Vec<FileEntry>, ReadFileFault>
     requires place { blocks.old.place + table_blocks count < 2 ^ 32 }
     requires few { count < 2 ^ 32 }
+    requires open { IsFalse (blocks_failed blocks.old) }
     ensures count { IfOk result (λ entries. length entries.items ≡ count) }
     ensures given { IfOk result (λ entries.
         GivesEntries first_version (left R.remaining blocks.old) (left R.remaining blocks.new) (table_blocks count) entries.items) }
     ensures err { IfErr result (IsOf (FailsInTable first_version blocks.old.place count) (left R.remaining blocks.old)) }
+    ensures failed { IsErrOf result ReadFileFault.Read ↔ IsTrue (blocks_failed blocks.new) }
 {
     let mut entries = Vec::new(alloc);
     for number in 0..(count + (BLOCK_ENTRIES - 1)) / BLOCK_ENTRIES {

@@ -1,10 +1,10 @@
-ghost use Rattle.std.specs.Prelude.{◌≡◌, ◌^◌, ◌≤◌, List, ℕ, Some, IfOk, IfErr, MatchResult};
+ghost use Rattle.std.specs.Prelude.{◌≡◌, ◌^◌, ◌≤◌, ◌↔◌, List, ℕ, Some, IfOk, IfErr, IsErrOf, IsFalse, IsTrue, MatchResult};
 ghost use Rattle.exh_file.specs.FileVersion.{first_file};
 ghost use Rattle.exh_file.specs.HeaderImage.{IsHeader};
 ghost use Rattle.exh_page_file.specs.FileParts.{file_of};
 ghost use Rattle.exh_page_file.specs.FileTests.{IsFileFault};
 ghost use Rattle.exh_page_file.specs.PageFile.{IsPageFile, PageFile};
-ghost use Rattle.exh_page_file.specs.Reading.{AreBytes, IsAll, IsOf, IsOther, left};
+ghost use Rattle.exh_page_file.specs.Reading.{AreBytes, IsAll, IsOf, IsOther, blocks_failed, left};
 
 use crate::block_source::BlockSource;
 use crate::read_pages::read_wards;
@@ -35,9 +35,11 @@ fn read_parts<R: Read>(
     alloc: Global,
     blocks: &mut BlockSource<'_, R>,
 ) -> Result<FileParts, ReadFileFault>
-    requires { blocks.old.place ≡ 0 }
+    requires place { blocks.old.place ≡ 0 }
+    requires open { IsFalse (blocks_failed blocks.old) }
     ensures parts { IfOk result (λ parts. (bytes : List ℕ) × IsAll (left R.remaining blocks.old) bytes × AreBytes bytes × IsPageFile first_file (file_of parts) bytes) }
     ensures fault { IfErr result (IsOf (IsFileFault first_file) (left R.remaining blocks.old)) }
+    ensures failed { IsErrOf result ReadFileFault.Read ↔ IsTrue (blocks_failed blocks.new) }
 {
     exh_codec::images_pass();
     exh_codec::images_are_blocks();

@@ -1,4 +1,4 @@
-ghost use Rattle.std.specs.Prelude.{◌≡◌, ◌<◌, ◌≤◌, length, map, IfOk, OnOk, OnErr};
+ghost use Rattle.std.specs.Prelude.{◌≡◌, ◌≢◌, ◌<◌, ◌≤◌, length, map, IfOk, IfErr, OnOk, OnErr, IsErr, IsErrOf, IsTrue};
 ghost use Rattle.std.specs.List.{AllByRecursion, flat_map};
 ghost use Rattle.std.specs.FinMap.{entries};
 ghost use Rattle.std.specs.Io.KnownBytes.{Appends};
@@ -12,7 +12,7 @@ ghost use Rattle.exh_file.specs.FileVersion.{first_file};
 ghost use Rattle.exh_file.specs.HeaderImage.{IsHeader};
 ghost use Rattle.exh_file.specs.TableImage.{IsFileEntry};
 ghost use Rattle.exh_page_file.specs.PageFile.{file_bytes, page_block, pages_of};
-ghost use Rattle.exh_page_file.specs.Writing.{IsBare, SameTarget, TakesBlocks, TakesBlocksBeginning, TakesEntries, TakesEntriesBeginning, written};
+ghost use Rattle.exh_page_file.specs.Writing.{IsBare, SameTarget, TakesBlocks, TakesBlocksBeginning, TakesEntries, TakesEntriesBeginning, file_failed, written};
 ghost use Rattle.exh_frames.specs.PageStore.{IfPage};
 ghost use Rattle.exh_file.specs.declared.header.TheConstants.{COUNTS_LEN};
 ghost use Rattle.exh_ward.specs.WardState.{IsUnchanged};
@@ -59,6 +59,7 @@ pub fn write_file<P: Pages + Drop, W: Write>(
     ensures opens { OnOk result (IsKept (in_file cap ward_bits keyer wards.old) (file_bytes first_file (written_file (in_file cap ward_bits keyer wards.old)))) }
     ensures again { IsWrittenAgain (in_file cap ward_bits keyer wards.old) }
     ensures err { OnErr result (AppendsBeginning (written W.contents file.old) (written W.contents file.new) (file_bytes first_file (written_file (in_file cap ward_bits keyer wards.old)))) }
+    ensures failed { IsErrOf result SaveFault.Write → IsTrue (file_failed file.new) }
     ensures wards { AreUnchanged wards.old wards.new }
     ensures failures { CountsSaveFailures result (failures_in wards.old) (failures_in wards.new) }
 {
@@ -88,6 +89,7 @@ fn write_parts<P: Pages + Drop, W: Write>(
     ensures pages { OnOk result (AllByRecursion (IsInRange first_version) (pages_of (pages_of_all wards.old))) }
     ensures entries { OnOk result (AllByRecursion (IsFileEntry first_version) (entries_of_all wards.old)) }
     ensures err { OnErr result (AppendsBeginning (written W.contents file.old) (written W.contents file.new) (file_bytes first_file (file_with header.now wards.old))) }
+    ensures failed { IsErrOf result SaveFault.Write → IsTrue (file_failed file.new) }
     ensures wards { AreUnchanged wards.old wards.new }
     ensures failures { CountsSaveFailures result (failures_in wards.old) (failures_in wards.new) }
 {
@@ -107,6 +109,7 @@ fn write_pages<P: Pages + Drop, W: Write>(
     ensures ok { OnOk result (TakesBlocks W.contents file.old file.new (flat_map page_block (pages_of (pages_of_all wards.old)))) }
     ensures pages { OnOk result (AllByRecursion (IsInRange first_version) (pages_of (pages_of_all wards.old))) }
     ensures err { OnErr result (TakesBlocksBeginning W.contents file.old file.new (flat_map page_block (pages_of (pages_of_all wards.old)))) }
+    ensures failed { IsErrOf result SaveFault.Write → IsTrue (file_failed file.new) }
     ensures same { OnOk result (wards.new ≡ wards.old) }
     ensures wards { AreUnchanged wards.old wards.new }
     ensures failures { CountsSaveFailures result (failures_in wards.old) (failures_in wards.new) }
@@ -127,6 +130,7 @@ fn write_ward<P: Pages + Drop, W: Write>(
     ensures ok { OnOk result (TakesBlocks W.contents file.old file.new (flat_map page_block ward.old.pages)) }
     ensures pages { OnOk result (AllByRecursion (IsInRange first_version) ward.old.pages) }
     ensures err { OnErr result (TakesBlocksBeginning W.contents file.old file.new (flat_map page_block ward.old.pages)) }
+    ensures failed { IsErrOf result SaveFault.Write → IsTrue (file_failed file.new) }
     ensures same { OnOk result (ward.new ≡ ward.old) }
     ensures ward { IsUnchanged ward.old ward.new }
     ensures failures { CountsSaveFailures result ward.old.failures ward.new.failures }
@@ -148,6 +152,7 @@ fn write_page<P: Pages + Drop, W: Write>(
     ensures same_target { SameTarget file.old file.new }
     ensures ok { OnOk result (IfPage ward.old.pages number (λ page. TakesBlocks W.contents file.old file.new (page_block page) × IsInRange first_version page)) }
     ensures err { OnErr result (IfPage ward.old.pages number (λ page. TakesBlocksBeginning W.contents file.old file.new (page_block page))) }
+    ensures failed { IsErrOf result SaveFault.Write → IsTrue (file_failed file.new) }
     ensures same { OnOk result (ward.new ≡ ward.old) }
     ensures ward { IsUnchanged ward.old ward.new }
     ensures failures { CountsSaveFailures result ward.old.failures ward.new.failures }
@@ -165,6 +170,7 @@ fn read_page<P: Pages + Drop>(
     requires cap { ward.old.cap ≤ CAP_LIMIT }
     ensures page { IfOk result (IsAt ward.old.pages number) }
     ensures few { IfOk result (λ page. length (records_of page) ≤ CAP_LIMIT) }
+    ensures fault { IfErr result (λ fault. fault ≢ SaveFault.Write) }
     ensures same { OnOk result (ward.new ≡ ward.old) }
     ensures ward { IsUnchanged ward.old ward.new }
     ensures failures { CountsSaveFailures result ward.old.failures ward.new.failures }
@@ -187,6 +193,7 @@ fn write_table<P: Pages + Drop, W: Write>(
     ensures ok { OnOk result (TakesEntries W.contents first_version file.old file.new (entries_of_all wards.now)) }
     ensures entries { OnOk result (AllByRecursion (IsFileEntry first_version) (entries_of_all wards.now)) }
     ensures err { OnErr result (TakesEntriesBeginning W.contents first_version file.old file.new (entries_of_all wards.now)) }
+    ensures failed { IsErr result → IsTrue (file_failed file.new) }
 {
     for number in 0..wards.len() {
         write_entries(file, number as u8, wards[number].table())?;
@@ -205,6 +212,7 @@ fn write_entries<W: Write>(
     ensures ok { OnOk result (TakesEntries W.contents first_version file.old file.new (map (file_entry ward) (entries table.now))) }
     ensures entries { OnOk result (AllByRecursion (IsFileEntry first_version) (map (file_entry ward) (entries table.now))) }
     ensures err { OnErr result (TakesEntriesBeginning W.contents first_version file.old file.new (map (file_entry ward) (entries table.now))) }
+    ensures failed { IsErr result → IsTrue (file_failed file.new) }
 {
     for (prefix, entry) in table.entries() {
         file.write_entry(&FileEntry {

@@ -1,6 +1,7 @@
 use Rattle.std.proofs.Common.{◌≡◌, false, true}
 use Rattle.exh_stream.specs.OutputLemmas.{OnErr-from}
-use Rattle.exh_load.proofs.Loads.{cut_err, finished_err, finished_front, finished_ok}
+use Rattle.exh_stream.specs.Source.{reader_failed}
+use Rattle.exh_load.proofs.Loads.{cut_err, finished_by, finished_err, finished_front, finished_ok}
 use Rattle.exh_load.proofs.load_source.load_all.Goals as goal
 
 pub returns-clause-ok : goal.returns-clause-ok
@@ -20,3 +21,7 @@ returns-in_err-finish-clause-err g c =
 pub returns-clause-memory : goal.returns-clause-memory
 returns-clause-memory g c =
     finished_front g.W.Write.contents c.args.output.now c.load_source-loaded.new.output c.finish.new.self c.requires.empty _ c.in_ok-finish.ensures.ok c.load_source-loaded.result c.load_source-loaded.ensures.front
+
+pub returns-clause-reader : goal.returns-clause-reader
+returns-clause-reader g c =
+    finished_by g.W.Write.contents c.args.output.now c.load_source-loaded.new.output c.finish.new.self c.requires.empty _ c.in_ok-finish.ensures.ok c.load_source-loaded.result (reader_failed c.load_source-loaded.new.source) c.load_source-loaded.ensures.reader

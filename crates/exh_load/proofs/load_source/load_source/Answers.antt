@@ -1,9 +1,10 @@
-use Rattle.std.proofs.Common.{Err, ap, arith, inr, length, refl}
+use Rattle.std.proofs.Common.{Err, ap, arith, inr, length, refl, rules}
 use Rattle.exh_stream.specs.Output.{Takes, TakesBeginning}
 use Rattle.exh_stream.specs.OutputLemmas.{TakesBeginning-none}
+use Rattle.exh_stream.specs.Source.{reader_failed}
 use Rattle.exh_stream.specs.SourceLemmas.{Consumes-all_given, LosesLonger-had}
 use Rattle.exh_load.specs.Load.{TakesFront, refused}
-use Rattle.exh_load.proofs.Loads.{front_none, load_long, load_read, loads_err, loads_front, loads_ok}
+use Rattle.exh_load.proofs.Loads.{front_none, load_long, load_read, loads_err, loads_front, loads_ok, printed_read, printed_unread, text_long, text_read}
 use Rattle.exh_load.proofs.Records.{lines_few}
 use Rattle.exh_load.proofs.load_source.load_source.Goals as goal
 
@@ -54,3 +55,18 @@ returns-in-Err-Memory-clause-err g c = record { load = refused 41; of_reader = i
 
 pub returns-in-Err-Memory-clause-front : goal.returns-in-Err-Memory-clause-front
 returns-in-Err-Memory-clause-front g c = λ _. record { load = refused 41; of_reader = inr refl; text = front_none g.W.Write.contents c.args.output.now _ }
+
+pub returns-in-Ok-clause-reader : goal.returns-in-Ok-clause-reader
+returns-in-Ok-clause-reader g c =
+    printed_read (Takes g.W.Write.contents c.args.output.now c.load_text.new.output) _ _ (reader_failed c.read_whole.new.self) (search rules)
+    (text_read _ c.in-Ok.text.items c.deref.result.now (Consumes-all_given _ _ _ c.in-Ok.ensures.ok c.in-Ok.ensures.end) c.deref.ensures.value (omega (arith, c.in-Ok.text.ok.0, c.in-Ok.ensures.within)))
+    c.load_text.result c.load_text.ensures.text
+
+pub returns-in-Err-TooLong-clause-reader : goal.returns-in-Err-TooLong-clause-reader
+returns-in-Err-TooLong-clause-reader g c =
+    let lost = c.in-Err-TooLong.ensures.too_long (ap Err c.in-Err-TooLong.field-0-is) in
+    printed_read (Takes g.W.Write.contents c.args.output.now c.refuse.new.output) _ _ (reader_failed c.read_whole.new.self) (search rules) (text_long _ lost.0 lost.1 (LosesLonger-had _ _ _ lost)) c.refuse.result c.refuse.ensures.text
+
+pub returns-in-Err-Read-clause-reader : goal.returns-in-Err-Read-clause-reader
+returns-in-Err-Read-clause-reader g c =
+    printed_unread (Takes g.W.Write.contents c.args.output.now c.refuse-in-Err-Read.new.output) _ (refused 41) (reader_failed c.read_whole.new.self) (search rules) refl c.refuse-in-Err-Read.result c.refuse-in-Err-Read.ensures.text

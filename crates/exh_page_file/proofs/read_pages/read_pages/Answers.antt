@@ -1,4 +1,4 @@
-use Rattle.std.proofs.Common.{◌≡◌, ◌+◌, ◌∷◌, [], ◌++◌, ℕ, length, sym, ap, subst, arith}
+use Rattle.std.proofs.Common.{rules, ◌≡◌, ◌+◌, ◌∷◌, [], ◌++◌, ℕ, length, sym, ap, subst, arith}
 use Rattle.std.proofs.lemmas.List.{length-append}
 use Rattle.exh_prefix.specs.Version.{first_version}
 use Rattle.exh_keyer.specs.Pseudokey.{any_pseudokey}
@@ -27,6 +27,7 @@ loop-number-preserved g c =
     let pages = c.loop-number.pages.items in
     let pushed : c.push.new.items.items ≡ pages ++ c.in_ok-page.page ∷ [] = c.in_ok-push.ensures in
     record {
+      unfailed = search rules;
       place = omega (arith, c.loop-number.invariant.place, c.in_ok-page.ensures.place);
       some = omega (arith, ap length pushed, length-append pages (c.in_ok-page.page ∷ []), c.loop-number.invariant.some);
       given = subst (GivesPages first_version pseudo _ _) (sym pushed)

@@ -1,13 +1,15 @@
 use Rattle.std.proofs.Common.{◌≡◌, ◌+◌, length, map, take}
+use Rattle.std.specs.Prelude.{IsFalse}
 use Rattle.std.specs.List.{sum}
 use Rattle.exh_prefix.specs.Version.{first_version}
 use Rattle.exh_keyer.specs.Pseudokey.{any_pseudokey}
 use Rattle.exh_page_file.specs.FileParts.{pages_in}
-use Rattle.exh_page_file.specs.Reading.{GivesPages, left}
+use Rattle.exh_page_file.specs.Reading.{GivesPages, blocks_failed, left}
 use Rattle.exh_page_file.proofs.read_pages.read_wards.Given as goal
 
 abbrev pub invariant-loop-count : goal.invariant-loop-count
 invariant-loop-count g l = record {
+  unfailed : IsFalse (blocks_failed l.blocks);
   place : l.blocks.place ≡ l.initial.blocks.place + sum (take l.count-index l.counts);
   some : length (pages_in l.wards.items) ≡ sum (take l.count-index l.counts);
   counts : map (λ ward. length ward.items) l.wards.items ≡ take l.count-index l.counts;

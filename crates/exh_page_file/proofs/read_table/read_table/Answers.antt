@@ -1,4 +1,4 @@
-use Rattle.std.proofs.Common.{◌≡◌, ◌+◌, ◌-◌, ◌*◌, ◌<◌, ◌++◌, ℕ, Bool, List, Option, None, min, length, sym, ap, ◌∙◌, subst, arith}
+use Rattle.std.proofs.Common.{rules, ◌≡◌, ◌+◌, ◌-◌, ◌*◌, ◌<◌, ◌++◌, ℕ, Bool, List, Option, None, min, length, sym, ap, ◌∙◌, subst, arith}
 use Rattle.std.proofs.lemmas.List.{length-append}
 use Rattle.std.specs.Option.{option_to_list}
 use Rattle.exh_prefix.specs.Version.{first_version}
@@ -44,6 +44,7 @@ loop-number-preserved g c =
     let joined : c.append.new.entries.items ≡ entries ++ next = c.in_ok-append.ensures ∙ ap (λ (next : List FileEntry). entries ++ next) c.deref-in-loop-number.ensures.value in
     let read = c.in_ok-next.ensures.ok in
     record {
+      unfailed = search rules;
       place = omega (arith, c.loop-number.invariant.place, c.in_ok-next.ensures.place);
       some = omega (arith, ap length joined, length-append entries next, full, more, inside);
       given = subst (GivesEntries first_version _ _ (number + 1)) (sym joined)

@@ -18,12 +18,12 @@ returns-in_err-header-clause-fault g c =
     err_is c.from_residual.result fault (IsOf (IsFileFault first_file) known) c.from_residual.ensures.1
     (of_later (NextFails (HeaderFails first_file)) (IsFileFault first_file) known known fault (λ fault. fault_of_header first_file known fault) c.in_err-header.ensures.err)
 
-pub read_wards-requires : goal.read_wards-requires
-read_wards-requires g c =
+pub read_wards-requires-clause-place : goal.read_wards-requires-clause-place
+read_wards-requires-clause-place g c =
     let header = c.in_ok-header.header in
     let image = c.in_ok-header.ensures.ok.2 in
     let few : sum (take c.wards_of.result header.page_counts) ≤ 2 ^ 21 = subst (λ (n : ℕ). sum (take n header.page_counts) ≤ 2 ^ 21) (sym c.wards_of.ensures.power) (few_pages header image.valid) in
-    omega (arith, few, c.in_ok-header.ensures.place, c.requires)
+    omega (arith, few, c.in_ok-header.ensures.place, c.requires.place)
 
 pub returns-in_err-wards-clause-fault : goal.returns-in_err-wards-clause-fault
 returns-in_err-wards-clause-fault g c =
@@ -36,7 +36,7 @@ returns-in_err-wards-clause-fault g c =
     let headed : Headed first_file known later header read.0 = record { given = read.1; image = read.2; is = read.3 } in
     let count = sum (take c.wards_of.result header.page_counts) in
     let all : count ≡ sum header.page_counts = ap (λ (n : ℕ). sum (take n header.page_counts)) c.wards_of.ensures.power ∙ all_counted first_file header read.2.valid in
-    let place : c.read_header.new.self.place ≡ 1 = omega (arith, c.in_ok-header.ensures.place, c.requires) in
+    let place : c.read_header.new.self.place ≡ 1 = omega (arith, c.in_ok-header.ensures.place, c.requires.place) in
     err_is c.from_residual-in_err-wards.result fault (IsOf (IsFileFault first_file) known) c.from_residual-in_err-wards.ensures.1
     (of_later (FailsInPages first_version pseudo 1 count) (IsFileFault first_file) known later fault
     (λ fault. fault_of_pages first_file first_file_fits c.images_pass.ensures c.images_are_blocks.ensures c.images_pass-2.ensures.tables c.images_are_blocks-2.ensures.tables known later header read.0 count fault headed all)
@@ -47,7 +47,7 @@ read_table-requires-clause-place g c =
     let header = c.in_ok-header.header in
     let image = c.in_ok-header.ensures.ok.2 in
     let few : sum (take c.wards_of.result header.page_counts) ≤ 2 ^ 21 = subst (λ (n : ℕ). sum (take n header.page_counts) ≤ 2 ^ 21) (sym c.wards_of.ensures.power) (few_pages header image.valid) in
-    omega (arith, few, image.valid.entries, c.in_ok-wards.ensures.place, c.in_ok-header.ensures.place, c.requires)
+    omega (arith, few, image.valid.entries, c.in_ok-wards.ensures.place, c.in_ok-header.ensures.place, c.requires.place)
 
 pub returns-in_err-entries-clause-fault : goal.returns-in_err-entries-clause-fault
 returns-in_err-entries-clause-fault g c =
@@ -61,7 +61,7 @@ returns-in_err-entries-clause-fault g c =
     let wards = c.in_ok-wards.wards.items in
     let all : sum (take c.wards_of.result header.page_counts) ≡ sum header.page_counts = ap (λ (n : ℕ). sum (take n header.page_counts)) c.wards_of.ensures.power ∙ all_counted first_file header read.2.valid in
     let pages : length (pages_in wards) ≡ sum header.page_counts = all_pages wards ∙ ap sum c.in_ok-wards.ensures.counts ∙ all in
-    let place : c.read_wards.new.blocks.place ≡ 1 + sum header.page_counts = omega (arith, c.in_ok-wards.ensures.place, c.in_ok-header.ensures.place, c.requires, all) in
+    let place : c.read_wards.new.blocks.place ≡ 1 + sum header.page_counts = omega (arith, c.in_ok-wards.ensures.place, c.in_ok-header.ensures.place, c.requires.place, all) in
     err_is c.from_residual-in_err-entries.result fault (IsOf (IsFileFault first_file) known) c.from_residual-in_err-entries.ensures.1
     (of_later (FailsInTable first_version c.read_wards.new.blocks.place header.entry_count) (IsFileFault first_file) known later fault
     (λ fault. fault_of_table first_file first_file_fits c.images_pass.ensures c.images_are_blocks.ensures c.images_pass-2.ensures.tables c.images_are_blocks-2.ensures.tables known mid later header read.0 (pages_in wards) c.read_wards.new.blocks.place header.entry_count fault headed c.in_ok-wards.ensures.given pages place (λ i. header.entry_count))
