@@ -195,9 +195,8 @@ fn is_told_often<R: Wait, F: Identity>(
     times: u32,
     said: &Said<'static>,
 ) -> Result<(), Difference> {
-    let reply = said.reply()?;
     for _ in 0..times {
-        is_told(rt, file, caller, said.asked(), &OpenGate, reply)?;
+        is_told(rt, file, caller, said.asked(), &OpenGate, said.reply()?)?;
     }
     Ok(())
 }

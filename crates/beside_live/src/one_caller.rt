@@ -10,7 +10,7 @@ use crate::lists::{
     COURIER, EVEN_HALF, FOUR_WARDS, KEEPER, LATE_COURIER, LONG, ODD_HALF, OPENED_COURIER,
     THREE_KEYS, THREE_KEYS_EACH, TOLD_COPY, WORN_KEEPER,
 };
-use crate::live_step::take_steps;
+use crate::live_step::{LiveStep, take_steps};
 use exh_callers::{
     Caller, PlainFile, PlainWard, Reader, Writer, close_settled, new_file, next_caller,
     one_ward_file,
@@ -107,32 +107,27 @@ impl OneCaller {
         }
     }
 
-    fn take_steps<R: Wait, F: Identity>(
-        self,
-        rt: &R,
-        run: &mut Run,
-        file: &PlainFile<F>,
-        ward_bits: u8,
-        caller: &mut Caller<F>,
-        writer: &mut Writer,
-        start: &Table,
-    ) -> Result<(), Difference>
-        requires limit { file.now.ward_bits ≤ WARD_BITS_LIMIT }
-        requires bits { ward_bits ≡ file.now.ward_bits }
-    {
-        let lists: [&[_]; 2] = match self {
+    // Its steps, in two lists that are taken one after the other.
+    fn steps(self) -> [&'static [LiveStep]; 2] {
+        match self {
             OneCaller::ToldCopy => [&THREE_KEYS, &TOLD_COPY],
             OneCaller::Courier => [&THREE_KEYS, &COURIER],
             OneCaller::Keeper => [&THREE_KEYS, &KEEPER],
             OneCaller::FourWards => [&THREE_KEYS_EACH, &FOUR_WARDS],
             OneCaller::Long => [&THREE_KEYS, &LONG],
+            other => other.further_steps(),
+        }
+    }
+
+    fn further_steps(self) -> [&'static [LiveStep]; 2] {
+        match self {
             OneCaller::EvenHalf => [&EVEN_HALF, &[]],
             OneCaller::OddHalf => [&ODD_HALF, &[]],
             OneCaller::OpenedCourier => [&OPENED_COURIER, &[]],
             OneCaller::LateCourier => [&THREE_KEYS, &LATE_COURIER],
             OneCaller::WornKeeper => [&WORN_KEEPER, &[]],
-        };
-        take_steps(rt, run, file, ward_bits, caller, writer, start, lists)
+            _ => [&[], &[]],
+        }
     }
 }
 
@@ -157,7 +152,16 @@ pub(crate) fn run<R: Wait, F: Identity>(
     let ward_bits = story.ward_bits();
     let mut file = first_file::<F>(run.alloc, story, ward_bits, answers, entries)?;
     let mut caller = next_caller(&mut file, copies)?;
-    let taken = story.take_steps(rt, run, &file, ward_bits, &mut caller, writer, &start);
+    let taken = take_steps(
+        rt,
+        run,
+        &file,
+        ward_bits,
+        &mut caller,
+        writer,
+        &start,
+        story.steps(),
+    );
     run.tally.check(taken);
     seats.push_reserved(caller.seat);
     close_settled(run, ward_bits, file, seats, story.answers())?;

@@ -169,7 +169,8 @@ const WALKS: [(&[Plan], WardFault, Walked); 4] = [
 ];
 
 // What a walk comes to; none where the gate was asked out of turn.
-fn walked(plan: &'static [Plan], refusal: WardFault, call: &Call) -> Option<Walked> {
+fn walked(plan: &'static [Plan], refusal: WardFault) -> Option<Walked> {
+    let call = get(b"k")?;
     let mut steps = Planned {
         plan,
         refusal,
@@ -180,7 +181,7 @@ fn walked(plan: &'static [Plan], refusal: WardFault, call: &Call) -> Option<Walk
         asked: AtomicU32::new(0),
         last: AtomicU32::new(0),
     };
-    let answer = match walk_steps(&mut steps, &gate, 0, 7, call) {
+    let answer = match walk_steps(&mut steps, &gate, 0, 7, &call) {
         Ok(Reply::New) => Ok(()),
         Ok(_) => return None,
         Err(fault) => Err(fault),
@@ -192,8 +193,7 @@ fn walked(plan: &'static [Plan], refusal: WardFault, call: &Call) -> Option<Walk
 
 #[test]
 fn takes_one_hop_a_turn(rt: HostRuntime) {
-    let call = get(b"k").unwrap();
     for (plan, refusal, want) in WALKS {
-        assert!(rt; walked(plan, refusal, &call) == Some(want));
+        assert!(rt; walked(plan, refusal) == Some(want));
     }
 }
