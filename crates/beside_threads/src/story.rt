@@ -17,7 +17,7 @@ pub(crate) enum Story {
 }
 
 /// All of them, in the order in which they are played.
-pub(crate) const STORIES: [Story; 10] = [
+pub(crate) const STORIES: [Story; 9] = [
     Story::HeldLook,
     Story::Locks,
     Story::Refill,
@@ -25,7 +25,6 @@ pub(crate) const STORIES: [Story; 10] = [
     Story::Storms(Storms::Company),
     Story::Storms(Storms::Open),
     Story::Storms(Storms::Closed),
-    Story::Storms(Storms::Unmade),
     Story::Storms(Storms::Small),
     Story::Storms(Storms::Told),
 ];
@@ -40,7 +39,6 @@ impl Named for Story {
             Story::Storms(Storms::Company) => "company",
             Story::Storms(Storms::Open) => "open",
             Story::Storms(Storms::Closed) => "closed",
-            Story::Storms(Storms::Unmade) => "unmade",
             Story::Storms(Storms::Small) => "small",
             Story::Storms(Storms::Told) => "told",
         }
