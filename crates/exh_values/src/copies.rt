@@ -39,7 +39,7 @@ enum Step {
 // How many readers there are, and what happens.
 type Story = (u16, &'static [Step]);
 
-const STORIES: [Story; 3] = [
+const STORIES: [Story; 5] = [
     (
         2,
         &[
@@ -72,6 +72,44 @@ const STORIES: [Story; 3] = [
             Step::Publish,
             Step::Tell(0),
             Step::Look(0, 0),
+        ],
+    ),
+    // What is pending isn't told: both readers learn the list that is published, and it is none.
+    (
+        2,
+        &[
+            Step::Take(SPLIT),
+            Step::Tell(0),
+            Step::Look(0, 0),
+            Step::Tell(1),
+            Step::Look(1, 0),
+            Step::Publish,
+            Step::Take(MERGE),
+            Step::Tell(0),
+            Step::Look(0, 1),
+            Step::Publish,
+            Step::Tell(0),
+            Step::Look(0, 0),
+        ],
+    ),
+    // A list that is as long as the reader's own is told, once more and to both.
+    (
+        2,
+        &[
+            Step::Take(SPLIT),
+            Step::Publish,
+            Step::Tell(0),
+            Step::Tell(0),
+            Step::Look(0, 1),
+            Step::Tell(0),
+            Step::Look(0, 1),
+            Step::Tell(1),
+            Step::Tell(1),
+            Step::Look(1, 1),
+            Step::Take(MERGE),
+            Step::Publish,
+            Step::Tell(1),
+            Step::Look(1, 0),
         ],
     ),
     // All that is pending is published at once, the notice that was told late with it.
@@ -211,13 +249,27 @@ fn made_again<R: Wait>(rt: &R, alloc: Global, readers: u16) -> Option<(Writer, V
     }
 }
 
-// A story, after which the copy is closed: then no reader names a page.
+// Whether each reader names a page for each of 256 pseudokeys.
+fn name_pages(readers: &mut [Reader]) -> bool {
+    for reader in readers {
+        for byte in 0..=255u8 {
+            if reader.look(u64::from(byte) << 56).is_none() {
+                return false;
+            }
+        }
+    }
+    true
+}
+
+// A story, over which no look is in vain; after it the copy is closed: then no reader names a page.
 fn is_story<R: Wait>(rt: &R, alloc: Global, story: &Story) -> bool {
     let Some((mut writer, mut readers)) = made_again(rt, alloc, story.0) else {
         return false;
     };
     let is_played = readers.len() == usize::from(story.0)
-        && play(rt, alloc, &mut writer, readers.as_mut_slice(), story.1);
+        && name_pages(readers.as_mut_slice())
+        && play(rt, alloc, &mut writer, readers.as_mut_slice(), story.1)
+        && name_pages(readers.as_mut_slice());
     drop(writer.close(rt));
     is_played && are_closed(readers.as_mut_slice())
 }
@@ -238,30 +290,40 @@ fn stories(rt: HostRuntime) {
     }
 }
 
-// There is room for one reader, one more, and what was told once. Who lets it go makes room again.
-fn has_three_places(writer: &mut Writer) -> bool {
-    let Ok(first) = writer.tell() else {
-        return false;
-    };
-    let Ok(_second) = writer.tell() else {
-        return false;
-    };
+// Whether the writer can tell this often before there is no place, where all that it tells is kept.
+fn is_told_often(alloc: Global, writer: &mut Writer, often: usize) -> Option<bool> {
+    let mut kept = Vec::new(alloc);
+    kept.reserve(often).ok()?;
+    for _ in 0..often {
+        let Ok(told) = writer.tell() else {
+            return Some(false);
+        };
+        kept.push(told).ok()?;
+    }
     let is_full = writer.tell().is_err();
-    drop(first);
-    is_full && writer.tell().is_ok()
+    drop(kept.pop());
+    Some(is_full && writer.tell().is_ok())
 }
 
-fn is_full_in_the_end<R: Wait>(rt: &R, alloc: Global) -> bool {
-    let Some((mut writer, readers)) = made_again(rt, alloc, 1) else {
+// A copy of n readers has 2n + 1 places: n are theirs, and the writer can tell n + 1 times. Who lets go what
+// was told makes room again.
+fn is_full_in_the_end<R: Wait>(rt: &R, alloc: Global, readers: u16) -> bool {
+    let Some((mut writer, made)) = made_again(rt, alloc, readers) else {
         return false;
     };
-    let is_full = has_three_places(&mut writer);
+    let often = usize::from(readers) + 1;
+    let is_full = match is_told_often(alloc, &mut writer, often) {
+        None => is_told_often(alloc, &mut writer, often),
+        told => told,
+    };
     drop(writer.close(rt));
-    is_full && readers.len() == 1
+    is_full == Some(true) && made.len() == usize::from(readers)
 }
 
 #[test]
 fn more_readers_than_places(rt: HostRuntime) {
     assert!(rt; NoPlace::NUMBER == 52);
-    assert!(rt; is_full_in_the_end(&rt, rt.alloc()));
+    for readers in [1, 2, 3, 17] {
+        assert!(rt; is_full_in_the_end(&rt, rt.alloc(), readers), "{readers}");
+    }
 }

@@ -129,3 +129,32 @@ fn settles(rt: HostRuntime) -> Result<(), Fail> {
     }
     Ok(())
 }
+
+// A diary of this many entries, a put and then gets.
+fn long_diary(alloc: Global, entries: usize) -> Result<Diary, Fail> {
+    let mut diary = diary_of(alloc, 1, &[PUT_40])?;
+    let (call, reply) = call_and_reply(GET_40)?;
+    for _ in 1..entries {
+        diary.reserve()?;
+        diary.push_reserved(&call, &reply);
+    }
+    Ok(diary)
+}
+
+// The number of a diary's entries has more than 16 bits, and its last entry is found.
+#[test]
+fn has_many_entries(rt: HostRuntime) -> Result<(), Fail> {
+    let diary = long_diary(rt.alloc(), 70_000)?;
+    let (call, reply) = call_and_reply(GET_40)?;
+    assert!(rt; diary.len() == 70_000);
+    for at in [1, 32_768, 65_535, 65_536, 69_999] {
+        let entry = diary.get(at);
+        assert!(rt;
+            entry.map(|entry| entry.call == call && entry.reply == reply) == Some(true),
+            "{at}"
+        );
+    }
+    assert!(rt; diary.get(70_000).is_none());
+    assert!(rt; diary.iter().count() == 70_000);
+    Ok(())
+}
