@@ -7,11 +7,16 @@ use Rattle.exh_table.specs.TableOrder.{IsTableUpTo}
 use Rattle.exh_table.specs.Walk.{walk_of}
 use Rattle.exh_array.specs.Pointers.{DirectoryState, HasArrayOf, pointer_at}
 use Rattle.exh_copy.specs.declared.addition.Addition.{Addition}
-use Rattle.exh_copy.specs.Additions.{BeginsWith, table_after, told_in}
+use Rattle.exh_copy.specs.Additions.{BeginsWith, longest, table_after, told_in}
 
 -- who holds more of the published list is no lower in the order of tables
 abbrev pub CopiesNeverGoBack : Type 0
 CopiesNeverGoBack = (start : TableMap) (longer shorter : List Addition) → BeginsWith longer shorter → IsTableUpTo (table_after start shorter) (table_after start longer)
+
+-- who holds a beginning of a list and learns another beginning of it holds all that it held, and its table is no lower
+abbrev pub LearningNeverGoesBack : Type 0
+LearningNeverGoesBack = (start : TableMap) (list held told : List Addition) → BeginsWith list held → BeginsWith list told
+    → BeginsWith (longest held told) held × IsTableUpTo (table_after start held) (table_after start (longest held told))
 
 -- a copy's table is that of the set of all that it was told: the start table's entries, and those of the list's notices and tables
 abbrev pub CopiesAreTablesOfTheirSets : Type 0

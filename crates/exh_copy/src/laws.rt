@@ -1,10 +1,15 @@
 //! What holds of all copies that are looked at, for the proofs of callers. Each function does nothing.
 
-ghost use Rattle.exh_copy.specs.Laws.{CopiesNeverGoBack, CopiesAreTablesOfTheirSets, LooksAreWalksOfCopies};
+ghost use Rattle.exh_copy.specs.Laws.{CopiesNeverGoBack, LearningNeverGoesBack, CopiesAreTablesOfTheirSets, LooksAreWalksOfCopies};
 
 /// Who holds more of the published list is no lower in the order of tables.
 pub fn copies_never_go_back()
     ensures { CopiesNeverGoBack }
+{}
+
+/// Who learns what was told of the same list holds no less than it did, and its table is no lower.
+pub fn learning_never_goes_back()
+    ensures { LearningNeverGoesBack }
 {}
 
 /// A copy's table is that of the set of all that it was told.

@@ -1,4 +1,4 @@
-ghost use Rattle.std.specs.Prelude.{◌≡◌, [], ◌∷◌, ◌++◌, drop, IfOk, OnOk, OnErr};
+ghost use Rattle.std.specs.Prelude.{◌≡◌, [], ◌∷◌, ◌++◌, drop, length, IfOk, IsOk, OnOk, OnErr};
 ghost use Rattle.left_right.specs.Sides.{view};
 ghost use Rattle.exh_array.specs.Pointers.{HasArrayOf};
 ghost use Rattle.exh_copy.specs.Additions.{table_after};
@@ -68,13 +68,24 @@ impl<S: Start> CopyWriter<S> {
     }
 
     /// Publishes all that is pending, in order and at once. It waits for readers that still look at
-    /// what was published before the last time. Where memory is refused, an `AllocError`, what is
-    /// published and what is pending stay, and a later call tries again.
+    /// what was published before the last time; where nothing is pending it does nothing. Where memory is
+    /// refused, an `AllocError`, what is published and what is pending stay, and a later call tries again.
     pub fn publish<R: Wait>(&mut self, rt: &R) -> Result<(), AllocError>
         ensures ok { OnOk result (self.new ≡ record { published = self.old.published ++ self.old.pending; pending = [] }) }
         ensures err { OnErr result (self.new ≡ self.old) }
+        ensures nothing { self.old.pending ≡ [] → IsOk result × (self.new ≡ self.old) }
     {
+        if !self.writer.has_pending_operations() {
+            return Ok(());
+        }
         replace_with(&mut self.writer, rt, published_all::<S, R>)
+    }
+
+    /// How many additions it has published.
+    pub fn additions(&self) -> u64
+        ensures { result ≡ length self.now.published }
+    {
+        self.writer.published().additions
     }
 
     /// What has been published by now, for a reader to learn. It takes no memory. Refused: `NoPlace`,
@@ -85,7 +96,7 @@ impl<S: Start> CopyWriter<S> {
     {
         let mut reader = self.writer.factory().reader().map_err(|_| NoPlace)?;
         reader.learn::<Learns>(self.writer.tell::<Tells>());
-        let additions = self.writer.published().additions;
+        let additions = self.additions();
         Ok(Told { reader, additions })
     }
 
