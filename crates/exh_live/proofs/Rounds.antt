@@ -1,7 +1,7 @@
 -- Rounds: why sparse pages aren't merged, and notices that are taken one by one and ward by ward.
 use Rattle.std.proofs.Common.{◌≡◌, ℕ, suc, ◌+◌, ◌*◌, ◌<◌, ◌≤◌, Bool, true, false, List, [], ◌∷◌, ◌++◌, append-nil, append_assoc, map, length, take, drop, set, get_or, Some, None, Result, Ok, Err, IfOk, inl, inr, refl, sym, ap, ◌∙◌, subst, arith}
 use Rattle.std.proofs.lemmas.Bool.{false≢true}
-use Rattle.std.specs.Prelude.{OnOk}
+use Rattle.std.specs.Prelude.{IsErr, OnOk}
 use Rattle.std.specs.declared.alloc.AllocError.{AllocError}
 use Rattle.std.proofs.lemmas.List.{length-take-le, length-set, length_push, same_from_push, take_more, take_more_set, take-append-drop, drop_more, drop_all, drop-set-lt, get_or-drop, map-append}
 use Rattle.std.proofs.lemmas.Grind.{drop_more_same}
@@ -121,6 +121,13 @@ one_taken ward batch old between new place count last notice within so_far here 
 pub batch_taken : (ward : ℕ) (batch : List Notice) (old new : Additions) (place count last : ℕ) (result : Result (Unit {0}) AllocError) → BatchSoFar ward batch old place count new last → OnOk result (NoneFollows ward last (drop count batch))
     → TakesBatch ward batch old place result new last
 batch_taken ward batch old new place count last result so_far end = (take count batch, drop count batch, sym (take-append-drop count batch), so_far.0, so_far.1, end)
+
+-- where memory is refused, what was taken of the batch stays
+pub batch_refused : (ward : ℕ) (batch : List Notice) (old between new : Additions) (place count last : ℕ) (result : Result (Unit {0}) AllocError) → BatchSoFar ward batch old place count between last → new ≡ between → IsErr result
+    → TakesBatch ward batch old place result new last
+batch_refused ward batch old between new place count last (Ok done) so_far same refused = absurd (false≢true refused)
+batch_refused ward batch old between new place count last (Err error) so_far same refused =
+    batch_taken ward batch old new place count last (Err error) (subst (λ copy. BatchSoFar ward batch old place count copy last) (sym same) so_far) tt
 
 pub none_follows_at : (ward last : ℕ) (batch : List Notice) (count : ℕ) (notice : Notice) → count < length batch → get_or batch count notice ≡ notice → ¬ Follows ward last notice → NoneFollows ward last (drop count batch)
 none_follows_at ward last batch count notice within here not =
