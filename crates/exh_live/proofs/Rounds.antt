@@ -1,9 +1,9 @@
 -- Rounds: why sparse pages aren't merged, and notices that are taken one by one and ward by ward.
-use Rattle.std.proofs.Common.{◌≡◌, ℕ, suc, ◌+◌, ◌*◌, ◌<◌, ◌≤◌, Bool, true, false, List, [], ◌∷◌, ◌++◌, append-nil, append_assoc, map, length, take, drop, set, get_or, Some, None, Result, Ok, Err, IfOk, inl, inr, refl, sym, ap, ◌∙◌, subst, arith}
+use Rattle.std.proofs.Common.{◌≡◌, ℕ, suc, ◌+◌, ◌-◌, ◌*◌, ◌<◌, ◌≤◌, Bool, true, false, List, [], ◌∷◌, ◌++◌, append-nil, append_assoc, map, length, take, drop, set, get_or, Some, None, Result, Ok, Err, IfOk, inl, inr, refl, sym, ap, ◌∙◌, subst, arith}
 use Rattle.std.proofs.lemmas.Bool.{false≢true}
-use Rattle.std.specs.Prelude.{IsErr, OnOk}
+use Rattle.std.specs.Prelude.{IsErr, OnErr, OnOk}
 use Rattle.std.specs.declared.alloc.AllocError.{AllocError}
-use Rattle.std.proofs.lemmas.List.{length-take-le, length-set, length_push, same_from_push, take_more, take_more_set, take-append-drop, drop_more, drop_all, drop-set-lt, get_or-drop, map-append}
+use Rattle.std.proofs.lemmas.List.{length-append, length-map, length-take-le, length-set, length_push, same_from_push, take_more, take_more_set, take-append-drop, drop_more, drop_all, drop-set-lt, get_or-drop, map-append}
 use Rattle.std.proofs.lemmas.Grind.{drop_more_same}
 use Rattle.std.proofs.lemmas.Option.{slice_get_within}
 use Rattle.exh_prefix.specs.ListLemmas.{one_there}
@@ -210,3 +210,22 @@ all_taken number old new places lasts so_far =
     let whole = carried_before 0 (take number places) (drop number places) so_far.0 (take number lasts) so_far.1 in
     let lasts_are : take number lasts ++ drop number places ≡ lasts = ap (λ rest. take number lasts ++ rest) (sym so_far.3) ∙ take-append-drop number lasts in
     (so_far.0, subst (λ ps. AreCarried 0 ps so_far.0 lasts) (take-append-drop number places) (subst (AreCarried 0 (take number places ++ drop number places) so_far.0) lasts_are whole), so_far.2)
+
+-- ---- a round
+
+pub round_refused : (old taken new : Additions) (places lasts after : List ℕ) (result : Result ℕ AllocError) → TakesBetween old places taken lasts → new ≡ taken → after ≡ lasts → OnErr result (TakesBetween old places new after)
+round_refused old taken new places lasts after (Ok count) round same back = tt
+round_refused old taken new places lasts after (Err error) round same back =
+    subst (λ ls. TakesBetween old places new ls) (sym back) (subst (λ (copy : Additions). TakesBetween old places copy lasts) (sym same) round)
+
+pub round_told : (old taken new : Additions) (places lasts after : List ℕ) (all before : ℕ) → TakesBetween old places taken lasts → after ≡ lasts → new ≡ record { published = taken.published ++ taken.pending; pending = [] } → all ≡ length new.published
+    → before ≡ length old.published → (notices : List Notice) × AreCarried 0 places notices after × (all - before ≡ length old.pending + length notices) × (new ≡ record { published = (old.published ++ old.pending) ++ map Take notices; pending = [] })
+round_told old taken new places lasts after all before (notices, carried, takes) back is all_is before_is =
+    let whole : taken.published ++ taken.pending ≡ (old.published ++ old.pending) ++ map Take notices = ap (λ (copy : Additions). copy.published ++ copy.pending) takes ∙ sym (append_assoc old.published old.pending (map Take notices)) in
+    let new_is : new ≡ record { published = (old.published ++ old.pending) ++ map Take notices; pending = [] } = subst (λ published. new ≡ record { published = published; pending = [] }) whole is in
+    let long : length new.published ≡ length ((old.published ++ old.pending) ++ map Take notices) = ap (λ (copy : Additions). length copy.published) new_is in
+    let outer = length-append (old.published ++ old.pending) (map Take notices) in
+    let inner = length-append old.published old.pending in
+    let told : length (map Take notices) ≡ length notices = length-map notices Take in
+    let count : all - before ≡ length old.pending + length notices = omega (arith, all_is, before_is, long, outer, inner, told) in
+    (notices, subst (λ ls. AreCarried 0 places notices ls) (sym back) carried, count, new_is)
