@@ -1,11 +1,6 @@
-use Rattle.std.proofs.Common.{◌≡◌, ◌+◌, [], ◌∷◌, List, Result, take, drop, refl, sym, subst}
-use Rattle.std.specs.declared.alloc.AllocError.{AllocError}
-use Rattle.std.specs.Prelude.{OnOk}
-use Rattle.std.proofs.Common.{Err, Ok}
-use Rattle.exh_notice.specs.declared.notice.Notice.{Notice}
-use Rattle.exh_copy.specs.Additions.{Additions}
-use Rattle.exh_live.specs.Rounds.{Follows, NoneFollows, TakesAll}
-use Rattle.exh_live.proofs.Rounds.{BatchSoFar, batch_refused, batch_taken, none_follows_at, one_taken}
+use Rattle.std.proofs.Common.{sym}
+use Rattle.std.proofs.Common.{Ok}
+use Rattle.exh_live.proofs.Rounds.{batch_refused, batch_taken, none_follows_at, one_taken}
 use Rattle.exh_live.proofs.courier.take_next.Goals as goal
 
 pub returns-in_err-take : goal.returns-in_err-take

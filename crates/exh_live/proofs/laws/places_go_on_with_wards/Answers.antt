@@ -1,11 +1,11 @@
-use Rattle.std.proofs.Common.{◌≡◌, ◌+◌, ℕ, Bool, true, false, cond, List, [], ◌∷◌, refl, sym, ap, ◌∙◌, inl, inr, arith}
+use Rattle.std.proofs.Common.{◌≡◌, ◌+◌, ℕ, Bool, cond, List, [], ◌∷◌, refl, sym, ap, ◌∙◌, inl, inr, arith}
 use Rattle.std.specs.FinMap.{entries}
 use Rattle.std.specs.List.{sum_by, filter}
 use Rattle.std.proofs.lemmas.Bool.{cases_Bool, cond-true, cond-false}
 use Rattle.std.proofs.lemmas.List.Sums.{sum_by-cons}
 use Rattle.exh_notice.specs.declared.entry.Entry.{Entry}
 use Rattle.exh_table.specs.Table.{TableMap}
-use Rattle.exh_live.specs.Rounds.{changes_told, is_of_ward, told_of}
+use Rattle.exh_live.specs.Rounds.{changes_told, is_of_ward}
 use Rattle.exh_legal.specs.Numbers.{index_of}
 use Rattle.exh_live.proofs.laws.places_go_on_with_wards.Goals as goal
 

@@ -1,4 +1,4 @@
-use Rattle.std.proofs.Common.{◌≡◌, ◌++◌, ℕ, List, length, take, drop, refl, subst, arith}
+use Rattle.std.proofs.Common.{◌≡◌, ◌++◌, length, take, drop, refl, subst, arith}
 use Rattle.std.proofs.lemmas.List.{take_at}
 use Rattle.exh_live.specs.Rounds.{TakesBetween}
 use Rattle.exh_live.proofs.Rounds.{as_many_places, round_refused, round_told}
