@@ -13,9 +13,6 @@ use exh_walk::{OpenGate, TurnGate};
 use std::alloc::{AllocError, Global};
 use std::sync::Wait;
 
-// More entries than any start table of the stories has.
-const MANY: usize = 1000;
-
 /// A step of a live file of one ward, of its caller, or of the copy of its directory.
 #[derive(Clone, Copy)]
 pub(crate) enum LiveStep {
@@ -116,9 +113,6 @@ fn first_places(alloc: Global, ward_bits: u8, table: &Table) -> Result<Cursors, 
     requires { ward_bits ≤ WARD_BITS_LIMIT }
     ensures { IfOk result (λ cursors. length cursors ≡ 2 ^ ward_bits) }
 {
-    if table.entries().len() >= MANY {
-        return Err(Difference::Apart(Part::Run));
-    }
     match again!(Err(AllocError) => Cursors::new(alloc, ward_bits, table)) {
         Ok(cursors) => Ok(cursors),
         Err(error) => Err(Difference::Memory(error)),

@@ -1,10 +1,15 @@
 -- Rounds: why sparse pages aren't merged, and notices that are taken one by one and ward by ward.
-use Rattle.std.proofs.Common.{◌≡◌, ℕ, suc, ◌+◌, ◌*◌, ◌<◌, ◌≤◌, Bool, true, false, List, [], ◌∷◌, ◌++◌, append-nil, append_assoc, length, take, get_or, Some, None, Result, Ok, Err, IfOk, inl, inr, refl, sym, ap, ◌∙◌, subst, arith}
+use Rattle.std.proofs.Common.{◌≡◌, ℕ, suc, ◌+◌, ◌-◌, ◌*◌, ◌<◌, ◌≤◌, Bool, true, false, List, [], ◌∷◌, ◌++◌, append-nil, append_assoc, map, length, take, drop, set, get_or, Some, None, Result, Ok, Err, IfOk, inl, inr, refl, sym, ap, ◌∙◌, subst, arith}
 use Rattle.std.proofs.lemmas.Bool.{false≢true}
-use Rattle.std.proofs.lemmas.List.{length-take-le, length_push, same_from_push, take_more}
+use Rattle.std.specs.Prelude.{IsErr, OnErr, OnOk}
+use Rattle.std.specs.declared.alloc.AllocError.{AllocError}
+use Rattle.std.proofs.lemmas.List.{length-append, length-map, length-take-le, length-set, length_push, same_from_push, take_more, take_more_set, take-append-drop, drop_more, drop_all, drop-set-lt, get_or-drop, map-append}
+use Rattle.std.proofs.lemmas.Grind.{drop_more_same}
 use Rattle.std.proofs.lemmas.Option.{slice_get_within}
 use Rattle.exh_prefix.specs.ListLemmas.{one_there}
 use Rattle.exh_notice.specs.declared.notice.Notice.{Notice}
+use Rattle.exh_copy.specs.Additions.{Additions}
+use Rattle.exh_copy.specs.declared.addition.Addition.TheVariants.{Take}
 use Rattle.exh_page.specs.declared.page.Page.{Page as PageType}
 use Rattle.exh_page.specs.declared.page.Page.TheVariants.{Live, Forward}
 use Rattle.exh_ward.specs.BuddySum.{HasBuddySum, IsBuddySum}
@@ -13,7 +18,7 @@ use Rattle.exh_ward.specs.WardFault.{CountsFailures, MergeRefused}
 use Rattle.exh_ward.specs.WardState.{WardState, IsUnchanged}
 use Rattle.exh_ward.specs.declared.ward_fault.WardFault.{WardFault}
 use Rattle.exh_ward.specs.declared.ward_fault.WardFault.TheVariants.{NoPage, NotLive, NotFull, AtLimit, NoBuddy, BuddySplit, TooMany, Worn, Memory, Page}
-use Rattle.exh_live.specs.Rounds.{AreCarried, AreFromTo, IsKeeperTurn, MayRefuseKeeper}
+use Rattle.exh_live.specs.Rounds.{AreCarried, AreFromTo, Follows, IsKeeperTurn, MayRefuseKeeper, NoneFollows, TakesAll, TakesBatch, TakesBetween, TakesFromTo}
 
 -- ---- keepers
 
@@ -74,9 +79,62 @@ module _ {K : Type 0} {ward now : WardState K} {at : ℕ} where
 
 -- ---- couriers
 
-pub one_further : (ward place : ℕ) (notices : List Notice) (last : ℕ) (notice : Notice) → AreFromTo ward place notices last → notice.ward ≡ ward → notice.index ≡ last + 1 → AreFromTo ward place (notices ++ notice ∷ []) notice.index
-one_further ward place [] last notice from is next = (is, next ∙ ap (λ n. n + 1) from, refl)
-one_further ward place (first ∷ notices) last notice from is next = (from.0, from.1, one_further ward first.index notices last notice from.2 is next)
+-- a notice more that follows
+pub one_further : (ward place : ℕ) (notices : List Notice) (last : ℕ) (notice : Notice) → AreFromTo ward place notices last → Follows ward last notice → AreFromTo ward place (notices ++ notice ∷ []) notice.index
+one_further ward place [] last notice from follows = (follows.0, follows.1 ∙ ap (λ n. n + 1) from, refl)
+one_further ward place (first ∷ notices) last notice from follows = (from.0, from.1, one_further ward first.index notices last notice from.2 follows)
+
+from_to_on : (ward place : ℕ) (notices : List Notice) (between : ℕ) (more : List Notice) (last : ℕ) → AreFromTo ward place notices between → AreFromTo ward between more last → AreFromTo ward place (notices ++ more) last
+from_to_on ward place [] between more last one other = subst (λ n. AreFromTo ward n more last) one other
+from_to_on ward place (first ∷ notices) between more last one other = (one.0, one.1, from_to_on ward first.index notices between more last one.2 other)
+
+pub takes_nothing : (copy : Additions) → TakesAll copy [] copy
+takes_nothing copy = ap (λ pending. record copy { pending = pending }) (sym (append-nil copy.pending))
+
+pub takes_on : (old between new : Additions) (notices more : List Notice) → TakesAll old notices between → TakesAll between more new → TakesAll old (notices ++ more) new
+takes_on old between new notices more one other =
+    other
+    ∙ ap (λ (copy : Additions). record copy { pending = copy.pending ++ map Take more }) one
+    ∙ ap (λ pending. record old { pending = pending }) (append_assoc old.pending (map Take notices) (map Take more) ∙ ap (λ rest. old.pending ++ rest) (sym (map-append Take notices more)))
+
+pub ward_nothing : (ward : ℕ) (copy : Additions) (place : ℕ) → TakesFromTo ward copy place copy place
+ward_nothing ward copy place = ([], refl, takes_nothing copy)
+
+-- a batch more
+pub batch_on : (ward : ℕ) (batch : List Notice) (old between new : Additions) (place far last : ℕ) (result : Result (Unit {0}) AllocError) → TakesFromTo ward old place between far → TakesBatch ward batch between far result new last
+    → TakesFromTo ward old place new last
+batch_on ward batch old between new place far last result so_far more =
+    (so_far.0 ++ more.0, from_to_on ward place so_far.0 far more.0 last so_far.1 more.3, takes_on old between new so_far.0 more.0 so_far.2 more.4)
+
+-- what was taken of a batch so far, by how many
+abbrev pub BatchSoFar : ℕ → List Notice → Additions → ℕ → ℕ → Additions → ℕ → Type 0
+BatchSoFar ward batch old place count new last = AreFromTo ward place (take count batch) last × TakesAll old (take count batch) new
+
+pub one_taken : (ward : ℕ) (batch : List Notice) (old between new : Additions) (place count last : ℕ) (notice : Notice) → count < length batch → BatchSoFar ward batch old place count between last → get_or batch count notice ≡ notice → Follows ward last notice
+    → TakesAll between (notice ∷ []) new → BatchSoFar ward batch old place (count + 1) new notice.index
+one_taken ward batch old between new place count last notice within so_far here follows takes =
+    let longer : take (count + 1) batch ≡ take count batch ++ notice ∷ [] = take_more batch count notice within ∙ ap (λ n. take count batch ++ n ∷ []) here in (
+      subst (λ ns. AreFromTo ward place ns notice.index) (sym longer) (one_further ward place (take count batch) last notice so_far.0 follows),
+      subst (λ ns. TakesAll old ns new) (sym longer) (takes_on old between new (take count batch) (notice ∷ []) so_far.1 takes),
+    )
+
+pub batch_taken : (ward : ℕ) (batch : List Notice) (old new : Additions) (place count last : ℕ) (result : Result (Unit {0}) AllocError) → BatchSoFar ward batch old place count new last → OnOk result (NoneFollows ward last (drop count batch))
+    → TakesBatch ward batch old place result new last
+batch_taken ward batch old new place count last result so_far end = (take count batch, drop count batch, sym (take-append-drop count batch), so_far.0, so_far.1, end)
+
+-- where memory is refused, what was taken of the batch stays
+pub batch_refused : (ward : ℕ) (batch : List Notice) (old between new : Additions) (place count last : ℕ) (result : Result (Unit {0}) AllocError) → BatchSoFar ward batch old place count between last → new ≡ between → IsErr result
+    → TakesBatch ward batch old place result new last
+batch_refused ward batch old between new place count last (Ok done) so_far same refused = absurd (false≢true refused)
+batch_refused ward batch old between new place count last (Err error) so_far same refused =
+    batch_taken ward batch old new place count last (Err error) (subst (λ copy. BatchSoFar ward batch old place count copy last) (sym same) so_far) tt
+
+pub none_follows_at : (ward last : ℕ) (batch : List Notice) (count : ℕ) (notice : Notice) → count < length batch → get_or batch count notice ≡ notice → ¬ Follows ward last notice → NoneFollows ward last (drop count batch)
+none_follows_at ward last batch count notice within here not =
+    subst (NoneFollows ward last) (sym (drop_more batch count notice within)) (subst (λ n. ¬ Follows ward last n) (sym here) not)
+
+pub none_follows_end : (ward last : ℕ) (batch : List Notice) (count : ℕ) → length batch ≤ count → NoneFollows ward last (drop count batch)
+none_follows_end ward last batch count past = subst (NoneFollows ward last) (sym (drop_all count batch past)) tt
 
 pub one_ward_more : (ward : ℕ) (places : List ℕ) (notices : List Notice) (lasts : List ℕ) (place : ℕ) (more : List Notice) (last : ℕ) → AreCarried ward places notices lasts → AreFromTo (ward + length places) place more last
     → AreCarried ward (places ++ place ∷ []) (notices ++ more) (lasts ++ last ∷ [])
@@ -109,3 +167,65 @@ one_place_more places number notices more all lasts ends last within carried spo
     let further = one_ward_more 0 (take number places) notices lasts place more last carried (subst (λ n. AreFromTo n place more last) count (subst (λ n. AreFromTo number (get_or places n 0) more last) here from)) in
     let P : List ℕ → List Notice → List ℕ → Type 0 = λ ps ns ls. AreCarried 0 ps ns ls in
     subst (λ ps. P ps all ends) (sym (take_more places number 0 within)) (subst (λ ns. P (take number places ++ place ∷ []) ns ends) (sym all_is) (subst (P (take number places ++ place ∷ []) (notices ++ more)) (sym ends_are) further))
+
+-- ---- all wards
+
+none_carried : (ward : ℕ) (places : List ℕ) → AreCarried ward places [] places
+none_carried ward [] = (refl, refl)
+none_carried ward (place ∷ places) = ([], [], place, places, refl, refl, refl, none_carried (ward + 1) places)
+
+-- wards of which nothing is carried
+carried_before : (ward : ℕ) (places rest : List ℕ) (notices : List Notice) (lasts : List ℕ) → AreCarried ward places notices lasts → AreCarried ward (places ++ rest) notices (lasts ++ rest)
+carried_before ward [] rest notices lasts carried =
+    subst (λ ns. AreCarried ward rest ns (lasts ++ rest)) (sym carried.0) (subst (λ ls. AreCarried ward rest [] (ls ++ rest)) (sym carried.1) (none_carried ward rest))
+carried_before ward (place ∷ places) rest notices lasts (first, more, last, ends, is, lasts_are, from, carried) =
+    (first, more, last, ends ++ rest, is, ap (λ ls. ls ++ rest) lasts_are, from, carried_before (ward + 1) places rest more ends carried)
+
+-- what was taken of the wards below a number
+abbrev pub WardsSoFar : ℕ → Additions → List ℕ → Additions → List ℕ → Type 0
+WardsSoFar number old places new lasts =
+    (notices : List Notice) × AreCarried 0 (take number places) notices (take number lasts) × TakesAll old notices new × (drop number lasts ≡ drop number places) × (length lasts ≡ length places)
+
+pub none_so_far : (copy : Additions) (places : List ℕ) → WardsSoFar 0 copy places copy places
+none_so_far copy places = ([], (refl, refl), takes_nothing copy, refl, refl)
+
+pub one_ward_taken : (number : ℕ) (old between new : Additions) (places lasts after : List ℕ) (last : ℕ) → number < length places → WardsSoFar number old places between lasts → (spot : ℕ) → spot ≡ number → TakesFromTo number between (get_or lasts spot 0) new last
+    → after ≡ set lasts spot last → WardsSoFar (number + 1) old places new after
+one_ward_taken number old between new places lasts after last within so_far spot here more is =
+    let inside : number < length lasts = omega (arith, within, so_far.4) in
+    let set_there : after ≡ set lasts number last = is ∙ ap (λ n. set lasts n last) here in
+    let plain : number + 0 ≡ number = omega arith in
+    let old_place : get_or lasts spot 0 ≡ get_or places number 0 =
+    ap (λ n. get_or lasts n 0) (here ∙ sym plain) ∙ sym (get_or-drop number lasts 0 0) ∙ ap (λ rest. get_or rest 0 0) so_far.3 ∙ get_or-drop number places 0 0 ∙ ap (λ n. get_or places n 0) plain in
+    let ends : take (number + 1) after ≡ take number lasts ++ last ∷ [] = ap (take (number + 1)) set_there ∙ take_more_set lasts number last inside in (
+      so_far.0 ++ more.0,
+      one_place_more places number so_far.0 more.0 (so_far.0 ++ more.0) (take number lasts) (take (number + 1) after) last within so_far.1 number refl (subst (λ p. AreFromTo number p more.0 last) old_place more.1) refl ends,
+      takes_on old between new so_far.0 more.0 so_far.2 more.2,
+      ap (drop (number + 1)) set_there ∙ drop-set-lt (number + 1) lasts number last (omega arith) ∙ drop_more_same lasts places number so_far.3,
+      ap length set_there ∙ length-set lasts number last ∙ so_far.4,
+    )
+
+pub all_taken : (number : ℕ) (old new : Additions) (places lasts : List ℕ) → WardsSoFar number old places new lasts → TakesBetween old places new lasts
+all_taken number old new places lasts so_far =
+    let whole = carried_before 0 (take number places) (drop number places) so_far.0 (take number lasts) so_far.1 in
+    let lasts_are : take number lasts ++ drop number places ≡ lasts = ap (λ rest. take number lasts ++ rest) (sym so_far.3) ∙ take-append-drop number lasts in
+    (so_far.0, subst (λ ps. AreCarried 0 ps so_far.0 lasts) (take-append-drop number places) (subst (AreCarried 0 (take number places ++ drop number places) so_far.0) lasts_are whole), so_far.2)
+
+-- ---- a round
+
+pub round_refused : (old taken new : Additions) (places lasts after : List ℕ) (result : Result ℕ AllocError) → TakesBetween old places taken lasts → new ≡ taken → after ≡ lasts → OnErr result (TakesBetween old places new after)
+round_refused old taken new places lasts after (Ok count) round same back = tt
+round_refused old taken new places lasts after (Err error) round same back =
+    subst (λ ls. TakesBetween old places new ls) (sym back) (subst (λ (copy : Additions). TakesBetween old places copy lasts) (sym same) round)
+
+pub round_told : (old taken new : Additions) (places lasts after : List ℕ) (all before : ℕ) → TakesBetween old places taken lasts → after ≡ lasts → new ≡ record { published = taken.published ++ taken.pending; pending = [] } → all ≡ length new.published
+    → before ≡ length old.published → (notices : List Notice) × AreCarried 0 places notices after × (all - before ≡ length old.pending + length notices) × (new ≡ record { published = (old.published ++ old.pending) ++ map Take notices; pending = [] })
+round_told old taken new places lasts after all before (notices, carried, takes) back is all_is before_is =
+    let whole : taken.published ++ taken.pending ≡ (old.published ++ old.pending) ++ map Take notices = ap (λ (copy : Additions). copy.published ++ copy.pending) takes ∙ sym (append_assoc old.published old.pending (map Take notices)) in
+    let new_is : new ≡ record { published = (old.published ++ old.pending) ++ map Take notices; pending = [] } = subst (λ published. new ≡ record { published = published; pending = [] }) whole is in
+    let long : length new.published ≡ length ((old.published ++ old.pending) ++ map Take notices) = ap (λ (copy : Additions). length copy.published) new_is in
+    let outer = length-append (old.published ++ old.pending) (map Take notices) in
+    let inner = length-append old.published old.pending in
+    let told : length (map Take notices) ≡ length notices = length-map notices Take in
+    let count : all - before ≡ length old.pending + length notices = omega (arith, all_is, before_is, long, outer, inner, told) in
+    (notices, subst (λ ls. AreCarried 0 places notices ls) (sym back) carried, count, new_is)

@@ -1,7 +1,7 @@
 pub mod Closing
+pub mod Laws
 pub mod LiveFile
 pub mod PlaceLemmas
-pub mod RoundLemmas
 pub mod Rounds
 pub mod Spare
 pub mod Units

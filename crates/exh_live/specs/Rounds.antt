@@ -1,12 +1,14 @@
 -- What the rounds of keepers and couriers come to.
-use Rattle.std.specs.Prelude.{◌≡◌, ⊤, ℕ, ◌+◌, ◌*◌, ◌^◌, ◌≤◌, Bool, true, false, ◌&&◌, nat_eq, leb, if◌then◌else◌, List, [], ◌∷◌, ◌++◌, length, slice_get, sum_by, Some}
+use Rattle.std.specs.Prelude.{◌≡◌, ⊤, ℕ, ◌+◌, ◌*◌, ◌^◌, ◌≤◌, Bool, true, false, ◌&&◌, nat_eq, leb, if◌then◌else◌, List, [], ◌∷◌, ◌++◌, length, slice_get, sum_by, map, Some, Result, OnOk}
 use Rattle.std.specs.FinMap.{entries}
+use Rattle.std.specs.declared.alloc.AllocError.{AllocError}
 use Rattle.exh_prefix.specs.Leading.{ward_of}
 use Rattle.exh_prefix.specs.Prefix.{low_of}
 use Rattle.exh_notice.specs.declared.entry.Entry.{Entry}
 use Rattle.exh_notice.specs.declared.notice.Notice.{Notice}
 use Rattle.exh_table.specs.Table.{TableMap}
-use Rattle.exh_copy.specs.Additions.{Additions, BeginsWith}
+use Rattle.exh_copy.specs.Additions.{Additions}
+use Rattle.exh_copy.specs.declared.addition.Addition.TheVariants.{Take}
 use Rattle.exh_ward.specs.BuddySum.{HasBuddySum}
 use Rattle.exh_ward.specs.MergeStep.{IsMergeStep}
 use Rattle.exh_ward.specs.WardFault.{MergeRefused}
@@ -66,6 +68,28 @@ AreCarried ward (place ∷ places) notices new =
     (first rest : List Notice) × (last : ℕ) × (lasts : List ℕ)
     × (notices ≡ first ++ rest) × (new ≡ last ∷ lasts) × AreFromTo ward place first last × AreCarried (ward + 1) places rest lasts
 
--- nothing was published, and what was pending is
-abbrev pub KeepsPending : Additions → Additions → Type 0
-KeepsPending old new = (new.published ≡ old.published) × BeginsWith new.pending old.pending
+-- a copy took these notices, which are pending, and nothing else of it changed
+abbrev pub TakesAll : Additions → List Notice → Additions → Type 0
+TakesAll old notices new = new ≡ record old { pending = old.pending ++ map Take notices }
+
+-- a copy took such notices of a ward, from a place to another
+abbrev pub TakesFromTo : ℕ → Additions → ℕ → Additions → ℕ → Type 0
+TakesFromTo ward old place new last = (notices : List Notice) × AreFromTo ward place notices last × TakesAll old notices new
+
+-- a courier's places before and after: a copy took such notices of all wards
+abbrev pub TakesBetween : Additions → List ℕ → Additions → List ℕ → Type 0
+TakesBetween old places new lasts = (notices : List Notice) × AreCarried 0 places notices lasts × TakesAll old notices new
+
+-- the notice is of the ward, and its index is the next one
+abbrev pub Follows : ℕ → ℕ → Notice → Type 0
+Follows ward place notice = (notice.ward ≡ ward) × (notice.index ≡ place + 1)
+
+-- the first of the notices, where there is one, doesn't follow
+abbrev pub NoneFollows : ℕ → ℕ → List Notice → Type 0
+NoneFollows ward place [] = ⊤
+NoneFollows ward place (notice ∷ notices) = ¬ Follows ward place notice
+
+-- of a batch of notices a copy took a beginning, from a place to another; all that go on from it, or where memory was refused some
+abbrev pub TakesBatch : ℕ → List Notice → Additions → ℕ → Result (Unit {0}) AllocError → Additions → ℕ → Type 0
+TakesBatch ward batch old place result new last =
+    (taken rest : List Notice) × (batch ≡ taken ++ rest) × AreFromTo ward place taken last × TakesAll old taken new × OnOk result (NoneFollows ward last rest)

@@ -1,7 +1,7 @@
-ghost use Rattle.std.specs.Prelude.{◌≡◌, ◌^◌, [], ◌++◌, length, map, List, IfOk, OnOk, OnErr};
+ghost use Rattle.std.specs.Prelude.{◌≡◌, ◌+◌, ◌^◌, ◌<◌, ◌↔◌, [], ◌++◌, length, map, List, IsTrue, IfOk, OnErr};
 ghost use Rattle.exh_notice.specs.declared.notice.Notice.{Notice as NoticeValue};
 ghost use Rattle.exh_copy.specs.declared.addition.Addition.TheVariants.{Take};
-ghost use Rattle.exh_live.specs.Rounds.{AreCarried, KeepsPending};
+ghost use Rattle.exh_live.specs.Rounds.{AreCarried, Follows, TakesBatch, TakesBetween, TakesFromTo};
 
 use crate::{Cursors, Identity, LiveFile};
 use exh_copy::{CopyWriter, Start};
@@ -11,14 +11,17 @@ use exh_notice::Notice;
 use std::alloc::AllocError;
 use std::sync::Wait;
 
+// So many notices are copied at most in one turn of a ward's lock.
+const TURN_LIMIT: usize = 256;
+
 impl<P: Pages + Drop, K: Keyer, F: Identity> LiveFile<P, K, F> {
     /// One round of a courier to a copy of the directory, from its places, one for each ward of the file:
-    /// it copies the notices after each, ward by ward, with no lock held while the copy takes them,
-    /// publishes all that is pending, and moves its places to the last that it took. Where the first
-    /// notice after a place isn't of that ward with the next index, none of that ward is taken. It
-    /// answers how many it took. Where memory is refused, an `AllocError`, it moves no place and
-    /// publishes nothing, and what it has taken is pending: to take it once more changes nothing. It may
-    /// wait for callers, and for readers of the copy.
+    /// the copy takes the notices after each, ward by ward, as many as the ward has at the first turn of
+    /// its lock, which is left before the copy takes any, and after 256 notices; then all that is pending
+    /// is published. The places move to the last that were taken. Where a notice isn't of that ward with
+    /// the next index, none from it on is taken of that ward. It answers how many additions it published.
+    /// Where memory is refused, an `AllocError`, it publishes nothing, and what it has taken is pending,
+    /// which the next round goes on from. It may wait for callers, and for readers of the copy.
     #[tactic(auto, using(crate::proofs::Rounds::as_many_places))]
     pub fn courier_round<R: Wait, S: Start>(
         &self,
@@ -27,44 +30,80 @@ impl<P: Pages + Drop, K: Keyer, F: Identity> LiveFile<P, K, F> {
         cursors: &mut Cursors,
     ) -> Result<u64, AllocError>
         requires { length cursors.old ≡ 2 ^ self.now.ward_bits }
-        ensures carried { IfOk result (λ count. (notices : List NoticeValue) × AreCarried 0 cursors.old notices cursors.new × (count ≡ length notices) × (copy.new ≡ record { published = copy.old.published ++ copy.old.pending ++ map Take notices; pending = [] })) }
+        ensures carried { IfOk result (λ count. (notices : List NoticeValue) × AreCarried 0 cursors.old notices cursors.new × (count ≡ length copy.old.pending + length notices) × (copy.new ≡ record { published = copy.old.published ++ copy.old.pending ++ map Take notices; pending = [] })) }
         ensures places { length cursors.new ≡ length cursors.old }
-        ensures err { OnErr result ((cursors.new ≡ cursors.old) × KeepsPending copy.old copy.new) }
+        ensures err { OnErr result (TakesBetween copy.old cursors.old copy.new cursors.new) }
     {
-        let (notices, places) = self.notices_after(rt, cursors.places.as_slice())?;
-        take_all(copy, notices.as_slice())?;
+        let published = copy.additions();
+        self.take_all(rt, copy, cursors.places.as_mut_slice())?;
         copy.publish(rt)?;
-        cursors.places = places;
-        Ok(notices.len() as u64)
+        Ok(copy.additions() - published)
     }
 
-    // The notices after a place in each ward, and the places after them.
-    fn notices_after<R: Wait>(
+    // Takes the notices after a place in each ward, and moves the places to the last that were taken.
+    fn take_all<R: Wait, S: Start>(
         &self,
         rt: &R,
-        places: &[u64],
-    ) -> Result<(Vec<Notice>, Vec<u64>), AllocError>
-        requires { length places.now ≡ 2 ^ self.now.ward_bits }
-        ensures { IfOk result (λ found. AreCarried 0 places.now found.0.items found.1.items) }
+        copy: &mut CopyWriter<S>,
+        places: &mut [u64],
+    ) -> Result<(), AllocError>
+        requires { length places.old ≡ 2 ^ self.now.ward_bits }
+        ensures { TakesBetween copy.old places.old copy.new places.new }
     {
-        let mut notices = Vec::new(self.alloc);
-        let mut lasts = Vec::new(self.alloc);
         for number in 0..1u8 << self.ward_bits {
-            let place = places[usize::from(number)];
-            let ward = &self.wards[usize::from(number)];
-            lasts.push(ward.lock(rt).push_notices(number, place, &mut notices)?)?;
+            self.take_ward(rt, copy, number, &mut places[usize::from(number)])?;
         }
-        Ok((notices, lasts))
+        Ok(())
+    }
+
+    // Takes the notices of one ward after a place, and moves it.
+    fn take_ward<R: Wait, S: Start>(
+        &self,
+        rt: &R,
+        copy: &mut CopyWriter<S>,
+        number: u8,
+        place: &mut u64,
+    ) -> Result<(), AllocError>
+        requires { number < 2 ^ self.now.ward_bits }
+        ensures { TakesFromTo number copy.old place.old copy.new place.new }
+    {
+        let ward = &self.wards[usize::from(number)];
+        let mut batch = Vec::new(self.alloc);
+        let mut left = ward.lock(rt).count_above(*place);
+        while 0 < left {
+            let most = if left < TURN_LIMIT { left } else { TURN_LIMIT };
+            batch.clear();
+            ward.lock(rt).hand_out(*place, most, &mut batch)?;
+            take_next(copy, number, place, batch.as_slice())?;
+            left -= most;
+        }
+        Ok(())
     }
 }
 
-// Takes notices in order, none of which is published.
-fn take_all<S: Start>(copy: &mut CopyWriter<S>, notices: &[Notice]) -> Result<(), AllocError>
-    ensures ok { OnOk result (copy.new ≡ record copy.old { pending = copy.old.pending ++ map Take notices.now }) }
-    ensures err { OnErr result (KeepsPending copy.old copy.new) }
+// Takes notices of the ward of this number in order, as long as each has the index after the place, which
+// moves to the last that was taken. None is published.
+fn take_next<S: Start>(
+    copy: &mut CopyWriter<S>,
+    number: u8,
+    place: &mut u64,
+    notices: &[Notice],
+) -> Result<(), AllocError>
+    ensures { TakesBatch number notices.now copy.old place.old result copy.new place.new }
 {
     for notice in notices {
+        if !is_next(notice, number, *place) {
+            break;
+        }
         copy.take(notice)?;
+        *place = notice.index;
     }
     Ok(())
+}
+
+// Whether a notice is of the ward of this number, with the index after a place.
+fn is_next(notice: &Notice, ward: u8, place: u64) -> bool
+    ensures { IsTrue result ↔ Follows ward place notice.now }
+{
+    notice.ward == ward && notice.index > place && notice.index - place == 1
 }

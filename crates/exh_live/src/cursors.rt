@@ -1,5 +1,4 @@
-ghost use Rattle.std.specs.Prelude.{◌≡◌, ◌^◌, ◌<◌, ◌≤◌, length, IfOk};
-ghost use Rattle.std.specs.FinMap as map;
+ghost use Rattle.std.specs.Prelude.{◌≡◌, ◌≤◌, IfOk};
 ghost use Rattle.exh_prefix.specs.declared.prefix.TheConstants.{WARD_BITS_LIMIT};
 ghost use Rattle.exh_live.specs.Rounds.{AreFirstPlaces, changes_told, is_of_ward};
 
@@ -25,34 +24,33 @@ impl Model for Cursors {
 
 impl Cursors {
     /// The places of a courier to a copy that begins with this table, in a file that is cut into
-    /// 2^`ward_bits` wards: of each ward how many changes of its pages the table tells of. The table has
-    /// fewer than 2^32 entries. An `AllocError` where memory is refused.
+    /// 2^`ward_bits` wards: of each ward how many changes of its pages the table tells of. An `AllocError`
+    /// where memory is refused, or for 2^64 changes.
     pub fn new(alloc: Global, ward_bits: u8, table: &Table) -> Result<Cursors, AllocError>
-        requires bits { ward_bits ≤ WARD_BITS_LIMIT }
-        requires few { length (map.entries table.now) < 2 ^ 32 }
+        requires { ward_bits ≤ WARD_BITS_LIMIT }
         ensures { IfOk result (AreFirstPlaces ward_bits table.now) }
     {
         let mut places = Vec::new(alloc);
         for number in 0..1 << ward_bits {
-            places.push(changes_of(table, ward_bits, number))?;
+            places.push(changes_of(table, ward_bits, number)?)?;
         }
         Ok(Cursors { places })
     }
 }
 
-// How many changes of a ward's pages a table tells of.
-fn changes_of(table: &Table, ward_bits: u8, number: u8) -> u64
-    requires bits { ward_bits ≤ WARD_BITS_LIMIT }
-    requires few { length (map.entries table.now) < 2 ^ 32 }
-    ensures { result ≡ changes_told ward_bits table.now number }
+// How many changes of a ward's pages a table tells of. That they are too many for 64 bits counts as a refusal
+// of memory: as many prefixes as there are don't tell of so many.
+fn changes_of(table: &Table, ward_bits: u8, number: u8) -> Result<u64, AllocError>
+    requires { ward_bits ≤ WARD_BITS_LIMIT }
+    ensures { IfOk result (λ told. told ≡ changes_told ward_bits table.now number) }
 {
-    let mut told = 0;
+    let mut told: u64 = 0;
     for (prefix, entry) in table.entries() {
         if is_of(*prefix, ward_bits, number) {
-            told += u64::from(entry.number);
+            told = told.checked_add(u64::from(entry.number)).ok_or(AllocError)?;
         }
     }
-    told
+    Ok(told)
 }
 
 // Whether a prefix begins with that of the ward of this number.

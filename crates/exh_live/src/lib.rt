@@ -5,6 +5,7 @@
 pub use close::{CloseFault, Closed, NotClosed};
 pub use cursors::Cursors;
 pub use identity::Identity;
+pub use laws::places_go_on_with_wards;
 pub use ledgers::{ANSWER_PARTS, Answers, ENTRY_PARTS, Entries, LedgerNames};
 pub use live_file::LiveFile;
 pub use lock::lock_soon;
@@ -18,6 +19,7 @@ mod courier;
 mod cursors;
 mod identity;
 mod keeper;
+mod laws;
 mod ledgers;
 mod live_file;
 mod lock;

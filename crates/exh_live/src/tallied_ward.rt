@@ -1,14 +1,13 @@
-ghost use Rattle.std.specs.Prelude.{◌≡◌, ◌+◌, ◌<◌, [], ◌++◌, true, false, length, List, IfOk, IfErr, OnErr};
+ghost use Rattle.std.specs.Prelude.{◌≡◌, ◌+◌, ◌<◌, [], ◌++◌, true, false, length, take, IfOk, IfErr, OnOk, OnErr};
 ghost use Rattle.exh_prefix.specs.Prefix.{Begins};
 ghost use Rattle.exh_calls.specs.Call.{key_of};
 ghost use Rattle.exh_ward.specs.HopTable.{HopOf};
 ghost use Rattle.exh_ward.specs.SplitStep.{IsSplitStep};
-ghost use Rattle.exh_ward.specs.WardFault.{IsStoreFault, SplitRefused};
-ghost use Rattle.exh_ward.specs.WardState.{IsUnchanged, LeavesAfter, own_prefix};
+ghost use Rattle.exh_ward.specs.WardFault.{CountsFailures, IsStoreFault, SplitRefused};
+ghost use Rattle.exh_ward.specs.WardState.{IsUnchanged, LeavesAfter, notices_above, own_prefix};
 ghost use Rattle.exh_route.specs.WardRun.{HopAt, answer_of};
-ghost use Rattle.exh_notice.specs.declared.notice.Notice.{Notice as NoticeValue};
 ghost use Rattle.exh_ward.specs.declared.ward_fault.WardFault.TheVariants.{Worn};
-ghost use Rattle.exh_live.specs.Rounds.{AreFromTo, IsKeeperTurn, MayRefuseKeeper};
+ghost use Rattle.exh_live.specs.Rounds.{IsKeeperTurn, MayRefuseKeeper};
 
 use crate::Identity;
 use crate::ledgers::{Answers, Entries};
@@ -88,6 +87,7 @@ impl<P: Pages + Drop, K: Keyer, F: Identity> TalliedWard<P, K, F> {
         ensures leaves { IfOk result (λ hop. LeavesAfter K.pseudokey_of self.old.ward at client call.now hop self.new.ward) }
         ensures err { OnErr result (IsUnchanged self.old.ward self.new.ward) }
         ensures fault { IfErr result IsStoreFault }
+        ensures failures { CountsFailures result self.old.ward.failures self.new.ward.failures }
         ensures units { answers.new.amount ≡ answers.old.amount + length (answer_of (HopAt at client call.now result)) }
         ensures seat { answers.new.parts ≡ answers.old.parts }
     {
@@ -104,6 +104,7 @@ impl<P: Pages + Drop, K: Keyer, F: Identity> TalliedWard<P, K, F> {
         ensures ok { IfOk result (λ notice. IsSplitStep self.old.ward page notice self.new.ward) }
         ensures refused { IfErr result (SplitRefused self.old.ward.cap self.old.ward.pages page) }
         ensures err { OnErr result (IsUnchanged self.old.ward self.new.ward) }
+        ensures failures { CountsFailures result self.old.ward.failures self.new.ward.failures }
     {
         self.ward.split(page)
     }
@@ -122,6 +123,7 @@ impl<P: Pages + Drop, K: Keyer, F: Identity> TalliedWard<P, K, F> {
         ensures kept { IfOk result (λ merged. IsKeeperTurn self.old.ward page merged self.new.ward) }
         ensures err { OnErr result (IsUnchanged self.old.ward self.new.ward) }
         ensures fault { IfErr result IsStoreFault }
+        ensures failures { CountsFailures result self.old.ward.failures self.new.ward.failures }
     {
         let Some(sum) = self.ward.buddy_sum(page)? else {
             return Ok(false);
@@ -135,26 +137,31 @@ impl<P: Pages + Drop, K: Keyer, F: Identity> TalliedWard<P, K, F> {
         }
     }
 
-    /// Pushes the notices after a place in the ward of this number, as long as each has the next index,
-    /// and answers the last one's index, or the place where there is none. Some may have been pushed
-    /// where memory is refused, an `AllocError`.
-    pub(crate) fn push_notices(
-        &self,
-        ward: u8,
-        place: u64,
-        notices: &mut Vec<Notice>,
-    ) -> Result<u64, AllocError>
-        ensures { IfOk result (λ last. (more : List NoticeValue) × (notices.new.items ≡ notices.old.items ++ more) × AreFromTo ward place more last) }
+    /// How many notices the ward has above a place.
+    pub(crate) fn count_above(&self, place: u64) -> usize
+        ensures { result ≡ length (notices_above place self.now.ward.notices) }
     {
-        let mut last = place;
-        for notice in self.ward.notices_after(place) {
-            if !is_next(notice, ward, last) {
-                break;
-            }
-            notices.push(*notice)?;
-            last = notice.index;
-        }
-        Ok(last)
+        self.ward.notices_after(place).len()
+    }
+
+    /// Pushes the first of the ward's notices above a place, in order: so many, or all where there are
+    /// fewer. Where memory is refused, an `AllocError`, none is pushed.
+    pub(crate) fn hand_out(
+        &self,
+        place: u64,
+        most: usize,
+        notices: &mut Vec<Notice>,
+    ) -> Result<(), AllocError>
+        ensures ok { OnOk result (notices.new.items ≡ notices.old.items ++ take most (notices_above place self.now.ward.notices)) }
+        ensures err { OnErr result (notices.new.items ≡ notices.old.items) }
+    {
+        let above = self.ward.notices_after(place);
+        let count = if above.len() < most {
+            above.len()
+        } else {
+            most
+        };
+        notices.extend_from_slice(&above[..count])
     }
 }
 
@@ -170,11 +177,4 @@ fn passed_over(fault: WardFault) -> Result<bool, WardFault>
         WardFault::Memory | WardFault::Page => Err(fault),
         _ => unreachable!(),
     }
-}
-
-// Whether a notice is of the ward of this number, with the index after a place.
-fn is_next(notice: &Notice, ward: u8, place: u64) -> bool
-    ensures { result ≡ true → (notice.now.ward ≡ ward) × (notice.now.index ≡ place + 1) }
-{
-    notice.ward == ward && notice.index > place && notice.index - place == 1
 }

@@ -1,0 +1,10 @@
+use Rattle.exh_live.specs.Rounds.{TakesFromTo}
+use Rattle.exh_live.proofs.live_file.LiveFile.take_ward.Given as goal
+
+-- what was taken so far
+abbrev pub invariant-loop-left : goal.invariant-loop-left
+invariant-loop-left g l = TakesFromTo l.number l.fn.copy l.fn.place l.copy l.place
+
+-- how many notices may be left
+abbrev pub decreases-loop-left : goal.decreases-loop-left
+decreases-loop-left g l = l.left
