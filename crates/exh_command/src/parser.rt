@@ -118,7 +118,8 @@ These stand alone or come last, and the run ends: 60 or 61 for the `file` line,
 63 where it isn't the opened file's, 62 for a script that is too long, 41 where
 reading fails, 10 where memory ends. A file that isn't opened is told of as by
 `exhash check`, and the script isn't read. Where the run is done its pages are
-saved, and what was there stays until they are; nothing is printed of that.
+saved, over an empty file or a page file; what was there stays until they are,
+and where it isn't the opened file any more. Standard error says why it stays.
 
 Example, with what its lines print:
   file cap=1 wards=0 copies=1 keyer=plain
@@ -193,11 +194,11 @@ many records the file has:
   refused 61   its key or value is out of range
   full KEY     there is no room for it, whatever is split
   loaded 2
-A later value of a key replaces the earlier. The file that was there stays as it
-was until the new one is whole. These stand alone or come last, and nothing is
-saved: 60 or 61 for the `file` line, 62 for more than 1048576 bytes, 41 where
-reading fails, 10 where memory ends. Where the path can't be written, nothing
-more is printed.
+A later value of a key replaces the earlier. An empty file or a page file there
+is replaced once the new one is whole; any other stays, and nothing is saved.
+These stand alone or come last, and nothing is saved: 60 or 61 for the `file`
+line, 62 for more than 1048576 bytes, 41 where reading fails, 10 where memory
+ends. Why a path can't be saved to is said on standard error.
 
 Exit status: 0 where the file is saved, also with refused lines; 1 where it
 isn't; 2 where the command line is wrong, or asks for help.

@@ -1,10 +1,10 @@
 //! The page file of a path: wards are saved there so that the file that was there is never lost.
 #![tactic(auto)]
 
-pub use place::save_at;
+pub use exh_disk::{DiskFault, Seen};
+pub use place::{look_at, save_at, seen_at};
 pub use writing::write_opened;
 
-mod beside;
 mod place;
-mod system_fault;
+mod wards;
 mod writing;

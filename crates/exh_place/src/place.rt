@@ -1,69 +1,50 @@
-use crate::beside::{is_same, save_beside};
-use crate::system_fault::fault_of;
-use crate::write_opened;
+use crate::wards::Wards;
+use exh_disk::{DiskFault, Seen, SystemDisk, Target, found_of, look, save};
 use exh_frames::Pages;
 use exh_open::Opened;
-use exh_page_file::FileWriter;
-use exh_progress::{Meter, MeteredWriter, Terminal};
-use exh_save::SaveFault;
-use std::fs;
-use std::fs::{File, OpenOptions};
-use std::io::ErrorKind;
+use exh_progress::{Meter, Terminal};
+use std::fs::File;
+use std::io;
 
-/// Saves wards as the page file of a path. A regular file is written beside its place under a name of its own, which
-/// is the path of the file that a link leads to with `.exhash-saving` behind it, synchronized, and renamed over it with
-/// the old one's permissions and, where the system allows it, its owner; what a killed save left there is taken over.
-/// On an `Err` the file that was there is as before, and nothing is left beside it. What is no regular file is written
-/// as it stands. The meter counts what is written.
+// The bytes that a page file begins with: only such a file is replaced, or an empty one.
+const MAGIC: [u8; 8] = *b"EXHASHPF";
+
+/// What a file is that was opened at a path, so that a save sees whether it is still the same.
 ///
-/// `Write`: the path can't be opened for writing, another save to it goes on, or a write, the synchronizing or the
-/// renaming failed. `Memory`: a growth was refused. `Page`: a page couldn't be reached.
+/// An error: the system doesn't say what it is, or where.
+pub fn seen_at(rt: &HostRuntime, path: &str, opened: &File) -> io::Result<Seen> {
+    let found = found_of(&opened.metadata()?);
+    Seen::new(rt.alloc(), &mut SystemDisk::new(rt), path, found)
+}
+
+/// Whether wards can be saved at a path, as far as asking tells; `seen` is the file that was opened, where one was.
+///
+/// On an `Err` a save there would fail so, if nothing changes until then.
+pub fn look_at(rt: &HostRuntime, path: &str, seen: Option<&Seen>) -> Result<(), DiskFault> {
+    look(rt.alloc(), &mut SystemDisk::new(rt), &target_at(path, seen))
+}
+
+/// Saves wards as the page file of a path, as `exh_disk` saves. The meter counts what is written, and `seen` is the file
+/// that was opened, where one was. The answer is why the folder couldn't be synchronized, where it couldn't.
+///
+/// On an `Err` a regular file that was there is as before, and nothing is left beside it.
 pub fn save_at<P: Pages + Drop, T: Terminal>(
     rt: &HostRuntime,
     path: &str,
+    seen: Option<&Seen>,
     opened: Opened<P>,
     meter: &Meter<T>,
-) -> Result<(), SaveFault> {
-    match OpenOptions::new().write(true).open(rt, path) {
-        Ok(file) => save_over(rt, path, file, opened, meter),
-        Err(error) if error.kind() == ErrorKind::NotFound => save_new(rt, path, opened, meter),
-        Err(error) => Err(fault_of(&error)),
-    }
+) -> Result<Option<io::Error>, DiskFault> {
+    let wards = Wards { opened, meter };
+    let target = target_at(path, seen);
+    let saved = save(rt.alloc(), &mut SystemDisk::new(rt), &target, wards)?;
+    Ok(saved.folder)
 }
 
-// Saves where there is a file, which is open.
-fn save_over<P: Pages + Drop, T: Terminal>(
-    rt: &HostRuntime,
-    path: &str,
-    mut file: File,
-    opened: Opened<P>,
-    meter: &Meter<T>,
-) -> Result<(), SaveFault> {
-    let found = file.metadata().map_err(|error| fault_of(&error))?;
-    if !found.is_file() {
-        let mut counted = MeteredWriter::new(&mut file, meter);
-        return write_opened(opened, &mut FileWriter::new(&mut counted));
+fn target_at<'t>(path: &'t str, seen: Option<&'t Seen>) -> Target<'t> {
+    Target {
+        path,
+        magic: MAGIC,
+        seen,
     }
-    let place = fs::canonicalize(rt, path)
-        .map_err(|error| fault_of(&error))?
-        .into_string();
-    let there = fs::symlink_metadata(rt, &place).map_err(|error| fault_of(&error))?;
-    // What was opened may have no name any more, or another file's.
-    if !is_same(&found, &there) {
-        return Err(SaveFault::Write);
-    }
-    save_beside(rt, &place, Some(found), opened, meter)
-}
-
-// Saves where there is no file. A link that leads to none is a fault, since it would be replaced.
-fn save_new<P: Pages + Drop, T: Terminal>(
-    rt: &HostRuntime,
-    path: &str,
-    opened: Opened<P>,
-    meter: &Meter<T>,
-) -> Result<(), SaveFault> {
-    if fs::symlink_metadata(rt, path).is_ok() {
-        return Err(SaveFault::Write);
-    }
-    save_beside(rt, path, None, opened, meter)
 }

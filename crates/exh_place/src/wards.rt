@@ -1,0 +1,27 @@
+use crate::write_opened;
+use exh_disk::{Source, SourceFault};
+use exh_frames::Pages;
+use exh_open::Opened;
+use exh_page_file::FileWriter;
+use exh_progress::{Meter, MeteredWriter, Terminal};
+use exh_save::SaveFault;
+use std::io::Write;
+
+/// Wards that are to be saved as a page file. A meter counts what is written.
+#[derive(Drop)]
+pub(crate) struct Wards<'m, P: Pages + Drop, T: Terminal> {
+    pub(crate) opened: Opened<P>,
+    pub(crate) meter: &'m Meter<T>,
+}
+
+impl<P: Pages + Drop, T: Terminal> Source for Wards<'_, P, T> {
+    fn write_to<W: Write>(self, writer: &mut W) -> Result<(), SourceFault> {
+        let mut counted = MeteredWriter::new(writer, self.meter);
+        match write_opened(self.opened, &mut FileWriter::new(&mut counted)) {
+            Ok(()) => Ok(()),
+            Err(SaveFault::Write) => Err(SourceFault::Writer),
+            Err(SaveFault::Memory) => Err(SourceFault::Memory),
+            Err(SaveFault::Page) => Err(SourceFault::Source),
+        }
+    }
+}
