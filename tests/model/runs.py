@@ -5,6 +5,7 @@ import subprocess
 import tempfile
 from pathlib import Path
 
+from .notes import notes_of
 from .page_file import BLOCK
 
 SECONDS = 60
@@ -25,6 +26,7 @@ def difference_in(program, story):
 
 def difference_in_run(program, run, folder):
     """In what a run differs from what it must come to."""
+    error = notes_of(run.words, run.given, {file.name: file.read_bytes() for file in folder.iterdir()})
     how = {"cwd": folder, "env": ENVIRONMENT, "input": run.given, "capture_output": True, "timeout": SECONDS}
     try:
         ended = subprocess.run([program, *run.words], check=False, **how)
@@ -33,8 +35,8 @@ def difference_in_run(program, run, folder):
     found = difference_in_text(run, ended.stdout.decode("latin-1"))
     if not found and ended.returncode != run.status:
         found = [f"status: wanted {run.status}, got {ended.returncode}"]
-    if not found and ended.stderr:
-        found = [f"standard error: wanted nothing, got {ended.stderr.decode('latin-1')!r}"]
+    if not found and ended.stderr != error:
+        found = [f"standard error: wanted {error.decode('latin-1')!r}, got {ended.stderr.decode('latin-1')!r}"]
     return found or difference_in_files(run.files, folder)
 
 

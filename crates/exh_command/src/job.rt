@@ -107,7 +107,7 @@ fn storm_job<'w>(alloc: Global, own: &ArgMatches<'w>) -> Result<Job<'w>, CliFaul
 {
     match storm_in(own) {
         Some(config) => Ok(Job::Storm { config }),
-        None => Err(CliFault::Wrong(out_of_range(alloc)?)),
+        None => Err(CliFault::Wrong(out_of_range(alloc, wrong_number(own))?)),
     }
 }
 
@@ -123,6 +123,23 @@ fn storm_in(own: &ArgMatches<'_>) -> Option<StormConfig>
         ward_bits: number_in(own, WARDS, 0, 0, u32::from(WARD_BITS_LIMIT))? as u8,
         copies: number_in(own, COPIES, 2, 1, u32::from(COPIES_LIMIT))? as u8,
     })
+}
+
+// What the first number of `storm` that is none, or out of its range, must be.
+fn wrong_number(own: &ArgMatches<'_>) -> &'static str {
+    if number_in(own, CALLERS, 2, 1, u32::from(CALLERS_LIMIT)).is_none() {
+        return "`storm --callers` takes a number from 1 to 16";
+    }
+    if number_in(own, CALLS, 100, 1, CALLS_LIMIT).is_none() {
+        return "`storm --calls` takes a number from 1 to 10000";
+    }
+    if number_in(own, CAP, 2, 1, CAP_LIMIT as u32).is_none() {
+        return "`storm --cap` takes a number from 1 to 16";
+    }
+    if number_in(own, WARDS, 0, 0, u32::from(WARD_BITS_LIMIT)).is_none() {
+        return "`storm --wards` takes a number from 0 to 4";
+    }
+    "`storm --copies` takes a number from 1 to 8"
 }
 
 // The number that an option was given, from the least to the greatest; the usual one where it was given none.

@@ -394,16 +394,11 @@ fn option<'a>(alloc: Global, name: &'a str, value: &'a str, help: &'a str) -> Ar
         .help(help)
 }
 
-/// The error of a number of `storm` that is none, or out of its range.
-pub(crate) fn out_of_range(alloc: Global) -> Result<Error, AllocError>
+/// The error of a number of `storm` that is none, or out of its range, as these words say.
+pub(crate) fn out_of_range(alloc: Global, words: &str) -> Result<Error, AllocError>
     ensures { IfOk result (λ error. kind_of error ≡ ErrorKind.ValueValidation) }
 {
-    error_of(
-        alloc,
-        ErrorKind::ValueValidation,
-        "a number of `storm` is none, or out of its range: callers 1 to 16, calls
-1 to 10000, cap 1 to 16, wards 0 to 4, copies 1 to 8",
-    )
+    error_of(alloc, ErrorKind::ValueValidation, words)
 }
 
 /// The error of a command line with a word that is not UTF-8.

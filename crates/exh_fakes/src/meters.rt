@@ -12,13 +12,13 @@ const BLOCK: [u8; 4096] = [7; 4096];
 const SHOWN: [(u64, &[u8]); 8] = [
     (1000, b""),
     (1999, b""),
-    (2000, b"\rexhash: 3 of 12,345 blocks read\x1b[K"),
+    (2000, b"\r\x1b[?7lexhash: 3 of 12,345 blocks read\x1b[K\x1b[?7h"),
     (2001, b""),
     (2249, b""),
-    (2250, b"\rexhash: 6 of 12,345 blocks read\x1b[K"),
+    (2250, b"\r\x1b[?7lexhash: 6 of 12,345 blocks read\x1b[K\x1b[?7h"),
     // The steps before were fast, so one isn't looked at.
     (8999, b""),
-    (9000, b"\rexhash: 8 of 12,345 blocks read\x1b[K"),
+    (9000, b"\r\x1b[?7lexhash: 8 of 12,345 blocks read\x1b[K\x1b[?7h"),
 ];
 
 const BLOCKS: Work = Work {
@@ -85,7 +85,7 @@ fn reads_what_is_there_and_takes_the_line_away(rt: HostRuntime) -> Result<(), Fa
     let screen = Screen::new(rt.alloc());
     let read = read_late(rt.alloc(), &screen, b"f\na\n")?;
     assert!(rt; read.as_slice() == b"f\na\n".as_slice());
-    assert!(rt; screen.has_shown(b"\rexhash: 0 pairs read\x1b[K\r\x1b[K"));
+    assert!(rt; screen.has_shown(b"\r\x1b[?7lexhash: 0 pairs read\x1b[K\x1b[?7h\r\x1b[K"));
     Ok(())
 }
 
@@ -99,7 +99,7 @@ fn writes_what_it_gets(rt: HostRuntime) -> Result<(), Fail> {
     let meter = Meter::new(Some(&screen), written);
     screen.now.set(Some(3000));
     MeteredWriter::new(&screen, &meter).write_all(b"x")?;
-    assert!(rt; screen.has_shown(b"x\rexhash: 0 blocks written\x1b[K"));
+    assert!(rt; screen.has_shown(b"x\r\x1b[?7lexhash: 0 blocks written\x1b[K\x1b[?7h"));
     let mut clearing = ClearingWriter::new(&screen, &meter);
     clearing.write_all(b"a\n")?;
     clearing.write_all(b"b\n")?;

@@ -44,10 +44,17 @@ abbrev pub of_text : Option ℕ → List ℕ
 of_text None = []
 of_text (Some of) = codes " of " ++ number_text of
 
--- the line of work of which so much is done, from the left edge on, with nothing behind it
+-- from the left edge on, with what finds no room in the line cut off; and nothing behind it
+abbrev pub begun_text : List ℕ
+begun_text = codes "\r\u{1b}[?7lexhash: "
+
+abbrev pub ended_text : List ℕ
+ended_text = codes "\u{1b}[K\u{1b}[?7h"
+
+-- the line of work of which so much is done
 abbrev pub line_text : Work → ℕ → List ℕ
-line_text work amount = codes "\rexhash: " ++ number_text (count_of work.unit amount) ++ of_text work.of ++ unit_words work.unit ++ codes "\u{1b}[K"
+line_text work amount = begun_text ++ number_text (count_of work.unit amount) ++ of_text work.of ++ unit_words work.unit ++ ended_text
 
 -- the line of a storm that is so far
 abbrev pub storm_text : StormCounts → List ℕ
-storm_text counts = codes "\rexhash: " ++ number_text counts.calls ++ codes " calls answered, " ++ number_text counts.merges ++ codes " merges, " ++ number_text counts.notices ++ codes " notices carried\u{1b}[K"
+storm_text counts = begun_text ++ number_text counts.calls ++ codes " calls answered, " ++ number_text counts.merges ++ codes " merges, " ++ number_text counts.notices ++ (codes " notices carried" ++ ended_text)

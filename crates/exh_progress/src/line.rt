@@ -1,4 +1,5 @@
-//! The text of a line.
+//! The text of a line. What finds no room in a narrow terminal is cut there, and doesn't begin another line, which
+//! nothing would take away.
 ghost use Rattle.std.specs.Prelude.{◌≡◌, ◌+◌, ◌*◌, ◌≤◌, ◌++◌, [], length, decimal, codes};
 ghost use Rattle.exh_progress.specs.Line.{digit_text, has_comma, in_threes, line_text, number_text, of_text, storm_text};
 
@@ -23,14 +24,14 @@ pub(crate) fn line(work: Work, amount: u64) -> Line
     ensures { result.items ≡ line_text work amount }
 {
     let mut line = ArrayVec::new();
-    put(&mut line, b"\rexhash: ");
+    put(&mut line, b"\r\x1b[?7lexhash: ");
     put_number(&mut line, work.unit.count(amount));
     if let Some(of) = work.of {
         put(&mut line, b" of ");
         put_number(&mut line, of);
     }
     put(&mut line, work.unit.words());
-    put(&mut line, b"\x1b[K");
+    put(&mut line, b"\x1b[K\x1b[?7h");
     line
 }
 
@@ -39,13 +40,13 @@ pub(crate) fn storm_line(counts: StormCounts) -> Line
     ensures { result.items ≡ storm_text counts }
 {
     let mut line = ArrayVec::new();
-    put(&mut line, b"\rexhash: ");
+    put(&mut line, b"\r\x1b[?7lexhash: ");
     put_number(&mut line, counts.calls);
     put(&mut line, b" calls answered, ");
     put_number(&mut line, counts.merges);
     put(&mut line, b" merges, ");
     put_number(&mut line, counts.notices);
-    put(&mut line, b" notices carried\x1b[K");
+    put(&mut line, b" notices carried\x1b[K\x1b[?7h");
     line
 }
 
