@@ -1,10 +1,9 @@
 //! How far reading and saving are, as a terminal is told.
 
 use exh_progress::{BLOCK_LEN, Console, Meter, Unit, Work};
-use std::env;
 use std::fs::File;
-use std::io;
 use std::io::{IsTerminal, Stderr};
+use std::{env, io};
 
 /// The terminal that is told how far work is: standard error, where it is one that knows how a line is taken away.
 pub fn console(rt: &HostRuntime) -> Option<Console<'_, HostRuntime, Stderr>> {

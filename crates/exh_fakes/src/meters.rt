@@ -12,13 +12,22 @@ const BLOCK: [u8; 4096] = [7; 4096];
 const SHOWN: [(u64, &[u8]); 8] = [
     (1000, b""),
     (1999, b""),
-    (2000, b"\r\x1b[?7lexhash: 3 of 12,345 blocks read\x1b[K\x1b[?7h"),
+    (
+        2000,
+        b"\r\x1b[?7lexhash: 3 of 12,345 blocks read\x1b[K\x1b[?7h",
+    ),
     (2001, b""),
     (2249, b""),
-    (2250, b"\r\x1b[?7lexhash: 6 of 12,345 blocks read\x1b[K\x1b[?7h"),
+    (
+        2250,
+        b"\r\x1b[?7lexhash: 6 of 12,345 blocks read\x1b[K\x1b[?7h",
+    ),
     // The steps before were fast, so one isn't looked at.
     (8999, b""),
-    (9000, b"\r\x1b[?7lexhash: 8 of 12,345 blocks read\x1b[K\x1b[?7h"),
+    (
+        9000,
+        b"\r\x1b[?7lexhash: 8 of 12,345 blocks read\x1b[K\x1b[?7h",
+    ),
 ];
 
 const BLOCKS: Work = Work {

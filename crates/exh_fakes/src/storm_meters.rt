@@ -25,7 +25,8 @@ fn tells_of_a_storm(rt: HostRuntime) {
     assert!(rt; screen.has_shown(b""));
     screen.now.set(Some(2250));
     meter.carried(234_567);
-    let second = b"\r\x1b[?7lexhash: 1 calls answered, 33 merges, 1,234,567 notices carried\x1b[K\x1b[?7h";
+    let second =
+        b"\r\x1b[?7lexhash: 1 calls answered, 33 merges, 1,234,567 notices carried\x1b[K\x1b[?7h";
     assert!(rt; screen.has_shown(second));
     meter.clear();
     assert!(rt; screen.has_shown(b"\r\x1b[K"));

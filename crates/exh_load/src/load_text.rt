@@ -43,8 +43,8 @@ pub fn load_lines<W: Write, L: Listener>(
     'lines: for line in lines {
         text.clear();
         let more = push_line(&mut text, loader, line)?;
-        listener.answered(whole, line, &text);
         output.push(&text)?;
+        listener.answered(whole, line, &text);
         records = records.saturating_add(more);
     }
     Ok(records)

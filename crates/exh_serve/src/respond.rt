@@ -135,8 +135,8 @@ fn answer_lines<P: Pages + Drop, W: Write, L: Listener>(
     for line in lines {
         text.clear();
         push_response(&mut text, run, line)?;
-        listener.answered(script, line, &text);
         output.push(&text)?;
+        listener.answered(script, line, &text);
     }
     Ok(())
 }
