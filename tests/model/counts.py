@@ -3,7 +3,7 @@
 from .grammar import FORMS
 
 LEAST = 100
-CALLS = ("get", "put", "del")
+CALLS = ("get", "put", "del", "swap")
 # The lines of a script, the first word and of a `begin` its call.
 LINES = ("file", "file with moves=yes", *(f"begin {call}" for call in CALLS), *FORMS)
 # The numbers with which each line is refused, but for 60, with which all are.
@@ -20,7 +20,10 @@ REFUSALS = {
     "page": (1, 24),
 }
 REPLIES = ("get answered is", "get answered none", "put answered new", "put answered was", "put answered full")
-OUTCOMES = (*REPLIES, "del answered was", "del answered none", "hop moved", "hop split")
+SWAPS = tuple(f"swap answered {reply}" for reply in ("swapped", "differs", "none"))
+PLACES_OF_SWAPS = tuple(f"{swap} {place}" for swap in SWAPS for place in ("at a full page", "through a late copy"))
+ANSWERS = (*REPLIES, "del answered was", "del answered none", *SWAPS, *PLACES_OF_SWAPS)
+OUTCOMES = (*ANSWERS, "hop moved", "hop split")
 PLACES = ("page live", "page forward", "several requests in flight", "longest prefix", "revived page")
 ARRAYS = ("doubled array", "halved array", "array doubled eight times at once", "array halved eight times at once")
 COPIES = (*ARRAYS, "late notice", "late table")

@@ -17,7 +17,7 @@ COPIES = (1, 2, 2, 3, 3, 4, 8)
 KEYERS = ("plain", "plain", "plain", "sha")
 # Right lines of each kind.
 RIGHT_LINES = (
-    ("begin r1 c1 1 get a", "begin r1 c1 1 del a", "begin r1 c1 1 put a b"),
+    ("begin r1 c1 1 get a", "begin r1 c1 1 del a", "begin r1 c1 1 put a b", "begin r1 c1 1 swap a b a"),
     ("hop r1",),
     ("split 0 0",),
     ("merge 0 0",),
@@ -91,6 +91,12 @@ def value_by(dice):
     return dice.choice(rare) if dice.random() < 0.2 else b"%d" % dice.randrange(100)
 
 
+def other_than(dice, value):
+    """A value that a careless reader may take for this one: its front, more than it, or it with another last byte."""
+    near = [value[:-1], value + b"x", value[:-1] + b"y", value_by(dice)]
+    return dice.choice([it for it in near if it != value and len(it) <= VALUE_LIMIT])
+
+
 def spelled(dice, content):
     """A key or a value as one of its words."""
     return hexadecimal(content) if dice.random() < 0.3 else printed(content)
@@ -158,7 +164,7 @@ def line_outside(dice, taste):
 
 def line_out_of_range(dice):
     """A line in the grammar with a name, a client, a key or a value out of range."""
-    call = dice.choice(("get a", "del a", "put a b"))
+    call = dice.choice(("get a", "del a", "put a b", "swap a b a"))
     long_key, long_value = "#" + "00" * (KEY_LIMIT + 1), "v" * (VALUE_LIMIT + 1)
     lines = (
         f"begin r0 c1 1 {call}",
@@ -166,5 +172,7 @@ def line_out_of_range(dice):
         f"begin r1 c1 0 get {dice.choice(('#', long_key))}",
         f"begin r1 c1 9 put a {long_value}",
         f"begin r1 c1 1 put {dice.choice(('#', long_key))} {dice.choice(('b', long_value))}",
+        f"begin r1 c1 1 swap {dice.choice(('#', long_key))} {dice.choice(('b', long_value))} b",
+        f"begin r1 c1 1 swap a {dice.choice((f'b {long_value}', f'{long_value} b'))}",
     )
     return dice.choice(lines) if dice.random() < 0.6 else "hop r0"

@@ -17,15 +17,16 @@ class Refused(Exception):
 
 
 class Call(NamedTuple):
-    """What a request asks; `value` is empty but for a put."""
+    """What a request asks: `value` is what a put or a swap gives, `old` what a swap has to find; else both are empty."""
 
     word: str
     key: bytes
     value: bytes = b""
+    old: bytes = b""
 
 
 class Reply(NamedTuple):
-    """What a call is answered: `is`, `was`, `none`, `new` or `full`, the first two with a value."""
+    """What a call is answered: `is`, `was` or `differs` with a value, `none`, `new`, `full` or `swapped`."""
 
     word: str
     value: bytes | None = None
@@ -154,10 +155,21 @@ class File:
         if call.word == "del":
             self.map.pop(call.key, None)
             return Reply("none") if before is None else Reply("was", before)
+        if call.word == "swap":
+            return self.answer_swap(call, before)
         if before is None and self.count_under(self.pseudokey(call.key)[:LIMIT]) >= self.cap:
             return Reply("full")
         self.map[call.key] = call.value
         return Reply("new") if before is None else Reply("was", before)
+
+    def answer_swap(self, call, before):
+        """What a swap is answered, over a key that has a value, or none."""
+        if before is None:
+            return Reply("none")
+        if before != call.old:
+            return Reply("differs", before)
+        self.map[call.key] = call.value
+        return Reply("swapped")
 
     def hop(self, ward, number, call):
         """The hop table: what one hop of a call at a page comes to."""

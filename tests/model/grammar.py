@@ -86,6 +86,8 @@ def call_of(words):
             return Call(word, bytes_of(key))
         case ["put", key, value]:
             return Call("put", bytes_of(key), bytes_of(value))
+        case ["swap", key, old, new]:
+            return Call("swap", bytes_of(key), bytes_of(new), bytes_of(old))
     raise WrongLine(60)
 
 
@@ -118,7 +120,7 @@ def placed_number(word, form):
 
 
 def is_call_in_range(call):
-    return 1 <= len(call.key) <= KEY_LIMIT and len(call.value) <= VALUE_LIMIT
+    return 1 <= len(call.key) <= KEY_LIMIT and max(len(call.value), len(call.old)) <= VALUE_LIMIT
 
 
 def settings_of(line):

@@ -70,11 +70,21 @@ class Script:
             self.met["hop moved"] += 1
             return [f"r{name} moved {flight.ward}/{outcome.page}"]
         reply, moves, bound = outcome
-        self.met[f"{flight.call.word} answered {reply.word}"] += 1
+        self.note_answer(flight, reply, moves)
         words = [f"r{name} {reply.word}"]
         words += [] if reply.value is None else [printed(reply.value)]
         words += [f"moves {moves} of {bound}"] if self.tells_moves else []
         return [" ".join(words)]
+
+    def note_answer(self, flight, reply, moves):
+        """Notes what a call was answered, and of a swap whether at a full page, and after moves."""
+        answered = f"{flight.call.word} answered {reply.word}"
+        self.met[answered] += 1
+        if flight.call.word == "swap":
+            file = self.world.file
+            leaf = file.wards[flight.ward].leaf_of(flight.page)
+            self.met[f"{answered} at a full page"] += file.count_under(leaf) >= file.cap
+            self.met[f"{answered} through a late copy"] += moves > 0
 
     def split(self, ward, page):
         notice, is_revived = self.world.file.split(ward, page)

@@ -5,7 +5,7 @@ into one, and tells copies late. Whatever it writes is answered by `script`, whi
 """
 
 from .bits import low_bound, parent_of
-from .dice import line_out_of_range, line_outside, spelled, value_by
+from .dice import line_out_of_range, line_outside, other_than, spelled, value_by
 from .file import Call
 from .script import Script
 from .version import INDEX_LIMIT, LIMIT, NUMBER_LIMIT
@@ -103,8 +103,16 @@ class Writer:
 
     def some_call(self):
         key = self.dice.choice(self.taste.keys)
-        word = self.dice.choice(("get", "put", "put", "put", "del"))
+        word = self.dice.choice(("get", "put", "put", "put", "del", "swap", "swap", "swap"))
+        if word == "swap":
+            return self.some_swap(key)
         return Call(word, key, value_by(self.dice) if word == "put" else b"")
+
+    def some_swap(self, key):
+        """A swap, of which half name the value that stands, if the key has one."""
+        stands = self.file.map.get(key, b"")
+        old = stands if self.chance(50) else other_than(self.dice, stands)
+        return Call("swap", key, old if self.chance(5) else value_by(self.dice), old)
 
     def begin(self, call, copy=None):
         """Begins a request, mostly under a name that is free. Gives the name."""
@@ -112,7 +120,8 @@ class Writer:
         name = self.dice.choice(free) if free and not self.chance(3) else self.dice.choice((1, *RARE_NAMES))
         client = self.dice.choice((1, 2, NUMBER_LIMIT))
         words = [call.word, spelled(self.dice, call.key)]
-        words += [spelled(self.dice, call.value)] if call.word == "put" else []
+        values = {"put": [call.value], "swap": [call.old, call.value]}.get(call.word, [])
+        words += [spelled(self.dice, value) for value in values]
         self.say(f"begin r{name} c{client} {copy or self.some_copy()} {' '.join(words)}")
         return name
 
@@ -246,8 +255,9 @@ class Writer:
         if self.chance(50):
             self.show(copy)
         for _ in range(self.dice.randrange(3)):
-            name = self.begin(Call("get", self.dice.choice(self.taste.keys)), copy)
-            self.follow(name)
+            key = self.dice.choice(self.taste.keys)
+            call = Call("get", key) if self.chance(50) else self.some_swap(key)
+            self.follow(self.begin(call, copy))
 
     def show(self, copy):
         self.say(f"show {copy}")

@@ -6,11 +6,12 @@ use exh_calls::{Call, Reply};
 pub(crate) fn text_len(call: &Call, reply: &Reply) -> u64 {
     let given = match call {
         Call::Put { value, .. } => value.as_bytes().len(),
+        Call::Swap { old, new, .. } => old.as_bytes().len() + new.as_bytes().len(),
         Call::Get { .. } | Call::Del { .. } => 0,
     };
     let told = match reply {
-        Reply::Is(value) | Reply::Was(value) => value.as_bytes().len(),
-        Reply::None | Reply::New | Reply::Full => 0,
+        Reply::Is(value) | Reply::Was(value) | Reply::Differs(value) => value.as_bytes().len(),
+        Reply::None | Reply::New | Reply::Full | Reply::Swapped => 0,
     };
     let key = call.key().as_bytes().len();
     (key as u64)

@@ -18,7 +18,7 @@ type Line = (u32, Said<'static>);
 
 // A call of each kind with each of its replies but `Full`: the longest key, the longest and the empty value, the least
 // and the greatest client.
-const LINES: [Line; 10] = [
+const LINES: [Line; 13] = [
     (0, Said::Absent(b"a")),
     (1, Said::New(&[5; 64], &[6; 128])),
     (1, Said::Changed(&[5; 64], &[7; 128], &[6; 128])),
@@ -29,6 +29,9 @@ const LINES: [Line; 10] = [
     (3, Said::Was(&[5; 64], &[7; 128])),
     (4, Said::Gone(&[255; 64])),
     (4, Said::Absent(&[5; 64])),
+    (5, Said::Swapped(b"\0", b"value", &[8; 128])),
+    (5, Said::Differs(b"\0", &[9; 128], b"", &[8; 128])),
+    (6, Said::Unswapped(&[5; 64], &[6; 128], &[7; 128])),
 ];
 
 /// Takes the calls and the steps.

@@ -6,7 +6,7 @@ use exh_model::{MapMachine, PairMap};
 use exh_runs::{Difference, Part, Run, again, same};
 use std::alloc::AllocError;
 
-const ONE_KEY: [Said<'static>; 10] = [
+const ONE_KEY: [Said<'static>; 13] = [
     Said::Absent(b"k"),
     Said::New(b"k", b"v"),
     Said::Is(b"k", b"v"),
@@ -14,9 +14,12 @@ const ONE_KEY: [Said<'static>; 10] = [
     Said::New(b"l", b""),
     Said::Changed(b"k", b"w", b"v"),
     Said::Is(b"k", b"w"),
-    Said::Was(b"k", b"w"),
+    Said::Swapped(b"k", b"w", b"x"),
+    Said::Differs(b"k", b"w", b"y", b"x"),
+    Said::Was(b"k", b"x"),
     Said::Absent(b"k"),
     Said::Gone(b"k"),
+    Said::Unswapped(b"k", b"x", b"y"),
 ];
 
 // Two keys a page. The third key that shares sixteen bits is turned away, one that shares fifteen is not, and neither

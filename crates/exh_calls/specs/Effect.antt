@@ -1,12 +1,12 @@
 -- What a call does to its key: the one table of it. What is answered, what is written and what overflows follow from it.
-use Rattle.std.specs.Prelude.{ℕ, Bool, true, false, List, Option, Some, None}
+use Rattle.std.specs.Prelude.{ℕ, Bool, true, false, List, Option, Some, None, bytes_eq, if◌then◌else◌}
 use Rattle.std.specs.Option.{is_some}
 use Rattle.exh_calls.specs.declared.call.Call.{Call}
-use Rattle.exh_calls.specs.declared.call.Call.TheVariants.{Get, Put, Del}
+use Rattle.exh_calls.specs.declared.call.Call.TheVariants.{Get, Put, Del, Swap}
 use Rattle.exh_calls.specs.declared.key_change.KeyChange.{KeyChange}
 use Rattle.exh_calls.specs.declared.key_change.KeyChange.TheVariants.{Keep as Kept, Set as Given, Remove as Taken}
 use Rattle.exh_calls.specs.declared.reply.Reply.{Reply}
-use Rattle.exh_calls.specs.declared.reply.Reply.TheVariants.{Is, None as Absent, New, Was, Full}
+use Rattle.exh_calls.specs.declared.reply.Reply.TheVariants.{Is, None as Absent, New, Was, Full, Swapped, Differs}
 
 -- what becomes of the key: it stays as it is, has this value, or is taken out
 pub data Change : Type 0 where
@@ -29,12 +29,15 @@ abbrev pub on_value : Call → List ℕ → Effect
 on_value (Get key) value = record { reply = Is value; change = Keep }
 on_value (Put key new) value = record { reply = Was value; change = Set new }
 on_value (Del key) value = record { reply = Was value; change = Remove }
+on_value (Swap key old new) value =
+    if bytes_eq value old then record { reply = Swapped; change = Set new } else record { reply = Differs value; change = Keep }
 
 -- the value that a call gives a key that has none, if it gives one
 abbrev pub new_value : Call → Option (List ℕ)
 new_value (Get key) = None
 new_value (Put key new) = Some new
 new_value (Del key) = None
+new_value (Swap key old new) = None
 
 -- ---- what follows for all calls
 

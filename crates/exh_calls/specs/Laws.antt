@@ -1,5 +1,6 @@
--- Laws of histories and of leading bits, that the crates above cite.
-use Rattle.std.specs.Prelude.{◌≡◌, ℕ, ◌<◌, ◌≤◌, ◌^◌, Bool, List, [], ◌∷◌, ◌++◌, length, map}
+-- Laws of histories, of leading bits and of swaps, that the crates above cite.
+use Rattle.std.specs.Prelude.{◌≡◌, ◌↔◌, ℕ, ◌<◌, ◌≤◌, ◌^◌, Bool, List, [], ◌∷◌, ◌++◌, length, map, Some, None}
+use Rattle.std.specs.FinMap as fin
 use Rattle.exh_prefix.specs.declared.prefix.TheConstants.{LIMIT}
 use Rattle.exh_prefix.specs.Prefix.{Begins}
 use Rattle.exh_prefix.specs.Leading.{leading}
@@ -7,8 +8,10 @@ use Rattle.exh_page.specs.KeyMap.{KeyMap}
 use Rattle.exh_calls.specs.History.{IsHistory, map_left}
 use Rattle.exh_calls.specs.MapMachine.{reply_of, map_after}
 use Rattle.exh_calls.specs.declared.call.Call.{Call}
+use Rattle.exh_calls.specs.declared.call.Call.TheVariants.{Swap}
 use Rattle.exh_calls.specs.declared.journal_entry.JournalEntry.{JournalEntry}
 use Rattle.exh_calls.specs.declared.reply.Reply.{Reply}
+use Rattle.exh_calls.specs.declared.reply.Reply.TheVariants.{None as Absent, Swapped, Differs}
 
 -- one entry more, whose reply is the map machine's over the map left, makes a history whose map is the map machine's
 pub record IsLonger (cap : ℕ) (pseudo : List ℕ → ℕ) (base : KeyMap) (journal : List JournalEntry) (entry : JournalEntry) : Type 0 where
@@ -39,3 +42,17 @@ pub record AreSharers (prefix : List Bool) (one other : ℕ) : Type 0 where
 
 abbrev pub SharersBegin : Type 0
 SharersBegin = (prefix : List Bool) (one other : ℕ) → length prefix ≤ LIMIT → one < 2 ^ 64 → other < 2 ^ 64 → AreSharers prefix one other
+
+-- what a swap of a key is answered over a map, and what it leaves of it: in words of the map alone
+pub record IsSwap (cap : ℕ) (pseudo : List ℕ → ℕ) (m : KeyMap) (key old new : List ℕ) : Type 0 where
+  pub swapped : (reply_of cap pseudo m (Swap key old new) ≡ Swapped) ↔ (fin.get m key ≡ Some old)
+  pub differs : (value : List ℕ) → (reply_of cap pseudo m (Swap key old new) ≡ Differs value) ↔ ((fin.get m key ≡ Some value) × (value ≡ old → ⊥))
+  pub absent : (reply_of cap pseudo m (Swap key old new) ≡ Absent) ↔ (fin.get m key ≡ None)
+  -- where the old value stands the key has the new one, and each other key what it had
+  pub given : fin.get m key ≡ Some old → fin.get (map_after cap pseudo m (Swap key old new)) key ≡ Some new
+  pub others : (other : List ℕ) → (other ≡ key → ⊥) → fin.get (map_after cap pseudo m (Swap key old new)) other ≡ fin.get m other
+  -- else the map is the same
+  pub same : (fin.get m key ≡ Some old → ⊥) → map_after cap pseudo m (Swap key old new) ≡ m
+
+abbrev pub SwapsCompare : Type 0
+SwapsCompare = (cap : ℕ) (pseudo : List ℕ → ℕ) (m : KeyMap) (key old new : List ℕ) → IsSwap cap pseudo m key old new

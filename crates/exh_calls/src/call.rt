@@ -1,6 +1,6 @@
 ghost use Rattle.std.specs.Prelude.{◌≡◌};
 
-use crate::{KeyChange, Reply};
+use crate::{KeyChange, Reply, swaps_compare};
 use exh_page::{Key, Value};
 
 /// A call on the map from keys to values. A copy takes no memory.
@@ -12,6 +12,8 @@ pub enum Call {
     Put { key: Key, value: Value },
     /// Takes the key and its value out.
     Del { key: Key },
+    /// Gives the key the new value, where its value is the old one.
+    Swap { key: Key, old: Value, new: Value },
 }
 
 impl Call {
@@ -24,7 +26,10 @@ impl Call {
         ensures { result.now ≡ key_of self.now }
     {
         match self {
-            Call::Get { key } | Call::Put { key, .. } | Call::Del { key } => key,
+            Call::Get { key }
+            | Call::Put { key, .. }
+            | Call::Del { key }
+            | Call::Swap { key, .. } => key,
         }
     }
 
@@ -33,13 +38,16 @@ impl Call {
     pub fn reply(&self, full: bool, stood: &Option<Value>) -> Reply
         ensures { result ≡ (effect_of self.now full stood.now).reply }
     {
+        swaps_compare();
         match stood {
             Some(value) => match self {
                 Call::Get { .. } => Reply::Is(*value),
                 Call::Put { .. } | Call::Del { .. } => Reply::Was(*value),
+                Call::Swap { old, .. } if value == old => Reply::Swapped,
+                Call::Swap { .. } => Reply::Differs(*value),
             },
             None => match self {
-                Call::Get { .. } | Call::Del { .. } => Reply::None,
+                Call::Get { .. } | Call::Del { .. } | Call::Swap { .. } => Reply::None,
                 Call::Put { .. } => { if full { Reply::Full } else { Reply::New } }
             },
         }
@@ -50,13 +58,15 @@ impl Call {
         ensures { change_of result ≡ (effect_of self.now full stood.now).change }
     {
         match stood {
-            Some(_) => match self {
+            Some(stood) => match self {
                 Call::Get { .. } => KeyChange::Keep,
                 Call::Put { value, .. } => KeyChange::Set(value),
                 Call::Del { .. } => KeyChange::Remove,
+                Call::Swap { old, new, .. } if stood == old => KeyChange::Set(new),
+                Call::Swap { .. } => KeyChange::Keep,
             },
             None => match self {
-                Call::Get { .. } | Call::Del { .. } => KeyChange::Keep,
+                Call::Get { .. } | Call::Del { .. } | Call::Swap { .. } => KeyChange::Keep,
                 Call::Put { .. } if full => KeyChange::Keep,
                 Call::Put { value, .. } => KeyChange::Set(value),
             },
@@ -69,7 +79,7 @@ impl Call {
     {
         match self {
             Call::Put { .. } => true,
-            Call::Get { .. } | Call::Del { .. } => false,
+            Call::Get { .. } | Call::Del { .. } | Call::Swap { .. } => false,
         }
     }
 }

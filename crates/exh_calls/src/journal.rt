@@ -1,16 +1,16 @@
 ghost use Rattle.std.specs.Prelude.{◌≡◌, ◌+◌, ◌≤◌, ◌↔◌, [], ◌∷◌, ◌++◌, length, slice_get, IsTrue, OnOk};
 ghost use Rattle.std.specs.Iterator.{YieldsFirst, item_count};
 ghost use Rattle.exh_page.specs.declared.value.TheConstants.{VALUE_LIMIT};
-ghost use Rattle.exh_calls.specs.Journal.{bytes_at, value_given, value_told};
+ghost use Rattle.exh_calls.specs.Journal.{bytes_at, second_given, value_given, value_told};
 
 use crate::stored_entry::{CallKind, ReplyKind, StoredEntry};
 use crate::{Call, JournalEntry, Reply};
-use exh_page::{KEY_LIMIT, Key, VALUE_LIMIT, Value};
+use exh_page::{KEY_LIMIT, VALUE_LIMIT};
 use std::alloc::{AllocError, Global};
 use std::marker::Model;
 
-/// The most bytes of an entry: a key, a call's value and a reply's value.
-const ENTRY_LIMIT: usize = KEY_LIMIT + VALUE_LIMIT + VALUE_LIMIT;
+/// The most bytes of an entry: a key, a call's two values and a reply's value.
+const ENTRY_LIMIT: usize = KEY_LIMIT + VALUE_LIMIT + VALUE_LIMIT + VALUE_LIMIT;
 
 /// The calls that were answered, in order, with their callers and replies. An
 /// entry takes the bytes of its key and values, and 24 more.
@@ -59,12 +59,14 @@ impl Journal {
     {
         let key = call.key().as_bytes();
         let value = value_given(call);
+        let second = second_given(call);
         let told = value_told(reply);
         self.stored.push_reserved(StoredEntry {
             client,
             start: self.texts.len(),
             key_len: key.len() as u8,
             value_len: value.len() as u8,
+            second_len: second.len() as u8,
             reply_len: told.len() as u8,
             call: CallKind::of(call),
             reply: ReplyKind::of(reply),
@@ -72,6 +74,7 @@ impl Journal {
         // There is room for these bytes.
         self.texts.extend_from_slice(key).unwrap();
         self.texts.extend_from_slice(value).unwrap();
+        self.texts.extend_from_slice(second).unwrap();
         self.texts.extend_from_slice(told).unwrap();
     }
 
@@ -95,16 +98,15 @@ impl Journal {
     {
         let stored = self.stored.get(at).copied()?;
         let value_start = stored.start + usize::from(stored.key_len);
-        let reply_start = value_start + usize::from(stored.value_len);
+        let second_start = value_start + usize::from(stored.value_len);
+        let reply_start = second_start + usize::from(stored.second_len);
         let key = bytes_at(&self.texts, stored.start, stored.key_len);
         let value = bytes_at(&self.texts, value_start, stored.value_len);
+        let second = bytes_at(&self.texts, second_start, stored.second_len);
         let told = bytes_at(&self.texts, reply_start, stored.reply_len);
-        let key = Key::from_bytes(key).unwrap();
-        let value = Value::from_bytes(value).unwrap();
-        let told = Value::from_bytes(told).unwrap();
         Some(JournalEntry {
             client: stored.client,
-            call: stored.call.call(key, value),
+            call: stored.call.call(key, value, second),
             reply: stored.reply.reply(told),
         })
     }
@@ -161,14 +163,25 @@ fn bytes_at(texts: &[u8], start: usize, len: u8) -> &[u8]
     &texts[start..start + usize::from(len)]
 }
 
-// The bytes of the value that a call gives, none where it gives none.
+// The bytes of the first value that a call names, none where it names none.
 fn value_given(call: &Call) -> &[u8]
     ensures value { result.now ≡ value_given call.now }
     ensures limit { length result.now ≤ VALUE_LIMIT }
 {
     match call {
-        Call::Put { value, .. } => value.as_bytes(),
+        Call::Put { value, .. } | Call::Swap { old: value, .. } => value.as_bytes(),
         Call::Get { .. } | Call::Del { .. } => &[],
+    }
+}
+
+// The bytes of the second value that a call names, none where it names no two.
+fn second_given(call: &Call) -> &[u8]
+    ensures value { result.now ≡ second_given call.now }
+    ensures limit { length result.now ≤ VALUE_LIMIT }
+{
+    match call {
+        Call::Swap { new, .. } => new.as_bytes(),
+        Call::Get { .. } | Call::Put { .. } | Call::Del { .. } => &[],
     }
 }
 
@@ -178,7 +191,7 @@ fn value_told(reply: &Reply) -> &[u8]
     ensures limit { length result.now ≤ VALUE_LIMIT }
 {
     match reply {
-        Reply::Is(value) | Reply::Was(value) => value.as_bytes(),
-        Reply::None | Reply::New | Reply::Full => &[],
+        Reply::Is(value) | Reply::Was(value) | Reply::Differs(value) => value.as_bytes(),
+        Reply::None | Reply::New | Reply::Full | Reply::Swapped => &[],
     }
 }

@@ -1,7 +1,7 @@
-//! What holds of all histories, and of leading bits, for the proofs of callers. Each function does
-//! nothing.
+//! What holds of all histories, of leading bits and of all swaps, for the proofs of callers. Each
+//! function does nothing.
 
-ghost use Rattle.exh_calls.specs.Laws.{HistoriesGoOn, HistoryIsDetermined, SharersBegin};
+ghost use Rattle.exh_calls.specs.Laws.{HistoriesGoOn, HistoryIsDetermined, SharersBegin, SwapsCompare};
 
 /// A history goes on with the map machine's reply over the map that it leaves, and then leaves the
 /// map machine's map.
@@ -18,4 +18,12 @@ pub fn history_is_determined()
 /// one of `LIMIT` bits begins no others.
 pub fn sharers_begin()
     ensures { SharersBegin }
+{}
+
+/// A swap of a key is `Swapped` exactly where the map gives the key just the bytes of the old value,
+/// and then the map is the same but that the key has the new one. It is `Differs` exactly where the map
+/// gives the key another value, which it tells, and `None` exactly where it gives it none; then the map
+/// is the same.
+pub fn swaps_compare()
+    ensures { SwapsCompare }
 {}

@@ -6,7 +6,7 @@ pub use call::Call;
 pub use journal::{Entries, Journal};
 pub use journal_entry::JournalEntry;
 pub use key_change::KeyChange;
-pub use laws::{histories_go_on, history_is_determined, sharers_begin};
+pub use laws::{histories_go_on, history_is_determined, sharers_begin, swaps_compare};
 pub use reply::Reply;
 
 mod base;

@@ -14,4 +14,8 @@ pub enum Reply {
     /// The key is absent and stays so: as many keys as a page holds share the `LIMIT` leading bits
     /// of its pseudokey.
     Full,
+    /// The key had the old value that the call names, and has the new one now.
+    Swapped,
+    /// The value of the key, which isn't the old one that the call names, and stays.
+    Differs(Value),
 }

@@ -4,12 +4,13 @@ use exh_calls::Call;
 use exh_page::{Key, Value};
 use exh_runs::{Difference, Part};
 
-/// A call: its key, and of a put the value.
+/// A call: its key, and of a put the value, of a swap the old one and the new.
 #[derive(Clone, Copy)]
 pub enum Asked<'a> {
     Get(&'a [u8]),
     Put(&'a [u8], &'a [u8]),
     Del(&'a [u8]),
+    Swap(&'a [u8], &'a [u8], &'a [u8]),
 }
 
 impl Asked<'_> {
@@ -22,6 +23,11 @@ impl Asked<'_> {
                 value: value(put)?,
             },
             Asked::Del(bytes) => Call::Del { key: key(bytes)? },
+            Asked::Swap(bytes, old, new) => Call::Swap {
+                key: key(bytes)?,
+                old: value(old)?,
+                new: value(new)?,
+            },
         })
     }
 }

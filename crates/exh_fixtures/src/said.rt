@@ -21,6 +21,12 @@ pub enum Said<'a> {
     Was(&'a [u8], &'a [u8]),
     /// A delete of a key that isn't there.
     Gone(&'a [u8]),
+    /// A swap of a key that had the old value, the second, and has the new one, the last.
+    Swapped(&'a [u8], &'a [u8], &'a [u8]),
+    /// A swap of these two values of a key that has another one, the last.
+    Differs(&'a [u8], &'a [u8], &'a [u8], &'a [u8]),
+    /// A swap of these two values of a key that isn't there.
+    Unswapped(&'a [u8], &'a [u8], &'a [u8]),
 }
 
 impl<'a> Said<'a> {
@@ -32,6 +38,9 @@ impl<'a> Said<'a> {
             }
             Said::Is(key, _) | Said::Absent(key) => Asked::Get(key),
             Said::Was(key, _) | Said::Gone(key) => Asked::Del(key),
+            Said::Swapped(key, old, new)
+            | Said::Differs(key, old, new, _)
+            | Said::Unswapped(key, old, new) => Asked::Swap(key, old, new),
         }
     }
 
@@ -40,7 +49,9 @@ impl<'a> Said<'a> {
         Ok(match *self {
             Said::New(..) => Reply::New,
             Said::Full(..) => Reply::Full,
-            Said::Absent(_) | Said::Gone(_) => Reply::None,
+            Said::Absent(_) | Said::Gone(_) | Said::Unswapped(..) => Reply::None,
+            Said::Swapped(..) => Reply::Swapped,
+            Said::Differs(.., bytes) => Reply::Differs(value(bytes)?),
             Said::Is(_, bytes) => Reply::Is(value(bytes)?),
             Said::Was(_, bytes) | Said::Changed(_, _, bytes) => Reply::Was(value(bytes)?),
         })

@@ -19,7 +19,7 @@ use Rattle.exh_text.specs.TextLemmas.{number_again, printed_again, prefix_again,
 use Rattle.exh_text.specs.declared.line_fault.LineFault.TheVariants.{Syntax, Range}
 use Rattle.exh_ward.specs.WardFault.{ward_fault_number}
 use Rattle.exh_calls.specs.declared.reply.Reply.{Reply}
-use Rattle.exh_calls.specs.declared.reply.Reply.TheVariants.{Is, None as Absent, New, Was, Full}
+use Rattle.exh_calls.specs.declared.reply.Reply.TheVariants.{Is, None as Absent, New, Was, Full, Swapped, Differs}
 use Rattle.exh_ward.specs.declared.ward_fault.WardFault.{WardFault}
 use Rattle.exh_ward.specs.declared.ward_fault.WardFault.TheVariants.{NoPage, NotLive, NotFull, AtLimit, NoBuddy, BuddySplit, TooMany, Worn, Memory, Page}
 use Rattle.exh_event.specs.StepFault.{step_fault_number}
@@ -31,7 +31,7 @@ use Rattle.exh_line.specs.declared.answer.Answer.{Answer}
 use Rattle.exh_line.specs.declared.answer.Answer.TheVariants.{Begun, Replied, Moved, MustSplit, Stray, Changed, Taken, Sent, Joined, Restarted, Refused}
 use Rattle.exh_line.specs.declared.moves.Moves.{Moves}
 use Rattle.exh_line.specs.declared.refusal.Refusal.{Refusal}
-use Rattle.exh_line.specs.declared.refusal.Refusal.TheVariants.{Line, Step, Read, TooLong, Differs}
+use Rattle.exh_line.specs.declared.refusal.Refusal.TheVariants.{Line, Step, Read, TooLong, OtherFile}
 
 -- ---- reading the words of an answer
 
@@ -45,7 +45,7 @@ refusals =
     (1, Step (Ward NoPage)) ∷ (3, Step (Ward NotLive)) ∷ (4, Step (Ward NotFull)) ∷ (5, Step (Ward AtLimit)) ∷ (6, Step (Ward NoBuddy))
     ∷ (7, Step (Ward BuddySplit)) ∷ (8, Step (Ward (TooMany 0))) ∷ (9, Step (Ward Worn)) ∷ (10, Step (Ward Memory)) ∷ (11, Step (Ward Page))
     ∷ (20, Step NoCopy) ∷ (21, Step NoRequest) ∷ (22, Step NoNotice) ∷ (23, Step NoTable) ∷ (24, Step NoWard) ∷ (25, Step NameTaken)
-    ∷ (41, Read) ∷ (60, Line Syntax) ∷ (61, Line Range) ∷ (62, TooLong) ∷ (63, Differs) ∷ []
+    ∷ (41, Read) ∷ (60, Line Syntax) ∷ (61, Line Range) ∷ (62, TooLong) ∷ (63, OtherFile) ∷ []
 
 -- the two numbers of a place
 abbrev numbers_told : List (List ℕ) → Option (ℕ × ℕ)
@@ -60,12 +60,14 @@ abbrev reply_of : List ℕ → Option Reply
 reply_of verb =
     cond (bytes_eq verb (codes "none")) (Some Absent)
     (cond (bytes_eq verb (codes "new")) (Some New)
-    (cond (bytes_eq verb (codes "full")) (Some Full) None))
+    (cond (bytes_eq verb (codes "full")) (Some Full)
+    (cond (bytes_eq verb (codes "swapped")) (Some Swapped) None)))
 
 abbrev reply_with : List ℕ → List ℕ → Option Reply
 reply_with verb word =
     cond (bytes_eq verb (codes "is")) (bytes_of_word word >>= λ value. Some (Is value))
-    (cond (bytes_eq verb (codes "was")) (bytes_of_word word >>= λ value. Some (Was value)) None)
+    (cond (bytes_eq verb (codes "was")) (bytes_of_word word >>= λ value. Some (Was value))
+    (cond (bytes_eq verb (codes "differs")) (bytes_of_word word >>= λ value. Some (Differs value)) None))
 
 -- the moves of a request, by the words of the two numbers
 abbrev moves_of : List ℕ → List ℕ → Option Moves
@@ -207,6 +209,8 @@ reply_told name (Was value) (n, b, m) = value_alone name (codes "was") value n r
 reply_told name Absent (n, b, m) = by_two name (codes "none") n refl
 reply_told name New (n, b, m) = by_two name (codes "new") n refl
 reply_told name Full (n, b, m) = by_two name (codes "full") n refl
+reply_told name Swapped (n, b, m) = by_two name (codes "swapped") n refl
+reply_told name (Differs value) (n, b, m) = value_alone name (codes "differs") value n refl b ∙ rw (value_told value b) refl
 
 -- a reply with its moves
 module _ (name : ℕ) (moves : Moves) (n : name < 2 ^ 32) (m : moves.made < 2 ^ 64) (bound : moves.bound < 2 ^ 64) where
@@ -241,6 +245,8 @@ module _ (name : ℕ) (moves : Moves) (n : name < 2 ^ 32) (m : moves.made < 2 ^ 
   reply_moves_told Absent b = word_moves (codes "none") refl ∙ rw moves_told refl
   reply_moves_told New b = word_moves (codes "new") refl ∙ rw moves_told refl
   reply_moves_told Full b = word_moves (codes "full") refl ∙ rw moves_told refl
+  reply_moves_told Swapped b = word_moves (codes "swapped") refl ∙ rw moves_told refl
+  reply_moves_told (Differs value) b = value_moves (codes "differs") value refl b ∙ rw (value_told value b, moves_told) refl
 
 -- ---- of notices
 
@@ -336,7 +342,7 @@ refusal_numbered (Line Range) = refl
 refusal_numbered (Step fault) = step_numbered fault
 refusal_numbered Read = refl
 refusal_numbered TooLong = refl
-refusal_numbered Differs = refl
+refusal_numbered OtherFile = refl
 
 ward_small : (fault : WardFault) → ward_fault_number fault < 100
 ward_small NoPage = omega arith
@@ -365,7 +371,7 @@ refusal_small (Line Range) = omega arith
 refusal_small (Step fault) = step_small fault
 refusal_small Read = omega arith
 refusal_small TooLong = omega arith
-refusal_small Differs = omega arith
+refusal_small OtherFile = omega arith
 
 refused_told : (refusal : Refusal) → Tells (Refused refusal)
 unfolding Tells

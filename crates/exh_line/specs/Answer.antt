@@ -9,7 +9,7 @@ use Rattle.exh_text.specs.Printing.{printed, place_text, refused_text}
 use Rattle.exh_event.specs.declared.progress.Progress.{Progress}
 use Rattle.exh_event.specs.declared.progress.Progress.TheVariants as hops
 use Rattle.exh_calls.specs.declared.reply.Reply.{Reply}
-use Rattle.exh_calls.specs.declared.reply.Reply.TheVariants.{Is, None as Absent, New, Was, Full}
+use Rattle.exh_calls.specs.declared.reply.Reply.TheVariants.{Is, None as Absent, New, Was, Full, Swapped, Differs}
 use Rattle.exh_event.specs.declared.event.Event.{Event}
 use Rattle.exh_event.specs.declared.event.Event.TheVariants as events
 use Rattle.exh_event.specs.declared.outcome.Outcome.{Outcome}
@@ -72,6 +72,8 @@ reply_text Absent = codes "none"
 reply_text New = codes "new"
 reply_text (Was value) = codes "was " ++ printed value
 reply_text Full = codes "full"
+reply_text Swapped = codes "swapped"
+reply_text (Differs value) = codes "differs " ++ printed value
 
 -- the moves and their bound, at the end of a reply's line
 abbrev pub moves_text : Option Moves → List ℕ
@@ -116,6 +118,8 @@ HasReplyWidths Absent = ⊤
 HasReplyWidths New = ⊤
 HasReplyWidths (Was value) = HasByteValues value
 HasReplyWidths Full = ⊤
+HasReplyWidths Swapped = ⊤
+HasReplyWidths (Differs value) = HasByteValues value
 
 abbrev pub HaveMovesWidths : Option Moves → Type 0
 HaveMovesWidths told = IfSome told (λ moves. (moves.made < 2 ^ 64) × (moves.bound < 2 ^ 64))

@@ -7,7 +7,7 @@ use Rattle.exh_text.specs.Lines.{words_of}
 use Rattle.exh_text.specs.Numbers.{◌>>=◌, index_spelled, number_after, number_spelled}
 use Rattle.exh_text.specs.declared.line_fault.LineFault.{LineFault}
 use Rattle.exh_calls.specs.declared.call.Call.{Call}
-use Rattle.exh_calls.specs.declared.call.Call.TheVariants.{Get, Put, Del}
+use Rattle.exh_calls.specs.declared.call.Call.TheVariants.{Get, Put, Del, Swap}
 use Rattle.exh_event.specs.declared.event.Event.{Event}
 use Rattle.exh_event.specs.declared.event.Event.TheVariants.{Begin, Hop, Split, Merge, Deliver, Send, Combine, Restart}
 use Rattle.exh_line.specs.declared.line.Line.{Line}
@@ -17,13 +17,22 @@ use Rattle.exh_line.specs.declared.view.View.TheVariants.{Copy, Page, InFlight}
 
 -- ---- the lines that words spell, whatever their numbers and lengths are
 
--- `get KEY`, `del KEY` or `put KEY VALUE`
+-- the key and the two values of a swap
+unfoldable pub spelled_swap : List ℕ → List ℕ → List ℕ → Option Call
+spelled_swap key old new = do
+  key ← bytes_of_word key
+  old ← bytes_of_word old
+  new ← bytes_of_word new
+  Some (Swap key old new)
+
+-- `get KEY`, `del KEY`, `put KEY VALUE` or `swap KEY OLD NEW`
 unfoldable pub spelled_call : List (List ℕ) → Option Call
 spelled_call (verb ∷ key ∷ []) =
     if bytes_eq verb (codes "get") then (bytes_of_word key >>= λ k. Some (Get k))
     else (if bytes_eq verb (codes "del") then (bytes_of_word key >>= λ k. Some (Del k)) else None)
 spelled_call (verb ∷ key ∷ value ∷ []) =
     if bytes_eq verb (codes "put") then (spelled_pair key value >>= λ pair. Some (Put pair.0 pair.1)) else None
+spelled_call (verb ∷ key ∷ old ∷ new ∷ []) = if bytes_eq verb (codes "swap") then spelled_swap key old new else None
 spelled_call words = None
 
 -- `rN cN COPY CALL`
@@ -104,6 +113,7 @@ abbrev pub call_in_range : Call → Bool
 call_in_range (Get key) = key_in_range key
 call_in_range (Put key value) = key_in_range key && value_in_range value
 call_in_range (Del key) = key_in_range key
+call_in_range (Swap key old new) = key_in_range key && (value_in_range old && value_in_range new)
 
 -- the number after `r` or `c`
 abbrev pub name_in_range : ℕ → Bool

@@ -5,14 +5,14 @@ use Rattle.exh_ward.specs.declared.ward_fault.WardFault.TheVariants.{TooMany}
 use Rattle.exh_event.specs.StepFault.{step_fault_number}
 use Rattle.exh_event.specs.declared.step_fault.StepFault.TheVariants.{Ward}
 use Rattle.exh_line.specs.declared.refusal.Refusal.{Refusal}
-use Rattle.exh_line.specs.declared.refusal.Refusal.TheVariants.{Line, Step, Read, TooLong, Differs}
+use Rattle.exh_line.specs.declared.refusal.Refusal.TheVariants.{Line, Step, Read, TooLong, OtherFile}
 
 abbrev pub refusal_number : Refusal → ℕ
 refusal_number (Line fault) = line_fault_number fault
 refusal_number (Step fault) = step_fault_number fault
 refusal_number Read = 41
 refusal_number TooLong = 62
-refusal_number Differs = 63
+refusal_number OtherFile = 63
 
 -- The refusal but for what its number doesn't tell: how many records a merge would have come to.
 abbrev pub numbered_refusal : Refusal → Refusal

@@ -12,8 +12,8 @@ use exh_prefix::PageNo;
 pub enum Answer {
     /// `rN at W/P`: the request stands at a page of a ward.
     Begun { name: u32, ward: u8, page: PageNo },
-    /// `rN is V`, `rN none`, `rN new`, `rN was V` or `rN full`: the request is answered. Where its moves are told,
-    /// ` moves M of B` stands behind it.
+    /// `rN is V`, `rN none`, `rN new`, `rN was V`, `rN full`, `rN swapped` or `rN differs V`: the request is answered.
+    /// Where its moves are told, ` moves M of B` stands behind it.
     Replied { name: u32, reply: Reply, told: Told },
     /// `rN moved W/P`: the request goes on at another page.
     Moved { name: u32, ward: u8, page: PageNo },

@@ -109,6 +109,11 @@ fn push_reply(out: &mut Vec<u8>, reply: &Reply) -> Result<(), AllocError>
             push_value(out, value.as_bytes())
         }
         Reply::Full => push_text(out, "full"),
+        Reply::Swapped => push_text(out, "swapped"),
+        Reply::Differs(value) => {
+            push_text(out, "differs ")?;
+            push_value(out, value.as_bytes())
+        }
     }
 }
 

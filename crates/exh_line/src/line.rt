@@ -1,12 +1,13 @@
 ghost use Rattle.std.specs.Prelude.{◌≡◌};
 ghost use Rattle.exh_text.specs.LineFault.{ranged};
-ghost use Rattle.exh_line.specs.Grammar.{call_in_range, line_in_range, line_of, spelled_begin, spelled_call, spelled_change, spelled_copy_step, spelled_deliver, spelled_hop, spelled_in_flight, spelled_number, spelled_pair_of_numbers, spelled_view};
+ghost use Rattle.exh_line.specs.Grammar.{call_in_range, line_in_range, line_of, spelled_begin, spelled_call, spelled_change, spelled_copy_step, spelled_deliver, spelled_hop, spelled_in_flight, spelled_number, spelled_pair_of_numbers, spelled_swap, spelled_view};
 
 use crate::View;
 use exh_calls::Call;
 use exh_event::Event;
 use exh_text::{
-    LineFault, Parts, parse_key, parse_pair, parse_u32, parse_u32_after, parse_u64, split_words,
+    ByteWord, LineFault, Parts, parse_key, parse_pair, parse_u32, parse_u32_after, parse_u64,
+    split_words,
 };
 
 /// A line of a script after its first, its numbers, key and value in their ranges. There may be no such
@@ -191,7 +192,7 @@ fn parse_in_flight(mut words: Parts<'_>) -> Option<View>
     }
 }
 
-// `get KEY`, `put KEY VALUE` or `del KEY`
+// `get KEY`, `put KEY VALUE`, `del KEY` or `swap KEY OLD NEW`
 #[tactic(auto, unfolding(crate::specs::Grammar::spelled_call))]
 fn parse_call(mut words: Parts<'_>) -> Result<Call, LineFault>
     ensures { result ≡ ranged call_in_range (spelled_call words.entry) }
@@ -199,7 +200,14 @@ fn parse_call(mut words: Parts<'_>) -> Result<Call, LineFault>
     let verb = words.next().ok_or(LineFault::Syntax)?;
     let key = words.next().ok_or(LineFault::Syntax)?;
     let value = words.next();
+    let second = words.next();
     if words.next().is_some() {
+        return Err(LineFault::Syntax);
+    }
+    if let Some(new) = second {
+        if verb == b"swap".as_slice() {
+            return parse_swap(key, value.ok_or(LineFault::Syntax)?, new);
+        }
         return Err(LineFault::Syntax);
     }
     if verb == b"put".as_slice() {
@@ -220,4 +228,18 @@ fn parse_call(mut words: Parts<'_>) -> Result<Call, LineFault>
         });
     }
     Err(LineFault::Syntax)
+}
+
+// The key and the two values of a swap.
+#[tactic(auto, unfolding(crate::specs::Grammar::spelled_swap))]
+fn parse_swap(key: &[u8], old: &[u8], new: &[u8]) -> Result<Call, LineFault>
+    ensures { result ≡ ranged call_in_range (spelled_swap key.now old.now new.now) }
+{
+    let key = ByteWord::parse(key).ok_or(LineFault::Syntax)?;
+    let old = ByteWord::parse(old).ok_or(LineFault::Syntax)?;
+    let new = ByteWord::parse(new).ok_or(LineFault::Syntax)?;
+    let key = key.key().ok_or(LineFault::Range)?;
+    let old = old.value().ok_or(LineFault::Range)?;
+    let new = new.value().ok_or(LineFault::Range)?;
+    Ok(Call::Swap { key, old, new })
 }

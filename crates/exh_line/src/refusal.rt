@@ -13,7 +13,7 @@ pub enum Refusal {
     /// The script is longer than a script may be.
     TooLong,
     /// The script's `file` line isn't that of the opened file.
-    Differs,
+    OtherFile,
 }
 
 impl Refusal {
@@ -29,7 +29,7 @@ impl Refusal {
             Refusal::Step(fault) => u32::from(fault.number()),
             Refusal::Read => 41,
             Refusal::TooLong => 62,
-            Refusal::Differs => 63,
+            Refusal::OtherFile => 63,
         }
     }
 }

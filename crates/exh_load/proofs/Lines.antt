@@ -32,6 +32,8 @@ reply_lines key (replies.Is value) = inl refl
 reply_lines key replies.None = inl refl
 reply_lines key replies.New = inl refl
 reply_lines key (replies.Was value) = inl refl
+reply_lines key replies.Swapped = inl refl
+reply_lines key (replies.Differs value) = inl refl
 reply_lines key replies.Full = inr (codes "full " ++ printed key, sym (append_assoc (codes "full ") (printed key) (codes "\n")))
 
 parsed_lines : (loading : Loading) (parsed : Result (List ℕ × List ℕ) LineFault) → AreWholeLines (parsed_text loading parsed)

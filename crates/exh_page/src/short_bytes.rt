@@ -8,10 +8,11 @@ use std::cmp::Ordering;
 use std::fmt;
 use std::marker::Model;
 
-/// Up to `N` bytes, in an array. A copy takes no memory, and equal bytes are equal values.
+/// Up to `N` bytes, at most 255, in an array. A copy takes no memory, and equal bytes are equal
+/// values.
 #[derive(Clone, Copy)]
 pub(crate) struct ShortBytes<const N: usize> {
-    len: usize,
+    len: u8,
     bytes: [u8; N],
 }
 
@@ -33,6 +34,7 @@ impl<const N: usize> Model for ShortBytes<N> {
 impl<const N: usize> ShortBytes<N> {
     /// The bytes, `None` where there are more than `N`.
     pub(crate) fn from_slice(bytes: &[u8]) -> Option<ShortBytes<N>>
+        requires { N ≤ 255 }
         ensures { SomeIff result (length bytes.now ≤ N) bytes.now }
     {
         if bytes.len() > N {
@@ -43,13 +45,14 @@ impl<const N: usize> ShortBytes<N> {
 
     /// These bytes.
     pub(crate) fn of(bytes: &[u8]) -> ShortBytes<N>
-        requires { length bytes.now ≤ N }
+        requires few { N ≤ 255 }
+        requires limit { length bytes.now ≤ N }
         ensures { result ≡ bytes.now }
     {
         let mut array = [0; N];
         array[..bytes.len()].copy_from_slice(bytes);
         ShortBytes {
-            len: bytes.len(),
+            len: bytes.len() as u8,
             bytes: array,
         }
     }
@@ -57,7 +60,7 @@ impl<const N: usize> ShortBytes<N> {
     pub(crate) fn as_slice(&self) -> &[u8]
         ensures { result.now ≡ self.now }
     {
-        &self.bytes[..self.len]
+        &self.bytes[..usize::from(self.len)]
     }
 }
 

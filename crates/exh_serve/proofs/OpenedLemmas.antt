@@ -13,7 +13,7 @@ use Rattle.exh_world.specs.Sound.{IsSoundWorld}
 use Rattle.exh_settings.specs.declared.config.Config.{Config}
 use Rattle.exh_script.specs.AnyStart.{BeginsSound}
 use Rattle.exh_script.specs.Text.{ScriptWorld}
-use Rattle.exh_line.specs.declared.refusal.Refusal.TheVariants.{Differs}
+use Rattle.exh_line.specs.declared.refusal.Refusal.TheVariants.{OtherFile}
 use Rattle.exh_page.specs.declared.page.TheConstants.{CAP_LIMIT}
 use Rattle.exh_ward.specs.WardState.{WardState}
 use Rattle.exh_serve.specs.Laws.{IsSoundFile}
@@ -57,19 +57,19 @@ module _ (opened : OpenedState) (file : Config AnyKeyer) (is : is_of_file opened
 -- ---- what they begin
 
 module _ (opened : OpenedState) (file : Config AnyKeyer) where
-  by_test : (own : Bool) → is_of_file opened file ≡ own → cond own (Ok (world_of_wards file opened.wards)) (Err Differs) ≡ opened_file opened file
-  by_test own is = ap (λ own. cond own (Ok (world_of_wards file opened.wards)) (Err Differs)) (sym is)
+  by_test : (own : Bool) → is_of_file opened file ≡ own → cond own (Ok (world_of_wards file opened.wards)) (Err OtherFile) ≡ opened_file opened file
+  by_test own is = ap (λ own. cond own (Ok (world_of_wards file opened.wards)) (Err OtherFile)) (sym is)
 
   pub begun_of_file : is_of_file opened file ≡ true → (world : ScriptWorld) (wards : List (WardState AnyKeyer)) → world ≡ world_of_wards file wards → wards ≡ opened.wards → Ok world ≡ opened_file opened file
   begun_of_file own world wards is are = ap Ok (is ∙ ap (world_of_wards file) are) ∙ by_test true own
 
-  pub begun_of_other : is_of_file opened file ≡ false → Err Differs ≡ opened_file opened file
+  pub begun_of_other : is_of_file opened file ≡ false → Err OtherFile ≡ opened_file opened file
   begun_of_other other = by_test false other
 
 -- ---- the world that they begin is sound
 
 module _ (law : WorldsOfWardsAreSound any_pseudokey) (opened : OpenedState) (are : IsSoundFile opened) (file : Config AnyKeyer) (world : ScriptWorld) where
-  begun_sound : (own : Bool) → is_of_file opened file ≡ own → cond own (Ok (world_of_wards file opened.wards)) (Err Differs) ≡ Ok world → IsSoundWorld any_pseudokey world × (world.in_flight ≡ [])
+  begun_sound : (own : Bool) → is_of_file opened file ≡ own → cond own (Ok (world_of_wards file opened.wards)) (Err OtherFile) ≡ Ok world → IsSoundWorld any_pseudokey world × (world.in_flight ≡ [])
   begun_sound true own is =
       let same : world_of_wards file opened.wards ≡ world = cc in
       let P : ScriptWorld → Type 0 = λ w. IsSoundWorld any_pseudokey w × (w.in_flight ≡ []) in

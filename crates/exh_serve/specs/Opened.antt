@@ -6,7 +6,7 @@ use Rattle.exh_open.specs.Opened.{OpenedState}
 use Rattle.exh_world.specs.NewWorld.{world_of_wards}
 use Rattle.exh_settings.specs.declared.config.Config.{Config}
 use Rattle.exh_script.specs.Text.{Beginning, new_file}
-use Rattle.exh_line.specs.declared.refusal.Refusal.TheVariants.{Differs}
+use Rattle.exh_line.specs.declared.refusal.Refusal.TheVariants.{OtherFile}
 
 abbrev pub is_same_keyer : AnyKeyer → AnyKeyer → Bool
 is_same_keyer Plain Plain = true
@@ -19,7 +19,7 @@ is_of_file opened file = (opened.cap == file.cap) && (opened.ward_bits == file.w
 
 -- with these the world of its wards, each copy at the file's table; with others none
 abbrev pub opened_file : OpenedState → Beginning
-opened_file opened file = if is_of_file opened file then Ok (world_of_wards file opened.wards) else Err Differs
+opened_file opened file = if is_of_file opened file then Ok (world_of_wards file opened.wards) else Err OtherFile
 
 -- over an opened file, or over a new one
 abbrev pub beginning : Option OpenedState → Beginning

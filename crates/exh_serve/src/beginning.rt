@@ -18,7 +18,7 @@ use exh_world::World;
 use std::alloc::{AllocError, Global};
 
 /// The world that a first line of these settings begins, over an opened file or over none: a new file's, or that of the
-/// opened wards. `Refusal::Differs` where the settings' cap, ward bits or keyer aren't the opened file's.
+/// opened wards. `Refusal::OtherFile` where the settings' cap, ward bits or keyer aren't the opened file's.
 pub(crate) fn begin(
     alloc: Global,
     from: Option<Opened<PlainPages>>,
@@ -49,7 +49,7 @@ fn begin_over<P: Pages + Drop>(
     ensures settings { IfOk result (λ begun. IfOk begun (λ world. settings_of world file.now.copies ≡ file.now)) }
 {
     if !is_of_file(&opened, file) {
-        return Ok(Err(Refusal::Differs));
+        return Ok(Err(Refusal::OtherFile));
     }
     Ok(Ok(World::from_wards(alloc, file, opened.into_wards())?))
 }

@@ -23,8 +23,16 @@ fn put(key: &[u8], value: &[u8]) -> Result<Call, SizeFault> {
     })
 }
 
+fn swap(key: &[u8], old: &[u8], new: &[u8]) -> Result<Call, SizeFault> {
+    Ok(Call::Swap {
+        key: Key::from_bytes(key)?,
+        old: Value::from_bytes(old)?,
+        new: Value::from_bytes(new)?,
+    })
+}
+
 // A history of a file of cap 2 and keyer plain. The keys of zeros have one pseudokey.
-fn lines() -> Result<[Line; 6], SizeFault> {
+fn lines() -> Result<[Line; 9], SizeFault> {
     let a = Value::from_bytes(b"a")?;
     let key = Key::from_bytes(b"\0\0")?;
     Ok([
@@ -34,6 +42,12 @@ fn lines() -> Result<[Line; 6], SizeFault> {
         (put(b"\0", b"b")?, Reply::Was(a)),
         (Call::Del { key }, Reply::Was(a)),
         (get(b"\0\0")?, Reply::None),
+        (swap(b"\0", b"b", b"c")?, Reply::Swapped),
+        (
+            swap(b"\0", b"b", b"d")?,
+            Reply::Differs(Value::from_bytes(b"c")?),
+        ),
+        (swap(b"\0\0", b"a", b"b")?, Reply::None),
     ])
 }
 

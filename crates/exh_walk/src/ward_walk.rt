@@ -15,7 +15,7 @@ use exh_ward::{Ward, one_hop};
 
 /// The walk of `walk_steps` over a ward by itself, which covers the call's key. An answer adds one
 /// entry to the journal, the caller's call with the reply, and else there are only splits; a
-/// refusal adds none. A call that puts nothing, begun at a page whose low bound isn't beyond
+/// refusal adds none. A call that gives no new key, begun at a page whose low bound isn't beyond
 /// its pseudokey, is held only where the gate may say no at one of the turns from 1 to the distance and one,
 /// and answered only where it may say yes at each of them.
 pub fn walk_ward<P: Pages + Drop, K: Keyer, G: Gate>(

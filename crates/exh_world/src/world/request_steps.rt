@@ -79,10 +79,11 @@ impl<P: Pages + Drop, K: Keyer> World<P, K> {
             &request.call,
             request.pseudokey,
         )?;
-        self.in_flight.note_hop(name, &hop);
-        Ok(Outcome::Hopped {
+        let outcome = Outcome::Hopped {
             ward: request.ward,
             hop: Progress::of_hop(&hop, request.moves, bound),
-        })
+        };
+        self.in_flight.note_hop(name, &hop);
+        Ok(outcome)
     }
 }

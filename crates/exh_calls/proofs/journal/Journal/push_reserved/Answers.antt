@@ -7,14 +7,17 @@ pub returns : goal.returns
 returns c =
     let key = c.as_bytes-key.result.now in
     let value = c.value_given-value.result.now in
+    let second = c.second_given-second.result.now in
     let told = c.value_told-told.result.now in
     let with_key = rw c.unwrap.ensures at c.extend_from_slice.ensures.items in
     let with_value = rw c.unwrap-2.ensures at c.extend_from_slice-2.ensures.items in
-    let with_told = rw c.unwrap-3.ensures at c.extend_from_slice-3.ensures.items in
-    let texts = with_told ∙ ap (λ (bytes : List ℕ). bytes ++ told) (with_value ∙ ap (λ (bytes : List ℕ). bytes ++ value) with_key) in
+    let with_second = rw c.unwrap-3.ensures at c.extend_from_slice-3.ensures.items in
+    let with_told = rw c.unwrap-4.ensures at c.extend_from_slice-4.ensures.items in
+    let both = with_second ∙ ap (λ (bytes : List ℕ). bytes ++ second) (with_value ∙ ap (λ (bytes : List ℕ). bytes ++ value) with_key) in
+    let texts = with_told ∙ ap (λ (bytes : List ℕ). bytes ++ told) both in
     let start : c.len.result ≡ length c.self.inside.texts.items = omega arith in
     let before = ap (λ (journal : JournalState). journal.entries) c.self.view_is in
-    let is_call : call_as c.of.result key value ≡ c.args.call.now = rw (c.as_bytes-key.ensures.bytes, c.key.ensures, c.value_given-value.ensures.value) c.of.ensures in
+    let is_call : call_as c.of.result key value second ≡ c.args.call.now = rw (c.as_bytes-key.ensures.bytes, c.key.ensures, c.value_given-value.ensures.value, c.second_given-second.ensures.value) c.of.ensures in
     let is_reply : reply_as c.of-2.result told ≡ c.args.reply.now = rw c.value_told-told.ensures.value c.of-2.ensures in
     rw (texts, c.push_reserved.ensures.items, start, ← before, ← is_call, ← is_reply)
-    (entries_in-push c.self.inside.texts.items key value told c.args.client c.of.result c.of-2.result c.self.inside.stored.items c.self.invariant)
+    (entries_in-push c.self.inside.texts.items key value second told c.args.client c.of.result c.of-2.result c.self.inside.stored.items c.self.invariant)
