@@ -85,11 +85,18 @@ module _ (cap : ℕ) (pseudo : List ℕ → ℕ) (m : KeyMap) (key old new : Lis
         same = λ _. left;
       }
 
+  -- the effect on a value, by whether it is the old one
+  abbrev tested : List ℕ → Bool → Effect
+  tested value is_old = cond is_old (record { reply = Swapped; change = Set new }) (record { reply = Differs value; change = Keep })
+
+  effect_is : (value : List ℕ) (is_old : Bool) → bytes_eq value old ≡ is_old → fin.get m key ≡ Some value → effect_in cap pseudo m (Swap key old new) ≡ tested value is_old
+  effect_is value is_old test there = ap (effect_of (Swap key old new) (is_full cap pseudo m key)) there ∙ ap (tested value) test
+
   by_test : (value : List ℕ) (is_old : Bool) → bytes_eq value old ≡ is_old → fin.get m key ≡ Some value → IsSwap cap pseudo m key old new
   by_test value true test there =
-      stands (there ∙ ap (λ v. Some v) ((bytes_eq-Decides value old).0 test)) (ap (effect_of (Swap key old new) (is_full cap pseudo m key)) there ∙ ap (λ b. cond b _ _) test)
+      stands (there ∙ ap (λ v. Some v) ((bytes_eq-Decides value old).0 test)) (effect_is value true test there)
   by_test value false test there =
-      another value there (λ same. let yes = (bytes_eq-Decides value old).1 same in cc) (ap (effect_of (Swap key old new) (is_full cap pseudo m key)) there ∙ ap (λ b. cond b _ _) test)
+      another value there (λ same. let yes = (bytes_eq-Decides value old).1 same in cc) (effect_is value false test there)
 
   by_found : (found : Option (List ℕ)) → fin.get m key ≡ found → IsSwap cap pseudo m key old new
   by_found (Some value) is = by_test value (bytes_eq value old) refl is
