@@ -122,12 +122,19 @@ fn is_same_in<J: Journals>(journals: &J, diary: &Diary, number: usize) -> bool
             let Some(other) = next_of(&mut told, client) else {
                 return false;
             };
-            if other != entry {
+            if !is_equal(&other, &entry) {
                 return false;
             }
         }
     }
     next_of(&mut told, client).is_none()
+}
+
+// Whether two entries are the same.
+fn is_equal(one: &DiaryEntry, other: &DiaryEntry) -> bool
+    ensures { IsTrue result ↔ (one.now ≡ other.now) }
+{
+    one == other
 }
 
 // The next entry of a caller, as it writes it down, of the entries of a journal from one on.

@@ -8,8 +8,8 @@ use Rattle.exh_settle.proofs.Each.{turned}
 use Rattle.exh_settle.proofs.Splits.{at_the_end, behind_same, cons_not_nil, first_of, in_ward-own}
 use Rattle.exh_settle.proofs.settlement.is_same_in.Goals as goal
 
-pub returns-then-ne : goal.returns-then-ne
-returns-then-ne g c =
+pub returns-then-not-is_equal : goal.returns-then-not-is_equal
+returns-then-not-is_equal g c =
     let differ : c.in-Some-next_of.other ≡ c.in-Some.entry → ⊥ = search rules in
     let ward_of = g.J.Journals.ward_of c.args.journals.now in
     let number = c.args.number in
@@ -23,8 +23,8 @@ returns-then-ne g c =
       λ same. absurd (differ (sym (first_of _ _ _ _ (behind_same (in_ward ward_of number yielded) _ _ (sym here ∙ same ∙ c.loop-entry.invariant.same ∙ ap (λ rest. in_ward ward_of number yielded ++ rest) told))))),
     )
 
-pub loop-entry-preserved-else-ne : goal.loop-entry-preserved-else-ne
-loop-entry-preserved-else-ne g c =
+pub loop-entry-preserved-else-not-is_equal : goal.loop-entry-preserved-else-not-is_equal
+loop-entry-preserved-else-not-is_equal g c =
     let is : c.in-Some-next_of.other ≡ c.in-Some.entry = search rules in
     let ward_of = g.J.Journals.ward_of c.args.journals.now in
     let number = c.args.number in
