@@ -1,6 +1,5 @@
 ghost use Rattle.std.specs.Prelude.{◌≡◌, ℕ, List, [], ◌∷◌, ◌++◌, OnOk, OnErr, None};
 ghost use Rattle.std.specs.Map.Iter.{ShowsInOrder, deref_pair};
-ghost use Rattle.std.specs.Option.{option_copied};
 ghost use Rattle.exh_ward.specs.declared.hop.Hop.TheVariants.{Moved};
 ghost use Rattle.exh_world.specs.InFlight.{HasRoom, request_named, requests_after, moved_to};
 ghost use Rattle.exh_world.specs.declared.request.Request.{Request as RequestType};
@@ -39,10 +38,10 @@ impl InFlight {
     }
 
     /// The request of a name.
-    pub(crate) fn get(&self, name: u32) -> Option<&Request>
-        ensures { option_copied result ≡ request_named name self.now }
+    pub(crate) fn get(&self, name: u32) -> Option<Request>
+        ensures { result ≡ request_named name self.now }
     {
-        self.requests.get(&name)
+        self.requests.get(&name).copied()
     }
 
     /// The requests with their names.
@@ -87,7 +86,7 @@ impl InFlight {
             let moved = Request {
                 page,
                 moves: request.moves + 1,
-                ..*request
+                ..request
             };
             let _ = self.requests.insert(name, moved);
         }

@@ -79,11 +79,10 @@ impl<P: Pages + Drop, K: Keyer> World<P, K> {
             &request.call,
             request.pseudokey,
         )?;
-        let outcome = Outcome::Hopped {
+        self.in_flight.note_hop(name, &hop);
+        Ok(Outcome::Hopped {
             ward: request.ward,
             hop: Progress::of_hop(&hop, request.moves, bound),
-        };
-        self.in_flight.note_hop(name, &hop);
-        Ok(outcome)
+        })
     }
 }
