@@ -1,5 +1,6 @@
 -- The units that a walk adds: one where it is answered, else none.
 use Rattle.std.proofs.Common.{◌≡◌, ℕ, ◌+◌, List, [], ◌∷◌, length, Result, Ok, Err, Option, Some, None, Bool, refl, sym, ap, ◌∙◌, subst, arith}
+use Rattle.std.specs.Result.{IsErr, IsErrAnd}
 use Rattle.exh_notice.specs.declared.notice.Notice.{Notice}
 use Rattle.exh_calls.specs.declared.call.Call.{Call}
 use Rattle.exh_calls.specs.declared.reply.Reply.{Reply}
@@ -61,6 +62,26 @@ end_units : (may : ℕ → Bool → Type 0) (due : Due) (turns : ℕ) (result : 
 end_units may (Over over) turns result end = ap units_of (sym end)
 end_units may (HopDue page) turns result end = ap units_of (sym end.0)
 end_units may (SplitDue page) turns result end = absurd end
+
+-- a refusal that is handed on
+pub of_fault : (P : Result Reply AskFault → Type 0) (result : Result Reply AskFault) (fault : AskFault) → IsErr result × IsErrAnd result (λ other. other ≡ fault) → P (Err fault) → P result
+of_fault P (Ok reply) fault is has = absurd is.1
+of_fault P (Err other) fault is has = subst (λ one. P (Err one)) (sym is.1) has
+
+-- what each step keeps is known of a run of them
+known_run : {S : Type 0} (step : S → WardEvent → S → Type 0) (Known : WardEvent → Type 0) → ((old new : S) (event : WardEvent) → step old event new → Known event)
+    → (old new : S) (events : List WardEvent) → IsRun step old events new → IsRun {S = Unit {0}} (λ before event after. Known event) tt events tt
+known_run step Known is old new [] run = refl
+known_run step Known is old new (event ∷ earlier) run = (tt, known_run step Known is old run.0 earlier run.1, is run.0 new event run.2)
+
+pub known_walk : {S : Type 0} (step : S → WardEvent → S → Type 0) (Known : WardEvent → Type 0) → ((old new : S) (event : WardEvent) → step old event new → Known event)
+    → (may : ℕ → Bool → Type 0) (old new : S) (at client : ℕ) (call : Call) (result : Result Reply AskFault)
+    → IsWalked step may old at client call result new → IsWalked {S = Unit {0}} (λ before event after. Known event) may tt at client call result tt
+known_walk step Known is may old new at client call result walked = record {
+  events = walked.events;
+  way = record { run = known_run step Known is old new walked.events walked.way.run; due = walked.way.due; passed = walked.way.passed };
+  end = walked.end;
+}
 
 -- the amount grows by what the walk adds
 pub walk_adds : {S : Type 0} (step : S → WardEvent → S → Type 0) (amount : S → ℕ) → ((old new : S) (event : WardEvent) → step old event new → amount new ≡ amount old + length (answer_of event))

@@ -1,6 +1,7 @@
 ghost use Rattle.std.specs.Prelude.{◌≡◌, ◌+◌, [], ◌∷◌, ◌++◌, IfOk, OnErr};
 ghost use Rattle.exh_calls.specs.Call.{key_of};
 ghost use Rattle.exh_copy.specs.Additions.{BeginsWith};
+ghost use Rattle.exh_live.specs.Locked.{IsAsked, IsLockedWalk};
 ghost use Rattle.exh_live.specs.Units.{units_of};
 
 use crate::ledgers::Answers;
@@ -35,6 +36,7 @@ impl<P: Pages + Drop, K: Keyer, F: Identity> LiveFile<P, K, F> {
     ) -> Result<Reply, AskFault>
         ensures ok { IfOk result (λ reply. seat.new ≡ record seat.old { entries = seat.old.entries ++ record { call = call.now; reply = reply } ∷ [] }) }
         ensures err { OnErr result (seat.new ≡ seat.old) }
+        ensures walk { IsAsked K.pseudokey_of (G.may gate.now seat.old.client) seat.old.client call.now result }
         ensures copy { BeginsWith copy.new copy.old }
     {
         if seat.diary.reserve().is_err() {
@@ -67,6 +69,7 @@ impl<P: Pages + Drop, K: Keyer, F: Identity> LiveFile<P, K, F> {
         requires part { answers.parts ≡ 1 }
         requires hashed { pseudokey ≡ K.pseudokey_of self.now.keyer (key_of call.now) }
         ensures part { result.0.parts ≡ 1 }
+        ensures walk { IsLockedWalk K.pseudokey_of (G.may gate.now client) at client call.now result.1 }
         ensures units { result.0.amount ≡ answers.amount + units_of result.1 }
     {
         let number = ward_number(self.ward_bits, pseudokey);

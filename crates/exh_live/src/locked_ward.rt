@@ -1,6 +1,7 @@
 ghost use Rattle.std.specs.Prelude.{◌≡◌, ◌+◌, ◌<◌, length};
 ghost use Rattle.exh_calls.specs.Call.{key_of};
 ghost use Rattle.exh_route.specs.WardRun.{answer_of};
+ghost use Rattle.exh_live.specs.Locked.{IsSomeWardsStep};
 
 use crate::Identity;
 use crate::ledgers::Answers;
@@ -48,7 +49,7 @@ impl<'a, P: Pages + Drop, K: Keyer, F: Identity, R: Wait> LockedWard<'a, P, K, F
 
 // An answer is one unit more, and nothing else is any.
 impl<'a, P: Pages + Drop, K: Keyer, F: Identity, R: Wait> Steps for LockedWard<'a, P, K, F, R> {
-    ghost step = { λ old event new. new.answers.amount ≡ old.answers.amount + length (answer_of event) };
+    ghost step = { λ old event new. (new.answers.amount ≡ old.answers.amount + length (answer_of event)) × IsSomeWardsStep K.pseudokey_of event };
 
     ghost serves = { λ ward call pseudokey. (pseudokey ≡ ward.pseudokey) × (pseudokey ≡ F.hashing (key_of call)) };
 

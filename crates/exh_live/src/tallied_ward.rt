@@ -1,12 +1,13 @@
-ghost use Rattle.std.specs.Prelude.{◌≡◌, ◌+◌, ◌<◌, [], ◌++◌, true, false, length, take, IfOk, IfErr, OnOk, OnErr};
+ghost use Rattle.std.specs.Prelude.{◌≡◌, ◌+◌, ◌<◌, ◌↔◌, [], ◌++◌, true, false, length, take, IsTrue, IfOk, IfErr, OnOk, OnErr};
 ghost use Rattle.exh_prefix.specs.Prefix.{Begins};
 ghost use Rattle.exh_calls.specs.Call.{key_of};
 ghost use Rattle.exh_ward.specs.HopTable.{HopOf};
 ghost use Rattle.exh_ward.specs.SplitStep.{IsSplitStep};
 ghost use Rattle.exh_ward.specs.WardFault.{CountsFailures, IsStoreFault, SplitRefused};
-ghost use Rattle.exh_ward.specs.WardState.{IsUnchanged, LeavesAfter, notices_above, own_prefix};
-ghost use Rattle.exh_route.specs.WardRun.{HopAt, answer_of};
+ghost use Rattle.exh_ward.specs.WardState.{IsSoundWard, IsUnchanged, LeavesAfter, notices_above, own_prefix};
+ghost use Rattle.exh_route.specs.WardRun.{HopAt, SplitAt, answer_of};
 ghost use Rattle.exh_ward.specs.declared.ward_fault.WardFault.TheVariants.{Worn};
+ghost use Rattle.exh_walk.specs.WardStep.{IsWardStep};
 ghost use Rattle.exh_live.specs.Rounds.{IsKeeperTurn, MayRefuseKeeper};
 
 use crate::Identity;
@@ -63,8 +64,11 @@ impl<P: Pages + Drop, K: Keyer, F: Identity> TalliedWard<P, K, F> {
 
     /// Whether keys of this pseudokey belong to the ward.
     pub(crate) fn covers(&self, pseudokey: u64) -> bool
-        ensures { result ≡ true → Begins (own_prefix self.now.ward) pseudokey }
+        ensures covers { IsTrue result ↔ Begins (own_prefix self.now.ward) pseudokey }
+        ensures hashed { K.pseudokey_of self.now.ward.keyer ≡ F.hashing }
+        ensures sound { IsSoundWard K.pseudokey_of self.now.ward }
     {
+        self.ward.journal();
         self.ward.covers(pseudokey)
     }
 
@@ -88,10 +92,13 @@ impl<P: Pages + Drop, K: Keyer, F: Identity> TalliedWard<P, K, F> {
         ensures err { OnErr result (IsUnchanged self.old.ward self.new.ward) }
         ensures fault { IfErr result IsStoreFault }
         ensures failures { CountsFailures result self.old.ward.failures self.new.ward.failures }
+        ensures step { IsSoundWard K.pseudokey_of self.old.ward × IsWardStep K.pseudokey_of self.old.ward (HopAt at client call.now result) self.new.ward }
         ensures units { answers.new.amount ≡ answers.old.amount + length (answer_of (HopAt at client call.now result)) }
         ensures seat { answers.new.parts ≡ answers.old.parts }
     {
         let TalliedWard { ward, entries } = self;
+        // By whose contract the ward is sound.
+        ward.journal();
         let hop = ward.hop_hashed(at, client, call, pseudokey)?;
         if let Hop::Done(_) = hop {
             lock_soon(tally, rt).count(answers, entries);
@@ -105,7 +112,10 @@ impl<P: Pages + Drop, K: Keyer, F: Identity> TalliedWard<P, K, F> {
         ensures refused { IfErr result (SplitRefused self.old.ward.cap self.old.ward.pages page) }
         ensures err { OnErr result (IsUnchanged self.old.ward self.new.ward) }
         ensures failures { CountsFailures result self.old.ward.failures self.new.ward.failures }
+        ensures step { IsSoundWard K.pseudokey_of self.old.ward × IsWardStep K.pseudokey_of self.old.ward (SplitAt page result) self.new.ward }
     {
+        // By whose contract the ward is sound.
+        self.ward.journal();
         self.ward.split(page)
     }
 
