@@ -1,6 +1,7 @@
 -- A world stays sound where a ward splits or merges.
-use Rattle.std.proofs.Common.{◌≡◌, ℕ, Bool, List, [], ◌∷◌, ◌++◌, length, drop, slice_get, Some, Ok, refl, sym, ap, ◌∙◌, subst, arith}
+use Rattle.std.proofs.Common.{◌≡◌, ℕ, Bool, List, [], ◌∷◌, ◌++◌, length, drop, take, slice_get, Some, Ok, refl, sym, ap, ◌∙◌, subst, arith}
 use Rattle.std.specs.Prelude.{◌↔◌}
+use Rattle.std.proofs.Math.Seq.{take-append-le}
 use Rattle.std.proofs.lemmas.List.{length_push}
 use Rattle.exh_prefix.specs.ListLemmas.{drop_push}
 use Rattle.exh_notice.specs.declared.notice.Notice.{Notice}
@@ -8,10 +9,10 @@ use Rattle.exh_table.specs.Leaves.{ward_leaves, leaves_in}
 use Rattle.exh_legal.specs.Laws.{KeepsPlaces}
 use Rattle.exh_prefix.specs.Leading.{ward_prefix}
 use Rattle.exh_ward.specs.WardState.{WardState, IsSoundWard}
-use Rattle.exh_table.specs.Table.{table_with}
+use Rattle.exh_table.specs.Table.{TableMap, table_with}
 use Rattle.exh_ward.specs.MergeStep.{IsMergeStep}
 use Rattle.exh_ward.specs.SplitStep.{IsSplitStep}
-use Rattle.exh_route.specs.DistanceLaws.{StepsAddChanges}
+use Rattle.exh_route.specs.DistanceLaws.{IsTableWithin, StepsAddChanges}
 use Rattle.exh_route.specs.WardRun.{WardEvent, SplitAt, MergeAt, WardStep, changes_by}
 use Rattle.exh_world.specs.Sound.{IsWardOf, IsSoundWorld}
 use Rattle.exh_world.specs.World.{WorldState}
@@ -42,6 +43,10 @@ module _ {K : Type 0} (pseudokey_of : K → List ℕ → ℕ) (old : WorldState 
       before = is_own.before;
       noticed = is_own.noticed;
       first = omega (arith, is_own.first, ap length notices_are, length_push before.notices notice);
+      started =
+          let had : take is_own.before left.notices ≡ take is_own.before before.notices = ap (take is_own.before) notices_are ∙ take-append-le is_own.before before.notices (notice ∷ []) is_own.first in
+          let P : TableMap → List Notice → Type 0 = λ start ns. IsTableWithin own start ns old.start in
+          subst (λ start. P start (take is_own.before left.notices)) (sym (ap (λ (w : WardState K). w.start) others)) (subst (P before.start) (sym had) is_own.started);
       directory = λ prefix.
           let more = alike_push (leaves_in old.start own) (leaves_in before.start own) (drop is_own.before before.notices) before.notices notice is_own.directory prefix in
           let dropped : drop is_own.before left.notices ≡ drop is_own.before before.notices ++ notice ∷ [] = ap (drop is_own.before) notices_are ∙ drop_push is_own.before before.notices notice is_own.first in

@@ -2,12 +2,12 @@
 use Rattle.std.proofs.Common.{ℕ, List, [], ◌∷◌, ◌++◌, append_assoc, refl, sym, ap, ◌∙◌, subst}
 use Rattle.exh_route.specs.Laws.{RunsKeepWardsSound}
 use Rattle.exh_world.specs.Counted.{AnswersAreCounted, RequestsGoOn}
-use Rattle.exh_world.specs.Current.{CurrentCopiesLookOnce}
+use Rattle.exh_world.specs.Current.{CurrentCopiesBeginHome, CurrentCopiesLookOnce}
 use Rattle.exh_world.specs.Laws.{StepsKeepWorldsSound}
 use Rattle.exh_world.specs.Parts.{HasCountedMoves, HasCurrentCopies, RunsCountMoves, RunsHaveCurrentCopies}
 use Rattle.exh_world.specs.Run.{Moment, IsRun}
 use Rattle.exh_world.specs.Step.{Step}
-use Rattle.exh_world.specs.Taken.{TakersLookOnce, turns_of}
+use Rattle.exh_world.specs.Taken.{TakersBeginHome, TakersLookOnce, turns_of}
 use Rattle.exh_world.specs.World.{WorldState}
 use Rattle.exh_event.specs.declared.turn.Turn.{Turn}
 use Rattle.exh_world.proofs.GoingOn.{run_sound}
@@ -34,8 +34,8 @@ module _ {K : Type 0} (pseudokey_of : K → List ℕ → ℕ) (keep : StepsKeepW
       } in
       (counted, refl)
 
-  pub current_copies : CurrentCopiesLookOnce pseudokey_of → TakersLookOnce pseudokey_of → RunsHaveCurrentCopies pseudokey_of
-  current_copies look once start moments end sound run =
+  pub current_copies : CurrentCopiesLookOnce pseudokey_of → TakersLookOnce pseudokey_of → CurrentCopiesBeginHome pseudokey_of → TakersBeginHome pseudokey_of → RunsHaveCurrentCopies pseudokey_of
+  current_copies look once home own start moments end sound run =
       let copies : HasCurrentCopies pseudokey_of start (turns_of moments) end = record {
         moments = moments;
         turns_are = refl;
@@ -47,6 +47,14 @@ module _ {K : Type 0} (pseudokey_of : K → List ℕ → ℕ) (keep : StepsKeepW
             let Q : Turn → Type 0 = λ t. Step pseudokey_of hop.before t.event t.result hop.after in
             look begin.before begin.after name client copy call ward page (run_sound pseudokey_of keep runs start front begin.before sound first.0) (subst P is.begins first.1) table there current is.part hop.before last.0 is.open_still is.changes is.number progress hop.after
             (subst Q is.hops last.1);
+        current_begin = λ front begin name client copy call ward page is table there current.
+            let first = at_turn pseudokey_of start front begin is.back end (subst (λ ms. IsRun pseudokey_of start ms end) is.cut run) in
+            let P : Turn → Type 0 = λ t. Step pseudokey_of begin.before t.event t.result begin.after in
+            home begin.before begin.after name client copy call ward page (run_sound pseudokey_of keep runs start front begin.before sound first.0) (subst P is.begins first.1) table there current;
+        takers_begin = λ front begin name client copy call ward page is taken.
+            let first = at_turn pseudokey_of start front begin is.back end (subst (λ ms. IsRun pseudokey_of start ms end) is.cut run) in
+            let P : Turn → Type 0 = λ t. Step pseudokey_of begin.before t.event t.result begin.after in
+            own start front begin.before sound first.0 name client copy call ward page begin.after (subst P is.begins first.1) taken;
         takers = λ front begin hop name client copy call ward page progress is taken.
             let first = at_turn pseudokey_of start front begin (is.part ++ hop ∷ is.back) end (subst (λ ms. IsRun pseudokey_of start ms end) is.cut run) in
             let last = at_turn pseudokey_of begin.after is.part hop is.back end first.2 in

@@ -47,6 +47,7 @@ module _ {K : Type 0} (pseudokey_of : K → List ℕ → ℕ) (old : WorldState 
     before = own.before;
     noticed = own.noticed;
     first = own.first;
+    started = own.started;
     directory = own.directory;
   }
 

@@ -8,6 +8,7 @@ use Rattle.std.proofs.lemmas.List.FromFn.{length-map-range_with_len, map-range_w
 use Rattle.std.proofs.lemmas.Option.{slice_get-get_or}
 use Rattle.exh_prefix.specs.Prefix.{prefix_cmp}
 use Rattle.exh_prefix.specs.ListLemmas.{push_is}
+use Rattle.exh_table.specs.SetLemmas.{since_nothing}
 use Rattle.exh_table.specs.Table.{TableMap}
 use Rattle.exh_table.specs.Walk.{right_of}
 use Rattle.exh_prefix.specs.Leading.{ward_prefix}
@@ -89,6 +90,7 @@ module _ {K : Type 0} (pseudokey_of : K → List ℕ → ℕ) where
       before = 0;
       noticed = replicate_there (2 ^ config.ward_bits) 0 number within;
       first = omega arith;
+      started = λ prefix front. since_nothing prefix;
       directory = λ prefix. (λ leaf. leaf, λ leaf. leaf);
     }
 

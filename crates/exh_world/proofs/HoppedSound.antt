@@ -1,9 +1,11 @@
 -- A world stays sound where a request hops, and no hop of a sound world strays.
-use Rattle.std.proofs.Common.{◌≡◌, ℕ, suc, ◌+◌, Ok, List, length, drop, slice_get, Some, sym, ap, ◌∙◌, subst, arith}
+use Rattle.std.proofs.Common.{◌≡◌, ℕ, suc, ◌+◌, Ok, List, length, drop, take, slice_get, Some, sym, ap, ◌∙◌, subst, arith}
 use Rattle.std.specs.Prelude.{slice_set, ◌↔◌}
 use Rattle.exh_prefix.specs.Prefix.{Begins}
 use Rattle.exh_prefix.specs.ListLemmas.{set_same, one_there}
+use Rattle.exh_notice.specs.declared.notice.Notice.{Notice}
 use Rattle.exh_table.specs.Leaves.{ward_leaves}
+use Rattle.exh_table.specs.Table.{TableMap}
 use Rattle.exh_page.specs.declared.page.Page.{Page}
 use Rattle.exh_page.specs.declared.page.Page.TheVariants.{Live, Forward}
 use Rattle.exh_legal.specs.Laws.{KeepsPlaces, RightLinksLeadOn, TargetsLeadOn, IsBelow}
@@ -15,7 +17,7 @@ use Rattle.exh_ward.specs.declared.hop.Hop.TheVariants.{Done, Moved, Stray}
 use Rattle.exh_calls.specs.declared.reply.Reply.{Reply}
 use Rattle.exh_ward.specs.AnswerLemmas.{places_answered}
 use Rattle.exh_route.specs.Distance.{IsDistance}
-use Rattle.exh_route.specs.DistanceLaws.{StepsAddChanges}
+use Rattle.exh_route.specs.DistanceLaws.{IsTableWithin, StepsAddChanges}
 use Rattle.exh_route.specs.Laws.{CanGoOn, MovesComeNearer}
 use Rattle.exh_route.specs.WardRun.{HopAt}
 use Rattle.exh_world.specs.InFlight.{Requests, request_named, requests_after}
@@ -135,6 +137,9 @@ module _ {K : Type 0} (pseudokey_of : K → List ℕ → ℕ) (old : WorldState 
           before = is_own.before;
           noticed = is_own.noticed;
           first = omega (arith, is_own.first, ap length notices_are);
+          started =
+              let P : TableMap → List Notice → Type 0 = λ start ns. IsTableWithin own start (take is_own.before ns) old.start in
+              subst (λ start. P start left.notices) (sym start_is) (subst (P before.start) (sym notices_are) is_own.started);
           directory = λ prefix.
               subst (λ ns. ward_leaves old.start own (drop is_own.before ns) prefix ↔ ward_leaves left.start own ns prefix) (sym notices_are)
               (subst (λ start. ward_leaves old.start own (drop is_own.before before.notices) prefix ↔ ward_leaves start own before.notices prefix) (sym start_is) (is_own.directory prefix));

@@ -1,14 +1,16 @@
 -- At one prefix of tables: what a notice or a join makes of the entry there.
 use Rattle.std.proofs.Common.{◌≡◌, ◌⊎◌, Bool, true, false, cond, List, [], ◌∷◌, ◌++◌, Option, None, Some, inl, inr, refl, sym, ap, ◌∙◌, subst, arith}
 use Rattle.std.specs.Prelude.{Contains}
-use Rattle.std.specs.FinMap.{get, get-insert}
+use Rattle.std.specs.FinMap.{entries, get, get-insert}
 use Rattle.std.specs.Ordering.{eq_by_cmp}
-use Rattle.std.proofs.lemmas.List.Elements.{Contains-append_left, Contains-append_right}
+use Rattle.std.proofs.lemmas.List.Elements.{Contains-append_left, Contains-append_right, Contains-append_cases}
 use Rattle.exh_prefix.specs.Prefix.{IsFront, prefix_cmp}
 use Rattle.exh_prefix.specs.PrefixLemmas.{prefix_cmp-total}
 use Rattle.exh_notice.specs.declared.entry.Entry.{Entry}
 use Rattle.exh_notice.specs.declared.notice.Notice.{Notice}
 use Rattle.exh_notice.specs.Entry.{entry_of}
+use Rattle.exh_notice.specs.EntryLemmas.{entry_laws}
+use Rattle.exh_table.specs.SetLemmas.{own_entries}
 use Rattle.exh_table.specs.Table.{TableMap, IsEntryOf, told_by, greater_of, table_with}
 use Rattle.exh_table.specs.TableLemmas.{get-table_join, greater_is, joined_first, joined_least, same_from_tie, up_to_itself}
 use Rattle.exh_table.specs.TableOrder.{IsOptionUpTo, IsTableUpTo, table_join}
@@ -22,6 +24,45 @@ told_up told prefix (Some found) is entry among = is.greatest entry among
 -- what is up to a bound in two tables, is so in their join
 pub join_up : (table other bound : TableMap) (prefix : List Bool) → IsOptionUpTo (get table prefix) (get bound prefix) → IsOptionUpTo (get other prefix) (get bound prefix) → IsOptionUpTo (get (table_join table other) prefix) (get bound prefix)
 join_up table other bound prefix one two = subst (λ e. IsOptionUpTo e (get bound prefix)) (sym (get-table_join table other prefix)) (joined_least (get table prefix) (get other prefix) (get bound prefix) one two)
+
+-- ---- a table in place of what it is of
+
+module _ (told own more : List (List Bool × Entry)) (prefix : List Bool) where
+  over : (stood found : Option Entry) → IsEntryOf told prefix stood → IsEntryOf own prefix stood → IsEntryOf (own ++ more) prefix found → IsEntryOf (told ++ more) prefix found
+  over None None of its is = λ entry among. elim (Contains-append_cases told more (prefix, entry) among) [
+    | inl here ↦ of entry here
+    | inr there ↦ is entry (Contains-append_right own more (prefix, entry) there)
+  ]
+  over None (Some entry) of its is = record {
+    member = elim (Contains-append_cases own more (prefix, entry) is.member) [
+      | inl here ↦ absurd (its entry here)
+      | inr there ↦ Contains-append_right told more (prefix, entry) there
+    ];
+    greatest = λ other among. elim (Contains-append_cases told more (prefix, other) among) [
+      | inl here ↦ absurd (of other here)
+      | inr there ↦ is.greatest other (Contains-append_right own more (prefix, other) there)
+    ];
+  }
+  over (Some stood) None of its is = λ entry among. is stood (Contains-append_left own more (prefix, stood) its.member)
+  over (Some stood) (Some entry) of its is =
+      let least = is.greatest stood (Contains-append_left own more (prefix, stood) its.member) in
+      record {
+        member = elim (Contains-append_cases own more (prefix, entry) is.member) [
+          | inl here ↦
+              let same : entry ≡ stood = entry_laws.order.antisymmetric entry stood (its.greatest entry here) least in
+              Contains-append_left told more (prefix, entry) (subst (λ e. Contains told (prefix, e)) (sym same) of.member)
+          | inr there ↦ Contains-append_right told more (prefix, entry) there
+        ];
+        greatest = λ other among. elim (Contains-append_cases told more (prefix, other) among) [
+          | inl here ↦ entry_laws.order.transitive other stood entry (of.greatest other here) least
+          | inr there ↦ is.greatest other (Contains-append_right own more (prefix, other) there)
+        ];
+      }
+
+-- what has its greatest entries among a table's and some more, has them among what the table is of and these
+pub entry_over : (told more : List (List Bool × Entry)) (table : TableMap) (prefix : List Bool) (found : Option Entry) → IsEntryOf told prefix (get table prefix) → IsEntryOf (entries table ++ more) prefix found
+    → IsEntryOf (told ++ more) prefix found
+entry_over told more table prefix found of is = over told (entries table) more prefix (get table prefix) found of (own_entries table prefix) is
 
 -- ---- a table with a notice more
 

@@ -60,6 +60,7 @@ same_ward pseudokey_of old wards copies sent requests number ward is = record {
   before = is.before;
   noticed = is.noticed;
   first = is.first;
+  started = is.started;
   directory = is.directory;
 }
 

@@ -1,6 +1,7 @@
 -- The world of given wards is sound.
 use Rattle.std.proofs.Common.{◌≡◌, ℕ, zero, suc, ◌↔◌, ◌+◌, ◌^◌, ◌<◌, ◌≤◌, inl, inr, Bool, List, [], ◌∷◌, ◌++◌, length, map, take, replicate, get_or, slice_get, Option, Some, None, refl, sym, ap, ◌∙◌, subst, arith, lit<}
 use Rattle.std.specs.FinMap as fin
+use Rattle.std.specs.FinMap.{entries}
 use Rattle.std.specs.List.{fold}
 use Rattle.std.specs.Option.{option_map_or}
 use Rattle.std.proofs.lemmas.List.{drop_all, take_all, take_more, map-append}
@@ -11,7 +12,7 @@ use Rattle.exh_prefix.specs.PrefixLemmas.{front_of_front}
 use Rattle.exh_notice.specs.declared.notice.Notice.{Notice}
 use Rattle.exh_table.specs.declared.leaf.Leaf.{Leaf}
 use Rattle.exh_table.specs.Leaves.{ward_leaves}
-use Rattle.exh_table.specs.Table.{TableMap}
+use Rattle.exh_table.specs.Table.{TableMap, IsEntryOf, told_by}
 use Rattle.exh_table.specs.TableLemmas.{joined, get-table_join}
 use Rattle.exh_table.specs.TableOrder.{table_join}
 use Rattle.exh_table.specs.Walk.{right_of, split_at, step, walk_on, walk_in}
@@ -112,9 +113,12 @@ module _ {K : Type 0} (pseudokey_of : K → List ℕ → ℕ) (config : Config K
         ∙ none_outside other of.0 of.1 prefix (λ front_too. differ (one_front config.ward_bits other number prefix (fits other of.0 of.1) (fits number ward is) front_too front))
 
     -- in the ward the start table is the ward's own
+    own_entry : (prefix : List Bool) → IsFront (prefix_of number) prefix → fin.get start prefix ≡ fin.get ward.table prefix
+    own_entry prefix front =
+        one_alone (map (λ (w : WardState K). w.table) wards) fin.empty prefix number ward.table (map_there (λ (w : WardState K). w.table) wards number ward is) (fin.get-empty prefix_cmp prefix) (not_others prefix front)
+
     own_splits : (prefix : List Bool) → IsFront (prefix_of number) prefix → split_at start prefix ≡ split_at ward.table prefix
-    own_splits prefix front =
-        ap right_of (one_alone (map (λ (w : WardState K). w.table) wards) fin.empty prefix number ward.table (map_there (λ (w : WardState K). w.table) wards number ward is) (fin.get-empty prefix_cmp prefix) (not_others prefix front))
+    own_splits prefix front = ap right_of (own_entry prefix front)
 
     pub leads_right : LeadsRight (prefix_of number) ward.pages start
     leads_right prefix right front split =
@@ -156,6 +160,9 @@ module _ {K : Type 0} (pseudokey_of : K → List ℕ → ℕ) (config : Config K
       before = length ward.notices;
       noticed = map_there (λ (w : WardState K). length w.notices) wards number ward is;
       first = omega arith;
+      started = λ prefix front.
+          subst (λ ns. IsEntryOf (entries ward.start ++ map told_by ns) prefix (fin.get start prefix)) (sym (take_all (length ward.notices) ward.notices (omega arith)))
+          (subst (IsEntryOf (entries ward.start ++ map told_by ward.notices) prefix) (sym (own_entry prefix front)) ((sound number ward is).since prefix));
       directory = λ prefix. subst (λ changes. ward_leaves start (prefix_of number) changes prefix ↔ named prefix) (sym (drop_all (length ward.notices) ward.notices (omega arith))) (leaf_is_named prefix, named_is_leaf prefix);
     }
 

@@ -39,3 +39,10 @@ CurrentCopiesLookOnce {K} pseudokey_of = (old now : WorldState K) (name client c
     → (moments : List (Moment K)) (later : WorldState K) → IsRun pseudokey_of now moments later → AllLeaveOpen name moments → changes_in later ward ≡ changes_in now ward
     → (number : ℕ) (hop : Progress) (after : WorldState K) → Step pseudokey_of later (HopOn name) (Ok (Hopped number hop)) after
     → LooksOnce (request_begun client call (pseudokey_in pseudokey_of old call) ward page 0 (length (changes_in old ward))) name later hop
+
+-- of a request that begins at such a copy the distance is 0, whether it ever hops or not
+abbrev pub CurrentCopiesBeginHome : {K : Type 0} → (K → List ℕ → ℕ) → Type 0
+CurrentCopiesBeginHome {K} pseudokey_of = (old now : WorldState K) (name client copy : ℕ) (call : Call) (ward page : ℕ) → IsSoundWorld pseudokey_of old
+    → Step pseudokey_of old (Begin name client copy call) (Ok (Begun ward page)) now
+    → (table : TableMap) → numbered old.copies copy ≡ Some table → IsCurrentIn old ward table
+    → request_named name now.in_flight ≡ Some (request_begun client call (pseudokey_in pseudokey_of old call) ward page 0 (length (changes_in old ward)))

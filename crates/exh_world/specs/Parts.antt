@@ -60,8 +60,15 @@ pub record BeginsAndHops {K : Type 0} (moments front : List (Moment K)) (begin h
   pub number : ℕ
   pub hops : hop.turn ≡ record { event = HopOn name; result = Ok (Hopped number progress) }
 
+-- a request begins at a copy after the first turns of a run
+pub record BeginsAfter {K : Type 0} (moments front : List (Moment K)) (begin : Moment K) (name client copy : ℕ) (call : Call) (ward page : ℕ) : Type 0 where
+  pub back : List (Moment K)
+  pub cut : moments ≡ front ++ begin ∷ back
+  pub begins : begin.turn ≡ record { event = Begin name client copy call; result = Ok (Begun ward page) }
+
 -- The turns are a run between the worlds. A request that begins in it at a copy that is current in its ward, as one is that took all of the ward's
--- changes, doesn't move before the ward changes: its first hop answers, or says that the page must split.
+-- changes, is at the distance 0, whether it hops or not, and doesn't move before the ward changes: its first hop answers, or says that the page must
+-- split.
 pub record HasCurrentCopies {K : Type 0} (pseudokey_of : K → List ℕ → ℕ) (start : WorldState K) (turns : List Turn) (end : WorldState K) : Type 0 where
   pub moments : List (Moment K)
   pub turns_are : turns_of moments ≡ turns
@@ -69,6 +76,12 @@ pub record HasCurrentCopies {K : Type 0} (pseudokey_of : K → List ℕ → ℕ)
   pub current : (front : List (Moment K)) (begin hop : Moment K) (name client copy : ℕ) (call : Call) (ward page : ℕ) (progress : Progress) → BeginsAndHops moments front begin hop name client copy call ward page progress
       → (table : TableMap) → numbered begin.before.copies copy ≡ Some table → IsCurrentIn begin.before ward table
       → LooksOnce (request_begun client call (pseudokey_in pseudokey_of begin.before call) ward page 0 (length (changes_in begin.before ward))) name hop.before progress
+  pub current_begin : (front : List (Moment K)) (begin : Moment K) (name client copy : ℕ) (call : Call) (ward page : ℕ) → BeginsAfter moments front begin name client copy call ward page
+      → (table : TableMap) → numbered begin.before.copies copy ≡ Some table → IsCurrentIn begin.before ward table
+      → request_named name begin.after.in_flight ≡ Some (request_begun client call (pseudokey_in pseudokey_of begin.before call) ward page 0 (length (changes_in begin.before ward)))
+  pub takers_begin : (front : List (Moment K)) (begin : Moment K) (name client copy : ℕ) (call : Call) (ward page : ℕ) → BeginsAfter moments front begin name client copy call ward page
+      → HasTakenAll start (turns_of front) begin.before copy ward
+      → request_named name begin.after.in_flight ≡ Some (request_begun client call (pseudokey_in pseudokey_of begin.before call) ward page 0 (length (changes_in begin.before ward)))
   pub takers : (front : List (Moment K)) (begin hop : Moment K) (name client copy : ℕ) (call : Call) (ward page : ℕ) (progress : Progress) → BeginsAndHops moments front begin hop name client copy call ward page progress
       → HasTakenAll start (turns_of front) begin.before copy ward
       → LooksOnce (request_begun client call (pseudokey_in pseudokey_of begin.before call) ward page 0 (length (changes_in begin.before ward))) name hop.before progress

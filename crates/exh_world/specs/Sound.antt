@@ -1,5 +1,5 @@
 -- What every world keeps.
-use Rattle.std.specs.Prelude.{◌≡◌, ◌↔◌, ℕ, ◌+◌, ◌^◌, ◌<◌, ◌≤◌, Bool, true, List, [], ◌∷◌, ◌++◌, length, drop, slice_get, Some}
+use Rattle.std.specs.Prelude.{◌≡◌, ◌↔◌, ℕ, ◌+◌, ◌^◌, ◌<◌, ◌≤◌, Bool, true, List, [], ◌∷◌, ◌++◌, length, drop, take, slice_get, Some}
 use Rattle.std.specs.List.{AllByRecursion}
 use Rattle.exh_prefix.specs.declared.prefix.TheConstants.{LIMIT}
 use Rattle.exh_prefix.specs.Prefix.{IsFront, Begins, low_of}
@@ -13,6 +13,7 @@ use Rattle.exh_calls.specs.Call.{key_of}
 use Rattle.exh_legal.specs.Laws.{IsBelow}
 use Rattle.exh_ward.specs.WardState.{WardState, IsSoundWard}
 use Rattle.exh_route.specs.Distance.{IsDistance}
+use Rattle.exh_route.specs.DistanceLaws.{IsTableWithin}
 use Rattle.exh_world.specs.Progress.{bound_in}
 use Rattle.exh_world.specs.Tables.{IsToldTruly}
 use Rattle.exh_world.specs.World.{WorldState, changes_in, numbered}
@@ -33,6 +34,8 @@ pub record IsWardOf {K : Type 0} (pseudokey_of : K → List ℕ → ℕ) (world 
   pub before : ℕ
   pub noticed : slice_get world.noticed number ≡ Some before
   pub first : before ≤ length ward.notices
+  -- of them, and of what the ward began with, the world's start table is in the ward
+  pub started : IsTableWithin (ward_prefix world.ward_bits number) ward.start (take before ward.notices) world.start
   -- the world's directory is the ward's own
   pub directory : (prefix : List Bool) → ward_leaves world.start (ward_prefix world.ward_bits number) (drop before ward.notices) prefix ↔ ward_leaves ward.start (ward_prefix world.ward_bits number) ward.notices prefix
 

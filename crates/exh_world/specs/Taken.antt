@@ -7,6 +7,7 @@ use Rattle.exh_ward.specs.WardState.{WardState}
 use Rattle.exh_world.specs.Counted.{AllLeaveOpen}
 use Rattle.exh_world.specs.Current.{IsCurrentIn, LooksOnce}
 use Rattle.exh_world.specs.Headline.{taken_by}
+use Rattle.exh_world.specs.InFlight.{request_named}
 use Rattle.exh_world.specs.Run.{Moment, IsRun, Told}
 use Rattle.exh_world.specs.Sound.{IsSoundWorld}
 use Rattle.exh_world.specs.Step.{Step, pseudokey_in, request_begun}
@@ -38,3 +39,9 @@ TakersLookOnce {K} pseudokey_of = (start : WorldState K) (front : List (Moment K
     → (moments : List (Moment K)) (later : WorldState K) → IsRun pseudokey_of now moments later → AllLeaveOpen name moments → changes_in later ward ≡ changes_in now ward
     → (number : ℕ) (hop : Progress) (after : WorldState K) → Step pseudokey_of later (HopOn name) (Ok (Hopped number hop)) after
     → LooksOnce (request_begun client call (pseudokey_in pseudokey_of old call) ward page 0 (length (changes_in old ward))) name later hop
+
+-- And its distance is 0, whether it ever hops or not.
+abbrev pub TakersBeginHome : {K : Type 0} → (K → List ℕ → ℕ) → Type 0
+TakersBeginHome {K} pseudokey_of = (start : WorldState K) (front : List (Moment K)) (old : WorldState K) → IsSoundWorld pseudokey_of start → IsRun pseudokey_of start front old
+    → (name client copy : ℕ) (call : Call) (ward page : ℕ) (now : WorldState K) → Step pseudokey_of old (Begin name client copy call) (Ok (Begun ward page)) now → HasTakenAll start (turns_of front) old copy ward
+    → request_named name now.in_flight ≡ Some (request_begun client call (pseudokey_in pseudokey_of old call) ward page 0 (length (changes_in old ward)))

@@ -2,10 +2,10 @@
 
 ghost use Rattle.exh_world.specs.Begun.{RequestsBeginNear};
 ghost use Rattle.exh_world.specs.Counted.{AnswersAreCounted, RequestsGoOn, StepsCountMoves};
-ghost use Rattle.exh_world.specs.Current.{CurrentCopiesLookOnce};
+ghost use Rattle.exh_world.specs.Current.{CurrentCopiesBeginHome, CurrentCopiesLookOnce};
 ghost use Rattle.exh_world.specs.Moves.{AnswersAreBounded};
 ghost use Rattle.exh_world.specs.Parts.{RunsCountMoves, RunsHaveCurrentCopies};
-ghost use Rattle.exh_world.specs.Taken.{TakersAreCurrent, TakersLookOnce};
+ghost use Rattle.exh_world.specs.Taken.{TakersAreCurrent, TakersBeginHome, TakersLookOnce};
 
 use crate::laws::{runs_carry_the_headline, steps_keep_worlds_sound};
 use exh_keyer::Keyer;
@@ -35,11 +35,14 @@ pub fn moves_are_counted<K: Keyer>()
 }
 
 /// A request begun at a copy that is current in its ward, as one is that took all of the ward's
-/// changes, doesn't move before the ward changes: its first hop answers, or says that the page must
-/// split (the two accesses of Fagin et al. 1979, one of the directory and one of a page).
+/// changes, is at the distance 0, and doesn't move before the ward changes: its first hop answers, or
+/// says that the page must split (the two accesses of Fagin et al. 1979, one of the directory and one
+/// of a page).
 pub fn current_copies_look_once<K: Keyer>()
     ensures current { CurrentCopiesLookOnce K.pseudokey_of }
+    ensures current_begin { CurrentCopiesBeginHome K.pseudokey_of }
     ensures takers { TakersAreCurrent K.pseudokey_of }
+    ensures takers_begin { TakersBeginHome K.pseudokey_of }
     ensures once { TakersLookOnce K.pseudokey_of }
     ensures runs { RunsHaveCurrentCopies K.pseudokey_of }
 {
