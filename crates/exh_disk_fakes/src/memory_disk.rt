@@ -16,7 +16,11 @@ pub const NAMES: [&str; 5] = [
 
 pub const MAGIC: [u8; 8] = *b"EXHASHPF";
 
+// Of the old file a beginning stands for all of it: it is as long as a page file of one page.
 pub const OLD: &[u8] = b"EXHASHPFoooooooo";
+
+pub const OLD_SIZE: u64 = 8192;
+
 /// What each of two savers saves.
 pub const SAVED: [&[u8]; 2] = [b"EXHASHPFaaaaaaaa", b"EXHASHPFbbbbbbbb"];
 /// For whom the savers run; and of whom the old file is, with its permissions.
@@ -53,9 +57,6 @@ pub struct MemoryDisk {
     pub kept: Option<usize>,
     /// Whether a file was at the place from the beginning.
     pub has_old: bool,
-    /// The number of the call that fails, and how many there were.
-    pub fails_at: usize,
-    pub calls: usize,
     /// Which saver makes the calls.
     pub saver: usize,
     pub time: i64,
@@ -63,7 +64,8 @@ pub struct MemoryDisk {
     pub is_wrong: bool,
 }
 
-fn fault<T>(kind: ErrorKind) -> io::Result<T> {
+/// A call that fails in this way.
+pub fn fault<T>(kind: ErrorKind) -> io::Result<T> {
     Err(io::Error::from(kind))
 }
 
@@ -75,8 +77,6 @@ impl MemoryDisk {
             names: [None; 5],
             kept: None,
             has_old: false,
-            fails_at: 0,
-            calls: 0,
             saver: 0,
             time: 0,
             is_wrong: false,
@@ -108,21 +108,22 @@ impl MemoryDisk {
         Ok(())
     }
 
+    /// Adds the old file, which has the place.
+    pub fn add_old(&mut self) -> Result<(), AllocError> {
+        self.add(0, OLD, OLD_MODE)?;
+        if let Some(node) = self.nodes.last_mut() {
+            node.about.size = OLD_SIZE;
+        }
+        self.has_old = true;
+        self.kept = self.names[0];
+        Ok(())
+    }
+
     /// Gives a name to a file, or takes it away.
     pub fn bind(&mut self, slot: usize, node: Option<usize>) {
         if let Some(name) = self.names.get_mut(slot) {
             *name = node;
         }
-    }
-
-    /// One more call: it is seen what a power cut before it would leave, and it may fail.
-    pub fn enter(&mut self) -> io::Result<()> {
-        self.see();
-        self.calls = self.calls.wrapping_add(1);
-        if self.calls == self.fails_at {
-            return fault(ErrorKind::Other);
-        }
-        Ok(())
     }
 
     /// Sees what a power cut would leave at the place: the file that has it on the disk, or the one that has it now.

@@ -1,11 +1,57 @@
 //! What one saver sees of a file system in memory.
 ghost use Rattle.std.specs.Prelude.{◌≡◌};
 
-use crate::memory_disk::{MAGIC, MemoryDisk, MemoryFile, OLD_MODE, SAVED, USER};
+use crate::memory_disk::{MAGIC, MemoryDisk, MemoryFile, NAMES, OLD_MODE, SAVED, USER, fault};
 use exh_disk::{Disk, Found, Head, Kind, Runner, Seen, Source, SourceFault, Stage, Target, save};
 use std::alloc::Global;
 use std::io;
 use std::io::{ErrorKind, Write};
+
+/// What a save came to.
+#[derive(Clone, Copy, PartialEq, Eq)]
+pub enum Ending {
+    Refused,
+    /// It is done, but its folder may not be on the disk.
+    Placed,
+    /// It is done, and on the disk.
+    Settled,
+}
+
+/// Who saves, and which call of it fails, alone or as all behind it do.
+#[derive(Clone, Copy)]
+pub struct Saver {
+    number: usize,
+    fails_at: usize,
+    is_killed: bool,
+}
+
+impl Saver {
+    pub fn new(number: usize) -> Saver {
+        Saver::failing(number, 0)
+    }
+
+    /// One of which this call fails, and 0 is none.
+    pub fn failing(number: usize, fails_at: usize) -> Saver {
+        Saver {
+            number,
+            fails_at,
+            is_killed: false,
+        }
+    }
+
+    /// One that is killed at this call, and 0 is none.
+    pub fn killed(number: usize, killed_at: usize) -> Saver {
+        Saver {
+            number,
+            fails_at: killed_at,
+            is_killed: killed_at > 0,
+        }
+    }
+
+    fn fails(&self, call: usize) -> bool {
+        call == self.fails_at || self.is_killed && call > self.fails_at
+    }
+}
 
 /// Who comes in between the calls of a saver.
 pub trait Between {
@@ -23,9 +69,11 @@ impl Between for Nobody {
 #[derive(Drop)]
 pub struct OtherSaver<'s> {
     pub at: usize,
+    /// At which of its own calls it is killed, and 0 is none.
+    pub killed_at: usize,
     pub calls: usize,
     pub seen: Option<&'s Seen>,
-    pub has_saved: &'s mut bool,
+    pub ending: &'s mut Ending,
 }
 
 impl Between for OtherSaver<'_> {
@@ -33,29 +81,36 @@ impl Between for OtherSaver<'_> {
         self.calls = self.calls.wrapping_add(1);
         if self.calls == self.at {
             let first = disk.saver;
-            *self.has_saved = save_as(disk, 1, self.seen, Nobody);
+            *self.ending = save_as(disk, Saver::killed(1, self.killed_at), self.seen, Nobody);
             disk.saver = first;
         }
     }
 }
 
-/// Saves as the saver of this number, and answers whether that was done.
+/// Saves as a saver. At its end its locks are let go.
 pub fn save_as<B: Between + Drop>(
     disk: &mut MemoryDisk,
-    saver: usize,
+    saver: Saver,
     seen: Option<&Seen>,
     between: B,
-) -> bool {
-    disk.saver = saver;
+) -> Ending {
+    disk.saver = saver.number;
     let target = Target {
-        path: "pairs.exh",
+        path: NAMES[0],
         magic: MAGIC,
         seen,
     };
+    let bytes = Bytes {
+        saver: saver.number,
+    };
     let alloc = disk.alloc;
-    let saved = save(alloc, &mut Side { disk, between }, &target, Bytes { saver }).is_ok();
-    disk.release(saver);
-    saved
+    let ending = match save(alloc, &mut Side::new(disk, saver, between), &target, bytes) {
+        Ok(saved) if saved.folder.is_none() => Ending::Settled,
+        Ok(_) => Ending::Placed,
+        Err(_) => Ending::Refused,
+    };
+    disk.release(saver.number);
+    ending
 }
 
 /// A saver's bytes.
@@ -67,8 +122,8 @@ struct Bytes {
 impl Source for Bytes {
     fn write_to<W: Write>(self, writer: &mut W) -> Result<(), SourceFault> {
         if let Some(bytes) = SAVED.get(self.saver) {
-            for byte in bytes.chunks(5) {
-                writer.write_all(byte).map_err(|_| SourceFault::Writer)?;
+            for piece in bytes.chunks(5) {
+                writer.write_all(piece).map_err(|_| SourceFault::Writer)?;
             }
         }
         Ok(())
@@ -78,14 +133,31 @@ impl Source for Bytes {
 /// One saver's calls, and who comes in between.
 #[derive(Drop)]
 pub struct Side<'d, B: Between + Drop> {
-    pub disk: &'d mut MemoryDisk,
-    pub between: B,
+    disk: &'d mut MemoryDisk,
+    saver: Saver,
+    calls: usize,
+    between: B,
 }
 
-impl<B: Between + Drop> Side<'_, B> {
+impl<'d, B: Between + Drop> Side<'d, B> {
+    pub fn new(disk: &'d mut MemoryDisk, saver: Saver, between: B) -> Side<'d, B> {
+        Side {
+            disk,
+            saver,
+            calls: 0,
+            between,
+        }
+    }
+
+    // One more call: it is seen what a power cut before it would leave, and it may fail.
     fn enter(&mut self) -> io::Result<()> {
         self.between.come(self.disk);
-        self.disk.enter()
+        self.disk.see();
+        self.calls = self.calls.wrapping_add(1);
+        if self.saver.fails(self.calls) {
+            return fault(ErrorKind::Other);
+        }
+        Ok(())
     }
 
     fn found(&mut self, name: &str) -> io::Result<Found> {
@@ -134,15 +206,15 @@ impl<B: Between + Drop> Disk for Side<'_, B> {
     }
 
     fn open(&mut self, _path: &str) -> io::Result<Vec<u8>> {
-        Err(io::Error::from(ErrorKind::Unsupported))
+        fault(ErrorKind::Unsupported)
     }
 
     fn ask_device(&mut self, _device: &Vec<u8>) -> io::Result<Found> {
-        Err(io::Error::from(ErrorKind::Unsupported))
+        fault(ErrorKind::Unsupported)
     }
 
     fn synchronize_device(&mut self, _device: &mut Vec<u8>) -> io::Result<()> {
-        Err(io::Error::from(ErrorKind::Unsupported))
+        fault(ErrorKind::Unsupported)
     }
 
     fn make(&mut self, name: &str, mode: u32) -> io::Result<MemoryFile> {
@@ -159,12 +231,11 @@ impl<B: Between + Drop> Disk for Side<'_, B> {
         })
     }
 
-    fn take(&mut self, name: &str) -> io::Result<MemoryFile> {
+    fn take(&mut self, name: &str, _place: &str) -> io::Result<MemoryFile> {
         self.enter()?;
         let node = self.disk.number(name)?;
-        if self.disk.node(node)?.about.kind != Kind::Regular {
-            self.disk.is_wrong = true;
-        }
+        let is_strange = self.disk.node(node)?.about.kind != Kind::Regular;
+        self.disk.is_wrong |= is_strange;
         Ok(MemoryFile {
             node,
             stage: Stage::Left,
@@ -197,11 +268,15 @@ impl<B: Between + Drop> Disk for Side<'_, B> {
         Ok(())
     }
 
+    // A file that has bytes is emptied only where nobody else can open it that might not read the old file.
     fn empty(&mut self, file: &mut MemoryFile) -> io::Result<()> {
         self.enter()?;
         let node = self.disk.node_mut(file.node)?;
+        let is_open = !node.bytes.is_empty() && node.about.mode & !OLD_MODE != 0;
         node.bytes.clear();
+        node.about.size = 0;
         node.is_kept = false;
+        self.disk.is_wrong |= is_open;
         file.stage = Stage::Empty;
         Ok(())
     }
@@ -215,14 +290,18 @@ impl<B: Between + Drop> Disk for Side<'_, B> {
         self.enter()
     }
 
+    // A file has its permissions before its first byte.
     fn permit(&mut self, file: &mut MemoryFile, mode: u32) -> io::Result<()> {
         self.enter()?;
-        self.disk.node_mut(file.node)?.about.mode = mode;
+        let node = self.disk.node_mut(file.node)?;
+        let is_late = !node.bytes.is_empty();
+        node.about.mode = mode;
+        self.disk.is_wrong |= is_late;
         file.stage = Stage::Dressed;
         Ok(())
     }
 
-    // Writes at most three bytes.
+    // Writes at most three bytes, which nobody may read that might not read the old file.
     fn write(&mut self, file: &mut MemoryFile, bytes: &[u8]) -> io::Result<usize> {
         file.stage = Stage::Written;
         self.enter()?;
@@ -234,10 +313,8 @@ impl<B: Between + Drop> Disk for Side<'_, B> {
         node.is_kept = false;
         node.about.size = node.bytes.len() as u64;
         node.about.modified = (time, 0);
-        // It has the permissions of the old file before its first byte.
-        if has_old && node.about.mode != OLD_MODE {
-            self.disk.is_wrong = true;
-        }
+        let is_open = has_old && node.about.mode & !OLD_MODE != 0;
+        self.disk.is_wrong |= is_open;
         Ok(front.len())
     }
 
