@@ -5,8 +5,9 @@ use crate::status::Status;
 use crate::watch::saving_meter;
 use exh_frames::PlainPages;
 use exh_open::Opened;
-use exh_place::{DiskFault, Seen, look_at, save_at, seen_at};
+use exh_place::{DiskFault, Seen, look_at, save_at};
 use exh_stream::Output;
+use exh_system_disk::SystemDisk;
 use std::fs::File;
 use std::io;
 use std::io::ErrorKind;
@@ -21,7 +22,7 @@ pub fn opened_seen(
     let Ok(file) = opened else {
         return Ok(None);
     };
-    match seen_at(rt, path, file) {
+    match SystemDisk::new(rt).seen(path, file) {
         Ok(seen) => Ok(Some(seen)),
         Err(error) if error.kind() == ErrorKind::OutOfMemory => Err(refuse_for_memory(rt)),
         Err(_) => Ok(None),
@@ -33,7 +34,7 @@ pub fn warn(rt: &HostRuntime, path: Option<&str>, seen: Option<&Seen>) {
     let Some(path) = path else {
         return;
     };
-    match look_at(rt, path, seen) {
+    match look_at(rt.alloc(), &mut SystemDisk::new(rt), path, seen) {
         Ok(()) | Err(DiskFault::Memory) => {}
         Err(fault) => {
             let _ = eprintln!(rt; "exhash: can't save to {path:?}: {fault}");
@@ -50,12 +51,14 @@ pub fn save_path(
     wards: Opened<PlainPages>,
 ) -> Status {
     let meter = saving_meter(rt);
-    let saved = save_at(rt, path, seen, wards, &meter);
+    let mut disk = SystemDisk::new(rt);
+    let saved = save_at(rt.alloc(), &mut disk, path, seen, wards, &meter);
     meter.clear();
     match saved {
-        Ok(None) => Status::Done,
-        Ok(Some(error)) => {
-            let _ = eprintln!(rt; "exhash: saved to {path:?}, but not its folder: {error}");
+        Ok(saved) => {
+            if let Some(error) = saved.folder {
+                let _ = eprintln!(rt; "exhash: saved to {path:?}, but not its folder: {error}");
+            }
             Status::Done
         }
         Err(DiskFault::Memory) => refuse_for_memory(rt),

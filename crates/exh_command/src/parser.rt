@@ -91,6 +91,18 @@ Lines of a script, of which `file` is the first:
   page WARD PAGE           prints a page: live or forwarding, prefix, records
   inflight                 prints the requests that aren't answered yet
 
+What is printed of a request, and what is next:
+  rN at W/P       it is begun, at page P of ward W: `hop rN`
+  rN moved W/P    its key is further on, at W/P: `hop rN` again
+  rN split        the page that it is at is full: `split W P`, then `hop rN`
+  rN is VALUE     answered: the value of a get
+  rN none         answered: a get or del, and there is no such key
+  rN new          answered: a put, of a key that wasn't there
+  rN was VALUE    answered: a put or del, and the value that was there
+  rN full         answered: a put, and the key has no room, whatever is split
+  notice W/I ..   a split or merge is done: `deliver COPY W I` tells a copy
+A request that isn't answered when the script ends is gone, and not made.
+
 A script has at most 1048576 bytes. Words have one space between them, and no
 line begins or ends with one.
   file        cap, the records of a page, 1 to 16; wards 0 to 4, for 2^wards
@@ -227,6 +239,11 @@ The formats are in docs/FORMATS.md.";
 
 // What holds of every command.
 const ENDS: &str = "\
+Only an empty file or a page file is saved over. It is there whole until the new
+one is whole and on the disk, and where that fails it stays. Of two saves to one
+path at once one is refused; a run doesn't save over the file that it opened
+where another saved over that since.
+
 Exit status: 0 where the run is done, also with refused lines, or the file is
 legal, or all is settled; 1 where it is refused or the run breaks off; 2 where
 the command line is wrong, or asks for help or for the version.

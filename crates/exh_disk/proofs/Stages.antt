@@ -2,7 +2,7 @@
 use Rattle.std.specs.Prelude.{◌≡◌, true, refl}
 use Rattle.std.proofs.lemmas.Bool.{false≢true}
 use Rattle.exh_disk.specs.declared.stage.Stage.{Stage}
-use Rattle.exh_disk.specs.declared.stage.Stage.TheVariants.{Made, Left, Held, HeldLeft, OwnLeft, Restricted, Empty, Dressed, Written, Synchronized, Confirmed, Placed, Settled}
+use Rattle.exh_disk.specs.declared.stage.Stage.TheVariants.{Made, Left, Held, HeldLeft, OwnMade, OwnLeft, Restricted, Empty, Dressed, Written, Synchronized, Confirmed, Placed, Settled}
 use Rattle.exh_disk.specs.Stage.{is_fillable, is_ours}
 
 -- what may be filled is the save's own
@@ -11,6 +11,7 @@ fillable_ours Made fillable = refl
 fillable_ours Left fillable = absurd (false≢true fillable)
 fillable_ours Held fillable = refl
 fillable_ours HeldLeft fillable = absurd (false≢true fillable)
+fillable_ours OwnMade fillable = refl
 fillable_ours OwnLeft fillable = refl
 fillable_ours Restricted fillable = refl
 fillable_ours Empty fillable = refl

@@ -1,7 +1,7 @@
 -- How far a file is on its way to its place: what the calls of a disk ask of it, and what they make of it.
 use Rattle.std.specs.Prelude.{Bool, true, false}
 use Rattle.exh_disk.specs.declared.stage.Stage.{Stage}
-use Rattle.exh_disk.specs.declared.stage.Stage.TheVariants.{Made, Left, Held, HeldLeft, OwnLeft, Restricted, Empty, Dressed, Written, Synchronized, Confirmed, Placed, Settled}
+use Rattle.exh_disk.specs.declared.stage.Stage.TheVariants.{Made, Left, Held, HeldLeft, OwnMade, OwnLeft, Restricted, Empty, Dressed, Written, Synchronized, Confirmed, Placed, Settled}
 
 -- once it is locked: what it is may have another name by now
 abbrev pub locked : Stage → Stage
@@ -9,12 +9,18 @@ locked Made = Held
 locked Left = HeldLeft
 locked stage = stage
 
--- once it was asked whether it is the file of its name: one that this save made is empty
+-- once it was asked whether it is the file of its name
 abbrev pub asked : Stage → Bool → Stage
-asked Held true = Empty
+asked Held true = OwnMade
 asked HeldLeft true = OwnLeft
 asked Synchronized true = Confirmed
 asked stage is_own = stage
+
+-- what it has may be taken away: it is locked and the file of its name, and this save made it, or nobody else may open it
+abbrev pub is_emptiable : Stage → Bool
+is_emptiable OwnMade = true
+is_emptiable Restricted = true
+is_emptiable stage = false
 
 -- bytes may be written: the file is locked, has its name, and was emptied
 abbrev pub is_fillable : Stage → Bool
@@ -27,6 +33,7 @@ is_fillable stage = false
 abbrev pub is_ours : Stage → Bool
 is_ours Made = true
 is_ours Held = true
+is_ours OwnMade = true
 is_ours OwnLeft = true
 is_ours Restricted = true
 is_ours Empty = true

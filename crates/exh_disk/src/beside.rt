@@ -1,5 +1,5 @@
 //! A save of a regular file: it is written beside its place, and renamed over it.
-ghost use Rattle.std.specs.Prelude.{◌≡◌, IfOk, OnErr, OnOk, true};
+ghost use Rattle.std.specs.Prelude.{◌≡◌, ◌≢◌, IfOk, OnErr, OnOk, true};
 ghost use Rattle.exh_disk.specs.declared.stage.Stage.TheVariants.{Confirmed, Empty, Placed, Settled};
 ghost use Rattle.exh_disk.specs.Stage.{is_fillable, is_ours};
 
@@ -96,7 +96,8 @@ fn put<D: Disk>(
     old: &Option<Found>,
     filled: Result<(), DiskFault>,
 ) -> Result<(), DiskFault>
-    requires { is_fillable (D.stage file.old) ≡ true }
+    requires stage { is_fillable (D.stage file.old) ≡ true }
+    requires beside { name.now ≢ place.now }
     ensures ok { OnOk result (D.stage file.new ≡ Placed) }
     ensures err { OnErr result (is_ours (D.stage file.new) ≡ true) }
 {

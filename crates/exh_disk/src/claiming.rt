@@ -1,5 +1,5 @@
 //! The file beside a place that a save has for itself.
-ghost use Rattle.std.specs.Prelude.{◌≡◌, IfOk, IfSome, OnErr, OnOk, true};
+ghost use Rattle.std.specs.Prelude.{◌≡◌, ◌≢◌, IfOk, IfSome, OnErr, OnOk, string_bytes, true};
 ghost use Rattle.exh_disk.specs.declared.stage.Stage.TheVariants.{Empty, Made, OwnLeft};
 ghost use Rattle.exh_disk.specs.Stage.{is_ours};
 
@@ -16,18 +16,22 @@ const PRIVATE: u32 = 0o600;
 const USUAL: u32 = 0o666;
 
 /// An empty file beside a place for one save alone, and its name. What a killed save left there is taken over; where a
-/// name is taken otherwise, another one is tried.
+/// name is taken otherwise, or is that of the place, as a long one that was cut may be, another one is tried.
 pub(crate) fn claim<D: Disk>(
     alloc: Global,
     disk: &mut D,
     place: &str,
     old: Option<&Found>,
 ) -> Result<(D::File, String), DiskFault>
-    ensures { IfOk result (λ claimed. D.stage claimed.0 ≡ Empty) }
+    ensures stage { IfOk result (λ claimed. D.stage claimed.0 ≡ Empty) }
+    ensures beside { IfOk result (λ claimed. string_bytes claimed.1 ≢ place.now) }
 {
     for suffix in SUFFIXES {
         let name = name_beside(alloc, place, suffix).map_err(|_| DiskFault::Memory)?;
-        if let Some(file) = claim_name(disk, &name, old)? {
+        if name.as_str() == place {
+            continue;
+        }
+        if let Some(file) = claim_name(disk, &name, place, old)? {
             return Ok((file, name));
         }
     }
@@ -39,15 +43,17 @@ pub(crate) fn claim<D: Disk>(
 fn claim_name<D: Disk>(
     disk: &mut D,
     name: &str,
+    place: &str,
     old: Option<&Found>,
 ) -> Result<Option<D::File>, DiskFault>
+    requires { name.now ≢ place.now }
     ensures { IfOk result (λ claimed. IfSome claimed (λ file. D.stage file ≡ Empty)) }
 {
     match disk.ask_name(name) {
         Ok(found) => {
             let runner = disk.runner().ok();
             if is_left_over(&found, runner, old) {
-                take_over(disk, name, old)
+                take_over(disk, name, place, old)
             } else {
                 Ok(None)
             }
@@ -69,7 +75,11 @@ fn make<D: Disk>(disk: &mut D, name: &str, old: Option<&Found>) -> Result<D::Fil
     ensures { IfOk result (λ file. D.stage file ≡ Empty) }
 {
     let mode = if old.is_some() { PRIVATE } else { USUAL };
-    let mut file = disk.make(name, mode).map_err(make_fault)?;
+    let mut file = disk.make(name, mode).map_err(|error| DiskFault::busy_at(
+        ErrorKind::AlreadyExists,
+        Call::Make,
+        error,
+    ))?;
     match hold(disk, &mut file, name) {
         Ok(()) => Ok(file),
         Err(DiskFault::Busy) => Err(DiskFault::Busy),
@@ -80,18 +90,19 @@ fn make<D: Disk>(disk: &mut D, name: &str, old: Option<&Found>) -> Result<D::Fil
     }
 }
 
-// Takes the lock of a file that was made, as long as it has its name.
+// Takes the lock of a file that was made, as long as it has its name, and empties it: before that another save may have
+// taken it over, and ended before it was done.
 fn hold<D: Disk>(disk: &mut D, file: &mut D::File, name: &str) -> Result<(), DiskFault>
     requires { D.stage file.old ≡ Made }
     ensures ok { OnOk result (D.stage file.new ≡ Empty) }
     ensures err { OnErr result (is_ours (D.stage file.new) ≡ true) }
 {
-    disk.lock(file).map_err(lock_fault)?;
-    if disk.confirm(file, name).map_err(confirm_fault)? {
-        Ok(())
-    } else {
-        Err(DiskFault::Busy)
+    disk.lock(file).map_err(|error| DiskFault::busy_at(ErrorKind::WouldBlock, Call::Lock, error))?;
+    if !disk.confirm(file, name).map_err(confirm_fault)? {
+        return Err(DiskFault::Busy);
     }
+    disk.empty(file)
+        .map_err(|error| DiskFault::at(Call::Empty, error))
 }
 
 // Takes over what a save left: only once it is locked, and still the file of its name, which another save may have given
@@ -99,16 +110,22 @@ fn hold<D: Disk>(disk: &mut D, file: &mut D::File, name: &str) -> Result<(), Dis
 fn take_over<D: Disk>(
     disk: &mut D,
     name: &str,
+    place: &str,
     old: Option<&Found>,
 ) -> Result<Option<D::File>, DiskFault>
+    requires { name.now ≢ place.now }
     ensures { IfOk result (λ taken. IfSome taken (λ file. D.stage file ≡ Empty)) }
 {
-    let mut file = match disk.take(name) {
+    let mut file = match disk.take(name, place) {
         Ok(file) => file,
         Err(error) if error.kind() == ErrorKind::PermissionDenied => return Ok(None),
         Err(error) => return Err(DiskFault::at(Call::Make, error)),
     };
-    disk.lock(&mut file).map_err(lock_fault)?;
+    disk.lock(&mut file).map_err(|error| DiskFault::busy_at(
+        ErrorKind::WouldBlock,
+        Call::Lock,
+        error,
+    ))?;
     if !disk.confirm(&mut file, name).map_err(confirm_fault)? {
         return Err(DiskFault::Busy);
     }
@@ -127,36 +144,16 @@ fn take_over<D: Disk>(
 }
 
 // Empties what a save left, which nobody else may open by then.
-fn clear<D: Disk>(disk: &mut D, file: &mut D::File) -> io::Result<()>
-    requires { D.stage file.old ≡ OwnLeft }
-    ensures ok { OnOk result (D.stage file.new ≡ Empty) }
-    ensures err { OnErr result (is_ours (D.stage file.new) ≡ true) }
+fn clear<D: Disk>(disk: &mut D, left: &mut D::File) -> io::Result<()>
+    requires { D.stage left.old ≡ OwnLeft }
+    ensures ok { OnOk result (D.stage left.new ≡ Empty) }
+    ensures err { OnErr result (is_ours (D.stage left.new) ≡ true) }
 {
-    disk.restrict(file)?;
-    disk.empty(file)
-}
-
-fn make_fault(error: io::Error) -> DiskFault {
-    if error.kind() == ErrorKind::AlreadyExists {
-        DiskFault::Busy
-    } else {
-        DiskFault::at(Call::Make, error)
-    }
-}
-
-fn lock_fault(error: io::Error) -> DiskFault {
-    if error.kind() == ErrorKind::WouldBlock {
-        DiskFault::Busy
-    } else {
-        DiskFault::at(Call::Lock, error)
-    }
+    disk.restrict(left)?;
+    disk.empty(left)
 }
 
 /// A file couldn't be asked whether it is the one of its name. Where nothing has the name, another save gave it a place.
 pub(crate) fn confirm_fault(error: io::Error) -> DiskFault {
-    if error.kind() == ErrorKind::NotFound {
-        DiskFault::Busy
-    } else {
-        DiskFault::at(Call::Ask, error)
-    }
+    DiskFault::busy_at(ErrorKind::NotFound, Call::Ask, error)
 }

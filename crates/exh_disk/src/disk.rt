@@ -1,8 +1,8 @@
 //! The calls that a save makes of the system.
-ghost use Rattle.std.specs.Prelude.{◌≡◌, ◌≤◌, length, IfOk, OnErr, OnOk, true};
+ghost use Rattle.std.specs.Prelude.{◌≡◌, ◌≢◌, ◌≤◌, length, IfOk, OnErr, OnOk, true};
 ghost use Rattle.exh_disk.specs.declared.stage.Stage.{Stage};
 ghost use Rattle.exh_disk.specs.declared.stage.Stage.TheVariants.{Confirmed, Dressed, Empty, Left, Made, OwnLeft, Placed, Restricted, Settled, Synchronized, Written};
-ghost use Rattle.exh_disk.specs.Stage.{asked, is_fillable, is_ours, locked};
+ghost use Rattle.exh_disk.specs.Stage.{asked, is_fillable, is_emptiable, is_ours, locked};
 
 use crate::{Found, Head, Runner};
 use std::alloc::Global;
@@ -48,8 +48,9 @@ pub trait Disk {
     fn make(&mut self, name: &str, mode: u32) -> io::Result<Self::File>
         ensures { IfOk result (λ file. stage file ≡ Made) };
 
-    /// Opens the file of a name as it stands.
-    fn take(&mut self, name: &str) -> io::Result<Self::File>
+    /// Opens the file of a name beside a place as it stands.
+    fn take(&mut self, name: &str, place: &str) -> io::Result<Self::File>
+        requires { name.now ≢ place.now }
         ensures { IfOk result (λ file. stage file ≡ Left) };
 
     /// Takes the lock of a file, which one save has at a time.
@@ -70,7 +71,7 @@ pub trait Disk {
 
     /// Takes away what a file has.
     fn empty(&mut self, file: &mut Self::File) -> io::Result<()>
-        requires { stage file.old ≡ Restricted }
+        requires { is_emptiable (stage file.old) ≡ true }
         ensures ok { OnOk result (stage file.new ≡ Empty) }
         ensures err { OnErr result (stage file.new ≡ stage file.old) };
 
@@ -104,7 +105,8 @@ pub trait Disk {
 
     /// Gives a file the place of another, or a new one.
     fn rename(&mut self, file: &mut Self::File, name: &str, place: &str) -> io::Result<()>
-        requires { stage file.old ≡ Confirmed }
+        requires stage { stage file.old ≡ Confirmed }
+        requires beside { name.now ≢ place.now }
         ensures ok { OnOk result (stage file.new ≡ Placed) }
         ensures err { OnErr result (stage file.new ≡ stage file.old) };
 

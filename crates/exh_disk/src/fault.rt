@@ -78,4 +78,13 @@ impl DiskFault {
             DiskFault::System { call, error }
         }
     }
+
+    /// The same, but for a kind of error by which the system says that another save has the file.
+    pub(crate) fn busy_at(busy: ErrorKind, call: Call, error: io::Error) -> DiskFault {
+        if error.kind() == busy {
+            DiskFault::Busy
+        } else {
+            DiskFault::at(call, error)
+        }
+    }
 }

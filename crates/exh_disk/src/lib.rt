@@ -1,15 +1,14 @@
-//! The calls that a save makes of the system, in their order: a file is written beside its place and renamed over it.
-//! The order is code over any disk, which a test can set; the system's own half makes one call each.
+//! The calls that a save makes of a disk, in their order: a file is written beside its place and renamed over it. The
+//! order is code over any disk: the system's, or one in memory, which a test sets.
 #![tactic(auto)]
 
 pub use disk::{Disk, Source, SourceFault};
 pub use fault::{Call, DiskFault};
-pub use found::{Found, Head, Kind, Runner, found_of};
+pub use found::{Found, Head, Kind, Runner};
 pub use looking::look;
 pub use saving::{Saved, save};
 pub use seen::Seen;
 pub use stage::Stage;
-pub use system_disk::{SystemDisk, SystemFile};
 pub use target::Target;
 
 mod beside;
@@ -26,6 +25,5 @@ mod place;
 mod saving;
 mod seen;
 mod stage;
-mod system_disk;
 mod target;
 mod writing;

@@ -1,5 +1,5 @@
 //! The names that a save makes of a place.
-ghost use Rattle.std.specs.Prelude.{◌≡◌, ◌++◌, List, ℕ, IfOk, string_bytes};
+ghost use Rattle.std.specs.Prelude.{◌≡◌, ◌++◌, ◌+◌, ◌≤◌, ℕ, IfOk, length, string_bytes, take};
 
 use std::alloc::{AllocError, Global};
 
@@ -16,30 +16,23 @@ pub(crate) const SUFFIXES: [&str; 4] = [
 const NAME_LIMIT: usize = 255;
 
 /// The name of a file beside a place: that of the place with a suffix behind it, of which as many bytes before the suffix
-/// are left out as are too many.
+/// are left out as are too many, and of a character all.
 pub(crate) fn name_beside(alloc: Global, place: &str, suffix: &str) -> Result<String, AllocError>
-    ensures { IfOk result (λ name. (front : List ℕ) × (string_bytes name ≡ front ++ suffix.now)) }
+    ensures cut { IfOk result (λ name. (kept : ℕ) × (string_bytes name ≡ take kept place.now ++ suffix.now)) }
+    ensures whole { length place.now + length suffix.now ≤ 255 → IfOk result (λ name. string_bytes name ≡ place.now ++ suffix.now) }
 {
-    let excess = (file_name_of(place).len().saturating_add(suffix.len())).saturating_sub(
-        NAME_LIMIT,
-    );
-    let mut name = String::from_str(alloc, beginning(place, place.len().saturating_sub(excess)))?;
+    let len = file_name_of(place).len().saturating_add(suffix.len());
+    let excess = len.saturating_sub(NAME_LIMIT);
+    let kept = place.floor_char_boundary(place.len().saturating_sub(excess));
+    let mut name = String::from_str(alloc, &place[..kept])?;
     name.push_str(suffix)?;
     Ok(name)
 }
 
-// The longest beginning of a text of at most so many bytes.
-fn beginning(text: &str, len: usize) -> &str {
-    for end in (0..=len).rev() {
-        if let Some(front) = text.get(..end) {
-            return front;
-        }
-    }
-    ""
-}
-
 /// The name of a path's file in its folder.
-pub(crate) fn file_name_of(path: &str) -> &str {
+pub(crate) fn file_name_of(path: &str) -> &str
+    ensures { length result.now ≤ length path.now }
+{
     match path.rsplit_once('/') {
         Some((_, name)) => name,
         None => path,

@@ -8,13 +8,15 @@ pub enum Stage {
     Made,
     /// Found there, and not locked: another save may have it.
     Left,
-    /// Made, and locked.
+    /// Made, and locked: another save may have taken it over before.
     Held,
     /// Found there, and locked: its name may be another file's by now.
     HeldLeft,
+    /// Made, locked, and still the file of its name: another save may have written to it before.
+    OwnMade,
     /// Found there, locked, and still the file of its name.
     OwnLeft,
-    /// The same, and nobody else may open it.
+    /// The same of one that was found there, and nobody else may open it.
     Restricted,
     /// Locked, the file of its name, and empty.
     Empty,
@@ -51,7 +53,7 @@ impl Stage {
         ensures { result ≡ asked self is_own }
     {
         match (self, is_own) {
-            (Stage::Held, true) => Stage::Empty,
+            (Stage::Held, true) => Stage::OwnMade,
             (Stage::HeldLeft, true) => Stage::OwnLeft,
             (Stage::Synchronized, true) => Stage::Confirmed,
             (other, _) => other,

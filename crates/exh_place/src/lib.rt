@@ -2,7 +2,7 @@
 #![tactic(auto)]
 
 pub use exh_disk::{DiskFault, Seen};
-pub use place::{look_at, save_at, seen_at};
+pub use place::{look_at, save_at};
 pub use writing::write_opened;
 
 mod place;

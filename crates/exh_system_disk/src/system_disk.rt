@@ -1,6 +1,7 @@
 ghost use Rattle.std.specs.Prelude.{◌≡◌};
 
-use crate::{Disk, Found, Head, Runner, Stage, found_of};
+use crate::found::found_of;
+use exh_disk::{Disk, Found, Head, Runner, Seen, Stage};
 use std::alloc::Global;
 use std::fs::{File, OpenOptions, Permissions};
 use std::io::{Read, Write};
@@ -23,6 +24,14 @@ pub struct SystemFile {
 impl<'r> SystemDisk<'r> {
     pub fn new(rt: &'r HostRuntime) -> SystemDisk<'r> {
         SystemDisk { rt }
+    }
+
+    /// What a file is that was opened at a path, so that a save sees whether it is still the same.
+    ///
+    /// An error: the system doesn't say what it is, or where.
+    pub fn seen(&mut self, path: &str, opened: &File) -> io::Result<Seen> {
+        let found = found_of(&opened.metadata()?);
+        Seen::new(self.rt.alloc(), self, path, found)
     }
 }
 
@@ -90,7 +99,7 @@ impl Disk for SystemDisk<'_> {
         })
     }
 
-    fn take(&mut self, name: &str) -> io::Result<SystemFile> {
+    fn take(&mut self, name: &str, _place: &str) -> io::Result<SystemFile> {
         let file = OpenOptions::new().write(true).open(self.rt, name)?;
         Ok(SystemFile {
             file,

@@ -1,0 +1,184 @@
+//! Saves over a file system in memory: what they leave where a call fails or a saver is killed, where another saver comes
+//! in between, and what they do with what has the name beside the place.
+
+use crate::memory_disk::{MemoryDisk, NAMES, OLD, OLD_MODE, SAVED, USER};
+use crate::side::{Ending, Nobody, OtherSaver, Saver, Side, save_as};
+use exh_disk::{Kind, Seen};
+use std::alloc::{AllocError, Global};
+use std::test::Fail;
+
+// More calls than a save makes.
+const CALLS: usize = 40;
+// What a killed save may have left: longer than what is saved.
+const LEFT: &[u8] = b"EXHASHPF that was killed before it had its place";
+// Whether there is an old file, and something that a save left.
+const SCENES: [(bool, bool); 4] = [(true, true), (true, false), (false, true), (false, false)];
+
+fn disk_of(alloc: Global, (has_old, has_left): (bool, bool)) -> Result<MemoryDisk, AllocError> {
+    let mut disk = MemoryDisk::new(alloc);
+    if has_old {
+        disk.add_old()?;
+    }
+    if has_left {
+        disk.add(1, LEFT, 0o644)?;
+    }
+    Ok(disk)
+}
+
+// Whether nothing stands beside the place but what stood there before.
+fn is_clean(disk: &MemoryDisk, before: Option<usize>) -> bool {
+    let first = disk.names[1];
+    (first.is_none() || first == before) && disk.names[2..].iter().all(|name| name.is_none())
+}
+
+// Whether the place has what a saver of this number saved, and would after a power cut, where that is sure.
+fn has_saved(disk: &MemoryDisk, saver: usize, ending: Ending) -> bool {
+    let is_kept = ending != Ending::Settled || disk.kept == disk.names[0];
+    is_kept && disk.at_place() == SAVED.get(saver).copied()
+}
+
+// Whether the place has what was there before.
+fn is_as_before(disk: &MemoryDisk) -> bool {
+    if disk.has_old {
+        disk.at_place() == Some(OLD)
+    } else {
+        disk.at_place().is_none()
+    }
+}
+
+// Whether a save whose call of this number fails leaves what it must; it must be done where none does.
+fn is_safe(disk: &mut MemoryDisk, fails_at: usize) -> bool {
+    let before = disk.names[1];
+    let ending = save_as(disk, Saver::failing(0, fails_at), None, Nobody);
+    disk.see();
+    let is_right = match ending {
+        Ending::Refused => fails_at > 0 && is_as_before(disk),
+        _ => has_saved(disk, 0, ending),
+    };
+    is_right && !disk.is_wrong && is_clean(disk, before)
+}
+
+// Whether a save that is killed at the call of this number leaves what it must, and the next one is done.
+fn is_safe_when_killed(disk: &mut MemoryDisk, killed_at: usize) -> bool {
+    let _ = save_as(disk, Saver::killed(0, killed_at), None, Nobody);
+    let next = save_as(disk, Saver::new(1), None, Nobody);
+    disk.see();
+    next == Ending::Settled && has_saved(disk, 1, next) && !disk.is_wrong && is_clean(disk, None)
+}
+
+// The number of the first call at which it isn't so.
+fn wrong_fault(alloc: Global) -> Result<Option<usize>, AllocError> {
+    for scene in SCENES {
+        for number in 0..CALLS {
+            let is_right = is_safe(&mut disk_of(alloc, scene)?, number)
+                && is_safe_when_killed(&mut disk_of(alloc, scene)?, number);
+            if !is_right {
+                return Ok(Some(number));
+            }
+        }
+    }
+    Ok(None)
+}
+
+#[test]
+fn loses_nothing_where_a_call_fails(rt: HostRuntime) -> Result<(), Fail> {
+    assert_eq!(rt; wrong_fault(rt.alloc())?, None);
+    Ok(())
+}
+
+// Whether two saves leave what they must, of which one comes in before a call of the other, and may be killed there at a
+// call of its own. Both saw the old file.
+fn is_safe_between(disk: &mut MemoryDisk, at: usize, killed_at: usize) -> bool {
+    let seen = seen_in(disk);
+    let mut second = Ending::Refused;
+    let other = OtherSaver {
+        at,
+        killed_at,
+        calls: 0,
+        seen: seen.as_ref(),
+        ending: &mut second,
+    };
+    let first = save_as(disk, Saver::new(0), seen.as_ref(), other);
+    disk.see();
+    let is_killed = killed_at > 0;
+    !disk.is_wrong && is_right_of_two(disk, first, second, is_killed)
+}
+
+// Both are done only where nothing was there that the second would have taken back, and neither only where one is killed.
+fn is_right_of_two(disk: &MemoryDisk, first: Ending, second: Ending, is_killed: bool) -> bool {
+    match (first, second) {
+        (Ending::Refused, Ending::Refused) => is_killed && is_as_before(disk),
+        (Ending::Refused, _) => has_saved(disk, 1, second),
+        (_, Ending::Refused) => has_saved(disk, 0, first),
+        _ => !disk.has_old && (has_saved(disk, 0, first) || has_saved(disk, 1, second)),
+    }
+}
+
+// What a saver saw that opened the old file, where there is one.
+fn seen_in(disk: &mut MemoryDisk) -> Option<Seen> {
+    if !disk.has_old {
+        return None;
+    }
+    let found = disk.nodes.first()?.about;
+    let alloc = disk.alloc;
+    let mut side = Side::new(disk, Saver::new(0), Nobody);
+    Seen::new(alloc, &mut side, NAMES[0], found).ok()
+}
+
+fn wrong_between(alloc: Global) -> Result<Option<(usize, usize)>, AllocError> {
+    for scene in SCENES {
+        for at in 1..CALLS {
+            for killed_at in 0..CALLS {
+                if !is_safe_between(&mut disk_of(alloc, scene)?, at, killed_at) {
+                    return Ok(Some((at, killed_at)));
+                }
+            }
+        }
+    }
+    Ok(None)
+}
+
+#[test]
+fn loses_nothing_where_another_save_comes_in_between(rt: HostRuntime) -> Result<(), Fail> {
+    assert_eq!(rt; wrong_between(rt.alloc())?, None);
+    Ok(())
+}
+
+// What has the first name beside the place, and is no save's: a pipe, a file of two names, one of another user.
+fn strange_left_over(disk: &mut MemoryDisk, number: usize) {
+    if let Some(node) = disk.nodes.last_mut() {
+        match number {
+            0 => node.about.kind = Kind::Other,
+            1 => node.about.links = 2,
+            _ => node.about.owner = USER + 1,
+        }
+    }
+}
+
+// Whether a save then takes another name, and leaves what has the first.
+fn takes_another_name(disk: &mut MemoryDisk) -> bool {
+    let before = disk.names[1];
+    let ending = save_as(disk, Saver::new(0), None, Nobody);
+    ending == Ending::Settled
+        && has_saved(disk, 0, ending)
+        && !disk.is_wrong
+        && disk.names[1] == before
+}
+
+// Whether what is no page file stays.
+fn keeps_text(disk: &mut MemoryDisk) -> bool {
+    save_as(disk, Saver::new(0), None, Nobody) == Ending::Refused && disk.at_place() == Some(b"abc")
+}
+
+#[test]
+fn replaces_and_takes_over_only_its_own(rt: HostRuntime) -> Result<(), Fail> {
+    for number in 0..3 {
+        let mut disk = disk_of(rt.alloc(), (true, true))?;
+        strange_left_over(&mut disk, number);
+        assert_eq!(rt; takes_another_name(&mut disk), true, "at {number}");
+    }
+    let mut disk = MemoryDisk::new(rt.alloc());
+    disk.add(0, b"abc", OLD_MODE)?;
+    assert_eq!(rt; keeps_text(&mut disk), true);
+    Ok(())
+}

@@ -1,0 +1,32 @@
+//! What the system tells of a file.
+
+use exh_disk::{Found, Kind};
+use std::fs::Metadata;
+use std::os::unix::fs::MetadataExt;
+
+/// What the system tells of a file.
+pub(crate) fn found_of(about: &Metadata) -> Found {
+    Found {
+        kind: kind_of(about),
+        device: about.dev(),
+        inode: about.ino(),
+        links: about.nlink(),
+        size: about.len(),
+        modified: (about.mtime(), about.mtime_nsec()),
+        owner: about.uid(),
+        group: about.gid(),
+        mode: about.mode() & 0o7777,
+    }
+}
+
+fn kind_of(about: &Metadata) -> Kind {
+    if about.is_file() {
+        Kind::Regular
+    } else if about.is_dir() {
+        Kind::Folder
+    } else if about.is_symlink() {
+        Kind::Link
+    } else {
+        Kind::Other
+    }
+}
