@@ -13,8 +13,8 @@
 # `combine` of a table that was sent, and 100 `send`.
 #
 # Of each run are printed: the entries of its directory, the lines behind those that make it, the seconds of processor,
-# the MB that it printed and the MiB of memory that it had. Of one that was ended it says how many of its lines were
-# answered, where each prints one.
+# the MB that it printed and the MiB of memory that it had. Of one that was ended, and whose lines print a line each, it
+# says what the whole would take, by the lines that were printed; these go out in blocks of some hundred lines.
 #
 # The program is the one that ./exhash builds, or the one that the variable EXHASH names.
 #
@@ -42,12 +42,12 @@ shared=/dev/shm
 folder=$(mktemp -d "$shared/exhash-bench.XXXXXX") || exit 2
 trap 'rm -rf "$folder"' EXIT
 
-# Runs the program on the input $5 with the words behind it, and prints a row: what the run is ($1), the entries of its
-# directory ($2), the lines ($3), the MiB wanted ($4), then the microseconds, KiB, lines and bytes that it took and
-# printed, and whether it was ended.
+# Runs the program on the input $6 with the words behind it, and prints a row: what the run is ($1), the entries of its
+# directory ($2), the lines before those that are measured ($3) and these ($4), the MiB wanted ($5), then the
+# microseconds, KiB, lines and bytes that it took and printed, and whether it was ended.
 measure() {
-    local what=$1 entries=$2 lines=$3 wanted=$4 input=$5 told counted ended=whole
-    shift 5
+    local what=$1 entries=$2 before=$3 lines=$4 wanted=$5 input=$6 told counted ended=whole
+    shift 6
     mkfifo "$folder/pipe" || die 'no pipe could be made'
     wc -lc < "$folder/pipe" > "$folder/counted" &
     told=$(ulimit -t "$LIMIT" && ulimit -v "$ROOM" && "$folder/clock" "$input" "$folder/pipe" "$program" "$@") ||
@@ -55,21 +55,22 @@ measure() {
     wait
     rm -f "$folder/pipe"
     read -r -a counted < "$folder/counted"
-    echo "$what $entries $lines $wanted ${told:-0 0 0} ${counted[*]} $ended"
+    echo "$what $entries $before $lines $wanted ${told:-0 0 0} ${counted[*]} $ended"
 }
 
 # Makes the script of the kind $1 over the table $2 and measures it.
 measure_script() {
-    local entries
+    local entries before
     awk -v kind="$1" -v table="$2" -v size="$LARGEST" -v counted="$folder/entries" -f "$bench/hostile.awk" \
         > "$folder/script" || die "no script of $1 could be made"
     [ "$(wc -c < "$folder/script")" -le "$LARGEST" ] || die "the script of $1 is too long"
     entries=$(cat "$folder/entries")
-    measure "$1" "$entries" "$(($(wc -l < "$folder/script") - $(behind "$1")))" 600 "$folder/script" serve
+    before=$(lines_before "$1")
+    measure "$1" "$entries" "$before" "$(($(wc -l < "$folder/script") - before))" 600 "$folder/script" serve
 }
 
 # How many lines of the script come before those of the kind $1.
-behind() {
+lines_before() {
     awk -v kind="$1" '
         NR > 1 && /^send 1$/ { before = NR; if (kind != "inflight") exit }
         kind == "inflight" && $1 == "begin" { before = NR }
@@ -87,14 +88,14 @@ measure_load() {
             line = sprintf("#%04x v", number)
         }
     }' > "$folder/pairs"
-    measure load 0 "$(wc -l < "$folder/pairs")" 600 "$folder/pairs" load "$folder/load.exh"
+    measure load 0 0 "$(wc -l < "$folder/pairs")" 600 "$folder/pairs" load "$folder/load.exh"
     [ -s "$folder/load.exh" ] || return
     local first='file cap=1 wards=0 copies=2 keyer=plain' size entries line
     size=$(($(stat -c %s "$folder/load.exh") * 4 / 1024 / 1024))
     entries=$("$program" check "$folder/load.exh") || die 'what was loaded is no page file'
     for line in 'combine 2 1' 'send 1'; do
         { echo "$first"; echo 'send 1'; yes "$line" | head -n 100; } > "$folder/script"
-        measure "opened:${line%% *}" "${entries##* }" 100 "$size" "$folder/script" serve --open "$folder/load.exh"
+        measure "opened:${line%% *}" "${entries##* }" 2 100 "$size" "$folder/script" serve --open "$folder/load.exh"
     done
 }
 
@@ -113,20 +114,23 @@ cc -O2 -Wall -Wextra -o "$folder/clock" "$bench/clock.c" || die 'clock.c could n
 machine="$(nproc) x $(sed -n 's/^model name[^:]*: //p' /proc/cpuinfo | head -n 1)"
 echo "machine: $machine, load $(cut -d ' ' -f 1 /proc/loadavg); a run has $LIMIT seconds and $((ROOM / 1024)) MiB"
 awk '
-    BEGIN { printf "%-15s %8s %8s %9s %9s %8s\n", "lines", "entries", "lines", "seconds", "MB", "MiB" }
-    # what entries lines wanted microseconds elapsed KiB lines bytes ended
-    NF == 10 {
-        seconds = $5 / 1e6
-        printed = $9 / 1e6
-        memory = $7 / 1024
+    function fall(what) { short[++falls] = "FALLS SHORT: " $1 " over " $2 " entries: " what }
+    BEGIN { printf "%-15s %8s %8s %9s %9s %8s\n", "what", "entries", "lines", "seconds", "MB", "MiB" }
+    # what entries before lines wanted microseconds elapsed KiB lines bytes ended
+    NF == 11 {
+        seconds = $6 / 1e6
+        printed = $10 / 1e6
+        memory = $8 / 1024
+        answered = $9 - $3 + 1
         rows++
-        printf "%-15s %8d %8d %9.2f %9.1f %8.1f", $1, $2, $3, seconds, printed, memory
-        printf "%s\n", $10 == "ended" ? "  ended after " $8 " lines of text" : ""
-        if ($10 == "ended" || seconds > 10 + printed / 200)
-            short[++falls] = sprintf("FALLS SHORT: %s over %d entries: %.1f seconds, %.1f are wanted", $1, $2, seconds,
-                10 + printed / 200)
-        if (memory > $4)
-            short[++falls] = sprintf("FALLS SHORT: %s over %d entries: %d MiB, %d are wanted", $1, $2, memory, $4)
+        printf "%-15s %8d %8d %9.2f %9.1f %8.1f", $1, $2, $4, seconds, printed, memory
+        whole = ""
+        if ($11 == "ended" && $1 !~ /show|inflight|load/ && answered > 0)
+            whole = sprintf("  the whole: %.0f seconds", seconds * $4 / answered)
+        print whole ($11 == "ended" ? "  ended" : "")
+        if ($11 == "ended") fall(sprintf("ended after %.1f seconds, with %d MiB", seconds, memory))
+        else if (seconds > (most = 10 + printed / 200)) fall(sprintf("%.1f seconds, %.1f are wanted", seconds, most))
+        if (memory > $5) fall(sprintf("%d MiB, %d are wanted", memory, $5))
     }
     END {
         if (!rows) {
