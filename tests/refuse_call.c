@@ -1,57 +1,111 @@
-/* Refuses calls of the system for want of room: tests/run preloads it into the program.
+/* Refuses a call of the system, or kills the program there: tests/run and tests/failing_calls preload it.
  *
- * The call that REFUSED_CALL names, `open`, `fsync` or `rename`, fails with ENOSPC where it is about a file that a save
- * makes beside a place; so does fsync of a folder where it is `folder`. */
+ * The call that REFUSED_CALL names, `open`, `read`, `write`, `fsync`, `rename`, `ftruncate`, `fchmod`, `fchown`,
+ * `flock` or `unlink`, fails with the error number REFUSED_ERROR, or where that is 0 the program is killed in its
+ * place: the call number REFUSED_NTH, counted from 1 over all threads, or each where there is no such number. Where
+ * there is REFUSED_ABOUT, only calls about a file with this in its path count. Each of these calls, of whatever name,
+ * is told to the descriptor REFUSED_TELLS, if there is one, in a line: its name; how the file is opened, 0 to read, 1
+ * to write, 2 for both; and its path, or `&N` of the descriptors 0 to 2. One that is refused is told again, by the name
+ * `refused`. */
 #define _GNU_SOURCE
 #include <dlfcn.h>
 #include <errno.h>
 #include <fcntl.h>
+#include <signal.h>
 #include <stdarg.h>
+#include <stdatomic.h>
 #include <stdio.h>
 #include <stdlib.h>
 #include <string.h>
-#include <sys/stat.h>
+#include <sys/syscall.h>
 #include <unistd.h>
 
-static int is_named(const char *call) {
+static atomic_ulong calls;
+
+static void tell(const char *call, int access, const char *path) {
+    const char *tells = getenv("REFUSED_TELLS");
+    char line[4200];
+    int length = snprintf(line, sizeof line, "%s %d %s\n", call, access, path);
+    if (tells != NULL && syscall(SYS_write, atoi(tells), line, (size_t)length) != length)
+        abort();
+}
+
+static int is_refused(const char *call, int access, const char *path) {
+    const char *about = getenv("REFUSED_ABOUT"), *nth = getenv("REFUSED_NTH"), *error = getenv("REFUSED_ERROR");
     const char *refused = getenv("REFUSED_CALL");
-    return refused != NULL && strcmp(refused, call) == 0;
-}
-
-static int is_refused(const char *call, const char *path) {
-    if (!is_named(call) || strstr(path, ".exhash-saving") == NULL)
+    if (refused == NULL || error == NULL || (about != NULL && strstr(path, about) == NULL))
         return 0;
-    errno = ENOSPC;
+    tell(call, access, path);
+    if (strcmp(refused, call) != 0)
+        return 0;
+    if (nth != NULL && atomic_fetch_add(&calls, 1) + 1 != strtoul(nth, NULL, 10))
+        return 0;
+    tell("refused", access, path);
+    errno = atoi(error);
+    if (errno == 0)
+        kill(getpid(), SIGKILL);
     return 1;
 }
 
-static int is_refused_folder(int descriptor) {
-    struct stat about;
-    if (!is_named("folder") || fstat(descriptor, &about) != 0 || !S_ISDIR(about.st_mode))
-        return 0;
-    errno = ENOSPC;
-    return 1;
+static int is_refused_of(const char *call, int descriptor) {
+    char link[64], path[4096] = "";
+    snprintf(link, sizeof link, descriptor <= 2 ? "&%d" : "/proc/self/fd/%d", descriptor);
+    if (descriptor <= 2)
+        return is_refused(call, 0, link);
+    int before = errno;
+    if (readlink(link, path, sizeof path - 1) < 0)
+        abort();
+    int access = fcntl(descriptor, F_GETFL) & O_ACCMODE;
+    errno = before;
+    return is_refused(call, access, path);
 }
+
+#define REAL(name, result, ...) ((result(*)(__VA_ARGS__))dlsym(RTLD_NEXT, name))
 
 int open(const char *path, int flags, ...) {
-    int (*real)(const char *, int, ...) = dlsym(RTLD_NEXT, "open");
     va_list rest;
     va_start(rest, flags);
     mode_t mode = flags & O_CREAT ? va_arg(rest, mode_t) : 0;
     va_end(rest);
-    return is_refused("open", path) ? -1 : real(path, flags, mode);
+    return is_refused("open", flags & O_ACCMODE, path)
+               ? -1
+               : REAL("open", int, const char *, int, ...)(path, flags, mode);
+}
+
+ssize_t read(int descriptor, void *bytes, size_t size) {
+    return is_refused_of("read", descriptor) ? -1 : REAL("read", ssize_t, int, void *, size_t)(descriptor, bytes, size);
+}
+
+ssize_t write(int descriptor, const void *bytes, size_t size) {
+    return is_refused_of("write", descriptor)
+               ? -1
+               : REAL("write", ssize_t, int, const void *, size_t)(descriptor, bytes, size);
 }
 
 int fsync(int descriptor) {
-    int (*real)(int) = dlsym(RTLD_NEXT, "fsync");
-    char link[64], path[4096] = "";
-    snprintf(link, sizeof link, "/proc/self/fd/%d", descriptor);
-    if (readlink(link, path, sizeof path - 1) < 0)
-        abort();
-    return is_refused("fsync", path) || is_refused_folder(descriptor) ? -1 : real(descriptor);
+    return is_refused_of("fsync", descriptor) ? -1 : REAL("fsync", int, int)(descriptor);
+}
+
+int ftruncate(int descriptor, off_t size) {
+    return is_refused_of("ftruncate", descriptor) ? -1 : REAL("ftruncate", int, int, off_t)(descriptor, size);
+}
+
+int fchmod(int descriptor, mode_t mode) {
+    return is_refused_of("fchmod", descriptor) ? -1 : REAL("fchmod", int, int, mode_t)(descriptor, mode);
+}
+
+int fchown(int descriptor, uid_t owner, gid_t group) {
+    return is_refused_of("fchown", descriptor) ? -1 : REAL("fchown", int, int, uid_t, gid_t)(descriptor, owner, group);
+}
+
+int flock(int descriptor, int how) {
+    return is_refused_of("flock", descriptor) ? -1 : REAL("flock", int, int, int)(descriptor, how);
 }
 
 int rename(const char *from, const char *to) {
-    int (*real)(const char *, const char *) = dlsym(RTLD_NEXT, "rename");
-    return is_refused("rename", from) ? -1 : real(from, to);
+    return is_refused("rename", 1, from) ? -1 : REAL("rename", int, const char *, const char *)(from, to);
+}
+
+int unlink(const char *path) {
+    return is_refused("unlink", 1, path) ? -1 : REAL("unlink", int, const char *)(path);
 }

@@ -1,10 +1,13 @@
-/* Refuses one growth of memory: tests/run preloads it into the program.
+/* Refuses one growth of memory, or kills the program there: tests/run and tests/failing_calls preload it.
  *
- * Counted from the start of main, the call number REFUSED_GROWTH of malloc, calloc, realloc, aligned_alloc and
- * posix_memalign is answered as where no memory is left, and a byte is written to the descriptor REFUSED_TELLS. */
+ * Counted from the start of main over all threads, the call number REFUSED_GROWTH of malloc, calloc, realloc,
+ * aligned_alloc and posix_memalign is answered as where no memory is left, or where REFUSED_KILLS is set the program is
+ * killed in its place. Before that a byte is written to the descriptor REFUSED_TELLS. */
 #define _GNU_SOURCE
 #include <dlfcn.h>
 #include <errno.h>
+#include <signal.h>
+#include <stdatomic.h>
 #include <stddef.h>
 #include <stdlib.h>
 #include <unistd.h>
@@ -17,14 +20,18 @@ extern void *__libc_realloc(void *, size_t);
 extern void *__libc_memalign(size_t, size_t);
 
 static main_function its_main;
-static unsigned long calls_left;
+static atomic_ulong calls;
+/* 0 before main. */
+static unsigned long refused;
 static int tells = -1;
 
 static int is_refused(void) {
-    if (calls_left == 0 || --calls_left != 0)
+    if (refused == 0 || atomic_fetch_add(&calls, 1) + 1 != refused)
         return 0;
     if (write(tells, "r", 1) != 1)
         abort();
+    if (getenv("REFUSED_KILLS") != NULL)
+        kill(getpid(), SIGKILL);
     return 1;
 }
 
@@ -73,7 +80,7 @@ static int counted_main(int count, char **words, char **environment) {
     if (number == NULL || descriptor == NULL)
         abort();
     tells = atoi(descriptor);
-    calls_left = strtoul(number, NULL, 10);
+    refused = strtoul(number, NULL, 10);
     return its_main(count, words, environment);
 }
 

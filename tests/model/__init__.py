@@ -20,7 +20,9 @@ The others make scripts by chance, and run the program over them.
 
     dice           settings, keys, values and wrong lines
     writer         scripts
+    hostile_lines  each line of the grammar, and what stands next to it
     other_files    page files that no run saves
+    hostile_files  page files by chance with faults in them, for tests/turned_files
     stories        runs that belong together
     runs           runs the program, and names the first line that differs
     counts         what must have come up

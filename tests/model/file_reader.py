@@ -61,6 +61,11 @@ def digits_in(field):
     return digits_of(int.from_bytes(field, "big"), 8 * len(field))
 
 
+def has_digit(content):
+    """Whether a byte of these isn't zero."""
+    return content != bytes(len(content))
+
+
 class Reader:
     """Reads a file, block by block. A fault within a block is told with its place."""
 
@@ -94,7 +99,7 @@ class Reader:
         self.fails(DIGEST, self.is_torn(block))
         header = Header(*fields, struct.unpack(">16I", block[20:84]))
         self.fails(LENGTH, not self.is_in_range(header))
-        self.fails(PADDING, any(block[13:16]) or any(block[84:CONTENT]))
+        self.fails(PADDING, has_digit(block[13:16] + block[84:CONTENT]))
         return header
 
     def is_in_range(self, header):
@@ -114,7 +119,7 @@ class Reader:
         self.fails(LENGTH, count > CAP_LIMIT or kind == FORWARD and count)
         records, end = self.records(block, count)
         field = block[8 : 8 + self.version.width]
-        self.fails(PADDING, block[3] or any(block[8 + len(field) : HEAD]) or any(block[end:CONTENT]))
+        self.fails(PADDING, block[3] or has_digit(block[8 + len(field) : HEAD] + block[end:CONTENT]))
         digits, [link] = digits_in(field), struct.unpack(">I", block[4:8])
         used = length if kind == LIVE else self.version.limit
         self.fails(PREFIX, length > self.version.limit or "1" in digits[used:])
