@@ -114,8 +114,9 @@ line begins or ends with one.
   COPY, TABLE and a ward's INDEX begin at 1, WARD and PAGE at 0.
   CALL        get KEY, put KEY VALUE, del KEY, or swap KEY OLD NEW: NEW in place
               of OLD, where that is the key's value
-  KEY, VALUE  1 to 64 and 0 to 128 bytes, OLD and NEW as VALUE: characters ! to
-              ~, the first not #; or # and two digits of 0 to 9 and a to f a byte
+  KEY, VALUE  1 to 64 and 0 to 128 bytes: characters ! to ~, the first not #; or
+              # and for each byte two digits of 0 to 9 and a to f
+  OLD, NEW    as VALUE
 
 A script is read to its end before anything is printed. A line that can't be
 done prints `refused` and a number, and changes nothing:
