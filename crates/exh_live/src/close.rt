@@ -1,5 +1,5 @@
 ghost use Rattle.std.specs.Prelude.{◌≡◌, ◌+◌, ◌^◌, ◌≤◌, [], length, vec_len, vec_capacity, IfOk, IfErr};
-ghost use Rattle.exh_live.specs.Closing.{AreDiariesOf, IsClosed, IsCloseFault, answers_given, close_fault_number, entries_made};
+ghost use Rattle.exh_live.specs.Closing.{AreDiariesOf, AreInOrder, IsClosed, IsCloseFault, answers_given, close_fault_number, entries_made};
 ghost use Rattle.exh_live.specs.declared.close.CloseFault.TheVariants.{Memory};
 
 use crate::ledgers::{Answers, Entries};
@@ -60,9 +60,9 @@ pub struct NotClosed<P: Pages + Drop, K: Keyer, F: Identity> {
 }
 
 impl<P: Pages + Drop, K: Keyer, F: Identity> LiveFile<P, K, F> {
-    /// Gives the wards, and the diaries of the seats, which are the file's, in their order. The wards'
-    /// journals together have as many entries as the callers got answers. Refused in this order, with
-    /// all handed back: `Seats` where a seat is missing, `Memory`.
+    /// Gives the wards, in the order of their numbers, and the diaries of the seats, which are the file's,
+    /// in theirs. The wards' journals together have as many entries as the callers got answers. Refused
+    /// in this order, with all handed back: `Seats` where a seat is missing, `Memory`.
     pub fn close(self, seats: Vec<Seat<F>>) -> Result<Closed<P, K>, NotClosed<P, K, F>>
         ensures closed { IfOk result (λ closed. IsClosed self seats.items closed.wards.items closed.diaries.items) }
         ensures back { IfErr result (λ back. (back.file ≡ self) × (back.seats.items ≡ seats.items)) }
@@ -126,11 +126,22 @@ impl<P: Pages + Drop, K: Keyer, F: Identity> LiveFile<P, K, F> {
             .into_inner()
             .into_inner()
             .audit(&mut answers, &mut entries);
+        put_in_order(&mut wards);
         Closed { wards, diaries }
     }
 }
 
-// The wards out of their locks, in order. Their shares are put to the one given.
+// Puts wards in the order of their numbers. Those of a file are in it: but of what a list of locks keeps
+// no clause says which lock has which ward.
+fn put_in_order<P: Pages + Drop, K: Keyer>(wards: &mut Vec<Ward<P, K>>)
+    ensures order { AreInOrder wards.new.items }
+    ensures count { length wards.new.items ≡ length wards.old.items }
+    ensures entries { entries_made wards.new.items ≡ entries_made wards.old.items }
+{
+    wards.sort_unstable_by_key(|ward| ward.number());
+}
+
+// The wards out of their locks. Their shares are put to the one given.
 fn unlock<P: Pages + Drop, K: Keyer, F: Identity>(
     locks: Vec<WardLock<P, K, F>>,
     wards: &mut Vec<Ward<P, K>>,
