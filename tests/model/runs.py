@@ -5,6 +5,7 @@ import subprocess
 import tempfile
 from pathlib import Path
 
+from .notes import notes_of
 from .page_file import BLOCK
 
 SECONDS = 60
@@ -25,6 +26,7 @@ def difference_in(program, story):
 
 def difference_in_run(program, run, folder):
     """In what a run differs from what it must come to."""
+    error = notes_of(run.words, run.given, {file.name: file.read_bytes() for file in folder.iterdir()})
     how = {"cwd": folder, "env": ENVIRONMENT, "input": run.given, "capture_output": True, "timeout": SECONDS}
     try:
         ended = subprocess.run([program, *run.words], check=False, **how)
@@ -33,9 +35,15 @@ def difference_in_run(program, run, folder):
     found = difference_in_text(run, ended.stdout.decode("latin-1"))
     if not found and ended.returncode != run.status:
         found = [f"status: wanted {run.status}, got {ended.returncode}"]
-    if not found and ended.stderr:
-        found = [f"standard error: wanted nothing, got {ended.stderr.decode('latin-1')!r}"]
+    found = found or difference_in_error(error, ended.stderr)
     return found or difference_in_files(run.files, folder)
+
+
+def difference_in_error(wanted, got):
+    """The first line of standard error that differs."""
+    lines = itertools.zip_longest(wanted.decode("latin-1").splitlines(), got.decode("latin-1").splitlines())
+    differing = (pair for pair in lines if pair[0] != pair[1])
+    return [f"standard error: wanted {shown(one)}, got {shown(other)}" for one, other in itertools.islice(differing, 1)]
 
 
 def difference_in_text(run, text):

@@ -1,5 +1,5 @@
 -- What a run of a command about a file prints, and with which status the program then ends.
-use Rattle.std.specs.Prelude.{◌≡◌, ◌⊎◌, ℕ, List, [], ◌∷◌, ◌++◌, codes, Option, Result, Ok, Err}
+use Rattle.std.specs.Prelude.{◌≡◌, ◌⊎◌, ◌↔◌, ℕ, Bool, List, [], ◌∷◌, ◌++◌, codes, Option, Result, Ok, Err, IsErrOf, IsTrue}
 use Rattle.std.specs.Io.KnownBytes.{Appends}
 use Rattle.exh_stream.specs.Output.{AppendsBeginning}
 use Rattle.exh_page_file.specs.PageFile.{PageFile}
@@ -10,7 +10,7 @@ use Rattle.exh_report.specs.Report.{Reports, Tells}
 use Rattle.exh_report.specs.declared.verdict.Verdict.{Verdict}
 use Rattle.exh_report.specs.declared.report_fault.ReportFault.{ReportFault}
 use Rattle.exh_report.specs.declared.report_fault.ReportFault.TheVariants.{Write, Memory}
-use Rattle.exh_cli.specs.Run.{memory_line}
+use Rattle.exh_cli.specs.Run.{PrintsLine, memory_line}
 use Rattle.exh_cli.specs.Status.{file_status}
 use Rattle.exh_cli.specs.declared.file_run.Topic.{Topic}
 use Rattle.exh_cli.specs.declared.file_run.Topic.TheVariants.{Size, Content}
@@ -36,12 +36,13 @@ module _ (old new : Option (List ℕ)) where
   FileRunPrints lines known (Err Write) = Reports lines old new known (Err Write)
       ⊎ Tells (λ text. AppendsBeginning old new (text ++ memory_line)) (AppendsBeginning old new) lines known (Err Memory)
 
-  -- the status is that of a run that printed so
-  pub record EndsTelling (lines : PageFile → Lines) (known : Option (List ℕ)) (status : Status) : Type 0 where
+  -- the status is that of a run that printed so; it is cut off by the writer where that failed, and only there
+  pub record EndsTelling (failed : Bool) (lines : PageFile → Lines) (known : Option (List ℕ)) (status : Status) : Type 0 where
     pub outcome : Result Verdict ReportFault
     pub printed : FileRunPrints lines known outcome
+    pub cut : IsErrOf outcome Write ↔ IsTrue failed
     pub status_of_file : status ≡ file_status outcome
 
-  -- the file couldn't be opened: its line, or after a fault of the writer a beginning of it
-  abbrev pub EndsUnopened : Status → Type 0
-  EndsUnopened status = (Appends old new unopened_line ⊎ AppendsBeginning old new unopened_line) × (status ≡ Refused)
+  -- the file couldn't be opened: its line, or where the writer failed a beginning of it
+  abbrev pub EndsUnopened : Bool → Status → Type 0
+  EndsUnopened failed status = PrintsLine old new failed unopened_line × (status ≡ Refused)

@@ -4,3 +4,4 @@ pub mod FileRun
 pub mod OpenRun
 pub mod LoadRun
 pub mod StormRun
+pub mod Place

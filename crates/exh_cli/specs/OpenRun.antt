@@ -1,7 +1,5 @@
 -- What comes of opening a page file to run a script over it.
-use Rattle.std.specs.Prelude.{◌≡◌, ◌⊎◌, ℕ, List, [], ◌∷◌, ◌++◌, codes, Option, Result, Ok, Err}
-use Rattle.std.specs.Io.KnownBytes.{Appends}
-use Rattle.exh_stream.specs.Output.{AppendsBeginning}
+use Rattle.std.specs.Prelude.{◌≡◌, ◌⊎◌, ℕ, Bool, List, [], ◌∷◌, ◌++◌, codes, Option, Result, Ok, Err}
 use Rattle.exh_text.specs.Contents.{on_line}
 use Rattle.exh_text.specs.Printing.{refused_text}
 use Rattle.exh_file.specs.FileVersion.{first_file}
@@ -13,7 +11,7 @@ use Rattle.exh_open.specs.Opening.{IsOpenedFile, IsOpenFaultOf}
 use Rattle.exh_open.specs.declared.open_fault.OpenFault.{OpenFault}
 use Rattle.exh_open.specs.declared.open_fault.OpenFault.TheVariants.{File, Page}
 use Rattle.exh_report.specs.Finding.{refusal_words}
-use Rattle.exh_cli.specs.Run.{memory_line}
+use Rattle.exh_cli.specs.Run.{PrintsLine, memory_line}
 use Rattle.exh_cli.specs.declared.status.Status.{Status}
 use Rattle.exh_cli.specs.declared.status.Status.TheVariants.{Refused}
 
@@ -31,18 +29,14 @@ abbrev pub open_refusal_line : OpenFault → List ℕ
 open_refusal_line (File fault) = on_line (refusal_words fault)
 open_refusal_line Page = on_line (refused_text 11)
 
--- of a writer that held `old` bytes before and `new` ones after, where these are known
-module _ (old new : Option (List ℕ)) where
-  -- the line went out, or after a fault of the writer a beginning of it
-  abbrev pub PrintsLine : List ℕ → Type 0
-  PrintsLine line = Appends old new line ⊎ AppendsBeginning old new line
-
+-- of a writer that held `old` bytes before and `new` ones after, where these are known, and of whether it failed
+module _ (old new : Option (List ℕ)) (failed : Bool) where
   -- of the first fault of the bytes its line; or, where there was no memory for that, the last line of a program that
   -- memory ended
   pub record TellsFault (known : Option (List ℕ)) : Type 0 where
     pub fault : OpenFault
     pub found : IsOpenFaultOf first_file known fault
-    pub printed : PrintsLine (open_refusal_line fault) ⊎ PrintsLine memory_line
+    pub printed : PrintsLine old new failed (open_refusal_line fault) ⊎ PrintsLine old new failed memory_line
 
   -- the file's wards, and nothing printed; or its refusal told
   abbrev pub OpensOrTells : Option (List ℕ) → Result OpenedState Status → Type 0

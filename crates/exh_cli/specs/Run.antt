@@ -1,6 +1,5 @@
 -- What a run of a script prints, and how the program then ends.
-use Rattle.std.specs.Prelude.{◌≡◌, ◌⊎◌, ℕ, List, [], ◌∷◌, ◌++◌, codes, Option, None, Some, Result, Ok, Err}
-use Rattle.std.specs.Borrow.{Bor}
+use Rattle.std.specs.Prelude.{◌≡◌, ◌⊎◌, ℕ, Bool, List, [], ◌∷◌, ◌++◌, codes, Option, None, Some, Result, Ok, Err, MatchBool}
 use Rattle.std.specs.Io.KnownBytes.{Appends}
 use Rattle.exh_stream.specs.Output.{AppendsBeginning}
 use Rattle.exh_open.specs.Opened.{OpenedState}
@@ -9,6 +8,7 @@ use Rattle.exh_serve.specs.Served.{PrintsLines, PrintsText, PrintsUnread, Prints
 use Rattle.exh_serve.specs.declared.serve_fault.ServeFault.{ServeFault}
 use Rattle.exh_serve.specs.declared.serve_fault.ServeFault.TheVariants.{Write, Memory, Page}
 use Rattle.exh_cli.specs.Status.{run_status}
+use Rattle.exh_cli.specs.declared.place.Place.{Place}
 use Rattle.exh_cli.specs.declared.run.Ending.{Ending}
 use Rattle.exh_cli.specs.declared.run.Ending.TheVariants.{Over, Save}
 use Rattle.exh_cli.specs.declared.status.Status.{Status}
@@ -16,6 +16,11 @@ use Rattle.exh_cli.specs.declared.status.Status.{Status}
 -- the last line of a program that memory ended
 abbrev pub memory_line : List ℕ
 memory_line = codes "refused 10" ++ 10 ∷ []
+
+-- Of a writer that held `old` bytes before and `new` ones after, where these are known: a line of the program's own went
+-- out, or the writer failed, and a beginning of it did.
+abbrev pub PrintsLine : Option (List ℕ) → Option (List ℕ) → Bool → List ℕ → Type 0
+PrintsLine old new failed line = MatchBool failed (AppendsBeginning old new line) (Appends old new line)
 
 -- Of what a first line begins, of a writer that held `old` bytes before a run and `new` ones after it, where these are
 -- known, and of a reader that had `unread` bytes left.
@@ -30,9 +35,9 @@ module _ (begin : Beginning) (old new unread : Option (List ℕ)) where
   RunPrints (Err Write) = (PrintsText begin (AppendsBeginning old new) unread ⊎ AppendsBeginning old new unread_text)
       ⊎ PrintsLines begin (λ text. AppendsBeginning old new (text ++ memory_line)) unread
 
--- After a run the program ends with its status; or the wards that it left are saved first, where it is done and a path for
--- them was named.
-abbrev pub IsEnding : Result (Option OpenedState) ServeFault → Option (Bor (List ℕ)) → Ending → Type 0
-IsEnding outcome path (Save at wards) = (outcome ≡ Ok (Some wards)) × (path ≡ Some at)
-IsEnding (Ok (Some wards)) path (Over status) = (path ≡ None) × (status ≡ run_status (Ok (Some wards)))
-IsEnding outcome path (Over status) = status ≡ run_status outcome
+-- After a run the program ends with its status; or the wards that it left are saved first, where it is done and has a place
+-- for them.
+abbrev pub IsEnding : Result (Option OpenedState) ServeFault → Option Place → Ending → Type 0
+IsEnding outcome place (Save one wards) = (outcome ≡ Ok (Some wards)) × (place ≡ Some one)
+IsEnding (Ok (Some wards)) place (Over status) = (place ≡ None) × (status ≡ run_status (Ok (Some wards)))
+IsEnding outcome place (Over status) = status ≡ run_status outcome

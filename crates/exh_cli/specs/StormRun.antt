@@ -1,5 +1,5 @@
 -- What a storm prints, and with which status the program then ends.
-use Rattle.std.specs.Prelude.{◌≡◌, ◌⊎◌, ℕ, List, [], ◌∷◌, ◌++◌, codes, decimal, Option, Result, Ok, Err}
+use Rattle.std.specs.Prelude.{◌≡◌, ℕ, Bool, List, [], ◌∷◌, ◌++◌, codes, decimal, Option, Result, Ok, Err, MatchBool}
 use Rattle.std.specs.Io.KnownBytes.{Appends}
 use Rattle.exh_stream.specs.Output.{AppendsBeginning}
 use Rattle.exh_storm.specs.StormFault.{storm_fault_number}
@@ -17,6 +17,6 @@ storm_status (Ok answers) = Done
 storm_status (Err fault) = Refused
 
 -- Of a writer that held `old` bytes before and `new` ones after, where these are known: the line went out, and the status
--- is the storm's; or after a fault of the writer a beginning of it went out, and the run is refused.
-abbrev pub EndsStorm : Option (List ℕ) → Option (List ℕ) → Result ℕ StormFault → Status → Type 0
-EndsStorm old new outcome status = (Appends old new (storm_line outcome) × (status ≡ storm_status outcome)) ⊎ (AppendsBeginning old new (storm_line outcome) × (status ≡ Refused))
+-- is the storm's; or the writer failed, a beginning of the line went out, and the run is refused.
+abbrev pub EndsStorm : Option (List ℕ) → Option (List ℕ) → Bool → Result ℕ StormFault → Status → Type 0
+EndsStorm old new failed outcome status = MatchBool failed (AppendsBeginning old new (storm_line outcome) × (status ≡ Refused)) (Appends old new (storm_line outcome) × (status ≡ storm_status outcome))

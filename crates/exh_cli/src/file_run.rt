@@ -1,5 +1,6 @@
 //! The run of a command about a file to the program's end: what it prints, and the status.
-ghost use Rattle.std.specs.Prelude.{IfErr, IfOk};
+ghost use Rattle.std.specs.Prelude.{◌≡◌, ◌↔◌, [], IfErr, IfOk, IsErrOf, IsFalse, IsTrue};
+ghost use Rattle.exh_stream.specs.Output.{SameWriter, held, pending, writer_failed};
 ghost use Rattle.exh_report.specs.Report.{Reports};
 ghost use Rattle.exh_cli.specs.FileRun.{EndsTelling, EndsUnopened, FileRunPrints, lines_about};
 
@@ -23,23 +24,27 @@ pub enum Topic {
     Content,
 }
 
-/// Tells on a writer of a file, of which `opened` says what came of opening it, and says with which status the program
-/// ends. Where memory ran out the last line is `refused 10`, on the same writer. After a fault of the writer nothing
-/// more is printed.
+/// Tells of a file, of which `opened` says what came of opening it, on an output that holds nothing back and whose writer
+/// hasn't failed, and says with which status the program ends. Where memory ran out the last line is `refused 10`, on
+/// the same writer. After a fault of the writer nothing more is printed.
 pub fn tell_file<F: Read + Drop, W: Write>(
     alloc: Global,
     topic: Topic,
     opened: io::Result<F>,
-    writer: &mut W,
+    output: &mut Output<'_, W>,
 ) -> Status
+    requires open { IsFalse (writer_failed output.old) }
+    requires empty { pending output.old ≡ [] }
+    ensures same_writer { SameWriter output.old output.new }
     ensures read { IfOk opened (λ file.
-        EndsTelling (W.contents writer.old) (W.contents writer.new) (lines_about topic) (F.remaining file) result) }
-    ensures unopened { IfErr opened (λ fault. EndsUnopened (W.contents writer.old) (W.contents writer.new) result) }
+        EndsTelling (held W.contents output.old) (held W.contents output.new) (writer_failed output.new) (lines_about topic) (F.remaining file) result) }
+    ensures unopened { IfErr opened (λ fault.
+        EndsUnopened (held W.contents output.old) (held W.contents output.new) (writer_failed output.new) result) }
 {
     match opened {
-        Ok(mut file) => Status::of_file(run(alloc, topic, &mut file, writer)),
+        Ok(mut file) => Status::of_file(run(alloc, topic, &mut file, output)),
         Err(_) => {
-            let _ = print_line(&mut Output::new(writer), UNOPENED);
+            let _ = print_line(output, UNOPENED);
             Status::Refused
         }
     }
@@ -50,13 +55,17 @@ fn run<R: Read, W: Write>(
     alloc: Global,
     topic: Topic,
     reader: &mut R,
-    writer: &mut W,
+    output: &mut Output<'_, W>,
 ) -> Result<Verdict, ReportFault>
-    ensures { FileRunPrints (W.contents writer.old) (W.contents writer.new) (lines_about topic) (R.remaining reader.old) result }
+    requires open { IsFalse (writer_failed output.old) }
+    requires empty { pending output.old ≡ [] }
+    ensures same_writer { SameWriter output.old output.new }
+    ensures printed { FileRunPrints (held W.contents output.old) (held W.contents output.new) (lines_about topic) (R.remaining reader.old) result }
+    ensures failed { IsErrOf result ReportFault.Write ↔ IsTrue (writer_failed output.new) }
 {
-    match tell(alloc, topic, reader, writer) {
+    match tell(alloc, topic, reader, output) {
         Err(ReportFault::Memory) => {
-            print_out_of_memory(&mut Output::new(writer))?;
+            print_out_of_memory(output)?;
             Err(ReportFault::Memory)
         }
         told => told,
@@ -68,12 +77,17 @@ fn tell<R: Read, W: Write>(
     alloc: Global,
     topic: Topic,
     reader: &mut R,
-    writer: &mut W,
+    output: &mut Output<'_, W>,
 ) -> Result<Verdict, ReportFault>
-    ensures { Reports (lines_about topic) (W.contents writer.old) (W.contents writer.new) (R.remaining reader.old) result }
+    requires open { IsFalse (writer_failed output.old) }
+    requires empty { pending output.old ≡ [] }
+    ensures same_writer { SameWriter output.old output.new }
+    ensures told { Reports (lines_about topic) (held W.contents output.old) (held W.contents output.new) (R.remaining reader.old) result }
+    ensures failed { IsErrOf result ReportFault.Write ↔ IsTrue (writer_failed output.new) }
+    ensures empty { IsFalse (writer_failed output.new) → pending output.new ≡ [] }
 {
     match topic {
-        Topic::Size => check_text(alloc, reader, writer),
-        Topic::Content => dump_text(alloc, reader, writer),
+        Topic::Size => check_text(alloc, reader, output),
+        Topic::Content => dump_text(alloc, reader, output),
     }
 }

@@ -2,7 +2,7 @@
 ghost use Rattle.std.specs.Prelude.{◌≡◌, ◌↔◌, [], IsErr, IsFalse, IsTrue, OnErr, OnOk};
 ghost use Rattle.std.specs.Io.KnownBytes.{Appends};
 ghost use Rattle.exh_stream.specs.Output.{AppendsBeginning, SameWriter, held, pending, writer_failed};
-ghost use Rattle.exh_cli.specs.Run.{memory_line};
+ghost use Rattle.exh_cli.specs.Run.{PrintsLine, memory_line};
 
 use exh_stream::{Output, WriteFault};
 use std::io::Write;
@@ -31,6 +31,7 @@ pub fn print_line<W: Write>(output: &mut Output<'_, W>, line: &[u8]) -> Result<(
     ensures ok { OnOk result (Appends (held W.contents output.old) (held W.contents output.new) line.now) }
     ensures err { OnErr result (AppendsBeginning (held W.contents output.old) (held W.contents output.new) line.now) }
     ensures failed { IsErr result ↔ IsTrue (writer_failed output.new) }
+    ensures printed { PrintsLine (held W.contents output.old) (held W.contents output.new) (writer_failed output.new) line.now }
 {
     output.push(line)?;
     output.finish()

@@ -1,6 +1,7 @@
 //! Where the wards that a run leaves are saved, and what standard error says of that.
 
 use crate::last_line::print_out_of_memory;
+use crate::place::Place;
 use crate::status::Status;
 use crate::watch::saving_meter;
 use exh_frames::PlainPages;
@@ -42,14 +43,15 @@ pub fn warn(rt: &HostRuntime, path: Option<&str>, seen: Option<&Seen>) {
     }
 }
 
-/// Saves wards as the file of a path, and on a terminal tells how far that is. Standard error says in a line why it
+/// Saves wards as the file of a place, and on a terminal tells how far that is. Standard error says in a line why it
 /// isn't saved; where memory ran out, that is the last line, `refused 10`, on standard output.
-pub fn save_path(
+pub fn save_at_place(
     rt: &HostRuntime,
-    path: &str,
+    place: Place<'_>,
     seen: Option<&Seen>,
     wards: Opened<PlainPages>,
 ) -> Status {
+    let path = place.path();
     let meter = saving_meter(rt);
     let mut disk = SystemDisk::new(rt);
     let saved = save_at(rt.alloc(), &mut disk, path, seen, wards, &meter);

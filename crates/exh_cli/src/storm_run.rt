@@ -1,5 +1,6 @@
 //! The run of a storm to the program's end: the line that tells what came of it, and the status.
-ghost use Rattle.std.specs.Prelude.{◌≡◌, ◌+◌, ◌≤◌, ◌++◌, ◌∷◌, [], length, decimal};
+ghost use Rattle.std.specs.Prelude.{◌≡◌, ◌+◌, ◌≤◌, ◌++◌, ◌∷◌, [], length, decimal, IsFalse};
+ghost use Rattle.exh_stream.specs.Output.{SameWriter, held, pending, writer_failed};
 ghost use Rattle.exh_cli.specs.StormRun.{EndsStorm, storm_line, storm_status};
 
 use crate::last_line::print_line;
@@ -15,13 +16,17 @@ const LINE_LEN: usize = 64;
 
 type Line = ArrayVec<u8, LINE_LEN>;
 
-/// Tells on a writer what came of a storm, `settled` and its answers or `refused` and the refusal's number, and says with
-/// which status the program ends. It takes no memory. A fault of the writer is a refusal too.
-pub fn tell_storm<W: Write>(outcome: Result<u64, StormFault>, writer: &mut W) -> Status
-    ensures { EndsStorm (W.contents writer.old) (W.contents writer.new) outcome result }
+/// Tells what came of a storm, `settled` and its answers or `refused` and the refusal's number, on an output that holds
+/// nothing back and whose writer hasn't failed, and says with which status the program ends. It takes no memory. A fault
+/// of the writer is a refusal too.
+pub fn tell_storm<W: Write>(outcome: Result<u64, StormFault>, output: &mut Output<'_, W>) -> Status
+    requires open { IsFalse (writer_failed output.old) }
+    requires empty { pending output.old ≡ [] }
+    ensures same_writer { SameWriter output.old output.new }
+    ensures told { EndsStorm (held W.contents output.old) (held W.contents output.new) (writer_failed output.new) outcome result }
 {
     let line = storm_line(outcome);
-    match print_line(&mut Output::new(writer), line.as_slice()) {
+    match print_line(output, line.as_slice()) {
         Ok(()) => storm_status(outcome),
         Err(_) => Status::Refused,
     }

@@ -2,8 +2,17 @@
 
 use exh_progress::{BLOCK_LEN, Console, Meter, Unit, Work};
 use std::fs::File;
-use std::io;
 use std::io::{IsTerminal, Stderr};
+use std::{env, io};
+
+/// The terminal that is told how far work is: standard error, where it is one that knows how a line is taken away.
+pub fn console(rt: &HostRuntime) -> Option<Console<'_, HostRuntime, Stderr>> {
+    let console = Console::new(rt, rt.stderr())?;
+    match env::var(rt, "TERM") {
+        Ok(name) if name.as_str() == "dumb" => None,
+        _ => Some(console),
+    }
+}
 
 /// Of the reading of an opened file, which begins now: told where standard error is a terminal.
 pub fn reading_meter<'r>(
@@ -14,7 +23,7 @@ pub fn reading_meter<'r>(
         unit: Unit::BlocksRead,
         of: blocks_of(opened),
     };
-    Meter::new(Console::new(rt, rt.stderr()), work)
+    Meter::new(console(rt), work)
 }
 
 /// Of the reading of pairs from standard input, which begins now: told where standard error is a terminal and standard
@@ -23,7 +32,7 @@ pub fn pairs_meter(rt: &HostRuntime) -> Meter<Console<'_, HostRuntime, Stderr>> 
     let console = if rt.stdin().is_terminal() {
         None
     } else {
-        Console::new(rt, rt.stderr())
+        console(rt)
     };
     let work = Work {
         unit: Unit::PairsRead,
@@ -38,7 +47,7 @@ pub fn saving_meter(rt: &HostRuntime) -> Meter<Console<'_, HostRuntime, Stderr>>
         unit: Unit::BlocksWritten,
         of: None,
     };
-    Meter::new(Console::new(rt, rt.stderr()), work)
+    Meter::new(console(rt), work)
 }
 
 // How many blocks a regular file has, a last one that is cut off among them.

@@ -70,6 +70,8 @@ Examples:
 
 const SERVE_USAGE: &str = "exhash serve [--open PATH] [--save PATH] < SCRIPT
 
+A PATH that begins with a dash stands behind `=`, as in --open=-x.
+
 Examples:
   ./exhash serve < examples/untold-copy.script
   ./exhash serve --open examples/opened-pairs.files/three-pairs.exh \\
@@ -106,8 +108,9 @@ A request that isn't answered when the script ends is gone, and not made.
 A script has at most 1048576 bytes. Words have one space between them, and no
 line begins or ends with one.
   file        cap, the records of a page, 1 to 16; wards 0 to 4, for 2^wards
-              of them; copies 1 to 8; K is sha or plain: how a key's bytes lead
-              to its page. Of an opened file the cap, wards and K are its own.
+              of them; copies 1 to 8; K is sha or plain: keys are parted by two
+              bytes of a digest, or by their own first two bytes alone. Of an
+              opened file the cap, wards and K are its own.
               `moves=yes` may stand behind it: each reply then ends with its
               moves and their bound, as ` moves 1 of 1`
   rN, cN      r or c and a number from 1 to 4294967295
@@ -208,8 +211,10 @@ many records the file has:
   refused 61   its key or value is out of range
   full KEY     there is no room for it, whatever is split
   loaded 2
-A later value of a key replaces the earlier. An empty file or a page file there
-is replaced once the new one is whole; any other stays, and nothing is saved.
+A later value of a key replaces the earlier. Keys are parted by two bytes: those
+of a digest with keyer=sha, their own first two with keyer=plain. An empty file
+or a page file there is replaced once the new one is whole; any other stays, and
+nothing is saved. Which line is refused or full is said on standard error.
 These stand alone or come last, and nothing is saved: 60 or 61 for the `file`
 line, 62 for more than 1048576 bytes, 41 where reading fails, 10 where memory
 ends. Why a path can't be saved to is said on standard error.

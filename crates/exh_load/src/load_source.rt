@@ -12,6 +12,7 @@ ghost use Rattle.exh_load.specs.Load.{Loads, Prints, PrintsBy, PrintsFront, Take
 use crate::{LoadFault, Loader, load_lines};
 use exh_frames::PlainPages;
 use exh_keyer::AnyKeyer;
+use exh_notes::{Listener, Shape};
 use exh_open::Opened;
 use exh_settings::{Config, SCRIPT_LIMIT, parse_file_line};
 use exh_stream::{InputFault, Output, Source};
@@ -21,27 +22,34 @@ use std::io::{Read, Write};
 
 /// Reads a whole text, of a `file` line and of pairs, puts the pairs into a new file, and writes what is printed of
 /// them and nothing else. It answers the file, or `None` where the text is refused. Where the reader fails, that is the
-/// line `refused 41` alone. No fault is tried again.
+/// line `refused 41` alone. No fault is tried again. The listener is told of lines that are refused or full.
 ///
 /// `Write`: the writer failed or took no bytes, and got a beginning of what is printed. `Memory`: a growth was refused.
 /// `Page`: a page couldn't be reached. After these two the writer got whole lines of it.
-pub fn load<R: Read, W: Write>(
+pub fn load<R: Read, W: Write, L: Listener>(
     alloc: Global,
     reader: &mut R,
     writer: &mut W,
+    listener: &mut L,
 ) -> Result<Option<Opened<PlainPages>>, LoadFault>
     ensures ok { IfOk result (λ file. Loads (Appends (W.contents writer.old) (W.contents writer.new)) (R.remaining reader.old) file) }
     ensures err { OnErr result (Prints (AppendsBeginning (W.contents writer.old) (W.contents writer.new)) (R.remaining reader.old)) }
     ensures memory { IfErr result (λ fault. fault ≢ LoadFault.Write → PrintsFront (Appends (W.contents writer.old) (W.contents writer.new)) (R.remaining reader.old)) }
 {
-    load_all(alloc, &mut Source::new(reader), &mut Output::new(writer))
+    load_all(
+        alloc,
+        &mut Source::new(reader),
+        &mut Output::new(writer),
+        listener,
+    )
 }
 
 // The same of a source. What waits is written after each fault.
-fn load_all<R: Read, W: Write>(
+fn load_all<R: Read, W: Write, L: Listener>(
     alloc: Global,
     source: &mut Source<'_, R>,
     output: &mut Output<'_, W>,
+    listener: &mut L,
 ) -> Result<Option<Opened<PlainPages>>, LoadFault>
     requires open { IsFalse (reader_failed source.old) }
     requires open_output { IsFalse (writer_failed output.old) }
@@ -53,16 +61,17 @@ fn load_all<R: Read, W: Write>(
     ensures err { OnErr result (Prints (AppendsBeginning (held W.contents output.old) (held W.contents output.new)) (unread R.remaining source.old)) }
     ensures memory { IfErr result (λ fault. fault ≢ LoadFault.Write → PrintsFront (Appends (held W.contents output.old) (held W.contents output.new)) (unread R.remaining source.old)) }
 {
-    let loaded = load_source(alloc, source, output);
+    let loaded = load_source(alloc, source, output, listener);
     output.finish()?;
     loaded
 }
 
 // Reads the text, and loads it.
-fn load_source<R: Read, W: Write>(
+fn load_source<R: Read, W: Write, L: Listener>(
     alloc: Global,
     source: &mut Source<'_, R>,
     output: &mut Output<'_, W>,
+    listener: &mut L,
 ) -> Result<Option<Opened<PlainPages>>, LoadFault>
     requires open { IsFalse (reader_failed source.old) }
     requires open_output { IsFalse (writer_failed output.old) }
@@ -75,18 +84,22 @@ fn load_source<R: Read, W: Write>(
     ensures failed { IsErrOf result LoadFault.Write ↔ IsTrue (writer_failed output.new) }
 {
     match source.read_whole(alloc, SCRIPT_LIMIT) {
-        Ok(text) => load_text(alloc, output, &text),
-        Err(InputFault::TooLong) => refuse(alloc, output, 62),
+        Ok(text) => load_text(alloc, output, &text, listener),
+        Err(InputFault::TooLong) => {
+            listener.too_long();
+            refuse(alloc, output, 62)
+        }
         Err(InputFault::Read) => refuse(alloc, output, 41),
         Err(InputFault::Memory) => Err(LoadFault::Memory),
     }
 }
 
 // Loads a text.
-fn load_text<W: Write>(
+fn load_text<W: Write, L: Listener>(
     alloc: Global,
     output: &mut Output<'_, W>,
     text: &[u8],
+    listener: &mut L,
 ) -> Result<Option<Opened<PlainPages>>, LoadFault>
     requires open { IsFalse (writer_failed output.old) }
     requires few { length (lines_of text.now) < 2 ^ 64 }
@@ -103,19 +116,24 @@ fn load_text<W: Write>(
     };
     match parse_file_line(first) {
         Ok(settings) => {
-            let file = load_pairs(alloc, output, &settings.file, lines)?;
+            let file = load_pairs(alloc, output, &settings.file, lines, text, listener)?;
             Ok(Some(file))
         }
-        Err(fault) => refuse(alloc, output, fault.number()),
+        Err(fault) => {
+            listener.first_refused(text, first, fault);
+            refuse(alloc, output, fault.number())
+        }
     }
 }
 
 // Loads the pairs of lines into a new file.
-fn load_pairs<W: Write>(
+fn load_pairs<W: Write, L: Listener>(
     alloc: Global,
     output: &mut Output<'_, W>,
     file: &Config<AnyKeyer>,
     lines: Lines<'_>,
+    text: &[u8],
+    listener: &mut L,
 ) -> Result<Opened<PlainPages>, LoadFault>
     requires open { IsFalse (writer_failed output.old) }
     requires range { IsTrue (file_in_range file.now) }
@@ -128,9 +146,19 @@ fn load_pairs<W: Write>(
     ensures failed { IsErrOf result LoadFault.Write ↔ IsTrue (writer_failed output.new) }
 {
     let mut loader = Loader::new(alloc, file.cap, file.ward_bits, file.keyer)?;
-    let records = load_lines(alloc, output, &mut loader, lines)?;
+    let records = load_lines(alloc, output, &mut loader, lines, text, listener)?;
+    listener.pairs_ended(shape_of(file));
     print_number(alloc, output, "loaded ", records)?;
     Ok(loader.into_opened())
+}
+
+// The settings of a file that a listener is told of.
+fn shape_of(file: &Config<AnyKeyer>) -> Shape {
+    Shape {
+        cap: file.cap,
+        ward_bits: file.ward_bits,
+        keyer: file.keyer,
+    }
 }
 
 // Prints the number of a refusal alone.

@@ -7,21 +7,24 @@ ghost use Rattle.exh_load.specs.Loading.{after_pair_line, line_text, loaded_from
 use crate::pair_line::{parse_pair_line, push_reply};
 use crate::{LoadFault, Loader};
 use exh_calls::Reply;
+use exh_notes::Listener;
 use exh_stream::Output;
 use exh_text::{Lines, push_refused, push_text};
 use std::alloc::Global;
 use std::io::Write;
 
 /// Puts the pairs of lines, tells those that are turned away and the lines that are none, and answers how many records
-/// there are more, the greatest `u64` where they are still more. On an `Err` a beginning of that text went out, and the
-/// loader can be used no more.
+/// there are more, the greatest `u64` where they are still more. The lines are of a whole text, and the listener is told
+/// of each. On an `Err` a beginning of that text went out, and the loader can be used no more.
 ///
 /// `Write`: the writer failed or took no bytes. `Memory`: a growth was refused. `Page`: a page couldn't be reached.
-pub fn load_lines<W: Write>(
+pub fn load_lines<W: Write, L: Listener>(
     alloc: Global,
     output: &mut Output<'_, W>,
     loader: &mut Loader,
     lines: Lines<'_>,
+    whole: &[u8],
+    listener: &mut L,
 ) -> Result<u64, LoadFault>
     requires open { IsFalse (writer_failed output.old) }
     requires loading { IsLoading loader.old }
@@ -40,6 +43,7 @@ pub fn load_lines<W: Write>(
         text.clear();
         let more = push_line(&mut text, loader, line)?;
         output.push(&text)?;
+        listener.answered(whole, line, &text);
         records = records.saturating_add(more);
     }
     Ok(records)

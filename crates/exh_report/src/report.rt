@@ -30,18 +30,23 @@ enum Topic {
 }
 
 /// Says of all bytes that a reader has left whether they are a legal page file: how much that has, or the refusal. A
-/// reader that fails is refused too.
+/// reader that fails is refused too. The output holds nothing back, before and after, and its writer hasn't failed.
 ///
 /// `Write`: the writer failed or took no bytes, and got a beginning of the text. `Memory`: a growth was refused, and
 /// the writer got a beginning of its lines, each line whole.
 pub fn check_text<R: Read, W: Write>(
     alloc: Global,
     reader: &mut R,
-    writer: &mut W,
+    output: &mut Output<'_, W>,
 ) -> Result<Verdict, ReportFault>
-    ensures { Reports check_lines (W.contents writer.old) (W.contents writer.new) (R.remaining reader.old) result }
+    requires open { IsFalse (writer_failed output.old) }
+    requires empty { pending output.old ≡ [] }
+    ensures same_writer { SameWriter output.old output.new }
+    ensures told { Reports check_lines (held W.contents output.old) (held W.contents output.new) (R.remaining reader.old) result }
+    ensures failed { IsErrOf result ReportFault.Write ↔ IsTrue (writer_failed output.new) }
+    ensures empty { IsFalse (writer_failed output.new) → pending output.new ≡ [] }
 {
-    report(alloc, Topic::Size, reader, &mut Output::new(writer))
+    report(alloc, Topic::Size, reader, output)
 }
 
 /// Tells what the legal page file has that all bytes are which a reader has left: its settings, the pages of each ward
@@ -52,11 +57,16 @@ pub fn check_text<R: Read, W: Write>(
 pub fn dump_text<R: Read, W: Write>(
     alloc: Global,
     reader: &mut R,
-    writer: &mut W,
+    output: &mut Output<'_, W>,
 ) -> Result<Verdict, ReportFault>
-    ensures { Reports dump_lines (W.contents writer.old) (W.contents writer.new) (R.remaining reader.old) result }
+    requires open { IsFalse (writer_failed output.old) }
+    requires empty { pending output.old ≡ [] }
+    ensures same_writer { SameWriter output.old output.new }
+    ensures told { Reports dump_lines (held W.contents output.old) (held W.contents output.new) (R.remaining reader.old) result }
+    ensures failed { IsErrOf result ReportFault.Write ↔ IsTrue (writer_failed output.new) }
+    ensures empty { IsFalse (writer_failed output.new) → pending output.new ≡ [] }
 {
-    report(alloc, Topic::Content, reader, &mut Output::new(writer))
+    report(alloc, Topic::Content, reader, output)
 }
 
 // Tells of a reader's bytes. What waits is written after want of memory too.
@@ -70,6 +80,8 @@ fn report<R: Read, W: Write>(
     requires empty { pending output.old ≡ [] }
     ensures same_writer { SameWriter output.old output.new }
     ensures told { Reports (topic_lines topic) (held W.contents output.old) (held W.contents output.new) (R.remaining reader.old) result }
+    ensures failed { IsErrOf result ReportFault.Write ↔ IsTrue (writer_failed output.new) }
+    ensures empty { IsFalse (writer_failed output.new) → pending output.new ≡ [] }
 {
     let told = tell(alloc, topic, reader, output);
     output.finish()?;

@@ -1,7 +1,9 @@
 -- What a fault leaves of wards.
-use Rattle.std.proofs.Common.{◌≡◌, ℕ, ◌≤◌, List, length, set, slice_get, Some, Result, Ok, Err, inl, inr, refl, sym, ◌∙◌, subst, arith}
+use Rattle.std.proofs.Common.{◌≡◌, ℕ, ◌<◌, ◌≤◌, List, ◌++◌, take, ap, length, set, get_or, slice_get, Some, Result, Ok, Err, inl, inr, refl, sym, ◌∙◌, subst, arith}
 use Rattle.std.proofs.lemmas.Bool.{cases_eq}
 use Rattle.std.proofs.lemmas.List.{length-set}
+use Rattle.std.proofs.lemmas.Option.{slice_get-get_or, slice_get_within}
+use Rattle.std.proofs.Math.Seq.{take-append_seam}
 use Rattle.exh_prefix.specs.ListLemmas.{one_there, set_here, set_else}
 use Rattle.exh_page.specs.declared.page.Page.{Page as PageType}
 use Rattle.exh_page.specs.declared.page.Page.TheVariants.{Live, Forward}
@@ -12,8 +14,9 @@ use Rattle.exh_legal.specs.MapLemmas.{page_at}
 use Rattle.exh_keyer.specs.declared.any_keyer.AnyKeyer.{AnyKeyer}
 use Rattle.exh_keyer.specs.Pseudokey.{any_pseudokey}
 use Rattle.exh_ward.specs.WardState.{IsSoundWard, IsUnchanged, WardState}
+use Rattle.exh_open.specs.Opened.{AreWardsOf, IsWardOf, OpenedState}
 use Rattle.exh_save.specs.SaveFault.{CountsSaveFailures}
-use Rattle.exh_save.specs.Saved.{AreUnchanged, failures_in}
+use Rattle.exh_save.specs.Saved.{AreUnchanged, failures_in, in_file}
 use Rattle.exh_save.specs.declared.save_fault.SaveFault.{SaveFault}
 use Rattle.exh_save.specs.declared.save_fault.SaveFault.TheVariants.{Write, Page, Memory}
 use Rattle.exh_save.proofs.Lists.{sum_of-set}
@@ -56,3 +59,30 @@ module _ (wards : List (WardState AnyKeyer)) (at : ℕ) (ward left : WardState A
   one_counted (Err Write) same = omega (arith, sum_of-set (λ (w : WardState AnyKeyer). w.failures) wards at ward left is, same)
   one_counted (Err Memory) same = omega (arith, sum_of-set (λ (w : WardState AnyKeyer). w.failures) wards at ward left is, same)
   one_counted (Err Page) more = omega (arith, sum_of-set (λ (w : WardState AnyKeyer). w.failures) wards at ward left is, more)
+
+-- wards of a file that are unchanged are wards of it
+module _ (opened : OpenedState) (wards : List (WardState AnyKeyer)) (are : AreWardsOf opened) (same : AreUnchanged opened.wards wards) where
+  its_ward : (number : ℕ) (old new : WardState AnyKeyer) → IsWardOf opened number old → IsUnchanged old new → IsWardOf (record opened { wards = wards }) number new
+  its_ward number old new is unchanged = subst (IsWardOf (record opened { wards = wards }) number) (sym unchanged) (record { cap = is.cap; bits = is.bits; number_is = is.number_is; keyer = is.keyer })
+
+  pub still_wards : AreWardsOf (record opened { wards = wards })
+  still_wards = record {
+    some = are.some;
+    most = are.most;
+    bits = are.bits;
+    count = same.count ∙ are.count;
+    each = λ number new there.
+        let old = get_or opened.wards number new in
+        let less : number < length opened.wards = omega (arith, slice_get_within wards number new there, same.count) in
+        let was : slice_get opened.wards number ≡ Some old = slice_get-get_or opened.wards number new less in
+        its_ward number old new (are.each number old was) (same.each number old new was there);
+  }
+
+-- settings and wards that are a file's are the file
+pub same_file : (opened : OpenedState) (cap bits : ℕ) (keyer : AnyKeyer) (wards : List (WardState AnyKeyer)) → cap ≡ opened.cap → bits ≡ opened.ward_bits → keyer ≡ opened.keyer → wards ≡ opened.wards → in_file cap bits keyer wards ≡ opened
+same_file opened cap bits keyer wards p q r s =
+    ap (λ (n : ℕ). in_file n bits keyer wards) p ∙ ap (λ (n : ℕ). in_file opened.cap n keyer wards) q ∙ ap (λ (k : AnyKeyer). in_file opened.cap opened.ward_bits k wards) r ∙ ap (λ (ws : List (WardState AnyKeyer)). in_file opened.cap opened.ward_bits opened.keyer ws) s
+
+-- what was lent and is put back whole
+pub put_back : (len : ℕ) (left rest : List (WardState AnyKeyer)) → len ≡ length left → take len (left ++ rest) ≡ left
+put_back len left rest is = subst (λ (n : ℕ). take n (left ++ rest) ≡ left) (sym is) (take-append_seam left rest)

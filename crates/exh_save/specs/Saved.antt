@@ -76,6 +76,11 @@ pub record AreUnchanged (old new : List (WardState AnyKeyer)) : Type 0 where
   pub count : length new ≡ length old
   pub each : (number : ℕ) (ward left : WardState AnyKeyer) → slice_get old number ≡ Some ward → slice_get new number ≡ Some left → IsUnchanged ward left
 
+-- the same file's wards, of which nothing but the counts of failures differs
+pub record IsLeft (old new : OpenedState) : Type 0 where
+  pub settings : new ≡ record old { wards = new.wards }
+  pub unchanged : AreUnchanged old.wards new.wards
+
 -- how often a page of any ward couldn't be reached
 abbrev pub failures_in : List (WardState AnyKeyer) → ℕ
 failures_in wards = sum_by (λ ward. ward.failures) wards

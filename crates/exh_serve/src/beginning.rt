@@ -12,17 +12,20 @@ ghost use Rattle.exh_world.specs.Sound.{IsSoundWorld};
 use exh_frames::{Pages, PlainPages};
 use exh_keyer::AnyKeyer;
 use exh_line::Refusal;
+use exh_notes::{Listener, Shape};
 use exh_open::Opened;
 use exh_settings::Config;
 use exh_world::World;
 use std::alloc::{AllocError, Global};
 
 /// The world that a first line of these settings begins, over an opened file or over none: a new file's, or that of the
-/// opened wards. `Refusal::OtherFile` where the settings' cap, ward bits or keyer aren't the opened file's.
-pub(crate) fn begin(
+/// opened wards. `Refusal::OtherFile` where the settings' cap, ward bits or keyer aren't the opened file's, of
+/// which the listener is told.
+pub(crate) fn begin<L: Listener>(
     alloc: Global,
     from: Option<Opened<PlainPages>>,
     file: &Config<AnyKeyer>,
+    listener: &mut L,
 ) -> Result<Result<World<PlainPages, AnyKeyer>, Refusal>, AllocError>
     requires some { 1 ≤ file.now.cap }
     requires most { file.now.cap ≤ CAP_LIMIT }
@@ -33,15 +36,16 @@ pub(crate) fn begin(
 {
     match from {
         None => Ok(Ok(World::new(alloc, file)?)),
-        Some(opened) => begin_over(alloc, opened, file),
+        Some(opened) => begin_over(alloc, opened, file, listener),
     }
 }
 
 // The same over an opened file.
-fn begin_over<P: Pages + Drop>(
+fn begin_over<P: Pages + Drop, L: Listener>(
     alloc: Global,
     opened: Opened<P>,
     file: &Config<AnyKeyer>,
+    listener: &mut L,
 ) -> Result<Result<World<P, AnyKeyer>, Refusal>, AllocError>
     requires bits { file.now.ward_bits ≤ WARD_BITS_LIMIT }
     ensures begun { IfOk result (λ begun. begun ≡ opened_file opened file.now) }
@@ -49,9 +53,29 @@ fn begin_over<P: Pages + Drop>(
     ensures settings { IfOk result (λ begun. IfOk begun (λ world. settings_of world file.now.copies ≡ file.now)) }
 {
     if !is_of_file(&opened, file) {
+        tell_differing(&opened, file, listener);
         return Ok(Err(Refusal::OtherFile));
     }
     Ok(Ok(World::from_wards(alloc, file, opened.into_wards())?))
+}
+
+// Tells a listener of both settings.
+fn tell_differing<P: Pages + Drop, L: Listener>(
+    opened: &Opened<P>,
+    file: &Config<AnyKeyer>,
+    listener: &mut L,
+) {
+    let script = Shape {
+        cap: file.cap,
+        ward_bits: file.ward_bits,
+        keyer: file.keyer,
+    };
+    let opened = Shape {
+        cap: opened.cap(),
+        ward_bits: opened.ward_bits(),
+        keyer: opened.keyer(),
+    };
+    listener.differs(script, opened);
 }
 
 // Whether settings are those of an opened file.

@@ -16,6 +16,7 @@ use crate::ServeFault;
 use crate::beginning::{begin, leave};
 use exh_frames::{Pages, PlainPages};
 use exh_line::{Refusal, push_refusal};
+use exh_notes::Listener;
 use exh_open::Opened;
 use exh_script::{Run, lines_keep_settings, push_response};
 use exh_settings::{Settings, parse_file_line};
@@ -28,11 +29,12 @@ use std::io::Write;
 /// leaves; without them it was refused. On an `Err` a beginning of its text went out, after `Memory` and `Page` that of
 /// a beginning of its lines.
 #[tactic(auto, unfolding(exh_script::specs::Text::start_of, exh_script::specs::Text::settings_of))]
-pub(crate) fn respond<W: Write>(
+pub(crate) fn respond<W: Write, L: Listener>(
     alloc: Global,
     output: &mut Output<'_, W>,
     script: &[u8],
     from: Option<Opened<PlainPages>>,
+    listener: &mut L,
 ) -> Result<Option<Opened<PlainPages>>, ServeFault>
     requires { IsFalse (writer_failed output.old) }
     ensures same_writer { SameWriter output.old output.new }
@@ -48,8 +50,11 @@ pub(crate) fn respond<W: Write>(
         return refuse(alloc, output, LineFault::Syntax.into());
     };
     match parse_file_line(first) {
-        Ok(settings) => serve_file(alloc, output, from, &settings, lines),
-        Err(fault) => refuse(alloc, output, fault.into()),
+        Ok(settings) => serve_file(alloc, output, from, &settings, lines, script, listener),
+        Err(fault) => {
+            listener.first_refused(script, first, fault);
+            refuse(alloc, output, fault.into())
+        }
     }
 }
 
@@ -74,12 +79,14 @@ pub(crate) fn refuse<P: Pages + Drop, W: Write>(
 }
 
 // Answers the lines behind a right first line.
-fn serve_file<W: Write>(
+fn serve_file<W: Write, L: Listener>(
     alloc: Global,
     output: &mut Output<'_, W>,
     from: Option<Opened<PlainPages>>,
     settings: &Settings,
     lines: Lines<'_>,
+    script: &[u8],
+    listener: &mut L,
 ) -> Result<Option<Opened<PlainPages>>, ServeFault>
     requires open { IsFalse (writer_failed output.old) }
     requires some { 1 ≤ settings.now.file.cap }
@@ -94,11 +101,12 @@ fn serve_file<W: Write>(
     ensures failed { IsErrOf result ServeFault.Write ↔ IsTrue (writer_failed output.new) }
 {
     lines_keep_settings();
-    match begin(alloc, from, &settings.file)? {
+    match begin(alloc, from, &settings.file, listener)? {
         Ok(world) => {
             let tells_moves = settings.tells_moves;
             let mut run = Run { world, tells_moves };
-            answer_lines(alloc, output, &mut run, lines)?;
+            answer_lines(alloc, output, &mut run, lines, script, listener)?;
+            listener.script_ended(run.world.in_flight().len() as u64);
             Ok(Some(leave(&settings.file, run.world)))
         }
         Err(refusal) => refuse(alloc, output, refusal),
@@ -106,11 +114,13 @@ fn serve_file<W: Write>(
 }
 
 // Answers lines, over whatever store of pages. Want of memory and a page out of reach leave each line whole or out.
-fn answer_lines<P: Pages + Drop, W: Write>(
+fn answer_lines<P: Pages + Drop, W: Write, L: Listener>(
     alloc: Global,
     output: &mut Output<'_, W>,
     run: &mut Run<P>,
     lines: Lines<'_>,
+    script: &[u8],
+    listener: &mut L,
 ) -> Result<(), ServeFault>
     requires open { IsFalse (writer_failed output.old) }
     requires sound { IsSoundWorld any_pseudokey run.old.world }
@@ -126,6 +136,7 @@ fn answer_lines<P: Pages + Drop, W: Write>(
         text.clear();
         push_response(&mut text, run, line)?;
         output.push(&text)?;
+        listener.answered(script, line, &text);
     }
     Ok(())
 }

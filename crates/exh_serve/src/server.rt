@@ -9,6 +9,7 @@ use crate::ServeFault;
 use crate::respond::{refuse, respond};
 use exh_frames::PlainPages;
 use exh_line::Refusal;
+use exh_notes::Listener;
 use exh_open::Opened;
 use exh_settings::SCRIPT_LIMIT;
 use exh_stream::{InputFault, Output, Source};
@@ -16,15 +17,16 @@ use std::alloc::Global;
 use std::io::{Read, Write};
 
 /// Reads a whole script, and writes its text and nothing else. Where the reader fails, that is the line `refused 41`
-/// alone. No fault is tried again.
+/// alone. No fault is tried again. The listener is told of lines that are refused, and of requests that aren't answered.
 ///
 /// `Write`: the writer failed or took no bytes, and got a beginning of it. `Memory`: a growth was refused. `Page`: a page
 /// couldn't be reached. After these two the writer got the text of a beginning of the script's lines, each line whole.
-pub fn serve_from<R: Read, W: Write>(
+pub fn serve_from<R: Read, W: Write, L: Listener>(
     alloc: Global,
     from: Option<Opened<PlainPages>>,
     reader: &mut R,
     writer: &mut W,
+    listener: &mut L,
 ) -> Result<Option<Opened<PlainPages>>, ServeFault>
     ensures ok { IfOk result (λ left.
         PrintsWhole (beginning from) (Appends (W.contents writer.old) (W.contents writer.new)) (R.remaining reader.old) left
@@ -40,15 +42,17 @@ pub fn serve_from<R: Read, W: Write>(
         from,
         &mut Source::new(reader),
         &mut Output::new(writer),
+        listener,
     )
 }
 
 // The same, where the source tells whether the reader failed. What waits is written after each fault.
-fn serve_source<R: Read, W: Write>(
+fn serve_source<R: Read, W: Write, L: Listener>(
     alloc: Global,
     from: Option<Opened<PlainPages>>,
     source: &mut Source<'_, R>,
     output: &mut Output<'_, W>,
+    listener: &mut L,
 ) -> Result<Option<Opened<PlainPages>>, ServeFault>
     requires open { IsFalse (reader_failed source.old) }
     requires open_output { IsFalse (writer_failed output.old) }
@@ -65,17 +69,18 @@ fn serve_source<R: Read, W: Write>(
         PrintsLines (beginning from) (Appends (held W.contents output.old) (held W.contents output.new)) (unread R.remaining source.old)) }
     ensures failed { IsErrOf result ServeFault.Write ↔ IsTrue (writer_failed output.new) }
 {
-    let served = answer_source(alloc, from, source, output);
+    let served = answer_source(alloc, from, source, output, listener);
     output.finish()?;
     served
 }
 
 // Answers the script of a source. Where its reader fails, the answer is that alone.
-fn answer_source<R: Read, W: Write>(
+fn answer_source<R: Read, W: Write, L: Listener>(
     alloc: Global,
     from: Option<Opened<PlainPages>>,
     source: &mut Source<'_, R>,
     output: &mut Output<'_, W>,
+    listener: &mut L,
 ) -> Result<Option<Opened<PlainPages>>, ServeFault>
     requires open { IsFalse (reader_failed source.old) }
     requires open_output { IsFalse (writer_failed output.old) }
@@ -93,8 +98,11 @@ fn answer_source<R: Read, W: Write>(
     ensures failed { IsErrOf result ServeFault.Write ↔ IsTrue (writer_failed output.new) }
 {
     match source.read_whole(alloc, SCRIPT_LIMIT) {
-        Ok(script) => respond(alloc, output, &script, from),
-        Err(InputFault::TooLong) => refuse(alloc, output, Refusal::TooLong),
+        Ok(script) => respond(alloc, output, &script, from, listener),
+        Err(InputFault::TooLong) => {
+            listener.too_long();
+            refuse(alloc, output, Refusal::TooLong)
+        }
         Err(InputFault::Read) => refuse(alloc, output, Refusal::Read),
         Err(InputFault::Memory) => Err(ServeFault::Memory),
     }

@@ -1,10 +1,15 @@
 use Rattle.exh_stream.specs.OutputLemmas.{OnErr-from, TakesBeginning-none}
 use Rattle.exh_load.specs.Loading.{loading_of}
+use Rattle.exh_load.proofs.Lines.{IfErr-from}
+use Rattle.exh_load.proofs.Loads.{front_none}
 use Rattle.exh_load.proofs.Pairs.{handed_on, lines_begun, lines_front, pairs_begun, pairs_front, pairs_out, records_told}
 use Rattle.exh_load.proofs.load_source.load_pairs.Goals as goal
 
 pub returns-in_err-loader-clause-err : goal.returns-in_err-loader-clause-err
 returns-in_err-loader-clause-err g c = OnErr-from c.from_residual.result (TakesBeginning-none g.W.Write.contents c.args.output.now _)
+
+pub returns-in_err-loader-clause-front : goal.returns-in_err-loader-clause-front
+returns-in_err-loader-clause-front g c = IfErr-from c.from_residual.result (λ fault _. front_none g.W.Write.contents c.args.output.now _)
 
 pub returns-in_err-records-clause-err : goal.returns-in_err-records-clause-err
 returns-in_err-records-clause-err g c =
