@@ -72,8 +72,8 @@ def line_places(words):
     """What may stand at the places of a later line of a script."""
     keyword = one_of("begin", *FORMS)
     if words[0] == "begin":
-        pair = PAIR if words[4:5] == ["put"] else (KEY,)
-        return (keyword, NAMES["r"], number("c", least=1), number(), one_of("get", "put", "del"), *pair)
+        rest = {"put": PAIR, "swap": (KEY, VALUE, VALUE)}.get("".join(words[4:5]), (KEY,))
+        return (keyword, NAMES["r"], number("c", least=1), number(), one_of("get", "put", "del", "swap"), *rest)
     return (keyword, *(NAMES[form] for form in FORMS.get(words[0], ())))
 
 

@@ -10,7 +10,7 @@ use Rattle.exh_text.specs.Numbers.{index_spelled, number_after, number_spelled}
 use Rattle.exh_text.specs.declared.line_fault.LineFault.{LineFault}
 use Rattle.exh_text.specs.declared.line_fault.LineFault.TheVariants.{Syntax, Range}
 use Rattle.exh_notes.specs.declared.expect.Expect.{Expect}
-use Rattle.exh_notes.specs.declared.expect.Expect.TheVariants.{File, Cap, Wards, Copies, Keyer, Moves, Keyword, Request, Client, Copy, Verb, OnlyRequest, OnlyKey, Key, Value, CopyWardIndex, WardIndex, Index, TwoNumbers, Number, End}
+use Rattle.exh_notes.specs.declared.expect.Expect.TheVariants.{File, Cap, Wards, Copies, Keyer, Moves, Keyword, Request, Client, Copy, Verb, OnlyRequest, OnlyKey, Key, SwapKey, Old, Value, CopyWardIndex, WardIndex, Index, TwoNumbers, Number, End}
 
 -- ---- the keywords of a script's later lines, and what comes behind each
 
@@ -31,7 +31,7 @@ after_keyword word =
     else (if bytes_eq word (codes "deliver") then Some CopyWardIndex else after_view word)))
 
 abbrev pub is_verb : List ℕ → Bool
-is_verb word = bytes_eq word (codes "get") || bytes_eq word (codes "put") || bytes_eq word (codes "del")
+is_verb word = bytes_eq word (codes "get") || bytes_eq word (codes "put") || bytes_eq word (codes "del") || bytes_eq word (codes "swap")
 
 -- ---- why a word can't stand where it stands
 
@@ -71,6 +71,8 @@ fault_of_word Copy word = fault_in 0 greatest (number_spelled word)
 fault_of_word Verb word = fault_unless (is_verb word)
 fault_of_word OnlyKey word = fault_of (ranged key_in_range (bytes_of_word word))
 fault_of_word Key word = fault_of (ranged key_in_range (bytes_of_word word))
+fault_of_word SwapKey word = fault_of (ranged key_in_range (bytes_of_word word))
+fault_of_word Old word = fault_of (ranged pair_in_range (spelled_pair (codes "k") word))
 fault_of_word Value word = fault_of (ranged pair_in_range (spelled_pair (codes "k") word))
 fault_of_word CopyWardIndex word = fault_in 0 greatest (number_spelled word)
 fault_of_word WardIndex word = fault_in 0 greatest (number_spelled word)
@@ -92,6 +94,8 @@ after_word Request = Client
 after_word Client = Copy
 after_word Copy = Verb
 after_word Key = Value
+after_word SwapKey = Old
+after_word Old = Value
 after_word CopyWardIndex = WardIndex
 after_word WardIndex = Index
 after_word TwoNumbers = Number
@@ -103,5 +107,5 @@ or_end (Some next) = next
 
 abbrev pub next_word : Expect → List ℕ → Expect
 next_word Keyword word = or_end (after_keyword word)
-next_word Verb word = if bytes_eq word (codes "put") then Key else OnlyKey
+next_word Verb word = if bytes_eq word (codes "put") then Key else (if bytes_eq word (codes "swap") then SwapKey else OnlyKey)
 next_word other word = after_word other

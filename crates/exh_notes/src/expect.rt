@@ -25,9 +25,12 @@ pub enum Expect {
     Copy,
     Verb,
     OnlyRequest,
-    /// The key of a `get` or `del`; a key with a value behind it, and that.
+    /// The key of a `get` or `del`; a key with a value behind it; a key with two, and the first of
+    /// these; the last value.
     OnlyKey,
     Key,
+    SwapKey,
+    Old,
     Value,
     /// The words behind `deliver`.
     CopyWardIndex,
@@ -52,8 +55,8 @@ impl Expect {
             }
             Expect::Client => fault_in(1, u32::MAX, parse_u32_after(b"c", word)),
             Expect::Verb => fault_unless(is_verb(word)),
-            Expect::OnlyKey | Expect::Key => fault_of(parse_key(word)),
-            Expect::Value => fault_of(parse_pair(b"k", word)),
+            Expect::OnlyKey | Expect::Key | Expect::SwapKey => fault_of(parse_key(word)),
+            Expect::Old | Expect::Value => fault_of(parse_pair(b"k", word)),
             Expect::Index => fault_unless(parse_u64(word).is_some()),
             Expect::Copy
             | Expect::CopyWardIndex
@@ -95,6 +98,7 @@ impl Expect {
                 None => Expect::End,
             },
             Expect::Verb if word == b"put".as_slice() => Expect::Key,
+            Expect::Verb if word == b"swap".as_slice() => Expect::SwapKey,
             Expect::Verb => Expect::OnlyKey,
             _ => self.next(),
         }
@@ -113,7 +117,8 @@ impl Expect {
             Expect::Request => Expect::Client,
             Expect::Client => Expect::Copy,
             Expect::Copy => Expect::Verb,
-            Expect::Key => Expect::Value,
+            Expect::Key | Expect::Old => Expect::Value,
+            Expect::SwapKey => Expect::Old,
             Expect::CopyWardIndex => Expect::WardIndex,
             Expect::WardIndex => Expect::Index,
             Expect::TwoNumbers => Expect::Number,
@@ -164,7 +169,10 @@ fn after_view(word: &[u8]) -> Option<Expect>
 fn is_verb(word: &[u8]) -> bool
     ensures { result ≡ is_verb word.now }
 {
-    word == b"get".as_slice() || word == b"put".as_slice() || word == b"del".as_slice()
+    word == b"get".as_slice()
+        || word == b"put".as_slice()
+        || word == b"del".as_slice()
+        || word == b"swap".as_slice()
 }
 
 fn fault_unless(right: bool) -> Option<LineFault>
