@@ -98,10 +98,12 @@ What is printed of a request, and what is next:
   rN moved W/P    its key is further on, at W/P: `hop rN` again
   rN split        the page that it is at is full: `split W P`, then `hop rN`
   rN is VALUE     answered: the value of a get
-  rN none         answered: a get or del, and there is no such key
+  rN none         answered: a get, del or swap, and there is no such key
   rN new          answered: a put, of a key that wasn't there
   rN was VALUE    answered: a put or del, and the value that was there
   rN full         answered: a put, and the key has no room, whatever is split
+  rN swapped      answered: a swap, and OLD was the key's value
+  rN differs V    answered: a swap, and V is the key's value, which stays
   notice W/I ..   a split or merge is done: `deliver COPY W I` tells a copy
 A request that isn't answered when the script ends is gone, and not made.
 
