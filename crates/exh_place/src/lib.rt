@@ -3,8 +3,6 @@
 
 pub use exh_disk::{DiskFault, Seen};
 pub use place::{look_at, save_at};
-pub use writing::write_opened;
 
 mod place;
 mod wards;
-mod writing;

@@ -1,10 +1,9 @@
-use crate::write_opened;
 use exh_disk::{Source, SourceFault};
 use exh_frames::Pages;
 use exh_open::Opened;
 use exh_page_file::FileWriter;
 use exh_progress::{Meter, MeteredWriter, Terminal};
-use exh_save::SaveFault;
+use exh_save::{SaveFault, write_opened};
 use std::io::Write;
 
 /// Wards that are to be saved as a page file. A meter counts what is written.
@@ -17,7 +16,8 @@ pub(crate) struct Wards<'m, P: Pages + Drop, T: Terminal> {
 impl<P: Pages + Drop, T: Terminal> Source for Wards<'_, P, T> {
     fn write_to<W: Write>(self, writer: &mut W) -> Result<(), SourceFault> {
         let mut counted = MeteredWriter::new(writer, self.meter);
-        match write_opened(self.opened, &mut FileWriter::new(&mut counted)) {
+        let (saved, _opened) = write_opened(self.opened, &mut FileWriter::new(&mut counted));
+        match saved {
             Ok(()) => Ok(()),
             Err(SaveFault::Write) => Err(SourceFault::Writer),
             Err(SaveFault::Memory) => Err(SourceFault::Memory),
