@@ -12,18 +12,15 @@ pub(crate) enum Story {
     Locks,
     /// A keeper merges pages, a caller fills them again.
     Refill,
-    /// Two callers count by swaps.
-    Counter,
     /// Of storms.
     Storms(Storms),
 }
 
 /// All of them, in the order in which they are played.
-pub(crate) const STORIES: [Story; 10] = [
+pub(crate) const STORIES: [Story; 9] = [
     Story::HeldLook,
     Story::Locks,
     Story::Refill,
-    Story::Counter,
     Story::Storms(Storms::HeldCaller),
     Story::Storms(Storms::Company),
     Story::Storms(Storms::Open),
@@ -38,7 +35,6 @@ impl Named for Story {
             Story::HeldLook => "held-look",
             Story::Locks => "locks",
             Story::Refill => "refill",
-            Story::Counter => "counter",
             Story::Storms(Storms::HeldCaller) => "held-caller",
             Story::Storms(Storms::Company) => "company",
             Story::Storms(Storms::Open) => "open",
