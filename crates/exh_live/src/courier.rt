@@ -3,6 +3,7 @@ ghost use Rattle.exh_notice.specs.declared.notice.Notice.{Notice as NoticeValue}
 ghost use Rattle.exh_copy.specs.declared.addition.Addition.TheVariants.{Take};
 ghost use Rattle.exh_live.specs.Rounds.{AreCarried, Follows, TakesBatch, TakesBetween, TakesFromTo};
 
+use crate::lock::lock_soon;
 use crate::{Cursors, Identity, LiveFile};
 use exh_copy::{CopyWriter, Start};
 use exh_frames::Pages;
@@ -69,11 +70,11 @@ impl<P: Pages + Drop, K: Keyer, F: Identity> LiveFile<P, K, F> {
     {
         let ward = &self.wards[usize::from(number)];
         let mut batch = Vec::new(self.alloc);
-        let mut left = ward.lock(rt).count_above(*place);
+        let mut left = lock_soon(ward, rt).count_above(*place);
         while 0 < left {
             let most = if left < TURN_LIMIT { left } else { TURN_LIMIT };
             batch.clear();
-            ward.lock(rt).hand_out(*place, most, &mut batch)?;
+            lock_soon(ward, rt).hand_out(*place, most, &mut batch)?;
             take_next(copy, number, place, batch.as_slice())?;
             left -= most;
         }

@@ -1,6 +1,7 @@
 ghost use Rattle.std.specs.Prelude.{◌^◌, ◌<◌, IfErr};
 ghost use Rattle.exh_ward.specs.WardFault.{IsStoreFault};
 
+use crate::lock::lock_soon;
 use crate::{Identity, LiveFile};
 use exh_frames::Pages;
 use exh_keyer::Keyer;
@@ -19,10 +20,10 @@ impl<P: Pages + Drop, K: Keyer, F: Identity> LiveFile<P, K, F> {
         ensures { IfErr result IsStoreFault }
     {
         let lock = &self.wards[usize::from(ward)];
-        let pages = lock.lock(rt).page_count();
+        let pages = lock_soon(lock, rt).page_count();
         let mut merges = 0;
         for page in 0..pages {
-            if lock.lock(rt).keep(page)? {
+            if lock_soon(lock, rt).keep(page)? {
                 merges += 1;
             }
         }

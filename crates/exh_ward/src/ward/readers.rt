@@ -60,6 +60,13 @@ impl<P: Pages + Drop, K: Keyer> Ward<P, K> {
         self.cap
     }
 
+    /// The ward's number: the leading bits of its pseudokeys. It takes no memory.
+    pub fn number(&self) -> u8
+        ensures { result ≡ self.now.number }
+    {
+        self.number
+    }
+
     /// How many pages the ward has. It takes no memory.
     pub fn page_count(&self) -> PageNo
         ensures count { result ≡ length self.now.pages }
