@@ -46,15 +46,18 @@ enum Story {
 }
 
 // All of them, in the order in which they are played.
-const STORIES: [Story; 10] = [
+const STORIES: [Story; 13] = [
     Story::OneCaller(OneCaller::ToldCopy),
     Story::Closing,
     Story::OneCaller(OneCaller::Courier),
     Story::OneCaller(OneCaller::Keeper),
     Story::OneCaller(OneCaller::FourWards),
+    Story::OneCaller(OneCaller::Long),
     Story::OneCaller(OneCaller::EvenHalf),
     Story::OneCaller(OneCaller::OddHalf),
     Story::OneCaller(OneCaller::OpenedCourier),
+    Story::OneCaller(OneCaller::MergedCourier),
+    Story::OneCaller(OneCaller::LateCourier),
     Story::OneCaller(OneCaller::WornKeeper),
     Story::Callers,
 ];
@@ -78,9 +81,12 @@ impl Named for Story {
             Story::OneCaller(OneCaller::Courier) => "courier",
             Story::OneCaller(OneCaller::Keeper) => "keeper",
             Story::OneCaller(OneCaller::FourWards) => "four-wards",
+            Story::OneCaller(OneCaller::Long) => "long",
             Story::OneCaller(OneCaller::EvenHalf) => "even-half",
             Story::OneCaller(OneCaller::OddHalf) => "odd-half",
             Story::OneCaller(OneCaller::OpenedCourier) => "opened-courier",
+            Story::OneCaller(OneCaller::MergedCourier) => "merged-courier",
+            Story::OneCaller(OneCaller::LateCourier) => "late-courier",
             Story::OneCaller(OneCaller::WornKeeper) => "worn-keeper",
             Story::Closing => "closing",
             Story::Callers => "callers",
@@ -145,6 +151,8 @@ fn play<R: Threads + Wait + Sync, F: Identity + Sync + Send, S: Start + Sync + S
     entries: Blank,
 ) -> Result<(), Difference>
     requires bits { ward_bits ≤ WARD_BITS_LIMIT }
+    requires copy { S.ward_bits ≡ ward_bits }
+    requires table { S.table ≡ map.empty }
     requires answers { (answers.name ≡ F.answers) × (answers.parts ≡ ANSWER_PARTS) }
     requires entries { (entries.name ≡ F.entries) × (entries.parts ≡ ENTRY_PARTS) }
     requires hashed { F.hashing ≡ plain_pseudokey }
