@@ -5,6 +5,7 @@ ghost use Rattle.exh_prefix.specs.Prefix.{low_of};
 ghost use Rattle.exh_table.specs.Below.{leaves_listed};
 ghost use Rattle.exh_prefix.specs.Leading.{ward_of};
 ghost use Rattle.exh_line.specs.Shown.{entry_line, leaf_line, page_line_text, shown_text};
+ghost use Rattle.exh_text.specs.Printing.{Keeps};
 
 use crate::answer_text::push_copy;
 use exh_array::Directory;
@@ -26,7 +27,8 @@ pub fn push_shown(
 ) -> Result<(), AllocError>
     requires most { ward_bits ≤ WARD_BITS_LIMIT }
     requires own { directory.now.pointers.ward_bits ≡ ward_bits }
-    ensures { OnOk result (out.new.items ≡ out.old.items ++ shown_text ward_bits copy directory.now.table) }
+    ensures ok { OnOk result (out.new.items ≡ out.old.items ++ shown_text ward_bits copy directory.now.table) }
+    ensures kept { Keeps out.old.items out.new.items }
 {
     push_copy(out, copy)?;
     push_text(out, " depth ")?;
@@ -37,7 +39,8 @@ pub fn push_shown(
 }
 
 fn push_entries(out: &mut Vec<u8>, table: &Table) -> Result<(), AllocError>
-    ensures { OnOk result (out.new.items ≡ out.old.items ++ flat_map entry_line (entries table.now)) }
+    ensures ok { OnOk result (out.new.items ≡ out.old.items ++ flat_map entry_line (entries table.now)) }
+    ensures kept { Keeps out.old.items out.new.items }
 {
     for (prefix, entry) in table.entries() {
         push_entry_line(out, prefix, entry)?;
@@ -47,7 +50,8 @@ fn push_entries(out: &mut Vec<u8>, table: &Table) -> Result<(), AllocError>
 
 fn push_leaves(out: &mut Vec<u8>, ward_bits: u8, table: &Table) -> Result<(), AllocError>
     requires { ward_bits ≤ WARD_BITS_LIMIT }
-    ensures { OnOk result (out.new.items ≡ out.old.items ++ flat_map (leaf_line ward_bits) (leaves_listed table.now ward_bits)) }
+    ensures ok { OnOk result (out.new.items ≡ out.old.items ++ flat_map (leaf_line ward_bits) (leaves_listed table.now ward_bits)) }
+    ensures kept { Keeps out.old.items out.new.items }
 {
     let leaves = table.leaves(ward_bits)?;
     for leaf in &leaves {
@@ -71,7 +75,8 @@ pub fn push_page(
     number: PageNo,
     line: &PageLine,
 ) -> Result<(), AllocError>
-    ensures { OnOk result (out.new.items ≡ out.old.items ++ page_line_text ward number line.now) }
+    ensures ok { OnOk result (out.new.items ≡ out.old.items ++ page_line_text ward number line.now) }
+    ensures kept { Keeps out.old.items out.new.items }
 {
     match line {
         PageLine::Live {
