@@ -67,14 +67,14 @@ fn spot_of(store: &mut PlainPages, item: &Record) -> Option<Result<Spot, Spot>>
 
 // The answer to one call of a kind.
 fn answer(
-    store: &mut FailingPages,
+    store: &mut FailingPages<PlainPages>,
     call: PagesCall,
     item: &Record,
     spot: Result<Spot, Spot>,
 ) -> Option<PagesFault>
-    requires two { length (store.old).pages ≡ 2 }
-    requires live { IfPage (store.old).pages 0 IsLive }
-    requires sought { IfPage (store.old).pages 0 (λ page. IsSought (place_of item.now) (records_of page) spot) }
+    requires two { length (store.old).inner ≡ 2 }
+    requires live { IfPage (store.old).inner 0 IsLive }
+    requires sought { IfPage (store.old).inner 0 (λ page. IsSought (place_of item.now) (records_of page) spot) }
 {
     match call {
         PagesCall::Get => store.get(0).err(),
