@@ -1,4 +1,4 @@
-ghost use Rattle.std.specs.Prelude.{◌≡◌, [], ◌∷◌, ◌++◌, slice_get, OnOk, OnErr};
+ghost use Rattle.std.specs.Prelude.{◌≡◌, [], ◌∷◌, ◌++◌, length, slice_get, OnOk, OnErr};
 ghost use Rattle.std.specs.Iterator.{YieldsFirst, item_count};
 
 use crate::journal::bytes_at;
@@ -75,6 +75,13 @@ impl PackedPairs {
         }
     }
 
+    // How many pairs there are.
+    fn count(&self) -> usize
+        ensures { result ≡ length self.now }
+    {
+        self.stored.len()
+    }
+
     // The pair at a place, from 0 on; `None` past the last.
     fn get(&self, at: usize) -> Option<(Key, Value)>
         ensures { result ≡ slice_get self.now at }
@@ -111,7 +118,7 @@ impl<'a> Iterator for Pairs<'a> {
     ghost remaining = { item_count (λ pairs. pairs) };
 
     fn next(&mut self) -> Option<(Key, Value)> {
-        if self.next >= self.pairs.stored.len() {
+        if self.next >= self.pairs.count() {
             return None;
         }
         let pair = self.pairs.get(self.next);
