@@ -6,7 +6,9 @@ use Rattle.std.proofs.lemmas.Option.{slice_get_within}
 use Rattle.exh_prefix.specs.ListLemmas.{one_there}
 use Rattle.exh_page.specs.declared.page.Page.{Page}
 use Rattle.exh_page.specs.declared.page.Page.TheVariants.{Live}
+use Rattle.exh_page.specs.declared.page_head.PageHead.{PageHead}
 use Rattle.exh_page.specs.declared.page_head.PageHead.TheVariants.{Live as LiveHead}
+use Rattle.exh_frames.specs.PageStore.{HasHead}
 use Rattle.exh_page.specs.PageHead.{head_of}
 use Rattle.exh_page.specs.declared.record.Record.{Record}
 use Rattle.exh_halves.specs.LeftHalf.{IsLeftHalf}
@@ -42,20 +44,20 @@ module _ {K : Type 0} {pseudo : List ℕ → ℕ} {takes : Page → Type 0} {own
   is_half prefix link count inner (TooMany sum) refused = refused
   is_half prefix link count inner Memory refused = refused
 
-  module _ {page : Page} (there : IsAt w.pages at page) where
-    pub none_here : (fault : HalvesFault) → NoLeftHalf own (head_of page) fault → (sum : ℕ) → HasBuddySum w at sum → ⊥
+  module _ {page : PageHead} (there : HasHead w.pages at page) where
+    pub none_here : (fault : HalvesFault) → NoLeftHalf own page fault → (sum : ℕ) → HasBuddySum w at sum → ⊥
     none_here fault refused sum (prefix, records, others, left, buddy, is) =
-        let live : page ≡ Live (prefix ++ false ∷ []) left.link records = one_there w.pages at page _ there left.there in
-        is_half prefix left.link (length records) left.inner fault (subst (λ page. NoLeftHalf own (head_of page) fault) live refused)
+        let live : there.0 ≡ Live (prefix ++ false ∷ []) left.link records = one_there w.pages at there.0 _ there.1 left.there in
+        is_half prefix left.link (length records) left.inner fault (subst (λ page. NoLeftHalf own page fault) (there.2 ∙ ap head_of live) refused)
 
-    module _ {half : LeftHalf} (is : IsLeftHalf own (head_of page) half) (law : LeftChildrenLinkToSiblings) {right : ℕ} (linked : half.right ≡ Some right) {buddy : Page} (is_buddy : IsAt w.pages right buddy) where
-      sum_here : (sum : ℕ) → HasSumBeside half (head_of buddy) sum → HasBuddySum w at sum
+    module _ {half : LeftHalf} (is : IsLeftHalf own page half) (law : LeftChildrenLinkToSiblings) {right : ℕ} (linked : half.right ≡ Some right) {buddy : PageHead} (is_buddy : HasHead w.pages right buddy) where
+      sum_here : (sum : ℕ) → HasSumBeside half buddy sum → HasBuddySum w at sum
       sum_here sum (link, count, head, sum_is) =
           let left = page_is kept at there is in
-          let other = headed buddy (half.parent ++ true ∷ []) link count head in
-          (half.parent, left.records, other.records, left_child kept at there is, (right, link, is_buddy ∙ ap Some other.live), omega (arith, sum_is, left.counted, other.counted))
+          let other = headed is_buddy.0 (half.parent ++ true ∷ []) link count (sym is_buddy.2 ∙ head) in
+          (half.parent, left.records, other.records, left_child kept at there is, (right, link, is_buddy.1 ∙ ap Some other.live), omega (arith, sum_is, left.counted, other.counted))
 
-      sum_beside : (sum : ℕ) → HasBuddySum w at sum → HasSumBeside half (head_of buddy) sum
+      sum_beside : (sum : ℕ) → HasBuddySum w at sum → HasSumBeside half buddy sum
       sum_beside sum (prefix, records, others, left, (number, link, at_number), sum_is) =
           let here_is = page_is kept at there is in
           let same : Live (prefix ++ false ∷ []) left.link records ≡ Live (half.parent ++ false ∷ []) half.right here_is.records = one_there w.pages at _ _ left.there (live_left kept at there is) in
@@ -64,15 +66,15 @@ module _ {K : Type 0} {pseudo : List ℕ → ℕ} {takes : Page → Type 0} {own
           let kept_records : records ≡ here_is.records = cc in
           let child : IsAt w.pages number (Live (half.parent ++ true ∷ []) link others) = subst (λ p. IsAt w.pages number (Live (p ++ true ∷ []) link others)) parents at_number in
           let here : number ≡ right = (to_sibling kept at there is law).sibling number (link, others, child) ∙ right_is kept at there is law linked in
-          let live : buddy ≡ Live (half.parent ++ true ∷ []) link others = one_there w.pages right buddy _ is_buddy (subst (λ n. IsAt w.pages n (Live (half.parent ++ true ∷ []) link others)) here child) in
-          (link, length others, ap head_of live, sum_is ∙ ap (λ rs. length rs + length others) kept_records ∙ ap (λ n. n + length others) (sym here_is.counted))
+          let live : is_buddy.0 ≡ Live (half.parent ++ true ∷ []) link others = one_there w.pages right is_buddy.0 _ is_buddy.1 (subst (λ n. IsAt w.pages n (Live (half.parent ++ true ∷ []) link others)) here child) in
+          (link, length others, is_buddy.2 ∙ ap head_of live, sum_is ∙ ap (λ rs. length rs + length others) kept_records ∙ ap (λ n. n + length others) (sym here_is.counted))
 
-      one_sum : (sum other : ℕ) → HasSumBeside half (head_of buddy) sum → HasSumBeside half (head_of buddy) other → other ≡ sum
+      one_sum : (sum other : ℕ) → HasSumBeside half buddy sum → HasSumBeside half buddy other → other ≡ sum
       one_sum sum other (link, count, head, sum_is) (other_link, more, other_head, other_is) =
           let both : LiveHead (half.parent ++ true ∷ []) link count ≡ LiveHead (half.parent ++ true ∷ []) other_link more = sym head ∙ other_head in
           let same : count ≡ more = cc in
           other_is ∙ ap (λ n. half.count + n) (sym same) ∙ sym sum_is
 
-      pub sum_is_told : (found : Option ℕ) → MatchOption found ((sum : ℕ) → HasSumBeside half (head_of buddy) sum → ⊥) (HasSumBeside half (head_of buddy)) → IsBuddySum w at found
+      pub sum_is_told : (found : Option ℕ) → MatchOption found ((sum : ℕ) → HasSumBeside half buddy sum → ⊥) (HasSumBeside half buddy) → IsBuddySum w at found
       sum_is_told None none = λ sum has. none sum (sum_beside sum has)
       sum_is_told (Some sum) some = (sum_here sum some, λ other has. one_sum sum other some (sum_beside other has))

@@ -1,14 +1,11 @@
 -- What the head of a page says of the page.
-use Rattle.std.proofs.Common.{◌≡◌, ℕ, ◌≤◌, Bool, true, false, List, [], ◌∷◌, ◌++◌, length, Option, refl, ap}
+use Rattle.std.proofs.Common.{◌≡◌, ℕ, Bool, List, length, Option, refl}
 use Rattle.exh_page.specs.declared.page.Page.{Page}
 use Rattle.exh_page.specs.declared.page.Page.TheVariants.{Live, Forward}
-use Rattle.exh_page.specs.declared.page_head.PageHead.{PageHead}
 use Rattle.exh_page.specs.declared.page_head.PageHead.TheVariants.{Live as LiveHead}
 use Rattle.exh_page.specs.declared.record.Record.{Record}
 use Rattle.exh_page.specs.Page.{records_of}
 use Rattle.exh_page.specs.PageHead.{count_in, head_of}
-use Rattle.exh_halves.specs.LeftHalf.{IsLeftHalf}
-use Rattle.exh_halves.specs.declared.left_half.LeftHalf.{LeftHalf}
 
 -- the live page that a head is of
 pub record IsHeaded (page : Page) (prefix : List Bool) (link : Option ℕ) (count : ℕ) : Type 0 where
@@ -27,7 +24,3 @@ headed (Forward low target) prefix link count is = cc
 pub counted_in : (page : Page) → count_in (head_of page) ≡ length (records_of page)
 counted_in (Live prefix link records) = refl
 counted_in (Forward low target) = refl
-
--- the page whose head is a left half's
-pub half_headed : (own : List Bool) (page : Page) (half : LeftHalf) → IsLeftHalf own (head_of page) half → IsHeaded page (half.parent ++ false ∷ []) half.right half.count
-half_headed own page half is = headed page (half.parent ++ false ∷ []) half.right half.count is.live
