@@ -115,7 +115,10 @@ fn answer_all(alloc: Global, at: u64, notes: &mut [Note]) -> Result<Left, AllocE
     })
 }
 
-fn failing_world(alloc: Global, at: u64) -> Result<World<FailingPages<PlainPages>, AnyKeyer>, AllocError>
+fn failing_world(
+    alloc: Global,
+    at: u64,
+) -> Result<World<FailingPages<PlainPages>, AnyKeyer>, AllocError>
     ensures { IfOk result (IsSoundWorld any_pseudokey) }
 {
     let mut wards = Vec::new(alloc);

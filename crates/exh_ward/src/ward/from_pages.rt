@@ -79,10 +79,7 @@ impl<P: Pages + Drop, K: Keyer> Ward<P, K> {
 }
 
 // The index of a store's pages, and the pairs of their records.
-fn read_pages<P: Pages>(
-    alloc: Global,
-    store: &mut P,
-) -> Result<(PageIndex, PackedPairs), WardFault>
+fn read_pages<P: Pages>(alloc: Global, store: &mut P) -> Result<(PageIndex, PackedPairs), WardFault>
     requires apart { HaveOwnBounds (P.pages store.old) }
     ensures index { IfOk result (λ read. IsIndexOf read.0 (bare (P.pages store.old))) }
     ensures pairs { IfOk result (λ read. read.1 ≡ pairs_of (P.pages store.old)) }

@@ -24,7 +24,7 @@ pub loop-number-preserved : goal.loop-number-preserved
 loop-number-preserved g c =
     let is = c.loop-number.invariant in
     let pages = g.P.Pages.pages c.args.store.now in
-        let page = ap (λ pages. slice_get pages c.loop-number.number) (sym is.pages) ∙ at_read _ _ _ _ c.fetch.ensures.pages c.fetched.ensures in
+    let page = ap (λ pages. slice_get pages c.loop-number.number) (sym is.pages) ∙ at_read _ _ _ _ c.fetch.ensures.pages c.fetched.ensures in
     record {
       within = omega (arith, c.loop-number-test.true, c.count-number-end.ensures);
       index = one_page_more _ _ pages c.loop-number.number c.fetched.result.now c.requires.apart page is.index c.in_ok-take_page.ensures.index;
