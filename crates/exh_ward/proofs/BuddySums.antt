@@ -10,7 +10,6 @@ use Rattle.exh_page.specs.declared.page_head.PageHead.{PageHead}
 use Rattle.exh_page.specs.declared.page_head.PageHead.TheVariants.{Live as LiveHead}
 use Rattle.exh_frames.specs.PageStore.{HasHead}
 use Rattle.exh_page.specs.PageHead.{head_of}
-use Rattle.exh_page.specs.declared.record.Record.{Record}
 use Rattle.exh_halves.specs.LeftHalf.{IsLeftHalf}
 use Rattle.exh_halves.specs.Refusal.{NoLeftHalf}
 use Rattle.exh_halves.specs.declared.halves_fault.HalvesFault.{HalvesFault}
