@@ -8,7 +8,7 @@ use exh_callers::CAP;
 use exh_fixtures::first_store;
 use exh_frames::{Pages, PagesFault, PlainPages};
 use exh_keyer::PlainKeyer;
-use exh_page::{Key, Page, Spot, Value};
+use exh_page::{Key, Page, PageHead, Spot, Value};
 use exh_prefix::PageNo;
 use exh_ward::Ward;
 use std::alloc::{AllocError, Global};
@@ -120,6 +120,11 @@ impl<R: Clock> Pages for WatchedPages<'_, R> {
 
     fn get(&mut self, number: PageNo) -> Result<Page, PagesFault> {
         self.inner.get(number)
+    }
+
+    fn head(&mut self, number: PageNo) -> Result<PageHead, PagesFault> {
+        look_on(&mut self.look, self.conductor);
+        self.inner.head(number)
     }
 
     fn fetch(&mut self, number: PageNo) -> Result<(), PagesFault> {

@@ -78,6 +78,7 @@ fn answer(
 {
     match call {
         PagesCall::Get => store.get(0).err(),
+        PagesCall::Head => store.head(0).err(),
         PagesCall::Fetch => store.fetch(0).err(),
         PagesCall::Put => store
             .put_at(0, spot, item.pseudokey, &item.key, &item.value)
@@ -101,8 +102,9 @@ fn answers(alloc: Global, call: PagesCall, at: u64) -> Option<Answers> {
     Some((answer, store.failed(), store.failures()))
 }
 
-const CALLS: [PagesCall; 7] = [
+const CALLS: [PagesCall; 8] = [
     PagesCall::Get,
+    PagesCall::Head,
     PagesCall::Fetch,
     PagesCall::Put,
     PagesCall::Remove,

@@ -3,7 +3,7 @@ ghost use Rattle.exh_frames.specs.Failure.{IsDue, after_call, failed_call, failu
 ghost use Rattle.exh_frames.specs.PageStore.{CountsFaults};
 
 use crate::{Pages, PagesCall, PagesFault, PlainPages};
-use exh_page::{Key, Page, Spot, Value};
+use exh_page::{Key, Page, PageHead, Spot, Value};
 use exh_prefix::PageNo;
 use std::marker::Model;
 
@@ -85,7 +85,7 @@ impl Pages for FailingPages {
     ghost use Rattle.exh_page.specs.Page.{IsLive, records_of, with_records};
     ghost use Rattle.exh_page.specs.Records.{with_record};
     ghost use Rattle.exh_page.specs.Search.{IsSought, IsSpot};
-    ghost use Rattle.exh_frames.specs.PageStore.{IfPage};
+    ghost use Rattle.exh_frames.specs.PageStore.{HasHead, IfPage};
 
     ghost pages = { λ store. store.pages };
 
@@ -113,6 +113,18 @@ impl Pages for FailingPages {
     {
         self.enter(PagesCall::Get)?;
         self.inner.get(number)
+    }
+
+    fn head(&mut self, number: PageNo) -> Result<PageHead, PagesFault>
+        requires { number < length self.old.pages }
+        ensures head { IfOk result (HasHead self.old.pages number) }
+        ensures pages { self.new.pages ≡ self.old.pages }
+        ensures failures { CountsFaults result (failure_count self.old.failure) (failure_count self.new.failure) }
+        ensures due { IsErrOf result PagesFault.Page ↔ IsDue self.old.failure }
+        ensures counted { self.new.failure ≡ after_call PagesCall.Head self.old.failure }
+    {
+        self.enter(PagesCall::Head)?;
+        self.inner.head(number)
     }
 
     fn fetch(&mut self, number: PageNo) -> Result<(), PagesFault>

@@ -3,10 +3,10 @@ ghost use Rattle.exh_page.specs.Page.{IsLive, records_of, with_records};
 ghost use Rattle.exh_page.specs.Records.{with_record};
 ghost use Rattle.exh_page.specs.Search.{IsSought, IsSpot};
 ghost use Rattle.exh_page.specs.declared.page.Page.{Page};
-ghost use Rattle.exh_frames.specs.PageStore.{IfPage, CountsFaults, TakesTheSame};
+ghost use Rattle.exh_frames.specs.PageStore.{IfPage, HasHead, CountsFaults, TakesTheSame};
 
 use crate::PagesFault;
-use exh_page::{Key, Page, Spot, Value};
+use exh_page::{Key, Page, PageHead, Spot, Value};
 use exh_prefix::PageNo;
 
 /// A store of pages, numbered from 0 on in the order in which they came. Each call
@@ -37,6 +37,14 @@ pub trait Pages {
     fn get(&mut self, number: PageNo) -> Result<Page, PagesFault>
         requires { number < length (pages self.old) }
         ensures page { IfOk result (λ page. slice_get (pages self.old) number ≡ Some page) }
+        ensures pages { pages self.new ≡ pages self.old }
+        ensures failures { CountsFaults result (failures self.old) (failures self.new) }
+        ensures takes { TakesTheSame takes self.old self.new };
+
+    /// All of the page of this number but its records. It takes no memory.
+    fn head(&mut self, number: PageNo) -> Result<PageHead, PagesFault>
+        requires { number < length (pages self.old) }
+        ensures head { IfOk result (HasHead (pages self.old) number) }
         ensures pages { pages self.new ≡ pages self.old }
         ensures failures { CountsFaults result (failures self.old) (failures self.new) }
         ensures takes { TakesTheSame takes self.old self.new };

@@ -3,6 +3,8 @@
 pub enum PagesCall {
     /// `Pages::get`.
     Get,
+    /// `Pages::head`.
+    Head,
     /// `Pages::fetch`.
     Fetch,
     /// `Pages::put_at`.

@@ -1,7 +1,7 @@
 ghost use Rattle.std.specs.Prelude.{◌≡◌, ◌^◌, ◌<◌, [], ◌∷◌, length, IfOk};
 
 use crate::{Pages, PagesFault};
-use exh_page::{Key, Page, Spot, Value};
+use exh_page::{Key, Page, PageHead, Spot, Value};
 use exh_prefix::PageNo;
 use std::alloc::{AllocError, Global};
 use std::marker::Model;
@@ -63,6 +63,10 @@ impl Pages for PlainPages {
 
     fn get(&mut self, number: PageNo) -> Result<Page, PagesFault> {
         Ok(self.pages[number as usize].try_clone()?)
+    }
+
+    fn head(&mut self, number: PageNo) -> Result<PageHead, PagesFault> {
+        Ok(self.pages[number as usize].head())
     }
 
     // Each page is at hand.
