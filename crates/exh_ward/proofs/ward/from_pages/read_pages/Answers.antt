@@ -14,7 +14,7 @@ pub loop-number-init : goal.loop-number-init
 loop-number-init g c = record {
   within = omega arith;
   index = none_indexed _ c.new-index.ensures;
-  pairs = c.new-pairs.ensures.items;
+  pairs = c.new-pairs.ensures;
   pages = refl;
   failures = refl;
   takes = λ page. (λ x. x, λ x. x);
