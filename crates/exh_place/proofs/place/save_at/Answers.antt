@@ -5,6 +5,6 @@ use Rattle.exh_place.proofs.place.save_at.Goals as goal
 -- where nothing was written they are the same wards
 pub returns-clause-wards : goal.returns-clause-wards
 returns-clause-wards g c = elim c.save-saved.ensures.source [
-    | inl same ↦ rw same (left_as_it_was c.args.opened)
-    | inr left ↦ left
-  ]
+  | inl same ↦ rw same (left_as_it_was c.args.opened)
+  | inr left ↦ left
+]
