@@ -23,7 +23,8 @@ pub struct Settled {
 /// Settles diaries with the journals of the wards: the diaries are of different callers, each entry of
 /// a journal is of one of them, and each diary is, ward by ward and in its order, the entries of its
 /// caller in that ward's journal; else a `Mismatch`. It takes no memory, and time as the journals have
-/// entries times the diaries; but each entry is read once, and of up to 16 wards each key hashed once.
+/// entries times the diaries; but of an entry of others its caller alone is read, and of up to 16 wards
+/// each key is hashed once.
 pub fn settle<J: Journals>(journals: &J, diaries: &[Diary]) -> Result<Settled, Mismatch>
     ensures { OkIff result (IsSettled (J.ward_of journals.now) (J.journals_of journals.now) diaries.now) (record { answers = answer_count diaries.now }) }
 {
@@ -67,12 +68,14 @@ fn are_known<J: Journals>(journals: &J, diaries: &[Diary]) -> bool
     true
 }
 
-// Whether each entry of a journal is of one of the diaries.
+// Whether each entry of a journal is of one of the diaries. Of an entry its caller alone is read.
 fn is_known(journal: &Journal, diaries: &[Diary]) -> bool
     ensures { IsTrue result ↔ All (λ (entry : JournalEntryType). IsOfOne diaries.now entry.client) journal.now.entries }
 {
-    for entry in journal.iter() {
-        if !is_of_one(entry.client, diaries) {
+    for at in 0..journal.len() {
+        // Each place has an entry.
+        let client = journal.client(at).unwrap();
+        if !is_of_one(client, diaries) {
             return false;
         }
     }
@@ -162,15 +165,17 @@ fn are_over<J: Journals>(journals: &J, client: u32, first: usize, places: &[usiz
 }
 
 // The next entry of a caller, as it writes it down, of a journal from a place on, which moves behind it,
-// or to the end. Of the entries of others only the caller is read.
+// or to the end. Of the entries of others the caller alone is read.
 fn next_of(journal: &Journal, client: u32, place: &mut usize) -> Option<DiaryEntry>
     ensures { YieldsFirst (of_caller_from client journal.now.entries) place.old result place.new }
 {
     while *place < journal.len() {
         let at = *place;
         *place += 1;
-        if journal.client(at) == Some(client) {
-            let entry = journal.get(at)?;
+        // Each place has an entry.
+        let caller = journal.client(at).unwrap();
+        if caller == client {
+            let entry = journal.get(at).unwrap();
             return Some(DiaryEntry::from(entry));
         }
     }

@@ -1,5 +1,5 @@
-use Rattle.std.proofs.Common.{◌≡◌, ◌++◌, [], refl, sym, ap, subst, ◌∙◌, arith}
-use Rattle.std.proofs.lemmas.Bool.{false≢true, not-true-false}
+use Rattle.std.proofs.Common.{◌++◌, refl, replicate, sym, ap, subst, ◌∙◌}
+use Rattle.std.proofs.lemmas.Bool.{false≢true}
 use Rattle.std.proofs.lemmas.List.{append-nil, get_or-replicate}
 use Rattle.exh_settle.proofs.Beside.{Matched, matched_more, matched_none, not_same, over_is_same, same_is_over}
 use Rattle.exh_settle.proofs.Each.{turned}
@@ -7,8 +7,8 @@ use Rattle.exh_settle.proofs.settlement.is_same_from.Goals as goal
 
 pub loop-entry-init : goal.loop-entry-init
 loop-entry-init g c = record {
-  all = refl;
-  matched = matched_none (g.J.Journals.ward_of c.args.journals.now) (g.J.Journals.journals_of c.args.journals.now) c.args.diary.now.client c.args.first _ (λ slot less. get_or-replicate 16 slot 0 0 less);
+  all = sym c.iter-entry-items.ensures ∙ sym c.into_iter-entry-iterator.ensures.into_iter_gives;
+  matched = matched_none (g.J.Journals.ward_of c.args.journals.now) (g.J.Journals.journals_of c.args.journals.now) c.args.diary.now.client c.args.first (replicate 16 0) (λ slot less. get_or-replicate 16 slot 0 0 less);
 }
 
 pub loop-entry-preserved : goal.loop-entry-preserved
