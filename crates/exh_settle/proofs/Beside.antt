@@ -54,11 +54,11 @@ module _ (ward_of : List ℕ → ℕ) (journals : List (List JournalEntry)) (cli
   matched_more yielded entry old new so_far on = (
     All-push Within yielded entry so_far.0 on.0,
     λ slot less.
-      let test : DiaryEntry → Bool = λ other. ward_of (key_of other.call) == first + slot in
-      so_far.1 slot less
-      ∙ ap (λ rest. in_ward ward_of (first + slot) yielded ++ rest) (on.1 slot less)
-      ∙ sym (append_assoc (in_ward ward_of (first + slot) yielded) (in_ward ward_of (first + slot) (entry ∷ [])) (left new slot))
-      ∙ ap (λ front. front ++ left new slot) (sym (filter-append test yielded (entry ∷ []))),
+        let test : DiaryEntry → Bool = λ other. ward_of (key_of other.call) == first + slot in
+        so_far.1 slot less
+        ∙ ap (λ rest. in_ward ward_of (first + slot) yielded ++ rest) (on.1 slot less)
+        ∙ sym (append_assoc (in_ward ward_of (first + slot) yielded) (in_ward ward_of (first + slot) (entry ∷ [])) (left new slot))
+        ∙ ap (λ front. front ++ left new slot) (sym (filter-append test yielded (entry ∷ []))),
   )
 
   pub not_same : (diary : DiaryState) (yielded after : List DiaryEntry) (entry : DiaryEntry) (places : List ℕ) → diary.client ≡ client → diary.entries ≡ yielded ++ entry ∷ after
@@ -76,8 +76,8 @@ module _ (ward_of : List ℕ → ℕ) (journals : List (List JournalEntry)) (cli
   over_is_same diary places own all over = (
     all.0,
     λ slot less.
-      let number = first + slot in
-      sym (ap (λ caller. of_caller caller (journal_at journals number)) own ∙ all.1 slot less ∙ ap (λ rest. in_ward ward_of number diary.entries ++ rest) (over slot less) ∙ append-nil (in_ward ward_of number diary.entries)),
+        let number = first + slot in
+        sym (ap (λ caller. of_caller caller (journal_at journals number)) own ∙ all.1 slot less ∙ ap (λ rest. in_ward ward_of number diary.entries ++ rest) (over slot less) ∙ append-nil (in_ward ward_of number diary.entries)),
   )
 
   pub same_is_over : (diary : DiaryState) (places : List ℕ) → diary.client ≡ client → Matched diary.entries places → IsSameFrom ward_of journals diary first → AreOver journals client first places

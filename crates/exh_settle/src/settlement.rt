@@ -144,7 +144,11 @@ fn is_next<J: Journals>(
     if number < first || number - first >= ROW {
         return true;
     }
-    match next_of(journals.journal(number), client, &mut places[number - first]) {
+    match next_of(
+        journals.journal(number),
+        client,
+        &mut places[number - first],
+    ) {
         Some(told) => is_equal(&told, entry),
         None => false,
     }
