@@ -58,7 +58,8 @@ fn spot_of(store: &mut PlainPages, item: &Record) -> Option<Result<Spot, Spot>>
     ensures spot { IfSome result (λ spot. IfPage store.old 0 (λ page. IsSought (place_of item.now) (records_of page) spot)) }
     ensures pages { store.new ≡ store.old }
 {
-    match store.lend(0).ok()? {
+    store.fetch(0).ok()?;
+    match store.fetched(0) {
         Page::Live { records, .. } => Some(records.seek(item.pseudokey, &item.key).0),
         Page::Forward { .. } => None,
     }
@@ -77,7 +78,7 @@ fn answer(
 {
     match call {
         PagesCall::Get => store.get(0).err(),
-        PagesCall::Lend => store.lend(0).err(),
+        PagesCall::Fetch => store.fetch(0).err(),
         PagesCall::Put => store
             .put_at(0, spot, item.pseudokey, &item.key, &item.value)
             .err(),
@@ -102,7 +103,7 @@ fn answers(alloc: Global, call: PagesCall, at: u64) -> Option<Answers> {
 
 const CALLS: [PagesCall; 7] = [
     PagesCall::Get,
-    PagesCall::Lend,
+    PagesCall::Fetch,
     PagesCall::Put,
     PagesCall::Remove,
     PagesCall::Set,

@@ -1,7 +1,5 @@
 -- A store of pages: what its calls leave of it.
 use Rattle.std.specs.Prelude.{◌≡◌, ⊤, ℕ, ◌<◌, ◌↔◌, List, slice_get, Some, Result, Ok, Err}
-use Rattle.std.specs.Borrow.{follows_so, Fml, RattleType, MutBor}
-use Rattle.std.proofs.Math.Option.{none}
 use Rattle.exh_page.specs.declared.page.Page.{Page}
 use Rattle.exh_frames.specs.declared.pages_fault.PagesFault.{PagesFault}
 use Rattle.exh_frames.specs.declared.pages_fault.PagesFault.TheVariants.{Memory, Page as OutOfReach}
@@ -19,7 +17,3 @@ CountsFaults (Err OutOfReach) old new = old < new
 -- what a store takes never changes
 abbrev pub TakesTheSame : {S : Type 0} → (S → Page → Type 0) → S → S → Type 0
 TakesTheSame takes old new = (page : Page) → takes old page ↔ takes new page
-
--- what holds of a store once what it lent is given back
-abbrev pub LeavesBehind : (R : RattleType) → MutBor R.Denot → (R.Denot → Type 0) → Fml
-LeavesBehind R store P = follows_so R R store.ghost_name none (λ _ _. ⊤) P

@@ -82,18 +82,18 @@ impl FailingPages {
 
 impl Pages for FailingPages {
     ghost use Rattle.std.specs.Prelude.{⊤, ◌≢◌, ◌<◌, ◌-◌, ◌^◌, slice_get, slice_set, length, remove, Some, IfOk, OnOk, OnErr, ◌++◌, ◌∷◌, []};
-    ghost use Rattle.std.specs.Borrow.{sem};
     ghost use Rattle.exh_page.specs.Page.{IsLive, records_of, with_records};
     ghost use Rattle.exh_page.specs.Records.{with_record};
     ghost use Rattle.exh_page.specs.Search.{IsSought, IsSpot};
-    ghost use Rattle.exh_frames.specs.PageStore.{IfPage, LeavesBehind, TakesTheSame};
-    ghost use Rattle.exh_frames.specs.contracts.failing_pages.FailingPages.{the_row};
+    ghost use Rattle.exh_frames.specs.PageStore.{IfPage};
 
     ghost pages = { λ store. store.pages };
 
     ghost takes = { λ _ _. ⊤ };
 
     ghost failures = { λ store. failure_count store.failure };
+
+    ghost at_hand = { λ store number. number < length store.pages };
 
     fn count(&self) -> PageNo {
         self.inner.count()
@@ -115,14 +115,20 @@ impl Pages for FailingPages {
         self.inner.get(number)
     }
 
-    fn lend(&mut self, number: PageNo) -> Result<&Page, PagesFault>
+    fn fetch(&mut self, number: PageNo) -> Result<(), PagesFault>
         requires { number < length self.old.pages }
-        ensures page { IfOk result (λ page. slice_get self.old.pages number ≡ Some page.now) }
-        ensures* store { sem 𝓛 (LeavesBehind the_row self.entry (λ left. (left.pages ≡ self.old.pages) × CountsFaults result (failure_count self.old.failure) (failure_count left.failure) × TakesTheSame (λ _ _. ⊤) self.old left × (left.failure ≡ after_call PagesCall.Lend self.old.failure))) }
+        ensures at_hand { OnOk result (number < length self.new.pages) }
+        ensures pages { self.new.pages ≡ self.old.pages }
+        ensures failures { CountsFaults result (failure_count self.old.failure) (failure_count self.new.failure) }
         ensures due { IsErrOf result PagesFault.Page ↔ IsDue self.old.failure }
+        ensures counted { self.new.failure ≡ after_call PagesCall.Fetch self.old.failure }
     {
-        self.enter(PagesCall::Lend)?;
-        self.inner.lend(number)
+        self.enter(PagesCall::Fetch)?;
+        self.inner.fetch(number)
+    }
+
+    fn fetched(&self, number: PageNo) -> &Page {
+        self.inner.fetched(number)
     }
 
     fn put_at(

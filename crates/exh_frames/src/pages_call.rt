@@ -3,8 +3,8 @@
 pub enum PagesCall {
     /// `Pages::get`.
     Get,
-    /// `Pages::lend`.
-    Lend,
+    /// `Pages::fetch`.
+    Fetch,
     /// `Pages::put_at`.
     Put,
     /// `Pages::remove_at`.

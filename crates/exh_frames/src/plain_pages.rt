@@ -51,6 +51,8 @@ impl Pages for PlainPages {
 
     ghost failures = { λ _. 0 };
 
+    ghost at_hand = { λ store number. number < length store };
+
     fn count(&self) -> PageNo {
         self.pages.len() as PageNo
     }
@@ -63,8 +65,13 @@ impl Pages for PlainPages {
         Ok(self.pages[number as usize].try_clone()?)
     }
 
-    fn lend(&mut self, number: PageNo) -> Result<&Page, PagesFault> {
-        Ok(&self.pages[number as usize])
+    // Each page is at hand.
+    fn fetch(&mut self, _number: PageNo) -> Result<(), PagesFault> {
+        Ok(())
+    }
+
+    fn fetched(&self, number: PageNo) -> &Page {
+        &self.pages[number as usize]
     }
 
     fn put_at(

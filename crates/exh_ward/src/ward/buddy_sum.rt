@@ -34,13 +34,15 @@ impl<P: Pages + Drop, K: Keyer> Ward<P, K> {
         if page >= self.store.count() {
             return Ok(None);
         }
-        let Ok(half) = LeftHalf::of(self.store.lend(page)?, self.own) else {
+        self.store.fetch(page)?;
+        let Ok(half) = LeftHalf::of(self.store.fetched(page), self.own) else {
             return Ok(None);
         };
         let Some(right) = half.right else {
             unreachable!()
         };
-        Ok(sum_beside(&half, self.store.lend(right)?))
+        self.store.fetch(right)?;
+        Ok(sum_beside(&half, self.store.fetched(right)))
     }
 }
 

@@ -33,8 +33,8 @@ impl<P: Pages + Drop, K: Keyer> Ward<P, K> {
     /// changes that the table tells of. `cap`, `ward_bits` and `number` are as in `new`.
     ///
     /// It takes memory for a copy of the table, for each page but page 0 and for each record:
-    /// `WardFault::Memory` where that is refused. Each page is lent once, which the store may refuse
-    /// as it does. Nothing else is refused.
+    /// `WardFault::Memory` where that is refused. Each page is fetched once, which the store may
+    /// refuse as it does. Nothing else is refused.
     pub fn from_pages(
         alloc: Global,
         cap: usize,
@@ -94,7 +94,8 @@ fn read_pages<P: Pages>(
     let mut index = PageIndex::new(alloc);
     let mut pairs = Vec::new(alloc);
     for number in 0..store.count() {
-        take_page(number, store.lend(number)?, &mut index, &mut pairs)?;
+        store.fetch(number)?;
+        take_page(number, store.fetched(number), &mut index, &mut pairs)?;
     }
     Ok((index, pairs))
 }

@@ -55,11 +55,13 @@ impl<P: Pages + Drop, K: Keyer> Ward<P, K> {
         if page >= self.store.count() {
             return Err(WardFault::NoPage);
         }
-        let half = LeftHalf::of(self.store.lend(page)?, self.own)?;
+        self.store.fetch(page)?;
+        let half = LeftHalf::of(self.store.fetched(page), self.own)?;
         let Some(right) = half.right else {
             unreachable!()
         };
-        half.test_buddy(self.store.lend(right)?, self.cap)?;
+        self.store.fetch(right)?;
+        half.test_buddy(self.store.fetched(right), self.cap)?;
         Ok((half.parent, right))
     }
 
@@ -76,6 +78,7 @@ impl<P: Pages + Drop, K: Keyer> Ward<P, K> {
         buddies_unite();
         pages_are_few();
         let left = self.store.get(page)?;
-        Ok(join_pages(&left, self.store.lend(right)?, parent)?)
+        self.store.fetch(right)?;
+        Ok(join_pages(&left, self.store.fetched(right), parent)?)
     }
 }

@@ -105,7 +105,8 @@ impl<P: Pages + Drop, K: Keyer> Ward<P, K> {
         if number >= self.store.count() {
             return Err(WardFault::NoPage);
         }
-        Ok(PageLine::of(self.store.lend(number)?))
+        self.store.fetch(number)?;
+        Ok(PageLine::of(self.store.fetched(number)))
     }
 
     /// The pseudokey that the ward's keyer makes of a key. It takes no memory.
