@@ -10,6 +10,7 @@ mod ask;
 mod conductor;
 mod held_look;
 mod locks;
+mod many_pages;
 mod refill;
 mod rule;
 mod storms;
@@ -74,6 +75,7 @@ fn play<R: Threads + Wait + Clock + Sync, F: Identity + Sync + Send>(
         Story::HeldLook => held_look::run::<R, F>(rt, run, &mut copies, answers, entries),
         Story::Locks => locks::run::<R, F>(rt, run, &mut copies, &signs, answers, entries),
         Story::Refill => refill::run::<R, F>(rt, run, &mut copies, &signs, answers, entries),
+        Story::ManyPages => many_pages::run::<R, F>(rt, run, &mut copies, answers, entries),
         Story::Storms(story) => {
             storms::play(rt, story, run);
             Ok(())

@@ -4,7 +4,7 @@ ghost use Rattle.exh_storm_config.specs.StormConfig.{IsStormConfig};
 use crate::conductor::{Conductor, Count};
 use crate::rule::{Rule, Then, Who};
 use exh_runs::{Part, Run, again, same};
-use exh_storm::{COURIER_CLIENT, KEEPER_CLIENT, StormFault, storm};
+use exh_storm::{StormFault, storm};
 use exh_storm_config::StormConfig;
 use std::alloc::Global;
 use std::sync::Wait;
@@ -22,6 +22,8 @@ pub(crate) enum Storms {
     Open,
     /// Gates that say no.
     Closed,
+    /// Storms of whose threads one isn't made.
+    Unmade,
     /// The smallest storm.
     Small,
     /// What a watch is told.
@@ -54,21 +56,39 @@ const ORDER: [Rule; 2] = [
 const NOES: [(u32, u32, Result<u64, u8>); 16] = [
     (1, 1, Err(50)),
     (2, 1, Err(50)),
-    (KEEPER_CLIENT, 1, Err(50)),
-    (COURIER_CLIENT + 1, 1, Err(50)),
-    (COURIER_CLIENT + 2, 1, Err(50)),
-    (KEEPER_CLIENT, 10, Err(50)),
-    (KEEPER_CLIENT, 11, Ok(20)),
-    (COURIER_CLIENT + 1, 10, Err(50)),
-    (COURIER_CLIENT + 1, 11, Ok(20)),
-    (COURIER_CLIENT + 2, 10, Err(50)),
-    (COURIER_CLIENT + 2, 11, Ok(20)),
+    (65_536, 1, Err(50)),
+    (65_601, 1, Err(50)),
+    (65_602, 1, Err(50)),
+    (65_536, 10, Err(50)),
+    (65_536, 11, Ok(20)),
+    (65_601, 10, Err(50)),
+    (65_601, 11, Ok(20)),
+    (65_602, 10, Err(50)),
+    (65_602, 11, Ok(20)),
     (0, 1, Ok(20)),
     (3, 1, Ok(20)),
-    (KEEPER_CLIENT + 1, 1, Ok(20)),
-    (COURIER_CLIENT, 1, Ok(20)),
-    (COURIER_CLIENT + 3, 1, Ok(20)),
+    (65_537, 1, Ok(20)),
+    (65_600, 1, Ok(20)),
+    (65_603, 1, Ok(20)),
 ];
+
+// The same of a storm over sixteen wards and eight copies: the last caller, the keepers of the wards 1 and
+// 15, the couriers to the first copy and the last one, and the numbers after these.
+const NOES_OF_MANY: [(u32, u32, Result<u64, u8>); 9] = [
+    (16, 1, Err(50)),
+    (17, 1, Ok(800)),
+    (65_537, 50, Err(50)),
+    (65_551, 50, Err(50)),
+    (65_552, 1, Ok(800)),
+    (65_600, 1, Ok(800)),
+    (65_601, 50, Err(50)),
+    (65_608, 50, Err(50)),
+    (65_609, 1, Ok(800)),
+];
+
+// Two storms of whose threads one that is no caller's isn't made: in the first a caller is held, and comes
+// first; in the second the second courier, and what can't be made comes before it.
+const UNMADE: [(u32, Result<u64, u8>); 2] = [(1, Err(50)), (65_602, Err(10))];
 
 /// How large a storm is.
 #[derive(Clone, Copy)]
@@ -128,7 +148,12 @@ pub(crate) fn play<R: Threads + Wait + Clock + Sync>(rt: &R, story: Storms, run:
                 let no = Rule(Who::Client(client), Some(turn), Then::No);
                 step(rt, run, Size::Few, &[no], want);
             }
+            for (client, turn, want) in NOES_OF_MANY {
+                let no = Rule(Who::Client(client), Some(turn), Then::No);
+                step(rt, run, Size::Most, &[no], want);
+            }
         }
+        Storms::Unmade => play_unmade(rt, run),
         Storms::Small => step(rt, run, Size::Small, &[], Ok(1)),
         Storms::Told => play_told(rt, run),
     }
@@ -160,6 +185,21 @@ fn play_told<R: Threads + Wait + Clock + Sync>(rt: &R, run: &mut Run) {
     let (outcome, [calls, ..]) = told(rt, run.alloc, Size::Few, &[no]);
     run.tally
         .step(same(outcome == Err(50) && calls == 10, Part::Run));
+}
+
+// A storm that nobody holds; and where it is refused 10, since a thread isn't made, two that are refused for
+// more than that.
+fn play_unmade<R: Threads + Wait + Clock + Sync>(rt: &R, run: &mut Run) {
+    let (outcome, _) = told(rt, run.alloc, Size::Few, &[]);
+    let is_unmade = outcome == Err(10);
+    let is_right = (is_unmade || outcome == Ok(20)) != run.lie.is_due();
+    run.tally.step(same(is_right, Part::Run));
+    if is_unmade {
+        for (client, want) in UNMADE {
+            let no = Rule(Who::Client(client), Some(1), Then::No);
+            step(rt, run, Size::Few, &[no], want);
+        }
+    }
 }
 
 // Runs a storm under these rules, once more where memory was refused.
