@@ -12,6 +12,8 @@ pub(crate) enum Story {
     Locks,
     /// A keeper merges pages, a caller fills them again.
     Refill,
+    /// Two callers count by swaps.
+    Counter,
     /// Each of many pages is called and worn down.
     ManyPages,
     /// Of storms.
@@ -19,10 +21,11 @@ pub(crate) enum Story {
 }
 
 /// All of them, in the order in which they are played.
-pub(crate) const STORIES: [Story; 11] = [
+pub(crate) const STORIES: [Story; 12] = [
     Story::HeldLook,
     Story::Locks,
     Story::Refill,
+    Story::Counter,
     Story::ManyPages,
     Story::Storms(Storms::HeldCaller),
     Story::Storms(Storms::Company),
@@ -39,6 +42,7 @@ impl Named for Story {
             Story::HeldLook => "held-look",
             Story::Locks => "locks",
             Story::Refill => "refill",
+            Story::Counter => "counter",
             Story::ManyPages => "many-pages",
             Story::Storms(Storms::HeldCaller) => "held-caller",
             Story::Storms(Storms::Company) => "company",
