@@ -1,4 +1,4 @@
-//! Steps of a live file of one ward, each with what it comes to.
+//! Steps of a live file, each with what it comes to.
 ghost use Rattle.std.specs.Prelude.{◌≡◌, ◌^◌, ◌≤◌, length, IfOk};
 ghost use Rattle.exh_prefix.specs.declared.prefix.TheConstants.{WARD_BITS_LIMIT};
 
@@ -13,7 +13,7 @@ use exh_walk::{OpenGate, TurnGate};
 use std::alloc::{AllocError, Global};
 use std::sync::Wait;
 
-/// A step of a live file of one ward, of its caller, or of the copy of its directory.
+/// A step of a live file, of its caller, or of the copy of its directory.
 #[derive(Clone, Copy)]
 pub(crate) enum LiveStep {
     /// A call.
@@ -24,32 +24,55 @@ pub(crate) enum LiveStep {
     Held(u32, &'static [u8]),
     /// The copy is told of the first split of the page of these bits: of this index, and with this right half.
     Tell(u64, &'static str, PageNo),
-    /// A keeper's round that makes so many merges.
+    /// A keeper's round in ward 0 that makes so many merges.
     Kept(u32),
+    /// The same in the ward of this number.
+    KeptIn(u8, u32),
     /// A courier's round that takes so many notices.
     Carried(u64),
-    /// The same of a courier to a copy that was told of nothing.
+    /// The same as `Carried` of a courier to a copy that was told of nothing.
     Stale(u64),
     /// A told look for a key names this page.
     Named(&'static [u8], PageNo),
 }
 
-/// Takes steps. The file's ward, and the copy that is told of it, begin with this table.
+/// Takes steps. The file has 2^`ward_bits` wards. These, and the copy that is told of them, begin with this
+/// table.
 pub(crate) fn take_steps<R: Wait, F: Identity>(
     rt: &R,
     run: &mut Run,
     file: &PlainFile<F>,
+    ward_bits: u8,
     caller: &mut Caller<F>,
     writer: &mut Writer,
     start: &Table,
     lists: [&[LiveStep]; 2],
 ) -> Result<(), Difference>
-    requires { file.now.ward_bits ≡ 0 }
+    requires limit { file.now.ward_bits ≤ WARD_BITS_LIMIT }
+    requires bits { ward_bits ≡ file.now.ward_bits }
 {
-    let mut cursors = first_places(run.alloc, 0, start)?;
+    let mut cursors = first_places(run.alloc, ward_bits, start)?;
     let [first, second] = lists;
-    take_list(rt, run, file, caller, writer, &mut cursors, first);
-    take_list(rt, run, file, caller, writer, &mut cursors, second);
+    take_list(
+        rt,
+        run,
+        file,
+        ward_bits,
+        caller,
+        writer,
+        &mut cursors,
+        first,
+    );
+    take_list(
+        rt,
+        run,
+        file,
+        ward_bits,
+        caller,
+        writer,
+        &mut cursors,
+        second,
+    );
     Ok(())
 }
 
@@ -57,17 +80,19 @@ fn take_list<R: Wait, F: Identity>(
     rt: &R,
     run: &mut Run,
     file: &PlainFile<F>,
+    ward_bits: u8,
     caller: &mut Caller<F>,
     writer: &mut Writer,
     cursors: &mut Cursors,
     list: &[LiveStep],
 )
-    requires bits { file.now.ward_bits ≡ 0 }
+    requires limit { file.now.ward_bits ≤ WARD_BITS_LIMIT }
+    requires bits { ward_bits ≡ file.now.ward_bits }
     requires places { length cursors.old ≡ 2 ^ file.now.ward_bits }
     ensures { length cursors.new ≡ 2 ^ file.now.ward_bits }
 {
     'steps: for step in list {
-        let outcome = take(rt, run, file, caller, writer, cursors, step);
+        let outcome = take(rt, run, file, ward_bits, caller, writer, cursors, step);
         run.tally.step(outcome);
     }
 }
@@ -76,12 +101,14 @@ fn take<R: Wait, F: Identity>(
     rt: &R,
     run: &mut Run,
     file: &PlainFile<F>,
+    ward_bits: u8,
     caller: &mut Caller<F>,
     writer: &mut Writer,
     cursors: &mut Cursors,
     step: &LiveStep,
 ) -> Result<(), Difference>
-    requires bits { file.now.ward_bits ≡ 0 }
+    requires limit { file.now.ward_bits ≤ WARD_BITS_LIMIT }
+    requires bits { ward_bits ≡ file.now.ward_bits }
     requires places { length cursors.old ≡ 2 ^ file.now.ward_bits }
     ensures { length cursors.new ≡ length cursors.old }
 {
@@ -98,14 +125,32 @@ fn take<R: Wait, F: Identity>(
             is_held(rt, file, caller, Asked::Get(key), &TurnGate(*turns))
         }
         LiveStep::Tell(index, bits, right) => tell(rt, writer, *index, bits, *right),
-        LiveStep::Kept(merges) => is_kept(rt, file, 0, *merges),
+        LiveStep::Kept(merges) => is_kept_in(rt, file, ward_bits, 0, *merges),
+        LiveStep::KeptIn(ward, merges) => is_kept_in(rt, file, ward_bits, *ward, *merges),
         LiveStep::Carried(notices) => is_carried(rt, file, writer, cursors, *notices),
         LiveStep::Stale(notices) => {
-            let mut others = first_places(run.alloc, 0, &Table::new(run.alloc))?;
+            let mut others = first_places(run.alloc, ward_bits, &Table::new(run.alloc))?;
             is_carried(rt, file, writer, &mut others, *notices)
         }
         LiveStep::Named(key, page) => is_named(writer, &mut caller.copy, key, *page),
     }
+}
+
+// Whether a keeper's round in a ward makes so many merges. A `Difference` where there is no such ward.
+fn is_kept_in<R: Wait, F: Identity>(
+    rt: &R,
+    file: &PlainFile<F>,
+    ward_bits: u8,
+    ward: u8,
+    merges: u32,
+) -> Result<(), Difference>
+    requires limit { file.now.ward_bits ≤ WARD_BITS_LIMIT }
+    requires bits { ward_bits ≡ file.now.ward_bits }
+{
+    if ward >= 1 << ward_bits {
+        return Err(Difference::Apart(Part::Run));
+    }
+    is_kept(rt, file, ward, merges)
 }
 
 // The places of a courier to a copy that begins with a table.

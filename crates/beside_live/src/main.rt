@@ -5,18 +5,20 @@
 //! prints the same where memory is refused once, wherever that is.
 #![tactic(auto)]
 
-ghost use Rattle.std.specs.Prelude.{◌≡◌};
+ghost use Rattle.std.specs.Prelude.{◌≡◌, ◌≤◌};
 ghost use Rattle.exh_keyer.specs.Pseudokey.{plain_pseudokey};
 ghost use Rattle.exh_live.specs.declared.ledgers.TheConstants.{ANSWER_PARTS, ENTRY_PARTS};
+ghost use Rattle.exh_prefix.specs.declared.prefix.TheConstants.{WARD_BITS_LIMIT};
 
 mod callers;
 mod closing;
 mod lists;
 mod live_step;
-mod one_ward;
+mod one_caller;
+mod written_ward;
 
 use crate::callers::CALLERS;
-use crate::one_ward::OneWard;
+use crate::one_caller::OneCaller;
 use exh_callers::{Reader, Writer};
 use exh_copy::{NewCopyFault, new_copy};
 use exh_live::{ANSWER_PARTS, ENTRY_PARTS, Identity};
@@ -34,8 +36,8 @@ const READERS: u16 = CALLERS + 1;
 
 #[derive(Clone, Copy)]
 enum Story {
-    /// Of a file of one ward.
-    OneWard(OneWard),
+    /// Of one caller.
+    OneCaller(OneCaller),
     /// Closing, and settling.
     Closing,
     /// Many callers on threads of their own.
@@ -43,28 +45,42 @@ enum Story {
 }
 
 // All of them, in the order in which they are played.
-const STORIES: [Story; 9] = [
-    Story::OneWard(OneWard::ToldCopy),
+const STORIES: [Story; 10] = [
+    Story::OneCaller(OneCaller::ToldCopy),
     Story::Closing,
-    Story::OneWard(OneWard::Courier),
-    Story::OneWard(OneWard::Keeper),
-    Story::OneWard(OneWard::EvenHalf),
-    Story::OneWard(OneWard::OddHalf),
-    Story::OneWard(OneWard::OpenedCourier),
-    Story::OneWard(OneWard::WornKeeper),
+    Story::OneCaller(OneCaller::Courier),
+    Story::OneCaller(OneCaller::Keeper),
+    Story::OneCaller(OneCaller::FourWards),
+    Story::OneCaller(OneCaller::EvenHalf),
+    Story::OneCaller(OneCaller::OddHalf),
+    Story::OneCaller(OneCaller::OpenedCourier),
+    Story::OneCaller(OneCaller::WornKeeper),
     Story::Callers,
 ];
+
+impl Story {
+    // By how many leading bits of pseudokeys the copy of the directory is cut.
+    fn ward_bits(self) -> u8
+        ensures { result ≤ WARD_BITS_LIMIT }
+    {
+        match self {
+            Story::OneCaller(story) => story.ward_bits(),
+            Story::Closing | Story::Callers => 0,
+        }
+    }
+}
 
 impl Named for Story {
     fn name(self) -> &'static str {
         match self {
-            Story::OneWard(OneWard::ToldCopy) => "told-copy",
-            Story::OneWard(OneWard::Courier) => "courier",
-            Story::OneWard(OneWard::Keeper) => "keeper",
-            Story::OneWard(OneWard::EvenHalf) => "even-half",
-            Story::OneWard(OneWard::OddHalf) => "odd-half",
-            Story::OneWard(OneWard::OpenedCourier) => "opened-courier",
-            Story::OneWard(OneWard::WornKeeper) => "worn-keeper",
+            Story::OneCaller(OneCaller::ToldCopy) => "told-copy",
+            Story::OneCaller(OneCaller::Courier) => "courier",
+            Story::OneCaller(OneCaller::Keeper) => "keeper",
+            Story::OneCaller(OneCaller::FourWards) => "four-wards",
+            Story::OneCaller(OneCaller::EvenHalf) => "even-half",
+            Story::OneCaller(OneCaller::OddHalf) => "odd-half",
+            Story::OneCaller(OneCaller::OpenedCourier) => "opened-courier",
+            Story::OneCaller(OneCaller::WornKeeper) => "worn-keeper",
             Story::Closing => "closing",
             Story::Callers => "callers",
         }
@@ -77,7 +93,12 @@ fn with_copy<R: Threads + Wait + Sync>(
     story: Story,
     run: &mut Run,
 ) -> Result<(), Difference> {
-    match new_copy::<Brand>(run.alloc, 0, &Table::new(run.alloc), READERS) {
+    match new_copy::<Brand>(
+        run.alloc,
+        story.ward_bits(),
+        &Table::new(run.alloc),
+        READERS,
+    ) {
         Ok((mut writer, readers)) => {
             let answers = Blank::new(ANSWER_PARTS);
             let entries = Blank::new(ENTRY_PARTS);
@@ -108,8 +129,8 @@ fn play<R: Threads + Wait + Sync, F: Identity + Sync + Send>(
 {
     let mut copies = readers;
     match story {
-        Story::OneWard(story) => {
-            one_ward::run::<R, F>(rt, run, story, writer, &mut copies, answers, entries)
+        Story::OneCaller(story) => {
+            one_caller::run::<R, F>(rt, run, story, writer, &mut copies, answers, entries)
         }
         Story::Closing => closing::run(rt, run, &mut copies),
         Story::Callers => callers::run::<R, F>(rt, run, &mut copies, answers, entries),

@@ -1,23 +1,21 @@
-//! Stories of a live file of one ward, and of one caller of it: of a new file, or of one that was written
-//! before, which has two empty pages.
-ghost use Rattle.std.specs.Prelude.{◌≡◌, ◌≤◌, ◌%◌, IfOk};
+//! Stories of a live file and of one caller of it: of a new file, or of one ward that was written before.
+ghost use Rattle.std.specs.Prelude.{◌≡◌, ◌≤◌, IfOk};
 ghost use Rattle.exh_keyer.specs.Pseudokey.{plain_pseudokey};
-ghost use Rattle.exh_live.specs.LiveFile.{IsNewWardOf};
 ghost use Rattle.exh_live.specs.declared.ledgers.TheConstants.{ANSWER_PARTS, ENTRY_PARTS};
+ghost use Rattle.exh_prefix.specs.declared.prefix.TheConstants.{WARD_BITS_LIMIT};
 
 use crate::lists::{
-    COURIER, EVEN_HALF, KEEPER, ODD_HALF, OPENED_COURIER, THREE_KEYS, TOLD_COPY, WORN_KEEPER,
+    COURIER, EVEN_HALF, FOUR_WARDS, KEEPER, ODD_HALF, OPENED_COURIER, THREE_KEYS, THREE_KEYS_EACH,
+    TOLD_COPY, WORN_KEEPER,
 };
-use crate::live_step::take_steps;
-use exh_callers::{
-    Caller, PlainFile, PlainWard, Reader, Writer, close_settled, new_file, next_caller,
-    one_ward_file,
-};
-use exh_fixtures::{opened_ward, prefix, refused};
+use crate::live_step::{LiveStep, take_steps};
+use crate::written_ward::written_ward;
+use exh_callers::{PlainFile, Reader, Writer, close_settled, new_file, next_caller, one_ward_file};
+use exh_fixtures::prefix;
 use exh_keyer::PlainKeyer;
 use exh_live::{ANSWER_PARTS, ENTRY_PARTS, Identity};
 use exh_notice::{Entry, Kind};
-use exh_runs::{Difference, Part, Run, again};
+use exh_runs::{Difference, Run, again};
 use exh_table::Table;
 use std::alloc::{AllocError, Global};
 use std::sync::Wait;
@@ -25,7 +23,7 @@ use std::sync::ledger::Blank;
 
 /// The stories.
 #[derive(Clone, Copy)]
-pub(crate) enum OneWard {
+pub(crate) enum OneCaller {
     /// A call begins at the page that a copy names, which is told of a split, of nothing, or of a page that
     /// isn't there.
     ToldCopy,
@@ -33,6 +31,9 @@ pub(crate) enum OneWard {
     Courier,
     /// Pages that have grown empty are merged, each page once a round.
     Keeper,
+    /// Of sixteen wards four get keys: a copy is told of their splits, and then of the merges that a keeper
+    /// makes in each.
+    FourWards,
     /// Two pages are merged where they have together at most half as many records as a page may, which is
     /// an even number, 4.
     EvenHalf,
@@ -44,24 +45,34 @@ pub(crate) enum OneWard {
     WornKeeper,
 }
 
-impl OneWard {
+impl OneCaller {
     // How many records a page may have.
     fn cap(self) -> usize
         ensures some { 1 ≤ result }
         ensures most { result ≤ 5 }
     {
         match self {
-            OneWard::EvenHalf => 4,
-            OneWard::OddHalf => 5,
+            OneCaller::EvenHalf => 4,
+            OneCaller::OddHalf => 5,
             _ => 2,
+        }
+    }
+
+    /// By how many leading bits the file is cut into wards.
+    pub(crate) fn ward_bits(self) -> u8
+        ensures { result ≤ WARD_BITS_LIMIT }
+    {
+        match self {
+            OneCaller::FourWards => 4,
+            _ => 0,
         }
     }
 
     // Of a file that was written before, which change the split of its first page was.
     fn changes(self) -> Option<u32> {
         match self {
-            OneWard::OpenedCourier => Some(3),
-            OneWard::WornKeeper => Some(u32::MAX),
+            OneCaller::OpenedCourier => Some(3),
+            OneCaller::WornKeeper => Some(u32::MAX),
             _ => None,
         }
     }
@@ -69,35 +80,27 @@ impl OneWard {
     // How many calls are answered.
     fn answers(self) -> u128 {
         match self {
-            OneWard::ToldCopy | OneWard::Courier => 6,
-            OneWard::OpenedCourier => 7,
-            OneWard::EvenHalf | OneWard::WornKeeper => 9,
-            OneWard::OddHalf => 11,
-            OneWard::Keeper => 12,
+            OneCaller::ToldCopy | OneCaller::Courier => 6,
+            OneCaller::OpenedCourier => 7,
+            OneCaller::EvenHalf | OneCaller::WornKeeper => 9,
+            OneCaller::OddHalf => 11,
+            OneCaller::Keeper => 12,
+            OneCaller::FourWards => 24,
         }
     }
 
-    fn take_steps<R: Wait, F: Identity>(
-        self,
-        rt: &R,
-        run: &mut Run,
-        file: &PlainFile<F>,
-        caller: &mut Caller<F>,
-        writer: &mut Writer,
-        start: &Table,
-    ) -> Result<(), Difference>
-        requires { file.now.ward_bits ≡ 0 }
-    {
-        let lists: [&[_]; 2] = match self {
-            OneWard::ToldCopy => [&THREE_KEYS, &TOLD_COPY],
-            OneWard::Courier => [&THREE_KEYS, &COURIER],
-            OneWard::Keeper => [&THREE_KEYS, &KEEPER],
-            OneWard::EvenHalf => [&EVEN_HALF, &[]],
-            OneWard::OddHalf => [&ODD_HALF, &[]],
-            OneWard::OpenedCourier => [&OPENED_COURIER, &[]],
-            OneWard::WornKeeper => [&WORN_KEEPER, &[]],
-        };
-        take_steps(rt, run, file, caller, writer, start, lists)
+    // Its steps, in two lists that are taken one after the other.
+    fn steps(self) -> [&'static [LiveStep]; 2] {
+        match self {
+            OneCaller::ToldCopy => [&THREE_KEYS, &TOLD_COPY],
+            OneCaller::Courier => [&THREE_KEYS, &COURIER],
+            OneCaller::Keeper => [&THREE_KEYS, &KEEPER],
+            OneCaller::FourWards => [&THREE_KEYS_EACH, &FOUR_WARDS],
+            OneCaller::EvenHalf => [&EVEN_HALF, &[]],
+            OneCaller::OddHalf => [&ODD_HALF, &[]],
+            OneCaller::OpenedCourier => [&OPENED_COURIER, &[]],
+            OneCaller::WornKeeper => [&WORN_KEEPER, &[]],
+        }
     }
 }
 
@@ -105,7 +108,7 @@ impl OneWard {
 pub(crate) fn run<R: Wait, F: Identity>(
     rt: &R,
     run: &mut Run,
-    story: OneWard,
+    story: OneCaller,
     writer: &mut Writer,
     copies: &mut Vec<Reader>,
     answers: Blank,
@@ -119,49 +122,46 @@ pub(crate) fn run<R: Wait, F: Identity>(
     seats.reserve(1)?;
     let start = start_table(run.alloc, story.changes())?;
     tell_table(rt, writer, &start)?;
-    let mut file = first_file::<F>(run.alloc, story, answers, entries)?;
+    let ward_bits = story.ward_bits();
+    let mut file = first_file::<F>(run.alloc, story, ward_bits, answers, entries)?;
     let mut caller = next_caller(&mut file, copies)?;
-    let taken = story.take_steps(rt, run, &file, &mut caller, writer, &start);
+    let taken = take_steps(
+        rt,
+        run,
+        &file,
+        ward_bits,
+        &mut caller,
+        writer,
+        &start,
+        story.steps(),
+    );
     run.tally.check(taken);
     seats.push_reserved(caller.seat);
-    close_settled(run, 0, file, seats, story.answers())?;
+    close_settled(run, ward_bits, file, seats, story.answers())?;
     Ok(())
 }
 
 // The file of a story.
 fn first_file<F: Identity>(
     alloc: Global,
-    story: OneWard,
+    story: OneCaller,
+    ward_bits: u8,
     answers: Blank,
     entries: Blank,
 ) -> Result<PlainFile<F>, Difference>
+    requires bits { ward_bits ≤ WARD_BITS_LIMIT }
     requires answers { (answers.name ≡ F.answers) × (answers.parts ≡ ANSWER_PARTS) }
     requires entries { (entries.name ≡ F.entries) × (entries.parts ≡ ENTRY_PARTS) }
     requires hashed { F.hashing ≡ plain_pseudokey }
-    ensures { IfOk result (λ file. file.ward_bits ≡ 0) }
+    ensures { IfOk result (λ file. file.ward_bits ≡ ward_bits) }
 {
     let keyer = PlainKeyer;
     match story.changes() {
-        None => Ok(new_file(alloc, story.cap(), 0, answers, entries)?),
-        Some(changes) => {
+        Some(changes) if ward_bits == 0 => {
             let ward = written_ward(alloc, keyer, changes)?;
             Ok(one_ward_file(alloc, keyer, ward, answers, entries)?)
         }
-    }
-}
-
-// A ward of two empty pages, in which the split of the first page was change `changes`, an odd number.
-fn written_ward(alloc: Global, keyer: PlainKeyer, changes: u32) -> Result<PlainWard, Difference>
-    ensures { IfOk result (IsNewWardOf 2 0 keyer 0) }
-{
-    if changes % 2 != 1 {
-        return Err(Difference::Apart(Part::Run));
-    }
-    let ward = opened_ward(alloc, keyer, 0, 0, changes).map_err(refused)?;
-    if ward.journal().is_empty() {
-        Ok(ward)
-    } else {
-        Err(Difference::Apart(Part::Journal))
+        _ => Ok(new_file(alloc, story.cap(), ward_bits, answers, entries)?),
     }
 }
 
