@@ -51,6 +51,12 @@ const ORDER: [Rule; 2] = [
     Rule(Who::Couriers, None, Then::Wait(Count::Rounds, 100)),
 ];
 
+// The same of the keepers of eight wards, each of which makes as many.
+const ORDER_OF_EIGHT: [Rule; 2] = [
+    Rule(Who::Keepers, None, Then::Wait(Count::Calls, 100)),
+    Rule(Who::Couriers, None, Then::Wait(Count::Rounds, 800)),
+];
+
 // To whom a gate says no, at which turn, and what a storm of few calls comes to then: a caller, the keeper
 // or a courier, at the first turn or at the last round; the turn after that; and clients that aren't there.
 const NOES: [(u32, u32, Result<u64, u8>); 16] = [
@@ -102,6 +108,9 @@ enum Size {
     /// One caller, and one copy. By the pseudokeys of its keys the caller splits pages 15 times, and two of
     /// these splits can be merged when all is answered.
     Alone,
+    /// The same over eight wards, of one record a page: it splits pages 37 times, in all wards but ward 1. Two of
+    /// these splits can be merged in ward 2 then, and one in ward 5.
+    Eight,
     /// As many callers, wards and copies as there may be.
     Most,
     /// More copies than callers.
@@ -117,6 +126,7 @@ impl Size {
             Size::Few => (2, 10, 2, 0, 2),
             Size::Four => (4, 100, 2, 0, 2),
             Size::Alone => (1, 100, 2, 0, 1),
+            Size::Eight => (1, 100, 1, 3, 1),
             Size::Most => (16, 50, 16, 4, 8),
             Size::Unseen => (2, 10, 2, 1, 5),
         };
@@ -174,13 +184,15 @@ fn step<R: Threads + Wait + Clock + Sync>(
     run.tally.step(same(outcome == want, Part::Run));
 }
 
-// Storms whose watch's counts are looked at. In one the keeper runs after the caller, and the courier after
-// both; in the other one of two callers is held at its first call.
+// Storms whose watch's counts are looked at. In two of them the keepers run after the caller, and the courier after
+// both; in the last one of two callers is held at its first call.
 fn play_told<R: Threads + Wait + Clock + Sync>(rt: &R, run: &mut Run) {
     let (outcome, counts) = told(rt, run.alloc, Size::Alone, &ORDER);
     let is_told = outcome == Ok(100) && counts == [100, 2, 17];
     let is_told = is_told != run.lie.is_due();
     run.tally.step(same(is_told, Part::Run));
+    let (outcome, counts) = told(rt, run.alloc, Size::Eight, &ORDER_OF_EIGHT);
+    run.tally.step(same(outcome == Ok(100) && counts == [100, 3, 40], Part::Run));
     let no = Rule(Who::Client(1), Some(1), Then::No);
     let (outcome, [calls, ..]) = told(rt, run.alloc, Size::Few, &[no]);
     run.tally
