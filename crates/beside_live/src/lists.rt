@@ -1,7 +1,7 @@
 //! The steps of stories of one caller.
 
 use crate::live_step::LiveStep::{
-    self, Call, Carried, Held, Kept, KeptIn, Named, Stale, Tell, Within,
+    self, Call, Carried, Closed, Held, Idle, Kept, KeptIn, Named, Often, Stale, Tell, Within,
 };
 use exh_fixtures::Said::{Absent, Is, New, Was};
 
@@ -110,6 +110,21 @@ pub(crate) static FOUR_WARDS: [LiveStep; 29] = [
     Carried(0),
 ];
 
+/// After the three keys the notice of a further split is carried by the courier's 2,000th round. A call is asked
+/// 20,001 times. Over a copy that is closed a call begins at page 0, and goes by the right links of two pages.
+pub(crate) static LONG: [LiveStep; 10] = [
+    Carried(1),
+    Idle(1_998),
+    Call(New(b"\x20", b"y")),
+    Carried(1),
+    Named(b"\x40", 2),
+    Often(20_001, Is(b"\x80", b"b")),
+    Within(1, Is(b"\x80", b"b")),
+    Closed,
+    Held(2, b"\x80"),
+    Within(3, Is(b"\x80", b"b")),
+];
+
 /// One record in the left page and, after the split, as many in the right one as a page may have, four. They
 /// are deleted down to three in both, which are too many, and down to two, which are half.
 pub(crate) static EVEN_HALF: [LiveStep; 12] = [
@@ -167,6 +182,41 @@ pub(crate) static OPENED_COURIER: [LiveStep; 18] = [
     Call(New(b"\xa0", b"z")),
     Carried(1),
     Named(b"\xa0", 4),
+];
+
+/// A round carries nothing of what the table tells, the split and its merge that were changes 3 and 4. The third
+/// key takes one split, change 5, which is carried, as is its merge.
+pub(crate) static MERGED_COURIER: [LiveStep; 14] = [
+    Named(b"\x80", 0),
+    Carried(0),
+    Call(New(b"\0", b"a")),
+    Call(New(b"\x80", b"b")),
+    Call(New(b"\x40", b"x")),
+    Carried(1),
+    Named(b"\x80", 1),
+    Within(1, Is(b"\x80", b"b")),
+    Call(Was(b"\x40", b"x")),
+    Call(Was(b"\x80", b"b")),
+    Kept(1),
+    Carried(1),
+    Named(b"\x80", 0),
+    Carried(0),
+];
+
+/// After the three keys neither the split nor its merge is carried, of which the table tells; what comes after
+/// them is.
+pub(crate) static LATE_COURIER: [LiveStep; 11] = [
+    Carried(0),
+    Call(Was(b"\x40", b"x")),
+    Call(Was(b"\x80", b"b")),
+    Kept(1),
+    Carried(0),
+    Named(b"\x80", 0),
+    Call(New(b"\x80", b"b")),
+    Call(New(b"\x40", b"x")),
+    Carried(1),
+    Named(b"\x80", 1),
+    Carried(0),
 ];
 
 /// Both pages are empty, and stay: a later get finds the right one. Pages below are merged, which a courier

@@ -3,6 +3,7 @@ ghost use Rattle.std.specs.Prelude.{◌≡◌, ◌^◌, ◌≤◌, length, IfOk}
 ghost use Rattle.exh_prefix.specs.declared.prefix.TheConstants.{WARD_BITS_LIMIT};
 
 use exh_callers::{Caller, PlainFile, Reader, Writer, is_carried, is_held, is_kept, is_told};
+use exh_copy::{NewCopyFault, new_copy};
 use exh_fixtures::{Asked, Said, prefix, split, told_reply};
 use exh_keyer::{Keyer, PlainKeyer};
 use exh_live::{Cursors, Identity};
@@ -11,6 +12,7 @@ use exh_runs::{Difference, Part, Run, again, same};
 use exh_table::Table;
 use exh_walk::{OpenGate, TurnGate};
 use std::alloc::{AllocError, Global};
+use std::marker::Brand;
 use std::sync::Wait;
 
 /// A step of a live file, of its caller, or of the copy of its directory.
@@ -30,6 +32,12 @@ pub(crate) enum LiveStep {
     KeptIn(u8, u32),
     /// A courier's round that takes so many notices.
     Carried(u64),
+    /// So many of a courier's rounds, each of which takes nothing.
+    Idle(u32),
+    /// A call that is asked so many times, each time with the same reply.
+    Often(u32, Said<'static>),
+    /// From now on the caller looks at a copy that was told of the first split of page 0, and is closed.
+    Closed,
     /// The same as `Carried` of a courier to a copy that was told of nothing.
     Stale(u64),
     /// A told look for a key names this page.
@@ -128,6 +136,12 @@ fn take<R: Wait, F: Identity>(
         LiveStep::Kept(merges) => is_kept_in(rt, file, ward_bits, 0, *merges),
         LiveStep::KeptIn(ward, merges) => is_kept_in(rt, file, ward_bits, *ward, *merges),
         LiveStep::Carried(notices) => is_carried(rt, file, writer, cursors, *notices),
+        LiveStep::Idle(rounds) => are_idle(rt, file, writer, cursors, *rounds),
+        LiveStep::Often(times, said) => is_told_often(rt, file, caller, *times, said),
+        LiveStep::Closed => {
+            caller.copy = closed_reader(rt, run.alloc)?;
+            Ok(())
+        }
         LiveStep::Stale(notices) => {
             let mut others = first_places(run.alloc, ward_bits, &Table::new(run.alloc))?;
             is_carried(rt, file, writer, &mut others, *notices)
@@ -151,6 +165,54 @@ fn is_kept_in<R: Wait, F: Identity>(
         return Err(Difference::Apart(Part::Run));
     }
     is_kept(rt, file, ward, merges)
+}
+
+// Whether so many rounds of a courier take nothing.
+fn are_idle<R: Wait, F: Identity>(
+    rt: &R,
+    file: &PlainFile<F>,
+    writer: &mut Writer,
+    cursors: &mut Cursors,
+    rounds: u32,
+) -> Result<(), Difference>
+    requires { length cursors.old ≡ 2 ^ file.now.ward_bits }
+    ensures { length cursors.new ≡ length cursors.old }
+{
+    'rounds: for _ in 0..rounds {
+        is_carried(rt, file, writer, cursors, 0)?;
+    }
+    Ok(())
+}
+
+// Whether a call that is asked so many times has the same reply each time.
+fn is_told_often<R: Wait, F: Identity>(
+    rt: &R,
+    file: &PlainFile<F>,
+    caller: &mut Caller<F>,
+    times: u32,
+    said: &Said<'static>,
+) -> Result<(), Difference> {
+    for _ in 0..times {
+        is_told(rt, file, caller, said.asked(), &OpenGate, said.reply()?)?;
+    }
+    Ok(())
+}
+
+// A reader of a copy that was told of the first split of page 0, and is closed.
+fn closed_reader<R: Wait>(rt: &R, alloc: Global) -> Result<Reader, Difference> {
+    match new_copy::<Brand>(alloc, 0, &Table::new(alloc), 1) {
+        Ok((mut writer, mut readers)) => {
+            let told = tell(rt, &mut writer, 1, "", 1);
+            drop(writer.close(rt));
+            told?;
+            readers.pop().ok_or(Difference::Apart(Part::Run))
+        }
+        Err(NewCopyFault::Memory) => Err(Difference::Memory(AllocError)),
+        Err(NewCopyFault::NoPlace(writer)) => {
+            drop(writer.close(rt));
+            Err(Difference::Apart(Part::Run))
+        }
+    }
 }
 
 // The places of a courier to a copy that begins with a table.

@@ -45,15 +45,18 @@ enum Story {
 }
 
 // All of them, in the order in which they are played.
-const STORIES: [Story; 10] = [
+const STORIES: [Story; 13] = [
     Story::OneCaller(OneCaller::ToldCopy),
     Story::Closing,
     Story::OneCaller(OneCaller::Courier),
     Story::OneCaller(OneCaller::Keeper),
     Story::OneCaller(OneCaller::FourWards),
+    Story::OneCaller(OneCaller::Long),
     Story::OneCaller(OneCaller::EvenHalf),
     Story::OneCaller(OneCaller::OddHalf),
     Story::OneCaller(OneCaller::OpenedCourier),
+    Story::OneCaller(OneCaller::MergedCourier),
+    Story::OneCaller(OneCaller::LateCourier),
     Story::OneCaller(OneCaller::WornKeeper),
     Story::Callers,
 ];
@@ -77,9 +80,12 @@ impl Named for Story {
             Story::OneCaller(OneCaller::Courier) => "courier",
             Story::OneCaller(OneCaller::Keeper) => "keeper",
             Story::OneCaller(OneCaller::FourWards) => "four-wards",
+            Story::OneCaller(OneCaller::Long) => "long",
             Story::OneCaller(OneCaller::EvenHalf) => "even-half",
             Story::OneCaller(OneCaller::OddHalf) => "odd-half",
             Story::OneCaller(OneCaller::OpenedCourier) => "opened-courier",
+            Story::OneCaller(OneCaller::MergedCourier) => "merged-courier",
+            Story::OneCaller(OneCaller::LateCourier) => "late-courier",
             Story::OneCaller(OneCaller::WornKeeper) => "worn-keeper",
             Story::Closing => "closing",
             Story::Callers => "callers",

@@ -1,12 +1,12 @@
 //! Stories of a live file and of one caller of it: of a new file, or of one ward that was written before.
-ghost use Rattle.std.specs.Prelude.{◌≡◌, ◌≤◌, IfOk};
+ghost use Rattle.std.specs.Prelude.{◌≡◌, ◌≤◌, IfOk, IfSome};
 ghost use Rattle.exh_keyer.specs.Pseudokey.{plain_pseudokey};
 ghost use Rattle.exh_live.specs.declared.ledgers.TheConstants.{ANSWER_PARTS, ENTRY_PARTS};
 ghost use Rattle.exh_prefix.specs.declared.prefix.TheConstants.{WARD_BITS_LIMIT};
 
 use crate::lists::{
-    COURIER, EVEN_HALF, FOUR_WARDS, KEEPER, ODD_HALF, OPENED_COURIER, THREE_KEYS, THREE_KEYS_EACH,
-    TOLD_COPY, WORN_KEEPER,
+    COURIER, EVEN_HALF, FOUR_WARDS, KEEPER, LATE_COURIER, LONG, MERGED_COURIER, ODD_HALF,
+    OPENED_COURIER, THREE_KEYS, THREE_KEYS_EACH, TOLD_COPY, WORN_KEEPER,
 };
 use crate::live_step::{LiveStep, take_steps};
 use crate::written_ward::written_ward;
@@ -34,6 +34,8 @@ pub(crate) enum OneCaller {
     /// Of sixteen wards four get keys: a copy is told of their splits, and then of the merges that a keeper
     /// makes in each.
     FourWards,
+    /// A courier makes 2,000 rounds and a caller 20,001 calls; then it looks at a copy that is closed.
+    Long,
     /// Two pages are merged where they have together at most half as many records as a page may, which is
     /// an even number, 4.
     EvenHalf,
@@ -41,6 +43,10 @@ pub(crate) enum OneCaller {
     OddHalf,
     /// A courier of an opened file begins after the changes that the file's table tells of.
     OpenedCourier,
+    /// A courier of an opened file whose table tells of a merge begins after it.
+    MergedCourier,
+    /// A courier to a copy whose table tells of a split and of its merge begins after both.
+    LateCourier,
     /// At the greatest number pages can't be merged any more: a keeper passes over them.
     WornKeeper,
 }
@@ -68,24 +74,39 @@ impl OneCaller {
         }
     }
 
-    // Of a file that was written before, which change the split of its first page was.
-    fn changes(self) -> Option<u32> {
+    // Of a file that was written before, which change the last one of its first page was: a split where that is
+    // odd, else a merge.
+    fn changes(self) -> Option<u32>
+        ensures { IfSome result (λ changes. 1 ≤ changes) }
+    {
         match self {
             OneCaller::OpenedCourier => Some(3),
+            OneCaller::MergedCourier => Some(4),
             OneCaller::WornKeeper => Some(u32::MAX),
             _ => None,
         }
     }
 
+    // What the start table has at the ward's prefix.
+    fn entry(self) -> Option<Entry> {
+        let (number, kind) = match self {
+            OneCaller::LateCourier => (2, Kind::Merge),
+            OneCaller::MergedCourier => (4, Kind::Merge),
+            _ => (self.changes()?, Kind::Split { right: 1 }),
+        };
+        Some(Entry { number, kind })
+    }
+
     // How many calls are answered.
     fn answers(self) -> u128 {
         match self {
-            OneCaller::ToldCopy | OneCaller::Courier => 6,
-            OneCaller::OpenedCourier => 7,
+            OneCaller::ToldCopy | OneCaller::Courier | OneCaller::MergedCourier => 6,
+            OneCaller::OpenedCourier | OneCaller::LateCourier => 7,
             OneCaller::EvenHalf | OneCaller::WornKeeper => 9,
             OneCaller::OddHalf => 11,
             OneCaller::Keeper => 12,
             OneCaller::FourWards => 24,
+            OneCaller::Long => 20_007,
         }
     }
 
@@ -96,10 +117,20 @@ impl OneCaller {
             OneCaller::Courier => [&THREE_KEYS, &COURIER],
             OneCaller::Keeper => [&THREE_KEYS, &KEEPER],
             OneCaller::FourWards => [&THREE_KEYS_EACH, &FOUR_WARDS],
+            OneCaller::Long => [&THREE_KEYS, &LONG],
+            other => other.further_steps(),
+        }
+    }
+
+    fn further_steps(self) -> [&'static [LiveStep]; 2] {
+        match self {
             OneCaller::EvenHalf => [&EVEN_HALF, &[]],
             OneCaller::OddHalf => [&ODD_HALF, &[]],
             OneCaller::OpenedCourier => [&OPENED_COURIER, &[]],
+            OneCaller::LateCourier => [&THREE_KEYS, &LATE_COURIER],
+            OneCaller::MergedCourier => [&MERGED_COURIER, &[]],
             OneCaller::WornKeeper => [&WORN_KEEPER, &[]],
+            _ => [&[], &[]],
         }
     }
 }
@@ -120,7 +151,7 @@ pub(crate) fn run<R: Wait, F: Identity>(
 {
     let mut seats = Vec::new(run.alloc);
     seats.reserve(1)?;
-    let start = start_table(run.alloc, story.changes())?;
+    let start = start_table(run.alloc, story.entry())?;
     tell_table(rt, writer, &start)?;
     let ward_bits = story.ward_bits();
     let mut file = first_file::<F>(run.alloc, story, ward_bits, answers, entries)?;
@@ -165,14 +196,10 @@ fn first_file<F: Identity>(
     }
 }
 
-// What the ward's start table has.
-fn start_table(alloc: Global, changes: Option<u32>) -> Result<Table, Difference> {
+// The table with this entry at the ward's prefix.
+fn start_table(alloc: Global, entry: Option<Entry>) -> Result<Table, Difference> {
     let mut table = Table::new(alloc);
-    if let Some(number) = changes {
-        let entry = Entry {
-            number,
-            kind: Kind::Split { right: 1 },
-        };
+    if let Some(entry) = entry {
         let own = prefix("")?;
         again!(Err(AllocError) => table.put_greater(own, entry))?;
     }
