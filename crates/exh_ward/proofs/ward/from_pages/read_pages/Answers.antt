@@ -30,7 +30,7 @@ loop-number-preserved g c =
       index = one_page_more _ _ pages c.loop-number.number c.fetched.result.now c.requires.apart page is.index c.in_ok-take_page.ensures.index;
       pairs = c.in_ok-take_page.ensures.pairs ∙ ap (λ ps. ps ++ map pair_of (records_of c.fetched.result.now)) is.pairs ∙ sym (pairs_more pages c.loop-number.number _ page);
       pages = c.fetch.ensures.pages ∙ is.pages;
-      failures = subst (λ result. CountsFaults result (g.P.Pages.failures c.loop-number.store) (g.P.Pages.failures c.fetch.new.store)) c.in_ok-fetch.was c.fetch.ensures.failures ∙ is.failures;
+      failures = subst (λ result. CountsFaults result (g.P.Pages.failures c.loop-number.store) (g.P.Pages.failures c.fetch.new.self)) c.in_ok-fetch.was c.fetch.ensures.failures ∙ is.failures;
       takes = λ other. (λ x. (c.fetch.ensures.takes other).0 ((is.takes other).0 x), λ x. (is.takes other).1 ((c.fetch.ensures.takes other).1 x));
     }
 
