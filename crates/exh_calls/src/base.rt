@@ -6,7 +6,7 @@ use std::alloc::Global;
 use std::marker::Model;
 
 /// The map from keys to values that a history begins with.
-#[derive(Debug, Drop)]
+#[derive(Drop)]
 pub struct Base {
     pairs: Vec<(Key, Value)>,
 }

@@ -14,7 +14,7 @@ const ENTRY_LIMIT: usize = KEY_LIMIT + VALUE_LIMIT + VALUE_LIMIT + VALUE_LIMIT;
 
 /// The calls that were answered, in order, with their callers and replies. An
 /// entry takes the bytes of its key and values, and 24 more.
-#[derive(Debug, Drop)]
+#[derive(Drop)]
 pub struct Journal {
     texts: Vec<u8>,
     stored: Vec<StoredEntry>,

@@ -130,7 +130,7 @@ pub trait Source: Drop {
 }
 
 /// Why not all was written.
-#[derive(Clone, Copy, Debug, PartialEq, Eq)]
+#[derive(Clone, Copy)]
 pub enum SourceFault {
     Writer,
     Memory,

@@ -8,7 +8,7 @@ use exh_notice::Notice;
 use exh_prefix::PageNo;
 
 /// What a line of a script is answered, unless it asks for a view. Each variant is one printed line.
-#[derive(Clone, Copy, Debug, PartialEq, Eq)]
+#[derive(Clone, Copy)]
 pub enum Answer {
     /// `rN at W/P`: the request stands at a page of a ward.
     Begun { name: u32, ward: u8, page: PageNo },

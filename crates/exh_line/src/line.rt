@@ -12,7 +12,7 @@ use exh_text::{
 
 /// A line of a script after its first, its numbers, key and value in their ranges. There may be no such
 /// request, copy, table, ward or page.
-#[derive(Clone, Copy, Debug, PartialEq, Eq)]
+#[derive(Clone, Copy)]
 pub enum Line {
     /// `begin`, `hop`, `split`, `merge`, `deliver`, `send`, `combine` or `restart`.
     Step(Event),

@@ -21,7 +21,7 @@ pub struct Closed<P: Pages + Drop, K: Keyer> {
 }
 
 /// Why a live file isn't closed.
-#[derive(Clone, Copy, Debug, PartialEq, Eq, Error)]
+#[derive(Clone, Copy, Debug, Error)]
 pub enum CloseFault {
     /// A seat is missing: number 52.
     #[error("a seat is missing")]

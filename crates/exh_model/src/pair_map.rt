@@ -7,7 +7,7 @@ use std::alloc::{AllocError, Global};
 use std::marker::Model;
 
 /// A map from keys to values, as a list of pairs in which no key stands twice.
-#[derive(Debug, Drop)]
+#[derive(Drop)]
 pub struct PairMap {
     pairs: Vec<(Key, Value)>,
 }

@@ -9,7 +9,7 @@ pub const CAP_LIMIT: usize = 16;
 
 /// A page: a bucket (Fagin et al. 1979), or what is left of one that was merged away (exhash's
 /// own).
-#[derive(Debug, Drop)]
+#[derive(Drop)]
 pub enum Page {
     /// Holds the records whose pseudokeys the prefix begins, the prefix's length being the local
     /// depth. The right link is the live page with the next greater low bound, if there is one.

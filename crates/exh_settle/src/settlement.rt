@@ -11,7 +11,7 @@ use crate::{Diary, DiaryEntry, Journals, Mismatch};
 use exh_calls::{Entries, Journal};
 
 /// What settled diaries and journals have in common.
-#[derive(Clone, Copy, Debug, PartialEq, Eq)]
+#[derive(Clone, Copy)]
 pub struct Settled {
     /// How many calls were answered: the number of all entries of the diaries, which is that of the
     /// journals. It is wide enough for any diaries.

@@ -5,7 +5,7 @@ use exh_page::Page;
 use exh_prefix::{PageNo, Prefix};
 
 /// What is told of a page without its records.
-#[derive(Clone, Copy, Debug, PartialEq, Eq)]
+#[derive(Clone, Copy)]
 pub enum PageLine {
     /// A live page: its prefix, its right link, and how many records it has.
     Live {
