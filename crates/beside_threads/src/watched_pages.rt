@@ -8,7 +8,7 @@ use exh_callers::CAP;
 use exh_fixtures::first_store;
 use exh_frames::{Pages, PagesFault, PlainPages};
 use exh_keyer::PlainKeyer;
-use exh_page::{Key, Page, Spot, Value};
+use exh_page::{Key, Page, PageHead, Spot, Value};
 use exh_prefix::PageNo;
 use exh_ward::Ward;
 use std::alloc::{AllocError, Global};
@@ -100,13 +100,15 @@ impl<R: Clock> WatchedPages<'_, R> {
 }
 
 impl<R: Clock> Pages for WatchedPages<'_, R> {
-    ghost use Rattle.std.specs.Prelude.{⊤};
+    ghost use Rattle.std.specs.Prelude.{⊤, ◌<◌, length};
 
     ghost pages = { λ store. store.inner };
 
     ghost takes = { λ _ _. ⊤ };
 
     ghost failures = { λ _. 0 };
+
+    ghost at_hand = { λ store number. number < length store.inner };
 
     fn count(&self) -> PageNo {
         self.inner.count()
@@ -120,9 +122,18 @@ impl<R: Clock> Pages for WatchedPages<'_, R> {
         self.inner.get(number)
     }
 
-    fn lend(&mut self, number: PageNo) -> Result<&Page, PagesFault> {
+    fn head(&mut self, number: PageNo) -> Result<PageHead, PagesFault> {
         look_on(&mut self.look, self.conductor);
-        self.inner.lend(number)
+        self.inner.head(number)
+    }
+
+    fn fetch(&mut self, number: PageNo) -> Result<(), PagesFault> {
+        look_on(&mut self.look, self.conductor);
+        self.inner.fetch(number)
+    }
+
+    fn fetched(&self, number: PageNo) -> &Page {
+        self.inner.fetched(number)
     }
 
     fn put_at(

@@ -155,8 +155,8 @@ impl<'a> Iterator for Entries<'a> {
     }
 }
 
-// The bytes of this length from `start` on.
-fn bytes_at(texts: &[u8], start: usize, len: u8) -> &[u8]
+/// The bytes of this length from `start` on.
+pub(crate) fn bytes_at(texts: &[u8], start: usize, len: u8) -> &[u8]
     requires { start + len ≤ length texts.now }
     ensures { result.now ≡ bytes_at texts.now start len }
 {

@@ -131,8 +131,8 @@ fn push_page_shown<P: Pages + Drop>(
     ensures counted { IsErrOf result ResponseFault.Page → CountsPageFault world.old world.new }
     ensures memory { IsErrOf result ResponseFault.Memory → world.new ≡ world.old }
 {
-    match world.page_line(ward, page) {
-        Ok(line) => Ok(push_page(out, ward, page, &line)?),
+    match world.head(ward, page) {
+        Ok(head) => Ok(push_page(out, ward, page, head)?),
         Err(StepFault::Ward(WardFault::Memory)) => Err(ResponseFault::Memory),
         Err(StepFault::Ward(WardFault::Page)) => Err(ResponseFault::Page),
         Err(fault) => Ok(push_refusal(out, fault.into())?),
