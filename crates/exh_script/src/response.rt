@@ -39,10 +39,10 @@ pub fn push_response<P: Pages + Drop>(
     ensures counted { IsErrOf result ResponseFault.Page → CountsPageFault run.old.world run.new.world }
     ensures memory { IsErrOf result ResponseFault.Memory → (run.new.world ≡ run.old.world) ⊎ (run.new.world ≡ after_line run.old.world line.now) }
 {
-    match parse_line(line) {
-        Ok(Line::Step(event)) => push_event(out, run, &event),
-        Ok(Line::View(view)) => push_view(out, &mut run.world, view),
-        Err(fault) => Ok(push_refusal(out, fault.into())?),
+    match &parse_line(line) {
+        Ok(Line::Step(event)) => push_event(out, run, event),
+        Ok(Line::View(view)) => push_view(out, &mut run.world, *view),
+        Err(fault) => Ok(push_refusal(out, (*fault).into())?),
     }
 }
 
@@ -60,8 +60,10 @@ fn push_event<P: Pages + Drop>(
     ensures counted { IsErrOf result ResponseFault.Page → CountsPageFault run.old.world run.new.world }
     ensures memory { IsErrOf result ResponseFault.Memory → (run.new.world ≡ run.old.world) ⊎ (run.new.world ≡ after_asked run.old.world (Step event.now)) }
 {
-    let answer = answer_event(run, event)?;
-    Ok(push_answer(out, &answer)?)
+    match &answer_event(run, event) {
+        Ok(answer) => Ok(push_answer(out, answer)?),
+        Err(fault) => Err(*fault),
+    }
 }
 
 // A step that is refused for want of memory, or for a page out of reach, has no answer.

@@ -21,7 +21,7 @@ use exh_frames::Pages;
 use exh_keyer::Keyer;
 use exh_page::PageHead;
 use exh_prefix::PageNo;
-use indexmap::map::Iter;
+use lru::Iter;
 
 impl<P: Pages + Drop, K: Keyer> World<P, K> {
     /// The file is cut into 2^this many wards, by so many leading bits of pseudokeys, 0 to 4. It takes
