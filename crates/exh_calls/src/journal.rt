@@ -1,5 +1,6 @@
 ghost use Rattle.std.specs.Prelude.{◌≡◌, ◌+◌, ◌≤◌, ◌↔◌, [], ◌∷◌, ◌++◌, length, slice_get, IsTrue, OnOk};
 ghost use Rattle.std.specs.Iterator.{YieldsFirst, item_count};
+ghost use Rattle.std.specs.Option.{option_map};
 ghost use Rattle.exh_page.specs.declared.value.TheConstants.{VALUE_LIMIT};
 ghost use Rattle.exh_calls.specs.Journal.{bytes_at, second_given, value_given, value_told};
 
@@ -109,6 +110,15 @@ impl Journal {
             call: stored.call.call(key, value, second),
             reply: stored.reply.reply(told),
         })
+    }
+
+    /// The caller of the entry at a place, from 0 on; `None` past the last. Nothing else of the entry is
+    /// read. It takes no memory.
+    pub fn client(&self, at: usize) -> Option<u32>
+        ensures { result ≡ option_map (λ entry. entry.client) (slice_get self.now.entries at) }
+    {
+        let stored = self.stored.get(at)?;
+        Some(stored.client)
     }
 
     /// The entries, in order. It takes no memory.
