@@ -60,11 +60,25 @@ impl<P: Pages + Drop, K: Keyer> Ward<P, K> {
         self.cap
     }
 
+    /// The logarithm of how many wards the file is cut into. It takes no memory.
+    pub fn ward_bits(&self) -> u8
+        ensures { result ≡ self.now.ward_bits }
+    {
+        self.ward_bits
+    }
+
     /// The ward's number: the leading bits of its pseudokeys. It takes no memory.
     pub fn number(&self) -> u8
         ensures { result ≡ self.now.number }
     {
         self.number
+    }
+
+    /// The keyer of the ward. It takes no memory.
+    pub fn keyer(&self) -> K
+        ensures { result ≡ self.now.keyer }
+    {
+        self.keyer
     }
 
     /// How many pages the ward has. It takes no memory.
