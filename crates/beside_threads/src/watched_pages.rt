@@ -26,6 +26,14 @@ pub(crate) const HAS_MERGED: Count = Count::First;
 
 pub(crate) const IS_OVER: Count = Count::Second;
 
+/// Looks at pages; and those at page 0 after one at a page that isn't the last.
+pub(crate) const LOOKS: Count = Count::First;
+
+pub(crate) const CAME_BETWEEN: Count = Count::Second;
+
+// The last page of a file of 1,100.
+const LAST_PAGE: PageNo = 1099;
+
 /// What a look at a page does.
 #[derive(Clone, Copy)]
 pub(crate) enum Look {
@@ -34,6 +42,8 @@ pub(crate) enum Look {
     Waits,
     /// Each takes ten microseconds or more, so that others wait for the lock meanwhile. Merges are counted.
     Rests,
+    /// Each is counted. The page is the one that was looked at last.
+    Counts(PageNo),
 }
 
 /// Pages in memory, and who counts what is done with them.
@@ -70,7 +80,7 @@ pub(crate) fn new_ward<'a, R: Clock>(
 }
 
 // Looks at a page. It touches no page, so the store stays as it was.
-fn look_on<R: Clock>(look: &mut Look, conductor: &Conductor<'_, R>) {
+fn look_on<R: Clock>(look: &mut Look, conductor: &Conductor<'_, R>, page: PageNo) {
     match *look {
         Look::Nothing => {}
         Look::Rests => conductor.rest(),
@@ -79,6 +89,13 @@ fn look_on<R: Clock>(look: &mut Look, conductor: &Conductor<'_, R>) {
             conductor.raise(IS_READ, 1);
             if !conductor.wait_for(MAY_GO, 1) {
                 conductor.raise(IS_LATE, 1);
+            }
+        }
+        Look::Counts(last) => {
+            *look = Look::Counts(page);
+            conductor.raise(LOOKS, 1);
+            if page == 0 && 0 < last && last < LAST_PAGE {
+                conductor.raise(CAME_BETWEEN, 1);
             }
         }
     }
@@ -123,12 +140,12 @@ impl<R: Clock> Pages for WatchedPages<'_, R> {
     }
 
     fn head(&mut self, number: PageNo) -> Result<PageHead, PagesFault> {
-        look_on(&mut self.look, self.conductor);
+        look_on(&mut self.look, self.conductor, number);
         self.inner.head(number)
     }
 
     fn fetch(&mut self, number: PageNo) -> Result<(), PagesFault> {
-        look_on(&mut self.look, self.conductor);
+        look_on(&mut self.look, self.conductor, number);
         self.inner.fetch(number)
     }
 
