@@ -6,5 +6,5 @@ use Rattle.example_use.proofs.open_at.Goals as goal
 -- the wards of an opened file have no history
 pub returns : goal.returns
 returns c number ward there =
-    let file = c.in_ok-opened.ensures.opened.1.1.1.1.1 in
+    let file = c.in_ok-opened.ensures.opened.5 in
     ap (λ (ward : WardState AnyKeyer). ward.journal) (file.each number ward there).is
