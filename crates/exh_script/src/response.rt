@@ -43,10 +43,10 @@ pub fn push_response<P: Pages + Drop>(
     ensures others { OnErr result (LeavesTheOthers run.old.tells_moves run.old.world line.now run.new.world) }
 {
     lines_go_alike();
-    match &parse_line(line) {
-        Ok(Line::Step(event)) => push_event(out, run, event),
-        Ok(Line::View(view)) => push_view(out, &mut run.world, *view),
-        Err(fault) => Ok(push_refusal(out, (*fault).into())?),
+    match parse_line(line) {
+        Ok(Line::Step(event)) => push_event(out, run, &event),
+        Ok(Line::View(view)) => push_view(out, &mut run.world, view),
+        Err(fault) => Ok(push_refusal(out, fault.into())?),
     }
 }
 
