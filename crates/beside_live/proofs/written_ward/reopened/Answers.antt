@@ -1,8 +1,8 @@
-use Rattle.std.proofs.Common.{rules, ◌≡◌, ℕ, ◌+◌, ◌<◌, List, [], ◌∷◌, ◌++◌, length, take, slice_get, Some, sym, ap, ◌∙◌, arith}
+use Rattle.std.proofs.Common.{rules, ◌≡◌, ◌<◌, List, [], ◌∷◌, ◌++◌, length, take, slice_get, Some, sym, ap, ◌∙◌, arith}
 use Rattle.std.proofs.Math.Seq.{take-length}
 use Rattle.std.proofs.lemmas.Option.{slice_get_within}
+use Rattle.exh_keyer.specs.Pseudokey.{plain_pseudokey}
 use Rattle.exh_page.specs.declared.page.Page.{Page}
-use Rattle.exh_ward.specs.WardState.{WardState}
 use Rattle.beside_live.proofs.Reopened.{begun, one_more}
 use Rattle.beside_live.proofs.written_ward.reopened.Goals as goal
 
@@ -23,12 +23,12 @@ from_pages-requires-clause-legal c =
     let ward_is : c.loop-number.ward ≡ c.args.ward.now = c.loop-number.invariant.ward in
     let all : c.loop-number.number ≡ length c.args.ward.now.pages = search rules in
     let pages_is : c.of_pages.result ≡ c.loop-number.ward.pages =
-        c.of_pages.ensures ∙ c.loop-number.invariant.pages ∙ ap (λ n. take n c.args.ward.now.pages) all ∙ take-length c.args.ward.now.pages ∙ ap (λ ward. ward.pages) (sym ward_is) in
+    c.of_pages.ensures ∙ c.loop-number.invariant.pages ∙ ap (λ n. take n c.args.ward.now.pages) all ∙ take-length c.args.ward.now.pages ∙ ap (λ ward. ward.pages) (sym ward_is) in
     let table_is : c.in_ok-table.table ≡ c.loop-number.ward.table = search rules in
-    begun c.fitting_tables_begin_wards.ensures _ c.loop-number.ward c.args.keyer c.in_ok-table.table c.of_pages.result c.table.ensures.sound
-      (ap (λ ward. ward.cap) ward_is ∙ c.requires.cap)
-      (ap (λ ward. ward.ward_bits) ward_is ∙ c.requires.bits)
-      (ap (λ ward. ward.number) ward_is ∙ c.requires.number)
-      (ap (λ ward. ward.keyer) ward_is ∙ c.requires.keyer)
-      table_is
-      pages_is
+    begun c.fitting_tables_begin_wards.ensures (λ _ key. plain_pseudokey key) c.loop-number.ward c.args.keyer c.in_ok-table.table c.of_pages.result c.table.ensures.sound
+    (ap (λ ward. ward.cap) ward_is ∙ c.requires.cap)
+    (ap (λ ward. ward.ward_bits) ward_is ∙ c.requires.bits)
+    (ap (λ ward. ward.number) ward_is ∙ c.requires.number)
+    (ap (λ ward. ward.keyer) ward_is ∙ c.requires.keyer)
+    table_is
+    pages_is
