@@ -56,7 +56,7 @@ fn save(
     };
     let meter = Meter::new(Console::new(rt, rt.stderr()), work);
     let mut disk = SystemDisk::new(rt);
-    let saved = save_at(rt.alloc(), &mut disk, path, Some(seen), opened, &meter);
+    let (saved, _) = save_at(rt.alloc(), &mut disk, path, Some(seen), opened, &meter);
     meter.clear();
     saved?;
     println!(rt; "saved {path}")?;
