@@ -42,6 +42,7 @@ function line_of(turn) {
     if (kind == "show") return "show 1"
     if (kind == "page") return "page 0 0"
     if (kind == "inflight") return "inflight"
+    if (kind == "hop") return "hop r" (turn + 1)
     if (kind == "begin") return "begin r" (turn + 1) " c1 2 get #ffff"
     exit 2
 }
@@ -57,6 +58,9 @@ BEGIN {
     # As many requests in flight as there are entries, or as another quarter of the script begins.
     for (name = 2; kind == "inflight" && name <= notices + 1 && used < size / 2; name++)
         say("begin r" name " c1 1 get #0000")
+    # As many as can then be answered, in the order begun: a begin has 27 bytes or so, a hop 10.
+    begins = used + (size - used) * 3 / 4
+    for (name = 2; kind == "hop" && used < begins; name++) say("begin r" name " c1 1 get #0000")
     print notices > counted
     for (turn = 1; used + length(line_of(turn)) < size; turn++) say(line_of(turn))
 }

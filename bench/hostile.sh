@@ -8,7 +8,7 @@
 # as many as half a script makes; the rest is one of these:
 # - `combine` of a table that was sent; `restart` and `combine`; `send`; `deliver` and `send`;
 # - `show`; `page`; `inflight`, over as many requests in flight as entries, or as a quarter of the script begins;
-# - `begin` through a copy that was told nothing.
+# - `begin` through a copy that was told nothing; `hop` of requests in the order begun.
 # Then `load` of pairs at cap 1, whose keys are all those of two bytes, twice; and, over the file that it makes, 100
 # `combine` of a table that was sent, and 100 `send`.
 #
@@ -27,7 +27,7 @@ export LC_ALL=C
 LIMIT=${1:-120}
 ROOM=${2:-$((4 * 1024 * 1024))}
 LARGEST=$((1024 * 1024))
-KINDS=(combine restart send deliver show page inflight begin)
+KINDS=(combine restart send deliver show page inflight begin hop)
 
 die() {
     echo "bench/hostile.sh: $*" >&2
@@ -72,8 +72,8 @@ measure_script() {
 # How many lines of the script come before those of the kind $1.
 lines_before() {
     awk -v kind="$1" '
-        NR > 1 && /^send 1$/ { before = NR; if (kind != "inflight") exit }
-        kind == "inflight" && $1 == "begin" { before = NR }
+        NR > 1 && /^send 1$/ { before = NR; if (kind != "inflight" && kind != "hop") exit }
+        (kind == "inflight" || kind == "hop") && $1 == "begin" { before = NR }
         END { print before }
     ' "$folder/script"
 }

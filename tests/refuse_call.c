@@ -1,12 +1,14 @@
-/* Refuses a call of the system, or kills the program there: tests/run and tests/failing_calls preload it.
+/* Refuses a call of the system, kills the program there or lets it wait: tests/run, tests/failing_calls and
+ * tests/meeting_saves preload it.
  *
  * The call that REFUSED_CALL names, `open`, `read`, `write`, `fsync`, `rename`, `ftruncate`, `fchmod`, `fchown`,
- * `flock` or `unlink`, fails with the error number REFUSED_ERROR, or where that is 0 the program is killed in its
- * place: the call number REFUSED_NTH, counted from 1 over all threads, or each where there is no such number. Where
- * there is REFUSED_ABOUT, only calls about a file with this in its path count. Each of these calls, of whatever name,
- * is told to the descriptor REFUSED_TELLS, if there is one, in a line: its name; how the file is opened, 0 to read, 1
- * to write, 2 for both; and its path, or `&N` of the descriptors 0 to 2. One that is refused is told again, by the name
- * `refused`. */
+ * `flock`, `unlink`, `statx` or `realpath`, or each of these by `any`, fails with the error number REFUSED_ERROR, or
+ * where that is 0 the program is killed in its place: the call number REFUSED_NTH, counted from 1 over all threads, or
+ * each where there is no such number. Where there is REFUSED_WAITS, it doesn't fail, and is made only once that
+ * descriptor is at its end. Where there is REFUSED_ABOUT, only calls about a file with this in its path count. Each of
+ * these calls, of whatever name, is told to the descriptor REFUSED_TELLS, if there is one, in a line: its name; how the
+ * file is opened, 0 to read, 1 to write, 2 for both; and its path, or `&N` of the descriptors 0 to 2. One that is
+ * refused or waits is told again, by the name `refused`. */
 #define _GNU_SOURCE
 #include <dlfcn.h>
 #include <errno.h>
@@ -17,6 +19,7 @@
 #include <stdio.h>
 #include <stdlib.h>
 #include <string.h>
+#include <sys/stat.h>
 #include <sys/syscall.h>
 #include <unistd.h>
 
@@ -30,17 +33,27 @@ static void tell(const char *call, int access, const char *path) {
         abort();
 }
 
+static void wait_for_the_end(int descriptor) {
+    char byte;
+    while (syscall(SYS_read, descriptor, &byte, 1) != 0)
+        continue;
+}
+
 static int is_refused(const char *call, int access, const char *path) {
     const char *about = getenv("REFUSED_ABOUT"), *nth = getenv("REFUSED_NTH"), *error = getenv("REFUSED_ERROR");
-    const char *refused = getenv("REFUSED_CALL");
+    const char *refused = getenv("REFUSED_CALL"), *waits = getenv("REFUSED_WAITS");
     if (refused == NULL || error == NULL || (about != NULL && strstr(path, about) == NULL))
         return 0;
     tell(call, access, path);
-    if (strcmp(refused, call) != 0)
+    if (strcmp(refused, call) != 0 && strcmp(refused, "any") != 0)
         return 0;
     if (nth != NULL && atomic_fetch_add(&calls, 1) + 1 != strtoul(nth, NULL, 10))
         return 0;
     tell("refused", access, path);
+    if (waits != NULL) {
+        wait_for_the_end(atoi(waits));
+        return 0;
+    }
     errno = atoi(error);
     if (errno == 0)
         kill(getpid(), SIGKILL);
@@ -108,4 +121,15 @@ int rename(const char *from, const char *to) {
 
 int unlink(const char *path) {
     return is_refused("unlink", 1, path) ? -1 : REAL("unlink", int, const char *)(path);
+}
+
+int statx(int folder, const char *path, int flags, unsigned mask, struct statx *found) {
+    int is_refused_here = path[0] == 0 ? is_refused_of("statx", folder) : is_refused("statx", 0, path);
+    return is_refused_here ? -1
+                           : REAL("statx", int, int, const char *, int, unsigned, struct statx *)(folder, path, flags,
+                                                                                                 mask, found);
+}
+
+char *realpath(const char *path, char *whole) {
+    return is_refused("realpath", 0, path) ? NULL : REAL("realpath", char *, const char *, char *)(path, whole);
 }

@@ -18,8 +18,6 @@ PROGRAM = "exh_cli"
 SOURCES = ("src", "specs", "proofs")
 # What `rt` makes of a crate and reads again.
 BUILT = ("rlib", "incremental")
-# A crate is shared out over the processors where its chain is at least so much of the longest one that is left.
-NEARLY_LONGEST = 0.75
 
 
 def listed(root):
@@ -154,18 +152,18 @@ class Trees:
     def bottom_up(self, work, show):
         """Yields each crate with what `work` returns for it and a number of jobs, once it has for those below.
 
-        As many are at work as there are processors, and `show` is called with their names each second. The crates for
-        which the longest chains wait get each processor, shared with those beside them."""
+        As many are at work as there are processors, those first for which the longest chains wait, and `show` is called
+        with their names each second. A crate that begins gets its share of the processors: one where as many crates can
+        be at work, all where it is alone. More jobs than that end no crate sooner, and each job costs more."""
         lanes, behind = len(os.sched_getaffinity(0)), self.behind()
         left, done, working = sorted(self.crates, key=lambda it: -behind[it]), set(), {}
         with ThreadPoolExecutor(lanes) as pool:
             try:
                 while left or working:
-                    longest = max(behind[it] for it in self.crates if it not in done)
                     ready = [it for it in left if done.issuperset(self.below[it])]
+                    jobs = max(1, lanes // max(1, len(working) + len(ready)))
                     for name in ready[: lanes - len(working)]:
                         left.remove(name)
-                        jobs = lanes if behind[name] >= NEARLY_LONGEST * longest else 1
                         working[pool.submit(work, name, jobs)] = name
                     show(working.values())
                     for it in wait(working, timeout=1, return_when=FIRST_COMPLETED).done:

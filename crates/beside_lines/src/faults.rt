@@ -8,7 +8,7 @@ ghost use Rattle.exh_world.specs.Sound.{IsSoundWorld};
 use crate::answers::ROOM;
 use crate::steps::{STEP_COUNT, STEPS, Step};
 use exh_fixtures::{are_same, first_store, refused};
-use exh_frames::FailingPages;
+use exh_frames::{FailingPages, PlainPages};
 use exh_keyer::AnyKeyer;
 use exh_page::Page;
 use exh_prefix::PageNo;
@@ -19,7 +19,7 @@ use exh_ward::{Ward, WardFault};
 use exh_world::World;
 use std::alloc::{AllocError, Global};
 
-type FailingWard = Ward<FailingPages, AnyKeyer>;
+type FailingWard = Ward<FailingPages<PlainPages>, AnyKeyer>;
 
 // More accesses than the steps make.
 const MOST: u64 = 1000;
@@ -115,7 +115,10 @@ fn answer_all(alloc: Global, at: u64, notes: &mut [Note]) -> Result<Left, AllocE
     })
 }
 
-fn failing_world(alloc: Global, at: u64) -> Result<World<FailingPages, AnyKeyer>, AllocError>
+fn failing_world(
+    alloc: Global,
+    at: u64,
+) -> Result<World<FailingPages<PlainPages>, AnyKeyer>, AllocError>
     ensures { IfOk result (IsSoundWorld any_pseudokey) }
 {
     let mut wards = Vec::new(alloc);
@@ -128,7 +131,7 @@ fn failing_world(alloc: Global, at: u64) -> Result<World<FailingPages, AnyKeyer>
 // Answers the lines, each once more where a page was out of reach. Answers whether one was.
 fn answer_lines(
     alloc: Global,
-    script: &mut Script<FailingPages>,
+    script: &mut Script<FailingPages<PlainPages>>,
     notes: &mut [Note],
 ) -> Result<bool, AllocError>
     requires { IsSoundWorld any_pseudokey script.old.world }
@@ -144,7 +147,7 @@ fn answer_lines(
 // Answers a step that is a line, as its note says then. Answers whether a page was out of reach.
 fn answer_step(
     text: &mut Vec<u8>,
-    script: &mut Script<FailingPages>,
+    script: &mut Script<FailingPages<PlainPages>>,
     step: &Step,
     note: &mut Note,
 ) -> Result<bool, AllocError>
@@ -169,7 +172,7 @@ fn answer_step(
 // Whether a line prints this text; `None` where a page was out of reach.
 fn is_printed(
     text: &mut Vec<u8>,
-    script: &mut Script<FailingPages>,
+    script: &mut Script<FailingPages<PlainPages>>,
     words: &str,
     want: &str,
 ) -> Result<Option<bool>, AllocError>

@@ -8,6 +8,7 @@ use exh_callers::{
     CAP, Caller, PlainFile, PlainWard, Reader, ask, close_settled, new_file, next_caller,
 };
 use exh_calls::Call;
+use exh_copy::Start;
 use exh_fixtures::{Asked, told_reply};
 use exh_keyer::PlainKeyer;
 use exh_live::{ANSWER_PARTS, ENTRY_PARTS, Identity, Seat};
@@ -27,17 +28,17 @@ const KEYS: u8 = 64;
 
 /// A caller with the dice that pick its calls, and what came of them.
 #[derive(Drop)]
-struct Job<F: Identity> {
-    caller: Caller<F>,
+struct Job<F: Identity, S: Start> {
+    caller: Caller<F, S>,
     dice: Dice,
     outcome: Result<(), Difference>,
 }
 
 /// Runs as many calls of each caller as the run has rounds, and then a get of each key.
-pub(crate) fn run<R: Threads + Wait + Sync, F: Identity + Sync + Send>(
+pub(crate) fn run<R: Threads + Wait + Sync, F: Identity + Sync + Send, S: Start + Sync + Send>(
     rt: &R,
     run: &mut Run,
-    copies: &mut Vec<Reader>,
+    copies: &mut Vec<Reader<S>>,
     answers: Blank,
     entries: Blank,
 ) -> Result<(), Difference>
@@ -60,11 +61,11 @@ pub(crate) fn run<R: Threads + Wait + Sync, F: Identity + Sync + Send>(
     Ok(())
 }
 
-fn new_jobs<F: Identity>(
+fn new_jobs<F: Identity, S: Start>(
     run: &mut Run,
     file: &mut PlainFile<F>,
-    copies: &mut Vec<Reader>,
-) -> Result<Vec<Job<F>>, Difference> {
+    copies: &mut Vec<Reader<S>>,
+) -> Result<Vec<Job<F, S>>, Difference> {
     let mut jobs = Vec::new(run.alloc);
     for _ in 0..CALLERS {
         jobs.push(Job {
@@ -77,12 +78,12 @@ fn new_jobs<F: Identity>(
 }
 
 // Makes so many calls, until one is refused.
-fn call_often<R: Wait, F: Identity>(
+fn call_often<R: Wait, F: Identity, S: Start>(
     rt: &R,
     file: &PlainFile<F>,
-    job: Job<F>,
+    job: Job<F, S>,
     calls: u32,
-) -> Job<F> {
+) -> Job<F, S> {
     let mut job = job;
     for _ in 0..calls {
         if job.outcome.is_ok() {
@@ -93,10 +94,10 @@ fn call_often<R: Wait, F: Identity>(
 }
 
 // A call at one of the keys of all wards.
-fn call_once<R: Wait, F: Identity>(
+fn call_once<R: Wait, F: Identity, S: Start>(
     rt: &R,
     file: &PlainFile<F>,
-    caller: &mut Caller<F>,
+    caller: &mut Caller<F, S>,
     dice: &mut Dice,
 ) -> Result<(), Difference> {
     let key = [dice.roll(64) as u8 * 4];
@@ -109,10 +110,10 @@ fn call_once<R: Wait, F: Identity>(
     is_answered(rt, file, caller, &call)
 }
 
-fn is_answered<R: Wait, F: Identity>(
+fn is_answered<R: Wait, F: Identity, S: Start>(
     rt: &R,
     file: &PlainFile<F>,
-    caller: &mut Caller<F>,
+    caller: &mut Caller<F, S>,
     call: &Call,
 ) -> Result<(), Difference> {
     match ask(rt, file, caller, call, &OpenGate) {
@@ -122,10 +123,10 @@ fn is_answered<R: Wait, F: Identity>(
 }
 
 // Gets each key, when all callers have made their calls.
-fn get_all<R: Wait, F: Identity>(
+fn get_all<R: Wait, F: Identity, S: Start>(
     rt: &R,
     file: &PlainFile<F>,
-    caller: &mut Caller<F>,
+    caller: &mut Caller<F, S>,
 ) -> Result<(), Difference> {
     for key in 0..KEYS {
         is_answered(rt, file, caller, &Asked::Get(&[key * 4]).call()?)?;
@@ -134,9 +135,9 @@ fn get_all<R: Wait, F: Identity>(
 }
 
 // The seats of the callers; what came of their calls is counted.
-fn stand_up<F: Identity>(
+fn stand_up<F: Identity, S: Start>(
     run: &mut Run,
-    jobs: Vec<Job<F>>,
+    jobs: Vec<Job<F, S>>,
     seats: &mut Vec<Seat<F>>,
 ) -> Result<(), AllocError> {
     for job in jobs {

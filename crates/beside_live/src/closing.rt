@@ -5,6 +5,7 @@ ghost use Rattle.exh_live.specs.declared.ledgers.TheConstants.{ANSWER_PARTS, ENT
 
 use exh_callers::{CAP, PlainFile, Reader, close, is_told, new_file, next_caller, settled};
 use exh_calls::Reply;
+use exh_copy::Start;
 use exh_fixtures::Asked;
 use exh_frames::PlainPages;
 use exh_keyer::PlainKeyer;
@@ -23,10 +24,10 @@ const SEATS: u32 = 65_535;
 
 /// Runs it: seat 1 of a file puts a key, and seat 1 of another one gets it; a third file gives seats until
 /// it gives no more.
-pub(crate) fn run<R: Wait>(
+pub(crate) fn run<R: Wait, S: Start>(
     rt: &R,
     run: &mut Run,
-    copies: &mut Vec<Reader>,
+    copies: &mut Vec<Reader<S>>,
 ) -> Result<(), Difference> {
     let alloc = run.alloc;
     let put = answered(rt, alloc, copies, Asked::Put(b"k", b"a"), Reply::New)?;
@@ -77,22 +78,22 @@ fn settles(
 }
 
 // What a file leaves of whose two seats the first was answered one call.
-fn answered<R: Wait>(
+fn answered<R: Wait, S: Start>(
     rt: &R,
     alloc: Global,
-    copies: &mut Vec<Reader>,
+    copies: &mut Vec<Reader<S>>,
     asked: Asked<'_>,
     reply: Reply,
 ) -> Result<PlainClosed, Difference> {
     let answers = Blank::new(ANSWER_PARTS);
     let entries = Blank::new(ENTRY_PARTS);
-    answered_by::<R, Brand>(rt, alloc, copies, asked, reply, answers, entries)
+    answered_by::<R, Brand, S>(rt, alloc, copies, asked, reply, answers, entries)
 }
 
-fn answered_by<R: Wait, F: Identity>(
+fn answered_by<R: Wait, F: Identity, S: Start>(
     rt: &R,
     alloc: Global,
-    copies: &mut Vec<Reader>,
+    copies: &mut Vec<Reader<S>>,
     asked: Asked<'_>,
     reply: Reply,
     answers: Blank,

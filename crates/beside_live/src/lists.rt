@@ -1,11 +1,13 @@
-//! The steps of stories of one ward.
+//! The steps of stories of one caller.
 
-use crate::live_step::LiveStep::{self, Call, Carried, Held, Kept, Named, Stale, Tell, Within};
+use crate::live_step::LiveStep::{
+    self, Call, Carried, Closed, Held, Idle, Kept, KeptIn, Named, Often, Stale, Tell, Within,
+};
 use exh_fixtures::Said::{Absent, Is, New, Was};
 
 /// Three puts, of which the third takes one split where a page has two records: page 0 has `#00` and `#40`
 /// then, page 1 has `#80`.
-pub(crate) const THREE_KEYS: [LiveStep; 3] = [
+pub(crate) static THREE_KEYS: [LiveStep; 3] = [
     Call(New(b"\0", b"a")),
     Call(New(b"\x80", b"b")),
     Call(New(b"\x40", b"x")),
@@ -13,7 +15,7 @@ pub(crate) const THREE_KEYS: [LiveStep; 3] = [
 
 /// After the three keys, of which the copy is told nothing: the page that is named is left at each move, and
 /// at a page that isn't there the call goes on at page 0.
-pub(crate) const TOLD_COPY: [LiveStep; 7] = [
+pub(crate) static TOLD_COPY: [LiveStep; 7] = [
     Held(1, b"\x80"),
     Within(2, Is(b"\x80", b"b")),
     Tell(1, "", 1),
@@ -24,7 +26,7 @@ pub(crate) const TOLD_COPY: [LiveStep; 7] = [
 ];
 
 /// After the three keys a round carries the one notice, and the next round none; then that of a merge.
-pub(crate) const COURIER: [LiveStep; 10] = [
+pub(crate) static COURIER: [LiveStep; 10] = [
     Carried(1),
     Named(b"\x80", 1),
     Within(1, Is(b"\x80", b"b")),
@@ -39,7 +41,7 @@ pub(crate) const COURIER: [LiveStep; 10] = [
 
 /// After the three keys and deletes of two a round makes one merge, and the next none. Where three pages are
 /// empty but for one record, a round merges two, and the next round what that left.
-pub(crate) const KEEPER: [LiveStep; 16] = [
+pub(crate) static KEEPER: [LiveStep; 16] = [
     Kept(0),
     Call(Was(b"\x40", b"x")),
     Call(Was(b"\x80", b"b")),
@@ -58,9 +60,74 @@ pub(crate) const KEEPER: [LiveStep; 16] = [
     Kept(0),
 ];
 
+/// Three puts in each of the wards 0, 1, 6 and 15 of sixteen, of which the third takes one split.
+pub(crate) static THREE_KEYS_EACH: [LiveStep; 12] = [
+    Call(New(b"\0", b"a")),
+    Call(New(b"\x08", b"b")),
+    Call(New(b"\x04", b"x")),
+    Call(New(b"\x10", b"a")),
+    Call(New(b"\x18", b"b")),
+    Call(New(b"\x14", b"x")),
+    Call(New(b"\x60", b"a")),
+    Call(New(b"\x68", b"b")),
+    Call(New(b"\x64", b"x")),
+    Call(New(b"\xf0", b"a")),
+    Call(New(b"\xf8", b"b")),
+    Call(New(b"\xf4", b"x")),
+];
+
+/// After those keys a round carries a notice of each of the four wards; and once a keeper's round in each has
+/// merged what deletes left, the next round carries as many.
+pub(crate) static FOUR_WARDS: [LiveStep; 29] = [
+    Carried(4),
+    Named(b"\x08", 1),
+    Named(b"\x18", 1),
+    Named(b"\x68", 1),
+    Named(b"\xf8", 1),
+    Within(1, Is(b"\x08", b"b")),
+    Within(1, Is(b"\x18", b"b")),
+    Within(1, Is(b"\x68", b"b")),
+    Within(1, Is(b"\xf8", b"b")),
+    Carried(0),
+    Call(Was(b"\x04", b"x")),
+    Call(Was(b"\x08", b"b")),
+    Call(Was(b"\x14", b"x")),
+    Call(Was(b"\x18", b"b")),
+    Call(Was(b"\x64", b"x")),
+    Call(Was(b"\x68", b"b")),
+    Call(Was(b"\xf4", b"x")),
+    Call(Was(b"\xf8", b"b")),
+    KeptIn(0, 1),
+    KeptIn(1, 1),
+    KeptIn(6, 1),
+    KeptIn(15, 1),
+    KeptIn(2, 0),
+    Carried(4),
+    Named(b"\x08", 0),
+    Named(b"\x18", 0),
+    Named(b"\x68", 0),
+    Named(b"\xf8", 0),
+    Carried(0),
+];
+
+/// After the three keys the notice of a further split is carried by the courier's 2,000th round. A call is asked
+/// 20,001 times. Over a copy that is closed a call begins at page 0, and goes by the right links of two pages.
+pub(crate) static LONG: [LiveStep; 10] = [
+    Carried(1),
+    Idle(1_998),
+    Call(New(b"\x20", b"y")),
+    Carried(1),
+    Named(b"\x40", 2),
+    Often(20_001, Is(b"\x80", b"b")),
+    Within(1, Is(b"\x80", b"b")),
+    Closed,
+    Held(2, b"\x80"),
+    Within(3, Is(b"\x80", b"b")),
+];
+
 /// One record in the left page and, after the split, as many in the right one as a page may have, four. They
 /// are deleted down to three in both, which are too many, and down to two, which are half.
-pub(crate) const EVEN_HALF: [LiveStep; 12] = [
+pub(crate) static EVEN_HALF: [LiveStep; 12] = [
     Call(New(b"\0", b"b")),
     Call(New(b"\x80", b"b")),
     Call(New(b"\x81", b"b")),
@@ -76,7 +143,7 @@ pub(crate) const EVEN_HALF: [LiveStep; 12] = [
 ];
 
 /// The same of five.
-pub(crate) const ODD_HALF: [LiveStep; 14] = [
+pub(crate) static ODD_HALF: [LiveStep; 14] = [
     Call(New(b"\0", b"b")),
     Call(New(b"\x80", b"b")),
     Call(New(b"\x81", b"b")),
@@ -96,7 +163,7 @@ pub(crate) const ODD_HALF: [LiveStep; 14] = [
 /// A round carries nothing of what the table tells. Of six puts each third takes one split, of page 0 and of
 /// page 1: these are carried at once, and then one more. A courier with the place of a copy that was told of
 /// nothing finds no notice that is next, and carries none.
-pub(crate) const OPENED_COURIER: [LiveStep; 18] = [
+pub(crate) static OPENED_COURIER: [LiveStep; 18] = [
     Named(b"\x80", 1),
     Carried(0),
     Call(New(b"\0", b"a")),
@@ -117,9 +184,44 @@ pub(crate) const OPENED_COURIER: [LiveStep; 18] = [
     Named(b"\xa0", 4),
 ];
 
+/// A round carries nothing of what the table tells, the split and its merge that were changes 3 and 4. The third
+/// key takes one split, change 5, which is carried, as is its merge.
+pub(crate) static MERGED_COURIER: [LiveStep; 14] = [
+    Named(b"\x80", 0),
+    Carried(0),
+    Call(New(b"\0", b"a")),
+    Call(New(b"\x80", b"b")),
+    Call(New(b"\x40", b"x")),
+    Carried(1),
+    Named(b"\x80", 1),
+    Within(1, Is(b"\x80", b"b")),
+    Call(Was(b"\x40", b"x")),
+    Call(Was(b"\x80", b"b")),
+    Kept(1),
+    Carried(1),
+    Named(b"\x80", 0),
+    Carried(0),
+];
+
+/// After the three keys neither the split nor its merge is carried, of which the table tells; what comes after
+/// them is.
+pub(crate) static LATE_COURIER: [LiveStep; 11] = [
+    Carried(0),
+    Call(Was(b"\x40", b"x")),
+    Call(Was(b"\x80", b"b")),
+    Kept(1),
+    Carried(0),
+    Named(b"\x80", 0),
+    Call(New(b"\x80", b"b")),
+    Call(New(b"\x40", b"x")),
+    Carried(1),
+    Named(b"\x80", 1),
+    Carried(0),
+];
+
 /// Both pages are empty, and stay: a later get finds the right one. Pages below are merged, which a courier
 /// carries.
-pub(crate) const WORN_KEEPER: [LiveStep; 15] = [
+pub(crate) static WORN_KEEPER: [LiveStep; 15] = [
     Kept(0),
     Call(New(b"\xc0", b"y")),
     Within(1, Is(b"\xc0", b"y")),

@@ -1,8 +1,10 @@
-//! Steps of a live file of one ward, each with what it comes to.
+//! Steps of a live file, each with what it comes to.
 ghost use Rattle.std.specs.Prelude.{◌≡◌, ◌^◌, ◌≤◌, length, IfOk};
+ghost use Rattle.std.specs.FinMap as map;
 ghost use Rattle.exh_prefix.specs.declared.prefix.TheConstants.{WARD_BITS_LIMIT};
 
 use exh_callers::{Caller, PlainFile, Reader, Writer, is_carried, is_held, is_kept, is_told};
+use exh_copy::{NewCopyFault, Start, new_copy};
 use exh_fixtures::{Asked, Said, prefix, split, told_reply};
 use exh_keyer::{Keyer, PlainKeyer};
 use exh_live::{Cursors, Identity};
@@ -13,7 +15,7 @@ use exh_walk::{OpenGate, TurnGate};
 use std::alloc::{AllocError, Global};
 use std::sync::Wait;
 
-/// A step of a live file of one ward, of its caller, or of the copy of its directory.
+/// A step of a live file, of its caller, or of the copy of its directory.
 #[derive(Clone, Copy)]
 pub(crate) enum LiveStep {
     /// A call.
@@ -24,64 +26,103 @@ pub(crate) enum LiveStep {
     Held(u32, &'static [u8]),
     /// The copy is told of the first split of the page of these bits: of this index, and with this right half.
     Tell(u64, &'static str, PageNo),
-    /// A keeper's round that makes so many merges.
+    /// A keeper's round in ward 0 that makes so many merges.
     Kept(u32),
+    /// The same in the ward of this number.
+    KeptIn(u8, u32),
     /// A courier's round that takes so many notices.
     Carried(u64),
-    /// The same of a courier to a copy that was told of nothing.
+    /// So many of a courier's rounds, each of which takes nothing.
+    Idle(u32),
+    /// A call that is asked so many times, each time with the same reply.
+    Often(u32, Said<'static>),
+    /// From now on the caller looks at a copy that was told of the first split of page 0, and is closed.
+    Closed,
+    /// The same as `Carried` of a courier to a copy that was told of nothing.
     Stale(u64),
     /// A told look for a key names this page.
     Named(&'static [u8], PageNo),
 }
 
-/// Takes steps. The file's ward, and the copy that is told of it, begin with this table.
-pub(crate) fn take_steps<R: Wait, F: Identity>(
+/// Takes steps. The file has 2^`ward_bits` wards. These, and the copy that is told of them, begin with this
+/// table.
+pub(crate) fn take_steps<R: Wait, F: Identity, S: Start>(
     rt: &R,
     run: &mut Run,
     file: &PlainFile<F>,
-    caller: &mut Caller<F>,
-    writer: &mut Writer,
+    ward_bits: u8,
+    caller: &mut Caller<F, S>,
+    writer: &mut Writer<S>,
     start: &Table,
     lists: [&[LiveStep]; 2],
 ) -> Result<(), Difference>
-    requires { file.now.ward_bits ≡ 0 }
+    requires limit { file.now.ward_bits ≤ WARD_BITS_LIMIT }
+    requires bits { ward_bits ≡ file.now.ward_bits }
+    requires copy { S.ward_bits ≡ ward_bits }
+    requires table { S.table ≡ map.empty }
 {
-    let mut cursors = first_places(run.alloc, 0, start)?;
+    let mut cursors = first_places(run.alloc, ward_bits, start)?;
     let [first, second] = lists;
-    take_list(rt, run, file, caller, writer, &mut cursors, first);
-    take_list(rt, run, file, caller, writer, &mut cursors, second);
+    take_list(
+        rt,
+        run,
+        file,
+        ward_bits,
+        caller,
+        writer,
+        &mut cursors,
+        first,
+    );
+    take_list(
+        rt,
+        run,
+        file,
+        ward_bits,
+        caller,
+        writer,
+        &mut cursors,
+        second,
+    );
     Ok(())
 }
 
-fn take_list<R: Wait, F: Identity>(
+fn take_list<R: Wait, F: Identity, S: Start>(
     rt: &R,
     run: &mut Run,
     file: &PlainFile<F>,
-    caller: &mut Caller<F>,
-    writer: &mut Writer,
+    ward_bits: u8,
+    caller: &mut Caller<F, S>,
+    writer: &mut Writer<S>,
     cursors: &mut Cursors,
     list: &[LiveStep],
 )
-    requires bits { file.now.ward_bits ≡ 0 }
+    requires limit { file.now.ward_bits ≤ WARD_BITS_LIMIT }
+    requires bits { ward_bits ≡ file.now.ward_bits }
+    requires copy { S.ward_bits ≡ ward_bits }
+    requires table { S.table ≡ map.empty }
     requires places { length cursors.old ≡ 2 ^ file.now.ward_bits }
     ensures { length cursors.new ≡ 2 ^ file.now.ward_bits }
 {
     'steps: for step in list {
-        let outcome = take(rt, run, file, caller, writer, cursors, step);
+        let outcome = take(rt, run, file, ward_bits, caller, writer, cursors, step);
         run.tally.step(outcome);
     }
 }
 
-fn take<R: Wait, F: Identity>(
+fn take<R: Wait, F: Identity, S: Start>(
     rt: &R,
     run: &mut Run,
     file: &PlainFile<F>,
-    caller: &mut Caller<F>,
-    writer: &mut Writer,
+    ward_bits: u8,
+    caller: &mut Caller<F, S>,
+    writer: &mut Writer<S>,
     cursors: &mut Cursors,
     step: &LiveStep,
 ) -> Result<(), Difference>
-    requires bits { file.now.ward_bits ≡ 0 }
+    requires limit { file.now.ward_bits ≤ WARD_BITS_LIMIT }
+    requires bits { ward_bits ≡ file.now.ward_bits }
+    requires copy { S.ward_bits ≡ ward_bits }
+    requires table { S.table ≡ map.empty }
     requires places { length cursors.old ≡ 2 ^ file.now.ward_bits }
     ensures { length cursors.new ≡ length cursors.old }
 {
@@ -98,13 +139,93 @@ fn take<R: Wait, F: Identity>(
             is_held(rt, file, caller, Asked::Get(key), &TurnGate(*turns))
         }
         LiveStep::Tell(index, bits, right) => tell(rt, writer, *index, bits, *right),
-        LiveStep::Kept(merges) => is_kept(rt, file, 0, *merges),
+        LiveStep::Kept(merges) => is_kept_in(rt, file, ward_bits, 0, *merges),
+        LiveStep::KeptIn(ward, merges) => is_kept_in(rt, file, ward_bits, *ward, *merges),
         LiveStep::Carried(notices) => is_carried(rt, file, writer, cursors, *notices),
+        LiveStep::Idle(rounds) => are_idle(rt, file, writer, cursors, *rounds),
+        LiveStep::Often(times, said) => is_told_often(rt, file, caller, *times, said),
+        LiveStep::Closed => {
+            caller.copy = closed_reader(rt, run.alloc, ward_bits)?;
+            Ok(())
+        }
         LiveStep::Stale(notices) => {
-            let mut others = first_places(run.alloc, 0, &Table::new(run.alloc))?;
+            let mut others = first_places(run.alloc, ward_bits, &Table::new(run.alloc))?;
             is_carried(rt, file, writer, &mut others, *notices)
         }
         LiveStep::Named(key, page) => is_named(writer, &mut caller.copy, key, *page),
+    }
+}
+
+// Whether a keeper's round in a ward makes so many merges. A `Difference` where there is no such ward.
+fn is_kept_in<R: Wait, F: Identity>(
+    rt: &R,
+    file: &PlainFile<F>,
+    ward_bits: u8,
+    ward: u8,
+    merges: u32,
+) -> Result<(), Difference>
+    requires limit { file.now.ward_bits ≤ WARD_BITS_LIMIT }
+    requires bits { ward_bits ≡ file.now.ward_bits }
+{
+    if ward >= 1 << ward_bits {
+        return Err(Difference::Apart(Part::Run));
+    }
+    is_kept(rt, file, ward, merges)
+}
+
+// Whether so many rounds of a courier take nothing.
+fn are_idle<R: Wait, F: Identity, S: Start>(
+    rt: &R,
+    file: &PlainFile<F>,
+    writer: &mut Writer<S>,
+    cursors: &mut Cursors,
+    rounds: u32,
+) -> Result<(), Difference>
+    requires { length cursors.old ≡ 2 ^ file.now.ward_bits }
+    ensures { length cursors.new ≡ length cursors.old }
+{
+    'rounds: for _ in 0..rounds {
+        is_carried(rt, file, writer, cursors, 0)?;
+    }
+    Ok(())
+}
+
+// Whether a call that is asked so many times has the same reply each time.
+fn is_told_often<R: Wait, F: Identity, S: Start>(
+    rt: &R,
+    file: &PlainFile<F>,
+    caller: &mut Caller<F, S>,
+    times: u32,
+    said: &Said<'static>,
+) -> Result<(), Difference> {
+    for _ in 0..times {
+        is_told(rt, file, caller, said.asked(), &OpenGate, said.reply()?)?;
+    }
+    Ok(())
+}
+
+// A reader of a copy that was told of the first split of page 0, and is closed.
+fn closed_reader<R: Wait, S: Start>(
+    rt: &R,
+    alloc: Global,
+    ward_bits: u8,
+) -> Result<Reader<S>, Difference>
+    requires limit { ward_bits ≤ WARD_BITS_LIMIT }
+    requires copy { S.ward_bits ≡ ward_bits }
+    requires table { S.table ≡ map.empty }
+{
+    match new_copy::<S>(alloc, ward_bits, &Table::new(alloc), 1) {
+        Ok((mut writer, mut readers)) => {
+            let told = tell(rt, &mut writer, 1, "", 1);
+            drop(writer.close(rt));
+            told?;
+            readers.pop().ok_or(Difference::Apart(Part::Run))
+        }
+        Err(NewCopyFault::Memory) => Err(Difference::Memory(AllocError)),
+        Err(NewCopyFault::NoPlace(writer)) => {
+            drop(writer.close(rt));
+            Err(Difference::Apart(Part::Run))
+        }
     }
 }
 
@@ -120,9 +241,9 @@ fn first_places(alloc: Global, ward_bits: u8, table: &Table) -> Result<Cursors, 
 }
 
 // Tells the copy of a split.
-fn tell<R: Wait>(
+fn tell<R: Wait, S: Start>(
     rt: &R,
-    writer: &mut Writer,
+    writer: &mut Writer<S>,
     index: u64,
     bits: &str,
     right: PageNo,
@@ -134,9 +255,9 @@ fn tell<R: Wait>(
 }
 
 // Tells a reader what was published: its look for a key names this page then.
-fn is_named(
-    writer: &mut Writer,
-    copy: &mut Reader,
+fn is_named<S: Start>(
+    writer: &mut Writer<S>,
+    copy: &mut Reader<S>,
     key: &[u8],
     page: PageNo,
 ) -> Result<(), Difference> {

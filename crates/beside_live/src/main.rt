@@ -5,20 +5,23 @@
 //! prints the same where memory is refused once, wherever that is.
 #![tactic(auto)]
 
-ghost use Rattle.std.specs.Prelude.{◌≡◌};
+ghost use Rattle.std.specs.Prelude.{◌≡◌, ◌≤◌};
+ghost use Rattle.std.specs.FinMap as map;
 ghost use Rattle.exh_keyer.specs.Pseudokey.{plain_pseudokey};
 ghost use Rattle.exh_live.specs.declared.ledgers.TheConstants.{ANSWER_PARTS, ENTRY_PARTS};
+ghost use Rattle.exh_prefix.specs.declared.prefix.TheConstants.{WARD_BITS_LIMIT};
 
 mod callers;
 mod closing;
 mod lists;
 mod live_step;
-mod one_ward;
+mod one_caller;
+mod written_ward;
 
 use crate::callers::CALLERS;
-use crate::one_ward::OneWard;
+use crate::one_caller::OneCaller;
 use exh_callers::{Reader, Writer};
-use exh_copy::{NewCopyFault, new_copy};
+use exh_copy::{NewCopyFault, Start, new_copy};
 use exh_live::{ANSWER_PARTS, ENTRY_PARTS, Identity};
 use exh_runs::{Difference, Job, Named, Part, Run, Status, Tally, again, has_told_difference};
 use exh_table::Table;
@@ -34,8 +37,8 @@ const READERS: u16 = CALLERS + 1;
 
 #[derive(Clone, Copy)]
 enum Story {
-    /// Of a file of one ward.
-    OneWard(OneWard),
+    /// Of one caller.
+    OneCaller(OneCaller),
     /// Closing, and settling.
     Closing,
     /// Many callers on threads of their own.
@@ -43,45 +46,89 @@ enum Story {
 }
 
 // All of them, in the order in which they are played.
-const STORIES: [Story; 9] = [
-    Story::OneWard(OneWard::ToldCopy),
+const STORIES: [Story; 13] = [
+    Story::OneCaller(OneCaller::ToldCopy),
     Story::Closing,
-    Story::OneWard(OneWard::Courier),
-    Story::OneWard(OneWard::Keeper),
-    Story::OneWard(OneWard::EvenHalf),
-    Story::OneWard(OneWard::OddHalf),
-    Story::OneWard(OneWard::OpenedCourier),
-    Story::OneWard(OneWard::WornKeeper),
+    Story::OneCaller(OneCaller::Courier),
+    Story::OneCaller(OneCaller::Keeper),
+    Story::OneCaller(OneCaller::FourWards),
+    Story::OneCaller(OneCaller::Long),
+    Story::OneCaller(OneCaller::EvenHalf),
+    Story::OneCaller(OneCaller::OddHalf),
+    Story::OneCaller(OneCaller::OpenedCourier),
+    Story::OneCaller(OneCaller::MergedCourier),
+    Story::OneCaller(OneCaller::LateCourier),
+    Story::OneCaller(OneCaller::WornKeeper),
     Story::Callers,
 ];
+
+impl Story {
+    // By how many leading bits of pseudokeys the copy of the directory is cut.
+    fn ward_bits(self) -> u8
+        ensures { result ≤ WARD_BITS_LIMIT }
+    {
+        match self {
+            Story::OneCaller(story) => story.ward_bits(),
+            Story::Closing | Story::Callers => 0,
+        }
+    }
+}
 
 impl Named for Story {
     fn name(self) -> &'static str {
         match self {
-            Story::OneWard(OneWard::ToldCopy) => "told-copy",
-            Story::OneWard(OneWard::Courier) => "courier",
-            Story::OneWard(OneWard::Keeper) => "keeper",
-            Story::OneWard(OneWard::EvenHalf) => "even-half",
-            Story::OneWard(OneWard::OddHalf) => "odd-half",
-            Story::OneWard(OneWard::OpenedCourier) => "opened-courier",
-            Story::OneWard(OneWard::WornKeeper) => "worn-keeper",
+            Story::OneCaller(OneCaller::ToldCopy) => "told-copy",
+            Story::OneCaller(OneCaller::Courier) => "courier",
+            Story::OneCaller(OneCaller::Keeper) => "keeper",
+            Story::OneCaller(OneCaller::FourWards) => "four-wards",
+            Story::OneCaller(OneCaller::Long) => "long",
+            Story::OneCaller(OneCaller::EvenHalf) => "even-half",
+            Story::OneCaller(OneCaller::OddHalf) => "odd-half",
+            Story::OneCaller(OneCaller::OpenedCourier) => "opened-courier",
+            Story::OneCaller(OneCaller::MergedCourier) => "merged-courier",
+            Story::OneCaller(OneCaller::LateCourier) => "late-courier",
+            Story::OneCaller(OneCaller::WornKeeper) => "worn-keeper",
             Story::Closing => "closing",
             Story::Callers => "callers",
         }
     }
 }
 
-// Plays a story with a new copy of the directory.
-fn with_copy<R: Threads + Wait + Sync>(
+// Plays a story.
+fn play_story<R: Threads + Wait + Sync>(
     rt: &R,
     story: Story,
     run: &mut Run,
 ) -> Result<(), Difference> {
-    match new_copy::<Brand>(run.alloc, 0, &Table::new(run.alloc), READERS) {
-        Ok((mut writer, readers)) => {
+    let ward_bits = story.ward_bits();
+    with_copy::<R, Brand>(rt, story, ward_bits, run)
+}
+
+// Plays a story with a new copy of the directory, which is cut by so many bits.
+fn with_copy<R: Threads + Wait + Sync, S: Start + Sync + Send>(
+    rt: &R,
+    story: Story,
+    ward_bits: u8,
+    run: &mut Run,
+) -> Result<(), Difference>
+    requires bits { ward_bits ≤ WARD_BITS_LIMIT }
+    requires copy { S.ward_bits ≡ ward_bits }
+    requires table { S.table ≡ map.empty }
+{
+    match new_copy::<S>(run.alloc, ward_bits, &Table::new(run.alloc), READERS) {
+        Ok((mut writer, mut readers)) => {
             let answers = Blank::new(ANSWER_PARTS);
             let entries = Blank::new(ENTRY_PARTS);
-            let outcome = play::<R, Brand>(rt, story, run, &mut writer, readers, answers, entries);
+            let outcome = play::<R, Brand, S>(
+                rt,
+                story,
+                ward_bits,
+                run,
+                &mut writer,
+                &mut readers,
+                answers,
+                entries,
+            );
             drop(writer.close(rt));
             outcome
         }
@@ -93,26 +140,29 @@ fn with_copy<R: Threads + Wait + Sync>(
     }
 }
 
-fn play<R: Threads + Wait + Sync, F: Identity + Sync + Send>(
+fn play<R: Threads + Wait + Sync, F: Identity + Sync + Send, S: Start + Sync + Send>(
     rt: &R,
     story: Story,
+    ward_bits: u8,
     run: &mut Run,
-    writer: &mut Writer,
-    readers: Vec<Reader>,
+    writer: &mut Writer<S>,
+    copies: &mut Vec<Reader<S>>,
     answers: Blank,
     entries: Blank,
 ) -> Result<(), Difference>
+    requires bits { ward_bits ≤ WARD_BITS_LIMIT }
+    requires copy { S.ward_bits ≡ ward_bits }
+    requires table { S.table ≡ map.empty }
     requires answers { (answers.name ≡ F.answers) × (answers.parts ≡ ANSWER_PARTS) }
     requires entries { (entries.name ≡ F.entries) × (entries.parts ≡ ENTRY_PARTS) }
     requires hashed { F.hashing ≡ plain_pseudokey }
 {
-    let mut copies = readers;
     match story {
-        Story::OneWard(story) => {
-            one_ward::run::<R, F>(rt, run, story, writer, &mut copies, answers, entries)
-        }
-        Story::Closing => closing::run(rt, run, &mut copies),
-        Story::Callers => callers::run::<R, F>(rt, run, &mut copies, answers, entries),
+        Story::OneCaller(story) => one_caller::run::<R, F, S>(
+            rt, run, story, ward_bits, writer, copies, answers, entries,
+        ),
+        Story::Closing => closing::run(rt, run, copies),
+        Story::Callers => callers::run::<R, F, S>(rt, run, copies, answers, entries),
     }
 }
 
@@ -123,7 +173,7 @@ fn play_counted<R: Threads + Wait + AllocGlobal + Sync>(
     job: &Job<'_, Story>,
 ) -> Tally {
     let mut run = job.new_run(rt.alloc());
-    let outcome = again!(Err(Difference::Memory(_)) => with_copy(rt, story, &mut run));
+    let outcome = again!(Err(Difference::Memory(_)) => play_story(rt, story, &mut run));
     run.tally.check(outcome);
     run.tally
 }

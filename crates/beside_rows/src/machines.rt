@@ -1,5 +1,6 @@
 //! The slow map machine and its map, beside replies that were worked out by hand.
 
+use exh_calls::PackedPairs;
 use exh_fixtures::{Said, key, told_reply, value};
 use exh_keyer::{AnyKeyer, Keyer, PlainKeyer};
 use exh_model::{MapMachine, PairMap};
@@ -54,8 +55,10 @@ fn run_machine<K: Keyer>(
     left: usize,
 ) -> Result<(), Difference> {
     let pair = (key(b"z")?, value(b"z")?);
-    let pairs = [pair, (pair.0, value(b"y")?)];
-    let map = again!(Err(AllocError) => PairMap::from_pairs(run.alloc, &pairs))?;
+    let mut pairs = PackedPairs::new(run.alloc);
+    again!(Err(AllocError) => pairs.push(&pair.0, &pair.1))?;
+    again!(Err(AllocError) => pairs.push(&pair.0, &value(b"y")?))?;
+    let map = again!(Err(AllocError) => PairMap::from_pairs(run.alloc, pairs.iter()))?;
     let mut machine = MapMachine::from_map(2, keyer, map);
     for said in all {
         let told = answers(&mut machine, said, run);

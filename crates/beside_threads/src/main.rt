@@ -8,8 +8,10 @@ ghost use Rattle.exh_live.specs.declared.ledgers.TheConstants.{ANSWER_PARTS, ENT
 
 mod ask;
 mod conductor;
+mod counter;
 mod held_look;
 mod locks;
+mod many_pages;
 mod refill;
 mod rule;
 mod storms;
@@ -74,6 +76,8 @@ fn play<R: Threads + Wait + Clock + Sync, F: Identity + Sync + Send>(
         Story::HeldLook => held_look::run::<R, F>(rt, run, &mut copies, answers, entries),
         Story::Locks => locks::run::<R, F>(rt, run, &mut copies, &signs, answers, entries),
         Story::Refill => refill::run::<R, F>(rt, run, &mut copies, &signs, answers, entries),
+        Story::Counter => counter::run::<R, F>(rt, run, &mut copies, answers, entries),
+        Story::ManyPages => many_pages::run::<R, F>(rt, run, &mut copies, answers, entries),
         Story::Storms(story) => {
             storms::play(rt, story, run);
             Ok(())

@@ -4,7 +4,7 @@ ghost use Rattle.exh_storm_config.specs.StormConfig.{IsStormConfig};
 use crate::conductor::{Conductor, Count};
 use crate::rule::{Rule, Then, Who};
 use exh_runs::{Part, Run, again, same};
-use exh_storm::{COURIER_CLIENT, KEEPER_CLIENT, StormFault, storm};
+use exh_storm::{StormFault, storm};
 use exh_storm_config::StormConfig;
 use std::alloc::Global;
 use std::sync::Wait;
@@ -22,6 +22,8 @@ pub(crate) enum Storms {
     Open,
     /// Gates that say no.
     Closed,
+    /// Storms of whose threads one isn't made.
+    Unmade,
     /// The smallest storm.
     Small,
     /// What a watch is told.
@@ -49,26 +51,50 @@ const ORDER: [Rule; 2] = [
     Rule(Who::Couriers, None, Then::Wait(Count::Rounds, 100)),
 ];
 
+// The same of the keepers of eight wards, each of which makes as many.
+const ORDER_OF_EIGHT: [Rule; 2] = [
+    Rule(Who::Keepers, None, Then::Wait(Count::Calls, 100)),
+    Rule(Who::Couriers, None, Then::Wait(Count::Rounds, 800)),
+];
+
 // To whom a gate says no, at which turn, and what a storm of few calls comes to then: a caller, the keeper
 // or a courier, at the first turn or at the last round; the turn after that; and clients that aren't there.
 const NOES: [(u32, u32, Result<u64, u8>); 16] = [
     (1, 1, Err(50)),
     (2, 1, Err(50)),
-    (KEEPER_CLIENT, 1, Err(50)),
-    (COURIER_CLIENT + 1, 1, Err(50)),
-    (COURIER_CLIENT + 2, 1, Err(50)),
-    (KEEPER_CLIENT, 10, Err(50)),
-    (KEEPER_CLIENT, 11, Ok(20)),
-    (COURIER_CLIENT + 1, 10, Err(50)),
-    (COURIER_CLIENT + 1, 11, Ok(20)),
-    (COURIER_CLIENT + 2, 10, Err(50)),
-    (COURIER_CLIENT + 2, 11, Ok(20)),
+    (65_536, 1, Err(50)),
+    (65_601, 1, Err(50)),
+    (65_602, 1, Err(50)),
+    (65_536, 10, Err(50)),
+    (65_536, 11, Ok(20)),
+    (65_601, 10, Err(50)),
+    (65_601, 11, Ok(20)),
+    (65_602, 10, Err(50)),
+    (65_602, 11, Ok(20)),
     (0, 1, Ok(20)),
     (3, 1, Ok(20)),
-    (KEEPER_CLIENT + 1, 1, Ok(20)),
-    (COURIER_CLIENT, 1, Ok(20)),
-    (COURIER_CLIENT + 3, 1, Ok(20)),
+    (65_537, 1, Ok(20)),
+    (65_600, 1, Ok(20)),
+    (65_603, 1, Ok(20)),
 ];
+
+// The same of a storm over sixteen wards and eight copies: the last caller, the keepers of the wards 1 and
+// 15, the couriers to the first copy and the last one, and the numbers after these.
+const NOES_OF_MANY: [(u32, u32, Result<u64, u8>); 9] = [
+    (16, 1, Err(50)),
+    (17, 1, Ok(800)),
+    (65_537, 50, Err(50)),
+    (65_551, 50, Err(50)),
+    (65_552, 1, Ok(800)),
+    (65_600, 1, Ok(800)),
+    (65_601, 50, Err(50)),
+    (65_608, 50, Err(50)),
+    (65_609, 1, Ok(800)),
+];
+
+// Two storms of whose threads one that is no caller's isn't made: in the first a caller is held, and comes
+// first; in the second the second courier, and what can't be made comes before it.
+const UNMADE: [(u32, Result<u64, u8>); 2] = [(1, Err(50)), (65_602, Err(10))];
 
 /// How large a storm is.
 #[derive(Clone, Copy)]
@@ -82,6 +108,9 @@ enum Size {
     /// One caller, and one copy. By the pseudokeys of its keys the caller splits pages 15 times, and two of
     /// these splits can be merged when all is answered.
     Alone,
+    /// The same over eight wards, of one record a page: it splits pages 37 times, in all wards but ward 1. Two of
+    /// these splits can be merged in ward 2 then, and one in ward 5.
+    Eight,
     /// As many callers, wards and copies as there may be.
     Most,
     /// More copies than callers.
@@ -97,6 +126,7 @@ impl Size {
             Size::Few => (2, 10, 2, 0, 2),
             Size::Four => (4, 100, 2, 0, 2),
             Size::Alone => (1, 100, 2, 0, 1),
+            Size::Eight => (1, 100, 1, 3, 1),
             Size::Most => (16, 50, 16, 4, 8),
             Size::Unseen => (2, 10, 2, 1, 5),
         };
@@ -128,7 +158,12 @@ pub(crate) fn play<R: Threads + Wait + Clock + Sync>(rt: &R, story: Storms, run:
                 let no = Rule(Who::Client(client), Some(turn), Then::No);
                 step(rt, run, Size::Few, &[no], want);
             }
+            for (client, turn, want) in NOES_OF_MANY {
+                let no = Rule(Who::Client(client), Some(turn), Then::No);
+                step(rt, run, Size::Most, &[no], want);
+            }
         }
+        Storms::Unmade => play_unmade(rt, run),
         Storms::Small => step(rt, run, Size::Small, &[], Ok(1)),
         Storms::Told => play_told(rt, run),
     }
@@ -149,17 +184,34 @@ fn step<R: Threads + Wait + Clock + Sync>(
     run.tally.step(same(outcome == want, Part::Run));
 }
 
-// Storms whose watch's counts are looked at. In one the keeper runs after the caller, and the courier after
-// both; in the other one of two callers is held at its first call.
+// Storms whose watch's counts are looked at. In two of them the keepers run after the caller, and the courier after
+// both; in the last one of two callers is held at its first call.
 fn play_told<R: Threads + Wait + Clock + Sync>(rt: &R, run: &mut Run) {
     let (outcome, counts) = told(rt, run.alloc, Size::Alone, &ORDER);
     let is_told = outcome == Ok(100) && counts == [100, 2, 17];
     let is_told = is_told != run.lie.is_due();
     run.tally.step(same(is_told, Part::Run));
+    let (outcome, counts) = told(rt, run.alloc, Size::Eight, &ORDER_OF_EIGHT);
+    run.tally.step(same(outcome == Ok(100) && counts == [100, 3, 40], Part::Run));
     let no = Rule(Who::Client(1), Some(1), Then::No);
     let (outcome, [calls, ..]) = told(rt, run.alloc, Size::Few, &[no]);
     run.tally
         .step(same(outcome == Err(50) && calls == 10, Part::Run));
+}
+
+// A storm that nobody holds; and where it is refused 10, since a thread isn't made, two that are refused for
+// more than that.
+fn play_unmade<R: Threads + Wait + Clock + Sync>(rt: &R, run: &mut Run) {
+    let (outcome, _) = told(rt, run.alloc, Size::Few, &[]);
+    let is_unmade = outcome == Err(10);
+    let is_right = (is_unmade || outcome == Ok(20)) != run.lie.is_due();
+    run.tally.step(same(is_right, Part::Run));
+    if is_unmade {
+        for (client, want) in UNMADE {
+            let no = Rule(Who::Client(client), Some(1), Then::No);
+            step(rt, run, Size::Few, &[no], want);
+        }
+    }
 }
 
 // Runs a storm under these rules, once more where memory was refused.

@@ -12,19 +12,26 @@ pub(crate) enum Story {
     Locks,
     /// A keeper merges pages, a caller fills them again.
     Refill,
+    /// Two callers count by swaps.
+    Counter,
+    /// Each of many pages is called and worn down.
+    ManyPages,
     /// Of storms.
     Storms(Storms),
 }
 
 /// All of them, in the order in which they are played.
-pub(crate) const STORIES: [Story; 9] = [
+pub(crate) const STORIES: [Story; 12] = [
     Story::HeldLook,
     Story::Locks,
     Story::Refill,
+    Story::Counter,
+    Story::ManyPages,
     Story::Storms(Storms::HeldCaller),
     Story::Storms(Storms::Company),
     Story::Storms(Storms::Open),
     Story::Storms(Storms::Closed),
+    Story::Storms(Storms::Unmade),
     Story::Storms(Storms::Small),
     Story::Storms(Storms::Told),
 ];
@@ -35,10 +42,13 @@ impl Named for Story {
             Story::HeldLook => "held-look",
             Story::Locks => "locks",
             Story::Refill => "refill",
+            Story::Counter => "counter",
+            Story::ManyPages => "many-pages",
             Story::Storms(Storms::HeldCaller) => "held-caller",
             Story::Storms(Storms::Company) => "company",
             Story::Storms(Storms::Open) => "open",
             Story::Storms(Storms::Closed) => "closed",
+            Story::Storms(Storms::Unmade) => "unmade",
             Story::Storms(Storms::Small) => "small",
             Story::Storms(Storms::Told) => "told",
         }

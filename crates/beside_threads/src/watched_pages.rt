@@ -8,7 +8,7 @@ use exh_callers::CAP;
 use exh_fixtures::first_store;
 use exh_frames::{Pages, PagesFault, PlainPages};
 use exh_keyer::PlainKeyer;
-use exh_page::{Key, Page, Spot, Value};
+use exh_page::{Key, Page, PageHead, Spot, Value};
 use exh_prefix::PageNo;
 use exh_ward::Ward;
 use std::alloc::{AllocError, Global};
@@ -26,6 +26,14 @@ pub(crate) const HAS_MERGED: Count = Count::First;
 
 pub(crate) const IS_OVER: Count = Count::Second;
 
+/// Looks at pages; and those at page 0 after one at a page that isn't the last.
+pub(crate) const LOOKS: Count = Count::First;
+
+pub(crate) const CAME_BETWEEN: Count = Count::Second;
+
+// The last page of a file of 1,100.
+const LAST_PAGE: PageNo = 1099;
+
 /// What a look at a page does.
 #[derive(Clone, Copy)]
 pub(crate) enum Look {
@@ -34,6 +42,8 @@ pub(crate) enum Look {
     Waits,
     /// Each takes ten microseconds or more, so that others wait for the lock meanwhile. Merges are counted.
     Rests,
+    /// Each is counted. The page is the one that was looked at last.
+    Counts(PageNo),
 }
 
 /// Pages in memory, and who counts what is done with them.
@@ -70,7 +80,7 @@ pub(crate) fn new_ward<'a, R: Clock>(
 }
 
 // Looks at a page. It touches no page, so the store stays as it was.
-fn look_on<R: Clock>(look: &mut Look, conductor: &Conductor<'_, R>) {
+fn look_on<R: Clock>(look: &mut Look, conductor: &Conductor<'_, R>, page: PageNo) {
     match *look {
         Look::Nothing => {}
         Look::Rests => conductor.rest(),
@@ -79,6 +89,13 @@ fn look_on<R: Clock>(look: &mut Look, conductor: &Conductor<'_, R>) {
             conductor.raise(IS_READ, 1);
             if !conductor.wait_for(MAY_GO, 1) {
                 conductor.raise(IS_LATE, 1);
+            }
+        }
+        Look::Counts(last) => {
+            *look = Look::Counts(page);
+            conductor.raise(LOOKS, 1);
+            if page == 0 && 0 < last && last < LAST_PAGE {
+                conductor.raise(CAME_BETWEEN, 1);
             }
         }
     }
@@ -100,13 +117,15 @@ impl<R: Clock> WatchedPages<'_, R> {
 }
 
 impl<R: Clock> Pages for WatchedPages<'_, R> {
-    ghost use Rattle.std.specs.Prelude.{⊤};
+    ghost use Rattle.std.specs.Prelude.{⊤, ◌<◌, length};
 
     ghost pages = { λ store. store.inner };
 
     ghost takes = { λ _ _. ⊤ };
 
     ghost failures = { λ _. 0 };
+
+    ghost at_hand = { λ store number. number < length store.inner };
 
     fn count(&self) -> PageNo {
         self.inner.count()
@@ -120,9 +139,18 @@ impl<R: Clock> Pages for WatchedPages<'_, R> {
         self.inner.get(number)
     }
 
-    fn lend(&mut self, number: PageNo) -> Result<&Page, PagesFault> {
-        look_on(&mut self.look, self.conductor);
-        self.inner.lend(number)
+    fn head(&mut self, number: PageNo) -> Result<PageHead, PagesFault> {
+        look_on(&mut self.look, self.conductor, number);
+        self.inner.head(number)
+    }
+
+    fn fetch(&mut self, number: PageNo) -> Result<(), PagesFault> {
+        look_on(&mut self.look, self.conductor, number);
+        self.inner.fetch(number)
+    }
+
+    fn fetched(&self, number: PageNo) -> &Page {
+        self.inner.fetched(number)
     }
 
     fn put_at(

@@ -1,47 +1,64 @@
-//! The use of a ward and a world from a program's own code that README.md shows: each line that begins with `let` stands
-//! there, and behind `//` what it comes to, which is printed.
+//! A page file at work: it is opened, callers on threads of their own put into it and get from it while a courier tells
+//! their copy of the directory of splits, what they were answered is settled, and the file is saved. A program of one's
+//! own may begin as a copy of this one.
 #![tactic(auto)]
 
-use exh_calls::Call;
-use exh_frames::PlainPages;
-use exh_keyer::PlainKeyer;
-use exh_page::{Key, Value};
-use exh_settings::Config;
-use exh_ward::{Ward, first_page};
-use exh_world::World;
+ghost use Rattle.std.specs.Prelude.{IfOk};
+ghost use Rattle.example_use.specs.Unasked.{AreUnasked};
 
-// A file of two records a page, one ward and two copies of the directory.
-const TWO_A_PAGE: Config<PlainKeyer> = Config {
-    cap: 2,
-    ward_bits: 0,
-    copies: 2,
-    keyer: PlainKeyer,
-};
+mod caller;
+mod service;
+
+use crate::service::{NAMES, serve};
+use anyhow::Context;
+use exh_frames::PlainPages;
+use exh_open::{Opened, open};
+use exh_place::{Seen, save_at};
+use exh_progress::{Console, Meter, Unit, Work};
+use exh_system_disk::SystemDisk;
+use std::fs::File;
+use std::str;
+
+// The page file. It was made by `exhash load people.exh`.
+const PATH: &str = "people.exh";
 
 fn main(rt: HostRuntime) -> anyhow::Result<()> {
-    let (key, value) = (Key::from_bytes(b"apple")?, Value::from_bytes(b"red")?);
-    use_ward(&rt, key, value)?;
-    use_world(&rt, key, value)
+    let (opened, seen) = open_at(&rt, PATH)?;
+    let served = serve(&rt, rt.alloc(), opened)?;
+    for (name, value) in NAMES.iter().zip(&served.values) {
+        let text = str::from_utf8(value.as_bytes()).context("a value isn't text")?;
+        println!(rt; "{name} is {text}")?;
+    }
+    println!(rt; "settled {}", served.answers)?;
+    save(&rt, PATH, &seen, served.opened)
 }
 
-// Who owns a ward or a world has few exits, for the prover's sake: each drops it.
-fn use_ward(rt: &(impl Print + AllocGlobal), key: Key, value: Value) -> anyhow::Result<()> {
-    let store = PlainPages::new(rt.alloc(), first_page(rt.alloc(), 0, 0))?;
-    let mut ward = Ward::new(rt.alloc(), store, 2, 0, 0, PlainKeyer);
-    let put = ward.hop(0, 1, &Call::Put { key, value }); // Ok(Done(New))
-    let half = ward.split(0); // Err(NotFull)
-    let calls_and_pages = (ward.journal().len(), ward.page_count()); // (1, 1)
-    println!(rt; "{put:?}\n{half:?}\n{calls_and_pages:?}")?;
-    Ok(())
+// The wards of the page file of a path, and what the file is.
+fn open_at(rt: &HostRuntime, path: &str) -> anyhow::Result<(Opened<PlainPages>, Seen)>
+    ensures { IfOk result (λ opened. AreUnasked opened.0) }
+{
+    let mut file = File::open(rt, path)?;
+    let seen = SystemDisk::new(rt).seen(path, &file)?;
+    let opened = open(rt.alloc(), &mut file)?;
+    Ok((opened, seen))
 }
 
-fn use_world(rt: &(impl Print + AllocGlobal), key: Key, value: Value) -> anyhow::Result<()> {
-    let mut world = World::new(rt.alloc(), &TWO_A_PAGE)?;
-    let begun = world.begin(1, 1, 2, &Call::Put { key, value }); // Ok(Begun { ward: 0, page: 0 })
-    let half = world.split(0, 0); // Err(Ward(NotFull))
-    let put = world.hop(1); // Ok(Hopped { ward: 0, hop: Done { reply: New, moves: 0, bound: 0 } })
-    let told = world.deliver(1, 0, 1); // Err(NoNotice)
-    let next = world.begin(2, 1, 1, &Call::Get { key }); // Ok(Begun { ward: 0, page: 0 })
-    println!(rt; "{begun:?}\n{half:?}\n{put:?}\n{told:?}\n{next:?}")?;
+// Saves wards as the page file of a path, where that is still the one that was opened. A terminal is told how far it is.
+fn save(
+    rt: &HostRuntime,
+    path: &str,
+    seen: &Seen,
+    opened: Opened<PlainPages>,
+) -> anyhow::Result<()> {
+    let work = Work {
+        unit: Unit::BlocksWritten,
+        of: None,
+    };
+    let meter = Meter::new(Console::new(rt, rt.stderr()), work);
+    let mut disk = SystemDisk::new(rt);
+    let (saved, _) = save_at(rt.alloc(), &mut disk, path, Some(seen), opened, &meter);
+    meter.clear();
+    saved?;
+    println!(rt; "saved {path}")?;
     Ok(())
 }

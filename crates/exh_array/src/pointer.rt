@@ -1,7 +1,7 @@
 use exh_prefix::PageNo;
 
 /// What stands in the array for a list of leading bits: where the walks of their pseudokeys stop.
-#[derive(Clone, Copy, Debug, PartialEq, Eq)]
+#[derive(Clone, Copy)]
 pub struct Pointer {
     /// The leaf's page.
     pub page: PageNo,

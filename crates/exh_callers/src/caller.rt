@@ -2,7 +2,7 @@
 ghost use Rattle.std.specs.Prelude.{◌≡◌};
 
 use exh_calls::{Call, Reply};
-use exh_copy::CopyReader;
+use exh_copy::{CopyReader, Start};
 use exh_fixtures::Asked;
 use exh_frames::{Pages, PlainPages};
 use exh_keyer::PlainKeyer;
@@ -18,21 +18,21 @@ pub type File<P, F> = LiveFile<P, PlainKeyer, F>;
 /// One whose pages are in memory.
 pub type PlainFile<F> = File<PlainPages, F>;
 
-/// Who looks at a copy of the directory.
-pub type Reader = CopyReader<Brand>;
+/// Who looks at a copy of the directory, which is by itself that of a new file of one ward.
+pub type Reader<S = Brand> = CopyReader<S>;
 
 /// A caller: its seat, and the copy of the directory that it looks at.
 #[derive(Drop)]
-pub struct Caller<F: Identity> {
+pub struct Caller<F: Identity, S: Start = Brand> {
     pub seat: Seat<F>,
-    pub copy: Reader,
+    pub copy: CopyReader<S>,
 }
 
 /// The next caller of a file, with one of these copies.
-pub fn next_caller<P: Pages + Drop, F: Identity>(
+pub fn next_caller<P: Pages + Drop, F: Identity, S: Start>(
     file: &mut File<P, F>,
-    copies: &mut Vec<Reader>,
-) -> Result<Caller<F>, Difference>
+    copies: &mut Vec<CopyReader<S>>,
+) -> Result<Caller<F, S>, Difference>
     ensures { file.new.ward_bits ≡ file.old.ward_bits }
 {
     let Some(copy) = copies.pop() else {
@@ -45,10 +45,10 @@ pub fn next_caller<P: Pages + Drop, F: Identity>(
 }
 
 // This asks once, and needs nothing of the file: what calls it is proved with less.
-fn ask_once<R: Wait, P: Pages + Drop, F: Identity, G: Gate>(
+fn ask_once<R: Wait, P: Pages + Drop, F: Identity, S: Start, G: Gate>(
     rt: &R,
     file: &File<P, F>,
-    caller: &mut Caller<F>,
+    caller: &mut Caller<F, S>,
     call: &Call,
     gate: &G,
 ) -> Result<Reply, AskFault> {
@@ -56,10 +56,10 @@ fn ask_once<R: Wait, P: Pages + Drop, F: Identity, G: Gate>(
 }
 
 /// Asks a call, once more where memory was refused.
-pub fn ask<R: Wait, P: Pages + Drop, F: Identity, G: Gate>(
+pub fn ask<R: Wait, P: Pages + Drop, F: Identity, S: Start, G: Gate>(
     rt: &R,
     file: &File<P, F>,
-    caller: &mut Caller<F>,
+    caller: &mut Caller<F, S>,
     call: &Call,
     gate: &G,
 ) -> Result<Reply, AskFault> {
@@ -67,10 +67,10 @@ pub fn ask<R: Wait, P: Pages + Drop, F: Identity, G: Gate>(
 }
 
 /// Asks a call, to which this is the reply.
-pub fn is_told<R: Wait, P: Pages + Drop, F: Identity, G: Gate>(
+pub fn is_told<R: Wait, P: Pages + Drop, F: Identity, S: Start, G: Gate>(
     rt: &R,
     file: &File<P, F>,
-    caller: &mut Caller<F>,
+    caller: &mut Caller<F, S>,
     asked: Asked<'_>,
     gate: &G,
     reply: Reply,
@@ -83,10 +83,10 @@ pub fn is_told<R: Wait, P: Pages + Drop, F: Identity, G: Gate>(
 }
 
 /// Asks a call at which the gate holds the caller.
-pub fn is_held<R: Wait, P: Pages + Drop, F: Identity, G: Gate>(
+pub fn is_held<R: Wait, P: Pages + Drop, F: Identity, S: Start, G: Gate>(
     rt: &R,
     file: &File<P, F>,
-    caller: &mut Caller<F>,
+    caller: &mut Caller<F, S>,
     asked: Asked<'_>,
     gate: &G,
 ) -> Result<(), Difference> {

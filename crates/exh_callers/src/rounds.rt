@@ -2,7 +2,7 @@
 ghost use Rattle.std.specs.Prelude.{◌≡◌, ◌^◌, ◌<◌, length};
 
 use crate::caller::File;
-use exh_copy::CopyWriter;
+use exh_copy::{CopyWriter, Start};
 use exh_frames::Pages;
 use exh_live::{Cursors, Identity};
 use exh_runs::{Difference, Part, again, same};
@@ -11,8 +11,8 @@ use std::alloc::AllocError;
 use std::marker::Brand;
 use std::sync::Wait;
 
-/// Who tells a copy of the directory.
-pub type Writer = CopyWriter<Brand>;
+/// Who tells a copy of the directory, which is by itself that of a new file of one ward.
+pub type Writer<S = Brand> = CopyWriter<S>;
 
 // These make a round once.
 fn keep_once<R: Wait, P: Pages + Drop, F: Identity>(
@@ -25,10 +25,10 @@ fn keep_once<R: Wait, P: Pages + Drop, F: Identity>(
     file.keeper_round(rt, ward)
 }
 
-fn carry_once<R: Wait, P: Pages + Drop, F: Identity>(
+fn carry_once<R: Wait, P: Pages + Drop, F: Identity, S: Start>(
     rt: &R,
     file: &File<P, F>,
-    writer: &mut Writer,
+    writer: &mut CopyWriter<S>,
     cursors: &mut Cursors,
 ) -> Result<u64, AllocError>
     requires { length cursors.old ≡ 2 ^ file.now.ward_bits }
@@ -66,10 +66,10 @@ pub fn is_kept<R: Wait, P: Pages + Drop, F: Identity>(
 
 /// Makes a round of a courier, once more where memory was refused, that takes so many notices. The
 /// courier has as many places then as before.
-pub fn is_carried<R: Wait, P: Pages + Drop, F: Identity>(
+pub fn is_carried<R: Wait, P: Pages + Drop, F: Identity, S: Start>(
     rt: &R,
     file: &File<P, F>,
-    writer: &mut Writer,
+    writer: &mut CopyWriter<S>,
     cursors: &mut Cursors,
     notices: u64,
 ) -> Result<(), Difference>

@@ -9,7 +9,7 @@ use Rattle.exh_calls.specs.declared.stored_entry.CallKind.{CallKind}
 use Rattle.exh_calls.specs.declared.stored_entry.ReplyKind.{ReplyKind}
 use Rattle.exh_calls.specs.declared.stored_entry.StoredEntry.{StoredEntry}
 
-bytes_at-append : (texts more : List ℕ) (start len : ℕ) → start + len ≤ length texts → bytes_at (texts ++ more) start len ≡ bytes_at texts start len
+pub bytes_at-append : (texts more : List ℕ) (start len : ℕ) → start + len ≤ length texts → bytes_at (texts ++ more) start len ≡ bytes_at texts start len
 bytes_at-append texts more start len there =
     ap (take len) (drop-append-le start texts more (omega arith)) ∙ take-append-le len (drop start texts) more (omega (arith, length-drop start texts))
 
@@ -29,7 +29,7 @@ entries_in-append texts more (first ∷ others) within =
     cc
 
 -- the bytes between two lists
-bytes_at-between : (before bytes after : List ℕ) (start : ℕ) → start ≡ length before → bytes_at ((before ++ bytes) ++ after) start (length bytes) ≡ bytes
+pub bytes_at-between : (before bytes after : List ℕ) (start : ℕ) → start ≡ length before → bytes_at ((before ++ bytes) ++ after) start (length bytes) ≡ bytes
 bytes_at-between before bytes after start seam =
     rw (seam, append_assoc, drop-append_seam before (bytes ++ after)) (take-append_seam bytes after)
 

@@ -3,6 +3,7 @@ pub mod Effect
 pub mod MapMachine
 pub mod History
 pub mod Journal
+pub mod PackedPairs
 pub mod Laws
 pub mod EffectLemmas
 pub mod HistoryLemmas

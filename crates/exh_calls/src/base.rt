@@ -1,14 +1,14 @@
 ghost use Rattle.std.specs.Prelude.{◌≡◌};
 ghost use Rattle.std.specs.FinMap as map;
 
-use exh_page::{Key, Value};
+use crate::{PackedPairs, Pairs};
 use std::alloc::Global;
 use std::marker::Model;
 
-/// The map from keys to values that a history begins with.
-#[derive(Debug, Drop)]
+/// The map from keys to values that a history begins with, packed.
+#[derive(Drop)]
 pub struct Base {
-    pairs: Vec<(Key, Value)>,
+    pairs: PackedPairs,
 }
 
 impl Model for Base {
@@ -19,7 +19,7 @@ impl Model for Base {
 
     ghost coded = { coded_key_map };
 
-    ghost view = { λ a. map.from_entries a.pairs.items };
+    ghost view = { λ a. map.from_entries a.pairs };
 }
 
 impl Base {
@@ -28,21 +28,21 @@ impl Base {
         ensures { result ≡ map.empty }
     {
         Base {
-            pairs: Vec::new(alloc),
+            pairs: PackedPairs::new(alloc),
         }
     }
 
     /// The map of pairs: of two pairs of one key the first counts. It takes no memory.
-    pub fn from_pairs(pairs: Vec<(Key, Value)>) -> Base
-        ensures { result ≡ map.from_entries pairs.items }
+    pub fn from_pairs(pairs: PackedPairs) -> Base
+        ensures { result ≡ map.from_entries pairs }
     {
         Base { pairs }
     }
 
     /// The pairs of the map: of two pairs of one key the first counts. It takes no memory.
-    pub fn pairs(&self) -> &[(Key, Value)]
-        ensures { map.from_entries result.now ≡ self.now }
+    pub fn pairs(&self) -> Pairs<'_>
+        ensures { map.from_entries result ≡ self.now }
     {
-        &self.pairs
+        self.pairs.iter()
     }
 }

@@ -4,7 +4,7 @@ use crate::{KeyChange, Reply, swaps_compare};
 use exh_page::{Key, Value};
 
 /// A call on the map from keys to values. A copy takes no memory.
-#[derive(Clone, Copy, Debug, PartialEq, Eq)]
+#[derive(Clone, Copy, PartialEq, Eq)]
 pub enum Call {
     /// Asks for the key's value.
     Get { key: Key },

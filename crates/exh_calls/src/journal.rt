@@ -1,5 +1,6 @@
 ghost use Rattle.std.specs.Prelude.{◌≡◌, ◌+◌, ◌≤◌, ◌↔◌, [], ◌∷◌, ◌++◌, length, slice_get, IsTrue, OnOk};
 ghost use Rattle.std.specs.Iterator.{YieldsFirst, item_count};
+ghost use Rattle.std.specs.Option.{option_map};
 ghost use Rattle.exh_page.specs.declared.value.TheConstants.{VALUE_LIMIT};
 ghost use Rattle.exh_calls.specs.Journal.{bytes_at, second_given, value_given, value_told};
 
@@ -14,7 +15,7 @@ const ENTRY_LIMIT: usize = KEY_LIMIT + VALUE_LIMIT + VALUE_LIMIT + VALUE_LIMIT;
 
 /// The calls that were answered, in order, with their callers and replies. An
 /// entry takes the bytes of its key and values, and 24 more.
-#[derive(Debug, Drop)]
+#[derive(Drop)]
 pub struct Journal {
     texts: Vec<u8>,
     stored: Vec<StoredEntry>,
@@ -111,6 +112,15 @@ impl Journal {
         })
     }
 
+    /// The caller of the entry at a place, from 0 on; `None` past the last. Nothing else of the entry is
+    /// read. It takes no memory.
+    pub fn client(&self, at: usize) -> Option<u32>
+        ensures { result ≡ option_map (λ entry. entry.client) (slice_get self.now.entries at) }
+    {
+        let stored = self.stored.get(at)?;
+        Some(stored.client)
+    }
+
     /// The entries, in order. It takes no memory.
     pub fn iter(&self) -> Entries<'_>
         ensures { result ≡ self.now.entries }
@@ -155,8 +165,8 @@ impl<'a> Iterator for Entries<'a> {
     }
 }
 
-// The bytes of this length from `start` on.
-fn bytes_at(texts: &[u8], start: usize, len: u8) -> &[u8]
+/// The bytes of this length from `start` on.
+pub(crate) fn bytes_at(texts: &[u8], start: usize, len: u8) -> &[u8]
     requires { start + len ≤ length texts.now }
     ensures { result.now ≡ bytes_at texts.now start len }
 {

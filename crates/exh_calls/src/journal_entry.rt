@@ -3,7 +3,7 @@ ghost use Rattle.std.specs.Prelude.{◌≡◌};
 use crate::{Call, Reply};
 
 /// A call that was answered, with its caller and its reply.
-#[derive(Clone, Copy, Debug, PartialEq, Eq)]
+#[derive(Clone, Copy, PartialEq, Eq)]
 pub struct JournalEntry {
     /// The caller's number, which the ward doesn't test.
     pub client: u32,

@@ -1,7 +1,7 @@
 use exh_page::Value;
 
 /// What becomes of a call's key.
-#[derive(Clone, Copy, Debug)]
+#[derive(Clone, Copy)]
 pub enum KeyChange<'a> {
     /// It stays as it is.
     Keep,

@@ -7,6 +7,7 @@ pub use journal::{Entries, Journal};
 pub use journal_entry::JournalEntry;
 pub use key_change::KeyChange;
 pub use laws::{histories_go_on, history_is_determined, sharers_begin, swaps_compare};
+pub use packed_pairs::{PackedPairs, Pairs};
 pub use reply::Reply;
 
 mod base;
@@ -15,5 +16,6 @@ mod journal;
 mod journal_entry;
 mod key_change;
 mod laws;
+mod packed_pairs;
 mod reply;
 mod stored_entry;

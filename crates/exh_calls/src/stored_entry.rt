@@ -4,7 +4,7 @@ use exh_page::{Key, Value};
 /// What a journal keeps of an entry beside its bytes: where they start among those of all entries,
 /// and the lengths of the call's key, the call's two values and the reply's value, which stand there
 /// in this order.
-#[derive(Clone, Copy, Debug)]
+#[derive(Clone, Copy)]
 pub(crate) struct StoredEntry {
     pub(crate) client: u32,
     pub(crate) start: usize,
@@ -17,7 +17,7 @@ pub(crate) struct StoredEntry {
 }
 
 /// A call without its key and its values.
-#[derive(Clone, Copy, Debug)]
+#[derive(Clone, Copy)]
 pub(crate) enum CallKind {
     Get,
     Put,
@@ -71,7 +71,7 @@ impl CallKind {
 }
 
 /// A reply without its value.
-#[derive(Clone, Copy, Debug)]
+#[derive(Clone, Copy)]
 pub(crate) enum ReplyKind {
     Is,
     None,

@@ -16,7 +16,7 @@ use std::io::{Read, Write};
 pub const UNOPENED: &[u8] = b"refused 41\n";
 
 /// What a command tells of a legal page file.
-#[derive(Clone, Copy, Debug, PartialEq, Eq)]
+#[derive(Clone, Copy)]
 pub enum Topic {
     /// How much it has.
     Size,

@@ -54,7 +54,7 @@ pub fn save_at_place(
     let path = place.path();
     let meter = saving_meter(rt);
     let mut disk = SystemDisk::new(rt);
-    let saved = save_at(rt.alloc(), &mut disk, path, seen, wards, &meter);
+    let (saved, _wards) = save_at(rt.alloc(), &mut disk, path, seen, wards, &meter);
     meter.clear();
     match saved {
         Ok(saved) => {

@@ -8,7 +8,7 @@ use exh_report::{ReportFault, Verdict};
 use std::process::ExitCode;
 
 /// How the program ended.
-#[derive(Clone, Copy, Debug, PartialEq, Eq)]
+#[derive(Clone, Copy)]
 pub enum Status {
     /// The run went to its end, and the file that it is about is legal: 0.
     Done,

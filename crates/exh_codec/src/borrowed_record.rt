@@ -7,7 +7,7 @@ use exh_page::{Key, Record, Value};
 use std::cmp::Ordering;
 
 /// A record that stands in an image, with its key's pseudokey.
-#[derive(Clone, Copy, Debug, Default)]
+#[derive(Clone, Copy, Default)]
 pub(crate) struct BorrowedRecord<'a> {
     pub pseudokey: u64,
     pub key: &'a [u8],

@@ -8,7 +8,7 @@ use arrayvec::ArrayVec;
 use exh_page::{CAP_LIMIT, KEY_LIMIT, VALUE_LIMIT};
 
 /// A record as it stands in an image.
-#[derive(Clone, Copy, Debug, Default, Drop)]
+#[derive(Clone, Copy, Default, Drop)]
 pub(crate) struct Cell<'a> {
     pub key: &'a [u8],
     pub value: &'a [u8],

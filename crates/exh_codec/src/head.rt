@@ -21,7 +21,7 @@ pub(crate) const LOW_END: usize = LOW_START + LOW_LEN;
 pub(crate) const NO_LINK: PageNo = PageNo::MAX;
 
 /// What the first bytes of an image say.
-#[derive(Clone, Copy, Debug, PartialEq, Eq)]
+#[derive(Clone, Copy)]
 pub(crate) struct Head {
     pub kind: Kind,
     /// The length of the prefix, 0 for a forwarding page.

@@ -6,7 +6,7 @@ use thiserror::Error;
 
 /// Why a block isn't the image of a page. Each fault but `Memory` is named after
 /// the test that fails.
-#[derive(Clone, Copy, Debug, PartialEq, Eq, Error)]
+#[derive(Clone, Copy, Debug, Error)]
 pub enum ImageFault {
     /// A growth was refused: number 10.
     #[error("out of memory")]

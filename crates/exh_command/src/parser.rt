@@ -137,8 +137,9 @@ These stand alone or come last, and the run ends: 60 or 61 for the `file` line,
 63 where it isn't the opened file's, 62 for a script that is too long, 41 where
 reading fails, 10 where memory ends. A file that isn't opened is told of as by
 `exhash check`, and the script isn't read. Where the run is done its pages are
-saved, over an empty file or a page file; what was there stays until they are,
-and where it isn't the opened file any more. Standard error says why it stays.
+saved, over an empty file or one that begins as a page file; what was there
+stays until they are, and where it isn't the opened file any more. Standard
+error says why it stays.
 
 Example, with what its lines print:
   file cap=1 wards=0 copies=1 keyer=plain
@@ -215,8 +216,9 @@ many records the file has:
   loaded 2
 A later value of a key replaces the earlier. Keys are parted by two bytes: those
 of a digest with keyer=sha, their own first two with keyer=plain. An empty file
-or a page file there is replaced once the new one is whole; any other stays, and
-nothing is saved. Which line is refused or full is said on standard error.
+there, or one that begins as a page file, is replaced once the new one is whole;
+any other stays, and nothing is saved. Which line is refused or full is said on
+standard error.
 These stand alone or come last, and nothing is saved: 60 or 61 for the `file`
 line, 62 for more than 1048576 bytes, 41 where reading fails, 10 where memory
 ends. Why a path can't be saved to is said on standard error.
@@ -247,10 +249,10 @@ The formats are in docs/FORMATS.md.";
 
 // What holds of every command.
 const ENDS: &str = "\
-Only an empty file or a page file is saved over. It is there whole until the new
-one is whole and on the disk, and where that fails it stays. Of two saves to one
-path at once one is refused; a run doesn't save over the file that it opened
-where another saved over that since.
+Only an empty file, or one that begins as a page file, is saved over. It is
+there whole until the new one is whole and on the disk, and where that fails it
+stays. Of two saves to one path at once one is refused; a run doesn't save over
+the file that it opened where another saved over that since.
 
 Exit status: 0 where the run is done, also with refused lines, or the file is
 legal, or all is settled; 1 where it is refused or the run breaks off; 2 where

@@ -1,5 +1,5 @@
 //! A save of a regular file: it is written beside its place, and renamed over it.
-ghost use Rattle.std.specs.Prelude.{◌≡◌, ◌≢◌, IfOk, OnErr, OnOk, true};
+ghost use Rattle.std.specs.Prelude.{◌≡◌, ◌≢◌, ◌⊎◌, IfOk, OnErr, OnOk, true};
 ghost use Rattle.exh_disk.specs.declared.stage.Stage.TheVariants.{Confirmed, Empty, Placed, Settled};
 ghost use Rattle.exh_disk.specs.Stage.{is_fillable, is_ours};
 
@@ -14,21 +14,29 @@ use crate::{Disk, DiskFault, Found, Source, Target};
 use std::alloc::Global;
 use std::io;
 
-/// Writes a source beside a place, and renames it over what is there. The answer is the file, and why its folder couldn't
-/// be synchronized, where it couldn't. On an `Err` what is there is as before, and nothing is left beside it.
+/// Writes a source beside a place, renames it over what is there, and gives the source back. The answer is the file, and
+/// why its folder couldn't be synchronized, where it couldn't. On an `Err` what is there is as before, and nothing is left
+/// beside it.
 pub(crate) fn save_beside<D: Disk, S: Source>(
     alloc: Global,
     disk: &mut D,
     place: &str,
     target: &Target<'_>,
     source: S,
-) -> Result<(D::File, Option<io::Error>), DiskFault>
-    ensures { IfOk result (λ saved. D.stage saved.0 ≡ Settled) }
+) -> (Result<(D::File, Option<io::Error>), DiskFault>, S)
+    ensures settled { IfOk result.0 (λ saved. D.stage saved.0 ≡ Settled) }
+    ensures source { (result.1 ≡ source) ⊎ S.leaves source result.1 }
 {
-    let old = old_at(disk, place, target)?;
-    let (file, name) = claim(alloc, disk, place, old.as_ref())?;
-    let (mut file, filled) = fill(disk, file, place, target, &old, source);
-    match put(disk, &mut file, &name, place, &old, filled) {
+    let old = match old_at(disk, place, target) {
+        Ok(old) => old,
+        Err(fault) => return (Err(fault), source),
+    };
+    let (file, name) = match claim(alloc, disk, place, old.as_ref()) {
+        Ok(claimed) => claimed,
+        Err(fault) => return (Err(fault), source),
+    };
+    let (mut file, filled, source) = fill(disk, file, place, target, &old, source);
+    let saved = match put(disk, &mut file, &name, place, &old, filled) {
         Ok(()) => {
             let folder = disk.synchronize_folder(&mut file, folder_of(place));
             Ok((file, folder.err()))
@@ -39,7 +47,8 @@ pub(crate) fn save_beside<D: Disk, S: Source>(
             let _ = disk.remove(&file, &name);
             Err(fault)
         }
-    }
+    };
+    (saved, source)
 }
 
 // Dresses and writes an empty file. What is at the place is asked again first: by now no other save changes it.
@@ -50,17 +59,18 @@ fn fill<D: Disk, S: Source>(
     target: &Target<'_>,
     old: &Option<Found>,
     source: S,
-) -> (D::File, Result<(), DiskFault>)
+) -> (D::File, Result<(), DiskFault>, S)
     requires { D.stage file ≡ Empty }
-    ensures { is_fillable (D.stage result.0) ≡ true }
+    ensures stage { is_fillable (D.stage result.0) ≡ true }
+    ensures source { (result.2 ≡ source) ⊎ S.leaves source result.2 }
 {
     match prepare(disk, &mut file, place, target, old) {
         Ok(()) => {
             let mut writer = DiskWriter::new(disk, file);
-            let written = write_source(&mut writer, source);
-            (writer.into_file(), written)
+            let (written, source) = write_source(&mut writer, source);
+            (writer.into_file(), written, source)
         }
-        Err(fault) => (file, Err(fault)),
+        Err(fault) => (file, Err(fault), source),
     }
 }
 

@@ -119,7 +119,8 @@ fn take_over<D: Disk>(
     let mut file = match disk.take(name, place) {
         Ok(file) => file,
         Err(error) if error.kind() == ErrorKind::PermissionDenied => return Ok(None),
-        Err(error) => return Err(DiskFault::at(Call::Make, error)),
+        // Where it is gone, another save gave it a place.
+        Err(error) => return Err(DiskFault::busy_at(ErrorKind::NotFound, Call::Make, error)),
     };
     disk.lock(&mut file).map_err(|error| DiskFault::busy_at(
         ErrorKind::WouldBlock,

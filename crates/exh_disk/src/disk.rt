@@ -122,15 +122,19 @@ pub trait Disk {
 
 /// What is to be written.
 pub trait Source: Drop {
-    /// Writes all of it to a writer.
+    /// What writing leaves of it.
+    ghost leaves: { Self → Self → Type 0 };
+
+    /// Writes all of it to a writer, and gives it back, after a fault too.
     ///
     /// `Writer`: the writer failed or took no bytes. `Memory`: a growth was refused. `Source`: what is to be written is
     /// out of reach.
-    fn write_to<W: Write>(self, writer: &mut W) -> Result<(), SourceFault>;
+    fn write_to<W: Write>(self, writer: &mut W) -> (Result<(), SourceFault>, Self)
+        ensures { leaves self result.1 };
 }
 
 /// Why not all was written.
-#[derive(Clone, Copy, Debug, PartialEq, Eq)]
+#[derive(Clone, Copy)]
 pub enum SourceFault {
     Writer,
     Memory,

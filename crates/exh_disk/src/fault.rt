@@ -5,7 +5,7 @@ use std::{fmt, io};
 use thiserror::Error;
 
 /// What a save was about when the system failed.
-#[derive(Clone, Copy, Debug, PartialEq, Eq)]
+#[derive(Clone, Copy, Debug)]
 pub enum Call {
     Ask,
     Open,

@@ -1,7 +1,7 @@
 //! What a disk tells of a file.
 
 /// What a name leads to.
-#[derive(Clone, Copy, Debug, PartialEq, Eq)]
+#[derive(Clone, Copy)]
 pub enum Kind {
     Regular,
     Folder,
@@ -11,7 +11,7 @@ pub enum Kind {
 }
 
 /// What was found at a name, or of an open file.
-#[derive(Clone, Copy, Debug, PartialEq, Eq)]
+#[derive(Clone, Copy)]
 pub struct Found {
     pub kind: Kind,
     pub device: u64,
@@ -27,14 +27,14 @@ pub struct Found {
 }
 
 /// The first bytes of a file that can be read and written.
-#[derive(Clone, Copy, Debug)]
+#[derive(Clone, Copy)]
 pub struct Head {
     pub found: Found,
     pub bytes: [u8; 8],
 }
 
 /// For whom the program runs.
-#[derive(Clone, Copy, Debug)]
+#[derive(Clone, Copy)]
 pub struct Runner {
     pub user: u32,
     pub group: u32,

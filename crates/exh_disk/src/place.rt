@@ -45,14 +45,15 @@ fn place_of_found<D: Disk>(
     }
 }
 
-// Of a path that leads to nothing. A link that leads nowhere would be replaced.
+// Of a path that leads to nothing. A link that leads nowhere would be replaced; what else has the name came meanwhile.
 fn new_place<D: Disk>(alloc: Global, disk: &mut D, path: &str) -> Result<Place, DiskFault> {
-    if disk.ask_name(path).is_ok() {
-        return Err(DiskFault::DanglingLink);
-    }
-    match String::from_str(alloc, path) {
-        Ok(place) => Ok(Place::File(place)),
-        Err(_) => Err(DiskFault::Memory),
+    match disk.ask_name(path) {
+        Ok(found) if found.kind == Kind::Link => Err(DiskFault::DanglingLink),
+        Ok(_) => Err(DiskFault::Changed),
+        Err(_) => match String::from_str(alloc, path) {
+            Ok(place) => Ok(Place::File(place)),
+            Err(_) => Err(DiskFault::Memory),
+        },
     }
 }
 

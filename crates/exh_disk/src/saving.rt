@@ -1,5 +1,5 @@
 //! A save.
-ghost use Rattle.std.specs.Prelude.{◌≡◌, IfOk, IfSome};
+ghost use Rattle.std.specs.Prelude.{◌≡◌, ◌⊎◌, IfOk, IfSome};
 ghost use Rattle.exh_disk.specs.declared.stage.Stage.TheVariants.{Settled};
 
 use crate::beside::save_beside;
@@ -22,7 +22,8 @@ pub struct Saved<F: Drop> {
 
 /// Saves a source at a path. A regular file is written beside its place, in a file of its own that this save has the lock
 /// of, synchronized, and renamed over what is there, whose permissions it has, after which its folder is synchronized.
-/// What is no regular file is written as it stands, and synchronized where it can be.
+/// What is no regular file is written as it stands, and synchronized where it can be. The source comes back, as it was or
+/// as writing leaves it, so that after a fault it can be saved elsewhere.
 ///
 /// On an `Err` a regular file is as before, and nothing is left beside it.
 pub fn save<D: Disk, S: Source>(
@@ -30,44 +31,57 @@ pub fn save<D: Disk, S: Source>(
     disk: &mut D,
     target: &Target<'_>,
     source: S,
-) -> Result<Saved<D::File>, DiskFault>
-    ensures { IfOk result (λ saved. IfSome saved.file (λ file. D.stage file ≡ Settled)) }
+) -> (Result<Saved<D::File>, DiskFault>, S)
+    ensures settled { IfOk result.0 (λ saved. IfSome saved.file (λ file. D.stage file ≡ Settled)) }
+    ensures source { (result.1 ≡ source) ⊎ S.leaves source result.1 }
 {
-    match place_of(alloc, disk, target.path)? {
-        Place::File(place) => {
-            let (file, folder) = save_beside(alloc, disk, &place, target, source)?;
-            Ok(Saved {
+    match place_of(alloc, disk, target.path) {
+        Ok(Place::File(place)) => {
+            let (saved, source) = save_beside(alloc, disk, &place, target, source);
+            let saved = saved.map(|(file, folder)| Saved {
                 file: Some(file),
                 folder,
-            })
+            });
+            (saved, source)
         }
-        Place::Device => {
-            write_device(disk, target.path, source)?;
-            Ok(Saved {
+        Ok(Place::Device) => {
+            let (written, source) = write_device(disk, target.path, source);
+            let saved = written.map(|()| Saved {
                 file: None,
                 folder: None,
-            })
+            });
+            (saved, source)
         }
+        Err(fault) => (Err(fault), source),
     }
 }
 
 // Writes what is no regular file. One that came there meanwhile isn't written to.
-fn write_device<D: Disk, S: Source>(disk: &mut D, path: &str, source: S) -> Result<(), DiskFault> {
-    let mut device = disk
-        .open(path)
-        .map_err(|error| DiskFault::at(Call::Open, error))?;
-    let found = disk
-        .ask_device(&device)
-        .map_err(|error| DiskFault::at(Call::Ask, error))?;
-    if found.kind == Kind::Regular {
-        return Err(DiskFault::Changed);
+fn write_device<D: Disk, S: Source>(
+    disk: &mut D,
+    path: &str,
+    source: S,
+) -> (Result<(), DiskFault>, S)
+    ensures { (result.1 ≡ source) ⊎ S.leaves source result.1 }
+{
+    let mut device = match disk.open(path) {
+        Ok(device) => device,
+        Err(error) => return (Err(DiskFault::at(Call::Open, error)), source),
+    };
+    match disk.ask_device(&device) {
+        Ok(found) if found.kind == Kind::Regular => return (Err(DiskFault::Changed), source),
+        Ok(_) => {}
+        Err(error) => return (Err(DiskFault::at(Call::Ask, error)), source),
     }
-    write_source(&mut device, source)?;
+    let (written, source) = write_source(&mut device, source);
+    if written.is_err() {
+        return (written, source);
+    }
     match disk.synchronize_device(&mut device) {
         // So says the system of what can't be synchronized.
         Err(error) if error.kind() != ErrorKind::InvalidInput => {
-            Err(DiskFault::at(Call::Synchronize, error))
+            (Err(DiskFault::at(Call::Synchronize, error)), source)
         }
-        _ => Ok(()),
+        _ => (Ok(()), source),
     }
 }

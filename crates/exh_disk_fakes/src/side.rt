@@ -8,7 +8,7 @@ use std::io;
 use std::io::{ErrorKind, Write};
 
 /// What a save came to.
-#[derive(Clone, Copy, PartialEq, Eq)]
+#[derive(Clone, Copy)]
 pub enum Ending {
     Refused,
     /// It is done, but its folder may not be on the disk.
@@ -104,7 +104,8 @@ pub fn save_as<B: Between + Drop>(
         saver: saver.number,
     };
     let alloc = disk.alloc;
-    let ending = match save(alloc, &mut Side::new(disk, saver, between), &target, bytes) {
+    let (saved, _bytes) = save(alloc, &mut Side::new(disk, saver, between), &target, bytes);
+    let ending = match saved {
         Ok(saved) if saved.folder.is_none() => Ending::Settled,
         Ok(_) => Ending::Placed,
         Err(_) => Ending::Refused,
@@ -120,13 +121,17 @@ struct Bytes {
 }
 
 impl Source for Bytes {
-    fn write_to<W: Write>(self, writer: &mut W) -> Result<(), SourceFault> {
+    ghost leaves = { λ old new. new ≡ old };
+
+    fn write_to<W: Write>(self, writer: &mut W) -> (Result<(), SourceFault>, Self) {
         if let Some(bytes) = SAVED.get(self.saver) {
             for piece in bytes.chunks(5) {
-                writer.write_all(piece).map_err(|_| SourceFault::Writer)?;
+                if writer.write_all(piece).is_err() {
+                    return (Err(SourceFault::Writer), self);
+                }
             }
         }
-        Ok(())
+        (Ok(()), self)
     }
 }
 

@@ -2,7 +2,7 @@ use exh_calls::Call;
 use exh_prefix::PageNo;
 
 /// What a scheduler, the network or bad luck may do to a world, in any order.
-#[derive(Clone, Copy, Debug, PartialEq, Eq)]
+#[derive(Clone, Copy, PartialEq, Eq)]
 pub enum Event {
     /// A client begins a request, at the page that a copy names.
     Begin {

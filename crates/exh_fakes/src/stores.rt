@@ -58,7 +58,8 @@ fn spot_of(store: &mut PlainPages, item: &Record) -> Option<Result<Spot, Spot>>
     ensures spot { IfSome result (λ spot. IfPage store.old 0 (λ page. IsSought (place_of item.now) (records_of page) spot)) }
     ensures pages { store.new ≡ store.old }
 {
-    match store.lend(0).ok()? {
+    store.fetch(0).ok()?;
+    match store.fetched(0) {
         Page::Live { records, .. } => Some(records.seek(item.pseudokey, &item.key).0),
         Page::Forward { .. } => None,
     }
@@ -66,18 +67,19 @@ fn spot_of(store: &mut PlainPages, item: &Record) -> Option<Result<Spot, Spot>>
 
 // The answer to one call of a kind.
 fn answer(
-    store: &mut FailingPages,
+    store: &mut FailingPages<PlainPages>,
     call: PagesCall,
     item: &Record,
     spot: Result<Spot, Spot>,
 ) -> Option<PagesFault>
-    requires two { length (store.old).pages ≡ 2 }
-    requires live { IfPage (store.old).pages 0 IsLive }
-    requires sought { IfPage (store.old).pages 0 (λ page. IsSought (place_of item.now) (records_of page) spot) }
+    requires two { length (store.old).inner ≡ 2 }
+    requires live { IfPage (store.old).inner 0 IsLive }
+    requires sought { IfPage (store.old).inner 0 (λ page. IsSought (place_of item.now) (records_of page) spot) }
 {
     match call {
         PagesCall::Get => store.get(0).err(),
-        PagesCall::Lend => store.lend(0).err(),
+        PagesCall::Head => store.head(0).err(),
+        PagesCall::Fetch => store.fetch(0).err(),
         PagesCall::Put => store
             .put_at(0, spot, item.pseudokey, &item.key, &item.value)
             .err(),
@@ -100,9 +102,10 @@ fn answers(alloc: Global, call: PagesCall, at: u64) -> Option<Answers> {
     Some((answer, store.failed(), store.failures()))
 }
 
-const CALLS: [PagesCall; 7] = [
+const CALLS: [PagesCall; 8] = [
     PagesCall::Get,
-    PagesCall::Lend,
+    PagesCall::Head,
+    PagesCall::Fetch,
     PagesCall::Put,
     PagesCall::Remove,
     PagesCall::Set,
@@ -123,8 +126,24 @@ fn wrong_call(alloc: Global) -> Option<PagesCall> {
     None
 }
 
+// Whether of a failing store over one the store inside fails first, and then its own call, and both are counted.
+fn both_fail(alloc: Global) -> Option<bool> {
+    let inner = FailingPages::new(two_pages(alloc)?, 1);
+    let mut store = FailingPages::new(inner, 2);
+    let first = store.head(0).err();
+    let second = store.head(0).err();
+    let is_refused = first == Some(PagesFault::Page) && second == Some(PagesFault::Page);
+    Some(is_refused && store.head(0).is_ok() && store.failures() == 2)
+}
+
 // Each kind of call is refused where its turn has come, and else done.
 #[test]
 fn the_call_of_a_place_fails(rt: HostRuntime) {
     assert_eq!(rt; wrong_call(rt.alloc()), None);
+}
+
+// A store that fails is over any store, and counts that one's failures too.
+#[test]
+fn a_store_over_a_failing_one_fails(rt: HostRuntime) {
+    assert_eq!(rt; both_fail(rt.alloc()), Some(true));
 }

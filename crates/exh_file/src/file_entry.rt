@@ -7,7 +7,7 @@ use exh_notice::{ENTRY_IMAGE_LEN, Entry, Kind};
 use exh_prefix::{PageNo, Prefix};
 
 /// An entry of a page file's table, with its ward and its prefix.
-#[derive(Clone, Copy, Debug, PartialEq, Eq)]
+#[derive(Clone, Copy)]
 pub struct FileEntry {
     /// The ward, 0 to 15.
     pub ward: u8,

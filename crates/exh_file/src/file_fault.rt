@@ -5,7 +5,7 @@ use exh_codec::ImageFault;
 use thiserror::Error;
 
 /// Why bytes aren't a page file.
-#[derive(Clone, Copy, Debug, PartialEq, Eq, Error)]
+#[derive(Clone, Copy, Debug, Error)]
 pub enum FileFault {
     /// A block isn't the image that belongs at its place, the header's being 0: the number of its
     /// fault, 30 to 35.

@@ -30,7 +30,7 @@ const FRONT_LEN: usize = 20;
 pub(crate) const HEADER_LEN: usize = FRONT_LEN + 4 * COUNTS_LEN;
 
 /// What the header block of a page file says.
-#[derive(Clone, Copy, Debug, PartialEq, Eq)]
+#[derive(Clone, Copy)]
 pub struct Header {
     /// The most records of a page, 1 to 16.
     pub cap: u8,

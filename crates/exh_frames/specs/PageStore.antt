@@ -1,14 +1,18 @@
 -- A store of pages: what its calls leave of it.
-use Rattle.std.specs.Prelude.{◌≡◌, ⊤, ℕ, ◌<◌, ◌↔◌, List, slice_get, Some, Result, Ok, Err}
-use Rattle.std.specs.Borrow.{follows_so, Fml, RattleType, MutBor}
-use Rattle.std.proofs.Math.Option.{none}
+use Rattle.std.specs.Prelude.{◌≡◌, ℕ, ◌<◌, ◌↔◌, List, slice_get, Some, Result, Ok, Err}
 use Rattle.exh_page.specs.declared.page.Page.{Page}
+use Rattle.exh_page.specs.declared.page_head.PageHead.{PageHead}
+use Rattle.exh_page.specs.PageHead.{head_of}
 use Rattle.exh_frames.specs.declared.pages_fault.PagesFault.{PagesFault}
 use Rattle.exh_frames.specs.declared.pages_fault.PagesFault.TheVariants.{Memory, Page as OutOfReach}
 
 -- what holds of the page of a number, if there is one
 abbrev pub IfPage : List Page → ℕ → (Page → Type 0) → Type 0
 IfPage pages number P = (page : Page) → slice_get pages number ≡ Some page → P page
+
+-- the page of a number is there, and has this head
+abbrev pub HasHead : List Page → ℕ → PageHead → Type 0
+HasHead pages number head = (page : Page) × (slice_get pages number ≡ Some page) × (head ≡ head_of page)
 
 -- the count of failures rises where a call answers a page fault, and only there
 abbrev pub CountsFaults : {T : Type 0} → Result T PagesFault → ℕ → ℕ → Type 0
@@ -19,7 +23,3 @@ CountsFaults (Err OutOfReach) old new = old < new
 -- what a store takes never changes
 abbrev pub TakesTheSame : {S : Type 0} → (S → Page → Type 0) → S → S → Type 0
 TakesTheSame takes old new = (page : Page) → takes old page ↔ takes new page
-
--- what holds of a store once what it lent is given back
-abbrev pub LeavesBehind : (R : RattleType) → MutBor R.Denot → (R.Denot → Type 0) → Fml
-LeavesBehind R store P = follows_so R R store.ghost_name none (λ _ _. ⊤) P

@@ -1,13 +1,12 @@
 ghost use Rattle.std.specs.Prelude.{◌≡◌, ◌≢◌, ℕ, ◌-◌, ◌^◌, ◌<◌, List, [], ◌∷◌, ◌++◌, length, remove, slice_get, slice_set, Some, IfOk, OnOk, OnErr};
-ghost use Rattle.std.specs.Borrow.{sem};
 ghost use Rattle.exh_page.specs.Page.{IsLive, records_of, with_records};
 ghost use Rattle.exh_page.specs.Records.{with_record};
 ghost use Rattle.exh_page.specs.Search.{IsSought, IsSpot};
 ghost use Rattle.exh_page.specs.declared.page.Page.{Page};
-ghost use Rattle.exh_frames.specs.PageStore.{IfPage, CountsFaults, TakesTheSame, LeavesBehind};
+ghost use Rattle.exh_frames.specs.PageStore.{IfPage, HasHead, CountsFaults, TakesTheSame};
 
 use crate::PagesFault;
-use exh_page::{Key, Page, Spot, Value};
+use exh_page::{Key, Page, PageHead, Spot, Value};
 use exh_prefix::PageNo;
 
 /// A store of pages, numbered from 0 on in the order in which they came. Each call
@@ -22,6 +21,9 @@ pub trait Pages {
 
     /// How many calls have answered a page fault. It never falls.
     ghost failures: { Self → ℕ };
+
+    /// The pages that are at hand, by their numbers.
+    ghost at_hand: { Self → ℕ → Type 0 };
 
     /// How many pages there are. It takes no memory.
     fn count(&self) -> PageNo
@@ -39,11 +41,26 @@ pub trait Pages {
         ensures failures { CountsFaults result (failures self.old) (failures self.new) }
         ensures takes { TakesTheSame takes self.old self.new };
 
-    /// The page of this number itself, to be read in place.
-    fn lend(&mut self, number: PageNo) -> Result<&Page, PagesFault>
+    /// All of the page of this number but its records. It takes no memory.
+    fn head(&mut self, number: PageNo) -> Result<PageHead, PagesFault>
         requires { number < length (pages self.old) }
-        ensures page { IfOk result (λ page. slice_get (pages self.old) number ≡ Some page.now) }
-        ensures* store { sem 𝓛 (LeavesBehind Self.row self.entry (λ left. (pages left ≡ pages self.old) × CountsFaults result (failures self.old) (failures left) × TakesTheSame takes self.old left)) };
+        ensures head { IfOk result (HasHead (pages self.old) number) }
+        ensures pages { pages self.new ≡ pages self.old }
+        ensures failures { CountsFaults result (failures self.old) (failures self.new) }
+        ensures takes { TakesTheSame takes self.old self.new };
+
+    /// Gets the page of this number at hand.
+    fn fetch(&mut self, number: PageNo) -> Result<(), PagesFault>
+        requires { number < length (pages self.old) }
+        ensures at_hand { OnOk result (at_hand self.new number) }
+        ensures pages { pages self.new ≡ pages self.old }
+        ensures failures { CountsFaults result (failures self.old) (failures self.new) }
+        ensures takes { TakesTheSame takes self.old self.new };
+
+    /// The page of this number, which is at hand, to be read in place. It takes no memory.
+    fn fetched(&self, number: PageNo) -> &Page
+        requires { at_hand self.now number }
+        ensures { slice_get (pages self.now) number ≡ Some result.now };
 
     /// Puts a record into a live page in place, at the spot that a search of its records for the key
     /// came to. The page with the record is one that the store takes.

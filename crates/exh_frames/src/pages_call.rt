@@ -3,8 +3,10 @@
 pub enum PagesCall {
     /// `Pages::get`.
     Get,
-    /// `Pages::lend`.
-    Lend,
+    /// `Pages::head`.
+    Head,
+    /// `Pages::fetch`.
+    Fetch,
     /// `Pages::put_at`.
     Put,
     /// `Pages::remove_at`.

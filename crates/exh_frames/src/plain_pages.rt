@@ -1,7 +1,7 @@
 ghost use Rattle.std.specs.Prelude.{◌≡◌, ◌^◌, ◌<◌, [], ◌∷◌, length, IfOk};
 
 use crate::{Pages, PagesFault};
-use exh_page::{Key, Page, Spot, Value};
+use exh_page::{Key, Page, PageHead, Spot, Value};
 use exh_prefix::PageNo;
 use std::alloc::{AllocError, Global};
 use std::marker::Model;
@@ -51,6 +51,8 @@ impl Pages for PlainPages {
 
     ghost failures = { λ _. 0 };
 
+    ghost at_hand = { λ store number. number < length store };
+
     fn count(&self) -> PageNo {
         self.pages.len() as PageNo
     }
@@ -63,8 +65,17 @@ impl Pages for PlainPages {
         Ok(self.pages[number as usize].try_clone()?)
     }
 
-    fn lend(&mut self, number: PageNo) -> Result<&Page, PagesFault> {
-        Ok(&self.pages[number as usize])
+    fn head(&mut self, number: PageNo) -> Result<PageHead, PagesFault> {
+        Ok(self.pages[number as usize].head())
+    }
+
+    // Each page is at hand.
+    fn fetch(&mut self, _number: PageNo) -> Result<(), PagesFault> {
+        Ok(())
+    }
+
+    fn fetched(&self, number: PageNo) -> &Page {
+        &self.pages[number as usize]
     }
 
     fn put_at(

@@ -6,7 +6,7 @@ use crate::Join;
 use std::alloc::AllocError;
 
 /// A number that only grows: the join of two is the greater.
-#[derive(Clone, Copy, Debug, PartialEq, Eq, PartialOrd, Ord, Hash)]
+#[derive(Clone, Copy, PartialEq, Eq, PartialOrd, Ord)]
 pub struct Greatest {
     pub number: u64,
 }

@@ -4,7 +4,7 @@ use crate::Join;
 use std::alloc::AllocError;
 
 /// Two values side by side, each joined by its own join.
-#[derive(Clone, Copy, Debug, PartialEq, Eq, Hash, Drop)]
+#[derive(Clone, Copy, PartialEq, Eq, Drop)]
 pub struct PairOf<A, B> {
     pub first: A,
     pub second: B,

@@ -7,7 +7,7 @@ use crate::{Keyer, PlainKeyer, ShaKeyer};
 use std::fmt;
 
 /// Either keyer, where a file or a script chooses. It prints as `plain` or `sha`.
-#[derive(Clone, Copy, Debug, PartialEq, Eq)]
+#[derive(Clone, Copy)]
 pub enum AnyKeyer {
     Plain,
     Sha,

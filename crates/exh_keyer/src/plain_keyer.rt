@@ -7,7 +7,7 @@ use crate::Keyer;
 
 /// The keyer `plain`: the key's first eight bytes as a big-endian number, with zero
 /// bytes after a shorter key.
-#[derive(Clone, Copy, Debug, PartialEq, Eq)]
+#[derive(Clone, Copy)]
 pub struct PlainKeyer;
 
 // The first eight bytes, with zeros after fewer.

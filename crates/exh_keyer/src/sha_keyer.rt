@@ -9,7 +9,7 @@ use sha2::{Digest, Sha256};
 
 /// The keyer `sha`: the first eight bytes of the key's SHA-256 (FIPS 180-4) as a
 /// big-endian number.
-#[derive(Clone, Copy, Debug, PartialEq, Eq)]
+#[derive(Clone, Copy)]
 pub struct ShaKeyer;
 
 impl Keyer for ShaKeyer {

@@ -1,7 +1,7 @@
 -- The lines of a script after its first, by cases on whole words. The code that reads a script scans bytes.
-use Rattle.std.specs.Prelude.{ℕ, List, [], ◌∷◌, Bool, true, false, ◌&&◌, nat_le, if◌then◌else◌, Option, Some, None, Result, codes}
+use Rattle.std.specs.Prelude.{ℕ, List, [], ◌∷◌, Bool, true, ◌&&◌, nat_le, if◌then◌else◌, Option, Some, None, Result, codes}
 use Rattle.std.specs.Str.{bytes_eq}
-use Rattle.exh_text.specs.ByteWord.{bytes_of_word, key_in_range, value_in_range, spelled_pair}
+use Rattle.exh_text.specs.ByteWord.{bytes_of_word, key_in_range, value_in_range}
 use Rattle.exh_text.specs.LineFault.{ranged}
 use Rattle.exh_text.specs.Lines.{words_of}
 use Rattle.exh_text.specs.Numbers.{◌>>=◌, index_spelled, number_after, number_spelled}
@@ -17,6 +17,13 @@ use Rattle.exh_line.specs.declared.view.View.TheVariants.{Copy, Page, InFlight}
 
 -- ---- the lines that words spell, whatever their numbers and lengths are
 
+-- the key and the value of a put
+unfoldable pub spelled_put : List ℕ → List ℕ → Option Call
+spelled_put key value = do
+  key ← bytes_of_word key
+  value ← bytes_of_word value
+  Some (Put key value)
+
 -- the key and the two values of a swap
 unfoldable pub spelled_swap : List ℕ → List ℕ → List ℕ → Option Call
 spelled_swap key old new = do
@@ -31,7 +38,7 @@ spelled_call (verb ∷ key ∷ []) =
     if bytes_eq verb (codes "get") then (bytes_of_word key >>= λ k. Some (Get k))
     else (if bytes_eq verb (codes "del") then (bytes_of_word key >>= λ k. Some (Del k)) else None)
 spelled_call (verb ∷ key ∷ value ∷ []) =
-    if bytes_eq verb (codes "put") then (spelled_pair key value >>= λ pair. Some (Put pair.0 pair.1)) else None
+    if bytes_eq verb (codes "put") then spelled_put key value else None
 spelled_call (verb ∷ key ∷ old ∷ new ∷ []) = if bytes_eq verb (codes "swap") then spelled_swap key old new else None
 spelled_call words = None
 

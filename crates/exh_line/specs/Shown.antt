@@ -8,11 +8,11 @@ use Rattle.exh_table.specs.Below.{depth_of, leaves_listed}
 use Rattle.exh_table.specs.Table.{TableMap}
 use Rattle.exh_table.specs.declared.leaf.Leaf.{Leaf}
 use Rattle.exh_page.specs.declared.page.Page.{Page}
+use Rattle.exh_page.specs.declared.page_head.PageHead.{PageHead}
+use Rattle.exh_page.specs.declared.page_head.PageHead.TheVariants.{Live, Forward}
+use Rattle.exh_page.specs.PageHead.{head_of}
 use Rattle.exh_text.specs.Contents.{entry_words, forward_page_words, live_page_words, on_line}
 use Rattle.exh_text.specs.Printing.{place_text}
-use Rattle.exh_ward.specs.PageLine.{line_of_page}
-use Rattle.exh_ward.specs.declared.page_line.PageLine.{PageLine}
-use Rattle.exh_ward.specs.declared.page_line.PageLine.TheVariants.{Live, Forward}
 use Rattle.exh_line.specs.Answer.{copy_text}
 
 -- ---- a table
@@ -36,9 +36,9 @@ shown_text ward_bits copy table = copy_text copy ++ table_text ward_bits table
 -- ---- a page
 
 -- what a page of a ward holds, or where it sends callers on to
-abbrev pub page_line_text : ℕ → ℕ → PageLine → List ℕ
-page_line_text ward number (Live prefix right count) = on_line (live_page_words ward number prefix right count)
-page_line_text ward number (Forward low target) = on_line (forward_page_words ward number target)
+abbrev pub page_head_text : ℕ → ℕ → PageHead → List ℕ
+page_head_text ward number (Live prefix right count) = on_line (live_page_words ward number prefix right count)
+page_head_text ward number (Forward low target) = on_line (forward_page_words ward number target)
 
 abbrev pub page_text : ℕ → ℕ → Page → List ℕ
-page_text ward number page = page_line_text ward number (line_of_page page)
+page_text ward number page = page_head_text ward number (head_of page)

@@ -8,7 +8,7 @@ use exh_notice::Notice;
 use exh_prefix::PageNo;
 
 /// What a line of a script is answered, unless it asks for a view. Each variant is one printed line.
-#[derive(Clone, Copy, Debug, PartialEq, Eq)]
+#[derive(Clone, Copy)]
 pub enum Answer {
     /// `rN at W/P`: the request stands at a page of a ward.
     Begun { name: u32, ward: u8, page: PageNo },
@@ -40,25 +40,25 @@ impl Answer {
     pub fn of_outcome(event: &Event, outcome: &Outcome, tells_moves: bool) -> Answer
         ensures { result ≡ outcome_answer tells_moves event.now outcome.now }
     {
-        match *outcome {
+        match outcome {
             Outcome::Begun { ward, page } => Answer::Begun {
                 name: request_in(event),
-                ward,
-                page,
+                ward: *ward,
+                page: *page,
             },
             Outcome::Hopped { ward, hop } => Answer::of_hop(
                 request_in(event),
-                ward,
-                &hop,
+                *ward,
+                hop,
                 tells_moves,
             ),
-            Outcome::Changed(notice) => Answer::Changed(notice),
+            Outcome::Changed(notice) => Answer::Changed(*notice),
             Outcome::Taken(notice) => Answer::Taken {
                 copy: copy_in(event),
                 ward: notice.ward,
                 index: notice.index,
             },
-            Outcome::Sent(table) => Answer::Sent { table },
+            Outcome::Sent(table) => Answer::Sent { table: *table },
             Outcome::Joined => Answer::Joined {
                 copy: copy_in(event),
                 table: table_in(event),

@@ -1,5 +1,5 @@
-ghost use Rattle.std.specs.Prelude.{◌≡◌, ◌++◌, OnOk};
-ghost use Rattle.exh_line.specs.Answer.{answer_text, copy_text, moves_text, notice_text, reply_text, request_text};
+ghost use Rattle.std.specs.Prelude.{◌≡◌, ◌++◌, OnOk, decimal};
+ghost use Rattle.exh_line.specs.Answer.{answer_text, answer_words, copy_text, moves_text, notice_text, reply_text, request_text};
 ghost use Rattle.exh_line.specs.declared.answer.Answer.TheVariants.{Refused};
 
 use crate::{Answer, Refusal, Told};
@@ -12,53 +12,52 @@ use std::alloc::AllocError;
 pub fn push_answer(out: &mut Vec<u8>, answer: &Answer) -> Result<(), AllocError>
     ensures { OnOk result (out.new.items ≡ out.old.items ++ answer_text answer.now) }
 {
+    push_words(out, answer)?;
+    push_text(out, "\n")
+}
+
+// The line without its end.
+fn push_words(out: &mut Vec<u8>, answer: &Answer) -> Result<(), AllocError>
+    ensures { OnOk result (out.new.items ≡ out.old.items ++ answer_words answer.now) }
+{
     match answer {
         Answer::Begun { name, ward, page } => {
-            push_request(out, *name)?;
-            push_text(out, " at ")?;
-            push_place(out, u32::from(*ward), u64::from(*page))?;
+            push_named(out, "r", *name, " at ")?;
+            push_place(out, u32::from(*ward), u64::from(*page))
         }
         Answer::Replied { name, reply, told } => {
-            push_request(out, *name)?;
-            push_text(out, " ")?;
+            push_named(out, "r", *name, " ")?;
             push_reply(out, reply)?;
-            push_moves(out, *told)?;
+            push_moves(out, *told)
         }
         Answer::Moved { name, ward, page } => {
-            push_request(out, *name)?;
-            push_text(out, " moved ")?;
-            push_place(out, u32::from(*ward), u64::from(*page))?;
+            push_named(out, "r", *name, " moved ")?;
+            push_place(out, u32::from(*ward), u64::from(*page))
         }
-        Answer::MustSplit { name } => {
-            push_request(out, *name)?;
-            push_text(out, " split")?;
-        }
-        Answer::Stray { name } => {
-            push_request(out, *name)?;
-            push_text(out, " stray")?;
-        }
-        Answer::Changed(notice) => push_notice(out, notice)?,
+        Answer::MustSplit { name } => push_named(out, "r", *name, " split"),
+        Answer::Stray { name } => push_named(out, "r", *name, " stray"),
+        Answer::Changed(notice) => push_notice(out, notice),
         Answer::Taken { copy, ward, index } => {
-            push_copy(out, *copy)?;
-            push_text(out, " took ")?;
-            push_place(out, u32::from(*ward), *index)?;
+            push_named(out, "copy ", *copy, " took ")?;
+            push_place(out, u32::from(*ward), *index)
         }
-        Answer::Sent { table } => {
-            push_text(out, "table ")?;
-            push_number(out, u64::from(*table))?;
-        }
+        Answer::Sent { table } => push_named(out, "table ", *table, ""),
         Answer::Joined { copy, table } => {
-            push_copy(out, *copy)?;
-            push_text(out, " joined ")?;
-            push_number(out, u64::from(*table))?;
+            push_named(out, "copy ", *copy, " joined ")?;
+            push_number(out, u64::from(*table))
         }
-        Answer::Restarted { copy } => {
-            push_copy(out, *copy)?;
-            push_text(out, " restarted")?;
-        }
-        Answer::Refused(refusal) => push_refused(out, refusal.number())?,
+        Answer::Restarted { copy } => push_named(out, "copy ", *copy, " restarted"),
+        Answer::Refused(refusal) => push_refused(out, refusal.number()),
     }
-    push_text(out, "\n")
+}
+
+// A request, copy or table by its number, and what it did.
+fn push_named(out: &mut Vec<u8>, kind: &str, number: u32, did: &str) -> Result<(), AllocError>
+    ensures { OnOk result (out.new.items ≡ out.old.items ++ (kind.now ++ (decimal number ++ did.now))) }
+{
+    push_text(out, kind)?;
+    push_number(out, u64::from(number))?;
+    push_text(out, did)
 }
 
 /// Adds the line of a refusal.

@@ -1,18 +1,15 @@
 ghost use Rattle.std.specs.Prelude.{◌≡◌};
 ghost use Rattle.exh_text.specs.LineFault.{ranged};
-ghost use Rattle.exh_line.specs.Grammar.{call_in_range, line_in_range, line_of, spelled_begin, spelled_call, spelled_change, spelled_copy_step, spelled_deliver, spelled_hop, spelled_in_flight, spelled_number, spelled_pair_of_numbers, spelled_swap, spelled_view};
+ghost use Rattle.exh_line.specs.Grammar.{call_in_range, line_in_range, line_of, spelled_begin, spelled_call, spelled_change, spelled_copy_step, spelled_deliver, spelled_hop, spelled_in_flight, spelled_number, spelled_pair_of_numbers, spelled_put, spelled_swap, spelled_view};
 
 use crate::View;
 use exh_calls::Call;
 use exh_event::Event;
-use exh_text::{
-    ByteWord, LineFault, Parts, parse_key, parse_pair, parse_u32, parse_u32_after, parse_u64,
-    split_words,
-};
+use exh_text::{ByteWord, LineFault, Parts, parse_key, parse_u32, parse_u32_after, parse_u64};
 
 /// A line of a script after its first, its numbers, key and value in their ranges. There may be no such
 /// request, copy, table, ward or page.
-#[derive(Clone, Copy, Debug, PartialEq, Eq)]
+#[derive(Clone, Copy)]
 pub enum Line {
     /// `begin`, `hop`, `split`, `merge`, `deliver`, `send`, `combine` or `restart`.
     Step(Event),
@@ -22,11 +19,12 @@ pub enum Line {
 
 /// Reads a later line, without its newline. A line outside the grammar is `Syntax`, whatever its numbers are; one in it
 /// with a number, key or value out of its range is `Range`.
-#[tactic(auto, unfolding(crate::specs::Grammar::line_of, crate::specs::Grammar::spelled))]
+#[tactic(auto, unfolding(crate::specs::Grammar::spelled))]
 pub fn parse_line(line: &[u8]) -> Result<Line, LineFault>
     ensures { result ≡ line_of line.now }
 {
-    let mut words = split_words(line).ok_or(LineFault::Syntax)?;
+    // An empty word spells nothing wherever it stands, so none is looked for before the words are read.
+    let mut words = Parts::new(b' ', line);
     let keyword = words.next().ok_or(LineFault::Syntax)?;
     match keyword {
         b"begin" => parse_begin(words),
@@ -46,16 +44,16 @@ fn parse_begin(mut words: Parts<'_>) -> Result<Line, LineFault>
     let name = parse_u32_after(b"r", name).ok_or(LineFault::Syntax)?;
     let client = parse_u32_after(b"c", client).ok_or(LineFault::Syntax)?;
     let copy = parse_u32(copy).ok_or(LineFault::Syntax)?;
-    let call = parse_call(words)?;
-    if name == 0 || client == 0 {
-        return Err(LineFault::Range);
+    match &parse_call(words) {
+        Ok(_) if name == 0 || client == 0 => Err(LineFault::Range),
+        Ok(call) => Ok(Line::Step(Event::Begin {
+            name,
+            client,
+            copy,
+            call: *call,
+        })),
+        Err(fault) => Err(*fault),
     }
-    Ok(Line::Step(Event::Begin {
-        name,
-        client,
-        copy,
-        call,
-    }))
 }
 
 // `rN`
@@ -204,30 +202,39 @@ fn parse_call(mut words: Parts<'_>) -> Result<Call, LineFault>
     if words.next().is_some() {
         return Err(LineFault::Syntax);
     }
-    if let Some(new) = second {
-        if verb == b"swap".as_slice() {
-            return parse_swap(key, value.ok_or(LineFault::Syntax)?, new);
-        }
-        return Err(LineFault::Syntax);
+    match verb {
+        b"get" if value.is_none() => match parse_key(key) {
+            Ok(key) => Ok(Call::Get { key }),
+            Err(fault) => Err(fault),
+        },
+        b"del" if value.is_none() => match parse_key(key) {
+            Ok(key) => Ok(Call::Del { key }),
+            Err(fault) => Err(fault),
+        },
+        b"put" if second.is_none() => parse_put(key, value.ok_or(LineFault::Syntax)?),
+        b"swap" => parse_swap(
+            key,
+            value.ok_or(LineFault::Syntax)?,
+            second.ok_or(LineFault::Syntax)?,
+        ),
+        _ => Err(LineFault::Syntax),
     }
-    if verb == b"put".as_slice() {
-        let (key, value) = parse_pair(key, value.ok_or(LineFault::Syntax)?)?;
-        return Ok(Call::Put { key, value });
+}
+
+// The key and the value of a put.
+#[tactic(auto, unfolding(crate::specs::Grammar::spelled_put))]
+fn parse_put(key: &[u8], value: &[u8]) -> Result<Call, LineFault>
+    ensures { result ≡ ranged call_in_range (spelled_put key.now value.now) }
+{
+    let key = ByteWord::parse(key).ok_or(LineFault::Syntax)?;
+    let value = ByteWord::parse(value).ok_or(LineFault::Syntax)?;
+    let Some(key) = key.key() else {
+        return Err(LineFault::Range);
+    };
+    match value.value() {
+        Some(value) => Ok(Call::Put { key, value }),
+        None => Err(LineFault::Range),
     }
-    if value.is_some() {
-        return Err(LineFault::Syntax);
-    }
-    if verb == b"get".as_slice() {
-        return Ok(Call::Get {
-            key: parse_key(key)?,
-        });
-    }
-    if verb == b"del".as_slice() {
-        return Ok(Call::Del {
-            key: parse_key(key)?,
-        });
-    }
-    Err(LineFault::Syntax)
 }
 
 // The key and the two values of a swap.
@@ -238,8 +245,14 @@ fn parse_swap(key: &[u8], old: &[u8], new: &[u8]) -> Result<Call, LineFault>
     let key = ByteWord::parse(key).ok_or(LineFault::Syntax)?;
     let old = ByteWord::parse(old).ok_or(LineFault::Syntax)?;
     let new = ByteWord::parse(new).ok_or(LineFault::Syntax)?;
-    let key = key.key().ok_or(LineFault::Range)?;
-    let old = old.value().ok_or(LineFault::Range)?;
-    let new = new.value().ok_or(LineFault::Range)?;
-    Ok(Call::Swap { key, old, new })
+    let Some(key) = key.key() else {
+        return Err(LineFault::Range);
+    };
+    let Some(old) = old.value() else {
+        return Err(LineFault::Range);
+    };
+    match new.value() {
+        Some(new) => Ok(Call::Swap { key, old, new }),
+        None => Err(LineFault::Range),
+    }
 }

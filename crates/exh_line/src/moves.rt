@@ -1,5 +1,5 @@
 /// The moves that an answered request made, and the bound that they are within.
-#[derive(Clone, Copy, Debug, PartialEq, Eq)]
+#[derive(Clone, Copy)]
 pub struct Moves {
     pub made: u64,
     pub bound: u64,

@@ -2,7 +2,7 @@ use exh_event::StepFault;
 use exh_text::LineFault;
 
 /// Why a line, a script or a run of it is refused.
-#[derive(Clone, Copy, Debug, PartialEq, Eq)]
+#[derive(Clone, Copy)]
 pub enum Refusal {
     /// The line can't be read, or stands at the wrong place.
     Line(LineFault),

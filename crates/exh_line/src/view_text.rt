@@ -4,17 +4,17 @@ ghost use Rattle.exh_prefix.specs.declared.prefix.TheConstants.{WARD_BITS_LIMIT}
 ghost use Rattle.exh_prefix.specs.Prefix.{low_of};
 ghost use Rattle.exh_table.specs.Below.{leaves_listed};
 ghost use Rattle.exh_prefix.specs.Leading.{ward_of};
-ghost use Rattle.exh_line.specs.Shown.{entry_line, leaf_line, page_line_text, shown_text};
+ghost use Rattle.exh_line.specs.Shown.{entry_line, leaf_line, page_head_text, shown_text};
 
 use crate::answer_text::push_copy;
 use exh_array::Directory;
+use exh_page::PageHead;
 use exh_prefix::{PageNo, ward_number};
 use exh_table::Table;
 use exh_text::{
     push_entry_line, push_forward_page, push_live_page, push_number, push_place, push_prefix,
     push_text,
 };
-use exh_ward::PageLine;
 use std::alloc::AllocError;
 
 /// Adds what a copy knows: the depth of its directory, its entries and its leaves, a line each.
@@ -69,16 +69,16 @@ pub fn push_page(
     out: &mut Vec<u8>,
     ward: u32,
     number: PageNo,
-    line: &PageLine,
+    head: PageHead,
 ) -> Result<(), AllocError>
-    ensures { OnOk result (out.new.items ≡ out.old.items ++ page_line_text ward number line.now) }
+    ensures { OnOk result (out.new.items ≡ out.old.items ++ page_head_text ward number head) }
 {
-    match line {
-        PageLine::Live {
+    match head {
+        PageHead::Live {
             prefix,
             right,
             count,
-        } => push_live_page(out, ward, number, prefix, *right, *count),
-        PageLine::Forward { target, .. } => push_forward_page(out, ward, number, *target),
+        } => push_live_page(out, ward, number, &prefix, right, count),
+        PageHead::Forward { target, .. } => push_forward_page(out, ward, number, target),
     }
 }

@@ -1,3 +1,4 @@
+mod Order
 mod Rounds
 mod ToBeTallied
 mod Walks

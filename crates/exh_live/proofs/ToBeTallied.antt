@@ -1,16 +1,18 @@
 -- The wards that a live file begins with.
-use Rattle.std.proofs.Common.{◌≡◌, ℕ, List, [], ◌∷◌, slice_get, Some, ◌^◌, ◌<◌, ◌≤◌, zero, suc, refl, sym, ap, ◌∙◌, arith}
+use Rattle.std.proofs.Common.{◌≡◌, ℕ, ◌+◌, List, [], ◌∷◌, slice_get, Some, ◌^◌, ◌<◌, ◌≤◌, zero, suc, refl, sym, ap, ◌∙◌, arith}
 use Rattle.exh_ward.specs.WardState.{WardState}
 use Rattle.exh_live.specs.LiveFile.{AreToBeTallied}
 
--- wards that answered nothing and have the file's keyer can be given their parts
-pub to_be_tallied : {K : Type 0} (pseudokey_of : K → List ℕ → ℕ) (pseudo : List ℕ → ℕ) (keyer : K) → pseudo ≡ pseudokey_of keyer → (wards : List (WardState K))
-    → ((place : ℕ) (ward : WardState K) → slice_get wards place ≡ Some ward → (ward.journal ≡ []) × (ward.keyer ≡ keyer)) → AreToBeTallied pseudokey_of pseudo wards
-to_be_tallied pseudokey_of pseudo keyer same [] each = tt
-to_be_tallied pseudokey_of pseudo keyer same (ward ∷ wards) each =
+-- wards that answered nothing, have the file's keyer and stand in order can be entered, from a number on
+pub to_be_tallied : {K : Type 0} (pseudokey_of : K → List ℕ → ℕ) (pseudo : List ℕ → ℕ) (keyer : K) → pseudo ≡ pseudokey_of keyer → (first : ℕ) (wards : List (WardState K))
+    → ((place : ℕ) (ward : WardState K) → slice_get wards place ≡ Some ward → (ward.journal ≡ []) × (ward.keyer ≡ keyer) × (ward.number ≡ first + place)) → AreToBeTallied pseudokey_of pseudo first wards
+to_be_tallied pseudokey_of pseudo keyer same first [] each = tt
+to_be_tallied pseudokey_of pseudo keyer same first (ward ∷ wards) each =
     let here = each 0 ward refl in (
-      (here.0, ap pseudokey_of here.1 ∙ sym same),
-      to_be_tallied pseudokey_of pseudo keyer same wards (λ place other at. each (suc place) other at),
+      here.0,
+      ap pseudokey_of here.1 ∙ sym same,
+      omega (arith, here.2),
+      to_be_tallied pseudokey_of pseudo keyer same (first + 1) wards (λ place other at. let there = each (suc place) other at in (there.0, there.1, omega (arith, there.2))),
     )
 
 -- a file has fewer wards than its ledger of entries has parts

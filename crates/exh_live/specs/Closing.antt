@@ -1,6 +1,5 @@
 -- What closing a live file gives, and where it is refused.
-use Rattle.std.specs.Prelude.{◌≡◌, ◌≢◌, ℕ, ◌^◌, List, length, map, sum_by}
-use Rattle.std.specs.List.Sorted.{IsNonDecreasingBy}
+use Rattle.std.specs.Prelude.{◌≡◌, ◌≢◌, ℕ, ◌^◌, List, length, map, slice_get, Some, sum_by}
 use Rattle.exh_settle.specs.Diary.{DiaryState}
 use Rattle.exh_ward.specs.WardState.{WardState}
 use Rattle.exh_live.specs.LiveFile.{LiveState, SeatState}
@@ -22,12 +21,12 @@ seat_of diary = record { client = diary.client; entries = diary.entries }
 abbrev pub AreDiariesOf : List SeatState → List DiaryState → Type 0
 AreDiariesOf seats diaries = map seat_of diaries ≡ seats
 
--- no ward's number is less than that of one before it
+-- at each place is the ward of that number
 abbrev pub AreInOrder : {K : Type 0} → List (WardState K) → Type 0
-AreInOrder {K} wards = IsNonDecreasingBy (λ (ward : WardState K). ward.number) wards
+AreInOrder {K} wards = (number : ℕ) (ward : WardState K) → slice_get wards number ≡ Some ward → ward.number ≡ number
 
--- all seats of the file are there; there are as many wards as it had, in order, and each seat's diary; and the journals together have as many entries as
--- the callers got answers
+-- all seats of the file are there; there are as many wards as it had, in the order of their numbers, and each seat's diary; and the journals together
+-- have as many entries as the callers got answers
 pub record IsClosed {K : Type 0} (file : LiveState K) (seats : List SeatState) (wards : List (WardState K)) (diaries : List DiaryState) : Type 0 where
   pub all : length seats ≡ file.seats
   pub count : length wards ≡ 2 ^ file.ward_bits

@@ -5,4 +5,5 @@ pub mod Locked
 pub mod PlaceLemmas
 pub mod Rounds
 pub mod Spare
+pub mod Stock
 pub mod Units

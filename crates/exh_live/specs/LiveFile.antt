@@ -1,6 +1,5 @@
 -- What contracts see of a live file and of its seats, and the wards that it begins with.
-use Rattle.std.specs.Prelude.{◌≡◌, ℕ, ◌^◌, List, [], length, slice_get, Some}
-use Rattle.std.specs.List.{AllByRecursion}
+use Rattle.std.specs.Prelude.{◌≡◌, ⊤, ℕ, ◌+◌, ◌^◌, List, [], ◌∷◌, length, slice_get, Some}
 use Rattle.exh_settle.specs.Diary.{DiaryState}
 use Rattle.exh_settle.specs.declared.diary_entry.DiaryEntry.{DiaryEntry}
 use Rattle.exh_ward.specs.WardState.{WardState}
@@ -35,6 +34,8 @@ pub record AreNewWardsOf {K : Type 0} (cap ward_bits : ℕ) (keyer : K) (wards :
   pub count : length wards ≡ 2 ^ ward_bits
   pub each : (number : ℕ) (ward : WardState K) → slice_get wards number ≡ Some ward → IsNewWardOf cap ward_bits keyer number ward
 
--- each answered nothing, and turns keys into these pseudokeys
-abbrev pub AreToBeTallied : {K : Type 0} → (K → List ℕ → ℕ) → (List ℕ → ℕ) → List (WardState K) → Type 0
-AreToBeTallied pseudokey_of pseudo wards = AllByRecursion (λ ward. (ward.journal ≡ []) × (pseudokey_of ward.keyer ≡ pseudo)) wards
+-- each answered nothing, turns keys into these pseudokeys, and stands at the place of its number, from a number on
+abbrev pub AreToBeTallied : {K : Type 0} → (K → List ℕ → ℕ) → (List ℕ → ℕ) → ℕ → List (WardState K) → Type 0
+AreToBeTallied pseudokey_of pseudo number [] = ⊤
+AreToBeTallied pseudokey_of pseudo number (ward ∷ wards) =
+    (ward.journal ≡ []) × (pseudokey_of ward.keyer ≡ pseudo) × (ward.number ≡ number) × AreToBeTallied pseudokey_of pseudo (number + 1) wards

@@ -1,5 +1,6 @@
-ghost use Rattle.std.specs.Prelude.{◌≡◌, ◌+◌, ◌^◌, ◌≤◌, [], length, vec_len, vec_capacity, IfOk, IfErr};
+ghost use Rattle.std.specs.Prelude.{◌≡◌, ◌+◌, ◌*◌, ◌^◌, ◌≤◌, [], length, vec_len, vec_capacity, IfOk, IfErr};
 ghost use Rattle.exh_live.specs.Closing.{AreDiariesOf, AreInOrder, IsClosed, IsCloseFault, answers_given, close_fault_number, entries_made};
+ghost use Rattle.exh_live.specs.Stock.{stock, units_of_first, units_of_wards};
 ghost use Rattle.exh_live.specs.declared.close.CloseFault.TheVariants.{Memory};
 
 use crate::ledgers::{Answers, Entries};
@@ -21,7 +22,7 @@ pub struct Closed<P: Pages + Drop, K: Keyer> {
 }
 
 /// Why a live file isn't closed.
-#[derive(Clone, Copy, Debug, PartialEq, Eq, Error)]
+#[derive(Clone, Copy, Debug, Error)]
 pub enum CloseFault {
     /// A seat is missing: number 52.
     #[error("a seat is missing")]
@@ -109,8 +110,9 @@ impl<P: Pages + Drop, K: Keyer, F: Identity> LiveFile<P, K, F> {
             ward_bits: _,
             keyer: _,
             wards: locks,
-            tally,
+            given,
             answers,
+            entered,
             entries,
             seats: _,
         } = self;
@@ -120,44 +122,48 @@ impl<P: Pages + Drop, K: Keyer, F: Identity> LiveFile<P, K, F> {
         } = room;
         let mut answers = answers.into_share();
         let mut entries = entries.into_share();
-        unlock(locks, &mut wards, &mut entries);
+        unlock(locks, &mut wards, &mut answers, &mut entries);
         stand_up(seats, &mut diaries, &mut answers);
-        tally
-            .into_inner()
-            .into_inner()
-            .audit(&mut answers, &mut entries);
+        // Shares that have all parts of their ledgers are the totals.
+        given.audit(&mut answers);
+        entered.audit(&mut entries);
         put_in_order(&mut wards);
         Closed { wards, diaries }
     }
 }
 
-// Puts wards in the order of their numbers. Those of a file are in it: but of what a list of locks keeps
-// no clause says which lock has which ward.
-fn put_in_order<P: Pages + Drop, K: Keyer>(wards: &mut Vec<Ward<P, K>>)
-    ensures order { AreInOrder wards.new.items }
-    ensures count { length wards.new.items ≡ length wards.old.items }
-    ensures entries { entries_made wards.new.items ≡ entries_made wards.old.items }
-{
-    wards.sort_unstable_by_key(|ward| ward.number());
-}
-
-// The wards out of their locks. Their shares are put to the one given.
+// The wards out of their locks. Their shares are put to those given.
 fn unlock<P: Pages + Drop, K: Keyer, F: Identity>(
     locks: Vec<WardLock<P, K, F>>,
     wards: &mut Vec<Ward<P, K>>,
+    answers: &mut Share<Answers<F>>,
     entries: &mut Share<Entries<F>>,
 )
     requires empty { wards.old.items ≡ [] }
     requires room { vec_len locks ≤ vec_capacity wards.old }
     ensures count { length wards.new.items ≡ vec_len locks }
-    ensures parts { entries.new.parts ≡ entries.old.parts + vec_len locks }
-    ensures amount { entries.new.amount ≡ entries.old.amount + entries_made wards.new.items }
+    ensures parts { (answers.new.parts ≡ answers.old.parts + vec_len locks) × (entries.new.parts ≡ entries.old.parts + vec_len locks) }
+    ensures stock { answers.new.amount + entries_made wards.new.items ≡ answers.old.amount + vec_len locks * stock }
+    ensures units { entries.new.amount ≡ entries.old.amount + units_of_wards wards.new.items }
 {
     for lock in locks {
-        let (ward, share) = lock.into_inner().into_inner().into_parts();
-        entries.merge(share);
+        let (ward, stock, entry) = lock.into_inner().into_inner().into_parts();
+        answers.merge(stock);
+        entries.merge(entry);
         wards.push_reserved(ward);
     }
+}
+
+// Puts all wards of a file in the order of their numbers, each of which stands for the place that it then
+// has. They are in it: but of what a list of locks keeps no clause says which lock has which ward.
+fn put_in_order<P: Pages + Drop, K: Keyer>(wards: &mut Vec<Ward<P, K>>)
+    requires few { length wards.old.items ≤ 16 }
+    requires all { units_of_wards wards.old.items ≡ units_of_first (length wards.old.items) }
+    ensures order { AreInOrder wards.new.items }
+    ensures count { length wards.new.items ≡ length wards.old.items }
+    ensures entries { entries_made wards.new.items ≡ entries_made wards.old.items }
+{
+    wards.sort_unstable_by_key(|ward| ward.number());
 }
 
 // The diaries out of their seats, in order. The seats' shares are put to the one given.

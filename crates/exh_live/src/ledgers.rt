@@ -4,10 +4,11 @@ use exh_settle::CALLER_LIMIT;
 use std::marker::{Brand, PhantomData};
 use std::sync::ledger::Ledger;
 
-/// The parts of the ledger of answers: one for each seat, and one that is never given to any.
-pub const ANSWER_PARTS: u64 = CALLER_LIMIT as u64 + 1;
+/// The parts of the ledger of answers: one for each seat, one for each ward that a file may have, and
+/// one that is never given to any.
+pub const ANSWER_PARTS: u64 = CALLER_LIMIT as u64 + 17;
 
-/// The parts of the ledger of entries: one for each ward that a file may have, and one more.
+/// The parts of the ledger of entered wards: one for each that a file may have, and one more.
 pub const ENTRY_PARTS: u64 = 17;
 
 /// The names of a file's two ledgers.
@@ -15,7 +16,7 @@ pub trait LedgerNames {
     /// That of the ledger of answers.
     ghost answers: { ℕ };
 
-    /// That of the ledger of journal entries.
+    /// That of the ledger of entered wards.
     ghost entries: { ℕ };
 }
 
@@ -26,10 +27,10 @@ impl LedgerNames for Brand {
     ghost entries = { 0 };
 }
 
-/// The ledger of the answers that a file's callers got.
+/// The ledger of answers: those that the file's callers got, and those that its wards have in stock.
 pub struct Answers<F>(PhantomData<F>);
 
-/// The ledger of the entries in a file's journals.
+/// The ledger of the wards that were entered in the file: of each, what tells its number.
 pub struct Entries<F>(PhantomData<F>);
 
 impl<F: LedgerNames> Ledger for Answers<F> {

@@ -1,12 +1,13 @@
-ghost use Rattle.std.specs.Prelude.{◌≡◌, ℕ, ◌+◌, ◌^◌, ◌<◌, ◌≤◌, [], vec_len, IfOk, OnOk, OnErr};
+ghost use Rattle.std.specs.Prelude.{◌≡◌, ℕ, ◌+◌, ◌*◌, ◌^◌, ◌<◌, ◌≤◌, [], vec_len, IfOk, OnOk, OnErr};
 ghost use Rattle.exh_prefix.specs.declared.prefix.TheConstants.{WARD_BITS_LIMIT};
 ghost use Rattle.exh_live.specs.declared.ledgers.TheConstants.{ANSWER_PARTS, ENTRY_PARTS};
 ghost use Rattle.exh_settle.specs.declared.diary.TheConstants.{CALLER_LIMIT};
 ghost use Rattle.exh_live.specs.LiveFile.{AreNewWardsOf, AreToBeTallied};
+ghost use Rattle.exh_live.specs.Stock.{stock, units_of_first};
 
 use crate::ledgers::{Answers, Entries};
 use crate::spare::Spare;
-use crate::tallied_ward::{TalliedWard, WardLock};
+use crate::tallied_ward::WardLock;
 use crate::tally::Tally;
 use crate::{Identity, NoSeat, Seat};
 use crossbeam_utils::CachePadded;
@@ -17,36 +18,40 @@ use exh_ward::Ward;
 use std::alloc::{AllocError, Global};
 use std::marker::Model;
 use std::sync::Mutex;
-use std::sync::ledger::{Blank, Share};
+use std::sync::ledger::{Blank, Total};
 
-/// A file whose wards are each behind a lock of its own, for callers on threads of their own. One more
-/// lock is that of the tally: the books of answers and of journal entries.
+/// A file whose wards are each behind a lock of its own, for callers on threads of their own. No lock is
+/// round two wards.
 #[derive(Drop)]
 pub struct LiveFile<P: Pages + Drop, K: Keyer, F: Identity> {
     pub(crate) alloc: Global,
     pub(crate) ward_bits: u8,
     pub(crate) keyer: K,
     pub(crate) wards: Vec<WardLock<P, K, F>>,
-    pub(crate) tally: CachePadded<Mutex<Tally<F>>>,
+    pub(crate) given: Total<Answers<F>>,
     pub(crate) answers: Spare<Answers<F>>,
+    pub(crate) entered: Total<Entries<F>>,
     pub(crate) entries: Spare<Entries<F>>,
     pub(crate) seats: u32,
 }
 
 impl<P: Pages + Drop, K: Keyer, F: Identity> Model for LiveFile<P, K, F> {
-    ghost use Rattle.std.specs.Prelude.{◌≡◌, ◌+◌, ◌^◌, ◌≤◌, vec_len};
+    ghost use Rattle.std.specs.Prelude.{◌≡◌, ◌+◌, ◌*◌, ◌^◌, ◌≤◌, vec_len};
     ghost use Rattle.exh_prefix.specs.declared.prefix.TheConstants.{WARD_BITS_LIMIT};
     ghost use Rattle.exh_live.specs.declared.ledgers.TheConstants.{ANSWER_PARTS, ENTRY_PARTS};
     ghost use Rattle.exh_settle.specs.declared.diary.TheConstants.{CALLER_LIMIT};
     ghost use Rattle.exh_live.specs.LiveFile.{LiveState};
+    ghost use Rattle.exh_live.specs.Stock.{stock, units_of_first};
 
     ghost Value = { LiveState K };
 
     ghost view = { λ a. record { ward_bits = a.ward_bits; keyer = a.keyer; seats = a.seats } };
 
     ghost invariant = { λ a. (a.ward_bits ≤ WARD_BITS_LIMIT) × (vec_len a.wards ≡ 2 ^ a.ward_bits) × (K.pseudokey_of a.keyer ≡ F.hashing)
-        × (a.seats ≤ CALLER_LIMIT) × (a.answers.parts + a.seats ≡ ANSWER_PARTS) × (a.answers.amount ≡ 0)
-        × (a.entries.parts + vec_len a.wards ≡ ENTRY_PARTS) × (a.entries.amount ≡ 0) };
+        × (vec_len a.wards ≤ 16) × (a.seats ≤ CALLER_LIMIT) × (a.answers.parts + a.seats + vec_len a.wards ≡ ANSWER_PARTS) × (a.answers.amount ≡ 0)
+        × (a.given.parts ≡ ANSWER_PARTS) × (a.given.amount ≡ vec_len a.wards * stock)
+        × (a.entries.parts + vec_len a.wards ≡ ENTRY_PARTS) × (a.entries.amount ≡ 0)
+        × (a.entered.parts ≡ ENTRY_PARTS) × (a.entered.amount ≡ units_of_first (vec_len a.wards)) };
 }
 
 impl<P: Pages + Drop, K: Keyer, F: Identity> LiveFile<P, K, F> {
@@ -69,15 +74,28 @@ impl<P: Pages + Drop, K: Keyer, F: Identity> LiveFile<P, K, F> {
         ensures { IfOk result (λ file. file ≡ record { ward_bits = ward_bits; keyer = keyer; seats = 0 }) }
     {
         let (given, answers) = answers.open::<Answers<F>>();
-        let (made, mut entries) = entries.open::<Entries<F>>();
-        let wards = locked(alloc, wards, &mut entries)?;
+        let (entered, entries) = entries.open::<Entries<F>>();
+        let mut tally = Tally {
+            given,
+            answers,
+            entered,
+            entries,
+        };
+        let wards = locked(alloc, wards, &mut tally)?;
+        let Tally {
+            given,
+            answers,
+            entered,
+            entries,
+        } = tally;
         Ok(LiveFile {
             alloc,
             ward_bits,
             keyer,
             wards,
-            tally: CachePadded::new(Mutex::new(Tally::new(given, made))),
+            given: given.close(),
             answers: Spare::new(answers),
+            entered: entered.close(),
             entries: Spare::new(entries),
             seats: 0,
         })
@@ -108,23 +126,27 @@ impl<P: Pages + Drop, K: Keyer, F: Identity> LiveFile<P, K, F> {
     }
 }
 
-// The wards, each behind a lock with its part of the ledger.
+// The wards, which answered nothing and stand in the order of their numbers, each behind a lock with its
+// parts of the ledgers.
 fn locked<P: Pages + Drop, K: Keyer, F: Identity>(
     alloc: Global,
     wards: Vec<Ward<P, K>>,
-    spare: &mut Share<Entries<F>>,
+    tally: &mut Tally<F>,
 ) -> Result<Vec<WardLock<P, K, F>>, AllocError>
-    requires wards { AreToBeTallied (λ keyer. K.pseudokey_of keyer) F.hashing wards.items }
-    requires parts { vec_len wards < spare.old.parts }
-    requires amount { spare.old.amount ≡ 0 }
+    requires wards { AreToBeTallied (λ keyer. K.pseudokey_of keyer) F.hashing 0 wards.items }
+    requires count { vec_len wards ≤ 16 }
+    requires answers { vec_len wards < tally.old.answers.parts }
+    requires entries { vec_len wards < tally.old.entries.parts }
+    requires totals { (tally.old.given.total ≡ 0) × (tally.old.entered.total ≡ 0) }
     ensures count { IfOk result (λ locks. vec_len locks ≡ vec_len wards) }
-    ensures parts { OnOk result (spare.new.parts + vec_len wards ≡ spare.old.parts) }
-    ensures amount { spare.new.amount ≡ 0 }
+    ensures answers { OnOk result (tally.new.answers.parts + vec_len wards ≡ tally.old.answers.parts) }
+    ensures entries { OnOk result (tally.new.entries.parts + vec_len wards ≡ tally.old.entries.parts) }
+    ensures stocked { OnOk result (tally.new.given.total ≡ vec_len wards * stock) }
+    ensures entered { OnOk result (tally.new.entered.total ≡ units_of_first (vec_len wards)) }
 {
     let mut locks = Vec::new(alloc);
     for ward in wards {
-        let part = spare.split_off(1, 0);
-        locks.push(Mutex::new(CachePadded::new(TalliedWard::new(ward, part))))?;
+        locks.push(Mutex::new(CachePadded::new(tally.enter(ward))))?;
     }
     Ok(locks)
 }

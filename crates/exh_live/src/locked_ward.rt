@@ -7,7 +7,6 @@ use crate::Identity;
 use crate::ledgers::Answers;
 use crate::lock::lock_soon;
 use crate::tallied_ward::WardLock;
-use crate::tally::Tally;
 use exh_calls::Call;
 use exh_frames::Pages;
 use exh_keyer::Keyer;
@@ -15,15 +14,14 @@ use exh_notice::Notice;
 use exh_prefix::PageNo;
 use exh_walk::Steps;
 use exh_ward::{Hop, WardFault};
+use std::sync::Wait;
 use std::sync::ledger::Share;
-use std::sync::{Mutex, Wait};
 
 /// A ward behind its lock, for one call of one caller, whose share of the answers it has meanwhile.
 /// The lock is taken once for each hop and each split.
 pub(crate) struct LockedWard<'a, P: Pages + Drop, K: Keyer, F: Identity, R: Wait> {
     pub(crate) rt: &'a R,
     pub(crate) ward: &'a WardLock<P, K, F>,
-    pub(crate) tally: &'a Mutex<Tally<F>>,
     pub(crate) answers: Share<Answers<F>>,
     // That of the call's key.
     pub(crate) pseudokey: u64,
@@ -39,7 +37,6 @@ impl<'a, P: Pages + Drop, K: Keyer, F: Identity, R: Wait> LockedWard<'a, P, K, F
         let LockedWard {
             rt: _,
             ward: _,
-            tally: _,
             answers,
             pseudokey: _,
         } = self;
@@ -69,15 +66,7 @@ impl<'a, P: Pages + Drop, K: Keyer, F: Identity, R: Wait> Steps for LockedWard<'
         if !ward.covers(pseudokey) {
             return Ok(Hop::Stray);
         }
-        ward.hop(
-            self.rt,
-            self.tally,
-            &mut self.answers,
-            at,
-            client,
-            call,
-            pseudokey,
-        )
+        ward.hop(&mut self.answers, at, client, call, pseudokey)
     }
 
     fn split(&mut self, at: PageNo) -> Result<Notice, WardFault> {

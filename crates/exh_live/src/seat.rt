@@ -62,7 +62,7 @@ impl<F: Identity> Seat<F> {
 }
 
 /// All seats of a file are taken.
-#[derive(Clone, Copy, Debug, PartialEq, Eq, Error)]
+#[derive(Clone, Copy, Debug, Error)]
 #[error("all seats are taken")]
 pub struct NoSeat;
 

@@ -9,11 +9,10 @@ ghost use Rattle.exh_route.specs.WardRun.{HopAt, SplitAt, answer_of};
 ghost use Rattle.exh_ward.specs.declared.ward_fault.WardFault.TheVariants.{Worn};
 ghost use Rattle.exh_walk.specs.WardStep.{IsWardStep};
 ghost use Rattle.exh_live.specs.Rounds.{IsKeeperTurn, MayRefuseKeeper};
+ghost use Rattle.exh_live.specs.Stock.{stock as stock_of_ward, units_of_number};
 
 use crate::Identity;
 use crate::ledgers::{Answers, Entries};
-use crate::lock::lock_soon;
-use crate::tally::Tally;
 use crossbeam_utils::CachePadded;
 use exh_calls::Call;
 use exh_frames::Pages;
@@ -22,44 +21,53 @@ use exh_notice::Notice;
 use exh_prefix::PageNo;
 use exh_ward::{Hop, Ward, WardFault};
 use std::alloc::AllocError;
+use std::sync::Mutex;
 use std::sync::ledger::Share;
-use std::sync::{Mutex, Wait};
 
 /// The lock of a ward. Who waits for it looks at another cache line than who holds it, and the wards
 /// have no line in common.
 pub(crate) type WardLock<P, K, F> = Mutex<CachePadded<TalliedWard<P, K, F>>>;
 
-/// What a ward's lock keeps: the ward, which is sound as every ward is, with its share of the journal
-/// entries, which is its journal's length. It turns keys into the file's pseudokeys.
+/// What a ward's lock keeps: the ward, which is sound as every ward is, with the answers that it has in
+/// stock, which are fewer by its journal's length, and what tells its number. It turns keys into the
+/// file's pseudokeys.
 #[derive(Drop)]
 pub(crate) struct TalliedWard<P: Pages + Drop, K: Keyer, F: Identity> {
     ward: Ward<P, K>,
-    entries: Share<Entries<F>>,
-    ghost one_part: { entries.parts ≡ 1 },
-    ghost counted: { entries.amount ≡ length ward.journal },
+    stock: Share<Answers<F>>,
+    entry: Share<Entries<F>>,
+    ghost one_part: { (stock.parts ≡ 1) × (entry.parts ≡ 1) },
+    ghost counted: { stock.amount + length ward.journal ≡ stock_of_ward },
+    ghost numbered: { entry.amount ≡ units_of_number ward.number },
     ghost hashed: { K.pseudokey_of ward.keyer ≡ F.hashing },
 }
 
 impl<P: Pages + Drop, K: Keyer, F: Identity> TalliedWard<P, K, F> {
-    /// A ward that answered nothing, with its part of the ledger of entries.
-    pub(crate) fn new(ward: Ward<P, K>, entries: Share<Entries<F>>) -> TalliedWard<P, K, F>
-        requires part { entries.parts ≡ 1 }
-        requires none { entries.amount ≡ 0 }
+    /// A ward that answered nothing, with its parts of the ledgers.
+    pub(crate) fn new(
+        ward: Ward<P, K>,
+        stock: Share<Answers<F>>,
+        entry: Share<Entries<F>>,
+    ) -> TalliedWard<P, K, F>
+        requires parts { (stock.parts ≡ 1) × (entry.parts ≡ 1) }
+        requires stock { stock.amount ≡ stock_of_ward }
+        requires numbered { entry.amount ≡ units_of_number ward.number }
         requires empty { ward.journal ≡ [] }
         requires hashed { K.pseudokey_of ward.keyer ≡ F.hashing }
         ensures { result.ward ≡ ward }
     {
-        TalliedWard { ward, entries }
+        TalliedWard { ward, stock, entry }
     }
 
-    /// The ward and its share.
-    pub(crate) fn into_parts(self) -> (Ward<P, K>, Share<Entries<F>>)
+    /// The ward and its shares.
+    pub(crate) fn into_parts(self) -> (Ward<P, K>, Share<Answers<F>>, Share<Entries<F>>)
         ensures ward { result.0 ≡ self.ward }
-        ensures part { result.1.parts ≡ 1 }
-        ensures counted { result.1.amount ≡ length result.0.journal }
+        ensures parts { (result.1.parts ≡ 1) × (result.2.parts ≡ 1) }
+        ensures counted { result.1.amount + length result.0.journal ≡ stock_of_ward }
+        ensures numbered { result.2.amount ≡ units_of_number result.0.number }
     {
-        let TalliedWard { ward, entries } = self;
-        (ward, entries)
+        let TalliedWard { ward, stock, entry } = self;
+        (ward, stock, entry)
     }
 
     /// Whether keys of this pseudokey belong to the ward.
@@ -72,12 +80,10 @@ impl<P: Pages + Drop, K: Keyer, F: Identity> TalliedWard<P, K, F> {
         self.ward.covers(pseudokey)
     }
 
-    /// One hop of the ward: the method that the world's step calls. At `Done` the tally is locked too,
-    /// and one unit is added to both books, to the caller's share and to the ward's; else to none.
-    pub(crate) fn hop<R: Wait>(
+    /// One hop of the ward: the method that the world's step calls. At `Done` one of the answers that the
+    /// ward has in stock is the caller's; else none.
+    pub(crate) fn hop(
         &mut self,
-        rt: &R,
-        tally: &Mutex<Tally<F>>,
         answers: &mut Share<Answers<F>>,
         at: PageNo,
         client: u32,
@@ -96,12 +102,16 @@ impl<P: Pages + Drop, K: Keyer, F: Identity> TalliedWard<P, K, F> {
         ensures units { answers.new.amount ≡ answers.old.amount + length (answer_of (HopAt at client call.now result)) }
         ensures seat { answers.new.parts ≡ answers.old.parts }
     {
-        let TalliedWard { ward, entries } = self;
-        // By whose contract the ward is sound.
-        ward.journal();
+        let TalliedWard {
+            ward,
+            stock,
+            entry: _,
+        } = self;
+        // By whose contracts the ward is sound, and has an answer in stock.
+        ward.journal().len();
         let hop = ward.hop_hashed(at, client, call, pseudokey)?;
         if let Hop::Done(_) = hop {
-            lock_soon(tally, rt).count(answers, entries);
+            stock.transfer(answers, 1);
         }
         Ok(hop)
     }

@@ -1,54 +1,61 @@
-ghost use Rattle.std.specs.Prelude.{◌≡◌, ◌+◌, ◌<◌};
-ghost use Rattle.exh_live.specs.declared.ledgers.TheConstants.{ANSWER_PARTS, ENTRY_PARTS};
+ghost use Rattle.std.specs.Prelude.{◌≡◌, ◌+◌, ◌<◌, []};
+ghost use Rattle.exh_live.specs.Stock.{stock, units_of_number};
 
 use crate::Identity;
 use crate::ledgers::{Answers, Entries};
+use crate::tallied_ward::TalliedWard;
+use exh_frames::Pages;
+use exh_keyer::Keyer;
+use exh_ward::Ward;
 use std::sync::ledger::{Book, Share};
 
-/// What the tally's lock keeps: the books of answers and of journal entries, which are equal.
+/// The ledgers of a file that is being made: their books, and the parts that nobody has.
 #[derive(Drop)]
 pub(crate) struct Tally<F: Identity> {
-    answers: Book<Answers<F>>,
-    entries: Book<Entries<F>>,
-    ghost equal: { answers.total ≡ entries.total },
+    pub(crate) given: Book<Answers<F>>,
+    pub(crate) answers: Share<Answers<F>>,
+    pub(crate) entered: Book<Entries<F>>,
+    pub(crate) entries: Share<Entries<F>>,
+    ghost none: { (answers.amount ≡ 0) × (entries.amount ≡ 0) },
 }
 
 impl<F: Identity> Tally<F> {
-    /// The tally of a file that answered nothing.
-    pub(crate) fn new(answers: Book<Answers<F>>, entries: Book<Entries<F>>) -> Tally<F>
-        requires { answers.total ≡ entries.total }
-    {
-        Tally { answers, entries }
-    }
-
-    /// Adds a unit to each book: one answer, in a seat's share, and one entry, in a ward's share.
-    pub(crate) fn count(&mut self, answers: &mut Share<Answers<F>>, entries: &mut Share<Entries<F>>)
-        requires seat { 0 < answers.old.parts }
-        requires ward { 0 < entries.old.parts }
-        ensures answers { answers.new.amount ≡ answers.old.amount + 1 }
-        ensures entries { entries.new.amount ≡ entries.old.amount + 1 }
-        ensures seat { answers.new.parts ≡ answers.old.parts }
-        ensures ward { entries.new.parts ≡ entries.old.parts }
-    {
-        let Tally {
-            answers: given,
-            entries: made,
-        } = self;
-        given.add(answers, 1);
-        made.add(entries, 1);
-    }
-
-    /// Shares that have all parts of their ledgers are their books, so they are equal.
-    pub(crate) fn audit(&mut self, answers: &mut Share<Answers<F>>, entries: &mut Share<Entries<F>>)
-        requires answers { answers.old.parts ≡ ANSWER_PARTS }
-        requires entries { entries.old.parts ≡ ENTRY_PARTS }
-        ensures equal { answers.old.amount ≡ entries.old.amount }
+    /// A ward that answered nothing, entered with its stock of answers and with what tells its number.
+    pub(crate) fn enter<P: Pages + Drop, K: Keyer>(
+        &mut self,
+        ward: Ward<P, K>,
+    ) -> TalliedWard<P, K, F>
+        requires empty { ward.journal ≡ [] }
+        requires hashed { K.pseudokey_of ward.keyer ≡ F.hashing }
+        requires number { ward.number < 16 }
+        requires answers { 1 < self.old.answers.parts }
+        requires entries { 1 < self.old.entries.parts }
+        ensures stocked { self.new.given.total ≡ self.old.given.total + stock }
+        ensures answers { self.new.answers.parts + 1 ≡ self.old.answers.parts }
+        ensures entered { self.new.entered.total ≡ self.old.entered.total + units_of_number ward.number }
+        ensures entries { self.new.entries.parts + 1 ≡ self.old.entries.parts }
     {
         let Tally {
-            answers: given,
-            entries: made,
+            given,
+            answers,
+            entered,
+            entries,
         } = self;
-        given.audit(answers);
-        made.audit(entries);
+        let mut stock = answers.split_off(1, 0);
+        // One more than the greatest number of entries.
+        given.add(&mut stock, u64::MAX);
+        given.add(&mut stock, 1);
+        let mut entry = entries.split_off(1, 0);
+        entered.add(&mut entry, units(ward.number()));
+        TalliedWard::new(ward, stock, entry)
     }
+}
+
+// How many units a ward of this number is entered with: powers of 17, so that of at most sixteen wards
+// the sum tells the numbers.
+fn units(number: u8) -> u64
+    requires { number < 16 }
+    ensures { result ≡ units_of_number number }
+{
+    17u64.pow(u32::from(number))
 }

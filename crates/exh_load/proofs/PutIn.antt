@@ -25,7 +25,7 @@ use Rattle.exh_ward.specs.WardState.{WardState, own_prefix}
 use Rattle.exh_ward.specs.declared.ward_fault.WardFault.{WardFault}
 use Rattle.exh_open.specs.Opened.{AreWardsOf, IsWardOf}
 use Rattle.exh_load.specs.Put.{AreSplitsAtMost, IsDirectoryOf, IsPut}
-use Rattle.exh_load.specs.Loader.{IsLoading, IsPutIn, LoaderState, file_in, ward_in}
+use Rattle.exh_load.specs.Loader.{HasSplitsIn, IsLoading, IsPutIn, LoaderState, file_in, ward_in}
 use Rattle.exh_load.specs.Loading.{Loading, after_pair, loading_of, map_at, pair_reply}
 use Rattle.exh_load.specs.Load.{new_count, record_count}
 use Rattle.exh_load.proofs.Records.{put_counted}
@@ -77,6 +77,10 @@ if_ok (Err fault) then has = tt
 on_if_ok : {P : Reply → Type 0} {Q : Type 0} (result : Result Reply WardFault) → ((reply : Reply) → P reply → Q) → IfOk result P → OnOk result Q
 on_if_ok (Ok reply) then has = then reply has
 on_if_ok (Err fault) then has = tt
+
+on_err : {P Q : Type 0} (result : Result Reply WardFault) → (P → Q) → OnErr result P → OnErr result Q
+on_err (Ok reply) then has = tt
+on_err (Err fault) then has = then has
 
 -- ---- the ward of the key
 
@@ -151,6 +155,18 @@ module _ (old now : LoaderState) (view_is : old ≡ now) (are : AreWardsOf (file
 
         pub is_put_in : (value : List ℕ) → IfOk result (λ reply. IsPut any_pseudokey ward (Put key value) reply after) → IfOk result (λ reply. IsPutIn now key value reply left)
         is_put_in value put = if_ok result (λ reply has. subst (λ o. IsPutIn o key value reply left) view_is (is_put value reply has)) put
+
+        splits_in : AreSplitsAtMost ward after → HasSplitsIn old key left
+        splits_in splits = record {
+          ward = ward;
+          after = after;
+          there = subst (λ n. slice_get old.wards n ≡ Some ward) place there;
+          splits = splits;
+          others = ap (λ (n : ℕ). let loader : LoaderState = record old { wards = slice_set old.wards n after; directories = slice_set old.directories at told } in loader) place;
+        }
+
+        pub are_splits_in : OnErr result (AreSplitsAtMost ward after) → OnErr result (HasSplitsIn now key left)
+        are_splits_in = on_err result (λ splits. subst (λ o. HasSplitsIn o key left) view_is (splits_in splits))
 
         abbrev map_now : KeyMap
         map_now = map_at (loading_of old) key

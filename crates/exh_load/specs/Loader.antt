@@ -10,7 +10,7 @@ use Rattle.exh_calls.specs.declared.call.Call.TheVariants.{Put}
 use Rattle.exh_calls.specs.declared.reply.Reply.{Reply}
 use Rattle.exh_ward.specs.WardState.{WardState}
 use Rattle.exh_open.specs.Opened.{OpenedState}
-use Rattle.exh_load.specs.Put.{IsDirectoryOf, IsPut}
+use Rattle.exh_load.specs.Put.{AreSplitsAtMost, IsDirectoryOf, IsPut}
 
 pub record LoaderState : Type 0 where
   pub cap : ℕ
@@ -62,6 +62,14 @@ pub record IsPutIn (old : LoaderState) (key value : List ℕ) (reply : Reply) (n
   pub after : WardState AnyKeyer
   pub there : slice_get old.wards (ward_in old key) ≡ Some ward
   pub put : IsPut any_pseudokey ward (Put key value) reply after
+  pub others : new ≡ record old { wards = slice_set old.wards (ward_in old key) after; directories = new.directories }
+
+-- pages of the ward of a key may have been split, and its count of page faults may be another; the other wards are as before
+pub record HasSplitsIn (old : LoaderState) (key : List ℕ) (new : LoaderState) : Type 0 where
+  pub ward : WardState AnyKeyer
+  pub after : WardState AnyKeyer
+  pub there : slice_get old.wards (ward_in old key) ≡ Some ward
+  pub splits : AreSplitsAtMost ward after
   pub others : new ≡ record old { wards = slice_set old.wards (ward_in old key) after; directories = new.directories }
 
 -- ---- of private functions

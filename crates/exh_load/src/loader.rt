@@ -1,11 +1,11 @@
-ghost use Rattle.std.specs.Prelude.{◌≡◌, ◌+◌, ◌≤◌, ◌^◌, ℕ, IfOk, IfErr, OnOk};
+ghost use Rattle.std.specs.Prelude.{◌≡◌, ◌+◌, ◌≤◌, ◌^◌, ℕ, IfOk, IfErr, OnErr, OnOk};
 ghost use Rattle.exh_page.specs.declared.page.TheConstants.{CAP_LIMIT};
 ghost use Rattle.exh_prefix.specs.declared.prefix.TheConstants.{WARD_BITS_LIMIT};
 ghost use Rattle.exh_array.specs.Pointers.{DirectoryState};
 ghost use Rattle.exh_ward.specs.WardFault.{IsStoreFault};
 ghost use Rattle.exh_load.specs.Load.{empty_loading, new_count, record_count};
 ghost use Rattle.exh_load.specs.Loading.{after_pair, loading_of, pair_reply};
-ghost use Rattle.exh_load.specs.Loader.{AreEach, IsEmptyDirectory, IsEmptyLoader, IsFreshWard, IsLoading, IsPutIn, file_in};
+ghost use Rattle.exh_load.specs.Loader.{AreEach, HasSplitsIn, IsEmptyDirectory, IsEmptyLoader, IsFreshWard, IsLoading, IsPutIn, file_in};
 
 use crate::put_pair;
 use exh_array::Directory;
@@ -74,8 +74,8 @@ impl Loader {
     }
 
     /// Puts a pair into the ward of its key, and splits pages where they are full for it, as `put_pair`
-    /// does. The key is hashed once. `Memory` and `Page` may come at any point: no more pairs can be
-    /// put then, since a directory may lack a notice.
+    /// does. The key is hashed once. `Memory` and `Page` may come at any point: splits that were made
+    /// stay made, and no more pairs can be put then, since a directory may lack a notice.
     pub fn put(&mut self, key: Key, value: Value) -> Result<Reply, WardFault>
         requires { IsLoading self.old }
         ensures put { IfOk result (λ reply. IsPutIn self.old key value reply self.new) }
@@ -83,6 +83,7 @@ impl Loader {
         ensures maps { OnOk result (loading_of self.new ≡ after_pair (loading_of self.old) key value) }
         ensures records { IfOk result (λ reply. new_count reply + record_count (loading_of self.old) ≡ record_count (loading_of self.new)) }
         ensures loading { OnOk result (IsLoading self.new) }
+        ensures err { OnErr result (HasSplitsIn self.old key self.new) }
         ensures fault { IfErr result IsStoreFault }
     {
         let pseudokey = self.keyer.pseudo(key.as_bytes());

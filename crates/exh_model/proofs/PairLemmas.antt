@@ -182,18 +182,14 @@ find-again key value pairs old other None seen is =
     ] refl
 
 -- one pair more, whose key the map has
-pub from_entries_again : (pairs : List Pair) (i : ℕ) (pair : Pair) (old : List ℕ) → i < length pairs → pair ≡ get_or pairs i pair → fin.get (fin.from_entries {R = by_bytes} (take i pairs)) pair.0 ≡ Some old
-    → fin.from_entries {R = by_bytes} (take i pairs) ≡ fin.from_entries (take (i + 1) pairs)
-from_entries_again pairs i pair old within is seen =
-    same_maps _ _ (λ other. get_found other (take i pairs) ∙ sym (find-again pair.0 pair.1 (take i pairs) old other _ (sym (get_found pair.0 (take i pairs)) ∙ seen) refl)
-    ∙ ap (fin.find by_bytes other) (sym (take_more pairs i pair within ∙ ap (λ p. take i pairs ++ p ∷ []) (sym is))) ∙ sym (get_found other (take (i + 1) pairs)))
+pub from_entries_again : (pairs : List Pair) (pair : Pair) (old : List ℕ) → fin.get (fin.from_entries {R = by_bytes} pairs) pair.0 ≡ Some old → fin.from_entries {R = by_bytes} pairs ≡ fin.from_entries (pairs ++ pair ∷ [])
+from_entries_again pairs pair old seen =
+    same_maps _ _ (λ other. get_found other pairs ∙ sym (find-again pair.0 pair.1 pairs old other _ (sym (get_found pair.0 pairs) ∙ seen) refl) ∙ sym (get_found other (pairs ++ pair ∷ [])))
 
 -- one pair more, whose key the map lacks
-pub from_entries_new : (pairs : List Pair) (i : ℕ) (pair : Pair) → i < length pairs → pair ≡ get_or pairs i pair → fin.get (fin.from_entries {R = by_bytes} (take i pairs)) pair.0 ≡ None
-    → fin.insert (fin.from_entries {R = by_bytes} (take i pairs)) pair.0 pair.1 ≡ fin.from_entries (take (i + 1) pairs)
-from_entries_new pairs i pair within is none =
-    sym (fin.from_entries_push nat_list_cmp_total (fin.slice_cmp-IsAntisymmetric fin.nat_cmp-IsAntisymmetric) (take i pairs) pair.0 pair.1 (sym (get_found pair.0 (take i pairs)) ∙ none))
-    ∙ ap (λ (ps : List Pair). fin.from_entries {R = by_bytes} ps) (sym (take_more pairs i pair within ∙ ap (λ p. take i pairs ++ p ∷ []) (sym is)))
+pub from_entries_new : (pairs : List Pair) (pair : Pair) → fin.get (fin.from_entries {R = by_bytes} pairs) pair.0 ≡ None → fin.insert (fin.from_entries {R = by_bytes} pairs) pair.0 pair.1 ≡ fin.from_entries (pairs ++ pair ∷ [])
+from_entries_new pairs pair none =
+    sym (fin.from_entries_push nat_list_cmp_total (fin.slice_cmp-IsAntisymmetric fin.nat_cmp-IsAntisymmetric) pairs pair.0 pair.1 (sym (get_found pair.0 pairs) ∙ none))
 
 pub none_there : (found : Option (List ℕ)) → is_some found ≡ false → found ≡ None
 none_there None none = refl

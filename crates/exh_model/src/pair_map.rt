@@ -2,12 +2,13 @@ ghost use Rattle.std.specs.Prelude.{◌≡◌, IfOk, OnErr};
 ghost use Rattle.std.specs.FinMap as map;
 ghost use Rattle.std.specs.List.Sorted.{IsPermutation};
 
+use exh_calls::Pairs;
 use exh_page::{Key, Value};
 use std::alloc::{AllocError, Global};
 use std::marker::Model;
 
 /// A map from keys to values, as a list of pairs in which no key stands twice.
-#[derive(Debug, Drop)]
+#[derive(Drop)]
 pub struct PairMap {
     pairs: Vec<(Key, Value)>,
 }
@@ -38,13 +39,13 @@ impl PairMap {
 
     /// The map of these pairs: of two pairs of one key the first counts. An `AllocError` where memory
     /// for them is refused.
-    pub fn from_pairs(alloc: Global, pairs: &[(Key, Value)]) -> Result<PairMap, AllocError>
-        ensures { IfOk result (λ made. made ≡ map.from_entries pairs.now) }
+    pub fn from_pairs(alloc: Global, pairs: Pairs<'_>) -> Result<PairMap, AllocError>
+        ensures { IfOk result (λ made. made ≡ map.from_entries pairs.entry) }
     {
         let mut map = PairMap::new(alloc);
         for (key, value) in pairs {
-            if map.get(key).is_none() {
-                map.insert(*key, *value)?;
+            if map.get(&key).is_none() {
+                map.insert(key, value)?;
             }
         }
         Ok(map)

@@ -8,7 +8,7 @@ use exh_settings::COPIES_LIMIT;
 use exh_text::{LineFault, parse_key, parse_pair, parse_u32, parse_u32_after, parse_u64};
 
 /// Which word of a line comes next.
-#[derive(Clone, Copy, Debug, PartialEq, Eq)]
+#[derive(Clone, Copy)]
 pub enum Expect {
     /// The words of a `file` line.
     File,

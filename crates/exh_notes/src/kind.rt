@@ -4,7 +4,7 @@ ghost use Rattle.exh_notes.specs.Kind.{kind_of, kind_of_fault};
 use exh_text::LineFault;
 
 /// Why a line of a text is told of.
-#[derive(Clone, Copy, Debug, PartialEq, Eq)]
+#[derive(Clone, Copy)]
 pub enum Kind {
     /// It is outside the grammar: `refused 60`.
     Syntax,

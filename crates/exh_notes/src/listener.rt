@@ -23,7 +23,7 @@ pub trait Listener {
 }
 
 /// Who listens to nothing.
-#[derive(Clone, Copy, Debug)]
+#[derive(Clone, Copy)]
 pub struct Silent;
 
 impl Listener for Silent {

@@ -4,7 +4,7 @@ ghost use Rattle.exh_notes.specs.Tally.{counted, tallied};
 use crate::Kind;
 
 /// How many lines of each kind there were.
-#[derive(Clone, Copy, Debug, PartialEq, Eq)]
+#[derive(Clone, Copy)]
 pub(crate) struct Tally {
     syntax: u64,
     range: u64,

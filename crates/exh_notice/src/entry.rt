@@ -8,7 +8,7 @@ use exh_prefix::PageNo;
 use std::alloc::AllocError;
 
 /// What was done at a prefix. Merges come before splits, and splits are ordered by right page.
-#[derive(Clone, Copy, Debug, PartialEq, Eq, PartialOrd, Ord, Hash)]
+#[derive(Clone, Copy, Debug, PartialEq, Eq, PartialOrd, Ord)]
 pub enum Kind {
     /// The page of the prefix took in its right buddy.
     Merge,
@@ -18,7 +18,7 @@ pub enum Kind {
 
 /// What a table has at a prefix: the number of the last split or merge there, from 1 on, and which
 /// it was. Entries are ordered by number, then by kind.
-#[derive(Clone, Copy, Debug, Hash, PartialEq, Eq, PartialOrd, Ord)]
+#[derive(Clone, Copy, PartialEq, Eq, PartialOrd, Ord)]
 pub struct Entry {
     pub number: u32,
     pub kind: Kind,

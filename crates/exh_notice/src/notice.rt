@@ -5,7 +5,7 @@ use crate::{Entry, Kind};
 use exh_prefix::Prefix;
 
 /// What a split or a merge tells every copy of the directory.
-#[derive(Clone, Copy, Debug, PartialEq, Eq, Hash)]
+#[derive(Clone, Copy, Debug, PartialEq, Eq)]
 pub struct Notice {
     /// The ward, 0 to 15.
     pub ward: u8,

@@ -10,7 +10,7 @@ use std::alloc::AllocError;
 use thiserror::Error;
 
 /// Why no page file was opened.
-#[derive(Clone, Copy, Debug, PartialEq, Eq, Error)]
+#[derive(Clone, Copy, Debug, Error)]
 pub enum OpenFault {
     /// No legal page file was read: number 30 to 41, and 10 for want of memory.
     #[error("{0}")]

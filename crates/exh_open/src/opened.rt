@@ -1,8 +1,10 @@
-ghost use Rattle.std.specs.Prelude.{◌≡◌};
-ghost use Rattle.exh_open.specs.Opened.{AreWardsOf, OpenedState};
+ghost use Rattle.std.specs.Prelude.{◌≡◌, ◌↔◌, ℕ, IfErr, IfOk, IsTrue};
+ghost use Rattle.exh_open.specs.Opened.{AreWardsOf, IsWardOf, OpenedState};
 
 use exh_frames::Pages;
 use exh_keyer::AnyKeyer;
+use exh_page::CAP_LIMIT;
+use exh_prefix::WARD_BITS_LIMIT;
 use exh_ward::Ward;
 use std::marker::Model;
 
@@ -51,6 +53,27 @@ impl<P: Pages + Drop> Opened<P> {
         }
     }
 
+    /// The wards of a file of these settings, as `new`, where they are that, which is tested: one for each
+    /// number, in order, each of that cap, ward bits and keyer, and the settings in their ranges; else the
+    /// wards as they were. So wards that a live file gave when it was closed are saved. It takes no memory.
+    pub fn from_wards(
+        cap: usize,
+        ward_bits: u8,
+        keyer: AnyKeyer,
+        wards: Vec<Ward<P, AnyKeyer>>,
+    ) -> Result<Opened<P>, Vec<Ward<P, AnyKeyer>>>
+        ensures opened { IfOk result (λ opened. opened ≡ record { cap = cap; ward_bits = ward_bits; keyer = keyer; wards = wards.items }) }
+        ensures each { IfOk result (λ opened. AreWardsOf opened) }
+        ensures back { IfErr result (λ back. back.items ≡ wards.items) }
+        ensures refused { IfErr result (λ _. AreWardsOf (let opened : OpenedState = record { cap = cap; ward_bits = ward_bits; keyer = keyer; wards = wards.items } in opened) → ⊥) }
+    {
+        if are_wards_of(cap, ward_bits, keyer, &wards) {
+            Ok(Opened::new(cap, ward_bits, keyer, wards))
+        } else {
+            Err(wards)
+        }
+    }
+
     /// The most records of a page. It takes no memory.
     pub fn cap(&self) -> usize
         ensures { result ≡ self.now.cap }
@@ -87,4 +110,40 @@ impl<P: Pages + Drop> Opened<P> {
     {
         self.wards
     }
+}
+
+// Whether wards are those of a file of these settings.
+fn are_wards_of<P: Pages + Drop>(
+    cap: usize,
+    ward_bits: u8,
+    keyer: AnyKeyer,
+    wards: &[Ward<P, AnyKeyer>],
+) -> bool
+    ensures { IsTrue result ↔ AreWardsOf (let opened : OpenedState = record { cap = cap; ward_bits = ward_bits; keyer = keyer; wards = wards.now } in opened) }
+{
+    if cap < 1 || CAP_LIMIT < cap || WARD_BITS_LIMIT < ward_bits || wards.len() != 1 << ward_bits {
+        return false;
+    }
+    for number in 0..wards.len() {
+        if !is_ward_of(cap, ward_bits, keyer, number, &wards[number]) {
+            return false;
+        }
+    }
+    true
+}
+
+// Whether a ward is that of a number in a file of these settings.
+fn is_ward_of<P: Pages + Drop>(
+    cap: usize,
+    ward_bits: u8,
+    keyer: AnyKeyer,
+    number: usize,
+    ward: &Ward<P, AnyKeyer>,
+) -> bool
+    ensures { (opened : OpenedState) → opened.cap ≡ cap → opened.ward_bits ≡ ward_bits → opened.keyer ≡ keyer → IsTrue result ↔ IsWardOf opened number ward.now }
+{
+    ward.cap() == cap
+        && ward.ward_bits() == ward_bits
+        && usize::from(ward.number()) == number
+        && ward.keyer() == keyer
 }

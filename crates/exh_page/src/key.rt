@@ -11,7 +11,7 @@ pub const KEY_LIMIT: usize = 64;
 
 /// A key: 1 to 64 bytes, ordered as lists of bytes: the first that differs decides, and a key that
 /// ends first is the lesser. A copy takes no memory.
-#[derive(Clone, Copy, Debug, PartialEq, Eq, PartialOrd, Ord)]
+#[derive(Clone, Copy, PartialEq, Eq)]
 pub struct Key {
     bytes: ShortBytes<KEY_LIMIT>,
 }

@@ -5,6 +5,7 @@
 pub use key::{KEY_LIMIT, Key};
 pub use laws::{buddies_unite, children_share_all, pages_have_limits, shares_are_records};
 pub use page::{CAP_LIMIT, Page};
+pub use page_head::PageHead;
 pub use record::Record;
 pub use records::{Records, RecordsIter};
 pub use size_fault::SizeFault;
@@ -15,6 +16,7 @@ mod key;
 mod laws;
 mod packed_records;
 mod page;
+mod page_head;
 mod record;
 mod records;
 mod short_bytes;

@@ -18,7 +18,7 @@ use std::marker::Model;
 
 /// A list of records, in any order. A record takes 16 bytes and those of its key and value, so that
 /// many pages are near at hand.
-#[derive(Debug, Drop)]
+#[derive(Drop)]
 pub(crate) struct PackedRecords {
     stored: Vec<StoredRecord>,
     texts: Vec<u8>,

@@ -1,6 +1,6 @@
 ghost use Rattle.std.specs.Prelude.{◌≡◌, ℕ, ◌≤◌, ◌↔◌, length, IsTrue, IsOk, IfSome, IfOk, OnErr};
 
-use crate::{Key, Records, Spot, Value};
+use crate::{Key, PageHead, Records, Spot, Value};
 use exh_prefix::{PageNo, Prefix};
 use std::alloc::AllocError;
 
@@ -9,7 +9,7 @@ pub const CAP_LIMIT: usize = 16;
 
 /// A page: a bucket (Fagin et al. 1979), or what is left of one that was merged away (exhash's
 /// own).
-#[derive(Debug, Drop)]
+#[derive(Drop)]
 pub enum Page {
     /// Holds the records whose pseudokeys the prefix begins, the prefix's length being the local
     /// depth. The right link is the live page with the next greater low bound, if there is one.
@@ -30,6 +30,7 @@ impl Page {
     ghost use Rattle.exh_page.specs.Records.{IsRising, value_at, with_record};
     ghost use Rattle.exh_page.specs.Search.{IsSought, IsSpot};
     ghost use Rattle.exh_page.specs.Page.{low_bound, records_of, share_of, with_records, IsDivisible, IsLive};
+    ghost use Rattle.exh_page.specs.PageHead.{head_of};
 
     /// The low bound: the least pseudokey that the page is for.
     pub fn low(&self) -> u64
@@ -48,6 +49,27 @@ impl Page {
         match self {
             Page::Live { .. } => true,
             Page::Forward { .. } => false,
+        }
+    }
+
+    /// All of the page but its records, which are counted. It takes no memory.
+    pub fn head(&self) -> PageHead
+        ensures { result ≡ head_of self.now }
+    {
+        match self {
+            Page::Live {
+                prefix,
+                right,
+                records,
+            } => PageHead::Live {
+                prefix: *prefix,
+                right: *right,
+                count: records.len(),
+            },
+            Page::Forward { low, target } => PageHead::Forward {
+                low: *low,
+                target: *target,
+            },
         }
     }
 

@@ -12,7 +12,7 @@ use std::alloc::{AllocError, Global};
 use std::marker::Model;
 
 /// Records in strictly rising order of (pseudokey, key), so no key stands twice under one pseudokey.
-#[derive(Debug, Drop)]
+#[derive(Drop)]
 pub struct Records {
     packed: PackedRecords,
 }

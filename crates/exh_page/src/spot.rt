@@ -1,5 +1,5 @@
 /// Where a record stands among others, or where it would.
-#[derive(Clone, Copy, Debug, PartialEq, Eq)]
+#[derive(Clone, Copy)]
 pub struct Spot {
     /// How many records stand before it.
     pub(crate) index: usize,

@@ -8,7 +8,7 @@ use crate::Key;
 use std::cmp::Ordering;
 
 /// What is kept of a record beside its bytes: its pseudokey, and how long its key and value are.
-#[derive(Clone, Copy, Debug)]
+#[derive(Clone, Copy)]
 pub(crate) struct StoredRecord {
     pub(crate) pseudokey: u64,
     pub(crate) key_len: u8,

@@ -2,7 +2,7 @@ use exh_file::{FileEntry, Header};
 use exh_page::Page;
 
 /// What a page file says.
-#[derive(Debug, Drop)]
+#[derive(Drop)]
 pub struct FileParts {
     pub header: Header,
     /// The pages of each ward in the order of their numbers, ward 0 first.

@@ -1,5 +1,6 @@
 ghost use Rattle.std.specs.Prelude.{◌≡◌, IfOk, IfSome};
 ghost use Rattle.exh_disk.specs.declared.stage.Stage.TheVariants.{Settled};
+ghost use Rattle.exh_save.specs.Saved.{IsLeft};
 
 use crate::wards::Wards;
 use exh_disk::{Disk, DiskFault, Saved, Seen, Target, look, save};
@@ -24,8 +25,9 @@ pub fn look_at<D: Disk>(
     look(alloc, disk, &target_at(path, seen))
 }
 
-/// Saves wards as the page file of a path of a disk, as `exh_disk` saves. The meter counts what is written, and `seen` is
-/// the file that was opened, where one was.
+/// Saves wards as the page file of a path of a disk, as `exh_disk` saves, and gives them back as they were, so that after
+/// a fault they can be saved elsewhere. The meter counts what is written, and `seen` is the file that was opened, where
+/// one was.
 ///
 /// On an `Err` a regular file that was there is as before, and nothing is left beside it.
 pub fn save_at<D: Disk, P: Pages + Drop, T: Terminal>(
@@ -35,11 +37,13 @@ pub fn save_at<D: Disk, P: Pages + Drop, T: Terminal>(
     seen: Option<&Seen>,
     opened: Opened<P>,
     meter: &Meter<T>,
-) -> Result<Saved<D::File>, DiskFault>
-    ensures { IfOk result (λ saved. IfSome saved.file (λ file. D.stage file ≡ Settled)) }
+) -> (Result<Saved<D::File>, DiskFault>, Opened<P>)
+    ensures settled { IfOk result.0 (λ saved. IfSome saved.file (λ file. D.stage file ≡ Settled)) }
+    ensures wards { IsLeft opened result.1 }
 {
     let wards = Wards { opened, meter };
-    save(alloc, disk, &target_at(path, seen), wards)
+    let (saved, wards) = save(alloc, disk, &target_at(path, seen), wards);
+    (saved, wards.opened)
 }
 
 fn target_at<'t>(path: &'t str, seen: Option<&'t Seen>) -> Target<'t> {

@@ -1,3 +1,5 @@
+ghost use Rattle.exh_save.specs.Saved.{IsLeft};
+
 use exh_disk::{Source, SourceFault};
 use exh_frames::Pages;
 use exh_open::Opened;
@@ -14,14 +16,18 @@ pub(crate) struct Wards<'m, P: Pages + Drop, T: Terminal> {
 }
 
 impl<P: Pages + Drop, T: Terminal> Source for Wards<'_, P, T> {
-    fn write_to<W: Write>(self, writer: &mut W) -> Result<(), SourceFault> {
-        let mut counted = MeteredWriter::new(writer, self.meter);
-        let (saved, _opened) = write_opened(self.opened, &mut FileWriter::new(&mut counted));
-        match saved {
+    ghost leaves = { λ old new. IsLeft old.opened new.opened };
+
+    fn write_to<W: Write>(self, writer: &mut W) -> (Result<(), SourceFault>, Self) {
+        let meter = self.meter;
+        let mut counted = MeteredWriter::new(writer, meter);
+        let (saved, opened) = write_opened(self.opened, &mut FileWriter::new(&mut counted));
+        let written = match saved {
             Ok(()) => Ok(()),
             Err(SaveFault::Write) => Err(SourceFault::Writer),
             Err(SaveFault::Memory) => Err(SourceFault::Memory),
             Err(SaveFault::Page) => Err(SourceFault::Source),
-        }
+        };
+        (written, Wards { opened, meter })
     }
 }

@@ -20,7 +20,7 @@ pub const WARD_BITS_LIMIT: u8 = 4;
 pub type PageNo = u32;
 
 /// The leading bits of pseudokeys, 0 to `LIMIT` of them.
-#[derive(Clone, Copy, Debug, PartialEq, Eq, PartialOrd, Ord, Hash)]
+#[derive(Clone, Copy, Debug, PartialEq, Eq, PartialOrd, Ord)]
 pub struct Prefix {
     /// The bits from the highest down, then zeros.
     bits: u64,

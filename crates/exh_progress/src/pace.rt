@@ -17,7 +17,7 @@ pub(crate) const STEPS: u8 = 16;
 pub(crate) const SOON: u64 = 10;
 
 /// How far work is, and when it was told of.
-#[derive(Clone, Copy, Debug, PartialEq, Eq)]
+#[derive(Clone, Copy)]
 pub(crate) struct Pace {
     pub(crate) began: u64,
     pub(crate) done: u64,

@@ -2,7 +2,7 @@ ghost use Rattle.std.specs.Prelude.{◌≡◌, ◌==◌, count_by};
 ghost use Rattle.exh_progress.specs.Line.{amount_of, count_of, unit_words};
 
 /// What is counted of the bytes that pass.
-#[derive(Clone, Copy, Debug, PartialEq, Eq)]
+#[derive(Clone, Copy)]
 pub enum Unit {
     /// Blocks of 4,096 bytes that are read.
     BlocksRead,
@@ -13,7 +13,7 @@ pub enum Unit {
 }
 
 /// Work that goes on: what is counted, and how many of it there are in all, where that is known.
-#[derive(Clone, Copy, Debug, PartialEq, Eq)]
+#[derive(Clone, Copy)]
 pub struct Work {
     pub unit: Unit,
     pub of: Option<u64>,

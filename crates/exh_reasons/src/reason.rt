@@ -5,7 +5,7 @@ use thiserror::Error;
 
 /// Why a page file isn't legal, in the order in which it is tested. As a refusal it is number 40 with
 /// this reason.
-#[derive(Clone, Copy, Debug, PartialEq, Eq, Error)]
+#[derive(Clone, Copy, Debug, Error)]
 pub enum Reason {
     /// A live page has more than cap records.
     #[error("reason 1")]

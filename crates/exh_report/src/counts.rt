@@ -5,7 +5,7 @@ ghost use Rattle.exh_report.specs.Counts.{forward_count, live_count, record_coun
 use exh_page::Page;
 
 /// How many pages of each kind, and how many records, some pages have.
-#[derive(Clone, Copy, Debug, PartialEq, Eq)]
+#[derive(Clone, Copy)]
 pub(crate) struct Counts {
     pub pages: u64,
     pub live: u64,

@@ -21,7 +21,7 @@ use std::alloc::Global;
 use std::io::{Read, Write};
 
 /// What is told of a legal file.
-#[derive(Clone, Copy, Debug, PartialEq, Eq)]
+#[derive(Clone, Copy)]
 enum Topic {
     /// How much it has.
     Size,

@@ -1,5 +1,5 @@
 /// What a command says of the bytes that it read.
-#[derive(Clone, Copy, Debug, PartialEq, Eq)]
+#[derive(Clone, Copy)]
 pub enum Verdict {
     /// They are a legal page file.
     Legal,

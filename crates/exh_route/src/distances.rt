@@ -1,8 +1,8 @@
 ghost use Rattle.std.specs.Prelude.{◌≡◌, ◌≤◌, ◌^◌, ℕ, Option, IfOk, IfErr, OnErr};
 ghost use Rattle.exh_prefix.specs.declared.prefix.TheConstants.{LIMIT};
 ghost use Rattle.exh_page.specs.declared.page.Page.{Page};
+ghost use Rattle.exh_page.specs.PageHead.{head_of};
 ghost use Rattle.exh_legal.specs.Pages.{IsAt};
-ghost use Rattle.exh_ward.specs.PageLine.{line_of_page};
 ghost use Rattle.exh_ward.specs.WardFault.{CountsFailures, PageRefused, IsStoreFault};
 ghost use Rattle.exh_ward.specs.WardState.{IsSoundWard, IsUnchanged};
 ghost use Rattle.exh_route.specs.Distance.{IsDistance, live_between};
@@ -11,8 +11,9 @@ ghost use Rattle.exh_route.specs.FirstLive.{lead_of, IsFirstLive, IsLivePage};
 use exh_frames::Pages;
 use exh_keyer::Keyer;
 use exh_legal::pages_are_few;
+use exh_page::PageHead;
 use exh_prefix::PageNo;
-use exh_ward::{PageLine, Ward, WardFault};
+use exh_ward::{Ward, WardFault};
 
 // Where a page leads on to.
 #[derive(Clone, Copy)]
@@ -34,8 +35,8 @@ struct FirstLive {
 
 /// How many moves a page is from the answer for a pseudokey: the forwarding pages on the way to the
 /// first live page, and the live pages whose low bound is above that one's and at most the pseudokey.
-/// It reads those pages and two more at most, and copies none. Refused: `NoPage`;
-/// at any point `Memory` and `Page`. The ward is as before.
+/// It reads the heads of those pages and two more at most. Refused: `NoPage`; at any
+/// point `Memory` and `Page`. The ward is as before.
 pub fn distance<P: Pages + Drop, K: Keyer>(
     ward: &mut Ward<P, K>,
     page: PageNo,
@@ -144,19 +145,18 @@ fn read_lead<P: Pages + Drop, K: Keyer>(
     ensures failures { CountsFailures result ward.old.failures ward.new.failures }
     ensures sound { IsSoundWard K.pseudokey_of ward.new }
 {
-    let line = ward.page_line(number)?;
-    Ok(lead_from(&line))
+    Ok(lead_from(ward.head(number)?))
 }
 
-// Where a page with this line leads on to.
-fn lead_from(line: &PageLine) -> Lead
-    ensures { (page : Page) → line.now ≡ line_of_page page → result ≡ lead_of page }
+// Where a page with this head leads on to.
+fn lead_from(head: PageHead) -> Lead
+    ensures { (page : Page) → head ≡ head_of page → result ≡ lead_of page }
 {
-    match line {
-        PageLine::Live { prefix, right, .. } => Lead::Right {
+    match head {
+        PageHead::Live { prefix, right, .. } => Lead::Right {
             low: prefix.low(),
-            right: *right,
+            right,
         },
-        PageLine::Forward { target, .. } => Lead::Target(*target),
+        PageHead::Forward { target, .. } => Lead::Target(target),
     }
 }

@@ -33,12 +33,6 @@ few_records ward number page few sound is =
 
 -- ---- wards of which one was touched
 
-pub still_the_same : (wards : List (WardState AnyKeyer)) → AreUnchanged wards wards
-still_the_same wards = record {
-  count = refl;
-  each = λ number ward left is there. let same = one_there wards number left ward there is in subst (λ (w : WardState AnyKeyer). IsUnchanged ward w) (sym same) refl;
-}
-
 module _ (wards : List (WardState AnyKeyer)) (at : ℕ) (ward left : WardState AnyKeyer) (is : slice_get wards at ≡ Some ward) where
   pub one_touched : IsUnchanged ward left → AreUnchanged wards (set wards at left)
   one_touched unchanged = record {

@@ -1,3 +1,4 @@
 pub mod SaveFault
 pub mod Saved
+pub mod LeftLemmas
 pub mod Reopened

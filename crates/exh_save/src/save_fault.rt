@@ -8,7 +8,7 @@ use exh_ward::WardFault;
 use thiserror::Error;
 
 /// Why wards weren't written whole.
-#[derive(Clone, Copy, Debug, PartialEq, Eq, Error)]
+#[derive(Clone, Copy, Debug, Error)]
 pub enum SaveFault {
     /// The writer failed, or took no bytes: number 42.
     #[error("the writer failed")]

@@ -11,3 +11,6 @@ pub mod BegunRequests
 pub mod Strays
 pub mod ReplyLaw
 pub mod StartedReplies
+-- of lines_go_alike and refused_lines_leave_the_others
+pub mod AlikeLines
+pub mod OtherLines

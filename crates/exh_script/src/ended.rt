@@ -1,5 +1,5 @@
 /// How the run of a script ended, its text being out.
-#[derive(Clone, Copy, Debug, PartialEq, Eq)]
+#[derive(Clone, Copy)]
 pub enum Ended {
     /// Each line was answered.
     Done,

@@ -1,13 +1,15 @@
 //! What holds of all scripts. Each function does nothing.
 
 ghost use Rattle.exh_script.specs.AnyStart.{BeginsSound, LinesKeepSettings, RepliesFollowAnyStart};
+ghost use Rattle.exh_script.specs.RefusedLines.{AnsweredLinesAreAScripts, LinesGoAlike, RefusedLinesLeaveTheOthers};
 ghost use Rattle.exh_script.specs.Replies.{RepliesAreOneMaps};
 ghost use Rattle.exh_script.specs.Text.{new_file};
 
 use exh_keyer::AnyKeyer;
 use exh_route::runs_keep_wards_sound_and_one_map;
 use exh_world::{
-    new_worlds_are_sound, runs_carry_the_headline, steps_have_outcomes, steps_keep_worlds_sound,
+    new_worlds_are_sound, runs_carry_the_headline, steps_go_alike, steps_have_outcomes,
+    steps_keep_worlds_sound,
 };
 
 /// The replies that a script prints are, in the order of the answering hops, those of the map machine from the empty
@@ -45,4 +47,21 @@ pub fn lines_keep_settings()
     steps_have_outcomes::<AnyKeyer>();
     steps_keep_worlds_sound::<AnyKeyer>();
     runs_keep_wards_sound_and_one_map::<AnyKeyer>();
+}
+
+/// Lines are answered with the same text over worlds that are equal but for their wards' counts of page faults, and
+/// leave such worlds.
+pub fn lines_go_alike()
+    ensures { LinesGoAlike }
+{
+    steps_go_alike::<AnyKeyer>();
+}
+
+/// Of lines that a caller has answered one by one, without any of those that were refused and not done, the others come
+/// to the same. Where each has a text, these are the text of a script of these lines, which leaves the same world.
+pub fn refused_lines_leave_the_others()
+    ensures others { RefusedLinesLeaveTheOthers }
+    ensures script { AnsweredLinesAreAScripts }
+{
+    steps_go_alike::<AnyKeyer>();
 }

@@ -3,7 +3,10 @@
 #![tactic(auto)]
 
 pub use ended::Ended;
-pub use laws::{lines_keep_settings, replies_are_one_maps, replies_follow_any_start};
+pub use laws::{
+    lines_go_alike, lines_keep_settings, refused_lines_leave_the_others, replies_are_one_maps,
+    replies_follow_any_start,
+};
 pub use response::push_response;
 pub use response_fault::ResponseFault;
 pub use run::Run;

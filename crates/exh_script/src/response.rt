@@ -1,14 +1,16 @@
-ghost use Rattle.std.specs.Prelude.{◌≡◌, ◌⊎◌, ◌++◌, OnOk, IfOk, IsErrOf};
+ghost use Rattle.std.specs.Prelude.{◌≡◌, ◌⊎◌, ◌++◌, OnErr, OnOk, IfOk, IsErrOf};
 ghost use Rattle.exh_keyer.specs.Pseudokey.{any_pseudokey};
 ghost use Rattle.exh_world.specs.Sound.{IsSoundWorld};
 ghost use Rattle.exh_world.specs.StepFunction.{result_of, world_after};
 ghost use Rattle.exh_line.specs.Answer.{step_answer};
+ghost use Rattle.exh_script.specs.RefusedLines.{LeavesTheOthers};
 ghost use Rattle.exh_script.specs.Text.{CountsPageFault, after_asked, after_line, line_response, response_text, response_to, view_response};
 ghost use Rattle.exh_script.specs.View.{view_result};
 ghost use Rattle.exh_line.specs.declared.line.Line.TheVariants.{Step};
 ghost use Rattle.exh_line.specs.declared.view.View.TheVariants.{Copy, Page};
 
 use crate::in_flight_text::push_in_flight;
+use crate::laws::lines_go_alike;
 use crate::{ResponseFault, Run};
 use exh_event::{Event, StepFault};
 use exh_frames::Pages;
@@ -22,8 +24,8 @@ use std::alloc::AllocError;
 /// Does what a line after the first asks, as it stands in the script, and adds what it prints.
 ///
 /// `Memory`: a growth was refused, and the world is as before the line or as after it. `Page`: a page couldn't be
-/// reached; then nothing was added, and the world is as before, but that a ward has counted that, so that a caller may
-/// go on.
+/// reached; then nothing was added, and the world is as before, but that a ward has counted that. So a caller may go on,
+/// and whatever lines come are answered as without the refused one.
 #[tactic(auto, unfolding(crate::specs::Text::line_response, crate::specs::Text::after_line))]
 pub fn push_response<P: Pages + Drop>(
     out: &mut Vec<u8>,
@@ -38,7 +40,9 @@ pub fn push_response<P: Pages + Drop>(
     ensures silent { IsErrOf result ResponseFault.Page → out.new.items ≡ out.old.items }
     ensures counted { IsErrOf result ResponseFault.Page → CountsPageFault run.old.world run.new.world }
     ensures memory { IsErrOf result ResponseFault.Memory → (run.new.world ≡ run.old.world) ⊎ (run.new.world ≡ after_line run.old.world line.now) }
+    ensures others { OnErr result (LeavesTheOthers run.old.tells_moves run.old.world line.now run.new.world) }
 {
+    lines_go_alike();
     match parse_line(line) {
         Ok(Line::Step(event)) => push_event(out, run, &event),
         Ok(Line::View(view)) => push_view(out, &mut run.world, view),
@@ -60,8 +64,10 @@ fn push_event<P: Pages + Drop>(
     ensures counted { IsErrOf result ResponseFault.Page → CountsPageFault run.old.world run.new.world }
     ensures memory { IsErrOf result ResponseFault.Memory → (run.new.world ≡ run.old.world) ⊎ (run.new.world ≡ after_asked run.old.world (Step event.now)) }
 {
-    let answer = answer_event(run, event)?;
-    Ok(push_answer(out, &answer)?)
+    match &answer_event(run, event) {
+        Ok(answer) => Ok(push_answer(out, answer)?),
+        Err(fault) => Err(*fault),
+    }
 }
 
 // A step that is refused for want of memory, or for a page out of reach, has no answer.
@@ -131,8 +137,8 @@ fn push_page_shown<P: Pages + Drop>(
     ensures counted { IsErrOf result ResponseFault.Page → CountsPageFault world.old world.new }
     ensures memory { IsErrOf result ResponseFault.Memory → world.new ≡ world.old }
 {
-    match world.page_line(ward, page) {
-        Ok(line) => Ok(push_page(out, ward, page, &line)?),
+    match world.head(ward, page) {
+        Ok(head) => Ok(push_page(out, ward, page, head)?),
         Err(StepFault::Ward(WardFault::Memory)) => Err(ResponseFault::Memory),
         Err(StepFault::Ward(WardFault::Page)) => Err(ResponseFault::Page),
         Err(fault) => Ok(push_refusal(out, fault.into())?),

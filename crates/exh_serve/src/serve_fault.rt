@@ -8,7 +8,7 @@ use std::alloc::AllocError;
 use thiserror::Error;
 
 /// Why a run of a script stopped, a beginning of its text being out.
-#[derive(Clone, Copy, Debug, PartialEq, Eq, Error)]
+#[derive(Clone, Copy, Debug, Error)]
 pub enum ServeFault {
     /// The writer failed (refusal 42).
     #[error("the writer failed")]

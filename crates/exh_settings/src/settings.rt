@@ -3,7 +3,7 @@ use exh_keyer::AnyKeyer;
 
 /// What the first line of a script says: the settings of its file, and whether a reply's line tells the moves of its
 /// request.
-#[derive(Clone, Copy, Debug)]
+#[derive(Clone, Copy)]
 pub struct Settings {
     pub file: Config<AnyKeyer>,
     pub tells_moves: bool,

@@ -1,3 +1,4 @@
+pub mod Beside
 pub mod Callers
 pub mod Each
 pub mod Entries

@@ -1,3 +1,4 @@
+pub mod Beside
 pub mod Diary
 pub mod Settled
 pub mod Laws

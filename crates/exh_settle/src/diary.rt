@@ -11,7 +11,7 @@ use std::marker::Model;
 pub const CALLER_LIMIT: u32 = 65_535;
 
 /// A caller's number, and its calls that were answered, in order, with their replies.
-#[derive(Debug, Drop)]
+#[derive(Drop)]
 pub struct Diary {
     client: u32,
     // The entries, as those of a journal in which all are this caller's.

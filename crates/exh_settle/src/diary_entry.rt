@@ -1,7 +1,7 @@
 use exh_calls::{Call, JournalEntry, Reply};
 
 /// A call that was answered, with its reply.
-#[derive(Clone, Copy, Debug, PartialEq, Eq)]
+#[derive(Clone, Copy, PartialEq, Eq)]
 pub struct DiaryEntry {
     pub call: Call,
     pub reply: Reply,

@@ -1,7 +1,7 @@
 use thiserror::Error;
 
 /// The diaries and the journals aren't settled.
-#[derive(Clone, Copy, Debug, PartialEq, Eq, Error)]
+#[derive(Clone, Copy, Debug, Error)]
 #[error("the callers' diaries and the wards' journals differ")]
 pub struct Mismatch;
 

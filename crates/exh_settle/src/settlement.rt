@@ -1,17 +1,19 @@
-ghost use Rattle.std.specs.Prelude.{◌≡◌, ◌<◌, ◌↔◌, ℕ, length, All, IsTrue};
+ghost use Rattle.std.specs.Prelude.{◌≡◌, ◌↔◌, ℕ, All, IsTrue, IsFalse};
 ghost use Rattle.std.specs.Iterator.{YieldsFirst};
 ghost use Rattle.std.specs.Result.{OkIff};
 ghost use Rattle.exh_calls.specs.declared.journal_entry.JournalEntry.{JournalEntry as JournalEntryType};
-ghost use Rattle.exh_calls.specs.Call.{key_of};
 ghost use Rattle.exh_settle.specs.Diary.{DiaryState};
-ghost use Rattle.exh_settle.specs.declared.diary_entry.DiaryEntry.{DiaryEntry as DiaryEntryType};
-ghost use Rattle.exh_settle.specs.Settled.{AreApart, IsOfOne, IsSameIn, IsSettled, answer_count, of_caller};
+ghost use Rattle.exh_settle.specs.Beside.{AreOver, Differs, GoesOn, IsSameFrom, of_caller_from};
+ghost use Rattle.exh_settle.specs.Settled.{AreApart, IsOfOne, IsSameIn, IsSettled, answer_count};
 
 use crate::{Diary, DiaryEntry, Journals, Mismatch};
-use exh_calls::{Entries, Journal};
+use exh_calls::Journal;
+
+// So many journals are walked beside a diary at once: those of all wards that a file may have.
+const ROW: usize = 16;
 
 /// What settled diaries and journals have in common.
-#[derive(Clone, Copy, Debug, PartialEq, Eq)]
+#[derive(Clone, Copy)]
 pub struct Settled {
     /// How many calls were answered: the number of all entries of the diaries, which is that of the
     /// journals. It is wide enough for any diaries.
@@ -21,7 +23,8 @@ pub struct Settled {
 /// Settles diaries with the journals of the wards: the diaries are of different callers, each entry of
 /// a journal is of one of them, and each diary is, ward by ward and in its order, the entries of its
 /// caller in that ward's journal; else a `Mismatch`. It takes no memory, and time as the journals have
-/// entries times the diaries, and the diaries entries times the wards.
+/// entries times the diaries; but of an entry of others its caller alone is read, and of up to 16 wards
+/// each key is hashed once.
 pub fn settle<J: Journals>(journals: &J, diaries: &[Diary]) -> Result<Settled, Mismatch>
     ensures { OkIff result (IsSettled (J.ward_of journals.now) (J.journals_of journals.now) diaries.now) (record { answers = answer_count diaries.now }) }
 {
@@ -65,12 +68,14 @@ fn are_known<J: Journals>(journals: &J, diaries: &[Diary]) -> bool
     true
 }
 
-// Whether each entry of a journal is of one of the diaries.
+// Whether each entry of a journal is of one of the diaries. Of an entry its caller alone is read.
 fn is_known(journal: &Journal, diaries: &[Diary]) -> bool
     ensures { IsTrue result ↔ All (λ (entry : JournalEntryType). IsOfOne diaries.now entry.client) journal.now.entries }
 {
-    for entry in journal.iter() {
-        if !is_of_one(entry.client, diaries) {
+    for at in 0..journal.len() {
+        // Each place has an entry.
+        let client = journal.client(at).unwrap();
+        if !is_of_one(client, diaries) {
             return false;
         }
     }
@@ -88,46 +93,29 @@ fn are_same<J: Journals>(journals: &J, diaries: &[Diary]) -> bool
 fn is_same<J: Journals>(journals: &J, diary: &Diary) -> bool
     ensures { IsTrue result ↔ ((number : ℕ) → IsSameIn (J.ward_of journals.now) (J.journals_of journals.now) diary.now number) }
 {
-    for number in 0..journals.count() {
-        if !is_same_in(journals, diary, number) {
-            return false;
-        }
-    }
-    // Of a ward that isn't there a diary has no entry.
-    is_within(journals, diary)
-}
-
-// Whether the keys of a diary belong to wards that are there.
-fn is_within<J: Journals>(journals: &J, diary: &Diary) -> bool
-    ensures { IsTrue result ↔ All (λ (entry : DiaryEntryType). J.ward_of journals.now (key_of entry.call) < length (J.journals_of journals.now)) diary.now.entries }
-{
-    let count = journals.count();
-    for entry in diary.iter() {
-        if journals.ward(entry.call.key()) >= count {
+    // One row also where no ward is there: the diary has no entry then.
+    let rows = journals.count().saturating_sub(1) / ROW + 1;
+    for row in 0..rows {
+        if !is_same_from(journals, diary, row * ROW) {
             return false;
         }
     }
     true
 }
 
-// Whether a diary's entries in one ward are those of its caller in the ward's journal.
-fn is_same_in<J: Journals>(journals: &J, diary: &Diary, number: usize) -> bool
-    requires { number < length (J.journals_of journals.now) }
-    ensures { IsTrue result ↔ IsSameIn (J.ward_of journals.now) (J.journals_of journals.now) diary.now number }
+// Whether the keys of a diary belong to wards that are there, and its entries in each ward of the row
+// that begins with a number are those of its caller in the ward's journal. The diary is walked once.
+fn is_same_from<J: Journals>(journals: &J, diary: &Diary, first: usize) -> bool
+    ensures { IsTrue result ↔ IsSameFrom (J.ward_of journals.now) (J.journals_of journals.now) diary.now first }
 {
     let client = diary.client();
-    let mut told = journals.journal(number).iter();
+    let mut places = [0; ROW];
     for entry in diary.iter() {
-        if journals.ward(entry.call.key()) == number {
-            let Some(other) = next_of(&mut told, client) else {
-                return false;
-            };
-            if !is_equal(&other, &entry) {
-                return false;
-            }
+        if !is_next(journals, client, &entry, first, &mut places) {
+            return false;
         }
     }
-    next_of(&mut told, client).is_none()
+    are_over(journals, client, first, &places)
 }
 
 // Whether two entries are the same.
@@ -137,12 +125,61 @@ fn is_equal(one: &DiaryEntry, other: &DiaryEntry) -> bool
     one == other
 }
 
-// The next entry of a caller, as it writes it down, of the entries of a journal from one on.
-fn next_of(entries: &mut Entries<'_>, client: u32) -> Option<DiaryEntry>
-    ensures { YieldsFirst (of_caller client) entries.old result entries.new }
+// Whether an entry of a caller's diary is of a ward that is there and, where that is one of the row,
+// the caller's next one in the ward's journal, whose place moves behind it.
+fn is_next<J: Journals>(
+    journals: &J,
+    client: u32,
+    entry: &DiaryEntry,
+    first: usize,
+    places: &mut [usize; ROW],
+) -> bool
+    ensures goes_on { IsTrue result → GoesOn (J.ward_of journals.now) (J.journals_of journals.now) client first entry.now places.old places.new }
+    ensures differs { IsFalse result → Differs (J.ward_of journals.now) (J.journals_of journals.now) client first entry.now places.old }
 {
-    while let Some(entry) = entries.next() {
-        if entry.client == client {
+    let number = journals.ward(entry.call.key());
+    if number >= journals.count() {
+        return false;
+    }
+    if number < first || number - first >= ROW {
+        return true;
+    }
+    match next_of(
+        journals.journal(number),
+        client,
+        &mut places[number - first],
+    ) {
+        Some(told) => is_equal(&told, entry),
+        None => false,
+    }
+}
+
+// Whether the journals of the row have no more entries of the caller, from their places on.
+fn are_over<J: Journals>(journals: &J, client: u32, first: usize, places: &[usize; ROW]) -> bool
+    ensures { IsTrue result ↔ AreOver (J.journals_of journals.now) client first places.now }
+{
+    let end = journals.count().min(first.saturating_add(ROW));
+    for number in first..end {
+        let mut place = places[number - first];
+        if next_of(journals.journal(number), client, &mut place).is_some() {
+            return false;
+        }
+    }
+    true
+}
+
+// The next entry of a caller, as it writes it down, of a journal from a place on, which moves behind it,
+// or to the end. Of the entries of others the caller alone is read.
+fn next_of(journal: &Journal, client: u32, place: &mut usize) -> Option<DiaryEntry>
+    ensures { YieldsFirst (of_caller_from client journal.now.entries) place.old result place.new }
+{
+    while *place < journal.len() {
+        let at = *place;
+        *place += 1;
+        // Each place has an entry.
+        let caller = journal.client(at).unwrap();
+        if caller == client {
+            let entry = journal.get(at).unwrap();
             return Some(DiaryEntry::from(entry));
         }
     }

@@ -13,7 +13,7 @@ use std::alloc::{AllocError, AllocFailed};
 use thiserror::Error;
 
 /// Why a storm isn't settled.
-#[derive(Clone, Copy, Debug, PartialEq, Eq, Error)]
+#[derive(Clone, Copy, Debug, Error)]
 pub enum StormFault {
     /// A growth was refused, or a thread can't be made: number 10.
     #[error("out of memory")]

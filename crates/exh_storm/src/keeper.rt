@@ -11,7 +11,7 @@ use std::sync::Wait;
 pub const KEEPER_CLIENT: u32 = 65_536;
 
 /// A keeper of a storm, which merges the sparse pages of one ward.
-#[derive(Clone, Copy, Debug)]
+#[derive(Clone, Copy)]
 pub struct Keeper {
     pub ward: u8,
 }

@@ -12,7 +12,7 @@ pub trait Watch {
 }
 
 /// A watch that is told, and does nothing.
-#[derive(Clone, Copy, Debug)]
+#[derive(Clone, Copy)]
 pub struct NoWatch;
 
 impl Watch for NoWatch {

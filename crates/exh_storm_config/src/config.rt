@@ -11,7 +11,7 @@ pub const COPIES_LIMIT: u8 = 8;
 
 /// The settings of a storm: 1 to 16 callers; 1 to 10,000 calls of each; at most `cap` records a page, 1
 /// to 16; 2^`ward_bits` wards, by 0 to 4 leading bits of pseudokeys; and 1 to 8 copies of the directory.
-#[derive(Clone, Copy, Debug, PartialEq, Eq)]
+#[derive(Clone, Copy)]
 pub struct StormConfig {
     pub callers: u8,
     pub calls: u32,

@@ -8,7 +8,7 @@ use std::io::Write;
 use thiserror::Error;
 
 /// A writer failed, or took no bytes.
-#[derive(Clone, Copy, Debug, PartialEq, Eq, Error)]
+#[derive(Clone, Copy, Debug, Error)]
 #[error("the writer failed")]
 pub struct WriteFault;
 

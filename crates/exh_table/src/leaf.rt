@@ -7,7 +7,7 @@ use exh_prefix::{LIMIT, PageNo, Prefix};
 
 /// A place that walks through a table come to, such as a leaf, where they stop: a prefix with its
 /// page.
-#[derive(Clone, Copy, Debug, PartialEq, Eq)]
+#[derive(Clone, Copy)]
 pub struct Leaf {
     /// The bits that all pseudokeys of the place begin with.
     pub prefix: Prefix,

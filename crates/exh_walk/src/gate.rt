@@ -12,7 +12,7 @@ pub trait Gate {
 }
 
 /// A gate that says yes to every client at every turn.
-#[derive(Clone, Copy, Debug)]
+#[derive(Clone, Copy)]
 pub struct OpenGate;
 
 impl Gate for OpenGate {
@@ -24,7 +24,7 @@ impl Gate for OpenGate {
 }
 
 /// A gate that says yes to every client at the turns from 1 to this number, and no at all others.
-#[derive(Clone, Copy, Debug)]
+#[derive(Clone, Copy)]
 pub struct TurnGate(pub u32);
 
 impl Gate for TurnGate {

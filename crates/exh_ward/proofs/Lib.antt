@@ -22,6 +22,7 @@ pub mod ChangesAreTold
 pub mod HalvesOfPages
 pub mod SplitsAreSteps
 -- merges
+pub mod Heads
 pub mod MergesAreSteps
 pub mod BuddySums
 -- splits and merges as functions

@@ -1,5 +1,5 @@
 -- A merge of two pages of a ward: what it finds, the pages that it leaves, and its notice.
-use Rattle.std.proofs.Common.{◌≡◌, ℕ, ◌+◌, ◌-◌, ◌<◌, ◌≤◌, ◌^◌, Bool, true, false, List, [], ◌∷◌, ◌++◌, length, Option, Some, inl, inr, refl, sym, ap, ◌∙◌, subst, arith}
+use Rattle.std.proofs.Common.{◌≡◌, ℕ, ◌-◌, ◌<◌, ◌≤◌, ◌^◌, Bool, true, false, List, [], ◌∷◌, ◌++◌, length, Option, Some, inl, inr, refl, sym, ap, ◌∙◌, subst, arith}
 use Rattle.std.specs.Prelude.{slice_set}
 use Rattle.std.proofs.lemmas.List.{length-append, length-set}
 use Rattle.std.proofs.lemmas.Option.{slice_get_within}
@@ -10,9 +10,12 @@ use Rattle.exh_notice.specs.declared.notice.Notice.{Notice}
 use Rattle.exh_page.specs.declared.page.TheConstants.{CAP_LIMIT}
 use Rattle.exh_page.specs.declared.page.Page.{Page}
 use Rattle.exh_page.specs.declared.page.Page.TheVariants.{Live, Forward}
-use Rattle.exh_page.specs.declared.record.Record.{Record}
 use Rattle.exh_page.specs.Laws.{AreOfWords, BuddiesUnite}
-use Rattle.exh_page.specs.Page.{AreRecordsOf, IsLive, IsWellFormed, low_bound, records_of}
+use Rattle.exh_page.specs.Page.{AreRecordsOf, IsWellFormed, low_bound, records_of}
+use Rattle.exh_page.specs.PageHead.{IsLiveHead, count_in, head_of}
+use Rattle.exh_page.specs.declared.page_head.PageHead.{PageHead}
+use Rattle.exh_page.specs.declared.page_head.PageHead.TheVariants.{Live as LiveHead}
+use Rattle.exh_frames.specs.PageStore.{HasHead}
 use Rattle.exh_page.specs.Records.{IsRising}
 use Rattle.exh_legal.specs.BareLemmas.{bare_at}
 use Rattle.exh_legal.specs.Change.{IsMerge}
@@ -35,9 +38,10 @@ use Rattle.exh_ward.specs.Told.{IsChangedTo, IsTold}
 use Rattle.exh_ward.specs.JoinedPage.{FitTogether, AreJoined}
 use Rattle.exh_ward.specs.WardState.{WardState, IsSound, own_prefix}
 use Rattle.exh_halves.specs.declared.halves_fault.HalvesFault.TheVariants.{NotLive, NotFull, AtLimit, NoBuddy, BuddySplit, TooMany, Memory}
+use Rattle.exh_ward.proofs.Heads.{IsHeaded, counted_in, headed}
 use Rattle.exh_ward.proofs.StepsKeepSound.{well_formed}
 
-forwards : (page : Page) → (IsLive page → ⊥) → (low target : ℕ) × (page ≡ Forward low target)
+forwards : (page : Page) → (IsLiveHead (head_of page) → ⊥) → (low target : ℕ) × (page ≡ Forward low target)
 forwards (Live prefix link records) not = absurd (not tt)
 forwards (Forward low target) not = (low, target, refl)
 
@@ -49,41 +53,51 @@ module _ {K : Type 0} {pseudo : List ℕ → ℕ} {takes : Page → Type 0} {own
   legal_at : (number : ℕ) (page : Page) → IsAt w.pages number page → IsLegalPage w.cap pseudo page
   legal_at number page is = page_at (IsLegalPage w.cap pseudo) w.pages number page kept.sound.legal.legal.legal.each is
 
-  pub few_at : (number : ℕ) (page : Page) → IsAt w.pages number page → length (records_of page) ≤ CAP_LIMIT
+  few_at : (number : ℕ) (page : Page) → IsAt w.pages number page → length (records_of page) ≤ CAP_LIMIT
   few_at number page is = omega (arith, few_in w.cap pseudo page (legal_at number page is), kept.most)
 
-  pub own_in_front : (number : ℕ) (page : Page) → IsAt w.pages number page → (prefix : List Bool) (link : Option ℕ) (records : List Record) → page ≡ Live prefix link records → IsFront own prefix
-  own_in_front number page is prefix link records live =
-      let within : IsWithin (own_prefix w) (Live prefix link []) = kept.sound.legal.legal.legal.linked.within number _ (bare_at w.pages number (Live prefix link records) (is ∙ ap Some live)) in
+  pub few_counted : (number : ℕ) (head : PageHead) → HasHead w.pages number head → count_in head ≤ CAP_LIMIT
+  few_counted number head is = omega (arith, ap count_in is.2, counted_in is.0, few_at number is.0 is.1)
+
+  pub own_in_front : (number : ℕ) (head : PageHead) → HasHead w.pages number head → (prefix : List Bool) (link : Option ℕ) (count : ℕ) → head ≡ LiveHead prefix link count → IsFront own prefix
+  own_in_front number head is prefix link count live =
+      let page_is = headed is.0 prefix link count (sym is.2 ∙ live) in
+      let within : IsWithin (own_prefix w) (Live prefix link []) = kept.sound.legal.legal.legal.linked.within number _ (bare_at w.pages number (Live prefix link page_is.records) (is.1 ∙ ap Some page_is.live)) in
       subst (λ (own : List Bool). IsFront own prefix) (sym kept.own_is) within.0
 
-  pub no_left_half : (at : ℕ) (left : Page) → IsAt w.pages at left → (fault : HalvesFault) → NoLeftHalf own left fault → MergeRefused w at (fault_of_halves fault)
-  no_left_half at left is NotLive refused = let forward = forwards left refused in (forward.0, forward.1, is ∙ ap Some forward.2)
+  pub no_left_half : (at : ℕ) (left : PageHead) → HasHead w.pages at left → (fault : HalvesFault) → NoLeftHalf own left fault → MergeRefused w at (fault_of_halves fault)
+  no_left_half at left is NotLive refused =
+      let forward = forwards is.0 (λ live. refused (subst IsLiveHead (sym is.2) live)) in
+      (forward.0, forward.1, is.1 ∙ ap Some forward.2)
   no_left_half at left is NotFull refused = absurd refused
   no_left_half at left is AtLimit refused = absurd refused
-  no_left_half at left is NoBuddy (prefix, link, records, live, why) =
+  no_left_half at left is NoBuddy (prefix, link, count, head, why) =
+      let page_is = headed is.0 prefix link count (sym is.2 ∙ head) in
       let no_buddy : HasNoBuddy w prefix = elim why [ inl same ↦ inl (same ∙ kept.own_is) | inr ends ↦ inr ends ] in
-      (prefix, link, records, is ∙ ap Some live, no_buddy)
+      (prefix, link, page_is.records, is.1 ∙ ap Some page_is.live, no_buddy)
   no_left_half at left is BuddySplit refused = absurd refused
   no_left_half at left is (TooMany sum) refused = absurd refused
   no_left_half at left is Memory refused = absurd refused
 
-  module _ (at : ℕ) {left : Page} (there : IsAt w.pages at left) {half : LeftHalf} (is : IsLeftHalf own left half) where
-    pub live_left : IsAt w.pages at (Live (half.parent ++ false ∷ []) half.right is.records)
-    live_left = there ∙ ap Some is.live
+  module _ (at : ℕ) {left : PageHead} (there : HasHead w.pages at left) {half : LeftHalf} (is : IsLeftHalf own left half) where
+    abbrev pub page_is : IsHeaded there.0 (half.parent ++ false ∷ []) half.right half.count
+    page_is = headed there.0 (half.parent ++ false ∷ []) half.right half.count (sym there.2 ∙ is.live)
+
+    pub live_left : IsAt w.pages at (Live (half.parent ++ false ∷ []) half.right page_is.records)
+    live_left = there.1 ∙ ap Some page_is.live
 
     inner : length (own_prefix w) ≤ length half.parent
     inner = subst (λ (own : List Bool). length own ≤ length half.parent) kept.own_is is.inner
 
-    pub left_child : IsLeftChild w at half.parent is.records
+    pub left_child : IsLeftChild w at half.parent page_is.records
     left_child = record { link = half.right; there = live_left; inner = inner }
 
     pub few_left : half.count ≤ CAP_LIMIT
-    few_left = omega (arith, is.count, few_at at _ live_left)
+    few_left = omega (arith, page_is.counted, few_at at _ live_left)
 
     module _ (law : LeftChildrenLinkToSiblings) where
       pub to_sibling : LinksToSibling w.pages half.parent half.right
-      to_sibling = law (own_prefix w) w.pages at half.parent half.right is.records kept.sound.legal.legal.legal.linked live_left inner
+      to_sibling = law (own_prefix w) w.pages at half.parent half.right page_is.records kept.sound.legal.legal.legal.linked live_left inner
 
       module _ {right : ℕ} (found : half.right ≡ Some right) where
         pub right_is : to_sibling.right ≡ right
@@ -92,7 +106,7 @@ module _ {K : Type 0} {pseudo : List ℕ → ℕ} {takes : Page → Type 0} {own
         pub right_within : right < length w.pages
         right_within = subst (λ n. n < length w.pages) right_is (slice_get_within w.pages to_sibling.right to_sibling.page.0 to_sibling.page.1)
 
-        module _ {buddy : Page} (is_buddy : IsAt w.pages right buddy) where
+        module _ {buddy : PageHead} (is_buddy : HasHead w.pages right buddy) where
           pub not_beside : (fault : HalvesFault) → NotBeside w.cap half buddy fault → MergeRefused w at (fault_of_halves fault)
           not_beside NotLive refused = absurd refused
           not_beside NotFull refused = absurd refused
@@ -100,26 +114,29 @@ module _ {K : Type 0} {pseudo : List ℕ → ℕ} {takes : Page → Type 0} {own
           not_beside NoBuddy refused = absurd refused
           not_beside BuddySplit refused = (
             half.parent,
-            is.records,
+            page_is.records,
             left_child,
             λ others (number, link, there).
                 let here : number ≡ right = to_sibling.sibling number (link, others, there) ∙ right_is in
-                refused link others (one_there w.pages right buddy _ is_buddy (subst (λ n. IsAt w.pages n (Live (half.parent ++ true ∷ []) link others)) here there)),
+                refused link (length others) (is_buddy.2 ∙ ap head_of (one_there w.pages right is_buddy.0 _ is_buddy.1 (subst (λ n. IsAt w.pages n (Live (half.parent ++ true ∷ []) link others)) here there))),
           )
-          not_beside (TooMany sum) (link, others, live, sum_is, more) =
-              (half.parent, is.records, others, left_child, (right, link, is_buddy ∙ ap Some live), sum_is ∙ ap (λ n. n + length others) is.count, more)
+          not_beside (TooMany sum) (link, count, head, sum_is, more) =
+              let other = headed is_buddy.0 (half.parent ++ true ∷ []) link count (sym is_buddy.2 ∙ head) in
+              (half.parent, page_is.records, other.records, left_child, (right, link, is_buddy.1 ∙ ap Some other.live), omega (arith, sum_is, page_is.counted, other.counted), more)
           not_beside Memory refused = absurd refused
 
           pub halves_fit : length half.parent < LIMIT → FitsBeside w.cap half buddy → FitTogether w at half.parent right
-          halves_fit short fits = record {
-            records = is.records;
-            link = fits.link;
-            others = fits.others;
-            left = left_child;
-            buddy = is_buddy ∙ ap Some fits.live;
-            few = omega (arith, is.count, fits.few);
-            short = short;
-          }
+          halves_fit short fits =
+              let other = headed is_buddy.0 (half.parent ++ true ∷ []) fits.link fits.count (sym is_buddy.2 ∙ fits.live) in
+              record {
+                records = page_is.records;
+                link = fits.link;
+                others = other.records;
+                left = left_child;
+                buddy = is_buddy.1 ∙ ap Some other.live;
+                few = omega (arith, page_is.counted, other.counted, fits.few);
+                short = short;
+              }
 
   -- ---- the page that it makes
 

@@ -27,6 +27,12 @@ use Rattle.exh_calls.specs.HistoryLemmas.{IsHistory-push, map_left-push}
 use Rattle.exh_ward.proofs.HomeReplies.{AtHome, Fit}
 use Rattle.exh_ward.proofs.AnswersKeepLegal.{new_legal, new_map, same_bare}
 
+-- a page of a store that was only read
+pub at_read : (old new : List Page) (number : ℕ) (page : Page) → new ≡ old → IsAt new number page → IsAt old number page
+at_read old new number page same is =
+    let P : List Page → Type 0 = λ pages. IsAt pages number page in
+    subst P same is
+
 linked_fits : (pages : List Page) (page : Page) (link : Option ℕ) → length pages < 2 ^ 32 - 1 → IsRightLink (bare pages) page link → link ≡ Some (2 ^ 32 - 1) → ⊥
 linked_fits pages page None few is so = cc
 linked_fits pages page (Some right) few is so =

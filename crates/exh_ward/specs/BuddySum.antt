@@ -2,8 +2,8 @@
 use Rattle.std.specs.Prelude.{◌≡◌, ℕ, ◌+◌, Bool, true, List, [], ◌∷◌, ◌++◌, length, Option}
 use Rattle.std.specs.Option.{MatchOption}
 use Rattle.exh_halves.specs.declared.left_half.LeftHalf.{LeftHalf}
-use Rattle.exh_page.specs.declared.page.Page.{Page}
-use Rattle.exh_page.specs.declared.page.Page.TheVariants.{Live}
+use Rattle.exh_page.specs.declared.page_head.PageHead.{PageHead}
+use Rattle.exh_page.specs.declared.page_head.PageHead.TheVariants.{Live}
 use Rattle.exh_page.specs.declared.record.Record.{Record}
 use Rattle.exh_ward.specs.MergeStep.{IsLeftChild, IsBuddy}
 use Rattle.exh_ward.specs.WardState.{WardState}
@@ -17,5 +17,5 @@ abbrev pub IsBuddySum : {K : Type 0} → WardState K → ℕ → Option ℕ → 
 IsBuddySum ward at found = MatchOption found ((sum : ℕ) → HasBuddySum ward at sum → ⊥) (λ sum. HasBuddySum ward at sum × ((other : ℕ) → HasBuddySum ward at other → other ≡ sum))
 
 -- the other page is the live one of the parent's right child, and both halves have so many records together
-abbrev pub HasSumBeside : LeftHalf → Page → ℕ → Type 0
-HasSumBeside half buddy sum = (link : Option ℕ) × (others : List Record) × (buddy ≡ Live (half.parent ++ true ∷ []) link others) × (sum ≡ half.count + length others)
+abbrev pub HasSumBeside : LeftHalf → PageHead → ℕ → Type 0
+HasSumBeside half buddy sum = (link : Option ℕ) × (count : ℕ) × (buddy ≡ Live (half.parent ++ true ∷ []) link count) × (sum ≡ half.count + count)

@@ -6,12 +6,10 @@ pub use laws::{
     answers_keep_legal, hops_are_computed, hops_have_outcomes, merges_are_computed,
     merges_have_outcomes, one_hop, splits_are_computed, splits_have_outcomes,
 };
-pub use page_line::PageLine;
 pub use ward::{Ward, first_page};
 pub use ward_fault::WardFault;
 
 mod hop;
 mod laws;
-mod page_line;
 mod ward;
 mod ward_fault;

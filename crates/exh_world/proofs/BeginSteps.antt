@@ -1,6 +1,7 @@
 -- What beginning a request leaves of the world.
-use Rattle.std.proofs.Common.{◌≡◌, ℕ, ◌-◌, ◌^◌, ◌<◌, ◌≤◌, List, [], ◌∷◌, ◌++◌, length, get_or, slice_get, Option, None, Some, Ok, false, refl, sym, ap, ◌∙◌, subst, arith}
+use Rattle.std.proofs.Common.{◌≡◌, ℕ, ◌-◌, ◌^◌, ◌<◌, ◌≤◌, List, [], ◌∷◌, ◌++◌, length, get_or, slice_get, Option, None, Some, Ok, true, false, Bor, refl, sym, ap, ◌∙◌, subst, arith}
 use Rattle.std.specs.Prelude.{is_some, slice_set}
+use Rattle.std.specs.Option.{option_copied}
 use Rattle.std.proofs.lemmas.Option.{get_or_from_slice_get, slice_get_read, slice_get_within}
 use Rattle.exh_prefix.specs.declared.prefix.TheConstants.{WARD_BITS_LIMIT}
 use Rattle.exh_prefix.specs.ListLemmas.{set_same}
@@ -27,15 +28,18 @@ use Rattle.exh_prefix.specs.Leading.{ward_of}
 use Rattle.exh_world.specs.World.{WorldState, changes_in, numbered}
 use Rattle.exh_event.specs.declared.event.Event.TheVariants.{Begin}
 use Rattle.exh_event.specs.declared.outcome.Outcome.TheVariants.{Begun}
-use Rattle.exh_world.specs.declared.request.Request.{Request}
 use Rattle.exh_world.specs.declared.world.World.TheInside.{Inside}
 use Rattle.exh_world.proofs.InsideWorld.{with_ward, world_of}
 use Rattle.exh_world.proofs.StepSound.{after_begun}
 use Rattle.exh_world.proofs.ToldTruly.{step_told}
 
-pub none_there : (request : Option Request) → is_some request ≡ false → request ≡ None
+pub none_there : {A : Type 0} (found : Option A) → is_some found ≡ false → found ≡ None
 none_there None is = refl
-none_there (Some request) is = cc
+none_there (Some a) is = cc
+
+pub some_there : {A : Type 0} (found : Option (Bor A)) → is_some found ≡ true → is_some (option_copied found) ≡ true
+some_there None is = cc
+some_there (Some a) is = refl
 
 abbrev pub with_requests : {P K : Type 0} → Inside P K → Requests → WorldState K
 with_requests i requests = record (world_of i) { in_flight = requests }

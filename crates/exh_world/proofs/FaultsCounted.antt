@@ -18,7 +18,7 @@ use Rattle.exh_event.specs.declared.event.Event.TheVariants.{Split, Merge}
 use Rattle.exh_event.specs.declared.outcome.Outcome.{Outcome}
 use Rattle.exh_event.specs.declared.step_fault.StepFault.{StepFault}
 use Rattle.exh_event.specs.declared.step_fault.StepFault.TheVariants.{Ward}
-use Rattle.exh_world.proofs.MappedLists.{map_there}
+use Rattle.exh_world.specs.ListLemmas.{map_there}
 
 module _ {K : Type 0} (pseudokey_of : K → List ℕ → ℕ) (old : WorldState K) where
   -- a ward with the count that it had

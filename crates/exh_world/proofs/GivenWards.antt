@@ -14,12 +14,11 @@ use Rattle.exh_table.specs.TableLemmas.{table_laws, up_to_itself, up_to_both}
 use Rattle.exh_table.specs.TableOrder.{IsOptionUpTo, IsTableUpTo, table_join}
 use Rattle.exh_ward.specs.WardState.{WardState, own_prefix}
 use Rattle.exh_world.specs.NewWorld.{AreWardsFor, tables_joined, world_of_wards}
-use Rattle.exh_world.specs.ListLemmas.{numbered_is, numbered_none}
+use Rattle.exh_world.specs.ListLemmas.{map_from, map_there, numbered_is, numbered_none}
 use Rattle.exh_world.specs.World.{WorldState}
 use Rattle.exh_settings.specs.declared.config.Config.{Config}
 use Rattle.exh_world.specs.Tables.{TellsTruly, IsToldTruly}
 use Rattle.exh_world.proofs.FreshWorld.{AreSoundWards}
-use Rattle.exh_world.proofs.MappedLists.{map_there, map_from}
 use Rattle.exh_world.proofs.NoticeEntries.{join_up}
 
 -- ---- tables joined one after another

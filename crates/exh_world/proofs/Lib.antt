@@ -40,9 +40,12 @@ pub mod CountedParts
 pub mod StepFunction
 pub mod StepOutcome
 pub mod PagesReached
+-- of steps_go_alike and refused_turns_leave_the_others
+pub mod AlikeSteps
+pub mod AlikeFunction
+pub mod OthersRun
 -- of each event's method: the world as its struct holds it, and shows it
 pub mod InsideWorld
-pub mod MappedLists
 pub mod WardsLeft
 pub mod FailureCounted
 pub mod FaultsCounted

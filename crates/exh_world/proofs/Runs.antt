@@ -5,6 +5,7 @@ use Rattle.std.specs.List.{AllByRecursion}
 use Rattle.std.proofs.lemmas.List.{map-append, take_more}
 use Rattle.std.proofs.lemmas.List.Elements.{All-from_recursion}
 use Rattle.exh_prefix.specs.ListLemmas.{AllByRecursion-append}
+use Rattle.exh_world.specs.Alike.{HasOthers, RefusedTurnsLeaveTheOthers}
 use Rattle.exh_world.specs.Headline.{IsHeadline}
 use Rattle.exh_world.specs.Laws.{AreWardsSound, RunsCarryTheHeadline}
 use Rattle.exh_world.specs.Moves.{AnswersAreBounded, HasBoundedAnswers}
@@ -83,3 +84,6 @@ module _ {K : Type 0} (pseudokey_of : K → List ℕ → ℕ) where
   pub current_of : RunsHaveCurrentCopies pseudokey_of → (start : WorldState K) (events : List Event) (turns : List Turn) (now : WorldState K) → IsSoundWorld pseudokey_of start
       → HasRun pseudokey_of start events turns now → HasCurrentCopies pseudokey_of start turns now
   current_of law start events turns now sound has = subst (λ ts. HasCurrentCopies pseudokey_of start ts now) has.turns_are (law start has.moments now sound has.run).0
+
+  pub others_of : RefusedTurnsLeaveTheOthers pseudokey_of → (start : WorldState K) (events : List Event) (turns : List Turn) (now : WorldState K) → HasRun pseudokey_of start events turns now → HasOthers pseudokey_of start turns now
+  others_of law start events turns now has = subst (λ ts. HasOthers pseudokey_of start ts now) has.turns_are (law start has.moments now has.run).0

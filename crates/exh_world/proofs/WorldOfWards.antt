@@ -29,13 +29,12 @@ use Rattle.exh_prefix.specs.declared.prefix.TheConstants.{WARD_BITS_LIMIT}
 use Rattle.exh_settings.specs.declared.config.Config.{Config}
 use Rattle.exh_world.specs.InFlight.{Requests}
 use Rattle.exh_world.specs.Kept.{IsKeptWorld}
-use Rattle.exh_world.specs.ListLemmas.{numbered_is, numbered_none}
+use Rattle.exh_world.specs.ListLemmas.{map_from, map_there, numbered_is, numbered_none}
 use Rattle.exh_world.specs.NewWorld.{IsWardFor, AreWardsFor, tables_joined, world_of_wards}
 use Rattle.exh_world.specs.Sound.{LeadsRight, LeadsRightIn, IsWardOf}
 use Rattle.exh_world.proofs.CopySteps.{all_above}
 use Rattle.exh_world.proofs.FreshWorld.{AreSoundWards, made_of}
 use Rattle.exh_world.proofs.GivenWards.{given_told}
-use Rattle.exh_world.proofs.MappedLists.{map_there, map_from}
 
 -- ---- tables joined one after another
 

@@ -14,8 +14,10 @@ pub mod Current
 pub mod Taken
 pub mod Begun
 pub mod Parts
+pub mod Alike
 pub mod Kept
 pub mod NewWorld
 pub mod ListLemmas
 pub mod EffectLemmas
 pub mod RequestLemmas
+pub mod AlikeLemmas

@@ -1,10 +1,11 @@
 -- Lists after one place is written, and things numbered from 1 on.
-use Rattle.std.proofs.Common.{◌≡◌, ℕ, zero, suc, ◌-◌, ◌<◌, List, [], ◌∷◌, ◌++◌, length, map, replicate, get_or, slice_get, Some, ◌⊎◌, inl, inr, refl, sym, ap, ◌∙◌, subst, arith}
+use Rattle.std.proofs.Common.{◌≡◌, ℕ, zero, suc, ◌-◌, ◌<◌, List, [], ◌∷◌, ◌++◌, length, map, replicate, get_or, slice_get, Option, None, Some, ◌⊎◌, inl, inr, refl, sym, ap, ◌∙◌, subst, arith}
 use Rattle.std.specs.Prelude.{slice_set}
 use Rattle.std.specs.List.{range_with_len}
+use Rattle.std.specs.Option.{option_map, option_map_or}
 use Rattle.std.proofs.lemmas.List.{length-replicate, get_or-replicate}
 use Rattle.std.proofs.lemmas.List.FromFn.{length-map-range_with_len, get_or-map-range_with_len}
-use Rattle.std.proofs.lemmas.Option.{get_or_from_slice_get, slice_get_read, slice_get_within}
+use Rattle.std.proofs.lemmas.Option.{get_or_from_slice_get, slice_get-map, slice_get_read, slice_get_within}
 use Rattle.exh_prefix.specs.ListLemmas.{push_is, set_is, set_here}
 use Rattle.exh_world.specs.World.{numbered}
 
@@ -59,3 +60,22 @@ pub mapped_is : {A : Type 0} (f : ℕ → A) (n at : ℕ) (y : A) → slice_get 
 mapped_is f n at y is =
     let within = subst (λ length. at < length) (length-map-range_with_len f 0 n) (slice_get_within (map f (range_with_len 0 n)) at y is) in
     (within, sym (get_or_from_slice_get (map f (range_with_len 0 n)) at y y is) ∙ get_or-map-range_with_len f 0 n at at y within (omega arith))
+
+module _ {A B : Type 0} (f : A → B) where
+  pub map_there : (xs : List A) (at : ℕ) (x : A) → slice_get xs at ≡ Some x → slice_get (map f xs) at ≡ Some (f x)
+  map_there xs at x is = slice_get-map f xs at ∙ ap (option_map f) is
+
+  pub map_from : (xs : List A) (at : ℕ) (y : B) → slice_get (map f xs) at ≡ Some y → (x : A) × (slice_get xs at ≡ Some x) × (y ≡ f x)
+  map_from [] at y is = cc
+  map_from (x ∷ xs) zero y is = (x, refl, cc)
+  map_from (x ∷ xs) (suc at) y is = map_from xs at y is
+
+-- ---- what a list whose elements were altered has at a place, where that is what they had before
+
+module _ {A B : Type 0} (alter : A → A) (of : A → B) (same : (x : A) → of (alter x) ≡ of x) (none : B) where
+  of_altered : (found : Option A) → option_map_or of (option_map alter found) none ≡ option_map_or of found none
+  of_altered None = refl
+  of_altered (Some x) = same x
+
+  pub altered_has : (xs : List A) (at : ℕ) → option_map_or of (slice_get (map alter xs) at) none ≡ option_map_or of (slice_get xs at) none
+  altered_has xs at = ap (λ found. option_map_or of found none) (slice_get-map alter xs at) ∙ of_altered (slice_get xs at)

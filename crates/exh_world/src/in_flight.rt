@@ -1,4 +1,5 @@
-ghost use Rattle.std.specs.Prelude.{◌≡◌, ℕ, List, [], ◌∷◌, ◌++◌, OnOk, OnErr, None};
+ghost use Rattle.std.specs.Prelude.{◌≡◌, ℕ, List, [], ◌∷◌, ◌++◌, IfOk, OnOk, OnErr, None};
+ghost use Rattle.std.specs.Option.{option_copied};
 ghost use Rattle.std.specs.Map.Iter.{ShowsInOrder, deref_pair};
 ghost use Rattle.exh_ward.specs.declared.hop.Hop.TheVariants.{Moved};
 ghost use Rattle.exh_world.specs.InFlight.{HasRoom, request_named, requests_after, moved_to};
@@ -7,41 +8,41 @@ ghost use Rattle.exh_world.specs.declared.request.Request.{Request as RequestTyp
 use crate::Request;
 use exh_prefix::PageNo;
 use exh_ward::Hop;
-use indexmap::IndexMap;
-use indexmap::map::Iter;
+use lru::{Iter, LruCache};
 use std::alloc::{AllocError, Global};
 use std::marker::Model;
 
-/// The requests in flight by their names, in the order begun.
+/// The requests in flight by their names, in the order begun. One is taken out without moving the others.
 #[derive(Drop)]
 pub(crate) struct InFlight {
-    requests: IndexMap<u32, Request>,
+    requests: LruCache<u32, Request>,
 }
 
 impl Model for InFlight {
-    ghost use Rattle.std.specs.Prelude.{ℕ, List};
+    ghost use Rattle.std.specs.Prelude.{◌≡◌, ◌-◌, ◌^◌, ℕ, List};
     ghost use Rattle.exh_world.specs.declared.request.Request.{Request};
 
     ghost Value = { List (ℕ × Request) };
 
     ghost view = { λ a. a.requests.entries };
+
+    ghost invariant = { λ a. a.requests.cap ≡ 2 ^ 64 - 1 };
 }
 
 impl InFlight {
-    /// No requests. It takes no memory.
-    pub(crate) fn new(alloc: Global) -> InFlight
-        ensures { result ≡ [] }
+    /// No requests. An `AllocError` where memory is refused.
+    pub(crate) fn new(alloc: Global) -> Result<InFlight, AllocError>
+        ensures { IfOk result (λ requests. requests ≡ []) }
     {
-        InFlight {
-            requests: IndexMap::new(alloc),
-        }
+        let requests = LruCache::unbounded(alloc)?;
+        Ok(InFlight { requests })
     }
 
     /// The request of a name.
-    pub(crate) fn get(&self, name: u32) -> Option<Request>
-        ensures { result ≡ request_named name self.now }
+    pub(crate) fn get(&self, name: u32) -> Option<&Request>
+        ensures { option_copied result ≡ request_named name self.now }
     {
-        self.requests.get(&name).copied()
+        self.requests.peek(&name)
     }
 
     /// The requests with their names.
@@ -53,14 +54,20 @@ impl InFlight {
     }
 
     /// Adds a request, of a name that isn't taken. An `AllocError` where memory is refused.
-    pub(crate) fn begin(&mut self, name: u32, request: Request) -> Result<(), AllocError>
+    pub(crate) fn begin(&mut self, name: u32, request: &Request) -> Result<(), AllocError>
         requires { request_named name self.old ≡ None }
-        ensures ok { OnOk result (self.new ≡ self.old ++ (name, request) ∷ []) }
+        ensures ok { OnOk result (self.new ≡ self.old ++ (name, request.now) ∷ []) }
         ensures err { OnErr result (self.new ≡ self.old) }
     {
-        // Built here, since the proof of an insert has to see the types of its fields.
-        let begun = Request { ..request };
-        self.requests.insert(name, begun)?;
+        // Fewer than there may be, so that none is pushed out.
+        prove!(self.requests.len() < usize::MAX);
+        // Built here, since the proof of what is put in has to see the types of its fields.
+        let begun = Request { ..*request };
+        let Ok(_) = self.requests.put(name, begun) else {
+            return Err(AllocError);
+        };
+        // What was put in last stands first.
+        self.requests.demote(&name);
         Ok(())
     }
 
@@ -71,7 +78,7 @@ impl InFlight {
     {
         match hop {
             Hop::Done(_) => {
-                self.requests.shift_remove(&name);
+                self.requests.pop(&name);
             }
             Hop::Moved(next) => self.move_to(name, *next),
             Hop::MustSplit | Hop::Stray => {}
@@ -82,13 +89,10 @@ impl InFlight {
         requires room { HasRoom name self.old }
         ensures { self.new ≡ moved_to name page self.old }
     {
-        if let Some(request) = self.get(name) {
-            let moved = Request {
-                page,
-                moves: request.moves + 1,
-                ..request
-            };
-            let _ = self.requests.insert(name, moved);
-        }
+        let Some(request) = self.requests.peek_mut(&name) else {
+            return;
+        };
+        request.page = page;
+        request.moves += 1;
     }
 }

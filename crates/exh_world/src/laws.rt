@@ -1,5 +1,6 @@
 //! What holds of every step and every run of a world. Each function does nothing.
 
+ghost use Rattle.exh_world.specs.Alike.{RefusedTurnsLeaveTheOthers, StepFunctionGoesAlike, StepsGoAlike};
 ghost use Rattle.exh_world.specs.Laws.{NewWorldsAreSound, PageFaultsAreCounted, RunsCarryTheHeadline, StepsAreComputed, StepsHaveOutcomes, StepsKeepWorldsSound, WorldsOfWardsAreSound};
 
 use exh_calls::sharers_begin;
@@ -80,4 +81,19 @@ pub fn worlds_of_wards_are_sound<K: Keyer>()
     ensures { WorldsOfWardsAreSound K.pseudokey_of }
 {
     walks_name_homes();
+}
+
+/// A step of a world is one of each world that is equal to it but for the wards' counts of page faults,
+/// as a relation and as a function, and leaves worlds that are equal but for these.
+pub fn steps_go_alike<K: Keyer>()
+    ensures steps { StepsGoAlike K.pseudokey_of }
+    ensures function { StepFunctionGoesAlike K.pseudokey_of }
+{}
+
+/// Of every run, without any of the turns that were refused, as for want of memory or by a page fault,
+/// the others are a run, between worlds that are equal but for the wards' counts of page faults.
+pub fn refused_turns_leave_the_others<K: Keyer>()
+    ensures { RefusedTurnsLeaveTheOthers K.pseudokey_of }
+{
+    steps_go_alike::<K>();
 }

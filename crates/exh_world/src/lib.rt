@@ -3,8 +3,9 @@
 #![tactic(auto)]
 
 pub use laws::{
-    new_worlds_are_sound, page_faults_are_counted, runs_carry_the_headline, steps_are_computed,
-    steps_have_outcomes, steps_keep_worlds_sound, worlds_of_wards_are_sound,
+    new_worlds_are_sound, page_faults_are_counted, refused_turns_leave_the_others,
+    runs_carry_the_headline, steps_are_computed, steps_go_alike, steps_have_outcomes,
+    steps_keep_worlds_sound, worlds_of_wards_are_sound,
 };
 pub use move_laws::{current_copies_look_once, moves_are_counted};
 pub use request::Request;

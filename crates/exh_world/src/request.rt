@@ -2,7 +2,7 @@ use exh_calls::Call;
 use exh_prefix::PageNo;
 
 /// A request in flight: who asks what, and the page that it has come to.
-#[derive(Clone, Copy, Debug, PartialEq, Eq)]
+#[derive(Clone, Copy)]
 pub struct Request {
     pub client: u32,
     pub call: Call,

@@ -16,12 +16,12 @@ ghost use Rattle.exh_ward.specs.declared.ward_fault.WardFault.TheVariants.{Page 
 
 use super::{Ward, own_prefix};
 use crate::WardFault;
-use exh_calls::{Base, Journal};
+use exh_calls::{Base, Journal, PackedPairs};
 use exh_frames::Pages;
 use exh_join::Join;
 use exh_keyer::Keyer;
 use exh_legal::{PageIndex, entries_are_few, index_of};
-use exh_page::{CAP_LIMIT, Key, Page, Records, Value};
+use exh_page::{CAP_LIMIT, Page, Records};
 use exh_prefix::PageNo;
 use exh_table::{Table, own_entries_give_the_table};
 use std::alloc::{AllocError, Global};
@@ -33,8 +33,8 @@ impl<P: Pages + Drop, K: Keyer> Ward<P, K> {
     /// changes that the table tells of. `cap`, `ward_bits` and `number` are as in `new`.
     ///
     /// It takes memory for a copy of the table, for each page but page 0 and for each record:
-    /// `WardFault::Memory` where that is refused. Each page is lent once, which the store may refuse
-    /// as it does. Nothing else is refused.
+    /// `WardFault::Memory` where that is refused. Each page is fetched once, which the store may
+    /// refuse as it does. Nothing else is refused.
     pub fn from_pages(
         alloc: Global,
         cap: usize,
@@ -79,22 +79,20 @@ impl<P: Pages + Drop, K: Keyer> Ward<P, K> {
 }
 
 // The index of a store's pages, and the pairs of their records.
-fn read_pages<P: Pages>(
-    alloc: Global,
-    store: &mut P,
-) -> Result<(PageIndex, Vec<(Key, Value)>), WardFault>
+fn read_pages<P: Pages>(alloc: Global, store: &mut P) -> Result<(PageIndex, PackedPairs), WardFault>
     requires apart { HaveOwnBounds (P.pages store.old) }
     ensures index { IfOk result (λ read. IsIndexOf read.0 (bare (P.pages store.old))) }
-    ensures pairs { IfOk result (λ read. read.1.items ≡ pairs_of (P.pages store.old)) }
+    ensures pairs { IfOk result (λ read. read.1 ≡ pairs_of (P.pages store.old)) }
     ensures pages { P.pages store.new ≡ P.pages store.old }
     ensures fault { IfErr result IsStoreFault }
     ensures failures { CountsFailures result (P.failures store.old) (P.failures store.new) }
     ensures takes { TakesTheSame P.takes store.old store.new }
 {
     let mut index = PageIndex::new(alloc);
-    let mut pairs = Vec::new(alloc);
+    let mut pairs = PackedPairs::new(alloc);
     for number in 0..store.count() {
-        take_page(number, store.lend(number)?, &mut index, &mut pairs)?;
+        store.fetch(number)?;
+        take_page(number, store.fetched(number), &mut index, &mut pairs)?;
     }
     Ok((index, pairs))
 }
@@ -104,10 +102,10 @@ fn take_page(
     number: PageNo,
     page: &Page,
     index: &mut PageIndex,
-    pairs: &mut Vec<(Key, Value)>,
+    pairs: &mut PackedPairs,
 ) -> Result<(), AllocError>
     ensures index { OnOk result (index.new ≡ index_with index.old number page.now) }
-    ensures pairs { OnOk result (pairs.new.items ≡ pairs.old.items ++ map pair_of (records_of page.now)) }
+    ensures pairs { OnOk result (pairs.new ≡ pairs.old ++ map pair_of (records_of page.now)) }
 {
     if number > 0 {
         index.insert(page.low(), number)?;
@@ -118,11 +116,11 @@ fn take_page(
     }
 }
 
-fn push_pairs(pairs: &mut Vec<(Key, Value)>, records: &Records) -> Result<(), AllocError>
-    ensures { OnOk result (pairs.new.items ≡ pairs.old.items ++ map pair_of records.now) }
+fn push_pairs(pairs: &mut PackedPairs, records: &Records) -> Result<(), AllocError>
+    ensures { OnOk result (pairs.new ≡ pairs.old ++ map pair_of records.now) }
 {
     for item in records.iter() {
-        pairs.push((item.key, item.value))?;
+        pairs.push(&item.key, &item.value)?;
     }
     Ok(())
 }

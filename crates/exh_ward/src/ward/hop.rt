@@ -61,7 +61,8 @@ impl<P: Pages + Drop, K: Keyer> Ward<P, K> {
         if at >= self.store.count() {
             return Ok(Hop::Stray);
         }
-        match Sight::of(self.store.lend(at)?, self.cap, pseudokey, call) {
+        self.store.fetch(at)?;
+        match Sight::of(self.store.fetched(at), self.cap, pseudokey, call) {
             Sight::Beyond => Ok(Hop::Stray),
             Sight::Leads(next) => Ok(Hop::Moved(next)),
             Sight::NoWay => unreachable!(),

@@ -41,7 +41,7 @@ impl<P: Pages + Drop, K: Keyer> Ward<P, K> {
     }
 
     // The parent of a page's prefix, and the number of the page's right buddy, where both pages fit
-    // into one. They are only read in place, so that a refused merge copies none. The buddy is found
+    // into one. No record of them is read, so that a refused merge takes no memory. The buddy is found
     // by the page's own right link, so that no table is walked.
     fn fitting_buddy(&mut self, page: PageNo) -> Result<(Prefix, PageNo), WardFault>
         ensures fit { IfOk result (λ found. FitTogether self.old page found.0 found.1) }
@@ -55,11 +55,11 @@ impl<P: Pages + Drop, K: Keyer> Ward<P, K> {
         if page >= self.store.count() {
             return Err(WardFault::NoPage);
         }
-        let half = LeftHalf::of(self.store.lend(page)?, self.own)?;
+        let half = LeftHalf::of(self.store.head(page)?, self.own)?;
         let Some(right) = half.right else {
             unreachable!()
         };
-        half.test_buddy(self.store.lend(right)?, self.cap)?;
+        half.test_buddy(self.store.head(right)?, self.cap)?;
         Ok((half.parent, right))
     }
 
@@ -76,6 +76,7 @@ impl<P: Pages + Drop, K: Keyer> Ward<P, K> {
         buddies_unite();
         pages_are_few();
         let left = self.store.get(page)?;
-        Ok(join_pages(&left, self.store.lend(right)?, parent)?)
+        self.store.fetch(right)?;
+        Ok(join_pages(&left, self.store.fetched(right), parent)?)
     }
 }

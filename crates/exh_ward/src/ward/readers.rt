@@ -2,20 +2,20 @@ ghost use Rattle.std.specs.Prelude.{◌≡◌, ◌-◌, ◌^◌, ◌<◌, ◌≤
 ghost use Rattle.exh_prefix.specs.Prefix.{Begins};
 ghost use Rattle.exh_prefix.specs.declared.prefix.TheConstants.{LIMIT};
 ghost use Rattle.exh_page.specs.declared.page.Page.{Page};
+ghost use Rattle.exh_page.specs.PageHead.{head_of};
 ghost use Rattle.exh_legal.specs.Laws.{NamesHome};
 ghost use Rattle.exh_legal.specs.Pages.{IsAt};
-ghost use Rattle.exh_ward.specs.PageLine.{line_of_page};
 ghost use Rattle.exh_ward.specs.WardFault.{PageRefused, CountsFailures};
 ghost use Rattle.exh_ward.specs.WardState.{IsSoundWard, IsUnchanged, notices_above, own_prefix};
 
 use super::Ward;
-use crate::{PageLine, WardFault};
+use crate::WardFault;
 use exh_calls::{Base, Journal};
 use exh_frames::Pages;
 use exh_keyer::Keyer;
 use exh_legal::{pages_are_few, walks_name_homes};
 use exh_notice::Notice;
-use exh_page::{Key, Page};
+use exh_page::{Key, Page, PageHead};
 use exh_prefix::PageNo;
 use exh_table::Table;
 
@@ -60,11 +60,25 @@ impl<P: Pages + Drop, K: Keyer> Ward<P, K> {
         self.cap
     }
 
+    /// The logarithm of how many wards the file is cut into. It takes no memory.
+    pub fn ward_bits(&self) -> u8
+        ensures { result ≡ self.now.ward_bits }
+    {
+        self.ward_bits
+    }
+
     /// The ward's number: the leading bits of its pseudokeys. It takes no memory.
     pub fn number(&self) -> u8
         ensures { result ≡ self.now.number }
     {
         self.number
+    }
+
+    /// The keyer of the ward. It takes no memory.
+    pub fn keyer(&self) -> K
+        ensures { result ≡ self.now.keyer }
+    {
+        self.keyer
     }
 
     /// How many pages the ward has. It takes no memory.
@@ -92,10 +106,10 @@ impl<P: Pages + Drop, K: Keyer> Ward<P, K> {
         Ok(self.store.get(number)?)
     }
 
-    /// What is told of the page of this number, which is read in place. Refused: `NoPage`; at any
-    /// point `Memory` and `Page`. Then the ward is as before.
-    pub fn page_line(&mut self, number: PageNo) -> Result<PageLine, WardFault>
-        ensures line { IfOk result (λ line. (page : Page) × IsAt self.old.pages number page × (line ≡ line_of_page page)) }
+    /// All of the page of this number but its records. Refused: `NoPage`; at any point `Memory` and
+    /// `Page`. Then the ward is as before.
+    pub fn head(&mut self, number: PageNo) -> Result<PageHead, WardFault>
+        ensures head { IfOk result (λ head. (page : Page) × IsAt self.old.pages number page × (head ≡ head_of page)) }
         ensures refused { IfErr result (PageRefused self.old.pages number) }
         ensures ok { IfOk result (λ _. self.new ≡ self.old) }
         ensures err { OnErr result (IsUnchanged self.old self.new) }
@@ -105,7 +119,7 @@ impl<P: Pages + Drop, K: Keyer> Ward<P, K> {
         if number >= self.store.count() {
             return Err(WardFault::NoPage);
         }
-        Ok(PageLine::of(self.store.lend(number)?))
+        Ok(self.store.head(number)?)
     }
 
     /// The pseudokey that the ward's keyer makes of a key. It takes no memory.

@@ -69,7 +69,8 @@ impl<P: Pages + Drop, K: Keyer> Ward<P, K> {
         if page >= self.store.count() {
             return Err(WardFault::NoPage);
         }
-        Ok(Halves::of(self.store.lend(page)?, self.cap)?)
+        self.store.fetch(page)?;
+        Ok(Halves::of(self.store.fetched(page), self.cap)?)
     }
 
     // The forwarding page of the right child's low bound; where there is none, no page has it.

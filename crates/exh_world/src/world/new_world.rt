@@ -32,6 +32,7 @@ impl<K: Keyer> World<PlainPages, K> {
         noticed.resize(1 << config.ward_bits, 0)?;
         let start = Directory::new(alloc, config.ward_bits)?;
         let copies = copies_of(alloc, &start, config.copies)?;
+        let in_flight = InFlight::new(alloc)?;
         Ok(World {
             alloc,
             cap: config.cap,
@@ -42,7 +43,7 @@ impl<K: Keyer> World<PlainPages, K> {
             noticed,
             copies,
             sent: Vec::new(alloc),
-            in_flight: InFlight::new(alloc),
+            in_flight,
         })
     }
 }

@@ -3,7 +3,7 @@ ghost use Rattle.std.specs.Map.Iter.{ShowsInOrder, deref_pair};
 ghost use Rattle.exh_array.specs.Pointers.{HasArrayOf};
 ghost use Rattle.exh_legal.specs.Pages.{IsAt};
 ghost use Rattle.exh_page.specs.declared.page.Page.{Page};
-ghost use Rattle.exh_ward.specs.PageLine.{line_of_page};
+ghost use Rattle.exh_page.specs.PageHead.{head_of};
 ghost use Rattle.exh_ward.specs.WardState.{WardState};
 ghost use Rattle.exh_ward.specs.WardFault.{PageRefused};
 ghost use Rattle.exh_prefix.specs.declared.prefix.TheConstants.{WARD_BITS_LIMIT};
@@ -19,9 +19,9 @@ use exh_array::Directory;
 use exh_event::StepFault;
 use exh_frames::Pages;
 use exh_keyer::Keyer;
+use exh_page::PageHead;
 use exh_prefix::PageNo;
-use exh_ward::PageLine;
-use indexmap::map::Iter;
+use lru::Iter;
 
 impl<P: Pages + Drop, K: Keyer> World<P, K> {
     /// The file is cut into 2^this many wards, by so many leading bits of pseudokeys, 0 to 4. It takes
@@ -54,11 +54,10 @@ impl<P: Pages + Drop, K: Keyer> World<P, K> {
         self.in_flight.iter()
     }
 
-    /// What is told of the page of this number in a ward, which is read in place; both are numbered
-    /// from 0 on. Refused in this order: `NoWard`, `NoPage`; at any point `Memory` and `Page`. The world
+    /// All of the page of this number in a ward but its records; both are numbered from 0 on. Refused in this order: `NoWard`, `NoPage`; at any point `Memory` and `Page`. The world
     /// stays as it was, but that at `Page` the ward has counted it.
-    pub fn page_line(&mut self, ward: u32, page: PageNo) -> Result<PageLine, StepFault>
-        ensures line { IfOk result (λ line. (state : WardState K) × (slice_get self.old.wards ward ≡ Some state) × (content : Page) × IsAt state.pages page content × (line ≡ line_of_page content)) }
+    pub fn head(&mut self, ward: u32, page: PageNo) -> Result<PageHead, StepFault>
+        ensures head { IfOk result (λ head. (state : WardState K) × (slice_get self.old.wards ward ≡ Some state) × (content : Page) × IsAt state.pages page content × (head ≡ head_of content)) }
         ensures ok { OnOk result (self.new ≡ self.old) }
         ensures refused { IfErr result (λ fault. LeavesRefused (λ number. number ≡ ward) (IsChangeRefused self.old (λ state. PageRefused state.pages) ward page) self.old fault self.new) }
         ensures sound { IsSoundWorld K.pseudokey_of self.new }
@@ -66,6 +65,6 @@ impl<P: Pages + Drop, K: Keyer> World<P, K> {
         let Some(state) = self.wards.get_mut(ward as usize) else {
             return Err(StepFault::NoWard);
         };
-        Ok(state.page_line(page)?)
+        Ok(state.head(page)?)
     }
 }

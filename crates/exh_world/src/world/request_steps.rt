@@ -52,7 +52,7 @@ impl<P: Pages + Drop, K: Keyer> World<P, K> {
             moves: 0,
             changes,
         };
-        self.in_flight.begin(name, request)?;
+        self.in_flight.begin(name, &request)?;
         Ok(Outcome::Begun { ward, page })
     }
 
@@ -70,8 +70,9 @@ impl<P: Pages + Drop, K: Keyer> World<P, K> {
         let Some(request) = self.in_flight.get(name) else {
             return Err(StepFault::NoRequest);
         };
-        let ward = &mut self.wards[usize::from(request.ward)];
-        let changes = changes_since(ward, self.noticed[usize::from(request.ward)]);
+        let (number, moves) = (request.ward, request.moves);
+        let ward = &mut self.wards[usize::from(number)];
+        let changes = changes_since(ward, self.noticed[usize::from(number)]);
         let bound = u64::from(request.distance) + (changes - request.changes);
         let hop = ward.hop_hashed(
             request.page,
@@ -81,8 +82,8 @@ impl<P: Pages + Drop, K: Keyer> World<P, K> {
         )?;
         self.in_flight.note_hop(name, &hop);
         Ok(Outcome::Hopped {
-            ward: request.ward,
-            hop: Progress::of_hop(&hop, request.moves, bound),
+            ward: number,
+            hop: Progress::of_hop(&hop, moves, bound),
         })
     }
 }

@@ -1,4 +1,5 @@
 ghost use Rattle.std.specs.Prelude.{◌≡◌, map, IfOk, OnErr};
+ghost use Rattle.exh_world.specs.Alike.{HasOthers};
 ghost use Rattle.exh_world.specs.Counted.{CountsMoves};
 ghost use Rattle.exh_world.specs.Headline.{AreEqualCopies, IsHeadline};
 ghost use Rattle.exh_world.specs.Moves.{HasBoundedAnswers};
@@ -7,7 +8,7 @@ ghost use Rattle.exh_world.specs.Sound.{IsSoundWorld};
 ghost use Rattle.exh_world.specs.Step.{Step};
 
 use super::World;
-use crate::laws::runs_carry_the_headline;
+use crate::laws::{refused_turns_leave_the_others, runs_carry_the_headline};
 use crate::move_laws::{current_copies_look_once, moves_are_counted};
 use exh_event::{Event, Outcome, StepFault, Turn};
 use exh_frames::Pages;
@@ -48,14 +49,16 @@ impl<P: Pages + Drop, K: Keyer> World<P, K> {
     /// directory names (Fagin et al. 1979); and the replies, in the order of the answering hops, are
     /// one map's. Each answer comes with the moves that its request made, at most its distance when
     /// begun and the changes in its ward since; so from any moment on; and one begun at a copy that
-    /// took all changes of its ward doesn't move before the next. Room for all answers is made first:
-    /// an `AllocError` where memory for it is refused, and then nothing has happened.
+    /// took all changes of its ward doesn't move before the next. Without any of the refused turns the
+    /// others are a run, too. Room for all answers is made first: an `AllocError` where memory for it
+    /// is refused, and then nothing has happened.
     pub fn run(&mut self, events: &[Event]) -> Result<Vec<Turn>, AllocError>
         ensures turns { IfOk result (λ turns. map (λ turn. turn.event) turns.items ≡ events.now) }
         ensures headline { IfOk result (λ turns. IsHeadline K.pseudokey_of self.old turns.items self.new) }
         ensures bounded { IfOk result (λ turns. HasBoundedAnswers K.pseudokey_of self.old turns.items self.new) }
         ensures moves { IfOk result (λ turns. HasCountedMoves K.pseudokey_of self.old turns.items self.new) }
         ensures current { IfOk result (λ turns. HasCurrentCopies K.pseudokey_of self.old turns.items self.new) }
+        ensures others { IfOk result (λ turns. HasOthers K.pseudokey_of self.old turns.items self.new) }
         ensures equal { IfOk result (λ turns. AreEqualCopies self.old turns.items self.new) }
         ensures err { OnErr result (self.new ≡ self.old) }
         ensures sound { IsSoundWorld K.pseudokey_of self.new }
@@ -63,6 +66,7 @@ impl<P: Pages + Drop, K: Keyer> World<P, K> {
         runs_carry_the_headline::<K>();
         moves_are_counted::<K>();
         current_copies_look_once::<K>();
+        refused_turns_leave_the_others::<K>();
         let mut turns: Vec<Turn> = Vec::with_capacity(self.alloc, events.len())?;
         for event in events {
             let result = self.step(event);

@@ -37,6 +37,7 @@ impl<P: Pages + Drop, K: Keyer> World<P, K> {
         let start = joined_tables(alloc, config.ward_bits, &wards)?;
         let noticed = notice_counts(alloc, &wards)?;
         let copies = copies_of(alloc, &start, config.copies)?;
+        let in_flight = InFlight::new(alloc)?;
         Ok(World {
             alloc,
             cap: config.cap,
@@ -47,7 +48,7 @@ impl<P: Pages + Drop, K: Keyer> World<P, K> {
             noticed,
             copies,
             sent: Vec::new(alloc),
-            in_flight: InFlight::new(alloc),
+            in_flight,
         })
     }
 

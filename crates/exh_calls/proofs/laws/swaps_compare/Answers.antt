@@ -8,7 +8,7 @@ use Rattle.std.proofs.lemmas.Map.Lookups.{exact_bytes}
 use Rattle.std.proofs.lemmas.Slice.Eq.{bytes_eq-Decides}
 use Rattle.exh_prefix.specs.ListLemmas.{is_equal}
 use Rattle.exh_page.specs.KeyMap.{KeyMap}
-use Rattle.exh_calls.specs.Effect.{Effect, Keep, Set, on_value, on_none, effect_of}
+use Rattle.exh_calls.specs.Effect.{Effect, Keep, Set, effect_of}
 use Rattle.exh_calls.specs.Laws.{IsSwap}
 use Rattle.exh_calls.specs.MapMachine.{is_full, effect_in, changed, reply_of, map_after}
 use Rattle.exh_calls.specs.declared.call.Call.TheVariants.{Swap}

@@ -9,10 +9,10 @@ front_whole own prefix is short = sym (take_all (length own) prefix short) ∙ i
 
 pub returns-then-len-clause-err : goal.returns-then-len-clause-err
 returns-then-len-clause-err c =
-    let front = c.requires c.in-Live.prefix c.in-Live.right c.in-Live.records c.in-Live.is in
+    let front = c.requires c.in-Live.prefix c.in-Live.right c.in-Live.count c.in-Live.is in
     let why : (c.in-Live.prefix ≡ c.args.own) ⊎ ((parent : List Bool) × (c.in-Live.prefix ≡ parent ++ true ∷ [])) =
     elim c.then-len.branch [
       | then-len-via-then-len w ↦ inl (front_whole c.args.own c.in-Live.prefix front (omega (arith, w.if-len.true, c.len.ensures.length, c.len-in-Live.ensures.length)))
       | then-len-via-else-len+then-is_right_child w ↦ inr (w.is_right_child.ensures.0 (search rules))
     ] in
-    (c.in-Live.prefix, c.in-Live.right, c.in-Live.records, c.in-Live.is, why)
+    (c.in-Live.prefix, c.in-Live.right, c.in-Live.count, c.in-Live.is, why)

@@ -3,7 +3,7 @@ use Rattle.exh_keyer.specs.Pseudokey.{any_pseudokey}
 use Rattle.exh_prefix.specs.Leading.{ward_of}
 use Rattle.exh_calls.specs.declared.call.Call.TheVariants.{Put}
 use Rattle.exh_load.specs.Loader.{LoaderState}
-use Rattle.exh_load.proofs.PutIn.{at_within, directory_within, is_put_in, loading_left, maps_in, records_left, reply_in, settings_kept, ward_covers, ward_hashed, ward_told, wards_left}
+use Rattle.exh_load.proofs.PutIn.{are_splits_in, at_within, directory_within, is_put_in, loading_left, maps_in, records_left, reply_in, settings_kept, ward_covers, ward_hashed, ward_told, wards_left}
 use Rattle.exh_load.proofs.loader.Loader.put.Goals as goal
 
 pub index_mut-ward-requires : goal.index_mut-ward-requires
@@ -66,6 +66,15 @@ returns-clause-put c =
     let at_is : c.from-at.result ≡ ward_of i.ward_bits c.pseudo-pseudokey.result = c.from-at.ensures ∙ c.ward_number.ensures in
     is_put_in old c.args.self.now c.self.view_is c.self.invariant c.requires c.args.key c.pseudo-pseudokey.result c.from-at.result hashed at_is c.index_mut-ward.result.now c.index_mut-ward.ensures.value c.index_mut-directory.result.now c.index_mut-directory.ensures.value
     c.put_pair.new.ward c.put_pair.new.directory c.put_pair.result c.args.value c.put_pair.ensures.put
+
+pub returns-clause-err : goal.returns-clause-err
+returns-clause-err c =
+    let i = c.self.inside in
+    let old : LoaderState = record { cap = i.cap; ward_bits = i.ward_bits; keyer = i.keyer; wards = i.wards.items; directories = i.directories.items } in
+    let hashed : c.pseudo-pseudokey.result ≡ any_pseudokey i.keyer c.args.key = c.pseudo-pseudokey.ensures ∙ ap (any_pseudokey i.keyer) c.as_bytes.ensures.bytes in
+    let at_is : c.from-at.result ≡ ward_of i.ward_bits c.pseudo-pseudokey.result = c.from-at.ensures ∙ c.ward_number.ensures in
+    are_splits_in old c.args.self.now c.self.view_is c.self.invariant c.requires c.args.key c.pseudo-pseudokey.result c.from-at.result hashed at_is c.index_mut-ward.result.now c.index_mut-ward.ensures.value c.index_mut-directory.result.now c.index_mut-directory.ensures.value
+    c.put_pair.new.ward c.put_pair.new.directory c.put_pair.result c.put_pair.ensures.err
 
 pub returns-clause-reply : goal.returns-clause-reply
 returns-clause-reply c =

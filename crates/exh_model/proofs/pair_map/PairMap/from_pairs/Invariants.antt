@@ -1,7 +1,10 @@
-use Rattle.std.proofs.Common.{◌≡◌, take}
+use Rattle.std.proofs.Common.{◌≡◌, ◌++◌}
 use Rattle.std.specs.FinMap as map
 use Rattle.exh_model.proofs.pair_map.PairMap.from_pairs.Given as goal
 
 -- the map of the pairs so far
 abbrev pub invariant-loop-key : goal.invariant-loop-key
-invariant-loop-key l = l.map ≡ map.from_entries (take l.key-index l.pairs)
+invariant-loop-key l = record {
+  all : l.fn.pairs ≡ l.yielded ++ l.key-iterator;
+  map : l.map ≡ map.from_entries l.yielded;
+}

@@ -1,77 +1,77 @@
 use Rattle.std.proofs.Common.{◌<◌, length, List, refl, sym, subst}
 use Rattle.exh_page.specs.declared.page.Page.{Page}
-use Rattle.exh_legal.specs.Pages.{IsAt}
+use Rattle.exh_frames.specs.PageStore.{HasHead}
 use Rattle.exh_ward.specs.WardFault.{MergeRefused, fault_of_halves}
 use Rattle.exh_ward.specs.JoinedPage.{FitTogether}
 use Rattle.exh_ward.specs.WardState.{WardState}
 use Rattle.exh_ward.proofs.HalvesOfPages.{refused_as}
 use Rattle.exh_ward.proofs.StepsKeepSound.{kept_read}
-use Rattle.exh_ward.proofs.MergesAreSteps.{few_at, few_left, halves_fit, no_left_half, not_beside, own_in_front, right_within}
+use Rattle.exh_ward.proofs.MergesAreSteps.{few_counted, few_left, halves_fit, no_left_half, not_beside, own_in_front, right_within}
 use Rattle.exh_ward.proofs.ward.Ward.fitting_buddy.Goals as goal
 
 pub invariant_of-self : goal.invariant_of-self
-invariant_of-self g c = kept_read c.self.invariant _ c.lend.follows.holds-at-none.2 _ _ _ c.lend.follows.holds-at-none.0 refl
+invariant_of-self g c = kept_read c.self.invariant _ c.head.ensures.takes _ _ _ c.head.ensures.pages refl
 
-pub returns-in_err-lend-clause-sound : goal.returns-in_err-lend-clause-sound
-returns-in_err-lend-clause-sound g c = (invariant_of-self g c).sound
+pub returns-in_err-head-clause-sound : goal.returns-in_err-head-clause-sound
+returns-in_err-head-clause-sound g c = (invariant_of-self g c).sound
 
 pub of-requires : goal.of-requires
-of-requires g c = own_in_front c.self.invariant c.args.page c.in_ok-lend.field-0.now c.in_ok-lend.ensures.page
+of-requires g c = own_in_front c.self.invariant c.args.page c.in_ok-head.field-0 c.in_ok-head.ensures.head
 
 pub invariant_of-self-in_err-half : goal.invariant_of-self-in_err-half
-invariant_of-self-in_err-half g c = kept_read c.self.invariant _ c.lend.follows.holds-at-none.2 _ _ _ c.lend.follows.holds-at-none.0 refl
+invariant_of-self-in_err-half g c = kept_read c.self.invariant _ c.head.ensures.takes _ _ _ c.head.ensures.pages refl
 
 pub returns-in_err-half-clause-refused : goal.returns-in_err-half-clause-refused
 returns-in_err-half-clause-refused g c =
-    let refused = no_left_half c.self.invariant c.args.page c.in_ok-lend.field-0.now c.in_ok-lend.ensures.page _ c.in_err-half.ensures.err in
+    let refused = no_left_half c.self.invariant c.args.page c.in_ok-head.field-0 c.in_ok-head.ensures.head _ c.in_err-half.ensures.err in
     let P : WardState g.row.K.Denot → Type 0 = λ w. MergeRefused w c.args.page (fault_of_halves c.in_err-half.field-0.0) in
     let now = subst P c.self.view_is refused in
     refused_as c.from_residual-in_err-half.result c.in_err-half.field-0.0 (MergeRefused c.args.self.now c.args.page) c.from_residual-in_err-half.ensures.1 now
 
-pub lend-requires-2 : goal.lend-requires-2
-lend-requires-2 g c =
-    let within = right_within c.self.invariant c.args.page c.in_ok-lend.ensures.page c.in_ok-half.ensures.ok c.left_children_link_to_siblings.ensures c.in-Some.is in
+pub head-requires-2 : goal.head-requires-2
+head-requires-2 g c =
+    let within = right_within c.self.invariant c.args.page c.in_ok-head.ensures.head c.in_ok-half.ensures.ok c.left_children_link_to_siblings.ensures c.in-Some.is in
     let P : List Page → Type 0 = λ pages. c.in-Some.right < length pages in
-    subst P (sym c.lend.follows.holds-at-none.0) within
+    subst P (sym c.head.ensures.pages) within
 
-pub invariant_of-self-in_err-lend-2 : goal.invariant_of-self-in_err-lend-2
-invariant_of-self-in_err-lend-2 g c =
-    let read = kept_read c.self.invariant _ c.lend.follows.holds-at-none.2 _ _ (g.P.Pages.failures c.lend.follows.lender-at-none) c.lend.follows.holds-at-none.0 refl in
-    kept_read read _ c.lend-2.follows.holds-at-none.2 _ _ _ c.lend-2.follows.holds-at-none.0 refl
+pub invariant_of-self-in_err-head-2 : goal.invariant_of-self-in_err-head-2
+invariant_of-self-in_err-head-2 g c =
+    let read = kept_read c.self.invariant _ c.head.ensures.takes _ _ (g.P.Pages.failures c.head.new.self) c.head.ensures.pages refl in
+    kept_read read _ c.head-2.ensures.takes _ _ _ c.head-2.ensures.pages refl
 
-pub returns-in_err-lend-2-clause-sound : goal.returns-in_err-lend-2-clause-sound
-returns-in_err-lend-2-clause-sound g c = (invariant_of-self-in_err-lend-2 g c).sound
+pub returns-in_err-head-2-clause-sound : goal.returns-in_err-head-2-clause-sound
+returns-in_err-head-2-clause-sound g c = (invariant_of-self-in_err-head-2 g c).sound
 
 pub test_buddy-requires-clause-few : goal.test_buddy-requires-clause-few
-test_buddy-requires-clause-few g c = few_left c.self.invariant c.args.page c.in_ok-lend.ensures.page c.in_ok-half.ensures.ok
+test_buddy-requires-clause-few g c = few_left c.self.invariant c.args.page c.in_ok-head.ensures.head c.in_ok-half.ensures.ok
 
 pub test_buddy-requires-clause-few_others : goal.test_buddy-requires-clause-few_others
 test_buddy-requires-clause-few_others g c =
-    let P : List Page → Type 0 = λ pages. IsAt pages c.in-Some.right c.in_ok-lend-2.field-0.now in
-    few_at c.self.invariant c.in-Some.right c.in_ok-lend-2.field-0.now (subst P c.lend.follows.holds-at-none.0 c.in_ok-lend-2.ensures.page)
+    let P : List Page → Type 0 = λ pages. HasHead pages c.in-Some.right c.in_ok-head-2.field-0 in
+    few_counted c.self.invariant c.in-Some.right c.in_ok-head-2.field-0 (subst P c.head.ensures.pages c.in_ok-head-2.ensures.head)
 
 pub invariant_of-self-in_err-test_buddy : goal.invariant_of-self-in_err-test_buddy
 invariant_of-self-in_err-test_buddy g c =
-    let read = kept_read c.self.invariant _ c.lend.follows.holds-at-none.2 _ _ (g.P.Pages.failures c.lend.follows.lender-at-none) c.lend.follows.holds-at-none.0 refl in
-    kept_read read _ c.lend-2.follows.holds-at-none.2 _ _ _ c.lend-2.follows.holds-at-none.0 refl
+    let read = kept_read c.self.invariant _ c.head.ensures.takes _ _ (g.P.Pages.failures c.head.new.self) c.head.ensures.pages refl in
+    kept_read read _ c.head-2.ensures.takes _ _ _ c.head-2.ensures.pages refl
 
 pub returns-in_err-test_buddy-clause-refused : goal.returns-in_err-test_buddy-clause-refused
 returns-in_err-test_buddy-clause-refused g c =
-    let L : List Page → Type 0 = λ pages. IsAt pages c.in-Some.right c.in_ok-lend-2.field-0.now in
-    let buddy = subst L c.lend.follows.holds-at-none.0 c.in_ok-lend-2.ensures.page in
-    let refused = not_beside c.self.invariant c.args.page c.in_ok-lend.ensures.page c.in_ok-half.ensures.ok c.left_children_link_to_siblings.ensures c.in-Some.is buddy _ c.in_err-test_buddy.ensures.err in
+    let L : List Page → Type 0 = λ pages. HasHead pages c.in-Some.right c.in_ok-head-2.field-0 in
+    let buddy = subst L c.head.ensures.pages c.in_ok-head-2.ensures.head in
+    let refused = not_beside c.self.invariant c.args.page c.in_ok-head.ensures.head c.in_ok-half.ensures.ok c.left_children_link_to_siblings.ensures c.in-Some.is buddy _ c.in_err-test_buddy.ensures.err in
     let P : WardState g.row.K.Denot → Type 0 = λ w. MergeRefused w c.args.page (fault_of_halves c.in_err-test_buddy.field-0.0) in
     let now = subst P c.self.view_is refused in
     refused_as c.from_residual-in_err-test_buddy.result c.in_err-test_buddy.field-0.0 (MergeRefused c.args.self.now c.args.page) c.from_residual-in_err-test_buddy.ensures.1 now
 
 pub invariant_of-self-2 : goal.invariant_of-self-2
 invariant_of-self-2 g c =
-    let read = kept_read c.self.invariant _ c.lend.follows.holds-at-none.2 _ _ (g.P.Pages.failures c.lend.follows.lender-at-none) c.lend.follows.holds-at-none.0 refl in
-    kept_read read _ c.lend-2.follows.holds-at-none.2 _ _ _ c.lend-2.follows.holds-at-none.0 refl
+    let read = kept_read c.self.invariant _ c.head.ensures.takes _ _ (g.P.Pages.failures c.head.new.self) c.head.ensures.pages refl in
+    kept_read read _ c.head-2.ensures.takes _ _ _ c.head-2.ensures.pages refl
 
 pub returns-clause-fit : goal.returns-clause-fit
 returns-clause-fit g c =
-    let L : List Page → Type 0 = λ pages. IsAt pages c.in-Some.right c.in_ok-lend-2.field-0.now in
-    let buddy = subst L c.lend.follows.holds-at-none.0 c.in_ok-lend-2.ensures.page in
+    let L : List Page → Type 0 = λ pages. HasHead pages c.in-Some.right c.in_ok-head-2.field-0 in
+    let buddy = subst L c.head.ensures.pages c.in_ok-head-2.ensures.head in
     let P : WardState g.row.K.Denot → Type 0 = λ w. FitTogether w c.args.page c.in_ok-half.half.parent c.in-Some.right in
-    subst P c.self.view_is (halves_fit c.self.invariant c.args.page c.in_ok-lend.ensures.page c.in_ok-half.ensures.ok c.left_children_link_to_siblings.ensures c.in-Some.is buddy c.in_ok-half.ensures.short c.in_ok-test_buddy.ensures.ok)
+    subst P c.self.view_is (halves_fit c.self.invariant c.args.page c.in_ok-head.ensures.head c.in_ok-half.ensures.ok c.left_children_link_to_siblings.ensures c.in-Some.is buddy c.in_ok-half.ensures.short c.in_ok-test_buddy.ensures.ok)

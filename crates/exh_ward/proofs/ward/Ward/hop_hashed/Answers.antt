@@ -5,28 +5,28 @@ use Rattle.exh_ward.specs.Sight.{SightIn}
 use Rattle.exh_ward.specs.WardState.{WardState, IsSoundWard}
 use Rattle.exh_ward.specs.declared.ward.hop.sight.Sight.TheVariants.{Overflows}
 use Rattle.exh_ward.proofs.SightsAreHops.{hop_waits, sight_in}
-use Rattle.exh_ward.proofs.StepsKeepSound.{kept_read}
+use Rattle.exh_ward.proofs.StepsKeepSound.{at_read, kept_read}
 use Rattle.exh_ward.proofs.ward.Ward.hop_hashed.Goals as goal
 
--- ---- the store is as it was once the page is given back
+-- ---- the store is as it was after a page was fetched
 
 pub invariant_of-self : goal.invariant_of-self
-invariant_of-self g c = kept_read c.self.invariant _ c.lend.follows.holds-at-none.2 _ _ _ c.lend.follows.holds-at-none.0 refl
+invariant_of-self g c = kept_read c.self.invariant _ c.fetch.ensures.takes _ _ _ c.fetch.ensures.pages refl
 
-pub returns-in_err-lend-clause-sound : goal.returns-in_err-lend-clause-sound
-returns-in_err-lend-clause-sound g c = (invariant_of-self g c).sound
+pub returns-in_err-fetch-clause-sound : goal.returns-in_err-fetch-clause-sound
+returns-in_err-fetch-clause-sound g c = (invariant_of-self g c).sound
 
 pub invariant_of-self-in-Beyond : goal.invariant_of-self-in-Beyond
-invariant_of-self-in-Beyond g c = kept_read c.self.invariant _ c.lend.follows.holds-at-none.2 _ _ _ c.lend.follows.holds-at-none.0 refl
+invariant_of-self-in-Beyond g c = kept_read c.self.invariant _ c.fetch.ensures.takes _ _ _ c.fetch.ensures.pages refl
 
 pub invariant_of-self-in-Leads : goal.invariant_of-self-in-Leads
-invariant_of-self-in-Leads g c = kept_read c.self.invariant _ c.lend.follows.holds-at-none.2 _ _ _ c.lend.follows.holds-at-none.0 refl
+invariant_of-self-in-Leads g c = kept_read c.self.invariant _ c.fetch.ensures.takes _ _ _ c.fetch.ensures.pages refl
 
 pub invariant_of-self-in-Overflows : goal.invariant_of-self-in-Overflows
-invariant_of-self-in-Overflows g c = kept_read c.self.invariant _ c.lend.follows.holds-at-none.2 _ _ _ c.lend.follows.holds-at-none.0 refl
+invariant_of-self-in-Overflows g c = kept_read c.self.invariant _ c.fetch.ensures.takes _ _ _ c.fetch.ensures.pages refl
 
 pub invariant_of-self-in-Home : goal.invariant_of-self-in-Home
-invariant_of-self-in-Home g c = kept_read c.self.invariant _ c.lend.follows.holds-at-none.2 _ _ _ c.lend.follows.holds-at-none.0 refl
+invariant_of-self-in-Home g c = kept_read c.self.invariant _ c.fetch.ensures.takes _ _ _ c.fetch.ensures.pages refl
 
 pub returns-in-Overflows-clause-hop : goal.returns-in-Overflows-clause-hop
 returns-in-Overflows-clause-hop g c =
@@ -34,7 +34,7 @@ returns-in-Overflows-clause-hop g c =
     let P : WardState g.row.K.Denot → Type 0 = λ w. IsSoundWard pseudokey_of w in
     let sound = subst P c.self.view_is c.self.invariant.sound in
     let seen : SightIn c.self.inside.cap c.args.pseudokey (g.P.Pages.pages c.self.inside.store) c.args.at c.args.call.now c.of.result =
-    sight_in c.self.inside.cap c.args.pseudokey (g.P.Pages.pages c.self.inside.store) c.args.at c.args.call.now c.of.result c.in_ok-lend.field-0.now c.in_ok-lend.ensures.page c.of.ensures in
+    sight_in c.self.inside.cap c.args.pseudokey (g.P.Pages.pages c.self.inside.store) c.args.at c.args.call.now c.of.result c.fetched.result.now (at_read _ _ _ _ c.fetch.ensures.pages c.fetched.ensures) c.of.ensures in
     let Q : WardState g.row.K.Denot → Type 0 = λ w. SightIn w.cap c.args.pseudokey w.pages c.args.at c.args.call.now c.of.result in
     let sight = subst (SightIn c.args.self.now.cap c.args.pseudokey c.args.self.now.pages c.args.at c.args.call.now) c.in-Overflows.is (subst Q c.self.view_is seen) in
     let S : ℕ → Type 0 = λ k. SightIn c.args.self.now.cap k c.args.self.now.pages c.args.at c.args.call.now Overflows in
@@ -45,4 +45,4 @@ returns-in-Home-clause-hop g c =
     let pseudokey_of = g.K.Keyer.pseudokey_of in
     let R : List Page → Type 0 = λ pages. IfOk c.answer_at.result (HopOf c.self.inside.cap (pseudokey_of c.self.inside.keyer) pages c.args.at c.args.call.now) in
     let P : WardState g.row.K.Denot → Type 0 = λ w. IfOk c.answer_at.result (HopOf w.cap (pseudokey_of w.keyer) w.pages c.args.at c.args.call.now) in
-    subst P c.self.view_is (subst R c.lend.follows.holds-at-none.0 c.answer_at.ensures.hop)
+    subst P c.self.view_is (subst R c.fetch.ensures.pages c.answer_at.ensures.hop)

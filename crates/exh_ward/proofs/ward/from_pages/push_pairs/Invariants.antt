@@ -6,5 +6,5 @@ use Rattle.exh_ward.proofs.ward.from_pages.push_pairs.Given as goal
 abbrev pub invariant-loop-item : goal.invariant-loop-item
 invariant-loop-item l = record {
   all : l.records ≡ l.yielded ++ l.item-iterator;
-  pairs : l.pairs.items ≡ l.fn.pairs.items ++ map pair_of l.yielded;
+  pairs : l.pairs ≡ l.fn.pairs ++ map pair_of l.yielded;
 }

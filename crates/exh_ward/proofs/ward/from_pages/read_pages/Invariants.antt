@@ -10,7 +10,7 @@ abbrev pub invariant-loop-number : goal.invariant-loop-number
 invariant-loop-number g l = record {
   within : l.number ≤ length (g.P.Pages.pages l.fn.store);
   index : IsIndexOf l.index (bare (take l.number (g.P.Pages.pages l.fn.store)));
-  pairs : l.pairs.items ≡ pairs_of (take l.number (g.P.Pages.pages l.fn.store));
+  pairs : l.pairs ≡ pairs_of (take l.number (g.P.Pages.pages l.fn.store));
   pages : g.P.Pages.pages l.store ≡ g.P.Pages.pages l.fn.store;
   failures : g.P.Pages.failures l.store ≡ g.P.Pages.failures l.fn.store;
   takes : TakesTheSame g.P.Pages.takes l.fn.store l.store;

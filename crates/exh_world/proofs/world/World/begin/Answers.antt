@@ -1,5 +1,6 @@
 use Rattle.std.proofs.Common.{◌≡◌, ℕ, ◌-◌, ◌^◌, ◌<◌, List, length, slice_get, None, Some, inl, inr, refl, sym, ap, ◌∙◌, subst, arith}
-use Rattle.std.specs.Prelude.{is_some}
+use Rattle.std.specs.Prelude.{is_some, IsSome}
+use Rattle.std.specs.Option.{option_copied}
 use Rattle.exh_array.specs.Pointers.{DirectoryState}
 use Rattle.exh_table.specs.Walk.{walk_of}
 use Rattle.exh_prefix.specs.Leading.{ward_of}
@@ -11,7 +12,7 @@ use Rattle.exh_world.specs.Kept.{IsPlaceOf, tables_of}
 use Rattle.exh_world.specs.Step.{HasBegun, IsRefused, ReachesInto, Step}
 use Rattle.exh_world.specs.World.{WorldState, changes_in, numbered}
 use Rattle.exh_event.specs.declared.event.Event.TheVariants.{Begin}
-use Rattle.exh_world.proofs.BeginSteps.{none_there, with_requests, at_within, found_at, noticed_within, had_few, changes_are, no_page_missing, same_ward, begun, begun_kept}
+use Rattle.exh_world.proofs.BeginSteps.{none_there, some_there, with_requests, at_within, found_at, noticed_within, had_few, changes_are, no_page_missing, same_ward, begun, begun_kept}
 use Rattle.exh_world.proofs.CopyArrays.{table_numbered}
 use Rattle.exh_world.proofs.InsideWorld.{with_ward, world_of}
 use Rattle.exh_world.specs.ListLemmas.{numbered_read}
@@ -28,7 +29,7 @@ begun_here : (g : Over) (c : In_ok-begin g) → HasBegunHere g c (world_of c.sel
 begun_here g c =
     let i = c.self.inside in
     let pseudokey_of = g.K.Keyer.pseudokey_of in
-    let free : request_named c.args.name i.in_flight ≡ None = sym c.get.ensures ∙ none_there c.get.result (sym c.is_some.ensures ∙ c.if-is_some.false) in
+    let free : request_named c.args.name i.in_flight ≡ None = sym c.get.ensures ∙ ap option_copied (none_there c.get.result (sym c.is_some.ensures ∙ c.if-is_some.false)) in
     let there = numbered_read i.copies.items c.deref.result.now c.args.copy c.in-Some.at c.index.result.now c.deref.ensures.value c.in-Some.ensures.some c.index.ensures in
     let bytes = c.as_bytes.ensures.bytes ∙ c.key.ensures in
     let at : slice_get i.copies.items c.in-Some.at ≡ Some c.index.result.now = sym (subst (λ (items : List DirectoryState). IsPlaceOf items c.args.copy c.in-Some.at) c.deref.ensures.value c.in-Some.ensures.some).2 ∙ there in
@@ -59,11 +60,16 @@ pub returns-clause-sound : goal.returns-clause-sound
 returns-clause-sound g c = (invariant_of-self-2 g c).0.sound
 
 pub begin-requires : goal.begin-requires
-begin-requires g c = sym c.get.ensures ∙ none_there c.get.result (sym c.is_some.ensures ∙ c.if-is_some.false)
+begin-requires g c = sym c.get.ensures ∙ ap option_copied (none_there c.get.result (sym c.is_some.ensures ∙ c.if-is_some.false))
+
+pub returns-then-is_some-clause-step : goal.returns-then-is_some-clause-step
+returns-then-is_some-clause-step g c =
+    let taken = subst IsSome c.get.ensures (some_there c.get.result (sym c.is_some.ensures ∙ c.if-is_some.true)) in
+    inl (refl, inl (subst (λ (w : WorldState g.row.K.Denot). IsSome (request_named c.args.name w.in_flight)) c.self.view_is taken))
 
 pub returns-in_default-clause-step : goal.returns-in_default-clause-step
 returns-in_default-clause-step g c =
-    let free : request_named c.args.name c.self.inside.in_flight ≡ None = sym c.get.ensures ∙ none_there c.get.result (sym c.is_some.ensures ∙ c.if-is_some.false) in
+    let free : request_named c.args.name c.self.inside.in_flight ≡ None = sym c.get.ensures ∙ ap option_copied (none_there c.get.result (sym c.is_some.ensures ∙ c.if-is_some.false)) in
     let none = subst (λ (items : List DirectoryState). numbered (tables_of items) c.args.copy ≡ None) c.deref.ensures.value c.in_default.ensures.none in inl (
       refl,
       inl (
@@ -113,7 +119,7 @@ returns-in_err-distance-clause-step g c =
     let fits = at_within pseudokey_of i kept c.pseudo-pseudokey.result c.from.result at_is in
     let lent = c.index_mut-state.ensures.value in
     let new = changed.after c.self.view_is kept fits lent c.distance.new.ward in
-    let free : request_named c.args.name i.in_flight ≡ None = sym c.get.ensures ∙ none_there c.get.result (sym c.is_some.ensures ∙ c.if-is_some.false) in
+    let free : request_named c.args.name i.in_flight ≡ None = sym c.get.ensures ∙ ap option_copied (none_there c.get.result (sym c.is_some.ensures ∙ c.if-is_some.false)) in
     let there = numbered_read i.copies.items c.deref.result.now c.args.copy c.in-Some.at c.index.result.now c.deref.ensures.value c.in-Some.ensures.some c.index.ensures in
     let table_there = table_numbered i.copies.items c.args.copy c.index.result.now there in
     let at : slice_get i.copies.items c.in-Some.at ≡ Some c.index.result.now = sym (subst (λ (items : List DirectoryState). IsPlaceOf items c.args.copy c.in-Some.at) c.deref.ensures.value c.in-Some.ensures.some).2 ∙ there in

@@ -8,8 +8,8 @@ use Rattle.exh_world.proofs.world.World.from_wards.Goals as goal
 
 pub returns-clause-world : goal.returns-clause-world
 returns-clause-world g c =
-    made_of_wards c.args.config.now c.args.wards.items c.in_ok-start.start.table c.in_ok-noticed.noticed.items (tables_of c.in_ok-copies.copies.items) c.new.result.items c.new-2.result
-    (c.in_ok-start.ensures.table ∙ ap tables_joined c.deref.ensures.value) (c.in_ok-noticed.ensures ∙ ap (map (λ ward. length ward.notices)) c.deref-2.ensures.value) (ap tables_of c.in_ok-copies.ensures ∙ tables_replicated c.args.config.now.copies c.in_ok-start.start) c.new.ensures.items c.new-2.ensures
+    made_of_wards c.args.config.now c.args.wards.items c.in_ok-start.start.table c.in_ok-noticed.noticed.items (tables_of c.in_ok-copies.copies.items) c.new-2.result.items c.in_ok-in_flight.in_flight
+    (c.in_ok-start.ensures.table ∙ ap tables_joined c.deref.ensures.value) (c.in_ok-noticed.ensures ∙ ap (map (λ ward. length ward.notices)) c.deref-2.ensures.value) (ap tables_of c.in_ok-copies.ensures ∙ tables_replicated c.args.config.now.copies c.in_ok-start.start) c.new-2.ensures.items c.in_ok-in_flight.ensures
 
 pub invariant_of-result : goal.invariant_of-result
 invariant_of-result g c =

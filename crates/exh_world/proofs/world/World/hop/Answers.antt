@@ -1,4 +1,5 @@
 use Rattle.std.proofs.Common.{◌≡◌, ◌^◌, ◌<◌, inr, sym, ap, ◌∙◌, subst, arith, rules}
+use Rattle.std.specs.Option.{option_copied}
 use Rattle.exh_ward.specs.declared.hop.Hop.{Hop}
 use Rattle.exh_world.specs.Step.{HasHopped, IsRefused, ReachesInto, Step}
 use Rattle.exh_world.specs.World.{WorldState}
@@ -14,23 +15,23 @@ use Rattle.exh_world.proofs.world.World.hop.Goals as goal
 pub index_mut-ward-requires : goal.index_mut-ward-requires
 index_mut-ward-requires g c =
     let i = c.self.inside in
-    let named = sym c.get.ensures ∙ c.in-Some.is in
-    omega (arith, c.from.ensures, i.wards.ok.0, ward_within g.K.Keyer.pseudokey_of i c.self.invariant.0 c.args.name c.in-Some.request named)
+    let named = sym c.get.ensures ∙ ap option_copied c.in-Some.is in
+    omega (arith, c.from.ensures, i.wards.ok.0, ward_within g.K.Keyer.pseudokey_of i c.self.invariant.0 c.args.name c.in-Some.request.now named)
 
 pub hop_hashed-requires-clause-hashed : goal.hop_hashed-requires-clause-hashed
 hop_hashed-requires-clause-hashed g c =
-    let named = sym c.get.ensures ∙ c.in-Some.is in
-    hashed g.K.Keyer.pseudokey_of c.self.inside c.self.invariant.0 c.args.name c.in-Some.request named c.from.result c.from.ensures _ c.index_mut-ward.ensures.value
+    let named = sym c.get.ensures ∙ ap option_copied c.in-Some.is in
+    hashed g.K.Keyer.pseudokey_of c.self.inside c.self.invariant.0 c.args.name c.in-Some.request.now named c.from.result c.from.ensures _ c.index_mut-ward.ensures.value
 
 pub hop_hashed-requires-clause-covered : goal.hop_hashed-requires-clause-covered
 hop_hashed-requires-clause-covered g c =
-    let named = sym c.get.ensures ∙ c.in-Some.is in
-    covered g.K.Keyer.pseudokey_of c.self.inside c.self.invariant.0 c.args.name c.in-Some.request named c.from.result c.from.ensures _ c.index_mut-ward.ensures.value
+    let named = sym c.get.ensures ∙ ap option_copied c.in-Some.is in
+    covered g.K.Keyer.pseudokey_of c.self.inside c.self.invariant.0 c.args.name c.in-Some.request.now named c.from.result c.from.ensures _ c.index_mut-ward.ensures.value
 
 pub invariant_of-self : goal.invariant_of-self
 invariant_of-self g c =
-    let named = sym c.get.ensures ∙ c.in-Some.is in
-    let fits = at_within g.K.Keyer.pseudokey_of c.self.inside c.self.invariant.0 c.args.name c.in-Some.request named c.from.result c.from.ensures in
+    let named = sym c.get.ensures ∙ ap option_copied c.in-Some.is in
+    let fits = at_within g.K.Keyer.pseudokey_of c.self.inside c.self.invariant.0 c.args.name c.in-Some.request.now named c.from.result c.from.ensures in
     (same_kept c.self.view_is c.self.invariant.0 fits c.index_mut-ward.ensures.value c.hop_hashed.new.self c.in_err-hop.ensures.err, c.self.invariant.1)
 
 pub returns-in_err-hop-clause-step : goal.returns-in_err-hop-clause-step
@@ -39,12 +40,12 @@ returns-in_err-hop-clause-step g c =
     let old = c.args.self.now in
     let event = HopOn c.args.name in
     let fault = c.in_err-hop.field-0.0 in
-    let named = sym c.get.ensures ∙ c.in-Some.is in
-    let fits = at_within pseudokey_of c.self.inside c.self.invariant.0 c.args.name c.in-Some.request named c.from.result c.from.ensures in
+    let named = sym c.get.ensures ∙ ap option_copied c.in-Some.is in
+    let fits = at_within pseudokey_of c.self.inside c.self.invariant.0 c.args.name c.in-Some.request.now named c.from.result c.from.ensures in
     let new = after c.self.view_is c.self.invariant.0 fits c.index_mut-ward.ensures.value c.hop_hashed.new.self in
     of_refusal (λ result. Step pseudokey_of old event result new) c.from_residual.result fault c.from_residual.ensures
     (leaves_refused c.self.view_is c.self.invariant.0 fits c.index_mut-ward.ensures.value c.hop_hashed.new.self c.in_err-hop.ensures.err (ReachesInto pseudokey_of old event) (IsRefused old event)
-    (reaches pseudokey_of c.self.inside c.self.invariant.0 c.args.name c.in-Some.request named c.from.result c.from.ensures old c.self.view_is) Hop fault c.in_err-hop.ensures.failures
+    (reaches pseudokey_of c.self.inside c.self.invariant.0 c.args.name c.in-Some.request.now named c.from.result c.from.ensures old c.self.view_is) Hop fault c.in_err-hop.ensures.failures
     (λ other. inr (memory_of fault c.in_err-hop.ensures.fault other)))
 
 pub returns-in_err-hop-clause-sound : goal.returns-in_err-hop-clause-sound
@@ -53,44 +54,44 @@ returns-in_err-hop-clause-sound g c = (invariant_of-self g c).0.sound
 pub index-requires : goal.index-requires
 index-requires g c =
     let i = c.self.inside in
-    let named = sym c.get.ensures ∙ c.in-Some.is in
-    omega (arith, i.noticed.ok.0, noticed_within g.K.Keyer.pseudokey_of i c.self.invariant.0 c.args.name c.in-Some.request named c.from.result c.from.ensures _ c.index_mut-ward.ensures.value c.from-2.result c.from-2.ensures)
+    let named = sym c.get.ensures ∙ ap option_copied c.in-Some.is in
+    omega (arith, i.noticed.ok.0, noticed_within g.K.Keyer.pseudokey_of i c.self.invariant.0 c.args.name c.in-Some.request.now named c.from.result c.from.ensures _ c.index_mut-ward.ensures.value c.from-2.result c.from-2.ensures)
 
 pub changes_since-changes-requires : goal.changes_since-changes-requires
 changes_since-changes-requires g c =
-    let named = sym c.get.ensures ∙ c.in-Some.is in
-    had_few g.K.Keyer.pseudokey_of c.self.inside c.self.invariant.0 c.args.name c.in-Some.request named c.from.result c.from.ensures _ c.index_mut-ward.ensures.value c.from-2.result c.from-2.ensures c.index.result.now c.index.ensures
+    let named = sym c.get.ensures ∙ ap option_copied c.in-Some.is in
+    had_few g.K.Keyer.pseudokey_of c.self.inside c.self.invariant.0 c.args.name c.in-Some.request.now named c.from.result c.from.ensures _ c.index_mut-ward.ensures.value c.from-2.result c.from-2.ensures c.index.result.now c.index.ensures
 
 pub overflow_sub-bound : goal.overflow_sub-bound
 overflow_sub-bound g c =
-    let named = sym c.get.ensures ∙ c.in-Some.is in
+    let named = sym c.get.ensures ∙ ap option_copied c.in-Some.is in
     omega (
       arith,
       c.changes_since-changes.ensures.count,
-      changed_since g.K.Keyer.pseudokey_of c.self.inside c.self.invariant.0 c.args.name c.in-Some.request named c.from.result c.from.ensures _ c.index_mut-ward.ensures.value c.from-2.result c.from-2.ensures c.index.result.now c.index.ensures,
+      changed_since g.K.Keyer.pseudokey_of c.self.inside c.self.invariant.0 c.args.name c.in-Some.request.now named c.from.result c.from.ensures _ c.index_mut-ward.ensures.value c.from-2.result c.from-2.ensures c.index.result.now c.index.ensures,
     )
 
 pub note_hop-requires : goal.note_hop-requires
 note_hop-requires g c =
-    let named = sym c.get.ensures ∙ c.in-Some.is in
-    let far : c.in-Some.request.distance < 2 ^ 32 = search rules in
-    let small = bound_small g.K.Keyer.pseudokey_of c.self.inside c.self.invariant.0 c.args.name c.in-Some.request named c.from.result c.from.ensures _ c.index_mut-ward.ensures.value c.from-2.result c.from-2.ensures
+    let named = sym c.get.ensures ∙ ap option_copied c.in-Some.is in
+    let far : c.in-Some.request.now.distance < 2 ^ 32 = search rules in
+    let small = bound_small g.K.Keyer.pseudokey_of c.self.inside c.self.invariant.0 c.args.name c.in-Some.request.now named c.from.result c.from.ensures _ c.index_mut-ward.ensures.value c.from-2.result c.from-2.ensures
     c.index.result.now c.index.ensures c.changes_since-changes.result c.changes_since-changes.ensures.count c.changes_since-changes.ensures.small far in
-    record { room = room g.K.Keyer.pseudokey_of c.self.inside c.self.invariant.0 c.args.name c.in-Some.request named c.from.result c.from.ensures _ c.index_mut-ward.ensures.value c.moves_come_nearer.ensures c.in_ok-hop.hop c.in_ok-hop.ensures.hop small }
+    record { room = room g.K.Keyer.pseudokey_of c.self.inside c.self.invariant.0 c.args.name c.in-Some.request.now named c.from.result c.from.ensures _ c.index_mut-ward.ensures.value c.moves_come_nearer.ensures c.in_ok-hop.hop c.in_ok-hop.ensures.hop small }
 
 -- what the hop came to, with the moves and their bound
-progress_told : (g : Over) (c : goal.After-of_hop g) → c.of_hop.result ≡ progress_of (world_of c.self.inside) c.in-Some.request c.in_ok-hop.hop
+progress_told : (g : Over) (c : goal.After-of_hop g) → c.of_hop.result ≡ progress_of (world_of c.self.inside) c.in-Some.request.now c.in_ok-hop.hop
 progress_told g c =
-    let named = sym c.get.ensures ∙ c.in-Some.is in
+    let named = sym c.get.ensures ∙ ap option_copied c.in-Some.is in
     c.of_hop.ensures
-    ∙ ap (progress_with c.in_ok-hop.hop c.in-Some.request.moves)
-    (bound_told g.K.Keyer.pseudokey_of c.self.inside c.self.invariant.0 c.args.name c.in-Some.request named c.from.result c.from.ensures _ c.index_mut-ward.ensures.value c.from-2.result c.from-2.ensures
+    ∙ ap (progress_with c.in_ok-hop.hop c.in-Some.request.now.moves)
+    (bound_told g.K.Keyer.pseudokey_of c.self.inside c.self.invariant.0 c.args.name c.in-Some.request.now named c.from.result c.from.ensures _ c.index_mut-ward.ensures.value c.from-2.result c.from-2.ensures
     c.index.result.now c.index.ensures c.from-3.result c.changes_since-changes.result c.from-3.ensures c.changes_since-changes.ensures.count)
 
 pub invariant_of-self-2 : goal.invariant_of-self-2
 invariant_of-self-2 g c =
-    let named = sym c.get.ensures ∙ c.in-Some.is in (
-      hopped_kept g.K.Keyer.pseudokey_of c.self.inside c.self.invariant.0 c.args.name c.in-Some.request named c.from.result c.from.ensures _ c.index_mut-ward.ensures.value c.hop_hashed.new.self c.in_ok-hop.hop
+    let named = sym c.get.ensures ∙ ap option_copied c.in-Some.is in (
+      hopped_kept g.K.Keyer.pseudokey_of c.self.inside c.self.invariant.0 c.args.name c.in-Some.request.now named c.from.result c.from.ensures _ c.index_mut-ward.ensures.value c.hop_hashed.new.self c.in_ok-hop.hop
           c.in_ok-hop.ensures.hop c.in_ok-hop.ensures.leaves c.note_hop.new.self c.note_hop.ensures c.of_hop.result (progress_told g c) c.steps_keep_worlds_sound.ensures c.in_ok-hop.ensures.sound,
       c.self.invariant.1,
     )
@@ -98,10 +99,10 @@ invariant_of-self-2 g c =
 pub returns-clause-step : goal.returns-clause-step
 returns-clause-step g c =
     let pseudokey_of = g.K.Keyer.pseudokey_of in
-    let named = sym c.get.ensures ∙ c.in-Some.is in
+    let named = sym c.get.ensures ∙ ap option_copied c.in-Some.is in
     let new = with_ward c.self.inside c.from.result c.hop_hashed.new.self c.note_hop.new.self in
-    subst (λ (old : WorldState g.row.K.Denot). HasHopped pseudokey_of old c.args.name c.in-Some.request.ward c.of_hop.result new) c.self.view_is
-    (hopped pseudokey_of c.self.inside c.self.invariant.0 c.args.name c.in-Some.request named c.from.result c.from.ensures _ c.index_mut-ward.ensures.value c.hop_hashed.new.self c.in_ok-hop.hop
+    subst (λ (old : WorldState g.row.K.Denot). HasHopped pseudokey_of old c.args.name c.in-Some.request.now.ward c.of_hop.result new) c.self.view_is
+    (hopped pseudokey_of c.self.inside c.self.invariant.0 c.args.name c.in-Some.request.now named c.from.result c.from.ensures _ c.index_mut-ward.ensures.value c.hop_hashed.new.self c.in_ok-hop.hop
     c.in_ok-hop.ensures.hop c.in_ok-hop.ensures.leaves c.note_hop.new.self c.note_hop.ensures c.of_hop.result (progress_told g c))
 
 pub returns-clause-sound : goal.returns-clause-sound

@@ -1,6 +1,6 @@
 use Rattle.std.proofs.Common.{subst, arith}
 use Rattle.exh_world.specs.Sound.{IsSoundWorld}
-use Rattle.exh_world.proofs.Runs.{one_more, bounded_of, current_of, headline_of, moves_of}
+use Rattle.exh_world.proofs.Runs.{one_more, bounded_of, current_of, headline_of, moves_of, others_of}
 use Rattle.exh_world.proofs.world.World.run.Goals as goal
 
 pub loop-event-preserved : goal.loop-event-preserved
@@ -36,6 +36,9 @@ returns-clause-current g c =
     let pseudokey_of = g.K.Keyer.pseudokey_of in
     current_of pseudokey_of c.current_copies_look_once.ensures.runs c.args.self.now _ c.loop-event.turns.items c.loop-event.self
     (subst (IsSoundWorld pseudokey_of) c.self.view_is c.self.invariant.0.sound) c.loop-event.invariant.has_run
+
+pub returns-clause-others : goal.returns-clause-others
+returns-clause-others g c = others_of g.K.Keyer.pseudokey_of c.refused_turns_leave_the_others.ensures c.args.self.now _ c.loop-event.turns.items c.loop-event.self c.loop-event.invariant.has_run
 
 pub returns-clause-equal : goal.returns-clause-equal
 returns-clause-equal g c = (returns-clause-headline g c).equal

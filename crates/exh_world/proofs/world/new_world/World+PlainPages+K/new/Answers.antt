@@ -6,10 +6,10 @@ use Rattle.exh_world.proofs.world.new_world.World+PlainPages+K.new.Goals as goal
 
 pub returns-clause-world : goal.returns-clause-world
 returns-clause-world g c =
-    made_is c.args.config.now c.in_ok-wards.wards.items c.in_ok-start.start.table c.resize.new.self.items (tables_of c.in_ok-copies.copies.items) c.new-2.result.items c.new-3.result
+    made_is c.args.config.now c.in_ok-wards.wards.items c.in_ok-start.start.table c.resize.new.self.items (tables_of c.in_ok-copies.copies.items) c.new-3.result.items c.in_ok-in_flight.in_flight
     c.in_ok-wards.ensures.wards c.in_ok-start.ensures.table
     (none_noticed _ _ _ c.new-noticed.result.items c.resize.new.self.items (search rules) c.new-noticed.ensures.items c.new-noticed.ensures.len c.in_ok-resize.ensures.items)
-    (ap tables_of c.in_ok-copies.ensures ∙ tables_replicated c.args.config.now.copies c.in_ok-start.start ∙ ap (replicate c.args.config.now.copies) c.in_ok-start.ensures.table) c.new-2.ensures.items c.new-3.ensures
+    (ap tables_of c.in_ok-copies.ensures ∙ tables_replicated c.args.config.now.copies c.in_ok-start.start ∙ ap (replicate c.args.config.now.copies) c.in_ok-start.ensures.table) c.new-3.ensures.items c.in_ok-in_flight.ensures
 
 pub invariant_of-result : goal.invariant_of-result
 invariant_of-result g c =

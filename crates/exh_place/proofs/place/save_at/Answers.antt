@@ -1,0 +1,10 @@
+use Rattle.std.proofs.Common.{inl, inr}
+use Rattle.exh_save.specs.LeftLemmas.{left_as_it_was}
+use Rattle.exh_place.proofs.place.save_at.Goals as goal
+
+-- where nothing was written they are the same wards
+pub returns-clause-wards : goal.returns-clause-wards
+returns-clause-wards g c = elim c.save-saved.ensures.source [
+  | inl same ↦ rw same (left_as_it_was c.args.opened)
+  | inr left ↦ left
+]
