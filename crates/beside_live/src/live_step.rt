@@ -34,7 +34,8 @@ pub(crate) enum LiveStep {
     Named(&'static [u8], PageNo),
 }
 
-/// Takes steps. The file's ward, and the copy that is told of it, begin with this table.
+/// Takes steps. The file's ward, and the copy that is told of it and that the caller looks at, begin with
+/// this table.
 pub(crate) fn take_steps<R: Wait, F: Identity>(
     rt: &R,
     run: &mut Run,
@@ -44,7 +45,8 @@ pub(crate) fn take_steps<R: Wait, F: Identity>(
     start: &Table,
     lists: [&[LiveStep]; 2],
 ) -> Result<(), Difference>
-    requires { file.now.ward_bits ≡ 0 }
+    requires bits { file.now.ward_bits ≡ 0 }
+    requires own { caller.old.copy.name ≡ writer.old.name }
 {
     let mut cursors = first_places(run.alloc, 0, start)?;
     let [first, second] = lists;
@@ -64,7 +66,9 @@ fn take_list<R: Wait, F: Identity>(
 )
     requires bits { file.now.ward_bits ≡ 0 }
     requires places { length cursors.old ≡ 2 ^ file.now.ward_bits }
-    ensures { length cursors.new ≡ 2 ^ file.now.ward_bits }
+    requires own { caller.old.copy.name ≡ writer.old.name }
+    ensures places { length cursors.new ≡ 2 ^ file.now.ward_bits }
+    ensures own { caller.new.copy.name ≡ writer.new.name }
 {
     'steps: for step in list {
         let outcome = take(rt, run, file, caller, writer, cursors, step);
@@ -83,7 +87,9 @@ fn take<R: Wait, F: Identity>(
 ) -> Result<(), Difference>
     requires bits { file.now.ward_bits ≡ 0 }
     requires places { length cursors.old ≡ 2 ^ file.now.ward_bits }
-    ensures { length cursors.new ≡ length cursors.old }
+    requires own { caller.old.copy.name ≡ writer.old.name }
+    ensures places { length cursors.new ≡ length cursors.old }
+    ensures own { caller.new.copy.name ≡ writer.new.name }
 {
     match step {
         LiveStep::Call(said) => {
@@ -126,20 +132,25 @@ fn tell<R: Wait>(
     index: u64,
     bits: &str,
     right: PageNo,
-) -> Result<(), Difference> {
+) -> Result<(), Difference>
+    ensures { writer.new.name ≡ writer.old.name }
+{
     let notice = split(index, prefix(bits)?, 1, right);
     again!(Err(AllocError) => writer.take(&notice))?;
     again!(Err(AllocError) => writer.publish(rt))?;
     Ok(())
 }
 
-// Tells a reader what was published: its look for a key names this page then.
+// Tells a reader of the copy what was published: its look for a key names this page then.
 fn is_named(
     writer: &mut Writer,
     copy: &mut Reader,
     key: &[u8],
     page: PageNo,
-) -> Result<(), Difference> {
+) -> Result<(), Difference>
+    requires { copy.old.name ≡ writer.old.name }
+    ensures { copy.new.name ≡ writer.new.name }
+{
     match writer.tell() {
         Ok(told) => copy.learn(told),
         Err(_) => return Err(Difference::Apart(Part::Run)),

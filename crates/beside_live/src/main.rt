@@ -7,6 +7,7 @@
 
 ghost use Rattle.std.specs.Prelude.{◌≡◌};
 ghost use Rattle.exh_keyer.specs.Pseudokey.{plain_pseudokey};
+ghost use Rattle.exh_copy.specs.Additions.{AreOf};
 ghost use Rattle.exh_live.specs.declared.ledgers.TheConstants.{ANSWER_PARTS, ENTRY_PARTS};
 
 mod callers;
@@ -105,6 +106,7 @@ fn play<R: Threads + Wait + Sync, F: Identity + Sync + Send>(
     requires answers { (answers.name ≡ F.answers) × (answers.parts ≡ ANSWER_PARTS) }
     requires entries { (entries.name ≡ F.entries) × (entries.parts ≡ ENTRY_PARTS) }
     requires hashed { F.hashing ≡ plain_pseudokey }
+    requires own { AreOf writer.old.name readers.items }
 {
     let mut copies = readers;
     match story {

@@ -2,6 +2,7 @@
 //! before, which has two empty pages.
 ghost use Rattle.std.specs.Prelude.{◌≡◌, ◌≤◌, ◌%◌, IfOk};
 ghost use Rattle.exh_keyer.specs.Pseudokey.{plain_pseudokey};
+ghost use Rattle.exh_copy.specs.Additions.{AreOf};
 ghost use Rattle.exh_live.specs.LiveFile.{IsNewWardOf};
 ghost use Rattle.exh_live.specs.declared.ledgers.TheConstants.{ANSWER_PARTS, ENTRY_PARTS};
 
@@ -86,7 +87,8 @@ impl OneWard {
         writer: &mut Writer,
         start: &Table,
     ) -> Result<(), Difference>
-        requires { file.now.ward_bits ≡ 0 }
+        requires bits { file.now.ward_bits ≡ 0 }
+        requires own { caller.old.copy.name ≡ writer.old.name }
     {
         let lists: [&[_]; 2] = match self {
             OneWard::ToldCopy => [&THREE_KEYS, &TOLD_COPY],
@@ -114,6 +116,7 @@ pub(crate) fn run<R: Wait, F: Identity>(
     requires answers { (answers.name ≡ F.answers) × (answers.parts ≡ ANSWER_PARTS) }
     requires entries { (entries.name ≡ F.entries) × (entries.parts ≡ ENTRY_PARTS) }
     requires hashed { F.hashing ≡ plain_pseudokey }
+    requires own { AreOf writer.old.name copies.old.items }
 {
     let mut seats = Vec::new(run.alloc);
     seats.reserve(1)?;
@@ -180,7 +183,9 @@ fn start_table(alloc: Global, changes: Option<u32>) -> Result<Table, Difference>
 }
 
 // Tells a copy what a table has.
-fn tell_table<R: Wait>(rt: &R, writer: &mut Writer, table: &Table) -> Result<(), Difference> {
+fn tell_table<R: Wait>(rt: &R, writer: &mut Writer, table: &Table) -> Result<(), Difference>
+    ensures { writer.new.name ≡ writer.old.name }
+{
     again!(Err(AllocError) => writer.combine(table))?;
     again!(Err(AllocError) => writer.publish(rt))?;
     Ok(())
