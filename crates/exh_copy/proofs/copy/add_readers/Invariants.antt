@@ -1,4 +1,4 @@
-use Rattle.std.proofs.Common.{◌≡◌, ◌+◌, ◌-◌, ◌≤◌, [], ◌++◌, replicate}
+use Rattle.std.proofs.Common.{◌≡◌, ◌+◌, [], ◌++◌, replicate}
 use Rattle.std.specs.Prelude.{vec_len, vec_capacity}
 use Rattle.exh_copy.proofs.copy.add_readers.Given as goal
 
