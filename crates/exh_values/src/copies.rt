@@ -350,11 +350,11 @@ fn play_two<R: Wait>(
     let (writer, readers) = one;
     let (second_writer, second_readers) = other;
     let mut seen = 0;
-    for (copy, step) in TWO_COPIES {
-        let played = if copy == 0 {
-            steps(rt, alloc, writer, readers, &mut seen, step)
+    for (copy, step) in &TWO_COPIES {
+        let played = if *copy == 0 {
+            steps(rt, alloc, writer, readers, &mut seen, *step)
         } else {
-            steps(rt, alloc, second_writer, second_readers, &mut seen, step)
+            steps(rt, alloc, second_writer, second_readers, &mut seen, *step)
         };
         if played != Some(true) {
             return false;
