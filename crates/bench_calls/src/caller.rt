@@ -4,6 +4,7 @@ ghost use Rattle.std.specs.Prelude.{◌≡◌};
 
 use exh_array::Directory;
 use exh_calls::{Call, Reply};
+use exh_file_settings::FileSettings;
 use exh_frames::PlainPages;
 use exh_keyer::{AnyKeyer, Keyer};
 use exh_page::{CAP_LIMIT, Key};
@@ -46,8 +47,13 @@ impl Caller {
     pub(crate) fn new(alloc: Global, keyer: AnyKeyer) -> Result<Caller, AllocError> {
         let directory = Directory::new(alloc, 0)?;
         let store = PlainPages::new(alloc, first_page(alloc, 0, 0))?;
+        let settings = FileSettings {
+            cap: CAP_LIMIT as u8,
+            ward_bits: 0,
+            keyer,
+        };
         Ok(Caller {
-            ward: Ward::new(alloc, store, CAP_LIMIT, 0, 0, keyer),
+            ward: Ward::new(alloc, store, settings, 0),
             keyer,
             directory,
         })

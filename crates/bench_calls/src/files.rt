@@ -5,7 +5,8 @@ ghost use Rattle.exh_load.specs.Loader.{IsLoading};
 use crate::pairs::{key_of, value_of};
 use anyhow::{Context, bail};
 use exh_codec::{BLOCK_LEN, is_sealed};
-use exh_frames::PlainPages;
+use exh_file_settings::FileSettings;
+use exh_frames::{PlainMaker, PlainPages};
 use exh_keyer::AnyKeyer;
 use exh_load::Loader;
 use exh_open::{Opened, open};
@@ -48,12 +49,17 @@ impl FileTimes {
 
 /// A file of one ward of the greatest cap and of keyer plain, with so many records put into it.
 pub(crate) fn new_file(alloc: Global, records: u32) -> anyhow::Result<Opened<PlainPages>> {
-    let mut loader = Loader::new(alloc, CAP_LIMIT, 0, AnyKeyer::Plain)?;
+    let settings = FileSettings {
+        cap: CAP_LIMIT as u8,
+        ward_bits: 0,
+        keyer: AnyKeyer::Plain,
+    };
+    let mut loader = Loader::new(alloc, &PlainMaker, settings)?;
     put_all(&mut loader, records)?;
     Ok(loader.into_opened())
 }
 
-fn put_all(loader: &mut Loader, records: u32) -> anyhow::Result<()>
+fn put_all(loader: &mut Loader<PlainPages>, records: u32) -> anyhow::Result<()>
     requires { IsLoading loader.old }
 {
     'puts: for i in 0..records {
@@ -70,7 +76,7 @@ pub(crate) fn make(rt: &HostRuntime, path: &str, records: u32) -> anyhow::Result
 
 /// Opens a file and writes it to another path.
 pub(crate) fn save_copy(rt: &HostRuntime, path: &str, to: &str) -> anyhow::Result<()> {
-    let opened = open::<File, PlainPages>(rt.alloc(), &mut File::open(rt, path)?)?;
+    let opened = open(rt.alloc(), &PlainMaker, &mut File::open(rt, path)?)?;
     save(opened, &mut File::create(rt, to)?)?;
     Ok(())
 }
@@ -80,15 +86,9 @@ pub(crate) fn save<W: Write>(
     opened: Opened<PlainPages>,
     writer: &mut W,
 ) -> anyhow::Result<Vec<Ward<PlainPages, AnyKeyer>>> {
-    let (cap, ward_bits, keyer) = (opened.cap(), opened.ward_bits(), opened.keyer());
+    let settings = opened.settings();
     let mut wards = opened.into_wards();
-    write_file(
-        cap,
-        ward_bits,
-        keyer,
-        &mut wards,
-        &mut FileWriter::new(writer),
-    )?;
+    write_file(settings, &mut wards, &mut FileWriter::new(writer))?;
     Ok(wards)
 }
 
@@ -116,7 +116,7 @@ fn open_time(
 ) -> anyhow::Result<(Opened<PlainPages>, u128)> {
     let start = rt.process_cpu_time()?;
     let mut rest = bytes;
-    let opened = open::<&[u8], PlainPages>(rt.alloc(), &mut rest)?;
+    let opened = open(rt.alloc(), &PlainMaker, &mut rest)?;
     Ok((opened, since(rt, start)?))
 }
 

@@ -5,10 +5,12 @@ use anyhow::Context;
 use exh_array::Directory;
 use exh_callers::PlainWard;
 use exh_calls::{Call, Reply};
+use exh_file_settings::FileSettings;
+use exh_frames::PlainMaker;
 use exh_keyer::PlainKeyer;
-use exh_live::new_wards;
 use exh_page::CAP_LIMIT;
 use exh_walk::{AskFault, OpenGate, walk_ward};
+use exh_ward::new_wards;
 use std::time::Clock;
 
 /// The caller of a ward, alone in its file, who finds pages by a copy of the directory.
@@ -32,7 +34,12 @@ impl Asks for LoneCaller<'_> {
 /// Times so many calls, by one caller.
 pub(crate) fn measure(rt: &(impl Clock + AllocGlobal), calls: u32) -> anyhow::Result<Times> {
     let mut directory = Directory::new(rt.alloc(), 0)?;
-    let mut wards = new_wards(rt.alloc(), PlainKeyer, CAP_LIMIT, 0)?;
+    let settings = FileSettings {
+        cap: CAP_LIMIT as u8,
+        ward_bits: 0,
+        keyer: PlainKeyer,
+    };
+    let mut wards: Vec<PlainWard> = new_wards(rt.alloc(), &PlainMaker, settings)?;
     of_wards(rt, calls, &mut directory, &mut wards)
 }
 

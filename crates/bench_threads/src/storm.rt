@@ -11,6 +11,7 @@ use crate::texts::text_len;
 use crate::turns::Turns;
 use anyhow::bail;
 use exh_copy::Start;
+use exh_frames::{PlainMaker, PlainPages};
 use exh_keyer::ShaKeyer;
 use exh_live::{ANSWER_PARTS, ENTRY_PARTS, Identity, Seat, WardJournals};
 use exh_notice::Kind;
@@ -42,7 +43,7 @@ type Called<F> = Result<(Seat<F>, u64), StormFault>;
 // What all workers have in common.
 #[derive(Drop)]
 struct Field<'a, F: Identity> {
-    file: &'a StormFile<F>,
+    file: &'a StormFile<PlainPages, F>,
     alloc: Global,
     ward_bits: u8,
     calls: u32,
@@ -75,7 +76,13 @@ fn of_file<
     requires bits { S.ward_bits ≡ config.now.ward_bits }
     requires table { S.table ≡ map.empty }
 {
-    let mut file = new_file::<F>(rt.alloc(), config, answers, entries)?;
+    let mut file = new_file::<PlainPages, PlainMaker, F>(
+        rt.alloc(),
+        &PlainMaker,
+        config,
+        answers,
+        entries,
+    )?;
     let mut seats = Vec::new(rt.alloc());
     let turns = run::<R, F, S>(rt, config, &mut file, &mut seats);
     close(config, file, seats, turns)
@@ -85,7 +92,7 @@ fn of_file<
 fn run<R: Threads + Wait + AllocGlobal + Sync, F: Identity + Send + Sync, S: Start + Send + Sync>(
     rt: &R,
     config: &StormConfig,
-    file: &mut StormFile<F>,
+    file: &mut StormFile<PlainPages, F>,
     seats: &mut Vec<Seat<F>>,
 ) -> anyhow::Result<u64>
     requires config { IsStormConfig config.now }
@@ -93,7 +100,12 @@ fn run<R: Threads + Wait + AllocGlobal + Sync, F: Identity + Send + Sync, S: Sta
     requires table { S.table ≡ map.empty }
     requires file { (file.old.ward_bits ≡ config.now.ward_bits) × (file.old.seats ≡ 0) }
 {
-    let Workers { callers, couriers } = new_workers::<R, F, S>(rt, rt.alloc(), config, file)?;
+    let Workers { callers, couriers } = new_workers::<R, PlainPages, F, S>(
+        rt,
+        rt.alloc(),
+        config,
+        file,
+    )?;
     let field = Field {
         file,
         alloc: rt.alloc(),
@@ -195,7 +207,7 @@ fn collect<F: Identity>(called: Vec<Called<F>>, seats: &mut Vec<Seat<F>>) -> any
 // Closes the file, with the seats of all its callers, and settles what it leaves.
 fn close<F: Identity>(
     config: &StormConfig,
-    file: StormFile<F>,
+    file: StormFile<PlainPages, F>,
     seats: Vec<Seat<F>>,
     turns: anyhow::Result<u64>,
 ) -> anyhow::Result<Measured>
@@ -220,7 +232,7 @@ fn close<F: Identity>(
 }
 
 // How many splits the wards tell of.
-fn split_count(wards: &[StormWard]) -> u64 {
+fn split_count(wards: &[StormWard<PlainPages>]) -> u64 {
     let mut count = 0u64;
     for ward in wards {
         for notice in ward.notices_after(0) {
@@ -233,7 +245,7 @@ fn split_count(wards: &[StormWard]) -> u64 {
 }
 
 // The bytes of keys and values in the wards' journals.
-fn texts_len(wards: &[StormWard]) -> u64 {
+fn texts_len(wards: &[StormWard<PlainPages>]) -> u64 {
     let mut len = 0u64;
     for ward in wards {
         for entry in ward.journal().iter() {

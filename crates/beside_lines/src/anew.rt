@@ -11,6 +11,7 @@ use crate::answers::{Line, PlainScript, ROOM, answer};
 use crate::lives::{FIRST, GONE, SECOND, THIRD, journal, notices};
 use exh_calls::JournalEntry;
 use exh_event::{Event, StepFault, Turn};
+use exh_file_settings::FileSettings;
 use exh_fixtures::Asked;
 use exh_frames::PlainPages;
 use exh_keyer::AnyKeyer;
@@ -43,16 +44,16 @@ pub(crate) fn run(run: &mut Run) -> Result<(), Difference> {
 
 // A file of one ward, of pages of two records.
 fn settings(copies: u32) -> Config<AnyKeyer>
-    ensures cap { result.cap ≡ 2 }
-    ensures bits { result.ward_bits ≡ 0 }
-    ensures keyer { result.keyer ≡ Plain }
+    ensures cap { result.settings.cap ≡ 2 }
+    ensures bits { result.settings.ward_bits ≡ 0 }
+    ensures keyer { result.settings.keyer ≡ Plain }
 {
-    Config {
+    let settings = FileSettings {
         cap: 2,
         ward_bits: 0,
-        copies,
         keyer: AnyKeyer::Plain,
-    }
+    };
+    Config { settings, copies }
 }
 
 fn new_script(alloc: Global) -> Result<PlainScript, AllocError>

@@ -7,6 +7,7 @@ ghost use Rattle.exh_world.specs.Sound.{IsSoundWorld};
 
 use crate::answers::ROOM;
 use crate::steps::{STEP_COUNT, STEPS, Step};
+use exh_file_settings::FileSettings;
 use exh_fixtures::{are_same, first_store, refused};
 use exh_frames::{FailingPages, PlainPages};
 use exh_keyer::AnyKeyer;
@@ -25,10 +26,12 @@ type FailingWard = Ward<FailingPages<PlainPages>, AnyKeyer>;
 const MOST: u64 = 1000;
 
 const CONFIG: Config<AnyKeyer> = Config {
-    cap: 2,
-    ward_bits: 0,
+    settings: FileSettings {
+        cap: 2,
+        ward_bits: 0,
+        keyer: AnyKeyer::Plain,
+    },
     copies: 2,
-    keyer: AnyKeyer::Plain,
 };
 
 /// Whether a step was refused, and came to what it should each time.
@@ -124,7 +127,7 @@ fn failing_world(
     let mut wards = Vec::new(alloc);
     wards.reserve(1)?;
     let store = FailingPages::new(first_store(alloc, 0, 0)?, at);
-    wards.push_reserved(Ward::new(alloc, store, 2, 0, 0, AnyKeyer::Plain));
+    wards.push_reserved(Ward::new(alloc, store, CONFIG.settings, 0));
     World::from_wards(alloc, &CONFIG, wards)
 }
 

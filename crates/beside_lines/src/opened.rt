@@ -7,6 +7,7 @@ ghost use Rattle.exh_world.specs.Sound.{IsSoundWorld};
 
 use crate::answers::{Line, PlainScript, answer_all};
 use crate::opened_lines::{LAST, TWO_WARDS, WORN};
+use exh_file_settings::FileSettings;
 use exh_fixtures::{merge, opened_ward, prefix, refused, split};
 use exh_frames::PlainPages;
 use exh_keyer::AnyKeyer;
@@ -27,10 +28,12 @@ const GREATEST: u32 = 4_294_967_295;
 const BEFORE: u32 = 4_294_967_293;
 
 const ONE_WARD: Config<AnyKeyer> = Config {
-    cap: 2,
-    ward_bits: 0,
+    settings: FileSettings {
+        cap: 2,
+        ward_bits: 0,
+        keyer: AnyKeyer::Plain,
+    },
     copies: 1,
-    keyer: AnyKeyer::Plain,
 };
 
 /// Takes the lines of files of one ward. The sums are those of pages in the end, each with its right buddy; there is no
@@ -130,9 +133,12 @@ fn two_wards(alloc: Global) -> Result<PlainScript, Difference>
     wards.push_reserved(opened_ward(alloc, keyer, 1, 0, GREATEST).map_err(refused)?);
     wards.push_reserved(opened_ward(alloc, keyer, 1, 1, BEFORE).map_err(refused)?);
     let config = Config {
-        ward_bits: 1,
+        settings: FileSettings {
+            cap: 2,
+            ward_bits: 1,
+            keyer,
+        },
         copies: 2,
-        ..ONE_WARD
     };
     Ok(Script {
         world: World::from_wards(alloc, &config, wards)?,

@@ -238,3 +238,50 @@ pub(crate) static WORN_KEEPER: [LiveStep; 15] = [
     Named(b"\x40", 0),
     Within(1, Is(b"\0", b"a")),
 ];
+
+/// The file has no key, and the copy names page 9, which isn't there: a get goes on at page 0, and is answered at its
+/// second turn.
+pub(crate) static WRONG_HINT: [LiveStep; 3] = [
+    Tell(1, "", 9),
+    Held(1, b"\x80"),
+    Within(2, Absent(b"\x80")),
+];
+
+/// The third put takes seven splits, of the pages of the prefixes with no zero up to six: a round carries them all, and
+/// each right half has its page.
+pub(crate) static SEVEN_SPLITS: [LiveStep; 9] = [
+    Call(New(b"\0", b"a")),
+    Call(New(b"\x01", b"b")),
+    Call(New(b"\x02", b"x")),
+    Carried(7),
+    Named(b"\x01", 0),
+    Named(b"\x80", 1),
+    Named(b"\x02", 7),
+    Within(1, Is(b"\x02", b"x")),
+    Carried(0),
+];
+
+/// How many steps the next list has.
+pub(crate) const FAULT_COUNT: usize = 17;
+
+/// Puts that take one split, deletes that leave a merge, and a put that takes two splits, of which one makes a page live
+/// again that was merged away.
+pub(crate) static FAULTS: [LiveStep; FAULT_COUNT] = [
+    Call(New(b"\0", b"a")),
+    Call(New(b"\x80", b"b")),
+    Call(New(b"\x40", b"x")),
+    Carried(1),
+    Kept(0),
+    Call(Was(b"\x40", b"x")),
+    Call(Was(b"\x80", b"b")),
+    Kept(1),
+    Kept(0),
+    Carried(1),
+    Call(New(b"\x40", b"x")),
+    Call(New(b"\x20", b"y")),
+    Carried(2),
+    Call(Is(b"\0", b"a")),
+    Call(Is(b"\x20", b"y")),
+    Call(Is(b"\x40", b"x")),
+    Call(Absent(b"\x80")),
+];

@@ -132,8 +132,8 @@ fn take<R: Wait, F: Identity, S: Start>(
             is_told(rt, file, caller, said.asked(), &OpenGate, reply)
         }
         LiveStep::Within(turns, said) => {
-            let gate = TurnGate(*turns);
-            is_told(rt, file, caller, said.asked(), &gate, said.reply()?)
+            let reply = told_reply(&mut run.lie, said.reply()?);
+            is_told(rt, file, caller, said.asked(), &TurnGate(*turns), reply)
         }
         LiveStep::Held(turns, key) => {
             is_held(rt, file, caller, Asked::Get(key), &TurnGate(*turns))

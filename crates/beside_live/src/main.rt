@@ -13,6 +13,7 @@ ghost use Rattle.exh_prefix.specs.declared.prefix.TheConstants.{WARD_BITS_LIMIT}
 
 mod callers;
 mod closing;
+mod faults;
 mod lists;
 mod live_step;
 mod one_caller;
@@ -41,12 +42,14 @@ enum Story {
     OneCaller(OneCaller),
     /// Closing, and settling.
     Closing,
+    /// Pages that are out of reach.
+    Faults,
     /// Many callers on threads of their own.
     Callers,
 }
 
 // All of them, in the order in which they are played.
-const STORIES: [Story; 13] = [
+const STORIES: [Story; 16] = [
     Story::OneCaller(OneCaller::ToldCopy),
     Story::Closing,
     Story::OneCaller(OneCaller::Courier),
@@ -60,6 +63,9 @@ const STORIES: [Story; 13] = [
     Story::OneCaller(OneCaller::LateCourier),
     Story::OneCaller(OneCaller::WornKeeper),
     Story::Callers,
+    Story::OneCaller(OneCaller::WrongHint),
+    Story::OneCaller(OneCaller::SevenSplits),
+    Story::Faults,
 ];
 
 impl Story {
@@ -69,7 +75,7 @@ impl Story {
     {
         match self {
             Story::OneCaller(story) => story.ward_bits(),
-            Story::Closing | Story::Callers => 0,
+            Story::Closing | Story::Faults | Story::Callers => 0,
         }
     }
 }
@@ -88,7 +94,10 @@ impl Named for Story {
             Story::OneCaller(OneCaller::MergedCourier) => "merged-courier",
             Story::OneCaller(OneCaller::LateCourier) => "late-courier",
             Story::OneCaller(OneCaller::WornKeeper) => "worn-keeper",
+            Story::OneCaller(OneCaller::WrongHint) => "wrong-hint",
+            Story::OneCaller(OneCaller::SevenSplits) => "seven-splits",
             Story::Closing => "closing",
+            Story::Faults => "faults",
             Story::Callers => "callers",
         }
     }
@@ -162,6 +171,7 @@ fn play<R: Threads + Wait + Sync, F: Identity + Sync + Send, S: Start + Sync + S
             rt, run, story, ward_bits, writer, copies, answers, entries,
         ),
         Story::Closing => closing::run(rt, run, copies),
+        Story::Faults => faults::run(rt, run),
         Story::Callers => callers::run::<R, F, S>(rt, run, copies, answers, entries),
     }
 }

@@ -7,7 +7,7 @@ ghost use Rattle.exh_prefix.specs.declared.prefix.TheConstants.{WARD_BITS_LIMIT}
 
 use crate::lists::{
     COURIER, EVEN_HALF, FOUR_WARDS, KEEPER, LATE_COURIER, LONG, MERGED_COURIER, ODD_HALF,
-    OPENED_COURIER, THREE_KEYS, THREE_KEYS_EACH, TOLD_COPY, WORN_KEEPER,
+    OPENED_COURIER, SEVEN_SPLITS, THREE_KEYS, THREE_KEYS_EACH, TOLD_COPY, WORN_KEEPER, WRONG_HINT,
 };
 use crate::live_step::{LiveStep, take_steps};
 use crate::written_ward::written_ward;
@@ -51,6 +51,10 @@ pub(crate) enum OneCaller {
     LateCourier,
     /// At the greatest number pages can't be merged any more: a keeper passes over them.
     WornKeeper,
+    /// A copy names a page that isn't there, in a file without a key.
+    WrongHint,
+    /// One call takes seven splits.
+    SevenSplits,
 }
 
 impl OneCaller {
@@ -102,6 +106,8 @@ impl OneCaller {
     // How many calls are answered.
     fn answers(self) -> u128 {
         match self {
+            OneCaller::WrongHint => 1,
+            OneCaller::SevenSplits => 4,
             OneCaller::ToldCopy | OneCaller::Courier | OneCaller::MergedCourier => 6,
             OneCaller::OpenedCourier | OneCaller::LateCourier => 7,
             OneCaller::EvenHalf | OneCaller::WornKeeper => 9,
@@ -132,6 +138,8 @@ impl OneCaller {
             OneCaller::LateCourier => [&THREE_KEYS, &LATE_COURIER],
             OneCaller::MergedCourier => [&MERGED_COURIER, &[]],
             OneCaller::WornKeeper => [&WORN_KEEPER, &[]],
+            OneCaller::WrongHint => [&WRONG_HINT, &[]],
+            OneCaller::SevenSplits => [&SEVEN_SPLITS, &[]],
             _ => [&[], &[]],
         }
     }

@@ -3,6 +3,7 @@ ghost use Rattle.std.specs.Prelude.{◌≡◌, ◌≤◌, ◌%◌, IfOk};
 ghost use Rattle.exh_live.specs.LiveFile.{IsNewWardOf};
 
 use exh_callers::PlainWard;
+use exh_file_settings::FileSettings;
 use exh_fixtures::{opened_ward, refused};
 use exh_frames::PlainPages;
 use exh_join::Join;
@@ -62,5 +63,10 @@ fn reopened(alloc: Global, keyer: PlainKeyer, ward: &mut PlainWard) -> Result<Pl
         }
     }
     let table = ward.table().try_clone()?;
-    Ward::from_pages(alloc, 2, 0, 0, PlainPages::of_pages(pages), table, keyer)
+    let settings = FileSettings {
+        cap: 2,
+        ward_bits: 0,
+        keyer,
+    };
+    Ward::from_pages(alloc, settings, 0, PlainPages::of_pages(pages), table)
 }

@@ -4,7 +4,7 @@
 ghost use Rattle.std.specs.Prelude.{◌<◌, ◌≤◌, ◌^◌};
 ghost use Rattle.exh_prefix.specs.declared.prefix.TheConstants.{WARD_BITS_LIMIT};
 
-use crate::plain_ward::{PlainWard, plain_ward};
+use crate::plain_ward::{PlainWard, plain_ward, settings};
 use exh_calls::{Call, JournalEntry, Reply};
 use exh_fixtures::{Asked, Said, first_store, hop_of, refused, split_page, value};
 use exh_keyer::PlainKeyer;
@@ -180,7 +180,7 @@ fn run_cover(
     requires number { number < 2 ^ ward_bits }
 {
     let store = first_store(run.alloc, ward_bits, number)?;
-    let ward = Ward::new(run.alloc, store, 2, ward_bits, number, PlainKeyer);
+    let ward = Ward::new(run.alloc, store, settings(ward_bits), number);
     take_covers(run, &ward, pseudokeys);
     Ok(())
 }

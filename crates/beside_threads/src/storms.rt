@@ -3,6 +3,7 @@ ghost use Rattle.exh_storm_config.specs.StormConfig.{IsStormConfig};
 
 use crate::conductor::{Conductor, Count};
 use crate::rule::{Rule, Then, Who};
+use exh_frames::PlainMaker;
 use exh_runs::{Part, Run, again, same};
 use exh_storm::{StormFault, storm};
 use exh_storm_config::StormConfig;
@@ -234,7 +235,14 @@ fn told_once<R: Threads + Wait + Clock + Sync>(
     rules: &[Rule],
 ) -> Result<Told, StormFault> {
     let conductor = Conductor::new(rt, rules);
-    let outcome = match storm(rt, alloc, &size.config(), &conductor, &conductor) {
+    let outcome = match storm(
+        rt,
+        alloc,
+        &PlainMaker,
+        &size.config(),
+        &conductor,
+        &conductor,
+    ) {
         Ok(count) => Ok(count),
         Err(StormFault::Memory) => return Err(StormFault::Memory),
         Err(fault) => Err(fault.number()),

@@ -5,6 +5,7 @@ ghost use Rattle.exh_prefix.specs.declared.prefix.TheConstants.{WARD_BITS_LIMIT}
 
 use crate::conductor::{Conductor, Count};
 use exh_callers::CAP;
+use exh_file_settings::FileSettings;
 use exh_fixtures::first_store;
 use exh_frames::{Pages, PagesFault, PlainPages};
 use exh_keyer::PlainKeyer;
@@ -76,7 +77,12 @@ pub(crate) fn new_ward<'a, R: Clock>(
         look,
         conductor,
     };
-    Ok(Ward::new(alloc, store, CAP, ward_bits, number, keyer))
+    let settings = FileSettings {
+        cap: CAP as u8,
+        ward_bits,
+        keyer,
+    };
+    Ok(Ward::new(alloc, store, settings, number))
 }
 
 // Looks at a page. It touches no page, so the store stays as it was.

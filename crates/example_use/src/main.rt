@@ -11,7 +11,7 @@ mod service;
 
 use crate::service::{NAMES, serve};
 use anyhow::Context;
-use exh_frames::PlainPages;
+use exh_frames::{PlainMaker, PlainPages};
 use exh_open::{Opened, open};
 use exh_place::{Seen, save_at};
 use exh_progress::{Console, Meter, Unit, Work};
@@ -39,7 +39,7 @@ fn open_at(rt: &HostRuntime, path: &str) -> anyhow::Result<(Opened<PlainPages>, 
 {
     let mut file = File::open(rt, path)?;
     let seen = SystemDisk::new(rt).seen(path, &file)?;
-    let opened = open(rt.alloc(), &mut file)?;
+    let opened = open(rt.alloc(), &PlainMaker, &mut file)?;
     Ok((opened, seen))
 }
 

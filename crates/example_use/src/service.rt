@@ -8,6 +8,7 @@ ghost use Rattle.example_use.specs.Unasked.{AreUnasked};
 use crate::caller::{Caller, File, Pair};
 use anyhow::{Context, bail};
 use exh_copy::{CopyReader, CopyWriter, NewCopyFault, Start, new_copy};
+use exh_file_settings::FileSettings;
 use exh_frames::PlainPages;
 use exh_join::Join;
 use exh_keyer::AnyKeyer;
@@ -96,35 +97,38 @@ fn serve_as<R: Threads + Wait + Sync, F: Identity + Send + Sync, S: Start + Send
     requires hashed { F.hashing ≡ any_pseudokey opened.keyer }
     requires start { (S.table ≡ table.now) × (S.ward_bits ≡ opened.ward_bits) }
 {
-    let (cap, ward_bits, keyer) = (opened.cap(), opened.ward_bits(), opened.keyer());
+    let settings = opened.settings();
+    let FileSettings {
+        ward_bits,
+        keyer,
+        ..
+    } = settings;
     let wards = opened.into_wards();
     let mut file: File<F> = LiveFile::new(alloc, ward_bits, keyer, wards, answers, entries)?;
     let Done { seats, values } = serve_copy::<R, F, S>(rt, alloc, ward_bits, &mut file, table)?;
     let closed = file.close(seats);
     match closed {
-        Ok(closed) => settle_all(cap, ward_bits, keyer, closed, values),
+        Ok(closed) => settle_all(settings, closed, values),
         Err(back) => Err(back.fault.into()),
     }
 }
 
 // What a closed file leaves, where its callers' diaries and its wards' journals say the same.
 fn settle_all(
-    cap: usize,
-    ward_bits: u8,
-    keyer: AnyKeyer,
+    settings: FileSettings<AnyKeyer>,
     closed: Closed<PlainPages, AnyKeyer>,
     values: Vec<Value>,
 ) -> anyhow::Result<Served>
-    requires { ward_bits ≤ WARD_BITS_LIMIT }
+    requires { settings.ward_bits ≤ WARD_BITS_LIMIT }
 {
     let Closed { wards, diaries } = closed;
     let journals = WardJournals {
-        ward_bits,
-        keyer,
+        ward_bits: settings.ward_bits,
+        keyer: settings.keyer,
         wards: &wards,
     };
     let answers = settle(&journals, &diaries)?.answers;
-    let opened = Opened::from_wards(cap, ward_bits, keyer, wards);
+    let opened = Opened::from_wards(settings, wards);
     match opened {
         Ok(opened) => Ok(Served {
             opened,

@@ -7,16 +7,16 @@ ghost use Rattle.exh_live.specs.declared.ledgers.TheConstants.{ANSWER_PARTS, ENT
 ghost use Rattle.exh_prefix.specs.declared.prefix.TheConstants.{WARD_BITS_LIMIT};
 
 use crate::caller::{File, PlainFile};
-use exh_frames::{Pages, PlainPages};
+use exh_file_settings::FileSettings;
+use exh_frames::{Pages, PlainMaker, PlainPages};
 use exh_keyer::PlainKeyer;
 use exh_live::{
     ANSWER_PARTS, CloseFault, Closed, ENTRY_PARTS, Identity, LiveFile, Seat, WardJournals,
-    new_wards,
 };
 use exh_page::CAP_LIMIT;
 use exh_runs::{Difference, Part, Run, same};
 use exh_settle::{Diary, Mismatch, settle};
-use exh_ward::Ward;
+use exh_ward::{Ward, new_wards};
 use std::alloc::{AllocError, Global};
 use std::sync::ledger::Blank;
 
@@ -44,7 +44,12 @@ pub fn new_file<F: Identity>(
     ensures { IfOk result (λ file. file.ward_bits ≡ ward_bits) }
 {
     let keyer = PlainKeyer;
-    let wards = new_wards(alloc, keyer, cap, ward_bits)?;
+    let settings = FileSettings {
+        cap: cap as u8,
+        ward_bits,
+        keyer,
+    };
+    let wards = new_wards(alloc, &PlainMaker, settings)?;
     LiveFile::new(alloc, ward_bits, keyer, wards, answers, entries)
 }
 

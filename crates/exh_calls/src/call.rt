@@ -1,4 +1,6 @@
-ghost use Rattle.std.specs.Prelude.{◌≡◌};
+ghost use Rattle.std.specs.Prelude.{◌≡◌, ℕ, Bool, List};
+ghost use Rattle.exh_calls.specs.Effect.{effect_of};
+ghost use Rattle.exh_calls.specs.declared.call.Call.TheVariants.{Swap};
 
 use crate::{KeyChange, Reply, swaps_compare};
 use exh_page::{Key, Value};
@@ -39,12 +41,14 @@ impl Call {
         ensures { result ≡ (effect_of self.now full stood.now).reply }
     {
         swaps_compare();
+        // Apart, since the other calls' replies to a key that has a value all tell it.
+        if let Call::Swap { old, .. } = self {
+            return swap_reply(old, stood);
+        }
         match stood {
             Some(value) => match self {
                 Call::Get { .. } => Reply::Is(*value),
-                Call::Put { .. } | Call::Del { .. } => Reply::Was(*value),
-                Call::Swap { old, .. } if value == old => Reply::Swapped,
-                Call::Swap { .. } => Reply::Differs(*value),
+                Call::Put { .. } | Call::Del { .. } | Call::Swap { .. } => Reply::Was(*value),
             },
             None => match self {
                 Call::Get { .. } | Call::Del { .. } | Call::Swap { .. } => Reply::None,
@@ -81,5 +85,16 @@ impl Call {
             Call::Put { .. } => true,
             Call::Get { .. } | Call::Del { .. } | Call::Swap { .. } => false,
         }
+    }
+}
+
+// What a swap of a key is answered, by its old value and the value that the key has.
+fn swap_reply(old: &Value, stood: &Option<Value>) -> Reply
+    ensures { (key new : List ℕ) (full : Bool) → result ≡ (effect_of (Swap key old.now new) full stood.now).reply }
+{
+    match stood {
+        Some(value) if value == old => Reply::Swapped,
+        Some(value) => Reply::Differs(*value),
+        None => Reply::None,
     }
 }

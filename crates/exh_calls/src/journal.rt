@@ -1,4 +1,4 @@
-ghost use Rattle.std.specs.Prelude.{◌≡◌, ◌+◌, ◌≤◌, ◌↔◌, [], ◌∷◌, ◌++◌, length, slice_get, IsTrue, OnOk};
+ghost use Rattle.std.specs.Prelude.{◌≡◌, ◌+◌, ◌≤◌, ◌↔◌, [], ◌∷◌, ◌++◌, length, slice_get, vec_len, vec_capacity, IsTrue, OnOk};
 ghost use Rattle.std.specs.Iterator.{YieldsFirst, item_count};
 ghost use Rattle.std.specs.Option.{option_map};
 ghost use Rattle.exh_page.specs.declared.value.TheConstants.{VALUE_LIMIT};
@@ -75,7 +75,7 @@ impl Journal {
         // There is room for these bytes.
         self.texts.extend_from_slice(key).unwrap();
         self.texts.extend_from_slice(value).unwrap();
-        self.texts.extend_from_slice(second).unwrap();
+        add_second(&mut self.texts, second);
         self.texts.extend_from_slice(told).unwrap();
     }
 
@@ -171,6 +171,19 @@ pub(crate) fn bytes_at(texts: &[u8], start: usize, len: u8) -> &[u8]
     ensures { result.now ≡ bytes_at texts.now start len }
 {
     &texts[start..start + usize::from(len)]
+}
+
+// Adds the bytes of a second value, for which there is room. Most calls have none.
+fn add_second(texts: &mut Vec<u8>, second: &[u8])
+    requires { vec_len texts.old + length second.now ≤ vec_capacity texts.old }
+    ensures items { texts.new.items ≡ texts.old.items ++ second.now }
+    ensures len { vec_len texts.new ≡ vec_len texts.old + length second.now }
+    ensures capacity { vec_capacity texts.old ≤ vec_capacity texts.new }
+{
+    if second.is_empty() {
+        return;
+    }
+    texts.extend_from_slice(second).unwrap();
 }
 
 // The bytes of the first value that a call names, none where it names none.

@@ -2,7 +2,7 @@
 use Rattle.std.specs.Prelude.{◌≡◌, ⊤, ℕ, List, Option, None, Some}
 use Rattle.std.specs.Borrow.{Bor}
 use Rattle.exh_command.specs.declared.job.Job.{Job}
-use Rattle.exh_command.specs.declared.job.Job.TheVariants.{Serve, Check, Dump, Load, Storm}
+use Rattle.exh_command.specs.declared.job.Job.TheVariants.{Serve, Check, Dump, Load, Storm, Get}
 use Rattle.exh_cli.specs.declared.place.Place.{Place}
 use Rattle.exh_cli.specs.declared.run.Ending.{Ending}
 use Rattle.exh_cli.specs.declared.run.Ending.TheVariants.{Over, Save}
@@ -18,6 +18,7 @@ place_of (Check path) = None
 place_of (Dump path) = None
 place_of (Load path) = at (Some path)
 place_of (Storm config) = None
+place_of (Get path key) = None
 
 -- what is saved at the end, if anything is, is saved there
 abbrev pub SavesAt : Option Place → Ending → Type 0

@@ -8,7 +8,7 @@ use Rattle.exh_serve.specs.declared.serve_fault.ServeFault.{ServeFault}
 use Rattle.exh_command.specs.declared.fault.CliFault.{CliFault}
 use Rattle.exh_command.specs.declared.fault.CliFault.TheVariants as fault
 use Rattle.exh_cli.specs.declared.status.Status.{Status}
-use Rattle.exh_cli.specs.declared.status.Status.TheVariants.{Done, Refused, WrongWords}
+use Rattle.exh_cli.specs.declared.status.Status.TheVariants.{Done, Missing, Refused, WrongWords}
 
 -- after the run of a script: done, with wards left, or refused as a whole, or cut off by the writer or want of memory
 abbrev pub run_status : Result (Option OpenedState) ServeFault → Status
@@ -31,3 +31,4 @@ abbrev pub code_of : Status → ℕ
 code_of Done = 0
 code_of Refused = 1
 code_of WrongWords = 2
+code_of Missing = 3

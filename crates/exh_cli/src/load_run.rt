@@ -6,10 +6,9 @@ use crate::last_line::print_out_of_memory;
 use crate::place::Place;
 use crate::run::Ending;
 use crate::status::Status;
-use exh_frames::PlainPages;
+use crate::stores::{FileWards, MAKER};
 use exh_load::{LoadFault, load};
 use exh_notes::Listener;
-use exh_open::Opened;
 use exh_stream::Output;
 use std::alloc::Global;
 use std::io::{Read, Write};
@@ -24,10 +23,10 @@ pub fn load_pairs<R: Read, W: Write, L: Listener>(
     reader: &mut R,
     writer: &mut W,
     listener: &mut L,
-) -> Result<Option<Opened<PlainPages>>, LoadFault>
+) -> Result<Option<FileWards>, LoadFault>
     ensures { LoadPrints (W.contents writer.old) (W.contents writer.new) (R.remaining reader.old) result }
 {
-    match load(alloc, reader, writer, listener) {
+    match load(alloc, &MAKER, reader, writer, listener) {
         Err(LoadFault::Memory) => {
             print_out_of_memory(&mut Output::new(writer))?;
             Err(LoadFault::Memory)
@@ -38,7 +37,7 @@ pub fn load_pairs<R: Read, W: Write, L: Listener>(
 
 /// How the program ends after a load: the file that comes of it is saved at its place.
 pub fn load_ending<'w>(
-    loaded: Result<Option<Opened<PlainPages>>, LoadFault>,
+    loaded: Result<Option<FileWards>, LoadFault>,
     place: Option<Place<'w>>,
 ) -> Ending<'w>
     ensures ending { IsLoadEnding loaded place.entry result }

@@ -8,8 +8,8 @@ ghost use Rattle.exh_cli.specs.Run.{PrintsLine, memory_line};
 use crate::file_run::UNOPENED;
 use crate::last_line::{OUT_OF_MEMORY, print_line};
 use crate::status::Status;
-use exh_frames::PlainPages;
-use exh_open::{OpenFault, Opened, open};
+use crate::stores::{FileWards, MAKER};
+use exh_open::{OpenFault, open};
 use exh_report::push_refusal;
 use exh_stream::Output;
 use exh_text::{push_refused, push_text};
@@ -24,7 +24,7 @@ pub fn open_file<F: Read + Drop, W: Write>(
     alloc: Global,
     opened: io::Result<F>,
     output: &mut Output<'_, W>,
-) -> Result<Opened<PlainPages>, Status>
+) -> Result<FileWards, Status>
     requires open { IsFalse (writer_failed output.old) }
     requires empty { pending output.old ≡ [] }
     ensures same_writer { SameWriter output.old output.new }
@@ -47,13 +47,13 @@ fn open_bytes<R: Read, W: Write>(
     alloc: Global,
     reader: &mut R,
     output: &mut Output<'_, W>,
-) -> Result<Opened<PlainPages>, Status>
+) -> Result<FileWards, Status>
     requires open { IsFalse (writer_failed output.old) }
     requires empty { pending output.old ≡ [] }
     ensures same_writer { SameWriter output.old output.new }
     ensures opens { OpensOrTells (held W.contents output.old) (held W.contents output.new) (writer_failed output.new) (R.remaining reader.old) result }
 {
-    match open(alloc, reader) {
+    match open(alloc, &MAKER, reader) {
         Ok(opened) => Ok(opened),
         Err(fault) => {
             tell_fault(alloc, fault, output);

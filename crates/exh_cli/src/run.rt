@@ -6,9 +6,8 @@ ghost use Rattle.exh_cli.specs.Run.{IsEnding, RunPrints};
 use crate::last_line::print_out_of_memory;
 use crate::place::Place;
 use crate::status::Status;
-use exh_frames::PlainPages;
+use crate::stores::{FileWards, MAKER};
 use exh_notes::Listener;
-use exh_open::Opened;
 use exh_serve::{ServeFault, serve_from};
 use exh_stream::Output;
 use std::alloc::Global;
@@ -20,10 +19,7 @@ pub enum Ending<'w> {
     /// With this status.
     Over(Status),
     /// After these wards are saved at a place.
-    Save {
-        place: Place<'w>,
-        wards: Opened<PlainPages>,
-    },
+    Save { place: Place<'w>, wards: FileWards },
 }
 
 /// Answers the script of a reader on a writer, over the wards of a file or over a new one, and gives the wards that its
@@ -31,14 +27,14 @@ pub enum Ending<'w> {
 /// of the writer nothing more is printed.
 pub fn serve_script<R: Read, W: Write, L: Listener>(
     alloc: Global,
-    from: Option<Opened<PlainPages>>,
+    from: Option<FileWards>,
     reader: &mut R,
     writer: &mut W,
     listener: &mut L,
-) -> Result<Option<Opened<PlainPages>>, ServeFault>
+) -> Result<Option<FileWards>, ServeFault>
     ensures { RunPrints (beginning from) (W.contents writer.old) (W.contents writer.new) (R.remaining reader.old) result }
 {
-    match serve_from(alloc, from, reader, writer, listener) {
+    match serve_from(alloc, &MAKER, from, reader, writer, listener) {
         Err(ServeFault::Memory) => {
             print_out_of_memory(&mut Output::new(writer))?;
             Err(ServeFault::Memory)
@@ -49,7 +45,7 @@ pub fn serve_script<R: Read, W: Write, L: Listener>(
 
 /// How the program ends after a run, where its wards may be saved at a place: only those of a run that is done are.
 pub fn ending_of<'w>(
-    outcome: Result<Option<Opened<PlainPages>>, ServeFault>,
+    outcome: Result<Option<FileWards>, ServeFault>,
     save: Option<Place<'w>>,
 ) -> Ending<'w>
     ensures ending { IsEnding outcome save.entry result }

@@ -3,9 +3,8 @@
 use crate::last_line::print_out_of_memory;
 use crate::place::Place;
 use crate::status::Status;
+use crate::stores::FileWards;
 use crate::watch::saving_meter;
-use exh_frames::PlainPages;
-use exh_open::Opened;
 use exh_place::{DiskFault, Seen, look_at, save_at};
 use exh_stream::Output;
 use exh_system_disk::SystemDisk;
@@ -49,7 +48,7 @@ pub fn save_at_place(
     rt: &HostRuntime,
     place: Place<'_>,
     seen: Option<&Seen>,
-    wards: Opened<PlainPages>,
+    wards: FileWards,
 ) -> Status {
     let path = place.path();
     let meter = saving_meter(rt);

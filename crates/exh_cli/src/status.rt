@@ -16,6 +16,8 @@ pub enum Status {
     Refused,
     /// The command line names no job: 2.
     WrongWords,
+    /// The file hasn't the key that is asked for: 3.
+    Missing,
 }
 
 impl Status {
@@ -47,6 +49,7 @@ impl Status {
             Status::Done => 0,
             Status::Refused => 1,
             Status::WrongWords => 2,
+            Status::Missing => 3,
         })
     }
 }

@@ -1,6 +1,8 @@
 -- of writing: put_record, put_page, lay_out
 pub mod PutPairs
 pub mod UsedBytes
+-- of lay_out_with
+pub mod Sides
 -- of reading: cells, the head, low bounds, zeros, rising records
 pub mod PairImages
 pub mod LowBytes
@@ -12,5 +14,7 @@ pub mod ReadBack
 -- of images_pass: a laid-out block passes the tests, and a block that passes is an image
 pub mod ImagesPass
 pub mod PassingImages
+-- of blocks_are_read, decode_head
+pub mod PageOf
 -- of decode_page and images_are_sealed
 pub mod FirstFault

@@ -7,6 +7,7 @@ use Rattle.exh_codec.specs.declared.block.TheConstants.{BLOCK_LEN}
 use Rattle.exh_codec.specs.Block.{IsSealed}
 use Rattle.exh_codec.specs.ImageTests.{Passes, image_tests}
 use Rattle.exh_codec.specs.PageImage.{IsPage, IsImage, IsLaidOut}
+use Rattle.exh_codec.specs.PageOf.{page_of}
 
 -- the block is the page's image, and no other is
 pub record IsOnePageImage (version : Version) (pseudo : List ℕ → ℕ) (page : Page) (block : List ℕ) : Type 0 where
@@ -35,3 +36,7 @@ ImagesAreSealed = (version : Version) (pseudo : List ℕ → ℕ) (page : Page) 
 -- an image has the length of a block
 abbrev pub ImagesAreBlocks : Type 0
 ImagesAreBlocks = (version : Version) (pseudo : List ℕ → ℕ) (page : Page) (block : List ℕ) → IsImage version pseudo page block → length block ≡ BLOCK_LEN
+
+-- a block that was laid out for a page is read as that page
+abbrev pub BlocksAreRead : Type 0
+BlocksAreRead = (version : Version) → Fits 8 version → (pseudo : List ℕ → ℕ) (page : Page) (block : List ℕ) → IsLaidOut version pseudo page block → page_of version pseudo block ≡ page

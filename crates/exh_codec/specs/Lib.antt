@@ -2,9 +2,11 @@ pub mod Block
 pub mod ImageFault
 pub mod Head
 pub mod Cells
+pub mod Sides
 pub mod PageImage
 pub mod PageImageLemmas
 pub mod BlockLemmas
 pub mod ImageTests
 pub mod ReadPages
+pub mod PageOf
 pub mod Laws

@@ -1,7 +1,8 @@
-ghost use Rattle.std.specs.Prelude.{◌≡◌, ◌≢◌, ◌↔◌, IsTrue, MatchResult, IfOk, IfErr};
+ghost use Rattle.std.specs.Prelude.{◌≡◌, ◌≢◌, ◌↔◌, ℕ, List, Some, IsTrue, MatchResult, IfOk, IfErr};
 ghost use Rattle.exh_codec.specs.Block.{AreZero};
 ghost use Rattle.exh_prefix.specs.Version.{first_version};
 ghost use Rattle.exh_page.specs.declared.page.Page.{Page};
+ghost use Rattle.exh_page.specs.PageHead.{head_of};
 ghost use Rattle.exh_codec.specs.PageImage.{IsImage, IsLaidOut};
 ghost use Rattle.exh_codec.specs.ReadPages.{GivesPage};
 ghost use Rattle.exh_codec.specs.ImageTests.{Passes, IsFirst, content_tests, image_tests};
@@ -11,9 +12,10 @@ use crate::block::{BLOCK_LEN, CONTENT_LEN, is_sealed};
 use crate::cell::cells_of;
 use crate::head::{HEAD_LEN, Head, LOW_END};
 use crate::kind::Kind;
-use crate::pages::{forward_page, live_page};
+use crate::pages::{forward_page, live_page, right_link};
 use exh_keyer::Keyer;
-use exh_page::Page;
+use exh_page::{Page, PageHead};
+use exh_prefix::Prefix;
 use std::alloc::Global;
 
 /// The page that a block is the image of, under a keyer. Where it is that of none, the fault is the
@@ -52,6 +54,26 @@ pub fn decode_content<K: Keyer>(
         → IsFirst (Passes first_version (K.pseudokey_of keyer.now) block.now) content_tests fault) }
 {
     read_content(alloc, keyer, block)
+}
+
+/// All of the page that a block was laid out for but its records, which are counted, whatever the
+/// digest bytes are. Of a block that was laid out for none it says something or `None`. It takes no
+/// memory.
+pub fn decode_head(block: &[u8; BLOCK_LEN]) -> Option<PageHead>
+    ensures { (pseudo : List ℕ → ℕ) (page : Page) → IsLaidOut first_version pseudo page block.now → result ≡ Some (head_of page) }
+{
+    let head = Head::from_bytes(block)?;
+    match head.kind {
+        Kind::Live => Some(PageHead::Live {
+            prefix: Prefix::new(head.prefix_len, head.low)?,
+            right: right_link(head.link),
+            count: usize::from(head.count),
+        }),
+        Kind::Forward => Some(PageHead::Forward {
+            low: head.low,
+            target: head.link,
+        }),
+    }
 }
 
 // The page that a block was laid out for, or the first fault.

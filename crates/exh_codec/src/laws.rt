@@ -1,6 +1,6 @@
 //! What holds of all images, for the proofs of callers. Each function does nothing.
 
-ghost use Rattle.exh_codec.specs.Laws.{OneImage, OnePage, ImagesAreBlocks, ImagesAreSealed, ImagesPass};
+ghost use Rattle.exh_codec.specs.Laws.{BlocksAreRead, OneImage, OnePage, ImagesAreBlocks, ImagesAreSealed, ImagesPass};
 
 /// A well-formed page has exactly one image.
 pub fn one_image()
@@ -25,4 +25,9 @@ pub fn images_are_sealed()
 /// An image has the length of a block.
 pub fn images_are_blocks()
     ensures { ImagesAreBlocks }
+{}
+
+/// A block that was laid out for a page is read as that page.
+pub fn blocks_are_read()
+    ensures { BlocksAreRead }
 {}

@@ -61,8 +61,8 @@ pub(crate) fn forward_page(head: Head) -> Result<Page, ImageFault>
     })
 }
 
-// The right link of a head's number.
-fn right_link(link: PageNo) -> Option<PageNo>
+/// The right link of a head's number.
+pub(crate) fn right_link(link: PageNo) -> Option<PageNo>
     ensures number { link_number result ≡ link }
     ensures other { result ≢ Some (2 ^ 32 - 1) }
 {

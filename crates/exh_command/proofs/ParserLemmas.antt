@@ -19,25 +19,17 @@ use Rattle.clap.proofs.OnLiterals.{clap_on_literals}
 use Rattle.clap.proofs.WalkLemmas.{both, first_value-rows, walk_stopped}
 use Rattle.clap.proofs.FaultLemmas.{stopped_fault}
 use Rattle.exh_command.specs.Fault.{IsFaultOf, IsWrong, TellsVersion}
-use Rattle.exh_command.specs.Words.{Use, alone, ends_options, is_named, is_option, only_word, path_named, uses_named}
-use Rattle.exh_command.specs.Job.{AskForVersion, Asked, Serve, Check, Dump, Load, Storm, asked_by, callers_name, calls_name, cap_name, command_of, copies_name, job_asked, job_named, open_name, save_name, serve_asked, serve_names, served_by, storm_asked, storm_names, stormed_by, wards_name}
-use Rattle.exh_command.specs.Parser.{HasTexts, HasValues, IsJobMet, Meets, ReadsJobs, about_path, path_id, path_rule, texts_of, with_options}
-use Rattle.exh_command.specs.Program.{bare_program}
+use Rattle.exh_command.specs.Words.{Use, alone, ends_options, is_named, is_option, only_word, path_and_key, path_named, uses_named}
+use Rattle.exh_command.specs.Job.{AskForVersion, Asked, Serve, Check, Dump, Load, Storm, Get, asked_by, callers_name, calls_name, cap_name, command_of, copies_name, get_asked, got_by, job_asked, job_named, open_name, save_name, serve_asked, serve_names, served_by, storm_asked, storm_names, stormed_by, wards_name}
+use Rattle.exh_command.specs.Parser.{HasTexts, HasValues, IsJobMet, Meets, ReadsJobs, about_path, key_id, path_id, path_rule, texts_of}
+use Rattle.exh_command.proofs.TheProgram.{program, serve, storm}
+use Rattle.exh_command.proofs.KeyWords.{key_agrees, key_flags, key_kinds, key_met}
 use Rattle.exh_command.specs.declared.fault.CliFault.{CliFault}
 use Rattle.exh_command.proofs.OptionLemmas.{IsOptionLeaf, first_of-rows_of_uses, rows_of_uses}
 use Rattle.exh_command.proofs.OptionFlags.{flags_agree, flags_met, help_asking, no_defaults, option_flags, option_leaf}
 use Rattle.exh_command.proofs.WordLemmas.{Agrees, Fails, IsAsking, IsValue, agreed, agrees_as, all_ask, first_fails, flags, help, is_end, is_name, is_plain_word, is_value, option_fails, or_nothing, some_is, version, word_fails}
 
 -- ---- the parser, as clap's clauses see it
-
-abbrev pub serve : Shape
-serve = with_options (codes "serve") serve_names
-
-abbrev pub storm : Shape
-storm = with_options (codes "storm") storm_names
-
-abbrev pub program : App
-program = with_subcommand (with_subcommand (with_subcommand (with_subcommand (with_subcommand bare_program serve) (about_path (codes "check"))) (about_path (codes "dump"))) (about_path (codes "load"))) storm
 
 is_exact : is_simple_and_free program ≡ true
 unfolding clap_on_literals
@@ -270,6 +262,10 @@ storm_leaves : (words : List Text) → top_kinds (codes "storm" ∷ words) ≡ s
 unfolding clap_on_literals
 storm_leaves words = stopped_is (codes "storm") words ∙ or_nothing (storm_kinds words)
 
+get_leaves : (words : List Text) → top_kinds (codes "get" ∷ words) ≡ key_kinds words
+unfolding clap_on_literals
+get_leaves words = stopped_is (codes "get") words ∙ or_nothing (key_kinds words)
+
 help_fails : (words : List Text) → Fails (top_kinds (codes "help" ∷ words))
 unfolding clap_on_literals
 help_fails words = tt
@@ -281,9 +277,9 @@ end_fails (word ∷ rest) = tt
 
 -- a word that names no command
 module _ (word : Text) (no_serve : bytes_eq (codes "serve") word ≡ false) (no_check : bytes_eq (codes "check") word ≡ false) (no_dump : bytes_eq (codes "dump") word ≡ false)
-    (no_load : bytes_eq (codes "load") word ≡ false) (no_storm : bytes_eq (codes "storm") word ≡ false) where
+    (no_load : bytes_eq (codes "load") word ≡ false) (no_storm : bytes_eq (codes "storm") word ≡ false) (no_get : bytes_eq (codes "get") word ≡ false) where
   unnamed : bytes_eq (codes "help") word ≡ false → subcommand_met names idle word ≡ None
-  unnamed no_help = rw (no_serve, no_check, no_dump, no_load, no_storm, no_help) refl
+  unnamed no_help = rw (no_serve, no_check, no_dump, no_load, no_storm, no_get, no_help) refl
 
   other_fails : (rest : List Text) (helps ends : Bool) → bytes_eq (codes "help") word ≡ helps → ends_options word ≡ ends → Fails (top_kinds (word ∷ rest))
   unfolding clap_on_literals
@@ -292,26 +288,29 @@ module _ (word : Text) (no_serve : bytes_eq (codes "serve") word ≡ false) (no_
   other_fails rest false false no_help no_end =
       first_fails _ _ (first_fails _ _ (word_fails top flags short_asking [] None 1 word refl (all_ask flags long_asking (long_of word)) names (unnamed no_help) no_end))
 
-command_agrees : (word : Text) (rest : List Text) (serves checks dumps loads storms : Bool) → bytes_eq (codes "serve") word ≡ serves → bytes_eq (codes "check") word ≡ checks → bytes_eq (codes "dump") word ≡ dumps
-    → bytes_eq (codes "load") word ≡ loads → bytes_eq (codes "storm") word ≡ storms
-    → Agrees (cond serves (serve_asked rest) (cond checks (option_map Check (path_named rest)) (cond dumps (option_map Dump (path_named rest)) (cond loads (option_map Load (path_named rest)) (cond storms (storm_asked rest) None)))))
+command_agrees : (word : Text) (rest : List Text) (serves checks dumps loads storms gets : Bool) → bytes_eq (codes "serve") word ≡ serves → bytes_eq (codes "check") word ≡ checks → bytes_eq (codes "dump") word ≡ dumps
+    → bytes_eq (codes "load") word ≡ loads → bytes_eq (codes "storm") word ≡ storms → bytes_eq (codes "get") word ≡ gets
+    → Agrees (cond serves (serve_asked rest) (cond checks (option_map Check (path_named rest)) (cond dumps (option_map Dump (path_named rest)) (cond loads (option_map Load (path_named rest)) (cond storms (storm_asked rest) (cond gets (get_asked rest) None))))))
     (top_kinds (word ∷ rest))
-command_agrees word rest true checks dumps loads storms s c d l o =
+command_agrees word rest true checks dumps loads storms gets s c d l o g =
     let left = subst (Agrees (serve_asked rest)) (sym (serve_leaves rest)) (leaf_agrees rest) in
     subst (λ w. Agrees (serve_asked rest) (top_kinds (w ∷ rest))) (is_name (codes "serve") word s) left
-command_agrees word rest false true dumps loads storms s c d l o =
+command_agrees word rest false true dumps loads storms gets s c d l o g =
     let left = subst (Agrees (option_map Check (path_named rest))) (sym (check_leaves rest)) (agrees_as Check _ _ (path_agrees rest)) in
     subst (λ w. Agrees (option_map Check (path_named rest)) (top_kinds (w ∷ rest))) (is_name (codes "check") word c) left
-command_agrees word rest false false true loads storms s c d l o =
+command_agrees word rest false false true loads storms gets s c d l o g =
     let left = subst (Agrees (option_map Dump (path_named rest))) (sym (dump_leaves rest)) (agrees_as Dump _ _ (path_agrees rest)) in
     subst (λ w. Agrees (option_map Dump (path_named rest)) (top_kinds (w ∷ rest))) (is_name (codes "dump") word d) left
-command_agrees word rest false false false true storms s c d l o =
+command_agrees word rest false false false true storms gets s c d l o g =
     let left = subst (Agrees (option_map Load (path_named rest))) (sym (load_leaves rest)) (agrees_as Load _ _ (path_agrees rest)) in
     subst (λ w. Agrees (option_map Load (path_named rest)) (top_kinds (w ∷ rest))) (is_name (codes "load") word l) left
-command_agrees word rest false false false false true s c d l o =
+command_agrees word rest false false false false true gets s c d l o g =
     let left = subst (Agrees (storm_asked rest)) (sym (storm_leaves rest)) (storm_agrees rest) in
     subst (λ w. Agrees (storm_asked rest) (top_kinds (w ∷ rest))) (is_name (codes "storm") word o) left
-command_agrees word rest false false false false false s c d l o = other_fails word s c d l o rest (bytes_eq (codes "help") word) (ends_options word) refl refl
+command_agrees word rest false false false false false true s c d l o g =
+    let left = subst (Agrees (get_asked rest)) (sym (get_leaves rest)) (agrees_as got_by _ _ (key_agrees rest)) in
+    subst (λ w. Agrees (get_asked rest) (top_kinds (w ∷ rest))) (is_name (codes "get") word g) left
+command_agrees word rest false false false false false false s c d l o g = other_fails word s c d l o g rest (bytes_eq (codes "help") word) (ends_options word) refl refl
 
 words_agree : (words : List Text) → Agrees (asked_by words) (fault_of program words)
 unfolding clap_on_literals
@@ -319,7 +318,7 @@ words_agree [] = tt
 words_agree (name ∷ []) = tt
 words_agree (name ∷ command ∷ rest) =
     command_agrees command rest (bytes_eq (codes "serve") command) (bytes_eq (codes "check") command) (bytes_eq (codes "dump") command) (bytes_eq (codes "load") command) (bytes_eq (codes "storm") command)
-    refl refl refl refl refl
+    (bytes_eq (codes "get") command) refl refl refl refl refl refl
 
 -- ---- the command that is met, and its values
 
@@ -346,6 +345,10 @@ load_met name words = met_at (codes "load") words
 storm_met : (name : Text) (words : List Text) → subcommand_of program (name ∷ codes "storm" ∷ words) ≡ Some (codes "storm", rows_after storm_flags [] words)
 unfolding clap_on_literals
 storm_met name words = met_at (codes "storm") words
+
+get_met : (name : Text) (words : List Text) → subcommand_of program (name ∷ codes "get" ∷ words) ≡ Some (codes "get", rows_after key_flags [] words)
+unfolding clap_on_literals
+get_met name words = met_at (codes "get") words
 
 -- the words behind a command with options ask for no other command
 is_by : (by : List Use → Asked) (command : Text) → ((uses : List Use) → command ≡ command_of (by uses)) → (read : Option (List Use)) (asked : Asked) → option_map by read ≡ Some asked → command ≡ command_of asked
@@ -377,26 +380,37 @@ path_is_met name command of is values rest met (Some path) asked named same = su
   values = values path (rows_after path_flags [] rest) (path_met rest path named);
 })
 
-command_met : (name word : Text) (rest : List Text) (serves checks dumps loads storms : Bool) (asked : Asked) → bytes_eq (codes "serve") word ≡ serves → bytes_eq (codes "check") word ≡ checks → bytes_eq (codes "dump") word ≡ dumps
-    → bytes_eq (codes "load") word ≡ loads → bytes_eq (codes "storm") word ≡ storms
-    → cond serves (serve_asked rest) (cond checks (option_map Check (path_named rest)) (cond dumps (option_map Dump (path_named rest)) (cond loads (option_map Load (path_named rest)) (cond storms (storm_asked rest) None)))) ≡ Some asked
+-- and about a key
+get_is_met : (name : Text) (rest : List Text) (found : Option (Text × Text)) (asked : Asked) → path_and_key rest ≡ found → option_map got_by found ≡ Some asked → Meets program (name ∷ codes "get" ∷ rest) asked
+get_is_met name rest None asked named same = cc
+get_is_met name rest (Some words) asked named same = let has = key_met rest words named in subst (Meets program (name ∷ codes "get" ∷ rest)) (some_is same) (record {
+  rows = rows_after key_flags [] rest;
+  met = get_met name rest;
+  values = (has.path, has.key);
+})
+
+command_met : (name word : Text) (rest : List Text) (serves checks dumps loads storms gets : Bool) (asked : Asked) → bytes_eq (codes "serve") word ≡ serves → bytes_eq (codes "check") word ≡ checks → bytes_eq (codes "dump") word ≡ dumps
+    → bytes_eq (codes "load") word ≡ loads → bytes_eq (codes "storm") word ≡ storms → bytes_eq (codes "get") word ≡ gets
+    → cond serves (serve_asked rest) (cond checks (option_map Check (path_named rest)) (cond dumps (option_map Dump (path_named rest)) (cond loads (option_map Load (path_named rest)) (cond storms (storm_asked rest) (cond gets (get_asked rest) None))))) ≡ Some asked
     → Meets program (name ∷ word ∷ rest) asked
-command_met name word rest true checks dumps loads storms asked s c d l o named = subst (λ w. Meets program (name ∷ w ∷ rest) asked) (is_name (codes "serve") word s) (serve_is_met name rest asked named)
-command_met name word rest false true dumps loads storms asked s c d l o named =
+command_met name word rest true checks dumps loads storms gets asked s c d l o g named = subst (λ w. Meets program (name ∷ w ∷ rest) asked) (is_name (codes "serve") word s) (serve_is_met name rest asked named)
+command_met name word rest false true dumps loads storms gets asked s c d l o g named =
     subst (λ w. Meets program (name ∷ w ∷ rest) asked) (is_name (codes "check") word c) (path_is_met name (codes "check") Check (λ path. refl) (λ path rows is. is) rest (check_met name rest) (path_named rest) asked refl named)
-command_met name word rest false false true loads storms asked s c d l o named =
+command_met name word rest false false true loads storms gets asked s c d l o g named =
     subst (λ w. Meets program (name ∷ w ∷ rest) asked) (is_name (codes "dump") word d) (path_is_met name (codes "dump") Dump (λ path. refl) (λ path rows is. is) rest (dump_met name rest) (path_named rest) asked refl named)
-command_met name word rest false false false true storms asked s c d l o named =
+command_met name word rest false false false true storms gets asked s c d l o g named =
     subst (λ w. Meets program (name ∷ w ∷ rest) asked) (is_name (codes "load") word l) (path_is_met name (codes "load") Load (λ path. refl) (λ path rows is. is) rest (load_met name rest) (path_named rest) asked refl named)
-command_met name word rest false false false false true asked s c d l o named = subst (λ w. Meets program (name ∷ w ∷ rest) asked) (is_name (codes "storm") word o) (storm_is_met name rest asked named)
-command_met name word rest false false false false false asked s c d l o named = cc
+command_met name word rest false false false false true gets asked s c d l o g named = subst (λ w. Meets program (name ∷ w ∷ rest) asked) (is_name (codes "storm") word o) (storm_is_met name rest asked named)
+command_met name word rest false false false false false true asked s c d l o g named =
+    subst (λ w. Meets program (name ∷ w ∷ rest) asked) (is_name (codes "get") word g) (get_is_met name rest (path_and_key rest) asked refl named)
+command_met name word rest false false false false false false asked s c d l o g named = cc
 
 asked_met : (words : List Text) (asked : Asked) → asked_by words ≡ Some asked → Meets program words asked
 asked_met [] asked named = cc
 asked_met (name ∷ []) asked named = cc
 asked_met (name ∷ command ∷ rest) asked named =
-    command_met name command rest (bytes_eq (codes "serve") command) (bytes_eq (codes "check") command) (bytes_eq (codes "dump") command) (bytes_eq (codes "load") command) (bytes_eq (codes "storm") command) asked
-    refl refl refl refl refl named
+    command_met name command rest (bytes_eq (codes "serve") command) (bytes_eq (codes "check") command) (bytes_eq (codes "dump") command) (bytes_eq (codes "load") command) (bytes_eq (codes "storm") command)
+    (bytes_eq (codes "get") command) asked refl refl refl refl refl refl named
 
 -- ---- the version
 
@@ -470,6 +484,7 @@ serves (Check path) own opened saved is opens saves = absurd (let never : 115 �
 serves (Dump path) own opened saved is opens saves = absurd (let never : 115 ≡ 100 = ap (λ (word : Text). slice_index_or word 0 0) is.command_is in omega arith)
 serves (Load path) own opened saved is opens saves = absurd (let never : 115 ≡ 108 = ap (λ (word : Text). slice_index_or word 0 0) is.command_is in omega arith)
 serves (Storm texts) own opened saved is opens saves = absurd (let never : 101 ≡ 116 = ap (λ (word : Text). slice_index_or word 1 0) is.command_is in omega arith)
+serves (Get path word) own opened saved is opens saves = absurd (let never : 115 ≡ 103 = ap (λ (word : Text). slice_index_or word 0 0) is.command_is in omega arith)
 
 -- a path, as it was read
 same_path : (own : ArgMatches) (path found : Text) → first_of path_id (rows_of (found_of own)) ≡ Some path → Some found ≡ first_value (found_of own) path_id → path ≡ found
@@ -484,6 +499,7 @@ checks (Check other) own is path read = ap (λ path. Some (Check path)) (same_pa
 checks (Dump other) own is path read = absurd (let never : 99 ≡ 100 = ap (λ (word : Text). slice_index_or word 0 0) is.command_is in omega arith)
 checks (Load other) own is path read = absurd (let never : 99 ≡ 108 = ap (λ (word : Text). slice_index_or word 0 0) is.command_is in omega arith)
 checks (Storm texts) own is path read = absurd (let never : 99 ≡ 115 = ap (λ (word : Text). slice_index_or word 0 0) is.command_is in omega arith)
+checks (Get file word) own is path read = absurd (let never : 99 ≡ 103 = ap (λ (word : Text). slice_index_or word 0 0) is.command_is in omega arith)
 
 pub dumps : (asked : Asked) (own : ArgMatches) → IsOwn (codes "dump") own asked → (path : Text) → Some path ≡ first_value (found_of own) path_id → Some asked ≡ Some (Dump path)
 dumps (Serve opening saving) own is path read = absurd (let never : 100 ≡ 115 = ap (λ (word : Text). slice_index_or word 0 0) is.command_is in omega arith)
@@ -491,6 +507,7 @@ dumps (Check other) own is path read = absurd (let never : 100 ≡ 99 = ap (λ (
 dumps (Dump other) own is path read = ap (λ path. Some (Dump path)) (same_path own other path is.values read)
 dumps (Load other) own is path read = absurd (let never : 100 ≡ 108 = ap (λ (word : Text). slice_index_or word 0 0) is.command_is in omega arith)
 dumps (Storm texts) own is path read = absurd (let never : 100 ≡ 115 = ap (λ (word : Text). slice_index_or word 0 0) is.command_is in omega arith)
+dumps (Get file word) own is path read = absurd (let never : 100 ≡ 103 = ap (λ (word : Text). slice_index_or word 0 0) is.command_is in omega arith)
 
 pub loads : (asked : Asked) (own : ArgMatches) → IsOwn (codes "load") own asked → (path : Text) → Some path ≡ first_value (found_of own) path_id → Some asked ≡ Some (Load path)
 loads (Serve opening saving) own is path read = absurd (let never : 108 ≡ 115 = ap (λ (word : Text). slice_index_or word 0 0) is.command_is in omega arith)
@@ -498,6 +515,7 @@ loads (Check other) own is path read = absurd (let never : 108 ≡ 99 = ap (λ (
 loads (Dump other) own is path read = absurd (let never : 108 ≡ 100 = ap (λ (word : Text). slice_index_or word 0 0) is.command_is in omega arith)
 loads (Load other) own is path read = ap (λ path. Some (Load path)) (same_path own other path is.values read)
 loads (Storm texts) own is path read = absurd (let never : 108 ≡ 115 = ap (λ (word : Text). slice_index_or word 0 0) is.command_is in omega arith)
+loads (Get file word) own is path read = absurd (let never : 108 ≡ 103 = ap (λ (word : Text). slice_index_or word 0 0) is.command_is in omega arith)
 
 -- a text, as it was read
 same_text : (own : ArgMatches) (name : Text) (text : Option Text) → first_of name (rows_of (found_of own)) ≡ text → text ≡ first_value (found_of own) name
@@ -508,6 +526,7 @@ storms (Serve opening saving) own is = absurd (let never : 116 ≡ 101 = ap (λ 
 storms (Check path) own is = absurd (let never : 115 ≡ 99 = ap (λ (word : Text). slice_index_or word 0 0) is.command_is in omega arith)
 storms (Dump path) own is = absurd (let never : 115 ≡ 100 = ap (λ (word : Text). slice_index_or word 0 0) is.command_is in omega arith)
 storms (Load path) own is = absurd (let never : 115 ≡ 108 = ap (λ (word : Text). slice_index_or word 0 0) is.command_is in omega arith)
+storms (Get path word) own is = absurd (let never : 115 ≡ 103 = ap (λ (word : Text). slice_index_or word 0 0) is.command_is in omega arith)
 storms (Storm texts) own is = ap (λ texts. Some (Storm texts)) (same_texts is.values)
   where
     same_texts : HasTexts texts (rows_of (found_of own)) → texts ≡ texts_of (found_of own)
@@ -527,23 +546,56 @@ path_given (Check path) command own is other = has_path own path is.values
 path_given (Dump path) command own is other = has_path own path is.values
 path_given (Load path) command own is other = has_path own path is.values
 path_given (Storm texts) command own is other = absurd (other.1 is.command_is)
+path_given (Get path word) command own is other = has_path own path is.values.0
 
-pub no_options : (command : Text) → (command ≡ codes "check") ⊎ (command ≡ codes "dump") ⊎ (command ≡ codes "load") → (command ≡ codes "serve" → ⊥) × (command ≡ codes "storm" → ⊥)
+-- a get's words, as they were read
+pub key_given : (asked : Asked) (own : ArgMatches) → IsOwn (codes "get") own asked → IsSome (first_value (found_of own) key_id)
+key_given (Serve opening saving) own is = absurd (let never : 103 ≡ 115 = ap (λ (word : Text). slice_index_or word 0 0) is.command_is in omega arith)
+key_given (Check path) own is = absurd (let never : 103 ≡ 99 = ap (λ (word : Text). slice_index_or word 0 0) is.command_is in omega arith)
+key_given (Dump path) own is = absurd (let never : 103 ≡ 100 = ap (λ (word : Text). slice_index_or word 0 0) is.command_is in omega arith)
+key_given (Load path) own is = absurd (let never : 103 ≡ 108 = ap (λ (word : Text). slice_index_or word 0 0) is.command_is in omega arith)
+key_given (Storm texts) own is = absurd (let never : 103 ≡ 115 = ap (λ (word : Text). slice_index_or word 0 0) is.command_is in omega arith)
+key_given (Get path word) own is = subst IsSome (sym (first_value-rows (found_of own) key_id ∙ is.values.1)) refl
+
+pub record GivesKey (asked : Asked) (own : ArgMatches) : Type 0 where
+  pub path : Text
+  pub word : Text
+  pub asked_is : Some asked ≡ Some (Get path word)
+  pub path_is : Some path ≡ first_value (found_of own) path_id
+  pub word_is : Some word ≡ first_value (found_of own) key_id
+
+pub gets : (asked : Asked) (own : ArgMatches) → IsOwn (codes "get") own asked → GivesKey asked own
+gets (Serve opening saving) own is = absurd (let never : 103 ≡ 115 = ap (λ (word : Text). slice_index_or word 0 0) is.command_is in omega arith)
+gets (Check path) own is = absurd (let never : 103 ≡ 99 = ap (λ (word : Text). slice_index_or word 0 0) is.command_is in omega arith)
+gets (Dump path) own is = absurd (let never : 103 ≡ 100 = ap (λ (word : Text). slice_index_or word 0 0) is.command_is in omega arith)
+gets (Load path) own is = absurd (let never : 103 ≡ 108 = ap (λ (word : Text). slice_index_or word 0 0) is.command_is in omega arith)
+gets (Storm texts) own is = absurd (let never : 103 ≡ 115 = ap (λ (word : Text). slice_index_or word 0 0) is.command_is in omega arith)
+gets (Get path word) own is = record {
+  path = path;
+  word = word;
+  asked_is = refl;
+  path_is = sym (first_value-rows (found_of own) path_id ∙ is.values.0);
+  word_is = sym (first_value-rows (found_of own) key_id ∙ is.values.1);
+}
+
+pub no_options : (command : Text) → (command ≡ codes "check") ⊎ (command ≡ codes "dump") ⊎ (command ≡ codes "load") ⊎ (command ≡ codes "get") → (command ≡ codes "serve" → ⊥) × (command ≡ codes "storm" → ⊥)
 no_options command is = (λ same. begins_apart is (ap (λ (word : Text). slice_index_or word 0 0) same), λ same. begins_apart is (ap (λ (word : Text). slice_index_or word 0 0) same))
   where
-    begins_apart : (command ≡ codes "check") ⊎ (command ≡ codes "dump") ⊎ (command ≡ codes "load") → slice_index_or command 0 0 ≡ 115 → ⊥
+    begins_apart : (command ≡ codes "check") ⊎ (command ≡ codes "dump") ⊎ (command ≡ codes "load") ⊎ (command ≡ codes "get") → slice_index_or command 0 0 ≡ 115 → ⊥
     begins_apart (inl is) begins = let never : 99 ≡ 115 = ap (λ (word : Text). slice_index_or word 0 0) (sym is) ∙ begins in absurd (omega (arith, never))
     begins_apart (inr (inl is)) begins = let never : 100 ≡ 115 = ap (λ (word : Text). slice_index_or word 0 0) (sym is) ∙ begins in absurd (omega (arith, never))
-    begins_apart (inr (inr is)) begins = let never : 108 ≡ 115 = ap (λ (word : Text). slice_index_or word 0 0) (sym is) ∙ begins in absurd (omega (arith, never))
+    begins_apart (inr (inr (inl is))) begins = let never : 108 ≡ 115 = ap (λ (word : Text). slice_index_or word 0 0) (sym is) ∙ begins in absurd (omega (arith, never))
+    begins_apart (inr (inr (inr is))) begins = let never : 103 ≡ 115 = ap (λ (word : Text). slice_index_or word 0 0) (sym is) ∙ begins in absurd (omega (arith, never))
 
 -- there is no other command
 pub is_command : (asked : Asked) (command : Text) (own : ArgMatches) → IsOwn command own asked → (command ≡ codes "serve" → ⊥) → (command ≡ codes "check" → ⊥) → (command ≡ codes "dump" → ⊥) → (command ≡ codes "load" → ⊥)
-    → (command ≡ codes "storm" → ⊥) → ⊥
-is_command (Serve opening saving) command own is no_serve no_check no_dump no_load no_storm = no_serve is.command_is
-is_command (Check path) command own is no_serve no_check no_dump no_load no_storm = no_check is.command_is
-is_command (Dump path) command own is no_serve no_check no_dump no_load no_storm = no_dump is.command_is
-is_command (Load path) command own is no_serve no_check no_dump no_load no_storm = no_load is.command_is
-is_command (Storm texts) command own is no_serve no_check no_dump no_load no_storm = no_storm is.command_is
+    → (command ≡ codes "storm" → ⊥) → (command ≡ codes "get" → ⊥) → ⊥
+is_command (Serve opening saving) command own is no_serve no_check no_dump no_load no_storm no_get = no_serve is.command_is
+is_command (Check path) command own is no_serve no_check no_dump no_load no_storm no_get = no_check is.command_is
+is_command (Dump path) command own is no_serve no_check no_dump no_load no_storm no_get = no_dump is.command_is
+is_command (Load path) command own is no_serve no_check no_dump no_load no_storm no_get = no_load is.command_is
+is_command (Storm texts) command own is no_serve no_check no_dump no_load no_storm no_get = no_storm is.command_is
+is_command (Get path word) command own is no_serve no_check no_dump no_load no_storm no_get = no_get is.command_is
 
 -- ---- the job of a command
 

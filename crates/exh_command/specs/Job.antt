@@ -3,11 +3,12 @@ use Rattle.std.specs.Prelude.{◌≡◌, ⊤, ℕ, ◌&&◌, leb, List, [], ◌�
 use Rattle.std.specs.Str.{bytes_eq}
 use Rattle.exh_page.specs.declared.page.TheConstants.{CAP_LIMIT}
 use Rattle.exh_prefix.specs.declared.prefix.TheConstants.{WARD_BITS_LIMIT}
+use Rattle.exh_text.specs.ByteWord.{bytes_of_word, key_in_range}
 use Rattle.exh_text.specs.Numbers.{number_spelled}
 use Rattle.exh_storm_config.specs.StormConfig.{IsStormConfig}
 use Rattle.exh_storm_config.specs.declared.config.StormConfig.{StormConfig}
 use Rattle.exh_storm_config.specs.declared.config.TheConstants.{CALLERS_LIMIT, CALLS_LIMIT, COPIES_LIMIT}
-use Rattle.exh_command.specs.Words.{Use, path_named, uses_named, option_given}
+use Rattle.exh_command.specs.Words.{Use, path_and_key, path_named, uses_named, option_given}
 use Rattle.exh_command.specs.declared.job.Job.{Job}
 use Rattle.exh_command.specs.declared.job.Job.TheVariants as jobs
 
@@ -27,14 +28,17 @@ pub data Asked : Type 0 where
   Dump : List ℕ → Asked
   Load : List ℕ → Asked
   Storm : StormTexts → Asked
+  -- the file, and the word of the key
+  Get : List ℕ → List ℕ → Asked
 
--- a job, with the texts of its paths, and its numbers
+-- a job, with the texts of its paths, its numbers and the bytes of its key
 pub data Named : Type 0 where
   Serving : Option (List ℕ) → Option (List ℕ) → Named
   Checking : List ℕ → Named
   Dumping : List ℕ → Named
   Loading : List ℕ → Named
   Storming : StormConfig → Named
+  Getting : List ℕ → List ℕ → Named
 
 abbrev pub named_of : Job → Named
 named_of (jobs.Serve opened saved) = Serving (option_map (λ path. path.now) opened) (option_map (λ path. path.now) saved)
@@ -42,6 +46,7 @@ named_of (jobs.Check path) = Checking path.now
 named_of (jobs.Dump path) = Dumping path.now
 named_of (jobs.Load path) = Loading path.now
 named_of (jobs.Storm config) = Storming config
+named_of (jobs.Get path key) = Getting path.now key
 
 -- a storm's numbers are within the limits
 abbrev pub IsWithinLimits : Job → Type 0
@@ -50,6 +55,7 @@ IsWithinLimits (jobs.Check path) = ⊤
 IsWithinLimits (jobs.Dump path) = ⊤
 IsWithinLimits (jobs.Load path) = ⊤
 IsWithinLimits (jobs.Storm config) = IsStormConfig config
+IsWithinLimits (jobs.Get path key) = ⊤
 
 -- ---- the words behind a command
 
@@ -100,6 +106,13 @@ stormed_by uses = Storm (record {
 abbrev pub storm_asked : List (List ℕ) → Option Asked
 storm_asked words = option_map stormed_by (uses_named storm_names words)
 
+-- `get` takes a path and a key
+abbrev pub got_by : List ℕ × List ℕ → Asked
+got_by words = Get words.0 words.1
+
+abbrev pub get_asked : List (List ℕ) → Option Asked
+get_asked words = option_map got_by (path_and_key words)
+
 -- ---- a whole command line
 
 -- the program's name, a command, and the command's own words
@@ -111,7 +124,8 @@ asked_by (program ∷ command ∷ rest) =
     else (if bytes_eq (codes "check") command then option_map Check (path_named rest)
     else (if bytes_eq (codes "dump") command then option_map Dump (path_named rest)
     else (if bytes_eq (codes "load") command then option_map Load (path_named rest)
-    else (if bytes_eq (codes "storm") command then storm_asked rest else None))))
+    else (if bytes_eq (codes "storm") command then storm_asked rest
+    else (if bytes_eq (codes "get") command then get_asked rest else None)))))
 
 -- ---- the numbers of a storm
 
@@ -137,13 +151,20 @@ storm_of texts =
     (number_of 100 1 CALLS_LIMIT texts.calls))
     (number_of 2 1 CALLERS_LIMIT texts.callers)
 
--- the job that a command comes to: of a storm where all its numbers are some
+-- ---- the key of a get
+
+-- the key that a word spells
+abbrev pub key_spelled : List ℕ → Option (List ℕ)
+key_spelled word = option_and_then (λ key. if key_in_range key then Some key else None) (bytes_of_word word)
+
+-- the job that a command comes to: of a storm where all its numbers are some, of a get where its word spells a key
 abbrev pub job_asked : Asked → Option Named
 job_asked (Serve opened saved) = Some (Serving opened saved)
 job_asked (Check path) = Some (Checking path)
 job_asked (Dump path) = Some (Dumping path)
 job_asked (Load path) = Some (Loading path)
 job_asked (Storm texts) = option_map Storming (storm_of texts)
+job_asked (Get path word) = option_map (Getting path) (key_spelled word)
 
 -- the job that the words of a command line name
 abbrev pub job_named : List (List ℕ) → Option Named
@@ -160,3 +181,4 @@ command_of (Check path) = codes "check"
 command_of (Dump path) = codes "dump"
 command_of (Load path) = codes "load"
 command_of (Storm texts) = codes "storm"
+command_of (Get path word) = codes "get"

@@ -7,7 +7,7 @@ use Rattle.clap.specs.declared.builder.command.Command.TheViews.{out-Command}
 use Rattle.clap.specs.declared.parser.matches.ArgMatches.{ArgMatches}
 use Rattle.clap.specs.declared.parser.matches.Found.{Found}
 use Rattle.clap.specs.declared.error.kind.ErrorKind.TheVariants.{DisplayVersion}
-use Rattle.exh_command.specs.Job.{Asked, Check, Dump, Load, Serve, Storm, StormTexts, asked_by, callers_name, calls_name, cap_name, command_of, copies_name, open_name, save_name, wards_name}
+use Rattle.exh_command.specs.Job.{Asked, Check, Dump, Get, Load, Serve, Storm, StormTexts, asked_by, callers_name, calls_name, cap_name, command_of, copies_name, open_name, save_name, wards_name}
 
 -- ---- arguments
 
@@ -18,6 +18,13 @@ path_id = codes "PATH"
 abbrev pub path_rule : Rule
 path_rule = record (new_rule path_id) { required = true }
 
+-- the word by which a key is called
+abbrev pub key_id : List ℕ
+key_id = codes "KEY"
+
+abbrev pub key_rule : Rule
+key_rule = record (new_rule key_id) { required = true }
+
 -- an option with one value
 abbrev pub option_rule : List ℕ → Rule
 option_rule name = record (new_rule name) { long = Some name; value_names = 1 }
@@ -25,6 +32,10 @@ option_rule name = record (new_rule name) { long = Some name; value_names = 1 }
 -- a command about one path
 abbrev pub about_path : List ℕ → Shape
 about_path name = record (new_shape name) { rules = path_rule ∷ [] }
+
+-- and about a key of its file
+abbrev pub about_key : List ℕ → Shape
+about_key name = record (new_shape name) { rules = path_rule ∷ key_rule ∷ [] }
 
 -- a command with such options
 abbrev pub with_options : List ℕ → List (List ℕ) → Shape
@@ -55,6 +66,7 @@ HasValues (Check path) rows = first_of path_id rows ≡ Some path
 HasValues (Dump path) rows = first_of path_id rows ≡ Some path
 HasValues (Load path) rows = first_of path_id rows ≡ Some path
 HasValues (Storm texts) rows = HasTexts texts rows
+HasValues (Get path word) rows = (first_of path_id rows ≡ Some path) × (first_of key_id rows ≡ Some word)
 
 -- the parser meets a command, and its values
 pub record Meets (parser : App) (words : List (List ℕ)) (asked : Asked) : Type 0 where

@@ -34,6 +34,22 @@ path_named (word ∷ rest) =
     if ends_options word then only_word rest
     else (if is_option word then None else alone word rest)
 
+-- ---- a path and a key
+
+-- behind `--` there are just two words
+abbrev pub only_two : List (List ℕ) → Option (List ℕ × List ℕ)
+only_two [] = None
+only_two (path ∷ []) = None
+only_two (path ∷ key ∷ []) = Some (path, key)
+only_two (path ∷ key ∷ next ∷ rest) = None
+
+-- the path, which is no option, and the key behind it, which is told as a path alone would be
+abbrev pub path_and_key : List (List ℕ) → Option (List ℕ × List ℕ)
+path_and_key [] = None
+path_and_key (word ∷ rest) =
+    if ends_options word then only_two rest
+    else (if is_option word then None else option_map (λ key. (word, key)) (path_named rest))
+
 -- ---- options, each with a value
 
 -- an option's name, and its value

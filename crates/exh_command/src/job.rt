@@ -1,25 +1,25 @@
 //! What a command line asks for.
-ghost use Rattle.std.specs.Prelude.{◌≡◌, ◌<◌, ◌≤◌, ◌^◌, Some, None, map, option_map, IfOk, IfErr, IfSome, IsSome};
+ghost use Rattle.std.specs.Prelude.{◌≡◌, ◌<◌, ◌≤◌, ◌^◌, ℕ, List, Some, None, map, option_and_then, option_map, IfOk, IfErr, IfSome, IsSome};
 ghost use Rattle.clap.specs.Words.{first_value, found_of};
 ghost use Rattle.exh_command.specs.Fault.{IsWrong, TellsVersion};
-ghost use Rattle.exh_command.specs.Job.{AskForVersion, Asked, IsWithinLimits, Storm, job_asked, job_named, named_of, number_of, storm_of};
-ghost use Rattle.exh_command.specs.Parser.{IsJobMet, IsSomeJobMet, path_id, texts_of};
+ghost use Rattle.exh_command.specs.Job.{AskForVersion, Asked, Get, IsWithinLimits, Storm, job_asked, job_named, key_spelled, named_of, number_of, storm_of};
+ghost use Rattle.exh_command.specs.Parser.{IsJobMet, IsSomeJobMet, key_id, path_id, texts_of};
 ghost use Rattle.exh_storm_config.specs.StormConfig.{IsStormConfig};
 
 use crate::fault::CliFault;
 use crate::parser::{
-    CALLERS, CALLS, CAP, CHECK, COPIES, DUMP, LOAD, OPEN, PATH, SAVE, SERVE, STORM, WARDS,
-    out_of_range, parser,
+    CALLERS, CALLS, CAP, CHECK, COPIES, DUMP, GET, KEY, LOAD, OPEN, PATH, SAVE, SERVE, STORM,
+    WARDS, parser, wrong_value,
 };
 use clap::ArgMatches;
-use exh_page::CAP_LIMIT;
+use exh_page::{CAP_LIMIT, Key};
 use exh_prefix::WARD_BITS_LIMIT;
 use exh_storm_config::{CALLERS_LIMIT, CALLS_LIMIT, COPIES_LIMIT, StormConfig};
-use exh_text::parse_u32;
+use exh_text::{parse_key, parse_u32};
 use std::alloc::Global;
 use std::convert::AsStr;
 
-/// A command of the program, with its paths and numbers.
+/// A command of the program, with its paths, numbers and key.
 #[derive(Clone, Copy)]
 pub enum Job<'w> {
     /// Answer the script on standard input, over the page file of a path where one is to be opened, and save the wards
@@ -44,6 +44,11 @@ pub enum Job<'w> {
     Storm {
         config: StormConfig,
     },
+    /// Print the value of a key of the page file of a path.
+    Get {
+        path: &'w str,
+        key: Key,
+    },
 }
 
 /// The job that the words of a command line name, of which the first is the program's name.
@@ -51,7 +56,7 @@ pub enum Job<'w> {
 /// # Errors
 ///
 /// `CliFault::Wrong` only where the words name no job, as in a call for help, or for the version,
-/// which its text then tells; a number that is none, or out of range, is such words too.
+/// which its text then tells; a number that is none, or out of range, and a key that is none are such words too.
 /// `CliFault::Memory` may come at any words.
 pub fn job_of<'w, S: AsStr>(alloc: Global, words: &'w [S]) -> Result<Job<'w>, CliFault>
     ensures named { IfOk result (λ job. job_named (map S.text words.now) ≡ Some (named_of job)) }
@@ -84,6 +89,7 @@ fn job_met<'w>(alloc: Global, matches: &ArgMatches<'w>) -> Result<Job<'w>, CliFa
         DUMP => Ok(Job::Dump { path: path_in(own) }),
         LOAD => Ok(Job::Load { path: path_in(own) }),
         STORM => storm_job(alloc, own),
+        GET => get_job(alloc, own),
         _ => unreachable!(),
     }
 }
@@ -99,6 +105,38 @@ fn path_in<'w>(own: &ArgMatches<'w>) -> &'w str
     path
 }
 
+// The get of the path and the key that were given.
+fn get_job<'w>(alloc: Global, own: &ArgMatches<'w>) -> Result<Job<'w>, CliFault>
+    requires path { IsSome (first_value (found_of own.now) path_id) }
+    requires key { IsSome (first_value (found_of own.now) key_id) }
+    ensures named { IfOk result (λ job. (path word : List ℕ) → Some path ≡ first_value (found_of own.now) path_id → Some word ≡ first_value (found_of own.now) key_id
+        → job_asked (Get path word) ≡ Some (named_of job)) }
+    ensures limits { IfOk result IsWithinLimits }
+    ensures wrong { IfErr result (λ fault. IsWrong fault → (path word : List ℕ) → Some word ≡ first_value (found_of own.now) key_id → job_asked (Get path word) ≡ None) }
+{
+    match key_in(own) {
+        Some(key) => Ok(Job::Get {
+            path: path_in(own),
+            key,
+        }),
+        None => Err(CliFault::Wrong(wrong_value(
+            alloc,
+            "`get` takes a KEY of 1 to 64 bytes, as `exhash get --help` tells",
+        )?)),
+    }
+}
+
+// The key that the word given for it spells.
+fn key_in(own: &ArgMatches<'_>) -> Option<Key>
+    requires { IsSome (first_value (found_of own.now) key_id) }
+    ensures { result ≡ option_and_then key_spelled (first_value (found_of own.now) key_id) }
+{
+    let Some(word) = own.get_str(KEY) else {
+        unreachable!()
+    };
+    parse_key(word.as_bytes()).ok()
+}
+
 // The storm of the settings that were given.
 fn storm_job<'w>(alloc: Global, own: &ArgMatches<'w>) -> Result<Job<'w>, CliFault>
     ensures named { IfOk result (λ job. job_asked (Storm (texts_of (found_of own.now))) ≡ Some (named_of job)) }
@@ -107,7 +145,7 @@ fn storm_job<'w>(alloc: Global, own: &ArgMatches<'w>) -> Result<Job<'w>, CliFaul
 {
     match storm_in(own) {
         Some(config) => Ok(Job::Storm { config }),
-        None => Err(CliFault::Wrong(out_of_range(alloc, wrong_number(own))?)),
+        None => Err(CliFault::Wrong(wrong_value(alloc, wrong_number(own))?)),
     }
 }
 

@@ -3,7 +3,7 @@ ghost use Rattle.std.specs.Prelude.{◌≡◌, IfOk, codes, false};
 ghost use Rattle.clap.specs.Words.{app_of, kind_of, new_app, rule_of};
 ghost use Rattle.exh_command.specs.Job.{serve_names, storm_names};
 ghost use Rattle.exh_command.specs.Program.{bare_program};
-ghost use Rattle.exh_command.specs.Parser.{HasOwnArgs, ReadsJobs, about_path, only, option_rule, path_rule, with_options};
+ghost use Rattle.exh_command.specs.Parser.{HasOwnArgs, ReadsJobs, about_key, about_path, key_rule, only, option_rule, path_rule, with_options};
 
 use clap::error::{Error, ErrorKind};
 use clap::{Arg, Command};
@@ -24,8 +24,14 @@ pub(crate) const LOAD: &str = "load";
 /// The command that runs callers, keepers and couriers at once.
 pub(crate) const STORM: &str = "storm";
 
+/// The command that prints the value of a key.
+pub(crate) const GET: &str = "get";
+
 /// What help calls the path of the file that a command is about.
 pub(crate) const PATH: &str = "PATH";
+
+/// What help calls the key that a command is about.
+pub(crate) const KEY: &str = "KEY";
 
 /// The option of `serve` that names the page file to open.
 pub(crate) const OPEN: &str = "open";
@@ -58,6 +64,7 @@ const USAGE: &str = "exhash serve [--open PATH] [--save PATH] < SCRIPT
        exhash check PATH
        exhash dump PATH
        exhash load PATH < PAIRS
+       exhash get PATH KEY
        exhash storm [--callers N] [--calls N] [--cap N] [--wards N]
          [--copies N]
 
@@ -66,6 +73,7 @@ Examples:
   ./exhash check examples/three-pairs.files/three-pairs.exh
   ./exhash dump examples/three-pairs.files/three-pairs.exh
   ./exhash load my-pairs.exh < examples/three-pairs-loaded.script
+  ./exhash get examples/three-pairs.files/three-pairs.exh @
   ./exhash storm --callers 4 --calls 100";
 
 const SERVE_USAGE: &str = "exhash serve [--open PATH] [--save PATH] < SCRIPT
@@ -227,6 +235,30 @@ Exit status: 0 where the file is saved, also with refused lines; 1 where it
 isn't; 2 where the command line is wrong, or asks for help.
 The formats are in docs/FORMATS.md.";
 
+const GET_USAGE: &str = "exhash get PATH KEY
+
+A PATH that begins with a dash stands behind `--`, as in get -- -x KEY.
+
+Examples:
+  ./exhash get examples/three-pairs.files/three-pairs.exh @
+  ./exhash get examples/three-pairs.files/three-pairs.exh '#80'";
+
+const GOT: &str = "\
+It prints the value of the key, as a word of a script, and nothing where the
+file hasn't the key. KEY is 1 to 64 bytes: characters ! to ~, the first not #;
+or # and for each byte two digits of 0 to 9 and a to f.
+
+It reads the header, the table and the pages on the key's way, of a legal file
+one page, and nothing else of the file. Each block that it reads is tested, and
+refused as by `exhash check`; a page's way that doesn't lead to the key's page
+prints `refused 40`. Whether the file is legal and ends behind its table only
+`exhash check` finds out. PATH is a regular file.
+
+Exit status: 0 where the key is there; 3 where it isn't; 1 where the file is
+refused or the run breaks off; 2 where the command line is wrong, or asks for
+help.
+The formats are in docs/FORMATS.md.";
+
 const STORM_USAGE: &str = "exhash storm [--callers N] [--calls N] [--cap N] [--wards N]
          [--copies N]
 
@@ -255,8 +287,9 @@ stays. Of two saves to one path at once one is refused; a run doesn't save over
 the file that it opened where another saved over that since.
 
 Exit status: 0 where the run is done, also with refused lines, or the file is
-legal, or all is settled; 1 where it is refused or the run breaks off; 2 where
-the command line is wrong, or asks for help or for the version.
+legal, or the key is there, or all is settled; 1 where it is refused or the run
+breaks off; 2 where the command line is wrong, or asks for help or for the
+version; 3 where a get finds no key.
 `exhash serve --help` has the lines of a script, `exhash check --help` what is
 said of a file, docs/FORMATS.md the formats.";
 
@@ -291,7 +324,15 @@ pub(crate) fn parser<'a>(alloc: Global) -> Result<Command<'a>, AllocError>
     )?;
     let loading = dumping.subcommand(load)?;
     let storm = storm(alloc)?;
-    loading.subcommand(storm)
+    let storming = loading.subcommand(storm)?;
+    let get = key_command(
+        alloc,
+        GET,
+        "Prints the value of a key of a page file, by one page",
+        GET_USAGE,
+        GOT,
+    )?;
+    storming.subcommand(get)
 }
 
 // The program's own command, with none below it.
@@ -387,6 +428,20 @@ fn path_command<'a>(
     bare_command(alloc, name, about, usage, more).arg(path(alloc))
 }
 
+// The parser of a command about a key of the file of a path.
+fn key_command<'a>(
+    alloc: Global,
+    name: &'a str,
+    about: &'a str,
+    usage: &'a str,
+    more: &'a str,
+) -> Result<Command<'a>, AllocError>
+    ensures own { IfOk result HasOwnArgs }
+    ensures is { IfOk result (λ command. app_of command ≡ only (about_key name.now)) }
+{
+    path_command(alloc, name, about, usage, more)?.arg(key(alloc))
+}
+
 // A command without arguments: what it does, how it is used, and what help says behind its options.
 fn bare_command<'a>(
     alloc: Global,
@@ -412,6 +467,14 @@ fn path<'a>(alloc: Global) -> Arg<'a>
     Arg::new(alloc, PATH).required(true)
 }
 
+// A key, which has to be there.
+fn key<'a>(alloc: Global) -> Arg<'a>
+    ensures rule { rule_of result ≡ key_rule }
+    ensures own { result.global ≡ false }
+{
+    Arg::new(alloc, KEY).required(true)
+}
+
 // An option, what help calls its value, and what it tells.
 fn option<'a>(alloc: Global, name: &'a str, value: &'a str, help: &'a str) -> Arg<'a>
     ensures rule { rule_of result ≡ option_rule name.now }
@@ -423,8 +486,8 @@ fn option<'a>(alloc: Global, name: &'a str, value: &'a str, help: &'a str) -> Ar
         .help(help)
 }
 
-/// The error of a number of `storm` that is none, or out of its range, as these words say.
-pub(crate) fn out_of_range(alloc: Global, words: &str) -> Result<Error, AllocError>
+/// The error of a number or key that is none, or out of its range, as these words say.
+pub(crate) fn wrong_value(alloc: Global, words: &str) -> Result<Error, AllocError>
     ensures { IfOk result (λ error. kind_of error ≡ ErrorKind.ValueValidation) }
 {
     error_of(alloc, ErrorKind::ValueValidation, words)

@@ -28,13 +28,13 @@ impl Progress {
     pub fn of_hop(hop: &Hop, moves: u64, bound: u64) -> Progress
         ensures { result ≡ progress_with hop.now moves bound }
     {
-        match *hop {
+        match hop {
             Hop::Done(reply) => Progress::Done {
-                reply,
+                reply: *reply,
                 moves,
                 bound,
             },
-            Hop::Moved(page) => Progress::Moved(page),
+            Hop::Moved(page) => Progress::Moved(*page),
             Hop::MustSplit => Progress::MustSplit,
             Hop::Stray => Progress::Stray,
         }

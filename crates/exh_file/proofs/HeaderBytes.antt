@@ -14,7 +14,8 @@ use Rattle.exh_notice.specs.Images.{items}
 use Rattle.exh_codec.specs.Block.{AreZero}
 use Rattle.exh_file.specs.declared.header.Header.{Header}
 use Rattle.exh_file.specs.FileVersion.{FileVersion, FitsFile}
-use Rattle.exh_file.specs.HeaderImage.{IsHeader, IsPageCount, front_bytes, header_bytes, keyer_byte}
+use Rattle.exh_file_settings.specs.Keyers.{keyer_byte}
+use Rattle.exh_file.specs.HeaderImage.{IsHeader, IsPageCount, front_bytes, header_bytes}
 use Rattle.exh_file.specs.HeaderTests.{HasMagic, IsOfVersion, IsReadHeader}
 use Rattle.exh_prefix.specs.ListLemmas.{AllByRecursion-weaker}
 use Rattle.exh_file.proofs.Elements.{all_parts, same_items}
@@ -65,7 +66,7 @@ pub version_said : (version : FileVersion) (header : Header) (tail : List ℕ) �
 unfolding front_bytes
 version_said version header tail small =
     sym (big_from-drop 8 0 2 (front_bytes version header ++ tail))
-    ∙ big_number-reads_back 2 version.number (header.cap ∷ header.ward_bits ∷ keyer_byte header.keyer ∷ 0 ∷ 0 ∷ 0 ∷ (big_bytes 4 header.entry_count ++ tail)) small
+    ∙ big_number-reads_back 2 version.number (header.settings.cap ∷ header.settings.ward_bits ∷ keyer_byte header.settings.keyer ∷ 0 ∷ 0 ∷ 0 ∷ (big_bytes 4 header.entry_count ++ tail)) small
 
 pub zeros_said : (version : FileVersion) (header : Header) (tail : List ℕ) → AreZero (items 13 3 (front_bytes version header ++ tail))
 unfolding front_bytes
@@ -75,24 +76,24 @@ entries_said : (version : FileVersion) (header : Header) (tail : List ℕ) → h
 unfolding front_bytes
 entries_said version header tail small = sym (big_from-drop 16 0 4 (front_bytes version header ++ tail)) ∙ big_number-reads_back 4 header.entry_count tail small
 
-cap_said : (version : FileVersion) (header : Header) (tail : List ℕ) → slice_index (front_bytes version header ++ tail) 10 ≡ header.cap
+cap_said : (version : FileVersion) (header : Header) (tail : List ℕ) → slice_index (front_bytes version header ++ tail) 10 ≡ header.settings.cap
 unfolding front_bytes
 cap_said version header tail = refl
 
-ward_bits_said : (version : FileVersion) (header : Header) (tail : List ℕ) → slice_index (front_bytes version header ++ tail) 11 ≡ header.ward_bits
+ward_bits_said : (version : FileVersion) (header : Header) (tail : List ℕ) → slice_index (front_bytes version header ++ tail) 11 ≡ header.settings.ward_bits
 unfolding front_bytes
 ward_bits_said version header tail = refl
 
-keyer_said : (version : FileVersion) (header : Header) (tail : List ℕ) → slice_index (front_bytes version header ++ tail) 12 ≡ keyer_byte header.keyer
+keyer_said : (version : FileVersion) (header : Header) (tail : List ℕ) → slice_index (front_bytes version header ++ tail) 12 ≡ keyer_byte header.settings.keyer
 unfolding front_bytes
 keyer_said version header tail = refl
 
 small_counts : (version : FileVersion) (header : Header) → FitsFile version → IsHeader version header → AllByRecursion (λ count. count < 2 ^ 32) header.page_counts
 small_counts version header fits valid =
-    let power : 2 ^ (version.images.limit - header.ward_bits) < 2 ^ 32 = pow_below (version.images.limit - header.ward_bits) 32 (omega (arith, fits.limit)) in
-    all_parts (λ (count : ℕ). count < 2 ^ 32) (2 ^ header.ward_bits) header.page_counts
-    (AllByRecursion-weaker (IsPageCount version.images.limit header.ward_bits) (λ (count : ℕ). count < 2 ^ 32) (λ count is. omega (arith, is.1, power)) (take (2 ^ header.ward_bits) header.page_counts) valid.pages)
-    (AllByRecursion-weaker (λ (count : ℕ). count ≡ 0) (λ (count : ℕ). count < 2 ^ 32) (λ count is. omega (arith, is)) (drop (2 ^ header.ward_bits) header.page_counts) valid.others)
+    let power : 2 ^ (version.images.limit - header.settings.ward_bits) < 2 ^ 32 = pow_below (version.images.limit - header.settings.ward_bits) 32 (omega (arith, fits.limit)) in
+    all_parts (λ (count : ℕ). count < 2 ^ 32) (2 ^ header.settings.ward_bits) header.page_counts
+    (AllByRecursion-weaker (IsPageCount version.images.limit header.settings.ward_bits) (λ (count : ℕ). count < 2 ^ 32) (λ count is. omega (arith, is.1, power)) (take (2 ^ header.settings.ward_bits) header.page_counts) valid.pages)
+    (AllByRecursion-weaker (λ (count : ℕ). count ≡ 0) (λ (count : ℕ). count < 2 ^ 32) (λ count is. omega (arith, is)) (drop (2 ^ header.settings.ward_bits) header.page_counts) valid.others)
 
 -- what a block says that begins with a header's bytes
 pub header_said : (version : FileVersion) (header : Header) (tail : List ℕ) → FitsFile version → IsHeader version header
@@ -176,7 +177,7 @@ same_keyer Sha Plain same = absurd (omega (arith, same))
 same_keyer Sha Sha same = refl
 
 made : ℕ → ℕ → AnyKeyer → ℕ → List ℕ → Header
-made cap ward_bits keyer entry_count page_counts = record { cap = cap; ward_bits = ward_bits; keyer = keyer; entry_count = entry_count; page_counts = page_counts }
+made cap ward_bits keyer entry_count page_counts = record { settings = record { cap = cap; ward_bits = ward_bits; keyer = keyer }; entry_count = entry_count; page_counts = page_counts }
 
 -- a block says one header
 pub same_headers : (block : List ℕ) (one other : Header) → length one.page_counts ≡ 16 → length other.page_counts ≡ 16 → IsReadHeader block one → IsReadHeader block other → one ≡ other
@@ -184,7 +185,7 @@ unfolding made
 same_headers block one other sixteen again first second =
     let cap = sym first.cap ∙ second.cap in
     let ward_bits = sym first.ward_bits ∙ second.ward_bits in
-    let keyer = same_keyer one.keyer other.keyer (sym first.keyer ∙ second.keyer) in
+    let keyer = same_keyer one.settings.keyer other.settings.keyer (sym first.keyer ∙ second.keyer) in
     let entries = sym first.entries ∙ second.entries in
     let counts = same_items one.page_counts other.page_counts (sixteen ∙ sym again) (λ ward within. sym (first.counts ward (omega (arith, within, sixteen))) ∙ second.counts ward (omega (arith, within, sixteen))) in
     λ i. made (cap i) (ward_bits i) (keyer i) (entries i) (counts i)

@@ -2,8 +2,7 @@
 use Rattle.std.specs.Prelude.{◌≡◌, ℕ, ◌-◌, ◌^◌, ◌<◌, ◌≤◌, List, [], ◌∷◌, ◌++◌, length, take, drop, codes}
 use Rattle.std.specs.List.{AllByRecursion, flat_map}
 use Rattle.byteorder.specs.Endian.{big_bytes}
-use Rattle.exh_keyer.specs.declared.any_keyer.AnyKeyer.{AnyKeyer}
-use Rattle.exh_keyer.specs.declared.any_keyer.AnyKeyer.TheVariants.{Plain, Sha}
+use Rattle.exh_file_settings.specs.Keyers.{keyer_byte}
 use Rattle.exh_page.specs.declared.page.TheConstants.{CAP_LIMIT}
 use Rattle.exh_codec.specs.declared.block.TheConstants.{CONTENT_LEN}
 use Rattle.exh_codec.specs.Block.{sealed}
@@ -20,25 +19,21 @@ IsPageCount limit ward_bits count = (1 ≤ count) × (count ≤ 2 ^ (limit - war
 
 -- a header that a file of the version may have
 pub record IsHeader (version : FileVersion) (header : Header) : Type 0 where
-  pub some : 1 ≤ header.cap
-  pub few : header.cap ≤ CAP_LIMIT
-  pub wards : 2 ^ header.ward_bits ≤ COUNTS_LEN
+  pub some : 1 ≤ header.settings.cap
+  pub few : header.settings.cap ≤ CAP_LIMIT
+  pub wards : 2 ^ header.settings.ward_bits ≤ COUNTS_LEN
   pub entries : header.entry_count < 2 ^ version.images.limit
   -- a count for each ward of the file, and zeros up to sixteen
   pub counts : length header.page_counts ≡ COUNTS_LEN
-  pub pages : AllByRecursion (IsPageCount version.images.limit header.ward_bits) (take (2 ^ header.ward_bits) header.page_counts)
-  pub others : AllByRecursion (λ count. count ≡ 0) (drop (2 ^ header.ward_bits) header.page_counts)
+  pub pages : AllByRecursion (IsPageCount version.images.limit header.settings.ward_bits) (take (2 ^ header.settings.ward_bits) header.page_counts)
+  pub others : AllByRecursion (λ count. count ≡ 0) (drop (2 ^ header.settings.ward_bits) header.page_counts)
 
 -- ---- their images
-
-abbrev pub keyer_byte : AnyKeyer → ℕ
-keyer_byte Sha = 1
-keyer_byte Plain = 2
 
 -- the bytes before the page counts: magic, version, cap, ward bits, keyer, three zeros, how many entries there are
 unfoldable pub front_bytes : FileVersion → Header → List ℕ
 front_bytes version header =
-    codes "EXHASHPF" ++ big_bytes 2 version.number ++ header.cap ∷ header.ward_bits ∷ keyer_byte header.keyer ∷ 0 ∷ 0 ∷ 0 ∷ [] ++ big_bytes 4 header.entry_count
+    codes "EXHASHPF" ++ big_bytes 2 version.number ++ header.settings.cap ∷ header.settings.ward_bits ∷ keyer_byte header.settings.keyer ∷ 0 ∷ 0 ∷ 0 ∷ [] ++ big_bytes 4 header.entry_count
 
 abbrev pub header_bytes : FileVersion → Header → List ℕ
 header_bytes version header = front_bytes version header ++ flat_map (big_bytes 4) header.page_counts

@@ -10,13 +10,14 @@ use Rattle.exh_file.specs.declared.file_fault.FileFault.TheVariants as faults
 use Rattle.exh_file.specs.declared.header.Header.{Header}
 use Rattle.exh_file.specs.declared.header.TheConstants.{COUNTS_LEN, HEADER_LEN}
 use Rattle.exh_file.specs.FileVersion.{FileVersion}
-use Rattle.exh_file.specs.HeaderImage.{IsHeader, keyer_byte}
+use Rattle.exh_file_settings.specs.Keyers.{keyer_byte}
+use Rattle.exh_file.specs.HeaderImage.{IsHeader}
 
 -- the header is what the fields of a block say
 pub record IsReadHeader (block : List ℕ) (header : Header) : Type 0 where
-  pub cap : slice_index block 10 ≡ header.cap
-  pub ward_bits : slice_index block 11 ≡ header.ward_bits
-  pub keyer : slice_index block 12 ≡ keyer_byte header.keyer
+  pub cap : slice_index block 10 ≡ header.settings.cap
+  pub ward_bits : slice_index block 11 ≡ header.settings.ward_bits
+  pub keyer : slice_index block 12 ≡ keyer_byte header.settings.keyer
   pub entries : big_from 16 4 block ≡ header.entry_count
   pub counts : (ward : ℕ) → ward < COUNTS_LEN → big_from (20 + 4 * ward) 4 block ≡ slice_index header.page_counts ward
 

@@ -1,17 +1,16 @@
 ghost use Rattle.std.specs.Prelude.{◌≡◌, ◌≤◌, ◌-◌, ◌^◌, ◌↔◌, ◌++◌, ℕ, List, length, take, drop, slice_index, IsTrue, IfSome, IfNone, OnSome};
 ghost use Rattle.std.specs.Option.{SomeIff};
 ghost use Rattle.std.specs.List.{AllByRecursion};
-ghost use Rattle.exh_keyer.specs.declared.any_keyer.AnyKeyer.{AnyKeyer};
 ghost use Rattle.exh_file.specs.declared.header.TheConstants.{COUNTS_LEN};
-ghost use Rattle.exh_file.specs.HeaderImage.{IsPageCount, keyer_byte};
+ghost use Rattle.exh_file.specs.HeaderImage.{IsPageCount};
 ghost use Rattle.exh_file.specs.HeaderTests.{HasMagic};
 ghost use Rattle.exh_prefix.specs.Version.{first_version};
 
 use crate::FileFault;
 use byteorder::{BigEndian, ByteOrder};
 use exh_codec::{BLOCK_LEN, CONTENT_LEN, ImageFault, are_zero, is_sealed, seal};
+use exh_file_settings::{FileSettings, keyer_byte, keyer_of_byte};
 use exh_keyer::AnyKeyer;
-use exh_page::CAP_LIMIT;
 use exh_prefix::LIMIT;
 
 /// For how many wards a header counts pages.
@@ -32,14 +31,10 @@ pub(crate) const HEADER_LEN: usize = FRONT_LEN + 4 * COUNTS_LEN;
 /// What the header block of a page file says.
 #[derive(Clone, Copy)]
 pub struct Header {
-    /// The most records of a page, 1 to 16.
-    pub cap: u8,
-    /// The logarithm of how many wards the file has, 0 to 4.
-    pub ward_bits: u8,
-    pub keyer: AnyKeyer,
+    pub settings: FileSettings<AnyKeyer>,
     /// How many entries the table has, 0 to 65,535.
     pub entry_count: u32,
-    /// How many pages each ward has, ward 0 first: 1 to 2^(16 - `ward_bits`) for a ward of the file,
+    /// How many pages each ward has, ward 0 first: 1 to 2^(16 - the ward bits) for a ward of the file,
     /// 0 for the others.
     pub page_counts: [u32; COUNTS_LEN],
 }
@@ -57,14 +52,14 @@ impl Header {
     pub fn is_in_range(&self) -> bool
         ensures { IsTrue result ↔ IsHeader first_file self.now }
     {
-        let Some(wards) = wards_of(self.ward_bits) else {
+        let ward_bits = self.settings.ward_bits;
+        let Some(wards) = wards_of(ward_bits) else {
             return false;
         };
         let (counts, others) = self.page_counts.split_at(wards);
-        1 <= self.cap
-            && self.cap as usize <= CAP_LIMIT
+        self.settings.are_in_range()
             && self.entry_count < 1 << LIMIT
-            && are_page_counts(self.ward_bits, counts)
+            && are_page_counts(ward_bits, counts)
             && are_none(others)
     }
 
@@ -127,9 +122,9 @@ impl Header {
         let mut bytes = [0; FRONT_LEN];
         bytes[..8].copy_from_slice(&MAGIC);
         BigEndian::write_u16(&mut bytes[8..], VERSION);
-        bytes[10] = self.cap;
-        bytes[11] = self.ward_bits;
-        bytes[12] = keyer_byte(self.keyer);
+        bytes[10] = self.settings.cap;
+        bytes[11] = self.settings.ward_bits;
+        bytes[12] = keyer_byte(self.settings.keyer);
         BigEndian::write_u32(&mut bytes[16..], self.entry_count);
         bytes
     }
@@ -140,13 +135,16 @@ impl Header {
         ensures in_range { IfSome result (IsHeader first_file) }
         ensures none { IfNone result ((header : HeaderValue) → IsReadHeader block.now header → IsHeader first_file header → ⊥) }
     {
-        let keyer = keyer_of(block[12])?;
+        let keyer = keyer_of_byte(block[12])?;
         let mut page_counts = [0; COUNTS_LEN];
         BigEndian::read_u32_into(&block[FRONT_LEN..HEADER_LEN], &mut page_counts);
-        let header = Header {
+        let settings = FileSettings {
             cap: block[10],
             ward_bits: block[11],
             keyer,
+        };
+        let header = Header {
+            settings,
             entry_count: BigEndian::read_u32(&block[16..]),
             page_counts,
         };
@@ -170,27 +168,6 @@ fn at_header(fault: ImageFault) -> FileFault
     ensures { result ≡ FileFault.Block 0 fault }
 {
     FileFault::Block { place: 0, fault }
-}
-
-fn keyer_byte(keyer: AnyKeyer) -> u8
-    ensures { result ≡ keyer_byte keyer }
-{
-    match keyer {
-        AnyKeyer::Sha => 1,
-        AnyKeyer::Plain => 2,
-    }
-}
-
-// The keyer of a byte, `None` where it is that of none.
-fn keyer_of(byte: u8) -> Option<AnyKeyer>
-    ensures some { IfSome result (λ keyer. byte ≡ keyer_byte keyer) }
-    ensures none { IfNone result ((keyer : AnyKeyer) → byte ≡ keyer_byte keyer → ⊥) }
-{
-    match byte {
-        1 => Some(AnyKeyer::Sha),
-        2 => Some(AnyKeyer::Plain),
-        _ => None,
-    }
 }
 
 // How many wards a file has, `None` where a header doesn't count so many.

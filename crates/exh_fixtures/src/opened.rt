@@ -5,6 +5,7 @@ ghost use Rattle.exh_page.specs.declared.page.Page.TheVariants.{Live};
 ghost use Rattle.exh_prefix.specs.Leading.{ward_prefix};
 ghost use Rattle.exh_fixtures.specs.OpenedWard.{entry_of_split, halves};
 
+use exh_file_settings::FileSettings;
 use exh_frames::{Pages, PlainPages};
 use exh_keyer::Keyer;
 use exh_legal::{fitting_tables_begin_wards, lone_pages_are_legal, splits_keep_legal};
@@ -60,7 +61,12 @@ fn opened_once<K: Keyer>(
     let store = two_pages(alloc, own)?;
     let mut table = Table::new(alloc);
     table.put_greater(own, last_entry(changes))?;
-    Ward::from_pages(alloc, 2, ward_bits, number, store, table, keyer)
+    let settings = FileSettings {
+        cap: 2,
+        ward_bits,
+        keyer,
+    };
+    Ward::from_pages(alloc, settings, number, store, table)
 }
 
 // The prefix of a ward.

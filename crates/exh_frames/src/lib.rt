@@ -7,11 +7,11 @@ pub use pages::Pages;
 pub use pages_call::PagesCall;
 pub use pages_fault::PagesFault;
 pub use plain_pages::PlainPages;
-pub use store_of_pages::StoreOfPages;
+pub use store_maker::{PlainMaker, StoreMaker};
 
 mod failing_pages;
 mod pages;
 mod pages_call;
 mod pages_fault;
 mod plain_pages;
-mod store_of_pages;
+mod store_maker;

@@ -38,9 +38,9 @@ bounded pseudo (Forward low target) valid = valid.in_range.0
 formed : (pseudo : List ℕ → ℕ) (page : Page) → IsPage first_version pseudo page → IsWellFormed pseudo page
 formed pseudo page valid = valid.formed
 
-pub pages_formed : (file : PageFile) → IsFile first_file file → OfEachWard (parts_in file) (λ ward table pages. AreFormed (any_pseudokey file.header.keyer) pages)
+pub pages_formed : (file : PageFile) → IsFile first_file file → OfEachWard (parts_in file) (λ ward table pages. AreFormed (any_pseudokey file.header.settings.keyer) pages)
 pages_formed file valid number pages there =
-    let pseudo = any_pseudokey file.header.keyer in
+    let pseudo = any_pseudokey file.header.settings.keyer in
     let all = pages_within (IsPage first_version pseudo) file.wards number pages valid.pages there in
     record {
       formed = λ number page is. formed pseudo page (page_at (IsPage first_version pseudo) pages number page all is);
@@ -49,8 +49,8 @@ pages_formed file valid number pages there =
 
 -- ---- legal where there is no reason, and only there
 
-pub legal_without : LegalFilesPass → (file : PageFile) → IsFile first_file file → IsFirstReason (parts_in file) None → IsLegalFile (any_pseudokey file.header.keyer) (parts_in file)
-legal_without law file valid none = (law (any_pseudokey file.header.keyer) (parts_in file) (ranges_of file valid)).0 (record { formed = pages_formed file valid; passed = none })
+pub legal_without : LegalFilesPass → (file : PageFile) → IsFile first_file file → IsFirstReason (parts_in file) None → IsLegalFile (any_pseudokey file.header.settings.keyer) (parts_in file)
+legal_without law file valid none = (law (any_pseudokey file.header.settings.keyer) (parts_in file) (ranges_of file valid)).0 (record { formed = pages_formed file valid; passed = none })
 
-pub no_reason : LegalFilesPass → (file : PageFile) → IsFile first_file file → IsLegalFile (any_pseudokey file.header.keyer) (parts_in file) → (reason : Reason) → IsFirstReason (parts_in file) (Some reason) → ⊥
-no_reason law file valid legal reason first = first.0 (((law (any_pseudokey file.header.keyer) (parts_in file) (ranges_of file valid)).1 legal).passed reason)
+pub no_reason : LegalFilesPass → (file : PageFile) → IsFile first_file file → IsLegalFile (any_pseudokey file.header.settings.keyer) (parts_in file) → (reason : Reason) → IsFirstReason (parts_in file) (Some reason) → ⊥
+no_reason law file valid legal reason first = first.0 (((law (any_pseudokey file.header.settings.keyer) (parts_in file) (ranges_of file valid)).1 legal).passed reason)

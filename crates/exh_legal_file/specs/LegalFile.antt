@@ -41,12 +41,12 @@ ward_tables file = map (table_naming file.entries) (range_with_len 0 (length fil
 
 -- what a file says, as the six reasons are asked of it
 abbrev pub parts_in : PageFile → FileParts
-parts_in file = parts_of file.header.cap file.header.ward_bits file.wards (tables_of file.entries)
+parts_in file = parts_of file.header.settings.cap file.header.settings.ward_bits file.wards (tables_of file.entries)
 
 -- the bytes are those of the file, and it is legal
 pub record IsLegalPageFile (version : FileVersion) (file : PageFile) (bytes : List ℕ) : Type 0 where
   pub is : IsPageFile version file bytes
-  pub legal : IsLegalFile (any_pseudokey file.header.keyer) (parts_in file)
+  pub legal : IsLegalFile (any_pseudokey file.header.settings.keyer) (parts_in file)
 
 -- ---- the first fault
 

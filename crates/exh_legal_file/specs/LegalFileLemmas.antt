@@ -21,16 +21,16 @@ few_wards bits few = elim (cases_lt 4 bits) [
   | inr within ↦ within
 ]
 
-pub few_bits : (file : PageFile) → IsFile first_file file → file.header.ward_bits ≤ 4
-few_bits file valid = few_wards file.header.ward_bits valid.header.wards
+pub few_bits : (file : PageFile) → IsFile first_file file → file.header.settings.ward_bits ≤ 4
+few_bits file valid = few_wards file.header.settings.ward_bits valid.header.wards
 
 pub ranges_of : (file : PageFile) → IsFile first_file file → HasPartRanges (parts_in file)
 ranges_of file valid = record { cap = valid.header.few; bits = (let few = few_bits file valid in omega arith) }
 
-pub count_of_wards : (file : PageFile) → IsFile first_file file → length file.wards ≡ 2 ^ file.header.ward_bits
+pub count_of_wards : (file : PageFile) → IsFile first_file file → length file.wards ≡ 2 ^ file.header.settings.ward_bits
 count_of_wards file valid =
     sym (length-map file.wards (λ (pages : List Page). length pages)) ∙ ap length valid.counts
-    ∙ (let wards = valid.header.wards in omega (arith, valid.header.counts, length-take (2 ^ file.header.ward_bits) file.header.page_counts))
+    ∙ (let wards = valid.header.wards in omega (arith, valid.header.counts, length-take (2 ^ file.header.settings.ward_bits) file.header.page_counts))
 
 -- ---- the tables of its wards
 

@@ -65,8 +65,8 @@ fn reason_of(
 {
     first_reason(
         alloc,
-        parts.header.cap as usize,
-        parts.header.ward_bits,
+        parts.header.settings.cap as usize,
+        parts.header.settings.ward_bits,
         &parts.wards,
         tables,
     )

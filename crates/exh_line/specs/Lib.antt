@@ -1,4 +1,5 @@
 pub mod Grammar
+pub mod LineStart
 pub mod Refusal
 pub mod Answer
 pub mod Shown

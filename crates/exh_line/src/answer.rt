@@ -1,7 +1,9 @@
 ghost use Rattle.std.specs.Prelude.{◌≡◌};
+ghost use Rattle.exh_event.specs.declared.event.Event.{Event as EventType};
 ghost use Rattle.exh_line.specs.Answer.{copy_in, hop_answer, outcome_answer, request_in, table_in};
+ghost use Rattle.exh_line.specs.LineStart.{short_event};
 
-use crate::{Moves, Refusal, Told};
+use crate::{Moves, Refusal, ShortStep, Told};
 use exh_calls::Reply;
 use exh_event::{Event, Outcome, Progress};
 use exh_notice::Notice;
@@ -35,37 +37,67 @@ pub enum Answer {
     Refused(Refusal),
 }
 
+// The request, the copy and the sent table that an event names, 0 where it names none.
+#[derive(Clone, Copy)]
+struct Named {
+    request: u32,
+    copy: u32,
+    table: u32,
+}
+
 impl Answer {
     /// What an event's line is answered where it isn't refused. A reply may tell the moves of its request.
     pub fn of_outcome(event: &Event, outcome: &Outcome, tells_moves: bool) -> Answer
         ensures { result ≡ outcome_answer tells_moves event.now outcome.now }
     {
+        let named = Named {
+            request: request_in(event),
+            copy: copy_in(event),
+            table: table_in(event),
+        };
+        Answer::of_named(named, outcome, tells_moves)
+    }
+
+    /// The same of a step without a call.
+    pub fn of_short(step: ShortStep, outcome: &Outcome, tells_moves: bool) -> Answer
+        ensures { result ≡ outcome_answer tells_moves (short_event step) outcome.now }
+    {
+        let (request, copy) = match step {
+            ShortStep::Hop { name } => (name, 0),
+            ShortStep::Split { .. } => (0, 0),
+            ShortStep::Deliver { copy, .. } => (0, copy),
+        };
+        let named = Named {
+            request,
+            copy,
+            table: 0,
+        };
+        Answer::of_named(named, outcome, tells_moves)
+    }
+
+    // The same of whatever event names these.
+    fn of_named(named: Named, outcome: &Outcome, tells_moves: bool) -> Answer
+        ensures { (event : EventType) → request_in event ≡ named.request → copy_in event ≡ named.copy → table_in event ≡ named.table → result ≡ outcome_answer tells_moves event outcome.now }
+    {
         match outcome {
             Outcome::Begun { ward, page } => Answer::Begun {
-                name: request_in(event),
+                name: named.request,
                 ward: *ward,
                 page: *page,
             },
-            Outcome::Hopped { ward, hop } => Answer::of_hop(
-                request_in(event),
-                *ward,
-                hop,
-                tells_moves,
-            ),
+            Outcome::Hopped { ward, hop } => Answer::of_hop(named.request, *ward, hop, tells_moves),
             Outcome::Changed(notice) => Answer::Changed(*notice),
             Outcome::Taken(notice) => Answer::Taken {
-                copy: copy_in(event),
+                copy: named.copy,
                 ward: notice.ward,
                 index: notice.index,
             },
             Outcome::Sent(table) => Answer::Sent { table: *table },
             Outcome::Joined => Answer::Joined {
-                copy: copy_in(event),
-                table: table_in(event),
+                copy: named.copy,
+                table: named.table,
             },
-            Outcome::Restarted => Answer::Restarted {
-                copy: copy_in(event),
-            },
+            Outcome::Restarted => Answer::Restarted { copy: named.copy },
         }
     }
 
@@ -73,16 +105,24 @@ impl Answer {
     fn of_hop(name: u32, ward: u8, hop: &Progress, tells_moves: bool) -> Answer
         ensures { result ≡ hop_answer tells_moves name ward hop.now }
     {
-        match *hop {
+        match hop {
             Progress::Done {
                 reply,
-                moves: made,
+                moves,
                 bound,
-            } => {
-                let told = tells_moves.then_some(Moves { made, bound });
-                Answer::Replied { name, reply, told }
-            }
-            Progress::Moved(page) => Answer::Moved { name, ward, page },
+            } => Answer::Replied {
+                name,
+                reply: *reply,
+                told: tells_moves.then_some(Moves {
+                    made: *moves,
+                    bound: *bound,
+                }),
+            },
+            Progress::Moved(page) => Answer::Moved {
+                name,
+                ward,
+                page: *page,
+            },
             Progress::MustSplit => Answer::MustSplit { name },
             Progress::Stray => Answer::Stray { name },
         }

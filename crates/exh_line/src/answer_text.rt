@@ -1,6 +1,7 @@
 ghost use Rattle.std.specs.Prelude.{◌≡◌, ◌++◌, OnOk, decimal};
 ghost use Rattle.exh_line.specs.Answer.{answer_text, answer_words, copy_text, moves_text, notice_text, reply_text, request_text};
 ghost use Rattle.exh_line.specs.declared.answer.Answer.TheVariants.{Refused};
+ghost use Rattle.exh_text.specs.Printing.{Keeps};
 
 use crate::{Answer, Refusal, Told};
 use exh_calls::Reply;
@@ -10,7 +11,8 @@ use std::alloc::AllocError;
 
 /// Adds the line that an answer prints.
 pub fn push_answer(out: &mut Vec<u8>, answer: &Answer) -> Result<(), AllocError>
-    ensures { OnOk result (out.new.items ≡ out.old.items ++ answer_text answer.now) }
+    ensures ok { OnOk result (out.new.items ≡ out.old.items ++ answer_text answer.now) }
+    ensures kept { Keeps out.old.items out.new.items }
 {
     push_words(out, answer)?;
     push_text(out, "\n")
@@ -18,7 +20,8 @@ pub fn push_answer(out: &mut Vec<u8>, answer: &Answer) -> Result<(), AllocError>
 
 // The line without its end.
 fn push_words(out: &mut Vec<u8>, answer: &Answer) -> Result<(), AllocError>
-    ensures { OnOk result (out.new.items ≡ out.old.items ++ answer_words answer.now) }
+    ensures ok { OnOk result (out.new.items ≡ out.old.items ++ answer_words answer.now) }
+    ensures kept { Keeps out.old.items out.new.items }
 {
     match answer {
         Answer::Begun { name, ward, page } => {
@@ -53,7 +56,8 @@ fn push_words(out: &mut Vec<u8>, answer: &Answer) -> Result<(), AllocError>
 
 // A request, copy or table by its number, and what it did.
 fn push_named(out: &mut Vec<u8>, kind: &str, number: u32, did: &str) -> Result<(), AllocError>
-    ensures { OnOk result (out.new.items ≡ out.old.items ++ (kind.now ++ (decimal number ++ did.now))) }
+    ensures ok { OnOk result (out.new.items ≡ out.old.items ++ (kind.now ++ (decimal number ++ did.now))) }
+    ensures kept { Keeps out.old.items out.new.items }
 {
     push_text(out, kind)?;
     push_number(out, u64::from(number))?;
@@ -62,7 +66,8 @@ fn push_named(out: &mut Vec<u8>, kind: &str, number: u32, did: &str) -> Result<(
 
 /// Adds the line of a refusal.
 pub fn push_refusal(out: &mut Vec<u8>, refusal: Refusal) -> Result<(), AllocError>
-    ensures { OnOk result (out.new.items ≡ out.old.items ++ answer_text (Refused refusal)) }
+    ensures ok { OnOk result (out.new.items ≡ out.old.items ++ answer_text (Refused refusal)) }
+    ensures kept { Keeps out.old.items out.new.items }
 {
     push_refused(out, refusal.number())?;
     push_text(out, "\n")
@@ -70,7 +75,8 @@ pub fn push_refusal(out: &mut Vec<u8>, refusal: Refusal) -> Result<(), AllocErro
 
 /// Adds the name of a request.
 pub fn push_request(out: &mut Vec<u8>, name: u32) -> Result<(), AllocError>
-    ensures { OnOk result (out.new.items ≡ out.old.items ++ request_text name) }
+    ensures ok { OnOk result (out.new.items ≡ out.old.items ++ request_text name) }
+    ensures kept { Keeps out.old.items out.new.items }
 {
     push_text(out, "r")?;
     push_number(out, u64::from(name))
@@ -78,14 +84,16 @@ pub fn push_request(out: &mut Vec<u8>, name: u32) -> Result<(), AllocError>
 
 /// Adds the number of a copy.
 pub(crate) fn push_copy(out: &mut Vec<u8>, copy: u32) -> Result<(), AllocError>
-    ensures { OnOk result (out.new.items ≡ out.old.items ++ copy_text copy) }
+    ensures ok { OnOk result (out.new.items ≡ out.old.items ++ copy_text copy) }
+    ensures kept { Keeps out.old.items out.new.items }
 {
     push_text(out, "copy ")?;
     push_number(out, u64::from(copy))
 }
 
 fn push_notice(out: &mut Vec<u8>, notice: &Notice) -> Result<(), AllocError>
-    ensures { OnOk result (out.new.items ≡ out.old.items ++ notice_text notice.now) }
+    ensures ok { OnOk result (out.new.items ≡ out.old.items ++ notice_text notice.now) }
+    ensures kept { Keeps out.old.items out.new.items }
 {
     push_text(out, "notice ")?;
     push_place(out, u32::from(notice.ward), notice.index)?;
@@ -94,7 +102,8 @@ fn push_notice(out: &mut Vec<u8>, notice: &Notice) -> Result<(), AllocError>
 }
 
 fn push_reply(out: &mut Vec<u8>, reply: &Reply) -> Result<(), AllocError>
-    ensures { OnOk result (out.new.items ≡ out.old.items ++ reply_text reply.now) }
+    ensures ok { OnOk result (out.new.items ≡ out.old.items ++ reply_text reply.now) }
+    ensures kept { Keeps out.old.items out.new.items }
 {
     match reply {
         Reply::Is(value) => {
@@ -118,7 +127,8 @@ fn push_reply(out: &mut Vec<u8>, reply: &Reply) -> Result<(), AllocError>
 
 // The moves of a request and their bound, where they are told.
 fn push_moves(out: &mut Vec<u8>, told: Told) -> Result<(), AllocError>
-    ensures { OnOk result (out.new.items ≡ out.old.items ++ moves_text told) }
+    ensures ok { OnOk result (out.new.items ≡ out.old.items ++ moves_text told) }
+    ensures kept { Keeps out.old.items out.new.items }
 {
     let Some(moves) = told else {
         return Ok(());

@@ -4,9 +4,11 @@
 pub use answer::Answer;
 pub use answer_text::{push_answer, push_refusal, push_request};
 pub use laws::printed_answers_are_one;
-pub use line::{Line, parse_line};
+pub use line::{Line, parse_call, parse_line};
+pub use line_start::{BeginWords, LineStart};
 pub use moves::{Moves, Told};
 pub use refusal::Refusal;
+pub use short_step::ShortStep;
 pub use view::View;
 pub use view_text::{push_page, push_shown};
 
@@ -14,7 +16,9 @@ mod answer;
 mod answer_text;
 mod laws;
 mod line;
+mod line_start;
 mod moves;
 mod refusal;
+mod short_step;
 mod view;
 mod view_text;

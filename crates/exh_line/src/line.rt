@@ -1,6 +1,9 @@
-ghost use Rattle.std.specs.Prelude.{◌≡◌};
+ghost use Rattle.std.specs.Prelude.{◌≡◌, option_map};
+ghost use Rattle.std.specs.Result.{result_map_both};
+ghost use Rattle.exh_event.specs.declared.event.Event.TheVariants.{Deliver, Hop as HopOn};
 ghost use Rattle.exh_text.specs.LineFault.{ranged};
 ghost use Rattle.exh_line.specs.Grammar.{call_in_range, line_in_range, line_of, spelled_begin, spelled_call, spelled_change, spelled_copy_step, spelled_deliver, spelled_hop, spelled_in_flight, spelled_number, spelled_pair_of_numbers, spelled_put, spelled_swap, spelled_view};
+ghost use Rattle.exh_line.specs.declared.line.Line.TheVariants.{Step};
 
 use crate::View;
 use exh_calls::Call;
@@ -28,7 +31,9 @@ pub fn parse_line(line: &[u8]) -> Result<Line, LineFault>
     let keyword = words.next().ok_or(LineFault::Syntax)?;
     match keyword {
         b"begin" => parse_begin(words),
-        b"hop" => parse_hop(words),
+        b"hop" => Ok(Line::Step(Event::Hop {
+            name: parse_hop(words)?,
+        })),
         _ => parse_change(keyword, words),
     }
 }
@@ -58,8 +63,8 @@ fn parse_begin(mut words: Parts<'_>) -> Result<Line, LineFault>
 
 // `rN`
 #[tactic(auto, unfolding(crate::specs::Grammar::spelled_hop))]
-fn parse_hop(mut words: Parts<'_>) -> Result<Line, LineFault>
-    ensures { result ≡ ranged line_in_range (spelled_hop words.entry) }
+pub(crate) fn parse_hop(mut words: Parts<'_>) -> Result<u32, LineFault>
+    ensures { result_map_both (λ name. Step (HopOn name)) (λ fault. fault) result ≡ ranged line_in_range (spelled_hop words.entry) }
 {
     let name = words.next().ok_or(LineFault::Syntax)?;
     let name = parse_u32_after(b"r", name).ok_or(LineFault::Syntax)?;
@@ -69,7 +74,7 @@ fn parse_hop(mut words: Parts<'_>) -> Result<Line, LineFault>
     if name == 0 {
         return Err(LineFault::Range);
     }
-    Ok(Line::Step(Event::Hop { name }))
+    Ok(name)
 }
 
 // A split or merge, or what comes below.
@@ -96,7 +101,8 @@ fn parse_copy_step(keyword: &[u8], words: Parts<'_>) -> Result<Line, LineFault>
     ensures { result ≡ ranged line_in_range (spelled_copy_step keyword.now words.entry) }
 {
     if keyword == b"deliver".as_slice() {
-        return parse_deliver(words);
+        let (copy, ward, index) = parse_deliver(words).ok_or(LineFault::Syntax)?;
+        return Ok(Line::Step(Event::Deliver { copy, ward, index }));
     }
     if keyword == b"send".as_slice() {
         return Ok(Line::Step(Event::Send {
@@ -150,7 +156,7 @@ fn parse_one(mut words: Parts<'_>) -> Option<u32>
 
 // Two numbers.
 #[tactic(auto, unfolding(crate::specs::Grammar::spelled_pair_of_numbers))]
-fn parse_two(mut words: Parts<'_>) -> Option<(u32, u32)>
+pub(crate) fn parse_two(mut words: Parts<'_>) -> Option<(u32, u32)>
     ensures { result ≡ spelled_pair_of_numbers words.entry }
 {
     let first = words.next()?;
@@ -163,20 +169,16 @@ fn parse_two(mut words: Parts<'_>) -> Option<(u32, u32)>
 
 // `COPY WARD INDEX`
 #[tactic(auto, unfolding(crate::specs::Grammar::spelled_deliver))]
-fn parse_deliver(mut words: Parts<'_>) -> Result<Line, LineFault>
-    ensures { result ≡ ranged line_in_range (spelled_deliver words.entry) }
+pub(crate) fn parse_deliver(mut words: Parts<'_>) -> Option<(u32, u32, u64)>
+    ensures { option_map (λ told. Step (Deliver told.0 told.1 told.2)) result ≡ spelled_deliver words.entry }
 {
-    let copy = words.next().ok_or(LineFault::Syntax)?;
-    let ward = words.next().ok_or(LineFault::Syntax)?;
-    let index = words.next().ok_or(LineFault::Syntax)?;
+    let copy = words.next()?;
+    let ward = words.next()?;
+    let index = words.next()?;
     if words.next().is_some() {
-        return Err(LineFault::Syntax);
+        return None;
     }
-    Ok(Line::Step(Event::Deliver {
-        copy: parse_u32(copy).ok_or(LineFault::Syntax)?,
-        ward: parse_u32(ward).ok_or(LineFault::Syntax)?,
-        index: parse_u64(index).ok_or(LineFault::Syntax)?,
-    }))
+    Some((parse_u32(copy)?, parse_u32(ward)?, parse_u64(index)?))
 }
 
 // No word more.
@@ -190,9 +192,10 @@ fn parse_in_flight(mut words: Parts<'_>) -> Option<View>
     }
 }
 
-// `get KEY`, `put KEY VALUE`, `del KEY` or `swap KEY OLD NEW`
+/// Reads the words of a call: `get KEY`, `put KEY VALUE`, `del KEY` or `swap KEY OLD NEW`. Words that spell none are
+/// `Syntax`; where its key or a value is out of its range, that is `Range`.
 #[tactic(auto, unfolding(crate::specs::Grammar::spelled_call))]
-fn parse_call(mut words: Parts<'_>) -> Result<Call, LineFault>
+pub fn parse_call(mut words: Parts<'_>) -> Result<Call, LineFault>
     ensures { result ≡ ranged call_in_range (spelled_call words.entry) }
 {
     let verb = words.next().ok_or(LineFault::Syntax)?;

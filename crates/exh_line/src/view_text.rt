@@ -5,12 +5,13 @@ ghost use Rattle.exh_prefix.specs.Prefix.{low_of};
 ghost use Rattle.exh_table.specs.Below.{leaves_listed};
 ghost use Rattle.exh_prefix.specs.Leading.{ward_of};
 ghost use Rattle.exh_line.specs.Shown.{entry_line, leaf_line, page_head_text, shown_text};
+ghost use Rattle.exh_text.specs.Printing.{Keeps};
 
 use crate::answer_text::push_copy;
 use exh_array::Directory;
 use exh_page::PageHead;
 use exh_prefix::{PageNo, ward_number};
-use exh_table::Table;
+use exh_table::{Leaf, Table};
 use exh_text::{
     push_entry_line, push_forward_page, push_live_page, push_number, push_place, push_prefix,
     push_text,
@@ -26,7 +27,8 @@ pub fn push_shown(
 ) -> Result<(), AllocError>
     requires most { ward_bits ≤ WARD_BITS_LIMIT }
     requires own { directory.now.pointers.ward_bits ≡ ward_bits }
-    ensures { OnOk result (out.new.items ≡ out.old.items ++ shown_text ward_bits copy directory.now.table) }
+    ensures ok { OnOk result (out.new.items ≡ out.old.items ++ shown_text ward_bits copy directory.now.table) }
+    ensures kept { Keeps out.old.items out.new.items }
 {
     push_copy(out, copy)?;
     push_text(out, " depth ")?;
@@ -37,7 +39,8 @@ pub fn push_shown(
 }
 
 fn push_entries(out: &mut Vec<u8>, table: &Table) -> Result<(), AllocError>
-    ensures { OnOk result (out.new.items ≡ out.old.items ++ flat_map entry_line (entries table.now)) }
+    ensures ok { OnOk result (out.new.items ≡ out.old.items ++ flat_map entry_line (entries table.now)) }
+    ensures kept { Keeps out.old.items out.new.items }
 {
     for (prefix, entry) in table.entries() {
         push_entry_line(out, prefix, entry)?;
@@ -47,21 +50,27 @@ fn push_entries(out: &mut Vec<u8>, table: &Table) -> Result<(), AllocError>
 
 fn push_leaves(out: &mut Vec<u8>, ward_bits: u8, table: &Table) -> Result<(), AllocError>
     requires { ward_bits ≤ WARD_BITS_LIMIT }
-    ensures { OnOk result (out.new.items ≡ out.old.items ++ flat_map (leaf_line ward_bits) (leaves_listed table.now ward_bits)) }
+    ensures ok { OnOk result (out.new.items ≡ out.old.items ++ flat_map (leaf_line ward_bits) (leaves_listed table.now ward_bits)) }
+    ensures kept { Keeps out.old.items out.new.items }
 {
     let leaves = table.leaves(ward_bits)?;
     for leaf in &leaves {
-        push_text(out, "leaf ")?;
-        push_prefix(out, &leaf.prefix)?;
-        push_text(out, " ")?;
-        push_place(
-            out,
-            u32::from(ward_number(ward_bits, leaf.prefix.low())),
-            u64::from(leaf.page),
-        )?;
-        push_text(out, "\n")?;
+        push_leaf(out, ward_bits, leaf)?;
     }
     Ok(())
+}
+
+fn push_leaf(out: &mut Vec<u8>, ward_bits: u8, leaf: &Leaf) -> Result<(), AllocError>
+    requires { ward_bits ≤ WARD_BITS_LIMIT }
+    ensures ok { OnOk result (out.new.items ≡ out.old.items ++ leaf_line ward_bits leaf.now) }
+    ensures kept { Keeps out.old.items out.new.items }
+{
+    let ward = ward_number(ward_bits, leaf.prefix.low());
+    push_text(out, "leaf ")?;
+    push_prefix(out, &leaf.prefix)?;
+    push_text(out, " ")?;
+    push_place(out, u32::from(ward), u64::from(leaf.page))?;
+    push_text(out, "\n")
 }
 
 /// Adds the line of a page of a ward: what it holds, or where it sends callers on to.
@@ -71,7 +80,8 @@ pub fn push_page(
     number: PageNo,
     head: PageHead,
 ) -> Result<(), AllocError>
-    ensures { OnOk result (out.new.items ≡ out.old.items ++ page_head_text ward number head) }
+    ensures ok { OnOk result (out.new.items ≡ out.old.items ++ page_head_text ward number head) }
+    ensures kept { Keeps out.old.items out.new.items }
 {
     match head {
         PageHead::Live {

@@ -35,27 +35,27 @@ no_units_after : (page : ℕ) (fault : Option AskFault) → units_due (after_fau
 no_units_after page None = refl
 no_units_after page (Some fault) = refl
 
-hop_units : (page client : ℕ) (call : Call) (result : Result Hop WardFault) → length (answer_of (HopAt page client call result)) ≡ units_due (due_after (HopAt page client call result))
-hop_units page client call (Ok (Done reply)) = refl
-hop_units page client call (Ok (Moved next)) = refl
-hop_units page client call (Ok MustSplit) = refl
-hop_units page client call (Ok Stray) = refl
-hop_units page client call (Err fault) = sym (no_units_after page (fault_at fault))
+hop_units : (pseudokey page client : ℕ) (call : Call) (result : Result Hop WardFault) → length (answer_of (HopAt page client call result)) ≡ units_due (due_after pseudokey (HopAt page client call result))
+hop_units pseudokey page client call (Ok (Done reply)) = refl
+hop_units pseudokey page client call (Ok (Moved next)) = refl
+hop_units pseudokey page client call (Ok MustSplit) = refl
+hop_units pseudokey page client call (Ok Stray) = refl
+hop_units pseudokey page client call (Err fault) = sym (no_units_after page (fault_at fault))
 
-split_units : (page : ℕ) (result : Result Notice WardFault) → length (answer_of (SplitAt page result)) ≡ units_due (due_after (SplitAt page result))
-split_units page (Ok notice) = refl
-split_units page (Err fault) = sym (no_units_after page (fault_at fault))
+split_units : (pseudokey page : ℕ) (result : Result Notice WardFault) → length (answer_of (SplitAt page result)) ≡ units_due (due_after pseudokey (SplitAt page result))
+split_units pseudokey page (Ok notice) = refl
+split_units pseudokey page (Err fault) = sym (no_units_after page (fault_at fault))
 
-last_units : (client : ℕ) (call : Call) (due : Due) (event : WardEvent) → IsWhatWasDue client call due event → (units_due due ≡ 0) × (length (answer_of event) ≡ units_due (due_after event))
-last_units client call (HopDue page) event was = (refl, subst (λ e. length (answer_of e) ≡ units_due (due_after e)) (sym was.1) (hop_units page client call was.0))
-last_units client call (SplitDue page) event was = (refl, subst (λ e. length (answer_of e) ≡ units_due (due_after e)) (sym was.1) (split_units page was.0))
-last_units client call (Over result) event was = absurd was
+last_units : (pseudokey client : ℕ) (call : Call) (due : Due) (event : WardEvent) → IsWhatWasDue client call due event → (units_due due ≡ 0) × (length (answer_of event) ≡ units_due (due_after pseudokey event))
+last_units pseudokey client call (HopDue page) event was = (refl, subst (λ e. length (answer_of e) ≡ units_due (due_after pseudokey e)) (sym was.1) (hop_units pseudokey page client call was.0))
+last_units pseudokey client call (SplitDue page) event was = (refl, subst (λ e. length (answer_of e) ≡ units_due (due_after pseudokey e)) (sym was.1) (split_units pseudokey page was.0))
+last_units pseudokey client call (Over result) event was = absurd was
 
-units_so_far : (at client : ℕ) (call : Call) (events : List WardEvent) → AreDue at client call events → answers_among events ≡ units_due (due_from at events)
-units_so_far at client call [] due = refl
-units_so_far at client call (event ∷ earlier) due =
-    let before = units_so_far at client call earlier due.0 in
-    let last = last_units client call (due_from at earlier) event due.1 in
+units_so_far : (at client : ℕ) (call : Call) (pseudokey : ℕ) (events : List WardEvent) → AreDue at client call pseudokey events → answers_among events ≡ units_due (due_from pseudokey at events)
+units_so_far at client call pseudokey [] due = refl
+units_so_far at client call pseudokey (event ∷ earlier) due =
+    let before = units_so_far at client call pseudokey earlier due.0 in
+    let last = last_units pseudokey client call (due_from pseudokey at earlier) event due.1 in
     omega (arith, before, last.0, last.1)
 
 end_units : (may : ℕ → Bool → Type 0) (due : Due) (turns : ℕ) (result : Result Reply AskFault) → IsEnd may due turns result → units_due due ≡ units_of result
@@ -75,9 +75,9 @@ known_run step Known is old new [] run = refl
 known_run step Known is old new (event ∷ earlier) run = (tt, known_run step Known is old run.0 earlier run.1, is run.0 new event run.2)
 
 pub known_walk : {S : Type 0} (step : S → WardEvent → S → Type 0) (Known : WardEvent → Type 0) → ((old new : S) (event : WardEvent) → step old event new → Known event)
-    → (may : ℕ → Bool → Type 0) (old new : S) (at client : ℕ) (call : Call) (result : Result Reply AskFault)
-    → IsWalked step may old at client call result new → IsWalked {S = Unit {0}} (λ before event after. Known event) may tt at client call result tt
-known_walk step Known is may old new at client call result walked = record {
+    → (may : ℕ → Bool → Type 0) (old new : S) (at client : ℕ) (call : Call) (pseudokey : ℕ) (result : Result Reply AskFault)
+    → IsWalked step may old at client call pseudokey result new → IsWalked {S = Unit {0}} (λ before event after. Known event) may tt at client call pseudokey result tt
+known_walk step Known is may old new at client call pseudokey result walked = record {
   events = walked.events;
   way = record { run = known_run step Known is old new walked.events walked.way.run; due = walked.way.due; passed = walked.way.passed };
   end = walked.end;
@@ -85,10 +85,10 @@ known_walk step Known is may old new at client call result walked = record {
 
 -- the amount grows by what the walk adds
 pub walk_adds : {S : Type 0} (step : S → WardEvent → S → Type 0) (amount : S → ℕ) → ((old new : S) (event : WardEvent) → step old event new → amount new ≡ amount old + length (answer_of event))
-    → (may : ℕ → Bool → Type 0) (old new : S) (at client : ℕ) (call : Call) (result : Result Reply AskFault)
-    → IsWalked step may old at client call result new → amount new ≡ amount old + units_of result
-walk_adds step amount adds may old new at client call result walked =
+    → (may : ℕ → Bool → Type 0) (old new : S) (at client : ℕ) (call : Call) (pseudokey : ℕ) (result : Result Reply AskFault)
+    → IsWalked step may old at client call pseudokey result new → amount new ≡ amount old + units_of result
+walk_adds step amount adds may old new at client call pseudokey result walked =
     let all = added step amount adds old new walked.events walked.way.run in
-    let far = units_so_far at client call walked.events walked.way.due in
-    let end = end_units may (due_from at walked.events) (hops_in walked.events) result walked.end in
+    let far = units_so_far at client call pseudokey walked.events walked.way.due in
+    let end = end_units may (due_from pseudokey at walked.events) (hops_in walked.events) result walked.end in
     omega (arith, all, far, end)

@@ -2,6 +2,7 @@ pub mod Closing
 pub mod Laws
 pub mod LiveFile
 pub mod Locked
+pub mod NewWardLemmas
 pub mod PlaceLemmas
 pub mod Rounds
 pub mod Spare

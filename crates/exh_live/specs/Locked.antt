@@ -22,11 +22,12 @@ abbrev pub IsSomeWardsStep : {K : Type 0} → (K → List ℕ → ℕ) → WardE
 IsSomeWardsStep {K} pseudokey_of event = (old new : WardState K) × IsSoundWard pseudokey_of old × (IsWardStep pseudokey_of old event new ⊎ IsPassedBy pseudokey_of old event)
 
 -- a walk of which that is known of each step
-abbrev pub IsLockedWalk : {K : Type 0} → (K → List ℕ → ℕ) → (ℕ → Bool → Type 0) → ℕ → ℕ → Call → Result Reply AskFault → Type 0
-IsLockedWalk {K} pseudokey_of may at client call result = IsWalked {S = Unit {0}} (λ old event new. IsSomeWardsStep {K = K} pseudokey_of event) may tt at client call result tt
+abbrev pub IsLockedWalk : {K : Type 0} → (K → List ℕ → ℕ) → (ℕ → Bool → Type 0) → ℕ → ℕ → Call → ℕ → Result Reply AskFault → Type 0
+IsLockedWalk {K} pseudokey_of may at client call pseudokey result =
+    IsWalked {S = Unit {0}} (λ old event new. IsSomeWardsStep {K = K} pseudokey_of event) may tt at client call pseudokey result tt
 
--- a call that was asked: there was no room for its entry, or it was walked from some page, by steps of sound wards, each of them what was to come in the walk of
--- this client's call, and before each hop the gate may have said yes
-abbrev pub IsAsked : {K : Type 0} → (K → List ℕ → ℕ) → (ℕ → Bool → Type 0) → ℕ → Call → Result Reply AskFault → Type 0
-IsAsked {K} pseudokey_of may client call result =
-    (result ≡ Err Memory) ⊎ ((at : ℕ) × IsLockedWalk {K = K} pseudokey_of may at client call result)
+-- a call that was asked, in a file that hashes so: there was no room for its entry, or it was walked from some page, by steps of sound wards, each of them what
+-- was to come in the walk of this client's call, and before each hop the gate may have said yes
+abbrev pub IsAsked : {K : Type 0} → (K → List ℕ → ℕ) → (List ℕ → ℕ) → (ℕ → Bool → Type 0) → ℕ → Call → Result Reply AskFault → Type 0
+IsAsked {K} pseudokey_of hashing may client call result =
+    (result ≡ Err Memory) ⊎ ((at : ℕ) × IsLockedWalk {K = K} pseudokey_of may at client call (hashing (key_of call)) result)

@@ -36,7 +36,7 @@ impl<P: Pages + Drop, K: Keyer, F: Identity> LiveFile<P, K, F> {
     ) -> Result<Reply, AskFault>
         ensures ok { IfOk result (λ reply. seat.new ≡ record seat.old { entries = seat.old.entries ++ record { call = call.now; reply = reply } ∷ [] }) }
         ensures err { OnErr result (seat.new ≡ seat.old) }
-        ensures walk { IsAsked K.pseudokey_of (G.may gate.now seat.old.client) seat.old.client call.now result }
+        ensures walk { IsAsked K.pseudokey_of F.hashing (G.may gate.now seat.old.client) seat.old.client call.now result }
         ensures copy { BeginsWith copy.new copy.old }
     {
         if seat.diary.reserve().is_err() {
@@ -69,7 +69,7 @@ impl<P: Pages + Drop, K: Keyer, F: Identity> LiveFile<P, K, F> {
         requires part { answers.parts ≡ 1 }
         requires hashed { pseudokey ≡ K.pseudokey_of self.now.keyer (key_of call.now) }
         ensures part { result.0.parts ≡ 1 }
-        ensures walk { IsLockedWalk K.pseudokey_of (G.may gate.now client) at client call.now result.1 }
+        ensures walk { IsLockedWalk K.pseudokey_of (G.may gate.now client) at client call.now pseudokey result.1 }
         ensures units { result.0.amount ≡ answers.amount + units_of result.1 }
     {
         let number = ward_number(self.ward_bits, pseudokey);
@@ -77,9 +77,8 @@ impl<P: Pages + Drop, K: Keyer, F: Identity> LiveFile<P, K, F> {
             rt,
             ward: &self.wards[usize::from(number)],
             answers,
-            pseudokey,
         };
-        let result = walk_steps(&mut ward, gate, at, client, call);
+        let result = walk_steps(&mut ward, gate, at, client, call, pseudokey);
         (ward.into_answers(), result)
     }
 }

@@ -11,7 +11,6 @@ pub use live_file::LiveFile;
 pub use lock::lock_soon;
 pub use seat::{NoSeat, Seat};
 pub use ward_journals::WardJournals;
-pub use wards::new_wards;
 
 mod ask;
 mod close;
@@ -29,4 +28,3 @@ mod spare;
 mod tallied_ward;
 mod tally;
 mod ward_journals;
-mod wards;

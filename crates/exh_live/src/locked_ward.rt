@@ -23,8 +23,6 @@ pub(crate) struct LockedWard<'a, P: Pages + Drop, K: Keyer, F: Identity, R: Wait
     pub(crate) rt: &'a R,
     pub(crate) ward: &'a WardLock<P, K, F>,
     pub(crate) answers: Share<Answers<F>>,
-    // That of the call's key.
-    pub(crate) pseudokey: u64,
     ghost one_part: { answers.parts ≡ 1 },
 }
 
@@ -38,7 +36,6 @@ impl<'a, P: Pages + Drop, K: Keyer, F: Identity, R: Wait> LockedWard<'a, P, K, F
             rt: _,
             ward: _,
             answers,
-            pseudokey: _,
         } = self;
         answers
     }
@@ -48,11 +45,7 @@ impl<'a, P: Pages + Drop, K: Keyer, F: Identity, R: Wait> LockedWard<'a, P, K, F
 impl<'a, P: Pages + Drop, K: Keyer, F: Identity, R: Wait> Steps for LockedWard<'a, P, K, F, R> {
     ghost step = { λ old event new. (new.answers.amount ≡ old.answers.amount + length (answer_of event)) × IsSomeWardsStep K.pseudokey_of event };
 
-    ghost serves = { λ ward call pseudokey. (pseudokey ≡ ward.pseudokey) × (pseudokey ≡ F.hashing (key_of call)) };
-
-    fn pseudokey(&self, _call: &Call) -> u64 {
-        self.pseudokey
-    }
+    ghost serves = { λ ward call pseudokey. pseudokey ≡ F.hashing (key_of call) };
 
     // `Stray` for a key that the ward doesn't cover, which its lock can't tell.
     fn hop(

@@ -28,7 +28,7 @@ abbrev pub empty_loading : ℕ → ℕ → AnyKeyer → Loading
 empty_loading cap ward_bits keyer = record { cap = cap; ward_bits = ward_bits; keyer = keyer; maps = replicate (2 ^ ward_bits) fin.empty }
 
 abbrev pub new_loading : Config AnyKeyer → Loading
-new_loading file = empty_loading file.cap file.ward_bits file.keyer
+new_loading file = empty_loading file.settings.cap file.settings.ward_bits file.settings.keyer
 
 -- how many records there are
 abbrev pub record_count : Loading → ℕ

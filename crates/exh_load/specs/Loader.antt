@@ -1,15 +1,16 @@
 -- The wards of a new file that pairs are put into, each with its directory.
-use Rattle.std.specs.Prelude.{◌≡◌, ℕ, List, [], ◌∷◌, length, slice_get, slice_set, Some, None}
+use Rattle.std.specs.Prelude.{◌≡◌, ℕ, List, length, slice_get, slice_set, Some}
 use Rattle.std.specs.FinMap as map
-use Rattle.exh_prefix.specs.Leading.{ward_of, ward_prefix}
+use Rattle.exh_prefix.specs.Leading.{ward_of}
 use Rattle.exh_keyer.specs.declared.any_keyer.AnyKeyer.{AnyKeyer}
 use Rattle.exh_keyer.specs.Pseudokey.{any_pseudokey}
 use Rattle.exh_array.specs.Pointers.{DirectoryState}
-use Rattle.exh_page.specs.declared.page.Page.TheVariants.{Live}
 use Rattle.exh_calls.specs.declared.call.Call.TheVariants.{Put}
 use Rattle.exh_calls.specs.declared.reply.Reply.{Reply}
+use Rattle.exh_file_settings.specs.declared.file_settings.FileSettings.{FileSettings}
+use Rattle.exh_ward.specs.NewWards.{new_wards}
 use Rattle.exh_ward.specs.WardState.{WardState}
-use Rattle.exh_open.specs.Opened.{OpenedState}
+use Rattle.exh_open.specs.Opened.{OpenedState, in_file}
 use Rattle.exh_load.specs.Put.{AreSplitsAtMost, IsDirectoryOf, IsPut}
 
 pub record LoaderState : Type 0 where
@@ -29,28 +30,9 @@ pub record IsLoading (loader : LoaderState) : Type 0 where
   pub told : (number : ℕ) (ward : WardState AnyKeyer) (directory : DirectoryState) → slice_get loader.wards number ≡ Some ward → slice_get loader.directories number ≡ Some directory
       → IsDirectoryOf ward directory
 
--- a ward of a new file
-abbrev pub fresh_ward : ℕ → ℕ → AnyKeyer → ℕ → WardState AnyKeyer
-fresh_ward cap ward_bits keyer number = record {
-  pages = Live (ward_prefix ward_bits number) None [] ∷ [];
-  base = map.empty;
-  journal = [];
-  start = map.empty;
-  notices = [];
-  table = map.empty;
-  failures = 0;
-  cap = cap;
-  ward_bits = ward_bits;
-  number = number;
-  keyer = keyer;
-}
-
 -- no pair was put yet
-pub record IsEmptyLoader (cap ward_bits : ℕ) (keyer : AnyKeyer) (loader : LoaderState) : Type 0 where
-  pub cap_is : loader.cap ≡ cap
-  pub bits_is : loader.ward_bits ≡ ward_bits
-  pub keyer_is : loader.keyer ≡ keyer
-  pub wards : (number : ℕ) (ward : WardState AnyKeyer) → slice_get loader.wards number ≡ Some ward → ward ≡ fresh_ward cap ward_bits keyer number
+abbrev pub IsEmptyLoader : FileSettings AnyKeyer → LoaderState → Type 0
+IsEmptyLoader settings loader = file_in loader ≡ in_file settings (new_wards settings)
 
 -- the number of the ward that a key belongs to
 abbrev pub ward_in : LoaderState → List ℕ → ℕ
@@ -83,6 +65,3 @@ pub record AreEach {A : Type 0} (P : ℕ → A → Type 0) (count : ℕ) (items 
 pub record IsEmptyDirectory (ward_bits : ℕ) (directory : DirectoryState) : Type 0 where
   pub table : directory.table ≡ map.empty
   pub bits : directory.pointers.ward_bits ≡ ward_bits
-
-abbrev pub IsFreshWard : ℕ → ℕ → AnyKeyer → ℕ → WardState AnyKeyer → Type 0
-IsFreshWard cap ward_bits keyer number ward = ward ≡ fresh_ward cap ward_bits keyer number

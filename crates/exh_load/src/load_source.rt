@@ -10,9 +10,9 @@ ghost use Rattle.exh_load.specs.Loading.{loaded_from};
 ghost use Rattle.exh_load.specs.Load.{Loads, Prints, PrintsBy, PrintsFront, TakesFront, load_of_lines, loading_in, new_loading, number_line, refused, text_of_pairs};
 
 use crate::{LoadFault, Loader, load_lines};
-use exh_frames::PlainPages;
+use exh_frames::{Pages, StoreMaker};
 use exh_keyer::AnyKeyer;
-use exh_notes::{Listener, Shape};
+use exh_notes::Listener;
 use exh_open::Opened;
 use exh_settings::{Config, SCRIPT_LIMIT, parse_file_line};
 use exh_stream::{InputFault, Output, Source};
@@ -20,24 +20,26 @@ use exh_text::{Lines, push_number, push_text};
 use std::alloc::Global;
 use std::io::{Read, Write};
 
-/// Reads a whole text, of a `file` line and of pairs, puts the pairs into a new file, and writes what is printed of
-/// them and nothing else. It answers the file, or `None` where the text is refused. Where the reader fails, that is the
+/// Reads a whole text, of a `file` line and of pairs, puts the pairs into a new file, over stores that the maker makes,
+/// and writes what is printed of them and nothing else. It answers the file, or `None` where the text is refused. Where the reader fails, that is the
 /// line `refused 41` alone. No fault is tried again. The listener is told of lines that are refused or full.
 ///
 /// `Write`: the writer failed or took no bytes, and got a beginning of what is printed. `Memory`: a growth was refused.
 /// `Page`: a page couldn't be reached. After these two the writer got whole lines of it.
-pub fn load<R: Read, W: Write, L: Listener>(
+pub fn load<P: Pages + Drop, M: StoreMaker<P, AnyKeyer>, R: Read, W: Write, L: Listener>(
     alloc: Global,
+    maker: &M,
     reader: &mut R,
     writer: &mut W,
     listener: &mut L,
-) -> Result<Option<Opened<PlainPages>>, LoadFault>
+) -> Result<Option<Opened<P>>, LoadFault>
     ensures ok { IfOk result (λ file. Loads (Appends (W.contents writer.old) (W.contents writer.new)) (R.remaining reader.old) file) }
     ensures err { OnErr result (Prints (AppendsBeginning (W.contents writer.old) (W.contents writer.new)) (R.remaining reader.old)) }
     ensures memory { IfErr result (λ fault. fault ≢ LoadFault.Write → PrintsFront (Appends (W.contents writer.old) (W.contents writer.new)) (R.remaining reader.old)) }
 {
     load_all(
         alloc,
+        maker,
         &mut Source::new(reader),
         &mut Output::new(writer),
         listener,
@@ -45,12 +47,13 @@ pub fn load<R: Read, W: Write, L: Listener>(
 }
 
 // The same of a source. What waits is written after each fault.
-fn load_all<R: Read, W: Write, L: Listener>(
+fn load_all<P: Pages + Drop, M: StoreMaker<P, AnyKeyer>, R: Read, W: Write, L: Listener>(
     alloc: Global,
+    maker: &M,
     source: &mut Source<'_, R>,
     output: &mut Output<'_, W>,
     listener: &mut L,
-) -> Result<Option<Opened<PlainPages>>, LoadFault>
+) -> Result<Option<Opened<P>>, LoadFault>
     requires open { IsFalse (reader_failed source.old) }
     requires open_output { IsFalse (writer_failed output.old) }
     requires empty { pending output.old ≡ [] }
@@ -61,18 +64,19 @@ fn load_all<R: Read, W: Write, L: Listener>(
     ensures err { OnErr result (Prints (AppendsBeginning (held W.contents output.old) (held W.contents output.new)) (unread R.remaining source.old)) }
     ensures memory { IfErr result (λ fault. fault ≢ LoadFault.Write → PrintsFront (Appends (held W.contents output.old) (held W.contents output.new)) (unread R.remaining source.old)) }
 {
-    let loaded = load_source(alloc, source, output, listener);
+    let loaded = load_source(alloc, maker, source, output, listener);
     output.finish()?;
     loaded
 }
 
 // Reads the text, and loads it.
-fn load_source<R: Read, W: Write, L: Listener>(
+fn load_source<P: Pages + Drop, M: StoreMaker<P, AnyKeyer>, R: Read, W: Write, L: Listener>(
     alloc: Global,
+    maker: &M,
     source: &mut Source<'_, R>,
     output: &mut Output<'_, W>,
     listener: &mut L,
-) -> Result<Option<Opened<PlainPages>>, LoadFault>
+) -> Result<Option<Opened<P>>, LoadFault>
     requires open { IsFalse (reader_failed source.old) }
     requires open_output { IsFalse (writer_failed output.old) }
     ensures same_reader { SameReader source.old source.new }
@@ -84,7 +88,7 @@ fn load_source<R: Read, W: Write, L: Listener>(
     ensures failed { IsErrOf result LoadFault.Write ↔ IsTrue (writer_failed output.new) }
 {
     match source.read_whole(alloc, SCRIPT_LIMIT) {
-        Ok(text) => load_text(alloc, output, &text, listener),
+        Ok(text) => load_text(alloc, maker, output, &text, listener),
         Err(InputFault::TooLong) => {
             listener.too_long();
             refuse(alloc, output, 62)
@@ -95,12 +99,13 @@ fn load_source<R: Read, W: Write, L: Listener>(
 }
 
 // Loads a text.
-fn load_text<W: Write, L: Listener>(
+fn load_text<P: Pages + Drop, M: StoreMaker<P, AnyKeyer>, W: Write, L: Listener>(
     alloc: Global,
+    maker: &M,
     output: &mut Output<'_, W>,
     text: &[u8],
     listener: &mut L,
-) -> Result<Option<Opened<PlainPages>>, LoadFault>
+) -> Result<Option<Opened<P>>, LoadFault>
     requires open { IsFalse (writer_failed output.old) }
     requires few { length (lines_of text.now) < 2 ^ 64 }
     ensures same_writer { SameWriter output.old output.new }
@@ -116,7 +121,7 @@ fn load_text<W: Write, L: Listener>(
     };
     match parse_file_line(first) {
         Ok(settings) => {
-            let file = load_pairs(alloc, output, &settings.file, lines, text, listener)?;
+            let file = load_pairs(alloc, maker, output, &settings.file, lines, text, listener)?;
             Ok(Some(file))
         }
         Err(fault) => {
@@ -127,14 +132,15 @@ fn load_text<W: Write, L: Listener>(
 }
 
 // Loads the pairs of lines into a new file.
-fn load_pairs<W: Write, L: Listener>(
+fn load_pairs<P: Pages + Drop, M: StoreMaker<P, AnyKeyer>, W: Write, L: Listener>(
     alloc: Global,
+    maker: &M,
     output: &mut Output<'_, W>,
     file: &Config<AnyKeyer>,
     lines: Lines<'_>,
     text: &[u8],
     listener: &mut L,
-) -> Result<Opened<PlainPages>, LoadFault>
+) -> Result<Opened<P>, LoadFault>
     requires open { IsFalse (writer_failed output.old) }
     requires range { IsTrue (file_in_range file.now) }
     requires few { length lines < 2 ^ 64 }
@@ -145,28 +151,19 @@ fn load_pairs<W: Write, L: Listener>(
     ensures front { IfErr result (λ fault. fault ≢ LoadFault.Write → TakesFront W.contents output.old output.new (text_of_pairs (new_loading file.now) lines.entry)) }
     ensures failed { IsErrOf result LoadFault.Write ↔ IsTrue (writer_failed output.new) }
 {
-    let mut loader = Loader::new(alloc, file.cap, file.ward_bits, file.keyer)?;
+    let mut loader = Loader::new(alloc, maker, file.settings)?;
     let records = load_lines(alloc, output, &mut loader, lines, text, listener)?;
-    listener.pairs_ended(shape_of(file));
+    listener.pairs_ended(file.settings);
     print_number(alloc, output, "loaded ", records)?;
     Ok(loader.into_opened())
 }
 
-// The settings of a file that a listener is told of.
-fn shape_of(file: &Config<AnyKeyer>) -> Shape {
-    Shape {
-        cap: file.cap,
-        ward_bits: file.ward_bits,
-        keyer: file.keyer,
-    }
-}
-
 // Prints the number of a refusal alone.
-fn refuse<W: Write>(
+fn refuse<P: Pages + Drop, W: Write>(
     alloc: Global,
     output: &mut Output<'_, W>,
     number: u32,
-) -> Result<Option<Opened<PlainPages>>, LoadFault>
+) -> Result<Option<Opened<P>>, LoadFault>
     requires { IsFalse (writer_failed output.old) }
     ensures same_writer { SameWriter output.old output.new }
     ensures text { OnOk result (Takes W.contents output.old output.new (refused number).printed) }

@@ -7,6 +7,7 @@ ghost use Rattle.exh_load.specs.Loading.{after_pair_line, line_text, loaded_from
 use crate::pair_line::{parse_pair_line, push_reply};
 use crate::{LoadFault, Loader};
 use exh_calls::Reply;
+use exh_frames::Pages;
 use exh_notes::Listener;
 use exh_stream::Output;
 use exh_text::{Lines, push_refused, push_text};
@@ -18,10 +19,10 @@ use std::io::Write;
 /// of each. On an `Err` a beginning of that text went out, and the loader can be used no more.
 ///
 /// `Write`: the writer failed or took no bytes. `Memory`: a growth was refused. `Page`: a page couldn't be reached.
-pub fn load_lines<W: Write, L: Listener>(
+pub fn load_lines<P: Pages + Drop, W: Write, L: Listener>(
     alloc: Global,
     output: &mut Output<'_, W>,
-    loader: &mut Loader,
+    loader: &mut Loader<P>,
     lines: Lines<'_>,
     whole: &[u8],
     listener: &mut L,
@@ -51,7 +52,11 @@ pub fn load_lines<W: Write, L: Listener>(
 
 // Puts the pair of a line, adds what is printed of it, and answers how many records there are more.
 #[tactic(auto, unfolding(crate::specs::Loading::line_text, crate::specs::Loading::after_pair_line))]
-fn push_line(out: &mut Vec<u8>, loader: &mut Loader, line: &[u8]) -> Result<u64, LoadFault>
+fn push_line<P: Pages + Drop>(
+    out: &mut Vec<u8>,
+    loader: &mut Loader<P>,
+    line: &[u8],
+) -> Result<u64, LoadFault>
     requires { IsLoading loader.old }
     ensures text { OnOk result (out.new.items ≡ out.old.items ++ line_text (loading_of loader.old) line.now) }
     ensures loaded { OnOk result (loading_of loader.new ≡ after_pair_line (loading_of loader.old) line.now) }

@@ -5,69 +5,64 @@ ghost use Rattle.exh_array.specs.Pointers.{DirectoryState};
 ghost use Rattle.exh_ward.specs.WardFault.{IsStoreFault};
 ghost use Rattle.exh_load.specs.Load.{empty_loading, new_count, record_count};
 ghost use Rattle.exh_load.specs.Loading.{after_pair, loading_of, pair_reply};
-ghost use Rattle.exh_load.specs.Loader.{AreEach, HasSplitsIn, IsEmptyDirectory, IsEmptyLoader, IsFreshWard, IsLoading, IsPutIn, file_in};
+ghost use Rattle.exh_load.specs.Loader.{AreEach, HasSplitsIn, IsEmptyDirectory, IsEmptyLoader, IsLoading, IsPutIn, file_in};
 
 use crate::put_pair;
 use exh_array::Directory;
 use exh_calls::Reply;
-use exh_frames::PlainPages;
+use exh_file_settings::FileSettings;
+use exh_frames::{Pages, StoreMaker};
 use exh_keyer::{AnyKeyer, Keyer};
 use exh_open::Opened;
 use exh_page::{Key, Value};
 use exh_prefix::ward_number;
-use exh_ward::{Ward, WardFault, first_page};
+use exh_ward::{Ward, WardFault, new_wards};
 use std::alloc::{AllocError, Global};
 use std::marker::Model;
 
-/// The wards of a new file that pairs are put into, and a directory of each. Pages are in memory.
+/// The wards of a new file that pairs are put into, and a directory of each.
 #[derive(Drop)]
-pub struct Loader {
-    cap: usize,
-    ward_bits: u8,
-    keyer: AnyKeyer,
-    wards: Vec<Ward<PlainPages, AnyKeyer>>,
+pub struct Loader<P: Pages + Drop> {
+    settings: FileSettings<AnyKeyer>,
+    wards: Vec<Ward<P, AnyKeyer>>,
     directories: Vec<Directory>,
 }
 
-impl Model for Loader {
+impl<P: Pages + Drop> Model for Loader<P> {
     ghost use Rattle.std.specs.Coded.{codes};
     ghost use Rattle.exh_page.specs.KeyMap.{coded_key_map};
     ghost use Rattle.exh_table.specs.Table.{coded_table};
-    ghost use Rattle.exh_open.specs.Opened.{AreWardsOf, OpenedState};
+    ghost use Rattle.exh_open.specs.Opened.{AreWardsOf, in_file};
     ghost use Rattle.exh_load.specs.Loader.{LoaderState};
 
     ghost Value = { LoaderState };
 
     ghost coded = { Prim.hlevel (codes, coded_key_map, coded_table) };
 
-    ghost view = { λ a. record { cap = a.cap; ward_bits = a.ward_bits; keyer = a.keyer; wards = a.wards.items; directories = a.directories.items } };
+    ghost view = { λ a. record { cap = a.settings.cap; ward_bits = a.settings.ward_bits; keyer = a.settings.keyer; wards = a.wards.items; directories = a.directories.items } };
 
-    ghost invariant = { λ a. AreWardsOf (record { cap = a.cap; ward_bits = a.ward_bits; keyer = a.keyer; wards = a.wards.items }) };
+    ghost invariant = { λ a. AreWardsOf (in_file a.settings a.wards.items) };
 }
 
-impl Loader {
-    /// The loader of a new file whose pages hold at most `cap` records, 1 to 16, cut into 2^`ward_bits`
-    /// wards, by 0 to 4 leading bits of pseudokeys: each ward has one page of no record. An
-    /// `AllocError` where memory is refused.
-    pub fn new(
+impl<P: Pages + Drop> Loader<P> {
+    /// The loader of a new file of these settings, over stores that the maker makes: each ward has one
+    /// page of no record. An `AllocError` where memory is refused.
+    pub fn new<M: StoreMaker<P, AnyKeyer>>(
         alloc: Global,
-        cap: usize,
-        ward_bits: u8,
-        keyer: AnyKeyer,
-    ) -> Result<Loader, AllocError>
-        requires some { 1 ≤ cap }
-        requires most { cap ≤ CAP_LIMIT }
-        requires bits { ward_bits ≤ WARD_BITS_LIMIT }
-        ensures empty { IfOk result (IsEmptyLoader cap ward_bits keyer) }
+        maker: &M,
+        settings: FileSettings<AnyKeyer>,
+    ) -> Result<Loader<P>, AllocError>
+        requires some { 1 ≤ settings.cap }
+        requires most { settings.cap ≤ CAP_LIMIT }
+        requires bits { settings.ward_bits ≤ WARD_BITS_LIMIT }
+        ensures empty { IfOk result (IsEmptyLoader settings) }
         ensures loading { IfOk result IsLoading }
-        ensures none { IfOk result (λ loader. loading_of loader ≡ empty_loading cap ward_bits keyer) }
+        ensures none { IfOk result (λ loader. loading_of loader ≡ empty_loading settings.cap settings.ward_bits settings.keyer) }
     {
-        let wards = new_wards(alloc, cap, ward_bits, keyer)?;
-        let directories = new_directories(alloc, ward_bits)?;
+        let wards = new_wards(alloc, maker, settings)?;
+        let directories = new_directories(alloc, settings.ward_bits)?;
         Ok(Loader {
-            cap,
-            ward_bits,
-            keyer,
+            settings,
             wards,
             directories,
         })
@@ -86,39 +81,19 @@ impl Loader {
         ensures err { OnErr result (HasSplitsIn self.old key self.new) }
         ensures fault { IfErr result IsStoreFault }
     {
-        let pseudokey = self.keyer.pseudo(key.as_bytes());
-        let at = usize::from(ward_number(self.ward_bits, pseudokey));
+        let pseudokey = self.settings.keyer.pseudo(key.as_bytes());
+        let at = usize::from(ward_number(self.settings.ward_bits, pseudokey));
         let ward = &mut self.wards[at];
         let directory = &mut self.directories[at];
         put_pair(ward, directory, key, value, pseudokey)
     }
 
     /// The file of the wards. It takes no memory.
-    pub fn into_opened(self) -> Opened<PlainPages>
+    pub fn into_opened(self) -> Opened<P>
         ensures { result ≡ file_in self }
     {
-        Opened::new(self.cap, self.ward_bits, self.keyer, self.wards)
+        Opened::new(self.settings, self.wards)
     }
-}
-
-// The wards of a new file, in the order of their numbers.
-fn new_wards(
-    alloc: Global,
-    cap: usize,
-    ward_bits: u8,
-    keyer: AnyKeyer,
-) -> Result<Vec<Ward<PlainPages, AnyKeyer>>, AllocError>
-    requires some { 1 ≤ cap }
-    requires most { cap ≤ CAP_LIMIT }
-    requires bits { ward_bits ≤ WARD_BITS_LIMIT }
-    ensures { IfOk result (λ wards. AreEach (IsFreshWard cap ward_bits keyer) (2 ^ ward_bits) wards.items) }
-{
-    let mut wards = Vec::new(alloc);
-    for number in 0..1 << ward_bits {
-        let store = PlainPages::new(alloc, first_page(alloc, ward_bits, number))?;
-        wards.push(Ward::new(alloc, store, cap, ward_bits, number, keyer))?;
-    }
-    Ok(wards)
 }
 
 // A directory of no entry for each ward.

@@ -6,7 +6,6 @@ pub use kind::Kind;
 pub use listener::{Listener, Silent};
 pub use notes::Notes;
 pub use reason_reader::ReasonReader;
-pub use shape::Shape;
 
 mod expect;
 mod kind;
@@ -15,7 +14,6 @@ mod listener;
 mod note;
 mod notes;
 mod reason_reader;
-mod shape;
 mod tally;
 mod texts;
 mod wrong_word;

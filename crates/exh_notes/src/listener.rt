@@ -1,4 +1,5 @@
-use crate::Shape;
+use exh_file_settings::FileSettings;
+use exh_keyer::AnyKeyer;
 use exh_text::LineFault;
 
 /// Who is told what a run can't say in its text. Nothing is promised of it.
@@ -13,13 +14,13 @@ pub trait Listener {
     fn too_long(&mut self);
 
     /// The settings of a script, and those of the page file that it was to be run over.
-    fn differs(&mut self, script: Shape, opened: Shape);
+    fn differs(&mut self, script: FileSettings<AnyKeyer>, opened: FileSettings<AnyKeyer>);
 
     /// So many requests were begun and not answered when the script ended.
     fn script_ended(&mut self, requests: u64);
 
     /// All pairs were put, as far as there was room, into a file of these settings.
-    fn pairs_ended(&mut self, file: Shape);
+    fn pairs_ended(&mut self, file: FileSettings<AnyKeyer>);
 }
 
 /// Who listens to nothing.
@@ -33,9 +34,9 @@ impl Listener for Silent {
 
     fn too_long(&mut self) {}
 
-    fn differs(&mut self, _script: Shape, _opened: Shape) {}
+    fn differs(&mut self, _script: FileSettings<AnyKeyer>, _opened: FileSettings<AnyKeyer>) {}
 
     fn script_ended(&mut self, _requests: u64) {}
 
-    fn pairs_ended(&mut self, _file: Shape) {}
+    fn pairs_ended(&mut self, _file: FileSettings<AnyKeyer>) {}
 }

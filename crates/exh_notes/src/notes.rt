@@ -7,7 +7,8 @@ use crate::texts::{
     TOO_LONG, keyer_differs, more, number_differs, spread, turned_away, unanswered, wrong_line,
 };
 use crate::wrong_word::wrong_word;
-use crate::{Expect, Kind, Listener, Shape};
+use crate::{Expect, Kind, Listener};
+use exh_file_settings::{FileSettings, is_same_keyer};
 use exh_keyer::AnyKeyer;
 use exh_text::{LineFault, Parts};
 use std::io::Write;
@@ -88,15 +89,16 @@ impl<E: Write> Listener for Notes<E> {
         self.show(TOO_LONG);
     }
 
-    fn differs(&mut self, script: Shape, opened: Shape) {
+    fn differs(&mut self, script: FileSettings<AnyKeyer>, opened: FileSettings<AnyKeyer>) {
         if script.cap != opened.cap {
-            self.show(number_differs(b"cap=", script.cap as u64, opened.cap as u64).as_slice());
+            let (script, opened) = (u64::from(script.cap), u64::from(opened.cap));
+            self.show(number_differs(b"cap=", script, opened).as_slice());
         }
         if script.ward_bits != opened.ward_bits {
             let (script, opened) = (u64::from(script.ward_bits), u64::from(opened.ward_bits));
             self.show(number_differs(b"wards=", script, opened).as_slice());
         }
-        if !is_same(script.keyer, opened.keyer) {
+        if !is_same_keyer(script.keyer, opened.keyer) {
             self.show(keyer_differs(script.keyer, opened.keyer).as_slice());
         }
     }
@@ -107,18 +109,11 @@ impl<E: Write> Listener for Notes<E> {
         }
     }
 
-    fn pairs_ended(&mut self, file: Shape) {
+    fn pairs_ended(&mut self, file: FileSettings<AnyKeyer>) {
         let count = self.tally.of(Kind::Full);
         if count > 0 {
             self.show(turned_away(count, file.cap).as_slice());
             self.show(spread(file.keyer));
         }
     }
-}
-
-fn is_same(keyer: AnyKeyer, other: AnyKeyer) -> bool {
-    matches!(
-        (keyer, other),
-        (AnyKeyer::Plain, AnyKeyer::Plain) | (AnyKeyer::Sha, AnyKeyer::Sha)
-    )
 }

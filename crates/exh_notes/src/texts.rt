@@ -73,7 +73,7 @@ pub(crate) fn unanswered(count: u64) -> Note
 }
 
 // How many pairs found no room in a page of so many records.
-pub(crate) fn turned_away(count: u64, cap: usize) -> Note
+pub(crate) fn turned_away(count: u64, cap: u8) -> Note
     ensures { result.items ≡ turned_away_text count cap }
 {
     let mut note = ArrayVec::new();
@@ -81,7 +81,7 @@ pub(crate) fn turned_away(count: u64, cap: usize) -> Note
         &mut note,
         b"exhash: pairs that aren't in the file, a page having room for cap=",
     );
-    put_number(&mut note, cap as u64);
+    put_number(&mut note, u64::from(cap));
     put_count(&mut note, count);
     note
 }

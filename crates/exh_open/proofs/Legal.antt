@@ -23,7 +23,7 @@ use Rattle.exh_reasons.specs.Laws.{IsLegalFile, LegalFilesPass}
 use Rattle.exh_ward.specs.WardState.{WardState}
 use Rattle.exh_legal_file.specs.LegalFile.{parts_in, table_naming, ward_tables}
 use Rattle.exh_legal_file.specs.LegalFileLemmas.{count_of_wards, few_bits, ranges_of, table_naming_at}
-use Rattle.exh_open.specs.Opened.{AreWardsOf, IsWardOf, OpenedState}
+use Rattle.exh_open.specs.Opened.{AreWardsOf, IsWardOf, OpenedState, in_file}
 use Rattle.exh_open.specs.Opening.{AreLegalWards, AreOpened, IsLegalWard, IsOpenedFile, IsOpenedWard}
 
 -- ---- lists
@@ -63,22 +63,22 @@ more_opened header pages tables wards ward number own table count at_own at_tabl
 
 -- ---- a legal file's wards
 
-pub legal_ward : LegalFilesPass → (file : PageFile) → IsFile first_file file → IsLegalFile (any_pseudokey file.header.keyer) (parts_in file) → (number : ℕ) (pages : List Page) → slice_get file.wards number ≡ Some pages
+pub legal_ward : LegalFilesPass → (file : PageFile) → IsFile first_file file → IsLegalFile (any_pseudokey file.header.settings.keyer) (parts_in file) → (number : ℕ) (pages : List Page) → slice_get file.wards number ≡ Some pages
     → IsLegalWard file.header number pages (table_naming file.entries number)
 legal_ward law file valid legal number pages there =
-    let pseudo = any_pseudokey file.header.keyer in
+    let pseudo = any_pseudokey file.header.settings.keyer in
     let less : number < 256 = omega (arith, slice_get_within file.wards number pages there, count_of_wards file valid, valid.header.wards) in
     let formed = (((law pseudo (parts_in file) (ranges_of file valid)).1 legal).formed number pages there).formed in
     record {
-      legal = subst (λ (table : TableMap). IsWard file.header.cap pseudo (ward_prefix file.header.ward_bits number) table [] table pages) (table_naming_at file.entries number less) (legal.wards number pages there);
+      legal = subst (λ (table : TableMap). IsWard file.header.settings.cap pseudo (ward_prefix file.header.settings.ward_bits number) table [] table pages) (table_naming_at file.entries number less) (legal.wards number pages there);
       formed = all_pages (IsWellFormed pseudo) pages formed;
     }
 
 module _ (file : PageFile) (pages : List (Vec Page Global)) (tables : List TableMap) (valid : IsFile first_file file) (pages_are : file.wards ≡ map (λ (own : Vec Page Global). own.items) pages) (tables_are : tables ≡ ward_tables file) where
-  count_pages : length pages ≡ 2 ^ file.header.ward_bits
+  count_pages : length pages ≡ 2 ^ file.header.settings.ward_bits
   count_pages = sym (length-map pages (λ (own : Vec Page Global). own.items)) ∙ sym (ap length pages_are) ∙ count_of_wards file valid
 
-  pub count_tables : length tables ≡ 2 ^ file.header.ward_bits
+  pub count_tables : length tables ≡ 2 ^ file.header.settings.ward_bits
   count_tables = ap length tables_are ∙ length-map-range_with_len (table_naming file.entries) 0 (length file.wards) ∙ count_of_wards file valid
 
   pages_at : (number : ℕ) (own : Vec Page Global) → slice_get pages number ≡ Some own → slice_get file.wards number ≡ Some own.items
@@ -89,10 +89,10 @@ module _ (file : PageFile) (pages : List (Vec Page Global)) (tables : List Table
       let less : number < length file.wards = omega (arith, slice_get_within tables number table there, count_tables, count_of_wards file valid) in
       sym (get_or-map-range_with_len (table_naming file.entries) 0 (length file.wards) number number empty less (omega arith)) ∙ sym (ap (λ (all : List TableMap). get_or all number empty) tables_are) ∙ get_or_from_slice_get tables number table empty there
 
-  pub legal_wards : LegalFilesPass → IsLegalFile (any_pseudokey file.header.keyer) (parts_in file) → AreLegalWards file.header pages tables
+  pub legal_wards : LegalFilesPass → IsLegalFile (any_pseudokey file.header.settings.keyer) (parts_in file) → AreLegalWards file.header pages tables
   legal_wards law legal number own table po pt = subst (λ (t : TableMap). IsLegalWard file.header number own.items t) (table_is number table pt) (legal_ward law file valid legal number own.items (pages_at number own po))
 
-  module _ (wards : List (WardState AnyKeyer)) (count : length wards ≡ 2 ^ file.header.ward_bits) (opened : AreOpened file.header pages tables wards) where
+  module _ (wards : List (WardState AnyKeyer)) (count : length wards ≡ 2 ^ file.header.settings.ward_bits) (opened : AreOpened file.header pages tables wards) where
     is_opened : (number : ℕ) (ward : WardState AnyKeyer) → slice_get wards number ≡ Some ward → IsOpenedWard file.header number (get_or file.wards number []) (table_naming file.entries number) ward
     is_opened number ward there =
         let less = slice_get_within wards number ward there in
@@ -106,7 +106,7 @@ module _ (file : PageFile) (pages : List (Vec Page Global)) (tables : List Table
           | inr past ↦ absurd (omega (arith, less, past.0, count, count_pages))
         ]
 
-    pub wards_of_file : AreWardsOf (let opened : OpenedState = record { cap = file.header.cap; ward_bits = file.header.ward_bits; keyer = file.header.keyer; wards = wards } in opened)
+    pub wards_of_file : AreWardsOf (in_file file.header.settings wards)
     wards_of_file = record {
       some = valid.header.some;
       most = valid.header.few;
@@ -117,5 +117,5 @@ module _ (file : PageFile) (pages : List (Vec Page Global)) (tables : List Table
           record { cap = ap (λ (w : WardState AnyKeyer). w.cap) is; bits = ap (λ (w : WardState AnyKeyer). w.ward_bits) is; number_is = ap (λ (w : WardState AnyKeyer). w.number) is; keyer = ap (λ (w : WardState AnyKeyer). w.keyer) is };
     }
 
-    pub opened_file : (opened : OpenedState) → opened ≡ (let made : OpenedState = record { cap = file.header.cap; ward_bits = file.header.ward_bits; keyer = file.header.keyer; wards = wards } in made) → IsOpenedFile file opened
+    pub opened_file : (opened : OpenedState) → opened ≡ in_file file.header.settings wards → IsOpenedFile file opened
     opened_file opened is = subst (IsOpenedFile file) (sym is) (record { cap = refl; bits = refl; keyer = refl; count = count ∙ sym (count_of_wards file valid); each = is_opened })

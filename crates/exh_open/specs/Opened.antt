@@ -3,6 +3,7 @@ use Rattle.std.specs.Prelude.{◌≡◌, ℕ, ◌^◌, ◌≤◌, List, length, 
 use Rattle.exh_prefix.specs.declared.prefix.TheConstants.{WARD_BITS_LIMIT}
 use Rattle.exh_keyer.specs.declared.any_keyer.AnyKeyer.{AnyKeyer}
 use Rattle.exh_page.specs.declared.page.TheConstants.{CAP_LIMIT}
+use Rattle.exh_file_settings.specs.declared.file_settings.FileSettings.{FileSettings}
 use Rattle.exh_ward.specs.WardState.{WardState}
 
 pub record OpenedState : Type 0 where
@@ -10,6 +11,13 @@ pub record OpenedState : Type 0 where
   pub ward_bits : ℕ
   pub keyer : AnyKeyer
   pub wards : List (WardState AnyKeyer)
+
+-- the settings that its wards have in common, and wards with such settings
+abbrev pub settings_in : OpenedState → FileSettings AnyKeyer
+settings_in opened = record { cap = opened.cap; ward_bits = opened.ward_bits; keyer = opened.keyer }
+
+abbrev pub in_file : FileSettings AnyKeyer → List (WardState AnyKeyer) → OpenedState
+in_file settings wards = record { cap = settings.cap; ward_bits = settings.ward_bits; keyer = settings.keyer; wards = wards }
 
 -- a ward that is the file's of a number
 pub record IsWardOf (opened : OpenedState) (number : ℕ) (ward : WardState AnyKeyer) : Type 0 where

@@ -31,10 +31,10 @@ ward_opened header number pages table failures = record {
   notices = [];
   table = table;
   failures = failures;
-  cap = header.cap;
-  ward_bits = header.ward_bits;
+  cap = header.settings.cap;
+  ward_bits = header.settings.ward_bits;
   number = number;
-  keyer = header.keyer;
+  keyer = header.settings.keyer;
 }
 
 pub record IsOpenedWard (header : Header) (number : ℕ) (pages : List Page) (table : TableMap) (ward : WardState AnyKeyer) : Type 0 where
@@ -43,8 +43,8 @@ pub record IsOpenedWard (header : Header) (number : ℕ) (pages : List Page) (ta
 
 -- pages that are a legal ward for a table as its start, with no change since
 pub record IsLegalWard (header : Header) (number : ℕ) (pages : List Page) (table : TableMap) : Type 0 where
-  pub legal : IsWard header.cap (any_pseudokey header.keyer) (ward_prefix header.ward_bits number) table [] table pages
-  pub formed : AllByRecursion (IsWellFormed (any_pseudokey header.keyer)) pages
+  pub legal : IsWard header.settings.cap (any_pseudokey header.settings.keyer) (ward_prefix header.settings.ward_bits number) table [] table pages
+  pub formed : AllByRecursion (IsWellFormed (any_pseudokey header.settings.keyer)) pages
 
 abbrev pub AreLegalWards : Header → List (Vec Page Global) → List TableMap → Type 0
 AreLegalWards header pages tables = (number : ℕ) (own : Vec Page Global) (table : TableMap) → slice_get pages number ≡ Some own → slice_get tables number ≡ Some table → IsLegalWard header number own.items table
@@ -57,9 +57,9 @@ AreOpened header pages tables wards = (number : ℕ) (own : Vec Page Global) (ta
 -- ---- all wards of a file
 
 pub record IsOpenedFile (file : PageFile) (opened : OpenedState) : Type 0 where
-  pub cap : opened.cap ≡ file.header.cap
-  pub bits : opened.ward_bits ≡ file.header.ward_bits
-  pub keyer : opened.keyer ≡ file.header.keyer
+  pub cap : opened.cap ≡ file.header.settings.cap
+  pub bits : opened.ward_bits ≡ file.header.settings.ward_bits
+  pub keyer : opened.keyer ≡ file.header.settings.keyer
   pub count : length opened.wards ≡ length file.wards
   pub each : (number : ℕ) (ward : WardState AnyKeyer) → slice_get opened.wards number ≡ Some ward → IsOpenedWard file.header number (get_or file.wards number []) (table_naming file.entries number) ward
 

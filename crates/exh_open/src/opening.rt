@@ -12,7 +12,7 @@ ghost use Rattle.exh_open.specs.Opening.{AreLegalWards, AreOpened, IsLegalWard, 
 
 use crate::{OpenFault, Opened};
 use exh_file::Header;
-use exh_frames::StoreOfPages;
+use exh_frames::{Pages, StoreMaker};
 use exh_keyer::AnyKeyer;
 use exh_legal::pages_are_few;
 use exh_legal_file::{LegalFile, read_legal_file};
@@ -26,12 +26,14 @@ use std::mem;
 
 /// The wards of a legal page file of the first version, of which the reader has all bytes and no
 /// others. The base of each ward is the map of its pages, its journal and its notices are empty, and
-/// its start table is that of the entries which name it. A block takes at most 4,097 reads.
+/// its start table is that of the entries which name it. Their stores are the maker's. A block takes at most 4,097
+/// reads.
 ///
 /// `File`: no legal page file was read; the first fault is told. `Page`: a ward's store couldn't reach
 /// a page.
-pub fn open<R: Read, P: StoreOfPages + Drop>(
+pub fn open<R: Read, P: Pages + Drop, M: StoreMaker<P, AnyKeyer>>(
     alloc: Global,
+    maker: &M,
     reader: &mut R,
 ) -> Result<Opened<P>, OpenFault>
     ensures opened { IfOk result (λ opened. (file : PageFile) × (bytes : List ℕ) × IsAll (R.remaining reader.old) bytes × AreBytes bytes × IsLegalPageFile first_file file bytes × IsOpenedFile file opened) }
@@ -41,15 +43,16 @@ pub fn open<R: Read, P: StoreOfPages + Drop>(
     ensures counted { IsCounted P.failures result }
 {
     let mut legal = read_legal_file(alloc, reader)?;
-    open_legal(alloc, &mut legal)
+    open_legal(alloc, maker, &mut legal)
 }
 
 // The wards of a file that was read. Its pages and tables are taken out of it.
-fn open_legal<P: StoreOfPages + Drop>(
+fn open_legal<P: Pages + Drop, M: StoreMaker<P, AnyKeyer>>(
     alloc: Global,
+    maker: &M,
     legal: &mut LegalFile,
 ) -> Result<Opened<P>, OpenFault>
-    requires legal { IsLegalFile (any_pseudokey legal.old.parts.header.keyer) (parts_in (file_of legal.old.parts)) }
+    requires legal { IsLegalFile (any_pseudokey legal.old.parts.header.settings.keyer) (parts_in (file_of legal.old.parts)) }
     requires file { IsFile first_file (file_of legal.old.parts) }
     requires tables { legal.old.tables.items ≡ ward_tables (file_of legal.old.parts) }
     ensures opened { IfOk result (IsOpenedFile (file_of legal.old.parts)) }
@@ -58,23 +61,24 @@ fn open_legal<P: StoreOfPages + Drop>(
 {
     legal_files_pass();
     let header = legal.parts.header;
-    let wards = open_wards(alloc, &header, &mut legal.parts.wards, &mut legal.tables)?;
-    let (cap, ward_bits, keyer) = (header.cap as usize, header.ward_bits, header.keyer);
-    Ok(Opened::new(cap, ward_bits, keyer, wards))
+    let pages = &mut legal.parts.wards;
+    let wards = open_wards(alloc, maker, &header, pages, &mut legal.tables)?;
+    Ok(Opened::new(header.settings, wards))
 }
 
 // The ward of each number, of its pages and its table, which are taken out of the lists.
-fn open_wards<P: StoreOfPages + Drop>(
+fn open_wards<P: Pages + Drop, M: StoreMaker<P, AnyKeyer>>(
     alloc: Global,
+    maker: &M,
     header: &Header,
     pages: &mut [Vec<Page>],
     tables: &mut [Table],
 ) -> Result<Vec<Ward<P, AnyKeyer>>, OpenFault>
     requires header { IsHeader first_file header.now }
-    requires pages { length pages.old ≡ 2 ^ header.now.ward_bits }
-    requires tables { length tables.old ≡ 2 ^ header.now.ward_bits }
+    requires pages { length pages.old ≡ 2 ^ header.now.settings.ward_bits }
+    requires tables { length tables.old ≡ 2 ^ header.now.settings.ward_bits }
     requires legal { AreLegalWards header.now pages.old tables.old }
-    ensures count { IfOk result (λ wards. length wards.items ≡ 2 ^ header.now.ward_bits) }
+    ensures count { IfOk result (λ wards. length wards.items ≡ 2 ^ header.now.settings.ward_bits) }
     ensures opened { IfOk result (λ wards. AreOpened header.now pages.old tables.old wards.items) }
     ensures fault { IfErr result IsOtherOpening }
     ensures counted { IsCounted P.failures result }
@@ -83,31 +87,32 @@ fn open_wards<P: StoreOfPages + Drop>(
     for number in 0..pages.len() {
         let own = mem::replace(&mut pages[number], Vec::new(alloc));
         let table = mem::replace(&mut tables[number], Table::new(alloc));
-        let ward = open_ward(alloc, header, number as u8, own, table)?;
+        let ward = open_ward(alloc, maker, header, number as u8, own, table)?;
         push(&mut wards, ward)?;
     }
     Ok(wards)
 }
 
 // The ward of a number, of its pages and its table.
-fn open_ward<P: StoreOfPages + Drop>(
+fn open_ward<P: Pages + Drop, M: StoreMaker<P, AnyKeyer>>(
     alloc: Global,
+    maker: &M,
     header: &Header,
     number: u8,
     pages: Vec<Page>,
     table: Table,
 ) -> Result<Ward<P, AnyKeyer>, OpenFault>
     requires header { IsHeader first_file header.now }
-    requires number { number < 2 ^ header.now.ward_bits }
+    requires number { number < 2 ^ header.now.settings.ward_bits }
     requires legal { IsLegalWard header.now number pages.items table }
     ensures opened { IfOk result (IsOpenedWard header.now number pages.items table) }
     ensures fault { IfErr result IsOtherOpening }
     ensures counted { IsCounted P.failures result }
 {
     pages_are_few();
-    let store = P::of_pages(alloc, header.keyer, pages)?;
-    let (cap, ward_bits, keyer) = (header.cap as usize, header.ward_bits, header.keyer);
-    Ward::from_pages(alloc, cap, ward_bits, number, store, table, keyer).map_err(OpenFault::of_ward)
+    let settings = header.settings;
+    let store = maker.of_pages(alloc, settings.keyer, pages)?;
+    Ward::from_pages(alloc, settings, number, store, table).map_err(OpenFault::of_ward)
 }
 
 // Puts an item behind the others.

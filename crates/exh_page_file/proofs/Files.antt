@@ -45,18 +45,18 @@ zero_sum : (counts : List ℕ) → AllByRecursion (λ count. count ≡ 0) counts
 zero_sum [] all = refl
 zero_sum (count ∷ counts) all = sum_by-cons (λ (count : ℕ). count) count counts ∙ (omega (arith, all.0, zero_sum counts all.1))
 
-pub all_counted : (version : FileVersion) (header : Header) → IsHeader version header → sum (take (2 ^ header.ward_bits) header.page_counts) ≡ sum header.page_counts
+pub all_counted : (version : FileVersion) (header : Header) → IsHeader version header → sum (take (2 ^ header.settings.ward_bits) header.page_counts) ≡ sum header.page_counts
 all_counted version header valid =
-    omega (arith, sum_by-take-drop (λ (count : ℕ). count) header.page_counts (2 ^ header.ward_bits), zero_sum (drop (2 ^ header.ward_bits) header.page_counts) valid.others)
+    omega (arith, sum_by-take-drop (λ (count : ℕ). count) header.page_counts (2 ^ header.settings.ward_bits), zero_sum (drop (2 ^ header.settings.ward_bits) header.page_counts) valid.others)
 
 small_sum : (limit bits : ℕ) (counts : List ℕ) → limit < 17 → AllByRecursion (IsPageCount limit bits) counts → sum counts ≤ length counts * 2 ^ 17
 small_sum limit bits [] small all = omega arith
 small_sum limit bits (count ∷ counts) small all =
     omega (arith, sum_by-cons (λ (count : ℕ). count) count counts, all.0.1, pow_below (limit - bits) 17 (omega (arith, small)), small_sum limit bits counts small all.1)
 
-pub few_pages : (header : Header) → IsHeader first_file header → sum (take (2 ^ header.ward_bits) header.page_counts) ≤ 2 ^ 21
+pub few_pages : (header : Header) → IsHeader first_file header → sum (take (2 ^ header.settings.ward_bits) header.page_counts) ≤ 2 ^ 21
 few_pages header valid =
-    omega (arith, small_sum 16 header.ward_bits (take (2 ^ header.ward_bits) header.page_counts) (omega arith) valid.pages, length-take (2 ^ header.ward_bits) header.page_counts, valid.counts, valid.wards)
+    omega (arith, small_sum 16 header.settings.ward_bits (take (2 ^ header.settings.ward_bits) header.page_counts) (omega arith) valid.pages, length-take (2 ^ header.settings.ward_bits) header.page_counts, valid.counts, valid.wards)
 
 -- ---- faults
 
@@ -76,17 +76,17 @@ fault_of_header version (Some bytes) fault fails = inl fails
 
 module _ (version : FileVersion) (fits : FitsFile version) (pages_law : ImagesPass) (page_blocks : ImagesAreBlocks) (tables_law : TablesPass) (table_blocks_law : TablesAreBlocks) where
   behind_header : (bytes rest block : List ℕ) (header : Header) (fault : FileFault) → bytes ≡ block ++ rest → IsHeaderImage version header block → length block ≡ 4096
-      → FileFailsFirst version (any_pseudokey header.keyer) bytes (places_behind header) fault → IsFileFault version bytes fault
+      → FileFailsFirst version (any_pseudokey header.settings.keyer) bytes (places_behind header) fault → IsFileFault version bytes fault
   behind_header bytes rest block header fault is image len fails =
       inr (header, subst (IsHeaderImage version header) (sym (block_there 0 bytes block rest is len)) image, fails)
 
   -- a fault among the pages
   pub fault_of_pages : (a b : Option (List ℕ)) (header : Header) (block : List ℕ) (count : ℕ) (fault : FileFault) → Headed version a b header block → count ≡ sum header.page_counts
-      → IfSome b (λ bytes. FailsInPages version.images (any_pseudokey header.keyer) 1 count bytes fault) → IfSome a (λ bytes. IsFileFault version bytes fault)
+      → IfSome b (λ bytes. FailsInPages version.images (any_pseudokey header.settings.keyer) 1 count bytes fault) → IfSome a (λ bytes. IsFileFault version bytes fault)
   fault_of_pages None b header block count fault headed all fails = tt
   fault_of_pages (Some bytes) None header block count fault headed all fails = absurd headed.given
   fault_of_pages (Some bytes) (Some rest) header block count fault headed all fails =
-      let pseudo = any_pseudokey header.keyer in
+      let pseudo = any_pseudokey header.settings.keyer in
       let blocks = table_blocks header.entry_count in
       let pages = sum header.page_counts in
       let from : bytes_from 1 bytes ≡ rest = from_next 0 bytes block rest headed.given headed.is.0 in
@@ -96,24 +96,24 @@ module _ (version : FileVersion) (fits : FitsFile version) (pages_law : ImagesPa
 
   -- all pages passed
   pages_passed : (bytes rest block : List ℕ) (header : Header) (pages : List Page) → bytes ≡ block ++ (flat_map page_block pages ++ rest) → length block ≡ 4096 → length pages ≡ sum header.page_counts
-      → AllByRecursion (IsPage version.images (any_pseudokey header.keyer)) pages → AreBytes (flat_map page_block pages)
-      → AllByRecursion (PassesAt version (any_pseudokey header.keyer) bytes) (page_places 1 (sum header.page_counts)) × (bytes_from (1 + sum header.page_counts) bytes ≡ rest)
+      → AllByRecursion (IsPage version.images (any_pseudokey header.settings.keyer)) pages → AreBytes (flat_map page_block pages)
+      → AllByRecursion (PassesAt version (any_pseudokey header.settings.keyer) bytes) (page_places 1 (sum header.page_counts)) × (bytes_from (1 + sum header.page_counts) bytes ≡ rest)
   pages_passed bytes rest block header pages is len all valid small =
-      let pseudo = any_pseudokey header.keyer in
+      let pseudo = any_pseudokey header.settings.keyer in
       let from : bytes_from 1 bytes ≡ flat_map page_block pages ++ rest = from_next 0 bytes block (flat_map page_block pages ++ rest) is len in (
         subst (λ (count : ℕ). AllByRecursion (PassesAt version pseudo bytes) (page_places 1 count)) all (pages_pass version pseudo bytes fits pages_law page_blocks 1 pages rest valid small from),
         subst (λ (count : ℕ). bytes_from (1 + count) bytes ≡ rest) all (pages_behind version pseudo bytes fits pages_law page_blocks 1 pages rest valid from),
       )
 
   -- a fault in the table
-  pub fault_of_table : (a b c : Option (List ℕ)) (header : Header) (block : List ℕ) (pages : List Page) (place count : ℕ) (fault : FileFault) → Headed version a b header block → GivesPages version.images (any_pseudokey header.keyer) b c pages
+  pub fault_of_table : (a b c : Option (List ℕ)) (header : Header) (block : List ℕ) (pages : List Page) (place count : ℕ) (fault : FileFault) → Headed version a b header block → GivesPages version.images (any_pseudokey header.settings.keyer) b c pages
       → length pages ≡ sum header.page_counts → place ≡ 1 + sum header.page_counts → count ≡ header.entry_count
       → IfSome c (λ bytes. FailsInTable version.images place count bytes fault) → IfSome a (λ bytes. IsFileFault version bytes fault)
   fault_of_table None b c header block pages place count fault headed gives all there many fails = tt
   fault_of_table (Some bytes) None c header block pages place count fault headed gives all there many fails = absurd headed.given
   fault_of_table (Some bytes) (Some mid) None header block pages place count fault headed gives all there many fails = absurd gives.given
   fault_of_table (Some bytes) (Some mid) (Some rest) header block pages place count fault headed gives all there many fails =
-      let pseudo = any_pseudokey header.keyer in
+      let pseudo = any_pseudokey header.settings.keyer in
       let whole : bytes ≡ block ++ (flat_map page_block pages ++ rest) = headed.given ∙ ap (λ (rest : List ℕ). block ++ rest) gives.given in
       let passed = pages_passed bytes rest block header pages whole headed.is.0 all gives.valid gives.are_bytes in
       let here : FailsInTable version.images (1 + sum header.page_counts) header.entry_count (bytes_from (1 + sum header.page_counts) bytes) fault =
@@ -125,7 +125,7 @@ module _ (version : FileVersion) (fits : FitsFile version) (pages_law : ImagesPa
 
   -- a byte behind the table
   pub fault_of_end : (a b c e : Option (List ℕ)) (header : Header) (block : List ℕ) (pages : List Page) (entries : List FileEntry) (fault : FileFault) → Headed version a b header block
-      → GivesPages version.images (any_pseudokey header.keyer) b c pages → GivesEntries version.images c e (table_blocks header.entry_count) entries
+      → GivesPages version.images (any_pseudokey header.settings.keyer) b c pages → GivesEntries version.images c e (table_blocks header.entry_count) entries
       → length pages ≡ sum header.page_counts → length entries ≡ header.entry_count
       → IfSome e (λ bytes. (0 < length bytes) × (fault ≡ faults.Trailing)) → IfSome a (λ bytes. IsFileFault version bytes fault)
   fault_of_end None b c e header block pages entries fault headed gives entries_given all many fails = tt
@@ -133,7 +133,7 @@ module _ (version : FileVersion) (fits : FitsFile version) (pages_law : ImagesPa
   fault_of_end (Some bytes) (Some mid) None e header block pages entries fault headed gives entries_given all many fails = absurd gives.given
   fault_of_end (Some bytes) (Some mid) (Some late) None header block pages entries fault headed gives entries_given all many fails = absurd entries_given.given
   fault_of_end (Some bytes) (Some mid) (Some late) (Some rest) header block pages entries fault headed gives entries_given all many fails =
-      let pseudo = any_pseudokey header.keyer in
+      let pseudo = any_pseudokey header.settings.keyer in
       let count = header.entry_count in
       let blocks = table_blocks count in
       let place = 1 + sum header.page_counts in
@@ -161,8 +161,8 @@ all_pages [] = refl
 all_pages (ward ∷ wards) = omega (arith, length-append ward.items (pages_in wards), sum_by-cons (λ (count : ℕ). count) (length ward.items) (map (λ ward. length ward.items) wards), all_pages wards)
 
 module _ (a b c e : Option (List ℕ)) (header : Header) (block : List ℕ) (wards : List (Vec Page Global)) (entries : List FileEntry) where
-  pub file_from : Headed first_file a b header block → GivesPages first_version (any_pseudokey header.keyer) b c (pages_in wards) → GivesEntries first_version c e (table_blocks header.entry_count) entries
-      → map (λ ward. length ward.items) wards ≡ take (2 ^ header.ward_bits) header.page_counts → length entries ≡ header.entry_count → IsAtEnd e
+  pub file_from : Headed first_file a b header block → GivesPages first_version (any_pseudokey header.settings.keyer) b c (pages_in wards) → GivesEntries first_version c e (table_blocks header.entry_count) entries
+      → map (λ ward. length ward.items) wards ≡ take (2 ^ header.settings.ward_bits) header.page_counts → length entries ≡ header.entry_count → IsAtEnd e
       → (bytes : List ℕ) × IsAll a bytes × AreBytes bytes × IsPageFile first_file (record { header = header; wards = map (λ ward. ward.items) wards; entries = entries }) bytes
   unfolding header_block
   file_from headed gives given counts count end =
@@ -179,7 +179,7 @@ module _ (a b c e : Option (List ℕ)) (header : Header) (block : List ℕ) (war
           valid = record {
             header = headed.image.valid;
             counts = counted wards ∙ counts;
-            pages = subst (AllByRecursion (IsPage first_version (any_pseudokey header.keyer))) (sym pages) gives.valid;
+            pages = subst (AllByRecursion (IsPage first_version (any_pseudokey header.settings.keyer))) (sym pages) gives.valid;
             count = count;
             entries = given.valid;
             rising = given.rising;

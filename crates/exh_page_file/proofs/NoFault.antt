@@ -55,15 +55,15 @@ no_fault headers one_header version fits header bytes fault small passes (inl fa
     (λ first. none_first _ _ fault first ((headers version fits (take 4096 bytes) (length-take-le 4096 bytes passes.0) (bytes_at bytes small)).0 (header, passes.1))) fails
 no_fault headers one_header version fits header bytes fault small passes (inr fails) =
     let same : header ≡ fails.0 = one_header version fits (block_at 0 bytes) header fails.0 passes.1 fails.1 in
-    none_among version (any_pseudokey fails.0.keyer) bytes (places_behind fails.0) fault
-    (subst (λ (header : Header). AllByRecursion (PassesAt version (any_pseudokey header.keyer) bytes) (places_behind header)) same passes.2) fails.2
+    none_among version (any_pseudokey fails.0.settings.keyer) bytes (places_behind fails.0) fault
+    (subst (λ (header : Header). AllByRecursion (PassesAt version (any_pseudokey header.settings.keyer) bytes) (places_behind header)) same passes.2) fails.2
 
 module _ (version : FileVersion) (fits : FitsFile version) (pages_law : ImagesPass) (page_blocks : ImagesAreBlocks) (header_blocks : HeadersAreBlocks) (tables_law : TablesPass) (table_blocks_law : TablesAreBlocks) where
   pub file_passes : (file : PageFile) (bytes : List ℕ) → AreBytes bytes → IsPageFile version file bytes → PassesFile version bytes file.header
   unfolding header_block
   file_passes file bytes small is =
       let header = file.header in
-      let pseudo = any_pseudokey header.keyer in
+      let pseudo = any_pseudokey header.settings.keyer in
       let entries = file.entries in
       let block = header_block version header in
       let image : IsHeaderImage version header block = record { valid = is.valid.header; whole = refl } in

@@ -91,7 +91,7 @@ module _ (version : FileVersion) (fits : FitsFile version) (page_blocks : Images
       sym (take-append-drop 254 one) ∙ (λ i. here i ++ tails i) ∙ take-append-drop 254 other
 
   -- the wards' pages, as many as the header counts
-  pages_counted : (file : PageFile) → IsFile version file → length (pages_of file.wards) ≡ sum (take (2 ^ file.header.ward_bits) file.header.page_counts)
+  pages_counted : (file : PageFile) → IsFile version file → length (pages_of file.wards) ≡ sum (take (2 ^ file.header.settings.ward_bits) file.header.page_counts)
   pages_counted file valid = length-pages_of file.wards ∙ ap sum valid.counts
 
   made : Header → List (List Page) → List FileEntry → PageFile
@@ -111,10 +111,10 @@ module _ (version : FileVersion) (fits : FitsFile version) (page_blocks : Images
       (header_blocks version one.header (header_block version one.header) one_image) (header_blocks version other.header (header_block version other.header) other_image)
       (sym first.whole ∙ second.whole) in
       let header : one.header ≡ other.header = one_header version fits (header_block version other.header) one.header other.header (subst (IsHeaderImage version one.header) heads.0 one_image) other_image in
-      let counts : map length one.wards ≡ map length other.wards = first.valid.counts ∙ ap (λ (header : Header). take (2 ^ header.ward_bits) header.page_counts) header ∙ sym second.valid.counts in
+      let counts : map length one.wards ≡ map length other.wards = first.valid.counts ∙ ap (λ (header : Header). take (2 ^ header.settings.ward_bits) header.page_counts) header ∙ sym second.valid.counts in
       let many : length (pages_of one.wards) ≡ length (pages_of other.wards) = length-pages_of one.wards ∙ ap sum counts ∙ sym (length-pages_of other.wards) in
-      let valid = subst (λ (header : Header). AllByRecursion (IsPage version.images (any_pseudokey header.keyer)) (pages_of one.wards)) header first.valid.pages in
-      let middle = same_pages (any_pseudokey other.header.keyer) (pages_of one.wards) (pages_of other.wards) table other_table many valid second.valid.pages heads.1 in
+      let valid = subst (λ (header : Header). AllByRecursion (IsPage version.images (any_pseudokey header.settings.keyer)) (pages_of one.wards)) header first.valid.pages in
+      let middle = same_pages (any_pseudokey other.header.settings.keyer) (pages_of one.wards) (pages_of other.wards) table other_table many valid second.valid.pages heads.1 in
       let wards : one.wards ≡ other.wards = same_wards one.wards other.wards counts middle.0 in
       let count : length one.entries ≡ length other.entries = first.valid.count ∙ ap (λ (header : Header). header.entry_count) header ∙ sym second.valid.count in
       let tables : table ++ [] ≡ table_bytes version.images blocks other.entries ++ [] =

@@ -109,9 +109,9 @@ pub record FileFailsFirst (version : FileVersion) (pseudo : List ℕ → ℕ) (b
 
 -- the bytes pass all tests
 abbrev pub PassesFile : FileVersion → List ℕ → Header → Type 0
-PassesFile version bytes header = IsWhole 0 bytes × IsHeaderImage version header (block_at 0 bytes) × AllByRecursion (PassesAt version (any_pseudokey header.keyer) bytes) (places_behind header)
+PassesFile version bytes header = IsWhole 0 bytes × IsHeaderImage version header (block_at 0 bytes) × AllByRecursion (PassesAt version (any_pseudokey header.settings.keyer) bytes) (places_behind header)
 
 -- the fault is that of the first test that the bytes fail: one of the header, or one behind it, which says what follows
 abbrev pub IsFileFault : FileVersion → List ℕ → FileFault → Type 0
 IsFileFault version bytes fault = NextFails (HeaderFails version) bytes fault
-    ⊎ ((header : Header) × IsHeaderImage version header (block_at 0 bytes) × FileFailsFirst version (any_pseudokey header.keyer) bytes (places_behind header) fault)
+    ⊎ ((header : Header) × IsHeaderImage version header (block_at 0 bytes) × FileFailsFirst version (any_pseudokey header.settings.keyer) bytes (places_behind header) fault)

@@ -48,8 +48,8 @@ table_blocks count = (count + (BLOCK_ENTRIES - 1)) / BLOCK_ENTRIES
 -- the header tells how many pages each ward has, and how many entries there are
 pub record IsFile (version : FileVersion) (file : PageFile) : Type 0 where
   pub header : IsHeader version file.header
-  pub counts : map length file.wards ≡ take (2 ^ file.header.ward_bits) file.header.page_counts
-  pub pages : AllByRecursion (IsPage version.images (any_pseudokey file.header.keyer)) (pages_of file.wards)
+  pub counts : map length file.wards ≡ take (2 ^ file.header.settings.ward_bits) file.header.page_counts
+  pub pages : AllByRecursion (IsPage version.images (any_pseudokey file.header.settings.keyer)) (pages_of file.wards)
   pub count : length file.entries ≡ file.header.entry_count
   pub entries : AllByRecursion (IsFileEntry version.images) file.entries
   pub rising : AreRising (prefixes_of file.entries)

@@ -47,7 +47,7 @@ fn read_parts<R: Read>(
     exh_file::images_are_blocks();
     let header = blocks.read_header()?;
     let counts = &header.page_counts[..wards_of(&header)];
-    let wards = read_wards(alloc, blocks, header.keyer, counts)?;
+    let wards = read_wards(alloc, blocks, header.settings.keyer, counts)?;
     let entries = read_table(alloc, blocks, header.entry_count as usize)?;
     blocks.read_end()?;
     Ok(FileParts {
@@ -60,8 +60,8 @@ fn read_parts<R: Read>(
 // How many wards a file has.
 fn wards_of(header: &Header) -> usize
     requires { IsHeader first_file header.now }
-    ensures power { result ≡ 2 ^ header.now.ward_bits }
+    ensures power { result ≡ 2 ^ header.now.settings.ward_bits }
     ensures few { result ≤ 16 }
 {
-    1 << header.ward_bits
+    1 << header.settings.ward_bits
 }

@@ -6,3 +6,5 @@ pub mod PageLines
 pub mod Sizes
 -- of what is told of a finding
 pub mod Reported
+-- of the lines of pages, pairs and wards
+pub mod Behind

@@ -59,12 +59,12 @@ module _ (parts : FileParts) (is : IsFile first_file (file_of parts)) where
         ap length is.counts,
         length-map (file_of parts).wards (λ (ward : List Page). length ward),
         length-map wards (λ (ward : Vec Page Global). ward.items),
-        length-take (2 ^ parts.header.ward_bits) parts.header.page_counts,
+        length-take (2 ^ parts.header.settings.ward_bits) parts.header.page_counts,
         is.header.counts,
       )
 
   wards_small : AllByRecursion (λ ward. length ward.items < 2 ^ 32) wards
-  wards_small = small parts.header.ward_bits wards _ is.counts is.header.pages
+  wards_small = small parts.header.settings.ward_bits wards _ is.counts is.header.pages
 
   pub small_wards : All (λ ward. length ward.items < 2 ^ 32) wards
   small_wards = All-from_recursion _ wards wards_small

@@ -1,8 +1,7 @@
 -- What `dump` tells of a legal file.
 use Rattle.std.specs.Prelude.{ℕ, List, ◌∷◌, ◌++◌, length, map, flat_map, decimal, codes}
 use Rattle.std.specs.List.{enumerate_from}
-use Rattle.exh_keyer.specs.declared.any_keyer.AnyKeyer.{AnyKeyer}
-use Rattle.exh_keyer.specs.declared.any_keyer.AnyKeyer.TheVariants.{Plain, Sha}
+use Rattle.exh_keyer.specs.Pseudokey.{keyer_word}
 use Rattle.exh_page.specs.Page.{records_of}
 use Rattle.exh_page.specs.declared.page.Page.{Page}
 use Rattle.exh_page.specs.declared.page.Page.TheVariants.{Live, Forward}
@@ -16,12 +15,8 @@ use Rattle.exh_report.specs.Lines.{Lines}
 
 -- ---- the settings
 
-abbrev pub keyer_name : AnyKeyer → List ℕ
-keyer_name Sha = codes "sha"
-keyer_name Plain = codes "plain"
-
 abbrev pub file_words : Header → List ℕ
-file_words header = codes "file cap=" ++ (decimal header.cap ++ (codes " wards=" ++ (decimal header.ward_bits ++ (codes " keyer=" ++ keyer_name header.keyer))))
+file_words header = codes "file cap=" ++ (decimal header.settings.cap ++ (codes " wards=" ++ (decimal header.settings.ward_bits ++ (codes " keyer=" ++ keyer_word header.settings.keyer))))
 
 -- ---- the pages
 

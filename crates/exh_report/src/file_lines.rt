@@ -2,12 +2,12 @@ ghost use Rattle.std.specs.Prelude.{◌≡◌, ◌++◌, [], ◌∷◌, OnOk, ma
 ghost use Rattle.exh_page.specs.Page.{records_of};
 ghost use Rattle.exh_text.specs.Contents.{on_line};
 ghost use Rattle.exh_report.specs.Check.{legal_words, pages_text, totals_text};
-ghost use Rattle.exh_report.specs.Dump.{file_words, keyer_name, page_lines, live_pages_told, pair_words, ward_words};
+ghost use Rattle.exh_report.specs.Dump.{file_words, page_lines, live_pages_told, pair_words, ward_words};
 ghost use Rattle.exh_report.specs.Lines.{lines_text};
 
 use crate::counts::Counts;
 use exh_file::Header;
-use exh_keyer::AnyKeyer;
+use exh_file_settings::keyer_name;
 use exh_page::{Page, Record};
 use exh_prefix::PageNo;
 use exh_text::{push_forward_page, push_live_page, push_number, push_text, push_value};
@@ -55,21 +55,12 @@ pub(crate) fn push_file(out: &mut Vec<u8>, header: &Header) -> Result<(), AllocE
     ensures { OnOk result (out.new.items ≡ out.old.items ++ on_line (file_words header.now)) }
 {
     push_text(out, "file cap=")?;
-    push_number(out, u64::from(header.cap))?;
+    push_number(out, u64::from(header.settings.cap))?;
     push_text(out, " wards=")?;
-    push_number(out, u64::from(header.ward_bits))?;
+    push_number(out, u64::from(header.settings.ward_bits))?;
     push_text(out, " keyer=")?;
-    push_text(out, keyer_name(header.keyer))?;
+    push_text(out, keyer_name(header.settings.keyer))?;
     push_text(out, "\n")
-}
-
-fn keyer_name(keyer: AnyKeyer) -> &'static str
-    ensures { result.now ≡ keyer_name keyer }
-{
-    match keyer {
-        AnyKeyer::Sha => "sha",
-        AnyKeyer::Plain => "plain",
-    }
 }
 
 /// Adds the line of a ward with so many pages.

@@ -214,17 +214,17 @@ module _ (opened : OpenedState) (are : AreWardsOf opened) (sound : AreSound open
   counts_again =
       let valid = legal.is.valid in
       ap (λ (wards : List (List Page)). padded 16 (map length wards)) pages_again ∙ ap (padded 16) valid.counts
-      ∙ padded_front file.header.page_counts (2 ^ file.header.ward_bits) 16 valid.header.counts valid.header.others
+      ∙ padded_front file.header.page_counts (2 ^ file.header.settings.ward_bits) 16 valid.header.counts valid.header.others
 
   header_again : header_of opened ≡ file.header
   header_again =
-      let made : ℕ → ℕ → AnyKeyer → ℕ → List ℕ → Header = λ cap bits keyer count counts. record { cap = cap; ward_bits = bits; keyer = keyer; entry_count = count; page_counts = counts } in
+      let made : ℕ → ℕ → AnyKeyer → ℕ → List ℕ → Header = λ cap bits keyer count counts. record { settings = record { cap = cap; ward_bits = bits; keyer = keyer }; entry_count = count; page_counts = counts } in
       let header = file.header in
       ap (λ (cap : ℕ). made cap opened.ward_bits opened.keyer (length items) (counts_in opened.wards)) is.cap
-      ∙ ap (λ (bits : ℕ). made header.cap bits opened.keyer (length items) (counts_in opened.wards)) is.bits
-      ∙ ap (λ (keyer : AnyKeyer). made header.cap header.ward_bits keyer (length items) (counts_in opened.wards)) is.keyer
-      ∙ ap (λ (count : ℕ). made header.cap header.ward_bits header.keyer count (counts_in opened.wards)) (ap (λ (l : List FileEntry). length l) entries_again ∙ legal.is.valid.count)
-      ∙ ap (made header.cap header.ward_bits header.keyer header.entry_count) counts_again
+      ∙ ap (λ (bits : ℕ). made header.settings.cap bits opened.keyer (length items) (counts_in opened.wards)) is.bits
+      ∙ ap (λ (keyer : AnyKeyer). made header.settings.cap header.settings.ward_bits keyer (length items) (counts_in opened.wards)) is.keyer
+      ∙ ap (λ (count : ℕ). made header.settings.cap header.settings.ward_bits header.settings.keyer count (counts_in opened.wards)) (ap (λ (l : List FileEntry). length l) entries_again ∙ legal.is.valid.count)
+      ∙ ap (made header.settings.cap header.settings.ward_bits header.settings.keyer header.entry_count) counts_again
 
   file_again : written_file opened ≡ file
   file_again =

@@ -14,9 +14,10 @@ use Rattle.exh_legal.specs.MapLemmas.{page_at}
 use Rattle.exh_keyer.specs.declared.any_keyer.AnyKeyer.{AnyKeyer}
 use Rattle.exh_keyer.specs.Pseudokey.{any_pseudokey}
 use Rattle.exh_ward.specs.WardState.{IsSoundWard, IsUnchanged, WardState}
-use Rattle.exh_open.specs.Opened.{AreWardsOf, IsWardOf, OpenedState}
+use Rattle.exh_file_settings.specs.declared.file_settings.FileSettings.{FileSettings}
+use Rattle.exh_open.specs.Opened.{AreWardsOf, IsWardOf, OpenedState, in_file, settings_in}
 use Rattle.exh_save.specs.SaveFault.{CountsSaveFailures}
-use Rattle.exh_save.specs.Saved.{AreUnchanged, failures_in, in_file}
+use Rattle.exh_save.specs.Saved.{AreUnchanged, failures_in}
 use Rattle.exh_save.specs.declared.save_fault.SaveFault.{SaveFault}
 use Rattle.exh_save.specs.declared.save_fault.SaveFault.TheVariants.{Write, Page, Memory}
 use Rattle.exh_save.proofs.Lists.{sum_of-set}
@@ -73,9 +74,8 @@ module _ (opened : OpenedState) (wards : List (WardState AnyKeyer)) (are : AreWa
   }
 
 -- settings and wards that are a file's are the file
-pub same_file : (opened : OpenedState) (cap bits : ℕ) (keyer : AnyKeyer) (wards : List (WardState AnyKeyer)) → cap ≡ opened.cap → bits ≡ opened.ward_bits → keyer ≡ opened.keyer → wards ≡ opened.wards → in_file cap bits keyer wards ≡ opened
-same_file opened cap bits keyer wards p q r s =
-    ap (λ (n : ℕ). in_file n bits keyer wards) p ∙ ap (λ (n : ℕ). in_file opened.cap n keyer wards) q ∙ ap (λ (k : AnyKeyer). in_file opened.cap opened.ward_bits k wards) r ∙ ap (λ (ws : List (WardState AnyKeyer)). in_file opened.cap opened.ward_bits opened.keyer ws) s
+pub same_file : (opened : OpenedState) (settings : FileSettings AnyKeyer) (wards : List (WardState AnyKeyer)) → settings ≡ settings_in opened → wards ≡ opened.wards → in_file settings wards ≡ opened
+same_file opened settings wards p q = ap (λ (s : FileSettings AnyKeyer). in_file s wards) p ∙ ap (in_file (settings_in opened)) q
 
 -- what was lent and is put back whole
 pub put_back : (len : ℕ) (left rest : List (WardState AnyKeyer)) → len ≡ length left → take len (left ++ rest) ≡ left

@@ -14,13 +14,9 @@ use Rattle.exh_file.specs.declared.header.Header.{Header}
 use Rattle.exh_file.specs.declared.header.TheConstants.{COUNTS_LEN}
 use Rattle.exh_page_file.specs.PageFile.{PageFile}
 use Rattle.exh_ward.specs.WardState.{IsSoundWard, IsUnchanged, WardState}
-use Rattle.exh_open.specs.Opened.{OpenedState}
+use Rattle.exh_open.specs.Opened.{OpenedState, settings_in}
 
 -- ---- the file
-
--- wards with the settings that they have in common
-abbrev pub in_file : ℕ → ℕ → AnyKeyer → List (WardState AnyKeyer) → OpenedState
-in_file cap ward_bits keyer wards = record { cap = cap; ward_bits = ward_bits; keyer = keyer; wards = wards }
 
 abbrev pub file_entry : ℕ → List Bool × Entry → FileEntry
 file_entry ward told = record { ward = ward; prefix = told.0; entry = told.1 }
@@ -42,7 +38,7 @@ abbrev pub counts_in : List (WardState AnyKeyer) → List ℕ
 counts_in wards = padded COUNTS_LEN (map length (pages_of_all wards))
 
 abbrev pub header_of : OpenedState → Header
-header_of opened = record { cap = opened.cap; ward_bits = opened.ward_bits; keyer = opened.keyer; entry_count = length (entries_of_all opened.wards); page_counts = counts_in opened.wards }
+header_of opened = record { settings = settings_in opened; entry_count = length (entries_of_all opened.wards); page_counts = counts_in opened.wards }
 
 -- a header, and the pages and tables of wards
 abbrev pub file_with : Header → List (WardState AnyKeyer) → PageFile

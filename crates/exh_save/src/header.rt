@@ -4,11 +4,12 @@ ghost use Rattle.exh_prefix.specs.declared.prefix.TheConstants.{LIMIT, WARD_BITS
 ghost use Rattle.exh_keyer.specs.Pseudokey.{any_pseudokey};
 ghost use Rattle.exh_keyer.specs.declared.any_keyer.AnyKeyer.{AnyKeyer};
 ghost use Rattle.exh_file.specs.declared.header.TheConstants.{COUNTS_LEN};
-ghost use Rattle.exh_open.specs.Opened.{AreWardsOf};
+ghost use Rattle.exh_open.specs.Opened.{AreWardsOf, in_file};
 ghost use Rattle.exh_ward.specs.WardState.{IsSoundWard, WardState};
-ghost use Rattle.exh_save.specs.Saved.{AreSound, counts_in, entries_of_all, header_of, in_file};
+ghost use Rattle.exh_save.specs.Saved.{AreSound, counts_in, entries_of_all, header_of};
 
 use exh_file::{COUNTS_LEN, Header};
+use exh_file_settings::FileSettings;
 use exh_frames::Pages;
 use exh_keyer::AnyKeyer;
 use exh_legal::entries_are_few;
@@ -17,19 +18,15 @@ use exh_ward::Ward;
 
 /// The header of the page file of these wards.
 pub(crate) fn header_of<P: Pages + Drop>(
-    cap: usize,
-    ward_bits: u8,
-    keyer: AnyKeyer,
+    settings: FileSettings<AnyKeyer>,
     wards: &[Ward<P, AnyKeyer>],
 ) -> Header
-    requires { AreWardsOf (in_file cap ward_bits keyer wards.now) }
-    ensures header { result ≡ header_of (in_file cap ward_bits keyer wards.now) }
+    requires { AreWardsOf (in_file settings wards.now) }
+    ensures header { result ≡ header_of (in_file settings wards.now) }
     ensures sound { AreSound wards.now }
 {
     Header {
-        cap: cap as u8,
-        ward_bits,
-        keyer,
+        settings,
         entry_count: entry_count_of(wards),
         page_counts: page_counts_of(wards),
     }

@@ -33,10 +33,8 @@ pub fn write_opened<P: Pages + Drop, W: Write>(
     ensures wards { IsLeft opened result.1 }
     ensures failures { CountsSaveFailures result.0 (failures_in opened.wards) (failures_in result.1.wards) }
 {
-    let cap = opened.cap();
-    let ward_bits = opened.ward_bits();
-    let keyer = opened.keyer();
+    let settings = opened.settings();
     let mut wards = opened.into_wards();
-    let saved = write_file(cap, ward_bits, keyer, &mut wards, file);
-    (saved, Opened::new(cap, ward_bits, keyer, wards))
+    let saved = write_file(settings, &mut wards, file);
+    (saved, Opened::new(settings, wards))
 }

@@ -16,14 +16,15 @@ ghost use Rattle.exh_page_file.specs.Writing.{IsBare, SameTarget, TakesBlocks, T
 ghost use Rattle.exh_frames.specs.PageStore.{IfPage};
 ghost use Rattle.exh_file.specs.declared.header.TheConstants.{COUNTS_LEN};
 ghost use Rattle.exh_ward.specs.WardState.{IsUnchanged};
-ghost use Rattle.exh_open.specs.Opened.{AreWardsOf};
+ghost use Rattle.exh_open.specs.Opened.{AreWardsOf, in_file};
 ghost use Rattle.exh_save.specs.Reopened.{IsKept, IsWrittenAgain};
 ghost use Rattle.exh_save.specs.SaveFault.{CountsSaveFailures};
-ghost use Rattle.exh_save.specs.Saved.{AreInOrder, AreShort, AreUnchanged, HasCaps, entries_of_all, failures_in, file_entry, written_file, file_with, in_file, pages_of_all};
+ghost use Rattle.exh_save.specs.Saved.{AreInOrder, AreShort, AreUnchanged, HasCaps, entries_of_all, failures_in, file_entry, written_file, file_with, pages_of_all};
 
 use crate::SaveFault;
 use crate::header::header_of;
 use exh_file::{FileEntry, Header};
+use exh_file_settings::FileSettings;
 use exh_frames::Pages;
 use exh_keyer::AnyKeyer;
 use exh_legal::{fitting_tables_begin_wards, pages_are_few};
@@ -37,8 +38,7 @@ use exh_ward::Ward;
 use std::io::Write;
 
 /// Appends the page file of these wards to the writer of a file of which nothing is on its way, in the
-/// first version: one ward for each number, in order, of at most `cap` records a page, 1 to 16, of
-/// 2^`ward_bits` wards, cut by 0 to 4 leading bits, and of this keyer. What was written whole is a legal
+/// first version: one ward for each number, in order, of these settings. What was written whole is a legal
 /// page file, and opening it gives wards of the same pages and tables; wards that were opened from a
 /// file, with no change since, are written as its very bytes. The writer isn't flushed. It takes memory
 /// for a copy of one page at a time.
@@ -46,19 +46,17 @@ use std::io::Write;
 /// `Write`: the writer failed or took no bytes. `Page`: a page is out of reach. `Memory`: a growth was
 /// refused. Then a beginning of the file went out. The wards are as before.
 pub fn write_file<P: Pages + Drop, W: Write>(
-    cap: usize,
-    ward_bits: u8,
-    keyer: AnyKeyer,
+    settings: FileSettings<AnyKeyer>,
     wards: &mut [Ward<P, AnyKeyer>],
     file: &mut FileWriter<'_, W>,
 ) -> Result<(), SaveFault>
-    requires wards { AreWardsOf (in_file cap ward_bits keyer wards.old) }
+    requires wards { AreWardsOf (in_file settings wards.old) }
     requires bare { IsBare file.old }
     ensures same_target { SameTarget file.old file.new }
-    ensures ok { OnOk result (Appends (written W.contents file.old) (written W.contents file.new) (file_bytes first_file (written_file (in_file cap ward_bits keyer wards.old)))) }
-    ensures opens { OnOk result (IsKept (in_file cap ward_bits keyer wards.old) (file_bytes first_file (written_file (in_file cap ward_bits keyer wards.old)))) }
-    ensures again { IsWrittenAgain (in_file cap ward_bits keyer wards.old) }
-    ensures err { OnErr result (AppendsBeginning (written W.contents file.old) (written W.contents file.new) (file_bytes first_file (written_file (in_file cap ward_bits keyer wards.old)))) }
+    ensures ok { OnOk result (Appends (written W.contents file.old) (written W.contents file.new) (file_bytes first_file (written_file (in_file settings wards.old)))) }
+    ensures opens { OnOk result (IsKept (in_file settings wards.old) (file_bytes first_file (written_file (in_file settings wards.old)))) }
+    ensures again { IsWrittenAgain (in_file settings wards.old) }
+    ensures err { OnErr result (AppendsBeginning (written W.contents file.old) (written W.contents file.new) (file_bytes first_file (written_file (in_file settings wards.old)))) }
     ensures failed { IsErrOf result SaveFault.Write → IsTrue (file_failed file.new) }
     ensures wards { AreUnchanged wards.old wards.new }
     ensures failures { CountsSaveFailures result (failures_in wards.old) (failures_in wards.new) }
@@ -68,7 +66,7 @@ pub fn write_file<P: Pages + Drop, W: Write>(
     legal_tables_have_room();
     one_file();
     pages_are_few();
-    let header = header_of(cap, ward_bits, keyer, wards);
+    let header = header_of(settings, wards);
     write_parts(file, &header, wards)
 }
 

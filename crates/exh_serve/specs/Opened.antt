@@ -1,21 +1,16 @@
 -- The world that a script's first line begins, over the wards of an opened file or over none.
-use Rattle.std.specs.Prelude.{◌==◌, ◌&&◌, Bool, true, false, if◌then◌else◌, Option, None, Some, Ok, Err}
+use Rattle.std.specs.Prelude.{Bool, if◌then◌else◌, Option, None, Some, Ok, Err}
 use Rattle.exh_keyer.specs.declared.any_keyer.AnyKeyer.{AnyKeyer}
-use Rattle.exh_keyer.specs.declared.any_keyer.AnyKeyer.TheVariants.{Plain, Sha}
-use Rattle.exh_open.specs.Opened.{OpenedState}
+use Rattle.exh_file_settings.specs.FileSettings.{are_same}
+use Rattle.exh_open.specs.Opened.{OpenedState, settings_in}
 use Rattle.exh_world.specs.NewWorld.{world_of_wards}
 use Rattle.exh_settings.specs.declared.config.Config.{Config}
 use Rattle.exh_script.specs.Text.{Beginning, new_file}
 use Rattle.exh_line.specs.declared.refusal.Refusal.TheVariants.{OtherFile}
 
-abbrev pub is_same_keyer : AnyKeyer → AnyKeyer → Bool
-is_same_keyer Plain Plain = true
-is_same_keyer Sha Sha = true
-is_same_keyer keyer other = false
-
--- whether settings are those of an opened file: its cap, wards and keyer, and any number of copies
+-- whether settings are those of an opened file, with any number of copies
 abbrev pub is_of_file : OpenedState → Config AnyKeyer → Bool
-is_of_file opened file = (opened.cap == file.cap) && (opened.ward_bits == file.ward_bits) && is_same_keyer opened.keyer file.keyer
+is_of_file opened file = are_same (settings_in opened) file.settings
 
 -- with these the world of its wards, each copy at the file's table; with others none
 abbrev pub opened_file : OpenedState → Beginning

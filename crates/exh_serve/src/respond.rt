@@ -14,7 +14,8 @@ ghost use Rattle.exh_world.specs.Sound.{IsSoundWorld};
 
 use crate::ServeFault;
 use crate::beginning::{begin, leave};
-use exh_frames::{Pages, PlainPages};
+use exh_frames::{Pages, StoreMaker};
+use exh_keyer::AnyKeyer;
 use exh_line::{Refusal, push_refusal};
 use exh_notes::Listener;
 use exh_open::Opened;
@@ -29,13 +30,14 @@ use std::io::Write;
 /// leaves; without them it was refused. On an `Err` a beginning of its text went out, after `Memory` and `Page` that of
 /// a beginning of its lines.
 #[tactic(auto, unfolding(exh_script::specs::Text::start_of, exh_script::specs::Text::settings_of))]
-pub(crate) fn respond<W: Write, L: Listener>(
+pub(crate) fn respond<P: Pages + Drop, M: StoreMaker<P, AnyKeyer>, W: Write, L: Listener>(
     alloc: Global,
+    maker: &M,
     output: &mut Output<'_, W>,
     script: &[u8],
-    from: Option<Opened<PlainPages>>,
+    from: Option<Opened<P>>,
     listener: &mut L,
-) -> Result<Option<Opened<PlainPages>>, ServeFault>
+) -> Result<Option<Opened<P>>, ServeFault>
     requires { IsFalse (writer_failed output.old) }
     ensures same_writer { SameWriter output.old output.new }
     ensures text { OnOk result (Takes W.contents output.old output.new (text_of_lines (beginning from) (lines_of script.now))) }
@@ -50,7 +52,9 @@ pub(crate) fn respond<W: Write, L: Listener>(
         return refuse(alloc, output, LineFault::Syntax.into());
     };
     match parse_file_line(first) {
-        Ok(settings) => serve_file(alloc, output, from, &settings, lines, script, listener),
+        Ok(settings) => serve_file(
+            alloc, maker, output, from, &settings, lines, script, listener,
+        ),
         Err(fault) => {
             listener.first_refused(script, first, fault);
             refuse(alloc, output, fault.into())
@@ -79,19 +83,20 @@ pub(crate) fn refuse<P: Pages + Drop, W: Write>(
 }
 
 // Answers the lines behind a right first line.
-fn serve_file<W: Write, L: Listener>(
+fn serve_file<P: Pages + Drop, M: StoreMaker<P, AnyKeyer>, W: Write, L: Listener>(
     alloc: Global,
+    maker: &M,
     output: &mut Output<'_, W>,
-    from: Option<Opened<PlainPages>>,
+    from: Option<Opened<P>>,
     settings: &Settings,
     lines: Lines<'_>,
     script: &[u8],
     listener: &mut L,
-) -> Result<Option<Opened<PlainPages>>, ServeFault>
+) -> Result<Option<Opened<P>>, ServeFault>
     requires open { IsFalse (writer_failed output.old) }
-    requires some { 1 ≤ settings.now.file.cap }
-    requires most { settings.now.file.cap ≤ CAP_LIMIT }
-    requires bits { settings.now.file.ward_bits ≤ WARD_BITS_LIMIT }
+    requires some { 1 ≤ settings.now.file.settings.cap }
+    requires most { settings.now.file.settings.cap ≤ CAP_LIMIT }
+    requires bits { settings.now.file.settings.ward_bits ≤ WARD_BITS_LIMIT }
     ensures same_writer { SameWriter output.old output.new }
     ensures text { OnOk result (Takes W.contents output.old output.new (text_after (start_in settings.now.tells_moves (beginning from settings.now.file)) lines.entry)) }
     ensures left { IfOk result (λ left. left ≡ left_after (start_in settings.now.tells_moves (beginning from settings.now.file)) lines.entry) }
@@ -101,7 +106,7 @@ fn serve_file<W: Write, L: Listener>(
     ensures failed { IsErrOf result ServeFault.Write ↔ IsTrue (writer_failed output.new) }
 {
     lines_keep_settings();
-    match begin(alloc, from, &settings.file, listener)? {
+    match begin(alloc, maker, from, &settings.file, listener)? {
         Ok(world) => {
             let tells_moves = settings.tells_moves;
             let mut run = Run { world, tells_moves };

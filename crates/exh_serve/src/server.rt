@@ -7,7 +7,8 @@ ghost use Rattle.exh_stream.specs.Source.{SameReader, reader_failed, unread};
 
 use crate::ServeFault;
 use crate::respond::{refuse, respond};
-use exh_frames::PlainPages;
+use exh_frames::{Pages, StoreMaker};
+use exh_keyer::AnyKeyer;
 use exh_line::Refusal;
 use exh_notes::Listener;
 use exh_open::Opened;
@@ -16,18 +17,19 @@ use exh_stream::{InputFault, Output, Source};
 use std::alloc::Global;
 use std::io::{Read, Write};
 
-/// Reads a whole script, and writes its text and nothing else. Where the reader fails, that is the line `refused 41`
+/// Reads a whole script, and writes its text and nothing else. A new file's stores are those that the maker makes. Where the reader fails, that is the line `refused 41`
 /// alone. No fault is tried again. The listener is told of lines that are refused, and of requests that aren't answered.
 ///
 /// `Write`: the writer failed or took no bytes, and got a beginning of it. `Memory`: a growth was refused. `Page`: a page
 /// couldn't be reached. After these two the writer got the text of a beginning of the script's lines, each line whole.
-pub fn serve_from<R: Read, W: Write, L: Listener>(
+pub fn serve_from<P: Pages + Drop, M: StoreMaker<P, AnyKeyer>, R: Read, W: Write, L: Listener>(
     alloc: Global,
-    from: Option<Opened<PlainPages>>,
+    maker: &M,
+    from: Option<Opened<P>>,
     reader: &mut R,
     writer: &mut W,
     listener: &mut L,
-) -> Result<Option<Opened<PlainPages>>, ServeFault>
+) -> Result<Option<Opened<P>>, ServeFault>
     ensures ok { IfOk result (λ left.
         PrintsWhole (beginning from) (Appends (W.contents writer.old) (W.contents writer.new)) (R.remaining reader.old) left
         ⊎ PrintsUnread (Appends (W.contents writer.old) (W.contents writer.new)) left) }
@@ -39,6 +41,7 @@ pub fn serve_from<R: Read, W: Write, L: Listener>(
 {
     serve_source(
         alloc,
+        maker,
         from,
         &mut Source::new(reader),
         &mut Output::new(writer),
@@ -47,13 +50,14 @@ pub fn serve_from<R: Read, W: Write, L: Listener>(
 }
 
 // The same, where the source tells whether the reader failed. What waits is written after each fault.
-fn serve_source<R: Read, W: Write, L: Listener>(
+fn serve_source<P: Pages + Drop, M: StoreMaker<P, AnyKeyer>, R: Read, W: Write, L: Listener>(
     alloc: Global,
-    from: Option<Opened<PlainPages>>,
+    maker: &M,
+    from: Option<Opened<P>>,
     source: &mut Source<'_, R>,
     output: &mut Output<'_, W>,
     listener: &mut L,
-) -> Result<Option<Opened<PlainPages>>, ServeFault>
+) -> Result<Option<Opened<P>>, ServeFault>
     requires open { IsFalse (reader_failed source.old) }
     requires open_output { IsFalse (writer_failed output.old) }
     requires empty { pending output.old ≡ [] }
@@ -69,19 +73,20 @@ fn serve_source<R: Read, W: Write, L: Listener>(
         PrintsLines (beginning from) (Appends (held W.contents output.old) (held W.contents output.new)) (unread R.remaining source.old)) }
     ensures failed { IsErrOf result ServeFault.Write ↔ IsTrue (writer_failed output.new) }
 {
-    let served = answer_source(alloc, from, source, output, listener);
+    let served = answer_source(alloc, maker, from, source, output, listener);
     output.finish()?;
     served
 }
 
 // Answers the script of a source. Where its reader fails, the answer is that alone.
-fn answer_source<R: Read, W: Write, L: Listener>(
+fn answer_source<P: Pages + Drop, M: StoreMaker<P, AnyKeyer>, R: Read, W: Write, L: Listener>(
     alloc: Global,
-    from: Option<Opened<PlainPages>>,
+    maker: &M,
+    from: Option<Opened<P>>,
     source: &mut Source<'_, R>,
     output: &mut Output<'_, W>,
     listener: &mut L,
-) -> Result<Option<Opened<PlainPages>>, ServeFault>
+) -> Result<Option<Opened<P>>, ServeFault>
     requires open { IsFalse (reader_failed source.old) }
     requires open_output { IsFalse (writer_failed output.old) }
     ensures same_reader { SameReader source.old source.new }
@@ -98,7 +103,7 @@ fn answer_source<R: Read, W: Write, L: Listener>(
     ensures failed { IsErrOf result ServeFault.Write ↔ IsTrue (writer_failed output.new) }
 {
     match source.read_whole(alloc, SCRIPT_LIMIT) {
-        Ok(script) => respond(alloc, output, &script, from, listener),
+        Ok(script) => respond(alloc, maker, output, &script, from, listener),
         Err(InputFault::TooLong) => {
             listener.too_long();
             refuse(alloc, output, Refusal::TooLong)

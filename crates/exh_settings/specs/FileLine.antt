@@ -3,8 +3,7 @@ use Rattle.std.specs.Prelude.{ℕ, List, [], ◌∷◌, Bool, true, false, ◌&&
 use Rattle.std.specs.Int.{is_in_range}
 use Rattle.std.specs.Str.{bytes_eq}
 use Rattle.exh_keyer.specs.declared.any_keyer.AnyKeyer.{AnyKeyer}
-use Rattle.exh_keyer.specs.declared.any_keyer.AnyKeyer.TheVariants.{Plain, Sha}
-use Rattle.exh_keyer.specs.Pseudokey.{keyer_word}
+use Rattle.exh_file_settings.specs.Keyers.{keyer_named}
 use Rattle.exh_page.specs.declared.page.TheConstants.{CAP_LIMIT}
 use Rattle.exh_prefix.specs.declared.prefix.TheConstants.{WARD_BITS_LIMIT}
 use Rattle.exh_text.specs.LineFault.{ranged}
@@ -18,11 +17,6 @@ use Rattle.exh_settings.specs.declared.settings.Settings.{Settings}
 -- ---- the settings that words spell, whatever their numbers are
 
 -- the keyer of a word `keyer=sha` or `keyer=plain`
-abbrev pub keyer_named : List ℕ → Option AnyKeyer
-keyer_named name =
-    if bytes_eq name (keyer_word Sha) then Some Sha
-    else (if bytes_eq name (keyer_word Plain) then Some Plain else None)
-
 unfoldable pub keyer_of : List ℕ → Option AnyKeyer
 keyer_of word = after_prefix (codes "keyer=") word >>= keyer_named
 
@@ -40,7 +34,7 @@ spelled_settings (cap ∷ wards ∷ copies ∷ keyer ∷ moves) = do
   copies ← number_after (codes "copies=") copies
   keyer ← keyer_of keyer
   tells_moves ← telling_of moves
-  Some (record { file = record { cap = cap; ward_bits = ward_bits; copies = copies; keyer = keyer }; tells_moves = tells_moves })
+  Some (record { file = record { settings = record { cap = cap; ward_bits = ward_bits; keyer = keyer }; copies = copies }; tells_moves = tells_moves })
 spelled_settings words = None
 
 -- `file` and the settings
@@ -51,7 +45,7 @@ spelled_file (keyword ∷ words) = if bytes_eq keyword (codes "file") then spell
 -- ---- ranges
 
 abbrev pub file_in_range : Config AnyKeyer → Bool
-file_in_range file = is_in_range 1 CAP_LIMIT file.cap && is_in_range 0 WARD_BITS_LIMIT file.ward_bits && is_in_range 1 COPIES_LIMIT file.copies
+file_in_range file = is_in_range 1 CAP_LIMIT file.settings.cap && is_in_range 0 WARD_BITS_LIMIT file.settings.ward_bits && is_in_range 1 COPIES_LIMIT file.copies
 
 abbrev pub settings_in_range : Settings → Bool
 settings_in_range settings = file_in_range settings.file

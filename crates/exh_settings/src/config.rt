@@ -1,9 +1,8 @@
-/// The settings of a world: at most `cap` records a page, 1 to 16; 2^`ward_bits`
-/// wards, by 0 to 4 leading bits of pseudokeys; so many copies of the directory; and the keyer.
+use exh_file_settings::FileSettings;
+
+/// The settings of a world: those of its file, and so many copies of the directory.
 #[derive(Clone, Copy)]
 pub struct Config<K> {
-    pub cap: usize,
-    pub ward_bits: u8,
+    pub settings: FileSettings<K>,
     pub copies: u32,
-    pub keyer: K,
 }

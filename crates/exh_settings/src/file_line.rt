@@ -3,6 +3,7 @@ ghost use Rattle.exh_text.specs.LineFault.{ranged};
 ghost use Rattle.exh_settings.specs.FileLine.{file_line_of, keyer_of, settings_in_range, spelled_settings, telling_of};
 
 use crate::{Config, Settings};
+use exh_file_settings::{FileSettings, keyer_named};
 use exh_keyer::AnyKeyer;
 use exh_page::CAP_LIMIT;
 use exh_prefix::WARD_BITS_LIMIT;
@@ -47,12 +48,12 @@ fn parse_settings(mut words: Parts<'_>) -> Result<Settings, LineFault>
     {
         return Err(LineFault::Range);
     }
-    let file = Config {
-        cap: cap as usize,
+    let settings = FileSettings {
+        cap: cap as u8,
         ward_bits: ward_bits as u8,
-        copies,
         keyer,
     };
+    let file = Config { settings, copies };
     Ok(Settings { file, tells_moves })
 }
 
@@ -74,9 +75,5 @@ fn parse_telling(mut words: Parts<'_>) -> Option<bool>
 fn parse_keyer(word: &[u8]) -> Option<AnyKeyer>
     ensures { result ≡ keyer_of word.now }
 {
-    match word.strip_prefix(b"keyer=")? {
-        b"sha" => Some(AnyKeyer::Sha),
-        b"plain" => Some(AnyKeyer::Plain),
-        _ => None,
-    }
+    keyer_named(word.strip_prefix(b"keyer=")?)
 }

@@ -38,6 +38,7 @@ impl<R: Wait, S: Start> Courier<'_, R, S> {
     ) -> Result<(), StormFault>
         requires limit { ward_bits ≤ WARD_BITS_LIMIT }
         requires bits { ward_bits ≡ file.now.ward_bits }
+        ensures number { self.new.number ≡ self.old.number }
     {
         let mut cursors = Cursors::new(alloc, ward_bits, &Table::new(alloc))?;
         for done in 0..rounds {

@@ -1,44 +1,47 @@
 //! The new file of a storm, and what it leaves.
-ghost use Rattle.std.specs.Prelude.{◌≡◌, ◌<◌, ◌^◌, map, IfOk, OnOk};
+ghost use Rattle.std.specs.Prelude.{◌≡◌, ◌<◌, ◌≤◌, ◌^◌, map, IfOk, OnOk};
 ghost use Rattle.exh_prefix.specs.Leading.{ward_of};
 ghost use Rattle.exh_settle.specs.Settled.{IsSettled, answer_count};
 ghost use Rattle.exh_keyer.specs.Pseudokey.{sha_pseudokey};
-ghost use Rattle.exh_live.specs.LiveFile.{AreNewWardsOf};
+ghost use Rattle.exh_ward.specs.NewWards.{new_wards};
+ghost use Rattle.exh_prefix.specs.declared.prefix.TheConstants.{WARD_BITS_LIMIT};
 ghost use Rattle.exh_live.specs.declared.ledgers.TheConstants.{ANSWER_PARTS, ENTRY_PARTS};
 ghost use Rattle.exh_storm_config.specs.StormConfig.{IsStormConfig};
 
 use crate::StormFault;
-use exh_frames::PlainPages;
+use exh_file_settings::FileSettings;
+use exh_frames::{Pages, StoreMaker};
 use exh_keyer::ShaKeyer;
-use exh_live::{Closed, Identity, LiveFile, WardJournals, new_wards};
+use exh_live::{Closed, Identity, LiveFile, WardJournals};
 use exh_settle::{Diary, settle};
 use exh_storm_config::StormConfig;
-use exh_ward::Ward;
+use exh_ward::{Ward, new_wards};
 use std::alloc::{AllocError, Global};
 use std::sync::ledger::Blank;
 
-/// The file of a storm: its pages in memory, of keyer sha.
-pub type StormFile<F> = LiveFile<PlainPages, ShaKeyer, F>;
+/// The file of a storm, of keyer sha.
+pub type StormFile<P, F> = LiveFile<P, ShaKeyer, F>;
 
 /// A ward of it.
-pub type StormWard = Ward<PlainPages, ShaKeyer>;
+pub type StormWard<P> = Ward<P, ShaKeyer>;
 
 /// What a settled storm leaves: the wards and the callers' diaries, each by their numbers, and how many
 /// answers the diaries have.
 #[derive(Drop)]
-pub struct StormLeft {
-    pub closed: Closed<PlainPages, ShaKeyer>,
+pub struct StormLeft<P: Pages + Drop> {
+    pub closed: Closed<P, ShaKeyer>,
     pub answers: u64,
 }
 
-/// The new file of a storm, of the cap and the ward bits that it asks for. An `AllocError` where memory
-/// is refused.
-pub fn new_file<F: Identity>(
+/// The new file of a storm, of the cap and the ward bits that it asks for, over stores that the maker makes. An
+/// `AllocError` where memory is refused.
+pub fn new_file<P: Pages + Drop, M: StoreMaker<P, ShaKeyer>, F: Identity>(
     alloc: Global,
+    maker: &M,
     config: &StormConfig,
     answers: Blank,
     entries: Blank,
-) -> Result<StormFile<F>, AllocError>
+) -> Result<StormFile<P, F>, AllocError>
     requires config { IsStormConfig config.now }
     requires answers { (answers.name ≡ F.answers) × (answers.parts ≡ ANSWER_PARTS) }
     requires entries { (entries.name ≡ F.entries) × (entries.parts ≡ ENTRY_PARTS) }
@@ -46,37 +49,44 @@ pub fn new_file<F: Identity>(
     ensures bits { IfOk result (λ file. file.ward_bits ≡ config.now.ward_bits) }
     ensures seats { IfOk result (λ file. file.seats ≡ 0) }
 {
-    let keyer = ShaKeyer;
-    let wards = new_wards(alloc, keyer, config.cap, config.ward_bits)?;
-    file_of(alloc, config, keyer, wards, answers, entries)
+    let settings = FileSettings {
+        cap: config.cap as u8,
+        ward_bits: config.ward_bits,
+        keyer: ShaKeyer,
+    };
+    let wards = new_wards(alloc, maker, settings)?;
+    file_of(alloc, settings, wards, answers, entries)
 }
 
-// The file of these new wards, which are of the cap and the ward bits that are asked for: of the cap
-// nothing is seen once they are behind locks.
-fn file_of<F: Identity>(
+// The file of the new wards of these settings: of their cap nothing is seen once they are behind locks.
+fn file_of<P: Pages + Drop, F: Identity>(
     alloc: Global,
-    config: &StormConfig,
-    keyer: ShaKeyer,
-    wards: Vec<StormWard>,
+    settings: FileSettings<ShaKeyer>,
+    wards: Vec<StormWard<P>>,
     answers: Blank,
     entries: Blank,
-) -> Result<StormFile<F>, AllocError>
-    requires config { IsStormConfig config.now }
-    requires wards { AreNewWardsOf config.now.cap config.now.ward_bits keyer wards.items }
+) -> Result<StormFile<P, F>, AllocError>
+    requires limit { settings.ward_bits ≤ WARD_BITS_LIMIT }
+    requires wards { wards.items ≡ new_wards settings }
     requires answers { (answers.name ≡ F.answers) × (answers.parts ≡ ANSWER_PARTS) }
     requires entries { (entries.name ≡ F.entries) × (entries.parts ≡ ENTRY_PARTS) }
     requires hashed { F.hashing ≡ sha_pseudokey }
-    ensures bits { IfOk result (λ file. file.ward_bits ≡ config.now.ward_bits) }
+    ensures bits { IfOk result (λ file. file.ward_bits ≡ settings.ward_bits) }
     ensures seats { IfOk result (λ file. file.seats ≡ 0) }
 {
-    LiveFile::new(alloc, config.ward_bits, keyer, wards, answers, entries)
+    let FileSettings {
+        ward_bits,
+        keyer,
+        ..
+    } = settings;
+    LiveFile::new(alloc, ward_bits, keyer, wards, answers, entries)
 }
 
 /// How many answers the diaries of a closed file and its wards, in order, settle to; else `Mismatch`.
 /// There are fewer than 2^64.
-pub(crate) fn settled(
+pub(crate) fn settled<P: Pages + Drop>(
     config: &StormConfig,
-    wards: &[StormWard],
+    wards: &[StormWard<P>],
     diaries: &[Diary],
 ) -> Result<u64, StormFault>
     requires config { IsStormConfig config.now }

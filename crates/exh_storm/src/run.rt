@@ -12,7 +12,7 @@ use crate::threads::{Rounds, run_all};
 use crate::workers::new_workers;
 use crate::{StormFault, Watch};
 use exh_copy::Start;
-use exh_frames::PlainPages;
+use exh_frames::{Pages, StoreMaker};
 use exh_keyer::ShaKeyer;
 use exh_live::{ANSWER_PARTS, Closed, ENTRY_PARTS, Identity, Seat};
 use exh_storm_config::StormConfig;
@@ -24,9 +24,16 @@ use std::sync::ledger::Blank;
 use std::thread::Threads;
 
 /// Runs a storm, as `storm_left`, and answers how many answers were settled. Refused as that.
-pub fn storm<R: Threads + Wait + Sync, G: Gate + Sync, W: Watch + Sync>(
+pub fn storm<
+    R: Threads + Wait + Sync,
+    P: Pages + Drop + Send + Sync,
+    M: StoreMaker<P, ShaKeyer>,
+    G: Gate + Sync,
+    W: Watch + Sync,
+>(
     rt: &R,
     alloc: Global,
+    maker: &M,
     config: &StormConfig,
     gate: &G,
     watch: &W,
@@ -34,13 +41,13 @@ pub fn storm<R: Threads + Wait + Sync, G: Gate + Sync, W: Watch + Sync>(
     requires { IsStormConfig config.now }
     ensures { IfOk result (λ count. count ≡ config.now.callers * config.now.calls) }
 {
-    match storm_left(rt, alloc, config, gate, watch) {
+    match storm_left(rt, alloc, maker, config, gate, watch) {
         Ok(left) => Ok(left.answers),
         Err(fault) => Err(fault),
     }
 }
 
-/// Runs a storm over a new file in memory, of keyer sha, and gives what it leaves: journals and diaries
+/// Runs a storm over a new file, of keyer sha, over stores that the maker makes, and gives what it leaves: journals and diaries
 /// that are settled, and how many answers these have. Each caller makes its calls, each keeper and each
 /// courier as many rounds, all at once, each on a thread of its own; the gate is asked by each hop of a
 /// caller and before each round of a keeper and of a courier, and the watch is told of each answer and
@@ -48,25 +55,34 @@ pub fn storm<R: Threads + Wait + Sync, G: Gate + Sync, W: Watch + Sync>(
 /// with the first refusal by caller, then keeper, then courier: `Memory`, also where a thread can't be
 /// made, `Page`, `Held`; and `Seats` before, `Mismatch` after them. It may wait: for a gate that does, and
 /// for locks.
-pub fn storm_left<R: Threads + Wait + Sync, G: Gate + Sync, W: Watch + Sync>(
+pub fn storm_left<
+    R: Threads + Wait + Sync,
+    P: Pages + Drop + Send + Sync,
+    M: StoreMaker<P, ShaKeyer>,
+    G: Gate + Sync,
+    W: Watch + Sync,
+>(
     rt: &R,
     alloc: Global,
+    maker: &M,
     config: &StormConfig,
     gate: &G,
     watch: &W,
-) -> Result<StormLeft, StormFault>
+) -> Result<StormLeft<P>, StormFault>
     requires { IsStormConfig config.now }
     ensures { IfOk result (λ left. IsLeft config.now left.closed.wards.items left.closed.diaries.items left.answers) }
 {
     let answers = Blank::new(ANSWER_PARTS);
     let entries = Blank::new(ENTRY_PARTS);
     let overseers = Overseers { gate, watch };
-    storm_of::<R, G, W, Brand, Brand>(rt, alloc, config, overseers, answers, entries)
+    storm_of::<R, P, M, G, W, Brand, Brand>(rt, alloc, maker, config, overseers, answers, entries)
 }
 
 // A storm over a file and copies of these names.
 fn storm_of<
     R: Threads + Wait + Sync,
+    P: Pages + Drop + Send + Sync,
+    M: StoreMaker<P, ShaKeyer>,
     G: Gate + Sync,
     W: Watch + Sync,
     F: Identity + Send + Sync,
@@ -74,11 +90,12 @@ fn storm_of<
 >(
     rt: &R,
     alloc: Global,
+    maker: &M,
     config: &StormConfig,
     overseers: Overseers<'_, G, W>,
     answers: Blank,
     entries: Blank,
-) -> Result<StormLeft, StormFault>
+) -> Result<StormLeft<P>, StormFault>
     requires config { IsStormConfig config.now }
     requires answers { (answers.name ≡ F.answers) × (answers.parts ≡ ANSWER_PARTS) }
     requires entries { (entries.name ≡ F.entries) × (entries.parts ≡ ENTRY_PARTS) }
@@ -87,8 +104,8 @@ fn storm_of<
     requires table { S.table ≡ map.empty }
     ensures { IfOk result (λ left. IsLeft config.now left.closed.wards.items left.closed.diaries.items left.answers) }
 {
-    let mut file = new_file::<F>(alloc, config, answers, entries)?;
-    match serve::<R, G, W, F, S>(rt, alloc, config, overseers, &mut file) {
+    let mut file = new_file::<P, M, F>(alloc, maker, config, answers, entries)?;
+    match serve::<R, P, G, W, F, S>(rt, alloc, config, overseers, &mut file) {
         Ok(seats) => close(config, file, seats),
         Err(fault) => Err(fault),
     }
@@ -97,6 +114,7 @@ fn storm_of<
 // Runs all workers over a file that has given no seat, and gives the callers' seats.
 fn serve<
     R: Threads + Wait + Sync,
+    P: Pages + Drop + Send + Sync,
     G: Gate + Sync,
     W: Watch + Sync,
     F: Identity + Send + Sync,
@@ -106,7 +124,7 @@ fn serve<
     alloc: Global,
     config: &StormConfig,
     overseers: Overseers<'_, G, W>,
-    file: &mut StormFile<F>,
+    file: &mut StormFile<P, F>,
 ) -> Result<Vec<Seat<F>>, StormFault>
     requires config { IsStormConfig config.now }
     requires bits { S.ward_bits ≡ config.now.ward_bits }
@@ -115,7 +133,7 @@ fn serve<
     ensures seats { OnOk result (file.new.seats ≡ config.now.callers) }
     ensures served { IfOk result (λ seats. All (λ seat. length seat.entries ≡ config.now.calls) seats.items) }
 {
-    let workers = new_workers::<R, F, S>(rt, alloc, config, file)?;
+    let workers = new_workers::<R, P, F, S>(rt, alloc, config, file)?;
     let rounds = Rounds {
         count: config.calls,
         ward_bits: config.ward_bits,
@@ -124,11 +142,11 @@ fn serve<
 }
 
 // Closes the file, with the seats of all its callers, and settles what it leaves.
-fn close<F: Identity>(
+fn close<P: Pages + Drop, F: Identity>(
     config: &StormConfig,
-    file: StormFile<F>,
+    file: StormFile<P, F>,
     seats: Vec<Seat<F>>,
-) -> Result<StormLeft, StormFault>
+) -> Result<StormLeft<P>, StormFault>
     requires config { IsStormConfig config.now }
     requires seats { file.seats ≡ config.now.callers }
     requires served { All (λ seat. length seat.entries ≡ config.now.calls) seats.items }
@@ -141,7 +159,10 @@ fn close<F: Identity>(
 }
 
 // What a closed file leaves whose callers were answered all that they were to ask; else `Mismatch`.
-fn left(config: &StormConfig, closed: Closed<PlainPages, ShaKeyer>) -> Result<StormLeft, StormFault>
+fn left<P: Pages + Drop>(
+    config: &StormConfig,
+    closed: Closed<P, ShaKeyer>,
+) -> Result<StormLeft<P>, StormFault>
     requires config { IsStormConfig config.now }
     requires all { answer_count closed.diaries.items ≡ config.now.callers * config.now.calls }
     ensures { IfOk result (λ left. IsLeft config.now left.closed.wards.items left.closed.diaries.items left.answers) }

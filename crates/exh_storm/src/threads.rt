@@ -9,6 +9,7 @@ use crate::overseers::Overseers;
 use crate::workers::Workers;
 use crate::{Caller, Courier, Keeper, StormFault, Watch};
 use exh_copy::Start;
+use exh_frames::Pages;
 use exh_live::{Identity, Seat};
 use exh_walk::Gate;
 use std::alloc::{AllocError, Global};
@@ -52,6 +53,7 @@ type Carrying<'a, R, S> = Result<JoinHandle<(Courier<'a, R, S>, Outcome)>, Storm
 /// keepers, then of the couriers. A thread that can't be made is `Memory` of its worker.
 pub(crate) fn run_all<
     R: Threads + Wait + Sync,
+    P: Pages + Drop + Send + Sync,
     F: Identity + Send + Sync,
     S: Start + Send + Sync,
     G: Gate + Sync,
@@ -59,7 +61,7 @@ pub(crate) fn run_all<
 >(
     rt: &R,
     alloc: Global,
-    file: &StormFile<F>,
+    file: &StormFile<P, F>,
     workers: Workers<'_, R, F, S>,
     rounds: Rounds,
     overseers: Overseers<'_, G, W>,
@@ -102,6 +104,7 @@ fn start_callers<
     's,
     E,
     R: Threads + Wait + Sync,
+    P: Pages + Drop + Send + Sync + 's,
     F: Identity + Send + Sync + 's,
     S: Start + Send + Sync + 's,
     G: Gate + Sync,
@@ -110,7 +113,7 @@ fn start_callers<
     scope: &Scope<'s, E>,
     rt: &'s R,
     alloc: Global,
-    file: &'s StormFile<F>,
+    file: &'s StormFile<P, F>,
     callers: Vec<Caller<F, S>>,
     rounds: Rounds,
     overseers: Overseers<'s, G, W>,
@@ -138,6 +141,7 @@ fn start_keepers<
     's,
     E,
     R: Threads + Wait + Sync,
+    P: Pages + Drop + Send + Sync + 's,
     F: Identity + Send + Sync + 's,
     G: Gate + Sync,
     W: Watch + Sync,
@@ -145,7 +149,7 @@ fn start_keepers<
     scope: &Scope<'s, E>,
     rt: &'s R,
     alloc: Global,
-    file: &'s StormFile<F>,
+    file: &'s StormFile<P, F>,
     rounds: Rounds,
     overseers: Overseers<'s, G, W>,
 ) -> Result<Vec<Keeping>, AllocError>
@@ -167,6 +171,7 @@ fn start_couriers<
     's,
     E,
     R: Threads + Wait + Sync,
+    P: Pages + Drop + Send + Sync + 's,
     F: Identity + Send + Sync + 's,
     S: Start + Send + Sync + 's,
     G: Gate + Sync,
@@ -174,7 +179,7 @@ fn start_couriers<
 >(
     scope: &Scope<'s, E>,
     alloc: Global,
-    file: &'s StormFile<F>,
+    file: &'s StormFile<P, F>,
     couriers: Vec<Courier<'s, R, S>>,
     rounds: Rounds,
     overseers: Overseers<'s, G, W>,
@@ -194,10 +199,10 @@ fn start_couriers<
 }
 
 // A courier's rounds.
-fn carry<'a, R: Wait, F: Identity, S: Start, G: Gate, W: Watch>(
+fn carry<'a, R: Wait, P: Pages + Drop, F: Identity, S: Start, G: Gate, W: Watch>(
     courier: Courier<'a, R, S>,
     alloc: Global,
-    file: &StormFile<F>,
+    file: &StormFile<P, F>,
     rounds: Rounds,
     overseers: Overseers<'_, G, W>,
 ) -> (Courier<'a, R, S>, Outcome)

@@ -8,6 +8,7 @@ ghost use Rattle.exh_storm_config.specs.StormConfig.{IsStormConfig};
 use crate::file::StormFile;
 use crate::{Caller, Courier, OpenCopy, StormFault};
 use exh_copy::{CopyReader, NewCopyFault, Start, new_copy};
+use exh_frames::Pages;
 use exh_live::Identity;
 use exh_storm_config::StormConfig;
 use exh_table::Table;
@@ -25,11 +26,11 @@ pub struct Workers<'a, R: Wait, F: Identity, S: Start> {
 type Readers<S> = Vec<Vec<CopyReader<S>>>;
 
 /// The workers of a storm over a new file that has given no seat. Refused: `Memory`, `Seats`.
-pub fn new_workers<'a, R: Wait, F: Identity, S: Start>(
+pub fn new_workers<'a, R: Wait, P: Pages + Drop, F: Identity, S: Start>(
     rt: &'a R,
     alloc: Global,
     config: &StormConfig,
-    file: &mut StormFile<F>,
+    file: &mut StormFile<P, F>,
 ) -> Result<Workers<'a, R, F, S>, StormFault>
     requires config { IsStormConfig config.now }
     requires bits { S.ward_bits ≡ config.now.ward_bits }
@@ -84,10 +85,10 @@ fn new_courier<'a, R: Wait, S: Start>(
 }
 
 // So many callers, each with a seat of the file and a reader of its copy.
-fn new_callers<F: Identity, S: Start>(
+fn new_callers<P: Pages + Drop, F: Identity, S: Start>(
     alloc: Global,
     count: u8,
-    file: &mut StormFile<F>,
+    file: &mut StormFile<P, F>,
     readers: Readers<S>,
 ) -> Result<Vec<Caller<F, S>>, StormFault>
     requires some { 0 < vec_len readers }

@@ -6,3 +6,4 @@ pub mod Numbers
 pub mod Cuts
 -- of what is printed
 pub mod Printed
+pub mod Digits

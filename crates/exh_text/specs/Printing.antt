@@ -27,3 +27,8 @@ pub record AppendsFrontOf (text old new : List ℕ) : Type 0 where
   pub rest : List ℕ
   pub appended : new ≡ old ++ front
   pub begins : text ≡ front ++ rest
+
+-- What was there stands in front of whatever was added, be it all of a text or a beginning of it.
+pub record Keeps (old new : List ℕ) : Type 0 where
+  pub added : List ℕ
+  pub is : new ≡ old ++ added

@@ -1,12 +1,12 @@
 -- What is printed is read again: for proofs of the crates above.
-use Rattle.std.proofs.Common.{◌≡◌, ◌≢◌, ℕ, zero, suc, ◌/◌, ◌%◌, ◌^◌, ◌<◌, ◌≤◌, List, [], ◌∷◌, ◌++◌, length, map, slice_index, get_or, Bool, true, false, ◌&&◌, All, cond, eqb, Some, decimal, lit<, inl, inr, refl, sym, ap, ◌∙◌, arith}
+use Rattle.std.proofs.Common.{◌≡◌, ◌≢◌, ℕ, zero, suc, ◌/◌, ◌%◌, ◌^◌, ◌<◌, ◌≤◌, List, [], ◌∷◌, ◌++◌, length, map, slice_index, get_or, Bool, true, false, ◌&&◌, All, cond, eqb, Some, Result, Ok, Err, OnOk, OnErr, decimal, lit<, inl, inr, refl, sym, ap, ◌∙◌, arith}
 use Rattle.std.specs.Char.{is_ascii_graphic, digit_char}
 use Rattle.std.specs.List.{list_all, AllByRecursion, slice_split, onto_first}
 use Rattle.std.specs.Str.{all_ascii_digits}
 use Rattle.std.specs.Str.Parse.{digits_value}
 use Rattle.std.proofs.lemmas.Bool.{false≢true, and_parts, cases_eq, eqb-true}
 use Rattle.std.proofs.lemmas.Bool.Decides.{nat_tests}
-use Rattle.std.proofs.lemmas.List.{length-append}
+use Rattle.std.proofs.lemmas.List.{append-nil, append_assoc, length-append}
 use Rattle.std.proofs.lemmas.List.Splits.{slice_split_none, length-slice_split}
 use Rattle.std.proofs.lemmas.Option.{cond_some}
 use Rattle.std.proofs.lemmas.Fmt.{decimal_digit, decimal_nonempty, first_decimal, digits_decimal, digits_value-decimal, decimal-digits_value, decimal_injective}
@@ -16,7 +16,7 @@ use Rattle.exh_prefix.specs.Prefix.{bit_digit, prefix_text}
 use Rattle.exh_text.specs.ByteWord.{hash, hex_digit, hex_bytes, bytes_of_word}
 use Rattle.exh_text.specs.Lines.{parts_at, space, words_of}
 use Rattle.exh_text.specs.Numbers.{number_up_to, is_numeral}
-use Rattle.exh_text.specs.Printing.{is_plain, printed, place_text}
+use Rattle.exh_text.specs.Printing.{AppendsFrontOf, Keeps, is_plain, printed, place_text}
 
 -- ---- the digits that are printed
 
@@ -250,3 +250,33 @@ prefix_again (false ∷ bits) = bits_again (false ∷ bits)
 
 pub prefix_told : (bits others : List Bool) → prefix_text bits ≡ prefix_text others → bits ≡ others
 prefix_told bits others same = sym (prefix_again bits) ∙ ap prefix_of_text same ∙ prefix_again others
+
+-- ---- one text behind another
+
+pub added_behind : {T E : Type 0} (result : Result T E) (old middle new text more : List ℕ) → middle ≡ old ++ text → OnOk result (new ≡ middle ++ more) → OnOk result (new ≡ old ++ (text ++ more))
+added_behind (Ok made) old middle new text more first second = second ∙ ap (λ front. front ++ more) first ∙ append_assoc old text more
+added_behind (Err fault) old middle new text more first second = tt
+
+-- ---- what was there is kept
+
+pub keeps_all : (old : List ℕ) → Keeps old old
+keeps_all old = record { added = []; is = sym (append-nil old) }
+
+pub keeps_same : (old new : List ℕ) → new ≡ old → Keeps old new
+keeps_same old new same = record { added = []; is = same ∙ sym (append-nil old) }
+
+pub keeps_added : (old new text : List ℕ) → new ≡ old ++ text → Keeps old new
+keeps_added old new text is = record { added = text; is = is }
+
+pub keeps_more : (old middle new : List ℕ) → Keeps old middle → Keeps middle new → Keeps old new
+keeps_more old middle new first second = record { added = first.added ++ second.added; is = second.is ∙ ap (λ front. front ++ second.added) first.is ∙ append_assoc old first.added second.added }
+
+-- a text was added, or nothing
+pub keeps_either : {T E : Type 0} (result : Result T E) (old new text : List ℕ) → OnOk result (new ≡ old ++ text) → OnErr result (new ≡ old) → Keeps old new
+keeps_either (Ok made) old new text ok err = keeps_added old new text ok
+keeps_either (Err fault) old new text ok err = keeps_same old new err
+
+-- or a beginning of it
+pub keeps_front : {T E : Type 0} (result : Result T E) (old new text : List ℕ) → OnOk result (new ≡ old ++ text) → OnErr result (AppendsFrontOf text old new) → Keeps old new
+keeps_front (Ok made) old new text ok err = keeps_added old new text ok
+keeps_front (Err fault) old new text ok err = record { added = err.front; is = err.appended }

@@ -1,5 +1,6 @@
 ghost use Rattle.std.specs.Prelude.{◌≡◌, ◌++◌, OnOk};
 ghost use Rattle.exh_text.specs.Contents.{entry_text, entry_words, forward_page_words, kind_text, live_page_words, live_text, on_line, page_words, right_text};
+ghost use Rattle.exh_text.specs.Printing.{Keeps};
 
 use crate::{push_number, push_place, push_prefix, push_text};
 use exh_notice::{Entry, Kind};
@@ -15,7 +16,8 @@ pub fn push_live_page(
     right: Option<PageNo>,
     count: usize,
 ) -> Result<(), AllocError>
-    ensures { OnOk result (out.new.items ≡ out.old.items ++ on_line (live_page_words ward number prefix.now right count)) }
+    ensures ok { OnOk result (out.new.items ≡ out.old.items ++ on_line (live_page_words ward number prefix.now right count)) }
+    ensures kept { Keeps out.old.items out.new.items }
 {
     push_page(out, ward, number)?;
     push_live(out, prefix, right, count)?;
@@ -29,7 +31,8 @@ pub fn push_forward_page(
     number: PageNo,
     target: PageNo,
 ) -> Result<(), AllocError>
-    ensures { OnOk result (out.new.items ≡ out.old.items ++ on_line (forward_page_words ward number target)) }
+    ensures ok { OnOk result (out.new.items ≡ out.old.items ++ on_line (forward_page_words ward number target)) }
+    ensures kept { Keeps out.old.items out.new.items }
 {
     push_page(out, ward, number)?;
     push_text(out, " forward ")?;
@@ -39,7 +42,8 @@ pub fn push_forward_page(
 
 /// Adds the line of an entry at a prefix.
 pub fn push_entry_line(out: &mut Vec<u8>, prefix: &Prefix, entry: &Entry) -> Result<(), AllocError>
-    ensures { OnOk result (out.new.items ≡ out.old.items ++ on_line (entry_words (prefix.now, entry.now))) }
+    ensures ok { OnOk result (out.new.items ≡ out.old.items ++ on_line (entry_words (prefix.now, entry.now))) }
+    ensures kept { Keeps out.old.items out.new.items }
 {
     push_text(out, "entry ")?;
     push_entry(out, prefix, entry.number, &entry.kind)?;
@@ -53,7 +57,8 @@ pub fn push_entry(
     number: u32,
     kind: &Kind,
 ) -> Result<(), AllocError>
-    ensures { OnOk result (out.new.items ≡ out.old.items ++ entry_text prefix.now number kind.now) }
+    ensures ok { OnOk result (out.new.items ≡ out.old.items ++ entry_text prefix.now number kind.now) }
+    ensures kept { Keeps out.old.items out.new.items }
 {
     push_prefix(out, prefix)?;
     push_text(out, " number ")?;
@@ -62,7 +67,8 @@ pub fn push_entry(
 }
 
 fn push_kind(out: &mut Vec<u8>, kind: &Kind) -> Result<(), AllocError>
-    ensures { OnOk result (out.new.items ≡ out.old.items ++ kind_text kind.now) }
+    ensures ok { OnOk result (out.new.items ≡ out.old.items ++ kind_text kind.now) }
+    ensures kept { Keeps out.old.items out.new.items }
 {
     match kind {
         Kind::Split { right } => {
@@ -74,7 +80,8 @@ fn push_kind(out: &mut Vec<u8>, kind: &Kind) -> Result<(), AllocError>
 }
 
 fn push_page(out: &mut Vec<u8>, ward: u32, number: PageNo) -> Result<(), AllocError>
-    ensures { OnOk result (out.new.items ≡ out.old.items ++ page_words ward number) }
+    ensures ok { OnOk result (out.new.items ≡ out.old.items ++ page_words ward number) }
+    ensures kept { Keeps out.old.items out.new.items }
 {
     push_text(out, "page ")?;
     push_place(out, ward, u64::from(number))
@@ -86,7 +93,8 @@ fn push_live(
     right: Option<PageNo>,
     count: usize,
 ) -> Result<(), AllocError>
-    ensures { OnOk result (out.new.items ≡ out.old.items ++ live_text prefix.now right count) }
+    ensures ok { OnOk result (out.new.items ≡ out.old.items ++ live_text prefix.now right count) }
+    ensures kept { Keeps out.old.items out.new.items }
 {
     push_text(out, " live prefix ")?;
     push_prefix(out, prefix)?;
@@ -97,7 +105,8 @@ fn push_live(
 }
 
 fn push_right(out: &mut Vec<u8>, right: Option<PageNo>) -> Result<(), AllocError>
-    ensures { OnOk result (out.new.items ≡ out.old.items ++ right_text right) }
+    ensures ok { OnOk result (out.new.items ≡ out.old.items ++ right_text right) }
+    ensures kept { Keeps out.old.items out.new.items }
 {
     match right {
         Some(right) => push_number(out, u64::from(right)),

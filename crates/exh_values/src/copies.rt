@@ -1,4 +1,5 @@
-//! Copies worked out by hand: stories of one writer and its readers, and more readers than there are places.
+//! Copies worked out by hand: stories of one writer and its readers, and of two copies, and more readers than
+//! there are places.
 
 use exh_copy::{CopyReader, CopyWriter, NewCopyFault, NoPlace, new_copy};
 use exh_notice::{Kind, Notice};
@@ -128,6 +129,30 @@ const STORIES: [Story; 5] = [
             Step::Look(0, 5),
         ],
     ),
+];
+
+// Of two copies the first was told of the split and the merge, the second of the split alone, three times, and of
+// the merge later: its list is the longer one. No look at either goes back.
+const TWO_COPIES: [(u8, Step); 19] = [
+    (0, Step::Look(0, 0)),
+    (1, Step::Look(0, 0)),
+    (0, Step::Take(SPLIT)),
+    (0, Step::Take(MERGE)),
+    (0, Step::Publish),
+    (0, Step::Tell(0)),
+    (0, Step::Look(0, 0)),
+    (1, Step::Take(SPLIT)),
+    (1, Step::Take(SPLIT)),
+    (1, Step::Take(SPLIT)),
+    (1, Step::Publish),
+    (1, Step::Tell(0)),
+    (1, Step::Look(0, 1)),
+    (0, Step::Tell(0)),
+    (0, Step::Look(0, 0)),
+    (1, Step::Take(MERGE)),
+    (1, Step::Publish),
+    (1, Step::Tell(0)),
+    (1, Step::Look(0, 0)),
 ];
 
 fn notice(row: Row) -> Notice {
@@ -281,6 +306,56 @@ fn are_closed(readers: &mut [Reader]) -> bool {
         }
     }
     true
+}
+
+// The story of two copies, each of which has a reader.
+fn play_two<R: Wait>(
+    rt: &R,
+    alloc: Global,
+    writer: &mut Writer,
+    readers: &mut [Reader],
+    other_writer: &mut Writer,
+    other_readers: &mut [Reader],
+) -> bool {
+    let mut seen = 0;
+    for row in &TWO_COPIES {
+        let (copy, step) = *row;
+        let played = if copy == 0 {
+            steps(rt, alloc, writer, readers, &mut seen, step)
+        } else {
+            steps(rt, alloc, other_writer, other_readers, &mut seen, step)
+        };
+        if played != Some(true) {
+            return false;
+        }
+    }
+    true
+}
+
+fn are_two_told<R: Wait>(rt: &R, alloc: Global) -> bool {
+    let Some((mut one, mut readers)) = made_again(rt, alloc, 1) else {
+        return false;
+    };
+    let Some((mut other, mut others)) = made_again(rt, alloc, 1) else {
+        drop(one.close(rt));
+        return false;
+    };
+    let is_played = play_two(
+        rt,
+        alloc,
+        &mut one,
+        readers.as_mut_slice(),
+        &mut other,
+        others.as_mut_slice(),
+    );
+    drop(one.close(rt));
+    drop(other.close(rt));
+    is_played
+}
+
+#[test]
+fn two_copies(rt: HostRuntime) {
+    assert!(rt; are_two_told(&rt, rt.alloc()));
 }
 
 #[test]

@@ -5,6 +5,7 @@
 ghost use Rattle.std.specs.Prelude.{⊤};
 
 use exh_calls::{Call, Reply};
+use exh_file_settings::FileSettings;
 use exh_frames::PlainPages;
 use exh_keyer::PlainKeyer;
 use exh_notice::Notice;
@@ -63,10 +64,32 @@ fn goes_so(ward: &mut PlainWard) -> Option<bool> {
     Some(is_put && is_found && ward.journal().len() == 5)
 }
 
-fn story(alloc: Global) -> Option<bool> {
+// Three puts from page 0, of which the third splits it, and goes on at the right half at once.
+fn goes_right(ward: &mut PlainWard) -> Option<bool> {
+    let (one, two, three) = (
+        put(b"\x00", b"a")?,
+        put(b"\x80", b"b")?,
+        put(b"\xc0", b"x")?,
+    );
+    Some(
+        answers(ward, &OpenGate, 0, &one, Reply::New)
+            && answers(ward, &OpenGate, 0, &two, Reply::New)
+            && answers(ward, &TurnGate(2), 0, &three, Reply::New),
+    )
+}
+
+fn new_ward(alloc: Global) -> Option<PlainWard> {
     let store = PlainPages::new(alloc, first_page(alloc, 0, 0)).ok()?;
-    let mut ward = Ward::new(alloc, store, 2, 0, 0, PlainKeyer);
-    goes_so(&mut ward)
+    let settings = FileSettings {
+        cap: 2,
+        ward_bits: 0,
+        keyer: PlainKeyer,
+    };
+    Some(Ward::new(alloc, store, settings, 0))
+}
+
+fn story(alloc: Global) -> Option<bool> {
+    Some(goes_so(&mut new_ward(alloc)?)? && goes_right(&mut new_ward(alloc)?)?)
 }
 
 #[test]
@@ -96,10 +119,6 @@ impl Steps for Planned {
     ghost step = { λ _ _ _. ⊤ };
 
     ghost serves = { λ _ _ _. ⊤ };
-
-    fn pseudokey(&self, _call: &Call) -> u64 {
-        0
-    }
 
     fn hop(
         &mut self,
@@ -181,7 +200,7 @@ fn walked(plan: &'static [Plan], refusal: WardFault) -> Option<Walked> {
         asked: AtomicU32::new(0),
         last: AtomicU32::new(0),
     };
-    let answer = match walk_steps(&mut steps, &gate, 0, 7, &call) {
+    let answer = match walk_steps(&mut steps, &gate, 0, 7, &call, 0) {
         Ok(Reply::New) => Ok(()),
         Ok(_) => return None,
         Err(fault) => Err(fault),

@@ -39,9 +39,9 @@ pub next_of_fault : (page : ℕ) (known : Option AskFault) (fault : AskFault) �
 next_of_fault page known fault is = subst (λ k. IsNext (after_fault page k) (Err fault)) (sym is) refl
 
 module _ {S : Type 0} (step : S → WardEvent → S → Type 0) where
-  pub hop_turn : (old new : S) (page client : ℕ) (call : Call) (hop : Result Hop WardFault) (result : Result Turn AskFault) → step old (HopAt page client call hop) new
-      → IsNext (due_after (HopAt page client call hop)) result → IsTurn step old page client call result new
-  hop_turn old new page client call hop result is next = record {
+  pub hop_turn : (old new : S) (page client : ℕ) (call : Call) (pseudokey : ℕ) (hop : Result Hop WardFault) (result : Result Turn AskFault) → step old (HopAt page client call hop) new
+      → IsNext (due_after pseudokey (HopAt page client call hop)) result → IsTurn step old page client call pseudokey result new
+  hop_turn old new page client call pseudokey hop result is next = record {
     events = HopAt page client call hop ∷ [];
     run = (old, refl, is);
     due = (tt, (hop, refl));
@@ -49,14 +49,14 @@ module _ {S : Type 0} (step : S → WardEvent → S → Type 0) where
     next = next;
   }
 
-  pub hop_turn_as : (old new : S) (page client : ℕ) (call : Call) (hop shown : Hop) (result : Result Turn AskFault) → hop ≡ shown → step old (HopAt page client call (Ok hop)) new
-      → IsNext (due_after (HopAt page client call (Ok shown))) result → IsTurn step old page client call result new
-  hop_turn_as old new page client call hop shown result same is next =
-      hop_turn old new page client call (Ok shown) result (subst (λ h. step old (HopAt page client call (Ok h)) new) same is) next
+  pub hop_turn_as : (old new : S) (page client : ℕ) (call : Call) (pseudokey : ℕ) (hop shown : Hop) (result : Result Turn AskFault) → hop ≡ shown → step old (HopAt page client call (Ok hop)) new
+      → IsNext (due_after pseudokey (HopAt page client call (Ok shown))) result → IsTurn step old page client call pseudokey result new
+  hop_turn_as old new page client call pseudokey hop shown result same is next =
+      hop_turn old new page client call pseudokey (Ok shown) result (subst (λ h. step old (HopAt page client call (Ok h)) new) same is) next
 
-  pub split_turn : (old between new : S) (page client : ℕ) (call : Call) (hop : Hop) (result : Result Turn AskFault) → hop ≡ MustSplit → step old (HopAt page client call (Ok hop)) between
-      → IsSplitTurn step between page result new → IsTurn step old page client call result new
-  split_turn old between new page client call hop result same is split = record {
+  pub split_turn : (old between new : S) (page client : ℕ) (call : Call) (pseudokey : ℕ) (hop : Hop) (result : Result Turn AskFault) → hop ≡ MustSplit → step old (HopAt page client call (Ok hop)) between
+      → IsSplitTurn step between page pseudokey result new → IsTurn step old page client call pseudokey result new
+  split_turn old between new page client call pseudokey hop result same is split = record {
     events = SplitAt page split.0 ∷ HopAt page client call (Ok MustSplit) ∷ [];
     run = (between, (old, refl, subst (λ h. step old (HopAt page client call (Ok h)) between) same is), split.1);
     due = ((tt, (Ok MustSplit, refl)), (split.0, refl));
@@ -76,14 +76,15 @@ hops_on events (HopAt page client call result ∷ more) = omega (arith, hops_on 
 hops_on events (SplitAt page result ∷ more) = hops_on events more
 hops_on events (MergeAt page result ∷ more) = hops_on events more
 
-pub due_on : (at page : ℕ) (events more : List WardEvent) → due_from at events ≡ HopDue page → due_from at (more ++ events) ≡ due_from page more
-due_on at page events [] stands = stands
-due_on at page events (event ∷ more) stands = refl
+pub due_on : (pseudokey at page : ℕ) (events more : List WardEvent) → due_from pseudokey at events ≡ HopDue page → due_from pseudokey at (more ++ events) ≡ due_from pseudokey page more
+due_on pseudokey at page events [] stands = stands
+due_on pseudokey at page events (event ∷ more) stands = refl
 
-are_due_on : (at page client : ℕ) (call : Call) (events more : List WardEvent) → due_from at events ≡ HopDue page → AreDue at client call events → AreDue page client call more → AreDue at client call (more ++ events)
-are_due_on at page client call events [] stands due on = due
-are_due_on at page client call events (event ∷ more) stands due on =
-    (are_due_on at page client call events more stands due on.0, subst (λ d. IsWhatWasDue client call d event) (sym (due_on at page events more stands)) on.1)
+are_due_on : (at page client : ℕ) (call : Call) (pseudokey : ℕ) (events more : List WardEvent) → due_from pseudokey at events ≡ HopDue page → AreDue at client call pseudokey events → AreDue page client call pseudokey more
+    → AreDue at client call pseudokey (more ++ events)
+are_due_on at page client call pseudokey events [] stands due on = due
+are_due_on at page client call pseudokey events (event ∷ more) stands due on =
+    (are_due_on at page client call pseudokey events more stands due on.0, subst (λ d. IsWhatWasDue client call d event) (sym (due_on pseudokey at page events more stands)) on.1)
 
 pass_on : (may : ℕ → Bool → Type 0) (turns : ℕ) → MayPass may turns → MaySayYes may (suc turns) → MayPass may (suc turns)
 pass_on may turns passed agreed turn low high = elim (cases_lt turn (suc turns)) [
@@ -93,57 +94,57 @@ pass_on may turns passed agreed turn low high = elim (cases_lt turn (suc turns))
 
 module _ {S : Type 0} (step : S → WardEvent → S → Type 0) (may : ℕ → Bool → Type 0) where
   -- a walk so far, which stands at a page after so many turns
-  pub record Stands (old : S) (at client : ℕ) (call : Call) (page turns : ℕ) (new : S) : Type 0 where
+  pub record Stands (old : S) (at client : ℕ) (call : Call) (pseudokey page turns : ℕ) (new : S) : Type 0 where
     pub events : List WardEvent
-    pub way : IsWay step may old at client call events new
-    pub stands : due_from at events ≡ HopDue page
+    pub way : IsWay step may old at client call pseudokey events new
+    pub stands : due_from pseudokey at events ≡ HopDue page
     pub hops : hops_in events ≡ turns
 
-  pub begins : (old : S) (at client : ℕ) (call : Call) → Stands old at client call at 0 old
-  begins old at client call = record {
+  pub begins : (old : S) (at client : ℕ) (call : Call) (pseudokey : ℕ) → Stands old at client call pseudokey at 0 old
+  begins old at client call pseudokey = record {
     events = [];
     way = record { run = refl; due = tt; passed = λ turn low high. absurd (omega (arith, low, high)) };
     stands = refl;
     hops = refl;
   }
 
-  module _ (old between new : S) (at client : ℕ) (call : Call) (page turns : ℕ) (result : Result Turn AskFault) (so_far : Stands old at client call page turns between) (later : ℕ) (later_is : later ≡ suc turns) (agreed : MaySayYes may later) (turn : IsTurn step between page client call result new) where
+  module _ (old between new : S) (at client : ℕ) (call : Call) (pseudokey page turns : ℕ) (result : Result Turn AskFault) (so_far : Stands old at client call pseudokey page turns between) (later : ℕ) (later_is : later ≡ suc turns) (agreed : MaySayYes may later) (turn : IsTurn step between page client call pseudokey result new) where
     more_hops : hops_in (turn.events ++ so_far.events) ≡ suc turns
     more_hops = omega (arith, hops_on so_far.events turn.events, turn.hops, so_far.hops)
 
-    on : IsWay step may old at client call (turn.events ++ so_far.events) new
+    on : IsWay step may old at client call pseudokey (turn.events ++ so_far.events) new
     on = record {
       run = runs_on step old between new so_far.events turn.events so_far.way.run turn.run;
-      due = are_due_on at page client call so_far.events turn.events so_far.stands so_far.way.due turn.due;
+      due = are_due_on at page client call pseudokey so_far.events turn.events so_far.stands so_far.way.due turn.due;
       passed = subst (MayPass may) (sym more_hops) (pass_on may turns (subst (MayPass may) so_far.hops so_far.way.passed) (subst (MaySayYes may) later_is agreed));
     }
 
-    due_then : due_from at (turn.events ++ so_far.events) ≡ due_from page turn.events
-    due_then = due_on at page so_far.events turn.events so_far.stands
+    due_then : due_from pseudokey at (turn.events ++ so_far.events) ≡ due_from pseudokey page turn.events
+    due_then = due_on pseudokey at page so_far.events turn.events so_far.stands
 
-    pub goes_on : (next : ℕ) → result ≡ Ok (At next) → Stands old at client call next later new
+    pub goes_on : (next : ℕ) → result ≡ Ok (At next) → Stands old at client call pseudokey next later new
     goes_on next is = record {
       events = turn.events ++ so_far.events;
       way = on;
-      stands = due_then ∙ next_at (due_from page turn.events) next (subst (IsNext (due_from page turn.events)) is turn.next);
+      stands = due_then ∙ next_at (due_from pseudokey page turn.events) next (subst (IsNext (due_from pseudokey page turn.events)) is turn.next);
       hops = more_hops ∙ sym later_is;
     }
 
-    over : (end : Result Reply AskFault) → due_from page turn.events ≡ Over end → IsWalked step may old at client call end new
+    over : (end : Result Reply AskFault) → due_from pseudokey page turn.events ≡ Over end → IsWalked step may old at client call pseudokey end new
     over end is = record {
       events = turn.events ++ so_far.events;
       way = on;
       end = let P : Due → Type 0 = λ due. IsEnd may due (hops_in (turn.events ++ so_far.events)) end in subst P (sym (due_then ∙ is)) refl;
     }
 
-    pub answered : (reply : Reply) → result ≡ Ok (Answered reply) → IsWalked step may old at client call (Ok reply) new
-    answered reply is = over (Ok reply) (next_answered (due_from page turn.events) reply (subst (IsNext (due_from page turn.events)) is turn.next))
+    pub answered : (reply : Reply) → result ≡ Ok (Answered reply) → IsWalked step may old at client call pseudokey (Ok reply) new
+    answered reply is = over (Ok reply) (next_answered (due_from pseudokey page turn.events) reply (subst (IsNext (due_from pseudokey page turn.events)) is turn.next))
 
-    pub refused : (fault : AskFault) → result ≡ Err fault → IsWalked step may old at client call (Err fault) new
-    refused fault is = over (Err fault) (next_refused (due_from page turn.events) fault (subst (IsNext (due_from page turn.events)) is turn.next))
+    pub refused : (fault : AskFault) → result ≡ Err fault → IsWalked step may old at client call pseudokey (Err fault) new
+    refused fault is = over (Err fault) (next_refused (due_from pseudokey page turn.events) fault (subst (IsNext (due_from pseudokey page turn.events)) is turn.next))
 
-  pub held : (old new : S) (at client : ℕ) (call : Call) (page turns : ℕ) → Stands old at client call page turns new → MaySayNo may (suc turns) → IsWalked step may old at client call (Err Held) new
-  held old new at client call page turns so_far refusal = record {
+  pub held : (old new : S) (at client : ℕ) (call : Call) (pseudokey page turns : ℕ) → Stands old at client call pseudokey page turns new → MaySayNo may (suc turns) → IsWalked step may old at client call pseudokey (Err Held) new
+  held old new at client call pseudokey page turns so_far refusal = record {
     events = so_far.events;
     way = so_far.way;
     end = let P : Due → ℕ → Type 0 = λ due hops. IsEnd may due hops (Err Held) in subst (λ due. P due (hops_in so_far.events)) (sym so_far.stands) (refl, subst (λ n. MaySayNo may (suc n)) (sym so_far.hops) refusal);

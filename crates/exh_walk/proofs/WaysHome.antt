@@ -56,7 +56,7 @@ never_full cap m (Forward low target) call gets over = over
 
 -- ---- the walk
 
-module _ {K : Type 0} (pseudokey_of : K → List ℕ → ℕ) (one : OneHop) (old : WardState K) (at client : ℕ) (call : Call) (gets : sets_new call ≡ false) (home : EndsAtHome old.cap (pseudokey_of old.keyer) old.pages at call) where
+module _ {K : Type 0} (pseudokey_of : K → List ℕ → ℕ) (one : OneHop) (old : WardState K) (at client : ℕ) (call : Call) (pseudokey : ℕ) (gets : sets_new call ≡ false) (home : EndsAtHome old.cap (pseudokey_of old.keyer) old.pages at call) where
   abbrev pseudo : List ℕ → ℕ
   pseudo = pseudokey_of old.keyer
 
@@ -87,7 +87,7 @@ module _ {K : Type 0} (pseudokey_of : K → List ℕ → ℕ) (one : OneHop) (ol
   refused page hops new (TooMany sum) is = absurd is
   refused page hops new Worn is = absurd is
 
-  hop_on : (page hops : ℕ) (new : WardState K) (result : Result Hop WardFault) → Underway page hops → IsWardStep pseudokey_of old (HopAt page client call result) new → Standing (due_after (HopAt page client call result)) (suc hops) new
+  hop_on : (page hops : ℕ) (new : WardState K) (result : Result Hop WardFault) → Underway page hops → IsWardStep pseudokey_of old (HopAt page client call result) new → Standing (due_after pseudokey (HopAt page client call result)) (suc hops) new
   hop_on page hops new (Ok (Done reply)) so_far step =
       let there = home.way.only so_far.moves page (Done reply) so_far.go step.step.0 (done_ends reply) in
       omega (arith, so_far.count, ap length there.0)
@@ -107,17 +107,17 @@ module _ {K : Type 0} (pseudokey_of : K → List ℕ → ℕ) (one : OneHop) (ol
   hop_on page hops new (Err fault) so_far step = refused page (suc hops) new fault step.refused
 
   event_on : (due : Due) (earlier : List WardEvent) (between new : WardState K) (event : WardEvent) → Standing due (hops_in earlier) between → IsWhatWasDue client call due event → IsWardStep pseudokey_of between event new
-      → Standing (due_after event) (hops_in (event ∷ earlier)) new
+      → Standing (due_after pseudokey event) (hops_in (event ∷ earlier)) new
   event_on (HopDue page) earlier between new event so_far was step =
       let same = subst (λ event. IsWardStep pseudokey_of between event new) was.1 step in
       let from_old = subst (λ ward. IsWardStep pseudokey_of ward (HopAt page client call was.0) new) so_far.0 same in
-      subst (λ event. Standing (due_after event) (hops_in (event ∷ earlier)) new) (sym was.1) (hop_on page (hops_in earlier) new was.0 so_far.1 from_old)
+      subst (λ event. Standing (due_after pseudokey event) (hops_in (event ∷ earlier)) new) (sym was.1) (hop_on page (hops_in earlier) new was.0 so_far.1 from_old)
   event_on (SplitDue page) earlier between new event so_far was step = absurd so_far
   event_on (Over result) earlier between new event so_far was step = absurd was
 
-  standing : (events : List WardEvent) (new : WardState K) → IsRun (IsWardStep pseudokey_of) old events new → AreDue at client call events → Standing (due_from at events) (hops_in events) new
+  standing : (events : List WardEvent) (new : WardState K) → IsRun (IsWardStep pseudokey_of) old events new → AreDue at client call pseudokey events → Standing (due_from pseudokey at events) (hops_in events) new
   standing [] new run due = (run, record { moves = []; go = refl; count = refl })
-  standing (event ∷ earlier) new run due = event_on (due_from at earlier) earlier run.0 new event (standing earlier run.0 run.1 due.0) due.1 run.2
+  standing (event ∷ earlier) new run due = event_on (due_from pseudokey at earlier) earlier run.0 new event (standing earlier run.0 run.1 due.0) due.1 run.2
 
   module _ (may : ℕ → Bool → Type 0) (distance : ℕ) (distance_is : distance ≡ length home.way.moves) where
     held_at : (due : Due) (hops : ℕ) (new : WardState K) → Standing due hops new → IsEnd may due hops (Err Held) → (turn : ℕ) × (1 ≤ turn) × (turn ≤ 1 + distance) × MaySayNo may turn
@@ -134,13 +134,13 @@ module _ {K : Type 0} (pseudokey_of : K → List ℕ → ℕ) (one : OneHop) (ol
     answered_at (Over (Ok other)) hops new reply passed so_far end turn low high = passed turn low (omega (arith, so_far, high, distance_is))
     answered_at (Over (Err fault)) hops new reply passed so_far end turn low high = absurd cc
 
-    module _ (new : WardState K) (result : Result Reply AskFault) (walked : IsWalked (IsWardStep pseudokey_of) may old at client call result new) where
-      stands : Standing (due_from at walked.events) (hops_in walked.events) new
+    module _ (new : WardState K) (result : Result Reply AskFault) (walked : IsWalked (IsWardStep pseudokey_of) may old at client call pseudokey result new) where
+      stands : Standing (due_from pseudokey at walked.events) (hops_in walked.events) new
       stands = standing walked.events new walked.way.run walked.way.due
 
       pub held_in_turn : result ≡ Err Held → (turn : ℕ) × (1 ≤ turn) × (turn ≤ 1 + distance) × MaySayNo may turn
-      held_in_turn is = held_at (due_from at walked.events) (hops_in walked.events) new stands (subst (IsEnd may (due_from at walked.events) (hops_in walked.events)) is walked.end)
+      held_in_turn is = held_at (due_from pseudokey at walked.events) (hops_in walked.events) new stands (subst (IsEnd may (due_from pseudokey at walked.events) (hops_in walked.events)) is walked.end)
 
       pub passes_in_turn : (reply : Reply) → result ≡ Ok reply → (turn : ℕ) → 1 ≤ turn → turn ≤ 1 + distance → MaySayYes may turn
       passes_in_turn reply is =
-          answered_at (due_from at walked.events) (hops_in walked.events) new reply walked.way.passed stands (subst (IsEnd may (due_from at walked.events) (hops_in walked.events)) is walked.end)
+          answered_at (due_from pseudokey at walked.events) (hops_in walked.events) new reply walked.way.passed stands (subst (IsEnd may (due_from pseudokey at walked.events) (hops_in walked.events)) is walked.end)

@@ -17,13 +17,13 @@ IsNext (Over (Err fault)) result = result ≡ Err fault
 IsNext (HopDue page) result = result ≡ Ok (At page)
 IsNext (SplitDue page) result = ⊥
 
-abbrev pub IsSplitTurn : {S : Type 0} → (S → WardEvent → S → Type 0) → S → ℕ → Result Turn AskFault → S → Type 0
-IsSplitTurn step old page result new = (split : Result Notice WardFault) × step old (SplitAt page split) new × IsNext (due_after (SplitAt page split)) result
+abbrev pub IsSplitTurn : {S : Type 0} → (S → WardEvent → S → Type 0) → S → ℕ → ℕ → Result Turn AskFault → S → Type 0
+IsSplitTurn step old page pseudokey result new = (split : Result Notice WardFault) × step old (SplitAt page split) new × IsNext (due_after pseudokey (SplitAt page split)) result
 
 -- one hop, with a split after it where that is to come
-pub record IsTurn {S : Type 0} (step : S → WardEvent → S → Type 0) (old : S) (page client : ℕ) (call : Call) (result : Result Turn AskFault) (new : S) : Type 0 where
+pub record IsTurn {S : Type 0} (step : S → WardEvent → S → Type 0) (old : S) (page client : ℕ) (call : Call) (pseudokey : ℕ) (result : Result Turn AskFault) (new : S) : Type 0 where
   pub events : List WardEvent
   pub run : IsRun step old events new
-  pub due : AreDue page client call events
+  pub due : AreDue page client call pseudokey events
   pub hops : hops_in events ≡ 1
-  pub next : IsNext (due_from page events) result
+  pub next : IsNext (due_from pseudokey page events) result

@@ -1,5 +1,9 @@
 -- The caller's walk: hops of one call, and splits of the pages that are full for it, over anything that can hop and split.
-use Rattle.std.specs.Prelude.{◌≡◌, ◌⊎◌, ⊤, ℕ, suc, ◌≤◌, Bool, true, false, List, [], ◌∷◌, Option, Some, None, Result, Ok, Err}
+use Rattle.std.specs.Prelude.{◌≡◌, ◌⊎◌, ⊤, ℕ, suc, ◌≤◌, nat_lt, Bool, true, false, ◌&&◌, if◌then◌else◌, List, [], ◌∷◌, ◌++◌, length, Option, Some, None, Result, Ok, Err}
+use Rattle.exh_prefix.specs.Prefix.{begins}
+use Rattle.exh_prefix.specs.declared.prefix.TheConstants.{LIMIT}
+use Rattle.exh_notice.specs.declared.entry.Kind.{Kind}
+use Rattle.exh_notice.specs.declared.entry.Kind.TheVariants.{Split, Merge}
 use Rattle.exh_notice.specs.declared.notice.Notice.{Notice}
 use Rattle.exh_calls.specs.declared.call.Call.{Call}
 use Rattle.exh_calls.specs.declared.reply.Reply.{Reply}
@@ -47,21 +51,33 @@ abbrev pub after_fault : ℕ → Option AskFault → Due
 after_fault page (Some fault) = Over (Err fault)
 after_fault page None = HopDue page
 
--- moved: there; full: a split of the page, and there again; astray: at page 0
-abbrev pub due_after : WardEvent → Due
-due_after (HopAt page client call (Ok (Done reply))) = Over (Ok reply)
-due_after (HopAt page client call (Ok (Moved next))) = HopDue next
-due_after (HopAt page client call (Ok MustSplit)) = SplitDue page
-due_after (HopAt page client call (Ok Stray)) = HopDue 0
-due_after (HopAt page client call (Err fault)) = after_fault page (fault_at fault)
-due_after (SplitAt page (Ok notice)) = HopDue page
-due_after (SplitAt page (Err fault)) = after_fault page (fault_at fault)
-due_after (MergeAt page result) = HopDue page
+-- whether the right child of a prefix, which one of LIMIT bits hasn't, begins a pseudokey
+abbrev pub right_begins : List Bool → ℕ → Bool
+right_begins prefix pseudokey = nat_lt (length prefix) LIMIT && begins (prefix ++ true ∷ []) pseudokey
+
+-- of a page that was split the half of a pseudokey: the right page where the right child of its prefix begins it, else the page itself
+abbrev pub half_at : ℕ → ℕ → List Bool → Kind → ℕ
+half_at pseudokey page prefix (Split right) = if right_begins prefix pseudokey then right else page
+half_at pseudokey page prefix Merge = page
+
+abbrev pub half_of : ℕ → ℕ → Notice → ℕ
+half_of pseudokey page notice = half_at pseudokey page notice.prefix notice.kind
+
+-- moved: there; full: a split of the page, and at the half of the call's pseudokey; astray: at page 0
+abbrev pub due_after : ℕ → WardEvent → Due
+due_after pseudokey (HopAt page client call (Ok (Done reply))) = Over (Ok reply)
+due_after pseudokey (HopAt page client call (Ok (Moved next))) = HopDue next
+due_after pseudokey (HopAt page client call (Ok MustSplit)) = SplitDue page
+due_after pseudokey (HopAt page client call (Ok Stray)) = HopDue 0
+due_after pseudokey (HopAt page client call (Err fault)) = after_fault page (fault_at fault)
+due_after pseudokey (SplitAt page (Ok notice)) = HopDue (half_of pseudokey page notice)
+due_after pseudokey (SplitAt page (Err fault)) = after_fault page (fault_at fault)
+due_after pseudokey (MergeAt page result) = HopDue page
 
 -- what is to come after events, the latest first, of a walk from a page
-abbrev pub due_from : ℕ → List WardEvent → Due
-due_from at [] = HopDue at
-due_from at (event ∷ earlier) = due_after event
+abbrev pub due_from : ℕ → ℕ → List WardEvent → Due
+due_from pseudokey at [] = HopDue at
+due_from pseudokey at (event ∷ earlier) = due_after pseudokey event
 
 -- the event is what was to come, whatever came of it: a hop of this call by this client, or a split
 abbrev pub IsWhatWasDue : ℕ → Call → Due → WardEvent → Type 0
@@ -70,9 +86,9 @@ IsWhatWasDue client call (SplitDue page) event = (result : Result Notice WardFau
 IsWhatWasDue client call (Over result) event = ⊥
 
 -- each event is what was to come after those before it
-abbrev pub AreDue : ℕ → ℕ → Call → List WardEvent → Type 0
-AreDue at client call [] = ⊤
-AreDue at client call (event ∷ earlier) = AreDue at client call earlier × IsWhatWasDue client call (due_from at earlier) event
+abbrev pub AreDue : ℕ → ℕ → Call → ℕ → List WardEvent → Type 0
+AreDue at client call pseudokey [] = ⊤
+AreDue at client call pseudokey (event ∷ earlier) = AreDue at client call pseudokey earlier × IsWhatWasDue client call (due_from pseudokey at earlier) event
 
 -- how many hops there are, which is how many turns were passed
 abbrev pub hops_in : List WardEvent → ℕ
@@ -102,14 +118,14 @@ IsEnd may (Over over) turns result = result ≡ over
 IsEnd may (HopDue page) turns result = (result ≡ Err Held) × MaySayNo may (suc turns)
 IsEnd may (SplitDue page) turns result = ⊥
 
--- steps one after the other, each what is to come in the walk of a call from a page, and the gate may have said yes before each hop
-pub record IsWay {S : Type 0} (step : S → WardEvent → S → Type 0) (may : ℕ → Bool → Type 0) (old : S) (at client : ℕ) (call : Call) (events : List WardEvent) (new : S) : Type 0 where
+-- steps one after the other, each what is to come in the walk of a call, whose key has this pseudokey, from a page, and the gate may have said yes before each hop
+pub record IsWay {S : Type 0} (step : S → WardEvent → S → Type 0) (may : ℕ → Bool → Type 0) (old : S) (at client : ℕ) (call : Call) (pseudokey : ℕ) (events : List WardEvent) (new : S) : Type 0 where
   pub run : IsRun step old events new
-  pub due : AreDue at client call events
+  pub due : AreDue at client call pseudokey events
   pub passed : MayPass may (hops_in events)
 
 -- and so to the end
-pub record IsWalked {S : Type 0} (step : S → WardEvent → S → Type 0) (may : ℕ → Bool → Type 0) (old : S) (at client : ℕ) (call : Call) (result : Result Reply AskFault) (new : S) : Type 0 where
+pub record IsWalked {S : Type 0} (step : S → WardEvent → S → Type 0) (may : ℕ → Bool → Type 0) (old : S) (at client : ℕ) (call : Call) (pseudokey : ℕ) (result : Result Reply AskFault) (new : S) : Type 0 where
   pub events : List WardEvent
-  pub way : IsWay step may old at client call events new
-  pub end : IsEnd may (due_from at events) (hops_in events) result
+  pub way : IsWay step may old at client call pseudokey events new
+  pub end : IsEnd may (due_from pseudokey at events) (hops_in events) result

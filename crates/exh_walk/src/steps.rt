@@ -18,11 +18,6 @@ pub trait Steps {
     /// The calls that it may be asked for, each with its pseudokey.
     ghost serves: { Self → CallValue → ℕ → Type 0 };
 
-    /// The pseudokey of a call's key.
-    fn pseudokey(&self, call: &Call) -> u64
-        requires { (pseudokey : ℕ) × serves self.now call.now pseudokey }
-        ensures { serves self.now call.now result };
-
     /// One hop of a client's call, at the page of number `at`. Refused: `WardFault::Memory` and
     /// `WardFault::Page`.
     fn hop(

@@ -1,10 +1,11 @@
-ghost use Rattle.std.specs.Prelude.{ℕ};
+ghost use Rattle.std.specs.Prelude.{◌≡◌};
 ghost use Rattle.exh_walk.specs.Turn.{IsTurn, IsSplitTurn};
-ghost use Rattle.exh_walk.specs.Walk.{IsWalked, ServesOn};
+ghost use Rattle.exh_walk.specs.Walk.{IsWalked, ServesOn, half_of, right_begins};
 
 use crate::{AskFault, Gate, Steps};
 use exh_calls::{Call, Reply};
-use exh_prefix::PageNo;
+use exh_notice::{Kind, Notice};
+use exh_prefix::{PageNo, Prefix};
 use exh_ward::{Hop, WardFault};
 
 /// The greatest turn of a walk: the gate is asked at no later one, which counts as a no.
@@ -21,22 +22,23 @@ enum Turn {
     At(PageNo),
 }
 
-/// Walks a client's call from the page of number `at` to its answer: hops, before each of which the
-/// gate is asked; after `MustSplit` a split of that page and a hop there again, after `Stray` a hop
-/// at page 0. The key is hashed once. Refused: `Held` where the gate says no, or after 1,000,000 turns;
-/// at any point `Memory` and `Page`. The call has then changed nothing; splits made on the way stay.
+/// Walks a client's call, whose key has this pseudokey, from the page of number `at` to its answer: hops,
+/// before each of which the gate is asked; after `MustSplit` a split of that page and a hop at the half of
+/// the pseudokey, or there again where it wasn't split; after `Stray` a hop at page 0. Refused: `Held`
+/// where the gate says no, or after 1,000,000 turns; at any point `Memory` and `Page`. The call has then
+/// changed nothing; splits made on the way stay.
 pub fn walk_steps<S: Steps, G: Gate>(
     steps: &mut S,
     gate: &G,
     at: PageNo,
     client: u32,
     call: &Call,
+    pseudokey: u64,
 ) -> Result<Reply, AskFault>
-    requires { (pseudokey : ℕ) × S.serves steps.old call.now pseudokey }
-    ensures walk { IsWalked S.step (G.may gate.now client) steps.old at client call.now result steps.new }
+    requires { S.serves steps.old call.now pseudokey }
+    ensures walk { IsWalked S.step (G.may gate.now client) steps.old at client call.now pseudokey result steps.new }
     ensures serves { ServesOn S.serves steps.old steps.new }
 {
-    let pseudokey = steps.pseudokey(call);
     let mut page = at;
     for turns in 0..TURN_LIMIT {
         if !gate.pass(client, turns + 1) {
@@ -60,27 +62,54 @@ fn take_turn<S: Steps>(
     pseudokey: u64,
 ) -> Result<Turn, AskFault>
     requires { S.serves steps.old call.now pseudokey }
-    ensures turn { IsTurn S.step steps.old page client call.now result steps.new }
+    ensures turn { IsTurn S.step steps.old page client call.now pseudokey result steps.new }
     ensures serves { ServesOn S.serves steps.old steps.new }
 {
     match steps.hop(page, client, call, pseudokey) {
         Ok(Hop::Done(reply)) => Ok(Turn::Answered(reply)),
         Ok(Hop::Moved(next)) => Ok(Turn::At(next)),
-        Ok(Hop::MustSplit) => split_full(steps, page),
+        Ok(Hop::MustSplit) => split_full(steps, page, pseudokey),
         Ok(Hop::Stray) => Ok(Turn::At(FIRST_PAGE)),
         Err(fault) => Err(AskFault::of_hop(fault)),
     }
 }
 
-// Splits a page that was full for a call, which then hops there again, whoever has changed the page
-// since.
-fn split_full<S: Steps>(steps: &mut S, page: PageNo) -> Result<Turn, AskFault>
-    ensures turn { IsSplitTurn S.step steps.old page result steps.new }
+// Splits a page that was full for a call of this pseudokey, which then hops at its half, or there again where
+// another has changed the page since.
+fn split_full<S: Steps>(steps: &mut S, page: PageNo, pseudokey: u64) -> Result<Turn, AskFault>
+    ensures turn { IsSplitTurn S.step steps.old page pseudokey result steps.new }
     ensures serves { ServesOn S.serves steps.old steps.new }
 {
     match steps.split(page) {
+        Ok(notice) => Ok(Turn::At(half_of(pseudokey, page, &notice))),
         Err(WardFault::Memory) => Err(AskFault::Memory),
         Err(WardFault::Page) => Err(AskFault::Page),
-        _ => Ok(Turn::At(page)),
+        Err(_) => Ok(Turn::At(page)),
+    }
+}
+
+// Of a page that was split, as this notice tells, the half of a pseudokey.
+fn half_of(pseudokey: u64, page: PageNo, notice: &Notice) -> PageNo
+    ensures { result ≡ half_of pseudokey page notice.now }
+{
+    match notice.kind {
+        Kind::Split { right } => {
+            if right_begins(notice.prefix, pseudokey) {
+                right
+            } else {
+                page
+            }
+        }
+        Kind::Merge => page,
+    }
+}
+
+// Whether the right child of a prefix, which one of `LIMIT` bits hasn't, begins a pseudokey.
+fn right_begins(prefix: Prefix, pseudokey: u64) -> bool
+    ensures { result ≡ right_begins prefix pseudokey }
+{
+    match prefix.child(true) {
+        Some(child) => child.begins(pseudokey),
+        None => false,
     }
 }

@@ -18,10 +18,6 @@ impl<P: Pages + Drop, K: Keyer> Steps for Ward<P, K> {
 
     ghost serves = { λ ward call pseudokey. (pseudokey ≡ K.pseudokey_of ward.keyer (key_of call)) × Begins (own_prefix ward) pseudokey };
 
-    fn pseudokey(&self, call: &Call) -> u64 {
-        Ward::pseudokey(self, call.key())
-    }
-
     fn hop(
         &mut self,
         at: PageNo,

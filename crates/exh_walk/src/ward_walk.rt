@@ -35,5 +35,6 @@ pub fn walk_ward<P: Pages + Drop, K: Keyer, G: Gate>(
     one_hop();
     // By whose contract the ward is sound.
     ward.journal();
-    walk_steps(ward, gate, at, client, call)
+    let pseudokey = ward.pseudokey(call.key());
+    walk_steps(ward, gate, at, client, call, pseudokey)
 }

@@ -1,5 +1,7 @@
 -- a new ward is sound
 pub mod NewWardsAreSound
+-- the wards of a new file
+pub mod WardsOfNewFile
 -- a ward of given pages is sound
 pub mod PagesRead
 pub mod MadeOfPages

@@ -1,15 +1,16 @@
 ghost use Rattle.std.specs.Prelude.{◌≡◌, ◌-◌, ◌^◌, ◌<◌, ◌≤◌, ◌↔◌, [], ◌∷◌, IsTrue, None};
-ghost use Rattle.std.specs.FinMap as map;
 ghost use Rattle.exh_prefix.specs.Prefix.{Begins};
 ghost use Rattle.exh_page.specs.declared.page.TheConstants.{CAP_LIMIT};
 ghost use Rattle.exh_page.specs.declared.page.Page.{Page};
 ghost use Rattle.exh_page.specs.declared.page.Page.TheVariants.{Live};
 ghost use Rattle.exh_page.specs.Page.{IsWellFormed};
 ghost use Rattle.exh_prefix.specs.Leading.{ward_prefix};
+ghost use Rattle.exh_ward.specs.NewWards.{new_ward};
 ghost use Rattle.exh_ward.specs.WardState.{IsSoundWard, own_prefix};
 ghost use Rattle.exh_prefix.specs.declared.prefix.TheConstants.{WARD_BITS_LIMIT};
 
 use exh_calls::{Base, Journal};
+use exh_file_settings::FileSettings;
 use exh_frames::Pages;
 use exh_keyer::Keyer;
 use exh_legal::{PageIndex, lone_pages_are_legal};
@@ -70,30 +71,26 @@ impl<P: Pages + Drop, K: Keyer> Model for Ward<P, K> {
 }
 
 impl<P: Pages + Drop, K: Keyer> Ward<P, K> {
-    /// Ward `number` of a new file, over a store of its first page alone (`first_page`). A page
-    /// holds at most `cap` records, 1 to 16. The file is cut into 2^`ward_bits` wards, by 0 to 4
-    /// leading bits of pseudokeys, and `number` is those bits as a number. It takes
-    /// no memory.
-    pub fn new(
-        alloc: Global,
-        store: P,
-        cap: usize,
-        ward_bits: u8,
-        number: u8,
-        keyer: K,
-    ) -> Ward<P, K>
-        requires first { P.pages store ≡ Live (ward_prefix ward_bits number) None [] ∷ [] }
-        requires takes { (page : Page) → IsWellFormed (K.pseudokey_of keyer) page → P.takes store page }
-        requires some { 1 ≤ cap }
-        requires most { cap ≤ CAP_LIMIT }
-        requires bits { ward_bits ≤ WARD_BITS_LIMIT }
-        requires number { number < 2 ^ ward_bits }
-        ensures empty { result ≡ record { pages = Live (ward_prefix ward_bits number) None [] ∷ []; base = map.empty; journal = []; start = map.empty; notices = []; table = map.empty; failures = P.failures store; cap = cap; ward_bits = ward_bits; number = number; keyer = keyer } }
+    /// Ward `number` of a new file of these settings, over a store of its first page alone (`first_page`).
+    /// `number` is the leading bits of its pseudokeys as a number. It takes no memory.
+    pub fn new(alloc: Global, store: P, settings: FileSettings<K>, number: u8) -> Ward<P, K>
+        requires first { P.pages store ≡ Live (ward_prefix settings.ward_bits number) None [] ∷ [] }
+        requires takes { (page : Page) → IsWellFormed (K.pseudokey_of settings.keyer) page → P.takes store page }
+        requires some { 1 ≤ settings.cap }
+        requires most { settings.cap ≤ CAP_LIMIT }
+        requires bits { settings.ward_bits ≤ WARD_BITS_LIMIT }
+        requires number { number < 2 ^ settings.ward_bits }
+        ensures empty { result ≡ record (new_ward settings number) { failures = P.failures store } }
         ensures sound { IsSoundWard K.pseudokey_of result }
     {
         lone_pages_are_legal();
-        Ward {
+        let FileSettings {
             cap,
+            ward_bits,
+            keyer,
+        } = settings;
+        Ward {
+            cap: cap as usize,
             ward_bits,
             number,
             keyer,

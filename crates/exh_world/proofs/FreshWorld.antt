@@ -4,10 +4,9 @@ use Rattle.std.specs.FinMap as fin
 use Rattle.std.specs.List.{range_with_len}
 use Rattle.std.proofs.lemmas.List.{length-replicate, get_or-replicate}
 use Rattle.std.proofs.Math.Seq.{take-nil}
-use Rattle.std.proofs.lemmas.List.FromFn.{length-map-range_with_len, map-range_with_len_more}
+use Rattle.std.proofs.lemmas.List.FromFn.{length-map-range_with_len}
 use Rattle.std.proofs.lemmas.Option.{slice_get-get_or}
 use Rattle.exh_prefix.specs.Prefix.{prefix_cmp}
-use Rattle.exh_prefix.specs.ListLemmas.{push_is}
 use Rattle.exh_table.specs.SetLemmas.{since_nothing}
 use Rattle.exh_table.specs.Table.{TableMap}
 use Rattle.exh_table.specs.Walk.{right_of}
@@ -15,7 +14,8 @@ use Rattle.exh_prefix.specs.Leading.{ward_prefix}
 use Rattle.exh_ward.specs.WardState.{WardState, IsSoundWard}
 use Rattle.exh_prefix.specs.declared.prefix.TheConstants.{WARD_BITS_LIMIT}
 use Rattle.exh_world.specs.Kept.{IsKeptWorld}
-use Rattle.exh_world.specs.NewWorld.{new_ward, new_world}
+use Rattle.exh_ward.specs.NewWards.{new_ward}
+use Rattle.exh_world.specs.NewWorld.{new_world}
 use Rattle.exh_world.specs.Sound.{LeadsRight, LeadsRightIn, IsWardOf, IsSoundWorld}
 use Rattle.exh_world.specs.World.{WorldState}
 use Rattle.exh_world.specs.InFlight.{Requests}
@@ -37,9 +37,9 @@ none_noticed n k count before noticed n_is none k_is is =
 module _ {K : Type 0} (config : Config K) where
   abbrev pub made_of : List (WardState K) → TableMap → List ℕ → List TableMap → List TableMap → Requests → WorldState K
   made_of wards start noticed copies sent in_flight = record {
-    cap = config.cap;
-    ward_bits = config.ward_bits;
-    keyer = config.keyer;
+    cap = config.settings.cap;
+    ward_bits = config.settings.ward_bits;
+    keyer = config.settings.keyer;
     wards = wards;
     start = start;
     noticed = noticed;
@@ -64,23 +64,8 @@ module _ {K : Type 0} (pseudokey_of : K → List ℕ → ℕ) where
   abbrev pub AreSoundWards : List (WardState K) → Type 0
   AreSoundWards wards = (number : ℕ) (ward : WardState K) → slice_get wards number ≡ Some ward → IsSoundWard pseudokey_of ward
 
-  -- the wards of the numbers below one, each of them sound
-  pub record AreNewWards (config : Config K) (number : ℕ) (wards : List (WardState K)) : Type 0 where
-    pub made : wards ≡ map (new_ward config) (range_with_len 0 number)
-    pub sound : AreSoundWards wards
-
-  pub one_ward_more : (config : Config K) (number : ℕ) (wards after : List (WardState K)) (more : WardState K) → AreNewWards config number wards
-      → more ≡ new_ward config number → IsSoundWard pseudokey_of more → after ≡ wards ++ more ∷ [] → AreNewWards config (number + 1) after
-  one_ward_more config number wards after more are is sound pushed = record {
-    made = pushed ∙ ap (λ ws. ws ++ more ∷ []) are.made ∙ ap (λ w. map (new_ward config) (range_with_len 0 number) ++ w ∷ []) is ∙ sym (map-range_with_len_more (new_ward config) 0 number number (omega arith));
-    sound = λ at ward here. elim (push_is wards more ward at (sym (ap (λ ws. slice_get ws at) pushed) ∙ here)) [
-      | inl before ↦ are.sound at ward before
-      | inr same ↦ subst (IsSoundWard pseudokey_of) (sym same) sound
-    ];
-  }
-
-  module _ (config : Config K) (words : (keyer : K) (key : List ℕ) → pseudokey_of keyer key < 2 ^ 64) (bits : config.ward_bits ≤ WARD_BITS_LIMIT) (sound : AreSoundWards (new_world config).wards) where
-    new_is_ward : (number : ℕ) → number < 2 ^ config.ward_bits → IsSoundWard pseudokey_of (new_ward config number) → IsWardOf pseudokey_of (new_world config) number (new_ward config number)
+  module _ (config : Config K) (words : (keyer : K) (key : List ℕ) → pseudokey_of keyer key < 2 ^ 64) (bits : config.settings.ward_bits ≤ WARD_BITS_LIMIT) (sound : AreSoundWards (new_world config).wards) where
+    new_is_ward : (number : ℕ) → number < 2 ^ config.settings.ward_bits → IsSoundWard pseudokey_of (new_ward config.settings number) → IsWardOf pseudokey_of (new_world config) number (new_ward config.settings number)
     new_is_ward number within is = record {
       cap = refl;
       bits = refl;
@@ -88,7 +73,7 @@ module _ {K : Type 0} (pseudokey_of : K → List ℕ → ℕ) where
       keyer = refl;
       sound = is;
       before = 0;
-      noticed = replicate_there (2 ^ config.ward_bits) 0 number within;
+      noticed = replicate_there (2 ^ config.settings.ward_bits) 0 number within;
       first = omega arith;
       started = λ prefix front. since_nothing prefix;
       directory = λ prefix. (λ leaf. leaf, λ leaf. leaf);
@@ -97,13 +82,13 @@ module _ {K : Type 0} (pseudokey_of : K → List ℕ → ℕ) where
     pub new_sound : IsSoundWorld pseudokey_of (new_world config)
     new_sound = record {
       bits = omega (arith, bits);
-      words = words config.keyer;
-      count = length-map-range_with_len (new_ward config) 0 (2 ^ config.ward_bits);
+      words = words config.settings.keyer;
+      count = length-map-range_with_len (new_ward config.settings) 0 (2 ^ config.settings.ward_bits);
       wards = λ number ward is.
-          let here = mapped_is (new_ward config) (2 ^ config.ward_bits) number ward is in
+          let here = mapped_is (new_ward config.settings) (2 ^ config.settings.ward_bits) number ward is in
           subst (IsWardOf pseudokey_of (new_world config) number) (sym here.1) (new_is_ward number here.0 (subst (IsSoundWard pseudokey_of) here.1 (sound number ward is)));
-      start = λ number ward is. no_splits (ward_prefix config.ward_bits number) ward.pages;
-      copies = λ copy table is. subst (LeadsRightIn (new_world config)) (sym (numbered_is config.copies fin.empty table copy is)) (λ number ward is. no_splits (ward_prefix config.ward_bits number) ward.pages);
+      start = λ number ward is. no_splits (ward_prefix config.settings.ward_bits number) ward.pages;
+      copies = λ copy table is. subst (LeadsRightIn (new_world config)) (sym (numbered_is config.copies fin.empty table copy is)) (λ number ward is. no_splits (ward_prefix config.settings.ward_bits number) ward.pages);
       sent = λ number table is. absurd (numbered_none number table is);
       told = new_told config;
       requests = tt;

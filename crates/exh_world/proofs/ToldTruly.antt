@@ -19,7 +19,8 @@ use Rattle.exh_table.specs.TableOrder.{IsOptionUpTo, IsTableUpTo, table_join}
 use Rattle.exh_ward.specs.WardState.{WardState, own_prefix}
 use Rattle.exh_world.specs.EffectLemmas.{on_effect, on_refusal}
 use Rattle.exh_world.specs.ListLemmas.{mapped_is, numbered_is, numbered_none, numbered_push, numbered_set}
-use Rattle.exh_world.specs.NewWorld.{new_ward, new_world}
+use Rattle.exh_ward.specs.NewWards.{new_ward}
+use Rattle.exh_world.specs.NewWorld.{new_world}
 use Rattle.exh_world.specs.Run.{Told}
 use Rattle.exh_world.specs.Sound.{IsSoundWorld}
 use Rattle.exh_world.specs.Step.{HasEffect, Step}
@@ -271,7 +272,7 @@ module _ {K : Type 0} (config : Config K) where
     copies = λ copy table is. subst (TellsTruly fresh) (sym (numbered_is config.copies fin.empty table copy is)) empty_truly;
     sent = λ number table is. absurd (numbered_none number table is);
     wards = λ number ward is prefix entry front has.
-        let own : ward ≡ new_ward config number = (mapped_is (new_ward config) (2 ^ config.ward_bits) number ward is).1 in
+        let own : ward ≡ new_ward config.settings number = (mapped_is (new_ward config.settings) (2 ^ config.settings.ward_bits) number ward is).1 in
         let none : None ≡ Some entry = sym (nothing prefix) ∙ ap (λ (w : WardState K). get w.table prefix) (sym own) ∙ has in
         cc;
   }

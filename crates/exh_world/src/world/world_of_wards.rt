@@ -27,22 +27,22 @@ impl<P: Pages + Drop, K: Keyer> World<P, K> {
         config: &Config<K>,
         wards: Vec<Ward<P, K>>,
     ) -> Result<World<P, K>, AllocError>
-        requires bits { config.now.ward_bits ≤ WARD_BITS_LIMIT }
-        requires count { length wards.items ≡ 2 ^ config.now.ward_bits }
+        requires bits { config.now.settings.ward_bits ≤ WARD_BITS_LIMIT }
+        requires count { length wards.items ≡ 2 ^ config.now.settings.ward_bits }
         requires each { AreWardsFor config.now wards.items }
         ensures world { IfOk result (λ world. world ≡ world_of_wards config.now wards.items) }
         ensures sound { IfOk result (IsSoundWorld K.pseudokey_of) }
     {
         walks_name_homes();
-        let start = joined_tables(alloc, config.ward_bits, &wards)?;
+        let start = joined_tables(alloc, config.settings.ward_bits, &wards)?;
         let noticed = notice_counts(alloc, &wards)?;
         let copies = copies_of(alloc, &start, config.copies)?;
         let in_flight = InFlight::new(alloc)?;
         Ok(World {
             alloc,
-            cap: config.cap,
-            ward_bits: config.ward_bits,
-            keyer: config.keyer,
+            cap: config.settings.cap as usize,
+            ward_bits: config.settings.ward_bits,
+            keyer: config.settings.keyer,
             wards,
             start,
             noticed,

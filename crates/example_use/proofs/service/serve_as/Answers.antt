@@ -1,5 +1,6 @@
 use Rattle.std.proofs.Common.{◌≡◌, ℕ, ◌^◌, List, length, slice_get, sym, ap, ◌∙◌}
 use Rattle.exh_keyer.specs.declared.any_keyer.AnyKeyer.{AnyKeyer}
+use Rattle.exh_file_settings.specs.declared.file_settings.FileSettings.{FileSettings}
 use Rattle.exh_ward.specs.WardState.{WardState}
 use Rattle.exh_open.specs.Opened.{AreWardsOf, OpenedState}
 use Rattle.exh_live.specs.LiveFile.{AreNewWardsOf}
@@ -20,4 +21,4 @@ new_wards opened wards ward_bits keyer wards_are bits_are keyer_are are unasked 
 pub new-requires-clause-wards : goal.new-requires-clause-wards
 new-requires-clause-wards g c =
     let opened = c.args.opened in
-    (opened.cap, new_wards opened c.into_wards-wards.result.items c.ward_bits-ward_bits.result c.keyer-keyer.result c.into_wards-wards.ensures.wards c.ward_bits-ward_bits.ensures c.keyer-keyer.ensures c.into_wards-wards.ensures.each c.requires.unasked)
+    (opened.cap, new_wards opened c.into_wards-wards.result.items c.settings-settings.result.ward_bits c.settings-settings.result.keyer c.into_wards-wards.ensures.wards (ap (λ (settings : FileSettings AnyKeyer). settings.ward_bits) c.settings-settings.ensures) (ap (λ (settings : FileSettings AnyKeyer). settings.keyer) c.settings-settings.ensures) c.into_wards-wards.ensures.each c.requires.unasked)

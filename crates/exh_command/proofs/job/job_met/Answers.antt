@@ -1,6 +1,6 @@
 use Rattle.std.proofs.Common.{inl, inr, ◌∙◌}
 use Rattle.std.proofs.lemmas.Result.{IfErr-weaker, IfOk-weaker}
-use Rattle.exh_command.proofs.ParserLemmas.{checks, dumps, is_command, job_is, loads, no_options, own_is, own_of, path_given, serves, some_met, storms}
+use Rattle.exh_command.proofs.ParserLemmas.{checks, dumps, gets, is_command, key_given, job_is, loads, no_options, own_is, own_of, path_given, serves, some_met, storms}
 use Rattle.exh_command.proofs.job.job_met.Goals as goal
 
 pub unreachable-requires : goal.unreachable-requires
@@ -31,7 +31,7 @@ returns-in-dump-clause-named c = λ asked met.
 pub path_in-requires-in-load : goal.path_in-requires-in-load
 path_in-requires-in-load c =
     let own = own_is c.args.matches.now c.in-Some.command.now c.in-Some.own.now c.requires.0 c.in-Some.ensures.name c.in-Some.ensures.rows c.requires.1 in
-    path_given c.requires.0 c.in-Some.command.now c.in-Some.own.now own (no_options c.in-Some.command.now (inr (inr c.in-load.is)))
+    path_given c.requires.0 c.in-Some.command.now c.in-Some.own.now own (no_options c.in-Some.command.now (inr (inr (inl c.in-load.is))))
 
 pub returns-in-load-clause-named : goal.returns-in-load-clause-named
 returns-in-load-clause-named c = λ asked met.
@@ -48,4 +48,24 @@ returns-in-storm-clause-wrong c =
 pub unreachable-requires-in_default-command : goal.unreachable-requires-in_default-command
 unreachable-requires-in_default-command c =
     let own = own_is c.args.matches.now c.in-Some.command.now c.in-Some.own.now c.requires.0 c.in-Some.ensures.name c.in-Some.ensures.rows c.requires.1 in
-    is_command c.requires.0 c.in-Some.command.now c.in-Some.own.now own c.in_default-command.not-serve c.in_default-command.not-check c.in_default-command.not-dump c.in_default-command.not-load c.in_default-command.not-storm
+    is_command c.requires.0 c.in-Some.command.now c.in-Some.own.now own c.in_default-command.not-serve c.in_default-command.not-check c.in_default-command.not-dump c.in_default-command.not-load c.in_default-command.not-storm c.in_default-command.not-get
+
+pub get_job-requires : goal.get_job-requires
+get_job-requires c =
+    let own = own_is c.args.matches.now c.in-Some.command.now c.in-Some.own.now c.requires.0 c.in-Some.ensures.name c.in-Some.ensures.rows c.requires.1 in
+    record {
+      path = path_given c.requires.0 c.in-Some.command.now c.in-Some.own.now own (no_options c.in-Some.command.now (inr (inr (inr c.in-get.is))));
+      key = key_given c.requires.0 c.in-Some.own.now (own_of c.args.matches.now c.in-Some.command.now c.in-Some.own.now _ c.in-Some.ensures.name c.in-Some.ensures.rows c.in-get.is c.requires.0 c.requires.1);
+    }
+
+pub returns-in-get-clause-named : goal.returns-in-get-clause-named
+returns-in-get-clause-named c =
+    IfOk-weaker c.get_job.result _ _ (λ job is asked met.
+    let given = gets asked c.in-Some.own.now (own_of c.args.matches.now c.in-Some.command.now c.in-Some.own.now _ c.in-Some.ensures.name c.in-Some.ensures.rows c.in-get.is asked met) in
+    job_is asked _ given.asked_is ∙ is given.path given.word given.path_is given.word_is) c.get_job.ensures.named
+
+pub returns-in-get-clause-wrong : goal.returns-in-get-clause-wrong
+returns-in-get-clause-wrong c =
+    IfErr-weaker c.get_job.result _ _ (λ fault none wrong asked met.
+    let given = gets asked c.in-Some.own.now (own_of c.args.matches.now c.in-Some.command.now c.in-Some.own.now _ c.in-Some.ensures.name c.in-Some.ensures.rows c.in-get.is asked met) in
+    job_is asked _ given.asked_is ∙ none wrong given.path given.word given.word_is) c.get_job.ensures.wrong

@@ -23,5 +23,5 @@ pub returns : goal.returns
 returns c =
     let file = file_of c.args.parts.now in
     let header = c.args.parts.now.header in
-    subst (λ tables. IfOk c.first_reason.result (IsFirstReason (parts_of header.cap header.ward_bits file.wards tables))) c.requires.tables
-    (subst (λ wards. IfOk c.first_reason.result (IsFirstReason (parts_of header.cap header.ward_bits (map (λ ward. ward.items) wards) c.args.tables.now))) c.deref.ensures.value c.first_reason.ensures)
+    subst (λ tables. IfOk c.first_reason.result (IsFirstReason (parts_of header.settings.cap header.settings.ward_bits file.wards tables))) c.requires.tables
+    (subst (λ wards. IfOk c.first_reason.result (IsFirstReason (parts_of header.settings.cap header.settings.ward_bits (map (λ ward. ward.items) wards) c.args.tables.now))) c.deref.ensures.value c.first_reason.ensures)

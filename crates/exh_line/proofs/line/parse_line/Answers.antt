@@ -12,9 +12,13 @@ pub returns-in-begin : goal.returns-in-begin
 unfolding spelled
 returns-in-begin c = rw (line_of_words c.args.line.now, ← c.new-words.ensures) (grind (arith, common_steps))
 
-pub returns-in-hop : goal.returns-in-hop
+pub returns-in_ok-parse_hop-in-hop : goal.returns-in_ok-parse_hop-in-hop
 unfolding spelled
-returns-in-hop c = rw (line_of_words c.args.line.now, ← c.new-words.ensures) (grind (arith, common_steps))
+returns-in_ok-parse_hop-in-hop c = rw (line_of_words c.args.line.now, ← c.new-words.ensures) (grind (arith, common_steps))
+
+pub returns-in_err-parse_hop-in-hop : goal.returns-in_err-parse_hop-in-hop
+unfolding spelled
+returns-in_err-parse_hop-in-hop c = rw (line_of_words c.args.line.now, ← c.new-words.ensures) (grind (arith, common_steps))
 
 pub returns-in_default : goal.returns-in_default
 unfolding spelled

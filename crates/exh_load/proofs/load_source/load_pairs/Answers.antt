@@ -13,19 +13,19 @@ returns-in_err-loader-clause-front g c = IfErr-from c.from_residual.result (λ f
 
 pub returns-in_err-records-clause-err : goal.returns-in_err-records-clause-err
 returns-in_err-records-clause-err g c =
-    let file = c.args.file.now in
+    let file = c.args.file.now.settings in
     OnErr-from c.from_residual-in_err-records.result
     (lines_begun file.cap file.ward_bits file.keyer (loading_of c.in_ok-loader.loader) (loading_of c.in_ok-loader.loader) c.args.lines c.in_ok-loader.ensures.none g.W.Write.contents c.args.output.now c.load_lines.new.output c.in_err-records.ensures.err)
 
 pub returns-in_err-records-clause-front : goal.returns-in_err-records-clause-front
 returns-in_err-records-clause-front g c =
-    let file = c.args.file.now in
+    let file = c.args.file.now.settings in
     handed_on c.from_residual-in_err-records.result c.in_err-records.field-0.0 c.from_residual-in_err-records.ensures
     (λ differs. lines_front file.cap file.ward_bits file.keyer (loading_of c.in_ok-loader.loader) (loading_of c.in_ok-loader.loader) c.args.lines c.in_ok-loader.ensures.none g.W.Write.contents c.args.output.now c.load_lines.new.output (c.in_err-records.ensures.front differs))
 
 pub returns-in_err-print_number-clause-err : goal.returns-in_err-print_number-clause-err
 returns-in_err-print_number-clause-err g c =
-    let file = c.args.file.now in
+    let file = c.args.file.now.settings in
     let now = loading_of c.in_ok-loader.loader in
     let left = loading_of c.load_lines.new.loader in
     let told = records_told file.cap file.ward_bits file.keyer now left c.args.lines c.in_ok-loader.ensures.none c.in_ok-records.records c.in_ok-records.ensures.loaded (c.in_ok-records.ensures.records c.requires.few) in
@@ -35,7 +35,7 @@ returns-in_err-print_number-clause-err g c =
 
 pub returns-in_err-print_number-clause-front : goal.returns-in_err-print_number-clause-front
 returns-in_err-print_number-clause-front g c =
-    let file = c.args.file.now in
+    let file = c.args.file.now.settings in
     let now = loading_of c.in_ok-loader.loader in
     let left = loading_of c.load_lines.new.loader in
     let told = records_told file.cap file.ward_bits file.keyer now left c.args.lines c.in_ok-loader.ensures.none c.in_ok-records.records c.in_ok-records.ensures.loaded (c.in_ok-records.ensures.records c.requires.few) in
@@ -45,7 +45,7 @@ returns-in_err-print_number-clause-front g c =
 
 pub returns-clause-text : goal.returns-clause-text
 returns-clause-text g c =
-    let file = c.args.file.now in
+    let file = c.args.file.now.settings in
     let now = loading_of c.in_ok-loader.loader in
     let left = loading_of c.load_lines.new.loader in
     let told = records_told file.cap file.ward_bits file.keyer now left c.args.lines c.in_ok-loader.ensures.none c.in_ok-records.records c.in_ok-records.ensures.loaded (c.in_ok-records.ensures.records c.requires.few) in

@@ -32,7 +32,7 @@ returns-in_err-wards-clause-fault g c =
     let fault = c.in_err-wards.field-0.0 in
     let header = c.in_ok-header.header in
     let read = c.in_ok-header.ensures.ok in
-    let pseudo = any_pseudokey header.keyer in
+    let pseudo = any_pseudokey header.settings.keyer in
     let headed : Headed first_file known later header read.0 = record { given = read.1; image = read.2; is = read.3 } in
     let count = sum (take c.wards_of.result header.page_counts) in
     let all : count ≡ sum header.page_counts = ap (λ (n : ℕ). sum (take n header.page_counts)) c.wards_of.ensures.power ∙ all_counted first_file header read.2.valid in

@@ -15,13 +15,13 @@ new-requires g c =
     let same : AreUnchanged opened.wards left = subst (λ (wards : List (WardState AnyKeyer)). AreUnchanged wards left) given c.write_file-saved.ensures.wards in
     let count : c.into_wards-wards.result.len ≡ length left = omega (arith, same.count, ap length c.into_wards-wards.ensures.wards, c.into_wards-wards.result.ok.0) in
     let whole = put_back c.into_wards-wards.result.len left (drop (length left) c.into_wards-wards.result.items) count in
-    let is = same_file (record opened { wards = left }) c.cap-cap.result c.ward_bits-ward_bits.result c.keyer-keyer.result _ c.cap-cap.ensures c.ward_bits-ward_bits.ensures c.keyer-keyer.ensures whole in
+    let is = same_file (record opened { wards = left }) c.settings-settings.result _ c.settings-settings.ensures whole in
     subst AreWardsOf (sym is) (still_wards opened left c.into_wards-wards.ensures.each same)
 
 pub returns-clause-again : goal.returns-clause-again
 returns-clause-again g c =
     let given : c.deref_mut.result.now ≡ c.args.opened.wards = c.deref_mut.ensures.value ∙ c.into_wards-wards.ensures.wards in
-    subst IsWrittenAgain (same_file c.args.opened c.cap-cap.result c.ward_bits-ward_bits.result c.keyer-keyer.result c.deref_mut.result.now c.cap-cap.ensures c.ward_bits-ward_bits.ensures c.keyer-keyer.ensures given) c.write_file-saved.ensures.again
+    subst IsWrittenAgain (same_file c.args.opened c.settings-settings.result c.deref_mut.result.now c.settings-settings.ensures given) c.write_file-saved.ensures.again
 
 pub returns-clause-wards : goal.returns-clause-wards
 returns-clause-wards g c =
@@ -31,5 +31,5 @@ returns-clause-wards g c =
     let same : AreUnchanged opened.wards left = subst (λ (wards : List (WardState AnyKeyer)). AreUnchanged wards left) given c.write_file-saved.ensures.wards in
     let count : c.into_wards-wards.result.len ≡ length left = omega (arith, same.count, ap length c.into_wards-wards.ensures.wards, c.into_wards-wards.result.ok.0) in
     let whole = put_back c.into_wards-wards.result.len left (drop (length left) c.into_wards-wards.result.items) count in
-    let is = same_file (record opened { wards = left }) c.cap-cap.result c.ward_bits-ward_bits.result c.keyer-keyer.result _ c.cap-cap.ensures c.ward_bits-ward_bits.ensures c.keyer-keyer.ensures whole in
+    let is = same_file (record opened { wards = left }) c.settings-settings.result _ c.settings-settings.ensures whole in
     subst (IsLeft opened) (sym (c.new.ensures ∙ is)) (record { settings = refl; unchanged = same })

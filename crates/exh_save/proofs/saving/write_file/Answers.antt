@@ -6,7 +6,8 @@ use Rattle.exh_file.specs.HeaderImage.{IsHeader}
 use Rattle.exh_file.specs.declared.header.Header.{Header}
 use Rattle.exh_page_file.specs.PageFile.{file_bytes}
 use Rattle.exh_page_file.specs.Writing.{written}
-use Rattle.exh_save.specs.Saved.{file_with, in_file}
+use Rattle.exh_open.specs.Opened.{in_file}
+use Rattle.exh_save.specs.Saved.{file_with}
 use Rattle.exh_save.proofs.Again.{is_again}
 use Rattle.exh_save.proofs.Legal.{are_short, is_header}
 use Rattle.exh_save.proofs.Reopened.{both_ok, is_kept}
@@ -15,11 +16,11 @@ use Rattle.exh_save.proofs.saving.write_file.Goals as goal
 pub write_parts-requires-clause-header : goal.write_parts-requires-clause-header
 write_parts-requires-clause-header g c =
     subst (IsHeader first_file) (sym c.header_of-header.ensures.header)
-    (is_header (in_file c.args.cap c.args.ward_bits c.args.keyer c.args.wards.now) c.requires.wards c.header_of-header.ensures.sound c.fitting_tables_begin_wards.ensures c.pages_are_few.ensures c.legal_tables_have_room.ensures)
+    (is_header (in_file c.args.settings c.args.wards.now) c.requires.wards c.header_of-header.ensures.sound c.fitting_tables_begin_wards.ensures c.pages_are_few.ensures c.legal_tables_have_room.ensures)
 
 pub write_parts-requires-clause-short : goal.write_parts-requires-clause-short
 write_parts-requires-clause-short g c =
-    are_short (in_file c.args.cap c.args.ward_bits c.args.keyer c.args.wards.now) c.requires.wards c.header_of-header.ensures.sound c.fitting_tables_begin_wards.ensures
+    are_short (in_file c.args.settings c.args.wards.now) c.requires.wards c.header_of-header.ensures.sound c.fitting_tables_begin_wards.ensures
 
 pub returns-clause-ok : goal.returns-clause-ok
 returns-clause-ok g c =
@@ -33,10 +34,10 @@ returns-clause-err g c =
 
 pub returns-clause-opens : goal.returns-clause-opens
 returns-clause-opens g c =
-    let opened = in_file c.args.cap c.args.ward_bits c.args.keyer c.args.wards.now in
+    let opened = in_file c.args.settings c.args.wards.now in
     both_ok
     (λ ranges valid. is_kept opened c.requires.wards c.header_of-header.ensures.sound c.fitting_tables_begin_wards.ensures c.legal_files_pass.ensures c.pages_are_few.ensures c.legal_tables_have_room.ensures ranges valid c.one_file.ensures)
     c.write_parts.result c.write_parts.ensures.pages c.write_parts.ensures.entries
 
 pub returns-clause-again : goal.returns-clause-again
-returns-clause-again g c = is_again (in_file c.args.cap c.args.ward_bits c.args.keyer c.args.wards.now) c.requires.wards c.header_of-header.ensures.sound c.fitting_tables_begin_wards.ensures
+returns-clause-again g c = is_again (in_file c.args.settings c.args.wards.now) c.requires.wards c.header_of-header.ensures.sound c.fitting_tables_begin_wards.ensures

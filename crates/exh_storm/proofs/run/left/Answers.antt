@@ -9,12 +9,12 @@ use Rattle.exh_storm.proofs.Sums.{few_answered}
 use Rattle.exh_storm.proofs.run.left.Goals as goal
 
 pub settled-requires-clause-few : goal.settled-requires-clause-few
-settled-requires-clause-few c =
+settled-requires-clause-few g c =
     let config = c.args.config.now in
     few_answered config.callers config.calls (answer_count c.as_slice-diaries.result.now) c.requires.config.callers c.requires.config.calls (ap answer_count c.as_slice-diaries.ensures.value ∙ c.requires.all)
 
 pub returns-in-Ok : goal.returns-in-Ok
-returns-in-Ok c =
+returns-in-Ok g c =
     let ward_bits = c.args.config.now.ward_bits in
     let count = c.in-Ok.ensures.count ∙ ap answer_count c.as_slice-diaries.ensures.value in
     record {

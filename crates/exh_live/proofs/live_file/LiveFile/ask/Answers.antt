@@ -1,4 +1,5 @@
-use Rattle.std.proofs.Common.{ℕ, Result, inr, ap, ◌∙◌, subst}
+use Rattle.std.proofs.Common.{rules, ◌≡◌, ℕ, List, Result, inr, ap, ◌∙◌, subst}
+use Rattle.exh_calls.specs.Call.{key_of}
 use Rattle.exh_calls.specs.declared.reply.Reply.{Reply}
 use Rattle.exh_walk.specs.declared.ask_fault.AskFault.{AskFault}
 use Rattle.exh_live.specs.LiveFile.{SeatState}
@@ -8,13 +9,23 @@ use Rattle.exh_live.proofs.live_file.LiveFile.ask.Goals as goal
 
 pub returns-in_err-reply-clause-walk : goal.returns-in_err-reply-clause-walk
 returns-in_err-reply-clause-walk g c =
-    let Walked : ℕ → Result Reply AskFault → Type 0 = λ client result. IsLockedWalk g.K.Keyer.pseudokey_of (g.G.Gate.may c.args.gate.now client) c.unwrap_or-at.result client c.args.call.now result in
+    let Walked : ℕ → ℕ → Result Reply AskFault → Type 0 = λ pseudokey client result. IsLockedWalk g.K.Keyer.pseudokey_of (g.G.Gate.may c.args.gate.now client) c.unwrap_or-at.result client c.args.call.now pseudokey result in
+    let keyed : c.pseudo-pseudokey.result ≡ g.K.Keyer.pseudokey_of c.args.self.now.keyer (key_of c.args.call.now) = search rules in
+    let same : g.K.Keyer.pseudokey_of c.args.self.now.keyer ≡ g.F.Identity.hashing = search rules in
+    let hashed = keyed ∙ ap (λ (hash : List ℕ → ℕ). hash (key_of c.args.call.now)) same in
     let client = c.client-client.ensures.client ∙ c.reserve.ensures.client ∙ ap (λ (seat : SeatState). seat.client) c.seat.view_is in
-    let walked = subst (Walked c.args.seat.now.client) c.in_err-reply.was (subst (λ number. Walked number c.walk-answers.result.1) client c.walk-answers.ensures.walk) in
-    inr (c.unwrap_or-at.result, of_fault (Walked c.args.seat.now.client) c.from_residual.result c.in_err-reply.field-0.0 c.from_residual.ensures walked)
+    let of_client = subst (λ number. Walked c.pseudo-pseudokey.result number c.walk-answers.result.1) client c.walk-answers.ensures.walk in
+    let of_key = subst (λ pseudokey. Walked pseudokey c.args.seat.now.client c.walk-answers.result.1) hashed of_client in
+    let own = g.F.Identity.hashing (key_of c.args.call.now) in
+    inr (c.unwrap_or-at.result, of_fault (Walked own c.args.seat.now.client) c.from_residual.result c.in_err-reply.field-0.0 c.from_residual.ensures (subst (Walked own c.args.seat.now.client) c.in_err-reply.was of_key))
 
 pub returns-clause-walk : goal.returns-clause-walk
 returns-clause-walk g c =
-    let Walked : ℕ → Result Reply AskFault → Type 0 = λ client result. IsLockedWalk g.K.Keyer.pseudokey_of (g.G.Gate.may c.args.gate.now client) c.unwrap_or-at.result client c.args.call.now result in
+    let Walked : ℕ → ℕ → Result Reply AskFault → Type 0 = λ pseudokey client result. IsLockedWalk g.K.Keyer.pseudokey_of (g.G.Gate.may c.args.gate.now client) c.unwrap_or-at.result client c.args.call.now pseudokey result in
+    let keyed : c.pseudo-pseudokey.result ≡ g.K.Keyer.pseudokey_of c.args.self.now.keyer (key_of c.args.call.now) = search rules in
+    let same : g.K.Keyer.pseudokey_of c.args.self.now.keyer ≡ g.F.Identity.hashing = search rules in
+    let hashed = keyed ∙ ap (λ (hash : List ℕ → ℕ). hash (key_of c.args.call.now)) same in
     let client = c.client-client.ensures.client ∙ c.reserve.ensures.client ∙ ap (λ (seat : SeatState). seat.client) c.seat.view_is in
-    inr (c.unwrap_or-at.result, subst (Walked c.args.seat.now.client) c.in_ok-reply.was (subst (λ number. Walked number c.walk-answers.result.1) client c.walk-answers.ensures.walk))
+    let of_client = subst (λ number. Walked c.pseudo-pseudokey.result number c.walk-answers.result.1) client c.walk-answers.ensures.walk in
+    let of_key = subst (λ pseudokey. Walked pseudokey c.args.seat.now.client c.walk-answers.result.1) hashed of_client in
+    inr (c.unwrap_or-at.result, subst (Walked (g.F.Identity.hashing (key_of c.args.call.now)) c.args.seat.now.client) c.in_ok-reply.was of_key)

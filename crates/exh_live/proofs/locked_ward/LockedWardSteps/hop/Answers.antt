@@ -8,7 +8,7 @@ use Rattle.exh_live.proofs.locked_ward.LockedWardSteps.hop.Goals as goal
 pub returns-then-not-covers-clause-step : goal.returns-then-not-covers-clause-step
 returns-then-not-covers-clause-step g c =
     let ward = c.deref-2.result.now.ward in
-    let same = ap (λ (hash : List ℕ → ℕ). hash (key_of c.args.call.now)) c.covers.ensures.hashed ∙ sym c.requires.1 in (
+    let same = ap (λ (hash : List ℕ → ℕ). hash (key_of c.args.call.now)) c.covers.ensures.hashed ∙ sym c.requires in (
       omega arith,
       (ward, ward, c.covers.ensures.sound, inr (λ begins. false≢true (sym c.if-not-covers.true ∙ c.covers.ensures.covers.1 (subst (Begins (own_prefix ward)) same begins)))),
     )

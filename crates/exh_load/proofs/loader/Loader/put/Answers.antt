@@ -7,107 +7,107 @@ use Rattle.exh_load.proofs.PutIn.{are_splits_in, at_within, directory_within, is
 use Rattle.exh_load.proofs.loader.Loader.put.Goals as goal
 
 pub index_mut-ward-requires : goal.index_mut-ward-requires
-index_mut-ward-requires c =
+index_mut-ward-requires g c =
     let i = c.self.inside in
-    let old : LoaderState = record { cap = i.cap; ward_bits = i.ward_bits; keyer = i.keyer; wards = i.wards.items; directories = i.directories.items } in
-    let hashed : c.pseudo-pseudokey.result ≡ any_pseudokey i.keyer c.args.key = c.pseudo-pseudokey.ensures ∙ ap (any_pseudokey i.keyer) c.as_bytes.ensures.bytes in
-    let at_is : c.from-at.result ≡ ward_of i.ward_bits c.pseudo-pseudokey.result = c.from-at.ensures ∙ c.ward_number.ensures in
+    let old : LoaderState = record { cap = i.settings.cap; ward_bits = i.settings.ward_bits; keyer = i.settings.keyer; wards = i.wards.items; directories = i.directories.items } in
+    let hashed : c.pseudo-pseudokey.result ≡ any_pseudokey i.settings.keyer c.args.key = c.pseudo-pseudokey.ensures ∙ ap (any_pseudokey i.settings.keyer) c.as_bytes.ensures.bytes in
+    let at_is : c.from-at.result ≡ ward_of i.settings.ward_bits c.pseudo-pseudokey.result = c.from-at.ensures ∙ c.ward_number.ensures in
     let within : c.from-at.result < length i.wards.items = at_within old c.args.self.now c.self.view_is c.self.invariant c.requires c.args.key c.pseudo-pseudokey.result c.from-at.result hashed at_is in
     omega (arith, i.wards.ok.0, within)
 
 pub index_mut-directory-requires : goal.index_mut-directory-requires
-index_mut-directory-requires c =
+index_mut-directory-requires g c =
     let i = c.self.inside in
-    let old : LoaderState = record { cap = i.cap; ward_bits = i.ward_bits; keyer = i.keyer; wards = i.wards.items; directories = i.directories.items } in
-    let hashed : c.pseudo-pseudokey.result ≡ any_pseudokey i.keyer c.args.key = c.pseudo-pseudokey.ensures ∙ ap (any_pseudokey i.keyer) c.as_bytes.ensures.bytes in
-    let at_is : c.from-at.result ≡ ward_of i.ward_bits c.pseudo-pseudokey.result = c.from-at.ensures ∙ c.ward_number.ensures in
+    let old : LoaderState = record { cap = i.settings.cap; ward_bits = i.settings.ward_bits; keyer = i.settings.keyer; wards = i.wards.items; directories = i.directories.items } in
+    let hashed : c.pseudo-pseudokey.result ≡ any_pseudokey i.settings.keyer c.args.key = c.pseudo-pseudokey.ensures ∙ ap (any_pseudokey i.settings.keyer) c.as_bytes.ensures.bytes in
+    let at_is : c.from-at.result ≡ ward_of i.settings.ward_bits c.pseudo-pseudokey.result = c.from-at.ensures ∙ c.ward_number.ensures in
     let within : c.from-at.result < length i.directories.items = directory_within old c.args.self.now c.self.view_is c.self.invariant c.requires c.args.key c.pseudo-pseudokey.result c.from-at.result hashed at_is in
     omega (arith, i.directories.ok.0, within)
 
 pub put_pair-requires-clause-hashed : goal.put_pair-requires-clause-hashed
-put_pair-requires-clause-hashed c =
+put_pair-requires-clause-hashed g c =
     let i = c.self.inside in
-    let old : LoaderState = record { cap = i.cap; ward_bits = i.ward_bits; keyer = i.keyer; wards = i.wards.items; directories = i.directories.items } in
-    let hashed : c.pseudo-pseudokey.result ≡ any_pseudokey i.keyer c.args.key = c.pseudo-pseudokey.ensures ∙ ap (any_pseudokey i.keyer) c.as_bytes.ensures.bytes in
-    let at_is : c.from-at.result ≡ ward_of i.ward_bits c.pseudo-pseudokey.result = c.from-at.ensures ∙ c.ward_number.ensures in
+    let old : LoaderState = record { cap = i.settings.cap; ward_bits = i.settings.ward_bits; keyer = i.settings.keyer; wards = i.wards.items; directories = i.directories.items } in
+    let hashed : c.pseudo-pseudokey.result ≡ any_pseudokey i.settings.keyer c.args.key = c.pseudo-pseudokey.ensures ∙ ap (any_pseudokey i.settings.keyer) c.as_bytes.ensures.bytes in
+    let at_is : c.from-at.result ≡ ward_of i.settings.ward_bits c.pseudo-pseudokey.result = c.from-at.ensures ∙ c.ward_number.ensures in
     ward_hashed old c.args.self.now c.self.view_is c.self.invariant c.requires c.args.key c.pseudo-pseudokey.result c.from-at.result hashed at_is c.index_mut-ward.result.now c.index_mut-ward.ensures.value
 
 pub put_pair-requires-clause-covered : goal.put_pair-requires-clause-covered
-put_pair-requires-clause-covered c =
+put_pair-requires-clause-covered g c =
     let i = c.self.inside in
-    let old : LoaderState = record { cap = i.cap; ward_bits = i.ward_bits; keyer = i.keyer; wards = i.wards.items; directories = i.directories.items } in
-    let hashed : c.pseudo-pseudokey.result ≡ any_pseudokey i.keyer c.args.key = c.pseudo-pseudokey.ensures ∙ ap (any_pseudokey i.keyer) c.as_bytes.ensures.bytes in
-    let at_is : c.from-at.result ≡ ward_of i.ward_bits c.pseudo-pseudokey.result = c.from-at.ensures ∙ c.ward_number.ensures in
+    let old : LoaderState = record { cap = i.settings.cap; ward_bits = i.settings.ward_bits; keyer = i.settings.keyer; wards = i.wards.items; directories = i.directories.items } in
+    let hashed : c.pseudo-pseudokey.result ≡ any_pseudokey i.settings.keyer c.args.key = c.pseudo-pseudokey.ensures ∙ ap (any_pseudokey i.settings.keyer) c.as_bytes.ensures.bytes in
+    let at_is : c.from-at.result ≡ ward_of i.settings.ward_bits c.pseudo-pseudokey.result = c.from-at.ensures ∙ c.ward_number.ensures in
     ward_covers old c.args.self.now c.self.view_is c.self.invariant c.requires c.args.key c.pseudo-pseudokey.result c.from-at.result hashed at_is c.index_mut-ward.result.now c.index_mut-ward.ensures.value
 
 pub put_pair-requires-clause-told : goal.put_pair-requires-clause-told
-put_pair-requires-clause-told c =
+put_pair-requires-clause-told g c =
     let i = c.self.inside in
-    let old : LoaderState = record { cap = i.cap; ward_bits = i.ward_bits; keyer = i.keyer; wards = i.wards.items; directories = i.directories.items } in
-    let hashed : c.pseudo-pseudokey.result ≡ any_pseudokey i.keyer c.args.key = c.pseudo-pseudokey.ensures ∙ ap (any_pseudokey i.keyer) c.as_bytes.ensures.bytes in
-    let at_is : c.from-at.result ≡ ward_of i.ward_bits c.pseudo-pseudokey.result = c.from-at.ensures ∙ c.ward_number.ensures in
+    let old : LoaderState = record { cap = i.settings.cap; ward_bits = i.settings.ward_bits; keyer = i.settings.keyer; wards = i.wards.items; directories = i.directories.items } in
+    let hashed : c.pseudo-pseudokey.result ≡ any_pseudokey i.settings.keyer c.args.key = c.pseudo-pseudokey.ensures ∙ ap (any_pseudokey i.settings.keyer) c.as_bytes.ensures.bytes in
+    let at_is : c.from-at.result ≡ ward_of i.settings.ward_bits c.pseudo-pseudokey.result = c.from-at.ensures ∙ c.ward_number.ensures in
     ward_told old c.args.self.now c.self.view_is c.self.invariant c.requires c.args.key c.pseudo-pseudokey.result c.from-at.result hashed at_is c.index_mut-ward.result.now c.index_mut-ward.ensures.value c.index_mut-directory.result.now c.index_mut-directory.ensures.value
 
 pub invariant_of-self : goal.invariant_of-self
-invariant_of-self c =
+invariant_of-self g c =
     let i = c.self.inside in
-    let old : LoaderState = record { cap = i.cap; ward_bits = i.ward_bits; keyer = i.keyer; wards = i.wards.items; directories = i.directories.items } in
-    let hashed : c.pseudo-pseudokey.result ≡ any_pseudokey i.keyer c.args.key = c.pseudo-pseudokey.ensures ∙ ap (any_pseudokey i.keyer) c.as_bytes.ensures.bytes in
-    let at_is : c.from-at.result ≡ ward_of i.ward_bits c.pseudo-pseudokey.result = c.from-at.ensures ∙ c.ward_number.ensures in
+    let old : LoaderState = record { cap = i.settings.cap; ward_bits = i.settings.ward_bits; keyer = i.settings.keyer; wards = i.wards.items; directories = i.directories.items } in
+    let hashed : c.pseudo-pseudokey.result ≡ any_pseudokey i.settings.keyer c.args.key = c.pseudo-pseudokey.ensures ∙ ap (any_pseudokey i.settings.keyer) c.as_bytes.ensures.bytes in
+    let at_is : c.from-at.result ≡ ward_of i.settings.ward_bits c.pseudo-pseudokey.result = c.from-at.ensures ∙ c.ward_number.ensures in
     let kept = settings_kept c.index_mut-ward.result.now c.put_pair.new.ward (Put c.args.key c.args.value) c.put_pair.result c.put_pair.ensures.put c.put_pair.ensures.err in
     wards_left old c.args.self.now c.self.view_is c.self.invariant c.requires c.args.key c.pseudo-pseudokey.result c.from-at.result hashed at_is c.index_mut-ward.result.now c.index_mut-ward.ensures.value c.index_mut-directory.result.now c.index_mut-directory.ensures.value
     c.put_pair.new.ward c.put_pair.new.directory c.put_pair.result kept
 
 pub returns-clause-put : goal.returns-clause-put
-returns-clause-put c =
+returns-clause-put g c =
     let i = c.self.inside in
-    let old : LoaderState = record { cap = i.cap; ward_bits = i.ward_bits; keyer = i.keyer; wards = i.wards.items; directories = i.directories.items } in
-    let hashed : c.pseudo-pseudokey.result ≡ any_pseudokey i.keyer c.args.key = c.pseudo-pseudokey.ensures ∙ ap (any_pseudokey i.keyer) c.as_bytes.ensures.bytes in
-    let at_is : c.from-at.result ≡ ward_of i.ward_bits c.pseudo-pseudokey.result = c.from-at.ensures ∙ c.ward_number.ensures in
+    let old : LoaderState = record { cap = i.settings.cap; ward_bits = i.settings.ward_bits; keyer = i.settings.keyer; wards = i.wards.items; directories = i.directories.items } in
+    let hashed : c.pseudo-pseudokey.result ≡ any_pseudokey i.settings.keyer c.args.key = c.pseudo-pseudokey.ensures ∙ ap (any_pseudokey i.settings.keyer) c.as_bytes.ensures.bytes in
+    let at_is : c.from-at.result ≡ ward_of i.settings.ward_bits c.pseudo-pseudokey.result = c.from-at.ensures ∙ c.ward_number.ensures in
     is_put_in old c.args.self.now c.self.view_is c.self.invariant c.requires c.args.key c.pseudo-pseudokey.result c.from-at.result hashed at_is c.index_mut-ward.result.now c.index_mut-ward.ensures.value c.index_mut-directory.result.now c.index_mut-directory.ensures.value
     c.put_pair.new.ward c.put_pair.new.directory c.put_pair.result c.args.value c.put_pair.ensures.put
 
 pub returns-clause-err : goal.returns-clause-err
-returns-clause-err c =
+returns-clause-err g c =
     let i = c.self.inside in
-    let old : LoaderState = record { cap = i.cap; ward_bits = i.ward_bits; keyer = i.keyer; wards = i.wards.items; directories = i.directories.items } in
-    let hashed : c.pseudo-pseudokey.result ≡ any_pseudokey i.keyer c.args.key = c.pseudo-pseudokey.ensures ∙ ap (any_pseudokey i.keyer) c.as_bytes.ensures.bytes in
-    let at_is : c.from-at.result ≡ ward_of i.ward_bits c.pseudo-pseudokey.result = c.from-at.ensures ∙ c.ward_number.ensures in
+    let old : LoaderState = record { cap = i.settings.cap; ward_bits = i.settings.ward_bits; keyer = i.settings.keyer; wards = i.wards.items; directories = i.directories.items } in
+    let hashed : c.pseudo-pseudokey.result ≡ any_pseudokey i.settings.keyer c.args.key = c.pseudo-pseudokey.ensures ∙ ap (any_pseudokey i.settings.keyer) c.as_bytes.ensures.bytes in
+    let at_is : c.from-at.result ≡ ward_of i.settings.ward_bits c.pseudo-pseudokey.result = c.from-at.ensures ∙ c.ward_number.ensures in
     are_splits_in old c.args.self.now c.self.view_is c.self.invariant c.requires c.args.key c.pseudo-pseudokey.result c.from-at.result hashed at_is c.index_mut-ward.result.now c.index_mut-ward.ensures.value c.index_mut-directory.result.now c.index_mut-directory.ensures.value
     c.put_pair.new.ward c.put_pair.new.directory c.put_pair.result c.put_pair.ensures.err
 
 pub returns-clause-reply : goal.returns-clause-reply
-returns-clause-reply c =
+returns-clause-reply g c =
     let i = c.self.inside in
-    let old : LoaderState = record { cap = i.cap; ward_bits = i.ward_bits; keyer = i.keyer; wards = i.wards.items; directories = i.directories.items } in
-    let hashed : c.pseudo-pseudokey.result ≡ any_pseudokey i.keyer c.args.key = c.pseudo-pseudokey.ensures ∙ ap (any_pseudokey i.keyer) c.as_bytes.ensures.bytes in
-    let at_is : c.from-at.result ≡ ward_of i.ward_bits c.pseudo-pseudokey.result = c.from-at.ensures ∙ c.ward_number.ensures in
+    let old : LoaderState = record { cap = i.settings.cap; ward_bits = i.settings.ward_bits; keyer = i.settings.keyer; wards = i.wards.items; directories = i.directories.items } in
+    let hashed : c.pseudo-pseudokey.result ≡ any_pseudokey i.settings.keyer c.args.key = c.pseudo-pseudokey.ensures ∙ ap (any_pseudokey i.settings.keyer) c.as_bytes.ensures.bytes in
+    let at_is : c.from-at.result ≡ ward_of i.settings.ward_bits c.pseudo-pseudokey.result = c.from-at.ensures ∙ c.ward_number.ensures in
     reply_in old c.args.self.now c.self.view_is c.self.invariant c.requires c.args.key c.pseudo-pseudokey.result c.from-at.result hashed at_is c.index_mut-ward.result.now c.index_mut-ward.ensures.value c.index_mut-directory.result.now c.index_mut-directory.ensures.value
     c.put_pair.new.ward c.put_pair.new.directory c.put_pair.result c.args.value c.put_pair.ensures.put
 
 pub returns-clause-maps : goal.returns-clause-maps
-returns-clause-maps c =
+returns-clause-maps g c =
     let i = c.self.inside in
-    let old : LoaderState = record { cap = i.cap; ward_bits = i.ward_bits; keyer = i.keyer; wards = i.wards.items; directories = i.directories.items } in
-    let hashed : c.pseudo-pseudokey.result ≡ any_pseudokey i.keyer c.args.key = c.pseudo-pseudokey.ensures ∙ ap (any_pseudokey i.keyer) c.as_bytes.ensures.bytes in
-    let at_is : c.from-at.result ≡ ward_of i.ward_bits c.pseudo-pseudokey.result = c.from-at.ensures ∙ c.ward_number.ensures in
+    let old : LoaderState = record { cap = i.settings.cap; ward_bits = i.settings.ward_bits; keyer = i.settings.keyer; wards = i.wards.items; directories = i.directories.items } in
+    let hashed : c.pseudo-pseudokey.result ≡ any_pseudokey i.settings.keyer c.args.key = c.pseudo-pseudokey.ensures ∙ ap (any_pseudokey i.settings.keyer) c.as_bytes.ensures.bytes in
+    let at_is : c.from-at.result ≡ ward_of i.settings.ward_bits c.pseudo-pseudokey.result = c.from-at.ensures ∙ c.ward_number.ensures in
     maps_in old c.args.self.now c.self.view_is c.self.invariant c.requires c.args.key c.pseudo-pseudokey.result c.from-at.result hashed at_is c.index_mut-ward.result.now c.index_mut-ward.ensures.value c.index_mut-directory.result.now c.index_mut-directory.ensures.value
     c.put_pair.new.ward c.put_pair.new.directory c.put_pair.result c.args.value c.put_pair.ensures.put
 
 pub returns-clause-records : goal.returns-clause-records
-returns-clause-records c =
+returns-clause-records g c =
     let i = c.self.inside in
-    let old : LoaderState = record { cap = i.cap; ward_bits = i.ward_bits; keyer = i.keyer; wards = i.wards.items; directories = i.directories.items } in
-    let hashed : c.pseudo-pseudokey.result ≡ any_pseudokey i.keyer c.args.key = c.pseudo-pseudokey.ensures ∙ ap (any_pseudokey i.keyer) c.as_bytes.ensures.bytes in
-    let at_is : c.from-at.result ≡ ward_of i.ward_bits c.pseudo-pseudokey.result = c.from-at.ensures ∙ c.ward_number.ensures in
+    let old : LoaderState = record { cap = i.settings.cap; ward_bits = i.settings.ward_bits; keyer = i.settings.keyer; wards = i.wards.items; directories = i.directories.items } in
+    let hashed : c.pseudo-pseudokey.result ≡ any_pseudokey i.settings.keyer c.args.key = c.pseudo-pseudokey.ensures ∙ ap (any_pseudokey i.settings.keyer) c.as_bytes.ensures.bytes in
+    let at_is : c.from-at.result ≡ ward_of i.settings.ward_bits c.pseudo-pseudokey.result = c.from-at.ensures ∙ c.ward_number.ensures in
     records_left old c.args.self.now c.self.view_is c.self.invariant c.requires c.args.key c.pseudo-pseudokey.result c.from-at.result hashed at_is c.index_mut-ward.result.now c.index_mut-ward.ensures.value c.index_mut-directory.result.now c.index_mut-directory.ensures.value
     c.put_pair.new.ward c.put_pair.new.directory c.put_pair.result c.args.value c.put_pair.ensures.put
 
 pub returns-clause-loading : goal.returns-clause-loading
-returns-clause-loading c =
+returns-clause-loading g c =
     let i = c.self.inside in
-    let old : LoaderState = record { cap = i.cap; ward_bits = i.ward_bits; keyer = i.keyer; wards = i.wards.items; directories = i.directories.items } in
-    let hashed : c.pseudo-pseudokey.result ≡ any_pseudokey i.keyer c.args.key = c.pseudo-pseudokey.ensures ∙ ap (any_pseudokey i.keyer) c.as_bytes.ensures.bytes in
-    let at_is : c.from-at.result ≡ ward_of i.ward_bits c.pseudo-pseudokey.result = c.from-at.ensures ∙ c.ward_number.ensures in
+    let old : LoaderState = record { cap = i.settings.cap; ward_bits = i.settings.ward_bits; keyer = i.settings.keyer; wards = i.wards.items; directories = i.directories.items } in
+    let hashed : c.pseudo-pseudokey.result ≡ any_pseudokey i.settings.keyer c.args.key = c.pseudo-pseudokey.ensures ∙ ap (any_pseudokey i.settings.keyer) c.as_bytes.ensures.bytes in
+    let at_is : c.from-at.result ≡ ward_of i.settings.ward_bits c.pseudo-pseudokey.result = c.from-at.ensures ∙ c.ward_number.ensures in
     loading_left old c.args.self.now c.self.view_is c.self.invariant c.requires c.args.key c.pseudo-pseudokey.result c.from-at.result hashed at_is c.index_mut-ward.result.now c.index_mut-ward.ensures.value c.index_mut-directory.result.now c.index_mut-directory.ensures.value
     c.put_pair.new.ward c.put_pair.new.directory c.put_pair.result c.put_pair.ensures.told

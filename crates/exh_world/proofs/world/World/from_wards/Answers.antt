@@ -16,7 +16,7 @@ invariant_of-result g c =
     let pseudokey_of = g.K.Keyer.pseudokey_of in (
       subst (IsKeptWorld pseudokey_of) (sym (returns-clause-world g c))
           (wards_world_kept pseudokey_of c.args.config.now c.args.wards.items g.met.K.Keyer.pseudokey_fits c.requires.bits c.requires.count c.requires.each (subst (AreSoundWards pseudokey_of) c.deref.ensures.value c.in_ok-start.ensures.sound) c.walks_name_homes.ensures),
-      arrays_replicated c.args.config.now.ward_bits c.in_ok-start.start c.in_ok-copies.copies.items c.args.config.now.copies c.in_ok-start.ensures.array c.in_ok-copies.ensures,
+      arrays_replicated c.args.config.now.settings.ward_bits c.in_ok-start.start c.in_ok-copies.copies.items c.args.config.now.copies c.in_ok-start.ensures.array c.in_ok-copies.ensures,
     )
 
 pub returns-clause-sound : goal.returns-clause-sound

@@ -1,0 +1,109 @@
+#!/usr/bin/env bash
+# Times a get of one key out of a page file, beside gdbmtool's fetch of the same key, and counts what it reads.
+#
+#   bench/direct.sh [RUNS]     the best of RUNS runs counts, 5 if left out
+#
+# The files are those of bench/file.sh: of one ward of cap 16, of 1,000, 10,000 and 60,000 pages, under the keyer plain.
+# gdbmtool has the same pairs, a key as its hexadecimal digits. A run is the gets of 100 keys that stand evenly in the
+# file, each a program of its own, by the processor that they take, the start of the program included. strace counts the
+# blocks that the get of each of ten keys reads: the header, the table's blocks and one page.
+#
+# Wanted: at most 2 times gdbmtool's time, at 60,000 pages, whose table has digests of its own, 4 times; and no block more
+# than the header, the table and one page.
+#
+# Status: 0 where all that is met, 1 where something isn't, 2 where nothing could be measured.
+set -u
+export LC_ALL=C
+
+RUNS=${1:-5}
+# Pages, how many records it takes for as many, and how many times gdbmtool's time is wanted.
+SIZES=('1000 10929 2' '10000 112666 2' '60000 684805 4')
+KEYS=100
+
+die() {
+    echo "bench/direct.sh: $*" >&2
+    exit 2
+}
+
+bench=$(cd "$(dirname "$0")" && pwd) || exit 2
+root=$(dirname "$bench")
+timed=$root/crates/bench_calls/out/bench_calls
+program=$root/crates/exh_cli/out/exh_cli
+shared=/dev/shm
+[ -d "$shared" ] && [ -w "$shared" ] || shared=${TMPDIR:-/tmp}
+folder=$(mktemp -d "$shared/exhash-bench.XXXXXX") || exit 2
+trap 'rm -rf "$folder"' EXIT
+short=0
+
+for name in gdbmtool strace; do
+    [ -n "$(command -v "$name")" ] || die "there is no $name (Debian: apt-get install gdbmtool strace)"
+done
+(cd "$root/crates/bench_calls" && rt run) > "$folder/log" 2>&1 || {
+    cat "$folder/log" >&2
+    die 'the program that makes files could not be built'
+}
+[ "$("$root/exhash" get "$root/examples/three-pairs.files/three-pairs.exh" @)" = x ] ||
+    die 'exhash does not take examples/three-pairs.files/three-pairs.exh'
+cc -O2 -Wall -Wextra -o "$folder/clock" "$bench/clock.c" || die 'clock.c could not be built'
+
+# Each key as the program takes it, and as gdbmtool has it.
+write_words() {
+    "$program" dump "$folder/file.exh" | awk -v words="$folder/words" -v stores="$folder/stores" -v keys="$KEYS" '
+        BEGIN { for (i = 33; i < 127; i++) code[sprintf("%c", i)] = sprintf("%02x", i) }
+        $1 == "pair" {
+            digits = substr($2, 2)
+            if ($2 !~ /^#/) {
+                digits = ""
+                for (i = 1; i <= length($2); i++) digits = digits code[substr($2, i, 1)]
+            }
+            all[++count] = digits
+            print "store " digits " v" > stores
+        }
+        END { for (i = 1; i <= keys; i++) print all[int(count * (i - 1) / keys) + 1] > words }'
+}
+
+cat > "$folder/gets" <<'END'
+while read -r key; do "$1" get "$2" "#$key"; done < "$3"
+END
+cat > "$folder/fetches" <<'END'
+while read -r key; do gdbmtool --norc --quiet --read-only "$1" fetch "$key"; done < "$2"
+END
+
+for size in "${SIZES[@]}"; do
+    # shellcheck disable=SC2086 # Three words.
+    set -- $size
+    made=$("$timed" make "$folder/file.exh" "$2") || die "no file of $2 records could be made"
+    [ "$made" = "$1" ] || die "$2 records make $made pages, not $1"
+    rm -f "$folder/base" "$folder/stores"
+    write_words
+    gdbmtool --norc --quiet --newdb --no-lock "$folder/base" < "$folder/stores" || die 'gdbmtool made no file'
+    best='' rival=''
+    for ((run = 0; run < RUNS; run++)); do
+        line=$("$folder/clock" /dev/null /dev/null sh "$folder/gets" "$program" "$folder/file.exh" "$folder/words") ||
+            die 'a key is not found'
+        microseconds=${line%% *}
+        [ -z "$best" ] || [ "$microseconds" -lt "$best" ] && best=$microseconds
+        line=$("$folder/clock" /dev/null /dev/null sh "$folder/fetches" "$folder/base" "$folder/words") ||
+            die 'gdbmtool does not find a key'
+        microseconds=${line%% *}
+        [ -z "$rival" ] || [ "$microseconds" -lt "$rival" ] && rival=$microseconds
+    done
+    entries=$("$program" check "$folder/file.exh" | awk '{ print $NF }')
+    due=$((2 + (entries + 253) / 254))
+    for key in $(head -n 10 "$folder/words"); do
+        read=$(strace -e trace=pread64 "$program" get "$folder/file.exh" "#$key" 2>&1 >/dev/null | grep -c '^pread64')
+        if [ "$read" != "$due" ]; then
+            echo "FALLS SHORT: a get reads $read blocks at $1 pages, $due are due"
+            short=1
+        fi
+    done
+    awk -v pages="$1" -v own="$best" -v rival="$rival" -v wanted="$3" -v due="$due" -v keys="$KEYS" 'BEGIN {
+        printf "%6d pages: get %.2f ms, gdbmtool %.2f ms, %.2f times; %d blocks read\n", pages, own / keys / 1e3,
+            rival / keys / 1e3, own / rival, due
+        if (own > rival * wanted) {
+            printf "FALLS SHORT: get at %d pages: %.2f, at most %d is wanted\n", pages, own / rival, wanted
+            exit 1
+        }
+    }' || short=1
+done
+exit "$short"

@@ -1,0 +1,29 @@
+# Completions of the commands, options and paths of exhash, for bash: `source completions/exhash.bash`.
+
+_exhash() {
+    local word=${COMP_WORDS[COMP_CWORD]} last=${COMP_WORDS[COMP_CWORD - 1]} options=--help
+    COMPREPLY=()
+    if ((COMP_CWORD == 1)); then
+        mapfile -t COMPREPLY < <(compgen -W 'serve check dump load get storm help --help --version' -- "$word")
+        return
+    fi
+    case ${COMP_WORDS[1]} in
+        serve) options='--open --save --help' ;;
+        storm) options='--callers --calls --cap --wards --copies --help' ;;
+        check | dump | load) ;;
+        # The key of a get is no path.
+        get) ((COMP_CWORD == 2)) || return ;;
+        help)
+            mapfile -t COMPREPLY < <(compgen -W 'serve check dump load get storm' -- "$word")
+            return
+            ;;
+        *) return ;;
+    esac
+    if [[ $word == -* ]]; then
+        mapfile -t COMPREPLY < <(compgen -W "$options" -- "$word")
+    elif [[ ${COMP_WORDS[1]} != storm && (${COMP_WORDS[1]} != serve || $last == --open || $last == --save) ]]; then
+        mapfile -t COMPREPLY < <(compgen -f -- "$word")
+    fi
+}
+
+complete -o filenames -F _exhash exhash exh_cli

@@ -1,0 +1,432 @@
+-- What is answered of a key of a legal file: nothing but its map.
+use Rattle.std.proofs.Common.{◌≡◌, ℕ, zero, suc, ◌+◌, ◌*◌, ◌-◌, ◌<◌, ◌≤◌, ◌^◌, min, Bool, cond, List, [], ◌∷◌, ◌++◌, length, map, take, drop, get_or, slice_get, slice_index, inl, inr, Option, None, Some, Result, Ok, Err, refl, sym, ap, ap₂, ◌∙◌, subst, take-append-drop, arith}
+use Rattle.std.specs.Prelude.{IfErr, IfOk, MatchResult}
+use Rattle.std.specs.FinMap.{empty, get}
+use Rattle.std.specs.List.{AllByRecursion}
+use Rattle.std.specs.Option.{option_to_list}
+use Rattle.std.specs.Io.KnownBytes.{Appends}
+use Rattle.std.specs.declared.cmp.Ordering.TheVariants.{Less}
+use Rattle.std.proofs.KnownBytes.{Appends-trans}
+use Rattle.std.proofs.lemmas.Bool.{cases_lt, le-leb}
+use Rattle.std.proofs.lemmas.List.{drop-drop, drop-take, length-drop, length-take, length-take-le, map-append, take-take, take_all, get_or-take}
+use Rattle.std.proofs.lemmas.Nat.{pow_below}
+use Rattle.std.proofs.lemmas.Option.{slice_get-get_or, slice_get_within}
+use Rattle.exh_keyer.specs.Pseudokey.{any_pseudokey}
+use Rattle.exh_keyer.specs.PseudokeyFits.{any_pseudokey-lt}
+use Rattle.exh_prefix.specs.BitLemmas.{bits_of-number_of}
+use Rattle.exh_prefix.specs.Bits.{bits_of, word_bits}
+use Rattle.exh_prefix.specs.Leading.{ward_prefix}
+use Rattle.exh_prefix.specs.LeadingLemmas.{leading-lt, length-leading_bits}
+use Rattle.exh_prefix.specs.Prefix.{Begins, begins, low_of, prefix_cmp}
+use Rattle.exh_prefix.specs.PrefixLemmas.{begins_low, is_front-true}
+use Rattle.exh_prefix.specs.Version.{Fits}
+use Rattle.exh_table.specs.declared.leaf.Leaf.{Leaf}
+use Rattle.exh_table.specs.Table.{TableMap}
+use Rattle.exh_table.specs.Walk.{walk_in}
+use Rattle.exh_page.specs.declared.page.Page.{Page}
+use Rattle.exh_page.specs.declared.page.Page.TheVariants.{Live}
+use Rattle.exh_page.specs.declared.record.Record.{Record}
+use Rattle.exh_page.specs.Page.{records_of}
+use Rattle.exh_page.specs.Records.{value_at}
+use Rattle.exh_legal.specs.Laws.{IsWard, WalksNameHomes}
+use Rattle.exh_legal.specs.MapLemmas.{get-map_of}
+use Rattle.exh_legal.specs.Pages.{IsAt, IsLegal}
+use Rattle.exh_codec.specs.declared.image_fault.ImageFault.{ImageFault}
+use Rattle.exh_codec.specs.ImageTests.{IsFirst}
+use Rattle.exh_codec.specs.Laws.{ImagesAreBlocks, ImagesPass, OnePage}
+use Rattle.exh_codec.specs.PageImage.{IsImage}
+use Rattle.exh_file.specs.declared.file_entry.FileEntry.{FileEntry}
+use Rattle.exh_file.specs.declared.file_fault.FileFault.{FileFault}
+use Rattle.exh_file.specs.declared.header.Header.{Header}
+use Rattle.exh_file.specs.FileVersion.{FitsFile, first_file}
+use Rattle.exh_file.specs.FirstFailing.{IsFirstFailing}
+use Rattle.exh_file.specs.HeaderImage.{IsHeaderImage}
+use Rattle.exh_file.specs.Laws.{HeadersAreBlocks, HeadersPass, IsOfTable, OneHeader, OneTable, TablesAreBlocks, TablesPass}
+use Rattle.exh_file.specs.TableImage.{AreRising, IsTableImage, prefixes_of}
+use Rattle.exh_page_file.specs.FileTests.{HeaderFails, IsWhole, PageFails, TableFails, block_at, bytes_from}
+use Rattle.exh_page_file.specs.PageFile.{PageFile, page_block, table_block, table_blocks}
+use Rattle.exh_page_file.specs.Reading.{AreBytes, last_prefix}
+use Rattle.exh_legal_file.specs.LegalFile.{IsLegalPageFile, parts_in, table_naming}
+use Rattle.exh_legal_file.specs.LegalFileLemmas.{count_of_wards, few_bits, table_naming_at}
+use Rattle.exh_direct.specs.declared.direct_fault.DirectFault.{DirectFault}
+use Rattle.exh_direct.specs.declared.direct_fault.DirectFault.TheVariants.{File, Astray, Read, Memory}
+use Rattle.exh_direct.specs.declared.lead.Lead.TheVariants.{Home, Nowhere, To}
+use Rattle.exh_direct.specs.Answer.{FailsAtEnd, FailsBehind, FailsOnWay, Finds, FindsOnWay, IsPageIn, IsTable, IsTableFront, IsWay, Refuses, block_of, head_places, page_named, page_place, pages_in, place_in, pseudokey_in, table_place, ward_in}
+use Rattle.exh_direct.specs.Known.{BlockFails, IsHeaderAt}
+use Rattle.exh_direct.specs.Laws.{FindsInFile, IsOtherFault, map_in}
+use Rattle.exh_direct.specs.Way.{lead_of, lead_right}
+use Rattle.exh_direct.proofs.FileBlocks.{StandsAt, block_image, header_is, header_stands, page_image, page_stands, table_stands}
+use Rattle.exh_direct.proofs.FileMap.{get_in_ward, legal_from}
+
+pub first_file_fits : FitsFile first_file
+first_file_fits = record { number = omega arith; limit = omega arith; images = record { limit = omega arith; bytes = omega arith } }
+
+-- ---- no fault where all tests are passed
+
+all_back : {X : Type 0} (P : X → Type 0) (front back : List X) → AllByRecursion P (front ++ back) → AllByRecursion P back
+all_back P [] back all = all
+all_back P (y ∷ front) back all = all_back P front back all.1
+
+none_first : {Test : Type 0} (Passed : Test → Type 0) (tests : List Test) (test : Test) → IsFirstFailing Passed tests test → AllByRecursion Passed tests → ⊥
+none_first Passed tests test first all = first.fails (all_back Passed first.before (test ∷ first.after) (subst (AllByRecursion Passed) first.stands all)).0
+
+none_first_image : (Passed : ImageFault → Type 0) (tests : List ImageFault) (test : ImageFault) → IsFirst Passed tests test → AllByRecursion Passed tests → ⊥
+none_first_image Passed tests test first all = first.fails (all_back Passed first.before (test ∷ first.after) (subst (AllByRecursion Passed) first.stands all)).0
+
+-- a whole block that doesn't fail has no fault of the file
+no_fault : (Fails : List ℕ → FileFault → Type 0) (bytes : List ℕ) (place : ℕ) (fault : DirectFault) → IsWhole place bytes → ((file : FileFault) → Fails (block_at place bytes) file → ⊥) → BlockFails Fails (Some bytes) place fault → IsOtherFault fault
+no_fault Fails bytes place (File file) whole none (inl cut) = absurd (omega (arith, whole, cut.0))
+no_fault Fails bytes place (File file) whole none (inr fails) = none file fails.1
+no_fault Fails bytes place Astray whole none fails = fails
+no_fault Fails bytes place Read whole none fails = tt
+no_fault Fails bytes place Memory whole none fails = tt
+
+byte_at : (bytes : List ℕ) → AreBytes bytes → (i : ℕ) → get_or bytes i 0 < 256
+byte_at [] all i = omega arith
+byte_at (byte ∷ bytes) all zero = all.0
+byte_at (byte ∷ bytes) all (suc i) = byte_at bytes all.1 i
+
+all_dropped : (n : ℕ) (bytes : List ℕ) → AreBytes bytes → AreBytes (drop n bytes)
+all_dropped zero bytes all = all
+all_dropped (suc n) [] all = tt
+all_dropped (suc n) (byte ∷ bytes) all = all_dropped n bytes all.1
+
+all_taken : (n : ℕ) (bytes : List ℕ) → AreBytes bytes → AreBytes (take n bytes)
+all_taken zero bytes all = tt
+all_taken (suc n) [] all = tt
+all_taken (suc n) (byte ∷ bytes) all = (all.0, all_taken n bytes all.1)
+
+bytes_of_block : (place : ℕ) (bytes : List ℕ) → AreBytes bytes → (i : ℕ) → slice_index (block_at place bytes) i < 256
+bytes_of_block place bytes small = byte_at (block_at place bytes) (all_taken 4096 (bytes_from place bytes) (all_dropped (4096 * place) bytes small))
+
+-- ---- entries by their blocks
+
+same_from_blocks : (blocks : ℕ) (one other : List FileEntry) → length one ≤ 254 * blocks → ((number : ℕ) → number < blocks → block_of number one ≡ block_of number other) → one ≡ take (254 * blocks) other
+same_from_blocks zero [] other few same = refl
+same_from_blocks zero (item ∷ one) other few same = absurd (omega (arith, few))
+same_from_blocks (suc blocks) one other few same =
+    let later : (number : ℕ) (entries : List FileEntry) → block_of number (drop 254 entries) ≡ block_of (suc number) entries = λ number entries.
+    (let next : 254 + 254 * number ≡ 254 * suc number = omega arith in ap (take 254) (drop-drop (254 * number) 254 entries ∙ ap (λ (n : ℕ). drop n entries) next)) in
+    let rest = same_from_blocks blocks (drop 254 one) (drop 254 other) (omega (arith, length-drop 254 one, few)) (λ number less. later number one ∙ same (suc number) (omega (arith, less)) ∙ sym (later number other)) in
+    let all = take (254 * suc blocks) other in
+    let more : 254 * suc blocks ≡ 254 + 254 * blocks = omega arith in
+    let front : take 254 all ≡ take 254 one = take-take 254 (254 * suc blocks) other (omega arith) ∙ sym (same 0 (omega arith)) in
+    let back : drop 254 all ≡ drop 254 one = ap (λ (n : ℕ). drop 254 (take n other)) more ∙ drop-take 254 (254 * blocks) other ∙ sym rest in
+    let parts : take 254 all ++ drop 254 all ≡ take 254 one ++ drop 254 one = ap₂ (λ (a b : List FileEntry). a ++ b) front back in
+    sym (take-append-drop 254 one) ∙ sym parts ∙ take-append-drop 254 all
+
+-- ---- prefixes of the first entries, and of the others
+
+all_front : {X : Type 0} (P : X → Type 0) (front back : List X) → AllByRecursion P (front ++ back) → AllByRecursion P front
+all_front P [] back all = tt
+all_front P (y ∷ front) back all = (all.0, all_front P front back all.1)
+
+rising_front : (before : Option (List Bool)) (front back : List FileEntry) → AreRising (option_to_list before ++ prefixes_of (front ++ back)) → AreRising (option_to_list before ++ prefixes_of front)
+rising_front None [] back rising = tt
+rising_front (Some prefix) [] back rising = (tt, tt)
+rising_front None (item ∷ front) back rising = rising_front (Some item.prefix) front back rising
+rising_front (Some prefix) (item ∷ front) back rising =
+    let parts = map-append (λ (item : FileEntry). item.prefix) (item ∷ front) back in (
+      all_front (λ (other : List Bool). prefix_cmp prefix other ≡ Less) (prefixes_of (item ∷ front)) (prefixes_of back) (subst (AllByRecursion (λ (other : List Bool). prefix_cmp prefix other ≡ Less)) parts rising.0),
+      rising_front (Some item.prefix) front back rising.1,
+    )
+
+rising_back : (before : Option (List Bool)) (front back : List FileEntry) → AreRising (option_to_list before ++ prefixes_of (front ++ back)) → AreRising (option_to_list (last_prefix before front) ++ prefixes_of back)
+rising_back before [] back rising = rising
+rising_back None (item ∷ front) back rising = rising_back (Some item.prefix) front back rising
+rising_back (Some prefix) (item ∷ front) back rising = rising_back (Some item.prefix) front back rising.1
+
+-- behind a front that ends where a block begins
+rising_block : (number : ℕ) (entries : List FileEntry) → AreRising (prefixes_of entries) → AreRising (option_to_list (last_prefix None (take (254 * number) entries)) ++ prefixes_of (block_of number entries))
+rising_block number entries rising =
+    let front = take (254 * number) entries in
+    let back = drop (254 * number) entries in
+    let behind = rising_back None front back (subst (λ (all : List FileEntry). AreRising (prefixes_of all)) (sym (take-append-drop (254 * number) entries)) rising) in
+    rising_front (last_prefix None front) (take 254 back) (drop 254 back) (subst (λ (all : List FileEntry). AreRising (option_to_list (last_prefix None front) ++ prefixes_of all)) (sym (take-append-drop 254 back)) behind)
+
+-- ---- a legal file
+
+-- the laws that are cited
+pub record Laws : Type 0 where
+  pub one_page : OnePage
+  pub pages_pass : ImagesPass
+  pub page_blocks : ImagesAreBlocks
+  pub one_header : OneHeader
+  pub one_table : OneTable
+  pub headers_pass : HeadersPass
+  pub tables_pass : TablesPass
+  pub header_blocks : HeadersAreBlocks
+  pub table_blocks : TablesAreBlocks
+  pub walks : WalksNameHomes
+
+module _ (laws : Laws) (file : PageFile) (bytes : List ℕ) (small : AreBytes bytes) (legal : IsLegalPageFile first_file file bytes) where
+  abbrev header : Header
+  header = file.header
+
+  abbrev pseudo : List ℕ → ℕ
+  pseudo = any_pseudokey file.header.settings.keyer
+
+  -- ---- its header
+
+  same_header : (other : Header) → IsHeaderAt first_file (Some bytes) other → other ≡ file.header
+  same_header other (block, at, image) =
+      let here : IsHeaderImage first_file other (block_at 0 bytes) = subst (IsHeaderImage first_file other) at.1 image in
+      laws.one_header first_file first_file_fits (block_at 0 bytes) other file.header here (header_is first_file first_file_fits laws.page_blocks laws.header_blocks laws.table_blocks file bytes legal.is)
+
+  no_header_fault : (fault : DirectFault) → BlockFails (HeaderFails first_file) (Some bytes) 0 fault → IsOtherFault fault
+  no_header_fault fault fails =
+      let stands = header_stands first_file first_file_fits laws.page_blocks laws.header_blocks laws.table_blocks file bytes legal.is in
+      let passed = (laws.headers_pass first_file first_file_fits (block_at 0 bytes) (length-take-le 4096 (bytes_from 0 bytes) stands.whole) (bytes_of_block 0 bytes small)).0
+      (file.header, header_is first_file first_file_fits laws.page_blocks laws.header_blocks laws.table_blocks file bytes legal.is) in
+      no_fault (HeaderFails first_file) bytes 0 fault stands.whole (λ (fault : FileFault). λ (first : HeaderFails first_file (block_at 0 bytes) fault). none_first _ _ fault first passed) fails
+
+  -- ---- its table
+
+  table_at : (number : ℕ) → number < table_blocks file.header.entry_count → StandsAt (table_place file.header + number) bytes (table_block first_file.images (block_of number file.entries))
+  table_at number less = table_stands first_file first_file_fits laws.page_blocks laws.header_blocks laws.table_blocks file bytes legal.is number less
+
+  image_of_block : (number : ℕ) → IsTableImage first_file.images (block_of number file.entries) (table_block first_file.images (block_of number file.entries))
+  image_of_block number = block_image first_file first_file_fits laws.page_blocks laws.header_blocks laws.table_blocks file bytes legal.is number
+
+  same_block : (blocks : ℕ) (entries : List FileEntry) → IsTableFront first_file (Some bytes) file.header blocks entries → blocks ≤ table_blocks file.header.entry_count → (number : ℕ) → number < blocks → block_of number entries ≡ block_of number file.entries
+  same_block blocks entries front few number less =
+      let stands = table_at number (omega (arith, less, few)) in
+      let read = front.each number less in
+      let block : read.0 ≡ table_block first_file.images (block_of number file.entries) = read.1.1 ∙ stands.is in
+      laws.one_table first_file.images first_file_fits.images (table_block first_file.images (block_of number file.entries)) (block_of number entries) (block_of number file.entries)
+      (subst (IsTableImage first_file.images (block_of number entries)) block read.2) (image_of_block number)
+
+  same_front : (blocks : ℕ) (entries : List FileEntry) → IsTableFront first_file (Some bytes) file.header blocks entries → blocks ≤ table_blocks file.header.entry_count → entries ≡ take (254 * blocks) file.entries
+  same_front blocks entries front few = same_from_blocks blocks entries file.entries (omega (arith, front.count)) (same_block blocks entries front few)
+
+  same_table : (entries : List FileEntry) → IsTable first_file (Some bytes) file.header entries → entries ≡ file.entries
+  same_table entries table =
+      same_front (table_blocks file.header.entry_count) entries table (omega arith)
+      ∙ take_all (254 * table_blocks file.header.entry_count) file.entries (let count = legal.is.valid.count in omega (arith, count))
+
+  no_table_fault : (fault : DirectFault) → FailsBehind first_file (Some bytes) file.header fault → IsOtherFault fault
+  no_table_fault fault behind =
+      let number = behind.blocks in
+      let entries = block_of number file.entries in
+      let count = min 254 (file.header.entry_count - 254 * number) in
+      let before = last_prefix None behind.entries in
+      let stands = table_at number behind.fewer in
+      let is_front : behind.entries ≡ take (254 * number) file.entries = same_front number behind.entries behind.front (omega (arith, behind.fewer)) in
+      let all : length entries ≡ count = (let full = legal.is.valid.count in omega (arith, length-take 254 (drop (254 * number) file.entries), length-drop (254 * number) file.entries, full)) in
+      let rising = subst (λ (front : List FileEntry). AreRising (option_to_list (last_prefix None front) ++ prefixes_of entries)) (sym is_front) (rising_block number file.entries legal.is.valid.rising) in
+      let of_table : IsOfTable first_file.images count before entries (block_at (table_place file.header + number) bytes) = record {
+        image = subst (IsTableImage first_file.images entries) (sym stands.is) (image_of_block number);
+        all = all;
+        rising = rising;
+      } in
+      let passed = (laws.tables_pass first_file.images first_file_fits.images count before (block_at (table_place file.header + number) bytes)
+      (length-take-le 4096 (bytes_from (table_place file.header + number) bytes) stands.whole) (bytes_of_block (table_place file.header + number) bytes small) (omega arith)).0 (entries, of_table) in
+      no_fault (TableFails first_file.images (table_place file.header + number) count before) bytes (table_place file.header + number) fault stands.whole
+      (λ (fault : FileFault). λ (named : TableFails first_file.images (table_place file.header + number) count before (block_at (table_place file.header + number) bytes) fault). none_first _ _ named.1.0 named.1.1 passed) behind.fails
+
+  -- ---- the page of a key
+
+  module _ (key : List ℕ) where
+    abbrev k : ℕ
+    k = pseudokey_in file.header key
+
+    abbrev bits : ℕ
+    bits = file.header.settings.ward_bits
+
+    abbrev w : ℕ
+    w = ward_in file.header key
+
+    few_bits_there : bits ≤ 4
+    few_bits_there = few_bits file legal.is.valid
+
+    small_key : k < 2 ^ 64
+    small_key = any_pseudokey-lt file.header.settings.keyer key
+
+    ward_less : w < 2 ^ bits
+    ward_less = leading-lt bits k (omega (arith, few_bits_there))
+
+    abbrev own_pages : List Page
+    own_pages = get_or file.wards w []
+
+    ward_there : slice_get file.wards w ≡ Some own_pages
+    ward_there = slice_get-get_or file.wards w [] (omega (arith, count_of_wards file legal.is.valid, ward_less))
+
+    front_len : length (take bits (word_bits k)) ≡ bits
+    front_len = length-leading_bits bits k (omega (arith, few_bits_there))
+
+    ward_prefix_is : ward_prefix bits w ≡ take bits (word_bits k)
+    ward_prefix_is = ap (λ (n : ℕ). bits_of n w) (sym front_len) ∙ bits_of-number_of (take bits (word_bits k))
+
+    ward_begins : Begins (ward_prefix bits w) k
+    ward_begins = subst (λ (prefix : List Bool). Begins prefix k) (sym ward_prefix_is) (ap (λ (n : ℕ). take n (word_bits k)) front_len)
+
+    abbrev own_table : TableMap
+    own_table = get_or (parts_in file).tables w empty
+
+    own_ward : IsWard file.header.settings.cap pseudo (ward_prefix bits w) own_table [] own_table own_pages
+    own_ward = legal.legal.wards w own_pages ward_there
+
+    table_is : own_table ≡ table_naming file.entries w
+    table_is = table_naming_at file.entries w (omega (arith, ward_less, pow_most bits few_bits_there))
+      where
+        pow_most : (bits : ℕ) → bits ≤ 4 → 2 ^ bits ≤ 16
+        pow_most bits few = elim (cases_lt bits 4) [
+          | inl less ↦ (let lower = pow_below bits 4 less in omega (arith, lower))
+          | inr past ↦ (let same : bits ≡ 4 = omega (arith, few, past) in subst (λ (n : ℕ). 2 ^ n ≤ 16) (sym same) (omega arith))
+        ]
+
+    -- a page that begins the pseudokey, at the number that the table names
+    pub record HasHome : Type 0 where
+      pub number : ℕ
+      pub prefix : List Bool
+      pub right : Option ℕ
+      pub records : List Record
+      pub at : IsAt own_pages number (Live prefix right records)
+      pub begins : Begins prefix k
+      pub named : page_named file.header k file.entries ≡ number
+
+    has_home : HasHome
+    has_home =
+        let names = laws.walks file.header.settings.cap pseudo (ward_prefix bits w) own_table [] own_table own_pages k own_ward small_key ward_begins in
+        let live = names.live in
+        record {
+          number = names.leaf.page;
+          prefix = names.leaf.prefix;
+          right = live.0;
+          records = live.1;
+          at = live.2;
+          begins = names.name.begins;
+          named = ap (λ (leaf : Leaf). leaf.page) ((λ i. walk_in (sym table_is i) (sym ward_prefix_is i) k) ∙ names.walk);
+        }
+
+    module _ (home : HasHome) where
+      abbrev own : Page
+      own = Live home.prefix home.right home.records
+
+      abbrev own_place : ℕ
+      own_place = page_place file.header w home.number
+
+      few_ward : w ≤ 2 ^ bits
+      few_ward = omega (arith, ward_less)
+
+      own_image : IsImage first_file.images pseudo own (block_at own_place bytes)
+      own_image = page_image first_file first_file_fits laws.page_blocks laws.header_blocks laws.table_blocks file bytes legal.is w home.number own_pages own few_ward ward_there home.at
+
+      own_stands : StandsAt own_place bytes (page_block own)
+      own_stands = page_stands first_file first_file_fits laws.page_blocks laws.header_blocks laws.table_blocks file bytes legal.is w home.number own_pages own few_ward ward_there home.at
+
+      fits_page : Fits 8 first_file.images
+      fits_page = record { limit = omega arith; bytes = omega arith }
+
+      same_page : (page : Page) → IsPageIn first_file (Some bytes) file.header key home.number page → page ≡ own
+      same_page page there =
+          let read = there.is in
+          laws.one_page first_file.images fits_page pseudo (block_at own_place bytes) page own (subst (IsImage first_file.images pseudo page) read.1.1 read.2) own_image
+
+      leads_home : lead_of own k ≡ Home
+      leads_home =
+          let short : length home.prefix ≤ 16 = own_image.valid.in_range.0 in
+          let low : low_of home.prefix ≤ k = (begins_low home.prefix k (omega (arith, short)) small_key home.begins).0 in
+          ap (λ (b : Bool). cond b (cond (begins home.prefix k) Home (lead_right home.right)) Nowhere) (le-leb (low_of home.prefix) k low)
+          ∙ ap (λ (b : Bool). cond b Home (lead_right home.right)) (is_front-true home.prefix (word_bits k) home.begins)
+
+      -- so a way that begins there ends there
+      pub record Stays (way : List ℕ) (number : ℕ) : Type 0 where
+        pub none : way ≡ []
+        pub is : number ≡ home.number
+
+      stays : (first : ℕ) (way : List ℕ) (number : ℕ) → first ≡ home.number → IsWay first_file (Some bytes) file.header key first way number → Stays way number
+      stays first [] number begins leads = record { none = refl; is = sym leads ∙ begins }
+      stays first (one ∷ way) number begins (same, page, there, next, on, rest) =
+          let here : one ≡ home.number = same ∙ begins in
+          let is = same_page page (subst (λ (n : ℕ). IsPageIn first_file (Some bytes) file.header key n page) here there) in
+          let never : Home ≡ To next = sym leads_home ∙ ap (λ (page : Page). lead_of page k) (sym is) ∙ on in
+          cc
+
+      counted : pages_in file.header key ≡ length own_pages
+      counted =
+          let many : get_or (take (2 ^ bits) file.header.page_counts) w 0 ≡ get_or file.header.page_counts w 0 = get_or-take (2 ^ bits) file.header.page_counts w 0 ward_less in
+          sym many ∙ ap (λ (counts : List ℕ). get_or counts w 0) (sym legal.is.valid.counts) ∙ count_at file.wards w own_pages ward_there
+        where
+          count_at : (wards : List (List Page)) (ward : ℕ) (pages : List Page) → slice_get wards ward ≡ Some pages → get_or (map length wards) ward 0 ≡ length pages
+          count_at [] ward pages there = cc
+          count_at (one ∷ wards) zero pages there = let same : one ≡ pages = cc in ap (λ (pages : List Page). length pages) same
+          count_at (one ∷ wards) (suc ward) pages there = count_at wards ward pages there
+
+      within : home.number < pages_in file.header key
+      within = omega (arith, counted, slice_get_within own_pages home.number own home.at)
+
+      no_page_fault : (fault : DirectFault) → BlockFails (PageFails first_file.images pseudo own_place) (Some bytes) own_place fault → IsOtherFault fault
+      no_page_fault fault fails =
+          let passed = (laws.pages_pass first_file.images fits_page pseudo (block_at own_place bytes) (length-take-le 4096 (bytes_from own_place bytes) own_stands.whole) (bytes_of_block own_place bytes small)).0 (own, own_image) in
+          no_fault (PageFails first_file.images pseudo own_place) bytes own_place fault own_stands.whole
+          (λ (fault : FileFault). λ (named : PageFails first_file.images pseudo own_place (block_at own_place bytes) fault). none_first_image _ _ named.0 named.1 passed) fails
+
+      no_end_fault : (number : ℕ) (fault : DirectFault) → number ≡ home.number → FailsAtEnd first_file (Some bytes) file.header key [] number fault → IsOtherFault fault
+      no_end_fault number (File fault) here fails =
+          no_page_fault (File fault) (subst (λ (n : ℕ). BlockFails (PageFails first_file.images pseudo (page_place file.header w n)) (Some bytes) (page_place file.header w n) (File fault)) here fails.1)
+      no_end_fault number Astray here (inl none) = absurd (omega (arith, none, within))
+      no_end_fault number Astray here (inr (inl outside)) = absurd (omega (arith, outside, within, here))
+      no_end_fault number Astray here (inr (inr (page, there, nowhere))) =
+          let is = same_page page (subst (λ (n : ℕ). IsPageIn first_file (Some bytes) file.header key n page) here there) in
+          let never : Home ≡ Nowhere = sym leads_home ∙ ap (λ (page : Page). lead_of page k) (sym is) ∙ nowhere in
+          cc
+      no_end_fault number Read here fails = tt
+      no_end_fault number Memory here fails = tt
+
+      no_way_fault : (old new : Option (List ℕ)) (fault : DirectFault) → FailsOnWay first_file (Some bytes) file.header key (page_named file.header k file.entries) old new fault → IsOtherFault fault
+      no_way_fault old new fault fails =
+          let end = stays _ fails.way fails.number home.named fails.leads in
+          no_end_fault fails.number fault end.is (subst (λ (way : List ℕ). FailsAtEnd first_file (Some bytes) file.header key way fails.number fault) end.none fails.fails)
+
+      -- ---- its value
+
+      value_is : value_at (k, key) home.records ≡ get (map_in file) key
+      value_is =
+          let legal_pages = own_ward.legal.legal in
+          let all_legal = legal_from file.header.settings.cap pseudo bits 0 file.wards (λ number pages there.
+          (let same : number ≡ 0 + number = omega arith in subst (λ (n : ℕ). IsLegal file.header.settings.cap pseudo (ward_prefix bits n) pages) same (legal.legal.wards number pages there).legal.legal)) in
+          sym (get_in_ward file.header.settings.cap pseudo bits w file.wards own_pages key all_legal (count_of_wards file legal.is.valid) ward_there legal_pages.each ward_begins
+          ∙ get-map_of file.header.settings.cap pseudo (ward_prefix bits w) own_pages home.number own key legal_pages home.at home.begins)
+
+      found_in_file : (old between new : Option (List ℕ)) (value : Option (List ℕ)) → Appends old between (head_places file.header) → FindsOnWay first_file (Some bytes) file.header key (page_named file.header k file.entries) between new value → FindsInFile file key old new value
+      found_in_file old between new value heads found =
+          let end = stays _ found.way found.number home.named found.leads in
+          let page = same_page found.page (subst (λ (n : ℕ). IsPageIn first_file (Some bytes) file.header key n found.page) end.is found.there) in
+          let places : map (place_in file.header key) (found.way ++ found.number ∷ []) ≡ own_place ∷ [] = (λ i. map (place_in file.header key) (end.none i ++ end.is i ∷ [])) in
+          record {
+            is = found.is ∙ ap (λ (page : Page). value_at (k, key) (records_of page)) page ∙ value_is;
+            ward = w;
+            number = home.number;
+            reads = Appends-trans old between new (head_places file.header) (own_place ∷ []) heads (subst (Appends between new) places found.reads);
+          }
+
+    -- ---- the answer
+
+    pub answers : (old new : Option (List ℕ)) (value : Option (List ℕ)) → Finds first_file (Some bytes) key old new value → FindsInFile file key old new value
+    answers old new value finds =
+        let head = same_header finds.header finds.head in
+        let table = same_table finds.entries (subst (λ (header : Header). IsTable first_file (Some bytes) header finds.entries) head finds.table) in
+        found_in_file has_home old finds.between new value
+        (subst (λ (header : Header). Appends old finds.between (head_places header)) head finds.heads)
+        (subst (λ (entries : List FileEntry). FindsOnWay first_file (Some bytes) file.header key (page_named file.header k entries) finds.between new value) table
+        (subst (λ (header : Header). FindsOnWay first_file (Some bytes) header key (page_named header (pseudokey_in header key) finds.entries) finds.between new value) head finds.found))
+
+    pub no_refusal : (old new : Option (List ℕ)) (fault : DirectFault) → Refuses first_file (Some bytes) key old new fault → IsOtherFault fault
+    no_refusal old new fault (inl refused) = no_header_fault fault refused.0
+    no_refusal old new fault (inr (other, (head, inl behind))) =
+        no_table_fault fault (subst (λ (header : Header). FailsBehind first_file (Some bytes) header fault) (same_header other head) behind.0)
+    no_refusal old new fault (inr (other, (head, inr (entries, table, between, heads, way)))) =
+        let same = same_header other head in
+        let all = same_table entries (subst (λ (header : Header). IsTable first_file (Some bytes) header entries) same table) in
+        no_way_fault has_home between new fault
+        (subst (λ (entries : List FileEntry). FailsOnWay first_file (Some bytes) file.header key (page_named file.header k entries) between new fault) all
+        (subst (λ (header : Header). FailsOnWay first_file (Some bytes) header key (page_named header (pseudokey_in header key) entries) between new fault) same way))
+
+-- where the file's bytes are known
+pub every : Laws → (known old new : Option (List ℕ)) (key : List ℕ) (result : Result (Option (List ℕ)) DirectFault) → IfOk result (Finds first_file known key old new) → IfErr result (Refuses first_file known key old new)
+    → (file : PageFile) (bytes : List ℕ) → known ≡ Some bytes → AreBytes bytes → IsLegalPageFile first_file file bytes → MatchResult result (FindsInFile file key old new) IsOtherFault
+every laws known old new key (Ok value) found refused file bytes knows small legal =
+    answers laws file bytes small legal key old new value (subst (λ (known : Option (List ℕ)). Finds first_file known key old new value) knows found)
+every laws known old new key (Err fault) found refused file bytes knows small legal =
+    no_refusal laws file bytes small legal key old new fault (subst (λ (known : Option (List ℕ)). Refuses first_file known key old new fault) knows refused)

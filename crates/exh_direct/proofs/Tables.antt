@@ -1,0 +1,120 @@
+-- A table that is read block by block.
+use Rattle.std.proofs.Common.{◌≡◌, ℕ, ◌+◌, ◌*◌, ◌-◌, ◌<◌, ◌≤◌, ◌^◌, min, Bool, List, [], ◌∷◌, ◌++◌, length, get_or, take, drop, Option, None, Some, inl, inr, refl, sym, ap, ◌∙◌, subst, arith}
+use Rattle.std.specs.List.{AllByRecursion, sum}
+use Rattle.std.specs.Option.{option_to_list}
+use Rattle.std.specs.declared.cmp.Ordering.TheVariants.{Less}
+use Rattle.std.proofs.lemmas.Bool.{cases_lt}
+use Rattle.std.proofs.lemmas.List.{drop_at, drop-append-le, length-append, length-drop, length-take, take-append-le, take_all, take_more}
+use Rattle.std.proofs.lemmas.List.Sums.{sum_by-cons, sum_by_more_le, sum_by-take-drop, sum_by-take-le}
+use Rattle.std.proofs.lemmas.Nat.{pow_below}
+use Rattle.exh_prefix.specs.Prefix.{prefix_cmp}
+use Rattle.exh_prefix.specs.PrefixLemmas.{prefix_cmp-total}
+use Rattle.exh_file.specs.declared.file_entry.FileEntry.{FileEntry}
+use Rattle.exh_file.specs.declared.header.Header.{Header}
+use Rattle.exh_file.specs.FileVersion.{FileVersion, first_file}
+use Rattle.exh_file.specs.HeaderImage.{IsHeader, IsPageCount}
+use Rattle.exh_file.specs.TableImage.{AreRising, IsFileEntry, prefixes_of}
+use Rattle.exh_page_file.specs.Reading.{last_prefix}
+use Rattle.exh_direct.specs.Answer.{IsTableFront, block_of, table_place}
+use Rattle.exh_direct.specs.Known.{IsTableBlock}
+
+-- ---- prefixes
+
+pub last_of_more : (before : Option (List Bool)) (entries : List FileEntry) (item : FileEntry) → last_prefix before (entries ++ item ∷ []) ≡ Some item.prefix
+last_of_more before [] item = refl
+last_of_more before (one ∷ entries) item = last_of_more (Some one.prefix) entries item
+
+-- the last entry of some is there
+pub last_there : (before : Option (List Bool)) (entries : List FileEntry) (d : FileEntry) → 0 < length entries → last_prefix before entries ≡ Some (get_or entries (length entries - 1) d).prefix
+last_there before entries d some =
+    let i = length entries - 1 in
+    let whole : take (i + 1) entries ≡ entries = take_all (i + 1) entries (omega arith) in
+    ap (last_prefix before) (sym whole ∙ take_more entries i d (omega arith)) ∙ last_of_more before (take i entries) (get_or entries i d)
+
+pub last_of_join : (before : Option (List Bool)) (entries more : List FileEntry) → last_prefix before (entries ++ more) ≡ last_prefix (last_prefix before entries) more
+last_of_join before [] more = refl
+last_of_join before (one ∷ entries) more = last_of_join (Some one.prefix) entries more
+
+all_after : (first next : List Bool) (rest : List (List Bool)) → prefix_cmp first next ≡ Less → AllByRecursion (λ other. prefix_cmp next other ≡ Less) rest → AllByRecursion (λ other. prefix_cmp first other ≡ Less) rest
+all_after first next [] comes all = tt
+all_after first next (other ∷ rest) comes all = (prefix_cmp-total.trans first next other comes all.0, all_after first next rest comes all.1)
+
+-- prefixes that rise, and others that rise from the last of them
+rising_join : (before : Option (List Bool)) (entries more : List FileEntry) → AreRising (option_to_list before ++ prefixes_of entries) → AreRising (option_to_list (last_prefix before entries) ++ prefixes_of more)
+    → AreRising (option_to_list before ++ prefixes_of (entries ++ more))
+rising_join before [] more first second = second
+rising_join None (item ∷ entries) more first second = rising_join (Some item.prefix) entries more first second
+rising_join (Some prefix) (item ∷ entries) more first second =
+    let rest = rising_join (Some item.prefix) entries more first.1 second in
+    ((first.0.0, all_after prefix item.prefix (prefixes_of (entries ++ more)) first.0.0 rest.0), rest)
+
+pub all_short : (entries : List FileEntry) → AllByRecursion (IsFileEntry first_file.images) entries → AllByRecursion (λ (item : FileEntry). length item.prefix < 16) entries
+all_short [] valid = tt
+all_short (item ∷ entries) valid = (valid.0.shorter, all_short entries valid.1)
+
+-- ---- one block more
+
+module _ (entries more : List FileEntry) (blocks : ℕ) (full : length entries ≡ 254 * blocks) where
+  earlier_block : (number : ℕ) → number < blocks → block_of number (entries ++ more) ≡ block_of number entries
+  earlier_block number fewer =
+      let room : 254 * number + 254 ≤ length entries = omega (arith, fewer, full) in
+      let back : drop (254 * number) (entries ++ more) ≡ drop (254 * number) entries ++ more = drop-append-le (254 * number) entries more (omega (arith, room)) in
+      ap (take 254) back ∙ take-append-le 254 (drop (254 * number) entries) more (omega (arith, length-drop (254 * number) entries, room))
+
+  next_block : length more ≤ 254 → block_of blocks (entries ++ more) ≡ more
+  next_block few = ap (take 254) (drop_at entries more (254 * blocks) full) ∙ take_all 254 more few
+
+-- ---- entries by their blocks
+
+module _ (version : FileVersion) (known : Option (List ℕ)) (header : Header) where
+  pub no_block : IsTableFront version known header 0 []
+  no_block = record { count = omega arith; rising = tt; each = λ number fewer. absurd (omega (arith, fewer)) }
+
+  pub block_more : (blocks : ℕ) (entries more : List FileEntry) → IsTableFront version known header blocks entries → 254 * blocks < header.entry_count → IsTableBlock version.images known (table_place header + blocks) more
+      → length more ≡ min 254 (header.entry_count - 254 * blocks) → AreRising (option_to_list (last_prefix None entries) ++ prefixes_of more) → IsTableFront version known header (blocks + 1) (entries ++ more)
+  block_more blocks entries more front inside block len rising =
+      let full : length entries ≡ 254 * blocks = omega (arith, front.count, inside) in
+      let few : length more ≤ 254 = omega (arith, len) in
+      record {
+        count = omega (arith, length-append entries more, full, len, inside);
+        rising = rising_join None entries more front.rising rising;
+        each = λ number fewer.
+            elim (cases_lt number blocks) [
+              | inl before ↦ subst (IsTableBlock version.images known (table_place header + number)) (sym (earlier_block entries more blocks full number before)) (front.each number before)
+              | inr past ↦
+                  let last : blocks ≡ number = omega (arith, past, fewer) in
+                  subst (λ (number : ℕ). IsTableBlock version.images known (table_place header + number) (block_of number (entries ++ more))) last
+                  (subst (IsTableBlock version.images known (table_place header + blocks)) (sym (next_block entries more blocks full few)) block)
+            ];
+      }
+
+-- ---- how many pages a header counts
+
+pub few_wards : (bits : ℕ) → 2 ^ bits ≤ 16 → bits ≤ 4
+few_wards bits few = elim (cases_lt 4 bits) [
+  | inl more ↦ absurd (omega (arith, few, pow_below 4 bits more))
+  | inr within ↦ within
+]
+
+zero_sum : (counts : List ℕ) → AllByRecursion (λ count. count ≡ 0) counts → sum counts ≡ 0
+zero_sum [] all = refl
+zero_sum (count ∷ counts) all = sum_by-cons (λ (count : ℕ). count) count counts ∙ (omega (arith, all.0, zero_sum counts all.1))
+
+pub all_counted : (version : FileVersion) (header : Header) → IsHeader version header → sum (take (2 ^ header.settings.ward_bits) header.page_counts) ≡ sum header.page_counts
+all_counted version header valid =
+    omega (arith, sum_by-take-drop (λ (count : ℕ). count) header.page_counts (2 ^ header.settings.ward_bits), zero_sum (drop (2 ^ header.settings.ward_bits) header.page_counts) valid.others)
+
+small_sum : (limit bits : ℕ) (counts : List ℕ) → limit < 17 → AllByRecursion (IsPageCount limit bits) counts → sum counts ≤ length counts * 2 ^ 17
+small_sum limit bits [] small all = omega arith
+small_sum limit bits (count ∷ counts) small all =
+    omega (arith, sum_by-cons (λ (count : ℕ). count) count counts, all.0.1, pow_below (limit - bits) 17 (omega (arith, small)), small_sum limit bits counts small all.1)
+
+pub few_pages : (header : Header) → IsHeader first_file header → sum header.page_counts ≤ 2 ^ 21
+few_pages header valid =
+    omega (arith, all_counted first_file header valid, small_sum 16 header.settings.ward_bits (take (2 ^ header.settings.ward_bits) header.page_counts) (omega arith) valid.pages, length-take (2 ^ header.settings.ward_bits) header.page_counts, valid.counts, valid.wards)
+
+pub few_before : (header : Header) (ward : ℕ) → IsHeader first_file header → sum (take ward header.page_counts) ≤ 2 ^ 21
+few_before header ward valid = omega (arith, few_pages header valid, sum_by-take-le (λ (count : ℕ). count) header.page_counts ward)
+
+pub few_in_ward : (header : Header) (ward : ℕ) → IsHeader first_file header → ward < 16 → get_or header.page_counts ward 0 ≤ 2 ^ 21
+few_in_ward header ward valid within = omega (arith, few_pages header valid, sum_by_more_le (λ (count : ℕ). count) header.page_counts ward 0 (omega (arith, valid.counts, within)))

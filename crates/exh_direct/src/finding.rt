@@ -1,0 +1,60 @@
+ghost use Rattle.std.specs.Prelude.{◌≡◌, ℕ, List, Some, IfOk, IfErr, MatchResult};
+ghost use Rattle.exh_file.specs.FileVersion.{first_file};
+ghost use Rattle.exh_page_file.specs.PageFile.{PageFile};
+ghost use Rattle.exh_page_file.specs.Reading.{AreBytes};
+ghost use Rattle.exh_legal_file.specs.LegalFile.{IsLegalPageFile};
+ghost use Rattle.exh_direct.specs.Answer.{Finds, Refuses};
+ghost use Rattle.exh_direct.specs.Laws.{FindsInFile, IsOtherFault};
+
+use crate::follow::follow;
+use crate::named::named_page;
+use crate::reading::read_header;
+use crate::{Blocks, DirectFault};
+use exh_keyer::Keyer;
+use exh_page::{Key, Value};
+use std::alloc::Global;
+
+/// What a page file of the first version has at a key, `None` where it hasn't the key. Of its blocks the header, those of
+/// the table and the pages on the key's way are read, and each is tested; of a legal file one page. It takes memory for
+/// the entries or records of one block at a time.
+///
+/// `File`: a block that is read ends early or fails a test, the one that is met first. `Astray`: the pages on the way
+/// don't lead to the key's own, which tells that the file isn't legal. `Read`: a block couldn't be read. `Memory`: a
+/// growth was refused. That the file is legal and ends behind its table isn't asked.
+pub fn find<B: Blocks>(
+    alloc: Global,
+    blocks: &mut B,
+    key: &Key,
+) -> Result<Option<Value>, DirectFault>
+    ensures found { IfOk result (Finds first_file (B.known blocks.old) key.now (B.reads blocks.old) (B.reads blocks.new)) }
+    ensures refused { IfErr result (Refuses first_file (B.known blocks.old) key.now (B.reads blocks.old) (B.reads blocks.new)) }
+    ensures every { (file : PageFile) (bytes : List ℕ) → B.known blocks.old ≡ Some bytes → AreBytes bytes → IsLegalPageFile first_file file bytes
+        → MatchResult result (FindsInFile file key.now (B.reads blocks.old) (B.reads blocks.new)) IsOtherFault }
+{
+    exh_codec::one_page();
+    exh_codec::images_pass();
+    exh_codec::images_are_blocks();
+    exh_file::one_value();
+    exh_file::images_pass();
+    exh_file::images_are_blocks();
+    exh_legal::walks_name_homes();
+    find_on_way(alloc, blocks, key)
+}
+
+// The same, told of what was read alone.
+fn find_on_way<B: Blocks>(
+    alloc: Global,
+    blocks: &mut B,
+    key: &Key,
+) -> Result<Option<Value>, DirectFault>
+    ensures found { IfOk result (Finds first_file (B.known blocks.old) key.now (B.reads blocks.old) (B.reads blocks.new)) }
+    ensures refused { IfErr result (Refuses first_file (B.known blocks.old) key.now (B.reads blocks.old) (B.reads blocks.new)) }
+{
+    let Ok(count) = blocks.count() else {
+        return Err(DirectFault::Read);
+    };
+    let header = read_header(blocks, count)?;
+    let pseudokey = header.settings.keyer.pseudo(key.as_bytes());
+    let first = named_page(alloc, blocks, count, &header, pseudokey)?;
+    follow(alloc, blocks, count, &header, first, pseudokey, key)
+}

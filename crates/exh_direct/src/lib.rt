@@ -1,0 +1,16 @@
+//! A page file used directly: the value of one key, from the header, the table and the pages on the key's way alone, in
+//! the first version.
+#![tactic(auto)]
+
+pub use blocks::Blocks;
+pub use direct_fault::DirectFault;
+pub use finding::find;
+
+mod blocks;
+mod direct_fault;
+mod finding;
+mod follow;
+mod lead;
+mod named;
+mod reading;
+mod walk;

@@ -1,0 +1,117 @@
+ghost use Rattle.std.specs.Prelude.{◌≡◌, ◌<◌, ◌≤◌, ◌^◌, ◌++◌, [], ◌∷◌, vec_len, IfOk, OnOk, IfErr};
+ghost use Rattle.std.specs.List.{sum};
+ghost use Rattle.std.specs.Option.{option_to_list};
+ghost use Rattle.std.specs.Io.KnownBytes.{Appends};
+ghost use Rattle.exh_keyer.specs.Pseudokey.{any_pseudokey};
+ghost use Rattle.exh_prefix.specs.Version.{first_version};
+ghost use Rattle.exh_file.specs.FileVersion.{first_file};
+ghost use Rattle.exh_file.specs.TableImage.{AreRising, prefixes_of};
+ghost use Rattle.exh_file.specs.declared.table_block.TheConstants.{BLOCK_ENTRIES};
+ghost use Rattle.exh_page_file.specs.FileTests.{HeaderFails, PageFails, TableFails};
+ghost use Rattle.exh_direct.specs.Known.{BlockFails, IsBlockAt, IsCount, IsCutOff, IsHeaderAt, IsPageBlock, IsTableBlock, ReadsUpTo};
+
+use crate::{Blocks, DirectFault};
+use exh_codec::{BLOCK_LEN, decode_page};
+use exh_file::{FileEntry, FileFault, Header, decode_entries};
+use exh_keyer::AnyKeyer;
+use exh_page::Page;
+use exh_prefix::Prefix;
+use std::alloc::Global;
+
+/// The header, which is the first of so many blocks.
+pub(crate) fn read_header<B: Blocks>(blocks: &mut B, count: u64) -> Result<Header, DirectFault>
+    requires { IsCount (B.known blocks.old) count }
+    ensures same_bytes { B.known blocks.new ≡ B.known blocks.old }
+    ensures few { ReadsUpTo (B.reads blocks.old) (B.reads blocks.new) 1 }
+    ensures one_read { OnOk result (Appends (B.reads blocks.old) (B.reads blocks.new) (0 ∷ [])) }
+    ensures ok { IfOk result (IsHeaderAt first_file (B.known blocks.old)) }
+    ensures err { IfErr result (BlockFails (HeaderFails first_file) (B.known blocks.old) 0) }
+{
+    let mut block = [0; BLOCK_LEN];
+    read_block(blocks, count, 0, &mut block)?;
+    match Header::from_block(&block) {
+        Ok(header) => Ok(header),
+        Err(fault) => Err(DirectFault::File(fault)),
+    }
+}
+
+/// So many entries, of the block at a place, behind that of a prefix.
+pub(crate) fn read_entries<B: Blocks>(
+    alloc: Global,
+    blocks: &mut B,
+    count: u64,
+    place: u32,
+    entries: usize,
+    before: Option<Prefix>,
+) -> Result<Vec<FileEntry>, DirectFault>
+    requires count { IsCount (B.known blocks.old) count }
+    requires few { entries ≤ BLOCK_ENTRIES }
+    ensures same_bytes { B.known blocks.new ≡ B.known blocks.old }
+    ensures few { ReadsUpTo (B.reads blocks.old) (B.reads blocks.new) 1 }
+    ensures one_read { OnOk result (Appends (B.reads blocks.old) (B.reads blocks.new) (place ∷ [])) }
+    ensures ok { IfOk result (λ found. IsTableBlock first_version (B.known blocks.old) place found.items) }
+    ensures count { IfOk result (λ found. vec_len found ≡ entries) }
+    ensures rising { IfOk result (λ found. AreRising (option_to_list before ++ prefixes_of found.items)) }
+    ensures err { IfErr result (BlockFails (TableFails first_version place entries before) (B.known blocks.old) place) }
+{
+    let mut block = [0; BLOCK_LEN];
+    read_block(blocks, count, place, &mut block)?;
+    match decode_entries(alloc, &block, entries, before) {
+        Ok(found) => Ok(found),
+        Err(fault) => Err(DirectFault::at_place(place, fault)),
+    }
+}
+
+/// The page at a place, under a keyer.
+pub(crate) fn read_page<B: Blocks>(
+    alloc: Global,
+    blocks: &mut B,
+    count: u64,
+    place: u32,
+    keyer: AnyKeyer,
+) -> Result<Page, DirectFault>
+    requires { IsCount (B.known blocks.old) count }
+    ensures same_bytes { B.known blocks.new ≡ B.known blocks.old }
+    ensures few { ReadsUpTo (B.reads blocks.old) (B.reads blocks.new) 1 }
+    ensures one_read { OnOk result (Appends (B.reads blocks.old) (B.reads blocks.new) (place ∷ [])) }
+    ensures ok { IfOk result (IsPageBlock first_version (any_pseudokey keyer) (B.known blocks.old) place) }
+    ensures err { IfErr result (BlockFails (PageFails first_version (any_pseudokey keyer) place) (B.known blocks.old) place) }
+{
+    let mut block = [0; BLOCK_LEN];
+    read_block(blocks, count, place, &mut block)?;
+    match decode_page(alloc, &keyer, &block) {
+        Ok(page) => Ok(page),
+        Err(fault) => Err(DirectFault::at_place(place, fault)),
+    }
+}
+
+// Reads the block at a place, of so many blocks.
+fn read_block<B: Blocks>(
+    blocks: &mut B,
+    count: u64,
+    place: u32,
+    block: &mut [u8; BLOCK_LEN],
+) -> Result<(), DirectFault>
+    requires { IsCount (B.known blocks.old) count }
+    ensures same_bytes { B.known blocks.new ≡ B.known blocks.old }
+    ensures few { ReadsUpTo (B.reads blocks.old) (B.reads blocks.new) 1 }
+    ensures one_read { OnOk result (Appends (B.reads blocks.old) (B.reads blocks.new) (place ∷ [])) }
+    ensures block { OnOk result (IsBlockAt (B.known blocks.old) place block.new) }
+    ensures err { IfErr result (IsCutOff (B.known blocks.old) place) }
+{
+    if u64::from(place) >= count {
+        return Err(DirectFault::File(FileFault::Truncated));
+    }
+    match blocks.read(place, block) {
+        Ok(()) => Ok(()),
+        Err(_) => Err(DirectFault::Read),
+    }
+}
+
+/// How many pages so many wards have.
+pub(crate) fn total(counts: &[u32]) -> u32
+    requires { sum counts.now < 2 ^ 32 }
+    ensures { result ≡ sum counts.now }
+{
+    counts.iter().sum()
+}

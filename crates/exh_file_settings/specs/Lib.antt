@@ -1,0 +1,2 @@
+pub mod Keyers
+pub mod FileSettings

@@ -1,0 +1,3 @@
+pub mod Lookups
+pub mod Kept
+pub mod Followed

@@ -1,0 +1,18 @@
+use Rattle.std.proofs.Common.{◌≡◌, List, Some, IsSome, refl, sym, ap, ◌∙◌, subst}
+use Rattle.std.specs.Option.{option_copied}
+use Rattle.exh_page.specs.declared.page.Page.{Page}
+use Rattle.exh_images.specs.Decoded.{AreOf, decoded_at}
+use Rattle.exh_images.specs.FramedStore.{FramedStore}
+use Rattle.exh_images.proofs.Followed.{followed, found_within}
+use Rattle.exh_images.proofs.framed_pages.FramedPages.remove_at_hand.Goals as goal
+
+pub invariant_of-self : goal.invariant_of-self
+invariant_of-self g c =
+    let pages = c.self.inside.images.pages in
+    let old = c.self.inside.decoded in
+    let new = c.remove_at.new.self in
+    let number = c.args.number in
+    let there = subst (λ (s : FramedStore g.row.K.Denot). IsSome (decoded_at number s.decoded)) (sym c.self.view_is) c.requires.there in
+    let within = found_within pages old number (decoded_at number old) c.self.invariant refl there in
+    let here : decoded_at number new ≡ Some c.in-Some.page.now = sym c.get.ensures ∙ ap option_copied c.in-Some.is in
+    subst (λ (l : List Page). AreOf l new) (sym c.set.ensures.pages) (followed pages old new number c.in-Some.page.now c.self.invariant within here c.remove_at.ensures.others)

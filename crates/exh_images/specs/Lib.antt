@@ -1,0 +1,4 @@
+pub mod CacheSize
+pub mod Images
+pub mod Decoded
+pub mod FramedStore

@@ -1,0 +1,11 @@
+//! Stores of pages over their images, behind a cache of decoded pages (exhash's own).
+#![tactic(auto)]
+
+pub use cache_size::{CACHE_SIZE_LIMIT, CacheFault};
+pub use framed_pages::FramedPages;
+
+mod cache_size;
+mod decoded_pages;
+mod framed_pages;
+mod image;
+mod images;

@@ -1,0 +1,24 @@
+-- Texts one behind the other.
+use Rattle.std.proofs.Common.{◌≡◌, List, ℕ, ◌++◌, Result, Ok, Err, OnOk, append_assoc, ap, ◌∙◌}
+
+all_five : (old a b c d new v w x y z : List ℕ) → a ≡ old ++ v → b ≡ a ++ w → c ≡ b ++ x → d ≡ c ++ y → new ≡ d ++ z → new ≡ ((((old ++ v) ++ w) ++ x) ++ y) ++ z
+all_five old a b c d new v w x y z is_a is_b is_c is_d last = last ∙ ap (λ l. l ++ z) (is_d ∙ ap (λ l. l ++ y) (is_c ∙ ap (λ l. l ++ x) (is_b ∙ ap (λ l. l ++ w) is_a)))
+
+-- five texts
+pub five : {A E : Type 0} (result : Result A E) (old a b c d new v w x y z : List ℕ) → a ≡ old ++ v → b ≡ a ++ w → c ≡ b ++ x → d ≡ c ++ y
+    → OnOk result (new ≡ d ++ z) → OnOk result (new ≡ old ++ (v ++ (w ++ (x ++ (y ++ z)))))
+five (Ok made) old a b c d new v w x y z is_a is_b is_c is_d last = all_five old a b c d new v w x y z is_a is_b is_c is_d last ∙ simp append_assoc
+five (Err fault) old a b c d new v w x y z is_a is_b is_c is_d last = tt
+
+-- four, and the end of their line
+pub line : {A E : Type 0} (result : Result A E) (old a b c d new v w x y z : List ℕ) → a ≡ old ++ v → b ≡ a ++ w → c ≡ b ++ x → d ≡ c ++ y
+    → OnOk result (new ≡ d ++ z) → OnOk result (new ≡ old ++ ((v ++ (w ++ (x ++ y))) ++ z))
+line (Ok made) old a b c d new v w x y z is_a is_b is_c is_d last = all_five old a b c d new v w x y z is_a is_b is_c is_d last ∙ simp append_assoc
+line (Err fault) old a b c d new v w x y z is_a is_b is_c is_d last = tt
+
+-- five, and the end of their line
+pub long_line : {A E : Type 0} (result : Result A E) (old a b c d e new u v w x y z : List ℕ) → a ≡ old ++ u → b ≡ a ++ v → c ≡ b ++ w → d ≡ c ++ x → e ≡ d ++ y
+    → OnOk result (new ≡ e ++ z) → OnOk result (new ≡ old ++ ((u ++ (v ++ (w ++ (x ++ y)))) ++ z))
+long_line (Ok made) old a b c d e new u v w x y z is_a is_b is_c is_d is_e last =
+    last ∙ ap (λ l. l ++ z) (is_e ∙ ap (λ l. l ++ y) (is_d ∙ ap (λ l. l ++ x) (is_c ∙ ap (λ l. l ++ w) (is_b ∙ ap (λ l. l ++ v) is_a)))) ∙ simp append_assoc
+long_line (Err fault) old a b c d e new u v w x y z is_a is_b is_c is_d is_e last = tt

@@ -1,0 +1,19 @@
+use Rattle.std.proofs.Common.{◌≡◌, List, ℕ, [], ◌∷◌, ◌++◌, Result, Ok, Err, OnOk, codes, append_assoc, ap, ap₂, ◌∙◌}
+use Rattle.exh_text.specs.Lines.{newline}
+use Rattle.exh_text.specs.Printing.{place_text}
+use Rattle.exh_line.specs.Answer.{request_text}
+use Rattle.exh_script.proofs.in_flight_text.push_standing.Goals as goal
+
+-- three texts, and the end of their line
+line : {A E : Type 0} (result : Result A E) (old a b c new w x y z : List ℕ) → a ≡ old ++ w → b ≡ a ++ x → c ≡ b ++ y
+    → OnOk result (new ≡ c ++ z) → OnOk result (new ≡ old ++ ((w ++ (x ++ y)) ++ z))
+line (Ok made) old a b c new w x y z is_a is_b is_c last = last ∙ ap (λ l. l ++ z) (is_c ∙ ap (λ l. l ++ y) (is_b ∙ ap (λ l. l ++ x) is_a)) ∙ simp append_assoc
+line (Err fault) old a b c new w x y z is_a is_b is_c last = tt
+
+pub returns-clause-text : goal.returns-clause-text
+returns-clause-text c =
+    let request = c.args.request.now in
+    let placed = c.in_ok-push_place.ensures.ok ∙ ap (λ text. c.push_text.new.out.items ++ text) (ap₂ place_text c.from.ensures c.from-2.ensures) in
+    line c.push_text-2.result c.args.out.now.items c.push_request.new.out.items c.push_text.new.out.items c.push_place.new.out.items c.push_text-2.new.out.items
+    (request_text c.args.name) (codes " at ") (place_text request.ward request.page) (newline ∷ [])
+    c.in_ok-push_request.ensures.ok c.in_ok-push_text.ensures.ok placed c.push_text-2.ensures.ok
