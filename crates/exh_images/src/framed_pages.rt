@@ -58,9 +58,7 @@ impl<K: Keyer> FramedPages<K> {
         ensures size { IsErrOf result CacheFault.Size ↔ (IsCacheSize cache_size → ⊥) }
     {
         let size = to_cache_size(cache_size)?;
-        let mut images = Images::new(alloc, keyer);
-        images.add(&first)?;
-        Ok(FramedPages::of_images(alloc, images, size)?)
+        Ok(FramedPages::of_first(alloc, first, keyer, size)?)
     }
 
     /// The same of these pages, in their order.
@@ -77,8 +75,7 @@ impl<K: Keyer> FramedPages<K> {
         ensures size { IsErrOf result CacheFault.Size ↔ (IsCacheSize cache_size → ⊥) }
     {
         let size = to_cache_size(cache_size)?;
-        let images = Images::of_pages(alloc, keyer, &pages)?;
-        Ok(FramedPages::of_images(alloc, images, size)?)
+        Ok(FramedPages::of_given(alloc, pages, keyer, size)?)
     }
 
     /// Adds the page that a block is the image of; its digest isn't made again. An `AllocError`
@@ -100,6 +97,36 @@ impl<K: Keyer> FramedPages<K> {
         ensures { IfPage self.now.pages number (λ page. IsImage first_version (K.pseudokey_of self.now.keyer) page result) }
     {
         self.images.block(number)
+    }
+
+    // A store of one page.
+    pub(crate) fn of_first(
+        alloc: Global,
+        first: Page,
+        keyer: K,
+        size: NonZeroUsize,
+    ) -> Result<FramedPages<K>, AllocError>
+        requires { IsWellFormed (K.pseudokey_of keyer) first }
+        ensures { IfOk result (λ store. store ≡ record { keyer = keyer; pages = first ∷ []; decoded = [] }) }
+    {
+        let mut images = Images::new(alloc, keyer);
+        images.add(&first)?;
+        FramedPages::of_images(alloc, images, size)
+    }
+
+    // A store of given pages.
+    pub(crate) fn of_given(
+        alloc: Global,
+        given: Vec<Page>,
+        keyer: K,
+        size: NonZeroUsize,
+    ) -> Result<FramedPages<K>, AllocError>
+        requires few { length given.items < 2 ^ 32 }
+        requires formed { AllByRecursion (IsWellFormed (K.pseudokey_of keyer)) given.items }
+        ensures { IfOk result (λ store. store ≡ record { keyer = keyer; pages = given.items; decoded = [] }) }
+    {
+        let images = Images::of_pages(alloc, keyer, &given)?;
+        FramedPages::of_images(alloc, images, size)
     }
 
     // A store of images, none of which is decoded yet.

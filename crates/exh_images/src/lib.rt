@@ -2,10 +2,12 @@
 #![tactic(auto)]
 
 pub use cache_size::{CACHE_SIZE_LIMIT, CacheFault};
+pub use framed_maker::FramedMaker;
 pub use framed_pages::FramedPages;
 
 mod cache_size;
 mod decoded_pages;
+mod framed_maker;
 mod framed_pages;
 mod image;
 mod images;
