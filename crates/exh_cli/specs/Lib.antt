@@ -1,8 +1,1 @@
-pub mod Status
-pub mod Run
-pub mod FileRun
-pub mod GetRun
-pub mod OpenRun
-pub mod LoadRun
 pub mod StormRun
-pub mod Place

@@ -4,8 +4,8 @@ use Rattle.std.specs.Io.KnownBytes.{Appends}
 use Rattle.exh_stream.specs.Output.{AppendsBeginning}
 use Rattle.exh_storm.specs.StormFault.{storm_fault_number}
 use Rattle.exh_storm.specs.declared.fault.StormFault.{StormFault}
-use Rattle.exh_cli.specs.declared.status.Status.{Status}
-use Rattle.exh_cli.specs.declared.status.Status.TheVariants.{Done, Refused}
+use Rattle.exh_file_runs.specs.declared.status.Status.{Status}
+use Rattle.exh_file_runs.specs.declared.status.Status.TheVariants.{Done, Refused}
 
 -- how many answers were settled, or the refusal's number
 abbrev pub storm_line : Result ℕ StormFault → List ℕ

@@ -3,9 +3,8 @@ ghost use Rattle.std.specs.Prelude.{◌≡◌, ◌+◌, ◌≤◌, ◌++◌, ◌
 ghost use Rattle.exh_stream.specs.Output.{SameWriter, held, pending, writer_failed};
 ghost use Rattle.exh_cli.specs.StormRun.{EndsStorm, storm_line, storm_status};
 
-use crate::last_line::print_line;
-use crate::status::Status;
 use arrayvec::ArrayVec;
+use exh_file_runs::{Status, print_line};
 use exh_storm::StormFault;
 use exh_stream::Output;
 use itoa::Buffer;

@@ -1,0 +1,7 @@
+pub mod Status
+pub mod Run
+pub mod FileRun
+pub mod GetRun
+pub mod OpenRun
+pub mod LoadRun
+pub mod Place

@@ -1,0 +1,44 @@
+-- What comes of opening a page file to run a script over it.
+use Rattle.std.specs.Prelude.{◌≡◌, ◌⊎◌, ℕ, Bool, List, [], ◌∷◌, ◌++◌, codes, Option, Result, Ok, Err}
+use Rattle.exh_text.specs.Contents.{on_line}
+use Rattle.exh_text.specs.Printing.{refused_text}
+use Rattle.exh_file.specs.FileVersion.{first_file}
+use Rattle.exh_page_file.specs.PageFile.{PageFile}
+use Rattle.exh_page_file.specs.Reading.{AreBytes, IsAll}
+use Rattle.exh_legal_file.specs.LegalFile.{IsLegalPageFile}
+use Rattle.exh_open.specs.Opened.{OpenedState}
+use Rattle.exh_open.specs.Opening.{IsOpenedFile, IsOpenFaultOf}
+use Rattle.exh_open.specs.declared.open_fault.OpenFault.{OpenFault}
+use Rattle.exh_open.specs.declared.open_fault.OpenFault.TheVariants.{File, Page}
+use Rattle.exh_report.specs.Finding.{refusal_words}
+use Rattle.exh_file_runs.specs.Run.{PrintsLine, memory_line}
+use Rattle.exh_file_runs.specs.declared.status.Status.{Status}
+use Rattle.exh_file_runs.specs.declared.status.Status.TheVariants.{Refused}
+
+-- the wards of the legal page file that bytes are, which are these where they are known
+pub record IsOpenedFrom (known : Option (List ℕ)) (opened : OpenedState) : Type 0 where
+  pub file : PageFile
+  pub bytes : List ℕ
+  pub all : IsAll known bytes
+  pub are_bytes : AreBytes bytes
+  pub legal : IsLegalPageFile first_file file bytes
+  pub is : IsOpenedFile file opened
+
+-- the line of a refusal, which is that of `check`
+abbrev pub open_refusal_line : OpenFault → List ℕ
+open_refusal_line (File fault) = on_line (refusal_words fault)
+open_refusal_line Page = on_line (refused_text 11)
+
+-- of a writer that held `old` bytes before and `new` ones after, where these are known, and of whether it failed
+module _ (old new : Option (List ℕ)) (failed : Bool) where
+  -- of the first fault of the bytes its line; or, where there was no memory for that, the last line of a program that
+  -- memory ended
+  pub record TellsFault (known : Option (List ℕ)) : Type 0 where
+    pub fault : OpenFault
+    pub found : IsOpenFaultOf first_file known fault
+    pub printed : PrintsLine old new failed (open_refusal_line fault) ⊎ PrintsLine old new failed memory_line
+
+  -- the file's wards, and nothing printed; or its refusal told
+  abbrev pub OpensOrTells : Option (List ℕ) → Result OpenedState Status → Type 0
+  OpensOrTells known (Ok opened) = (new ≡ old) × IsOpenedFrom known opened
+  OpensOrTells known (Err status) = (status ≡ Refused) × TellsFault known

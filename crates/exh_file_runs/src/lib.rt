@@ -1,0 +1,27 @@
+//! What the program does of scripts, page files and pairs: what it prints, saves and says, and with which status it ends.
+#![tactic(auto)]
+
+pub use file_run::Topic;
+pub use last_line::{print_line, print_out_of_memory};
+pub use place::{Place, place_of};
+pub use run::Ending;
+pub use saving::save_at_place;
+pub use standard::{get, load, serve, tell_path};
+pub use status::Status;
+pub use stores::{FileWards, MAKER};
+pub use watch::console;
+
+mod file_blocks;
+mod file_run;
+mod get_run;
+mod last_line;
+mod load_run;
+mod open_run;
+mod place;
+mod run;
+mod said;
+mod saving;
+mod standard;
+mod status;
+mod stores;
+mod watch;

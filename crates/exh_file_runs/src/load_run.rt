@@ -1,0 +1,50 @@
+//! The run of a load: what it prints, and the file that comes of it.
+ghost use Rattle.exh_file_runs.specs.LoadRun.{IsLoadEnding, LoadPrints};
+ghost use Rattle.exh_file_runs.specs.Place.{SavesAt};
+
+use crate::last_line::print_out_of_memory;
+use crate::place::Place;
+use crate::run::Ending;
+use crate::status::Status;
+use crate::stores::{FileWards, MAKER};
+use exh_load::{LoadFault, load};
+use exh_notes::Listener;
+use exh_stream::Output;
+use std::alloc::Global;
+use std::io::{Read, Write};
+
+/// Loads the text of a reader, tells of it on a writer, and answers the file that comes of it, or `None` where the text
+/// is refused. Where memory ran out the last line is `refused 10`, on the same writer. After a fault of the writer
+/// nothing more is printed.
+///
+/// On an `Err` no file comes of it.
+pub fn load_pairs<R: Read, W: Write, L: Listener>(
+    alloc: Global,
+    reader: &mut R,
+    writer: &mut W,
+    listener: &mut L,
+) -> Result<Option<FileWards>, LoadFault>
+    ensures { LoadPrints (W.contents writer.old) (W.contents writer.new) (R.remaining reader.old) result }
+{
+    match load(alloc, &MAKER, reader, writer, listener) {
+        Err(LoadFault::Memory) => {
+            print_out_of_memory(&mut Output::new(writer))?;
+            Err(LoadFault::Memory)
+        }
+        loaded => loaded,
+    }
+}
+
+/// How the program ends after a load: the file that comes of it is saved at its place.
+pub fn load_ending<'w>(
+    loaded: Result<Option<FileWards>, LoadFault>,
+    place: Option<Place<'w>>,
+) -> Ending<'w>
+    ensures ending { IsLoadEnding loaded place.entry result }
+    ensures place { SavesAt place.entry result }
+{
+    match (loaded, place) {
+        (Ok(Some(wards)), Some(place)) => Ending::Save { place, wards },
+        _ => Ending::Over(Status::Refused),
+    }
+}

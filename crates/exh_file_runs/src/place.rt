@@ -1,0 +1,37 @@
+//! Where the run of a job saves.
+ghost use Rattle.std.specs.Prelude.{◌≡◌};
+ghost use Rattle.exh_file_runs.specs.Place.{at, place_of};
+
+use exh_command::Job;
+
+/// A path at which the run of a job saves: there is none but what `place_of` makes of a job.
+#[derive(Clone, Copy)]
+pub struct Place<'w> {
+    path: &'w str,
+}
+
+impl<'w> Place<'w> {
+    pub fn path(self) -> &'w str
+        ensures { result ≡ self.entry.path }
+    {
+        self.path
+    }
+}
+
+/// Where the run of a job saves, if it saves.
+pub fn place_of<'w>(job: &Job<'w>) -> Option<Place<'w>>
+    ensures { result ≡ place_of job.now }
+{
+    match job {
+        Job::Serve { save, .. } => at(*save),
+        Job::Load { path } => at(Some(*path)),
+        Job::Check { .. } | Job::Dump { .. } | Job::Storm { .. } | Job::Get { .. } => None,
+    }
+}
+
+fn at<'w>(path: Option<&'w str>) -> Option<Place<'w>>
+    ensures { result ≡ at path.entry }
+{
+    let path = path?;
+    Some(Place { path })
+}
