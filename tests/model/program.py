@@ -2,12 +2,16 @@
 
 from typing import NamedTuple
 
+from .file import Call
 from .file_reader import Fault, file_of
-from .page_file import MAGIC, bytes_of_file, check_text, dump_text, load_of
+from .grammar import bytes_of, printed
+from .page_file import MAGIC, bytes_of_file, check_text, dump_text, load_of, put
 from .script import text_of
 
 # What stands behind a place's name in that of the file beside it.
 BESIDE = ".exhash-saving"
+# The replies of calls that are done.
+DONE = ("new", "was", "swapped")
 
 
 class Outcome(NamedTuple):
@@ -26,6 +30,8 @@ def outcome_of(words, given, files):
         case ["load", name]:
             lines, load = load_of(given)
             return ended(lines, load, files, name)
+        case [("put" | "del" | "swap") as command, name, *spelled]:
+            return changed(command, name, spelled, files)
         case ["serve", *options]:
             return served(dict(zip(options[::2], options[1::2])), given, files)
     raise ValueError(words)
@@ -37,6 +43,19 @@ def told(text_of_file, content, files):
         return Outcome(text_of_file(file_of(content)), 0, files)
     except Fault as fault:
         return Outcome([fault.text()], 1, files)
+
+
+def changed(command, name, spelled, files):
+    """A call over the file of a name, which is saved there where the call is done, and else left as it was."""
+    key, *values = map(bytes_of, spelled)
+    try:
+        file = file_of(files[name])
+    except Fault as fault:
+        return Outcome([fault.text()], 1, files)
+    # Of a swap the old value comes first, of a call the new one.
+    reply = put(file, Call(command, key, *reversed(values)))
+    lines = [" ".join([reply.word] + ([] if reply.value is None else [printed(reply.value)]))]
+    return saved(lines, bytes_of_file(file.opened()), files, name) if reply.word in DONE else Outcome(lines, 3, files)
 
 
 def served(options, given, files):

@@ -3,4 +3,6 @@ pub mod OptionLemmas
 pub mod OptionFlags
 pub mod TheProgram
 pub mod KeyWords
+pub mod PutWords
+pub mod SwapWords
 pub mod ParserLemmas

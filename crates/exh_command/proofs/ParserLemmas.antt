@@ -19,11 +19,13 @@ use Rattle.clap.proofs.OnLiterals.{clap_on_literals}
 use Rattle.clap.proofs.WalkLemmas.{both, first_value-rows, walk_stopped}
 use Rattle.clap.proofs.FaultLemmas.{stopped_fault}
 use Rattle.exh_command.specs.Fault.{IsFaultOf, IsWrong, TellsVersion}
-use Rattle.exh_command.specs.Words.{Use, alone, ends_options, is_named, is_option, only_word, path_and_key, path_named, uses_named}
-use Rattle.exh_command.specs.Job.{AskForVersion, Asked, Serve, Check, Dump, Load, Storm, Get, asked_by, callers_name, calls_name, cap_name, command_of, copies_name, get_asked, got_by, job_asked, job_named, open_name, save_name, serve_asked, serve_names, served_by, storm_asked, storm_names, stormed_by, wards_name}
-use Rattle.exh_command.specs.Parser.{HasTexts, HasValues, IsJobMet, Meets, ReadsJobs, about_path, key_id, path_id, path_rule, texts_of}
+use Rattle.exh_command.specs.Words.{Use, alone, ends_options, is_named, is_option, only_word, path_and_key, path_and_three, path_and_two, path_named, uses_named}
+use Rattle.exh_command.specs.Job.{AskForVersion, Asked, Serve, Check, Dump, Load, Storm, Get, Put, Del, Swap, asked_by, callers_name, calls_name, cap_name, command_of, copies_name, del_asked, deleted_by, get_asked, got_by, job_asked, job_named, open_name, put_asked, put_by, save_name, serve_asked, serve_names, served_by, storm_asked, storm_names, stormed_by, swap_asked, swapped_by, wards_name}
+use Rattle.exh_command.specs.Parser.{HasTexts, HasValues, IsJobMet, Meets, ReadsJobs, about_path, key_id, new_id, old_id, path_id, path_rule, texts_of, value_id}
 use Rattle.exh_command.proofs.TheProgram.{program, serve, storm}
 use Rattle.exh_command.proofs.KeyWords.{key_agrees, key_flags, key_kinds, key_met}
+use Rattle.exh_command.proofs.PutWords.{put_agrees, put_flags, put_kinds, put_met}
+use Rattle.exh_command.proofs.SwapWords.{swap_agrees, swap_flags, swap_kinds, swap_met}
 use Rattle.exh_command.specs.declared.fault.CliFault.{CliFault}
 use Rattle.exh_command.proofs.OptionLemmas.{IsOptionLeaf, first_of-rows_of_uses, rows_of_uses}
 use Rattle.exh_command.proofs.OptionFlags.{flags_agree, flags_met, help_asking, no_defaults, option_flags, option_leaf}
@@ -266,6 +268,18 @@ get_leaves : (words : List Text) → top_kinds (codes "get" ∷ words) ≡ key_k
 unfolding clap_on_literals
 get_leaves words = stopped_is (codes "get") words ∙ or_nothing (key_kinds words)
 
+put_leaves : (words : List Text) → top_kinds (codes "put" ∷ words) ≡ put_kinds words
+unfolding clap_on_literals
+put_leaves words = stopped_is (codes "put") words ∙ or_nothing (put_kinds words)
+
+del_leaves : (words : List Text) → top_kinds (codes "del" ∷ words) ≡ key_kinds words
+unfolding clap_on_literals
+del_leaves words = stopped_is (codes "del") words ∙ or_nothing (key_kinds words)
+
+swap_leaves : (words : List Text) → top_kinds (codes "swap" ∷ words) ≡ swap_kinds words
+unfolding clap_on_literals
+swap_leaves words = stopped_is (codes "swap") words ∙ or_nothing (swap_kinds words)
+
 help_fails : (words : List Text) → Fails (top_kinds (codes "help" ∷ words))
 unfolding clap_on_literals
 help_fails words = tt
@@ -276,10 +290,9 @@ end_fails [] = tt
 end_fails (word ∷ rest) = tt
 
 -- a word that names no command
-module _ (word : Text) (no_serve : bytes_eq (codes "serve") word ≡ false) (no_check : bytes_eq (codes "check") word ≡ false) (no_dump : bytes_eq (codes "dump") word ≡ false)
-    (no_load : bytes_eq (codes "load") word ≡ false) (no_storm : bytes_eq (codes "storm") word ≡ false) (no_get : bytes_eq (codes "get") word ≡ false) where
+module _ (word : Text) (no_serve : bytes_eq (codes "serve") word ≡ false) (no_check : bytes_eq (codes "check") word ≡ false) (no_dump : bytes_eq (codes "dump") word ≡ false) (no_load : bytes_eq (codes "load") word ≡ false) (no_storm : bytes_eq (codes "storm") word ≡ false) (no_get : bytes_eq (codes "get") word ≡ false) (no_put : bytes_eq (codes "put") word ≡ false) (no_del : bytes_eq (codes "del") word ≡ false) (no_swap : bytes_eq (codes "swap") word ≡ false) where
   unnamed : bytes_eq (codes "help") word ≡ false → subcommand_met names idle word ≡ None
-  unnamed no_help = rw (no_serve, no_check, no_dump, no_load, no_storm, no_get, no_help) refl
+  unnamed no_help = rw (no_serve, no_check, no_dump, no_load, no_storm, no_get, no_put, no_del, no_swap, no_help) refl
 
   other_fails : (rest : List Text) (helps ends : Bool) → bytes_eq (codes "help") word ≡ helps → ends_options word ≡ ends → Fails (top_kinds (word ∷ rest))
   unfolding clap_on_literals
@@ -288,37 +301,44 @@ module _ (word : Text) (no_serve : bytes_eq (codes "serve") word ≡ false) (no_
   other_fails rest false false no_help no_end =
       first_fails _ _ (first_fails _ _ (word_fails top flags short_asking [] None 1 word refl (all_ask flags long_asking (long_of word)) names (unnamed no_help) no_end))
 
-command_agrees : (word : Text) (rest : List Text) (serves checks dumps loads storms gets : Bool) → bytes_eq (codes "serve") word ≡ serves → bytes_eq (codes "check") word ≡ checks → bytes_eq (codes "dump") word ≡ dumps
-    → bytes_eq (codes "load") word ≡ loads → bytes_eq (codes "storm") word ≡ storms → bytes_eq (codes "get") word ≡ gets
-    → Agrees (cond serves (serve_asked rest) (cond checks (option_map Check (path_named rest)) (cond dumps (option_map Dump (path_named rest)) (cond loads (option_map Load (path_named rest)) (cond storms (storm_asked rest) (cond gets (get_asked rest) None))))))
+command_agrees : (word : Text) (rest : List Text) (serves checks dumps loads storms gets puts dels swaps : Bool) → bytes_eq (codes "serve") word ≡ serves → bytes_eq (codes "check") word ≡ checks → bytes_eq (codes "dump") word ≡ dumps → bytes_eq (codes "load") word ≡ loads → bytes_eq (codes "storm") word ≡ storms → bytes_eq (codes "get") word ≡ gets → bytes_eq (codes "put") word ≡ puts → bytes_eq (codes "del") word ≡ dels → bytes_eq (codes "swap") word ≡ swaps
+    → Agrees (cond serves (serve_asked rest) (cond checks (option_map Check (path_named rest)) (cond dumps (option_map Dump (path_named rest)) (cond loads (option_map Load (path_named rest)) (cond storms (storm_asked rest) (cond gets (get_asked rest) (cond puts (put_asked rest) (cond dels (del_asked rest) (cond swaps (swap_asked rest) None)))))))))
     (top_kinds (word ∷ rest))
-command_agrees word rest true checks dumps loads storms gets s c d l o g =
+command_agrees word rest true checks dumps loads storms gets puts dels swaps s c d l o g p e w =
     let left = subst (Agrees (serve_asked rest)) (sym (serve_leaves rest)) (leaf_agrees rest) in
     subst (λ w. Agrees (serve_asked rest) (top_kinds (w ∷ rest))) (is_name (codes "serve") word s) left
-command_agrees word rest false true dumps loads storms gets s c d l o g =
+command_agrees word rest false true dumps loads storms gets puts dels swaps s c d l o g p e w =
     let left = subst (Agrees (option_map Check (path_named rest))) (sym (check_leaves rest)) (agrees_as Check _ _ (path_agrees rest)) in
     subst (λ w. Agrees (option_map Check (path_named rest)) (top_kinds (w ∷ rest))) (is_name (codes "check") word c) left
-command_agrees word rest false false true loads storms gets s c d l o g =
+command_agrees word rest false false true loads storms gets puts dels swaps s c d l o g p e w =
     let left = subst (Agrees (option_map Dump (path_named rest))) (sym (dump_leaves rest)) (agrees_as Dump _ _ (path_agrees rest)) in
     subst (λ w. Agrees (option_map Dump (path_named rest)) (top_kinds (w ∷ rest))) (is_name (codes "dump") word d) left
-command_agrees word rest false false false true storms gets s c d l o g =
+command_agrees word rest false false false true storms gets puts dels swaps s c d l o g p e w =
     let left = subst (Agrees (option_map Load (path_named rest))) (sym (load_leaves rest)) (agrees_as Load _ _ (path_agrees rest)) in
     subst (λ w. Agrees (option_map Load (path_named rest)) (top_kinds (w ∷ rest))) (is_name (codes "load") word l) left
-command_agrees word rest false false false false true gets s c d l o g =
+command_agrees word rest false false false false true gets puts dels swaps s c d l o g p e w =
     let left = subst (Agrees (storm_asked rest)) (sym (storm_leaves rest)) (storm_agrees rest) in
     subst (λ w. Agrees (storm_asked rest) (top_kinds (w ∷ rest))) (is_name (codes "storm") word o) left
-command_agrees word rest false false false false false true s c d l o g =
+command_agrees word rest false false false false false true puts dels swaps s c d l o g p e w =
     let left = subst (Agrees (get_asked rest)) (sym (get_leaves rest)) (agrees_as got_by _ _ (key_agrees rest)) in
     subst (λ w. Agrees (get_asked rest) (top_kinds (w ∷ rest))) (is_name (codes "get") word g) left
-command_agrees word rest false false false false false false s c d l o g = other_fails word s c d l o g rest (bytes_eq (codes "help") word) (ends_options word) refl refl
+command_agrees word rest false false false false false false true dels swaps s c d l o g p e w =
+    let left = subst (Agrees (put_asked rest)) (sym (put_leaves rest)) (agrees_as put_by _ _ (put_agrees rest)) in
+    subst (λ w. Agrees (put_asked rest) (top_kinds (w ∷ rest))) (is_name (codes "put") word p) left
+command_agrees word rest false false false false false false false true swaps s c d l o g p e w =
+    let left = subst (Agrees (del_asked rest)) (sym (del_leaves rest)) (agrees_as deleted_by _ _ (key_agrees rest)) in
+    subst (λ w. Agrees (del_asked rest) (top_kinds (w ∷ rest))) (is_name (codes "del") word e) left
+command_agrees word rest false false false false false false false false true s c d l o g p e w =
+    let left = subst (Agrees (swap_asked rest)) (sym (swap_leaves rest)) (agrees_as swapped_by _ _ (swap_agrees rest)) in
+    subst (λ w. Agrees (swap_asked rest) (top_kinds (w ∷ rest))) (is_name (codes "swap") word w) left
+command_agrees word rest false false false false false false false false false s c d l o g p e w = other_fails word s c d l o g p e w rest (bytes_eq (codes "help") word) (ends_options word) refl refl
 
 words_agree : (words : List Text) → Agrees (asked_by words) (fault_of program words)
 unfolding clap_on_literals
 words_agree [] = tt
 words_agree (name ∷ []) = tt
 words_agree (name ∷ command ∷ rest) =
-    command_agrees command rest (bytes_eq (codes "serve") command) (bytes_eq (codes "check") command) (bytes_eq (codes "dump") command) (bytes_eq (codes "load") command) (bytes_eq (codes "storm") command)
-    (bytes_eq (codes "get") command) refl refl refl refl refl refl
+    command_agrees command rest (bytes_eq (codes "serve") command) (bytes_eq (codes "check") command) (bytes_eq (codes "dump") command) (bytes_eq (codes "load") command) (bytes_eq (codes "storm") command) (bytes_eq (codes "get") command) (bytes_eq (codes "put") command) (bytes_eq (codes "del") command) (bytes_eq (codes "swap") command) refl refl refl refl refl refl refl refl refl
 
 -- ---- the command that is met, and its values
 
@@ -349,6 +369,18 @@ storm_met name words = met_at (codes "storm") words
 get_met : (name : Text) (words : List Text) → subcommand_of program (name ∷ codes "get" ∷ words) ≡ Some (codes "get", rows_after key_flags [] words)
 unfolding clap_on_literals
 get_met name words = met_at (codes "get") words
+
+put_command_met : (name : Text) (words : List Text) → subcommand_of program (name ∷ codes "put" ∷ words) ≡ Some (codes "put", rows_after put_flags [] words)
+unfolding clap_on_literals
+put_command_met name words = met_at (codes "put") words
+
+del_command_met : (name : Text) (words : List Text) → subcommand_of program (name ∷ codes "del" ∷ words) ≡ Some (codes "del", rows_after key_flags [] words)
+unfolding clap_on_literals
+del_command_met name words = met_at (codes "del") words
+
+swap_command_met : (name : Text) (words : List Text) → subcommand_of program (name ∷ codes "swap" ∷ words) ≡ Some (codes "swap", rows_after swap_flags [] words)
+unfolding clap_on_literals
+swap_command_met name words = met_at (codes "swap") words
 
 -- the words behind a command with options ask for no other command
 is_by : (by : List Use → Asked) (command : Text) → ((uses : List Use) → command ≡ command_of (by uses)) → (read : Option (List Use)) (asked : Asked) → option_map by read ≡ Some asked → command ≡ command_of asked
@@ -389,28 +421,58 @@ get_is_met name rest (Some words) asked named same = let has = key_met rest word
   values = (has.path, has.key);
 })
 
-command_met : (name word : Text) (rest : List Text) (serves checks dumps loads storms gets : Bool) (asked : Asked) → bytes_eq (codes "serve") word ≡ serves → bytes_eq (codes "check") word ≡ checks → bytes_eq (codes "dump") word ≡ dumps
-    → bytes_eq (codes "load") word ≡ loads → bytes_eq (codes "storm") word ≡ storms → bytes_eq (codes "get") word ≡ gets
-    → cond serves (serve_asked rest) (cond checks (option_map Check (path_named rest)) (cond dumps (option_map Dump (path_named rest)) (cond loads (option_map Load (path_named rest)) (cond storms (storm_asked rest) (cond gets (get_asked rest) None))))) ≡ Some asked
+put_is_met : (name : Text) (rest : List Text) (found : Option (Text × Text × Text)) (asked : Asked) → path_and_two rest ≡ found → option_map put_by found ≡ Some asked → Meets program (name ∷ codes "put" ∷ rest) asked
+put_is_met name rest None asked named same = cc
+put_is_met name rest (Some words) asked named same = let has = put_met rest words named in subst (Meets program (name ∷ codes "put" ∷ rest)) (some_is same) (record {
+  rows = rows_after put_flags [] rest;
+  met = put_command_met name rest;
+  values = (has.path, has.key, has.value);
+})
+
+del_is_met : (name : Text) (rest : List Text) (found : Option (Text × Text)) (asked : Asked) → path_and_key rest ≡ found → option_map deleted_by found ≡ Some asked → Meets program (name ∷ codes "del" ∷ rest) asked
+del_is_met name rest None asked named same = cc
+del_is_met name rest (Some words) asked named same = let has = key_met rest words named in subst (Meets program (name ∷ codes "del" ∷ rest)) (some_is same) (record {
+  rows = rows_after key_flags [] rest;
+  met = del_command_met name rest;
+  values = (has.path, has.key);
+})
+
+swap_is_met : (name : Text) (rest : List Text) (found : Option (Text × Text × Text × Text)) (asked : Asked) → path_and_three rest ≡ found → option_map swapped_by found ≡ Some asked → Meets program (name ∷ codes "swap" ∷ rest) asked
+swap_is_met name rest None asked named same = cc
+swap_is_met name rest (Some words) asked named same = let has = swap_met rest words named in subst (Meets program (name ∷ codes "swap" ∷ rest)) (some_is same) (record {
+  rows = rows_after swap_flags [] rest;
+  met = swap_command_met name rest;
+  values = (has.path, has.key, has.old, has.new);
+})
+
+command_met : (name word : Text) (rest : List Text) (serves checks dumps loads storms gets puts dels swaps : Bool) (asked : Asked) → bytes_eq (codes "serve") word ≡ serves → bytes_eq (codes "check") word ≡ checks → bytes_eq (codes "dump") word ≡ dumps → bytes_eq (codes "load") word ≡ loads → bytes_eq (codes "storm") word ≡ storms → bytes_eq (codes "get") word ≡ gets → bytes_eq (codes "put") word ≡ puts → bytes_eq (codes "del") word ≡ dels → bytes_eq (codes "swap") word ≡ swaps
+    → (cond serves (serve_asked rest) (cond checks (option_map Check (path_named rest)) (cond dumps (option_map Dump (path_named rest)) (cond loads (option_map Load (path_named rest)) (cond storms (storm_asked rest) (cond gets (get_asked rest) (cond puts (put_asked rest) (cond dels (del_asked rest) (cond swaps (swap_asked rest) None))))))))) ≡ Some asked
     → Meets program (name ∷ word ∷ rest) asked
-command_met name word rest true checks dumps loads storms gets asked s c d l o g named = subst (λ w. Meets program (name ∷ w ∷ rest) asked) (is_name (codes "serve") word s) (serve_is_met name rest asked named)
-command_met name word rest false true dumps loads storms gets asked s c d l o g named =
+command_met name word rest true checks dumps loads storms gets puts dels swaps asked s c d l o g p e w named =
+    subst (λ w. Meets program (name ∷ w ∷ rest) asked) (is_name (codes "serve") word s) (serve_is_met name rest asked named)
+command_met name word rest false true dumps loads storms gets puts dels swaps asked s c d l o g p e w named =
     subst (λ w. Meets program (name ∷ w ∷ rest) asked) (is_name (codes "check") word c) (path_is_met name (codes "check") Check (λ path. refl) (λ path rows is. is) rest (check_met name rest) (path_named rest) asked refl named)
-command_met name word rest false false true loads storms gets asked s c d l o g named =
+command_met name word rest false false true loads storms gets puts dels swaps asked s c d l o g p e w named =
     subst (λ w. Meets program (name ∷ w ∷ rest) asked) (is_name (codes "dump") word d) (path_is_met name (codes "dump") Dump (λ path. refl) (λ path rows is. is) rest (dump_met name rest) (path_named rest) asked refl named)
-command_met name word rest false false false true storms gets asked s c d l o g named =
+command_met name word rest false false false true storms gets puts dels swaps asked s c d l o g p e w named =
     subst (λ w. Meets program (name ∷ w ∷ rest) asked) (is_name (codes "load") word l) (path_is_met name (codes "load") Load (λ path. refl) (λ path rows is. is) rest (load_met name rest) (path_named rest) asked refl named)
-command_met name word rest false false false false true gets asked s c d l o g named = subst (λ w. Meets program (name ∷ w ∷ rest) asked) (is_name (codes "storm") word o) (storm_is_met name rest asked named)
-command_met name word rest false false false false false true asked s c d l o g named =
+command_met name word rest false false false false true gets puts dels swaps asked s c d l o g p e w named =
+    subst (λ w. Meets program (name ∷ w ∷ rest) asked) (is_name (codes "storm") word o) (storm_is_met name rest asked named)
+command_met name word rest false false false false false true puts dels swaps asked s c d l o g p e w named =
     subst (λ w. Meets program (name ∷ w ∷ rest) asked) (is_name (codes "get") word g) (get_is_met name rest (path_and_key rest) asked refl named)
-command_met name word rest false false false false false false asked s c d l o g named = cc
+command_met name word rest false false false false false false true dels swaps asked s c d l o g p e w named =
+    subst (λ w. Meets program (name ∷ w ∷ rest) asked) (is_name (codes "put") word p) (put_is_met name rest (path_and_two rest) asked refl named)
+command_met name word rest false false false false false false false true swaps asked s c d l o g p e w named =
+    subst (λ w. Meets program (name ∷ w ∷ rest) asked) (is_name (codes "del") word e) (del_is_met name rest (path_and_key rest) asked refl named)
+command_met name word rest false false false false false false false false true asked s c d l o g p e w named =
+    subst (λ w. Meets program (name ∷ w ∷ rest) asked) (is_name (codes "swap") word w) (swap_is_met name rest (path_and_three rest) asked refl named)
+command_met name word rest false false false false false false false false false asked s c d l o g p e w named = cc
 
 asked_met : (words : List Text) (asked : Asked) → asked_by words ≡ Some asked → Meets program words asked
 asked_met [] asked named = cc
 asked_met (name ∷ []) asked named = cc
 asked_met (name ∷ command ∷ rest) asked named =
-    command_met name command rest (bytes_eq (codes "serve") command) (bytes_eq (codes "check") command) (bytes_eq (codes "dump") command) (bytes_eq (codes "load") command) (bytes_eq (codes "storm") command)
-    (bytes_eq (codes "get") command) asked refl refl refl refl refl refl named
+    command_met name command rest (bytes_eq (codes "serve") command) (bytes_eq (codes "check") command) (bytes_eq (codes "dump") command) (bytes_eq (codes "load") command) (bytes_eq (codes "storm") command) (bytes_eq (codes "get") command) (bytes_eq (codes "put") command) (bytes_eq (codes "del") command) (bytes_eq (codes "swap") command) asked refl refl refl refl refl refl refl refl refl named
 
 -- ---- the version
 
@@ -485,6 +547,9 @@ serves (Dump path) own opened saved is opens saves = absurd (let never : 115 ≡
 serves (Load path) own opened saved is opens saves = absurd (let never : 115 ≡ 108 = ap (λ (word : Text). slice_index_or word 0 0) is.command_is in omega arith)
 serves (Storm texts) own opened saved is opens saves = absurd (let never : 101 ≡ 116 = ap (λ (word : Text). slice_index_or word 1 0) is.command_is in omega arith)
 serves (Get path word) own opened saved is opens saves = absurd (let never : 115 ≡ 103 = ap (λ (word : Text). slice_index_or word 0 0) is.command_is in omega arith)
+serves (Put path key value) own opened saved is opens saves = absurd (let never : 115 ≡ 112 = ap (λ (word : Text). slice_index_or word 0 0) is.command_is in omega arith)
+serves (Del path key) own opened saved is opens saves = absurd (let never : 115 ≡ 100 = ap (λ (word : Text). slice_index_or word 0 0) is.command_is in omega arith)
+serves (Swap path key old new) own opened saved is opens saves = absurd (let never : 101 ≡ 119 = ap (λ (word : Text). slice_index_or word 1 0) is.command_is in omega arith)
 
 -- a path, as it was read
 same_path : (own : ArgMatches) (path found : Text) → first_of path_id (rows_of (found_of own)) ≡ Some path → Some found ≡ first_value (found_of own) path_id → path ≡ found
@@ -500,6 +565,9 @@ checks (Dump other) own is path read = absurd (let never : 99 ≡ 100 = ap (λ (
 checks (Load other) own is path read = absurd (let never : 99 ≡ 108 = ap (λ (word : Text). slice_index_or word 0 0) is.command_is in omega arith)
 checks (Storm texts) own is path read = absurd (let never : 99 ≡ 115 = ap (λ (word : Text). slice_index_or word 0 0) is.command_is in omega arith)
 checks (Get file word) own is path read = absurd (let never : 99 ≡ 103 = ap (λ (word : Text). slice_index_or word 0 0) is.command_is in omega arith)
+checks (Put file key value) own is path read = absurd (let never : 99 ≡ 112 = ap (λ (word : Text). slice_index_or word 0 0) is.command_is in omega arith)
+checks (Del file key) own is path read = absurd (let never : 99 ≡ 100 = ap (λ (word : Text). slice_index_or word 0 0) is.command_is in omega arith)
+checks (Swap file key old new) own is path read = absurd (let never : 99 ≡ 115 = ap (λ (word : Text). slice_index_or word 0 0) is.command_is in omega arith)
 
 pub dumps : (asked : Asked) (own : ArgMatches) → IsOwn (codes "dump") own asked → (path : Text) → Some path ≡ first_value (found_of own) path_id → Some asked ≡ Some (Dump path)
 dumps (Serve opening saving) own is path read = absurd (let never : 100 ≡ 115 = ap (λ (word : Text). slice_index_or word 0 0) is.command_is in omega arith)
@@ -508,6 +576,9 @@ dumps (Dump other) own is path read = ap (λ path. Some (Dump path)) (same_path 
 dumps (Load other) own is path read = absurd (let never : 100 ≡ 108 = ap (λ (word : Text). slice_index_or word 0 0) is.command_is in omega arith)
 dumps (Storm texts) own is path read = absurd (let never : 100 ≡ 115 = ap (λ (word : Text). slice_index_or word 0 0) is.command_is in omega arith)
 dumps (Get file word) own is path read = absurd (let never : 100 ≡ 103 = ap (λ (word : Text). slice_index_or word 0 0) is.command_is in omega arith)
+dumps (Put file key value) own is path read = absurd (let never : 100 ≡ 112 = ap (λ (word : Text). slice_index_or word 0 0) is.command_is in omega arith)
+dumps (Del file key) own is path read = absurd (let never : 117 ≡ 101 = ap (λ (word : Text). slice_index_or word 1 0) is.command_is in omega arith)
+dumps (Swap file key old new) own is path read = absurd (let never : 100 ≡ 115 = ap (λ (word : Text). slice_index_or word 0 0) is.command_is in omega arith)
 
 pub loads : (asked : Asked) (own : ArgMatches) → IsOwn (codes "load") own asked → (path : Text) → Some path ≡ first_value (found_of own) path_id → Some asked ≡ Some (Load path)
 loads (Serve opening saving) own is path read = absurd (let never : 108 ≡ 115 = ap (λ (word : Text). slice_index_or word 0 0) is.command_is in omega arith)
@@ -516,6 +587,9 @@ loads (Dump other) own is path read = absurd (let never : 108 ≡ 100 = ap (λ (
 loads (Load other) own is path read = ap (λ path. Some (Load path)) (same_path own other path is.values read)
 loads (Storm texts) own is path read = absurd (let never : 108 ≡ 115 = ap (λ (word : Text). slice_index_or word 0 0) is.command_is in omega arith)
 loads (Get file word) own is path read = absurd (let never : 108 ≡ 103 = ap (λ (word : Text). slice_index_or word 0 0) is.command_is in omega arith)
+loads (Put file key value) own is path read = absurd (let never : 108 ≡ 112 = ap (λ (word : Text). slice_index_or word 0 0) is.command_is in omega arith)
+loads (Del file key) own is path read = absurd (let never : 108 ≡ 100 = ap (λ (word : Text). slice_index_or word 0 0) is.command_is in omega arith)
+loads (Swap file key old new) own is path read = absurd (let never : 108 ≡ 115 = ap (λ (word : Text). slice_index_or word 0 0) is.command_is in omega arith)
 
 -- a text, as it was read
 same_text : (own : ArgMatches) (name : Text) (text : Option Text) → first_of name (rows_of (found_of own)) ≡ text → text ≡ first_value (found_of own) name
@@ -527,6 +601,9 @@ storms (Check path) own is = absurd (let never : 115 ≡ 99 = ap (λ (word : Tex
 storms (Dump path) own is = absurd (let never : 115 ≡ 100 = ap (λ (word : Text). slice_index_or word 0 0) is.command_is in omega arith)
 storms (Load path) own is = absurd (let never : 115 ≡ 108 = ap (λ (word : Text). slice_index_or word 0 0) is.command_is in omega arith)
 storms (Get path word) own is = absurd (let never : 115 ≡ 103 = ap (λ (word : Text). slice_index_or word 0 0) is.command_is in omega arith)
+storms (Put path key value) own is = absurd (let never : 115 ≡ 112 = ap (λ (word : Text). slice_index_or word 0 0) is.command_is in omega arith)
+storms (Del path key) own is = absurd (let never : 115 ≡ 100 = ap (λ (word : Text). slice_index_or word 0 0) is.command_is in omega arith)
+storms (Swap path key old new) own is = absurd (let never : 116 ≡ 119 = ap (λ (word : Text). slice_index_or word 1 0) is.command_is in omega arith)
 storms (Storm texts) own is = ap (λ texts. Some (Storm texts)) (same_texts is.values)
   where
     same_texts : HasTexts texts (rows_of (found_of own)) → texts ≡ texts_of (found_of own)
@@ -547,6 +624,9 @@ path_given (Dump path) command own is other = has_path own path is.values
 path_given (Load path) command own is other = has_path own path is.values
 path_given (Storm texts) command own is other = absurd (other.1 is.command_is)
 path_given (Get path word) command own is other = has_path own path is.values.0
+path_given (Put path key value) command own is other = has_path own path is.values.0
+path_given (Del path key) command own is other = has_path own path is.values.0
+path_given (Swap path key old new) command own is other = has_path own path is.values.0
 
 -- a get's words, as they were read
 pub key_given : (asked : Asked) (own : ArgMatches) → IsOwn (codes "get") own asked → IsSome (first_value (found_of own) key_id)
@@ -556,6 +636,9 @@ key_given (Dump path) own is = absurd (let never : 103 ≡ 100 = ap (λ (word : 
 key_given (Load path) own is = absurd (let never : 103 ≡ 108 = ap (λ (word : Text). slice_index_or word 0 0) is.command_is in omega arith)
 key_given (Storm texts) own is = absurd (let never : 103 ≡ 115 = ap (λ (word : Text). slice_index_or word 0 0) is.command_is in omega arith)
 key_given (Get path word) own is = subst IsSome (sym (first_value-rows (found_of own) key_id ∙ is.values.1)) refl
+key_given (Put path key value) own is = absurd (let never : 103 ≡ 112 = ap (λ (word : Text). slice_index_or word 0 0) is.command_is in omega arith)
+key_given (Del path key) own is = absurd (let never : 103 ≡ 100 = ap (λ (word : Text). slice_index_or word 0 0) is.command_is in omega arith)
+key_given (Swap path key old new) own is = absurd (let never : 103 ≡ 115 = ap (λ (word : Text). slice_index_or word 0 0) is.command_is in omega arith)
 
 pub record GivesKey (asked : Asked) (own : ArgMatches) : Type 0 where
   pub path : Text
@@ -570,12 +653,102 @@ gets (Check path) own is = absurd (let never : 103 ≡ 99 = ap (λ (word : Text)
 gets (Dump path) own is = absurd (let never : 103 ≡ 100 = ap (λ (word : Text). slice_index_or word 0 0) is.command_is in omega arith)
 gets (Load path) own is = absurd (let never : 103 ≡ 108 = ap (λ (word : Text). slice_index_or word 0 0) is.command_is in omega arith)
 gets (Storm texts) own is = absurd (let never : 103 ≡ 115 = ap (λ (word : Text). slice_index_or word 0 0) is.command_is in omega arith)
+gets (Put path key value) own is = absurd (let never : 103 ≡ 112 = ap (λ (word : Text). slice_index_or word 0 0) is.command_is in omega arith)
+gets (Del path key) own is = absurd (let never : 103 ≡ 100 = ap (λ (word : Text). slice_index_or word 0 0) is.command_is in omega arith)
+gets (Swap path key old new) own is = absurd (let never : 103 ≡ 115 = ap (λ (word : Text). slice_index_or word 0 0) is.command_is in omega arith)
 gets (Get path word) own is = record {
   path = path;
   word = word;
   asked_is = refl;
   path_is = sym (first_value-rows (found_of own) path_id ∙ is.values.0);
   word_is = sym (first_value-rows (found_of own) key_id ∙ is.values.1);
+}
+
+-- the words of a put, as they were read
+pub record GivesPut (asked : Asked) (own : ArgMatches) : Type 0 where
+  pub path : Text
+  pub key : Text
+  pub value : Text
+  pub asked_is : Some asked ≡ Some (Put path key value)
+  pub path_is : Some path ≡ first_value (found_of own) path_id
+  pub key_is : Some key ≡ first_value (found_of own) key_id
+  pub value_is : Some value ≡ first_value (found_of own) value_id
+
+pub puts : (asked : Asked) (own : ArgMatches) → IsOwn (codes "put") own asked → GivesPut asked own
+puts (Serve opening saving) own is = absurd (let never : 112 ≡ 115 = ap (λ (word : Text). slice_index_or word 0 0) is.command_is in omega arith)
+puts (Check path) own is = absurd (let never : 112 ≡ 99 = ap (λ (word : Text). slice_index_or word 0 0) is.command_is in omega arith)
+puts (Dump path) own is = absurd (let never : 112 ≡ 100 = ap (λ (word : Text). slice_index_or word 0 0) is.command_is in omega arith)
+puts (Load path) own is = absurd (let never : 112 ≡ 108 = ap (λ (word : Text). slice_index_or word 0 0) is.command_is in omega arith)
+puts (Storm texts) own is = absurd (let never : 112 ≡ 115 = ap (λ (word : Text). slice_index_or word 0 0) is.command_is in omega arith)
+puts (Get path word) own is = absurd (let never : 112 ≡ 103 = ap (λ (word : Text). slice_index_or word 0 0) is.command_is in omega arith)
+puts (Del path key) own is = absurd (let never : 112 ≡ 100 = ap (λ (word : Text). slice_index_or word 0 0) is.command_is in omega arith)
+puts (Swap path key old new) own is = absurd (let never : 112 ≡ 115 = ap (λ (word : Text). slice_index_or word 0 0) is.command_is in omega arith)
+puts (Put path key value) own is = record {
+  path = path;
+  key = key;
+  value = value;
+  asked_is = refl;
+  path_is = sym (first_value-rows (found_of own) path_id ∙ is.values.0);
+  key_is = sym (first_value-rows (found_of own) key_id ∙ is.values.1);
+  value_is = sym (first_value-rows (found_of own) value_id ∙ is.values.2);
+}
+
+-- the words of a del, as they were read
+pub record GivesDel (asked : Asked) (own : ArgMatches) : Type 0 where
+  pub path : Text
+  pub key : Text
+  pub asked_is : Some asked ≡ Some (Del path key)
+  pub path_is : Some path ≡ first_value (found_of own) path_id
+  pub key_is : Some key ≡ first_value (found_of own) key_id
+
+pub dels : (asked : Asked) (own : ArgMatches) → IsOwn (codes "del") own asked → GivesDel asked own
+dels (Serve opening saving) own is = absurd (let never : 100 ≡ 115 = ap (λ (word : Text). slice_index_or word 0 0) is.command_is in omega arith)
+dels (Check path) own is = absurd (let never : 100 ≡ 99 = ap (λ (word : Text). slice_index_or word 0 0) is.command_is in omega arith)
+dels (Dump path) own is = absurd (let never : 101 ≡ 117 = ap (λ (word : Text). slice_index_or word 1 0) is.command_is in omega arith)
+dels (Load path) own is = absurd (let never : 100 ≡ 108 = ap (λ (word : Text). slice_index_or word 0 0) is.command_is in omega arith)
+dels (Storm texts) own is = absurd (let never : 100 ≡ 115 = ap (λ (word : Text). slice_index_or word 0 0) is.command_is in omega arith)
+dels (Get path word) own is = absurd (let never : 100 ≡ 103 = ap (λ (word : Text). slice_index_or word 0 0) is.command_is in omega arith)
+dels (Put path key value) own is = absurd (let never : 100 ≡ 112 = ap (λ (word : Text). slice_index_or word 0 0) is.command_is in omega arith)
+dels (Swap path key old new) own is = absurd (let never : 100 ≡ 115 = ap (λ (word : Text). slice_index_or word 0 0) is.command_is in omega arith)
+dels (Del path key) own is = record {
+  path = path;
+  key = key;
+  asked_is = refl;
+  path_is = sym (first_value-rows (found_of own) path_id ∙ is.values.0);
+  key_is = sym (first_value-rows (found_of own) key_id ∙ is.values.1);
+}
+
+-- the words of a swap, as they were read
+pub record GivesSwap (asked : Asked) (own : ArgMatches) : Type 0 where
+  pub path : Text
+  pub key : Text
+  pub old : Text
+  pub new : Text
+  pub asked_is : Some asked ≡ Some (Swap path key old new)
+  pub path_is : Some path ≡ first_value (found_of own) path_id
+  pub key_is : Some key ≡ first_value (found_of own) key_id
+  pub old_is : Some old ≡ first_value (found_of own) old_id
+  pub new_is : Some new ≡ first_value (found_of own) new_id
+
+pub swaps : (asked : Asked) (own : ArgMatches) → IsOwn (codes "swap") own asked → GivesSwap asked own
+swaps (Serve opening saving) own is = absurd (let never : 119 ≡ 101 = ap (λ (word : Text). slice_index_or word 1 0) is.command_is in omega arith)
+swaps (Check path) own is = absurd (let never : 115 ≡ 99 = ap (λ (word : Text). slice_index_or word 0 0) is.command_is in omega arith)
+swaps (Dump path) own is = absurd (let never : 115 ≡ 100 = ap (λ (word : Text). slice_index_or word 0 0) is.command_is in omega arith)
+swaps (Load path) own is = absurd (let never : 115 ≡ 108 = ap (λ (word : Text). slice_index_or word 0 0) is.command_is in omega arith)
+swaps (Storm texts) own is = absurd (let never : 119 ≡ 116 = ap (λ (word : Text). slice_index_or word 1 0) is.command_is in omega arith)
+swaps (Get path word) own is = absurd (let never : 115 ≡ 103 = ap (λ (word : Text). slice_index_or word 0 0) is.command_is in omega arith)
+swaps (Put path key value) own is = absurd (let never : 115 ≡ 112 = ap (λ (word : Text). slice_index_or word 0 0) is.command_is in omega arith)
+swaps (Del path key) own is = absurd (let never : 115 ≡ 100 = ap (λ (word : Text). slice_index_or word 0 0) is.command_is in omega arith)
+swaps (Swap path key old new) own is = record {
+  path = path;
+  key = key;
+  old = old;
+  new = new;
+  asked_is = refl;
+  path_is = sym (first_value-rows (found_of own) path_id ∙ is.values.0);
+  key_is = sym (first_value-rows (found_of own) key_id ∙ is.values.1);
+  old_is = sym (first_value-rows (found_of own) old_id ∙ is.values.2);
+  new_is = sym (first_value-rows (found_of own) new_id ∙ is.values.3);
 }
 
 pub no_options : (command : Text) → (command ≡ codes "check") ⊎ (command ≡ codes "dump") ⊎ (command ≡ codes "load") ⊎ (command ≡ codes "get") → (command ≡ codes "serve" → ⊥) × (command ≡ codes "storm" → ⊥)
@@ -588,14 +761,16 @@ no_options command is = (λ same. begins_apart is (ap (λ (word : Text). slice_i
     begins_apart (inr (inr (inr is))) begins = let never : 103 ≡ 115 = ap (λ (word : Text). slice_index_or word 0 0) (sym is) ∙ begins in absurd (omega (arith, never))
 
 -- there is no other command
-pub is_command : (asked : Asked) (command : Text) (own : ArgMatches) → IsOwn command own asked → (command ≡ codes "serve" → ⊥) → (command ≡ codes "check" → ⊥) → (command ≡ codes "dump" → ⊥) → (command ≡ codes "load" → ⊥)
-    → (command ≡ codes "storm" → ⊥) → (command ≡ codes "get" → ⊥) → ⊥
-is_command (Serve opening saving) command own is no_serve no_check no_dump no_load no_storm no_get = no_serve is.command_is
-is_command (Check path) command own is no_serve no_check no_dump no_load no_storm no_get = no_check is.command_is
-is_command (Dump path) command own is no_serve no_check no_dump no_load no_storm no_get = no_dump is.command_is
-is_command (Load path) command own is no_serve no_check no_dump no_load no_storm no_get = no_load is.command_is
-is_command (Storm texts) command own is no_serve no_check no_dump no_load no_storm no_get = no_storm is.command_is
-is_command (Get path word) command own is no_serve no_check no_dump no_load no_storm no_get = no_get is.command_is
+pub is_command : (asked : Asked) (command : Text) (own : ArgMatches) → IsOwn command own asked → (command ≡ codes "serve" → ⊥) → (command ≡ codes "check" → ⊥) → (command ≡ codes "dump" → ⊥) → (command ≡ codes "load" → ⊥) → (command ≡ codes "storm" → ⊥) → (command ≡ codes "get" → ⊥) → (command ≡ codes "put" → ⊥) → (command ≡ codes "del" → ⊥) → (command ≡ codes "swap" → ⊥) → ⊥
+is_command (Serve opening saving) command own is no_serve no_check no_dump no_load no_storm no_get no_put no_del no_swap = no_serve is.command_is
+is_command (Check path) command own is no_serve no_check no_dump no_load no_storm no_get no_put no_del no_swap = no_check is.command_is
+is_command (Dump path) command own is no_serve no_check no_dump no_load no_storm no_get no_put no_del no_swap = no_dump is.command_is
+is_command (Load path) command own is no_serve no_check no_dump no_load no_storm no_get no_put no_del no_swap = no_load is.command_is
+is_command (Storm texts) command own is no_serve no_check no_dump no_load no_storm no_get no_put no_del no_swap = no_storm is.command_is
+is_command (Get path word) command own is no_serve no_check no_dump no_load no_storm no_get no_put no_del no_swap = no_get is.command_is
+is_command (Put path key value) command own is no_serve no_check no_dump no_load no_storm no_get no_put no_del no_swap = no_put is.command_is
+is_command (Del path key) command own is no_serve no_check no_dump no_load no_storm no_get no_put no_del no_swap = no_del is.command_is
+is_command (Swap path key old new) command own is no_serve no_check no_dump no_load no_storm no_get no_put no_del no_swap = no_swap is.command_is
 
 -- ---- the job of a command
 

@@ -3,12 +3,14 @@ use Rattle.std.specs.Prelude.{◌≡◌, ⊤, ℕ, ◌&&◌, leb, List, [], ◌�
 use Rattle.std.specs.Str.{bytes_eq}
 use Rattle.exh_page.specs.declared.page.TheConstants.{CAP_LIMIT}
 use Rattle.exh_prefix.specs.declared.prefix.TheConstants.{WARD_BITS_LIMIT}
-use Rattle.exh_text.specs.ByteWord.{bytes_of_word, key_in_range}
+use Rattle.exh_calls.specs.declared.call.Call.{Call}
+use Rattle.exh_calls.specs.declared.call.Call.TheVariants as calls
+use Rattle.exh_text.specs.ByteWord.{bytes_of_word, key_in_range, value_in_range}
 use Rattle.exh_text.specs.Numbers.{number_spelled}
 use Rattle.exh_storm_config.specs.StormConfig.{IsStormConfig}
 use Rattle.exh_storm_config.specs.declared.config.StormConfig.{StormConfig}
 use Rattle.exh_storm_config.specs.declared.config.TheConstants.{CALLERS_LIMIT, CALLS_LIMIT, COPIES_LIMIT}
-use Rattle.exh_command.specs.Words.{Use, path_and_key, path_named, uses_named, option_given}
+use Rattle.exh_command.specs.Words.{Use, path_and_key, path_and_three, path_and_two, path_named, uses_named, option_given}
 use Rattle.exh_command.specs.declared.job.Job.{Job}
 use Rattle.exh_command.specs.declared.job.Job.TheVariants as jobs
 
@@ -30,6 +32,10 @@ pub data Asked : Type 0 where
   Storm : StormTexts → Asked
   -- the file, and the word of the key
   Get : List ℕ → List ℕ → Asked
+  -- the file, and the words of the key and of the values
+  Put : List ℕ → List ℕ → List ℕ → Asked
+  Del : List ℕ → List ℕ → Asked
+  Swap : List ℕ → List ℕ → List ℕ → List ℕ → Asked
 
 -- a job, with the texts of its paths, its numbers and the bytes of its key
 pub data Named : Type 0 where
@@ -39,6 +45,7 @@ pub data Named : Type 0 where
   Loading : List ℕ → Named
   Storming : StormConfig → Named
   Getting : List ℕ → List ℕ → Named
+  Changing : List ℕ → Call → Named
 
 abbrev pub named_of : Job → Named
 named_of (jobs.Serve opened saved) = Serving (option_map (λ path. path.now) opened) (option_map (λ path. path.now) saved)
@@ -47,6 +54,7 @@ named_of (jobs.Dump path) = Dumping path.now
 named_of (jobs.Load path) = Loading path.now
 named_of (jobs.Storm config) = Storming config
 named_of (jobs.Get path key) = Getting path.now key
+named_of (jobs.Change path call) = Changing path.now call
 
 -- a storm's numbers are within the limits
 abbrev pub IsWithinLimits : Job → Type 0
@@ -56,6 +64,7 @@ IsWithinLimits (jobs.Dump path) = ⊤
 IsWithinLimits (jobs.Load path) = ⊤
 IsWithinLimits (jobs.Storm config) = IsStormConfig config
 IsWithinLimits (jobs.Get path key) = ⊤
+IsWithinLimits (jobs.Change path call) = ⊤
 
 -- ---- the words behind a command
 
@@ -113,6 +122,25 @@ got_by words = Get words.0 words.1
 abbrev pub get_asked : List (List ℕ) → Option Asked
 get_asked words = option_map got_by (path_and_key words)
 
+-- `put`, `del` and `swap` take a path, a key and the values of the call
+abbrev pub put_by : List ℕ × List ℕ × List ℕ → Asked
+put_by words = Put words.0 words.1 words.2
+
+abbrev pub put_asked : List (List ℕ) → Option Asked
+put_asked words = option_map put_by (path_and_two words)
+
+abbrev pub deleted_by : List ℕ × List ℕ → Asked
+deleted_by words = Del words.0 words.1
+
+abbrev pub del_asked : List (List ℕ) → Option Asked
+del_asked words = option_map deleted_by (path_and_key words)
+
+abbrev pub swapped_by : List ℕ × List ℕ × List ℕ × List ℕ → Asked
+swapped_by words = Swap words.0 words.1 words.2 words.3
+
+abbrev pub swap_asked : List (List ℕ) → Option Asked
+swap_asked words = option_map swapped_by (path_and_three words)
+
 -- ---- a whole command line
 
 -- the program's name, a command, and the command's own words
@@ -125,7 +153,10 @@ asked_by (program ∷ command ∷ rest) =
     else (if bytes_eq (codes "dump") command then option_map Dump (path_named rest)
     else (if bytes_eq (codes "load") command then option_map Load (path_named rest)
     else (if bytes_eq (codes "storm") command then storm_asked rest
-    else (if bytes_eq (codes "get") command then get_asked rest else None)))))
+    else (if bytes_eq (codes "get") command then get_asked rest
+    else (if bytes_eq (codes "put") command then put_asked rest
+    else (if bytes_eq (codes "del") command then del_asked rest
+    else (if bytes_eq (codes "swap") command then swap_asked rest else None))))))))
 
 -- ---- the numbers of a storm
 
@@ -157,7 +188,23 @@ storm_of texts =
 abbrev pub key_spelled : List ℕ → Option (List ℕ)
 key_spelled word = option_and_then (λ key. if key_in_range key then Some key else None) (bytes_of_word word)
 
--- the job that a command comes to: of a storm where all its numbers are some, of a get where its word spells a key
+-- ---- the calls that change a key
+
+-- the value that a word spells
+abbrev pub value_spelled : List ℕ → Option (List ℕ)
+value_spelled word = option_and_then (λ value. if value_in_range value then Some value else None) (bytes_of_word word)
+
+-- the call that words spell, where each of them spells a key or a value
+abbrev pub put_spelled : List ℕ → List ℕ → Option Call
+put_spelled key value = option_and_then (λ k. option_map (calls.Put k) (value_spelled value)) (key_spelled key)
+
+abbrev pub del_spelled : List ℕ → Option Call
+del_spelled key = option_map calls.Del (key_spelled key)
+
+abbrev pub swap_spelled : List ℕ → List ℕ → List ℕ → Option Call
+swap_spelled key old new = option_and_then (λ k. option_and_then (λ o. option_map (calls.Swap k o) (value_spelled new)) (value_spelled old)) (key_spelled key)
+
+-- the job that a command comes to: of a storm where all its numbers are some, of a command about a key where its words spell a key and values
 abbrev pub job_asked : Asked → Option Named
 job_asked (Serve opened saved) = Some (Serving opened saved)
 job_asked (Check path) = Some (Checking path)
@@ -165,6 +212,9 @@ job_asked (Dump path) = Some (Dumping path)
 job_asked (Load path) = Some (Loading path)
 job_asked (Storm texts) = option_map Storming (storm_of texts)
 job_asked (Get path word) = option_map (Getting path) (key_spelled word)
+job_asked (Put path key value) = option_map (Changing path) (put_spelled key value)
+job_asked (Del path key) = option_map (Changing path) (del_spelled key)
+job_asked (Swap path key old new) = option_map (Changing path) (swap_spelled key old new)
 
 -- the job that the words of a command line name
 abbrev pub job_named : List (List ℕ) → Option Named
@@ -182,3 +232,6 @@ command_of (Dump path) = codes "dump"
 command_of (Load path) = codes "load"
 command_of (Storm texts) = codes "storm"
 command_of (Get path word) = codes "get"
+command_of (Put path key value) = codes "put"
+command_of (Del path key) = codes "del"
+command_of (Swap path key old new) = codes "swap"

@@ -7,7 +7,7 @@ use Rattle.clap.specs.declared.builder.command.Command.TheViews.{out-Command}
 use Rattle.clap.specs.declared.parser.matches.ArgMatches.{ArgMatches}
 use Rattle.clap.specs.declared.parser.matches.Found.{Found}
 use Rattle.clap.specs.declared.error.kind.ErrorKind.TheVariants.{DisplayVersion}
-use Rattle.exh_command.specs.Job.{Asked, Check, Dump, Get, Load, Serve, Storm, StormTexts, asked_by, callers_name, calls_name, cap_name, command_of, copies_name, open_name, save_name, wards_name}
+use Rattle.exh_command.specs.Job.{Asked, Check, Del, Dump, Get, Load, Put, Serve, Storm, StormTexts, Swap, asked_by, callers_name, calls_name, cap_name, command_of, copies_name, open_name, save_name, wards_name}
 
 -- ---- arguments
 
@@ -25,6 +25,29 @@ key_id = codes "KEY"
 abbrev pub key_rule : Rule
 key_rule = record (new_rule key_id) { required = true }
 
+-- the words by which values are called
+abbrev pub value_id : List ℕ
+value_id = codes "VALUE"
+
+abbrev pub old_id : List ℕ
+old_id = codes "OLD"
+
+abbrev pub new_id : List ℕ
+new_id = codes "NEW"
+
+-- a word that has to be there
+abbrev pub word_rule : List ℕ → Rule
+word_rule name = record (new_rule name) { required = true }
+
+abbrev pub value_rule : Rule
+value_rule = word_rule value_id
+
+abbrev pub old_rule : Rule
+old_rule = word_rule old_id
+
+abbrev pub new_value_rule : Rule
+new_value_rule = word_rule new_id
+
 -- an option with one value
 abbrev pub option_rule : List ℕ → Rule
 option_rule name = record (new_rule name) { long = Some name; value_names = 1 }
@@ -36,6 +59,13 @@ about_path name = record (new_shape name) { rules = path_rule ∷ [] }
 -- and about a key of its file
 abbrev pub about_key : List ℕ → Shape
 about_key name = record (new_shape name) { rules = path_rule ∷ key_rule ∷ [] }
+
+-- and about a value of the key, or about two
+abbrev pub about_value : List ℕ → Shape
+about_value name = record (new_shape name) { rules = path_rule ∷ key_rule ∷ value_rule ∷ [] }
+
+abbrev pub about_two_values : List ℕ → Shape
+about_two_values name = record (new_shape name) { rules = path_rule ∷ key_rule ∷ old_rule ∷ new_value_rule ∷ [] }
 
 -- a command with such options
 abbrev pub with_options : List ℕ → List (List ℕ) → Shape
@@ -67,6 +97,9 @@ HasValues (Dump path) rows = first_of path_id rows ≡ Some path
 HasValues (Load path) rows = first_of path_id rows ≡ Some path
 HasValues (Storm texts) rows = HasTexts texts rows
 HasValues (Get path word) rows = (first_of path_id rows ≡ Some path) × (first_of key_id rows ≡ Some word)
+HasValues (Put path key value) rows = (first_of path_id rows ≡ Some path) × (first_of key_id rows ≡ Some key) × (first_of value_id rows ≡ Some value)
+HasValues (Del path key) rows = (first_of path_id rows ≡ Some path) × (first_of key_id rows ≡ Some key)
+HasValues (Swap path key old new) rows = (first_of path_id rows ≡ Some path) × (first_of key_id rows ≡ Some key) × (first_of old_id rows ≡ Some old) × (first_of new_id rows ≡ Some new)
 
 -- the parser meets a command, and its values
 pub record Meets (parser : App) (words : List (List ℕ)) (asked : Asked) : Type 0 where

@@ -50,6 +50,37 @@ path_and_key (word ∷ rest) =
     if ends_options word then only_two rest
     else (if is_option word then None else option_map (λ key. (word, key)) (path_named rest))
 
+-- ---- a path and more words
+
+-- behind `--` there are just three words, or four
+abbrev pub only_three : List (List ℕ) → Option (List ℕ × List ℕ × List ℕ)
+only_three [] = None
+only_three (path ∷ []) = None
+only_three (path ∷ key ∷ []) = None
+only_three (path ∷ key ∷ value ∷ []) = Some (path, key, value)
+only_three (path ∷ key ∷ value ∷ next ∷ rest) = None
+
+abbrev pub only_four : List (List ℕ) → Option (List ℕ × List ℕ × List ℕ × List ℕ)
+only_four [] = None
+only_four (path ∷ []) = None
+only_four (path ∷ key ∷ []) = None
+only_four (path ∷ key ∷ old ∷ []) = None
+only_four (path ∷ key ∷ old ∷ new ∷ []) = Some (path, key, old, new)
+only_four (path ∷ key ∷ old ∷ new ∷ next ∷ rest) = None
+
+-- the path, which is no option, and the words behind it, which are told as a path and a word fewer would be
+abbrev pub path_and_two : List (List ℕ) → Option (List ℕ × List ℕ × List ℕ)
+path_and_two [] = None
+path_and_two (word ∷ rest) =
+    if ends_options word then only_three rest
+    else (if is_option word then None else option_map (λ others. (word, others.0, others.1)) (path_and_key rest))
+
+abbrev pub path_and_three : List (List ℕ) → Option (List ℕ × List ℕ × List ℕ × List ℕ)
+path_and_three [] = None
+path_and_three (word ∷ rest) =
+    if ends_options word then only_four rest
+    else (if is_option word then None else option_map (λ others. (word, others.0, others.1, others.2)) (path_and_two rest))
+
 -- ---- options, each with a value
 
 -- an option's name, and its value

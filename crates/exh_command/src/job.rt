@@ -2,24 +2,25 @@
 ghost use Rattle.std.specs.Prelude.{◌≡◌, ◌<◌, ◌≤◌, ◌^◌, ℕ, List, Some, None, map, option_and_then, option_map, IfOk, IfErr, IfSome, IsSome};
 ghost use Rattle.clap.specs.Words.{first_value, found_of};
 ghost use Rattle.exh_command.specs.Fault.{IsWrong, TellsVersion};
-ghost use Rattle.exh_command.specs.Job.{AskForVersion, Asked, Get, IsWithinLimits, Storm, job_asked, job_named, key_spelled, named_of, number_of, storm_of};
-ghost use Rattle.exh_command.specs.Parser.{IsJobMet, IsSomeJobMet, key_id, path_id, texts_of};
+ghost use Rattle.exh_command.specs.Job.{AskForVersion, Asked, Del, Get, IsWithinLimits, Put, Storm, Swap, del_spelled, job_asked, job_named, key_spelled, named_of, number_of, put_spelled, storm_of, swap_spelled, value_spelled};
+ghost use Rattle.exh_command.specs.Parser.{IsJobMet, IsSomeJobMet, key_id, new_id, old_id, path_id, texts_of, value_id};
 ghost use Rattle.exh_storm_config.specs.StormConfig.{IsStormConfig};
 
 use crate::fault::CliFault;
 use crate::parser::{
-    CALLERS, CALLS, CAP, CHECK, COPIES, DUMP, GET, KEY, LOAD, OPEN, PATH, SAVE, SERVE, STORM,
-    WARDS, parser, wrong_value,
+    CALLERS, CALLS, CAP, CHECK, COPIES, DEL, DUMP, GET, KEY, LOAD, NEW, OLD, OPEN, PATH, PUT, SAVE,
+    SERVE, STORM, SWAP, VALUE, WARDS, parser, wrong_value,
 };
 use clap::ArgMatches;
-use exh_page::{CAP_LIMIT, Key};
+use exh_calls::Call;
+use exh_page::{CAP_LIMIT, Key, Value};
 use exh_prefix::WARD_BITS_LIMIT;
 use exh_storm_config::{CALLERS_LIMIT, CALLS_LIMIT, COPIES_LIMIT, StormConfig};
-use exh_text::{parse_key, parse_u32};
+use exh_text::{ByteWord, parse_key, parse_u32};
 use std::alloc::Global;
 use std::convert::AsStr;
 
-/// A command of the program, with its paths, numbers and key.
+/// A command of the program, with its paths, numbers and key, or its call.
 #[derive(Clone, Copy)]
 pub enum Job<'w> {
     /// Answer the script on standard input, over the page file of a path where one is to be opened, and save the wards
@@ -49,6 +50,11 @@ pub enum Job<'w> {
         path: &'w str,
         key: Key,
     },
+    /// Answer a put, a del or a swap by the page file of a path, and save what it leaves.
+    Change {
+        path: &'w str,
+        call: Call,
+    },
 }
 
 /// The job that the words of a command line name, of which the first is the program's name.
@@ -56,7 +62,8 @@ pub enum Job<'w> {
 /// # Errors
 ///
 /// `CliFault::Wrong` only where the words name no job, as in a call for help, or for the version,
-/// which its text then tells; a number that is none, or out of range, and a key that is none are such words too.
+/// which its text then tells; a number that is none, or out of range, and a key or value that is none are such words
+/// too.
 /// `CliFault::Memory` may come at any words.
 pub fn job_of<'w, S: AsStr>(alloc: Global, words: &'w [S]) -> Result<Job<'w>, CliFault>
     ensures named { IfOk result (λ job. job_named (map S.text words.now) ≡ Some (named_of job)) }
@@ -90,6 +97,9 @@ fn job_met<'w>(alloc: Global, matches: &ArgMatches<'w>) -> Result<Job<'w>, CliFa
         LOAD => Ok(Job::Load { path: path_in(own) }),
         STORM => storm_job(alloc, own),
         GET => get_job(alloc, own),
+        PUT => put_job(alloc, own),
+        DEL => del_job(alloc, own),
+        SWAP => swap_job(alloc, own),
         _ => unreachable!(),
     }
 }
@@ -124,6 +134,136 @@ fn get_job<'w>(alloc: Global, own: &ArgMatches<'w>) -> Result<Job<'w>, CliFault>
             "`get` takes a KEY of 1 to 64 bytes, as `exhash get --help` tells",
         )?)),
     }
+}
+
+// The put of the path, the key and the value that were given.
+fn put_job<'w>(alloc: Global, own: &ArgMatches<'w>) -> Result<Job<'w>, CliFault>
+    requires path { IsSome (first_value (found_of own.now) path_id) }
+    requires key { IsSome (first_value (found_of own.now) key_id) }
+    requires value { IsSome (first_value (found_of own.now) value_id) }
+    ensures named { IfOk result (λ job. (path key value : List ℕ) → Some path ≡ first_value (found_of own.now) path_id → Some key ≡ first_value (found_of own.now) key_id → Some value ≡ first_value (found_of own.now) value_id
+        → job_asked (Put path key value) ≡ Some (named_of job)) }
+    ensures limits { IfOk result IsWithinLimits }
+    ensures wrong { IfErr result (λ fault. IsWrong fault → (path key value : List ℕ) → Some key ≡ first_value (found_of own.now) key_id → Some value ≡ first_value (found_of own.now) value_id
+        → job_asked (Put path key value) ≡ None) }
+{
+    match put_in(own) {
+        Some(call) => Ok(Job::Change {
+            path: path_in(own),
+            call,
+        }),
+        None => Err(CliFault::Wrong(wrong_value(alloc, wrong_put(own))?)),
+    }
+}
+
+// The del of the path and the key that were given.
+fn del_job<'w>(alloc: Global, own: &ArgMatches<'w>) -> Result<Job<'w>, CliFault>
+    requires path { IsSome (first_value (found_of own.now) path_id) }
+    requires key { IsSome (first_value (found_of own.now) key_id) }
+    ensures named { IfOk result (λ job. (path key : List ℕ) → Some path ≡ first_value (found_of own.now) path_id → Some key ≡ first_value (found_of own.now) key_id → job_asked (Del path key) ≡ Some (named_of job)) }
+    ensures limits { IfOk result IsWithinLimits }
+    ensures wrong { IfErr result (λ fault. IsWrong fault → (path key : List ℕ) → Some key ≡ first_value (found_of own.now) key_id → job_asked (Del path key) ≡ None) }
+{
+    match del_in(own) {
+        Some(call) => Ok(Job::Change {
+            path: path_in(own),
+            call,
+        }),
+        None => Err(CliFault::Wrong(wrong_value(
+            alloc,
+            "`del` takes a KEY of 1 to 64 bytes, as `exhash put --help` tells",
+        )?)),
+    }
+}
+
+// The swap of the path, the key and the values that were given.
+fn swap_job<'w>(alloc: Global, own: &ArgMatches<'w>) -> Result<Job<'w>, CliFault>
+    requires path { IsSome (first_value (found_of own.now) path_id) }
+    requires key { IsSome (first_value (found_of own.now) key_id) }
+    requires old { IsSome (first_value (found_of own.now) old_id) }
+    requires new { IsSome (first_value (found_of own.now) new_id) }
+    ensures named { IfOk result (λ job. (path key old new : List ℕ) → Some path ≡ first_value (found_of own.now) path_id → Some key ≡ first_value (found_of own.now) key_id
+        → Some old ≡ first_value (found_of own.now) old_id → Some new ≡ first_value (found_of own.now) new_id → job_asked (Swap path key old new) ≡ Some (named_of job)) }
+    ensures limits { IfOk result IsWithinLimits }
+    ensures wrong { IfErr result (λ fault. IsWrong fault → (path key old new : List ℕ) → Some key ≡ first_value (found_of own.now) key_id
+        → Some old ≡ first_value (found_of own.now) old_id → Some new ≡ first_value (found_of own.now) new_id → job_asked (Swap path key old new) ≡ None) }
+{
+    match swap_in(own) {
+        Some(call) => Ok(Job::Change {
+            path: path_in(own),
+            call,
+        }),
+        None => Err(CliFault::Wrong(wrong_value(alloc, wrong_swap(own))?)),
+    }
+}
+
+// The put that the words given for its key and its value spell.
+fn put_in(own: &ArgMatches<'_>) -> Option<Call>
+    requires key { IsSome (first_value (found_of own.now) key_id) }
+    requires value { IsSome (first_value (found_of own.now) value_id) }
+    ensures { (key value : List ℕ) → Some key ≡ first_value (found_of own.now) key_id → Some value ≡ first_value (found_of own.now) value_id → result ≡ put_spelled key value }
+{
+    let key = key_in(own)?;
+    let value = value_in(own, VALUE)?;
+    Some(Call::Put { key, value })
+}
+
+// The del that the word given for its key spells.
+fn del_in(own: &ArgMatches<'_>) -> Option<Call>
+    requires key { IsSome (first_value (found_of own.now) key_id) }
+    ensures { (key : List ℕ) → Some key ≡ first_value (found_of own.now) key_id → result ≡ del_spelled key }
+{
+    let key = key_in(own)?;
+    Some(Call::Del { key })
+}
+
+// The swap that the words given for its key and its values spell.
+fn swap_in(own: &ArgMatches<'_>) -> Option<Call>
+    requires key { IsSome (first_value (found_of own.now) key_id) }
+    requires old { IsSome (first_value (found_of own.now) old_id) }
+    requires new { IsSome (first_value (found_of own.now) new_id) }
+    ensures { (key old new : List ℕ) → Some key ≡ first_value (found_of own.now) key_id → Some old ≡ first_value (found_of own.now) old_id
+        → Some new ≡ first_value (found_of own.now) new_id → result ≡ swap_spelled key old new }
+{
+    let key = key_in(own)?;
+    let old = value_in(own, OLD)?;
+    let new = value_in(own, NEW)?;
+    Some(Call::Swap { key, old, new })
+}
+
+// What the first word of a `put` that spells no key, or no value, must be.
+fn wrong_put(own: &ArgMatches<'_>) -> &'static str
+    requires { IsSome (first_value (found_of own.now) key_id) }
+{
+    if key_in(own).is_none() {
+        return "`put` takes a KEY of 1 to 64 bytes, as `exhash put --help` tells";
+    }
+    "`put` takes a VALUE of 0 to 128 bytes, as `exhash put --help` tells"
+}
+
+// What the first word of a `swap` that spells no key, or no value, must be.
+fn wrong_swap(own: &ArgMatches<'_>) -> &'static str
+    requires key { IsSome (first_value (found_of own.now) key_id) }
+    requires old { IsSome (first_value (found_of own.now) old_id) }
+{
+    if key_in(own).is_none() {
+        return "`swap` takes a KEY of 1 to 64 bytes, as `exhash put --help` tells";
+    }
+    if value_in(own, OLD).is_none() {
+        return "`swap` takes an OLD of 0 to 128 bytes, as `exhash put --help` tells";
+    }
+    "`swap` takes a NEW of 0 to 128 bytes, as `exhash put --help` tells"
+}
+
+// The value that the word given by this name spells.
+fn value_in(own: &ArgMatches<'_>, name: &str) -> Option<Value>
+    requires { IsSome (first_value (found_of own.now) name.now) }
+    ensures { result ≡ option_and_then value_spelled (first_value (found_of own.now) name.now) }
+{
+    let Some(word) = own.get_str(name) else {
+        unreachable!()
+    };
+    ByteWord::parse(word.as_bytes())?.value()
 }
 
 // The key that the word given for it spells.

@@ -3,7 +3,7 @@ ghost use Rattle.std.specs.Prelude.{◌≡◌, IfOk, codes, false};
 ghost use Rattle.clap.specs.Words.{app_of, kind_of, new_app, rule_of};
 ghost use Rattle.exh_command.specs.Job.{serve_names, storm_names};
 ghost use Rattle.exh_command.specs.Program.{bare_program};
-ghost use Rattle.exh_command.specs.Parser.{HasOwnArgs, ReadsJobs, about_key, about_path, key_rule, only, option_rule, path_rule, with_options};
+ghost use Rattle.exh_command.specs.Parser.{HasOwnArgs, ReadsJobs, about_key, about_path, about_two_values, about_value, key_rule, only, option_rule, path_rule, with_options, word_rule};
 
 use clap::error::{Error, ErrorKind};
 use clap::{Arg, Command};
@@ -27,11 +27,29 @@ pub(crate) const STORM: &str = "storm";
 /// The command that prints the value of a key.
 pub(crate) const GET: &str = "get";
 
+/// The command that gives a key a value.
+pub(crate) const PUT: &str = "put";
+
+/// The command that takes a key out.
+pub(crate) const DEL: &str = "del";
+
+/// The command that gives a key another value, where it has the one that is named.
+pub(crate) const SWAP: &str = "swap";
+
 /// What help calls the path of the file that a command is about.
 pub(crate) const PATH: &str = "PATH";
 
 /// What help calls the key that a command is about.
 pub(crate) const KEY: &str = "KEY";
+
+/// What help calls the value that a key is given.
+pub(crate) const VALUE: &str = "VALUE";
+
+/// What help calls the value that a key must have.
+pub(crate) const OLD: &str = "OLD";
+
+/// What help calls the value that a key is given in its place.
+pub(crate) const NEW: &str = "NEW";
 
 /// The option of `serve` that names the page file to open.
 pub(crate) const OPEN: &str = "open";
@@ -65,6 +83,9 @@ const USAGE: &str = "exhash serve [--open PATH] [--save PATH] < SCRIPT
        exhash dump PATH
        exhash load PATH < PAIRS
        exhash get PATH KEY
+       exhash put PATH KEY VALUE
+       exhash del PATH KEY
+       exhash swap PATH KEY OLD NEW
        exhash storm [--callers N] [--calls N] [--cap N] [--wards N]
          [--copies N]
 
@@ -74,6 +95,7 @@ Examples:
   ./exhash dump examples/three-pairs.files/three-pairs.exh
   ./exhash load my-pairs.exh < examples/three-pairs-loaded.script
   ./exhash get examples/three-pairs.files/three-pairs.exh @
+  ./exhash put my-pairs.exh @ y
   ./exhash storm --callers 4 --calls 100";
 
 const SERVE_USAGE: &str = "exhash serve [--open PATH] [--save PATH] < SCRIPT
@@ -259,6 +281,70 @@ refused or the run breaks off; 2 where the command line is wrong, or asks for
 help.
 The formats are in docs/FORMATS.md.";
 
+const PUT_USAGE: &str = "exhash put PATH KEY VALUE
+
+Words that begin with a dash stand behind `--`, as in put PATH KEY -- -x.
+
+Example:
+  ./exhash put my-pairs.exh '#80' c";
+
+const GIVEN: &str = "\
+It gives the key the value in the file, and prints one line:
+  new      the key wasn't there
+  was V    V was the key's value
+  full     the key isn't there, and has no room, whatever is split
+KEY is 1 to 64 bytes, VALUE 0 to 128: characters ! to ~, the first not #; or #
+and for each byte two digits of 0 to 9 and a to f.
+
+The file is read whole, and tested and refused as by `exhash check`. It is saved
+as by `exhash serve`: it is there whole until the new one is, and stays where
+another run has saved over it since; nothing is printed then, and standard error
+says why. After `full` it isn't touched.
+
+Exit status: 0 where the file has the value now; 3 after `full`; 1 where it is
+refused or not saved; 2 where the command line is wrong, or asks for help.
+The formats are in docs/FORMATS.md.";
+
+const DEL_USAGE: &str = "exhash del PATH KEY
+
+Words that begin with a dash stand behind `--`, as in del -- -x KEY.
+
+Example:
+  ./exhash del my-pairs.exh '#80'";
+
+const TAKEN: &str = "\
+It takes the key and its value out of the file, and prints one line:
+  was V    V was the key's value
+  none     the key isn't there
+It reads and saves the file as `exhash put` does, and after `none` it isn't
+touched. KEY is as there.
+
+Exit status: 0 where the key is out now; 3 where it wasn't there; 1 where the
+file is refused or not saved; 2 where the command line is wrong, or asks for
+help.
+The formats are in docs/FORMATS.md.";
+
+const SWAP_USAGE: &str = "exhash swap PATH KEY OLD NEW
+
+Words that begin with a dash stand behind `--`, as in swap PATH KEY -- -x -y.
+
+Example:
+  ./exhash swap my-pairs.exh @ x y";
+
+const SWAPPED: &str = "\
+It gives the key the value NEW in the file, where it has OLD, and prints one
+line:
+  swapped      OLD was the key's value
+  differs V    V is the key's value, which stays
+  none         the key isn't there
+It reads and saves the file as `exhash put` does, and after `differs` and `none`
+it isn't touched. KEY is as there, OLD and NEW as VALUE.
+
+Exit status: 0 where the file has NEW now; 3 after `differs` and `none`; 1 where
+the file is refused or not saved; 2 where the command line is wrong, or asks for
+help.
+The formats are in docs/FORMATS.md.";
+
 const STORM_USAGE: &str = "exhash storm [--callers N] [--calls N] [--cap N] [--wards N]
          [--copies N]
 
@@ -287,9 +373,10 @@ stays. Of two saves to one path at once one is refused; a run doesn't save over
 the file that it opened where another saved over that since.
 
 Exit status: 0 where the run is done, also with refused lines, or the file is
-legal, or the key is there, or all is settled; 1 where it is refused or the run
-breaks off; 2 where the command line is wrong, or asks for help or for the
-version; 3 where a get finds no key.
+legal, or the key is there or changed as is asked, or all is settled; 1 where it
+is refused or the run breaks off; 2 where the command line is wrong, or asks for
+help or for the version; 3 where a get finds no key, or a put, del or swap
+leaves the file as it is.
 `exhash serve --help` has the lines of a script, `exhash check --help` what is
 said of a file, docs/FORMATS.md the formats.";
 
@@ -332,7 +419,31 @@ pub(crate) fn parser<'a>(alloc: Global) -> Result<Command<'a>, AllocError>
         GET_USAGE,
         GOT,
     )?;
-    storming.subcommand(get)
+    let getting = storming.subcommand(get)?;
+    let put = value_command(
+        alloc,
+        PUT,
+        "Gives a key of a page file a value",
+        PUT_USAGE,
+        GIVEN,
+    )?;
+    let putting = getting.subcommand(put)?;
+    let del = key_command(
+        alloc,
+        DEL,
+        "Takes a key out of a page file",
+        DEL_USAGE,
+        TAKEN,
+    )?;
+    let deleting = putting.subcommand(del)?;
+    let swap = swap_command(
+        alloc,
+        SWAP,
+        "Gives a key another value, where it has the one that is named",
+        SWAP_USAGE,
+        SWAPPED,
+    )?;
+    deleting.subcommand(swap)
 }
 
 // The program's own command, with none below it.
@@ -442,6 +553,36 @@ fn key_command<'a>(
     path_command(alloc, name, about, usage, more)?.arg(key(alloc))
 }
 
+// The parser of a command about a key of the file of a path, and about a value of it.
+fn value_command<'a>(
+    alloc: Global,
+    name: &'a str,
+    about: &'a str,
+    usage: &'a str,
+    more: &'a str,
+) -> Result<Command<'a>, AllocError>
+    ensures own { IfOk result HasOwnArgs }
+    ensures is { IfOk result (λ command. app_of command ≡ only (about_value name.now)) }
+{
+    key_command(alloc, name, about, usage, more)?.arg(word(alloc, VALUE))
+}
+
+// And about two.
+fn swap_command<'a>(
+    alloc: Global,
+    name: &'a str,
+    about: &'a str,
+    usage: &'a str,
+    more: &'a str,
+) -> Result<Command<'a>, AllocError>
+    ensures own { IfOk result HasOwnArgs }
+    ensures is { IfOk result (λ command. app_of command ≡ only (about_two_values name.now)) }
+{
+    key_command(alloc, name, about, usage, more)?
+        .arg(word(alloc, OLD))?
+        .arg(word(alloc, NEW))
+}
+
 // A command without arguments: what it does, how it is used, and what help says behind its options.
 fn bare_command<'a>(
     alloc: Global,
@@ -473,6 +614,14 @@ fn key<'a>(alloc: Global) -> Arg<'a>
     ensures own { result.global ≡ false }
 {
     Arg::new(alloc, KEY).required(true)
+}
+
+// A word of this name, which has to be there.
+fn word<'a>(alloc: Global, name: &'a str) -> Arg<'a>
+    ensures rule { rule_of result ≡ word_rule name.now }
+    ensures own { result.global ≡ false }
+{
+    Arg::new(alloc, name).required(true)
 }
 
 // An option, what help calls its value, and what it tells.

@@ -2,6 +2,7 @@ pub mod Status
 pub mod Run
 pub mod FileRun
 pub mod GetRun
+pub mod ChangeRun
 pub mod OpenRun
 pub mod LoadRun
 pub mod Place

@@ -10,7 +10,7 @@ use Rattle.exh_serve.specs.declared.serve_fault.ServeFault.TheVariants.{Write, M
 use Rattle.exh_file_runs.specs.Status.{run_status}
 use Rattle.exh_file_runs.specs.declared.place.Place.{Place}
 use Rattle.exh_file_runs.specs.declared.run.Ending.{Ending}
-use Rattle.exh_file_runs.specs.declared.run.Ending.TheVariants.{Over, Save}
+use Rattle.exh_file_runs.specs.declared.run.Ending.TheVariants.{Over, Save, SaveAndTell}
 use Rattle.exh_file_runs.specs.declared.status.Status.{Status}
 
 -- the last line of a program that memory ended
@@ -39,5 +39,6 @@ module _ (begin : Beginning) (old new unread : Option (List ℕ)) where
 -- for them.
 abbrev pub IsEnding : Result (Option OpenedState) ServeFault → Option Place → Ending → Type 0
 IsEnding outcome place (Save one wards) = (outcome ≡ Ok (Some wards)) × (place ≡ Some one)
+IsEnding outcome place (SaveAndTell one wards line) = ⊥
 IsEnding (Ok (Some wards)) place (Over status) = (place ≡ None) × (status ≡ run_status (Ok (Some wards)))
 IsEnding outcome place (Over status) = status ≡ run_status outcome

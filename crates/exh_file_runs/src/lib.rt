@@ -6,11 +6,12 @@ pub use last_line::{print_line, print_out_of_memory};
 pub use place::{Place, place_of};
 pub use run::Ending;
 pub use saving::save_at_place;
-pub use standard::{get, load, serve, tell_path};
+pub use standard::{change, get, load, serve, tell_change, tell_path};
 pub use status::Status;
 pub use stores::{FileWards, MAKER};
 pub use watch::console;
 
+mod change_run;
 mod file_blocks;
 mod file_run;
 mod get_run;

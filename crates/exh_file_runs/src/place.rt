@@ -25,6 +25,7 @@ pub fn place_of<'w>(job: &Job<'w>) -> Option<Place<'w>>
     match job {
         Job::Serve { save, .. } => at(*save),
         Job::Load { path } => at(Some(*path)),
+        Job::Change { path, .. } => at(Some(*path)),
         Job::Check { .. } | Job::Dump { .. } | Job::Storm { .. } | Job::Get { .. } => None,
     }
 }

@@ -19,7 +19,16 @@ pub enum Ending<'w> {
     /// With this status.
     Over(Status),
     /// After these wards are saved at a place.
-    Save { place: Place<'w>, wards: FileWards },
+    Save {
+        place: Place<'w>,
+        wards: FileWards,
+    },
+    /// After these wards are saved at a place, and this line is printed.
+    SaveAndTell {
+        place: Place<'w>,
+        wards: FileWards,
+        line: Vec<u8>,
+    },
 }
 
 /// Answers the script of a reader on a writer, over the wards of a file or over a new one, and gives the wards that its

@@ -1,6 +1,7 @@
 //! The runs over the program's standard streams, and over files of the system.
 ghost use Rattle.exh_file_runs.specs.Place.{SavesAt};
 
+use crate::change_run::{change_over, tell_saved};
 use crate::file_blocks::{FileBlocks, open_regular};
 use crate::file_run::{Topic, tell_file};
 use crate::get_run::tell_key;
@@ -13,6 +14,7 @@ use crate::saving::{opened_seen, warn};
 use crate::status::Status;
 use crate::stores::FileWards;
 use crate::watch::{pairs_meter, reading_meter};
+use exh_calls::Call;
 use exh_notes::ReasonReader;
 use exh_page::Key;
 use exh_place::Seen;
@@ -49,9 +51,17 @@ fn opened_at(
     rt: &HostRuntime,
     path: Option<&str>,
 ) -> Result<(Option<FileWards>, Option<Seen>), Status> {
-    let Some(path) = path else {
-        return Ok((None, None));
-    };
+    match path {
+        Some(path) => {
+            let (wards, seen) = open_at(rt, path)?;
+            Ok((Some(wards), seen))
+        }
+        None => Ok((None, None)),
+    }
+}
+
+// The same of a path that is named.
+fn open_at(rt: &HostRuntime, path: &str) -> Result<(FileWards, Option<Seen>), Status> {
     let reason = Cell::new(None);
     let opened = with_reason(File::open(rt, path), &reason);
     let seen = opened_seen(rt, path, &opened)?;
@@ -61,7 +71,7 @@ fn opened_at(
     let wards = open_file(rt.alloc(), counted, &mut Output::new(&mut writer));
     meter.clear();
     tell_reason(rt, path, &reason);
-    wards.map(|wards| (Some(wards), seen))
+    wards.map(|wards| (wards, seen))
 }
 
 // Answers the script.
@@ -127,4 +137,44 @@ pub fn get(rt: &HostRuntime, path: &str, key: &Key) -> Status {
     );
     tell_reason(rt, path, &reason);
     status
+}
+
+/// Answers a call by the page file of a path, and says what that file was. Where the call is done what it leaves is to be
+/// saved at the place, and then the answer told.
+pub fn change<'w>(
+    rt: &HostRuntime,
+    path: &str,
+    call: &Call,
+    place: Option<Place<'w>>,
+) -> (Ending<'w>, Option<Seen>)
+    ensures { SavesAt place.entry result.0 }
+{
+    match open_at(rt, path) {
+        Ok((wards, seen)) => (answer_over(rt, wards, call, place), seen),
+        Err(status) => (Ending::Over(status), None),
+    }
+}
+
+// Answers the call.
+fn answer_over<'w>(
+    rt: &HostRuntime,
+    wards: FileWards,
+    call: &Call,
+    place: Option<Place<'w>>,
+) -> Ending<'w>
+    ensures { SavesAt place.entry result }
+{
+    let mut writer = io::writer(rt);
+    change_over(
+        rt.alloc(),
+        wards,
+        call,
+        place,
+        &mut Output::new(&mut writer),
+    )
+}
+
+/// Tells an answer's line, where what the call left is saved, as this status of the save says.
+pub fn tell_change(rt: &HostRuntime, saved: Status, line: &[u8]) -> Status {
+    tell_saved(saved, line, &mut Output::new(&mut io::writer(rt)))
 }

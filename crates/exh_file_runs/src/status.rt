@@ -16,7 +16,7 @@ pub enum Status {
     Refused,
     /// The command line names no job: 2.
     WrongWords,
-    /// The file hasn't the key that is asked for: 3.
+    /// The file hasn't the key that is asked for, or stays as it was: 3.
     Missing,
 }
 

@@ -1,6 +1,7 @@
-use Rattle.std.proofs.Common.{inl, inr, ◌∙◌}
+use Rattle.std.specs.Prelude.{IsSome}
+use Rattle.std.proofs.Common.{inl, inr, refl, subst, ◌∙◌}
 use Rattle.std.proofs.lemmas.Result.{IfErr-weaker, IfOk-weaker}
-use Rattle.exh_command.proofs.ParserLemmas.{checks, dumps, gets, is_command, key_given, job_is, loads, no_options, own_is, own_of, path_given, serves, some_met, storms}
+use Rattle.exh_command.proofs.ParserLemmas.{checks, dels, dumps, gets, is_command, key_given, job_is, loads, no_options, own_is, own_of, path_given, puts, serves, some_met, storms, swaps}
 use Rattle.exh_command.proofs.job.job_met.Goals as goal
 
 pub unreachable-requires : goal.unreachable-requires
@@ -48,7 +49,7 @@ returns-in-storm-clause-wrong c =
 pub unreachable-requires-in_default-command : goal.unreachable-requires-in_default-command
 unreachable-requires-in_default-command c =
     let own = own_is c.args.matches.now c.in-Some.command.now c.in-Some.own.now c.requires.0 c.in-Some.ensures.name c.in-Some.ensures.rows c.requires.1 in
-    is_command c.requires.0 c.in-Some.command.now c.in-Some.own.now own c.in_default-command.not-serve c.in_default-command.not-check c.in_default-command.not-dump c.in_default-command.not-load c.in_default-command.not-storm c.in_default-command.not-get
+    is_command c.requires.0 c.in-Some.command.now c.in-Some.own.now own c.in_default-command.not-serve c.in_default-command.not-check c.in_default-command.not-dump c.in_default-command.not-load c.in_default-command.not-storm c.in_default-command.not-get c.in_default-command.not-put c.in_default-command.not-del c.in_default-command.not-swap
 
 pub get_job-requires : goal.get_job-requires
 get_job-requires c =
@@ -69,3 +70,54 @@ returns-in-get-clause-wrong c =
     IfErr-weaker c.get_job.result _ _ (λ fault none wrong asked met.
     let given = gets asked c.in-Some.own.now (own_of c.args.matches.now c.in-Some.command.now c.in-Some.own.now _ c.in-Some.ensures.name c.in-Some.ensures.rows c.in-get.is asked met) in
     job_is asked _ given.asked_is ∙ none wrong given.path given.word given.word_is) c.get_job.ensures.wrong
+
+pub put_job-requires : goal.put_job-requires
+put_job-requires c =
+    let given = puts c.requires.0 c.in-Some.own.now (own_of c.args.matches.now c.in-Some.command.now c.in-Some.own.now _ c.in-Some.ensures.name c.in-Some.ensures.rows c.in-put.is c.requires.0 c.requires.1) in
+    record { path = subst IsSome given.path_is refl; key = subst IsSome given.key_is refl; value = subst IsSome given.value_is refl }
+
+pub returns-in-put-clause-named : goal.returns-in-put-clause-named
+returns-in-put-clause-named c =
+    IfOk-weaker c.put_job.result _ _ (λ job is asked met.
+    let given = puts asked c.in-Some.own.now (own_of c.args.matches.now c.in-Some.command.now c.in-Some.own.now _ c.in-Some.ensures.name c.in-Some.ensures.rows c.in-put.is asked met) in
+    job_is asked _ given.asked_is ∙ is given.path given.key given.value given.path_is given.key_is given.value_is) c.put_job.ensures.named
+
+pub returns-in-put-clause-wrong : goal.returns-in-put-clause-wrong
+returns-in-put-clause-wrong c =
+    IfErr-weaker c.put_job.result _ _ (λ fault none wrong asked met.
+    let given = puts asked c.in-Some.own.now (own_of c.args.matches.now c.in-Some.command.now c.in-Some.own.now _ c.in-Some.ensures.name c.in-Some.ensures.rows c.in-put.is asked met) in
+    job_is asked _ given.asked_is ∙ none wrong given.path given.key given.value given.key_is given.value_is) c.put_job.ensures.wrong
+
+pub del_job-requires : goal.del_job-requires
+del_job-requires c =
+    let given = dels c.requires.0 c.in-Some.own.now (own_of c.args.matches.now c.in-Some.command.now c.in-Some.own.now _ c.in-Some.ensures.name c.in-Some.ensures.rows c.in-del.is c.requires.0 c.requires.1) in
+    record { path = subst IsSome given.path_is refl; key = subst IsSome given.key_is refl }
+
+pub returns-in-del-clause-named : goal.returns-in-del-clause-named
+returns-in-del-clause-named c =
+    IfOk-weaker c.del_job.result _ _ (λ job is asked met.
+    let given = dels asked c.in-Some.own.now (own_of c.args.matches.now c.in-Some.command.now c.in-Some.own.now _ c.in-Some.ensures.name c.in-Some.ensures.rows c.in-del.is asked met) in
+    job_is asked _ given.asked_is ∙ is given.path given.key given.path_is given.key_is) c.del_job.ensures.named
+
+pub returns-in-del-clause-wrong : goal.returns-in-del-clause-wrong
+returns-in-del-clause-wrong c =
+    IfErr-weaker c.del_job.result _ _ (λ fault none wrong asked met.
+    let given = dels asked c.in-Some.own.now (own_of c.args.matches.now c.in-Some.command.now c.in-Some.own.now _ c.in-Some.ensures.name c.in-Some.ensures.rows c.in-del.is asked met) in
+    job_is asked _ given.asked_is ∙ none wrong given.path given.key given.key_is) c.del_job.ensures.wrong
+
+pub swap_job-requires : goal.swap_job-requires
+swap_job-requires c =
+    let given = swaps c.requires.0 c.in-Some.own.now (own_of c.args.matches.now c.in-Some.command.now c.in-Some.own.now _ c.in-Some.ensures.name c.in-Some.ensures.rows c.in-swap.is c.requires.0 c.requires.1) in
+    record { path = subst IsSome given.path_is refl; key = subst IsSome given.key_is refl; old = subst IsSome given.old_is refl; new = subst IsSome given.new_is refl }
+
+pub returns-in-swap-clause-named : goal.returns-in-swap-clause-named
+returns-in-swap-clause-named c =
+    IfOk-weaker c.swap_job.result _ _ (λ job is asked met.
+    let given = swaps asked c.in-Some.own.now (own_of c.args.matches.now c.in-Some.command.now c.in-Some.own.now _ c.in-Some.ensures.name c.in-Some.ensures.rows c.in-swap.is asked met) in
+    job_is asked _ given.asked_is ∙ is given.path given.key given.old given.new given.path_is given.key_is given.old_is given.new_is) c.swap_job.ensures.named
+
+pub returns-in-swap-clause-wrong : goal.returns-in-swap-clause-wrong
+returns-in-swap-clause-wrong c =
+    IfErr-weaker c.swap_job.result _ _ (λ fault none wrong asked met.
+    let given = swaps asked c.in-Some.own.now (own_of c.args.matches.now c.in-Some.command.now c.in-Some.own.now _ c.in-Some.ensures.name c.in-Some.ensures.rows c.in-swap.is asked met) in
+    job_is asked _ given.asked_is ∙ none wrong given.path given.key given.old given.new given.key_is given.old_is given.new_is) c.swap_job.ensures.wrong

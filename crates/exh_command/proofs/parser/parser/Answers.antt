@@ -13,6 +13,9 @@ returns c =
     let dumping = c.in_ok-dumping.ensures.shape c.in_ok-dump.ensures.own ∙ ap₂ with_subcommand checking (ap (λ (a : App). a.top) c.in_ok-dump.ensures.is) in
     let loading = c.in_ok-loading.ensures.shape c.in_ok-load.ensures.own ∙ ap₂ with_subcommand dumping (ap (λ (a : App). a.top) c.in_ok-load.ensures.is) in
     let storming = c.in_ok-storming.ensures.shape c.in_ok-storm.ensures.own ∙ ap₂ with_subcommand loading (ap (λ (a : App). a.top) c.in_ok-storm.ensures.is) in
-    IfOk-weaker c.subcommand-6.result _ _ (λ command added.
-    let same : app_of command ≡ program = added.shape c.in_ok-get.ensures.own ∙ ap₂ with_subcommand storming (ap (λ (a : App). a.top) c.in_ok-get.ensures.is) in
-    subst ReadsJobs (sym same) program_reads) c.subcommand-6.ensures
+    let getting = c.in_ok-getting.ensures.shape c.in_ok-get.ensures.own ∙ ap₂ with_subcommand storming (ap (λ (a : App). a.top) c.in_ok-get.ensures.is) in
+    let putting = c.in_ok-putting.ensures.shape c.in_ok-put.ensures.own ∙ ap₂ with_subcommand getting (ap (λ (a : App). a.top) c.in_ok-put.ensures.is) in
+    let deleting = c.in_ok-deleting.ensures.shape c.in_ok-del.ensures.own ∙ ap₂ with_subcommand putting (ap (λ (a : App). a.top) c.in_ok-del.ensures.is) in
+    IfOk-weaker c.subcommand-9.result _ _ (λ command added.
+    let same : app_of command ≡ program = added.shape c.in_ok-swap.ensures.own ∙ ap₂ with_subcommand deleting (ap (λ (a : App). a.top) c.in_ok-swap.ensures.is) in
+    subst ReadsJobs (sym same) program_reads) c.subcommand-9.ensures

@@ -1,0 +1,3 @@
+pub mod WardChange
+pub mod FileChange
+pub mod ReplyLine

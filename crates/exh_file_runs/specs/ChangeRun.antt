@@ -1,0 +1,60 @@
+-- What a put, a del or a swap prints, what of it is saved, and with which status the program then ends.
+use Rattle.std.specs.Prelude.{◌≡◌, ◌⊎◌, ℕ, Bool, true, false, cond, List, [], ◌∷◌, ◌++◌, codes, Option, None, Some}
+use Rattle.exh_calls.specs.declared.call.Call.{Call}
+use Rattle.exh_calls.specs.declared.reply.Reply.{Reply}
+use Rattle.exh_open.specs.Opened.{OpenedState}
+use Rattle.exh_change.specs.FileChange.{ChangesOneMap, IsChangedIn}
+use Rattle.exh_change.specs.ReplyLine.{is_done, reply_line}
+use Rattle.exh_file_runs.specs.Run.{PrintsLine, memory_line}
+use Rattle.exh_file_runs.specs.declared.place.Place.{Place}
+use Rattle.exh_file_runs.specs.declared.run.Ending.{Ending}
+use Rattle.exh_file_runs.specs.declared.run.Ending.TheVariants.{Over, Save, SaveAndTell}
+use Rattle.exh_file_runs.specs.declared.status.Status.{Status}
+use Rattle.exh_file_runs.specs.declared.status.Status.TheVariants.{Done, Missing, Refused}
+
+-- a page out of reach
+abbrev pub out_of_reach_line : List ℕ
+out_of_reach_line = codes "refused 11" ++ 10 ∷ []
+
+-- the call was answered so by the file, over the map of its key's ward and, where the file has one map, over that; this is the file then
+pub record IsAnsweredBy (file : OpenedState) (call : Call) (reply : Reply) (left : OpenedState) : Type 0 where
+  pub changed : IsChangedIn file call reply left
+  pub one : ChangesOneMap file call reply left
+
+-- the wards are to be saved at the place, and then this line is to be printed; or there is no place
+abbrev pub SavesFile : Option Place → OpenedState → List ℕ → Ending → Type 0
+SavesFile place left line (Over status) = (place ≡ None) × (status ≡ Refused)
+SavesFile place left line (Save one wards) = ⊥
+SavesFile place left line (SaveAndTell one wards told) = (place ≡ Some one) × (wards ≡ left) × (told.items ≡ line)
+
+-- of a writer that held `old` bytes before and `new` ones after, where these are known, and of whether it failed
+module _ (old new : Option (List ℕ)) (failed : Bool) where
+  -- a line, and the status, which is another where the line didn't go out
+  abbrev pub TellsLine : List ℕ → Status → Status → Type 0
+  TellsLine line status result = PrintsLine old new failed line × (result ≡ cond failed Refused status)
+
+  -- memory ran out, or a page is out of reach
+  abbrev pub Refuses : Status → Type 0
+  Refuses status = (PrintsLine old new failed memory_line ⊎ PrintsLine old new failed out_of_reach_line) × (status ≡ Refused)
+
+  -- a reply that leaves the file as it was, and its line
+  abbrev pub LeavesFile : Reply → Status → Type 0
+  LeavesFile reply status = (is_done reply ≡ false) × TellsLine (reply_line reply) Missing status
+
+  -- a reply that says that the call is done: its file is to be saved at the place, and nothing is printed before
+  abbrev pub LeavesToSave : Option Place → Reply → OpenedState → Ending → Type 0
+  LeavesToSave place reply left ending = (is_done reply ≡ true) × (new ≡ old) × SavesFile place left (reply_line reply) ending
+
+  -- after an answer
+  abbrev pub EndsAnswer : Option Place → Reply → OpenedState → Ending → Type 0
+  EndsAnswer place reply left ending = LeavesToSave place reply left ending ⊎ ((status : Status) × (ending ≡ Over status) × (LeavesFile reply status ⊎ Refuses status))
+
+  -- and so of the answer of a call over a file; or it came to none
+  abbrev pub EndsChange : OpenedState → Call → Option Place → Ending → Type 0
+  EndsChange file call place ending = ((reply : Reply) × (left : OpenedState) × IsAnsweredBy file call reply left × EndsAnswer place reply left ending)
+      ⊎ ((status : Status) × (ending ≡ Over status) × Refuses status)
+
+  -- after the save: the line, where the file is saved
+  abbrev pub EndsSaved : Status → List ℕ → Status → Type 0
+  EndsSaved Done line result = TellsLine line Done result
+  EndsSaved status line result = (new ≡ old) × (result ≡ status)
