@@ -154,10 +154,21 @@ end_2_agrees path key [] = tt
 end_2_agrees path key (value ∷ []) = refl
 end_2_agrees path key (value ∷ next ∷ rest) = tt
 
-end_2_met : (path : Text) (key : Text) (rest : List Text) (found : Text) → only_word rest ≡ Some found → HasPut path key found (rows_from (codes "--" ∷ rest) (behind_2 path key))
+end_2_path : (path : Text) (key : Text) (value : Text) → first_of path_id (rows_from (codes "--" ∷ value ∷ []) (behind_2 path key)) ≡ Some path
 unfolding clap_on_literals
+end_2_path path key value = refl
+
+end_2_key : (path : Text) (key : Text) (value : Text) → first_of key_id (rows_from (codes "--" ∷ value ∷ []) (behind_2 path key)) ≡ Some key
+unfolding clap_on_literals
+end_2_key path key value = refl
+
+end_2_value : (path : Text) (key : Text) (value : Text) → first_of value_id (rows_from (codes "--" ∷ value ∷ []) (behind_2 path key)) ≡ Some value
+unfolding clap_on_literals
+end_2_value path key value = refl
+
+end_2_met : (path : Text) (key : Text) (rest : List Text) (found : Text) → only_word rest ≡ Some found → HasPut path key found (rows_from (codes "--" ∷ rest) (behind_2 path key))
 end_2_met path key [] found same = cc
-end_2_met path key (value ∷ []) found same = subst (λ (found : Text). HasPut path key found (rows_from (codes "--" ∷ value ∷ []) (behind_2 path key))) (some_is same) (record { path = refl; key = refl; value = refl })
+end_2_met path key (value ∷ []) found same = subst (λ (found : Text). HasPut path key found (rows_from (codes "--" ∷ value ∷ []) (behind_2 path key))) (some_is same) (record { path = end_2_path path key value; key = end_2_key path key value; value = end_2_value path key value })
 end_2_met path key (value ∷ next ∷ rest) found same = cc
 
 word_2_agrees : (path : Text) (key : Text) (value : Text) (rest : List Text) (ends option : Bool) → ends_options value ≡ ends → is_option value ≡ option
@@ -192,11 +203,22 @@ end_1_agrees path (key ∷ []) = tt
 end_1_agrees path (key ∷ value ∷ []) = refl
 end_1_agrees path (key ∷ value ∷ next ∷ rest) = tt
 
-end_1_met : (path : Text) (rest : List Text) (found : Text × Text) → only_two rest ≡ Some found → HasPut path found.0 found.1 (rows_from (codes "--" ∷ rest) (behind_1 path))
+end_1_path : (path : Text) (key : Text) (value : Text) → first_of path_id (rows_from (codes "--" ∷ key ∷ value ∷ []) (behind_1 path)) ≡ Some path
 unfolding clap_on_literals
+end_1_path path key value = refl
+
+end_1_key : (path : Text) (key : Text) (value : Text) → first_of key_id (rows_from (codes "--" ∷ key ∷ value ∷ []) (behind_1 path)) ≡ Some key
+unfolding clap_on_literals
+end_1_key path key value = refl
+
+end_1_value : (path : Text) (key : Text) (value : Text) → first_of value_id (rows_from (codes "--" ∷ key ∷ value ∷ []) (behind_1 path)) ≡ Some value
+unfolding clap_on_literals
+end_1_value path key value = refl
+
+end_1_met : (path : Text) (rest : List Text) (found : Text × Text) → only_two rest ≡ Some found → HasPut path found.0 found.1 (rows_from (codes "--" ∷ rest) (behind_1 path))
 end_1_met path [] found same = cc
 end_1_met path (key ∷ []) found same = cc
-end_1_met path (key ∷ value ∷ []) found same = subst (λ (found : Text × Text). HasPut path found.0 found.1 (rows_from (codes "--" ∷ key ∷ value ∷ []) (behind_1 path))) (some_is same) (record { path = refl; key = refl; value = refl })
+end_1_met path (key ∷ value ∷ []) found same = subst (λ (found : Text × Text). HasPut path found.0 found.1 (rows_from (codes "--" ∷ key ∷ value ∷ []) (behind_1 path))) (some_is same) (record { path = end_1_path path key value; key = end_1_key path key value; value = end_1_value path key value })
 end_1_met path (key ∷ value ∷ next ∷ rest) found same = cc
 
 word_1_agrees : (path : Text) (key : Text) (rest : List Text) (ends option : Bool) → ends_options key ≡ ends → is_option key ≡ option
@@ -237,12 +259,23 @@ end_0_agrees (path ∷ key ∷ []) = tt
 end_0_agrees (path ∷ key ∷ value ∷ []) = refl
 end_0_agrees (path ∷ key ∷ value ∷ next ∷ rest) = tt
 
-end_0_met : (rest : List Text) (found : Text × Text × Text) → only_three rest ≡ Some found → HasPut found.0 found.1 found.2 (rows_after put_flags [] (codes "--" ∷ rest))
+end_0_path : (path : Text) (key : Text) (value : Text) → first_of path_id (rows_after put_flags [] (codes "--" ∷ path ∷ key ∷ value ∷ [])) ≡ Some path
 unfolding clap_on_literals
+end_0_path path key value = refl
+
+end_0_key : (path : Text) (key : Text) (value : Text) → first_of key_id (rows_after put_flags [] (codes "--" ∷ path ∷ key ∷ value ∷ [])) ≡ Some key
+unfolding clap_on_literals
+end_0_key path key value = refl
+
+end_0_value : (path : Text) (key : Text) (value : Text) → first_of value_id (rows_after put_flags [] (codes "--" ∷ path ∷ key ∷ value ∷ [])) ≡ Some value
+unfolding clap_on_literals
+end_0_value path key value = refl
+
+end_0_met : (rest : List Text) (found : Text × Text × Text) → only_three rest ≡ Some found → HasPut found.0 found.1 found.2 (rows_after put_flags [] (codes "--" ∷ rest))
 end_0_met [] found same = cc
 end_0_met (path ∷ []) found same = cc
 end_0_met (path ∷ key ∷ []) found same = cc
-end_0_met (path ∷ key ∷ value ∷ []) found same = subst (λ (found : Text × Text × Text). HasPut found.0 found.1 found.2 (rows_after put_flags [] (codes "--" ∷ path ∷ key ∷ value ∷ []))) (some_is same) (record { path = refl; key = refl; value = refl })
+end_0_met (path ∷ key ∷ value ∷ []) found same = subst (λ (found : Text × Text × Text). HasPut found.0 found.1 found.2 (rows_after put_flags [] (codes "--" ∷ path ∷ key ∷ value ∷ []))) (some_is same) (record { path = end_0_path path key value; key = end_0_key path key value; value = end_0_value path key value })
 end_0_met (path ∷ key ∷ value ∷ next ∷ rest) found same = cc
 
 word_0_agrees : (path : Text) (rest : List Text) (ends option : Bool) → ends_options path ≡ ends → is_option path ≡ option

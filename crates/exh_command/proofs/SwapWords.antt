@@ -178,10 +178,25 @@ end_3_agrees path key old [] = tt
 end_3_agrees path key old (new ∷ []) = refl
 end_3_agrees path key old (new ∷ next ∷ rest) = tt
 
-end_3_met : (path : Text) (key : Text) (old : Text) (rest : List Text) (found : Text) → only_word rest ≡ Some found → HasSwap path key old found (rows_from (codes "--" ∷ rest) (behind_3 path key old))
+end_3_path : (path : Text) (key : Text) (old : Text) (new : Text) → first_of path_id (rows_from (codes "--" ∷ new ∷ []) (behind_3 path key old)) ≡ Some path
 unfolding clap_on_literals
+end_3_path path key old new = refl
+
+end_3_key : (path : Text) (key : Text) (old : Text) (new : Text) → first_of key_id (rows_from (codes "--" ∷ new ∷ []) (behind_3 path key old)) ≡ Some key
+unfolding clap_on_literals
+end_3_key path key old new = refl
+
+end_3_old : (path : Text) (key : Text) (old : Text) (new : Text) → first_of old_id (rows_from (codes "--" ∷ new ∷ []) (behind_3 path key old)) ≡ Some old
+unfolding clap_on_literals
+end_3_old path key old new = refl
+
+end_3_new : (path : Text) (key : Text) (old : Text) (new : Text) → first_of new_id (rows_from (codes "--" ∷ new ∷ []) (behind_3 path key old)) ≡ Some new
+unfolding clap_on_literals
+end_3_new path key old new = refl
+
+end_3_met : (path : Text) (key : Text) (old : Text) (rest : List Text) (found : Text) → only_word rest ≡ Some found → HasSwap path key old found (rows_from (codes "--" ∷ rest) (behind_3 path key old))
 end_3_met path key old [] found same = cc
-end_3_met path key old (new ∷ []) found same = subst (λ (found : Text). HasSwap path key old found (rows_from (codes "--" ∷ new ∷ []) (behind_3 path key old))) (some_is same) (record { path = refl; key = refl; old = refl; new = refl })
+end_3_met path key old (new ∷ []) found same = subst (λ (found : Text). HasSwap path key old found (rows_from (codes "--" ∷ new ∷ []) (behind_3 path key old))) (some_is same) (record { path = end_3_path path key old new; key = end_3_key path key old new; old = end_3_old path key old new; new = end_3_new path key old new })
 end_3_met path key old (new ∷ next ∷ rest) found same = cc
 
 word_3_agrees : (path : Text) (key : Text) (old : Text) (new : Text) (rest : List Text) (ends option : Bool) → ends_options new ≡ ends → is_option new ≡ option
@@ -216,11 +231,26 @@ end_2_agrees path key (old ∷ []) = tt
 end_2_agrees path key (old ∷ new ∷ []) = refl
 end_2_agrees path key (old ∷ new ∷ next ∷ rest) = tt
 
-end_2_met : (path : Text) (key : Text) (rest : List Text) (found : Text × Text) → only_two rest ≡ Some found → HasSwap path key found.0 found.1 (rows_from (codes "--" ∷ rest) (behind_2 path key))
+end_2_path : (path : Text) (key : Text) (old : Text) (new : Text) → first_of path_id (rows_from (codes "--" ∷ old ∷ new ∷ []) (behind_2 path key)) ≡ Some path
 unfolding clap_on_literals
+end_2_path path key old new = refl
+
+end_2_key : (path : Text) (key : Text) (old : Text) (new : Text) → first_of key_id (rows_from (codes "--" ∷ old ∷ new ∷ []) (behind_2 path key)) ≡ Some key
+unfolding clap_on_literals
+end_2_key path key old new = refl
+
+end_2_old : (path : Text) (key : Text) (old : Text) (new : Text) → first_of old_id (rows_from (codes "--" ∷ old ∷ new ∷ []) (behind_2 path key)) ≡ Some old
+unfolding clap_on_literals
+end_2_old path key old new = refl
+
+end_2_new : (path : Text) (key : Text) (old : Text) (new : Text) → first_of new_id (rows_from (codes "--" ∷ old ∷ new ∷ []) (behind_2 path key)) ≡ Some new
+unfolding clap_on_literals
+end_2_new path key old new = refl
+
+end_2_met : (path : Text) (key : Text) (rest : List Text) (found : Text × Text) → only_two rest ≡ Some found → HasSwap path key found.0 found.1 (rows_from (codes "--" ∷ rest) (behind_2 path key))
 end_2_met path key [] found same = cc
 end_2_met path key (old ∷ []) found same = cc
-end_2_met path key (old ∷ new ∷ []) found same = subst (λ (found : Text × Text). HasSwap path key found.0 found.1 (rows_from (codes "--" ∷ old ∷ new ∷ []) (behind_2 path key))) (some_is same) (record { path = refl; key = refl; old = refl; new = refl })
+end_2_met path key (old ∷ new ∷ []) found same = subst (λ (found : Text × Text). HasSwap path key found.0 found.1 (rows_from (codes "--" ∷ old ∷ new ∷ []) (behind_2 path key))) (some_is same) (record { path = end_2_path path key old new; key = end_2_key path key old new; old = end_2_old path key old new; new = end_2_new path key old new })
 end_2_met path key (old ∷ new ∷ next ∷ rest) found same = cc
 
 word_2_agrees : (path : Text) (key : Text) (old : Text) (rest : List Text) (ends option : Bool) → ends_options old ≡ ends → is_option old ≡ option
@@ -261,12 +291,27 @@ end_1_agrees path (key ∷ old ∷ []) = tt
 end_1_agrees path (key ∷ old ∷ new ∷ []) = refl
 end_1_agrees path (key ∷ old ∷ new ∷ next ∷ rest) = tt
 
-end_1_met : (path : Text) (rest : List Text) (found : Text × Text × Text) → only_three rest ≡ Some found → HasSwap path found.0 found.1 found.2 (rows_from (codes "--" ∷ rest) (behind_1 path))
+end_1_path : (path : Text) (key : Text) (old : Text) (new : Text) → first_of path_id (rows_from (codes "--" ∷ key ∷ old ∷ new ∷ []) (behind_1 path)) ≡ Some path
 unfolding clap_on_literals
+end_1_path path key old new = refl
+
+end_1_key : (path : Text) (key : Text) (old : Text) (new : Text) → first_of key_id (rows_from (codes "--" ∷ key ∷ old ∷ new ∷ []) (behind_1 path)) ≡ Some key
+unfolding clap_on_literals
+end_1_key path key old new = refl
+
+end_1_old : (path : Text) (key : Text) (old : Text) (new : Text) → first_of old_id (rows_from (codes "--" ∷ key ∷ old ∷ new ∷ []) (behind_1 path)) ≡ Some old
+unfolding clap_on_literals
+end_1_old path key old new = refl
+
+end_1_new : (path : Text) (key : Text) (old : Text) (new : Text) → first_of new_id (rows_from (codes "--" ∷ key ∷ old ∷ new ∷ []) (behind_1 path)) ≡ Some new
+unfolding clap_on_literals
+end_1_new path key old new = refl
+
+end_1_met : (path : Text) (rest : List Text) (found : Text × Text × Text) → only_three rest ≡ Some found → HasSwap path found.0 found.1 found.2 (rows_from (codes "--" ∷ rest) (behind_1 path))
 end_1_met path [] found same = cc
 end_1_met path (key ∷ []) found same = cc
 end_1_met path (key ∷ old ∷ []) found same = cc
-end_1_met path (key ∷ old ∷ new ∷ []) found same = subst (λ (found : Text × Text × Text). HasSwap path found.0 found.1 found.2 (rows_from (codes "--" ∷ key ∷ old ∷ new ∷ []) (behind_1 path))) (some_is same) (record { path = refl; key = refl; old = refl; new = refl })
+end_1_met path (key ∷ old ∷ new ∷ []) found same = subst (λ (found : Text × Text × Text). HasSwap path found.0 found.1 found.2 (rows_from (codes "--" ∷ key ∷ old ∷ new ∷ []) (behind_1 path))) (some_is same) (record { path = end_1_path path key old new; key = end_1_key path key old new; old = end_1_old path key old new; new = end_1_new path key old new })
 end_1_met path (key ∷ old ∷ new ∷ next ∷ rest) found same = cc
 
 word_1_agrees : (path : Text) (key : Text) (rest : List Text) (ends option : Bool) → ends_options key ≡ ends → is_option key ≡ option
@@ -308,13 +353,28 @@ end_0_agrees (path ∷ key ∷ old ∷ []) = tt
 end_0_agrees (path ∷ key ∷ old ∷ new ∷ []) = refl
 end_0_agrees (path ∷ key ∷ old ∷ new ∷ next ∷ rest) = tt
 
-end_0_met : (rest : List Text) (found : Text × Text × Text × Text) → only_four rest ≡ Some found → HasSwap found.0 found.1 found.2 found.3 (rows_after swap_flags [] (codes "--" ∷ rest))
+end_0_path : (path : Text) (key : Text) (old : Text) (new : Text) → first_of path_id (rows_after swap_flags [] (codes "--" ∷ path ∷ key ∷ old ∷ new ∷ [])) ≡ Some path
 unfolding clap_on_literals
+end_0_path path key old new = refl
+
+end_0_key : (path : Text) (key : Text) (old : Text) (new : Text) → first_of key_id (rows_after swap_flags [] (codes "--" ∷ path ∷ key ∷ old ∷ new ∷ [])) ≡ Some key
+unfolding clap_on_literals
+end_0_key path key old new = refl
+
+end_0_old : (path : Text) (key : Text) (old : Text) (new : Text) → first_of old_id (rows_after swap_flags [] (codes "--" ∷ path ∷ key ∷ old ∷ new ∷ [])) ≡ Some old
+unfolding clap_on_literals
+end_0_old path key old new = refl
+
+end_0_new : (path : Text) (key : Text) (old : Text) (new : Text) → first_of new_id (rows_after swap_flags [] (codes "--" ∷ path ∷ key ∷ old ∷ new ∷ [])) ≡ Some new
+unfolding clap_on_literals
+end_0_new path key old new = refl
+
+end_0_met : (rest : List Text) (found : Text × Text × Text × Text) → only_four rest ≡ Some found → HasSwap found.0 found.1 found.2 found.3 (rows_after swap_flags [] (codes "--" ∷ rest))
 end_0_met [] found same = cc
 end_0_met (path ∷ []) found same = cc
 end_0_met (path ∷ key ∷ []) found same = cc
 end_0_met (path ∷ key ∷ old ∷ []) found same = cc
-end_0_met (path ∷ key ∷ old ∷ new ∷ []) found same = subst (λ (found : Text × Text × Text × Text). HasSwap found.0 found.1 found.2 found.3 (rows_after swap_flags [] (codes "--" ∷ path ∷ key ∷ old ∷ new ∷ []))) (some_is same) (record { path = refl; key = refl; old = refl; new = refl })
+end_0_met (path ∷ key ∷ old ∷ new ∷ []) found same = subst (λ (found : Text × Text × Text × Text). HasSwap found.0 found.1 found.2 found.3 (rows_after swap_flags [] (codes "--" ∷ path ∷ key ∷ old ∷ new ∷ []))) (some_is same) (record { path = end_0_path path key old new; key = end_0_key path key old new; old = end_0_old path key old new; new = end_0_new path key old new })
 end_0_met (path ∷ key ∷ old ∷ new ∷ next ∷ rest) found same = cc
 
 word_0_agrees : (path : Text) (rest : List Text) (ends option : Bool) → ends_options path ≡ ends → is_option path ≡ option
