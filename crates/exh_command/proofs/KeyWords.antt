@@ -1,6 +1,6 @@
 -- The words after a command about a key: a path, and the key behind it.
-use Rattle.std.proofs.Common.{◌≡◌, ◌∙◌, ℕ, Bool, true, false, List, [], ◌∷◌, Option, Some, None, refl, sym, ap, ap₂, subst, codes, cond, slice_index_or, is_some}
-use Rattle.std.specs.Prelude.{not, ◌&&◌, find, fold, option_map}
+use Rattle.std.proofs.Common.{◌≡◌, ℕ, Bool, true, false, List, [], ◌∷◌, Option, Some, None, refl, sym, ap, ap₂, subst, codes, cond, slice_index_or, is_some}
+use Rattle.std.specs.Prelude.{not, ◌&&◌, fold, option_map}
 use Rattle.clap.specs.Words.{Kinds, Row, Rule, Shape, Text, first_of}
 use Rattle.clap.specs.Kinds.{or_else}
 use Rattle.clap.specs.Lexer.{long_of}

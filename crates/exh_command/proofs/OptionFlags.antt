@@ -1,6 +1,6 @@
 -- A command whose arguments are options with a value: which words it takes, and what it then holds.
 use Rattle.std.proofs.Common.{◌≡◌, ◌∙◌, ℕ, Bool, true, false, List, [], ◌∷◌, ◌++◌, Option, Some, None, refl, sym, ap, subst, codes, cond, is_some, inl, inr}
-use Rattle.std.specs.Prelude.{not, ◌&&◌, ◌||◌, find, fold, map, option_map}
+use Rattle.std.specs.Prelude.{not, ◌&&◌, ◌||◌, fold, map, option_map}
 use Rattle.std.specs.Str.{bytes_eq}
 use Rattle.clap.specs.Words.{Kinds, Row, Rule, Text}
 use Rattle.clap.specs.Walk.{arg_by_id, arg_by_index, arg_by_long, arg_by_short, has_long, has_row, has_short, nothing_held, rows_after, walk_from, with_default}

@@ -4,18 +4,18 @@ use Rattle.std.specs.Prelude.{◌⊎◌, ◌||◌, find, fold, map, option_and_t
 use Rattle.std.specs.List.{list_any}
 use Rattle.std.specs.Str.{bytes_eq}
 use Rattle.std.proofs.lemmas.Slice.Eq.{bytes_eq-Decides}
-use Rattle.clap.specs.Words.{Kinds, Row, Rule, Shape, Text, first_of, new_rule}
+use Rattle.clap.specs.Words.{Kinds, Row, Rule, Shape, Text, first_of}
 use Rattle.clap.specs.Kinds.{or_else}
-use Rattle.clap.specs.Lexer.{long_of, short_of}
+use Rattle.clap.specs.Lexer.{long_of}
 use Rattle.clap.specs.Simple.{filled, new_shape, with_index}
-use Rattle.clap.specs.Walk.{Held, Waiting, Walk, after_step, long_or_other, arg_by_id, arg_by_index, arg_by_long, arg_by_short, at_row, finished, has_row, idle, more_values, nothing_held, option, plain_word, reading_by, settled, used, value, walk_from, walked, with_default, without}
-use Rattle.clap.specs.Faults.{check_fault, defaults_fault, level_fault, react_fault, repeat_fault, set_fault, settle_fault, step_fault, turn_fault, use_fault, walk_fault}
+use Rattle.clap.specs.Walk.{Held, Waiting, Walk, after_step, long_or_other, arg_by_id, arg_by_index, arg_by_long, arg_by_short, at_row, finished, has_row, idle, more_values, nothing_held, option, reading_by, settled, used, walk_from, walked, with_default, without}
+use Rattle.clap.specs.Faults.{check_fault, defaults_fault, settle_fault, step_fault, turn_fault, use_fault, walk_fault}
 use Rattle.clap.specs.declared.parser.matches.ValueSource.TheVariants.{CommandLine}
 use Rattle.clap.proofs.WalkLemmas.{find-map, list_any-map}
 use Rattle.exh_command.specs.Parser.{option_rule}
 use Rattle.clap.proofs.OnLiterals.{clap_on_literals}
 use Rattle.exh_command.specs.Words.{uses_named, Between, Ended, Reading, Use, Wanting, Wrong, after_option, after_word, ends_options, is_named, is_option, is_use_of, used_by, uses_read, option_given, with_use}
-use Rattle.exh_command.proofs.WordLemmas.{AsksLong, Fails, IsAsking, IsFlagged, IsPlainWord, IsValue, or_nothing, by_bundle_fails, by_long, by_long_fails, first_fails, flagged, is_end, is_plain_word, is_value, long_fails, second_fails, word_fails}
+use Rattle.exh_command.proofs.WordLemmas.{Fails, IsAsking, IsFlagged, IsValue, or_nothing, by_bundle_fails, by_long, by_long_fails, first_fails, flagged, is_end, is_plain_word, is_value, long_fails, second_fails}
 
 -- ---- an option, as it is when its command is built, and what is held of its use
 

@@ -1,17 +1,16 @@
 -- Which words the program's parser takes, and which command and values it then meets.
-use Rattle.std.proofs.Common.{◌≡◌, ◌∙◌, ℕ, Bool, true, false, List, [], ◌∷◌, ◌++◌, Option, Some, None, Result, Ok, Err, IfErr, refl, sym, ap, ap₂, subst, codes, cond, slice_index_or, is_some, inl, inr, arith, Global}
-use Rattle.std.specs.Prelude.{not, ◌&&◌, ◌⊎◌, ◌≢◌, Box, IsErrAnd, find, fold, map, option_map, option_and_then, ◌↔◌, IsSome}
+use Rattle.std.proofs.Common.{◌≡◌, ◌∙◌, ℕ, Bool, true, false, List, [], ◌∷◌, Option, Some, None, Result, Ok, Err, IfErr, refl, sym, ap, ap₂, subst, codes, cond, slice_index_or, is_some, inl, inr, arith, Global}
+use Rattle.std.specs.Prelude.{not, ◌&&◌, ◌⊎◌, ◌≢◌, Box, IsErrAnd, find, fold, option_map, option_and_then, IsSome}
 use Rattle.std.specs.Box.{box_value}
 use Rattle.std.specs.Str.{bytes_eq}
-use Rattle.std.proofs.lemmas.Slice.Eq.{bytes_eq-Decides}
 use Rattle.clap.specs.declared.parser.matches.ArgMatches.{ArgMatches}
 use Rattle.clap.specs.declared.parser.matches.SubCommand.{SubCommand}
 use Rattle.clap.specs.declared.parser.matches.ArgMatches.TheViews.{out-ArgMatches, out-SubCommand}
-use Rattle.clap.specs.Words.{App, HasKind, found_of, rows_of, subcommand_name_of, HasMatchesOf, IsAmong, Kinds, Row, Rule, Shape, Text, fault_of, first_of, first_value, is_simple, is_simple_and_free, kind_of, new_app, subcommand_of, subcommand_rows, subcommand_rows_of, with_subcommand}
+use Rattle.clap.specs.Words.{App, HasKind, found_of, rows_of, subcommand_name_of, HasMatchesOf, IsAmong, Kinds, Row, Rule, Shape, Text, fault_of, first_of, first_value, is_simple, is_simple_and_free, kind_of, subcommand_of, subcommand_rows, subcommand_rows_of}
 use Rattle.clap.specs.Kinds.{or_else}
 use Rattle.clap.specs.Lexer.{long_of}
-use Rattle.clap.specs.Simple.{built, entered, filled_from, help_rule, names_of, new_shape, on_top}
-use Rattle.clap.specs.Walk.{Names, Walk, after_step, arg_by_id, arg_by_long, arg_by_short, finished, has_long, has_row, has_short, idle, nothing_held, rows_after, settled, subcommand_met, walk_from, walked, with_default}
+use Rattle.clap.specs.Simple.{built, entered, filled_from, help_rule, names_of}
+use Rattle.clap.specs.Walk.{Names, Walk, after_step, arg_by_long, arg_by_short, finished, has_long, has_short, idle, nothing_held, rows_after, settled, subcommand_met, walk_from, walked}
 use Rattle.clap.specs.Faults.{built_fault, check_fault, defaults_fault, entered_fault, level_fault, settle_fault, step_fault, turn_fault, walk_fault}
 use Rattle.clap.specs.declared.error.Error.{Error}
 use Rattle.clap.specs.declared.error.kind.ErrorKind.TheVariants as kind
@@ -19,10 +18,10 @@ use Rattle.clap.proofs.OnLiterals.{clap_on_literals}
 use Rattle.clap.proofs.WalkLemmas.{both, first_value-rows, walk_stopped}
 use Rattle.clap.proofs.FaultLemmas.{stopped_fault}
 use Rattle.exh_command.specs.Fault.{IsFaultOf, IsWrong, TellsVersion}
-use Rattle.exh_command.specs.Words.{Use, alone, ends_options, is_named, is_option, only_word, path_and_key, path_and_three, path_and_two, path_named, uses_named}
+use Rattle.exh_command.specs.Words.{Use, alone, ends_options, is_option, only_word, path_and_key, path_and_three, path_and_two, path_named, uses_named}
 use Rattle.exh_command.specs.Job.{AskForVersion, Asked, Serve, Check, Dump, Load, Storm, Get, Put, Del, Swap, asked_by, callers_name, calls_name, cap_name, command_of, copies_name, del_asked, deleted_by, get_asked, got_by, job_asked, job_named, open_name, put_asked, put_by, save_name, serve_asked, serve_names, served_by, storm_asked, storm_names, stormed_by, swap_asked, swapped_by, wards_name}
-use Rattle.exh_command.specs.Parser.{HasTexts, HasValues, IsJobMet, Meets, ReadsJobs, about_path, key_id, new_id, old_id, path_id, path_rule, texts_of, value_id}
-use Rattle.exh_command.proofs.TheProgram.{program, serve, storm}
+use Rattle.exh_command.specs.Parser.{HasTexts, HasValues, IsJobMet, Meets, ReadsJobs, key_id, new_id, old_id, path_id, path_rule, texts_of, value_id}
+use Rattle.exh_command.proofs.TheProgram.{program, serve}
 use Rattle.exh_command.proofs.KeyWords.{key_agrees, key_flags, key_kinds, key_met}
 use Rattle.exh_command.proofs.PutWords.{put_agrees, put_flags, put_kinds, put_met}
 use Rattle.exh_command.proofs.SwapWords.{swap_agrees, swap_flags, swap_kinds, swap_met}

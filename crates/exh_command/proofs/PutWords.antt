@@ -1,5 +1,5 @@
 -- The words after `put`: a path, a key and a value.
-use Rattle.std.proofs.Common.{◌≡◌, ◌∙◌, ℕ, Bool, true, false, List, [], ◌∷◌, Option, Some, None, refl, sym, ap, ap₂, subst, codes, cond, slice_index_or, is_some}
+use Rattle.std.proofs.Common.{◌≡◌, ℕ, Bool, true, false, List, [], ◌∷◌, Option, Some, None, refl, sym, ap, ap₂, subst, codes, cond, slice_index_or, is_some}
 use Rattle.std.specs.Prelude.{not, ◌&&◌, fold, option_map}
 use Rattle.clap.specs.Words.{Kinds, Row, Rule, Shape, Text, first_of}
 use Rattle.clap.specs.Kinds.{or_else}
