@@ -270,7 +270,7 @@ fn play<R: Wait>(
     ensures { AreOf writer.new.name readers.new.items }
 {
     let mut seen = 0;
-    for step in story {
+    'steps: for step in story {
         if steps(rt, alloc, writer, readers, &mut seen, *step) != Some(true) {
             return false;
         }
@@ -305,8 +305,8 @@ fn made_again<R: Wait>(rt: &R, alloc: Global, readers: u16) -> Option<(Writer, V
 fn name_pages(readers: &mut Vec<Reader>) -> bool
     ensures { (name : ℕ) → AreOf name readers.old.items → AreOf name readers.new.items }
 {
-    for at in 0..readers.len() {
-        for byte in 0..=255u8 {
+    'readers: for at in 0..readers.len() {
+        'bytes: for byte in 0..=255u8 {
             if look(readers, at, u64::from(byte) << 56).is_none() {
                 return false;
             }
@@ -350,7 +350,7 @@ fn play_two<R: Wait>(
     requires others { AreOf other_writer.old.name other_readers.old.items }
 {
     let mut seen = 0;
-    for row in &TWO_COPIES {
+    'rows: for row in &TWO_COPIES {
         let (copy, step) = *row;
         let played = if copy == 0 {
             steps(rt, alloc, writer, readers, &mut seen, step)
@@ -372,14 +372,7 @@ fn are_two_told<R: Wait>(rt: &R, alloc: Global) -> bool {
         drop(one.close(rt));
         return false;
     };
-    let is_played = play_two(
-        rt,
-        alloc,
-        &mut one,
-        &mut readers,
-        &mut other,
-        &mut others,
-    );
+    let is_played = play_two(rt, alloc, &mut one, &mut readers, &mut other, &mut others);
     drop(one.close(rt));
     drop(other.close(rt));
     is_played
