@@ -112,7 +112,7 @@ pub(crate) static FOUR_WARDS: [LiveStep; 29] = [
 
 /// After the three keys the notice of a further split is carried by the courier's 2,000th round. A call is asked
 /// 20,001 times. Over a copy that is closed a call begins at page 0, and goes by the right links of two pages.
-pub(crate) static LONG: [LiveStep; 10] = [
+pub(crate) static LONG: [LiveStep; 8] = [
     Carried(1),
     Idle(1_998),
     Call(New(b"\x20", b"y")),
@@ -120,9 +120,7 @@ pub(crate) static LONG: [LiveStep; 10] = [
     Named(b"\x40", 2),
     Often(20_001, Is(b"\x80", b"b")),
     Within(1, Is(b"\x80", b"b")),
-    Closed,
-    Held(2, b"\x80"),
-    Within(3, Is(b"\x80", b"b")),
+    Closed(2, Is(b"\x80", b"b")),
 ];
 
 /// One record in the left page and, after the split, as many in the right one as a page may have, four. They

@@ -13,6 +13,7 @@ use exh_runs::{Difference, Part, Run, again, same};
 use exh_table::Table;
 use exh_walk::{OpenGate, TurnGate};
 use std::alloc::{AllocError, Global};
+use std::mem::replace;
 use std::sync::Wait;
 
 /// A step of a live file, of its caller, or of the copy of its directory.
@@ -36,16 +37,17 @@ pub(crate) enum LiveStep {
     Idle(u32),
     /// A call that is asked so many times, each time with the same reply.
     Often(u32, Said<'static>),
-    /// From now on the caller looks at a copy that was told of the first split of page 0, and is closed.
-    Closed,
+    /// A call of a caller that looks at a copy which was told of the first split of page 0, and is closed: it is
+    /// answered at the turn after so many.
+    Closed(u32, Said<'static>),
     /// The same as `Carried` of a courier to a copy that was told of nothing.
     Stale(u64),
     /// A told look for a key names this page.
     Named(&'static [u8], PageNo),
 }
 
-/// Takes steps. The file has 2^`ward_bits` wards. These, and the copy that is told of them, begin with this
-/// table.
+/// Takes steps. The file has 2^`ward_bits` wards. These, and the copy that is told of them and at which the
+/// caller looks, begin with this table.
 pub(crate) fn take_steps<R: Wait, F: Identity, S: Start>(
     rt: &R,
     run: &mut Run,
@@ -60,6 +62,7 @@ pub(crate) fn take_steps<R: Wait, F: Identity, S: Start>(
     requires bits { ward_bits ≡ file.now.ward_bits }
     requires copy { S.ward_bits ≡ ward_bits }
     requires table { S.table ≡ map.empty }
+    requires own { caller.old.copy.name ≡ writer.old.name }
 {
     let mut cursors = first_places(run.alloc, ward_bits, start)?;
     let [first, second] = lists;
@@ -101,7 +104,9 @@ fn take_list<R: Wait, F: Identity, S: Start>(
     requires copy { S.ward_bits ≡ ward_bits }
     requires table { S.table ≡ map.empty }
     requires places { length cursors.old ≡ 2 ^ file.now.ward_bits }
-    ensures { length cursors.new ≡ 2 ^ file.now.ward_bits }
+    requires own { caller.old.copy.name ≡ writer.old.name }
+    ensures places { length cursors.new ≡ 2 ^ file.now.ward_bits }
+    ensures own { caller.new.copy.name ≡ writer.new.name }
 {
     'steps: for step in list {
         let outcome = take(rt, run, file, ward_bits, caller, writer, cursors, step);
@@ -124,7 +129,9 @@ fn take<R: Wait, F: Identity, S: Start>(
     requires copy { S.ward_bits ≡ ward_bits }
     requires table { S.table ≡ map.empty }
     requires places { length cursors.old ≡ 2 ^ file.now.ward_bits }
-    ensures { length cursors.new ≡ length cursors.old }
+    requires own { caller.old.copy.name ≡ writer.old.name }
+    ensures places { length cursors.new ≡ length cursors.old }
+    ensures own { caller.new.copy.name ≡ writer.new.name }
 {
     match step {
         LiveStep::Call(said) => {
@@ -144,9 +151,9 @@ fn take<R: Wait, F: Identity, S: Start>(
         LiveStep::Carried(notices) => is_carried(rt, file, writer, cursors, *notices),
         LiveStep::Idle(rounds) => are_idle(rt, file, writer, cursors, *rounds),
         LiveStep::Often(times, said) => is_told_often(rt, file, caller, *times, said),
-        LiveStep::Closed => {
-            caller.copy = closed_reader(rt, run.alloc, ward_bits)?;
-            Ok(())
+        LiveStep::Closed(turns, said) => {
+            let closed = closed_reader(rt, run.alloc, ward_bits)?;
+            is_told_closed(rt, file, caller, closed, *turns, said)
         }
         LiveStep::Stale(notices) => {
             let mut others = first_places(run.alloc, ward_bits, &Table::new(run.alloc))?;
@@ -182,7 +189,8 @@ fn are_idle<R: Wait, F: Identity, S: Start>(
     rounds: u32,
 ) -> Result<(), Difference>
     requires { length cursors.old ≡ 2 ^ file.now.ward_bits }
-    ensures { length cursors.new ≡ length cursors.old }
+    ensures places { length cursors.new ≡ length cursors.old }
+    ensures name { writer.new.name ≡ writer.old.name }
 {
     'rounds: for _ in 0..rounds {
         is_carried(rt, file, writer, cursors, 0)?;
@@ -197,11 +205,33 @@ fn is_told_often<R: Wait, F: Identity, S: Start>(
     caller: &mut Caller<F, S>,
     times: u32,
     said: &Said<'static>,
-) -> Result<(), Difference> {
-    for _ in 0..times {
+) -> Result<(), Difference>
+    ensures { caller.new.copy.name ≡ caller.old.copy.name }
+{
+    'times: for _ in 0..times {
         is_told(rt, file, caller, said.asked(), &OpenGate, said.reply()?)?;
     }
     Ok(())
+}
+
+// Whether a call of the caller, which meanwhile looks at another copy, is answered at the turn after so many.
+fn is_told_closed<R: Wait, F: Identity, S: Start>(
+    rt: &R,
+    file: &PlainFile<F>,
+    caller: &mut Caller<F, S>,
+    closed: Reader<S>,
+    turns: u32,
+    said: &Said<'static>,
+) -> Result<(), Difference>
+    ensures { caller.new.copy.name ≡ caller.old.copy.name }
+{
+    let reply = said.reply()?;
+    let own = replace(&mut caller.copy, closed);
+    let held = is_held(rt, file, caller, said.asked(), &TurnGate(turns));
+    let next = TurnGate(turns.saturating_add(1));
+    let told = is_told(rt, file, caller, said.asked(), &next, reply);
+    caller.copy = own;
+    held.and(told)
 }
 
 // A reader of a copy that was told of the first split of page 0, and is closed.
@@ -247,20 +277,25 @@ fn tell<R: Wait, S: Start>(
     index: u64,
     bits: &str,
     right: PageNo,
-) -> Result<(), Difference> {
+) -> Result<(), Difference>
+    ensures { writer.new.name ≡ writer.old.name }
+{
     let notice = split(index, prefix(bits)?, 1, right);
     again!(Err(AllocError) => writer.take(&notice))?;
     again!(Err(AllocError) => writer.publish(rt))?;
     Ok(())
 }
 
-// Tells a reader what was published: its look for a key names this page then.
+// Tells a reader of the copy what was published: its look for a key names this page then.
 fn is_named<S: Start>(
     writer: &mut Writer<S>,
     copy: &mut Reader<S>,
     key: &[u8],
     page: PageNo,
-) -> Result<(), Difference> {
+) -> Result<(), Difference>
+    requires { copy.old.name ≡ writer.old.name }
+    ensures { copy.new.name ≡ writer.new.name }
+{
     match writer.tell() {
         Ok(told) => copy.learn(told),
         Err(_) => return Err(Difference::Apart(Part::Run)),

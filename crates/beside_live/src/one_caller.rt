@@ -2,6 +2,7 @@
 ghost use Rattle.std.specs.Prelude.{◌≡◌, ◌≤◌, IfOk, IfSome};
 ghost use Rattle.std.specs.FinMap as map;
 ghost use Rattle.exh_keyer.specs.Pseudokey.{plain_pseudokey};
+ghost use Rattle.exh_copy.specs.Additions.{AreOf};
 ghost use Rattle.exh_live.specs.declared.ledgers.TheConstants.{ANSWER_PARTS, ENTRY_PARTS};
 ghost use Rattle.exh_prefix.specs.declared.prefix.TheConstants.{WARD_BITS_LIMIT};
 
@@ -162,6 +163,7 @@ pub(crate) fn run<R: Wait, F: Identity, S: Start>(
     requires answers { (answers.name ≡ F.answers) × (answers.parts ≡ ANSWER_PARTS) }
     requires entries { (entries.name ≡ F.entries) × (entries.parts ≡ ENTRY_PARTS) }
     requires hashed { F.hashing ≡ plain_pseudokey }
+    requires own { AreOf writer.old.name copies.old.items }
 {
     let mut seats = Vec::new(run.alloc);
     seats.reserve(1)?;
@@ -224,7 +226,9 @@ fn tell_table<R: Wait, S: Start>(
     rt: &R,
     writer: &mut Writer<S>,
     table: &Table,
-) -> Result<(), Difference> {
+) -> Result<(), Difference>
+    ensures { writer.new.name ≡ writer.old.name }
+{
     again!(Err(AllocError) => writer.combine(table))?;
     again!(Err(AllocError) => writer.publish(rt))?;
     Ok(())

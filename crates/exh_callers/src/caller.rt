@@ -1,5 +1,6 @@
 //! Callers of a live file.
-ghost use Rattle.std.specs.Prelude.{◌≡◌};
+ghost use Rattle.std.specs.Prelude.{◌≡◌, ℕ, IfOk};
+ghost use Rattle.exh_copy.specs.Additions.{AreOf};
 
 use exh_calls::{Call, Reply};
 use exh_copy::{CopyReader, Start};
@@ -28,12 +29,13 @@ pub struct Caller<F: Identity, S: Start = Brand> {
     pub copy: CopyReader<S>,
 }
 
-/// The next caller of a file, with one of these copies.
+/// The next caller of a file, with one of these readers.
 pub fn next_caller<P: Pages + Drop, F: Identity, S: Start>(
     file: &mut File<P, F>,
     copies: &mut Vec<CopyReader<S>>,
 ) -> Result<Caller<F, S>, Difference>
-    ensures { file.new.ward_bits ≡ file.old.ward_bits }
+    ensures bits { file.new.ward_bits ≡ file.old.ward_bits }
+    ensures copy { IfOk result (λ caller. (name : ℕ) → AreOf name copies.old.items → caller.copy.name ≡ name) }
 {
     let Some(copy) = copies.pop() else {
         return Err(Difference::Apart(Part::Run));
@@ -51,18 +53,22 @@ fn ask_once<R: Wait, P: Pages + Drop, F: Identity, S: Start, G: Gate>(
     caller: &mut Caller<F, S>,
     call: &Call,
     gate: &G,
-) -> Result<Reply, AskFault> {
+) -> Result<Reply, AskFault>
+    ensures { caller.new.copy.name ≡ caller.old.copy.name }
+{
     file.ask(rt, &mut caller.seat, &mut caller.copy, call, gate)
 }
 
-/// Asks a call, once more where memory was refused.
+/// Asks a call, once more where memory was refused. The caller looks at the same copy then, here and below.
 pub fn ask<R: Wait, P: Pages + Drop, F: Identity, S: Start, G: Gate>(
     rt: &R,
     file: &File<P, F>,
     caller: &mut Caller<F, S>,
     call: &Call,
     gate: &G,
-) -> Result<Reply, AskFault> {
+) -> Result<Reply, AskFault>
+    ensures { caller.new.copy.name ≡ caller.old.copy.name }
+{
     again!(Err(AskFault::Memory) => ask_once(rt, file, caller, call, gate))
 }
 
@@ -74,7 +80,9 @@ pub fn is_told<R: Wait, P: Pages + Drop, F: Identity, S: Start, G: Gate>(
     asked: Asked<'_>,
     gate: &G,
     reply: Reply,
-) -> Result<(), Difference> {
+) -> Result<(), Difference>
+    ensures { caller.new.copy.name ≡ caller.old.copy.name }
+{
     let call = asked.call()?;
     match ask(rt, file, caller, &call, gate) {
         Ok(told) => same(told == reply, Part::Reply),
@@ -89,7 +97,9 @@ pub fn is_held<R: Wait, P: Pages + Drop, F: Identity, S: Start, G: Gate>(
     caller: &mut Caller<F, S>,
     asked: Asked<'_>,
     gate: &G,
-) -> Result<(), Difference> {
+) -> Result<(), Difference>
+    ensures { caller.new.copy.name ≡ caller.old.copy.name }
+{
     let call = asked.call()?;
     let answer = ask(rt, file, caller, &call, gate);
     same(answer == Err(AskFault::Held), Part::Walk)

@@ -1,12 +1,11 @@
 -- Tables only grow by additions, and are those of all that was added.
-use Rattle.std.proofs.Common.{◌≡◌, Bool, true, false, cond, List, [], ◌∷◌, ◌++◌, flat_map, fold, option_map, Option, Some, None, refl, sym, ap, ◌∙◌, subst, ◌<◌, ◌^◌, ℕ, ◌↔◌, Contains}
+use Rattle.std.proofs.Common.{◌≡◌, Bool, true, false, cond, List, [], ◌∷◌, ◌++◌, flat_map, Some, refl, sym, ap, ◌∙◌, subst}
 use Rattle.std.proofs.lemmas.List.{append-nil, append_assoc}
 use Rattle.std.specs.FinMap.{empty, entries, get, get-empty}
 use Rattle.std.specs.Ordering.{eq_by_cmp}
 use Rattle.core.proofs.iter.runs.Lists.{fold-append}
 use Rattle.exh_prefix.specs.Prefix.{prefix_cmp}
 use Rattle.exh_notice.specs.declared.entry.Entry.{Entry}
-use Rattle.exh_notice.specs.declared.notice.Notice.{Notice}
 use Rattle.exh_notice.specs.Entry.{entry_of}
 use Rattle.exh_table.specs.Table.{TableMap, IsTableOf, raised, greater_of, told_by}
 use Rattle.exh_table.specs.TableOrder.{IsOptionUpTo, IsTableUpTo, table_join}

@@ -1,5 +1,5 @@
 -- What a copy's writer appends, and the table that comes of it.
-use Rattle.std.specs.Prelude.{◌≡◌, nat_lt, if◌then◌else◌, Bool, List, [], ◌∷◌, ◌++◌, length, fold}
+use Rattle.std.specs.Prelude.{◌≡◌, ℕ, nat_lt, if◌then◌else◌, Bool, List, [], ◌∷◌, ◌++◌, length, fold, All}
 use Rattle.std.specs.FinMap.{entries}
 use Rattle.exh_notice.specs.declared.entry.Entry.{Entry}
 use Rattle.exh_table.specs.Table.{TableMap, table_with, told_by}
@@ -7,10 +7,20 @@ use Rattle.exh_table.specs.TableOrder.{table_join}
 use Rattle.exh_copy.specs.declared.addition.Addition.{Addition}
 use Rattle.exh_copy.specs.declared.addition.Addition.TheVariants.{Take, Combine}
 
--- the additions that a copy's writer has published, and those that are pending
+-- a copy's name, the additions that its writer has published, and those that are pending
 pub record Additions : Type 0 where
+  pub name : ℕ
   pub published : List Addition
   pub pending : List Addition
+
+-- of which copy, by its name, and which additions are held
+pub record Held : Type 0 where
+  pub name : ℕ
+  pub additions : List Addition
+
+-- readers of the copy of this name
+abbrev pub AreOf : ℕ → List Held → Type 0
+AreOf name readers = All (λ (reader : Held). reader.name ≡ name) readers
 
 -- the table with one addition more
 abbrev pub added : TableMap → Addition → TableMap

@@ -18,6 +18,7 @@ mod addition;
 mod copy;
 mod fault;
 mod laws;
+mod name;
 mod published;
 mod reader;
 mod rule;

@@ -1,9 +1,10 @@
-ghost use Rattle.std.specs.Prelude.{◌≡◌, List, length, IfSome, IfNone};
+ghost use Rattle.std.specs.Prelude.{◌≡◌, length, IfSome, IfNone};
 ghost use Rattle.exh_table.specs.TableOrder.{IsTableUpTo};
 ghost use Rattle.exh_table.specs.Walk.{walk_of};
 ghost use Rattle.exh_copy.specs.Additions.{BeginsWith, longest, table_after};
 ghost use Rattle.left_right.specs.Sides.{view};
 
+use crate::name::CopyName;
 use crate::published::Published;
 use crate::rule::{Looks, Rule, View};
 use crate::{Start, Told};
@@ -12,27 +13,29 @@ use exh_prefix::PageNo;
 use left_right::reader::Reader;
 use std::marker::Model;
 
-/// Looks pages up in a copy of the directory, with no lock. Contracts see the published additions
-/// that it holds.
+/// Looks pages up in a copy of the directory, with no lock. Contracts see of which copy it is, and the
+/// published additions that it holds.
 #[derive(Drop)]
 pub struct CopyReader<S: Start> {
     pub(crate) reader: Reader<Published, View, Rule<S>>,
     // How many additions it holds.
     pub(crate) additions: u64,
+    // Of which copy.
+    pub(crate) name: CopyName,
 }
 
 impl<S: Start> Model for CopyReader<S> {
-    ghost use Rattle.std.specs.Prelude.{◌≡◌, List, length};
+    ghost use Rattle.std.specs.Prelude.{◌≡◌, length};
     ghost use Rattle.std.specs.Coded.{codes};
     ghost use Rattle.exh_table.specs.Table.{coded_table};
-    ghost use Rattle.exh_copy.specs.declared.addition.Addition.{Addition};
+    ghost use Rattle.exh_copy.specs.Additions.{Held};
     ghost use Rattle.left_right.specs.Sides.{view as held_in};
 
-    ghost Value = { List Addition };
+    ghost Value = { Held };
 
     ghost coded = { Prim.hlevel (codes, coded_table) };
 
-    ghost view = { λ a. held_in a.reader.place };
+    ghost view = { λ a. record { name = a.name.name; additions = held_in a.reader.place } };
 
     ghost invariant = { λ a. a.additions ≡ length (held_in a.reader.place) };
 }
@@ -42,25 +45,31 @@ impl<S: Start> CopyReader<S> {
     /// directory that is published, all of whose additions the reader then holds. It takes no memory
     /// and waits for nobody. `None` where `left_right` gives no guard, as where the writer is closed.
     pub fn look(&mut self, pseudokey: u64) -> Option<PageNo>
-        ensures holds { IfSome result (λ _. BeginsWith self.new self.old) }
-        ensures page { IfSome result (λ page. page ≡ (walk_of (table_after S.table self.new) S.ward_bits pseudokey).page) }
-        ensures forward { IsTableUpTo (table_after S.table self.old) (table_after S.table self.new) }
+        ensures holds { IfSome result (λ _. BeginsWith self.new.additions self.old.additions) }
+        ensures page { IfSome result (λ page. page ≡ (walk_of (table_after S.table self.new.additions) S.ward_bits pseudokey).page) }
+        ensures forward { IsTableUpTo (table_after S.table self.old.additions) (table_after S.table self.new.additions) }
         ensures none { IfNone result (self.new ≡ self.old) }
+        ensures name { self.new.name ≡ self.old.name }
     {
         let (additions, page) = replace_with(&mut self.reader, pseudokey, looked::<S>)?;
         self.additions = additions;
         Some(page)
     }
 
-    /// Takes in what the writer told, where that is at least as much as the reader holds. It takes no
-    /// memory.
+    /// Takes in what the writer of its copy told, where that is at least as much as the reader holds. It
+    /// takes no memory.
     pub fn learn(&mut self, told: Told<S>)
-        ensures { self.new ≡ longest self.old told }
+        requires own { told.name ≡ self.old.name }
+        ensures { self.new ≡ record self.old { additions = longest self.old.additions told.additions } }
     {
         if told.additions < self.additions {
             return;
         }
-        let Told { reader, additions } = told;
+        let Told {
+            reader,
+            additions,
+            name: _,
+        } = told;
         self.reader = reader;
         self.additions = additions;
     }

@@ -5,6 +5,7 @@ ghost use Rattle.exh_copy.specs.Additions.{table_after};
 ghost use Rattle.exh_copy.specs.Rule.{IsAfter};
 ghost use Rattle.exh_copy.specs.declared.addition.Addition.TheVariants.{Take, Combine};
 
+use crate::name::CopyName;
 use crate::published::Published;
 use crate::rule::{Appends, Batch, Learns, Rule, Tells, View};
 use crate::{Addition, NoPlace, Start, Told};
@@ -17,11 +18,14 @@ use left_right::writer::Writer;
 use std::alloc::AllocError;
 use std::marker::{Brand, Model};
 use std::sync::Wait;
+use std::sync::ledger::Blank;
 
-/// The writer of a copy of the directory. Contracts see the additions that it has published and those
-/// that are pending. It can't be let go: end it by `close`.
+/// The writer of a copy of the directory. Contracts see the copy's name, the additions that it has
+/// published and those that are pending. It can't be let go: end it by `close`.
 pub struct CopyWriter<S: Start> {
     pub(crate) writer: Writer<Published, Addition, View, Rule<S>>,
+    // By which its readers, and what it tells, are known from those of other copies.
+    pub(crate) name: Blank,
 }
 
 impl<S: Start> Model for CopyWriter<S> {
@@ -36,7 +40,7 @@ impl<S: Start> Model for CopyWriter<S> {
 
     ghost coded = { Prim.hlevel (codes, coded_table) };
 
-    ghost view = { λ a. record { published = held_in a.writer.desk.place; pending = drop a.writer.behind a.writer.log.items } };
+    ghost view = { λ a. record { name = a.name.name; published = held_in a.writer.desk.place; pending = drop a.writer.behind a.writer.log.items } };
 
     ghost invariant = { λ a. IsAfter S.table S.ward_bits a.writer.desk.shown.value (held_in a.writer.desk.place) };
 }
@@ -71,7 +75,7 @@ impl<S: Start> CopyWriter<S> {
     /// what was published before the last time; where nothing is pending it does nothing. Where memory is
     /// refused, an `AllocError`, what is published and what is pending stay, and a later call tries again.
     pub fn publish<R: Wait>(&mut self, rt: &R) -> Result<(), AllocError>
-        ensures ok { OnOk result (self.new ≡ record { published = self.old.published ++ self.old.pending; pending = [] }) }
+        ensures ok { OnOk result (self.new ≡ record self.old { published = self.old.published ++ self.old.pending; pending = [] }) }
         ensures err { OnErr result (self.new ≡ self.old) }
         ensures nothing { self.old.pending ≡ [] → IsOk result × (self.new ≡ self.old) }
     {
@@ -88,16 +92,20 @@ impl<S: Start> CopyWriter<S> {
         self.writer.published().additions
     }
 
-    /// What has been published by now, for a reader to learn. It takes no memory. Refused: `NoPlace`,
-    /// where each place for a reader is in use. The copy is as before.
+    /// What has been published by now, for a reader of the copy to learn. It takes no memory. Refused:
+    /// `NoPlace`, where each place for a reader is in use. The copy is as before.
     pub fn tell(&mut self) -> Result<Told<S>, NoPlace>
-        ensures told { IfOk result (λ told. told ≡ self.old.published) }
+        ensures told { IfOk result (λ told. told ≡ record { name = self.old.name; additions = self.old.published }) }
         ensures same { self.new ≡ self.old }
     {
         let mut reader = self.writer.factory().reader().map_err(|_| NoPlace)?;
         reader.learn::<Learns>(self.writer.tell::<Tells>());
         let additions = self.additions();
-        Ok(Told { reader, additions })
+        Ok(Told {
+            reader,
+            additions,
+            name: CopyName::of(&self.name),
+        })
     }
 
     /// Ends the copy, once readers have left it, and gives the directory that was published. What is
@@ -106,7 +114,7 @@ impl<S: Start> CopyWriter<S> {
         ensures table { result.table ≡ table_after S.table self.published }
         ensures array { HasArrayOf S.ward_bits result }
     {
-        let CopyWriter { writer } = self;
+        let CopyWriter { writer, name: _ } = self;
         let Published { directory, .. } = Box::into_inner(writer.take(rt));
         directory
     }

@@ -218,11 +218,13 @@ round_refused old taken new places lasts after (Ok count) round same back = tt
 round_refused old taken new places lasts after (Err error) round same back =
     subst (λ ls. TakesBetween old places new ls) (sym back) (subst (λ (copy : Additions). TakesBetween old places copy lasts) (sym same) round)
 
-pub round_told : (old taken new : Additions) (places lasts after : List ℕ) (all before : ℕ) → TakesBetween old places taken lasts → after ≡ lasts → new ≡ record { published = taken.published ++ taken.pending; pending = [] } → all ≡ length new.published
-    → before ≡ length old.published → (notices : List Notice) × AreCarried 0 places notices after × (all - before ≡ length old.pending + length notices) × (new ≡ record { published = (old.published ++ old.pending) ++ map Take notices; pending = [] })
+pub round_told : (old taken new : Additions) (places lasts after : List ℕ) (all before : ℕ) → TakesBetween old places taken lasts → after ≡ lasts → new ≡ record taken { published = taken.published ++ taken.pending; pending = [] } → all ≡ length new.published
+    → before ≡ length old.published → (notices : List Notice) × AreCarried 0 places notices after × (all - before ≡ length old.pending + length notices) × (new ≡ record old { published = (old.published ++ old.pending) ++ map Take notices; pending = [] })
 round_told old taken new places lasts after all before (notices, carried, takes) back is all_is before_is =
-    let whole : taken.published ++ taken.pending ≡ (old.published ++ old.pending) ++ map Take notices = ap (λ (copy : Additions). copy.published ++ copy.pending) takes ∙ sym (append_assoc old.published old.pending (map Take notices)) in
-    let new_is : new ≡ record { published = (old.published ++ old.pending) ++ map Take notices; pending = [] } = subst (λ published. new ≡ record { published = published; pending = [] }) whole is in
+    let new_is : new ≡ record old { published = (old.published ++ old.pending) ++ map Take notices; pending = [] } =
+        is
+        ∙ ap (λ (copy : Additions). record copy { published = copy.published ++ copy.pending; pending = [] }) takes
+        ∙ ap (λ published. record old { published = published; pending = [] }) (sym (append_assoc old.published old.pending (map Take notices))) in
     let long : length new.published ≡ length ((old.published ++ old.pending) ++ map Take notices) = ap (λ (copy : Additions). length copy.published) new_is in
     let outer = length-append (old.published ++ old.pending) (map Take notices) in
     let inner = length-append old.published old.pending in

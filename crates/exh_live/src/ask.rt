@@ -37,7 +37,7 @@ impl<P: Pages + Drop, K: Keyer, F: Identity> LiveFile<P, K, F> {
         ensures ok { IfOk result (λ reply. seat.new ≡ record seat.old { entries = seat.old.entries ++ record { call = call.now; reply = reply } ∷ [] }) }
         ensures err { OnErr result (seat.new ≡ seat.old) }
         ensures walk { IsAsked K.pseudokey_of F.hashing (G.may gate.now seat.old.client) seat.old.client call.now result }
-        ensures copy { BeginsWith copy.new copy.old }
+        ensures copy { (copy.new.name ≡ copy.old.name) × BeginsWith copy.new.additions copy.old.additions }
     {
         if seat.diary.reserve().is_err() {
             return Err(AskFault::Memory);

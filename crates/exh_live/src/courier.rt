@@ -31,8 +31,9 @@ impl<P: Pages + Drop, K: Keyer, F: Identity> LiveFile<P, K, F> {
         cursors: &mut Cursors,
     ) -> Result<u64, AllocError>
         requires { length cursors.old ≡ 2 ^ self.now.ward_bits }
-        ensures carried { IfOk result (λ count. (notices : List NoticeValue) × AreCarried 0 cursors.old notices cursors.new × (count ≡ length copy.old.pending + length notices) × (copy.new ≡ record { published = copy.old.published ++ copy.old.pending ++ map Take notices; pending = [] })) }
+        ensures carried { IfOk result (λ count. (notices : List NoticeValue) × AreCarried 0 cursors.old notices cursors.new × (count ≡ length copy.old.pending + length notices) × (copy.new ≡ record copy.old { published = copy.old.published ++ copy.old.pending ++ map Take notices; pending = [] })) }
         ensures places { length cursors.new ≡ length cursors.old }
+        ensures name { copy.new.name ≡ copy.old.name }
         ensures err { OnErr result (TakesBetween copy.old cursors.old copy.new cursors.new) }
     {
         let published = copy.additions();

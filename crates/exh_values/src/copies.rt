@@ -1,5 +1,7 @@
 //! Copies worked out by hand: stories of one writer and its readers, and of two copies, and more readers than
 //! there are places.
+ghost use Rattle.std.specs.Prelude.{◌≡◌, ℕ, IfSome};
+ghost use Rattle.exh_copy.specs.Additions.{AreOf};
 
 use exh_copy::{CopyReader, CopyWriter, NewCopyFault, NoPlace, new_copy};
 use exh_notice::{Kind, Notice};
@@ -176,42 +178,57 @@ fn table_of(alloc: Global, row: Row) -> Result<Table, AllocError> {
 }
 
 // What was refused is asked for once more, here and below.
-fn take(writer: &mut Writer, row: Row) -> Result<(), AllocError> {
+fn take(writer: &mut Writer, row: Row) -> Result<(), AllocError>
+    ensures { writer.new.name ≡ writer.old.name }
+{
     match writer.take(&notice(row)) {
         Ok(()) => Ok(()),
         Err(_) => writer.take(&notice(row)),
     }
 }
 
-fn combine(alloc: Global, writer: &mut Writer, row: Row) -> Result<(), AllocError> {
+fn combine(alloc: Global, writer: &mut Writer, row: Row) -> Result<(), AllocError>
+    ensures { writer.new.name ≡ writer.old.name }
+{
     match table_of(alloc, row) {
         Ok(table) => combine_table(writer, &table),
         Err(_) => combine_table(writer, &table_of(alloc, row)?),
     }
 }
 
-fn combine_table(writer: &mut Writer, table: &Table) -> Result<(), AllocError> {
+fn combine_table(writer: &mut Writer, table: &Table) -> Result<(), AllocError>
+    ensures { writer.new.name ≡ writer.old.name }
+{
     match writer.combine(table) {
         Ok(()) => Ok(()),
         Err(_) => writer.combine(table),
     }
 }
 
-fn publish<R: Wait>(rt: &R, writer: &mut Writer) -> Result<(), AllocError> {
+fn publish<R: Wait>(rt: &R, writer: &mut Writer) -> Result<(), AllocError>
+    ensures { writer.new.name ≡ writer.old.name }
+{
     match writer.publish(rt) {
         Ok(()) => Ok(()),
         Err(_) => writer.publish(rt),
     }
 }
 
-fn tell(writer: &mut Writer, reader: &mut Reader) -> bool {
-    match writer.tell() {
-        Ok(told) => {
-            reader.learn(told);
-            true
-        }
-        Err(_) => false,
-    }
+// Tells one of the readers, which are of the writer's copy.
+fn tell(writer: &mut Writer, readers: &mut Vec<Reader>, at: usize) -> Option<bool>
+    requires { AreOf writer.old.name readers.old.items }
+    ensures { AreOf writer.new.name readers.new.items }
+{
+    let told = writer.tell().ok()?;
+    readers.get_mut(at)?.learn(told);
+    Some(true)
+}
+
+// The page that one of the readers names.
+fn look(readers: &mut Vec<Reader>, at: usize, pseudokey: u64) -> Option<PageNo>
+    ensures { (name : ℕ) → AreOf name readers.old.items → AreOf name readers.new.items }
+{
+    readers.get_mut(at)?.look(pseudokey)
 }
 
 // Whether a step comes to what is wanted. `seen` is the last page of a look at either of two.
@@ -219,18 +236,21 @@ fn steps<R: Wait>(
     rt: &R,
     alloc: Global,
     writer: &mut Writer,
-    readers: &mut [Reader],
+    readers: &mut Vec<Reader>,
     seen: &mut PageNo,
     step: Step,
-) -> Option<bool> {
+) -> Option<bool>
+    requires { AreOf writer.old.name readers.old.items }
+    ensures { AreOf writer.new.name readers.new.items }
+{
     match step {
         Step::Take(row) => take(writer, row).ok()?,
         Step::Combine(row) => combine(alloc, writer, row).ok()?,
         Step::Publish => publish(rt, writer).ok()?,
-        Step::Tell(reader) => return Some(tell(writer, readers.get_mut(reader)?)),
-        Step::Look(reader, page) => return Some(readers.get_mut(reader)?.look(HALF) == Some(page)),
+        Step::Tell(reader) => return tell(writer, readers, reader),
+        Step::Look(reader, page) => return Some(look(readers, reader, HALF) == Some(page)),
         Step::LookEither(reader, first) => {
-            let page = readers.get_mut(reader)?.look(HALF)?;
+            let page = look(readers, reader, HALF)?;
             let is_right = *seen <= page && (page == first || Some(page) == first.checked_add(1));
             *seen = page;
             return Some(is_right);
@@ -243,11 +263,14 @@ fn play<R: Wait>(
     rt: &R,
     alloc: Global,
     writer: &mut Writer,
-    readers: &mut [Reader],
+    readers: &mut Vec<Reader>,
     story: &[Step],
-) -> bool {
+) -> bool
+    requires { AreOf writer.old.name readers.old.items }
+    ensures { AreOf writer.new.name readers.new.items }
+{
     let mut seen = 0;
-    for step in story {
+    'steps: for step in story {
         if steps(rt, alloc, writer, readers, &mut seen, *step) != Some(true) {
             return false;
         }
@@ -256,7 +279,9 @@ fn play<R: Wait>(
 }
 
 // A copy of a new file; what was handed back is closed.
-fn made<R: Wait>(rt: &R, alloc: Global, readers: u16) -> Option<(Writer, Vec<Reader>)> {
+fn made<R: Wait>(rt: &R, alloc: Global, readers: u16) -> Option<(Writer, Vec<Reader>)>
+    ensures { IfSome result (λ copy. AreOf copy.0.name copy.1.items) }
+{
     match new_copy::<Brand>(alloc, 0, &Table::new(alloc), readers) {
         Ok(copy) => Some(copy),
         Err(NewCopyFault::Memory) => None,
@@ -267,7 +292,9 @@ fn made<R: Wait>(rt: &R, alloc: Global, readers: u16) -> Option<(Writer, Vec<Rea
     }
 }
 
-fn made_again<R: Wait>(rt: &R, alloc: Global, readers: u16) -> Option<(Writer, Vec<Reader>)> {
+fn made_again<R: Wait>(rt: &R, alloc: Global, readers: u16) -> Option<(Writer, Vec<Reader>)>
+    ensures { IfSome result (λ copy. AreOf copy.0.name copy.1.items) }
+{
     match made(rt, alloc, readers) {
         Some(copy) => Some(copy),
         None => made(rt, alloc, readers),
@@ -275,10 +302,12 @@ fn made_again<R: Wait>(rt: &R, alloc: Global, readers: u16) -> Option<(Writer, V
 }
 
 // Whether each reader names a page for each of 256 pseudokeys.
-fn name_pages(readers: &mut [Reader]) -> bool {
-    for reader in readers {
-        for byte in 0..=255u8 {
-            if reader.look(u64::from(byte) << 56).is_none() {
+fn name_pages(readers: &mut Vec<Reader>) -> bool
+    ensures { (name : ℕ) → AreOf name readers.old.items → AreOf name readers.new.items }
+{
+    'readers: for at in 0..readers.len() {
+        'bytes: for byte in 0..=255u8 {
+            if look(readers, at, u64::from(byte) << 56).is_none() {
                 return false;
             }
         }
@@ -292,9 +321,9 @@ fn is_story<R: Wait>(rt: &R, alloc: Global, story: &Story) -> bool {
         return false;
     };
     let is_played = readers.len() == usize::from(story.0)
-        && name_pages(readers.as_mut_slice())
-        && play(rt, alloc, &mut writer, readers.as_mut_slice(), story.1)
-        && name_pages(readers.as_mut_slice());
+        && name_pages(&mut readers)
+        && play(rt, alloc, &mut writer, &mut readers, story.1)
+        && name_pages(&mut readers);
     drop(writer.close(rt));
     is_played && are_closed(readers.as_mut_slice())
 }
@@ -313,12 +342,15 @@ fn play_two<R: Wait>(
     rt: &R,
     alloc: Global,
     writer: &mut Writer,
-    readers: &mut [Reader],
+    readers: &mut Vec<Reader>,
     other_writer: &mut Writer,
-    other_readers: &mut [Reader],
-) -> bool {
+    other_readers: &mut Vec<Reader>,
+) -> bool
+    requires own { AreOf writer.old.name readers.old.items }
+    requires others { AreOf other_writer.old.name other_readers.old.items }
+{
     let mut seen = 0;
-    for row in &TWO_COPIES {
+    'rows: for row in &TWO_COPIES {
         let (copy, step) = *row;
         let played = if copy == 0 {
             steps(rt, alloc, writer, readers, &mut seen, step)
@@ -340,14 +372,7 @@ fn are_two_told<R: Wait>(rt: &R, alloc: Global) -> bool {
         drop(one.close(rt));
         return false;
     };
-    let is_played = play_two(
-        rt,
-        alloc,
-        &mut one,
-        readers.as_mut_slice(),
-        &mut other,
-        others.as_mut_slice(),
-    );
+    let is_played = play_two(rt, alloc, &mut one, &mut readers, &mut other, &mut others);
     drop(one.close(rt));
     drop(other.close(rt));
     is_played

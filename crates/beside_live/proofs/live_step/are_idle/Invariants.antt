@@ -1,6 +1,9 @@
 use Rattle.std.specs.Prelude.{◌≡◌, length}
 use Rattle.beside_live.proofs.live_step.are_idle.Given as goal
 
--- the courier has as many places as before
+-- the courier has as many places as before, and the copy its name
 abbrev pub invariant-rounds : goal.invariant-rounds
-invariant-rounds g l = length l.cursors ≡ length l.fn.cursors
+invariant-rounds g l = record {
+  places : length l.cursors ≡ length l.fn.cursors;
+  name : l.writer.name ≡ l.fn.writer.name;
+}

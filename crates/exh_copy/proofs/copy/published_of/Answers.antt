@@ -1,4 +1,4 @@
-use Rattle.std.proofs.Common.{◌≡◌, ap, sym, refl, ◌∙◌}
+use Rattle.std.proofs.Common.{ap, refl, ◌∙◌}
 use Rattle.exh_table.specs.TableOrder.{table_join}
 use Rattle.exh_copy.specs.AdditionLemmas.{join_empty}
 use Rattle.exh_copy.proofs.copy.published_of.Goals as goal

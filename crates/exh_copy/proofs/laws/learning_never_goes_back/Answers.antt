@@ -1,7 +1,7 @@
-use Rattle.std.proofs.Common.{◌≡◌, ◌≤◌, ◌+◌, List, [], ◌∷◌, ◌++◌, length, cond, inl, inr, sym, ◌∙◌, subst, refl, arith}
+use Rattle.std.proofs.Common.{◌≡◌, ◌≤◌, List, [], ◌∷◌, ◌++◌, length, inl, inr, sym, ◌∙◌, subst, arith}
 use Rattle.std.proofs.lemmas.Bool.{cases_Bool, cond-true, cond-false}
 use Rattle.std.proofs.lemmas.Bool.Decides.{nat_tests}
-use Rattle.std.specs.Prelude.{nat_lt, Bool, true, false}
+use Rattle.std.specs.Prelude.{nat_lt}
 use Rattle.exh_copy.specs.AdditionLemmas.{longer_up}
 use Rattle.exh_copy.specs.declared.addition.Addition.{Addition}
 use Rattle.exh_copy.specs.Additions.{BeginsWith, longest}

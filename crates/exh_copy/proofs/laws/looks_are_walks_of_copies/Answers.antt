@@ -1,7 +1,6 @@
-use Rattle.std.proofs.Common.{◌≡◌, ap, sym, ◌∙◌, option_map, Some}
+use Rattle.std.proofs.Common.{ap, ◌∙◌, option_map, Some}
 use Rattle.exh_table.specs.SetLemmas.{members_decide}
 use Rattle.exh_table.specs.Walk.{walk_of}
-use Rattle.exh_array.specs.Pointers.{pointer_to}
 use Rattle.exh_copy.specs.AdditionLemmas.{table_after_of}
 use Rattle.exh_copy.specs.Additions.{table_after}
 use Rattle.exh_copy.proofs.laws.looks_are_walks_of_copies.Goals as goal
