@@ -5,7 +5,7 @@ use exh_event::{Event, Outcome, Progress, StepFault, Turn};
 use exh_fixtures::{Said, merge, prefix, split};
 use exh_notice::Notice;
 use exh_prefix::PageNo;
-use exh_runs::Difference;
+use exh_runs::{Difference, Part};
 use exh_ward::WardFault;
 use std::alloc::AllocError;
 
@@ -62,7 +62,8 @@ impl Row {
     /// Puts the event behind others, with what it comes to. Where a key, a value or a prefix is too long it is another
     /// event, and comes to something else.
     pub(crate) fn push_turn(&self, turns: &mut Vec<Turn>) -> Result<(), AllocError> {
-        let event = self.told_event();
+        let call = self.call();
+        let event = self.told_event(call);
         let result = self.told_result();
         turns.reserve(1)?;
         turns.push_reserved(Turn { event, result });
@@ -82,8 +83,15 @@ impl Row {
         }
     }
 
-    fn told_event(&self) -> Event {
-        match self.event() {
+    fn call(&self) -> Option<Call> {
+        match self {
+            Row::Begin(_, _, said, _) => call_of(said).ok(),
+            _ => None,
+        }
+    }
+
+    fn told_event(&self, call: Option<Call>) -> Event {
+        match self.event(call) {
             Ok(event) => event,
             Err(_) => Event::Hop { name: 0 },
         }
@@ -96,13 +104,13 @@ impl Row {
         }
     }
 
-    fn event(&self) -> Result<Event, Difference> {
+    fn event(&self, call: Option<Call>) -> Result<Event, Difference> {
         Ok(match *self {
-            Row::Begin(name, copy, said, _) => Event::Begin {
+            Row::Begin(name, copy, ..) => Event::Begin {
                 name,
                 client: 1,
                 copy,
-                call: call_of(&said)?,
+                call: call.ok_or(Difference::Apart(Part::Run))?,
             },
             Row::Moved(name, _) | Row::MustSplit(name) | Row::Done(name, ..) => Event::Hop { name },
             Row::Split(page, _) | Row::NoSplit(page, _) => Event::Split { ward: 0, page },
