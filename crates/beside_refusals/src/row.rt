@@ -1,6 +1,6 @@
 //! Events of a file of one ward, each with what it comes to.
 
-use exh_calls::Call;
+use exh_calls::{Call, Reply};
 use exh_event::{Event, Outcome, Progress, StepFault, Turn};
 use exh_fixtures::{Said, merge, prefix, split};
 use exh_notice::Notice;
@@ -64,7 +64,9 @@ impl Row {
     pub(crate) fn push_turn(&self, turns: &mut Vec<Turn>) -> Result<(), AllocError> {
         let call = self.call();
         let event = self.told_event(call);
-        let result = self.told_result();
+        let reply = self.reply();
+        let hop = self.hop(reply);
+        let result = self.told_result(hop);
         turns.reserve(1)?;
         turns.push_reserved(Turn { event, result });
         Ok(())
@@ -90,6 +92,13 @@ impl Row {
         }
     }
 
+    fn reply(&self) -> Option<Reply> {
+        match self {
+            Row::Done(_, said, ..) => said.reply().ok(),
+            _ => None,
+        }
+    }
+
     fn told_event(&self, call: Option<Call>) -> Event {
         match self.event(call) {
             Ok(event) => event,
@@ -97,8 +106,21 @@ impl Row {
         }
     }
 
-    fn told_result(&self) -> Result<Outcome, StepFault> {
-        match self.result() {
+    fn hop(&self, reply: Option<Reply>) -> Option<Progress> {
+        match self {
+            Row::Moved(_, page) => Some(Progress::Moved(*page)),
+            Row::MustSplit(_) => Some(Progress::MustSplit),
+            Row::Done(_, _, moves, bound) => Some(Progress::Done {
+                reply: reply?,
+                moves: *moves,
+                bound: *bound,
+            }),
+            _ => None,
+        }
+    }
+
+    fn told_result(&self, hop: Option<Progress>) -> Result<Outcome, StepFault> {
+        match self.result(hop) {
             Ok(result) => result,
             Err(_) => Err(StepFault::NoWard),
         }
@@ -126,19 +148,16 @@ impl Row {
         })
     }
 
-    fn result(&self) -> Result<Result<Outcome, StepFault>, Difference> {
+    fn result(&self, hop: Option<Progress>) -> Result<Result<Outcome, StepFault>, Difference> {
         Ok(Ok(match self {
             Row::Begin(.., page) => Outcome::Begun {
                 ward: 0,
                 page: *page,
             },
-            Row::Moved(_, page) => hopped(Progress::Moved(*page)),
-            Row::MustSplit(_) => hopped(Progress::MustSplit),
-            Row::Done(_, said, moves, bound) => hopped(Progress::Done {
-                reply: said.reply()?,
-                moves: *moves,
-                bound: *bound,
-            }),
+            Row::Moved(..) | Row::MustSplit(_) | Row::Done(..) => Outcome::Hopped {
+                ward: 0,
+                hop: hop.ok_or(Difference::Apart(Part::Run))?,
+            },
             Row::Split(_, change) | Row::Merge(_, change) => Outcome::Changed(change.notice()?),
             Row::NoSplit(_, fault) | Row::NoMerge(_, fault) => {
                 return Ok(Err(StepFault::Ward(*fault)));
@@ -153,10 +172,6 @@ impl Row {
 
 fn call_of(said: &Said<'_>) -> Result<Call, Difference> {
     said.asked().call()
-}
-
-fn hopped(hop: Progress) -> Outcome {
-    Outcome::Hopped { ward: 0, hop }
 }
 
 // Whether a call changes its page.
