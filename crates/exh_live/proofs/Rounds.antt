@@ -222,9 +222,9 @@ pub round_told : (old taken new : Additions) (places lasts after : List ℕ) (al
     → before ≡ length old.published → (notices : List Notice) × AreCarried 0 places notices after × (all - before ≡ length old.pending + length notices) × (new ≡ record old { published = (old.published ++ old.pending) ++ map Take notices; pending = [] })
 round_told old taken new places lasts after all before (notices, carried, takes) back is all_is before_is =
     let new_is : new ≡ record old { published = (old.published ++ old.pending) ++ map Take notices; pending = [] } =
-        is
-        ∙ ap (λ (copy : Additions). record copy { published = copy.published ++ copy.pending; pending = [] }) takes
-        ∙ ap (λ published. record old { published = published; pending = [] }) (sym (append_assoc old.published old.pending (map Take notices))) in
+    is
+    ∙ ap (λ (copy : Additions). record copy { published = copy.published ++ copy.pending; pending = [] }) takes
+    ∙ ap (λ published. record old { published = published; pending = [] }) (sym (append_assoc old.published old.pending (map Take notices))) in
     let long : length new.published ≡ length ((old.published ++ old.pending) ++ map Take notices) = ap (λ (copy : Additions). length copy.published) new_is in
     let outer = length-append (old.published ++ old.pending) (map Take notices) in
     let inner = length-append old.published old.pending in
