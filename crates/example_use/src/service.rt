@@ -26,10 +26,11 @@ use std::sync::Wait;
 use std::sync::ledger::Blank;
 use std::thread::{self, JoinHandle, Scope, Threads};
 
-// What each caller puts. One more reads values back.
+// What each caller puts, each into a ward of its own: so the pages that come of it don't depend on who comes first. One
+// more reads values back.
 const WORK: [&[Pair]; 2] = [
-    &[("fay", "pink"), ("gil", "gold")],
-    &[("hal", "grey"), ("ivy", "brown")],
+    &[("fay", "pink")],
+    &[("gil", "gold"), ("hal", "grey"), ("ivy", "brown")],
 ];
 
 const CALLERS: u16 = 3;
