@@ -4,3 +4,4 @@ pub mod OptionFlags
 pub mod TheProgram
 pub mod KeyWords
 pub mod ParserLemmas
+pub mod Ways

@@ -6,7 +6,7 @@ use Rattle.std.proofs.KnownBytes.{Appends-trans}
 use Rattle.exh_stream.specs.Output.{AppendsBeginning}
 use Rattle.exh_stream.specs.OutputLemmas.{AppendsBeginning-after}
 use Rattle.exh_open.specs.Opened.{OpenedState}
-use Rattle.exh_load.specs.Load.{Loads, Prints, PrintsFront}
+use Rattle.exh_load.specs.Load.{Load, Loads, Prints, PrintsFront}
 use Rattle.exh_load.specs.declared.load_fault.LoadFault.{LoadFault}
 use Rattle.exh_load.specs.declared.load_fault.LoadFault.TheVariants.{Write, Memory, Page}
 use Rattle.exh_file_runs.specs.LoadRun.{LoadPrints}
@@ -15,24 +15,24 @@ use Rattle.exh_file_runs.specs.Run.{memory_line}
 pub memory_writes : (fault : LoadFault) → fault ≡ Memory → fault ≢ Write
 memory_writes fault is = λ same. let never : Memory ≡ Write = sym is ∙ same in cc
 
-front_more : {P Q : List ℕ → Type 0} {known : Option (List ℕ)} → ((text : List ℕ) → P text → Q text) → PrintsFront P known → PrintsFront Q known
+front_more : {of : List ℕ → Load} {P Q : List ℕ → Type 0} {known : Option (List ℕ)} → ((text : List ℕ) → P text → Q text) → PrintsFront of P known → PrintsFront of Q known
 front_more more h = record { load = h.load; of_reader = h.of_reader; front = h.front; rest = h.rest; split = h.split; lines = h.lines; text = more h.front h.text }
 
-module _ (old mid new known : Option (List ℕ)) (front : PrintsFront (Appends old mid) known) where
-  pub load_line_out : Appends mid new memory_line → LoadPrints old new known (Err Memory)
+module _ (of : List ℕ → Load) (old mid new known : Option (List ℕ)) (front : PrintsFront of (Appends old mid) known) where
+  pub load_line_out : Appends mid new memory_line → LoadPrints of old new known (Err Memory)
   load_line_out line = front_more (λ text held. Appends-trans old mid new text memory_line held line) front
 
-  pub load_line_cut : AppendsBeginning mid new memory_line → LoadPrints old new known (Err Write)
+  pub load_line_cut : AppendsBeginning mid new memory_line → LoadPrints of old new known (Err Write)
   load_line_cut line = inr (front_more (λ text held. AppendsBeginning-after (record { front = text; gone = held; split = refl }) line) front)
 
-module _ (old new known : Option (List ℕ)) where
-  pub load_write_fault : (outcome : Result (Option OpenedState) LoadFault) → IsErr outcome × IsErrAnd outcome (λ fault. fault ≡ Write) → LoadPrints old new known (Err Write) → LoadPrints old new known outcome
+module _ (of : List ℕ → Load) (old new known : Option (List ℕ)) where
+  pub load_write_fault : (outcome : Result (Option OpenedState) LoadFault) → IsErr outcome × IsErrAnd outcome (λ fault. fault ≡ Write) → LoadPrints of old new known (Err Write) → LoadPrints of old new known outcome
   load_write_fault (Ok file) is printed = absurd is.1
-  load_write_fault (Err fault) is printed = subst (λ f. LoadPrints old new known (Err f)) (sym is.1) printed
+  load_write_fault (Err fault) is printed = subst (λ f. LoadPrints of old new known (Err f)) (sym is.1) printed
 
   -- of a load that memory didn't end
-  pub load_printed : (outcome : Result (Option OpenedState) LoadFault) → (outcome ≢ Err Memory) → IfOk outcome (λ file. Loads (Appends old new) known file) → OnErr outcome (Prints (AppendsBeginning old new) known)
-      → IfErr outcome (λ fault. fault ≢ Write → PrintsFront (Appends old new) known) → LoadPrints old new known outcome
+  pub load_printed : (outcome : Result (Option OpenedState) LoadFault) → (outcome ≢ Err Memory) → IfOk outcome (λ file. Loads of (Appends old new) known file) → OnErr outcome (Prints of (AppendsBeginning old new) known)
+      → IfErr outcome (λ fault. fault ≢ Write → PrintsFront of (Appends old new) known) → LoadPrints of old new known outcome
   load_printed (Ok file) other ok err front = ok
   load_printed (Err Write) other ok err front = inl err
   load_printed (Err Memory) other ok err front = absurd (other refl)

@@ -3,7 +3,7 @@ use Rattle.std.specs.Prelude.{◌≡◌, ◌⊎◌, ℕ, List, ◌++◌, Option,
 use Rattle.std.specs.Io.KnownBytes.{Appends}
 use Rattle.exh_stream.specs.Output.{AppendsBeginning}
 use Rattle.exh_open.specs.Opened.{OpenedState}
-use Rattle.exh_load.specs.Load.{Loads, Prints, PrintsFront}
+use Rattle.exh_load.specs.Load.{Load, Loads, Prints, PrintsFront}
 use Rattle.exh_load.specs.declared.load_fault.LoadFault.{LoadFault}
 use Rattle.exh_load.specs.declared.load_fault.LoadFault.TheVariants.{Write, Memory, Page}
 use Rattle.exh_file_runs.specs.Run.{memory_line}
@@ -12,14 +12,15 @@ use Rattle.exh_file_runs.specs.declared.run.Ending.{Ending}
 use Rattle.exh_file_runs.specs.declared.run.Ending.TheVariants.{Over, Save}
 use Rattle.exh_file_runs.specs.declared.status.Status.TheVariants.{Refused}
 
--- Of a writer that held `old` bytes before a load and `new` ones after it, where these are known, and of a reader that had
--- `known` bytes left: the load's text, and the file that comes of it; after want of memory whole lines of it, and the last
--- line; after a fault of the writer a beginning of one of these. A page out of reach ends it with whole lines.
-abbrev pub LoadPrints : Option (List ℕ) → Option (List ℕ) → Option (List ℕ) → Result (Option OpenedState) LoadFault → Type 0
-LoadPrints old new known (Ok file) = Loads (Appends old new) known file
-LoadPrints old new known (Err Memory) = PrintsFront (λ text. Appends old new (text ++ memory_line)) known
-LoadPrints old new known (Err Page) = PrintsFront (Appends old new) known
-LoadPrints old new known (Err Write) = Prints (AppendsBeginning old new) known ⊎ PrintsFront (λ text. AppendsBeginning old new (text ++ memory_line)) known
+-- Of what is the load of a text, of a writer that held `old` bytes before a load and `new` ones after it, where these are
+-- known, and of a reader that had `known` bytes left: the load's text, and the file that comes of it; after want of memory
+-- whole lines of it, and the last line; after a fault of the writer a beginning of one of these. A page out of reach ends it
+-- with whole lines.
+abbrev pub LoadPrints : (List ℕ → Load) → Option (List ℕ) → Option (List ℕ) → Option (List ℕ) → Result (Option OpenedState) LoadFault → Type 0
+LoadPrints of old new known (Ok file) = Loads of (Appends old new) known file
+LoadPrints of old new known (Err Memory) = PrintsFront of (λ text. Appends old new (text ++ memory_line)) known
+LoadPrints of old new known (Err Page) = PrintsFront of (Appends old new) known
+LoadPrints of old new known (Err Write) = Prints of (AppendsBeginning old new) known ⊎ PrintsFront of (λ text. AppendsBeginning old new (text ++ memory_line)) known
 
 -- After a load the file that comes of it is saved at its place; without a file, or a place for it, the program ends refused.
 abbrev pub IsLoadEnding : Result (Option OpenedState) LoadFault → Option Place → Ending → Type 0

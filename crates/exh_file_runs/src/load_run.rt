@@ -1,4 +1,7 @@
 //! The run of a load: what it prints, and the file that comes of it.
+ghost use Rattle.std.specs.Prelude.{◌≤◌};
+ghost use Rattle.exh_load.specs.Load.{beginning, load_of};
+ghost use Rattle.exh_load.specs.declared.load_source.TheConstants.{TEXT_LIMIT};
 ghost use Rattle.exh_file_runs.specs.LoadRun.{IsLoadEnding, LoadPrints};
 ghost use Rattle.exh_file_runs.specs.Place.{SavesAt};
 
@@ -13,20 +16,23 @@ use exh_stream::Output;
 use std::alloc::Global;
 use std::io::{Read, Write};
 
-/// Loads the text of a reader, tells of it on a writer, and answers the file that comes of it, or `None` where the text
-/// is refused. Where memory ran out the last line is `refused 10`, on the same writer. After a fault of the writer
-/// nothing more is printed.
+/// Loads the text of a reader, of at most `limit` bytes, over the wards of a file or as a new one, tells of it on a writer,
+/// and answers the file that comes of it, or `None` where the text is refused. Where memory ran out the last line is
+/// `refused 10`, on the same writer. After a fault of the writer nothing more is printed.
 ///
 /// On an `Err` no file comes of it.
 pub fn load_pairs<R: Read, W: Write, L: Listener>(
     alloc: Global,
+    from: Option<FileWards>,
+    limit: usize,
     reader: &mut R,
     writer: &mut W,
     listener: &mut L,
 ) -> Result<Option<FileWards>, LoadFault>
-    ensures { LoadPrints (W.contents writer.old) (W.contents writer.new) (R.remaining reader.old) result }
+    requires { limit ≤ TEXT_LIMIT }
+    ensures { LoadPrints (load_of (beginning from) limit) (W.contents writer.old) (W.contents writer.new) (R.remaining reader.old) result }
 {
-    match load(alloc, &MAKER, reader, writer, listener) {
+    match load(alloc, &MAKER, from, limit, reader, writer, listener) {
         Err(LoadFault::Memory) => {
             print_out_of_memory(&mut Output::new(writer))?;
             Err(LoadFault::Memory)

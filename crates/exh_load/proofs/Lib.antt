@@ -3,10 +3,11 @@ pub mod FullPages
 pub mod Splits
 pub mod Homes
 pub mod Turns
--- of loader: a list made item by item, the wards of a new file, and a put into one of them
+-- of loader: a list made item by item, the wards of a new file, a put into one of them, and those of an opened file
 pub mod Items
 pub mod FreshWards
 pub mod PutIn
+pub mod Over
 -- of load_text: lines, and how many records there are
 pub mod Lines
 pub mod Records

@@ -1,4 +1,4 @@
--- The wards of a new file that pairs are put into, each with its directory.
+-- The wards of a file that pairs are put into, each with its directory.
 use Rattle.std.specs.Prelude.{◌≡◌, ℕ, List, length, slice_get, slice_set, Some}
 use Rattle.std.specs.FinMap as map
 use Rattle.exh_prefix.specs.Leading.{ward_of}
@@ -65,3 +65,7 @@ pub record AreEach {A : Type 0} (P : ℕ → A → Type 0) (count : ℕ) (items 
 pub record IsEmptyDirectory (ward_bits : ℕ) (directory : DirectoryState) : Type 0 where
   pub table : directory.table ≡ map.empty
   pub bits : directory.pointers.ward_bits ≡ ward_bits
+
+-- a directory of the table of that ward of a file
+abbrev pub IsDirectoryAt : ℕ → List (WardState AnyKeyer) → ℕ → DirectoryState → Type 0
+IsDirectoryAt ward_bits wards number directory = (ward : WardState AnyKeyer) → slice_get wards number ≡ Some ward → (directory.table ≡ ward.table) × (directory.pointers.ward_bits ≡ ward_bits)

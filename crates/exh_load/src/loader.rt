@@ -1,11 +1,11 @@
-ghost use Rattle.std.specs.Prelude.{◌≡◌, ◌+◌, ◌≤◌, ◌^◌, ℕ, IfOk, IfErr, OnErr, OnOk};
+ghost use Rattle.std.specs.Prelude.{◌≡◌, ◌+◌, ◌≤◌, ◌^◌, ℕ, length, IfOk, IfErr, OnErr, OnOk};
 ghost use Rattle.exh_page.specs.declared.page.TheConstants.{CAP_LIMIT};
 ghost use Rattle.exh_prefix.specs.declared.prefix.TheConstants.{WARD_BITS_LIMIT};
 ghost use Rattle.exh_array.specs.Pointers.{DirectoryState};
 ghost use Rattle.exh_ward.specs.WardFault.{IsStoreFault};
 ghost use Rattle.exh_load.specs.Load.{empty_loading, new_count, record_count};
 ghost use Rattle.exh_load.specs.Loading.{after_pair, loading_of, pair_reply};
-ghost use Rattle.exh_load.specs.Loader.{AreEach, HasSplitsIn, IsEmptyDirectory, IsEmptyLoader, IsLoading, IsPutIn, file_in};
+ghost use Rattle.exh_load.specs.Loader.{AreEach, HasSplitsIn, IsDirectoryAt, IsEmptyDirectory, IsEmptyLoader, IsLoading, IsPutIn, file_in};
 
 use crate::put_pair;
 use exh_array::Directory;
@@ -16,11 +16,12 @@ use exh_keyer::{AnyKeyer, Keyer};
 use exh_open::Opened;
 use exh_page::{Key, Value};
 use exh_prefix::ward_number;
+use exh_table::Table;
 use exh_ward::{Ward, WardFault, new_wards};
 use std::alloc::{AllocError, Global};
 use std::marker::Model;
 
-/// The wards of a new file that pairs are put into, and a directory of each.
+/// The wards of a file that pairs are put into, and a directory of each.
 #[derive(Drop)]
 pub struct Loader<P: Pages + Drop> {
     settings: FileSettings<AnyKeyer>,
@@ -68,6 +69,21 @@ impl<P: Pages + Drop> Loader<P> {
         })
     }
 
+    /// The loader of the wards of a file: each has a directory of its table. An `AllocError` where memory is refused.
+    pub fn over(alloc: Global, opened: Opened<P>) -> Result<Loader<P>, AllocError>
+        ensures file { IfOk result (λ loader. file_in loader ≡ opened) }
+        ensures loading { IfOk result IsLoading }
+    {
+        let settings = opened.settings();
+        let wards = opened.into_wards();
+        let directories = directories_of(alloc, settings.ward_bits, &wards)?;
+        Ok(Loader {
+            settings,
+            wards,
+            directories,
+        })
+    }
+
     /// Puts a pair into the ward of its key, and splits pages where they are full for it, as `put_pair`
     /// does. The key is hashed once. `Memory` and `Page` may come at any point: splits that were made
     /// stay made, and no more pairs can be put then, since a directory may lack a notice.
@@ -106,4 +122,31 @@ fn new_directories(alloc: Global, ward_bits: u8) -> Result<Vec<Directory>, Alloc
         directories.push(Directory::new(alloc, ward_bits)?)?;
     }
     Ok(directories)
+}
+
+// A directory of the table of each ward.
+fn directories_of<P: Pages + Drop>(
+    alloc: Global,
+    ward_bits: u8,
+    wards: &[Ward<P, AnyKeyer>],
+) -> Result<Vec<Directory>, AllocError>
+    requires { ward_bits ≤ WARD_BITS_LIMIT }
+    ensures { IfOk result (λ directories. AreEach (IsDirectoryAt ward_bits wards.now) (length wards.now) directories.items) }
+{
+    let mut directories = Vec::new(alloc);
+    for ward in wards {
+        directories.push(directory_of(alloc, ward_bits, ward.table())?)?;
+    }
+    Ok(directories)
+}
+
+// A directory of a table, in a file of so many ward bits.
+fn directory_of(alloc: Global, ward_bits: u8, table: &Table) -> Result<Directory, AllocError>
+    requires { ward_bits ≤ WARD_BITS_LIMIT }
+    ensures table { IfOk result (λ directory. directory.table ≡ table.now) }
+    ensures bits { IfOk result (λ directory. directory.pointers.ward_bits ≡ ward_bits) }
+{
+    let mut directory = Directory::new(alloc, ward_bits)?;
+    directory.join_in(table)?;
+    Ok(directory)
 }

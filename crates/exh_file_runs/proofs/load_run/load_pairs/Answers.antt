@@ -1,7 +1,7 @@
 use Rattle.std.proofs.Common.{rules, subst}
 use Rattle.std.specs.Io.KnownBytes.{Appends}
 use Rattle.exh_stream.specs.Output.{AppendsBeginning}
-use Rattle.exh_load.specs.Load.{PrintsFront}
+use Rattle.exh_load.specs.Load.{PrintsFront, beginning, load_of}
 use Rattle.exh_load.specs.declared.load_fault.LoadFault.TheVariants.{Memory}
 use Rattle.exh_file_runs.specs.LoadRun.{LoadPrints}
 use Rattle.exh_file_runs.specs.Run.{memory_line}
@@ -14,9 +14,10 @@ returns-in_err-print_out_of_memory-in-Err-Memory g c =
     let mid = g.W.Write.contents c.load.new.writer in
     let new = g.W.Write.contents c.print_out_of_memory.new.output.writer.now in
     let known = g.R.Read.remaining c.args.reader.now in
-    let front : PrintsFront (Appends old mid) known = c.in-Err-Memory.ensures.memory (memory_writes _ c.in-Err-Memory.field-0-is) in
+    let of = load_of (beginning c.args.from) c.args.limit in
+    let front : PrintsFront of (Appends old mid) known = c.in-Err-Memory.ensures.memory (memory_writes _ c.in-Err-Memory.field-0-is) in
     let line : AppendsBeginning mid new memory_line = subst (λ writer. AppendsBeginning (g.W.Write.contents writer) new memory_line) c.new.ensures.writes_to.1 c.in_err-print_out_of_memory-in-Err-Memory.ensures.err in
-    let printed : LoadPrints old new known c.from_residual.result = load_write_fault old new known c.from_residual.result c.from_residual.ensures (load_line_cut old mid new known front line) in
+    let printed : LoadPrints of old new known c.from_residual.result = load_write_fault of old new known c.from_residual.result c.from_residual.ensures (load_line_cut of old mid new known front line) in
     search rules
 
 pub returns-in_ok-print_out_of_memory-in-Err-Memory : goal.returns-in_ok-print_out_of_memory-in-Err-Memory
@@ -25,7 +26,8 @@ returns-in_ok-print_out_of_memory-in-Err-Memory g c =
     let mid = g.W.Write.contents c.load.new.writer in
     let new = g.W.Write.contents c.print_out_of_memory.new.output.writer.now in
     let known = g.R.Read.remaining c.args.reader.now in
-    let front : PrintsFront (Appends old mid) known = c.in-Err-Memory.ensures.memory (memory_writes _ c.in-Err-Memory.field-0-is) in
+    let of = load_of (beginning c.args.from) c.args.limit in
+    let front : PrintsFront of (Appends old mid) known = c.in-Err-Memory.ensures.memory (memory_writes _ c.in-Err-Memory.field-0-is) in
     let line : Appends mid new memory_line = subst (λ writer. Appends (g.W.Write.contents writer) new memory_line) c.new.ensures.writes_to.1 c.in_ok-print_out_of_memory-in-Err-Memory.ensures.ok in
-    let printed = load_line_out old mid new known front line in
+    let printed = load_line_out of old mid new known front line in
     search rules
