@@ -50,11 +50,11 @@ returns-in-Err-Read-clause-err g c = loads_err (load_of (beginning c.args.from) 
 pub returns-in-Err-Read-clause-front : goal.returns-in-Err-Read-clause-front
 returns-in-Err-Read-clause-front g c = loads_front (load_of (beginning c.args.from) c.args.limit) (TakesFront g.W.Write.contents c.args.output.now c.refuse-in-Err-Read.new.output) _ (refused 41) (inr refl) c.refuse-in-Err-Read.result c.refuse-in-Err-Read.ensures.front
 
-pub returns-in-Err-Memory-clause-err : goal.returns-in-Err-Memory-clause-err
-returns-in-Err-Memory-clause-err g c = record { load = refused 41; of_reader = inr refl; text = TakesBeginning-none g.W.Write.contents c.args.output.now _ }
+pub returns-clause-err : goal.returns-clause-err
+returns-clause-err g c = record { load = refused 41; of_reader = inr refl; text = TakesBeginning-none g.W.Write.contents c.args.output.now _ }
 
-pub returns-in-Err-Memory-clause-front : goal.returns-in-Err-Memory-clause-front
-returns-in-Err-Memory-clause-front g c = λ _. record { load = refused 41; of_reader = inr refl; text = front_none g.W.Write.contents c.args.output.now _ }
+pub returns-clause-front : goal.returns-clause-front
+returns-clause-front g c = λ _. record { load = refused 41; of_reader = inr refl; text = front_none g.W.Write.contents c.args.output.now _ }
 
 pub returns-in-Ok-clause-reader : goal.returns-in-Ok-clause-reader
 returns-in-Ok-clause-reader g c =
