@@ -1,0 +1,35 @@
+//! Wards that are alike.
+
+use exh_fixtures::{are_same, refused};
+use exh_frames::Pages;
+use exh_keyer::AnyKeyer;
+use exh_runs::{Difference, Part, same};
+use exh_ward::{Ward, WardFault};
+
+/// Two wards have the same pages, notices, table and journal.
+pub(crate) fn are_alike<P: Pages + Drop, Q: Pages + Drop>(
+    ward: &mut Ward<P, AnyKeyer>,
+    other: &mut Ward<Q, AnyKeyer>,
+) -> Result<(), Difference> {
+    let has_same = has_same_pages(ward, other).map_err(refused)?;
+    let is_told = ward.notices_after(0) == other.notices_after(0)
+        && ward.table().entries().eq(other.table().entries())
+        && ward.journal().iter().eq(other.journal().iter());
+    same(has_same && is_told, Part::Healed)
+}
+
+fn has_same_pages<P: Pages + Drop, Q: Pages + Drop>(
+    ward: &mut Ward<P, AnyKeyer>,
+    other: &mut Ward<Q, AnyKeyer>,
+) -> Result<bool, WardFault> {
+    if ward.page_count() != other.page_count() {
+        return Ok(false);
+    }
+    for number in 0..ward.page_count() {
+        let (page, its_page) = (ward.page(number)?, other.page(number)?);
+        if !are_same(&page, &its_page) {
+            return Ok(false);
+        }
+    }
+    Ok(true)
+}
