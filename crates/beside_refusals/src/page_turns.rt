@@ -4,9 +4,7 @@
 
 use crate::failing_maker::FailingMaker;
 use crate::lists::{LISTS, List};
-use crate::played::{
-    CONFIG, OUT_OF_MEMORY, OUT_OF_REACH, Played, events_of, new_world, play, turns_of,
-};
+use crate::played::{CONFIG, OUT_OF_REACH, Played, events_of, new_world, play, turns_of};
 use exh_event::{StepFault, Turn};
 use exh_frames::{FailingPages, Pages, PlainPages};
 use exh_keyer::AnyKeyer;
@@ -79,6 +77,7 @@ fn refuse_call(
     unhurt: &mut Played<PlainPages>,
 ) -> Result<Option<usize>, Difference> {
     let mut played = play(failing_world(alloc, at)?, &events_of(alloc, turns)?)?;
+    played.is_with_memory()?;
     let Some(place) = played.refused_at(OUT_OF_REACH) else {
         is_as_wanted(&played, turns)?;
         return Ok(None);
@@ -90,11 +89,8 @@ fn refuse_call(
     Ok(Some(place))
 }
 
-// Where a growth was refused, the turns aren't those that are wanted, and the run is to begin once more.
 fn is_as_wanted<P: Pages + Drop>(played: &Played<P>, turns: &[Turn]) -> Result<(), Difference> {
-    if played.refused_at(OUT_OF_MEMORY).is_some() {
-        return Err(Difference::Memory(AllocError));
-    }
+    played.is_with_memory()?;
     same(played.has_turns(turns), Part::Outcome)
 }
 

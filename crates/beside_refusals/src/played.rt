@@ -41,6 +41,14 @@ impl<P: Pages + Drop> Played<P> {
         self.turns.iter().position(|turn| turn.result == Err(fault))
     }
 
+    /// An `AllocError` where a growth was refused in a turn.
+    pub(crate) fn is_with_memory(&self) -> Result<(), AllocError> {
+        match self.refused_at(OUT_OF_MEMORY) {
+            Some(_) => Err(AllocError),
+            None => Ok(()),
+        }
+    }
+
     /// Whether the turns are these.
     pub(crate) fn has_turns(&self, turns: &[Turn]) -> bool {
         self.turns
@@ -65,6 +73,7 @@ impl<P: Pages + Drop> Played<P> {
         let mut rest = self.turns.clone()?;
         rest.remove(place);
         let mut others = play(new_world(alloc)?, &events_of(alloc, &rest)?)?;
+        others.is_with_memory()?;
         same(others.has_turns(&rest), Part::Outcome)?;
         self.leaves_as(&mut others)
     }

@@ -1,7 +1,9 @@
 //! The page file of the three pairs is opened from readers that give it in pieces and fail at one read, the first, the
 //! second, and so on: the fault is told, and no read comes after it.
 
-use crate::three_pairs::{BLOCK_LEN, not_opened, reader_of, three_pairs, write_to, writer_for};
+use crate::three_pairs::{
+    BLOCK_LEN, is_saved, not_opened, reader_of, three_pairs, write_to, writer_for,
+};
 use exh_frames::PlainMaker;
 use exh_open::{OpenFault, open};
 use exh_runs::{Difference, Part, Run, same};
@@ -64,7 +66,7 @@ pub(crate) fn is_opened(
         Ok(opened) => {
             let (saved, _opened) = write_to(opened, &mut writer);
             same(
-                saved.is_ok() && writer.taken.as_slice() == file,
+                is_saved(saved)? && writer.taken.as_slice() == file,
                 Part::Step,
             )
         }

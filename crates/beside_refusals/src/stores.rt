@@ -3,13 +3,14 @@
 
 use crate::failing_maker::FailingMaker;
 use crate::readers::is_opened;
-use crate::three_pairs::{BLOCK_LEN, not_opened, reader_of, three_pairs, write_to, writer_for};
+use crate::three_pairs::{
+    BLOCK_LEN, is_saved, not_opened, reader_of, three_pairs, write_to, writer_for,
+};
 use exh_frames::{FailingPages, PlainPages};
 use exh_open::{OpenFault, Opened, open};
 use exh_runs::{Difference, Part, Run, same};
-use exh_save::SaveFault;
 use exh_stream::FakeWriter;
-use std::alloc::{AllocError, Global};
+use std::alloc::Global;
 
 // More calls than opening and writing make.
 const MOST: u64 = 1000;
@@ -91,13 +92,12 @@ fn write_twice(
     let is_front = file.starts_with(writer.taken.as_slice());
     let is_whole = is_front && writer.taken.len() == file.len();
     let (last, _opened) = write_to(opened, writer);
-    let is_healed = last.is_ok() && writer.taken.as_slice() == file;
-    match saved {
-        Ok(()) => same(is_whole, Part::Step).and(Ok(Met::Nowhere)),
-        Err(SaveFault::Page) => {
-            same(is_front && !is_whole && is_healed, Part::Healed).and(Ok(Met::Writing))
-        }
-        Err(SaveFault::Memory) => Err(Difference::Memory(AllocError)),
-        Err(SaveFault::Write) => Err(Difference::Refused(42)),
+    let is_healed = is_saved(last)? && writer.taken.as_slice() == file;
+    if is_saved(saved)? {
+        same(is_whole, Part::Healed)?;
+        Ok(Met::Nowhere)
+    } else {
+        same(is_front && !is_whole && is_healed, Part::Healed)?;
+        Ok(Met::Writing)
     }
 }

@@ -70,6 +70,16 @@ pub(crate) fn write_to<P: Pages + Drop>(
     write_opened(opened, &mut FileWriter::new(writer))
 }
 
+/// Whether a file was written whole. A `Difference` where no page was out of reach.
+pub(crate) fn is_saved(saved: Result<(), SaveFault>) -> Result<bool, Difference> {
+    match saved {
+        Ok(()) => Ok(true),
+        Err(SaveFault::Page) => Ok(false),
+        Err(SaveFault::Memory) => Err(Difference::Memory(AllocError)),
+        Err(SaveFault::Write) => Err(Difference::Refused(SaveFault::Write.number())),
+    }
+}
+
 /// What is left to say where a file should have been opened.
 pub(crate) fn not_opened(fault: OpenFault) -> Difference {
     match fault.number() {

@@ -30,9 +30,8 @@ pub(crate) fn run(run: &mut Run) -> Result<(), Difference> {
 }
 
 fn write_all(run: &mut Run, opened: Opened<PlainPages>, file: &[u8], writer: &mut FakeWriter) {
-    let opened = write_pieces(run, opened, file, writer);
+    let mut opened = write_pieces(run, opened, file, writer);
     let stride = file.len() / (run.rounds.max(1) as usize);
-    let mut opened = opened;
     for room in 0..file.len() {
         if is_tried(room, stride.max(1)) {
             let (is_right, back) = write_up_to(opened, file, writer, room);
