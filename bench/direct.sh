@@ -91,7 +91,7 @@ for size in "${SIZES[@]}"; do
     entries=$("$program" check "$folder/file.exh" | awk '{ print $NF }')
     due=$((2 + (entries + 253) / 254))
     for key in $(head -n 10 "$folder/words"); do
-        read=$(strace -e trace=pread64 "$program" get "$folder/file.exh" "#$key" 2>&1 >/dev/null | grep -c '^pread64')
+        read=$(strace -e trace=pread64 "$program" get "$folder/file.exh" "#$key" 2>&1 >/dev/null | grep -c '^pread64(.*, 4096, ')
         if [ "$read" != "$due" ]; then
             echo "FALLS SHORT: a get reads $read blocks at $1 pages, $due are due"
             short=1
