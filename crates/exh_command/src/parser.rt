@@ -1,6 +1,6 @@
 //! The parser of the command line, with the texts that a stranger reads.
 ghost use Rattle.std.specs.Prelude.{◌≡◌, IfOk, codes, false};
-ghost use Rattle.clap.specs.Words.{app_of, kind_of, new_app, rule_of};
+ghost use Rattle.clap.specs.Words.{Shape, app_of, kind_of, new_app, rule_of, with_subcommand};
 ghost use Rattle.exh_command.specs.Job.{serve_names, storm_names};
 ghost use Rattle.exh_command.specs.Program.{bare_program};
 ghost use Rattle.exh_command.specs.Parser.{HasOwnArgs, ReadsJobs, about_key, about_path, about_two_values, about_value, key_rule, only, option_rule, path_rule, with_options, word_rule};
@@ -384,66 +384,76 @@ said of a file, docs/FORMATS.md the formats.";
 pub(crate) fn parser<'a>(alloc: Global) -> Result<Command<'a>, AllocError>
     ensures { IfOk result (λ parser. ReadsJobs (app_of parser)) }
 {
-    let serve = serve(alloc)?;
-    let serving = bare_program(alloc)?.subcommand(serve)?;
+    let serving = with_command(bare_program(alloc)?, serve(alloc))?;
     let check = path_command(
         alloc,
         CHECK,
         "Says whether a file is a legal page file",
         CHECK_USAGE,
         CHECKED,
-    )?;
-    let checking = serving.subcommand(check)?;
+    );
+    let checking = with_command(serving, check)?;
     let dump = path_command(
         alloc,
         DUMP,
         "Tells what a legal page file has: pages, pairs and the table",
         DUMP_USAGE,
         DUMPED,
-    )?;
-    let dumping = checking.subcommand(dump)?;
+    );
+    let dumping = with_command(checking, dump)?;
     let load = path_command(
         alloc,
         LOAD,
         "Saves the pairs on standard input as a page file",
         LOAD_USAGE,
         LOADED,
-    )?;
-    let loading = dumping.subcommand(load)?;
-    let storm = storm(alloc)?;
-    let storming = loading.subcommand(storm)?;
+    );
+    let loading = with_command(dumping, load)?;
+    let storming = with_command(loading, storm(alloc))?;
     let get = key_command(
         alloc,
         GET,
         "Prints the value of a key of a page file, by one page",
         GET_USAGE,
         GOT,
-    )?;
-    let getting = storming.subcommand(get)?;
+    );
+    let getting = with_command(storming, get)?;
     let put = value_command(
         alloc,
         PUT,
         "Gives a key of a page file a value",
         PUT_USAGE,
         GIVEN,
-    )?;
-    let putting = getting.subcommand(put)?;
+    );
+    let putting = with_command(getting, put)?;
     let del = key_command(
         alloc,
         DEL,
         "Takes a key out of a page file",
         DEL_USAGE,
         TAKEN,
-    )?;
-    let deleting = putting.subcommand(del)?;
+    );
+    let deleting = with_command(putting, del)?;
     let swap = swap_command(
         alloc,
         SWAP,
         "Gives a key another value, where it has the one that is named",
         SWAP_USAGE,
         SWAPPED,
-    )?;
-    deleting.subcommand(swap)
+    );
+    with_command(deleting, swap)
+}
+
+// A command with one more below it, if that was made. It takes both, so that where one isn't made its caller has nothing
+// to drop.
+fn with_command<'a>(
+    program: Command<'a>,
+    made: Result<Command<'a>, AllocError>,
+) -> Result<Command<'a>, AllocError>
+    requires { IfOk made HasOwnArgs }
+    ensures { (command : Shape) → IfOk made.entry (λ one. app_of one ≡ only command) → IfOk result (λ whole. app_of whole ≡ with_subcommand (app_of program.entry) command) }
+{
+    program.subcommand(made?)
 }
 
 // The program's own command, with none below it.
