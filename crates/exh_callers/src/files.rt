@@ -1,5 +1,5 @@
 //! New live files of keyer plain, and what they leave.
-ghost use Rattle.std.specs.Prelude.{◌≡◌, ℕ, ◌≤◌, IfOk};
+ghost use Rattle.std.specs.Prelude.{◌≡◌, ◌≤◌, IfOk};
 ghost use Rattle.exh_keyer.specs.Pseudokey.{plain_pseudokey};
 ghost use Rattle.exh_live.specs.LiveFile.{IsNewWardOf};
 ghost use Rattle.exh_page.specs.declared.page.TheConstants.{CAP_LIMIT};
@@ -41,19 +41,18 @@ pub fn new_file<F: Identity>(
     requires answers { (answers.name ≡ F.answers) × (answers.parts ≡ ANSWER_PARTS) }
     requires entries { (entries.name ≡ F.entries) × (entries.parts ≡ ENTRY_PARTS) }
     requires hashed { F.hashing ≡ plain_pseudokey }
-    ensures { IfOk result (λ file. file.ward_bits ≡ ward_bits) }
+    ensures settings { IfOk result (λ file. (file.cap ≡ cap) × (file.ward_bits ≡ ward_bits)) }
 {
-    let keyer = PlainKeyer;
     let settings = FileSettings {
         cap: cap as u8,
         ward_bits,
-        keyer,
+        keyer: PlainKeyer,
     };
     let wards = new_wards(alloc, &PlainMaker, settings)?;
-    LiveFile::new(alloc, ward_bits, keyer, wards, answers, entries)
+    LiveFile::new(alloc, settings, wards, answers, entries)
 }
 
-/// A file of this new ward alone. An `AllocError` where memory is refused.
+/// A file of this new ward alone, of a story's pages. An `AllocError` where memory is refused.
 pub fn one_ward_file<P: Pages + Drop, F: Identity>(
     alloc: Global,
     keyer: PlainKeyer,
@@ -61,15 +60,20 @@ pub fn one_ward_file<P: Pages + Drop, F: Identity>(
     answers: Blank,
     entries: Blank,
 ) -> Result<File<P, F>, AllocError>
-    requires new { (cap : ℕ) × IsNewWardOf cap 0 keyer 0 ward }
+    requires new { IsNewWardOf CAP 0 keyer 0 ward }
     requires answers { (answers.name ≡ F.answers) × (answers.parts ≡ ANSWER_PARTS) }
     requires entries { (entries.name ≡ F.entries) × (entries.parts ≡ ENTRY_PARTS) }
     requires hashed { F.hashing ≡ plain_pseudokey }
-    ensures { IfOk result (λ file. file.ward_bits ≡ 0) }
+    ensures settings { IfOk result (λ file. (file.cap ≡ CAP) × (file.ward_bits ≡ 0)) }
 {
+    let settings = FileSettings {
+        cap: CAP as u8,
+        ward_bits: 0,
+        keyer,
+    };
     let mut wards = Vec::new(alloc);
     wards.push(ward)?;
-    LiveFile::new(alloc, 0, keyer, wards, answers, entries)
+    LiveFile::new(alloc, settings, wards, answers, entries)
 }
 
 /// What a file leaves that is closed with these seats, once more where memory was refused; else the

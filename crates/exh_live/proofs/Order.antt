@@ -1,5 +1,5 @@
 -- Sixteen wards or fewer that are entered with as many units as the first so many stand, once their numbers rise, at the places of their numbers.
-use Rattle.std.proofs.Common.{◌≡◌, ℕ, zero, suc, ◌+◌, ◌*◌, ◌^◌, ◌<◌, ◌≤◌, List, length, get_or, take, slice_get, Some, inl, inr, sym, ap, ◌∙◌, subst, arith}
+use Rattle.std.proofs.Common.{◌≡◌, ℕ, zero, suc, ◌+◌, ◌*◌, ◌<◌, ◌≤◌, List, length, get_or, take, inl, inr, sym, ap, ◌∙◌, subst, arith}
 use Rattle.std.specs.Prelude.{sum_by, All}
 use Rattle.std.specs.List.Sorted.{IsNonDecreasingBy}
 use Rattle.std.proofs.Math.Nat.{pow-le-pow_right, mul-le-mul_right, one-le-pow}

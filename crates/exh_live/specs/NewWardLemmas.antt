@@ -6,8 +6,8 @@ use Rattle.exh_ward.specs.NewWards.{new_wards}
 use Rattle.exh_ward.specs.WardState.{WardState}
 use Rattle.exh_live.specs.LiveFile.{AreNewWardsOf}
 
-pub answered_nothing : {K : Type 0} (settings : FileSettings K) (wards : List (WardState K)) → wards ≡ new_wards settings → AreNewWardsOf settings.cap settings.ward_bits settings.keyer wards
-answered_nothing {K} settings wards made = subst (AreNewWardsOf settings.cap settings.ward_bits settings.keyer) (sym made) (record {
+pub answered_nothing : {K : Type 0} (settings : FileSettings K) (wards : List (WardState K)) → wards ≡ new_wards settings → AreNewWardsOf settings wards
+answered_nothing {K} settings wards made = subst (AreNewWardsOf settings) (sym made) (record {
   count = count_of_new settings;
   each = λ number ward there.
       let is = (new_ward_at settings number ward there).1 in

@@ -1,7 +1,7 @@
 ghost use Rattle.std.specs.Prelude.{◌≡◌, ◌+◌, [], ◌∷◌, ◌++◌, IfOk, OnErr};
 ghost use Rattle.exh_calls.specs.Call.{key_of};
 ghost use Rattle.exh_copy.specs.Additions.{BeginsWith};
-ghost use Rattle.exh_live.specs.Locked.{IsAsked, IsLockedWalk};
+ghost use Rattle.exh_live.specs.Locked.{IsAsked, IsFirstPage, IsLockedWalk};
 ghost use Rattle.exh_live.specs.Units.{units_of};
 
 use crate::ledgers::Answers;
@@ -21,11 +21,11 @@ use std::sync::ledger::Share;
 const FIRST_PAGE: PageNo = 0;
 
 impl<P: Pages + Drop, K: Keyer, F: Identity> LiveFile<P, K, F> {
-    /// Answers a call of a seat of this file: a look at a copy of the directory (page 0 where it names
-    /// none), then the caller's walk from there, over the ward of the call's key behind its lock. The
-    /// answer is written down in the seat's diary, in which there was room before the first hop. Refused:
-    /// `Held` where the gate says no, or after 1,000,000 turns; at any point `Memory` and `Page`. The seat
-    /// and the map are then as before; splits made on the way stay. It may wait for other callers.
+    /// Answers a call of a seat of this file: a look at a copy of the directory, then the caller's walk from the page
+    /// that it names (page 0 where it names none), over the ward of the call's key behind its lock. The answer is
+    /// written down in the seat's diary, in which there was room before the first hop. Refused: `Held` where the gate
+    /// says no, or after 1,000,000 turns; at any point `Memory` and `Page`. The seat and the map are then as before;
+    /// splits made on the way stay. It may wait for other callers.
     pub fn ask<R: Wait, S: Start, G: Gate>(
         &self,
         rt: &R,
@@ -36,13 +36,13 @@ impl<P: Pages + Drop, K: Keyer, F: Identity> LiveFile<P, K, F> {
     ) -> Result<Reply, AskFault>
         ensures ok { IfOk result (λ reply. seat.new ≡ record seat.old { entries = seat.old.entries ++ record { call = call.now; reply = reply } ∷ [] }) }
         ensures err { OnErr result (seat.new ≡ seat.old) }
-        ensures walk { IsAsked K.pseudokey_of F.hashing (G.may gate.now seat.old.client) seat.old.client call.now result }
+        ensures walk { IsAsked K.pseudokey_of F.hashing (IsFirstPage S.table S.ward_bits copy.old copy.new) (G.may gate.now seat.old.client) seat.old.client call.now result }
         ensures copy { (copy.new.name ≡ copy.old.name) × BeginsWith copy.new.additions copy.old.additions }
     {
         if seat.diary.reserve().is_err() {
             return Err(AskFault::Memory);
         }
-        let pseudokey = self.keyer.pseudo(call.key().as_bytes());
+        let pseudokey = self.settings.keyer.pseudo(call.key().as_bytes());
         let at = copy.look(pseudokey).unwrap_or(FIRST_PAGE);
         let client = seat.diary.client();
         let none = seat.answers.empty();
@@ -72,13 +72,13 @@ impl<P: Pages + Drop, K: Keyer, F: Identity> LiveFile<P, K, F> {
         ensures walk { IsLockedWalk K.pseudokey_of (G.may gate.now client) at client call.now pseudokey result.1 }
         ensures units { result.0.amount ≡ answers.amount + units_of result.1 }
     {
-        let number = ward_number(self.ward_bits, pseudokey);
+        let number = ward_number(self.settings.ward_bits, pseudokey);
         let mut ward = LockedWard {
             rt,
             ward: &self.wards[usize::from(number)],
             answers,
         };
         let result = walk_steps(&mut ward, gate, at, client, call, pseudokey);
-        (ward.into_answers(), result)
+        (ward.answers, result)
     }
 }

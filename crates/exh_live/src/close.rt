@@ -106,20 +106,14 @@ impl<P: Pages + Drop, K: Keyer, F: Identity> LiveFile<P, K, F> {
         ensures { IsClosed self seats.items result.wards.items result.diaries.items }
     {
         let LiveFile {
-            alloc: _,
-            ward_bits: _,
-            keyer: _,
             wards: locks,
             given,
             answers,
             entered,
             entries,
-            seats: _,
+            ..
         } = self;
-        let Closed {
-            mut wards,
-            mut diaries,
-        } = room;
+        let (mut wards, mut diaries) = (room.wards, room.diaries);
         let mut answers = answers.into_share();
         let mut entries = entries.into_share();
         unlock(locks, &mut wards, &mut answers, &mut entries);

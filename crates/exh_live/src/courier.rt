@@ -52,7 +52,7 @@ impl<P: Pages + Drop, K: Keyer, F: Identity> LiveFile<P, K, F> {
         requires { length places.old ≡ 2 ^ self.now.ward_bits }
         ensures { TakesBetween copy.old places.old copy.new places.new }
     {
-        for number in 0..1u8 << self.ward_bits {
+        for number in 0..1u8 << self.settings.ward_bits {
             self.take_ward(rt, copy, number, &mut places[usize::from(number)])?;
         }
         Ok(())
@@ -73,7 +73,7 @@ impl<P: Pages + Drop, K: Keyer, F: Identity> LiveFile<P, K, F> {
         let mut batch = Vec::new(self.alloc);
         let mut left = lock_soon(ward, rt).count_above(*place);
         while 0 < left {
-            let most = if left < TURN_LIMIT { left } else { TURN_LIMIT };
+            let most = left.min(TURN_LIMIT);
             batch.clear();
             lock_soon(ward, rt).hand_out(*place, most, &mut batch)?;
             take_next(copy, number, place, batch.as_slice())?;

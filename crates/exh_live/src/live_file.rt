@@ -1,8 +1,8 @@
-ghost use Rattle.std.specs.Prelude.{◌≡◌, ℕ, ◌+◌, ◌*◌, ◌^◌, ◌<◌, ◌≤◌, [], vec_len, IfOk, OnOk, OnErr};
+ghost use Rattle.std.specs.Prelude.{◌≡◌, ◌+◌, ◌*◌, ◌^◌, ◌<◌, ◌≤◌, [], vec_len, IfOk, OnOk, OnErr};
 ghost use Rattle.exh_prefix.specs.declared.prefix.TheConstants.{WARD_BITS_LIMIT};
 ghost use Rattle.exh_live.specs.declared.ledgers.TheConstants.{ANSWER_PARTS, ENTRY_PARTS};
 ghost use Rattle.exh_settle.specs.declared.diary.TheConstants.{CALLER_LIMIT};
-ghost use Rattle.exh_live.specs.LiveFile.{AreNewWardsOf, AreToBeTallied};
+ghost use Rattle.exh_live.specs.LiveFile.{AreNewWardsOf, AreToBeTallied, without_seats};
 ghost use Rattle.exh_live.specs.Stock.{stock, units_of_first};
 
 use crate::ledgers::{Answers, Entries};
@@ -11,6 +11,7 @@ use crate::tallied_ward::WardLock;
 use crate::tally::Tally;
 use crate::{Identity, NoSeat, Seat};
 use crossbeam_utils::CachePadded;
+use exh_file_settings::FileSettings;
 use exh_frames::Pages;
 use exh_keyer::Keyer;
 use exh_settle::CALLER_LIMIT;
@@ -25,8 +26,7 @@ use std::sync::ledger::{Blank, Total};
 #[derive(Drop)]
 pub struct LiveFile<P: Pages + Drop, K: Keyer, F: Identity> {
     pub(crate) alloc: Global,
-    pub(crate) ward_bits: u8,
-    pub(crate) keyer: K,
+    pub(crate) settings: FileSettings<K>,
     pub(crate) wards: Vec<WardLock<P, K, F>>,
     pub(crate) given: Total<Answers<F>>,
     pub(crate) answers: Spare<Answers<F>>,
@@ -45,9 +45,9 @@ impl<P: Pages + Drop, K: Keyer, F: Identity> Model for LiveFile<P, K, F> {
 
     ghost Value = { LiveState K };
 
-    ghost view = { λ a. record { ward_bits = a.ward_bits; keyer = a.keyer; seats = a.seats } };
+    ghost view = { λ a. record { cap = a.settings.cap; ward_bits = a.settings.ward_bits; keyer = a.settings.keyer; seats = a.seats } };
 
-    ghost invariant = { λ a. (a.ward_bits ≤ WARD_BITS_LIMIT) × (vec_len a.wards ≡ 2 ^ a.ward_bits) × (K.pseudokey_of a.keyer ≡ F.hashing)
+    ghost invariant = { λ a. (a.settings.ward_bits ≤ WARD_BITS_LIMIT) × (vec_len a.wards ≡ 2 ^ a.settings.ward_bits) × (K.pseudokey_of a.settings.keyer ≡ F.hashing)
         × (vec_len a.wards ≤ 16) × (a.seats ≤ CALLER_LIMIT) × (a.answers.parts + a.seats + vec_len a.wards ≡ ANSWER_PARTS) × (a.answers.amount ≡ 0)
         × (a.given.parts ≡ ANSWER_PARTS) × (a.given.amount ≡ vec_len a.wards * stock)
         × (a.entries.parts + vec_len a.wards ≡ ENTRY_PARTS) × (a.entries.amount ≡ 0)
@@ -55,23 +55,21 @@ impl<P: Pages + Drop, K: Keyer, F: Identity> Model for LiveFile<P, K, F> {
 }
 
 impl<P: Pages + Drop, K: Keyer, F: Identity> LiveFile<P, K, F> {
-    /// The live file of wards with empty journals, one for each number, in order, of one cap and keyer,
-    /// and of two blank ledgers, whose names are the file's. An `AllocError` where
-    /// memory is refused.
+    /// The live file of wards with empty journals, one for each number, in order, all of these settings,
+    /// and of two blank ledgers, whose names are the file's. An `AllocError` where memory is refused.
     pub fn new(
         alloc: Global,
-        ward_bits: u8,
-        keyer: K,
+        settings: FileSettings<K>,
         wards: Vec<Ward<P, K>>,
         answers: Blank,
         entries: Blank,
     ) -> Result<LiveFile<P, K, F>, AllocError>
-        requires bits { ward_bits ≤ WARD_BITS_LIMIT }
-        requires wards { (cap : ℕ) × AreNewWardsOf cap ward_bits keyer wards.items }
+        requires bits { settings.ward_bits ≤ WARD_BITS_LIMIT }
+        requires wards { AreNewWardsOf settings wards.items }
         requires answers { (answers.name ≡ F.answers) × (answers.parts ≡ ANSWER_PARTS) }
         requires entries { (entries.name ≡ F.entries) × (entries.parts ≡ ENTRY_PARTS) }
-        requires hashed { F.hashing ≡ K.pseudokey_of keyer }
-        ensures { IfOk result (λ file. file ≡ record { ward_bits = ward_bits; keyer = keyer; seats = 0 }) }
+        requires hashed { F.hashing ≡ K.pseudokey_of settings.keyer }
+        ensures { IfOk result (λ file. file ≡ without_seats settings) }
     {
         let (given, answers) = answers.open::<Answers<F>>();
         let (entered, entries) = entries.open::<Entries<F>>();
@@ -82,21 +80,14 @@ impl<P: Pages + Drop, K: Keyer, F: Identity> LiveFile<P, K, F> {
             entries,
         };
         let wards = locked(alloc, wards, &mut tally)?;
-        let Tally {
-            given,
-            answers,
-            entered,
-            entries,
-        } = tally;
         Ok(LiveFile {
             alloc,
-            ward_bits,
-            keyer,
+            settings,
             wards,
-            given: given.close(),
-            answers: Spare::new(answers),
-            entered: entered.close(),
-            entries: Spare::new(entries),
+            given: tally.given.close(),
+            answers: Spare::new(tally.answers),
+            entered: tally.entered.close(),
+            entries: Spare::new(tally.entries),
             seats: 0,
         })
     }

@@ -19,26 +19,12 @@ use std::sync::ledger::Share;
 
 /// A ward behind its lock, for one call of one caller, whose share of the answers it has meanwhile.
 /// The lock is taken once for each hop and each split.
+#[derive(Drop)]
 pub(crate) struct LockedWard<'a, P: Pages + Drop, K: Keyer, F: Identity, R: Wait> {
     pub(crate) rt: &'a R,
     pub(crate) ward: &'a WardLock<P, K, F>,
     pub(crate) answers: Share<Answers<F>>,
     ghost one_part: { answers.parts ≡ 1 },
-}
-
-impl<'a, P: Pages + Drop, K: Keyer, F: Identity, R: Wait> LockedWard<'a, P, K, F, R> {
-    /// The caller's share of the answers.
-    pub(crate) fn into_answers(self) -> Share<Answers<F>>
-        ensures part { result.parts ≡ 1 }
-        ensures amount { result.amount ≡ self.entry.answers.amount }
-    {
-        let LockedWard {
-            rt: _,
-            ward: _,
-            answers,
-        } = self;
-        answers
-    }
 }
 
 // An answer is one unit more, and nothing else is any.

@@ -102,11 +102,7 @@ impl<P: Pages + Drop, K: Keyer, F: Identity> TalliedWard<P, K, F> {
         ensures units { answers.new.amount ≡ answers.old.amount + length (answer_of (HopAt at client call.now result)) }
         ensures seat { answers.new.parts ≡ answers.old.parts }
     {
-        let TalliedWard {
-            ward,
-            stock,
-            entry: _,
-        } = self;
+        let TalliedWard { ward, stock, .. } = self;
         // By whose contracts the ward is sound, and has an answer in stock.
         ward.journal().len();
         let hop = ward.hop_hashed(at, client, call, pseudokey)?;
@@ -176,12 +172,7 @@ impl<P: Pages + Drop, K: Keyer, F: Identity> TalliedWard<P, K, F> {
         ensures err { OnErr result (notices.new.items ≡ notices.old.items) }
     {
         let above = self.ward.notices_after(place);
-        let count = if above.len() < most {
-            above.len()
-        } else {
-            most
-        };
-        notices.extend_from_slice(&above[..count])
+        notices.extend_from_slice(&above[..above.len().min(most)])
     }
 }
 

@@ -35,18 +35,12 @@ impl<F: Identity> Tally<F> {
         ensures entered { self.new.entered.total ≡ self.old.entered.total + units_of_number ward.number }
         ensures entries { self.new.entries.parts + 1 ≡ self.old.entries.parts }
     {
-        let Tally {
-            given,
-            answers,
-            entered,
-            entries,
-        } = self;
-        let mut stock = answers.split_off(1, 0);
+        let mut stock = self.answers.split_off(1, 0);
         // One more than the greatest number of entries.
-        given.add(&mut stock, u64::MAX);
-        given.add(&mut stock, 1);
-        let mut entry = entries.split_off(1, 0);
-        entered.add(&mut entry, units(ward.number()));
+        self.given.add(&mut stock, u64::MAX);
+        self.given.add(&mut stock, 1);
+        let mut entry = self.entries.split_off(1, 0);
+        self.entered.add(&mut entry, units(ward.number()));
         TalliedWard::new(ward, stock, entry)
     }
 }

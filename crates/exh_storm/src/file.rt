@@ -1,10 +1,8 @@
 //! The new file of a storm, and what it leaves.
-ghost use Rattle.std.specs.Prelude.{◌≡◌, ◌<◌, ◌≤◌, ◌^◌, map, IfOk, OnOk};
+ghost use Rattle.std.specs.Prelude.{◌≡◌, ◌<◌, ◌^◌, map, IfOk, OnOk};
 ghost use Rattle.exh_prefix.specs.Leading.{ward_of};
 ghost use Rattle.exh_settle.specs.Settled.{IsSettled, answer_count};
 ghost use Rattle.exh_keyer.specs.Pseudokey.{sha_pseudokey};
-ghost use Rattle.exh_ward.specs.NewWards.{new_wards};
-ghost use Rattle.exh_prefix.specs.declared.prefix.TheConstants.{WARD_BITS_LIMIT};
 ghost use Rattle.exh_live.specs.declared.ledgers.TheConstants.{ANSWER_PARTS, ENTRY_PARTS};
 ghost use Rattle.exh_storm_config.specs.StormConfig.{IsStormConfig};
 
@@ -46,7 +44,7 @@ pub fn new_file<P: Pages + Drop, M: StoreMaker<P, ShaKeyer>, F: Identity>(
     requires answers { (answers.name ≡ F.answers) × (answers.parts ≡ ANSWER_PARTS) }
     requires entries { (entries.name ≡ F.entries) × (entries.parts ≡ ENTRY_PARTS) }
     requires hashed { F.hashing ≡ sha_pseudokey }
-    ensures bits { IfOk result (λ file. file.ward_bits ≡ config.now.ward_bits) }
+    ensures settings { IfOk result (λ file. (file.cap ≡ config.now.cap) × (file.ward_bits ≡ config.now.ward_bits)) }
     ensures seats { IfOk result (λ file. file.seats ≡ 0) }
 {
     let settings = FileSettings {
@@ -55,31 +53,7 @@ pub fn new_file<P: Pages + Drop, M: StoreMaker<P, ShaKeyer>, F: Identity>(
         keyer: ShaKeyer,
     };
     let wards = new_wards(alloc, maker, settings)?;
-    file_of(alloc, settings, wards, answers, entries)
-}
-
-// The file of the new wards of these settings: of their cap nothing is seen once they are behind locks.
-fn file_of<P: Pages + Drop, F: Identity>(
-    alloc: Global,
-    settings: FileSettings<ShaKeyer>,
-    wards: Vec<StormWard<P>>,
-    answers: Blank,
-    entries: Blank,
-) -> Result<StormFile<P, F>, AllocError>
-    requires limit { settings.ward_bits ≤ WARD_BITS_LIMIT }
-    requires wards { wards.items ≡ new_wards settings }
-    requires answers { (answers.name ≡ F.answers) × (answers.parts ≡ ANSWER_PARTS) }
-    requires entries { (entries.name ≡ F.entries) × (entries.parts ≡ ENTRY_PARTS) }
-    requires hashed { F.hashing ≡ sha_pseudokey }
-    ensures bits { IfOk result (λ file. file.ward_bits ≡ settings.ward_bits) }
-    ensures seats { IfOk result (λ file. file.seats ≡ 0) }
-{
-    let FileSettings {
-        ward_bits,
-        keyer,
-        ..
-    } = settings;
-    LiveFile::new(alloc, ward_bits, keyer, wards, answers, entries)
+    LiveFile::new(alloc, settings, wards, answers, entries)
 }
 
 /// How many answers the diaries of a closed file and its wards, in order, settle to; else `Mismatch`.

@@ -2,4 +2,4 @@ use Rattle.exh_live.specs.NewWardLemmas.{answered_nothing}
 use Rattle.exh_callers.proofs.files.new_file.Goals as goal
 
 pub new-requires-clause-wards : goal.new-requires-clause-wards
-new-requires-clause-wards g c = (_, answered_nothing _ _ c.in_ok-wards.ensures.wards)
+new-requires-clause-wards g c = answered_nothing _ _ c.in_ok-wards.ensures.wards

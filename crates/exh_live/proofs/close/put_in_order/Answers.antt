@@ -1,7 +1,7 @@
-use Rattle.std.proofs.Common.{◌≡◌, ◌∙◌, length, ap, arith, rules}
+use Rattle.std.proofs.Common.{◌∙◌, length, arith, rules}
 use Rattle.std.proofs.lemmas.List.Sorted.{IsNonDecreasingBy-from_sort_by_key, sum_by-IsPermutation}
 use Rattle.exh_ward.specs.WardState.{WardState}
-use Rattle.exh_live.specs.Stock.{units_of_first, units_of_number}
+use Rattle.exh_live.specs.Stock.{units_of_number}
 use Rattle.exh_live.proofs.Order.{all_in_order}
 use Rattle.exh_live.proofs.close.put_in_order.Goals as goal
 

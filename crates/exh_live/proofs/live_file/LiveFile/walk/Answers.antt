@@ -12,7 +12,7 @@ returns-clause-units g c =
     let amount : Locked → ℕ = λ ward. ward.answers.amount in
     let step : Locked → WardEvent → Locked → Type 0 = λ old event new. (new.answers.amount ≡ old.answers.amount + length (answer_of event)) × IsSomeWardsStep g.K.Keyer.pseudokey_of event in
     let all = walk_adds step amount (λ old new event is. is.0) (g.G.Gate.may c.args.gate.now c.args.client) _ c.walk_steps-result.new.steps c.args.at c.args.client c.args.call.now c.args.pseudokey _ c.walk_steps-result.ensures.walk in
-    omega (arith, all, c.into_answers.ensures.amount)
+    omega (arith, all)
 
 pub returns-clause-walk : goal.returns-clause-walk
 returns-clause-walk g c =
@@ -23,5 +23,5 @@ returns-clause-walk g c =
 
 pub index-requires : goal.index-requires
 index-requires g c =
-    let below = leading-lt c.self.inside.ward_bits c.args.pseudokey (omega (arith, c.self.invariant.0)) in
+    let below = leading-lt c.self.inside.settings.ward_bits c.args.pseudokey (omega (arith, c.self.invariant.0)) in
     omega (arith, below, c.self.invariant.1, c.ward_number-number.ensures, c.from.ensures)
