@@ -16,6 +16,7 @@ returns c =
     let getting = c.in_ok-getting.ensures.shape c.in_ok-get.ensures.own ∙ ap₂ with_subcommand storming (ap (λ (a : App). a.top) c.in_ok-get.ensures.is) in
     let putting = c.in_ok-putting.ensures.shape c.in_ok-put.ensures.own ∙ ap₂ with_subcommand getting (ap (λ (a : App). a.top) c.in_ok-put.ensures.is) in
     let deleting = c.in_ok-deleting.ensures.shape c.in_ok-del.ensures.own ∙ ap₂ with_subcommand putting (ap (λ (a : App). a.top) c.in_ok-del.ensures.is) in
-    IfOk-weaker c.subcommand-9.result _ _ (λ command added.
-    let same : app_of command ≡ program = added.shape c.in_ok-swap.ensures.own ∙ ap₂ with_subcommand deleting (ap (λ (a : App). a.top) c.in_ok-swap.ensures.is) in
-    subst ReadsJobs (sym same) program_reads) c.subcommand-9.ensures
+    let swapping = c.in_ok-swapping.ensures.shape c.in_ok-swap.ensures.own ∙ ap₂ with_subcommand deleting (ap (λ (a : App). a.top) c.in_ok-swap.ensures.is) in
+    IfOk-weaker c.subcommand-10.result _ _ (λ command added.
+    let same : app_of command ≡ program = added.shape c.in_ok-pairs.ensures.own ∙ ap₂ with_subcommand swapping (ap (λ (a : App). a.top) c.in_ok-pairs.ensures.is) in
+    subst ReadsJobs (sym same) program_reads) c.subcommand-10.ensures
