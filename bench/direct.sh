@@ -1,5 +1,6 @@
 #!/usr/bin/env bash
-# Times a get of one key out of a page file, beside gdbmtool's fetch of the same key, and counts what it reads.
+# Times a get of one key out of a page file, beside gdbmtool's fetch of the same key, and counts what it reads; and the
+# pairs of the greatest file, beside the digests of its blocks.
 #
 #   bench/direct.sh [RUNS]     the best of RUNS runs counts, 5 if left out
 #
@@ -9,7 +10,7 @@
 # blocks that the get of each of ten keys reads: the header, the table's blocks and one page.
 #
 # Wanted: at most 2 times gdbmtool's time, at 60,000 pages, whose table has digests of its own, 4 times; and no block more
-# than the header, the table and one page.
+# than the header, the table and one page. `pairs` at 60,000 pages, to nowhere: at most 1.3 times the digests' time.
 #
 # Status: 0 where all that is met, 1 where something isn't, 2 where nothing could be measured.
 set -u
@@ -19,6 +20,9 @@ RUNS=${1:-5}
 # Pages, how many records it takes for as many, and how many times gdbmtool's time is wanted.
 SIZES=('1000 10929 2' '10000 112666 2' '60000 684805 4')
 KEYS=100
+# How many pages the file has of which the pairs are timed, and how many times the digests' time is wanted.
+PAIRS_OF=60000
+PAIRS_WANTED=1.3
 
 die() {
     echo "bench/direct.sh: $*" >&2
@@ -69,6 +73,25 @@ cat > "$folder/fetches" <<'END'
 while read -r key; do gdbmtool --norc --quiet --read-only "$1" fetch "$key"; done < "$2"
 END
 
+# Times the pairs of the file, and the digests of its blocks alone.
+time_pairs() {
+    local run line own='' digests=''
+    for ((run = 0; run < RUNS; run++)); do
+        line=$("$folder/clock" /dev/null /dev/null "$program" pairs "$folder/file.exh") || die 'pairs are not told'
+        [ -z "$own" ] || [ "${line%% *}" -lt "$own" ] && own=${line%% *}
+        line=$("$timed" open "$folder/file.exh") || die 'the digests could not be timed'
+        [ -z "$digests" ] || [ "${line%% *}" -lt "$digests" ] && digests=${line%% *}
+    done
+    awk -v pages="$1" -v own="$own" -v digests="$digests" -v wanted="$PAIRS_WANTED" 'BEGIN {
+        printf "%6d pages: pairs %.0f ms, the digests %.0f ms, %.2f times\n", pages, own / 1e3, digests / 1e6,
+            own * 1e3 / digests
+        if (own * 1e3 > digests * wanted) {
+            printf "FALLS SHORT: pairs at %d pages: %.2f, at most %.1f is wanted\n", pages, own * 1e3 / digests, wanted
+            exit 1
+        }
+    }' || short=1
+}
+
 for size in "${SIZES[@]}"; do
     # shellcheck disable=SC2086 # Three words.
     set -- $size
@@ -105,5 +128,6 @@ for size in "${SIZES[@]}"; do
             exit 1
         }
     }' || short=1
+    [ "$1" != "$PAIRS_OF" ] || time_pairs "$1"
 done
 exit "$short"

@@ -4,17 +4,27 @@ _exhash() {
     local word=${COMP_WORDS[COMP_CWORD]} last=${COMP_WORDS[COMP_CWORD - 1]} options=--help
     COMPREPLY=()
     if ((COMP_CWORD == 1)); then
-        mapfile -t COMPREPLY < <(compgen -W 'serve check dump load get put del swap storm help --help --version' -- "$word")
+        mapfile -t COMPREPLY < <(compgen -W 'serve check dump load get put del swap pairs storm help --help --version' -- "$word")
         return
     fi
     case ${COMP_WORDS[1]} in
         serve) options='--open --save --help' ;;
         storm) options='--callers --calls --cap --wards --copies --help' ;;
         check | dump | load) ;;
+        pairs)
+            options='--cap --wards --keyer --help'
+            case $last in
+                --cap | --wards) return ;;
+                --keyer)
+                    mapfile -t COMPREPLY < <(compgen -W 'sha plain' -- "$word")
+                    return
+                    ;;
+            esac
+            ;;
         # Keys and values are no paths.
         get | put | del | swap) ((COMP_CWORD == 2)) || return ;;
         help)
-            mapfile -t COMPREPLY < <(compgen -W 'serve check dump load get put del swap storm' -- "$word")
+            mapfile -t COMPREPLY < <(compgen -W 'serve check dump load get put del swap pairs storm' -- "$word")
             return
             ;;
         *) return ;;

@@ -1,15 +1,19 @@
 -- A command whose arguments are options with a value: which words it takes, and what it then holds.
-use Rattle.std.proofs.Common.{◌≡◌, ◌∙◌, ℕ, Bool, true, false, List, [], ◌∷◌, ◌++◌, Option, Some, None, refl, sym, ap, subst, codes, cond, is_some, inl, inr}
-use Rattle.std.specs.Prelude.{not, ◌&&◌, ◌||◌, fold, map, option_map}
+use Rattle.std.proofs.Common.{◌≡◌, ◌∙◌, ℕ, Bool, true, false, List, [], ◌∷◌, ◌++◌, Option, Some, None, refl, sym, ap, subst, codes, cond, is_some, inl, inr, ap₂}
+use Rattle.std.specs.Prelude.{not, ◌&&◌, ◌||◌, find, fold, map, option_map}
+use Rattle.std.specs.List.{list_any}
+use Rattle.std.specs.Option.{option_map_or}
 use Rattle.std.specs.Str.{bytes_eq}
 use Rattle.clap.specs.Words.{Kinds, Row, Rule, Text}
 use Rattle.clap.specs.Walk.{arg_by_id, arg_by_index, arg_by_long, arg_by_short, has_long, has_row, has_short, nothing_held, rows_after, walk_from, with_default}
-use Rattle.clap.specs.Kinds.{or_else}
+use Rattle.clap.specs.Facts.{explicit_source}
+use Rattle.clap.specs.Kinds.{check_kinds, or_else}
+use Rattle.clap.specs.Takes.{is_given}
 use Rattle.clap.specs.Faults.{check_fault, defaults_fault, level_fault}
-use Rattle.exh_command.specs.Words.{Use, is_named, uses_named}
+use Rattle.exh_command.specs.Words.{Between, Ended, Reading, Use, Wanting, Wrong, after_word, gives_path, is_named, is_use_of, path_name, uses_read, uses_taken, wants_path}
 use Rattle.exh_command.specs.Job.{Asked}
 use Rattle.exh_command.specs.Parser.{HasValues}
-use Rattle.exh_command.proofs.OptionLemmas.{IsOptionLeaf, Reads, leaf_of, option_built, options_read, rows_of_uses}
+use Rattle.exh_command.proofs.OptionLemmas.{FailsWhere, IsOptionLeaf, Reads, leaf_of, option_built, options_read, or-false, path_built, row_of_use, rows_of_uses}
 use Rattle.exh_command.proofs.WordLemmas.{Agrees, IsAsking, help, is_name, some_is}
 
 -- ---- what is said of a flag by one test
@@ -17,10 +21,6 @@ use Rattle.exh_command.proofs.WordLemmas.{Agrees, IsAsking, help, is_name, some_
 pub help_asking : (is_help : Bool) → IsAsking (cond is_help (Some help) None)
 help_asking true = inr (inl refl)
 help_asking false = inl refl
-
-or-false : (b : Bool) → (b || false) ≡ b
-or-false true = refl
-or-false false = refl
 
 or-true : (b : Bool) → (b || true) ≡ true
 or-true true = refl
@@ -62,9 +62,9 @@ flag_asks_short : (names : List Text) (c : ℕ) → IsAsking (arg_by_short (opti
 flag_asks_short [] c = help_asking (not (is_some help.index) && has_short help c)
 flag_asks_short (first ∷ names) c = flag_asks_short names c
 
-none_placed : (names : List Text) → arg_by_index (option_flags names) 1 ≡ None
-none_placed [] = refl
-none_placed (first ∷ names) = none_placed names
+none_placed : (names : List Text) (position : ℕ) → arg_by_index (option_flags names) position ≡ None
+none_placed [] position = refl
+none_placed (first ∷ names) position = none_placed names position
 
 keeps_rows : (names : List Text) (rows : List Row) → fold with_default rows (option_flags names) ≡ rows
 keeps_rows [] rows = default_kept (has_row (codes "help") rows) rows
@@ -76,41 +76,126 @@ no_defaults [] rows = rw (or-true (has_row (codes "help") rows)) refl
 no_defaults (first ∷ names) rows = rw (or-true (has_row first rows), default_kept (has_row first rows) rows) (no_defaults names rows)
 
 -- a command with them, which asks for nothing else
-pub option_leaf : (command : Text) (names : List Text) → ((rows : List Row) → or_else (defaults_fault rows (option_flags names)) (check_fault (leaf_of command (option_flags names)) (fold with_default rows (option_flags names)) false) ≡ []) → IsOptionLeaf command (option_flags names) names
-option_leaf command names ends = record {
+pub option_leaf : (command : Text) (names : List Text) → is_named names path_name ≡ false
+    → ((rows : List Row) → or_else (defaults_fault rows (option_flags names)) (check_fault (leaf_of command (option_flags names)) (fold with_default rows (option_flags names)) false) ≡ []) → IsOptionLeaf false command (option_flags names) names
+option_leaf command names no_path ends = record {
   by_long_name = flag_by_long names;
   by_id = flag_by_id names;
   asks = flag_asks names;
   asks_short = flag_asks_short names;
-  none_placed = none_placed names;
-  ends = ends;
+  path_by_id = λ never. cc;
+  placed = λ used. none_placed names (cond used 2 1);
+  no_option = no_path;
+  ends = λ uses. ends (rows_of_uses uses);
   keeps = keeps_rows names;
 }
 
+-- ---- a path before them
+
+abbrev pub path_flags_of : List Text → List Rule
+path_flags_of names = path_built ∷ option_flags names
+
+-- an option isn't the path
+option_by_id : (names : List Text) → is_named names path_name ≡ false → (name : Text) → is_named names name ≡ true → arg_by_id (path_flags_of names) name ≡ Some (option_built name)
+option_by_id names no_path name named = go (bytes_eq path_name name) refl
+  where
+    go : (same : Bool) → bytes_eq path_name name ≡ same → cond same (Some path_built) (arg_by_id (option_flags names) name) ≡ Some (option_built name)
+    go true e = absurd (let never : true ≡ false = sym named ∙ ap (is_named names) (sym (is_name path_name name e)) ∙ no_path in cc)
+    go false e = flag_by_id names name named
+
+path_place : (names : List Text) (used : Bool) → arg_by_index (path_flags_of names) (cond used 2 1) ≡ cond (not used) (Some path_built) None
+path_place names true = none_placed names 2
+path_place names false = refl
+
+path_defaults : (names : List Text) (rows : List Row) → defaults_fault rows (path_flags_of names) ≡ []
+unfolding defaults_fault
+path_defaults names rows = rw (or-true (has_row path_name rows), default_kept (has_row path_name rows) rows) (no_defaults names rows)
+
+path_keeps : (names : List Text) (rows : List Row) → fold with_default rows (path_flags_of names) ≡ rows
+path_keeps names rows = ap (λ rows. fold with_default rows (option_flags names)) (default_kept (has_row path_name rows) rows) ∙ keeps_rows names rows
+
+-- it alone is required
+given_path : (uses : List Use) → is_given path_name (rows_of_uses uses) ≡ gives_path uses
+given_path [] = refl
+given_path (one ∷ uses) = go (is_use_of path_name one) (given_path uses)
+  where
+    go : (b : Bool) → is_given path_name (rows_of_uses uses) ≡ gives_path uses
+        → option_map_or (λ (r : Row). explicit_source r.source) (cond b (Some (row_of_use one)) (find (λ (r : Row). bytes_eq r.id path_name) (rows_of_uses uses))) false ≡ (b || gives_path uses)
+    go true others = refl
+    go false others = others
+
+abbrev lacks : List Row → Rule → Bool
+lacks rows a = a.required && not (is_given a.id rows)
+
+none_required : (names : List Text) (rows : List Row) → list_any (lacks rows) (option_flags names) ≡ false
+none_required [] rows = refl
+none_required (first ∷ names) rows = none_required names rows
+
+fails_where : (wants : Bool) → FailsWhere wants (check_kinds false false wants)
+fails_where true = tt
+fails_where false = refl
+
+path_ends : (command : Text) (names : List Text) (uses : List Use)
+    → FailsWhere (not (gives_path uses)) (or_else (defaults_fault (rows_of_uses uses) (path_flags_of names)) (check_fault (leaf_of command (path_flags_of names)) (fold with_default (rows_of_uses uses) (path_flags_of names)) false))
+path_ends command names uses =
+    let rows = rows_of_uses uses in
+    let leaf = leaf_of command (path_flags_of names) in
+    let is : list_any (lacks rows) (path_flags_of names) ≡ not (gives_path uses) = ap₂ (λ a b. not a || b) (given_path uses) (none_required names rows) ∙ or-false (not (gives_path uses)) in
+    subst (λ kinds. FailsWhere (not (gives_path uses)) (or_else kinds (check_fault leaf (fold with_default rows (path_flags_of names)) false))) (sym (path_defaults names rows))
+    (subst (λ rows. FailsWhere (not (gives_path uses)) (check_fault leaf rows false)) (sym (path_keeps names rows))
+    (subst (λ wants. FailsWhere (not (gives_path uses)) (check_kinds false false wants)) (sym is) (fails_where (not (gives_path uses)))))
+
+pub path_leaf_of : (command : Text) (names : List Text) → is_named names path_name ≡ false → IsOptionLeaf true command (path_flags_of names) names
+path_leaf_of command names no_path = record {
+  by_long_name = flag_by_long names;
+  by_id = option_by_id names no_path;
+  asks = flag_asks names;
+  asks_short = flag_asks_short names;
+  path_by_id = λ takes. refl;
+  placed = path_place names;
+  no_option = no_path;
+  ends = path_ends command names;
+  keeps = path_keeps names;
+}
+
+-- ---- uses that are read have the path, where one is taken
+
+whole_wants : (takes : Bool) (uses found : List Use) (wants : Bool) → wants_path takes uses ≡ wants → cond wants None (Some uses) ≡ Some found → wants_path takes found ≡ false
+whole_wants takes uses found true e same = cc
+whole_wants takes uses found false e same = subst (λ uses. wants_path takes uses ≡ false) (some_is same) e
+
+read_wants : (takes : Bool) (reading : Reading) (found : List Use) → uses_read takes reading ≡ Some found → wants_path takes found ≡ false
+read_wants takes (Between uses) found same = whole_wants takes uses found (wants_path takes uses) refl same
+read_wants takes (Wanting name uses) found same = cc
+read_wants takes (Ended uses) found same = whole_wants takes uses found (wants_path takes uses) refl same
+read_wants takes Wrong found same = cc
+
 -- ---- the words behind such a command
 
-module _ (command : Text) (names : List Text) (is : IsOptionLeaf command (option_flags names) names) (by : List Use → Asked) where
+module _ (takes : Bool) (command : Text) (rules : List Rule) (names : List Text) (is : IsOptionLeaf takes command rules names) (by : List Use → Asked) where
   abbrev pub flag_kinds : List Text → Kinds
-  flag_kinds words = level_fault (leaf_of command (option_flags names)) [] nothing_held words false []
+  flag_kinds words = level_fault (leaf_of command rules) [] nothing_held words false []
 
   abbrev ReadsWords : List Text → Option (List Use) → Type 0
-  ReadsWords words read = Reads command (option_flags names) names is (walk_from nothing_held) words read
+  ReadsWords words read = Reads takes command rules names is (walk_from nothing_held) words read
 
-  reads : (words : List Text) → ReadsWords words (uses_named names words)
-  reads words = options_read command (option_flags names) names is words
+  reads : (words : List Text) → ReadsWords words (uses_taken takes names words)
+  reads words = options_read takes command rules names is words
 
-  pub flags_agree : (words : List Text) → Agrees (option_map by (uses_named names words)) (flag_kinds words)
-  flags_agree words = go (uses_named names words) (reads words)
+  pub flags_agree : (words : List Text) → Agrees (option_map by (uses_taken takes names words)) (flag_kinds words)
+  flags_agree words = go (uses_taken takes names words) (reads words)
     where
       go : (read : Option (List Use)) → ReadsWords words read → Agrees (option_map by read) (flag_kinds words)
       go None fails = fails
       go (Some uses) reads = reads.0
 
   -- it meets their values
-  pub flags_met : ((uses : List Use) → HasValues (by uses) (rows_of_uses uses)) → (words : List Text) (asked : Asked) → option_map by (uses_named names words) ≡ Some asked
-      → HasValues asked (rows_after (option_flags names) [] words)
-  flags_met has words asked named = go (uses_named names words) (reads words) named
+  pub flags_met : ((uses : List Use) → wants_path takes uses ≡ false → HasValues (by uses) (rows_of_uses uses)) → (words : List Text) (asked : Asked) → option_map by (uses_taken takes names words) ≡ Some asked
+      → HasValues asked (rows_after rules [] words)
+  flags_met has words asked named = go (uses_taken takes names words) refl (reads words) named
     where
-      go : (read : Option (List Use)) → ReadsWords words read → option_map by read ≡ Some asked → HasValues asked (rows_after (option_flags names) [] words)
-      go None fails named = cc
-      go (Some uses) reads named = subst (λ asked. HasValues asked (rows_after (option_flags names) [] words)) (some_is named) (subst (HasValues (by uses)) (sym reads.1) (has uses))
+      go : (read : Option (List Use)) → uses_taken takes names words ≡ read → ReadsWords words read → option_map by read ≡ Some asked → HasValues asked (rows_after rules [] words)
+      go None is fails named = cc
+      go (Some uses) is reads named =
+          let whole = read_wants takes (fold (after_word takes names) (Between []) words) uses is in
+          subst (λ asked. HasValues asked (rows_after rules [] words)) (some_is named) (subst (HasValues (by uses)) (sym reads.1) (has uses whole))

@@ -1,28 +1,30 @@
--- Which words a command takes that has options with a value, and what it then holds.
+-- Which words a command takes that has options with a value, and perhaps a path, and what it then holds.
 use Rattle.std.proofs.Common.{◌≡◌, ◌∙◌, ℕ, Bool, true, false, List, [], ◌∷◌, ◌++◌, Option, Some, None, refl, sym, ap, ap₂, subst, codes, cond, inl, inr, append-nil}
-use Rattle.std.specs.Prelude.{◌⊎◌, ◌||◌, find, fold, map, option_and_then, option_map, slice_get, IsSome}
+use Rattle.std.specs.Prelude.{◌⊎◌, ◌||◌, ◌&&◌, not, find, fold, map, option_and_then, option_map, slice_get, IsSome}
 use Rattle.std.specs.List.{list_any}
+use Rattle.std.specs.Option.{option_map_or}
+use Rattle.std.proofs.lemmas.Bool.{and_parts}
 use Rattle.std.specs.Str.{bytes_eq}
 use Rattle.std.proofs.lemmas.Slice.Eq.{bytes_eq-Decides}
 use Rattle.clap.specs.Words.{Kinds, Row, Rule, Shape, Text, first_of}
 use Rattle.clap.specs.Kinds.{or_else}
 use Rattle.clap.specs.Lexer.{long_of}
 use Rattle.clap.specs.Simple.{filled, new_shape, with_index}
-use Rattle.clap.specs.Walk.{Held, Waiting, Walk, after_step, long_or_other, arg_by_id, arg_by_index, arg_by_long, arg_by_short, at_row, finished, has_row, idle, more_values, nothing_held, option, reading_by, settled, used, walk_from, walked, with_default, without}
-use Rattle.clap.specs.Faults.{check_fault, defaults_fault, settle_fault, step_fault, turn_fault, use_fault, walk_fault}
+use Rattle.clap.specs.Walk.{Held, Waiting, Walk, after_step, long_or_other, arg_by_id, arg_by_index, arg_by_long, arg_by_short, at_row, finished, has_row, idle, is_pending, more_values, next_position, nothing_held, option, positional_held, pushed, reading_by, settled, to_positional, used, value, walk_from, walked, with_default, without}
+use Rattle.clap.specs.Faults.{check_fault, defaults_fault, positional_fault, settle_fault, step_fault, stray_fault, turn_fault, use_fault, walk_fault}
 use Rattle.clap.specs.declared.parser.matches.ValueSource.TheVariants.{CommandLine}
 use Rattle.clap.proofs.WalkLemmas.{find-map, list_any-map}
-use Rattle.exh_command.specs.Parser.{option_rule}
+use Rattle.exh_command.specs.Parser.{option_rule, path_rule}
 use Rattle.clap.proofs.OnLiterals.{clap_on_literals}
-use Rattle.exh_command.specs.Words.{uses_named, Between, Ended, Reading, Use, Wanting, Wrong, after_option, after_word, ends_options, is_named, is_option, is_use_of, used_by, uses_read, option_given, with_use}
-use Rattle.exh_command.proofs.WordLemmas.{Fails, IsAsking, IsFlagged, IsValue, or_nothing, by_bundle_fails, by_long, by_long_fails, first_fails, flagged, is_end, is_plain_word, is_value, long_fails, second_fails}
+use Rattle.exh_command.specs.Words.{uses_taken, Between, Ended, Reading, Use, Wanting, Wrong, after_option, after_path, after_word, ends_options, gives_path, is_named, is_option, is_use_of, path_name, used_by, uses_read, option_given, wants_path, whole, with_use}
+use Rattle.exh_command.proofs.WordLemmas.{Fails, IsAsking, IsFlagged, IsValue, or_nothing, by_bundle_fails, by_long, by_long_fails, first_fails, flagged, is_end, is_name, is_plain_word, is_value, long_fails, second_fails}
 
 -- ---- an option, as it is when its command is built, and what is held of its use
 
 abbrev pub option_built : Text → Rule
 option_built name = with_index 1 (filled (option_rule name))
 
-abbrev row_of_use : Use → Row
+abbrev pub row_of_use : Use → Row
 row_of_use one = record { id = one.name; values = one.value ∷ []; count = None; source = Some CommandLine; reading = reading_by (option_built one.name) }
 
 abbrev pub rows_of_uses : List Use → List Row
@@ -75,23 +77,65 @@ module _ (name value' : Text) (uses : List Use) where
 bare_fails : (name : Text) (rows : List Row) → Fails (use_fault false (option_built name) [] rows)
 bare_fails name rows = tt
 
+-- ---- the path among uses
+
+-- as it is when its command is built; of it the same is held as of an option
+abbrev pub path_built : Rule
+path_built = with_index 1 (filled path_rule)
+
+pub or-false : (b : Bool) → (b || false) ≡ b
+or-false true = refl
+or-false false = refl
+
+and-false : (b : Bool) → (b && false) ≡ false
+and-false true = refl
+and-false false = refl
+
+not-true : (b : Bool) → not b ≡ true → b ≡ false
+not-true true e = cc
+not-true false e = refl
+
+one_first : (first all others last : Bool) → all ≡ (others || last) → (first || all) ≡ ((first || others) || last)
+one_first true all others last same = refl
+one_first false all others last same = same
+
+has_more : (uses : List Use) (one : Use) → gives_path (uses ++ one ∷ []) ≡ (gives_path uses || is_use_of path_name one)
+has_more [] one = or-false (is_use_of path_name one)
+has_more (first ∷ uses) one = one_first (is_use_of path_name first) _ (gives_path uses) (is_use_of path_name one) (has_more uses one)
+
+some_none : (long : Option (Text × Option Text)) → long ≡ None → IsSome long → ⊥
+some_none None none some = cc
+some_none (Some p) none some = cc
+
+-- the place of the next word that is no option
+abbrev place_of : List Use → ℕ
+place_of uses = cond (gives_path uses) 2 1
+
 -- ---- a command with options
 
 -- as it is when it is built
 abbrev pub leaf_of : Text → List Rule → Shape
 leaf_of command rules = record (new_shape command) { rules = rules; disable_help_subcommand = true; is_built = true }
 
--- its arguments are the options of these names, and flags that ask for help
-pub record IsOptionLeaf (command : Text) (rules : List Rule) (names : List Text) : Type 0 where
+-- errors, by whether there are some
+abbrev pub FailsWhere : Bool → Kinds → Type 0
+FailsWhere true kinds = Fails kinds
+FailsWhere false kinds = kinds ≡ []
+
+-- its arguments are the options of these names, and flags that ask for help, and a path where it takes one
+pub record IsOptionLeaf (takes : Bool) (command : Text) (rules : List Rule) (names : List Text) : Type 0 where
   pub by_long_name : (name : Text) → is_named names name ≡ true → arg_by_long rules name ≡ Some (option_built name)
   pub by_id : (name : Text) → is_named names name ≡ true → arg_by_id rules name ≡ Some (option_built name)
   pub asks : (name : Text) → is_named names name ≡ false → IsAsking (arg_by_long rules name)
   pub asks_short : (c : ℕ) → IsAsking (arg_by_short rules c)
-  pub none_placed : arg_by_index rules 1 ≡ None
-  pub ends : (rows : List Row) → or_else (defaults_fault rows rules) (check_fault (leaf_of command rules) (fold with_default rows rules) false) ≡ []
+  pub path_by_id : takes ≡ true → arg_by_id rules path_name ≡ Some path_built
+  -- the first place is the path's, and there is no second
+  pub placed : (used : Bool) → arg_by_index rules (cond used 2 1) ≡ cond (takes && not used) (Some path_built) None
+  pub no_option : is_named names path_name ≡ false
+  pub ends : (uses : List Use) → FailsWhere (wants_path takes uses) (or_else (defaults_fault (rows_of_uses uses) rules) (check_fault (leaf_of command rules) (fold with_default (rows_of_uses uses) rules) false))
   pub keeps : (rows : List Row) → fold with_default rows rules ≡ rows
 
-module _ (command : Text) (rules : List Rule) (names : List Text) (is : IsOptionLeaf command rules names) where
+module _ (takes : Bool) (command : Text) (rules : List Rule) (names : List Text) (is : IsOptionLeaf takes command rules names) where
   abbrev own : Shape
   own = leaf_of command rules
 
@@ -111,34 +155,39 @@ module _ (command : Text) (rules : List Rule) (names : List Text) (is : IsOption
     settles : settle_fault rules false held ≡ []
     rows_are : (settled rules held).rows ≡ rows_of_uses uses
 
+  abbrev standing : ℕ → Held → Walk
+  standing position held = record (walk_from held) { position = position }
+
   pub record StandsBetween (w : Walk) (uses : List Use) : Type 0 where
     rows : List Row
     pending : Option (Text × List Text)
-    walk_is : w ≡ walk_from (holds rows pending)
+    walk_is : w ≡ standing (place_of uses) (holds rows pending)
     stands : Stands (holds rows pending) uses
 
-  abbrev wanting : Text → List Row → Walk
-  wanting name rows = record (walk_from (holds rows (Some (name, [])))) { waiting = option name }
+  abbrev wanting : Text → ℕ → List Row → Walk
+  wanting name position rows = record (walk_from (holds rows (Some (name, [])))) { waiting = option name; position = position }
 
-  abbrev trailing' : Waiting → Held → Walk
-  trailing' waiting held = record (walk_from held) { waiting = waiting; is_trailing = true }
+  abbrev trailing' : Waiting → ℕ → Held → Walk
+  trailing' waiting position held = record (walk_from held) { waiting = waiting; position = position; is_trailing = true }
 
   pub record StandsBehind (w : Walk) (uses : List Use) : Type 0 where
     waiting : Waiting
     held : Held
-    walk_is : w ≡ trailing' waiting held
+    walk_is : w ≡ trailing' waiting (place_of uses) held
     stands : Stands held uses
 
-  -- what it holds doesn't pass
+  -- what it holds doesn't pass, and so no further word that is no option
   pub record IsLost (w : Walk) : Type 0 where
     rows : List Row
     pending : Option (Text × List Text)
-    place : (w ≡ walk_from (holds rows pending)) ⊎ ((waiting : Waiting) × (w ≡ trailing' waiting (holds rows pending)))
+    position : ℕ
+    place : (w ≡ standing position (holds rows pending)) ⊎ ((waiting : Waiting) × (w ≡ trailing' waiting position (holds rows pending)))
     lost : Fails (settle_fault rules false (holds rows pending))
+    strays : Fails (step_fault own position (holds rows pending) value)
 
   abbrev Follows : Walk → Reading → Type 0
   Follows w (Between uses) = StandsBetween w uses
-  Follows w (Wanting name uses) = (w ≡ wanting name (rows_of_uses uses)) × (is_named names name ≡ true)
+  Follows w (Wanting name uses) = (w ≡ wanting name (place_of uses) (rows_of_uses uses)) × (is_named names name ≡ true)
   Follows w (Ended uses) = StandsBehind w uses
   Follows w Wrong = IsLost w
 
@@ -146,20 +195,94 @@ module _ (command : Text) (rules : List Rule) (names : List Text) (is : IsOption
   abbrev Steps : Walk → Reading → Text → Type 0
   Steps w after word = ((turn w word ≡ []) × Follows (next_walk w word) after) ⊎ ((after ≡ Wrong) × Fails (turn w word))
 
+  abbrev after : Reading → Text → Reading
+  after = after_word takes names
+
+  -- ---- a word at the place of the path
+
+  abbrev step_by : Held → Option Rule → Kinds
+  step_by held found = option_map_or (λ a. positional_fault rules false a held) found (stray_fault own)
+
+  path_fault : (held : Held) → positional_fault rules false path_built held ≡ settle_fault rules false held
+  path_fault held = ap (λ b. cond b [] (settle_fault rules false held)) (and-false (is_pending path_built held.pending))
+
+  -- where what is held doesn't pass, it fails
+  strays_at : (held : Held) → Fails (settle_fault rules false held) → (used : Bool) → Fails (step_fault own (cond used 2 1) held value)
+  strays_at held lost used = subst (λ found. Fails (step_by held found)) (sym (is.placed used)) (go (takes && not used))
+    where
+      go : (wants : Bool) → Fails (step_by held (cond wants (Some path_built) None))
+      go true = subst Fails (sym (path_fault held)) lost
+      go false = tt
+
+  module _ (uses : List Use) where
+    -- it is one too many
+    too_many : (held : Held) → wants_path takes uses ≡ false → Fails (step_fault own (place_of uses) held value)
+    too_many held none = subst (λ found. Fails (step_by held found)) (sym (is.placed (gives_path uses) ∙ ap (λ wants. cond wants (Some path_built) None) none)) tt
+
+    module _ (wants : wants_path takes uses ≡ true) where
+      is_placed : arg_by_index rules (place_of uses) ≡ Some path_built
+      is_placed = is.placed (gives_path uses) ∙ ap (λ wants. cond wants (Some path_built) None) wants
+
+      takes_it : takes ≡ true
+      takes_it = (and_parts takes (not (gives_path uses)) wants).0
+
+      unused : gives_path uses ≡ false
+      unused = not-true (gives_path uses) (and_parts takes (not (gives_path uses)) wants).1
+
+      module _ (held : Held) (word : Text) (stands : Stands held uses) where
+        abbrev path_uses : List Use
+        path_uses = more path_name word uses
+
+        abbrev path_held : Held
+        path_held = record held { rows = rows_of_uses uses; pending = Some (path_name, word ∷ []) }
+
+        path_passes : step_fault own (place_of uses) held value ≡ []
+        path_passes = ap (step_by held) is_placed ∙ path_fault held ∙ stands.settles
+
+        held_is : positional_held rules path_built word held ≡ path_held
+        held_is =
+            ap (λ b. pushed path_name word (cond b held (settled rules held))) (and-false (is_pending path_built held.pending))
+            ∙ ap (λ rows. record held { rows = rows; pending = Some (path_name, word ∷ []) }) stands.rows_are
+
+        -- it is the path's
+        path_walk : (waiting : Waiting) (trails : Bool) → to_positional rules (arg_by_index rules (place_of uses)) word (record (walk_from held) { waiting = waiting; position = place_of uses; is_trailing = trails }) held
+            ≡ record { held = path_held; waiting = idle; position = place_of path_uses; is_trailing = trails || false; stopped = None }
+        path_walk waiting trails =
+            let w : Walk = record (walk_from held) { waiting = waiting; position = place_of uses; is_trailing = trails } in
+            let next : next_position path_built (place_of uses) ≡ 2 = ap (λ used. next_position path_built (cond used 2 1)) unused in
+            let last : place_of path_uses ≡ 2 = ap (λ b. cond b 2 1) (has_more uses (record { name = path_name; value = word }) ∙ ap (λ b. b || true) unused) in
+            ap (λ found. to_positional rules found word w held) is_placed
+            ∙ ap₂ (λ (held : Held) (position : ℕ). let next : Walk = record { held = held; waiting = idle; position = position; is_trailing = trails || false; stopped = None } in next) held_is (next ∙ sym last)
+
+        path_stands : Stands path_held path_uses
+        path_stands = record {
+          settles = rw (is.path_by_id takes_it) (use_passes path_name word uses unused);
+          rows_are = rw (is.path_by_id takes_it) (used_more path_name word uses unused);
+        }
+
   -- ---- behind `--`
 
-  behind_fails : (waiting : Waiting) (held : Held) (word : Text) → Fails (turn (trailing' waiting held) word)
-  behind_fails waiting held word = rw is.none_placed tt
+  at_behind : (waiting : Waiting) (held : Held) (uses : List Use) (word : Text) → Stands held uses → (wants : Bool) → wants_path takes uses ≡ wants
+      → Steps (trailing' waiting (place_of uses) held) (cond wants (Ended (more path_name word uses)) Wrong) word
+  unfolding walked
+  at_behind waiting held uses word stands true e = inl (
+    path_passes uses e held word stands,
+    record { waiting = idle; held = path_held uses e held word stands; walk_is = path_walk uses e held word stands waiting true; stands = path_stands uses e held word stands },
+  )
+  at_behind waiting held uses word stands false e = inr (refl, too_many uses held e)
+
+  step_behind : (w : Walk) (uses : List Use) → StandsBehind w uses → (word : Text) → Steps w (after (Ended uses) word) word
+  step_behind w uses s word = subst (λ w. Steps w (after (Ended uses) word) word) (sym s.walk_is) (at_behind s.waiting s.held uses word s.stands (wants_path takes uses) refl)
 
   -- ---- between two options
 
-  module _ (rows : List Row) (pending : Option (Text × List Text)) (word : Text) where
+  module _ (rows : List Row) (pending : Option (Text × List Text)) (position : ℕ) (word : Text) where
     abbrev between : Walk
-    between = walk_from (holds rows pending)
+    between = standing position (holds rows pending)
 
     -- its errors at a word that isn't `--`, and where it goes, by the long option that the word is
     abbrev kinds_by : Waiting → Option (Text × Option Text) → Kinds
-    kinds_by waiting long = by_long own rules is.asks_short rows pending 1 word waiting long
+    kinds_by waiting long = by_long own rules is.asks_short rows pending position word waiting long
 
     abbrev walk_by : Option (Text × Option Text) → Walk
     walk_by long = let met = long_or_other rules idle word long (holds rows pending) in after_step rules word between met.0 met.1
@@ -176,13 +299,13 @@ module _ (command : Text) (rules : List Rule) (names : List Text) (is : IsOption
     end_passes : ends_options word ≡ true → turn between word ≡ []
     end_passes ends = rw ends refl
 
-    end_walked : ends_options word ≡ true → next_walk between word ≡ trailing' idle (holds rows pending)
+    end_walked : ends_options word ≡ true → next_walk between word ≡ trailing' idle position (holds rows pending)
     unfolding walked
     end_walked ends = rw ends refl
 
     -- a name that is no option's
     other_fails : (waiting : Waiting) (p : Text × Option Text) → is_named names p.0 ≡ false → Fails (kinds_by waiting (Some p))
-    other_fails waiting p other = first_fails _ _ (long_fails own rules is.asks_short rows pending 1 word p.1 (arg_by_long rules p.0) (is.asks p.0 other))
+    other_fails waiting p other = first_fails _ _ (long_fails own rules is.asks_short rows pending position word p.1 (arg_by_long rules p.0) (is.asks p.0 other))
 
     -- where what is held doesn't pass, no option does
     lost_named : (waiting : Waiting) (name : Text) (v : Option Text) → Fails (settle_fault rules false (holds rows pending)) → is_named names name ≡ true → Fails (kinds_by waiting (Some (name, v)))
@@ -194,20 +317,26 @@ module _ (command : Text) (rules : List Rule) (names : List Text) (is : IsOption
     lost_option waiting p lost false e = other_fails waiting p e
 
     -- nor any other word but `--`
-    lost_by : Fails (settle_fault rules false (holds rows pending)) → (long : Option (Text × Option Text)) → Fails (kinds_by idle long)
-    lost_by lost None = by_long_fails own rules is.asks_short rows pending 1 word is.none_placed None tt
-    lost_by lost (Some p) = lost_option idle p lost (is_named names p.0) refl
+    module _ (lost : Fails (settle_fault rules false (holds rows pending))) (strays : Fails (step_fault own position (holds rows pending) value)) where
+      lost_by : (long : Option (Text × Option Text)) → Fails (kinds_by idle long)
+      lost_by None = by_long_fails own rules is.asks_short rows pending position word strays None tt
+      lost_by (Some p) = lost_option idle p lost (is_named names p.0) refl
 
-    lost_fails : Fails (settle_fault rules false (holds rows pending)) → ends_options word ≡ false → Fails (turn between word)
-    lost_fails lost no_end = subst Fails (sym (turn_is no_end)) (lost_by lost (long_of word))
+      lost_fails : ends_options word ≡ false → Fails (turn between word)
+      lost_fails no_end = subst Fails (sym (turn_is no_end)) (lost_by (long_of word))
+
+    -- a bundle of short flags
+    bundle_fails : (waiting : Waiting) → IsFlagged word → long_of word ≡ None → Fails (kinds_by waiting None)
+    bundle_fails waiting (inl long) none = absurd (some_none (long_of word) none long)
+    bundle_fails waiting (inr (x, xs, no_long, short, some)) none = rw short (by_bundle_fails own rules is.asks_short rows pending position word waiting x xs some)
 
     -- an option without its value, of what passes
     module _ (uses : List Use) (stands : Stands (holds rows pending) uses) (name : Text) (named : is_named names name ≡ true) where
       option_kinds : kinds_by idle (Some (name, None)) ≡ []
       option_kinds = rw (is.by_long_name name named) (or_nothing (settle_fault rules false (holds rows pending)) ∙ stands.settles)
 
-      option_walk : walk_by (Some (name, None)) ≡ wanting name (rows_of_uses uses)
-      option_walk = rw (is.by_long_name name named) (ap (wanting name) stands.rows_are)
+      option_walk : walk_by (Some (name, None)) ≡ wanting name position (rows_of_uses uses)
+      option_walk = rw (is.by_long_name name named) (ap (wanting name position) stands.rows_are)
 
       -- and with its value
       module _ (value' : Text) where
@@ -216,75 +345,114 @@ module _ (command : Text) (rules : List Rule) (names : List Text) (is : IsOption
             rw (is.by_long_name name named)
             (or_nothing _ ∙ ap₂ or_else stands.settles (ap (use_fault false (option_built name) (value' ∷ [])) stands.rows_are ∙ use_passes name value' uses unused))
 
-        valued_walk : list_any (is_use_of name) uses ≡ false → walk_by (Some (name, Some value')) ≡ walk_from (holds (rows_of_uses (more name value' uses)) None)
+        valued_walk : list_any (is_use_of name) uses ≡ false → walk_by (Some (name, Some value')) ≡ standing position (holds (rows_of_uses (more name value' uses)) None)
         valued_walk unused =
-            rw (is.by_long_name name named) (ap (λ rows. walk_from (holds rows None)) (ap (used (option_built name) (value' ∷ [])) stands.rows_are ∙ used_more name value' uses unused))
+            rw (is.by_long_name name named) (ap (λ rows. standing position (holds rows None)) (ap (used (option_built name) (value' ∷ [])) stands.rows_are ∙ used_more name value' uses unused))
 
         valued_again : list_any (is_use_of name) uses ≡ true → Fails (kinds_by idle (Some (name, Some value')))
         valued_again again =
             rw (is.by_long_name name named)
             (first_fails _ _ (second_fails (settle_fault rules false (holds rows pending)) _ (subst (λ rows. Fails (use_fault false (option_built name) (value' ∷ []) rows)) (sym stands.rows_are) (use_again_fails name value' uses again))))
 
+  -- an option isn't the path
+  place_kept : (name value' : Text) (uses : List Use) → is_named names name ≡ true → place_of (more name value' uses) ≡ place_of uses
+  place_kept name value' uses named =
+      ap (λ b. cond b 2 1) (has_more uses (record { name = name; value = value' }) ∙ ap (λ b. gives_path uses || b) (other (bytes_eq name path_name) refl) ∙ or-false (gives_path uses))
+    where
+      other : (same : Bool) → bytes_eq name path_name ≡ same → bytes_eq name path_name ≡ false
+      other true e = absurd (let never : true ≡ false = sym named ∙ ap (is_named names) (is_name name path_name e) ∙ is.no_option in cc)
+      other false e = e
+
   step_lost : (w : Walk) → IsLost w → (word : Text) → Steps w Wrong word
   step_lost w l word = go l.place
     where
-      at_word : (ends : Bool) → ends_options word ≡ ends → Steps (walk_from (holds l.rows l.pending)) Wrong word
-      at_word true e = inl (end_passes l.rows l.pending word e, record { rows = l.rows; pending = l.pending; place = inr (idle, end_walked l.rows l.pending word e); lost = l.lost })
-      at_word false e = inr (refl, lost_fails l.rows l.pending word l.lost e)
+      at_word : (ends : Bool) → ends_options word ≡ ends → Steps (standing l.position (holds l.rows l.pending)) Wrong word
+      at_word true e = inl (
+        end_passes l.rows l.pending l.position word e,
+        record { rows = l.rows; pending = l.pending; position = l.position; place = inr (idle, end_walked l.rows l.pending l.position word e); lost = l.lost; strays = l.strays },
+      )
+      at_word false e = inr (refl, lost_fails l.rows l.pending l.position word l.lost l.strays e)
 
-      go : (w ≡ walk_from (holds l.rows l.pending)) ⊎ ((waiting : Waiting) × (w ≡ trailing' waiting (holds l.rows l.pending))) → Steps w Wrong word
+      go : (w ≡ standing l.position (holds l.rows l.pending)) ⊎ ((waiting : Waiting) × (w ≡ trailing' waiting l.position (holds l.rows l.pending))) → Steps w Wrong word
       go (inl same) = subst (λ w. Steps w Wrong word) (sym same) (at_word (ends_options word) refl)
-      go (inr (waiting, same)) = subst (λ w. Steps w Wrong word) (sym same) (inr (refl, behind_fails waiting (holds l.rows l.pending) word))
+      go (inr (waiting, same)) = subst (λ w. Steps w Wrong word) (sym same) (inr (refl, l.strays))
 
   module _ (rows : List Row) (pending : Option (Text × List Text)) (uses : List Use) (stands : Stands (holds rows pending) uses) (word : Text) where
     module _ (no_end : ends_options word ≡ false) where
       abbrev here : Walk
-      here = walk_from (holds rows pending)
+      here = standing (place_of uses) (holds rows pending)
 
       -- by the errors and the walk of the long option that the word is
-      by_kinds : (long : Option (Text × Option Text)) → long_of word ≡ long → Fails (kinds_by rows pending word idle long) → Fails (turn here word)
-      by_kinds long same fails = subst Fails (sym (turn_is rows pending word no_end ∙ ap (kinds_by rows pending word idle) same)) fails
+      by_kinds : (long : Option (Text × Option Text)) → long_of word ≡ long → Fails (kinds_by rows pending (place_of uses) word idle long) → Fails (turn here word)
+      by_kinds long same fails = subst Fails (sym (turn_is rows pending (place_of uses) word no_end ∙ ap (kinds_by rows pending (place_of uses) word idle) same)) fails
 
-      by_none : (long : Option (Text × Option Text)) → long_of word ≡ long → kinds_by rows pending word idle long ≡ [] → turn here word ≡ []
-      by_none long same none = turn_is rows pending word no_end ∙ ap (kinds_by rows pending word idle) same ∙ none
+      by_none : (long : Option (Text × Option Text)) → long_of word ≡ long → kinds_by rows pending (place_of uses) word idle long ≡ [] → turn here word ≡ []
+      by_none long same none = turn_is rows pending (place_of uses) word no_end ∙ ap (kinds_by rows pending (place_of uses) word idle) same ∙ none
 
-      by_walk : (long : Option (Text × Option Text)) (next : Walk) → long_of word ≡ long → walk_by rows pending word long ≡ next → next_walk here word ≡ next
-      by_walk long next same goes = walk_is rows pending word no_end ∙ ap (walk_by rows pending word) same ∙ goes
+      by_walk : (long : Option (Text × Option Text)) (next : Walk) → long_of word ≡ long → walk_by rows pending (place_of uses) word long ≡ next → next_walk here word ≡ next
+      by_walk long next same goes = walk_is rows pending (place_of uses) word no_end ∙ ap (walk_by rows pending (place_of uses) word) same ∙ goes
 
       at_use : (name value' : Text) → long_of word ≡ Some (name, Some value') → is_named names name ≡ true → (again : Bool) → list_any (is_use_of name) uses ≡ again
           → Steps here (cond again Wrong (Between (more name value' uses))) word
-      at_use name value' same named true e = inr (refl, by_kinds _ same (valued_again rows pending word uses stands name named value' e))
+      at_use name value' same named true e = inr (refl, by_kinds _ same (valued_again rows pending (place_of uses) word uses stands name named value' e))
       at_use name value' same named false e = inl (
-        by_none _ same (valued_kinds rows pending word uses stands name named value' e),
+        by_none _ same (valued_kinds rows pending (place_of uses) word uses stands name named value' e),
         record {
           rows = rows_of_uses (more name value' uses);
           pending = None;
-          walk_is = by_walk _ _ same (valued_walk rows pending word uses stands name named value' e);
+          walk_is = by_walk _ _ same (valued_walk rows pending (place_of uses) word uses stands name named value' e)
+              ∙ ap (λ position. standing position (holds (rows_of_uses (more name value' uses)) None)) (sym (place_kept name value' uses named));
           stands = record { settles = refl; rows_are = refl };
         },
       )
 
       at_value : (name : Text) (v : Option Text) → long_of word ≡ Some (name, v) → is_named names name ≡ true → Steps here (used_by name v uses) word
       at_value name None same named = inl (
-        by_none _ same (option_kinds rows pending word uses stands name named),
-        (by_walk _ _ same (option_walk rows pending word uses stands name named), named),
+        by_none _ same (option_kinds rows pending (place_of uses) word uses stands name named),
+        (by_walk _ _ same (option_walk rows pending (place_of uses) word uses stands name named), named),
       )
       at_value name (Some value') same named = at_use name value' same named (list_any (is_use_of name) uses) refl
 
       at_named : (p : Text × Option Text) → long_of word ≡ Some p → (named : Bool) → is_named names p.0 ≡ named → Steps here (cond named (used_by p.0 p.1 uses) Wrong) word
       at_named p same true e = at_value p.0 p.1 same e
-      at_named p same false e = inr (refl, by_kinds _ same (other_fails rows pending word idle p e))
+      at_named p same false e = inr (refl, by_kinds _ same (other_fails rows pending (place_of uses) word idle p e))
 
-      at_long : (long : Option (Text × Option Text)) → long_of word ≡ long → Steps here (after_option names long uses) word
-      at_long None same = inr (refl, by_kinds _ same (by_long_fails own rules is.asks_short rows pending 1 word is.none_placed None tt))
-      at_long (Some p) same = at_named p same (is_named names p.0) refl
+      at_long : is_option word ≡ true → (long : Option (Text × Option Text)) → long_of word ≡ long → Steps here (after_option names long uses) word
+      at_long o None same = inr (refl, by_kinds _ same (bundle_fails rows pending (place_of uses) word idle (flagged word o no_end) same))
+      at_long o (Some p) same = at_named p same (is_named names p.0) refl
 
-    at_between : (ends : Bool) → ends_options word ≡ ends → Steps (walk_from (holds rows pending)) (cond ends (Ended uses) (after_option names (long_of word) uses)) word
-    at_between true e = inl (end_passes rows pending word e, record { waiting = idle; held = holds rows pending; walk_is = end_walked rows pending word e; stands = stands })
-    at_between false e = at_long e (long_of word) refl
+      -- a word that is no option
+      module _ (no_option : is_option word ≡ false) where
+        value_here : IsValue own rules is.asks_short rows pending (place_of uses) word idle
+        value_here = is_value own rules is.asks_short rows pending (place_of uses) word idle no_end (is_plain_word word no_option)
 
-  step_between : (w : Walk) (uses : List Use) → StandsBetween w uses → (word : Text) → Steps w (after_word names (Between uses) word) word
-  step_between w uses s word = subst (λ w. Steps w (after_word names (Between uses) word) word) (sym s.walk_is) (at_between s.rows s.pending uses s.stands word (ends_options word) refl)
+        turn_here : turn here word ≡ step_fault own (place_of uses) (holds rows pending) value
+        turn_here = ap₂ (λ fault met. or_else fault (step_fault own (place_of uses) met.0 met.1)) value_here.1 value_here.0
+
+        walk_here : next_walk here word ≡ to_positional rules (arg_by_index rules (place_of uses)) word here (holds rows pending)
+        unfolding walked
+        walk_here = ap (λ met. after_step rules word here met.0 met.1) value_here.0
+
+        at_path : (wants : Bool) → wants_path takes uses ≡ wants → Steps here (cond wants (Between (more path_name word uses)) Wrong) word
+        at_path true e = inl (
+          turn_here ∙ path_passes uses e (holds rows pending) word stands,
+          record {
+            rows = rows_of_uses uses;
+            pending = Some (path_name, word ∷ []);
+            walk_is = walk_here ∙ path_walk uses e (holds rows pending) word stands idle false;
+            stands = path_stands uses e (holds rows pending) word stands;
+          },
+        )
+        at_path false e = inr (refl, subst Fails (sym turn_here) (too_many uses (holds rows pending) e))
+
+    at_between : (ends is_flag : Bool) → ends_options word ≡ ends → is_option word ≡ is_flag
+        → Steps (standing (place_of uses) (holds rows pending)) (cond ends (Ended uses) (cond is_flag (after_option names (long_of word) uses) (after_path takes Between word uses))) word
+    at_between true is_flag e o = inl (end_passes rows pending (place_of uses) word e, record { waiting = idle; held = holds rows pending; walk_is = end_walked rows pending (place_of uses) word e; stands = stands })
+    at_between false true e o = at_long e o (long_of word) refl
+    at_between false false e o = at_path e o (wants_path takes uses) refl
+
+  step_between : (w : Walk) (uses : List Use) → StandsBetween w uses → (word : Text) → Steps w (after (Between uses) word) word
+  step_between w uses s word = subst (λ w. Steps w (after (Between uses) word) word) (sym s.walk_is) (at_between s.rows s.pending uses s.stands word (ends_options word) (is_option word) refl refl)
 
   -- ---- behind an option that wants its value
 
@@ -299,56 +467,59 @@ module _ (command : Text) (rules : List Rule) (names : List Text) (is : IsOption
     bare = Some (name, [])
 
     abbrev wants : Walk
-    wants = wanting name (rows_of_uses uses)
+    wants = wanting name (place_of uses) (rows_of_uses uses)
 
     bare_lost : Fails (settle_fault rules false (holds rows_so_far bare))
     bare_lost = rw (is.by_id name named) tt
 
-    wanted_end : ends_options word ≡ true → (turn wants word ≡ []) × (next_walk wants word ≡ trailing' (option name) (holds rows_so_far bare))
+    wanted_end : ends_options word ≡ true → (turn wants word ≡ []) × (next_walk wants word ≡ trailing' (option name) (place_of uses) (holds rows_so_far bare))
     unfolding walked
     wanted_end ends = (rw ends refl, rw ends refl)
 
     flag_fails : ends_options word ≡ false → IsFlagged word → Fails (turn wants word)
     flag_fails no_end is_flag = rw no_end (go is_flag)
       where
-        by_some : (long : Option (Text × Option Text)) → IsSome long → Fails (kinds_by rows_so_far bare word (option name) long)
+        by_some : (long : Option (Text × Option Text)) → IsSome long → Fails (kinds_by rows_so_far bare (place_of uses) word (option name) long)
         by_some None some = cc
-        by_some (Some p) some = lost_option rows_so_far bare word (option name) p bare_lost (is_named names p.0) refl
+        by_some (Some p) some = lost_option rows_so_far bare (place_of uses) word (option name) p bare_lost (is_named names p.0) refl
 
-        go : IsFlagged word → Fails (kinds_by rows_so_far bare word (option name) (long_of word))
+        go : IsFlagged word → Fails (kinds_by rows_so_far bare (place_of uses) word (option name) (long_of word))
         go (inl long) = by_some (long_of word) long
-        go (inr (x, xs, none, short, some)) = rw (none, short) (by_bundle_fails own rules is.asks_short rows_so_far bare 1 word (option name) x xs some)
+        go (inr (x, xs, none, short, some)) = rw (none, short) (by_bundle_fails own rules is.asks_short rows_so_far bare (place_of uses) word (option name) x xs some)
 
     module _ (no_end : ends_options word ≡ false) (no_option : is_option word ≡ false) where
-      value_is : IsValue own rules is.asks_short rows_so_far bare 1 word (option name)
-      value_is = is_value own rules is.asks_short rows_so_far bare 1 word (option name) no_end (is_plain_word word no_option)
+      value_is : IsValue own rules is.asks_short rows_so_far bare (place_of uses) word (option name)
+      value_is = is_value own rules is.asks_short rows_so_far bare (place_of uses) word (option name) no_end (is_plain_word word no_option)
 
-      abbrev filled_walk : Walk
-      filled_walk = walk_from (holds rows_so_far (Some (name, word ∷ [])))
+      abbrev filled_held : Held
+      filled_held = holds rows_so_far (Some (name, word ∷ []))
 
       filled_passes : turn wants word ≡ []
-      filled_passes = ap₂ (λ fault met. or_else fault (step_fault own 1 met.0 met.1)) value_is.1 value_is.0
+      filled_passes = ap₂ (λ fault met. or_else fault (step_fault own (place_of uses) met.0 met.1)) value_is.1 value_is.0
 
-      filled_walked : next_walk wants word ≡ filled_walk
+      filled_walked : next_walk wants word ≡ standing (place_of uses) filled_held
       unfolding walked
       filled_walked = ap (λ met. after_step rules word wants met.0 met.1) value_is.0 ∙ rw (is.by_id name named, same_name name) refl
 
       at_filled : (again : Bool) → list_any (is_use_of name) uses ≡ again → Steps wants (cond again Wrong (Between (more name word uses))) word
-      at_filled true e = inl (
-        filled_passes,
-        record {
-          rows = rows_so_far;
-          pending = Some (name, word ∷ []);
-          place = inl filled_walked;
-          lost = rw (is.by_id name named) (use_again_fails name word uses e);
-        },
-      )
+      at_filled true e =
+          let lost : Fails (settle_fault rules false filled_held) = rw (is.by_id name named) (use_again_fails name word uses e) in inl (
+            filled_passes,
+            record {
+              rows = rows_so_far;
+              pending = Some (name, word ∷ []);
+              position = place_of uses;
+              place = inl filled_walked;
+              lost = lost;
+              strays = strays_at filled_held lost (gives_path uses);
+            },
+          )
       at_filled false e = inl (
         filled_passes,
         record {
           rows = rows_so_far;
           pending = Some (name, word ∷ []);
-          walk_is = filled_walked;
+          walk_is = filled_walked ∙ ap (λ position. standing position filled_held) (sym (place_kept name word uses named));
           stands = record { settles = rw (is.by_id name named) (use_passes name word uses e); rows_are = rw (is.by_id name named) (used_more name word uses e) };
         },
       )
@@ -361,24 +532,29 @@ module _ (command : Text) (rules : List Rule) (names : List Text) (is : IsOption
         end_is_option never = cc
 
     at_wanted : (is_flag ends : Bool) → is_option word ≡ is_flag → ends_options word ≡ ends → Steps wants (cond is_flag Wrong (with_use name word uses)) word
-    at_wanted true true o e = let end = wanted_end e in inl (end.0, record { rows = rows_so_far; pending = bare; place = inr (option name, end.1); lost = bare_lost })
+    at_wanted true true o e =
+        let end = wanted_end e in
+        inl (end.0, record { rows = rows_so_far; pending = bare; position = place_of uses; place = inr (option name, end.1); lost = bare_lost; strays = strays_at (holds rows_so_far bare) bare_lost (gives_path uses) })
     at_wanted true false o e = inr (refl, flag_fails e (flagged word o e))
     at_wanted false true o e = absurd (ends_is_option o e)
     at_wanted false false o e = at_filled e o (list_any (is_use_of name) uses) refl
 
-  step_wanting : (w : Walk) (name : Text) (uses : List Use) → (w ≡ wanting name (rows_of_uses uses)) × (is_named names name ≡ true) → (word : Text) → Steps w (after_word names (Wanting name uses) word) word
-  step_wanting w name uses s word = subst (λ w. Steps w (after_word names (Wanting name uses) word) word) (sym s.0) (at_wanted name s.1 uses word (is_option word) (ends_options word) refl refl)
+  step_wanting : (w : Walk) (name : Text) (uses : List Use) → (w ≡ wanting name (place_of uses) (rows_of_uses uses)) × (is_named names name ≡ true) → (word : Text) → Steps w (after (Wanting name uses) word) word
+  step_wanting w name uses s word = subst (λ w. Steps w (after (Wanting name uses) word) word) (sym s.0) (at_wanted name s.1 uses word (is_option word) (ends_options word) refl refl)
 
   -- ---- all words
 
-  step : (w : Walk) (reading : Reading) → Follows w reading → (word : Text) → Steps w (after_word names reading word) word
+  step : (w : Walk) (reading : Reading) → Follows w reading → (word : Text) → Steps w (after reading word) word
   step w (Between uses) s word = step_between w uses s word
   step w (Wanting name uses) s word = step_wanting w name uses s word
-  step w (Ended uses) s word = inr (refl, subst (λ w. Fails (turn w word)) (sym s.walk_is) (behind_fails s.waiting s.held word))
+  step w (Ended uses) s word = step_behind w uses s word
   step w Wrong l word = step_lost w l word
 
+  abbrev ending_of : List Row → Kinds
+  ending_of rows = or_else (defaults_fault rows rules) (check_fault own (fold with_default rows rules) false)
+
   abbrev ending : Held → Kinds
-  ending held = or_else (settle_fault rules false held) (or_else (defaults_fault (settled rules held).rows rules) (check_fault own (finished rules held) false))
+  ending held = or_else (settle_fault rules false held) (ending_of (settled rules held).rows)
 
   abbrev kinds_left : Walk → List Text → Kinds
   kinds_left w words = or_else (walk_fault own [] w words) (ending (fold (walked rules []) w words).held)
@@ -391,8 +567,18 @@ module _ (command : Text) (rules : List Rule) (names : List Text) (is : IsOption
   Reads w words None = Fails (kinds_left w words)
   Reads w words (Some uses) = (kinds_left w words ≡ []) × (rows_left w words ≡ rows_of_uses uses)
 
-  stands_end : (held : Held) (uses : List Use) → Stands held uses → (ending held ≡ []) × (finished rules held ≡ rows_of_uses uses)
-  stands_end held uses s = (ap₂ or_else s.settles (is.ends (settled rules held).rows), is.keeps (settled rules held).rows ∙ s.rows_are)
+  stands_end : (held : Held) (uses : List Use) → Stands held uses → FailsWhere (wants_path takes uses) (ending held)
+  stands_end held uses s =
+      subst (λ kinds. FailsWhere (wants_path takes uses) (or_else kinds (ending_of (settled rules held).rows))) (sym s.settles)
+      (subst (λ rows. FailsWhere (wants_path takes uses) (ending_of rows)) (sym s.rows_are) (is.ends uses))
+
+  whole_end : (w : Walk) (uses : List Use) → Stands w.held uses → Reads w [] (whole takes uses)
+  unfolding walk_fault
+  whole_end w uses s = go (wants_path takes uses) (stands_end w.held uses s)
+    where
+      go : (wants : Bool) → FailsWhere wants (ending w.held) → Reads w [] (cond wants None (Some uses))
+      go true fails = fails
+      go false none = (none, is.keeps (settled rules w.held).rows ∙ s.rows_are)
 
   lost_end : (w : Walk) → IsLost w → Fails (ending w.held)
   lost_end w l = go l.place
@@ -400,22 +586,22 @@ module _ (command : Text) (rules : List Rule) (names : List Text) (is : IsOption
       ends : Fails (ending (holds l.rows l.pending))
       ends = first_fails _ _ l.lost
 
-      go : (w ≡ walk_from (holds l.rows l.pending)) ⊎ ((waiting : Waiting) × (w ≡ trailing' waiting (holds l.rows l.pending))) → Fails (ending w.held)
+      go : (w ≡ standing l.position (holds l.rows l.pending)) ⊎ ((waiting : Waiting) × (w ≡ trailing' waiting l.position (holds l.rows l.pending))) → Fails (ending w.held)
       go (inl same) = subst (λ (w : Walk). Fails (ending w.held)) (sym same) ends
       go (inr (waiting, same)) = subst (λ (w : Walk). Fails (ending w.held)) (sym same) ends
 
-  at_end : (w : Walk) (reading : Reading) → Follows w reading → Reads w [] (uses_read reading)
+  at_end : (w : Walk) (reading : Reading) → Follows w reading → Reads w [] (uses_read takes reading)
   unfolding walk_fault
-  at_end w (Between uses) s = subst (λ w. Reads w [] (Some uses)) (sym s.walk_is) (stands_end (holds s.rows s.pending) uses s.stands)
+  at_end w (Between uses) s = subst (λ w. Reads w [] (whole takes uses)) (sym s.walk_is) (whole_end (standing (place_of uses) (holds s.rows s.pending)) uses s.stands)
   at_end w (Wanting name uses) s = subst (λ w. Reads w [] None) (sym s.0) (first_fails _ _ (bare_lost name s.1 uses []))
-  at_end w (Ended uses) s = subst (λ w. Reads w [] (Some uses)) (sym s.walk_is) (stands_end s.held uses s.stands)
+  at_end w (Ended uses) s = subst (λ w. Reads w [] (whole takes uses)) (sym s.walk_is) (whole_end (trailing' s.waiting (place_of uses) s.held) uses s.stands)
   at_end w Wrong l = lost_end w l
 
-  wrong_stays : (words : List Text) → uses_read (fold (after_word names) Wrong words) ≡ None
+  wrong_stays : (words : List Text) → uses_read takes (fold after Wrong words) ≡ None
   wrong_stays [] = refl
   wrong_stays (word ∷ words) = wrong_stays words
 
-  reads_on : (words : List Text) (w : Walk) (reading : Reading) → Follows w reading → Reads w words (uses_read (fold (after_word names) reading words))
+  reads_on : (words : List Text) (w : Walk) (reading : Reading) → Follows w reading → Reads w words (uses_read takes (fold after reading words))
   unfolding walk_fault
   reads_on [] w reading s = at_end w reading s
   reads_on (word ∷ words) w reading s = go (reads_on words) (step w reading s word)
@@ -424,11 +610,11 @@ module _ (command : Text) (rules : List Rule) (names : List Text) (is : IsOption
       passed None none fails = rw none fails
       passed (Some uses) none reads = (rw none reads.0, reads.1)
 
-      go : ((w : Walk) (reading : Reading) → Follows w reading → Reads w words (uses_read (fold (after_word names) reading words))) → Steps w (after_word names reading word) word → Reads w (word ∷ words) (uses_read (fold (after_word names) (after_word names reading word) words))
-      go on (inl (none, follows)) = passed (uses_read (fold (after_word names) (after_word names reading word) words)) none (on (next_walk w word) (after_word names reading word) follows)
+      go : ((w : Walk) (reading : Reading) → Follows w reading → Reads w words (uses_read takes (fold after reading words))) → Steps w (after reading word) word → Reads w (word ∷ words) (uses_read takes (fold after (after reading word) words))
+      go on (inl (none, follows)) = passed (uses_read takes (fold after (after reading word) words)) none (on (next_walk w word) (after reading word) follows)
       go on (inr (wrong, fails)) =
-          subst (Reads w (word ∷ words)) (sym (ap (λ reading. uses_read (fold (after_word names) reading words)) wrong ∙ wrong_stays words)) (first_fails _ _ (first_fails _ _ fails))
+          subst (Reads w (word ∷ words)) (sym (ap (λ reading. uses_read takes (fold after reading words)) wrong ∙ wrong_stays words)) (first_fails _ _ (first_fails _ _ fails))
 
   -- the words behind the command
-  pub options_read : (words : List Text) → Reads (walk_from nothing_held) words (uses_named names words)
+  pub options_read : (words : List Text) → Reads (walk_from nothing_held) words (uses_taken takes names words)
   options_read words = reads_on words (walk_from nothing_held) (Between []) (record { rows = []; pending = None; walk_is = refl; stands = record { settles = refl; rows_are = refl } })

@@ -1,6 +1,6 @@
 -- Which words the program's parser takes, and which command and values it then meets.
 use Rattle.std.proofs.Common.{◌≡◌, ◌∙◌, ℕ, Bool, true, false, List, [], ◌∷◌, Option, Some, None, Result, Ok, Err, IfErr, refl, sym, ap, ap₂, subst, codes, cond, slice_index_or, is_some, inl, inr, arith, Global}
-use Rattle.std.specs.Prelude.{not, ◌&&◌, ◌⊎◌, ◌≢◌, Box, IsErrAnd, find, fold, option_map, option_and_then, IsSome}
+use Rattle.std.specs.Prelude.{not, ◌&&◌, ◌||◌, unwrap_or, ◌⊎◌, ◌≢◌, Box, IsErrAnd, find, fold, option_map, option_and_then, IsSome}
 use Rattle.std.specs.Box.{box_value}
 use Rattle.std.specs.Str.{bytes_eq}
 use Rattle.clap.specs.declared.parser.matches.ArgMatches.{ArgMatches}
@@ -18,16 +18,16 @@ use Rattle.clap.proofs.OnLiterals.{clap_on_literals}
 use Rattle.clap.proofs.WalkLemmas.{both, first_value-rows, walk_stopped}
 use Rattle.clap.proofs.FaultLemmas.{stopped_fault}
 use Rattle.exh_command.specs.Fault.{IsFaultOf, IsWrong, TellsVersion}
-use Rattle.exh_command.specs.Words.{Use, alone, ends_options, is_option, only_word, path_and_key, path_and_three, path_and_two, path_named, uses_named}
-use Rattle.exh_command.specs.Job.{AskForVersion, Asked, Serve, Check, Dump, Load, Storm, Get, Put, Del, Swap, asked_by, callers_name, calls_name, cap_name, command_of, copies_name, del_asked, deleted_by, get_asked, got_by, job_asked, job_named, open_name, put_asked, put_by, save_name, serve_asked, serve_names, served_by, storm_asked, storm_names, stormed_by, swap_asked, swapped_by, wards_name}
-use Rattle.exh_command.specs.Parser.{HasTexts, HasValues, IsJobMet, Meets, ReadsJobs, key_id, new_id, old_id, path_id, path_rule, texts_of, value_id}
+use Rattle.exh_command.specs.Words.{Use, alone, ends_options, gives_path, is_option, is_use_of, only_word, option_given, path_and_key, path_and_three, path_and_two, path_name, path_named, uses_and_path, uses_named, wants_path}
+use Rattle.exh_command.specs.Job.{AskForVersion, Asked, Serve, Check, Dump, Load, Storm, Get, Put, Del, Swap, Pairs, asked_by, callers_name, calls_name, cap_name, command_of, copies_name, del_asked, deleted_by, get_asked, got_by, job_asked, job_named, keyer_name, open_name, paired_by, pairs_asked, pairs_names, put_asked, put_by, save_name, serve_asked, serve_names, served_by, storm_asked, storm_names, stormed_by, swap_asked, swapped_by, wards_name}
+use Rattle.exh_command.specs.Parser.{HasPairsTexts, HasTexts, HasValues, IsJobMet, Meets, ReadsJobs, key_id, new_id, old_id, pairs_texts_of, path_id, path_rule, texts_of, value_id}
 use Rattle.exh_command.proofs.TheProgram.{program, serve}
 use Rattle.exh_command.proofs.KeyWords.{key_agrees, key_flags, key_kinds, key_met}
 use Rattle.exh_command.proofs.PutWords.{put_agrees, put_flags, put_kinds, put_met}
 use Rattle.exh_command.proofs.SwapWords.{swap_agrees, swap_flags, swap_kinds, swap_met}
 use Rattle.exh_command.specs.declared.fault.CliFault.{CliFault}
 use Rattle.exh_command.proofs.OptionLemmas.{IsOptionLeaf, first_of-rows_of_uses, rows_of_uses}
-use Rattle.exh_command.proofs.OptionFlags.{flags_agree, flags_met, help_asking, no_defaults, option_flags, option_leaf}
+use Rattle.exh_command.proofs.OptionFlags.{flags_agree, flags_met, help_asking, no_defaults, option_flags, option_leaf, path_flags_of, path_leaf_of}
 use Rattle.exh_command.proofs.WordLemmas.{Agrees, Fails, IsAsking, IsValue, agreed, agrees_as, all_ask, first_fails, flags, help, is_end, is_name, is_plain_word, is_value, option_fails, or_nothing, some_is, version, word_fails}
 
 -- ---- the parser, as clap's clauses see it
@@ -48,11 +48,13 @@ path_flags = filled_from 1 (path_rule ∷ help_rule ∷ [])
 
 -- ---- the words after `serve`, and after `storm`
 
-serve_leaf : IsOptionLeaf (codes "serve") serve_flags serve_names
-serve_leaf = option_leaf (codes "serve") serve_names (λ rows. ap₂ or_else (no_defaults serve_names rows) refl)
+serve_leaf : IsOptionLeaf false (codes "serve") serve_flags serve_names
+unfolding clap_on_literals
+serve_leaf = option_leaf (codes "serve") serve_names refl (λ rows. ap₂ or_else (no_defaults serve_names rows) refl)
 
-storm_leaf : IsOptionLeaf (codes "storm") storm_flags storm_names
-storm_leaf = option_leaf (codes "storm") storm_names (λ rows. ap₂ or_else (no_defaults storm_names rows) refl)
+storm_leaf : IsOptionLeaf false (codes "storm") storm_flags storm_names
+unfolding clap_on_literals
+storm_leaf = option_leaf (codes "storm") storm_names refl (λ rows. ap₂ or_else (no_defaults storm_names rows) refl)
 
 abbrev leaf_kinds : List Text → Kinds
 leaf_kinds words = level_fault (slice_index_or (built program).subs 0 serve) [] nothing_held words false []
@@ -61,16 +63,16 @@ abbrev storm_kinds : List Text → Kinds
 storm_kinds words = level_fault (slice_index_or (built program).subs 4 serve) [] nothing_held words false []
 
 leaf_agrees : (words : List Text) → Agrees (serve_asked words) (leaf_kinds words)
-leaf_agrees words = flags_agree (codes "serve") serve_names serve_leaf served_by words
+leaf_agrees words = flags_agree false (codes "serve") serve_flags serve_names serve_leaf served_by words
 
 storm_agrees : (words : List Text) → Agrees (storm_asked words) (storm_kinds words)
-storm_agrees words = flags_agree (codes "storm") storm_names storm_leaf stormed_by words
+storm_agrees words = flags_agree false (codes "storm") storm_flags storm_names storm_leaf stormed_by words
 
-served_values : (uses : List Use) → HasValues (served_by uses) (rows_of_uses uses)
-served_values uses = (first_of-rows_of_uses open_name uses, first_of-rows_of_uses save_name uses)
+served_values : (uses : List Use) → wants_path false uses ≡ false → HasValues (served_by uses) (rows_of_uses uses)
+served_values uses whole = (first_of-rows_of_uses open_name uses, first_of-rows_of_uses save_name uses)
 
-stormed_values : (uses : List Use) → HasValues (stormed_by uses) (rows_of_uses uses)
-stormed_values uses = record {
+stormed_values : (uses : List Use) → wants_path false uses ≡ false → HasValues (stormed_by uses) (rows_of_uses uses)
+stormed_values uses whole = record {
   callers = first_of-rows_of_uses callers_name uses;
   calls = first_of-rows_of_uses calls_name uses;
   cap = first_of-rows_of_uses cap_name uses;
@@ -80,10 +82,55 @@ stormed_values uses = record {
 
 -- they meet their values
 leaf_met : (words : List Text) (asked : Asked) → serve_asked words ≡ Some asked → HasValues asked (rows_after serve_flags [] words)
-leaf_met words asked named = flags_met (codes "serve") serve_names serve_leaf served_by served_values words asked named
+leaf_met words asked named = flags_met false (codes "serve") serve_flags serve_names serve_leaf served_by served_values words asked named
 
 storm_leaf_met : (words : List Text) (asked : Asked) → storm_asked words ≡ Some asked → HasValues asked (rows_after storm_flags [] words)
-storm_leaf_met words asked named = flags_met (codes "storm") storm_names storm_leaf stormed_by stormed_values words asked named
+storm_leaf_met words asked named = flags_met false (codes "storm") storm_flags storm_names storm_leaf stormed_by stormed_values words asked named
+
+-- ---- the words after `pairs`
+
+abbrev pairs_flags : List Rule
+pairs_flags = path_flags_of pairs_names
+
+pairs_leaf : IsOptionLeaf true (codes "pairs") pairs_flags pairs_names
+unfolding clap_on_literals
+pairs_leaf = path_leaf_of (codes "pairs") pairs_names refl
+
+abbrev pairs_kinds : List Text → Kinds
+pairs_kinds words = level_fault (slice_index_or (built program).subs 9 serve) [] nothing_held words false []
+
+pairs_agree : (words : List Text) → Agrees (pairs_asked words) (pairs_kinds words)
+pairs_agree words = flags_agree true (codes "pairs") pairs_flags pairs_names pairs_leaf paired_by words
+
+path_given_is : (uses : List Use) → is_some (option_given path_name uses) ≡ gives_path uses
+path_given_is [] = refl
+path_given_is (one ∷ uses) = go (is_use_of path_name one) (path_given_is uses)
+  where
+    go : (b : Bool) → is_some (option_given path_name uses) ≡ gives_path uses → is_some (option_map (λ (one : Use). one.value) (cond b (Some one) (find (is_use_of path_name) uses))) ≡ (b || gives_path uses)
+    go true others = refl
+    go false others = others
+
+not-false : (b : Bool) → not b ≡ false → b ≡ true
+not-false true e = refl
+not-false false e = cc
+
+some_or : (given : Option Text) → is_some given ≡ true → given ≡ Some (unwrap_or given [])
+some_or None some = cc
+some_or (Some path) some = refl
+
+paired_values : (uses : List Use) → wants_path true uses ≡ false → HasValues (paired_by uses) (rows_of_uses uses)
+paired_values uses whole =
+    let given = path_given_is uses ∙ not-false (gives_path uses) whole in (
+      first_of-rows_of_uses path_name uses ∙ some_or (option_given path_name uses) given,
+      record {
+        cap = first_of-rows_of_uses cap_name uses;
+        wards = first_of-rows_of_uses wards_name uses;
+        keyer = first_of-rows_of_uses keyer_name uses;
+      },
+    )
+
+pairs_met : (words : List Text) (asked : Asked) → pairs_asked words ≡ Some asked → HasValues asked (rows_after pairs_flags [] words)
+pairs_met words asked named = flags_met true (codes "pairs") pairs_flags pairs_names pairs_leaf paired_by paired_values words asked named
 
 -- ---- the words after a command about a path
 
@@ -279,6 +326,10 @@ swap_leaves : (words : List Text) → top_kinds (codes "swap" ∷ words) ≡ swa
 unfolding clap_on_literals
 swap_leaves words = stopped_is (codes "swap") words ∙ or_nothing (swap_kinds words)
 
+pairs_leaves : (words : List Text) → top_kinds (codes "pairs" ∷ words) ≡ pairs_kinds words
+unfolding clap_on_literals
+pairs_leaves words = stopped_is (codes "pairs") words ∙ or_nothing (pairs_kinds words)
+
 help_fails : (words : List Text) → Fails (top_kinds (codes "help" ∷ words))
 unfolding clap_on_literals
 help_fails words = tt
@@ -289,9 +340,9 @@ end_fails [] = tt
 end_fails (word ∷ rest) = tt
 
 -- a word that names no command
-module _ (word : Text) (no_serve : bytes_eq (codes "serve") word ≡ false) (no_check : bytes_eq (codes "check") word ≡ false) (no_dump : bytes_eq (codes "dump") word ≡ false) (no_load : bytes_eq (codes "load") word ≡ false) (no_storm : bytes_eq (codes "storm") word ≡ false) (no_get : bytes_eq (codes "get") word ≡ false) (no_put : bytes_eq (codes "put") word ≡ false) (no_del : bytes_eq (codes "del") word ≡ false) (no_swap : bytes_eq (codes "swap") word ≡ false) where
+module _ (word : Text) (no_serve : bytes_eq (codes "serve") word ≡ false) (no_check : bytes_eq (codes "check") word ≡ false) (no_dump : bytes_eq (codes "dump") word ≡ false) (no_load : bytes_eq (codes "load") word ≡ false) (no_storm : bytes_eq (codes "storm") word ≡ false) (no_get : bytes_eq (codes "get") word ≡ false) (no_put : bytes_eq (codes "put") word ≡ false) (no_del : bytes_eq (codes "del") word ≡ false) (no_swap : bytes_eq (codes "swap") word ≡ false) (no_pairs : bytes_eq (codes "pairs") word ≡ false) where
   unnamed : bytes_eq (codes "help") word ≡ false → subcommand_met names idle word ≡ None
-  unnamed no_help = rw (no_serve, no_check, no_dump, no_load, no_storm, no_get, no_put, no_del, no_swap, no_help) refl
+  unnamed no_help = rw (no_serve, no_check, no_dump, no_load, no_storm, no_get, no_put, no_del, no_swap, no_pairs, no_help) refl
 
   other_fails : (rest : List Text) (helps ends : Bool) → bytes_eq (codes "help") word ≡ helps → ends_options word ≡ ends → Fails (top_kinds (word ∷ rest))
   unfolding clap_on_literals
@@ -300,44 +351,47 @@ module _ (word : Text) (no_serve : bytes_eq (codes "serve") word ≡ false) (no_
   other_fails rest false false no_help no_end =
       first_fails _ _ (first_fails _ _ (word_fails top flags short_asking [] None 1 word refl (all_ask flags long_asking (long_of word)) names (unnamed no_help) no_end))
 
-command_agrees : (word : Text) (rest : List Text) (serves checks dumps loads storms gets puts dels swaps : Bool) → bytes_eq (codes "serve") word ≡ serves → bytes_eq (codes "check") word ≡ checks → bytes_eq (codes "dump") word ≡ dumps → bytes_eq (codes "load") word ≡ loads → bytes_eq (codes "storm") word ≡ storms → bytes_eq (codes "get") word ≡ gets → bytes_eq (codes "put") word ≡ puts → bytes_eq (codes "del") word ≡ dels → bytes_eq (codes "swap") word ≡ swaps
-    → Agrees (cond serves (serve_asked rest) (cond checks (option_map Check (path_named rest)) (cond dumps (option_map Dump (path_named rest)) (cond loads (option_map Load (path_named rest)) (cond storms (storm_asked rest) (cond gets (get_asked rest) (cond puts (put_asked rest) (cond dels (del_asked rest) (cond swaps (swap_asked rest) None)))))))))
+command_agrees : (word : Text) (rest : List Text) (serves checks dumps loads storms gets puts dels swaps pairs : Bool) → bytes_eq (codes "serve") word ≡ serves → bytes_eq (codes "check") word ≡ checks → bytes_eq (codes "dump") word ≡ dumps → bytes_eq (codes "load") word ≡ loads → bytes_eq (codes "storm") word ≡ storms → bytes_eq (codes "get") word ≡ gets → bytes_eq (codes "put") word ≡ puts → bytes_eq (codes "del") word ≡ dels → bytes_eq (codes "swap") word ≡ swaps → bytes_eq (codes "pairs") word ≡ pairs
+    → Agrees (cond serves (serve_asked rest) (cond checks (option_map Check (path_named rest)) (cond dumps (option_map Dump (path_named rest)) (cond loads (option_map Load (path_named rest)) (cond storms (storm_asked rest) (cond gets (get_asked rest) (cond puts (put_asked rest) (cond dels (del_asked rest) (cond swaps (swap_asked rest) (cond pairs (pairs_asked rest) None))))))))))
     (top_kinds (word ∷ rest))
-command_agrees word rest true checks dumps loads storms gets puts dels swaps s c d l o g p e w =
+command_agrees word rest true checks dumps loads storms gets puts dels swaps pairs s c d l o g p e w i =
     let left = subst (Agrees (serve_asked rest)) (sym (serve_leaves rest)) (leaf_agrees rest) in
     subst (λ w. Agrees (serve_asked rest) (top_kinds (w ∷ rest))) (is_name (codes "serve") word s) left
-command_agrees word rest false true dumps loads storms gets puts dels swaps s c d l o g p e w =
+command_agrees word rest false true dumps loads storms gets puts dels swaps pairs s c d l o g p e w i =
     let left = subst (Agrees (option_map Check (path_named rest))) (sym (check_leaves rest)) (agrees_as Check _ _ (path_agrees rest)) in
     subst (λ w. Agrees (option_map Check (path_named rest)) (top_kinds (w ∷ rest))) (is_name (codes "check") word c) left
-command_agrees word rest false false true loads storms gets puts dels swaps s c d l o g p e w =
+command_agrees word rest false false true loads storms gets puts dels swaps pairs s c d l o g p e w i =
     let left = subst (Agrees (option_map Dump (path_named rest))) (sym (dump_leaves rest)) (agrees_as Dump _ _ (path_agrees rest)) in
     subst (λ w. Agrees (option_map Dump (path_named rest)) (top_kinds (w ∷ rest))) (is_name (codes "dump") word d) left
-command_agrees word rest false false false true storms gets puts dels swaps s c d l o g p e w =
+command_agrees word rest false false false true storms gets puts dels swaps pairs s c d l o g p e w i =
     let left = subst (Agrees (option_map Load (path_named rest))) (sym (load_leaves rest)) (agrees_as Load _ _ (path_agrees rest)) in
     subst (λ w. Agrees (option_map Load (path_named rest)) (top_kinds (w ∷ rest))) (is_name (codes "load") word l) left
-command_agrees word rest false false false false true gets puts dels swaps s c d l o g p e w =
+command_agrees word rest false false false false true gets puts dels swaps pairs s c d l o g p e w i =
     let left = subst (Agrees (storm_asked rest)) (sym (storm_leaves rest)) (storm_agrees rest) in
     subst (λ w. Agrees (storm_asked rest) (top_kinds (w ∷ rest))) (is_name (codes "storm") word o) left
-command_agrees word rest false false false false false true puts dels swaps s c d l o g p e w =
+command_agrees word rest false false false false false true puts dels swaps pairs s c d l o g p e w i =
     let left = subst (Agrees (get_asked rest)) (sym (get_leaves rest)) (agrees_as got_by _ _ (key_agrees rest)) in
     subst (λ w. Agrees (get_asked rest) (top_kinds (w ∷ rest))) (is_name (codes "get") word g) left
-command_agrees word rest false false false false false false true dels swaps s c d l o g p e w =
+command_agrees word rest false false false false false false true dels swaps pairs s c d l o g p e w i =
     let left = subst (Agrees (put_asked rest)) (sym (put_leaves rest)) (agrees_as put_by _ _ (put_agrees rest)) in
     subst (λ w. Agrees (put_asked rest) (top_kinds (w ∷ rest))) (is_name (codes "put") word p) left
-command_agrees word rest false false false false false false false true swaps s c d l o g p e w =
+command_agrees word rest false false false false false false false true swaps pairs s c d l o g p e w i =
     let left = subst (Agrees (del_asked rest)) (sym (del_leaves rest)) (agrees_as deleted_by _ _ (key_agrees rest)) in
     subst (λ w. Agrees (del_asked rest) (top_kinds (w ∷ rest))) (is_name (codes "del") word e) left
-command_agrees word rest false false false false false false false false true s c d l o g p e w =
+command_agrees word rest false false false false false false false false true pairs s c d l o g p e w i =
     let left = subst (Agrees (swap_asked rest)) (sym (swap_leaves rest)) (agrees_as swapped_by _ _ (swap_agrees rest)) in
     subst (λ w. Agrees (swap_asked rest) (top_kinds (w ∷ rest))) (is_name (codes "swap") word w) left
-command_agrees word rest false false false false false false false false false s c d l o g p e w = other_fails word s c d l o g p e w rest (bytes_eq (codes "help") word) (ends_options word) refl refl
+command_agrees word rest false false false false false false false false false true s c d l o g p e w i =
+    let left = subst (Agrees (pairs_asked rest)) (sym (pairs_leaves rest)) (pairs_agree rest) in
+    subst (λ w. Agrees (pairs_asked rest) (top_kinds (w ∷ rest))) (is_name (codes "pairs") word i) left
+command_agrees word rest false false false false false false false false false false s c d l o g p e w i = other_fails word s c d l o g p e w i rest (bytes_eq (codes "help") word) (ends_options word) refl refl
 
 words_agree : (words : List Text) → Agrees (asked_by words) (fault_of program words)
 unfolding clap_on_literals
 words_agree [] = tt
 words_agree (name ∷ []) = tt
 words_agree (name ∷ command ∷ rest) =
-    command_agrees command rest (bytes_eq (codes "serve") command) (bytes_eq (codes "check") command) (bytes_eq (codes "dump") command) (bytes_eq (codes "load") command) (bytes_eq (codes "storm") command) (bytes_eq (codes "get") command) (bytes_eq (codes "put") command) (bytes_eq (codes "del") command) (bytes_eq (codes "swap") command) refl refl refl refl refl refl refl refl refl
+    command_agrees command rest (bytes_eq (codes "serve") command) (bytes_eq (codes "check") command) (bytes_eq (codes "dump") command) (bytes_eq (codes "load") command) (bytes_eq (codes "storm") command) (bytes_eq (codes "get") command) (bytes_eq (codes "put") command) (bytes_eq (codes "del") command) (bytes_eq (codes "swap") command) (bytes_eq (codes "pairs") command) refl refl refl refl refl refl refl refl refl refl
 
 -- ---- the command that is met, and its values
 
@@ -381,6 +435,10 @@ swap_command_met : (name : Text) (words : List Text) → subcommand_of program (
 unfolding clap_on_literals
 swap_command_met name words = met_at (codes "swap") words
 
+pairs_command_met : (name : Text) (words : List Text) → subcommand_of program (name ∷ codes "pairs" ∷ words) ≡ Some (codes "pairs", rows_after pairs_flags [] words)
+unfolding clap_on_literals
+pairs_command_met name words = met_at (codes "pairs") words
+
 -- the words behind a command with options ask for no other command
 is_by : (by : List Use → Asked) (command : Text) → ((uses : List Use) → command ≡ command_of (by uses)) → (read : Option (List Use)) (asked : Asked) → option_map by read ≡ Some asked → command ≡ command_of asked
 is_by by command is None asked named = cc
@@ -398,6 +456,13 @@ storm_is_met name rest asked named = record {
   rows = rows_after storm_flags [] rest;
   met = storm_met name rest ∙ ap (λ command. Some (command, rows_after storm_flags [] rest)) (is_by stormed_by (codes "storm") (λ uses. refl) (uses_named storm_names rest) asked named);
   values = storm_leaf_met rest asked named;
+}
+
+pairs_is_met : (name : Text) (rest : List Text) (asked : Asked) → pairs_asked rest ≡ Some asked → Meets program (name ∷ codes "pairs" ∷ rest) asked
+pairs_is_met name rest asked named = record {
+  rows = rows_after pairs_flags [] rest;
+  met = pairs_command_met name rest ∙ ap (λ command. Some (command, rows_after pairs_flags [] rest)) (is_by paired_by (codes "pairs") (λ uses. refl) (uses_and_path pairs_names rest) asked named);
+  values = pairs_met rest asked named;
 }
 
 -- and so of a command about a path
@@ -444,34 +509,36 @@ swap_is_met name rest (Some words) asked named same = let has = swap_met rest wo
   values = (has.path, has.key, has.old, has.new);
 })
 
-command_met : (name word : Text) (rest : List Text) (serves checks dumps loads storms gets puts dels swaps : Bool) (asked : Asked) → bytes_eq (codes "serve") word ≡ serves → bytes_eq (codes "check") word ≡ checks → bytes_eq (codes "dump") word ≡ dumps → bytes_eq (codes "load") word ≡ loads → bytes_eq (codes "storm") word ≡ storms → bytes_eq (codes "get") word ≡ gets → bytes_eq (codes "put") word ≡ puts → bytes_eq (codes "del") word ≡ dels → bytes_eq (codes "swap") word ≡ swaps
-    → (cond serves (serve_asked rest) (cond checks (option_map Check (path_named rest)) (cond dumps (option_map Dump (path_named rest)) (cond loads (option_map Load (path_named rest)) (cond storms (storm_asked rest) (cond gets (get_asked rest) (cond puts (put_asked rest) (cond dels (del_asked rest) (cond swaps (swap_asked rest) None))))))))) ≡ Some asked
+command_met : (name word : Text) (rest : List Text) (serves checks dumps loads storms gets puts dels swaps pairs : Bool) (asked : Asked) → bytes_eq (codes "serve") word ≡ serves → bytes_eq (codes "check") word ≡ checks → bytes_eq (codes "dump") word ≡ dumps → bytes_eq (codes "load") word ≡ loads → bytes_eq (codes "storm") word ≡ storms → bytes_eq (codes "get") word ≡ gets → bytes_eq (codes "put") word ≡ puts → bytes_eq (codes "del") word ≡ dels → bytes_eq (codes "swap") word ≡ swaps → bytes_eq (codes "pairs") word ≡ pairs
+    → (cond serves (serve_asked rest) (cond checks (option_map Check (path_named rest)) (cond dumps (option_map Dump (path_named rest)) (cond loads (option_map Load (path_named rest)) (cond storms (storm_asked rest) (cond gets (get_asked rest) (cond puts (put_asked rest) (cond dels (del_asked rest) (cond swaps (swap_asked rest) (cond pairs (pairs_asked rest) None)))))))))) ≡ Some asked
     → Meets program (name ∷ word ∷ rest) asked
-command_met name word rest true checks dumps loads storms gets puts dels swaps asked s c d l o g p e w named =
+command_met name word rest true checks dumps loads storms gets puts dels swaps pairs asked s c d l o g p e w i named =
     subst (λ w. Meets program (name ∷ w ∷ rest) asked) (is_name (codes "serve") word s) (serve_is_met name rest asked named)
-command_met name word rest false true dumps loads storms gets puts dels swaps asked s c d l o g p e w named =
+command_met name word rest false true dumps loads storms gets puts dels swaps pairs asked s c d l o g p e w i named =
     subst (λ w. Meets program (name ∷ w ∷ rest) asked) (is_name (codes "check") word c) (path_is_met name (codes "check") Check (λ path. refl) (λ path rows is. is) rest (check_met name rest) (path_named rest) asked refl named)
-command_met name word rest false false true loads storms gets puts dels swaps asked s c d l o g p e w named =
+command_met name word rest false false true loads storms gets puts dels swaps pairs asked s c d l o g p e w i named =
     subst (λ w. Meets program (name ∷ w ∷ rest) asked) (is_name (codes "dump") word d) (path_is_met name (codes "dump") Dump (λ path. refl) (λ path rows is. is) rest (dump_met name rest) (path_named rest) asked refl named)
-command_met name word rest false false false true storms gets puts dels swaps asked s c d l o g p e w named =
+command_met name word rest false false false true storms gets puts dels swaps pairs asked s c d l o g p e w i named =
     subst (λ w. Meets program (name ∷ w ∷ rest) asked) (is_name (codes "load") word l) (path_is_met name (codes "load") Load (λ path. refl) (λ path rows is. is) rest (load_met name rest) (path_named rest) asked refl named)
-command_met name word rest false false false false true gets puts dels swaps asked s c d l o g p e w named =
+command_met name word rest false false false false true gets puts dels swaps pairs asked s c d l o g p e w i named =
     subst (λ w. Meets program (name ∷ w ∷ rest) asked) (is_name (codes "storm") word o) (storm_is_met name rest asked named)
-command_met name word rest false false false false false true puts dels swaps asked s c d l o g p e w named =
+command_met name word rest false false false false false true puts dels swaps pairs asked s c d l o g p e w i named =
     subst (λ w. Meets program (name ∷ w ∷ rest) asked) (is_name (codes "get") word g) (get_is_met name rest (path_and_key rest) asked refl named)
-command_met name word rest false false false false false false true dels swaps asked s c d l o g p e w named =
+command_met name word rest false false false false false false true dels swaps pairs asked s c d l o g p e w i named =
     subst (λ w. Meets program (name ∷ w ∷ rest) asked) (is_name (codes "put") word p) (put_is_met name rest (path_and_two rest) asked refl named)
-command_met name word rest false false false false false false false true swaps asked s c d l o g p e w named =
+command_met name word rest false false false false false false false true swaps pairs asked s c d l o g p e w i named =
     subst (λ w. Meets program (name ∷ w ∷ rest) asked) (is_name (codes "del") word e) (del_is_met name rest (path_and_key rest) asked refl named)
-command_met name word rest false false false false false false false false true asked s c d l o g p e w named =
+command_met name word rest false false false false false false false false true pairs asked s c d l o g p e w i named =
     subst (λ w. Meets program (name ∷ w ∷ rest) asked) (is_name (codes "swap") word w) (swap_is_met name rest (path_and_three rest) asked refl named)
-command_met name word rest false false false false false false false false false asked s c d l o g p e w named = cc
+command_met name word rest false false false false false false false false false true asked s c d l o g p e w i named =
+    subst (λ w. Meets program (name ∷ w ∷ rest) asked) (is_name (codes "pairs") word i) (pairs_is_met name rest asked named)
+command_met name word rest false false false false false false false false false false asked s c d l o g p e w i named = cc
 
 asked_met : (words : List Text) (asked : Asked) → asked_by words ≡ Some asked → Meets program words asked
 asked_met [] asked named = cc
 asked_met (name ∷ []) asked named = cc
 asked_met (name ∷ command ∷ rest) asked named =
-    command_met name command rest (bytes_eq (codes "serve") command) (bytes_eq (codes "check") command) (bytes_eq (codes "dump") command) (bytes_eq (codes "load") command) (bytes_eq (codes "storm") command) (bytes_eq (codes "get") command) (bytes_eq (codes "put") command) (bytes_eq (codes "del") command) (bytes_eq (codes "swap") command) asked refl refl refl refl refl refl refl refl refl named
+    command_met name command rest (bytes_eq (codes "serve") command) (bytes_eq (codes "check") command) (bytes_eq (codes "dump") command) (bytes_eq (codes "load") command) (bytes_eq (codes "storm") command) (bytes_eq (codes "get") command) (bytes_eq (codes "put") command) (bytes_eq (codes "del") command) (bytes_eq (codes "swap") command) (bytes_eq (codes "pairs") command) asked refl refl refl refl refl refl refl refl refl refl named
 
 -- ---- the version
 
@@ -549,6 +616,7 @@ serves (Get path word) own opened saved is opens saves = absurd (let never : 115
 serves (Put path key value) own opened saved is opens saves = absurd (let never : 115 ≡ 112 = ap (λ (word : Text). slice_index_or word 0 0) is.command_is in omega arith)
 serves (Del path key) own opened saved is opens saves = absurd (let never : 115 ≡ 100 = ap (λ (word : Text). slice_index_or word 0 0) is.command_is in omega arith)
 serves (Swap path key old new) own opened saved is opens saves = absurd (let never : 101 ≡ 119 = ap (λ (word : Text). slice_index_or word 1 0) is.command_is in omega arith)
+serves (Pairs path texts) own opened saved is opens saves = absurd (let never : 115 ≡ 112 = ap (λ (word : Text). slice_index_or word 0 0) is.command_is in omega arith)
 
 -- a path, as it was read
 same_path : (own : ArgMatches) (path found : Text) → first_of path_id (rows_of (found_of own)) ≡ Some path → Some found ≡ first_value (found_of own) path_id → path ≡ found
@@ -567,6 +635,7 @@ checks (Get file word) own is path read = absurd (let never : 99 ≡ 103 = ap (�
 checks (Put file key value) own is path read = absurd (let never : 99 ≡ 112 = ap (λ (word : Text). slice_index_or word 0 0) is.command_is in omega arith)
 checks (Del file key) own is path read = absurd (let never : 99 ≡ 100 = ap (λ (word : Text). slice_index_or word 0 0) is.command_is in omega arith)
 checks (Swap file key old new) own is path read = absurd (let never : 99 ≡ 115 = ap (λ (word : Text). slice_index_or word 0 0) is.command_is in omega arith)
+checks (Pairs file texts) own is path read = absurd (let never : 99 ≡ 112 = ap (λ (word : Text). slice_index_or word 0 0) is.command_is in omega arith)
 
 pub dumps : (asked : Asked) (own : ArgMatches) → IsOwn (codes "dump") own asked → (path : Text) → Some path ≡ first_value (found_of own) path_id → Some asked ≡ Some (Dump path)
 dumps (Serve opening saving) own is path read = absurd (let never : 100 ≡ 115 = ap (λ (word : Text). slice_index_or word 0 0) is.command_is in omega arith)
@@ -578,6 +647,7 @@ dumps (Get file word) own is path read = absurd (let never : 100 ≡ 103 = ap (�
 dumps (Put file key value) own is path read = absurd (let never : 100 ≡ 112 = ap (λ (word : Text). slice_index_or word 0 0) is.command_is in omega arith)
 dumps (Del file key) own is path read = absurd (let never : 117 ≡ 101 = ap (λ (word : Text). slice_index_or word 1 0) is.command_is in omega arith)
 dumps (Swap file key old new) own is path read = absurd (let never : 100 ≡ 115 = ap (λ (word : Text). slice_index_or word 0 0) is.command_is in omega arith)
+dumps (Pairs file texts) own is path read = absurd (let never : 100 ≡ 112 = ap (λ (word : Text). slice_index_or word 0 0) is.command_is in omega arith)
 
 pub loads : (asked : Asked) (own : ArgMatches) → IsOwn (codes "load") own asked → (path : Text) → Some path ≡ first_value (found_of own) path_id → Some asked ≡ Some (Load path)
 loads (Serve opening saving) own is path read = absurd (let never : 108 ≡ 115 = ap (λ (word : Text). slice_index_or word 0 0) is.command_is in omega arith)
@@ -589,6 +659,7 @@ loads (Get file word) own is path read = absurd (let never : 108 ≡ 103 = ap (�
 loads (Put file key value) own is path read = absurd (let never : 108 ≡ 112 = ap (λ (word : Text). slice_index_or word 0 0) is.command_is in omega arith)
 loads (Del file key) own is path read = absurd (let never : 108 ≡ 100 = ap (λ (word : Text). slice_index_or word 0 0) is.command_is in omega arith)
 loads (Swap file key old new) own is path read = absurd (let never : 108 ≡ 115 = ap (λ (word : Text). slice_index_or word 0 0) is.command_is in omega arith)
+loads (Pairs file texts) own is path read = absurd (let never : 108 ≡ 112 = ap (λ (word : Text). slice_index_or word 0 0) is.command_is in omega arith)
 
 -- a text, as it was read
 same_text : (own : ArgMatches) (name : Text) (text : Option Text) → first_of name (rows_of (found_of own)) ≡ text → text ≡ first_value (found_of own) name
@@ -603,6 +674,7 @@ storms (Get path word) own is = absurd (let never : 115 ≡ 103 = ap (λ (word :
 storms (Put path key value) own is = absurd (let never : 115 ≡ 112 = ap (λ (word : Text). slice_index_or word 0 0) is.command_is in omega arith)
 storms (Del path key) own is = absurd (let never : 115 ≡ 100 = ap (λ (word : Text). slice_index_or word 0 0) is.command_is in omega arith)
 storms (Swap path key old new) own is = absurd (let never : 116 ≡ 119 = ap (λ (word : Text). slice_index_or word 1 0) is.command_is in omega arith)
+storms (Pairs path texts) own is = absurd (let never : 115 ≡ 112 = ap (λ (word : Text). slice_index_or word 0 0) is.command_is in omega arith)
 storms (Storm texts) own is = ap (λ texts. Some (Storm texts)) (same_texts is.values)
   where
     same_texts : HasTexts texts (rows_of (found_of own)) → texts ≡ texts_of (found_of own)
@@ -626,6 +698,7 @@ path_given (Get path word) command own is other = has_path own path is.values.0
 path_given (Put path key value) command own is other = has_path own path is.values.0
 path_given (Del path key) command own is other = has_path own path is.values.0
 path_given (Swap path key old new) command own is other = has_path own path is.values.0
+path_given (Pairs path texts) command own is other = has_path own path is.values.0
 
 -- a get's words, as they were read
 pub key_given : (asked : Asked) (own : ArgMatches) → IsOwn (codes "get") own asked → IsSome (first_value (found_of own) key_id)
@@ -638,6 +711,7 @@ key_given (Get path word) own is = subst IsSome (sym (first_value-rows (found_of
 key_given (Put path key value) own is = absurd (let never : 103 ≡ 112 = ap (λ (word : Text). slice_index_or word 0 0) is.command_is in omega arith)
 key_given (Del path key) own is = absurd (let never : 103 ≡ 100 = ap (λ (word : Text). slice_index_or word 0 0) is.command_is in omega arith)
 key_given (Swap path key old new) own is = absurd (let never : 103 ≡ 115 = ap (λ (word : Text). slice_index_or word 0 0) is.command_is in omega arith)
+key_given (Pairs path texts) own is = absurd (let never : 103 ≡ 112 = ap (λ (word : Text). slice_index_or word 0 0) is.command_is in omega arith)
 
 pub record GivesKey (asked : Asked) (own : ArgMatches) : Type 0 where
   pub path : Text
@@ -655,6 +729,7 @@ gets (Storm texts) own is = absurd (let never : 103 ≡ 115 = ap (λ (word : Tex
 gets (Put path key value) own is = absurd (let never : 103 ≡ 112 = ap (λ (word : Text). slice_index_or word 0 0) is.command_is in omega arith)
 gets (Del path key) own is = absurd (let never : 103 ≡ 100 = ap (λ (word : Text). slice_index_or word 0 0) is.command_is in omega arith)
 gets (Swap path key old new) own is = absurd (let never : 103 ≡ 115 = ap (λ (word : Text). slice_index_or word 0 0) is.command_is in omega arith)
+gets (Pairs path texts) own is = absurd (let never : 103 ≡ 112 = ap (λ (word : Text). slice_index_or word 0 0) is.command_is in omega arith)
 gets (Get path word) own is = record {
   path = path;
   word = word;
@@ -682,6 +757,7 @@ puts (Storm texts) own is = absurd (let never : 112 ≡ 115 = ap (λ (word : Tex
 puts (Get path word) own is = absurd (let never : 112 ≡ 103 = ap (λ (word : Text). slice_index_or word 0 0) is.command_is in omega arith)
 puts (Del path key) own is = absurd (let never : 112 ≡ 100 = ap (λ (word : Text). slice_index_or word 0 0) is.command_is in omega arith)
 puts (Swap path key old new) own is = absurd (let never : 112 ≡ 115 = ap (λ (word : Text). slice_index_or word 0 0) is.command_is in omega arith)
+puts (Pairs path texts) own is = absurd (let never : 117 ≡ 97 = ap (λ (word : Text). slice_index_or word 1 0) is.command_is in omega arith)
 puts (Put path key value) own is = record {
   path = path;
   key = key;
@@ -709,6 +785,7 @@ dels (Storm texts) own is = absurd (let never : 100 ≡ 115 = ap (λ (word : Tex
 dels (Get path word) own is = absurd (let never : 100 ≡ 103 = ap (λ (word : Text). slice_index_or word 0 0) is.command_is in omega arith)
 dels (Put path key value) own is = absurd (let never : 100 ≡ 112 = ap (λ (word : Text). slice_index_or word 0 0) is.command_is in omega arith)
 dels (Swap path key old new) own is = absurd (let never : 100 ≡ 115 = ap (λ (word : Text). slice_index_or word 0 0) is.command_is in omega arith)
+dels (Pairs path texts) own is = absurd (let never : 100 ≡ 112 = ap (λ (word : Text). slice_index_or word 0 0) is.command_is in omega arith)
 dels (Del path key) own is = record {
   path = path;
   key = key;
@@ -738,6 +815,7 @@ swaps (Storm texts) own is = absurd (let never : 119 ≡ 116 = ap (λ (word : Te
 swaps (Get path word) own is = absurd (let never : 115 ≡ 103 = ap (λ (word : Text). slice_index_or word 0 0) is.command_is in omega arith)
 swaps (Put path key value) own is = absurd (let never : 115 ≡ 112 = ap (λ (word : Text). slice_index_or word 0 0) is.command_is in omega arith)
 swaps (Del path key) own is = absurd (let never : 115 ≡ 100 = ap (λ (word : Text). slice_index_or word 0 0) is.command_is in omega arith)
+swaps (Pairs path texts) own is = absurd (let never : 115 ≡ 112 = ap (λ (word : Text). slice_index_or word 0 0) is.command_is in omega arith)
 swaps (Swap path key old new) own is = record {
   path = path;
   key = key;
@@ -750,6 +828,33 @@ swaps (Swap path key old new) own is = record {
   new_is = sym (first_value-rows (found_of own) new_id ∙ is.values.3);
 }
 
+-- the path of pairs, and its texts, as they were read
+pub record GivesPairs (asked : Asked) (own : ArgMatches) : Type 0 where
+  pub path : Text
+  pub asked_is : Some asked ≡ Some (Pairs path (pairs_texts_of (found_of own)))
+  pub path_is : Some path ≡ first_value (found_of own) path_id
+
+pub pairs : (asked : Asked) (own : ArgMatches) → IsOwn (codes "pairs") own asked → GivesPairs asked own
+pairs (Serve opening saving) own is = absurd (let never : 112 ≡ 115 = ap (λ (word : Text). slice_index_or word 0 0) is.command_is in omega arith)
+pairs (Check path) own is = absurd (let never : 112 ≡ 99 = ap (λ (word : Text). slice_index_or word 0 0) is.command_is in omega arith)
+pairs (Dump path) own is = absurd (let never : 112 ≡ 100 = ap (λ (word : Text). slice_index_or word 0 0) is.command_is in omega arith)
+pairs (Load path) own is = absurd (let never : 112 ≡ 108 = ap (λ (word : Text). slice_index_or word 0 0) is.command_is in omega arith)
+pairs (Storm texts) own is = absurd (let never : 112 ≡ 115 = ap (λ (word : Text). slice_index_or word 0 0) is.command_is in omega arith)
+pairs (Get path word) own is = absurd (let never : 112 ≡ 103 = ap (λ (word : Text). slice_index_or word 0 0) is.command_is in omega arith)
+pairs (Put path key value) own is = absurd (let never : 97 ≡ 117 = ap (λ (word : Text). slice_index_or word 1 0) is.command_is in omega arith)
+pairs (Del path key) own is = absurd (let never : 112 ≡ 100 = ap (λ (word : Text). slice_index_or word 0 0) is.command_is in omega arith)
+pairs (Swap path key old new) own is = absurd (let never : 112 ≡ 115 = ap (λ (word : Text). slice_index_or word 0 0) is.command_is in omega arith)
+pairs (Pairs path texts) own is = record {
+  path = path;
+  asked_is = ap (λ texts. Some (Pairs path texts)) (same_texts is.values.1);
+  path_is = sym (first_value-rows (found_of own) path_id ∙ is.values.0);
+}
+  where
+    same_texts : HasPairsTexts texts (rows_of (found_of own)) → texts ≡ pairs_texts_of (found_of own)
+    same_texts has =
+        ap₂ (λ cap (p : Option Text × Option Text). record { cap = cap; wards = p.0; keyer = p.1 }) (same_text own cap_name texts.cap has.cap)
+        (ap₂ (λ a b. (a, b)) (same_text own wards_name texts.wards has.wards) (same_text own keyer_name texts.keyer has.keyer))
+
 pub no_options : (command : Text) → (command ≡ codes "check") ⊎ (command ≡ codes "dump") ⊎ (command ≡ codes "load") ⊎ (command ≡ codes "get") → (command ≡ codes "serve" → ⊥) × (command ≡ codes "storm" → ⊥)
 no_options command is = (λ same. begins_apart is (ap (λ (word : Text). slice_index_or word 0 0) same), λ same. begins_apart is (ap (λ (word : Text). slice_index_or word 0 0) same))
   where
@@ -760,16 +865,17 @@ no_options command is = (λ same. begins_apart is (ap (λ (word : Text). slice_i
     begins_apart (inr (inr (inr is))) begins = let never : 103 ≡ 115 = ap (λ (word : Text). slice_index_or word 0 0) (sym is) ∙ begins in absurd (omega (arith, never))
 
 -- there is no other command
-pub is_command : (asked : Asked) (command : Text) (own : ArgMatches) → IsOwn command own asked → (command ≡ codes "serve" → ⊥) → (command ≡ codes "check" → ⊥) → (command ≡ codes "dump" → ⊥) → (command ≡ codes "load" → ⊥) → (command ≡ codes "storm" → ⊥) → (command ≡ codes "get" → ⊥) → (command ≡ codes "put" → ⊥) → (command ≡ codes "del" → ⊥) → (command ≡ codes "swap" → ⊥) → ⊥
-is_command (Serve opening saving) command own is no_serve no_check no_dump no_load no_storm no_get no_put no_del no_swap = no_serve is.command_is
-is_command (Check path) command own is no_serve no_check no_dump no_load no_storm no_get no_put no_del no_swap = no_check is.command_is
-is_command (Dump path) command own is no_serve no_check no_dump no_load no_storm no_get no_put no_del no_swap = no_dump is.command_is
-is_command (Load path) command own is no_serve no_check no_dump no_load no_storm no_get no_put no_del no_swap = no_load is.command_is
-is_command (Storm texts) command own is no_serve no_check no_dump no_load no_storm no_get no_put no_del no_swap = no_storm is.command_is
-is_command (Get path word) command own is no_serve no_check no_dump no_load no_storm no_get no_put no_del no_swap = no_get is.command_is
-is_command (Put path key value) command own is no_serve no_check no_dump no_load no_storm no_get no_put no_del no_swap = no_put is.command_is
-is_command (Del path key) command own is no_serve no_check no_dump no_load no_storm no_get no_put no_del no_swap = no_del is.command_is
-is_command (Swap path key old new) command own is no_serve no_check no_dump no_load no_storm no_get no_put no_del no_swap = no_swap is.command_is
+pub is_command : (asked : Asked) (command : Text) (own : ArgMatches) → IsOwn command own asked → (command ≡ codes "serve" → ⊥) → (command ≡ codes "check" → ⊥) → (command ≡ codes "dump" → ⊥) → (command ≡ codes "load" → ⊥) → (command ≡ codes "storm" → ⊥) → (command ≡ codes "get" → ⊥) → (command ≡ codes "put" → ⊥) → (command ≡ codes "del" → ⊥) → (command ≡ codes "swap" → ⊥) → (command ≡ codes "pairs" → ⊥) → ⊥
+is_command (Serve opening saving) command own is no_serve no_check no_dump no_load no_storm no_get no_put no_del no_swap no_pairs = no_serve is.command_is
+is_command (Check path) command own is no_serve no_check no_dump no_load no_storm no_get no_put no_del no_swap no_pairs = no_check is.command_is
+is_command (Dump path) command own is no_serve no_check no_dump no_load no_storm no_get no_put no_del no_swap no_pairs = no_dump is.command_is
+is_command (Load path) command own is no_serve no_check no_dump no_load no_storm no_get no_put no_del no_swap no_pairs = no_load is.command_is
+is_command (Storm texts) command own is no_serve no_check no_dump no_load no_storm no_get no_put no_del no_swap no_pairs = no_storm is.command_is
+is_command (Get path word) command own is no_serve no_check no_dump no_load no_storm no_get no_put no_del no_swap no_pairs = no_get is.command_is
+is_command (Put path key value) command own is no_serve no_check no_dump no_load no_storm no_get no_put no_del no_swap no_pairs = no_put is.command_is
+is_command (Del path key) command own is no_serve no_check no_dump no_load no_storm no_get no_put no_del no_swap no_pairs = no_del is.command_is
+is_command (Swap path key old new) command own is no_serve no_check no_dump no_load no_storm no_get no_put no_del no_swap no_pairs = no_swap is.command_is
+is_command (Pairs path texts) command own is no_serve no_check no_dump no_load no_storm no_get no_put no_del no_swap no_pairs = no_pairs is.command_is
 
 -- ---- the job of a command
 

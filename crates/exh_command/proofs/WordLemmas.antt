@@ -207,29 +207,31 @@ module _ (s : Shape) (rules : List Rule) (asking_short : (c : ℕ) → IsAsking 
   char_fails : (waiting : Waiting) (x : ℕ) (xs : Text) (c : ℕ) → Fails (by_char waiting (x ∷ xs) (Some c))
   char_fails waiting x xs c = first_fails _ _ (short_fails _ _ (arg_by_short rules c) (asking_short c))
 
-  -- a word that is no flag is one too many, where no place is left
-  module _ (none_placed : arg_by_index rules position ≡ None) where
-    stray_fails : (leaf : Bool) → s.is_leaf ≡ leaf → Fails (step_fault level position holding value)
-    stray_fails true e = rw (none_placed, e) tt
-    stray_fails false e = rw (none_placed, e) tt
-
+  -- a word that is no flag fails where its place takes none
+  module _ (strays : Fails (step_fault level position holding value)) where
     by_char_fails : (x : ℕ) (xs : Text) (first : Option ℕ) → Fails (by_char idle (x ∷ xs) first)
-    by_char_fails x xs None = stray_fails s.is_leaf refl
+    by_char_fails x xs None = strays
     by_char_fails x xs (Some c) = char_fails idle x xs c
 
     by_short_fails : (short : Option Text) → Fails (by_short idle short)
     unfolding flags_fault bundle_met
-    by_short_fails None = stray_fails s.is_leaf refl
-    by_short_fails (Some []) = stray_fails s.is_leaf refl
+    by_short_fails None = strays
+    by_short_fails (Some []) = strays
     by_short_fails (Some (x ∷ xs)) = by_char_fails x xs (slice_get (chars (x ∷ xs)) 0)
 
     pub by_long_fails : (long : Option (Text × Option Text)) → AsksLong rules long → Fails (by_long idle long)
     by_long_fails (Some p) asks = first_fails _ _ (long_fails p.1 (arg_by_long rules p.0) asks)
     by_long_fails None asks = by_short_fails (short_of word)
 
+  -- it is one too many, where no place is left
+  module _ (none_placed : arg_by_index rules position ≡ None) where
+    stray_fails : (leaf : Bool) → s.is_leaf ≡ leaf → Fails (step_fault level position holding value)
+    stray_fails true e = rw (none_placed, e) tt
+    stray_fails false e = rw (none_placed, e) tt
+
     -- any word fails but `--` and the name of a subcommand
     pub word_fails : AsksLong rules (long_of word) → (names : Names) → subcommand_met names idle word ≡ None → ends_options word ≡ false → Fails (turn_fault level names here word)
-    word_fails asks names unnamed no_end = subst (λ name. Fails (by_name name)) (sym unnamed) (rw no_end (by_long_fails (long_of word) asks))
+    word_fails asks names unnamed no_end = subst (λ name. Fails (by_name name)) (sym unnamed) (rw no_end (by_long_fails (stray_fails s.is_leaf refl) (long_of word) asks))
 
   -- an option fails also where a place is left, and where an option waits for its value
   module _ (waiting : Waiting) where

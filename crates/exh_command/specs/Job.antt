@@ -1,8 +1,10 @@
 -- The job that a command line names.
-use Rattle.std.specs.Prelude.{◌≡◌, ⊤, ℕ, ◌&&◌, leb, List, [], ◌∷◌, Option, Some, None, option_map, option_and_then, codes, if◌then◌else◌}
+use Rattle.std.specs.Prelude.{◌≡◌, ◌≤◌, ⊤, ℕ, ◌&&◌, leb, List, [], ◌∷◌, Option, Some, None, IfSome, option_map, option_and_then, unwrap_or, codes, if◌then◌else◌}
 use Rattle.std.specs.Str.{bytes_eq}
 use Rattle.exh_page.specs.declared.page.TheConstants.{CAP_LIMIT}
 use Rattle.exh_prefix.specs.declared.prefix.TheConstants.{WARD_BITS_LIMIT}
+use Rattle.exh_keyer.specs.declared.any_keyer.AnyKeyer.{AnyKeyer}
+use Rattle.exh_file_settings.specs.Keyers.{keyer_named}
 use Rattle.exh_calls.specs.declared.call.Call.{Call}
 use Rattle.exh_calls.specs.declared.call.Call.TheVariants as calls
 use Rattle.exh_text.specs.ByteWord.{bytes_of_word, key_in_range, value_in_range}
@@ -10,7 +12,7 @@ use Rattle.exh_text.specs.Numbers.{number_spelled}
 use Rattle.exh_storm_config.specs.StormConfig.{IsStormConfig}
 use Rattle.exh_storm_config.specs.declared.config.StormConfig.{StormConfig}
 use Rattle.exh_storm_config.specs.declared.config.TheConstants.{CALLERS_LIMIT, CALLS_LIMIT, COPIES_LIMIT}
-use Rattle.exh_command.specs.Words.{Use, path_and_key, path_and_three, path_and_two, path_named, uses_named, option_given}
+use Rattle.exh_command.specs.Words.{Use, path_and_key, path_and_three, path_and_two, path_name, path_named, uses_and_path, uses_named, option_given}
 use Rattle.exh_command.specs.declared.job.Job.{Job}
 use Rattle.exh_command.specs.declared.job.Job.TheVariants as jobs
 
@@ -21,6 +23,12 @@ pub record StormTexts : Type 0 where
   pub cap : Option (List ℕ)
   pub wards : Option (List ℕ)
   pub copies : Option (List ℕ)
+
+-- the texts of the settings of a text of pairs, where they were given
+pub record PairsTexts : Type 0 where
+  pub cap : Option (List ℕ)
+  pub wards : Option (List ℕ)
+  pub keyer : Option (List ℕ)
 
 -- a command, with the texts of its paths and numbers
 pub data Asked : Type 0 where
@@ -36,6 +44,8 @@ pub data Asked : Type 0 where
   Put : List ℕ → List ℕ → List ℕ → Asked
   Del : List ℕ → List ℕ → Asked
   Swap : List ℕ → List ℕ → List ℕ → List ℕ → Asked
+  -- the file, and the settings that its text is to begin with
+  Pairs : List ℕ → PairsTexts → Asked
 
 -- a job, with the texts of its paths, its numbers and the bytes of its key
 pub data Named : Type 0 where
@@ -46,6 +56,8 @@ pub data Named : Type 0 where
   Storming : StormConfig → Named
   Getting : List ℕ → List ℕ → Named
   Changing : List ℕ → Call → Named
+  -- the cap, the ward bits and the keyer that were given
+  Pairing : List ℕ → Option ℕ → Option ℕ → Option AnyKeyer → Named
 
 abbrev pub named_of : Job → Named
 named_of (jobs.Serve opened saved) = Serving (option_map (λ path. path.now) opened) (option_map (λ path. path.now) saved)
@@ -55,8 +67,9 @@ named_of (jobs.Load path) = Loading path.now
 named_of (jobs.Storm config) = Storming config
 named_of (jobs.Get path key) = Getting path.now key
 named_of (jobs.Change path call) = Changing path.now call
+named_of (jobs.Pairs path cap ward_bits keyer) = Pairing path.now cap ward_bits keyer
 
--- a storm's numbers are within the limits
+-- the numbers of a storm, and those of a text of pairs, are within the limits
 abbrev pub IsWithinLimits : Job → Type 0
 IsWithinLimits (jobs.Serve opened saved) = ⊤
 IsWithinLimits (jobs.Check path) = ⊤
@@ -65,6 +78,7 @@ IsWithinLimits (jobs.Load path) = ⊤
 IsWithinLimits (jobs.Storm config) = IsStormConfig config
 IsWithinLimits (jobs.Get path key) = ⊤
 IsWithinLimits (jobs.Change path call) = ⊤
+IsWithinLimits (jobs.Pairs path cap ward_bits keyer) = IfSome cap (λ cap. (1 ≤ cap) × (cap ≤ CAP_LIMIT)) × IfSome ward_bits (λ bits. bits ≤ WARD_BITS_LIMIT)
 
 -- ---- the words behind a command
 
@@ -141,6 +155,23 @@ swapped_by words = Swap words.0 words.1 words.2 words.3
 abbrev pub swap_asked : List (List ℕ) → Option Asked
 swap_asked words = option_map swapped_by (path_and_three words)
 
+-- `pairs` takes a path, and three options
+abbrev pub keyer_name : List ℕ
+keyer_name = codes "keyer"
+
+abbrev pub pairs_names : List (List ℕ)
+pairs_names = cap_name ∷ wards_name ∷ keyer_name ∷ []
+
+abbrev pub paired_by : List Use → Asked
+paired_by uses = Pairs (unwrap_or (option_given path_name uses) []) (record {
+  cap = option_given cap_name uses;
+  wards = option_given wards_name uses;
+  keyer = option_given keyer_name uses;
+})
+
+abbrev pub pairs_asked : List (List ℕ) → Option Asked
+pairs_asked words = option_map paired_by (uses_and_path pairs_names words)
+
 -- ---- a whole command line
 
 -- the program's name, a command, and the command's own words
@@ -156,7 +187,8 @@ asked_by (program ∷ command ∷ rest) =
     else (if bytes_eq (codes "get") command then get_asked rest
     else (if bytes_eq (codes "put") command then put_asked rest
     else (if bytes_eq (codes "del") command then del_asked rest
-    else (if bytes_eq (codes "swap") command then swap_asked rest else None))))))))
+    else (if bytes_eq (codes "swap") command then swap_asked rest
+    else (if bytes_eq (codes "pairs") command then pairs_asked rest else None)))))))))
 
 -- ---- the numbers of a storm
 
@@ -182,6 +214,26 @@ storm_of texts =
     (number_of 100 1 CALLS_LIMIT texts.calls))
     (number_of 2 1 CALLERS_LIMIT texts.callers)
 
+-- ---- the settings of a text of pairs
+
+-- a number within its range, or none, where there is no text
+abbrev pub number_given : ℕ → ℕ → Option (List ℕ) → Option (Option ℕ)
+number_given least greatest None = Some None
+number_given least greatest (Some word) = option_map (λ number. Some number) (option_and_then (within least greatest) (number_spelled word))
+
+abbrev pub keyer_given : Option (List ℕ) → Option (Option AnyKeyer)
+keyer_given None = Some None
+keyer_given (Some word) = option_map (λ keyer. Some keyer) (keyer_named word)
+
+abbrev pub pairing_of : List ℕ → PairsTexts → Option Named
+pairing_of path texts =
+    option_and_then (λ cap.
+    option_and_then (λ bits.
+    option_and_then (λ keyer. Some (Pairing path cap bits keyer))
+    (keyer_given texts.keyer))
+    (number_given 0 WARD_BITS_LIMIT texts.wards))
+    (number_given 1 CAP_LIMIT texts.cap)
+
 -- ---- the key of a get
 
 -- the key that a word spells
@@ -204,7 +256,7 @@ del_spelled key = option_map calls.Del (key_spelled key)
 abbrev pub swap_spelled : List ℕ → List ℕ → List ℕ → Option Call
 swap_spelled key old new = option_and_then (λ k. option_and_then (λ o. option_map (calls.Swap k o) (value_spelled new)) (value_spelled old)) (key_spelled key)
 
--- the job that a command comes to: of a storm where all its numbers are some, of a command about a key where its words spell a key and values
+-- the job that a command comes to: of a storm and of pairs where all their numbers and keyers are some, of a command about a key where its words spell a key and values
 abbrev pub job_asked : Asked → Option Named
 job_asked (Serve opened saved) = Some (Serving opened saved)
 job_asked (Check path) = Some (Checking path)
@@ -215,6 +267,7 @@ job_asked (Get path word) = option_map (Getting path) (key_spelled word)
 job_asked (Put path key value) = option_map (Changing path) (put_spelled key value)
 job_asked (Del path key) = option_map (Changing path) (del_spelled key)
 job_asked (Swap path key old new) = option_map (Changing path) (swap_spelled key old new)
+job_asked (Pairs path texts) = pairing_of path texts
 
 -- the job that the words of a command line name
 abbrev pub job_named : List (List ℕ) → Option Named
@@ -235,3 +288,4 @@ command_of (Get path word) = codes "get"
 command_of (Put path key value) = codes "put"
 command_of (Del path key) = codes "del"
 command_of (Swap path key old new) = codes "swap"
+command_of (Pairs path texts) = codes "pairs"

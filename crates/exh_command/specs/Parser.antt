@@ -7,7 +7,7 @@ use Rattle.clap.specs.declared.builder.command.Command.TheViews.{out-Command}
 use Rattle.clap.specs.declared.parser.matches.ArgMatches.{ArgMatches}
 use Rattle.clap.specs.declared.parser.matches.Found.{Found}
 use Rattle.clap.specs.declared.error.kind.ErrorKind.TheVariants.{DisplayVersion}
-use Rattle.exh_command.specs.Job.{Asked, Check, Del, Dump, Get, Load, Put, Serve, Storm, StormTexts, Swap, asked_by, callers_name, calls_name, cap_name, command_of, copies_name, open_name, save_name, wards_name}
+use Rattle.exh_command.specs.Job.{Asked, Check, Del, Dump, Get, Load, Pairs, PairsTexts, Put, Serve, Storm, StormTexts, Swap, asked_by, callers_name, calls_name, cap_name, command_of, copies_name, keyer_name, open_name, save_name, wards_name}
 
 -- ---- arguments
 
@@ -71,6 +71,10 @@ about_two_values name = record (new_shape name) { rules = path_rule ∷ key_rule
 abbrev pub with_options : List ℕ → List (List ℕ) → Shape
 with_options name options = record (new_shape name) { rules = map option_rule options }
 
+-- a command about a path, with such options
+abbrev pub about_path_with : List ℕ → List (List ℕ) → Shape
+about_path_with name options = record (new_shape name) { rules = path_rule ∷ map option_rule options }
+
 -- a command without subcommands
 abbrev pub only : Shape → App
 only command = record { top = command; subs = [] }
@@ -89,6 +93,12 @@ pub record HasTexts (texts : StormTexts) (rows : List Row) : Type 0 where
   pub wards : first_of wards_name rows ≡ texts.wards
   pub copies : first_of copies_name rows ≡ texts.copies
 
+-- what was met of pairs gives these texts
+pub record HasPairsTexts (texts : PairsTexts) (rows : List Row) : Type 0 where
+  pub cap : first_of cap_name rows ≡ texts.cap
+  pub wards : first_of wards_name rows ≡ texts.wards
+  pub keyer : first_of keyer_name rows ≡ texts.keyer
+
 -- what was met of a command gives these values
 abbrev pub HasValues : Asked → List Row → Type 0
 HasValues (Serve opened saved) rows = (first_of open_name rows ≡ opened) × (first_of save_name rows ≡ saved)
@@ -100,6 +110,7 @@ HasValues (Get path word) rows = (first_of path_id rows ≡ Some path) × (first
 HasValues (Put path key value) rows = (first_of path_id rows ≡ Some path) × (first_of key_id rows ≡ Some key) × (first_of value_id rows ≡ Some value)
 HasValues (Del path key) rows = (first_of path_id rows ≡ Some path) × (first_of key_id rows ≡ Some key)
 HasValues (Swap path key old new) rows = (first_of path_id rows ≡ Some path) × (first_of key_id rows ≡ Some key) × (first_of old_id rows ≡ Some old) × (first_of new_id rows ≡ Some new)
+HasValues (Pairs path texts) rows = (first_of path_id rows ≡ Some path) × HasPairsTexts texts rows
 
 -- the parser meets a command, and its values
 pub record Meets (parser : App) (words : List (List ℕ)) (asked : Asked) : Type 0 where
@@ -135,3 +146,7 @@ texts_of found = record {
   wards = first_value found wards_name;
   copies = first_value found copies_name;
 }
+
+-- and for the settings of a text of pairs
+abbrev pub pairs_texts_of : Found → PairsTexts
+pairs_texts_of found = record { cap = first_value found cap_name; wards = first_value found wards_name; keyer = first_value found keyer_name }

@@ -1,5 +1,5 @@
 -- The words behind a command: options with their values, and paths.
-use Rattle.std.specs.Prelude.{◌&&◌, ◌==◌, ◌++◌, ℕ, Bool, false, List, [], ◌∷◌, fold, find, length, nat_lt, Option, Some, None, option_map, codes, if◌then◌else◌}
+use Rattle.std.specs.Prelude.{◌&&◌, ◌==◌, ◌++◌, ℕ, Bool, false, true, not, List, [], ◌∷◌, fold, find, length, nat_lt, Option, Some, None, option_map, codes, if◌then◌else◌}
 use Rattle.std.specs.List.{list_any}
 use Rattle.std.specs.Str.{bytes_eq, chars}
 use Rattle.clap.specs.Lexer.{long_of}
@@ -113,12 +113,34 @@ abbrev pub used_by : List ℕ → Option (List ℕ) → List Use → Reading
 used_by name None uses = Wanting name uses
 used_by name (Some value) uses = with_use name value uses
 
--- the options, where the words may end so
-abbrev pub uses_read : Reading → Option (List Use)
-uses_read (Between uses) = Some uses
-uses_read (Wanting name uses) = None
-uses_read (Ended uses) = Some uses
-uses_read Wrong = None
+-- ---- a path among them
+
+abbrev pub path_name : List ℕ
+path_name = codes "PATH"
+
+abbrev pub gives_path : List Use → Bool
+gives_path uses = list_any (is_use_of path_name) uses
+
+module _ (takes_path : Bool) where
+  -- a path is taken, and isn't there yet
+  abbrev pub wants_path : List Use → Bool
+  wants_path uses = takes_path && not (gives_path uses)
+
+  -- a word that is no option is the path
+  abbrev pub after_path : (List Use → Reading) → List ℕ → List Use → Reading
+  after_path read word uses = if wants_path uses then read (uses ++ record { name = path_name; value = word } ∷ []) else Wrong
+
+  abbrev pub whole : List Use → Option (List Use)
+  whole uses = if wants_path uses then None else Some uses
+
+  -- the uses, where the words may end so
+  abbrev pub uses_read : Reading → Option (List Use)
+  uses_read (Between uses) = whole uses
+  uses_read (Wanting name uses) = None
+  uses_read (Ended uses) = whole uses
+  uses_read Wrong = None
+
+-- ---- all words behind a command with options
 
 module _ (names : List (List ℕ)) where
   abbrev pub is_named : List ℕ → Bool
@@ -129,12 +151,22 @@ module _ (names : List (List ℕ)) where
   after_option None uses = Wrong
   after_option (Some long) uses = if is_named long.0 then used_by long.0 long.1 uses else Wrong
 
+module _ (takes_path : Bool) (names : List (List ℕ)) where
   abbrev pub after_word : Reading → List ℕ → Reading
-  after_word (Between uses) word = if ends_options word then Ended uses else after_option (long_of word) uses
+  after_word (Between uses) word =
+      if ends_options word then Ended uses
+      else (if is_option word then after_option names (long_of word) uses else after_path takes_path Between word uses)
   after_word (Wanting name uses) word = if is_option word then Wrong else with_use name word uses
-  after_word (Ended uses) word = Wrong
+  after_word (Ended uses) word = after_path takes_path Ended word uses
   after_word Wrong word = Wrong
 
-  -- the options that the words use, each of these names at most once, in any order; `--` may stand behind them
-  abbrev pub uses_named : List (List ℕ) → Option (List Use)
-  uses_named words = uses_read (fold after_word (Between []) words)
+  abbrev pub uses_taken : List (List ℕ) → Option (List Use)
+  uses_taken words = uses_read takes_path (fold after_word (Between []) words)
+
+-- the options that the words use, each of these names at most once, in any order; `--` may stand behind them
+abbrev pub uses_named : List (List ℕ) → List (List ℕ) → Option (List Use)
+uses_named = uses_taken false
+
+-- the same, and a path, before them, between them, or behind them and `--`
+abbrev pub uses_and_path : List (List ℕ) → List (List ℕ) → Option (List Use)
+uses_and_path = uses_taken true

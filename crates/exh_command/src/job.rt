@@ -2,17 +2,19 @@
 ghost use Rattle.std.specs.Prelude.{◌≡◌, ◌<◌, ◌≤◌, ◌^◌, ℕ, List, Some, None, map, option_and_then, option_map, IfOk, IfErr, IfSome, IsSome};
 ghost use Rattle.clap.specs.Words.{first_value, found_of};
 ghost use Rattle.exh_command.specs.Fault.{IsWrong, TellsVersion};
-ghost use Rattle.exh_command.specs.Job.{AskForVersion, Asked, Del, Get, IsWithinLimits, Put, Storm, Swap, del_spelled, job_asked, job_named, key_spelled, named_of, number_of, put_spelled, storm_of, swap_spelled, value_spelled};
-ghost use Rattle.exh_command.specs.Parser.{IsJobMet, IsSomeJobMet, key_id, new_id, old_id, path_id, texts_of, value_id};
+ghost use Rattle.exh_command.specs.Job.{AskForVersion, Asked, Del, Get, IsWithinLimits, Pairs, Put, Storm, Swap, del_spelled, job_asked, job_named, key_spelled, keyer_given, keyer_name, named_of, number_given, number_of, pairing_of, put_spelled, storm_of, swap_spelled, value_spelled};
+ghost use Rattle.exh_command.specs.Parser.{IsJobMet, IsSomeJobMet, key_id, new_id, old_id, pairs_texts_of, path_id, texts_of, value_id};
 ghost use Rattle.exh_storm_config.specs.StormConfig.{IsStormConfig};
 
 use crate::fault::CliFault;
 use crate::parser::{
-    CALLERS, CALLS, CAP, CHECK, COPIES, DEL, DUMP, GET, KEY, LOAD, NEW, OLD, OPEN, PATH, PUT, SAVE,
-    SERVE, STORM, SWAP, VALUE, WARDS, parser, wrong_value,
+    CALLERS, CALLS, CAP, CHECK, COPIES, DEL, DUMP, GET, KEY, KEYER, LOAD, NEW, OLD, OPEN, PAIRS,
+    PATH, PUT, SAVE, SERVE, STORM, SWAP, VALUE, WARDS, parser, wrong_value,
 };
 use clap::ArgMatches;
 use exh_calls::Call;
+use exh_file_settings::keyer_named;
+use exh_keyer::AnyKeyer;
 use exh_page::{CAP_LIMIT, Key, Value};
 use exh_prefix::WARD_BITS_LIMIT;
 use exh_storm_config::{CALLERS_LIMIT, CALLS_LIMIT, COPIES_LIMIT, StormConfig};
@@ -54,6 +56,13 @@ pub enum Job<'w> {
     Change {
         path: &'w str,
         call: Call,
+    },
+    /// Print the pairs of the page file of a path, behind a first line with these settings in place of the file's.
+    Pairs {
+        path: &'w str,
+        cap: Option<u8>,
+        ward_bits: Option<u8>,
+        keyer: Option<AnyKeyer>,
     },
 }
 
@@ -100,6 +109,7 @@ fn job_met<'w>(alloc: Global, matches: &ArgMatches<'w>) -> Result<Job<'w>, CliFa
         PUT => put_job(alloc, own),
         DEL => del_job(alloc, own),
         SWAP => swap_job(alloc, own),
+        PAIRS => pairs_job(alloc, own),
         _ => unreachable!(),
     }
 }
@@ -275,6 +285,70 @@ fn key_in(own: &ArgMatches<'_>) -> Option<Key>
         unreachable!()
     };
     parse_key(word.as_bytes()).ok()
+}
+
+// The pairs of the path, with the settings that were given.
+fn pairs_job<'w>(alloc: Global, own: &ArgMatches<'w>) -> Result<Job<'w>, CliFault>
+    requires path { IsSome (first_value (found_of own.now) path_id) }
+    ensures named { IfOk result (λ job. (path : List ℕ) → Some path ≡ first_value (found_of own.now) path_id → job_asked (Pairs path (pairs_texts_of (found_of own.now))) ≡ Some (named_of job)) }
+    ensures limits { IfOk result IsWithinLimits }
+    ensures wrong { IfErr result (λ fault. IsWrong fault → (path : List ℕ) → job_asked (Pairs path (pairs_texts_of (found_of own.now))) ≡ None) }
+{
+    match pairs_in(own) {
+        Some(job) => Ok(job),
+        None => Err(CliFault::Wrong(wrong_value(alloc, wrong_setting(own))?)),
+    }
+}
+
+// The same, where each setting that was given is one.
+fn pairs_in<'w>(own: &ArgMatches<'w>) -> Option<Job<'w>>
+    requires path { IsSome (first_value (found_of own.now) path_id) }
+    ensures pairs { (path : List ℕ) → Some path ≡ first_value (found_of own.now) path_id → option_map named_of result ≡ pairing_of path (pairs_texts_of (found_of own.now)) }
+    ensures limits { IfSome result IsWithinLimits }
+{
+    Some(Job::Pairs {
+        path: path_in(own),
+        cap: given_number(own, CAP, 1, CAP_LIMIT as u8)?,
+        ward_bits: given_number(own, WARDS, 0, WARD_BITS_LIMIT)?,
+        keyer: given_keyer(own)?,
+    })
+}
+
+// What the first setting of `pairs` that is none must be.
+fn wrong_setting(own: &ArgMatches<'_>) -> &'static str {
+    if given_number(own, CAP, 1, CAP_LIMIT as u8).is_none() {
+        return "`pairs --cap` takes a number from 1 to 16";
+    }
+    if given_number(own, WARDS, 0, WARD_BITS_LIMIT).is_none() {
+        return "`pairs --wards` takes a number from 0 to 4";
+    }
+    "`pairs --keyer` takes `sha` or `plain`"
+}
+
+// The number that an option was given, from the least to the greatest, if it was given one.
+fn given_number(own: &ArgMatches<'_>, option: &str, least: u8, greatest: u8) -> Option<Option<u8>>
+    ensures number { result ≡ number_given least greatest (first_value (found_of own.now) option.now) }
+    ensures limits { IfSome result (λ number. IfSome number (λ n. (least ≤ n) × (n ≤ greatest))) }
+{
+    let Some(word) = own.get_str(option) else {
+        return Some(None);
+    };
+    let number = parse_u32(word.as_bytes())?;
+    if u32::from(least) <= number && number <= u32::from(greatest) {
+        Some(Some(number as u8))
+    } else {
+        None
+    }
+}
+
+// The keyer that was given, if one was.
+fn given_keyer(own: &ArgMatches<'_>) -> Option<Option<AnyKeyer>>
+    ensures { result ≡ keyer_given (first_value (found_of own.now) keyer_name) }
+{
+    let Some(word) = own.get_str(KEYER) else {
+        return Some(None);
+    };
+    Some(Some(keyer_named(word.as_bytes())?))
 }
 
 // The storm of the settings that were given.

@@ -1,9 +1,9 @@
 //! The parser of the command line, with the texts that a stranger reads.
 ghost use Rattle.std.specs.Prelude.{◌≡◌, IfOk, codes, false};
 ghost use Rattle.clap.specs.Words.{Shape, app_of, kind_of, new_app, rule_of, with_subcommand};
-ghost use Rattle.exh_command.specs.Job.{serve_names, storm_names};
+ghost use Rattle.exh_command.specs.Job.{pairs_names, serve_names, storm_names};
 ghost use Rattle.exh_command.specs.Program.{bare_program};
-ghost use Rattle.exh_command.specs.Parser.{HasOwnArgs, ReadsJobs, about_key, about_path, about_two_values, about_value, key_rule, only, option_rule, path_rule, with_options, word_rule};
+ghost use Rattle.exh_command.specs.Parser.{HasOwnArgs, ReadsJobs, about_key, about_path, about_path_with, about_two_values, about_value, key_rule, only, option_rule, path_rule, with_options, word_rule};
 
 use clap::error::{Error, ErrorKind};
 use clap::{Arg, Command};
@@ -36,6 +36,9 @@ pub(crate) const DEL: &str = "del";
 /// The command that gives a key another value, where it has the one that is named.
 pub(crate) const SWAP: &str = "swap";
 
+/// The command that prints pairs as the text that `load` takes.
+pub(crate) const PAIRS: &str = "pairs";
+
 /// What help calls the path of the file that a command is about.
 pub(crate) const PATH: &str = "PATH";
 
@@ -63,14 +66,17 @@ pub(crate) const CALLERS: &str = "callers";
 /// The option of `storm` that tells how many calls each caller makes.
 pub(crate) const CALLS: &str = "calls";
 
-/// The option of `storm` that tells how many records a page may have.
+/// The option of `storm` and of `pairs` that tells how many records a page may have.
 pub(crate) const CAP: &str = "cap";
 
-/// The option of `storm` that tells by how many bits the file is cut into wards.
+/// The option of `storm` and of `pairs` that tells by how many bits the file is cut into wards.
 pub(crate) const WARDS: &str = "wards";
 
 /// The option of `storm` that tells how many copies of the directory there are.
 pub(crate) const COPIES: &str = "copies";
+
+/// The option of `pairs` that names a keyer.
+pub(crate) const KEYER: &str = "keyer";
 
 // What help calls a number.
 const NUMBER: &str = "N";
@@ -86,6 +92,7 @@ const USAGE: &str = "exhash serve [--open PATH] [--save PATH] < SCRIPT
        exhash put PATH KEY VALUE
        exhash del PATH KEY
        exhash swap PATH KEY OLD NEW
+       exhash pairs PATH [--cap N] [--wards N] [--keyer K]
        exhash storm [--callers N] [--calls N] [--cap N] [--wards N]
          [--copies N]
 
@@ -345,6 +352,30 @@ the file is refused or not saved; 2 where the command line is wrong, or asks for
 help.
 The formats are in docs/FORMATS.md.";
 
+const PAIRS_USAGE: &str = "exhash pairs PATH [--cap N] [--wards N] [--keyer K]
+
+A PATH that begins with a dash stands behind `--`, as in pairs -- -x.
+
+Example:
+  ./exhash pairs examples/three-pairs.files/three-pairs.exh --cap 16";
+
+const PAIRED: &str = "\
+It prints the text that `exhash load` takes: a `file` line with the settings of
+the file, and its pairs, page by page, as
+  file cap=2 wards=0 copies=1 keyer=plain
+  #00 a
+  @ x
+  #80 b
+The options change the first line alone. A load of the text makes a file that
+has lost many keys small again, or one with other settings: with its own keyer
+and no smaller a cap each pair finds room. A load takes 1048576 bytes at most.
+Other files are refused as by `exhash check`; where memory ends the last line is
+`refused 10`.
+
+Exit status: 0 where the file is legal; 1 where it is refused or the run breaks
+off; 2 where the command line is wrong, or asks for help.
+The formats are in docs/FORMATS.md.";
+
 const STORM_USAGE: &str = "exhash storm [--callers N] [--calls N] [--cap N] [--wards N]
          [--copies N]
 
@@ -441,7 +472,8 @@ pub(crate) fn parser<'a>(alloc: Global) -> Result<Command<'a>, AllocError>
         SWAP_USAGE,
         SWAPPED,
     );
-    with_command(deleting, swap)
+    let swapping = with_command(deleting, swap)?;
+    with_command(swapping, pairs(alloc))
 }
 
 // A command with one more below it, if that was made. It takes both, so that where one isn't made its caller has nothing
@@ -532,6 +564,38 @@ fn storm<'a>(alloc: Global) -> Result<Command<'a>, AllocError>
         COPIES,
         NUMBER,
         "How many copies the directory has, 1 to 8 [default: 2]",
+    ))
+}
+
+// The parser of `pairs`.
+fn pairs<'a>(alloc: Global) -> Result<Command<'a>, AllocError>
+    ensures own { IfOk result HasOwnArgs }
+    ensures is { IfOk result (λ command. app_of command ≡ only (about_path_with (codes "pairs") pairs_names)) }
+{
+    path_command(
+        alloc,
+        PAIRS,
+        "Prints the pairs of a page file, as `load` takes them",
+        PAIRS_USAGE,
+        PAIRED,
+    )?
+    .arg(option(
+        alloc,
+        CAP,
+        NUMBER,
+        "The cap of the first line, 1 to 16 [default: the file's]",
+    ))?
+    .arg(option(
+        alloc,
+        WARDS,
+        NUMBER,
+        "Its wards, 0 to 4, for 2^N of them [default: the file's]",
+    ))?
+    .arg(option(
+        alloc,
+        KEYER,
+        "K",
+        "Its keyer, sha or plain [default: the file's]",
     ))
 }
 
@@ -645,7 +709,7 @@ fn option<'a>(alloc: Global, name: &'a str, value: &'a str, help: &'a str) -> Ar
         .help(help)
 }
 
-/// The error of a number or key that is none, or out of its range, as these words say.
+/// The error of a number, a keyer or a key that is none, or out of its range, as these words say.
 pub(crate) fn wrong_value(alloc: Global, words: &str) -> Result<Error, AllocError>
     ensures { IfOk result (λ error. kind_of error ≡ ErrorKind.ValueValidation) }
 {

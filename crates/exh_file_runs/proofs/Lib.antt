@@ -1,3 +1,9 @@
 pub mod RunLemmas
 -- of load_run
 pub mod LoadLemmas
+-- of what a load makes of pairs
+pub mod PairsFit
+pub mod PairsHomes
+pub mod PairsText
+pub mod PairsBytes
+pub mod PairsAgain

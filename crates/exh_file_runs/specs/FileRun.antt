@@ -6,6 +6,7 @@ use Rattle.exh_page_file.specs.PageFile.{PageFile}
 use Rattle.exh_report.specs.Check.{check_lines}
 use Rattle.exh_report.specs.Dump.{dump_lines}
 use Rattle.exh_report.specs.Lines.{Lines}
+use Rattle.exh_report.specs.Pairs.{pairs_lines}
 use Rattle.exh_report.specs.Report.{Reports, Tells}
 use Rattle.exh_report.specs.declared.verdict.Verdict.{Verdict}
 use Rattle.exh_report.specs.declared.report_fault.ReportFault.{ReportFault}
@@ -13,7 +14,7 @@ use Rattle.exh_report.specs.declared.report_fault.ReportFault.TheVariants.{Write
 use Rattle.exh_file_runs.specs.Run.{PrintsLine, memory_line}
 use Rattle.exh_file_runs.specs.Status.{file_status}
 use Rattle.exh_file_runs.specs.declared.file_run.Topic.{Topic}
-use Rattle.exh_file_runs.specs.declared.file_run.Topic.TheVariants.{Size, Content}
+use Rattle.exh_file_runs.specs.declared.file_run.Topic.TheVariants.{Size, Content, Pairs}
 use Rattle.exh_file_runs.specs.declared.status.Status.{Status}
 use Rattle.exh_file_runs.specs.declared.status.Status.TheVariants.{Refused}
 
@@ -21,6 +22,7 @@ use Rattle.exh_file_runs.specs.declared.status.Status.TheVariants.{Refused}
 abbrev pub lines_about : Topic → PageFile → Lines
 lines_about Size file = check_lines file
 lines_about Content file = dump_lines file
+lines_about (Pairs other) file = pairs_lines other file
 
 -- the only line where a file can't be opened
 abbrev pub unopened_line : List ℕ

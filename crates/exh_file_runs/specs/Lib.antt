@@ -1,6 +1,7 @@
 pub mod Status
 pub mod Run
 pub mod FileRun
+pub mod PairsAgain
 pub mod GetRun
 pub mod ChangeRun
 pub mod OpenRun

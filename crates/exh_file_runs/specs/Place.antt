@@ -2,7 +2,7 @@
 use Rattle.std.specs.Prelude.{◌≡◌, ⊤, ℕ, List, Option, None, Some}
 use Rattle.std.specs.Borrow.{Bor}
 use Rattle.exh_command.specs.declared.job.Job.{Job}
-use Rattle.exh_command.specs.declared.job.Job.TheVariants.{Serve, Check, Dump, Load, Storm, Get, Change}
+use Rattle.exh_command.specs.declared.job.Job.TheVariants.{Serve, Check, Dump, Load, Storm, Get, Change, Pairs}
 use Rattle.exh_file_runs.specs.declared.place.Place.{Place}
 use Rattle.exh_file_runs.specs.declared.run.Ending.{Ending}
 use Rattle.exh_file_runs.specs.declared.run.Ending.TheVariants.{Over, Save, SaveAndTell}
@@ -20,6 +20,7 @@ place_of (Load path) = at (Some path)
 place_of (Storm config) = None
 place_of (Get path key) = None
 place_of (Change path call) = at (Some path)
+place_of (Pairs path cap ward_bits keyer) = None
 
 -- what is saved at the end, if anything is, is saved there
 abbrev pub SavesAt : Option Place → Ending → Type 0

@@ -3,10 +3,12 @@ ghost use Rattle.std.specs.Prelude.{◌≡◌, ◌↔◌, [], IfErr, IfOk, IsErr
 ghost use Rattle.exh_stream.specs.Output.{SameWriter, held, pending, writer_failed};
 ghost use Rattle.exh_report.specs.Report.{Reports};
 ghost use Rattle.exh_file_runs.specs.FileRun.{EndsTelling, EndsUnopened, FileRunPrints, lines_about};
+ghost use Rattle.exh_file_runs.specs.PairsAgain.{TellsAgain};
 
 use crate::last_line::{print_line, print_out_of_memory};
+use crate::laws::pairs_load_again;
 use crate::status::Status;
-use exh_report::{ReportFault, Verdict, check_text, dump_text};
+use exh_report::{OtherSettings, ReportFault, Verdict, check_text, dump_text, pairs_text};
 use exh_stream::Output;
 use std::alloc::Global;
 use std::io;
@@ -22,6 +24,8 @@ pub enum Topic {
     Size,
     /// What it has.
     Content,
+    /// Its pairs, with these in place of its settings.
+    Pairs(OtherSettings),
 }
 
 /// Tells of a file, of which `opened` says what came of opening it, on an output that holds nothing back and whose writer
@@ -40,7 +44,9 @@ pub fn tell_file<F: Read + Drop, W: Write>(
         EndsTelling (held W.contents output.old) (held W.contents output.new) (writer_failed output.new) (lines_about topic) (F.remaining file) result) }
     ensures unopened { IfErr opened (λ fault.
         EndsUnopened (held W.contents output.old) (held W.contents output.new) (writer_failed output.new) result) }
+    ensures again { TellsAgain topic }
 {
+    pairs_load_again();
     match opened {
         Ok(mut file) => Status::of_file(run(alloc, topic, &mut file, output)),
         Err(_) => {
@@ -89,5 +95,6 @@ fn tell<R: Read, W: Write>(
     match topic {
         Topic::Size => check_text(alloc, reader, output),
         Topic::Content => dump_text(alloc, reader, output),
+        Topic::Pairs(other) => pairs_text(alloc, &other, reader, output),
     }
 }

@@ -3,6 +3,7 @@
 
 pub use file_run::Topic;
 pub use last_line::{print_line, print_out_of_memory};
+pub use laws::pairs_load_again;
 pub use place::{Place, place_of};
 pub use run::Ending;
 pub use saving::save_at_place;
@@ -16,6 +17,7 @@ mod file_blocks;
 mod file_run;
 mod get_run;
 mod last_line;
+mod laws;
 mod load_run;
 mod open_run;
 mod place;

@@ -26,7 +26,11 @@ pub fn place_of<'w>(job: &Job<'w>) -> Option<Place<'w>>
         Job::Serve { save, .. } => at(*save),
         Job::Load { path } => at(Some(*path)),
         Job::Change { path, .. } => at(Some(*path)),
-        Job::Check { .. } | Job::Dump { .. } | Job::Storm { .. } | Job::Get { .. } => None,
+        Job::Check { .. }
+        | Job::Dump { .. }
+        | Job::Pairs { .. }
+        | Job::Storm { .. }
+        | Job::Get { .. } => None,
     }
 }
 

@@ -10,6 +10,7 @@ use Rattle.exh_text.specs.Contents.{on_line}
 use Rattle.exh_page.specs.declared.page.Page.{Page}
 use Rattle.exh_report.specs.Dump.{ward_lines}
 use Rattle.exh_report.specs.Lines.{Lines, TakesLines, lines_text}
+use Rattle.exh_report.specs.Pairs.{records_lines}
 use Rattle.exh_report.specs.declared.report_fault.ReportFault.{ReportFault}
 use Rattle.exh_report.specs.declared.report_fault.ReportFault.TheVariants.{Write, Memory}
 
@@ -78,3 +79,10 @@ pub ward_left : (wards : List (Vec Page Global)) (number : ℕ) (ward : Vec Page
 ward_left wards number ward pages lt is own =
     ap (λ left. flat_map ward_lines (enumerate_from number (map (λ ward. ward.items) left))) (drop_next wards number ward lt is)
     ∙ ap (λ pages. ward_lines (number, pages) ++ flat_map ward_lines (enumerate_from (number + 1) (map (λ ward. ward.items) (drop (number + 1) wards)))) (sym own)
+
+-- the same of the records of wards
+pub records_left : (wards : List (Vec Page Global)) (number : ℕ) (ward : Vec Page Global) (pages : List Page) → number < length wards → ward ≡ slice_index_or wards number ward → pages ≡ ward.items
+    → flat_map (flat_map records_lines) (map (λ ward. ward.items) (drop number wards)) ≡ flat_map records_lines pages ++ flat_map (flat_map records_lines) (map (λ ward. ward.items) (drop (number + 1) wards))
+records_left wards number ward pages lt is own =
+    ap (λ left. flat_map (flat_map records_lines) (map (λ ward. ward.items) left)) (drop_next wards number ward lt is)
+    ∙ ap (λ pages. flat_map records_lines pages ++ flat_map (flat_map records_lines) (map (λ ward. ward.items) (drop (number + 1) wards))) (sym own)

@@ -7,11 +7,11 @@ use Rattle.exh_page.specs.declared.page.Page.{Page}
 use Rattle.exh_page.specs.declared.page.Page.TheVariants.{Live, Forward}
 use Rattle.exh_page.specs.declared.record.Record.{Record}
 use Rattle.exh_text.specs.Contents.{entry_words, forward_page_words, live_page_words}
-use Rattle.exh_text.specs.Printing.{printed}
 use Rattle.exh_file.specs.declared.file_entry.FileEntry.{FileEntry}
 use Rattle.exh_file.specs.declared.header.Header.{Header}
 use Rattle.exh_page_file.specs.PageFile.{PageFile}
 use Rattle.exh_report.specs.Lines.{Lines}
+use Rattle.exh_report.specs.Pairs.{record_words}
 
 -- ---- the settings
 
@@ -25,7 +25,7 @@ live_pages_told ward number (Live prefix right records) = live_page_words ward n
 live_pages_told ward number (Forward low target) = forward_page_words ward number target
 
 abbrev pub pair_words : Record → List ℕ
-pair_words item = codes "pair " ++ (printed item.key ++ (codes " " ++ printed item.value))
+pair_words item = codes "pair " ++ record_words item
 
 -- a page with its number, and its records in their order
 abbrev pub page_lines : ℕ → ℕ × Page → Lines

@@ -7,8 +7,9 @@ use Rattle.exh_report.specs.Check.{check_lines}
 use Rattle.exh_report.specs.Dump.{dump_lines}
 use Rattle.exh_report.specs.Finding.{Finding, IsFindingOf, IsVerdictOf, told_lines}
 use Rattle.exh_report.specs.Lines.{Lines, Prints}
+use Rattle.exh_report.specs.Pairs.{pairs_lines}
 use Rattle.exh_report.specs.declared.report.Topic.{Topic}
-use Rattle.exh_report.specs.declared.report.Topic.TheVariants.{Content, Size}
+use Rattle.exh_report.specs.declared.report.Topic.TheVariants.{Content, Pairs, Size}
 use Rattle.exh_report.specs.declared.verdict.Verdict.{Verdict}
 use Rattle.exh_report.specs.declared.report_fault.ReportFault.{ReportFault}
 
@@ -16,6 +17,7 @@ use Rattle.exh_report.specs.declared.report_fault.ReportFault.{ReportFault}
 abbrev pub topic_lines : Topic → PageFile → Lines
 topic_lines Size file = check_lines file
 topic_lines Content file = dump_lines file
+topic_lines (Pairs other) file = pairs_lines other file
 
 -- `prints` and `begins` say how bytes go out, all and a beginning of them. Of a finding of the reader's bytes the lines go
 -- out, and the verdict is its.

@@ -4,10 +4,12 @@ ghost use Rattle.exh_text.specs.Contents.{on_line};
 ghost use Rattle.exh_report.specs.Check.{legal_words, pages_text, totals_text};
 ghost use Rattle.exh_report.specs.Dump.{file_words, page_lines, live_pages_told, pair_words, ward_words};
 ghost use Rattle.exh_report.specs.Lines.{lines_text};
+ghost use Rattle.exh_report.specs.Pairs.{first_words, record_words, records_lines};
 
 use crate::counts::Counts;
 use exh_file::Header;
-use exh_file_settings::keyer_name;
+use exh_file_settings::{FileSettings, keyer_name};
+use exh_keyer::AnyKeyer;
 use exh_page::{Page, Record};
 use exh_prefix::PageNo;
 use exh_text::{push_forward_page, push_live_page, push_number, push_text, push_value};
@@ -103,8 +105,46 @@ fn push_pair(out: &mut Vec<u8>, item: &Record) -> Result<(), AllocError>
     ensures { OnOk result (out.new.items ≡ out.old.items ++ on_line (pair_words item.now)) }
 {
     push_text(out, "pair ")?;
+    push_record(out, item)
+}
+
+// A record as a line of its key and its value.
+fn push_record(out: &mut Vec<u8>, item: &Record) -> Result<(), AllocError>
+    ensures { OnOk result (out.new.items ≡ out.old.items ++ on_line (record_words item.now)) }
+{
     push_value(out, item.key.as_bytes())?;
     push_text(out, " ")?;
     push_value(out, item.value.as_bytes())?;
+    push_text(out, "\n")
+}
+
+/// Adds the records of a page, each as a line. A forwarding page has none.
+pub(crate) fn push_records(out: &mut Vec<u8>, page: &Page) -> Result<(), AllocError>
+    ensures { OnOk result (out.new.items ≡ out.old.items ++ lines_text (records_lines page.now)) }
+{
+    match page {
+        Page::Live { records, .. } => {
+            for item in records.iter() {
+                push_record(out, &item)?;
+            }
+            Ok(())
+        }
+        Page::Forward { .. } => Ok(()),
+    }
+}
+
+/// Adds the first line of a text of pairs, for one copy of the directory.
+pub(crate) fn push_first(
+    out: &mut Vec<u8>,
+    settings: &FileSettings<AnyKeyer>,
+) -> Result<(), AllocError>
+    ensures { OnOk result (out.new.items ≡ out.old.items ++ on_line (first_words settings.now)) }
+{
+    push_text(out, "file cap=")?;
+    push_number(out, u64::from(settings.cap))?;
+    push_text(out, " wards=")?;
+    push_number(out, u64::from(settings.ward_bits))?;
+    push_text(out, " copies=1 keyer=")?;
+    push_text(out, keyer_name(settings.keyer))?;
     push_text(out, "\n")
 }

@@ -1,8 +1,9 @@
-//! What `check` and `dump` say of the bytes of a reader: the texts of a legal page file, and of a refusal.
+//! What `check`, `dump` and `pairs` say of the bytes of a reader: the texts of a legal page file, and of a refusal.
 #![tactic(auto)]
 
+pub use other_settings::OtherSettings;
 pub use refusal_line::push_refusal;
-pub use report::{check_text, dump_text};
+pub use report::{check_text, dump_text, pairs_text};
 pub use report_fault::ReportFault;
 pub use verdict::Verdict;
 
@@ -10,6 +11,8 @@ mod check;
 mod counts;
 mod dump;
 mod file_lines;
+mod other_settings;
+mod pairs;
 mod refusal_line;
 mod report;
 mod report_fault;

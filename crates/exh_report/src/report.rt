@@ -8,12 +8,14 @@ ghost use Rattle.exh_report.specs.Check.{check_lines};
 ghost use Rattle.exh_report.specs.Dump.{dump_lines};
 ghost use Rattle.exh_report.specs.Finding.{IsVerdictOf, refusal_words, told_lines};
 ghost use Rattle.exh_report.specs.Lines.{Lines, TakesLines};
+ghost use Rattle.exh_report.specs.Pairs.{pairs_lines};
 ghost use Rattle.exh_report.specs.Report.{Reports, Tells, topic_lines};
 
 use crate::check::check_parts;
 use crate::dump::dump_parts;
+use crate::pairs::pairs_parts;
 use crate::refusal_line::push_refusal;
-use crate::{ReportFault, Verdict};
+use crate::{OtherSettings, ReportFault, Verdict};
 use exh_legal_file::{LegalFileFault, read_legal_file};
 use exh_page_file::FileParts;
 use exh_stream::Output;
@@ -27,6 +29,8 @@ enum Topic {
     Size,
     /// What it has.
     Content,
+    /// Its pairs, with these in place of its settings.
+    Pairs(OtherSettings),
 }
 
 /// Says of all bytes that a reader has left whether they are a legal page file: how much that has, or the refusal. A
@@ -67,6 +71,28 @@ pub fn dump_text<R: Read, W: Write>(
     ensures empty { IsFalse (writer_failed output.new) → pending output.new ≡ [] }
 {
     report(alloc, Topic::Content, reader, output)
+}
+
+/// Tells the pairs of the legal page file that all bytes are which a reader has left, as the text that a load takes:
+/// its settings, or others in their place, and each record in the order of its pages; or the refusal, as `check_text`
+/// does.
+///
+/// `Write`: the writer failed or took no bytes, and got a beginning of the text. `Memory`: a growth was refused, and
+/// the writer got a beginning of its lines, each line whole.
+pub fn pairs_text<R: Read, W: Write>(
+    alloc: Global,
+    other: &OtherSettings,
+    reader: &mut R,
+    output: &mut Output<'_, W>,
+) -> Result<Verdict, ReportFault>
+    requires open { IsFalse (writer_failed output.old) }
+    requires empty { pending output.old ≡ [] }
+    ensures same_writer { SameWriter output.old output.new }
+    ensures told { Reports (pairs_lines other.now) (held W.contents output.old) (held W.contents output.new) (R.remaining reader.old) result }
+    ensures failed { IsErrOf result ReportFault.Write ↔ IsTrue (writer_failed output.new) }
+    ensures empty { IsFalse (writer_failed output.new) → pending output.new ≡ [] }
+{
+    report(alloc, Topic::Pairs(*other), reader, output)
 }
 
 // Tells of a reader's bytes. What waits is written after want of memory too.
@@ -123,6 +149,7 @@ fn tell_parts<W: Write>(
     match topic {
         Topic::Size => check_parts(alloc, output, parts)?,
         Topic::Content => dump_parts(alloc, output, parts)?,
+        Topic::Pairs(other) => pairs_parts(alloc, output, &other, parts)?,
     }
     Ok(Verdict::Legal)
 }

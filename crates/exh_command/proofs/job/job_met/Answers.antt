@@ -1,7 +1,7 @@
 use Rattle.std.specs.Prelude.{IsSome}
 use Rattle.std.proofs.Common.{inl, inr, refl, subst, ◌∙◌}
 use Rattle.std.proofs.lemmas.Result.{IfErr-weaker, IfOk-weaker}
-use Rattle.exh_command.proofs.ParserLemmas.{checks, dels, dumps, gets, is_command, key_given, job_is, loads, no_options, own_is, own_of, path_given, puts, serves, some_met, storms, swaps}
+use Rattle.exh_command.proofs.ParserLemmas.{checks, dels, dumps, gets, is_command, key_given, job_is, loads, no_options, own_is, own_of, pairs, path_given, puts, serves, some_met, storms, swaps}
 use Rattle.exh_command.proofs.job.job_met.Goals as goal
 
 pub unreachable-requires : goal.unreachable-requires
@@ -49,7 +49,7 @@ returns-in-storm-clause-wrong c =
 pub unreachable-requires-in_default-command : goal.unreachable-requires-in_default-command
 unreachable-requires-in_default-command c =
     let own = own_is c.args.matches.now c.in-Some.command.now c.in-Some.own.now c.requires.0 c.in-Some.ensures.name c.in-Some.ensures.rows c.requires.1 in
-    is_command c.requires.0 c.in-Some.command.now c.in-Some.own.now own c.in_default-command.not-serve c.in_default-command.not-check c.in_default-command.not-dump c.in_default-command.not-load c.in_default-command.not-storm c.in_default-command.not-get c.in_default-command.not-put c.in_default-command.not-del c.in_default-command.not-swap
+    is_command c.requires.0 c.in-Some.command.now c.in-Some.own.now own c.in_default-command.not-serve c.in_default-command.not-check c.in_default-command.not-dump c.in_default-command.not-load c.in_default-command.not-storm c.in_default-command.not-get c.in_default-command.not-put c.in_default-command.not-del c.in_default-command.not-swap c.in_default-command.not-pairs
 
 pub get_job-requires : goal.get_job-requires
 get_job-requires c =
@@ -121,3 +121,20 @@ returns-in-swap-clause-wrong c =
     IfErr-weaker c.swap_job.result _ _ (λ fault none wrong asked met.
     let given = swaps asked c.in-Some.own.now (own_of c.args.matches.now c.in-Some.command.now c.in-Some.own.now _ c.in-Some.ensures.name c.in-Some.ensures.rows c.in-swap.is asked met) in
     job_is asked _ given.asked_is ∙ none wrong given.path given.key given.old given.new given.key_is given.old_is given.new_is) c.swap_job.ensures.wrong
+
+pub pairs_job-requires : goal.pairs_job-requires
+pairs_job-requires c =
+    let given = pairs c.requires.0 c.in-Some.own.now (own_of c.args.matches.now c.in-Some.command.now c.in-Some.own.now _ c.in-Some.ensures.name c.in-Some.ensures.rows c.in-pairs.is c.requires.0 c.requires.1) in
+    record { path = subst IsSome given.path_is refl }
+
+pub returns-in-pairs-clause-named : goal.returns-in-pairs-clause-named
+returns-in-pairs-clause-named c =
+    IfOk-weaker c.pairs_job.result _ _ (λ job is asked met.
+    let given = pairs asked c.in-Some.own.now (own_of c.args.matches.now c.in-Some.command.now c.in-Some.own.now _ c.in-Some.ensures.name c.in-Some.ensures.rows c.in-pairs.is asked met) in
+    job_is asked _ given.asked_is ∙ is given.path given.path_is) c.pairs_job.ensures.named
+
+pub returns-in-pairs-clause-wrong : goal.returns-in-pairs-clause-wrong
+returns-in-pairs-clause-wrong c =
+    IfErr-weaker c.pairs_job.result _ _ (λ fault none wrong asked met.
+    let given = pairs asked c.in-Some.own.now (own_of c.args.matches.now c.in-Some.command.now c.in-Some.own.now _ c.in-Some.ensures.name c.in-Some.ensures.rows c.in-pairs.is asked met) in
+    job_is asked _ given.asked_is ∙ none wrong given.path) c.pairs_job.ensures.wrong

@@ -3,7 +3,7 @@ use Rattle.std.proofs.lemmas.Result.{IfOk-weaker}
 use Rattle.clap.specs.Words.{App, Shape, app_of, with_subcommand}
 use Rattle.exh_command.specs.Parser.{ReadsJobs, about_key, about_path, about_two_values, about_value}
 use Rattle.exh_command.proofs.ParserLemmas.{program_reads}
-use Rattle.exh_command.proofs.TheProgram.{program, serve, storm}
+use Rattle.exh_command.proofs.TheProgram.{pairs, program, serve, storm}
 use Rattle.exh_command.proofs.parser.parser.Goals as goal
 
 below : (command : Shape) {one other : App} → one ≡ other → with_subcommand one command ≡ with_subcommand other command
@@ -19,6 +19,7 @@ returns c =
     let getting = c.in_ok-getting.ensures (about_key (codes "get")) c.key_command-get.ensures.is ∙ below (about_key (codes "get")) storming in
     let putting = c.in_ok-putting.ensures (about_value (codes "put")) c.value_command-put.ensures.is ∙ below (about_value (codes "put")) getting in
     let deleting = c.in_ok-deleting.ensures (about_key (codes "del")) c.key_command-del.ensures.is ∙ below (about_key (codes "del")) putting in
-    IfOk-weaker c.with_command-9.result _ _ (λ command whole.
-    let same : app_of command ≡ program = whole ∙ below (about_two_values (codes "swap")) deleting in
-    subst ReadsJobs (sym same) program_reads) (c.with_command-9.ensures (about_two_values (codes "swap")) c.swap_command-swap.ensures.is)
+    let swapping = c.in_ok-swapping.ensures (about_two_values (codes "swap")) c.swap_command-swap.ensures.is ∙ below (about_two_values (codes "swap")) deleting in
+    IfOk-weaker c.with_command-10.result _ _ (λ command whole.
+    let same : app_of command ≡ program = whole ∙ below pairs swapping in
+    subst ReadsJobs (sym same) program_reads) (c.with_command-10.ensures pairs c.pairs.ensures.is)

@@ -1,0 +1,8 @@
+use Rattle.std.proofs.Common.{◌∙◌}
+use Rattle.exh_report.proofs.PageLines.{records_begun}
+use Rattle.exh_report.proofs.file_lines.push_records.Goals as goal
+
+pub loop-item-init : goal.loop-item-init
+loop-item-init c =
+    records_begun c.args.out.now.items c.args.page.now c.in-Live.prefix c.in-Live.right c.in-Live.records c.into_iter-item-iterator.result
+    c.in-Live.is (c.into_iter-item-iterator.ensures.into_iter_gives ∙ c.iter-item-items.ensures.records)
