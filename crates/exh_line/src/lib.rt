@@ -2,7 +2,7 @@
 #![tactic(auto)]
 
 pub use answer::Answer;
-pub use answer_text::{push_answer, push_refusal, push_request};
+pub use answer_text::{push_answer, push_outcome, push_refusal, push_request, push_standing};
 pub use laws::printed_answers_are_one;
 pub use line::{Line, parse_call, parse_line};
 pub use line_start::{BeginWords, LineStart};
