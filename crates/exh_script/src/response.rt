@@ -21,7 +21,7 @@ use exh_frames::Pages;
 use exh_keyer::AnyKeyer;
 use exh_line::{
     Answer, BeginWords, Line, LineStart, ShortStep, View, parse_call, parse_line, push_answer,
-    push_page, push_refusal, push_shown,
+    push_outcome, push_page, push_refusal, push_shown, push_standing,
 };
 use exh_prefix::PageNo;
 use exh_ward::WardFault;
@@ -113,10 +113,7 @@ fn push_begin<P: Pages + Drop>(
     steps_are_computed::<AnyKeyer>();
     page_faults_are_counted::<AnyKeyer>();
     match run.world.begin(name, client, copy, call) {
-        Ok(Outcome::Begun { ward, page }) => Ok(push_answer(
-            out,
-            &Answer::Begun { name, ward, page },
-        )?),
+        Ok(Outcome::Begun { ward, page }) => Ok(push_standing(out, name, ward, page)?),
         Ok(_) => unreachable!(),
         Err(StepFault::Ward(WardFault::Memory)) => Err(ResponseFault::Memory),
         Err(StepFault::Ward(WardFault::Page)) => Err(ResponseFault::Page),
@@ -143,10 +140,7 @@ fn push_step<P: Pages + Drop>(
     steps_are_computed::<AnyKeyer>();
     page_faults_are_counted::<AnyKeyer>();
     match &make_step(&mut run.world, step) {
-        Ok(outcome) => {
-            let answer = Answer::of_short(step, outcome, run.tells_moves);
-            Ok(push_answer(out, &answer)?)
-        }
+        Ok(outcome) => Ok(push_outcome(out, step, outcome, run.tells_moves)?),
         Err(StepFault::Ward(WardFault::Memory)) => Err(ResponseFault::Memory),
         Err(StepFault::Ward(WardFault::Page)) => Err(ResponseFault::Page),
         Err(fault) => Ok(push_refusal(out, (*fault).into())?),
