@@ -59,7 +59,7 @@ impl Answer {
     }
 
     /// The same of a step without a call.
-    pub fn of_short(step: ShortStep, outcome: &Outcome, tells_moves: bool) -> Answer
+    pub(crate) fn of_short(step: ShortStep, outcome: &Outcome, tells_moves: bool) -> Answer
         ensures { result ≡ outcome_answer tells_moves (short_event step) outcome.now }
     {
         let (request, copy) = match step {

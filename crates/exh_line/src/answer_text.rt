@@ -1,12 +1,15 @@
 ghost use Rattle.std.specs.Prelude.{◌≡◌, ◌++◌, OnOk, decimal};
-ghost use Rattle.exh_line.specs.Answer.{answer_text, answer_words, copy_text, moves_text, notice_text, reply_text, request_text};
-ghost use Rattle.exh_line.specs.declared.answer.Answer.TheVariants.{Refused};
-ghost use Rattle.exh_text.specs.Printing.{Keeps};
+ghost use Rattle.exh_line.specs.Answer.{answer_text, answer_words, copy_text, moves_text, notice_text, outcome_answer, reply_text, request_in, request_text};
+ghost use Rattle.exh_line.specs.LineStart.{short_event};
+ghost use Rattle.exh_line.specs.declared.answer.Answer.TheVariants.{Begun, Refused, Replied};
+ghost use Rattle.exh_text.specs.Printing.{Keeps, place_text};
 
-use crate::{Answer, Refusal, Told};
+use crate::{Answer, Moves, Refusal, ShortStep, Told};
 use exh_calls::Reply;
+use exh_event::{Outcome, Progress};
 use exh_notice::Notice;
-use exh_text::{push_entry, push_number, push_place, push_refused, push_text, push_value};
+use exh_prefix::PageNo;
+use exh_text::{push_entry, push_number, push_refused, push_text, push_value};
 use std::alloc::AllocError;
 
 /// Adds the line that an answer prints.
@@ -16,6 +19,57 @@ pub fn push_answer(out: &mut Vec<u8>, answer: &Answer) -> Result<(), AllocError>
 {
     push_words(out, answer)?;
     push_text(out, "\n")
+}
+
+/// Adds the line of a request that stands at a page of a ward, as the answer `Begun` prints it.
+pub fn push_standing(out: &mut Vec<u8>, name: u32, ward: u8, page: PageNo) -> Result<(), AllocError>
+    ensures ok { OnOk result (out.new.items ≡ out.old.items ++ answer_text (Begun name ward page)) }
+    ensures kept { Keeps out.old.items out.new.items }
+{
+    push_named(out, "r", name, " at ")?;
+    push_place(out, u32::from(ward), u64::from(page))?;
+    push_text(out, "\n")
+}
+
+/// Adds the line that a step without a call prints where it isn't refused. A reply is printed from where it stands, and
+/// no answer is made that holds it.
+pub fn push_outcome(
+    out: &mut Vec<u8>,
+    step: ShortStep,
+    outcome: &Outcome,
+    tells_moves: bool,
+) -> Result<(), AllocError>
+    ensures ok { OnOk result (out.new.items ≡ out.old.items ++ answer_text (outcome_answer tells_moves (short_event step) outcome.now)) }
+    ensures kept { Keeps out.old.items out.new.items }
+{
+    match outcome {
+        Outcome::Hopped {
+            hop: Progress::Done {
+                reply,
+                moves,
+                bound,
+            },
+            ..
+        } => {
+            let told = tells_moves.then_some(Moves {
+                made: *moves,
+                bound: *bound,
+            });
+            push_replied(out, request_of(step), reply, told)?;
+            push_text(out, "\n")
+        }
+        _ => push_answer(out, &Answer::of_short(step, outcome, tells_moves)),
+    }
+}
+
+// The request that a step names, 0 where it names none.
+fn request_of(step: ShortStep) -> u32
+    ensures { result ≡ request_in (short_event step) }
+{
+    match step {
+        ShortStep::Hop { name } => name,
+        ShortStep::Split { .. } | ShortStep::Deliver { .. } => 0,
+    }
 }
 
 // The line without its end.
@@ -28,11 +82,7 @@ fn push_words(out: &mut Vec<u8>, answer: &Answer) -> Result<(), AllocError>
             push_named(out, "r", *name, " at ")?;
             push_place(out, u32::from(*ward), u64::from(*page))
         }
-        Answer::Replied { name, reply, told } => {
-            push_named(out, "r", *name, " ")?;
-            push_reply(out, reply)?;
-            push_moves(out, *told)
-        }
+        Answer::Replied { name, reply, told } => push_replied(out, *name, reply, *told),
         Answer::Moved { name, ward, page } => {
             push_named(out, "r", *name, " moved ")?;
             push_place(out, u32::from(*ward), u64::from(*page))
@@ -54,7 +104,43 @@ fn push_words(out: &mut Vec<u8>, answer: &Answer) -> Result<(), AllocError>
     }
 }
 
+// A request's reply, and its moves where they are told.
+fn push_replied(out: &mut Vec<u8>, name: u32, reply: &Reply, told: Told) -> Result<(), AllocError>
+    ensures ok { OnOk result (out.new.items ≡ out.old.items ++ answer_words (Replied name reply.now told)) }
+    ensures kept { Keeps out.old.items out.new.items }
+{
+    push_named(out, "r", name, " ")?;
+    push_reply(out, reply)?;
+    push_moves(out, told)
+}
+
+// A ward and the number of a page or of a notice of it: most have one digit.
+#[inline(always)]
+fn push_place(out: &mut Vec<u8>, ward: u32, number: u64) -> Result<(), AllocError>
+    ensures ok { OnOk result (out.new.items ≡ out.old.items ++ place_text ward number) }
+    ensures kept { Keeps out.old.items out.new.items }
+{
+    push_short(out, u64::from(ward))?;
+    push_text(out, "/")?;
+    push_short(out, number)
+}
+
+// A number that mostly has one digit.
+#[inline(always)]
+#[tactic(auto, using(std::proofs::lemmas::Fmt::decimal_digit))]
+fn push_short(out: &mut Vec<u8>, number: u64) -> Result<(), AllocError>
+    ensures ok { OnOk result (out.new.items ≡ out.old.items ++ decimal number) }
+    ensures kept { Keeps out.old.items out.new.items }
+{
+    if number >= 10 {
+        return push_number(out, number);
+    }
+    out.push(b'0' + number as u8)?;
+    Ok(())
+}
+
 // A request, copy or table by its number, and what it did.
+#[inline(always)]
 fn push_named(out: &mut Vec<u8>, kind: &str, number: u32, did: &str) -> Result<(), AllocError>
     ensures ok { OnOk result (out.new.items ≡ out.old.items ++ (kind.now ++ (decimal number ++ did.now))) }
     ensures kept { Keeps out.old.items out.new.items }

@@ -2,7 +2,8 @@
 #![tactic(auto)]
 
 pub use answer::Answer;
-pub use answer_text::{push_answer, push_refusal, push_request};
+pub use answer_text::{push_answer, push_outcome, push_refusal, push_request, push_standing};
+pub use call_words::CallWords;
 pub use laws::printed_answers_are_one;
 pub use line::{Line, parse_call, parse_line};
 pub use line_start::{BeginWords, LineStart};
@@ -14,6 +15,7 @@ pub use view_text::{push_page, push_shown};
 
 mod answer;
 mod answer_text;
+mod call_words;
 mod laws;
 mod line;
 mod line_start;

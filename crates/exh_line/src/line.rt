@@ -2,13 +2,13 @@ ghost use Rattle.std.specs.Prelude.{◌≡◌, option_map};
 ghost use Rattle.std.specs.Result.{result_map_both};
 ghost use Rattle.exh_event.specs.declared.event.Event.TheVariants.{Deliver, Hop as HopOn};
 ghost use Rattle.exh_text.specs.LineFault.{ranged};
-ghost use Rattle.exh_line.specs.Grammar.{call_in_range, line_in_range, line_of, spelled_begin, spelled_call, spelled_change, spelled_copy_step, spelled_deliver, spelled_hop, spelled_in_flight, spelled_number, spelled_pair_of_numbers, spelled_put, spelled_swap, spelled_view};
+ghost use Rattle.exh_line.specs.Grammar.{call_in_range, line_in_range, line_of, spelled_begin, spelled_call, spelled_change, spelled_copy_step, spelled_deliver, spelled_hop, spelled_in_flight, spelled_number, spelled_pair_of_numbers, spelled_view};
 ghost use Rattle.exh_line.specs.declared.line.Line.TheVariants.{Step};
 
-use crate::View;
+use crate::{CallWords, View};
 use exh_calls::Call;
 use exh_event::Event;
-use exh_text::{ByteWord, LineFault, Parts, parse_key, parse_u32, parse_u32_after, parse_u64};
+use exh_text::{LineFault, Parts, parse_u32, parse_u32_after, parse_u64};
 
 /// A line of a script after its first, its numbers, key and value in their ranges. There may be no such
 /// request, copy, table, ward or page.
@@ -194,68 +194,11 @@ fn parse_in_flight(mut words: Parts<'_>) -> Option<View>
 
 /// Reads the words of a call: `get KEY`, `put KEY VALUE`, `del KEY` or `swap KEY OLD NEW`. Words that spell none are
 /// `Syntax`; where its key or a value is out of its range, that is `Range`.
-#[tactic(auto, unfolding(crate::specs::Grammar::spelled_call))]
-pub fn parse_call(mut words: Parts<'_>) -> Result<Call, LineFault>
+pub fn parse_call(words: Parts<'_>) -> Result<Call, LineFault>
     ensures { result ≡ ranged call_in_range (spelled_call words.entry) }
 {
-    let verb = words.next().ok_or(LineFault::Syntax)?;
-    let key = words.next().ok_or(LineFault::Syntax)?;
-    let value = words.next();
-    let second = words.next();
-    if words.next().is_some() {
-        return Err(LineFault::Syntax);
-    }
-    match verb {
-        b"get" if value.is_none() => match parse_key(key) {
-            Ok(key) => Ok(Call::Get { key }),
-            Err(fault) => Err(fault),
-        },
-        b"del" if value.is_none() => match parse_key(key) {
-            Ok(key) => Ok(Call::Del { key }),
-            Err(fault) => Err(fault),
-        },
-        b"put" if second.is_none() => parse_put(key, value.ok_or(LineFault::Syntax)?),
-        b"swap" => parse_swap(
-            key,
-            value.ok_or(LineFault::Syntax)?,
-            second.ok_or(LineFault::Syntax)?,
-        ),
-        _ => Err(LineFault::Syntax),
-    }
-}
-
-// The key and the value of a put.
-#[tactic(auto, unfolding(crate::specs::Grammar::spelled_put))]
-fn parse_put(key: &[u8], value: &[u8]) -> Result<Call, LineFault>
-    ensures { result ≡ ranged call_in_range (spelled_put key.now value.now) }
-{
-    let key = ByteWord::parse(key).ok_or(LineFault::Syntax)?;
-    let value = ByteWord::parse(value).ok_or(LineFault::Syntax)?;
-    let Some(key) = key.key() else {
-        return Err(LineFault::Range);
-    };
-    match value.value() {
-        Some(value) => Ok(Call::Put { key, value }),
-        None => Err(LineFault::Range),
-    }
-}
-
-// The key and the two values of a swap.
-#[tactic(auto, unfolding(crate::specs::Grammar::spelled_swap))]
-fn parse_swap(key: &[u8], old: &[u8], new: &[u8]) -> Result<Call, LineFault>
-    ensures { result ≡ ranged call_in_range (spelled_swap key.now old.now new.now) }
-{
-    let key = ByteWord::parse(key).ok_or(LineFault::Syntax)?;
-    let old = ByteWord::parse(old).ok_or(LineFault::Syntax)?;
-    let new = ByteWord::parse(new).ok_or(LineFault::Syntax)?;
-    let Some(key) = key.key() else {
-        return Err(LineFault::Range);
-    };
-    let Some(old) = old.value() else {
-        return Err(LineFault::Range);
-    };
-    match new.value() {
-        Some(new) => Ok(Call::Swap { key, old, new }),
-        None => Err(LineFault::Range),
+    match CallWords::split(words) {
+        Some(call) => call.read(),
+        None => Err(LineFault::Syntax),
     }
 }

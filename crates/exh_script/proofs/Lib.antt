@@ -14,3 +14,5 @@ pub mod StartedReplies
 -- of lines_go_alike and refused_lines_leave_the_others
 pub mod AlikeLines
 pub mod OtherLines
+-- of push_begun
+pub mod CallsRead

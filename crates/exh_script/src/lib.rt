@@ -11,6 +11,7 @@ pub use response::push_response;
 pub use response_fault::ResponseFault;
 pub use run::Run;
 
+mod begun;
 mod ended;
 mod in_flight_text;
 mod laws;

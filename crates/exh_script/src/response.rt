@@ -5,23 +5,21 @@ ghost use Rattle.exh_world.specs.Step.{Step as StepsTo};
 ghost use Rattle.exh_script.specs.RefusedLines.{LeavesTheOthers};
 ghost use Rattle.exh_script.specs.Text.{CountsPageFault, after_asked, after_line, line_response, response_text, response_to, view_response};
 ghost use Rattle.exh_script.specs.View.{view_result};
-ghost use Rattle.exh_event.specs.declared.event.Event.TheVariants.{Begin as BeginOf};
-ghost use Rattle.exh_line.specs.LineStart.{IsStartOf, short_event};
+ghost use Rattle.exh_line.specs.LineStart.{short_event};
 ghost use Rattle.exh_text.specs.Printing.{Keeps};
 ghost use Rattle.exh_line.specs.declared.line.Line.TheVariants.{Step};
-ghost use Rattle.exh_line.specs.declared.line_start.LineStart.TheVariants.{Begin};
 ghost use Rattle.exh_line.specs.declared.view.View.TheVariants.{Copy, Page};
 
+use crate::begun::push_begun;
 use crate::in_flight_text::push_in_flight;
 use crate::laws::lines_go_alike;
 use crate::{ResponseFault, Run};
-use exh_calls::Call;
 use exh_event::{Event, Outcome, StepFault};
 use exh_frames::Pages;
 use exh_keyer::AnyKeyer;
 use exh_line::{
-    Answer, BeginWords, Line, LineStart, ShortStep, View, parse_call, parse_line, push_answer,
-    push_page, push_refusal, push_shown,
+    Answer, Line, LineStart, ShortStep, View, parse_line, push_answer, push_outcome, push_page,
+    push_refusal, push_shown,
 };
 use exh_prefix::PageNo;
 use exh_ward::WardFault;
@@ -59,71 +57,6 @@ pub fn push_response<P: Pages + Drop>(
     }
 }
 
-// The same of a line that is a `begin` if its last words spell a call. The call is made where it was read, and stands in
-// no event.
-#[tactic(auto, unfolding(crate::specs::Text::line_response, crate::specs::Text::after_line))]
-fn push_begun<P: Pages + Drop>(
-    out: &mut Vec<u8>,
-    run: &mut Run<P>,
-    line: &[u8],
-    begin: BeginWords<'_>,
-) -> Result<(), ResponseFault>
-    requires sound { IsSoundWorld any_pseudokey run.old.world }
-    requires start { IsStartOf line.now (Begin begin) }
-    ensures text { OnOk result (out.new.items ≡ out.old.items ++ response_text (line_response run.old.tells_moves run.old.world line.now)) }
-    ensures kept { Keeps out.old.items out.new.items }
-    ensures world { OnOk result (run.new.world ≡ after_line run.old.world line.now) }
-    ensures sound { IsSoundWorld any_pseudokey run.new.world }
-    ensures telling { run.new.tells_moves ≡ run.old.tells_moves }
-    ensures silent { IsErrOf result ResponseFault.Page → out.new.items ≡ out.old.items }
-    ensures counted { IsErrOf result ResponseFault.Page → CountsPageFault run.old.world run.new.world }
-    ensures memory { IsErrOf result ResponseFault.Memory → (run.new.world ≡ run.old.world) ⊎ (run.new.world ≡ after_line run.old.world line.now) }
-{
-    let BeginWords {
-        name,
-        client,
-        copy,
-        call,
-    } = begin;
-    match &parse_call(call) {
-        Ok(call) => push_begin(out, run, name, client, copy, call),
-        Err(_) => push_parsed(out, run, line),
-    }
-}
-
-// Begins a request, and adds what that prints.
-fn push_begin<P: Pages + Drop>(
-    out: &mut Vec<u8>,
-    run: &mut Run<P>,
-    name: u32,
-    client: u32,
-    copy: u32,
-    call: &Call,
-) -> Result<(), ResponseFault>
-    requires { IsSoundWorld any_pseudokey run.old.world }
-    ensures text { OnOk result (out.new.items ≡ out.old.items ++ response_text (response_to run.old.tells_moves run.old.world (Step (BeginOf name client copy call.now)))) }
-    ensures kept { Keeps out.old.items out.new.items }
-    ensures world { OnOk result (run.new.world ≡ after_asked run.old.world (Step (BeginOf name client copy call.now))) }
-    ensures sound { IsSoundWorld any_pseudokey run.new.world }
-    ensures telling { run.new.tells_moves ≡ run.old.tells_moves }
-    ensures silent { IsErrOf result ResponseFault.Page → out.new.items ≡ out.old.items }
-    ensures counted { IsErrOf result ResponseFault.Page → CountsPageFault run.old.world run.new.world }
-    ensures memory { IsErrOf result ResponseFault.Memory → (run.new.world ≡ run.old.world) ⊎ (run.new.world ≡ after_asked run.old.world (Step (BeginOf name client copy call.now))) }
-{
-    steps_are_computed::<AnyKeyer>();
-    page_faults_are_counted::<AnyKeyer>();
-    match run.world.begin(name, client, copy, call) {
-        Ok(Outcome::Begun { ward, page }) => Ok(push_answer(
-            out,
-            &Answer::Begun { name, ward, page },
-        )?),
-        Ok(_) => unreachable!(),
-        Err(StepFault::Ward(WardFault::Memory)) => Err(ResponseFault::Memory),
-        Err(StepFault::Ward(WardFault::Page)) => Err(ResponseFault::Page),
-        Err(fault) => Ok(push_refusal(out, fault.into())?),
-    }
-}
-
 // Does a step without a call, and adds what that prints.
 fn push_step<P: Pages + Drop>(
     out: &mut Vec<u8>,
@@ -143,10 +76,7 @@ fn push_step<P: Pages + Drop>(
     steps_are_computed::<AnyKeyer>();
     page_faults_are_counted::<AnyKeyer>();
     match &make_step(&mut run.world, step) {
-        Ok(outcome) => {
-            let answer = Answer::of_short(step, outcome, run.tells_moves);
-            Ok(push_answer(out, &answer)?)
-        }
+        Ok(outcome) => Ok(push_outcome(out, step, outcome, run.tells_moves)?),
         Err(StepFault::Ward(WardFault::Memory)) => Err(ResponseFault::Memory),
         Err(StepFault::Ward(WardFault::Page)) => Err(ResponseFault::Page),
         Err(fault) => Ok(push_refusal(out, (*fault).into())?),
@@ -169,7 +99,7 @@ fn make_step<P: Pages + Drop>(
 
 // The same of any line.
 #[tactic(auto, unfolding(crate::specs::Text::line_response, crate::specs::Text::after_line))]
-fn push_parsed<P: Pages + Drop>(
+pub(crate) fn push_parsed<P: Pages + Drop>(
     out: &mut Vec<u8>,
     run: &mut Run<P>,
     line: &[u8],

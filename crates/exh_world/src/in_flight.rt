@@ -54,16 +54,16 @@ impl InFlight {
     }
 
     /// Adds a request, of a name that isn't taken. An `AllocError` where memory is refused.
-    pub(crate) fn begin(&mut self, name: u32, request: &Request) -> Result<(), AllocError>
+    pub(crate) fn begin(&mut self, name: u32, request: Request) -> Result<(), AllocError>
         requires { request_named name self.old ≡ None }
-        ensures ok { OnOk result (self.new ≡ self.old ++ (name, request.now) ∷ []) }
+        ensures ok { OnOk result (self.new ≡ self.old ++ (name, request) ∷ []) }
         ensures err { OnErr result (self.new ≡ self.old) }
     {
         // Fewer than there may be, so that none is pushed out.
         prove!(self.requests.len() < usize::MAX);
-        // Built here, since the proof of what is put in has to see the types of its fields.
-        let begun = Request { ..*request };
-        let Ok(_) = self.requests.put(name, begun) else {
+        // The proof of what is put in has to see the types of its fields.
+        let _ = &request.call;
+        let Ok(_) = self.requests.put(name, request) else {
             return Err(AllocError);
         };
         // What was put in last stands first.

@@ -52,7 +52,7 @@ impl<P: Pages + Drop, K: Keyer> World<P, K> {
             moves: 0,
             changes,
         };
-        self.in_flight.begin(name, &request)?;
+        self.in_flight.begin(name, request)?;
         Ok(Outcome::Begun { ward, page })
     }
 

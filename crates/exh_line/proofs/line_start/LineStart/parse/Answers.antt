@@ -1,4 +1,4 @@
-use Rattle.std.proofs.Common.{arith, rules}
+use Rattle.std.proofs.Common.{arith}
 use Rattle.std.proofs.lemmas.Grind.{common_steps}
 use Rattle.exh_line.specs.Grammar.{spelled, spelled_change, spelled_copy_step}
 use Rattle.exh_line.proofs.EmptyWords.{line_of_words}

@@ -35,5 +35,5 @@ returns-clause-ok c =
     let free = ap (request_named c.args.name) c.self.view_is ∙ c.requires in
     ap (λ (now : LruCache ℕ Request). now.entries) c.demote.ensures.entries
     ∙ ap (λ (now : LruCache ℕ Request). demoted (nat_eq c.args.name) now.entries) c.in-Ok.ensures.entries
-    ∙ begun_last cache c.args.name c.args.request.now free (omega (arith, c.len.ensures, c.self.invariant))
-    ∙ ap (λ (requests : Requests). requests ++ (c.args.name, c.args.request.now) ∷ []) c.self.view_is
+    ∙ begun_last cache c.args.name c.args.request free (omega (arith, c.len.ensures, c.self.invariant))
+    ∙ ap (λ (requests : Requests). requests ++ (c.args.name, c.args.request) ∷ []) c.self.view_is
