@@ -1,3 +1,1 @@
 pub mod RunLemmas
--- of load_run
-pub mod LoadLemmas

@@ -4,5 +4,4 @@ pub mod FileRun
 pub mod GetRun
 pub mod ChangeRun
 pub mod OpenRun
-pub mod LoadRun
 pub mod Place
