@@ -10,7 +10,7 @@ _exhash() {
     case ${COMP_WORDS[1]} in
         serve) options='--open --save --help' ;;
         storm) options='--callers --calls --cap --wards --copies --help' ;;
-        check | dump | load) ;;
+        check | dump) ;;
         pairs)
             options='--cap --wards --keyer --help'
             case $last in
@@ -21,6 +21,8 @@ _exhash() {
                     ;;
             esac
             ;;
+        # How it loads stands right behind it.
+        load) ((COMP_CWORD > 2)) || options='--long --into --help' ;;
         # Keys and values are no paths.
         get | put | del | swap) ((COMP_CWORD == 2)) || return ;;
         help)

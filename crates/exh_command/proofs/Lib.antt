@@ -6,3 +6,4 @@ pub mod KeyWords
 pub mod PutWords
 pub mod SwapWords
 pub mod ParserLemmas
+pub mod Ways

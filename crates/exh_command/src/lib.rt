@@ -3,8 +3,10 @@
 
 pub use fault::CliFault;
 pub use job::{Job, job_of};
+pub use load_way::{LoadWay, take_way};
 pub use parser::not_text;
 
 mod fault;
 mod job;
+mod load_way;
 mod parser;

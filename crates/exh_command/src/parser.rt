@@ -87,7 +87,7 @@ const VERSION: &str = "0.1.0";
 const USAGE: &str = "exhash serve [--open PATH] [--save PATH] < SCRIPT
        exhash check PATH
        exhash dump PATH
-       exhash load PATH < PAIRS
+       exhash load [--long | --into] PATH < PAIRS
        exhash get PATH KEY
        exhash put PATH KEY VALUE
        exhash del PATH KEY
@@ -235,7 +235,7 @@ Exit status: 0 where the file is legal; 1 where it is refused or the run breaks
 off; 2 where the command line is wrong, or asks for help.
 The formats are in docs/FORMATS.md.";
 
-const LOAD_USAGE: &str = "exhash load PATH < PAIRS
+const LOAD_USAGE: &str = "exhash load [--long | --into] PATH < PAIRS
 
 Example:
   ./exhash load my-pairs.exh < examples/three-pairs-loaded.script";
@@ -259,6 +259,11 @@ standard error.
 These stand alone or come last, and nothing is saved: 60 or 61 for the `file`
 line, 62 for more than 1048576 bytes, 41 where reading fails, 10 where memory
 ends. Why a path can't be saved to is said on standard error.
+Right behind `load` may stand one of these:
+  --long   the text has any number of bytes; it is held in memory whole
+  --into   the same, and the pairs are put into the page file that is there,
+           whose `file` line it has, with any number of copies, else it is
+           refused with 63; `loaded` tells how many records there are more
 
 Exit status: 0 where the file is saved, also with refused lines; 1 where it
 isn't; 2 where the command line is wrong, or asks for help.

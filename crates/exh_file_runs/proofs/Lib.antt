@@ -1,6 +1,4 @@
 pub mod RunLemmas
--- of load_run
-pub mod LoadLemmas
 -- of what a load makes of pairs
 pub mod PairsFit
 pub mod PairsHomes

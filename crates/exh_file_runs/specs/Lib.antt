@@ -5,5 +5,4 @@ pub mod PairsAgain
 pub mod GetRun
 pub mod ChangeRun
 pub mod OpenRun
-pub mod LoadRun
 pub mod Place

@@ -5,15 +5,14 @@ use crate::change_run::{change_over, tell_saved};
 use crate::file_blocks::{FileBlocks, open_regular};
 use crate::file_run::{Topic, tell_file};
 use crate::get_run::tell_key;
-use crate::load_run::{load_ending, load_pairs};
 use crate::open_run::open_file;
 use crate::place::Place;
 use crate::run::{Ending, ending_of, serve_script};
-use crate::said::{pair_notes, script_notes, tell_reason, with_reason};
+use crate::said::{script_notes, tell_reason, with_reason};
 use crate::saving::{opened_seen, warn};
 use crate::status::Status;
 use crate::stores::FileWards;
-use crate::watch::{pairs_meter, reading_meter};
+use crate::watch::reading_meter;
 use exh_calls::Call;
 use exh_notes::ReasonReader;
 use exh_page::Key;
@@ -24,8 +23,8 @@ use std::cell::Cell;
 use std::fs::File;
 use std::io;
 
-// What standard input is called.
-const INPUT: &str = "standard input";
+/// What standard input is called.
+pub const INPUT: &str = "standard input";
 
 /// Answers the script on standard input, over the page file of a path where one is to be opened, and says what that
 /// file is. Whether its wards can be saved at their place is seen before.
@@ -45,9 +44,9 @@ pub fn serve<'w>(
     }
 }
 
-// The wards of the page file of a path, where one is named, and what that file is. A terminal is told how far the
-// reading is.
-fn opened_at(
+/// The wards of the page file of a path, where one is named, and what that file is. A terminal is told how far the
+/// reading is. Where it isn't opened that is told, and the answer is the status with which the program ends.
+pub fn opened_at(
     rt: &HostRuntime,
     path: Option<&str>,
 ) -> Result<(Option<FileWards>, Option<Seen>), Status> {
@@ -91,24 +90,6 @@ fn serve_over<'w>(rt: &HostRuntime, from: Option<FileWards>, save: Option<Place<
     notes.end();
     tell_reason(rt, INPUT, &reason);
     ending_of(outcome, save)
-}
-
-/// Loads the pairs on standard input, of which a file comes that is to be saved at a place. A terminal is told how many
-/// were read.
-pub fn load<'w>(rt: &HostRuntime, place: Option<Place<'w>>) -> Ending<'w>
-    ensures { SavesAt place.entry result }
-{
-    warn(rt, place.map(|place| place.path()), None);
-    let reason = Cell::new(None);
-    let meter = pairs_meter(rt);
-    let mut reader = MeteredReader::new(ReasonReader::new(rt.reader(), &reason), &meter);
-    let mut writer = ClearingWriter::new(io::writer(rt), &meter);
-    let mut notes = pair_notes(rt, &meter);
-    let loaded = load_pairs(rt.alloc(), &mut reader, &mut writer, &mut notes);
-    notes.end();
-    meter.clear();
-    tell_reason(rt, INPUT, &reason);
-    load_ending(loaded, place)
 }
 
 /// Tells of the file of a path, and on a terminal how far that is.

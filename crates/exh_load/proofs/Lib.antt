@@ -1,12 +1,10 @@
--- of put: pages that are split, what splits keep, and the home that a pair is put into
-pub mod FullPages
-pub mod Splits
-pub mod Homes
-pub mod Turns
--- of loader: a list made item by item, the wards of a new file, and a put into one of them
+-- of put: the home that a pair is put into, as a directory names it
+pub mod ToldHomes
+-- of loader: a list made item by item, the wards of a new file, a put into one of them, and those of an opened file
 pub mod Items
 pub mod FreshWards
 pub mod PutIn
+pub mod Over
 -- of load_text: lines, and how many records there are
 pub mod Lines
 pub mod Records

@@ -1,5 +1,5 @@
 -- What a load of a whole text prints, and the maps that it leaves.
-use Rattle.std.specs.Prelude.{◌≡◌, ◌⊎◌, ◌^◌, ℕ, Bool, true, false, List, [], ◌∷◌, ◌++◌, length, replicate, nat_le, if◌then◌else◌, decimal, codes, Option, Some, None, IfSome, Result, Ok, Err}
+use Rattle.std.specs.Prelude.{◌≡◌, ◌⊎◌, ◌^◌, ◌-◌, ℕ, Bool, true, false, List, [], ◌∷◌, ◌++◌, length, replicate, nat_le, if◌then◌else◌, decimal, codes, Option, Some, None, IfSome, Result, Ok, Err}
 use Rattle.std.specs.List.{sum_by}
 use Rattle.std.specs.Option.{option_map}
 use Rattle.std.specs.FinMap as fin
@@ -14,14 +14,10 @@ use Rattle.exh_stream.specs.declared.output.Output.{Output}
 use Rattle.exh_settings.specs.declared.config.Config.{Config}
 use Rattle.exh_settings.specs.FileLine.{file_line_of}
 use Rattle.exh_settings.specs.declared.settings.Settings.{Settings}
-use Rattle.exh_settings.specs.declared.script.TheConstants.{SCRIPT_LIMIT}
-use Rattle.exh_open.specs.Opened.{OpenedState}
-use Rattle.exh_load.specs.Loader.{LoaderState}
-use Rattle.exh_load.specs.Loading.{Loading, loaded_from, loading_of, load_text_from}
-
--- what the wards of a file have
-abbrev pub loading_in : OpenedState → Loading
-loading_in file = loading_of (let loader : LoaderState = record { cap = file.cap; ward_bits = file.ward_bits; keyer = file.keyer; wards = file.wards; directories = [] } in loader)
+use Rattle.exh_file_settings.specs.FileSettings.{are_same}
+use Rattle.exh_open.specs.Opened.{OpenedState, settings_in}
+use Rattle.exh_load.specs.Loader.{IsLoading, LoaderState}
+use Rattle.exh_load.specs.Loading.{Loading, loaded_from, loading_in, loading_of, load_text_from}
 
 -- a new file, where no ward has a record
 abbrev pub empty_loading : ℕ → ℕ → AnyKeyer → Loading
@@ -33,6 +29,24 @@ new_loading file = empty_loading file.settings.cap file.settings.ward_bits file.
 -- how many records there are
 abbrev pub record_count : Loading → ℕ
 record_count loading = sum_by fin.len loading.maps
+
+-- ---- what a first line begins
+
+-- the maps that are there before the pairs, by the settings of the first line; or the number of its refusal
+abbrev pub Beginning : Type 0
+Beginning = Config AnyKeyer → Result Loading ℕ
+
+abbrev pub new_file : Beginning
+new_file file = Ok (new_loading file)
+
+-- the maps of an opened file where the settings are its own, with any number of copies
+abbrev pub opened_file : OpenedState → Beginning
+opened_file opened file = if are_same (settings_in opened) file.settings then Ok (loading_in opened) else Err 63
+
+-- over an opened file, or over a new one
+abbrev pub beginning : Option OpenedState → Beginning
+beginning None = new_file
+beginning (Some opened) = opened_file opened
 
 -- ---- a load
 
@@ -49,54 +63,71 @@ number_line word number = word ++ (decimal number ++ codes "\n")
 abbrev pub refused : ℕ → Load
 refused number = record { printed = number_line (codes "refused ") number; left = None }
 
--- the text of the lines, and how many records there are at last
-abbrev pub text_of_pairs : Loading → List (List ℕ) → List ℕ
-text_of_pairs first lines = load_text_from first lines ++ number_line (codes "loaded ") (record_count (loaded_from first lines))
+-- a load, and a text before what it prints
+abbrev pub behind : List ℕ → Load → Load
+behind text load = record { printed = text ++ load.printed; left = load.left }
 
-abbrev pub loaded : Loading → List (List ℕ) → Load
-loaded first lines = record { printed = text_of_pairs first lines; left = Some (loaded_from first lines) }
+-- what comes behind the text of lines, by the maps before them and after them, and in place of all where there is no line
+pub record Ending : Type 0 where
+  pub none : Load
+  pub after : Loading → Loading → Load
 
-abbrev pub load_after : Result Settings LineFault → List (List ℕ) → Load
-load_after (Ok settings) lines = loaded (new_loading settings.file) lines
-load_after (Err fault) lines = refused (line_fault_number fault)
+-- at the end of a text: how many records there are more, and the file; without a line the first is wrong
+abbrev pub at_end : Ending
+at_end = record { none = refused 60; after = λ first last. record { printed = number_line (codes "loaded ") (record_count last - record_count first); left = Some last } }
 
--- where there is no line, the first is wrong
-abbrev pub load_of_lines : List (List ℕ) → Load
-load_of_lines [] = refused 60
-load_of_lines (first ∷ lines) = load_after (file_line_of first) lines
+module _ (ending : Ending) where
+  -- lines that are put over maps
+  abbrev pub loaded : Loading → List (List ℕ) → Load
+  loaded first lines = behind (load_text_from first lines) (ending.after first (loaded_from first lines))
 
--- of a text: one that is too long is refused
-unfoldable pub load_of : List ℕ → Load
-load_of text = if nat_le (length text) SCRIPT_LIMIT then load_of_lines (lines_of text) else refused 62
+  abbrev pub load_begun : Result Loading ℕ → List (List ℕ) → Load
+  load_begun (Ok first) lines = loaded first lines
+  load_begun (Err number) lines = refused number
+
+  module _ (begin : Beginning) where
+    abbrev pub load_after : Result Settings LineFault → List (List ℕ) → Load
+    load_after (Ok settings) lines = load_begun (begin settings.file) lines
+    load_after (Err fault) lines = refused (line_fault_number fault)
+
+    abbrev pub load_of_lines : List (List ℕ) → Load
+    load_of_lines [] = ending.none
+    load_of_lines (first ∷ lines) = load_after (file_line_of first) lines
+
+-- of a text of at most so many bytes: a longer one is refused
+unfoldable pub load_of : Beginning → ℕ → List ℕ → Load
+load_of begin limit text = if nat_le (length text) limit then load_of_lines at_end begin (lines_of text) else refused 62
 
 -- ---- a load of a reader
 
--- the load of a text, which is the reader's bytes where they are known
-pub record IsOfText (known : Option (List ℕ)) (load : Load) : Type 0 where
-  pub text : List ℕ
-  pub read : IfSome known (λ bytes. text ≡ bytes)
-  pub is : load ≡ load_of text
+-- `of text` is the load of a text. `known` are the reader's bytes, where these are known.
+module _ (of : List ℕ → Load) (known : Option (List ℕ)) where
+  -- the load of a text, which is the reader's bytes
+  pub record IsOfText (load : Load) : Type 0 where
+    pub text : List ℕ
+    pub read : IfSome known (λ bytes. text ≡ bytes)
+    pub is : load ≡ of text
 
--- that, or the load of a reader that failed
-abbrev pub IsLoadOf : Option (List ℕ) → Load → Type 0
-IsLoadOf known load = IsOfText known load ⊎ (load ≡ refused 41)
+  -- that, or the load of a reader that failed
+  abbrev pub IsLoadOf : Load → Type 0
+  IsLoadOf load = IsOfText load ⊎ (load ≡ refused 41)
 
 -- nothing, or bytes that end with a newline
 abbrev pub AreWholeLines : List ℕ → Type 0
 AreWholeLines bytes = (bytes ≡ []) ⊎ ((front : List ℕ) × (bytes ≡ front ++ codes "\n"))
 
--- `prints bytes` says how bytes go out: that a writer holds them, or a beginning of them, or that an output took them.
-module _ (prints : List ℕ → Type 0) (known : Option (List ℕ)) where
+-- `Is load` says that it is the load of what is read, `prints bytes` how bytes go out: that a writer holds them, or a beginning of them, or that an output took them.
+module _ (Is : Load → Type 0) (prints : List ℕ → Type 0) where
   -- a load's text goes out
   pub record Prints : Type 0 where
     pub load : Load
-    pub of_reader : IsLoadOf known load
+    pub of_reader : Is load
     pub text : prints load.printed
 
   -- or a front of it, of whole lines
   pub record PrintsFront : Type 0 where
     pub load : Load
-    pub of_reader : IsLoadOf known load
+    pub of_reader : Is load
     pub front : List ℕ
     pub rest : List ℕ
     pub split : load.printed ≡ front ++ rest
@@ -111,14 +142,9 @@ module _ (prints : List ℕ → Type 0) (known : Option (List ℕ)) where
 -- ---- of private functions
 
 -- the load of a reader, which failed or didn't: `refused 41` where it did, else the load of its text
-abbrev pub IsLoadBy : Bool → Option (List ℕ) → Load → Type 0
-IsLoadBy true known load = load ≡ refused 41
-IsLoadBy false known load = IsOfText known load
-
-pub record PrintsBy (prints : List ℕ → Type 0) (failed : Bool) (known : Option (List ℕ)) : Type 0 where
-  pub load : Load
-  pub by_reader : IsLoadBy failed known load
-  pub text : prints load.printed
+abbrev pub IsLoadBy : (List ℕ → Load) → Option (List ℕ) → Bool → Load → Type 0
+IsLoadBy of known true load = load ≡ refused 41
+IsLoadBy of known false load = IsOfText of known load
 
 -- the output takes a front of these bytes, of whole lines
 pub record TakesFront {W : Type 0} (contents : W → Option (List ℕ)) (old new : Output W) (bytes : List ℕ) : Type 0 where
@@ -132,3 +158,8 @@ pub record TakesFront {W : Type 0} (contents : W → Option (List ℕ)) (old new
 abbrev pub new_count : Reply → ℕ
 new_count New = 1
 new_count reply = 0
+
+-- the loader of what a first line begins, or none where it is refused
+abbrev pub IsBegun : Result Loading ℕ → Option LoaderState → Type 0
+IsBegun begun (Some loader) = (begun ≡ Ok (loading_of loader)) × IsLoading loader
+IsBegun begun None = begun ≡ Err 63

@@ -1,17 +1,15 @@
--- The wards of a new file that pairs are put into, each with its directory.
+-- The wards of a file that pairs are put into, each with its directory.
 use Rattle.std.specs.Prelude.{◌≡◌, ℕ, List, length, slice_get, slice_set, Some}
 use Rattle.std.specs.FinMap as map
-use Rattle.exh_prefix.specs.Leading.{ward_of}
 use Rattle.exh_keyer.specs.declared.any_keyer.AnyKeyer.{AnyKeyer}
-use Rattle.exh_keyer.specs.Pseudokey.{any_pseudokey}
 use Rattle.exh_array.specs.Pointers.{DirectoryState}
-use Rattle.exh_calls.specs.declared.call.Call.TheVariants.{Put}
-use Rattle.exh_calls.specs.declared.reply.Reply.{Reply}
 use Rattle.exh_file_settings.specs.declared.file_settings.FileSettings.{FileSettings}
 use Rattle.exh_ward.specs.NewWards.{new_wards}
 use Rattle.exh_ward.specs.WardState.{WardState}
 use Rattle.exh_open.specs.Opened.{OpenedState, in_file}
-use Rattle.exh_load.specs.Put.{AreSplitsAtMost, IsDirectoryOf, IsPut}
+use Rattle.exh_change.specs.FileChange.{ward_in}
+use Rattle.exh_change.specs.WardChange.{AreSplitsAtMost}
+use Rattle.exh_load.specs.Put.{IsDirectoryOf}
 
 pub record LoaderState : Type 0 where
   pub cap : ℕ
@@ -34,25 +32,13 @@ pub record IsLoading (loader : LoaderState) : Type 0 where
 abbrev pub IsEmptyLoader : FileSettings AnyKeyer → LoaderState → Type 0
 IsEmptyLoader settings loader = file_in loader ≡ in_file settings (new_wards settings)
 
--- the number of the ward that a key belongs to
-abbrev pub ward_in : LoaderState → List ℕ → ℕ
-ward_in loader key = ward_of loader.ward_bits (any_pseudokey loader.keyer key)
-
--- the pair was put into the ward of its key, and the other wards are as before
-pub record IsPutIn (old : LoaderState) (key value : List ℕ) (reply : Reply) (new : LoaderState) : Type 0 where
-  pub ward : WardState AnyKeyer
-  pub after : WardState AnyKeyer
-  pub there : slice_get old.wards (ward_in old key) ≡ Some ward
-  pub put : IsPut any_pseudokey ward (Put key value) reply after
-  pub others : new ≡ record old { wards = slice_set old.wards (ward_in old key) after; directories = new.directories }
-
 -- pages of the ward of a key may have been split, and its count of page faults may be another; the other wards are as before
 pub record HasSplitsIn (old : LoaderState) (key : List ℕ) (new : LoaderState) : Type 0 where
   pub ward : WardState AnyKeyer
   pub after : WardState AnyKeyer
-  pub there : slice_get old.wards (ward_in old key) ≡ Some ward
+  pub there : slice_get old.wards (ward_in (file_in old) key) ≡ Some ward
   pub splits : AreSplitsAtMost ward after
-  pub others : new ≡ record old { wards = slice_set old.wards (ward_in old key) after; directories = new.directories }
+  pub others : file_in new ≡ record (file_in old) { wards = slice_set old.wards (ward_in (file_in old) key) after }
 
 -- ---- of private functions
 
@@ -65,3 +51,7 @@ pub record AreEach {A : Type 0} (P : ℕ → A → Type 0) (count : ℕ) (items 
 pub record IsEmptyDirectory (ward_bits : ℕ) (directory : DirectoryState) : Type 0 where
   pub table : directory.table ≡ map.empty
   pub bits : directory.pointers.ward_bits ≡ ward_bits
+
+-- a directory of the table of that ward of a file
+abbrev pub IsDirectoryAt : ℕ → List (WardState AnyKeyer) → ℕ → DirectoryState → Type 0
+IsDirectoryAt ward_bits wards number directory = (ward : WardState AnyKeyer) → slice_get wards number ≡ Some ward → (directory.table ≡ ward.table) × (directory.pointers.ward_bits ≡ ward_bits)

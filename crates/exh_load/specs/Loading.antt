@@ -1,5 +1,5 @@
 -- What pairs come to, over the map of each ward, and what is printed of their lines.
-use Rattle.std.specs.Prelude.{ℕ, List, [], ◌∷◌, ◌++◌, get_or, slice_set, map, Option, None, Result, Ok, Err, codes}
+use Rattle.std.specs.Prelude.{ℕ, List, [], ◌∷◌, ◌++◌, get_or, slice_set, Option, None, Result, Ok, Err, codes}
 use Rattle.std.specs.FinMap as fin
 use Rattle.exh_prefix.specs.Leading.{ward_of}
 use Rattle.exh_keyer.specs.declared.any_keyer.AnyKeyer.{AnyKeyer}
@@ -15,9 +15,9 @@ use Rattle.exh_calls.specs.MapMachine.{reply_of, map_after}
 use Rattle.exh_calls.specs.declared.call.Call.TheVariants.{Put}
 use Rattle.exh_calls.specs.declared.reply.Reply.{Reply}
 use Rattle.exh_calls.specs.declared.reply.Reply.TheVariants.{Full}
-use Rattle.exh_legal.specs.Pages.{map_of}
-use Rattle.exh_ward.specs.WardState.{WardState}
-use Rattle.exh_load.specs.Loader.{LoaderState}
+use Rattle.exh_open.specs.Opened.{OpenedState}
+use Rattle.exh_change.specs.FileChange.{maps_in}
+use Rattle.exh_load.specs.Loader.{LoaderState, file_in}
 
 -- a file's settings, and the map of each ward, in the order of their numbers
 pub record Loading : Type 0 where
@@ -26,9 +26,12 @@ pub record Loading : Type 0 where
   pub keyer : AnyKeyer
   pub maps : List KeyMap
 
--- what a loader has put
+-- what the wards of a file have, and those that a loader puts into
+abbrev pub loading_in : OpenedState → Loading
+loading_in file = record { cap = file.cap; ward_bits = file.ward_bits; keyer = file.keyer; maps = maps_in file }
+
 abbrev pub loading_of : LoaderState → Loading
-loading_of loader = record { cap = loader.cap; ward_bits = loader.ward_bits; keyer = loader.keyer; maps = map (λ (ward : WardState AnyKeyer). map_of ward.pages) loader.wards }
+loading_of loader = loading_in (file_in loader)
 
 -- ---- a pair
 

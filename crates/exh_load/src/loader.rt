@@ -1,11 +1,14 @@
-ghost use Rattle.std.specs.Prelude.{◌≡◌, ◌+◌, ◌≤◌, ◌^◌, ℕ, IfOk, IfErr, OnErr, OnOk};
+ghost use Rattle.std.specs.Prelude.{◌≡◌, ◌+◌, ◌≤◌, ◌^◌, ℕ, length, IfOk, IfErr, OnErr, OnOk};
 ghost use Rattle.exh_page.specs.declared.page.TheConstants.{CAP_LIMIT};
 ghost use Rattle.exh_prefix.specs.declared.prefix.TheConstants.{WARD_BITS_LIMIT};
 ghost use Rattle.exh_array.specs.Pointers.{DirectoryState};
+ghost use Rattle.exh_calls.specs.declared.call.Call.TheVariants.{Put};
+ghost use Rattle.exh_change.specs.FileChange.{ChangesOneMap, IsChangedIn};
+ghost use Rattle.exh_open.specs.Opened.{settings_in};
 ghost use Rattle.exh_ward.specs.WardFault.{IsStoreFault};
 ghost use Rattle.exh_load.specs.Load.{empty_loading, new_count, record_count};
 ghost use Rattle.exh_load.specs.Loading.{after_pair, loading_of, pair_reply};
-ghost use Rattle.exh_load.specs.Loader.{AreEach, HasSplitsIn, IsEmptyDirectory, IsEmptyLoader, IsLoading, IsPutIn, file_in};
+ghost use Rattle.exh_load.specs.Loader.{AreEach, HasSplitsIn, IsDirectoryAt, IsEmptyDirectory, IsEmptyLoader, IsLoading, file_in};
 
 use crate::put_pair;
 use exh_array::Directory;
@@ -16,11 +19,12 @@ use exh_keyer::{AnyKeyer, Keyer};
 use exh_open::Opened;
 use exh_page::{Key, Value};
 use exh_prefix::ward_number;
+use exh_table::Table;
 use exh_ward::{Ward, WardFault, new_wards};
 use std::alloc::{AllocError, Global};
 use std::marker::Model;
 
-/// The wards of a new file that pairs are put into, and a directory of each.
+/// The wards of a file that pairs are put into, and a directory of each.
 #[derive(Drop)]
 pub struct Loader<P: Pages + Drop> {
     settings: FileSettings<AnyKeyer>,
@@ -68,12 +72,28 @@ impl<P: Pages + Drop> Loader<P> {
         })
     }
 
+    /// The loader of the wards of a file: each has a directory of its table. An `AllocError` where memory is refused.
+    pub fn over(alloc: Global, opened: Opened<P>) -> Result<Loader<P>, AllocError>
+        ensures file { IfOk result (λ loader. file_in loader ≡ opened) }
+        ensures loading { IfOk result IsLoading }
+    {
+        let settings = opened.settings();
+        let wards = opened.into_wards();
+        let directories = directories_of(alloc, settings.ward_bits, &wards)?;
+        Ok(Loader {
+            settings,
+            wards,
+            directories,
+        })
+    }
+
     /// Puts a pair into the ward of its key, and splits pages where they are full for it, as `put_pair`
     /// does. The key is hashed once. `Memory` and `Page` may come at any point: splits that were made
     /// stay made, and no more pairs can be put then, since a directory may lack a notice.
     pub fn put(&mut self, key: Key, value: Value) -> Result<Reply, WardFault>
         requires { IsLoading self.old }
-        ensures put { IfOk result (λ reply. IsPutIn self.old key value reply self.new) }
+        ensures put { IfOk result (λ reply. IsChangedIn (file_in self.old) (Put key value) reply (file_in self.new)) }
+        ensures one { IfOk result (λ reply. ChangesOneMap (file_in self.old) (Put key value) reply (file_in self.new)) }
         ensures reply { IfOk result (λ reply. reply ≡ pair_reply (loading_of self.old) key value) }
         ensures maps { OnOk result (loading_of self.new ≡ after_pair (loading_of self.old) key value) }
         ensures records { IfOk result (λ reply. new_count reply + record_count (loading_of self.old) ≡ record_count (loading_of self.new)) }
@@ -86,6 +106,13 @@ impl<P: Pages + Drop> Loader<P> {
         let ward = &mut self.wards[at];
         let directory = &mut self.directories[at];
         put_pair(ward, directory, key, value, pseudokey)
+    }
+
+    /// The settings of the file.
+    pub fn settings(&self) -> FileSettings<AnyKeyer>
+        ensures { result ≡ settings_in (file_in self.now) }
+    {
+        self.settings
     }
 
     /// The file of the wards. It takes no memory.
@@ -106,4 +133,31 @@ fn new_directories(alloc: Global, ward_bits: u8) -> Result<Vec<Directory>, Alloc
         directories.push(Directory::new(alloc, ward_bits)?)?;
     }
     Ok(directories)
+}
+
+// A directory of the table of each ward.
+fn directories_of<P: Pages + Drop>(
+    alloc: Global,
+    ward_bits: u8,
+    wards: &[Ward<P, AnyKeyer>],
+) -> Result<Vec<Directory>, AllocError>
+    requires { ward_bits ≤ WARD_BITS_LIMIT }
+    ensures { IfOk result (λ directories. AreEach (IsDirectoryAt ward_bits wards.now) (length wards.now) directories.items) }
+{
+    let mut directories = Vec::new(alloc);
+    for ward in wards {
+        directories.push(directory_of(alloc, ward_bits, ward.table())?)?;
+    }
+    Ok(directories)
+}
+
+// A directory of a table, in a file of so many ward bits.
+fn directory_of(alloc: Global, ward_bits: u8, table: &Table) -> Result<Directory, AllocError>
+    requires { ward_bits ≤ WARD_BITS_LIMIT }
+    ensures table { IfOk result (λ directory. directory.table ≡ table.now) }
+    ensures bits { IfOk result (λ directory. directory.pointers.ward_bits ≡ ward_bits) }
+{
+    let mut directory = Directory::new(alloc, ward_bits)?;
+    directory.join_in(table)?;
+    Ok(directory)
 }

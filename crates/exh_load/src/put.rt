@@ -2,20 +2,19 @@ ghost use Rattle.std.specs.Prelude.{◌≡◌, IfOk, IfErr, OnOk, OnErr};
 ghost use Rattle.exh_prefix.specs.Prefix.{Begins};
 ghost use Rattle.exh_calls.specs.declared.call.Call.TheVariants.{Put};
 ghost use Rattle.exh_ward.specs.WardFault.{CountsFailures, IsStoreFault};
-ghost use Rattle.exh_ward.specs.WardState.{IsSoundWard, IsUnchanged, own_prefix};
-ghost use Rattle.exh_load.specs.Put.{AreSplitsAtMost, IsDirectoryOf, IsFullAt, IsPut, IsSplitAway};
+ghost use Rattle.exh_ward.specs.WardState.{IsSoundWard, own_prefix};
+ghost use Rattle.exh_change.specs.WardChange.{AreSplitsAtMost, IsChanged, IsFullAt, IsSplitAway};
+ghost use Rattle.exh_load.specs.Put.{IsDirectoryOf};
 
 use exh_array::Directory;
 use exh_calls::{Call, Reply};
+use exh_change::CHANGER;
 use exh_frames::Pages;
 use exh_keyer::Keyer;
 use exh_legal::walks_name_homes;
 use exh_page::{Key, Value};
 use exh_prefix::{LIMIT, PageNo};
 use exh_ward::{Hop, Ward, WardFault};
-
-/// The client that puts pairs of a text.
-pub const LOADER: u32 = 1;
 
 /// Puts a pair into the ward that covers its key, whose pseudokey is given, by a directory that was told
 /// of all the ward's notices: at the page that it names, which is split as long as it is full for the
@@ -31,7 +30,7 @@ pub fn put_pair<P: Pages + Drop, K: Keyer>(
     requires hashed { pseudokey ≡ K.pseudokey_of ward.old.keyer key }
     requires covered { Begins (own_prefix ward.old) pseudokey }
     requires told { IsDirectoryOf ward.old directory.old }
-    ensures put { IfOk result (λ reply. IsPut K.pseudokey_of ward.old (Put key value) reply ward.new) }
+    ensures put { IfOk result (λ reply. IsChanged K.pseudokey_of ward.old (Put key value) reply ward.new) }
     ensures told { OnOk result (IsDirectoryOf ward.new directory.new) }
     ensures err { OnErr result (AreSplitsAtMost ward.old ward.new) }
     ensures fault { IfErr result IsStoreFault }
@@ -42,7 +41,7 @@ pub fn put_pair<P: Pages + Drop, K: Keyer>(
     let call = Call::Put { key, value };
     'turns: for turn in 0..LIMIT + 1 {
         let at = directory.walk(pseudokey);
-        match ward.hop_hashed(at, LOADER, &call, pseudokey)? {
+        match ward.hop_hashed(at, CHANGER, &call, pseudokey)? {
             Hop::Done(reply) => return Ok(reply),
             Hop::MustSplit => split_told(ward, directory, at)?,
             Hop::Moved(_) | Hop::Stray => unreachable!(),

@@ -3,7 +3,7 @@ use Rattle.exh_calls.specs.Call.{key_of}
 use Rattle.exh_keyer.specs.Pseudokey.{any_pseudokey}
 use Rattle.exh_open.specs.Opened.{in_file}
 use Rattle.exh_prefix.specs.Leading.{ward_of}
-use Rattle.exh_change.proofs.InWards.{at_within, changed_in, one_in, settings_kept, ward_covers, ward_hashed, wards_left}
+use Rattle.exh_change.specs.InWardLemmas.{at_within, changed_in, one_in, settings_kept, ward_covers, ward_hashed, wards_left}
 use Rattle.exh_change.proofs.file_change.change_in.Goals as goal
 
 pub index_mut-ward-requires : goal.index_mut-ward-requires

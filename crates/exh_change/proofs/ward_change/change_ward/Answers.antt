@@ -4,9 +4,9 @@ use Rattle.exh_calls.specs.Call.{key_of}
 use Rattle.exh_ward.specs.HopTable.{HopOf}
 use Rattle.exh_ward.specs.WardFault.{CountsFailures}
 use Rattle.exh_change.specs.WardChange.{AreSplitsAtMost, IsFullAt, IsSplitAway}
-use Rattle.exh_change.proofs.Homes.{IsFullHome, full_home, left_same, never_moved, never_stray}
-use Rattle.exh_change.proofs.Splits.{at_most_on, call_done, own_kept, splits_keep}
-use Rattle.exh_change.proofs.Turns.{turn_over}
+use Rattle.exh_change.specs.HomeLemmas.{IsFullHome, full_home, left_same, never_moved, never_stray}
+use Rattle.exh_change.specs.SplitLemmas.{at_most_on, call_done, own_kept, splits_keep}
+use Rattle.exh_change.specs.TurnLemmas.{turn_over}
 use Rattle.exh_change.proofs.ward_change.change_ward.Goals as goal
 
 pub named_page-at-requires : goal.named_page-at-requires

@@ -1,4 +1,4 @@
-use Rattle.exh_change.proofs.Turns.{AreTurns}
+use Rattle.exh_change.specs.TurnLemmas.{AreTurns}
 use Rattle.exh_change.proofs.ward_change.change_ward.Given as goal
 
 abbrev pub invariant-turns : goal.invariant-turns

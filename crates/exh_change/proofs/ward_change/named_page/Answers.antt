@@ -1,7 +1,7 @@
 use Rattle.std.proofs.Common.{ℕ, ap, ◌∙◌, arith}
 use Rattle.exh_table.specs.Table.{TableMap}
 use Rattle.exh_table.specs.Walk.{walk_of}
-use Rattle.exh_change.proofs.Homes.{bits_few, home_named}
+use Rattle.exh_change.specs.HomeLemmas.{bits_few, home_named}
 use Rattle.exh_change.proofs.ward_change.named_page.Goals as goal
 
 pub walk-requires : goal.walk-requires

@@ -2,8 +2,9 @@ use Rattle.std.proofs.Common.{◌≡◌, ◌<◌, length, ap, ◌∙◌, arith}
 use Rattle.exh_keyer.specs.Pseudokey.{any_pseudokey}
 use Rattle.exh_prefix.specs.Leading.{ward_of}
 use Rattle.exh_calls.specs.declared.call.Call.TheVariants.{Put}
-use Rattle.exh_load.specs.Loader.{LoaderState}
-use Rattle.exh_load.proofs.PutIn.{are_splits_in, at_within, directory_within, is_put_in, loading_left, maps_in, records_left, reply_in, settings_kept, ward_covers, ward_hashed, ward_told, wards_left}
+use Rattle.exh_change.specs.InWardLemmas.{at_within, settings_kept, ward_covers, ward_hashed, wards_left}
+use Rattle.exh_load.specs.Loader.{LoaderState, file_in}
+use Rattle.exh_load.proofs.PutIn.{are_splits_in, directory_within, loading_left, maps_in, one_put_in, put_in, records_left, reply_in, ward_told}
 use Rattle.exh_load.proofs.loader.Loader.put.Goals as goal
 
 pub index_mut-ward-requires : goal.index_mut-ward-requires
@@ -12,7 +13,7 @@ index_mut-ward-requires g c =
     let old : LoaderState = record { cap = i.settings.cap; ward_bits = i.settings.ward_bits; keyer = i.settings.keyer; wards = i.wards.items; directories = i.directories.items } in
     let hashed : c.pseudo-pseudokey.result ≡ any_pseudokey i.settings.keyer c.args.key = c.pseudo-pseudokey.ensures ∙ ap (any_pseudokey i.settings.keyer) c.as_bytes.ensures.bytes in
     let at_is : c.from-at.result ≡ ward_of i.settings.ward_bits c.pseudo-pseudokey.result = c.from-at.ensures ∙ c.ward_number.ensures in
-    let within : c.from-at.result < length i.wards.items = at_within old c.args.self.now c.self.view_is c.self.invariant c.requires c.args.key c.pseudo-pseudokey.result c.from-at.result hashed at_is in
+    let within : c.from-at.result < length i.wards.items = at_within (file_in old) c.self.invariant (Put c.args.key c.args.value) c.pseudo-pseudokey.result c.from-at.result hashed at_is in
     omega (arith, i.wards.ok.0, within)
 
 pub index_mut-directory-requires : goal.index_mut-directory-requires
@@ -21,7 +22,7 @@ index_mut-directory-requires g c =
     let old : LoaderState = record { cap = i.settings.cap; ward_bits = i.settings.ward_bits; keyer = i.settings.keyer; wards = i.wards.items; directories = i.directories.items } in
     let hashed : c.pseudo-pseudokey.result ≡ any_pseudokey i.settings.keyer c.args.key = c.pseudo-pseudokey.ensures ∙ ap (any_pseudokey i.settings.keyer) c.as_bytes.ensures.bytes in
     let at_is : c.from-at.result ≡ ward_of i.settings.ward_bits c.pseudo-pseudokey.result = c.from-at.ensures ∙ c.ward_number.ensures in
-    let within : c.from-at.result < length i.directories.items = directory_within old c.args.self.now c.self.view_is c.self.invariant c.requires c.args.key c.pseudo-pseudokey.result c.from-at.result hashed at_is in
+    let within : c.from-at.result < length i.directories.items = directory_within old c.args.self.now c.self.view_is c.self.invariant c.requires c.args.key c.args.value c.pseudo-pseudokey.result c.from-at.result hashed at_is in
     omega (arith, i.directories.ok.0, within)
 
 pub put_pair-requires-clause-hashed : goal.put_pair-requires-clause-hashed
@@ -30,7 +31,7 @@ put_pair-requires-clause-hashed g c =
     let old : LoaderState = record { cap = i.settings.cap; ward_bits = i.settings.ward_bits; keyer = i.settings.keyer; wards = i.wards.items; directories = i.directories.items } in
     let hashed : c.pseudo-pseudokey.result ≡ any_pseudokey i.settings.keyer c.args.key = c.pseudo-pseudokey.ensures ∙ ap (any_pseudokey i.settings.keyer) c.as_bytes.ensures.bytes in
     let at_is : c.from-at.result ≡ ward_of i.settings.ward_bits c.pseudo-pseudokey.result = c.from-at.ensures ∙ c.ward_number.ensures in
-    ward_hashed old c.args.self.now c.self.view_is c.self.invariant c.requires c.args.key c.pseudo-pseudokey.result c.from-at.result hashed at_is c.index_mut-ward.result.now c.index_mut-ward.ensures.value
+    ward_hashed (file_in old) c.self.invariant (Put c.args.key c.args.value) c.pseudo-pseudokey.result c.from-at.result hashed at_is c.index_mut-ward.result.now c.index_mut-ward.ensures.value
 
 pub put_pair-requires-clause-covered : goal.put_pair-requires-clause-covered
 put_pair-requires-clause-covered g c =
@@ -38,7 +39,7 @@ put_pair-requires-clause-covered g c =
     let old : LoaderState = record { cap = i.settings.cap; ward_bits = i.settings.ward_bits; keyer = i.settings.keyer; wards = i.wards.items; directories = i.directories.items } in
     let hashed : c.pseudo-pseudokey.result ≡ any_pseudokey i.settings.keyer c.args.key = c.pseudo-pseudokey.ensures ∙ ap (any_pseudokey i.settings.keyer) c.as_bytes.ensures.bytes in
     let at_is : c.from-at.result ≡ ward_of i.settings.ward_bits c.pseudo-pseudokey.result = c.from-at.ensures ∙ c.ward_number.ensures in
-    ward_covers old c.args.self.now c.self.view_is c.self.invariant c.requires c.args.key c.pseudo-pseudokey.result c.from-at.result hashed at_is c.index_mut-ward.result.now c.index_mut-ward.ensures.value
+    ward_covers (file_in old) c.self.invariant (Put c.args.key c.args.value) c.pseudo-pseudokey.result c.from-at.result hashed at_is c.index_mut-ward.result.now c.index_mut-ward.ensures.value
 
 pub put_pair-requires-clause-told : goal.put_pair-requires-clause-told
 put_pair-requires-clause-told g c =
@@ -46,7 +47,7 @@ put_pair-requires-clause-told g c =
     let old : LoaderState = record { cap = i.settings.cap; ward_bits = i.settings.ward_bits; keyer = i.settings.keyer; wards = i.wards.items; directories = i.directories.items } in
     let hashed : c.pseudo-pseudokey.result ≡ any_pseudokey i.settings.keyer c.args.key = c.pseudo-pseudokey.ensures ∙ ap (any_pseudokey i.settings.keyer) c.as_bytes.ensures.bytes in
     let at_is : c.from-at.result ≡ ward_of i.settings.ward_bits c.pseudo-pseudokey.result = c.from-at.ensures ∙ c.ward_number.ensures in
-    ward_told old c.args.self.now c.self.view_is c.self.invariant c.requires c.args.key c.pseudo-pseudokey.result c.from-at.result hashed at_is c.index_mut-ward.result.now c.index_mut-ward.ensures.value c.index_mut-directory.result.now c.index_mut-directory.ensures.value
+    ward_told old c.args.self.now c.self.view_is c.self.invariant c.requires c.args.key c.args.value c.pseudo-pseudokey.result c.from-at.result hashed at_is c.index_mut-ward.result.now c.index_mut-ward.ensures.value c.index_mut-directory.result.now c.index_mut-directory.ensures.value
 
 pub invariant_of-self : goal.invariant_of-self
 invariant_of-self g c =
@@ -54,9 +55,8 @@ invariant_of-self g c =
     let old : LoaderState = record { cap = i.settings.cap; ward_bits = i.settings.ward_bits; keyer = i.settings.keyer; wards = i.wards.items; directories = i.directories.items } in
     let hashed : c.pseudo-pseudokey.result ≡ any_pseudokey i.settings.keyer c.args.key = c.pseudo-pseudokey.ensures ∙ ap (any_pseudokey i.settings.keyer) c.as_bytes.ensures.bytes in
     let at_is : c.from-at.result ≡ ward_of i.settings.ward_bits c.pseudo-pseudokey.result = c.from-at.ensures ∙ c.ward_number.ensures in
-    let kept = settings_kept c.index_mut-ward.result.now c.put_pair.new.ward (Put c.args.key c.args.value) c.put_pair.result c.put_pair.ensures.put c.put_pair.ensures.err in
-    wards_left old c.args.self.now c.self.view_is c.self.invariant c.requires c.args.key c.pseudo-pseudokey.result c.from-at.result hashed at_is c.index_mut-ward.result.now c.index_mut-ward.ensures.value c.index_mut-directory.result.now c.index_mut-directory.ensures.value
-    c.put_pair.new.ward c.put_pair.new.directory c.put_pair.result kept
+    wards_left (file_in old) c.self.invariant (Put c.args.key c.args.value) c.pseudo-pseudokey.result c.from-at.result hashed at_is c.index_mut-ward.result.now c.index_mut-ward.ensures.value c.put_pair.new.ward
+    (settings_kept c.index_mut-ward.result.now c.put_pair.new.ward (Put c.args.key c.args.value) c.put_pair.result c.put_pair.ensures.put c.put_pair.ensures.err)
 
 pub returns-clause-put : goal.returns-clause-put
 returns-clause-put g c =
@@ -64,8 +64,17 @@ returns-clause-put g c =
     let old : LoaderState = record { cap = i.settings.cap; ward_bits = i.settings.ward_bits; keyer = i.settings.keyer; wards = i.wards.items; directories = i.directories.items } in
     let hashed : c.pseudo-pseudokey.result ≡ any_pseudokey i.settings.keyer c.args.key = c.pseudo-pseudokey.ensures ∙ ap (any_pseudokey i.settings.keyer) c.as_bytes.ensures.bytes in
     let at_is : c.from-at.result ≡ ward_of i.settings.ward_bits c.pseudo-pseudokey.result = c.from-at.ensures ∙ c.ward_number.ensures in
-    is_put_in old c.args.self.now c.self.view_is c.self.invariant c.requires c.args.key c.pseudo-pseudokey.result c.from-at.result hashed at_is c.index_mut-ward.result.now c.index_mut-ward.ensures.value c.index_mut-directory.result.now c.index_mut-directory.ensures.value
-    c.put_pair.new.ward c.put_pair.new.directory c.put_pair.result c.args.value c.put_pair.ensures.put
+    put_in old c.args.self.now c.self.view_is c.self.invariant c.requires c.args.key c.args.value c.pseudo-pseudokey.result c.from-at.result hashed at_is c.index_mut-ward.result.now c.index_mut-ward.ensures.value c.index_mut-directory.result.now c.index_mut-directory.ensures.value
+    c.put_pair.new.ward c.put_pair.new.directory c.put_pair.result c.put_pair.ensures.put
+
+pub returns-clause-one : goal.returns-clause-one
+returns-clause-one g c =
+    let i = c.self.inside in
+    let old : LoaderState = record { cap = i.settings.cap; ward_bits = i.settings.ward_bits; keyer = i.settings.keyer; wards = i.wards.items; directories = i.directories.items } in
+    let hashed : c.pseudo-pseudokey.result ≡ any_pseudokey i.settings.keyer c.args.key = c.pseudo-pseudokey.ensures ∙ ap (any_pseudokey i.settings.keyer) c.as_bytes.ensures.bytes in
+    let at_is : c.from-at.result ≡ ward_of i.settings.ward_bits c.pseudo-pseudokey.result = c.from-at.ensures ∙ c.ward_number.ensures in
+    one_put_in old c.args.self.now c.self.view_is c.self.invariant c.requires c.args.key c.args.value c.pseudo-pseudokey.result c.from-at.result hashed at_is c.index_mut-ward.result.now c.index_mut-ward.ensures.value c.index_mut-directory.result.now c.index_mut-directory.ensures.value
+    c.put_pair.new.ward c.put_pair.new.directory c.put_pair.result c.put_pair.ensures.put
 
 pub returns-clause-err : goal.returns-clause-err
 returns-clause-err g c =
@@ -73,7 +82,7 @@ returns-clause-err g c =
     let old : LoaderState = record { cap = i.settings.cap; ward_bits = i.settings.ward_bits; keyer = i.settings.keyer; wards = i.wards.items; directories = i.directories.items } in
     let hashed : c.pseudo-pseudokey.result ≡ any_pseudokey i.settings.keyer c.args.key = c.pseudo-pseudokey.ensures ∙ ap (any_pseudokey i.settings.keyer) c.as_bytes.ensures.bytes in
     let at_is : c.from-at.result ≡ ward_of i.settings.ward_bits c.pseudo-pseudokey.result = c.from-at.ensures ∙ c.ward_number.ensures in
-    are_splits_in old c.args.self.now c.self.view_is c.self.invariant c.requires c.args.key c.pseudo-pseudokey.result c.from-at.result hashed at_is c.index_mut-ward.result.now c.index_mut-ward.ensures.value c.index_mut-directory.result.now c.index_mut-directory.ensures.value
+    are_splits_in old c.args.self.now c.self.view_is c.self.invariant c.requires c.args.key c.args.value c.pseudo-pseudokey.result c.from-at.result hashed at_is c.index_mut-ward.result.now c.index_mut-ward.ensures.value c.index_mut-directory.result.now c.index_mut-directory.ensures.value
     c.put_pair.new.ward c.put_pair.new.directory c.put_pair.result c.put_pair.ensures.err
 
 pub returns-clause-reply : goal.returns-clause-reply
@@ -82,8 +91,8 @@ returns-clause-reply g c =
     let old : LoaderState = record { cap = i.settings.cap; ward_bits = i.settings.ward_bits; keyer = i.settings.keyer; wards = i.wards.items; directories = i.directories.items } in
     let hashed : c.pseudo-pseudokey.result ≡ any_pseudokey i.settings.keyer c.args.key = c.pseudo-pseudokey.ensures ∙ ap (any_pseudokey i.settings.keyer) c.as_bytes.ensures.bytes in
     let at_is : c.from-at.result ≡ ward_of i.settings.ward_bits c.pseudo-pseudokey.result = c.from-at.ensures ∙ c.ward_number.ensures in
-    reply_in old c.args.self.now c.self.view_is c.self.invariant c.requires c.args.key c.pseudo-pseudokey.result c.from-at.result hashed at_is c.index_mut-ward.result.now c.index_mut-ward.ensures.value c.index_mut-directory.result.now c.index_mut-directory.ensures.value
-    c.put_pair.new.ward c.put_pair.new.directory c.put_pair.result c.args.value c.put_pair.ensures.put
+    reply_in old c.args.self.now c.self.view_is c.self.invariant c.requires c.args.key c.args.value c.pseudo-pseudokey.result c.from-at.result hashed at_is c.index_mut-ward.result.now c.index_mut-ward.ensures.value c.index_mut-directory.result.now c.index_mut-directory.ensures.value
+    c.put_pair.new.ward c.put_pair.new.directory c.put_pair.result c.put_pair.ensures.put
 
 pub returns-clause-maps : goal.returns-clause-maps
 returns-clause-maps g c =
@@ -91,8 +100,8 @@ returns-clause-maps g c =
     let old : LoaderState = record { cap = i.settings.cap; ward_bits = i.settings.ward_bits; keyer = i.settings.keyer; wards = i.wards.items; directories = i.directories.items } in
     let hashed : c.pseudo-pseudokey.result ≡ any_pseudokey i.settings.keyer c.args.key = c.pseudo-pseudokey.ensures ∙ ap (any_pseudokey i.settings.keyer) c.as_bytes.ensures.bytes in
     let at_is : c.from-at.result ≡ ward_of i.settings.ward_bits c.pseudo-pseudokey.result = c.from-at.ensures ∙ c.ward_number.ensures in
-    maps_in old c.args.self.now c.self.view_is c.self.invariant c.requires c.args.key c.pseudo-pseudokey.result c.from-at.result hashed at_is c.index_mut-ward.result.now c.index_mut-ward.ensures.value c.index_mut-directory.result.now c.index_mut-directory.ensures.value
-    c.put_pair.new.ward c.put_pair.new.directory c.put_pair.result c.args.value c.put_pair.ensures.put
+    maps_in old c.args.self.now c.self.view_is c.self.invariant c.requires c.args.key c.args.value c.pseudo-pseudokey.result c.from-at.result hashed at_is c.index_mut-ward.result.now c.index_mut-ward.ensures.value c.index_mut-directory.result.now c.index_mut-directory.ensures.value
+    c.put_pair.new.ward c.put_pair.new.directory c.put_pair.result c.put_pair.ensures.put
 
 pub returns-clause-records : goal.returns-clause-records
 returns-clause-records g c =
@@ -100,8 +109,8 @@ returns-clause-records g c =
     let old : LoaderState = record { cap = i.settings.cap; ward_bits = i.settings.ward_bits; keyer = i.settings.keyer; wards = i.wards.items; directories = i.directories.items } in
     let hashed : c.pseudo-pseudokey.result ≡ any_pseudokey i.settings.keyer c.args.key = c.pseudo-pseudokey.ensures ∙ ap (any_pseudokey i.settings.keyer) c.as_bytes.ensures.bytes in
     let at_is : c.from-at.result ≡ ward_of i.settings.ward_bits c.pseudo-pseudokey.result = c.from-at.ensures ∙ c.ward_number.ensures in
-    records_left old c.args.self.now c.self.view_is c.self.invariant c.requires c.args.key c.pseudo-pseudokey.result c.from-at.result hashed at_is c.index_mut-ward.result.now c.index_mut-ward.ensures.value c.index_mut-directory.result.now c.index_mut-directory.ensures.value
-    c.put_pair.new.ward c.put_pair.new.directory c.put_pair.result c.args.value c.put_pair.ensures.put
+    records_left old c.args.self.now c.self.view_is c.self.invariant c.requires c.args.key c.args.value c.pseudo-pseudokey.result c.from-at.result hashed at_is c.index_mut-ward.result.now c.index_mut-ward.ensures.value c.index_mut-directory.result.now c.index_mut-directory.ensures.value
+    c.put_pair.new.ward c.put_pair.new.directory c.put_pair.result c.put_pair.ensures.put
 
 pub returns-clause-loading : goal.returns-clause-loading
 returns-clause-loading g c =
@@ -109,5 +118,5 @@ returns-clause-loading g c =
     let old : LoaderState = record { cap = i.settings.cap; ward_bits = i.settings.ward_bits; keyer = i.settings.keyer; wards = i.wards.items; directories = i.directories.items } in
     let hashed : c.pseudo-pseudokey.result ≡ any_pseudokey i.settings.keyer c.args.key = c.pseudo-pseudokey.ensures ∙ ap (any_pseudokey i.settings.keyer) c.as_bytes.ensures.bytes in
     let at_is : c.from-at.result ≡ ward_of i.settings.ward_bits c.pseudo-pseudokey.result = c.from-at.ensures ∙ c.ward_number.ensures in
-    loading_left old c.args.self.now c.self.view_is c.self.invariant c.requires c.args.key c.pseudo-pseudokey.result c.from-at.result hashed at_is c.index_mut-ward.result.now c.index_mut-ward.ensures.value c.index_mut-directory.result.now c.index_mut-directory.ensures.value
+    loading_left old c.args.self.now c.self.view_is c.self.invariant c.requires c.args.key c.args.value c.pseudo-pseudokey.result c.from-at.result hashed at_is c.index_mut-ward.result.now c.index_mut-ward.ensures.value c.index_mut-directory.result.now c.index_mut-directory.ensures.value
     c.put_pair.new.ward c.put_pair.new.directory c.put_pair.result c.put_pair.ensures.told

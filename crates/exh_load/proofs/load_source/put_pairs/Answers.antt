@@ -1,0 +1,39 @@
+use Rattle.exh_stream.specs.OutputLemmas.{OnErr-from}
+use Rattle.exh_load.specs.Loading.{loading_of}
+use Rattle.exh_load.proofs.Pairs.{handed_on, lines_begun, lines_front, pairs_begun, pairs_front, pairs_out, records_told}
+use Rattle.exh_load.proofs.load_source.put_pairs.Goals as goal
+
+pub returns-in_err-records-clause-err : goal.returns-in_err-records-clause-err
+returns-in_err-records-clause-err g c =
+    let first = loading_of c.args.loader in
+    OnErr-from c.from_residual.result (lines_begun first first c.args.lines g.W.Write.contents c.args.output.now c.load_lines.new.output c.in_err-records.ensures.err)
+
+pub returns-in_err-records-clause-front : goal.returns-in_err-records-clause-front
+returns-in_err-records-clause-front g c =
+    let first = loading_of c.args.loader in
+    handed_on c.from_residual.result c.in_err-records.field-0.0 c.from_residual.ensures
+    (λ differs. lines_front first first c.args.lines g.W.Write.contents c.args.output.now c.load_lines.new.output (c.in_err-records.ensures.front differs))
+
+pub returns-in_err-print_number-clause-err : goal.returns-in_err-print_number-clause-err
+returns-in_err-print_number-clause-err g c =
+    let first = loading_of c.args.loader in
+    let left = loading_of c.load_lines.new.loader in
+    let told = records_told first left c.args.lines c.in_ok-records.records c.in_ok-records.ensures.loaded (c.in_ok-records.ensures.records c.requires.few) in
+    OnErr-from c.from_residual-in_err-print_number.result
+    (pairs_begun first left c.args.lines g.W.Write.contents c.args.output.now c.load_lines.new.output c.print_number.new.output c.in_ok-records.ensures.text c.in_ok-records.records told c.in_err-print_number.ensures.err)
+
+pub returns-in_err-print_number-clause-front : goal.returns-in_err-print_number-clause-front
+returns-in_err-print_number-clause-front g c =
+    let first = loading_of c.args.loader in
+    let left = loading_of c.load_lines.new.loader in
+    let told = records_told first left c.args.lines c.in_ok-records.records c.in_ok-records.ensures.loaded (c.in_ok-records.ensures.records c.requires.few) in
+    handed_on c.from_residual-in_err-print_number.result c.in_err-print_number.field-0.0 c.from_residual-in_err-print_number.ensures
+    (λ differs. pairs_front first left c.args.lines g.W.Write.contents c.args.output.now c.load_lines.new.output c.print_number.new.output c.in_ok-records.ensures.text c.in_ok-records.records told
+    (c.in_err-print_number.ensures.front differs))
+
+pub returns-clause-text : goal.returns-clause-text
+returns-clause-text g c =
+    let first = loading_of c.args.loader in
+    let left = loading_of c.load_lines.new.loader in
+    let told = records_told first left c.args.lines c.in_ok-records.records c.in_ok-records.ensures.loaded (c.in_ok-records.ensures.records c.requires.few) in
+    pairs_out first left c.args.lines g.W.Write.contents c.args.output.now c.load_lines.new.output c.print_number.new.output c.in_ok-records.ensures.text c.in_ok-records.records told c.in_ok-print_number.ensures.text

@@ -1,0 +1,47 @@
+//! What a first line begins: the loader of a new file, or of an opened one.
+ghost use Rattle.std.specs.Prelude.{IfOk, IsTrue};
+ghost use Rattle.exh_settings.specs.FileLine.{file_in_range};
+ghost use Rattle.exh_load.specs.Load.{IsBegun, beginning, opened_file};
+
+use crate::Loader;
+use exh_frames::{Pages, StoreMaker};
+use exh_keyer::AnyKeyer;
+use exh_notes::Listener;
+use exh_open::Opened;
+use exh_settings::Config;
+use std::alloc::{AllocError, Global};
+
+/// The loader of an opened file of these settings, or of a new one over stores that the maker makes. `None` where the
+/// settings' cap, ward bits or keyer aren't the opened file's, of which the listener is told. An `AllocError` where
+/// memory is refused.
+pub(crate) fn begin<P: Pages + Drop, M: StoreMaker<P, AnyKeyer>, L: Listener>(
+    alloc: Global,
+    maker: &M,
+    from: Option<Opened<P>>,
+    file: &Config<AnyKeyer>,
+    listener: &mut L,
+) -> Result<Option<Loader<P>>, AllocError>
+    requires { IsTrue (file_in_range file.now) }
+    ensures { IfOk result (IsBegun (beginning from file.now)) }
+{
+    match from {
+        None => Ok(Some(Loader::new(alloc, maker, file.settings)?)),
+        Some(opened) => begin_over(alloc, opened, file, listener),
+    }
+}
+
+// The same over an opened file.
+fn begin_over<P: Pages + Drop, L: Listener>(
+    alloc: Global,
+    opened: Opened<P>,
+    file: &Config<AnyKeyer>,
+    listener: &mut L,
+) -> Result<Option<Loader<P>>, AllocError>
+    ensures { IfOk result (IsBegun (opened_file opened file.now)) }
+{
+    if !opened.settings().are_same(&file.settings) {
+        listener.differs(file.settings, opened.settings());
+        return Ok(None);
+    }
+    Ok(Some(Loader::over(alloc, opened)?))
+}
