@@ -1,11 +1,12 @@
 -- What `load` makes of the text of a legal file's pairs.
-use Rattle.std.proofs.Common.{◌≡◌, ◌∙◌, ℕ, List, [], ◌∷◌, ◌++◌, map, Some, Result, Ok, Err, codes, refl, sym, ap, ap₂, subst}
+use Rattle.std.proofs.Common.{◌≡◌, ◌∙◌, ℕ, zero, suc, ◌-◌, ◌^◌, arith, List, [], ◌∷◌, ◌++◌, map, Some, Result, Ok, Err, codes, refl, sym, ap, ap₂, subst}
 use Rattle.std.specs.FinMap as fin
-use Rattle.std.specs.List.{AllByRecursion, flat_map}
+use Rattle.std.specs.Prelude.{replicate}
+use Rattle.std.specs.List.{AllByRecursion, flat_map, sum_by}
 use Rattle.std.proofs.lemmas.List.Concat.{flat_map-append}
 use Rattle.exh_keyer.specs.Pseudokey.{any_pseudokey}
 use Rattle.exh_keyer.specs.declared.any_keyer.AnyKeyer.{AnyKeyer}
-use Rattle.exh_page.specs.KeyMap.{pair_of}
+use Rattle.exh_page.specs.KeyMap.{KeyMap, pair_of}
 use Rattle.exh_page.specs.Page.{records_of}
 use Rattle.exh_page.specs.declared.page.Page.{Page}
 use Rattle.exh_page.specs.declared.record.Record.{Record}
@@ -18,9 +19,10 @@ use Rattle.exh_page_file.specs.PageFile.{pages_of}
 use Rattle.exh_report.specs.Lines.{Lines, lines_text}
 use Rattle.exh_report.specs.Pairs.{first_words, pairs_lines, record_words, records_lines, settings_over}
 use Rattle.exh_report.specs.declared.other_settings.OtherSettings.{OtherSettings}
-use Rattle.exh_load.specs.Load.{empty_loading, load_after, load_of_lines, number_line, record_count}
+use Rattle.exh_change.specs.FileChange.{AreParts}
+use Rattle.exh_load.specs.Load.{at_end, empty_loading, load_after, load_of_lines, new_file, number_line, record_count}
 use Rattle.exh_load.specs.Loading.{Loading, after_pair_line, after_read_pair, load_text_from, loaded_from, pair_told, put_text}
-use Rattle.exh_load.specs.OneMap.{AreParts, LoadsAreOneMaps, pair_in, pairs_of, puts_left, text_by_one, told_by_one}
+use Rattle.exh_load.specs.OneMap.{LoadsAreOneMaps, NewMapsAreNone, pair_in, pairs_of, puts_left, text_by_one, told_by_one}
 use Rattle.exh_file_runs.specs.PairsAgain.{PairsLoadAgain, TellsAgain}
 use Rattle.exh_file_runs.specs.declared.file_run.Topic.{Topic}
 use Rattle.exh_file_runs.specs.declared.file_run.Topic.TheVariants.{Size, Content, Pairs}
@@ -82,8 +84,16 @@ settings_left cap ward_bits keyer (line ∷ lines) loading has = settings_left c
 
 -- ---- the whole text
 
-pub loads_again : LoadsAreOneMaps → (other : OtherSettings) → PairsLoadAgain other
-loads_again one_maps other file bytes legal all range same_keyer lesser =
+-- maps of nothing have no record
+none_counted : (count : ℕ) → sum_by fin.len (replicate count (let none : KeyMap = fin.empty in none)) ≡ 0
+none_counted zero = refl
+none_counted (suc count) = none_counted count
+
+less_none : (n m : ℕ) → m ≡ 0 → n - m ≡ n
+less_none n m none = omega (arith, none)
+
+pub loads_again : LoadsAreOneMaps → NewMapsAreNone → (other : OtherSettings) → PairsLoadAgain other
+loads_again one_maps new_maps other file bytes legal all range same_keyer lesser =
     let settings = settings_over other file.header.settings in
     let records = flat_map records_of (pages_of file.wards) in
     let lines = map record_words records in
@@ -92,7 +102,7 @@ loads_again one_maps other file bytes legal all range same_keyer lesser =
     let fit = all_fit settings.cap (any_pseudokey file.header.settings.keyer) (pages_of file.wards) good.legal good.short good.homes in
     let fits = subst (λ keyer. AllFit settings.cap (any_pseudokey keyer) [] records) (sym same_keyer) fit in
     let start = empty_loading settings.cap settings.ward_bits settings.keyer in
-    let one = one_maps settings.cap settings.ward_bits settings.keyer lines range.bits in
+    let one = one_maps start fin.empty lines range.bits (new_maps settings.cap settings.ward_bits settings.keyer) in
     let left = loaded_from start lines in
     let has = settings_left settings.cap settings.ward_bits settings.keyer lines start (record { cap_is = refl; bits_are = refl; keyer_is = refl }) in
     let text : pairs_lines other file ≡ first_words settings ∷ lines = ap (λ l. first_words settings ∷ l) (ward_lines_are file.wards) in
@@ -102,8 +112,9 @@ loads_again one_maps other file bytes legal all range same_keyer lesser =
     let map_is = ap (puts_left settings.cap (any_pseudokey settings.keyer) fin.empty) (told_pairs records can) ∙ puts_fit settings.cap (any_pseudokey settings.keyer) [] records fits in
     record {
       loading = left;
-      loads = ap load_of_lines read ∙ ap (λ told. load_after told lines) (first_again settings range)
-          ∙ ap (λ text. record { printed = text ++ number_line (codes "loaded ") (record_count left); left = Some left }) quiet;
+      loads = ap (load_of_lines at_end new_file) read ∙ ap (λ told. load_after at_end new_file told lines) (first_again settings range)
+          ∙ ap (λ text. record { printed = text ++ number_line (codes "loaded ") (record_count left - record_count start); left = Some left }) quiet
+          ∙ ap (λ count. record { printed = number_line (codes "loaded ") count; left = Some left }) (less_none (record_count left) (record_count start) (none_counted (2 ^ settings.ward_bits)));
       cap = has.cap_is;
       ward_bits = has.bits_are;
       keyer = has.keyer_is;

@@ -13,9 +13,9 @@ use Rattle.exh_text.specs.Lines.{lines_of}
 use Rattle.exh_report.specs.Lines.{lines_text}
 use Rattle.exh_report.specs.Pairs.{pairs_lines, settings_over}
 use Rattle.exh_report.specs.declared.other_settings.OtherSettings.{OtherSettings}
-use Rattle.exh_load.specs.Load.{load_of_lines, number_line, record_count}
+use Rattle.exh_change.specs.FileChange.{AreParts}
+use Rattle.exh_load.specs.Load.{at_end, load_of_lines, new_file, number_line, record_count}
 use Rattle.exh_load.specs.Loading.{Loading}
-use Rattle.exh_load.specs.OneMap.{AreParts}
 use Rattle.exh_file_runs.specs.declared.file_run.Topic.{Topic}
 use Rattle.exh_file_runs.specs.declared.file_run.Topic.TheVariants.{Size, Content, Pairs}
 
@@ -23,7 +23,7 @@ use Rattle.exh_file_runs.specs.declared.file_run.Topic.TheVariants.{Size, Conten
 -- of its wards are together the one that the file has.
 pub record LoadsAgain (settings : FileSettings AnyKeyer) (file : PageFile) (text : List ℕ) : Type 0 where
   pub loading : Loading
-  pub loads : load_of_lines (lines_of text) ≡ record { printed = number_line (codes "loaded ") (record_count loading); left = Some loading }
+  pub loads : load_of_lines at_end new_file (lines_of text) ≡ record { printed = number_line (codes "loaded ") (record_count loading); left = Some loading }
   pub cap : loading.cap ≡ settings.cap
   pub ward_bits : loading.ward_bits ≡ settings.ward_bits
   pub keyer : loading.keyer ≡ settings.keyer
