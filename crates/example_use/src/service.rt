@@ -99,13 +99,9 @@ fn serve_as<R: Threads + Wait + Sync, F: Identity + Send + Sync, S: Start + Send
     requires start { (S.table ≡ table.now) × (S.ward_bits ≡ opened.ward_bits) }
 {
     let settings = opened.settings();
-    let FileSettings {
-        ward_bits,
-        keyer,
-        ..
-    } = settings;
+    let ward_bits = settings.ward_bits;
     let wards = opened.into_wards();
-    let mut file: File<F> = LiveFile::new(alloc, ward_bits, keyer, wards, answers, entries)?;
+    let mut file: File<F> = LiveFile::new(alloc, settings, wards, answers, entries)?;
     let Done { seats, values } = serve_copy::<R, F, S>(rt, alloc, ward_bits, &mut file, table)?;
     let closed = file.close(seats);
     match closed {

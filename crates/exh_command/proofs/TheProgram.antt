@@ -11,5 +11,8 @@ serve = with_options (codes "serve") serve_names
 abbrev pub storm : Shape
 storm = with_options (codes "storm") storm_names
 
+abbrev pub pairs : Shape
+pairs = about_path_with (codes "pairs") pairs_names
+
 abbrev pub program : App
-program = with_subcommand (with_subcommand (with_subcommand (with_subcommand (with_subcommand (with_subcommand (with_subcommand (with_subcommand (with_subcommand (with_subcommand bare_program serve) (about_path (codes "check"))) (about_path (codes "dump"))) (about_path (codes "load"))) storm) (about_key (codes "get"))) (about_value (codes "put"))) (about_key (codes "del"))) (about_two_values (codes "swap"))) (about_path_with (codes "pairs") pairs_names)
+program = with_subcommand (with_subcommand (with_subcommand (with_subcommand (with_subcommand (with_subcommand (with_subcommand (with_subcommand (with_subcommand (with_subcommand bare_program serve) (about_path (codes "check"))) (about_path (codes "dump"))) (about_path (codes "load"))) storm) (about_key (codes "get"))) (about_value (codes "put"))) (about_key (codes "del"))) (about_two_values (codes "swap"))) pairs
