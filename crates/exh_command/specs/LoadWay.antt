@@ -1,5 +1,5 @@
 -- How pairs are loaded, by the word right behind `load`.
-use Rattle.std.specs.Prelude.{ℕ, List, Option, Some, None, codes, remove, slice_get, if◌then◌else◌}
+use Rattle.std.specs.Prelude.{ℕ, List, Option, Some, codes, remove, slice_get, if◌then◌else◌}
 use Rattle.std.specs.Str.{bytes_eq}
 use Rattle.exh_command.specs.declared.load_way.LoadWay.{LoadWay}
 use Rattle.exh_command.specs.declared.load_way.LoadWay.TheVariants.{Short, Long, Into}

@@ -2,7 +2,6 @@ use Rattle.std.proofs.Common.{rules, subst}
 use Rattle.std.specs.Io.KnownBytes.{Appends}
 use Rattle.exh_stream.specs.Output.{AppendsBeginning}
 use Rattle.exh_load.specs.Load.{IsLoadOf, PrintsFront, beginning, load_of}
-use Rattle.exh_load.specs.declared.load_fault.LoadFault.TheVariants.{Memory}
 use Rattle.exh_load_run.specs.LoadRun.{LoadPrints}
 use Rattle.exh_file_runs.specs.Run.{memory_line}
 use Rattle.exh_load_run.proofs.LoadLemmas.{load_line_cut, load_line_out, load_write_fault, memory_writes}
