@@ -1,11 +1,15 @@
 -- What `load` makes of the text of a legal file's pairs.
-use Rattle.std.proofs.Common.{◌≡◌, ◌∙◌, ℕ, zero, suc, ◌-◌, ◌^◌, arith, List, [], ◌∷◌, ◌++◌, map, Some, Result, Ok, Err, codes, refl, sym, ap, ap₂, subst}
+use Rattle.std.proofs.Common.{◌≡◌, ◌∙◌, ℕ, ◌≤◌, List, [], ◌∷◌, ◌++◌, map, Some, Result, Ok, Err, codes, refl, sym, ap, ap₂, subst, ◌+◌, ◌-◌, ◌^◌, zero, suc, nat_cmp, arith}
 use Rattle.std.specs.FinMap as fin
+use Rattle.std.specs.Cmp.Lexicographic.{slice_cmp}
 use Rattle.std.specs.Prelude.{replicate}
 use Rattle.std.specs.List.{AllByRecursion, flat_map, sum_by}
 use Rattle.std.proofs.lemmas.List.Concat.{flat_map-append}
+use Rattle.std.proofs.lemmas.List.Folds.{sum_by-replicate}
 use Rattle.exh_keyer.specs.Pseudokey.{any_pseudokey}
 use Rattle.exh_keyer.specs.declared.any_keyer.AnyKeyer.{AnyKeyer}
+use Rattle.exh_file_settings.specs.FileSettings.{AreInRange}
+use Rattle.exh_file_settings.specs.declared.file_settings.FileSettings.{FileSettings}
 use Rattle.exh_page.specs.KeyMap.{KeyMap, pair_of}
 use Rattle.exh_page.specs.Page.{records_of}
 use Rattle.exh_page.specs.declared.page.Page.{Page}
@@ -13,17 +17,21 @@ use Rattle.exh_page.specs.declared.record.Record.{Record}
 use Rattle.exh_text.specs.Lines.{lines_of}
 use Rattle.exh_text.specs.declared.line_fault.LineFault.{LineFault}
 use Rattle.exh_calls.specs.Effect.{Effect}
-use Rattle.exh_calls.specs.MapMachine.{changed}
+use Rattle.exh_calls.specs.MapMachine.{changed, effect_in}
+use Rattle.exh_calls.specs.declared.call.Call.TheVariants.{Put}
 use Rattle.exh_legal.specs.MapLemmas.{map_of_records}
-use Rattle.exh_page_file.specs.PageFile.{pages_of}
+use Rattle.exh_file.specs.FileVersion.{first_file}
+use Rattle.exh_page_file.specs.PageFile.{PageFile, pages_of}
+use Rattle.exh_page_file.specs.Reading.{AreBytes}
+use Rattle.exh_legal_file.specs.LegalFile.{IsLegalPageFile}
 use Rattle.exh_report.specs.Lines.{Lines, lines_text}
 use Rattle.exh_report.specs.Pairs.{first_words, pairs_lines, record_words, records_lines, settings_over}
 use Rattle.exh_report.specs.declared.other_settings.OtherSettings.{OtherSettings}
-use Rattle.exh_change.specs.FileChange.{AreParts}
-use Rattle.exh_load.specs.Load.{at_end, empty_loading, load_after, load_of_lines, new_file, number_line, record_count}
+use Rattle.exh_load.specs.Load.{at_end, empty_loading, load_after, load_of_lines, number_line, record_count, new_file}
 use Rattle.exh_load.specs.Loading.{Loading, after_pair_line, after_read_pair, load_text_from, loaded_from, pair_told, put_text}
-use Rattle.exh_load.specs.OneMap.{LoadsAreOneMaps, NewMapsAreNone, pair_in, pairs_of, puts_left, text_by_one, told_by_one}
-use Rattle.exh_file_runs.specs.PairsAgain.{PairsLoadAgain, TellsAgain}
+use Rattle.exh_change.specs.FileChange.{AreParts}
+use Rattle.exh_load.specs.OneMap.{NewMapsAreNone, LoadsAreOneMaps, pair_in, pairs_of, puts_left, text_by_one, told_by_one}
+use Rattle.exh_file_runs.specs.PairsAgain.{LoadsAgain, PairsLoadAgain, TellsAgain}
 use Rattle.exh_file_runs.specs.declared.file_run.Topic.{Topic}
 use Rattle.exh_file_runs.specs.declared.file_run.Topic.TheVariants.{Size, Content, Pairs}
 use Rattle.exh_file_runs.proofs.PairsBytes.{file_tellable}
@@ -82,15 +90,14 @@ settings_left : (cap ward_bits : ℕ) (keyer : AnyKeyer) (lines : Lines) (loadin
 settings_left cap ward_bits keyer [] loading has = has
 settings_left cap ward_bits keyer (line ∷ lines) loading has = settings_left cap ward_bits keyer lines (after_pair_line loading line) (settings_kept cap ward_bits keyer line loading has)
 
+-- a new file has no record
+abbrev no_map : KeyMap
+no_map = fin.empty
+
+no_records : (wards : ℕ) → sum_by fin.len (replicate wards no_map) ≡ 0
+no_records wards = let none : fin.len no_map ≡ 0 = fin.len-empty (slice_cmp nat_cmp) (List ℕ) in sum_by-replicate fin.len wards no_map ∙ rw none (omega arith)
+
 -- ---- the whole text
-
--- maps of nothing have no record
-none_counted : (count : ℕ) → sum_by fin.len (replicate count (let none : KeyMap = fin.empty in none)) ≡ 0
-none_counted zero = refl
-none_counted (suc count) = none_counted count
-
-less_none : (n m : ℕ) → m ≡ 0 → n - m ≡ n
-less_none n m none = omega (arith, none)
 
 pub loads_again : LoadsAreOneMaps → NewMapsAreNone → (other : OtherSettings) → PairsLoadAgain other
 loads_again one_maps new_maps other file bytes legal all range same_keyer lesser =
@@ -109,12 +116,13 @@ loads_again one_maps new_maps other file bytes legal all range same_keyer lesser
     let read : lines_of (lines_text (pairs_lines other file)) ≡ first_words settings ∷ lines =
     ap (λ l. lines_of (lines_text l)) text ∙ lines_again (first_words settings ∷ lines) (text_lines settings records range can) in
     let quiet : load_text_from start lines ≡ [] = one.text ∙ silent settings.cap (any_pseudokey settings.keyer) [] records fits can in
+    let more : record_count left - record_count start ≡ record_count left = omega (arith, no_records (2 ^ settings.ward_bits)) in
     let map_is = ap (puts_left settings.cap (any_pseudokey settings.keyer) fin.empty) (told_pairs records can) ∙ puts_fit settings.cap (any_pseudokey settings.keyer) [] records fits in
     record {
       loading = left;
       loads = ap (load_of_lines at_end new_file) read ∙ ap (λ told. load_after at_end new_file told lines) (first_again settings range)
           ∙ ap (λ text. record { printed = text ++ number_line (codes "loaded ") (record_count left - record_count start); left = Some left }) quiet
-          ∙ ap (λ count. record { printed = number_line (codes "loaded ") count; left = Some left }) (less_none (record_count left) (record_count start) (none_counted (2 ^ settings.ward_bits)));
+          ∙ ap (λ count. record { printed = number_line (codes "loaded ") count; left = Some left }) more;
       cap = has.cap_is;
       ward_bits = has.bits_are;
       keyer = has.keyer_is;
