@@ -7,6 +7,7 @@ use crate::conductor::Conductor;
 use crate::watched_pages::{IS_LATE, IS_READ, Look, MAY_GO, WatchedPages, new_ward};
 use exh_callers::{Caller, File, Reader, is_told, next_caller};
 use exh_calls::Reply;
+use exh_file_settings::FileSettings;
 use exh_fixtures::Asked;
 use exh_keyer::PlainKeyer;
 use exh_live::{ANSWER_PARTS, ENTRY_PARTS, Identity, LiveFile};
@@ -93,5 +94,10 @@ fn two_wards<'a, R: Clock, F: Identity>(
     let mut wards = Vec::new(alloc);
     wards.push(new_ward(alloc, keyer, signs, Look::Waits, 1, 0)?)?;
     wards.push(new_ward(alloc, keyer, signs, Look::Nothing, 1, 1)?)?;
-    LiveFile::new(alloc, 1, keyer, wards, answers, entries)
+    let settings = FileSettings {
+        cap: 2,
+        ward_bits: 1,
+        keyer,
+    };
+    LiveFile::new(alloc, settings, wards, answers, entries)
 }

@@ -62,7 +62,7 @@ const PAGES_LOOKED_AT: u64 = 605_550;
 const MERGES: [u32; 13] = [512, 256, 128, 64, 38, 38, 32, 16, 8, 4, 2, 1, 0];
 
 // So many rounds, or calls, are made at most until a call comes between two turns of a round.
-const TRIES: u32 = 10_000;
+const TRIES: u32 = 1_000;
 
 /// Runs it, over a copy that is told of nothing.
 pub(crate) fn run<R: Threads + Wait + Clock + Sync, F: Identity + Sync + Send>(
@@ -159,10 +159,12 @@ fn meet<R: Threads + Wait + Clock + Sync, F: Identity + Sync + Send>(
 ) -> Result<(), Difference>
     requires { file.now.ward_bits ≡ 0 }
 {
+    // Each call began at page 0 so far, behind the page of the call before.
+    let before = watch.count(CAME_BETWEEN);
     let (kept, asked) = join(
         rt,
         || {
-            let kept = keep_on(rt, file, watch);
+            let kept = keep_on(rt, file, watch, before);
             watch.raise(HAS_ENDED, 1);
             kept
         },
@@ -170,18 +172,20 @@ fn meet<R: Threads + Wait + Clock + Sync, F: Identity + Sync + Send>(
     );
     kept?;
     asked?;
-    same(watch.count(CAME_BETWEEN) > 0, Part::Walk)
+    same(watch.count(CAME_BETWEEN) > before, Part::Walk)
 }
 
+// Makes rounds until a call has come between two turns, as none had before.
 fn keep_on<R: Wait + Clock, F: Identity>(
     rt: &R,
     file: &CountedFile<'_, R, F>,
     watch: &Conductor<'_, R>,
+    before: u64,
 ) -> Result<(), Difference>
     requires { file.now.ward_bits ≡ 0 }
 {
     for _ in 0..TRIES {
-        if watch.count(CAME_BETWEEN) > 0 {
+        if watch.count(CAME_BETWEEN) > before {
             return Ok(());
         }
         is_kept(rt, file, 0, 0)?;
