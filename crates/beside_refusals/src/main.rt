@@ -1,4 +1,4 @@
-//! Has what is refused refused on purpose, each growth and each page call in turn, and prints for each kind of
+//! Has what is refused refused on purpose, each growth, page call, write and read in turn, and prints for each kind of
 //! run how many steps it took, and how many of them differed.
 //!
 //! Where a growth is refused outside of what a run is about, the run begins once more.
@@ -8,8 +8,11 @@ mod alike;
 mod lists;
 mod page_turns;
 mod played;
+mod readers;
 mod row;
+mod three_pairs;
 mod turns;
+mod writers;
 
 use exh_runs::{Difference, Named, Run, RunKind, run_program};
 use std::process::ExitCode;
@@ -20,15 +23,21 @@ enum Kind {
     Turns,
     /// Events at once, with each page call refused.
     PageTurns,
+    /// A file that is written, with each write refused.
+    Writers,
+    /// A file that is opened, with each read refused.
+    Readers,
 }
 
-const KINDS: [Kind; 2] = [Kind::Turns, Kind::PageTurns];
+const KINDS: [Kind; 4] = [Kind::Turns, Kind::PageTurns, Kind::Writers, Kind::Readers];
 
 impl Kind {
     fn take_once(self, run: &mut Run) -> Result<(), Difference> {
         match self {
             Kind::Turns => turns::run(run),
             Kind::PageTurns => page_turns::run(run),
+            Kind::Writers => writers::run(run),
+            Kind::Readers => readers::run(run),
         }
     }
 }
@@ -38,6 +47,8 @@ impl Named for Kind {
         match self {
             Kind::Turns => "turns",
             Kind::PageTurns => "page-turns",
+            Kind::Writers => "writers",
+            Kind::Readers => "readers",
         }
     }
 }
