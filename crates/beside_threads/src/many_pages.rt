@@ -203,6 +203,8 @@ fn ask_on<R: Wait + Clock, F: Identity>(
         if watch.count(HAS_ENDED) > 0 {
             return Ok(());
         }
+        // So the calls don't end before the rounds have begun.
+        watch.rest();
         let said = Kind::Get.of(b"\0\0");
         is_told(rt, file, caller, said.asked(), watch, said.reply()?)?;
     }
