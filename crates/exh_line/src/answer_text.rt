@@ -105,6 +105,7 @@ fn push_words(out: &mut Vec<u8>, answer: &Answer) -> Result<(), AllocError>
 }
 
 // A request's reply, and its moves where they are told.
+#[inline(always)]
 fn push_replied(out: &mut Vec<u8>, name: u32, reply: &Reply, told: Told) -> Result<(), AllocError>
     ensures ok { OnOk result (out.new.items ≡ out.old.items ++ answer_words (Replied name reply.now told)) }
     ensures kept { Keeps out.old.items out.new.items }

@@ -34,6 +34,7 @@ pub enum CallWords<'a> {
 
 impl<'a> CallWords<'a> {
     /// The words of a call. `None` where they spell none, whatever the lengths of its key and values.
+    #[inline(always)]
     #[tactic(auto, unfolding(crate::specs::Grammar::spelled_call))]
     pub fn split(mut words: Parts<'a>) -> Option<CallWords<'a>>
         ensures { option_map call_of result ≡ spelled_call words.entry }
@@ -80,6 +81,7 @@ impl<'a> CallWords<'a> {
 }
 
 // The words of a put.
+#[inline(always)]
 #[tactic(auto, unfolding(crate::specs::Grammar::spelled_put))]
 fn split_put<'a>(key: &'a [u8], value: &'a [u8]) -> Option<CallWords<'a>>
     ensures { option_map call_of result ≡ spelled_put key.now value.now }

@@ -51,6 +51,7 @@ impl<'a> LineStart<'a> {
 }
 
 // `rN cN COPY` and the words of a call
+#[inline(always)]
 #[tactic(auto, unfolding(crate::specs::Grammar::spelled_begin))]
 fn parse_begin_words(mut words: Parts<'_>) -> Option<BeginWords<'_>>
     ensures { IfSome result (IsBeginOf words.entry) }

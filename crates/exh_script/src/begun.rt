@@ -178,6 +178,7 @@ fn push_read<P: Pages + Drop>(
 }
 
 // Begins a request, and adds what that prints.
+#[inline(always)]
 fn push_begin<P: Pages + Drop>(
     out: &mut Vec<u8>,
     run: &mut Run<P>,
