@@ -45,9 +45,9 @@ impl<E: Write> Write for NumberedWriter<'_, E> {
 
 // What stands behind the number of a note's line, where it tells of one.
 fn behind_number(note: &[u8]) -> Option<&[u8]> {
-    let mut rest = note.strip_prefix(LINE)?;
-    while let [b'0'..=b'9', more @ ..] = rest {
-        rest = more;
+    let told = note.strip_prefix(LINE)?;
+    match told.iter().position(|byte| *byte == b':') {
+        Some(end) => Some(&told[end..]),
+        None => None,
     }
-    Some(rest)
 }
