@@ -260,7 +260,8 @@ These stand alone or come last, and nothing is saved: 60 or 61 for the `file`
 line, 62 for more than 1048576 bytes, 41 where reading fails, 10 where memory
 ends. Why a path can't be saved to is said on standard error.
 Right behind `load` may stand one of these:
-  --long   the text has any number of bytes; it is held in memory whole
+  --long   the text has any number of bytes, and is put line by line: where
+           reading fails, 41 stands behind what is told of the lines before
   --into   the same, and the pairs are put into the page file that is there,
            whose `file` line it has, with any number of copies, else it is
            refused with 63; `loaded` tells how many records there are more

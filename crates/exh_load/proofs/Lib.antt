@@ -13,3 +13,6 @@ pub mod Loads
 pub mod Pairs
 -- of laws: the wards' maps as one
 pub mod OneMap
+-- of line_source and long_load: the lines of a text, of which a beginning is taken
+pub mod TextLines
+pub mod LongLoads

@@ -4,3 +4,5 @@ pub mod Loader
 pub mod Loading
 pub mod Load
 pub mod OneMap
+pub mod LongLoad
+pub mod LineSource

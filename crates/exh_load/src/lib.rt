@@ -2,17 +2,22 @@
 #![tactic(auto)]
 
 pub use laws::loads_are_one_maps;
+pub use line_source::LINE_LEN;
 pub use load_fault::LoadFault;
 pub use load_source::{TEXT_LIMIT, load};
 pub use load_text::load_lines;
 pub use loader::Loader;
+pub use long_load::load_long;
 pub use put::put_pair;
 
 mod begin;
 mod laws;
+mod line_source;
 mod load_fault;
 mod load_source;
 mod load_text;
 mod loader;
+mod long_load;
+mod number_line;
 mod pair_line;
 mod put;

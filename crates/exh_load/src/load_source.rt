@@ -5,11 +5,12 @@ ghost use Rattle.exh_text.specs.Lines.{lines_of};
 ghost use Rattle.exh_stream.specs.Output.{AppendsBeginning, SameWriter, Takes, TakesBeginning, held, pending, writer_failed};
 ghost use Rattle.exh_stream.specs.Source.{SameReader, reader_failed, unread};
 ghost use Rattle.exh_settings.specs.FileLine.{file_in_range};
-ghost use Rattle.exh_load.specs.Load.{IsLoadBy, IsLoadOf, Loads, Prints, PrintsFront, TakesFront, at_end, beginning, load_begun, load_of, load_of_lines, loaded, number_line, refused};
+ghost use Rattle.exh_load.specs.Load.{IsLoadBy, IsLoadOf, Loads, Prints, PrintsFront, TakesFront, at_end, beginning, load_begun, load_of, load_of_lines, loaded};
 ghost use Rattle.exh_load.specs.Loader.{IsLoading};
 ghost use Rattle.exh_load.specs.Loading.{loading_in, loading_of};
 
 use crate::begin::begin;
+use crate::number_line::{print_number, refuse};
 use crate::{LoadFault, Loader, load_lines};
 use exh_frames::{Pages, StoreMaker};
 use exh_keyer::AnyKeyer;
@@ -17,7 +18,7 @@ use exh_notes::Listener;
 use exh_open::Opened;
 use exh_settings::{Config, parse_file_line};
 use exh_stream::{InputFault, Output, Source};
-use exh_text::{Lines, push_number, push_text};
+use exh_text::Lines;
 use std::alloc::Global;
 use std::io::{Read, Write};
 
@@ -205,44 +206,4 @@ fn put_pairs<P: Pages + Drop, W: Write, L: Listener>(
     listener.pairs_ended(loader.settings());
     print_number(alloc, output, "loaded ", records)?;
     Ok(Some(loader.into_opened()))
-}
-
-// Prints the number of a refusal alone.
-fn refuse<P: Pages + Drop, W: Write>(
-    alloc: Global,
-    output: &mut Output<'_, W>,
-    number: u32,
-) -> Result<Option<Opened<P>>, LoadFault>
-    requires { IsFalse (writer_failed output.old) }
-    ensures same_writer { SameWriter output.old output.new }
-    ensures text { OnOk result (Takes W.contents output.old output.new (refused number).printed) }
-    ensures left { IfOk result (λ file. option_map loading_in file ≡ (refused number).left) }
-    ensures err { OnErr result (TakesBeginning W.contents output.old output.new (refused number).printed) }
-    ensures front { IfErr result (λ fault. fault ≢ LoadFault.Write → TakesFront W.contents output.old output.new (refused number).printed) }
-    ensures failed { IsErrOf result LoadFault.Write ↔ IsTrue (writer_failed output.new) }
-{
-    print_number(alloc, output, "refused ", u64::from(number))?;
-    Ok(None)
-}
-
-// Prints a line of a word and a number.
-fn print_number<W: Write>(
-    alloc: Global,
-    output: &mut Output<'_, W>,
-    word: &str,
-    number: u64,
-) -> Result<(), LoadFault>
-    requires { IsFalse (writer_failed output.old) }
-    ensures same_writer { SameWriter output.old output.new }
-    ensures text { OnOk result (Takes W.contents output.old output.new (number_line word.now number)) }
-    ensures err { OnErr result (TakesBeginning W.contents output.old output.new (number_line word.now number)) }
-    ensures front { IfErr result (λ fault. fault ≢ LoadFault.Write → TakesFront W.contents output.old output.new (number_line word.now number)) }
-    ensures failed { IsErrOf result LoadFault.Write ↔ IsTrue (writer_failed output.new) }
-{
-    let mut text = Vec::new(alloc);
-    push_text(&mut text, word)?;
-    push_number(&mut text, number)?;
-    push_text(&mut text, "\n")?;
-    output.push(&text)?;
-    Ok(())
 }

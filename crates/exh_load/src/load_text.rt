@@ -50,6 +50,31 @@ pub fn load_lines<P: Pages + Drop, W: Write, L: Listener>(
     Ok(records)
 }
 
+// Puts the pair of a line, prints of it what is left in `text`, and answers how many records there are more.
+pub(crate) fn put_line<P: Pages + Drop, W: Write>(
+    text: &mut Vec<u8>,
+    output: &mut Output<'_, W>,
+    loader: &mut Loader<P>,
+    line: &[u8],
+) -> Result<u64, LoadFault>
+    requires open { IsFalse (writer_failed output.old) }
+    requires loading { IsLoading loader.old }
+    ensures same_writer { SameWriter output.old output.new }
+    ensures text { OnOk result (Takes W.contents output.old output.new (line_text (loading_of loader.old) line.now)) }
+    ensures loaded { OnOk result (loading_of loader.new ≡ after_pair_line (loading_of loader.old) line.now) }
+    ensures loading { OnOk result (IsLoading loader.new) }
+    ensures records { IfOk result (λ more. more + record_count (loading_of loader.old) ≡ record_count (loading_of loader.new)) }
+    ensures few { IfOk result (λ more. more ≤ 1) }
+    ensures err { OnErr result (TakesBeginning W.contents output.old output.new (line_text (loading_of loader.old) line.now)) }
+    ensures front { IfErr result (λ fault. fault ≢ LoadFault.Write → output.new ≡ output.old) }
+    ensures failed { IsErrOf result LoadFault.Write ↔ IsTrue (writer_failed output.new) }
+{
+    text.clear();
+    let more = push_line(text, loader, line)?;
+    output.push(text)?;
+    Ok(more)
+}
+
 // Puts the pair of a line, adds what is printed of it, and answers how many records there are more.
 #[tactic(auto, unfolding(crate::specs::Loading::line_text, crate::specs::Loading::after_pair_line))]
 fn push_line<P: Pages + Drop>(

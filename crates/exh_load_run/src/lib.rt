@@ -4,4 +4,5 @@
 pub use standard::load;
 
 mod load_run;
+mod numbered_writer;
 mod standard;

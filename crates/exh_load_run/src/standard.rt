@@ -1,15 +1,13 @@
 //! The run of a load over the program's standard streams, and over the file of a path.
-ghost use Rattle.std.specs.Prelude.{◌≤◌};
-ghost use Rattle.exh_load.specs.declared.load_source.TheConstants.{TEXT_LIMIT};
 ghost use Rattle.exh_file_runs.specs.Place.{SavesAt};
 
-use crate::load_run::{load_ending, load_pairs};
+use crate::load_run::{load_ending, load_long_pairs, load_pairs};
+use crate::numbered_writer::NumberedWriter;
 use exh_command::LoadWay;
 use exh_file_runs::{
     Ending, FileWards, INPUT, Place, opened_at, pair_notes, pairs_meter, tell_reason, warn,
 };
-use exh_load::TEXT_LIMIT;
-use exh_notes::ReasonReader;
+use exh_notes::{Expect, Notes, ReasonReader};
 use exh_place::Seen;
 use exh_progress::{ClearingWriter, MeteredReader};
 use exh_settings::SCRIPT_LIMIT;
@@ -33,30 +31,29 @@ pub fn load<'w>(
     match opened_at(rt, from) {
         Ok((wards, seen)) => {
             warn(rt, place.map(|place| place.path()), seen.as_ref());
-            (load_over(rt, wards, limit_of(way), place), seen)
+            (load_so(rt, way, wards, place), seen)
         }
         Err(status) => (Ending::Over(status), None),
     }
 }
 
-// The most bytes of a text that is loaded so.
-fn limit_of(way: LoadWay) -> usize
-    ensures { result ≤ TEXT_LIMIT }
+// Loads the pairs in this way, over the wards that were opened for it.
+fn load_so<'w>(
+    rt: &HostRuntime,
+    way: LoadWay,
+    from: Option<FileWards>,
+    place: Option<Place<'w>>,
+) -> Ending<'w>
+    ensures { SavesAt place.entry result }
 {
     match way {
-        LoadWay::Short => SCRIPT_LIMIT,
-        LoadWay::Long | LoadWay::Into => TEXT_LIMIT,
+        LoadWay::Short => load_short(rt, place),
+        LoadWay::Long | LoadWay::Into => load_lines(rt, from, place),
     }
 }
 
-// Loads the pairs.
-fn load_over<'w>(
-    rt: &HostRuntime,
-    from: Option<FileWards>,
-    limit: usize,
-    place: Option<Place<'w>>,
-) -> Ending<'w>
-    requires { limit ≤ TEXT_LIMIT }
+// Loads a text of the length of a script, which is read whole, as a new file.
+fn load_short<'w>(rt: &HostRuntime, place: Option<Place<'w>>) -> Ending<'w>
     ensures { SavesAt place.entry result }
 {
     let reason = Cell::new(None);
@@ -66,11 +63,36 @@ fn load_over<'w>(
     let mut notes = pair_notes(rt, &meter);
     let loaded = load_pairs(
         rt.alloc(),
-        from,
-        limit,
+        None,
+        SCRIPT_LIMIT,
         &mut reader,
         &mut writer,
         &mut notes,
+    );
+    notes.end();
+    meter.clear();
+    tell_reason(rt, INPUT, &reason);
+    load_ending(loaded, place)
+}
+
+// Loads a text of any length, line by line.
+fn load_lines<'w>(rt: &HostRuntime, from: Option<FileWards>, place: Option<Place<'w>>) -> Ending<'w>
+    ensures { SavesAt place.entry result }
+{
+    let reason = Cell::new(None);
+    let number = Cell::new(0);
+    let meter = pairs_meter(rt);
+    let mut reader = MeteredReader::new(ReasonReader::new(rt.reader(), &reason), &meter);
+    let mut writer = ClearingWriter::new(io::writer(rt), &meter);
+    let error = ClearingWriter::new(rt.stderr(), &meter);
+    let mut notes = Notes::new(NumberedWriter::new(error, &number), Expect::Key);
+    let loaded = load_long_pairs(
+        rt.alloc(),
+        from,
+        &mut reader,
+        &mut writer,
+        &mut notes,
+        &number,
     );
     notes.end();
     meter.clear();

@@ -1,7 +1,7 @@
 use Rattle.exh_stream.specs.OutputLemmas.{OnErr-from, TakesBeginning-none}
 use Rattle.exh_load.proofs.Lines.{IfErr-from}
 use Rattle.exh_load.proofs.Loads.{front_none}
-use Rattle.exh_load.proofs.load_source.print_number.Goals as goal
+use Rattle.exh_load.proofs.number_line.print_number.Goals as goal
 
 pub returns-in_err-push_text-clause-err : goal.returns-in_err-push_text-clause-err
 returns-in_err-push_text-clause-err g c = OnErr-from c.from_residual.result (TakesBeginning-none g.W.Write.contents c.args.output.now _)

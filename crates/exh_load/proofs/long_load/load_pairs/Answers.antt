@@ -1,0 +1,26 @@
+use Rattle.std.proofs.Common.{[], ◌∷◌, sym, ap, ◌∙◌, subst}
+use Rattle.exh_load.specs.Load.{IsBegun, at_end, beginning, load_after, load_begun, refused}
+use Rattle.exh_load.specs.LongLoad.{IsLongLoad, broken_off}
+use Rattle.exh_load.proofs.Loads.{front_none}
+use Rattle.exh_load.proofs.LongLoads.{long_either, long_some, takes_load, takes_memory}
+use Rattle.exh_load.proofs.TextLines.{some_taken}
+use Rattle.exh_load.proofs.long_load.load_pairs.Goals as goal
+
+pub returns-in_err-loader-clause-loads : goal.returns-in_err-loader-clause-loads
+returns-in_err-loader-clause-loads g c = λ known line read passed.
+    let some = long_some (beginning c.args.from) known (line ∷ []) (some_taken g.R.Read.remaining known c.args.lines.now (line ∷ []) passed c.requires.ends) in
+    takes_memory g.W.Write.contents (IsLongLoad (beginning c.args.from) known) c.args.output.now c.args.output.now c.from_residual.result c.from_residual.ensures
+    (record { load = some.0; of_reader = some.1; text = front_none g.W.Write.contents c.args.output.now some.0.printed })
+
+pub returns-in-Some-clause-loads : goal.returns-in-Some-clause-loads
+returns-in-Some-clause-loads g c = λ known line read passed.
+    let begun = (subst (IsBegun (beginning c.args.from c.args.settings.now.file)) c.in-Some.is c.in_ok-loader.ensures).0 in
+    c.put_pairs.ensures.loads known (beginning c.args.from) line c.args.settings.now read begun passed
+
+pub returns-in-None-clause-loads : goal.returns-in-None-clause-loads
+returns-in-None-clause-loads g c = λ known line read passed.
+    let begun = subst (IsBegun (beginning c.args.from c.args.settings.now.file)) c.in-None.is c.in_ok-loader.ensures in
+    let begin = beginning c.args.from in
+    let is = long_either begin known (line ∷ []) (refused 63) (some_taken g.R.Read.remaining known c.args.lines.now (line ∷ []) passed c.requires.ends)
+    (sym (ap (λ r. load_after at_end begin r []) read ∙ ap (λ b. load_begun at_end b []) begun)) (sym (ap (λ r. load_after (broken_off 41) begin r []) read ∙ ap (λ b. load_begun (broken_off 41) b []) begun)) in
+    takes_load g.W.Write.contents (IsLongLoad begin known) c.args.output.now c.refuse.new.output (refused 63) is c.refuse.result c.refuse.ensures.text c.refuse.ensures.left c.refuse.ensures.err c.refuse.ensures.front

@@ -1,0 +1,76 @@
+use Rattle.std.proofs.Common.{◌≡◌, ℕ, List, false, true, [], ◌∷◌, ◌++◌, refl, sym, subst, arith, rules}
+use Rattle.exh_stream.specs.OutputLemmas.{Takes-none}
+use Rattle.exh_load.specs.LineSource.{GoesOn, Passes}
+use Rattle.exh_load.specs.Loading.{loading_of}
+use Rattle.exh_load.proofs.Lines.{LeadTo-more, LeadTo-none}
+use Rattle.exh_load.proofs.LongLoads.{all_put, more_passed, more_taken, some_endless, some_read, stopped_on}
+use Rattle.exh_load.proofs.TextLines.{passes_none}
+use Rattle.exh_load.proofs.long_load.put_lines.Goals as goal
+
+pub turns-init : goal.turns-init
+turns-init g c = record {
+  same_reader = refl;
+  same_writer = refl;
+  ends = c.requires.ends;
+  open_still = c.requires.open;
+  loading = c.requires.loading;
+  put = [];
+  passed = passes_none g.R.Read.remaining c.args.lines.now;
+  lead = LeadTo-none (loading_of c.args.loader.now);
+  counted = omega arith;
+  few = omega arith;
+  taken = Takes-none g.W.Write.contents c.args.output.now;
+}
+
+pub returns-in-Ok-false-clause-put : goal.returns-in-Ok-false-clause-put
+returns-in-Ok-false-clause-put g c =
+    let R = g.R.Read.remaining in
+    let i = c.turns.invariant in
+    let first = loading_of c.args.loader.now in
+    let now = loading_of c.turns.loader in
+    let on = subst (GoesOn R c.turns.lines c.next_line.new.self) c.in-Ok-false.field-0-test c.in-Ok-false.ensures.next in
+    all_put R g.W.Write.contents c.args.lines.now c.turns.lines c.next_line.new.self c.args.output.now c.turns.output c.turns.output first now now i.put i.lead i.passed i.taken c.in-Ok-false.ensures.ends c.turns.records on i.counted
+
+pub returns-in-Err-clause-put : goal.returns-in-Err-clause-put
+returns-in-Err-clause-put g c =
+    let i = c.turns.invariant in
+    some_read g.R.Read.remaining g.W.Write.contents c.args.lines.now c.turns.lines c.args.output.now c.turns.output (loading_of c.args.loader.now) i.put i.passed i.taken c.in-Err.fault (λ over. let never : false ≡ true = c.in-Err.ensures.over over in cc)
+
+pub returns-in_err-records-clause-stopped : goal.returns-in_err-records-clause-stopped
+returns-in_err-records-clause-stopped g c =
+    let R = g.R.Read.remaining in
+    let i = c.turns.invariant in
+    let first = loading_of c.args.loader.now in
+    let now = loading_of c.turns.loader in
+    let line = c.line.result.now in
+    let ended = subst (GoesOn R c.turns.lines c.next_line.new.self) c.in-Ok-true.field-0-test c.in-Ok-true.ensures.next in
+    let on = subst (λ (l : List ℕ). Passes R c.turns.lines c.next_line.new.self (l ∷ [])) (sym c.line.ensures) ended in
+    stopped_on R g.W.Write.contents c.args.lines.now c.turns.lines c.next_line.new.self c.args.output.now c.turns.output c.put_line.new.output first now (loading_of c.put_line.new.loader) i.put i.lead i.passed i.taken c.in-Ok-true.ensures.ends line on c.from_residual.result c.in_err-records.field-0.0 c.from_residual.ensures c.in_err-records.ensures.err c.in_err-records.ensures.front
+
+pub turns-preserved : goal.turns-preserved
+turns-preserved g c =
+    let R = g.R.Read.remaining in
+    let i = c.turns.invariant in
+    let first = loading_of c.args.loader.now in
+    let now = loading_of c.turns.loader in
+    let line = c.line.result.now in
+    let ended = subst (GoesOn R c.turns.lines c.next_line.new.self) c.in-Ok-true.field-0-test c.in-Ok-true.ensures.next in
+    let on = subst (λ (l : List ℕ). Passes R c.turns.lines c.next_line.new.self (l ∷ [])) (sym c.line.ensures) ended in
+    record {
+      same_reader = search rules;
+      same_writer = search rules;
+      ends = c.in-Ok-true.ensures.ends;
+      open_still = search rules;
+      loading = c.in_ok-records.ensures.loading;
+      put = i.put ++ line ∷ [];
+      passed = more_passed R g.W.Write.contents c.args.lines.now c.turns.lines c.next_line.new.self c.args.output.now c.turns.output c.put_line.new.output first now (loading_of c.put_line.new.loader) i.put i.lead i.passed i.taken c.in-Ok-true.ensures.ends line on;
+      lead = LeadTo-more first now i.put i.lead line (loading_of c.put_line.new.loader) c.in_ok-records.ensures.loaded;
+      counted = omega (arith, i.counted, c.in_ok-records.ensures.records);
+      few = omega (arith, i.few, c.in_ok-records.ensures.few);
+      taken = more_taken R g.W.Write.contents c.args.lines.now c.turns.lines c.next_line.new.self c.args.output.now c.turns.output c.put_line.new.output first now (loading_of c.put_line.new.loader) i.put i.lead i.passed i.taken c.in-Ok-true.ensures.ends line on c.in_ok-records.ensures.text;
+    }
+
+pub returns-clause-put : goal.returns-clause-put
+returns-clause-put g c =
+    let i = c.turns.invariant in
+    some_endless g.R.Read.remaining g.W.Write.contents c.args.lines.now c.turns.lines c.args.output.now c.turns.output (loading_of c.args.loader.now) i.put i.passed i.taken
