@@ -3,6 +3,10 @@
 #![tactic(auto)]
 
 #[cfg(test)]
+mod broken_pages;
+#[cfg(test)]
+mod couriers;
+#[cfg(test)]
 mod inputs;
 #[cfg(test)]
 mod meters;
