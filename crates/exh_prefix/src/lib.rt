@@ -7,7 +7,9 @@ pub use laws::{
 };
 pub use leading_bits::{leading, ward_number};
 pub use prefix::{LIMIT, PageNo, Prefix, WARD_BITS_LIMIT};
+pub use version::Version;
 
 mod laws;
 mod leading_bits;
 mod prefix;
+mod version;
