@@ -1,13 +1,13 @@
 -- Numbers of any width in bytes, from the bytes to the number and back.
-use Rattle.std.proofs.Common.{◌≡◌, ℕ, zero, suc, ◌+◌, ◌*◌, ◌%◌, ◌^◌, ◌<◌, ◌≤◌, List, [], ◌∷◌, ◌++◌, length, replicate, drop, slice_index, refl, ap, ◌∙◌, arith}
-use Rattle.std.proofs.Math.Nat.{mod-eq_of_lt}
+use Rattle.std.proofs.Common.{◌≡◌, ℕ, zero, suc, ◌+◌, ◌*◌, ◌/◌, ◌%◌, ◌^◌, ◌<◌, ◌≤◌, List, [], ◌∷◌, ◌++◌, length, replicate, drop, slice_index, refl, sym, ap, ◌∙◌, subst, arith}
+use Rattle.std.proofs.Math.Nat.{mod-eq_of_lt, add-mul, mul_assoc, mul_comm, div-div-eq-div-mul, mul-div_cancel}
 use Rattle.std.proofs.lemmas.List.{get_or-drop}
-use Rattle.std.proofs.lemmas.Nat.{div-mul-add}
+use Rattle.std.proofs.lemmas.Nat.{div-mul-add, pow-add}
 use Rattle.std.specs.Int.{byte_at, bytes_high_first}
 use Rattle.std.specs.List.{AllByRecursion}
 use Rattle.byteorder.specs.Endian.{big_from}
 use Rattle.byteorder.specs.Numbers.{big_from-lt}
-use Rattle.exh_prefix.specs.ByteLemmas.{byte_at-div, low_bytes}
+use Rattle.exh_prefix.specs.ByteLemmas.{byte_at-div, low_bytes, bytes_of_multiple, power_positive}
 use Rattle.exh_notice.specs.Images.{items}
 
 items-cons : (i n : ℕ) (byte : ℕ) (bytes : List ℕ) → items (suc i) n (byte ∷ bytes) ≡ items i n bytes
@@ -93,3 +93,57 @@ big_from-drop i j (suc n) bytes =
     let place : i + suc j ≡ suc (i + j) = omega arith in
     let rest : big_from (suc j) n (drop i bytes) ≡ big_from (suc (i + j)) n bytes = big_from-drop i (suc j) n bytes ∙ ap (λ i. big_from i n bytes) place in
     rw (get_or-drop i bytes j 0, rest) refl
+
+-- one more item is zero,
+pub zeros-push : (i n : ℕ) (bytes : List ℕ) → AllByRecursion (λ (byte : ℕ). byte ≡ 0) (items i n bytes) → slice_index bytes (i + n) ≡ 0 → AllByRecursion (λ (byte : ℕ). byte ≡ 0) (items i (suc n) bytes)
+zeros-push i zero bytes zeros zero_next =
+    let place : i + 0 ≡ i = omega arith in
+    (subst (λ (i : ℕ). slice_index bytes i ≡ 0) place zero_next, tt)
+zeros-push i (suc n) bytes zeros zero_next =
+    let place : i + suc n ≡ suc i + n = omega arith in
+    (zeros.0, zeros-push (suc i) n bytes zeros.1 (subst (λ (i : ℕ). slice_index bytes i ≡ 0) place zero_next))
+
+-- and each of them
+pub zeros-at : (i n k : ℕ) (bytes : List ℕ) → AllByRecursion (λ (byte : ℕ). byte ≡ 0) (items i n bytes) → k < n → slice_index bytes (i + k) ≡ 0
+zeros-at i zero k bytes zeros within = absurd (omega (arith, within))
+zeros-at i (suc n) zero bytes zeros within =
+    let place : i ≡ i + 0 = omega arith in
+    subst (λ (i : ℕ). slice_index bytes i ≡ 0) place zeros.0
+zeros-at i (suc n) (suc k) bytes zeros within =
+    let place : suc i + k ≡ i + suc k = omega arith in
+    subst (λ (i : ℕ). slice_index bytes i ≡ 0) place (zeros-at (suc i) n k bytes zeros.1 (omega (arith, within)))
+
+-- the number in some bytes, and in the others behind them
+pub big_from-add : (i m n : ℕ) (bytes : List ℕ) → big_from i (m + n) bytes ≡ big_from i m bytes * 256 ^ n + big_from (i + m) n bytes
+big_from-add i zero n bytes =
+    let count : 0 + n ≡ n = omega arith in
+    let place : i ≡ i + 0 = omega arith in
+    let none : 0 * 256 ^ n ≡ 0 = omega arith in
+    omega (arith, ap (λ n. big_from i n bytes) count, ap (λ i. big_from i n bytes) place, none)
+big_from-add i (suc m) n bytes =
+    let byte = slice_index bytes i in
+    let count : suc m + n ≡ suc (m + n) = omega arith in
+    let next : suc i + m ≡ i + suc m = omega arith in
+    let place : byte * 256 ^ (m + n) ≡ byte * 256 ^ m * 256 ^ n = ap (λ p. byte * p) (pow-add 256 m n) ∙ sym (mul_assoc byte (256 ^ m) (256 ^ n)) in
+    let rest : big_from (suc i) (m + n) bytes ≡ big_from (suc i) m bytes * 256 ^ n + big_from (i + suc m) n bytes =
+    big_from-add (suc i) m n bytes ∙ ap (λ place. big_from (suc i) m bytes * 256 ^ n + big_from place n bytes) next in
+    let parted : (byte * 256 ^ m + big_from (suc i) m bytes) * 256 ^ n ≡ byte * 256 ^ m * 256 ^ n + big_from (suc i) m bytes * 256 ^ n = add-mul (byte * 256 ^ m) (big_from (suc i) m bytes) (256 ^ n) in
+    ap (λ n. big_from i n bytes) count ∙ (omega (arith, place, rest, parted))
+
+pub zeros_number : (i n : ℕ) (bytes : List ℕ) → AllByRecursion (λ (byte : ℕ). byte ≡ 0) (items i n bytes) → big_from i n bytes ≡ 0
+zeros_number i zero bytes zeros = refl
+zeros_number i (suc n) bytes zeros =
+    let first : slice_index bytes i * 256 ^ n ≡ 0 = ap (λ b. b * 256 ^ n) zeros.0 ∙ (omega arith) in
+    omega (arith, first, zeros_number (suc i) n bytes zeros.1)
+
+-- a number in some bytes, followed by zeros
+pub number_then_zeros : (m n x : ℕ) → bytes_high_first (m + n) (x * 256 ^ n) ≡ bytes_high_first m x ++ replicate n 0
+number_then_zeros zero n x = let count : 0 + n ≡ n = omega arith in ap (λ m. bytes_high_first m (x * 256 ^ n)) count ∙ bytes_of_multiple n x
+number_then_zeros (suc m) n x =
+    let count : suc m + n ≡ suc (m + n) = omega arith in
+    let places : 256 ^ (m + n) ≡ 256 ^ n * 256 ^ m = pow-add 256 m n ∙ mul_comm (256 ^ m) (256 ^ n) in
+    let top : byte_at (m + n) (x * 256 ^ n) ≡ byte_at m x =
+    byte_at-div (m + n) (x * 256 ^ n) ∙ ap (λ place. x * 256 ^ n / place % 256) places ∙ ap (λ y. y % 256) (sym (div-div-eq-div-mul (x * 256 ^ n) (256 ^ n) (256 ^ m)))
+    ∙ ap (λ y. y / 256 ^ m % 256) (mul-div_cancel x (power_positive n)) ∙ sym (byte_at-div m x) in
+    ap (λ m. bytes_high_first m (x * 256 ^ n)) count ∙ ap (λ byte. byte ∷ bytes_high_first (m + n) (x * 256 ^ n)) top
+    ∙ ap (λ rest. byte_at m x ∷ rest) (number_then_zeros m n x)

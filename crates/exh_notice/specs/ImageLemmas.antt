@@ -1,6 +1,6 @@
 -- The bytes of an image from its fields, and the fields from its bytes, in every version whose bytes fit.
 use Rattle.std.proofs.Common.{◌≡◌, ℕ, ◌+◌, ◌*◌, ◌/◌, ◌-◌, ◌^◌, ◌<◌, ◌≤◌, ◌⊎◌, inl, inr, Bool, false, List, [], ◌∷◌, ◌++◌, append_assoc, length, replicate, take, drop, slice_index, Result, Ok, Err, IfOk, IfErr, refl, sym, ap, ◌∙◌, subst, arith}
-use Rattle.std.proofs.Math.Nat.{mul-lt-mul_of_pos_right}
+use Rattle.std.proofs.Math.Nat.{mul-lt-mul_of_pos_right, mul_assoc}
 use Rattle.std.proofs.lemmas.Nat.{pow-add, pow_pos, shl-shr}
 use Rattle.std.proofs.lemmas.Bool.{cases_lt}
 use Rattle.std.proofs.lemmas.List.{length-append, length-drop, length-take, length-take-le, get_or_past, get_or-drop, get_or-take, take-append-drop, take_at, drop_at, length-replicate}
@@ -12,14 +12,14 @@ use Rattle.exh_prefix.specs.BitLemmas.{number_of-lt, number_of-append, number_of
 use Rattle.exh_prefix.specs.ByteLemmas.{power_of_bytes}
 use Rattle.exh_prefix.specs.Prefix.{zeros, HasPrefixUpTo, low_of}
 use Rattle.exh_prefix.specs.PrefixLemmas.{low_of-places, low_of-up_to, length-up_to, same_prefix, up_to-low_of}
-use Rattle.exh_prefix.specs.Version.{Version, first_version, Fits, field_low}
+use Rattle.exh_prefix.specs.Version.{Version, four_bytes, Fits, field_low}
 use Rattle.exh_notice.specs.declared.entry.Entry.{Entry}
 use Rattle.exh_notice.specs.declared.entry.Kind.{Kind}
 use Rattle.exh_notice.specs.declared.entry.Kind.TheVariants.{Merge, Split}
 use Rattle.exh_notice.specs.declared.notice.Notice.{Notice}
 use Rattle.exh_notice.specs.declared.notice_fault.NoticeFault.{NoticeFault}
 use Rattle.exh_notice.specs.declared.notice_fault.NoticeFault.TheVariants as fault
-use Rattle.exh_notice.specs.ByteLemmas.{items_all, items-drop, items-add, items-front, items-agree, big_from-agree, length-items, zeros_are_zero, zeros_from, bytes_of_number, big_from-drop}
+use Rattle.exh_notice.specs.ByteLemmas.{items_all, items-drop, items-add, items-front, items-agree, big_from-agree, length-items, zeros_are_zero, zeros_from, bytes_of_number, big_from-drop, big_from-add, zeros_number, number_then_zeros}
 use Rattle.exh_notice.specs.Images.{items, kind_byte, right_field, prefix_field, entry_image, IsEntryImage, HasKind, IsPadded, HasPrefixField, FailsFirst, PassesAll, IsNoticeImage}
 use Rattle.exh_notice.specs.Entry.{entry_of}
 
@@ -44,9 +44,9 @@ merge_has_no_right : (kind : Kind) → kind_byte kind ≡ 2 → right_field kind
 merge_has_no_right Merge byte = refl
 merge_has_no_right (Split right) byte = absurd (omega (arith, byte))
 
--- the first version's two bytes hold 16 bits, and an entry's image has room for them
-pub first_fits : Fits 4 first_version
-first_fits = record { limit = omega arith; bytes = omega arith }
+-- four bytes hold 32 bits, and an entry's image has room for them
+pub four_fit : Fits 4 four_bytes
+four_fit = record { limit = omega arith; bytes = omega arith }
 
 module _ (version : Version) (fits : Fits 4 version) where
   -- ---- the prefix in its bytes
@@ -97,6 +97,42 @@ module _ (version : Version) (fits : Fits 4 version) where
       let low : low_of prefix ≡ field_low version field = ap low_of is ∙ low_of-up_to version.limit len (field_low version field) word (field_low-lt field small) stored in
       sym (shl-shr field (64 - 8 * version.bytes)) ∙ ap (λ n. n / 2 ^ (64 - 8 * version.bytes)) (sym low) ∙ prefix_field-shr prefix (omega (arith, prefix_len, stored.0))
 
+  -- the version's bytes and the zeros behind them are four bytes
+  pub four_places : 2 ^ (64 - 8 * version.bytes) ≡ 256 ^ (4 - version.bytes) * 2 ^ 32
+  four_places =
+      let places : 64 - 8 * version.bytes ≡ 8 * (4 - version.bytes) + 32 = omega (arith, fits.bytes) in
+      ap (λ n. 2 ^ n) places ∙ pow-add 2 (8 * (4 - version.bytes)) 32 ∙ ap (λ n. n * 2 ^ 32) (sym (power_of_bytes (4 - version.bytes)))
+
+  -- a field is the highest part of four bytes, of which the others are zero
+  pub field_in_four : (field : ℕ) → field_low version field ≡ field_low four_bytes (field * 256 ^ (4 - version.bytes))
+  field_in_four field = ap (λ n. field * n) four_places ∙ sym (mul_assoc field (256 ^ (4 - version.bytes)) (2 ^ 32))
+
+  prefix_in_four : (prefix : List Bool) → length prefix ≤ version.limit → prefix_field four_bytes prefix ≡ prefix_field version prefix * 256 ^ (4 - version.bytes)
+  prefix_in_four prefix short =
+      let field = prefix_field version prefix * 256 ^ (4 - version.bytes) in
+      let room : 8 * version.bytes ≤ 32 = omega (arith, fits.bytes) in
+      let left = 8 * version.bytes - length prefix in
+      let more = 8 * (4 - version.bytes) in
+      let zero_bits : number_of (zeros left) ≡ 0 = number_of-zeros left in
+      let all_zero : number_of (zeros (32 - length prefix)) ≡ 0 = number_of-zeros (32 - length prefix) in
+      let short_field : prefix_field version prefix ≡ number_of prefix * 2 ^ left =
+      number_of-append prefix (zeros left) ∙ (rw (zero_bits, length-replicate left false) (omega arith)) in
+      let long_field : prefix_field four_bytes prefix ≡ number_of prefix * 2 ^ (32 - length prefix) =
+      number_of-append prefix (zeros (32 - length prefix)) ∙ (rw (all_zero, length-replicate (32 - length prefix) false) (omega arith)) in
+      let places : 32 - length prefix ≡ left + more = omega (arith, fits.bytes, fits.limit, short) in
+      long_field ∙ ap (λ n. number_of prefix * n) (ap (λ n. 2 ^ n) places ∙ pow-add 2 left more ∙ ap (λ n. 2 ^ left * n) (sym (power_of_bytes (4 - version.bytes))))
+      ∙ sym (mul_assoc (number_of prefix) (2 ^ left) (256 ^ (4 - version.bytes))) ∙ ap (λ n. n * 256 ^ (4 - version.bytes)) (sym short_field)
+
+  -- where the bytes behind the version's are zero, all four say the same field
+  pub field_read : (image : List ℕ) → IsPadded version image → field_low four_bytes (big_from 4 4 image) ≡ field_low version (big_from 4 version.bytes image)
+  field_read image padded =
+      let count : 4 ≡ version.bytes + (4 - version.bytes) = omega (arith, fits.bytes) in
+      let parts : big_from 4 4 image ≡ big_from 4 version.bytes image * 256 ^ (4 - version.bytes) + big_from (4 + version.bytes) (4 - version.bytes) image =
+      ap (λ n. big_from 4 n image) count ∙ big_from-add 4 version.bytes (4 - version.bytes) image in
+      let none : big_from (4 + version.bytes) (4 - version.bytes) image ≡ 0 = zeros_number (4 + version.bytes) (4 - version.bytes) image padded.after_prefix in
+      let whole : big_from 4 4 image ≡ big_from 4 version.bytes image * 256 ^ (4 - version.bytes) = omega (arith, parts, none) in
+      ap (field_low four_bytes) whole ∙ sym (field_in_four (big_from 4 version.bytes image))
+
   -- ---- from the fields to the bytes
 
   -- the four bytes of the prefix, and the zeros behind it
@@ -120,6 +156,17 @@ module _ (version : Version) (fits : Fits 4 version) where
   image_parts ward prefix entry =
       ap (λ (back : List ℕ). ward ∷ kind_byte entry.kind ∷ length prefix ∷ 0 ∷ back)
       (append_assoc (field_bytes prefix) (big_bytes 4 entry.number) (big_bytes 4 (right_field entry.kind)))
+
+  -- an image of a prefix that a version may have is as with four bytes
+  pub same_in_four : (ward : ℕ) (prefix : List Bool) (entry : Entry) → length prefix ≤ version.limit → entry_image version ward prefix entry ≡ entry_image four_bytes ward prefix entry
+  same_in_four ward prefix entry short =
+      let numbers = big_bytes 4 entry.number ++ big_bytes 4 (right_field entry.kind) in
+      let count : 4 ≡ version.bytes + (4 - version.bytes) = omega (arith, fits.bytes) in
+      let four : big_bytes 4 (prefix_field four_bytes prefix) ≡ big_bytes version.bytes (prefix_field version prefix) ++ replicate (4 - version.bytes) 0 =
+      ap (big_bytes 4) (prefix_in_four prefix short) ∙ ap (λ n. big_bytes n (prefix_field version prefix * 256 ^ (4 - version.bytes))) count
+      ∙ number_then_zeros version.bytes (4 - version.bytes) (prefix_field version prefix) in
+      image_parts ward prefix entry
+      ∙ ap (λ (back : List ℕ). ward ∷ kind_byte entry.kind ∷ length prefix ∷ 0 ∷ back ++ numbers) (sym four)
 
   pub length-entry_image : (ward : ℕ) (prefix : List Bool) (entry : Entry) → length (entry_image version ward prefix entry) ≡ 16
   length-entry_image ward prefix entry =

@@ -1,21 +1,21 @@
 ghost use Rattle.std.specs.Prelude.{◌≡◌, ◌<◌, length, IfOk, IfErr, Ok};
-ghost use Rattle.exh_prefix.specs.declared.prefix.TheConstants.{LIMIT};
-ghost use Rattle.exh_prefix.specs.Version.{first_version};
+ghost use Rattle.exh_prefix.specs.Layout.{layout};
+ghost use Rattle.exh_prefix.specs.Version.{Version as AnyVersion, Fits};
 ghost use Rattle.exh_notice.specs.declared.notice.Notice.{Notice as NoticeValue};
 ghost use Rattle.exh_notice.specs.Images.{notice_image, IsNoticeImage, FailsFirst};
 
 use crate::{ENTRY_IMAGE_LEN, Entry, Notice, NoticeFault};
 use byteorder::{BigEndian, ByteOrder};
+use exh_prefix::Version;
 
 /// How many bytes the image of a notice has.
 pub const NOTICE_IMAGE_LEN: usize = 24;
 
 impl Notice {
-    /// The image of the notice in the first version of the page file: its entry's,
-    /// then its index. It takes no memory.
+    /// The image of the notice, its entry's and then its index, in each version of the page file in
+    /// which a notice may have such a prefix. It takes no memory.
     pub fn to_image(&self) -> [u8; NOTICE_IMAGE_LEN]
-        requires { length self.now.prefix < LIMIT }
-        ensures { result ≡ notice_image first_version self.now }
+        ensures { (version : AnyVersion) → Fits 4 version → length self.now.prefix < version.limit → result ≡ notice_image version self.now }
     {
         let mut image = [0; NOTICE_IMAGE_LEN];
         image[..ENTRY_IMAGE_LEN].copy_from_slice(&self.entry().to_image(self.ward, self.prefix));
@@ -23,15 +23,18 @@ impl Notice {
         image
     }
 
-    /// The notice that has this image in the first version: a `NoticeFault` as `Entry::from_image` gives
-    /// it for the first 16 bytes. It takes no memory.
-    pub fn from_image(image: &[u8; NOTICE_IMAGE_LEN]) -> Result<Notice, NoticeFault>
-        ensures ok { IfOk result (λ notice. IsNoticeImage first_version notice image.now) }
-        ensures every { (notice : NoticeValue) → IsNoticeImage first_version notice image.now → result ≡ Ok notice }
-        ensures err { IfErr result (λ fault. FailsFirst first_version fault image.now) }
+    /// The notice that has this image in a version of the page file: a `NoticeFault` as
+    /// `Entry::from_image` gives it for the first 16 bytes. It takes no memory.
+    pub fn from_image(
+        version: Version,
+        image: &[u8; NOTICE_IMAGE_LEN],
+    ) -> Result<Notice, NoticeFault>
+        ensures ok { IfOk result (λ notice. IsNoticeImage (layout version) notice image.now) }
+        ensures every { (notice : NoticeValue) → IsNoticeImage (layout version) notice image.now → result ≡ Ok notice }
+        ensures err { IfErr result (λ fault. FailsFirst (layout version) fault image.now) }
     {
         let (front, back) = image.split_first_chunk::<ENTRY_IMAGE_LEN>().unwrap();
-        let (ward, prefix, Entry { number, kind }) = Entry::from_image(front)?;
+        let (ward, prefix, Entry { number, kind }) = Entry::from_image(version, front)?;
         Ok(Notice {
             ward,
             index: BigEndian::read_u64(back),

@@ -2,6 +2,8 @@ pub mod Bits
 pub mod Prefix
 pub mod Leading
 pub mod Version
+pub mod Layout
+pub mod LayoutLemmas
 pub mod Laws
 pub mod ListLemmas
 pub mod BitLemmas

@@ -9,6 +9,10 @@ pub record Version : Type 0 where
 abbrev pub first_version : Version
 first_version = record { limit = 16; bytes = 2 }
 
+-- prefixes of up to 32 bits in four bytes: in each version that `Fits 4`, an image of a prefix that it may have is as in this one
+abbrev pub four_bytes : Version
+four_bytes = record { limit = 32; bytes = 4 }
+
 -- the bytes hold every prefix, and there is room for them in an image
 pub record Fits (room : ℕ) (version : Version) : Type 0 where
   pub limit : version.limit ≤ 8 * version.bytes

@@ -1,19 +1,20 @@
 use Rattle.std.proofs.Common.{Ok, ap, subst}
-use Rattle.exh_prefix.specs.Version.{first_version}
+use Rattle.exh_prefix.specs.Layout.{layout}
+use Rattle.exh_prefix.specs.LayoutLemmas.{layout_fits}
 use Rattle.exh_notice.specs.Images.{FailsFirst}
-use Rattle.exh_notice.specs.ImageLemmas.{first_fits, notice_from_parts, entry_image_of, one_notice, image_passes}
+use Rattle.exh_notice.specs.ImageLemmas.{notice_from_parts, entry_image_of, one_notice, image_passes}
 use Rattle.exh_notice.proofs.notice.Notice.from_image.Goals as goal
 
 pub returns-in_err-ward-clause-every : goal.returns-in_err-ward-clause-every
 returns-in_err-ward-clause-every c =
     let parts = rw c.unwrap.ensures at c.split_first_chunk.ensures.cases in
     let fault = c.in_err-ward.field-0.0 in
-    λ notice is. absurd (image_passes first_version first_fits fault (entry_image_of first_version first_fits is) (subst (FailsFirst first_version fault) parts.0 c.in_err-ward.ensures.err))
+    λ notice is. absurd (image_passes (layout c.args.version) (layout_fits c.args.version) fault (entry_image_of (layout c.args.version) (layout_fits c.args.version) is) (subst (FailsFirst (layout c.args.version) fault) parts.0 c.in_err-ward.ensures.err))
 
 pub returns-clause-ok : goal.returns-clause-ok
 returns-clause-ok c =
     let parts = rw c.unwrap.ensures at c.split_first_chunk.ensures.cases in
-    notice_from_parts first_version first_fits c.args.image.now _ _ _ _ _ c.in_ok-ward.field-0-2 c.told-image c.fits-image parts.0 parts.1 c.in_ok-ward.ensures.ok c.read_u64.ensures
+    notice_from_parts (layout c.args.version) (layout_fits c.args.version) c.args.image.now _ _ _ _ _ c.in_ok-ward.field-0-2 c.told-image c.fits-image parts.0 parts.1 c.in_ok-ward.ensures.ok c.read_u64.ensures
 
 pub returns-clause-every : goal.returns-clause-every
-returns-clause-every c = λ notice is. ap Ok (one_notice first_version first_fits (returns-clause-ok c) is)
+returns-clause-every c = λ notice is. ap Ok (one_notice (layout c.args.version) (layout_fits c.args.version) (returns-clause-ok c) is)

@@ -1,0 +1,8 @@
+-- The versions that the code knows, as those that definitions speak of.
+use Rattle.exh_prefix.specs.declared.version.Version.{Version as KnownVersion}
+use Rattle.exh_prefix.specs.declared.version.Version.TheVariants.{First}
+use Rattle.exh_prefix.specs.Version.{Version, first_version}
+
+-- how prefixes stand in the images of a known version
+abbrev pub layout : KnownVersion → Version
+layout First = first_version
