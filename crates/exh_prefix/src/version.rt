@@ -1,6 +1,11 @@
-ghost use Rattle.std.specs.Prelude.{◌≡◌, ◌≤◌};
+ghost use Rattle.std.specs.Prelude.{◌≡◌, ◌≤◌, take};
+ghost use Rattle.std.specs.Option.{SomeIff};
 ghost use Rattle.exh_prefix.specs.declared.prefix.TheConstants.{LIMIT};
+ghost use Rattle.exh_prefix.specs.Bits.{word_bits};
+ghost use Rattle.exh_prefix.specs.Prefix.{HasPrefixUpTo};
 ghost use Rattle.exh_prefix.specs.Layout.{layout};
+
+use crate::Prefix;
 
 /// A version of the page file, by how prefixes stand in its images: how long one may be, and in how
 /// many bytes it stands.
@@ -29,5 +34,16 @@ impl Version {
         match self {
             Version::First => 2,
         }
+    }
+
+    /// The first `len` bits of `bits`: `None` where `len` is above the version's limit or a bit past
+    /// them is set.
+    pub fn prefix(self, len: u8, bits: u64) -> Option<Prefix>
+        ensures { SomeIff result (HasPrefixUpTo (layout self).limit len bits) (take len (word_bits bits)) }
+    {
+        if len > self.limit() {
+            return None;
+        }
+        Prefix::new(len, bits)
     }
 }
