@@ -7,7 +7,7 @@ pub use laws::{
 };
 pub use leading_bits::{leading, ward_number};
 pub use prefix::{LIMIT, PageNo, Prefix, WARD_BITS_LIMIT};
-pub use version::Version;
+pub use version::{Version, WRITTEN};
 
 mod laws;
 mod leading_bits;

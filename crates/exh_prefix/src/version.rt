@@ -15,6 +15,9 @@ pub enum Version {
     First,
 }
 
+/// The version of the images that are written.
+pub const WRITTEN: Version = Version::First;
+
 impl Version {
     /// The greatest length of a prefix, in bits.
     pub fn limit(self) -> u8
