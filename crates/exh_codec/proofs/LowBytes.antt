@@ -6,7 +6,10 @@ use Rattle.std.proofs.lemmas.Nat.{pow-add}
 use Rattle.byteorder.specs.Endian.{big_bytes, big_from, big_number}
 use Rattle.byteorder.specs.Numbers.{big_from-cons, length-bytes_high_first}
 use Rattle.exh_prefix.specs.ByteLemmas.{power_of_bytes, drop-high_bytes, bytes_of_multiple}
-use Rattle.exh_prefix.specs.Version.{Version, first_version, Fits}
+use Rattle.exh_prefix.specs.declared.version.Version.{Version as KnownVersion}
+use Rattle.exh_prefix.specs.Version.{Version, Fits}
+use Rattle.exh_prefix.specs.Layout.{layout}
+use Rattle.exh_prefix.specs.LayoutLemmas.{layout_fits, fits_wider}
 use Rattle.exh_codec.specs.declared.head.Head.{Head}
 use Rattle.exh_codec.specs.Block.{AreZero}
 use Rattle.exh_codec.specs.Head.{head_bytes}
@@ -42,9 +45,9 @@ zero_number (suc n) (byte ∷ bytes) long zeros =
     let first : byte * 256 ^ n ≡ 0 = ap (λ b. b * 256 ^ n) zeros.0 ∙ (omega arith) in
     omega (arith, first, rest)
 
--- the first version's two bytes hold 16 bits, and a page's image has room for them
-pub first_fits : Fits 8 first_version
-first_fits = record { limit = omega arith; bytes = omega arith }
+-- a page's image has room for the prefixes of each version that the code knows
+pub known_fits : (version : KnownVersion) → Fits 8 (layout version)
+known_fits version = fits_wider 8 (layout version) (omega arith) (layout_fits version)
 
 module _ (version : Version) (fits : Fits 8 version) where
   abbrev left : ℕ

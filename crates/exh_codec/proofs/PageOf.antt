@@ -1,16 +1,16 @@
 -- A block that was laid out for a page is read as that page.
-use Rattle.std.proofs.Common.{◌≡◌, ◌≢◌, ℕ, zero, suc, ◌+◌, ◌-◌, ◌^◌, ◌<◌, ◌≤◌, Bool, true, false, cond, nat_eq, List, [], ◌∷◌, ◌++◌, length, map, take, drop, slice_index, Option, None, Some, refl, sym, ap, ◌∙◌, subst, append_assoc, arith}
-use Rattle.std.specs.List.{AllByRecursion, flat_map}
-use Rattle.std.proofs.lemmas.Bool.{eq-eqb, eqb-true, cases_eq}
-use Rattle.std.proofs.lemmas.List.{take_at, drop_at, drop-drop, length-map}
+use Rattle.std.proofs.Common.{◌≡◌, ◌≢◌, ℕ, ◌+◌, ◌-◌, ◌^◌, ◌≤◌, Bool, true, false, cond, nat_eq, List, [], ◌∷◌, ◌++◌, length, map, take, drop, slice_index, Option, None, Some, refl, sym, ap, ◌∙◌, subst, append_assoc, arith}
+use Rattle.std.specs.List.{flat_map}
+use Rattle.std.proofs.lemmas.Bool.{eq-eqb, eqb-true}
+use Rattle.std.proofs.lemmas.List.{take_at, drop_at, drop-drop}
 use Rattle.byteorder.specs.Endian.{big_number}
+use Rattle.exh_prefix.specs.declared.prefix.TheConstants.{LIMIT}
 use Rattle.exh_prefix.specs.Bits.{word_bits}
 use Rattle.exh_prefix.specs.Prefix.{low_of, HasPrefix}
 use Rattle.exh_prefix.specs.PrefixLemmas.{take-low_of, take-low_of-word, HasPrefix-low_of}
-use Rattle.exh_prefix.specs.Version.{Version, first_version, Fits}
+use Rattle.exh_prefix.specs.Version.{Version, Fits}
 use Rattle.exh_page.specs.declared.page.Page.{Page}
 use Rattle.exh_page.specs.declared.page.Page.TheVariants.{Live, Forward}
-use Rattle.exh_page.specs.declared.record.Record.{Record}
 use Rattle.exh_page.specs.declared.page_head.PageHead.TheVariants.{Live as LiveHead, Forward as ForwardHead}
 use Rattle.exh_page.specs.KeyMap.{pair_of}
 use Rattle.exh_page.specs.PageHead.{head_of as without_records}
@@ -24,8 +24,7 @@ use Rattle.exh_codec.specs.PageImage.{IsLaidOut}
 use Rattle.exh_codec.specs.PageOf.{first_pair, first_pairs, link_of, page_of}
 use Rattle.exh_codec.proofs.HeadReading.{same_heads}
 use Rattle.exh_codec.proofs.ImagesPass.{records_of_pairs}
-use Rattle.exh_codec.proofs.LaidOut.{Says, says, pairs_in, zeros_of}
-use Rattle.exh_codec.proofs.LowBytes.{first_fits}
+use Rattle.exh_codec.proofs.LaidOut.{says, pairs_in, zeros_of}
 
 -- ---- pairs
 
@@ -95,39 +94,40 @@ module _ (version : Version) (fits : Fits 8 version) (pseudo : List ℕ → ℕ)
 
 -- ---- heads
 
-pub kind_said : (pseudo : List ℕ → ℕ) (page : Page) (block : List ℕ) → IsLaidOut first_version pseudo page block → (kind : Kind) × (slice_index block 0 ≡ page_kind_byte kind)
-kind_said pseudo page block laid = ((head_of page).kind, (says first_version first_fits pseudo page block laid).head.kind)
+module _ (version : Version) (fits : Fits 8 version) (known : version.limit ≤ LIMIT) where
+  pub kind_said : (pseudo : List ℕ → ℕ) (page : Page) (block : List ℕ) → IsLaidOut version pseudo page block → (kind : Kind) × (slice_index block 0 ≡ page_kind_byte kind)
+  kind_said pseudo page block laid = ((head_of page).kind, (says version fits pseudo page block laid).head.kind)
 
-pub head_read : (pseudo : List ℕ → ℕ) (page : Page) (block : List ℕ) (head : Head) → IsReadHead block head → IsLaidOut first_version pseudo page block → head ≡ head_of page
-head_read pseudo page block head read laid = same_heads block head (head_of page) read (says first_version first_fits pseudo page block laid).head
+  pub head_read : (pseudo : List ℕ → ℕ) (page : Page) (block : List ℕ) (head : Head) → IsReadHead block head → IsLaidOut version pseudo page block → head ≡ head_of page
+  head_read pseudo page block head read laid = same_heads block head (head_of page) read (says version fits pseudo page block laid).head
 
--- a live head is that of a live page, whose prefix is one
-pub live_head : (pseudo : List ℕ → ℕ) (page : Page) (block : List ℕ) (head : Head) → IsReadHead block head → IsLaidOut first_version pseudo page block → head.kind ≡ kinds.Live
-    → HasPrefix head.prefix_len head.low × ((right : Option ℕ) → link_number right ≡ head.link → right ≢ Some (2 ^ 32 - 1) → LiveHead (take head.prefix_len (word_bits head.low)) right head.count ≡ without_records page)
-live_head pseudo (Live prefix right records) block head read laid kind =
-    let is = head_read pseudo (Live prefix right records) block head read laid in
-    let len : head.prefix_len ≡ length prefix = ap (λ (h : Head). h.prefix_len) is in
-    let low : head.low ≡ low_of prefix = ap (λ (h : Head). h.low) is in
-    let count : head.count ≡ length records = ap (λ (h : Head). h.count) is in
-    let link : head.link ≡ link_number right = ap (λ (h : Head). h.link) is in
-    let short : length prefix ≤ 16 = laid.valid.in_range.0 in
-    let stored : HasPrefix (length prefix) (low_of prefix) = HasPrefix-low_of prefix short in
-    let bits : take head.prefix_len (word_bits head.low) ≡ prefix =
-    ap (λ (n : ℕ). take n (word_bits head.low)) len ∙ ap (λ (n : ℕ). take (length prefix) (word_bits n)) low ∙ take-low_of prefix short in (
-      subst (λ (n : ℕ). HasPrefix n head.low) (sym len) (subst (HasPrefix (length prefix)) (sym low) stored),
-      λ other said named.
-          let same : other ≡ right = sym (link_read other named) ∙ ap link_of (said ∙ link) ∙ link_read right laid.valid.formed.2 in
-          ap (λ (p : List Bool). LiveHead p other head.count) bits ∙ ap (λ (r : Option ℕ). LiveHead prefix r head.count) same ∙ ap (λ (n : ℕ). LiveHead prefix right n) count,
-    )
-live_head pseudo (Forward low target) block head read laid kind =
-    let is = head_read pseudo (Forward low target) block head read laid in
-    let other : kinds.Forward ≡ kinds.Live = sym (ap (λ (h : Head). h.kind) is) ∙ kind in absurd cc
+  -- a live head is that of a live page, whose prefix is one
+  pub live_head : (pseudo : List ℕ → ℕ) (page : Page) (block : List ℕ) (head : Head) → IsReadHead block head → IsLaidOut version pseudo page block → head.kind ≡ kinds.Live
+      → HasPrefix head.prefix_len head.low × ((right : Option ℕ) → link_number right ≡ head.link → right ≢ Some (2 ^ 32 - 1) → LiveHead (take head.prefix_len (word_bits head.low)) right head.count ≡ without_records page)
+  live_head pseudo (Live prefix right records) block head read laid kind =
+      let is = head_read pseudo (Live prefix right records) block head read laid in
+      let len : head.prefix_len ≡ length prefix = ap (λ (h : Head). h.prefix_len) is in
+      let low : head.low ≡ low_of prefix = ap (λ (h : Head). h.low) is in
+      let count : head.count ≡ length records = ap (λ (h : Head). h.count) is in
+      let link : head.link ≡ link_number right = ap (λ (h : Head). h.link) is in
+      let short : length prefix ≤ LIMIT = omega (arith, laid.valid.in_range.0, known) in
+      let stored : HasPrefix (length prefix) (low_of prefix) = HasPrefix-low_of prefix short in
+      let bits : take head.prefix_len (word_bits head.low) ≡ prefix =
+      ap (λ (n : ℕ). take n (word_bits head.low)) len ∙ ap (λ (n : ℕ). take (length prefix) (word_bits n)) low ∙ take-low_of prefix short in (
+        subst (λ (n : ℕ). HasPrefix n head.low) (sym len) (subst (HasPrefix (length prefix)) (sym low) stored),
+        λ other said named.
+            let same : other ≡ right = sym (link_read other named) ∙ ap link_of (said ∙ link) ∙ link_read right laid.valid.formed.2 in
+            ap (λ (p : List Bool). LiveHead p other head.count) bits ∙ ap (λ (r : Option ℕ). LiveHead prefix r head.count) same ∙ ap (λ (n : ℕ). LiveHead prefix right n) count,
+      )
+  live_head pseudo (Forward low target) block head read laid kind =
+      let is = head_read pseudo (Forward low target) block head read laid in
+      let other : kinds.Forward ≡ kinds.Live = sym (ap (λ (h : Head). h.kind) is) ∙ kind in absurd cc
 
-pub forward_head : (pseudo : List ℕ → ℕ) (page : Page) (block : List ℕ) (head : Head) → IsReadHead block head → IsLaidOut first_version pseudo page block → head.kind ≡ kinds.Forward
-    → ForwardHead head.low head.link ≡ without_records page
-forward_head pseudo (Live prefix right records) block head read laid kind =
-    let is = head_read pseudo (Live prefix right records) block head read laid in
-    let other : kinds.Live ≡ kinds.Forward = sym (ap (λ (h : Head). h.kind) is) ∙ kind in absurd cc
-forward_head pseudo (Forward low target) block head read laid kind =
-    let is = head_read pseudo (Forward low target) block head read laid in
-    ap (λ (n : ℕ). ForwardHead n head.link) (ap (λ (h : Head). h.low) is) ∙ ap (λ (n : ℕ). ForwardHead low n) (ap (λ (h : Head). h.link) is)
+  pub forward_head : (pseudo : List ℕ → ℕ) (page : Page) (block : List ℕ) (head : Head) → IsReadHead block head → IsLaidOut version pseudo page block → head.kind ≡ kinds.Forward
+      → ForwardHead head.low head.link ≡ without_records page
+  forward_head pseudo (Live prefix right records) block head read laid kind =
+      let is = head_read pseudo (Live prefix right records) block head read laid in
+      let other : kinds.Live ≡ kinds.Forward = sym (ap (λ (h : Head). h.kind) is) ∙ kind in absurd cc
+  forward_head pseudo (Forward low target) block head read laid kind =
+      let is = head_read pseudo (Forward low target) block head read laid in
+      ap (λ (n : ℕ). ForwardHead n head.link) (ap (λ (h : Head). h.low) is) ∙ ap (λ (n : ℕ). ForwardHead low n) (ap (λ (h : Head). h.link) is)

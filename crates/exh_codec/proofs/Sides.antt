@@ -1,5 +1,5 @@
 -- A record among those on either side of its place.
-use Rattle.std.proofs.Common.{◌≡◌, ℕ, zero, suc, ◌+◌, ◌-◌, ◌*◌, ◌<◌, ◌≤◌, Bool, true, false, cond, List, [], ◌∷◌, ◌++◌, length, map, take, drop, filter, Result, Ok, Err, Some, None, is_err, refl, sym, ap, ◌∙◌, append_assoc, arith}
+use Rattle.std.proofs.Common.{◌≡◌, ℕ, ◌+◌, ◌-◌, true, false, cond, List, ◌∷◌, ◌++◌, length, map, take, drop, Result, Ok, Err, Some, None, is_err, refl, sym, ap, ◌∙◌, append_assoc, arith}
 use Rattle.std.specs.List.{flat_map}
 use borrow.Rule.Slice.PartMut.{put_mid}
 use Rattle.std.proofs.lemmas.List.{length-append, length-take-le, length-drop, map-append}
@@ -9,7 +9,7 @@ use Rattle.exh_page.specs.declared.spot.Spot.{Spot}
 use Rattle.exh_page.specs.KeyMap.{pair_of}
 use Rattle.exh_page.specs.Place.{place_of}
 use Rattle.exh_page.specs.Records.{with_record}
-use Rattle.exh_page.specs.RecordsLemmas.{filter-append, with_record-cut}
+use Rattle.exh_page.specs.RecordsLemmas.{with_record-cut}
 use Rattle.exh_page.specs.Search.{IsSought}
 use Rattle.exh_page.specs.Page.{IsLive, records_of, with_records}
 use Rattle.exh_page.specs.declared.page.Page.{Page}
@@ -18,7 +18,7 @@ use Rattle.exh_codec.specs.declared.head.Head.{Head}
 use Rattle.exh_codec.specs.Cells.{pair_image}
 use Rattle.exh_codec.specs.Head.{head_of}
 use Rattle.exh_codec.proofs.PutPairs.{put_behind}
-use Rattle.exh_codec.specs.Sides.{on_side, side_of}
+use Rattle.exh_codec.specs.Sides.{side_of}
 
 -- how many records there are with one more, by what a search for its place answered
 pub counted_with : (r : Record) (records : List Record) (sought : Result Spot Spot) → IsSought (place_of r) records sought → length (with_record r records) ≡ length records + cond (is_err sought) 1 0

@@ -3,6 +3,7 @@ use Rattle.std.proofs.Common.{◌≡◌, ℕ, ◌*◌, ◌^◌, ◌<◌, ◌≤�
 use Rattle.std.specs.Prelude.{IfSome}
 use Rattle.std.specs.List.{AllByRecursion, flat_map}
 use Rattle.std.proofs.lemmas.List.{length-append, length-map, length-replicate}
+use Rattle.exh_prefix.specs.declared.prefix.TheConstants.{LIMIT}
 use Rattle.exh_prefix.specs.Version.{Version}
 use Rattle.exh_page.specs.declared.page.Page.{Page}
 use Rattle.exh_page.specs.declared.page.Page.TheVariants.{Live, Forward}
@@ -15,6 +16,10 @@ use Rattle.exh_codec.specs.Head.{head_of, head_bytes, link_number}
 use Rattle.exh_codec.specs.PageImage.{IsInRange, IsPage, used_of, content_of}
 use Rattle.exh_codec.specs.PageImageLemmas.{few_records}
 use Rattle.exh_codec.proofs.PutPairs.{length-pair_image}
+
+-- prefixes as the types hold them
+abbrev pub widest : Version
+widest = record { limit = LIMIT; bytes = 8 }
 
 pub length-head_bytes : (head : Head) → length (head_bytes head) ≡ 16
 unfolding head_bytes

@@ -1,6 +1,7 @@
 -- The image of a page, in each version of the page file.
 use Rattle.std.specs.Prelude.{◌≡◌, ℕ, ◌-◌, ◌^◌, ◌<◌, ◌≤◌, List, ◌++◌, length, map, replicate, take, IfSome}
 use Rattle.std.specs.List.{AllByRecursion, flat_map}
+use Rattle.exh_prefix.specs.declared.prefix.TheConstants.{LIMIT}
 use Rattle.exh_prefix.specs.Version.{Version}
 use Rattle.exh_page.specs.declared.page.Page.{Page}
 use Rattle.exh_page.specs.declared.page.Page.TheVariants.{Live, Forward}
@@ -27,6 +28,10 @@ content_of page = padded CONTENT_LEN (used_of page)
 abbrev pub IsInRange : Version → Page → Type 0
 IsInRange version (Live prefix right records) = (length prefix ≤ version.limit) × IfSome right (λ page. page < 2 ^ 32) × AllByRecursion IsSizedPair (map pair_of records)
 IsInRange version (Forward low target) = (low < 2 ^ 64) × (target < 2 ^ 32)
+
+-- the numbers and lengths in the page are those that its types hold
+abbrev pub IsHeld : Page → Type 0
+IsHeld page = IsInRange (record { limit = LIMIT; bytes = 8 }) page
 
 -- a page that any file of the version may have, under a keyer's pseudokeys
 pub record IsPage (version : Version) (pseudo : List ℕ → ℕ) (page : Page) : Type 0 where

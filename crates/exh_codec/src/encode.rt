@@ -1,6 +1,6 @@
 ghost use Rattle.std.specs.Prelude.{◌≡◌, ◌≤◌, ◌*◌, ◌++◌, length, map, take, drop, replicate};
 ghost use Rattle.std.specs.List.{AllByRecursion, flat_map};
-ghost use Rattle.exh_prefix.specs.Version.{first_version};
+ghost use Rattle.exh_prefix.specs.Version.{Version};
 ghost use Rattle.exh_page.specs.declared.page.TheConstants.{CAP_LIMIT};
 ghost use Rattle.exh_page.specs.Page.{IsLive, records_of, with_records, IsWellFormed};
 ghost use Rattle.exh_page.specs.Records.{with_record};
@@ -8,7 +8,7 @@ ghost use Rattle.exh_codec.specs.declared.block.TheConstants.{BLOCK_LEN, CONTENT
 ghost use Rattle.exh_page.specs.KeyMap.{pair_of};
 ghost use Rattle.exh_codec.specs.Cells.{IsSizedPair, pair_image};
 ghost use Rattle.exh_codec.specs.Sides.{on_side, side_of};
-ghost use Rattle.exh_codec.specs.PageImage.{used_of, content_of, IsInRange, IsImage};
+ghost use Rattle.exh_codec.specs.PageImage.{used_of, content_of, IsHeld, IsPage, IsImage};
 
 use crate::block::{BLOCK_LEN, CONTENT_LEN, seal};
 use crate::head::{HEAD_LEN, Head};
@@ -18,10 +18,13 @@ use exh_page::{KEY_LIMIT, Page, Record, Records, VALUE_LIMIT};
 /// The greatest length of a record in an image, in bytes.
 const RECORD_LEN: usize = 2 + KEY_LIMIT + VALUE_LIMIT;
 
-/// The image of a page that is well formed under a keyer. It takes no memory.
+/// The image of a page that is well formed under a keyer, in each version in which a page may have
+/// such a prefix or low bound. It takes no memory.
 pub fn encode_page<K: Keyer>(keyer: &K, page: &Page) -> [u8; BLOCK_LEN]
     requires { IsWellFormed (K.pseudokey_of keyer.now) page.now }
-    ensures { IsImage first_version (K.pseudokey_of keyer.now) page.now result }
+    ensures image { (version : Version) → IsPage version (K.pseudokey_of keyer.now) page.now → IsImage version (K.pseudokey_of keyer.now) page.now result }
+    // The types of a page hold no others.
+    ensures in_range { IsHeld page.now }
 {
     let mut block = lay_out(page);
     seal(&mut block);
@@ -35,7 +38,7 @@ pub fn lay_out(page: &Page) -> [u8; BLOCK_LEN]
     ensures content { take CONTENT_LEN result ≡ content_of page.now }
     ensures digest { drop CONTENT_LEN result ≡ replicate 32 0 }
     // The types of a page hold no others.
-    ensures in_range { IsInRange first_version page.now }
+    ensures in_range { IsHeld page.now }
 {
     let mut block = [0; BLOCK_LEN];
     put_page(&mut block, page);
@@ -49,7 +52,7 @@ pub fn lay_out_with(page: &Page, item: &Record) -> [u8; BLOCK_LEN]
     requires few { length (records_of page.now) ≤ CAP_LIMIT }
     requires room { length (with_record item.now (records_of page.now)) ≤ CAP_LIMIT }
     ensures content { take CONTENT_LEN result ≡ content_of (with_records (with_record item.now (records_of page.now)) page.now) }
-    ensures in_range { IsInRange first_version (with_records (with_record item.now (records_of page.now)) page.now) }
+    ensures in_range { IsHeld (with_records (with_record item.now (records_of page.now)) page.now) }
 {
     let mut block = [0; BLOCK_LEN];
     put_page_with(&mut block, page, item);
@@ -63,7 +66,7 @@ fn put_page_with(block: &mut [u8], page: &Page, item: &Record)
     requires few { length (records_of page.now) ≤ CAP_LIMIT }
     requires room { length (with_record item.now (records_of page.now)) ≤ CAP_LIMIT }
     ensures used { let used = used_of (with_records (with_record item.now (records_of page.now)) page.now) in block.new ≡ used ++ drop (length used) block.old }
-    ensures in_range { IsInRange first_version (with_records (with_record item.now (records_of page.now)) page.now) }
+    ensures in_range { IsHeld (with_records (with_record item.now (records_of page.now)) page.now) }
 {
     let Page::Live { records, .. } = page else {
         unreachable!();
@@ -128,7 +131,7 @@ fn put_page(block: &mut [u8], page: &Page)
     requires len { length block.old ≡ BLOCK_LEN }
     requires few { length (records_of page.now) ≤ CAP_LIMIT }
     ensures used { block.new ≡ used_of page.now ++ drop (length (used_of page.now)) block.old }
-    ensures in_range { IsInRange first_version page.now }
+    ensures in_range { IsHeld page.now }
 {
     let head = Head::of(page).to_bytes();
     block[..HEAD_LEN].copy_from_slice(&head);

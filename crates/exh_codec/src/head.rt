@@ -11,12 +11,6 @@ pub(crate) const HEAD_LEN: usize = 16;
 /// Where the bytes of a prefix or low bound begin.
 pub(crate) const LOW_START: usize = 8;
 
-/// How many bytes a prefix or low bound has in the first version.
-const LOW_LEN: usize = 2;
-
-/// Where these bytes end.
-pub(crate) const LOW_END: usize = LOW_START + LOW_LEN;
-
 /// The link that an image of a page without a right link has.
 pub(crate) const NO_LINK: PageNo = PageNo::MAX;
 

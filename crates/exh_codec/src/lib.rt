@@ -1,4 +1,4 @@
-//! Pages as blocks of 4,096 bytes and back, in the first version of the page file.
+//! Pages as blocks of 4,096 bytes and back, in each version of the page file.
 //! A well-formed page has exactly one image, and an image is that of one page.
 #![tactic(auto)]
 

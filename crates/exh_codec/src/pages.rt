@@ -1,7 +1,7 @@
 ghost use Rattle.std.specs.Prelude.{◌≡◌, ◌≢◌, ◌^◌, ◌≤◌, ◌-◌, ◌↔◌, ℕ, List, length, map, Some, IsTrue, IfSome, IfNone, IfOk};
 ghost use Rattle.std.specs.List.{AllByRecursion};
 ghost use Rattle.exh_prefix.specs.Prefix.{Begins};
-ghost use Rattle.exh_prefix.specs.Version.{first_version};
+ghost use Rattle.exh_prefix.specs.Layout.{layout};
 ghost use Rattle.exh_page.specs.Records.{IsRising};
 ghost use Rattle.exh_page.specs.KeyMap.{pair_of};
 ghost use Rattle.exh_codec.specs.Cells.{record_borrowed, IsSizedPair, pair_in};
@@ -16,23 +16,24 @@ use crate::head::{Head, NO_LINK};
 use arrayvec::ArrayVec;
 use exh_keyer::Keyer;
 use exh_page::{CAP_LIMIT, Page, Records};
-use exh_prefix::{LIMIT, PageNo, Prefix};
+use exh_prefix::{PageNo, Prefix, Version};
 use std::alloc::{AllocError, Global};
 use std::cmp::Ordering;
 
-/// The live page of a head and its records: `Prefix` where its prefix is none or doesn't begin a
+/// The live page of a head and its records in a version: `Prefix` where its prefix is none or doesn't begin a
 /// record, else `Order` where records don't rise.
 pub(crate) fn live_page<K: Keyer>(
     alloc: Global,
+    version: Version,
     keyer: &K,
     head: Head,
     cells: &[Cell<'_>],
 ) -> Result<Page, ImageFault>
     requires few { length cells.now ≤ CAP_LIMIT }
     requires sized { AllByRecursion IsSizedPair (map pair_in cells.now) }
-    ensures { GivesLive first_version (K.pseudokey_of keyer.now) head (map pair_in cells.now) result }
+    ensures { GivesLive (layout version) (K.pseudokey_of keyer.now) head (map pair_in cells.now) result }
 {
-    let Some(prefix) = Prefix::new(head.prefix_len, head.low) else {
+    let Some(prefix) = version.prefix(head.prefix_len, head.low) else {
         return Err(ImageFault::Prefix);
     };
     let Some(records) = begun_records(keyer, prefix, cells) else {
@@ -48,11 +49,14 @@ pub(crate) fn live_page<K: Keyer>(
     })
 }
 
-/// The forwarding page of a head: `Prefix` where its low bound is none.
-pub(crate) fn forward_page(head: Head) -> Result<Page, ImageFault>
-    ensures { GivesForward first_version head result }
+/// The forwarding page of a head in a version: `Prefix` where its low bound is none.
+pub(crate) fn forward_page(version: Version, head: Head) -> Result<Page, ImageFault>
+    ensures { GivesForward (layout version) head result }
 {
-    if head.prefix_len != 0 || head.low == 0 || Prefix::new(LIMIT, head.low).is_none() {
+    if head.prefix_len != 0
+        || head.low == 0
+        || version.prefix(version.limit(), head.low).is_none()
+    {
         return Err(ImageFault::Prefix);
     }
     Ok(Page::Forward {

@@ -1,4 +1,4 @@
-use Rattle.exh_prefix.specs.Version.{first_version}
+use Rattle.exh_codec.proofs.UsedBytes.{widest}
 use Rattle.std.proofs.Common.{◌≡◌, ◌++◌, length, map, drop, ℕ, List, sym, ap, ◌∙◌, subst, refl}
 use Rattle.std.specs.List.{flat_map}
 use Rattle.exh_page.specs.declared.record.Record.{Record}
@@ -6,7 +6,7 @@ use Rattle.exh_page.specs.Page.{records_of}
 use Rattle.exh_page.specs.KeyMap.{pair_of}
 use Rattle.exh_codec.specs.Cells.{pair_image}
 use Rattle.exh_codec.specs.Head.{head_of, head_bytes}
-use Rattle.exh_codec.specs.PageImage.{used_of, IsInRange}
+use Rattle.exh_codec.specs.PageImage.{used_of, IsHeld}
 use Rattle.exh_codec.proofs.PutPairs.{put_behind}
 use Rattle.exh_codec.proofs.UsedBytes.{length-head_bytes, live_in_range}
 use Rattle.exh_codec.proofs.encode.put_page.Goals as goal
@@ -25,6 +25,6 @@ returns-in-Live-clause-used c =
 
 pub returns-in-Live-clause-in_range : goal.returns-in-Live-clause-in_range
 returns-in-Live-clause-in_range c =
-    subst (IsInRange first_version) (sym c.in-Live.is)
-    (live_in_range first_version c.in-Live.prefix c.in-Live.right c.in-Live.records c.of.result (c.of.ensures.head ∙ ap head_of c.in-Live.is) c.of.ensures.prefix c.of.ensures.link
+    subst (IsHeld) (sym c.in-Live.is)
+    (live_in_range widest c.in-Live.prefix c.in-Live.right c.in-Live.records c.of.result (c.of.ensures.head ∙ ap head_of c.in-Live.is) c.of.ensures.prefix c.of.ensures.link
     c.put_records.ensures.sized)

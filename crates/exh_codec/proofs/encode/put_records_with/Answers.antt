@@ -1,4 +1,4 @@
-use Rattle.std.proofs.Common.{◌≡◌, ℕ, ◌++◌, ◌-◌, ◌+◌, true, false, List, length, take, drop, refl, sym, ap, ◌∙◌}
+use Rattle.std.proofs.Common.{ℕ, ◌++◌, true, false, List, length, drop, refl, sym, ap, ◌∙◌}
 use Rattle.exh_page.specs.KeyMap.{pair_of}
 use Rattle.exh_codec.specs.Cells.{pair_image}
 use Rattle.exh_codec.specs.Sides.{side_of}
