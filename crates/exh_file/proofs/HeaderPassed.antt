@@ -3,21 +3,17 @@ use Rattle.std.proofs.Common.{◌≡◌, ℕ, ◌<◌, List, [], ◌∷◌, ◌+
 use Rattle.std.specs.List.{AllByRecursion, flat_map}
 use Rattle.byteorder.specs.Endian.{big_bytes}
 use Rattle.exh_notice.specs.Images.{items}
-use Rattle.exh_notice.specs.ImageLemmas.{first_fits}
 use Rattle.exh_codec.specs.declared.image_fault.ImageFault.TheVariants as images
 use Rattle.exh_codec.specs.Block.{IsSealed, AreZero}
 use Rattle.exh_codec.specs.BlockLemmas.{length-padded, padded_front, padded_rest, padded_from, sealed_content, sealed_is_sealed, sealed_from}
 use Rattle.exh_codec.specs.PageImage.{padded}
 use Rattle.exh_file.specs.declared.file_fault.FileFault.TheVariants.{Block, Magic, Version}
 use Rattle.exh_file.specs.declared.header.Header.{Header}
-use Rattle.exh_file.specs.FileVersion.{FileVersion, FitsFile, first_file}
+use Rattle.exh_file.specs.FileVersion.{FileVersion, FitsFile}
 use Rattle.exh_file.specs.FirstFailing.{IsFirstFailing}
 use Rattle.exh_file.specs.HeaderImage.{IsHeader, IsHeaderImage, front_bytes, header_bytes}
 use Rattle.exh_file.specs.HeaderTests.{HasMagic, IsOfVersion, HasRanges, IsReadHeader, IsHeaderPadded, PassesHeader, header_tests}
 use Rattle.exh_file.proofs.HeaderBytes.{length-header_bytes, magic_said, version_said, zeros_said, header_said, header_back, same_headers}
-
-pub first_file_fits : FitsFile first_file
-first_file_fits = record { number = omega arith; limit = omega arith; images = first_fits }
 
 -- what an image says
 pub record Says (version : FileVersion) (header : Header) (block : List ℕ) : Type 0 where

@@ -1,4 +1,5 @@
 pub mod FileVersion
+pub mod FileVersionLemmas
 pub mod FirstFailing
 pub mod FileFault
 pub mod HeaderImage

@@ -1,6 +1,5 @@
 ghost use Rattle.std.specs.Prelude.{◌≡◌, ◌<◌, length};
-ghost use Rattle.exh_prefix.specs.declared.prefix.TheConstants.{LIMIT};
-ghost use Rattle.exh_prefix.specs.Version.{first_version};
+ghost use Rattle.exh_prefix.specs.Version.{Version as AnyVersion, Fits};
 ghost use Rattle.exh_notice.specs.Images.{right_field};
 
 use exh_notice::{ENTRY_IMAGE_LEN, Entry, Kind};
@@ -11,7 +10,7 @@ use exh_prefix::{PageNo, Prefix};
 pub struct FileEntry {
     /// The ward, 0 to 15.
     pub ward: u8,
-    /// The prefix at which the entry stands, shorter than `LIMIT` bits in a file.
+    /// The prefix at which the entry stands, shorter than its version's limit in a file.
     pub prefix: Prefix,
     pub entry: Entry,
 }
@@ -19,12 +18,12 @@ pub struct FileEntry {
 impl FileEntry {
     ghost use Rattle.exh_file.specs.TableImage.{IsFileEntry, image_of};
 
-    /// The entry's 16 bytes in a table block of the first version. It takes no memory.
+    /// The entry's 16 bytes in a table block, in each version in which an entry may have such a prefix.
+    /// It takes no memory.
     pub fn to_image(&self) -> [u8; ENTRY_IMAGE_LEN]
-        requires { length self.now.prefix < LIMIT }
-        ensures image { result ≡ image_of first_version self.now }
+        ensures image { (version : AnyVersion) → Fits 4 version → length self.now.prefix < version.limit → result ≡ image_of version self.now }
         // The types of an entry hold no others.
-        ensures valid { IsFileEntry first_version self.now }
+        ensures valid { (version : AnyVersion) → length self.now.prefix < version.limit → IsFileEntry version self.now }
     {
         let FileEntry {
             ward,

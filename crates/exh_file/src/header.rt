@@ -4,23 +4,21 @@ ghost use Rattle.std.specs.List.{AllByRecursion};
 ghost use Rattle.exh_file.specs.declared.header.TheConstants.{COUNTS_LEN};
 ghost use Rattle.exh_file.specs.HeaderImage.{IsPageCount};
 ghost use Rattle.exh_file.specs.HeaderTests.{HasMagic};
-ghost use Rattle.exh_prefix.specs.Version.{first_version};
+ghost use Rattle.exh_file.specs.FileVersion.{number_of_version};
+ghost use Rattle.exh_prefix.specs.Layout.{layout};
 
 use crate::FileFault;
 use byteorder::{BigEndian, ByteOrder};
 use exh_codec::{BLOCK_LEN, CONTENT_LEN, ImageFault, are_zero, is_sealed, seal};
 use exh_file_settings::{FileSettings, keyer_byte, keyer_of_byte};
 use exh_keyer::AnyKeyer;
-use exh_prefix::LIMIT;
+use exh_prefix::{Version, WRITTEN};
 
 /// For how many wards a header counts pages.
 pub const COUNTS_LEN: usize = 16;
 
 /// How a page file begins.
 const MAGIC: [u8; 8] = *b"EXHASHPF";
-
-/// The number of the version that is written and read.
-const VERSION: u16 = 1;
 
 /// How many bytes of a header stand before the page counts.
 const FRONT_LEN: usize = 20;
@@ -32,10 +30,10 @@ pub(crate) const HEADER_LEN: usize = FRONT_LEN + 4 * COUNTS_LEN;
 #[derive(Clone, Copy)]
 pub struct Header {
     pub settings: FileSettings<AnyKeyer>,
-    /// How many entries the table has, 0 to 65,535.
+    /// How many entries the table has, fewer than 2^the version's limit, 65,536 in the first.
     pub entry_count: u32,
-    /// How many pages each ward has, ward 0 first: 1 to 2^(16 - the ward bits) for a ward of the file,
-    /// 0 for the others.
+    /// How many pages each ward has, ward 0 first: 1 to 2^(the limit - the ward bits) for a ward of the
+    /// file, 0 for the others.
     pub page_counts: [u32; COUNTS_LEN],
 }
 
@@ -43,14 +41,15 @@ impl Header {
     ghost use Rattle.std.specs.Prelude.{◌≡◌, ◌≤◌, ◌↔◌, ◌++◌, ℕ, List, length, drop, IsTrue, IfOk, IfErr, IfSome, IfNone, Ok};
     ghost use Rattle.exh_file.specs.declared.header.TheConstants.{FRONT_LEN, HEADER_LEN};
     ghost use Rattle.exh_file.specs.declared.header.Header.{Header as HeaderValue};
-    ghost use Rattle.exh_file.specs.FileVersion.{first_file};
+    ghost use Rattle.exh_file.specs.FileVersion.{file_version, written_file};
     ghost use Rattle.exh_file.specs.FirstFailing.{IsFirstFailing};
     ghost use Rattle.exh_file.specs.HeaderImage.{IsHeader, IsHeaderImage, front_bytes, header_bytes};
     ghost use Rattle.exh_file.specs.HeaderTests.{IsReadHeader, PassesHeader, header_tests};
 
-    /// Whether a page file may have this header: every field is in its range. It takes no memory.
-    pub fn is_in_range(&self) -> bool
-        ensures { IsTrue result ↔ IsHeader first_file self.now }
+    /// Whether a page file of a version may have this header: every field is in its range. It takes no
+    /// memory.
+    pub fn is_in_range(&self, version: Version) -> bool
+        ensures { IsTrue result ↔ IsHeader (file_version version) self.now }
     {
         let ward_bits = self.settings.ward_bits;
         let Some(wards) = wards_of(ward_bits) else {
@@ -58,15 +57,15 @@ impl Header {
         };
         let (counts, others) = self.page_counts.split_at(wards);
         self.settings.are_in_range()
-            && self.entry_count < 1 << LIMIT
-            && are_page_counts(ward_bits, counts)
+            && self.entry_count < 1 << version.limit()
+            && are_page_counts(version, ward_bits, counts)
             && are_none(others)
     }
 
-    /// The header's block, its image in the first version of the page file. It takes no memory.
+    /// The header's block, its image in the version that is written. It takes no memory.
     pub fn to_block(&self) -> [u8; BLOCK_LEN]
-        requires { IsHeader first_file self.now }
-        ensures { IsHeaderImage first_file self.now result }
+        requires { IsHeader written_file self.now }
+        ensures { IsHeaderImage written_file self.now result }
     {
         let mut block = [0; BLOCK_LEN];
         self.put(&mut block);
@@ -74,24 +73,23 @@ impl Header {
         block
     }
 
-    /// The header that has this image in the first version. Where there is none, the fault is the
-    /// first of `Magic`, `Version` and, at place 0, `Digest`, `Length` (a field out of its range) and
+    /// The header that has this image in a version. Where there is none, the fault is the first of `Magic`, `Version` and, at place 0, `Digest`, `Length` (a field out of its range) and
     /// `Padding` whose test the block fails, each test being over the whole block. It takes no memory.
-    pub fn from_block(block: &[u8; BLOCK_LEN]) -> Result<Header, FileFault>
-        ensures header { IfOk result (λ header. IsHeaderImage first_file header block.now) }
-        ensures every { (header : HeaderValue) → IsHeaderImage first_file header block.now → result ≡ Ok header }
-        ensures fault { IfErr result (IsFirstFailing (PassesHeader first_file block.now) header_tests) }
+    pub fn from_block(version: Version, block: &[u8; BLOCK_LEN]) -> Result<Header, FileFault>
+        ensures header { IfOk result (λ header. IsHeaderImage (file_version version) header block.now) }
+        ensures every { (header : HeaderValue) → IsHeaderImage (file_version version) header block.now → result ≡ Ok header }
+        ensures fault { IfErr result (IsFirstFailing (PassesHeader (file_version version) block.now) header_tests) }
     {
         if !has_magic(block) {
             return Err(FileFault::Magic);
         }
-        if BigEndian::read_u16(&block[8..]) != VERSION {
+        if BigEndian::read_u16(&block[8..]) != number_of(version) {
             return Err(FileFault::Version);
         }
         if !is_sealed(block) {
             return Err(at_header(ImageFault::Digest));
         }
-        let Some(header) = Header::from_fields(block) else {
+        let Some(header) = Header::from_fields(version, block) else {
             return Err(at_header(ImageFault::Length));
         };
         if block[13] != 0
@@ -108,7 +106,7 @@ impl Header {
     fn put(&self, block: &mut [u8])
         requires len { HEADER_LEN ≤ length block.old }
         requires counts { length self.now.page_counts ≡ COUNTS_LEN }
-        ensures { block.new ≡ header_bytes first_file self.now ++ drop HEADER_LEN block.old }
+        ensures { block.new ≡ header_bytes written_file self.now ++ drop HEADER_LEN block.old }
     {
         block[..FRONT_LEN].copy_from_slice(&self.front());
         BigEndian::write_u32_into(&self.page_counts, &mut block[FRONT_LEN..HEADER_LEN]);
@@ -117,11 +115,11 @@ impl Header {
     // The bytes before the page counts.
     #[tactic(auto, unfolding(crate::specs::HeaderImage::front_bytes))]
     fn front(&self) -> [u8; FRONT_LEN]
-        ensures { result ≡ front_bytes first_file self.now }
+        ensures { result ≡ front_bytes written_file self.now }
     {
         let mut bytes = [0; FRONT_LEN];
         bytes[..8].copy_from_slice(&MAGIC);
-        BigEndian::write_u16(&mut bytes[8..], VERSION);
+        BigEndian::write_u16(&mut bytes[8..], number_of(WRITTEN));
         bytes[10] = self.settings.cap;
         bytes[11] = self.settings.ward_bits;
         bytes[12] = keyer_byte(self.settings.keyer);
@@ -130,10 +128,10 @@ impl Header {
     }
 
     // The header that the fields of a block say, `None` where one is out of its range.
-    fn from_fields(block: &[u8; BLOCK_LEN]) -> Option<Header>
+    fn from_fields(version: Version, block: &[u8; BLOCK_LEN]) -> Option<Header>
         ensures some { IfSome result (IsReadHeader block.now) }
-        ensures in_range { IfSome result (IsHeader first_file) }
-        ensures none { IfNone result ((header : HeaderValue) → IsReadHeader block.now header → IsHeader first_file header → ⊥) }
+        ensures in_range { IfSome result (IsHeader (file_version version)) }
+        ensures none { IfNone result ((header : HeaderValue) → IsReadHeader block.now header → IsHeader (file_version version) header → ⊥) }
     {
         let keyer = keyer_of_byte(block[12])?;
         let mut page_counts = [0; COUNTS_LEN];
@@ -148,7 +146,7 @@ impl Header {
             entry_count: BigEndian::read_u32(&block[16..]),
             page_counts,
         };
-        if header.is_in_range() {
+        if header.is_in_range(version) {
             Some(header)
         } else {
             None
@@ -185,12 +183,21 @@ fn wards_of(ward_bits: u8) -> Option<usize>
     }
 }
 
-// Whether each is the count of a ward's pages.
-fn are_page_counts(ward_bits: u8, counts: &[u32]) -> bool
-    requires { ward_bits ≤ 4 }
-    ensures { IsTrue result ↔ AllByRecursion (IsPageCount first_version.limit ward_bits) counts.now }
+// The number of a version in a header.
+fn number_of(version: Version) -> u16
+    ensures { result ≡ number_of_version version }
 {
-    let most = 1 << (LIMIT - ward_bits);
+    match version {
+        Version::First => 1,
+    }
+}
+
+// Whether each is the count of a ward's pages.
+fn are_page_counts(version: Version, ward_bits: u8, counts: &[u32]) -> bool
+    requires { ward_bits ≤ 4 }
+    ensures { IsTrue result ↔ AllByRecursion (IsPageCount (layout version).limit ward_bits) counts.now }
+{
+    let most = 1 << (version.limit() - ward_bits);
     for count in counts {
         if *count == 0 || *count > most {
             return false;

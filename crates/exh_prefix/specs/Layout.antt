@@ -9,5 +9,5 @@ abbrev pub layout : KnownVersion → Version
 layout First = first_version
 
 -- the version of the images that are written
-abbrev pub written : Version
-written = layout WRITTEN
+abbrev pub written_version : Version
+written_version = layout WRITTEN

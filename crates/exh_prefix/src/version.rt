@@ -1,6 +1,6 @@
 ghost use Rattle.std.specs.Prelude.{◌≡◌, ◌≤◌, take};
 ghost use Rattle.std.specs.Option.{SomeIff};
-ghost use Rattle.exh_prefix.specs.declared.prefix.TheConstants.{LIMIT};
+ghost use Rattle.exh_prefix.specs.declared.prefix.TheConstants.{LIMIT, WARD_BITS_LIMIT};
 ghost use Rattle.exh_prefix.specs.Bits.{word_bits};
 ghost use Rattle.exh_prefix.specs.Prefix.{HasPrefixUpTo};
 ghost use Rattle.exh_prefix.specs.Layout.{layout};
@@ -23,6 +23,7 @@ impl Version {
     pub fn limit(self) -> u8
         ensures limit { result ≡ (layout self).limit }
         ensures most { result ≤ LIMIT }
+        ensures wards { WARD_BITS_LIMIT ≤ result }
     {
         match self {
             Version::First => 16,

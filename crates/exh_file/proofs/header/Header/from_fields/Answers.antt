@@ -1,6 +1,6 @@
 use Rattle.std.proofs.Common.{◌≡◌, length, sym, ◌∙◌, subst, refl, arith}
 use Rattle.byteorder.specs.Endian.{big_from}
-use Rattle.exh_file.specs.FileVersion.{first_file}
+use Rattle.exh_file.specs.FileVersion.{file_version}
 use Rattle.exh_file.specs.HeaderImage.{IsHeader}
 use Rattle.exh_file.proofs.HeaderBytes.{count_read, number_in, same_headers}
 use Rattle.exh_file.proofs.header.Header.from_fields.Goals as goal
@@ -28,6 +28,6 @@ returns-else-is_in_range-clause-none c header read valid =
       entries = entries;
       counts = λ ward within. sym (c.read_u32_into.ensures ward (omega (arith, within, sixteen)) ∙ count_read c.args.block.now ward within);
     }) in
-    let yes = c.is_in_range.ensures.1 (subst (IsHeader first_file) same valid) in
+    let yes = c.is_in_range.ensures.1 (subst (IsHeader (file_version c.args.version)) same valid) in
     let no = c.if-is_in_range.false in
     absurd cc
