@@ -3,7 +3,9 @@ use Rattle.std.proofs.Common.{◌≡◌, ℕ, ◌+◌, ◌*◌, ◌-◌, ◌^◌
 use Rattle.std.proofs.lemmas.List.{length-append, length-take}
 use Rattle.std.proofs.lemmas.List.Sums.{sum_by-cons, sum_by-take-drop}
 use Rattle.std.proofs.lemmas.List.Folds.{flat_map-map}
+use Rattle.std.proofs.Math.Nat.{pow-le-pow_right}
 use Rattle.std.proofs.lemmas.Nat.{pow_below}
+use Rattle.exh_prefix.specs.declared.prefix.TheConstants.{LIMIT}
 use Rattle.std.proofs.lemmas.Bool.{cases_lt}
 use Rattle.std.specs.List.{AllByRecursion, flat_map, sum}
 use Rattle.std.specs.Io.KnownBytes.{Consumes, IsAtEnd}
@@ -19,10 +21,12 @@ use Rattle.exh_file.specs.declared.file_entry.FileEntry.{FileEntry}
 use Rattle.exh_file.specs.declared.file_fault.FileFault.{FileFault}
 use Rattle.exh_file.specs.declared.file_fault.FileFault.TheVariants as faults
 use Rattle.exh_file.specs.declared.header.Header.{Header}
-use Rattle.exh_file.specs.FileVersion.{FileVersion, FitsFile, first_file}
+use Rattle.exh_file.specs.FileVersion.{FileVersion, FitsFile, file_version}
 use Rattle.exh_file.specs.HeaderImage.{IsHeader, IsHeaderImage, IsPageCount}
 use Rattle.exh_file.specs.Laws.{TablesAreBlocks, TablesPass}
-use Rattle.exh_prefix.specs.Version.{first_version}
+use Rattle.exh_prefix.specs.declared.version.Version.{Version as KnownVersion}
+use Rattle.exh_prefix.specs.Layout.{layout}
+use Rattle.exh_prefix.specs.LayoutLemmas.{layout_short}
 use Rattle.exh_page_file.specs.FileTests.{End, FileFailsFirst, HeaderFails, IsFileFault, NextFails, PassesAt, bytes_from, page_places, places_behind, table_places}
 use Rattle.exh_page_file.specs.PageFile.{IsPageFile, PageFile, header_block, page_block, pages_of, table_blocks, table_bytes}
 use Rattle.exh_page_file.specs.Reading.{AreBytes, FailsInPages, FailsInTable, GivesEntries, GivesPages, IsAll, IsBlock}
@@ -49,19 +53,32 @@ pub all_counted : (version : FileVersion) (header : Header) → IsHeader version
 all_counted version header valid =
     omega (arith, sum_by-take-drop (λ (count : ℕ). count) header.page_counts (2 ^ header.settings.ward_bits), zero_sum (drop (2 ^ header.settings.ward_bits) header.page_counts) valid.others)
 
-small_sum : (limit bits : ℕ) (counts : List ℕ) → limit < 17 → AllByRecursion (IsPageCount limit bits) counts → sum counts ≤ length counts * 2 ^ 17
+small_sum : (limit bits : ℕ) (counts : List ℕ) → limit ≤ LIMIT → AllByRecursion (IsPageCount limit bits) counts → sum counts ≤ length counts * 2 ^ LIMIT
 small_sum limit bits [] small all = omega arith
 small_sum limit bits (count ∷ counts) small all =
-    omega (arith, sum_by-cons (λ (count : ℕ). count) count counts, all.0.1, pow_below (limit - bits) 17 (omega (arith, small)), small_sum limit bits counts small all.1)
+    let below : limit - bits ≤ LIMIT = omega (arith, small) in
+    let most : 2 ^ (limit - bits) ≤ 2 ^ LIMIT = pow-le-pow_right {n = 2} (omega arith) below in
+    omega (arith, sum_by-cons (λ (count : ℕ). count) count counts, all.0.1, most, small_sum limit bits counts small all.1)
 
-pub few_pages : (header : Header) → IsHeader first_file header → sum (take (2 ^ header.settings.ward_bits) header.page_counts) ≤ 2 ^ 21
-few_pages header valid =
-    omega (arith, small_sum 16 header.settings.ward_bits (take (2 ^ header.settings.ward_bits) header.page_counts) (omega arith) valid.pages, length-take (2 ^ header.settings.ward_bits) header.page_counts, valid.counts, valid.wards)
+-- a ward has at most as many pages as there are prefixes, in every version that the code knows,
+pub few_pages : (version : KnownVersion) (header : Header) → IsHeader (file_version version) header → sum (take (2 ^ header.settings.ward_bits) header.page_counts) ≤ 16 * 2 ^ LIMIT
+few_pages version header valid =
+    let counts = take (2 ^ header.settings.ward_bits) header.page_counts in
+    omega (
+      arith,
+      small_sum (layout version).limit header.settings.ward_bits counts (layout_short version) valid.pages,
+      length-take (2 ^ header.settings.ward_bits) header.page_counts,
+      valid.counts,
+      valid.wards,
+    )
+
+-- and a table as many entries
+pub few_entries : (version : KnownVersion) (header : Header) → IsHeader (file_version version) header → header.entry_count < 2 ^ LIMIT
+few_entries version header valid =
+    let most : 2 ^ (layout version).limit ≤ 2 ^ LIMIT = pow-le-pow_right {n = 2} (omega arith) (layout_short version) in
+    omega (arith, valid.entries, most)
 
 -- ---- faults
-
-pub first_file_fits : FitsFile first_file
-first_file_fits = record { number = omega arith; limit = omega arith; images = record { limit = omega arith; bytes = omega arith } }
 
 -- what was read before a fault behind the header
 pub record Headed (version : FileVersion) (old new : Option (List ℕ)) (header : Header) (block : List ℕ) : Type 0 where
@@ -160,14 +177,14 @@ pub all_pages : (wards : List (Vec Page Global)) → length (pages_in wards) ≡
 all_pages [] = refl
 all_pages (ward ∷ wards) = omega (arith, length-append ward.items (pages_in wards), sum_by-cons (λ (count : ℕ). count) (length ward.items) (map (λ ward. length ward.items) wards), all_pages wards)
 
-module _ (a b c e : Option (List ℕ)) (header : Header) (block : List ℕ) (wards : List (Vec Page Global)) (entries : List FileEntry) where
-  pub file_from : Headed first_file a b header block → GivesPages first_version (any_pseudokey header.settings.keyer) b c (pages_in wards) → GivesEntries first_version c e (table_blocks header.entry_count) entries
+module _ (version : FileVersion) (a b c e : Option (List ℕ)) (header : Header) (block : List ℕ) (wards : List (Vec Page Global)) (entries : List FileEntry) where
+  pub file_from : Headed version a b header block → GivesPages version.images (any_pseudokey header.settings.keyer) b c (pages_in wards) → GivesEntries version.images c e (table_blocks header.entry_count) entries
       → map (λ ward. length ward.items) wards ≡ take (2 ^ header.settings.ward_bits) header.page_counts → length entries ≡ header.entry_count → IsAtEnd e
-      → (bytes : List ℕ) × IsAll a bytes × AreBytes bytes × IsPageFile first_file (record { header = header; wards = map (λ ward. ward.items) wards; entries = entries }) bytes
+      → (bytes : List ℕ) × IsAll a bytes × AreBytes bytes × IsPageFile version (record { header = header; wards = map (λ ward. ward.items) wards; entries = entries }) bytes
   unfolding header_block
   file_from headed gives given counts count end =
       let blocks = flat_map page_block (pages_in wards) in
-      let table = table_bytes first_version (table_blocks header.entry_count) entries in
+      let table = table_bytes version.images (table_blocks header.entry_count) entries in
       let bytes = block ++ (blocks ++ table) in
       let pages : pages_of (map (λ ward. ward.items) wards) ≡ pages_in wards = flat_map-map (λ (ward : List Page). ward) (λ (ward : Vec Page Global). ward.items) wards in
       let consumed : Consumes a e bytes = Consumes-trans a b e block (blocks ++ table) headed.given (Consumes-trans b c e blocks table gives.given given.given) in
@@ -179,11 +196,11 @@ module _ (a b c e : Option (List ℕ)) (header : Header) (block : List ℕ) (war
           valid = record {
             header = headed.image.valid;
             counts = counted wards ∙ counts;
-            pages = subst (AllByRecursion (IsPage first_version (any_pseudokey header.settings.keyer))) (sym pages) gives.valid;
+            pages = subst (AllByRecursion (IsPage version.images (any_pseudokey header.settings.keyer))) (sym pages) gives.valid;
             count = count;
             entries = given.valid;
             rising = given.rising;
           };
-          whole = (λ i. headed.image.whole i ++ (flat_map page_block (sym pages i) ++ table_bytes first_version (table_blocks (sym count i)) entries));
+          whole = (λ i. headed.image.whole i ++ (flat_map page_block (sym pages i) ++ table_bytes version.images (table_blocks (sym count i)) entries));
         },
       )

@@ -2,10 +2,10 @@ ghost use Rattle.std.specs.Prelude.{◌≡◌, ◌+◌, ◌<◌, ◌^◌, ◌≤
 ghost use Rattle.std.specs.Option.{option_to_list};
 ghost use Rattle.std.specs.Io.KnownBytes.{Consumes, IsAtEnd};
 ghost use Rattle.exh_keyer.specs.Pseudokey.{any_pseudokey};
-ghost use Rattle.exh_prefix.specs.Version.{first_version};
+ghost use Rattle.exh_prefix.specs.Layout.{layout};
 ghost use Rattle.exh_stream.specs.Source.{ReadsFrom};
 ghost use Rattle.exh_codec.specs.PageImage.{IsImage};
-ghost use Rattle.exh_file.specs.FileVersion.{first_file};
+ghost use Rattle.exh_file.specs.FileVersion.{file_version};
 ghost use Rattle.exh_file.specs.HeaderImage.{IsHeaderImage};
 ghost use Rattle.exh_file.specs.TableImage.{AreRising, IsTableImage, prefixes_of};
 ghost use Rattle.exh_file.specs.declared.file_fault.FileFault.TheVariants.{Trailing, Truncated};
@@ -19,7 +19,7 @@ use exh_codec::{BLOCK_LEN, decode_page};
 use exh_file::{BLOCK_ENTRIES, FileEntry, FileFault, Header, decode_entries};
 use exh_keyer::AnyKeyer;
 use exh_page::Page;
-use exh_prefix::Prefix;
+use exh_prefix::{Prefix, Version};
 use exh_stream::Source;
 use std::alloc::Global;
 use std::io::Read;
@@ -44,17 +44,17 @@ impl<'r, R: Read> BlockSource<'r, R> {
         }
     }
 
-    // The header, which is the first block.
-    pub(crate) fn read_header(&mut self) -> Result<Header, ReadFileFault>
+    // The header, which is the first block, in a version.
+    pub(crate) fn read_header(&mut self, version: Version) -> Result<Header, ReadFileFault>
         requires { self.old.place + 1 < 2 ^ 32 }
         ensures place { OnOk result (self.new.place ≡ self.old.place + 1) }
-        ensures ok { IfOk result (λ header. (block : _) × Consumes (left R.remaining self.old) (left R.remaining self.new) block × IsHeaderImage first_file header block × IsBlock block) }
-        ensures err { IfErr result (IsOf (NextFails (HeaderFails first_file)) (left R.remaining self.old)) }
+        ensures ok { IfOk result (λ header. (block : _) × Consumes (left R.remaining self.old) (left R.remaining self.new) block × IsHeaderImage (file_version version) header block × IsBlock block) }
+        ensures err { IfErr result (IsOf (NextFails (HeaderFails (file_version version))) (left R.remaining self.old)) }
         ensures failed { IsErrOf result ReadFileFault.Read ↔ IsTrue (blocks_failed self.new) }
     {
         let mut block = [0; BLOCK_LEN];
         self.fill(&mut block)?;
-        match Header::from_block(&block) {
+        match Header::from_block(version, &block) {
             Ok(header) => {
                 self.place += 1;
                 Ok(header)
@@ -63,21 +63,22 @@ impl<'r, R: Read> BlockSource<'r, R> {
         }
     }
 
-    // The next page.
+    // The next page, in a version.
     pub(crate) fn read_page(
         &mut self,
         alloc: Global,
+        version: Version,
         keyer: AnyKeyer,
     ) -> Result<Page, ReadFileFault>
         requires { self.old.place + 1 < 2 ^ 32 }
         ensures place { OnOk result (self.new.place ≡ self.old.place + 1) }
-        ensures ok { IfOk result (λ page. (block : _) × Consumes (left R.remaining self.old) (left R.remaining self.new) block × IsImage first_version (any_pseudokey keyer) page block × IsBlock block) }
-        ensures err { IfErr result (IsOf (NextFails (PageFails first_version (any_pseudokey keyer) self.old.place)) (left R.remaining self.old)) }
+        ensures ok { IfOk result (λ page. (block : _) × Consumes (left R.remaining self.old) (left R.remaining self.new) block × IsImage (layout version) (any_pseudokey keyer) page block × IsBlock block) }
+        ensures err { IfErr result (IsOf (NextFails (PageFails (layout version) (any_pseudokey keyer) self.old.place)) (left R.remaining self.old)) }
         ensures failed { IsErrOf result ReadFileFault.Read ↔ IsTrue (blocks_failed self.new) }
     {
         let mut block = [0; BLOCK_LEN];
         self.fill(&mut block)?;
-        match decode_page(alloc, &keyer, &block) {
+        match decode_page(alloc, version, &keyer, &block) {
             Ok(page) => {
                 self.place += 1;
                 Ok(page)
@@ -90,21 +91,22 @@ impl<'r, R: Read> BlockSource<'r, R> {
     pub(crate) fn read_entries(
         &mut self,
         alloc: Global,
+        version: Version,
         count: usize,
         before: Option<Prefix>,
     ) -> Result<Vec<FileEntry>, ReadFileFault>
         requires place { self.old.place + 1 < 2 ^ 32 }
         requires few { count ≤ BLOCK_ENTRIES }
         ensures place { OnOk result (self.new.place ≡ self.old.place + 1) }
-        ensures ok { IfOk result (λ entries. (block : _) × Consumes (left R.remaining self.old) (left R.remaining self.new) block × IsTableImage first_version entries.items block × IsBlock block) }
+        ensures ok { IfOk result (λ entries. (block : _) × Consumes (left R.remaining self.old) (left R.remaining self.new) block × IsTableImage (layout version) entries.items block × IsBlock block) }
         ensures count { IfOk result (λ entries. vec_len entries ≡ count) }
         ensures rising { IfOk result (λ entries. AreRising (option_to_list before ++ prefixes_of entries.items)) }
-        ensures err { IfErr result (IsOf (NextFails (TableFails first_version self.old.place count before)) (left R.remaining self.old)) }
+        ensures err { IfErr result (IsOf (NextFails (TableFails (layout version) self.old.place count before)) (left R.remaining self.old)) }
         ensures failed { IsErrOf result ReadFileFault.Read ↔ IsTrue (blocks_failed self.new) }
     {
         let mut block = [0; BLOCK_LEN];
         self.fill(&mut block)?;
-        match decode_entries(alloc, &block, count, before) {
+        match decode_entries(alloc, version, &block, count, before) {
             Ok(entries) => {
                 self.place += 1;
                 Ok(entries)

@@ -1,14 +1,14 @@
 ghost use Rattle.std.specs.Prelude.{◌≡◌, ◌<◌, ◌≤◌, ◌↔◌, [], ◌∷◌, length, OnOk, OnErr, IsErr, IsTrue, IsFalse};
 ghost use Rattle.std.specs.Io.KnownBytes.{Appends};
 ghost use Rattle.exh_prefix.specs.declared.prefix.TheConstants.{LIMIT};
-ghost use Rattle.exh_prefix.specs.Version.{first_version};
+ghost use Rattle.exh_prefix.specs.Layout.{written_version};
 ghost use Rattle.exh_stream.specs.Output.{AppendsBeginning, Takes, TakesBeginning};
 ghost use Rattle.exh_page.specs.declared.page.TheConstants.{CAP_LIMIT};
 ghost use Rattle.exh_page.specs.Page.{records_of};
 ghost use Rattle.exh_codec.specs.declared.block.TheConstants.{CONTENT_LEN};
 ghost use Rattle.exh_codec.specs.Block.{sealed};
 ghost use Rattle.exh_codec.specs.PageImage.{IsInRange, padded};
-ghost use Rattle.exh_file.specs.FileVersion.{first_file};
+ghost use Rattle.exh_file.specs.FileVersion.{written_file};
 ghost use Rattle.exh_file.specs.HeaderImage.{IsHeader};
 ghost use Rattle.exh_file.specs.TableImage.{IsFileEntry};
 ghost use Rattle.exh_page_file.specs.PageFile.{header_block, page_block};
@@ -21,7 +21,7 @@ use exh_page::Page;
 use exh_stream::{Output, WriteFault};
 use std::io::Write;
 
-/// A page file of the first version on its way to a writer, which gets it in blocks, and nothing more
+/// A page file of the version that is written, on its way to a writer, which gets it in blocks, and nothing more
 /// once it has failed. First the header is written, then the pages of each ward in the order of their
 /// numbers, ward 0 first, then the entries of the table in rising order of their prefixes, and
 /// [`finish`](FileWriter::finish) ends it. It takes no memory.
@@ -48,10 +48,10 @@ impl<'w, W: Write> FileWriter<'w, W> {
     /// Writes the header's block. On an `Err` the writer failed, now or before, and got a beginning of
     /// what it was due.
     pub fn write_header(&mut self, header: &Header) -> Result<(), WriteFault>
-        requires { IsHeader first_file header.now }
+        requires { IsHeader written_file header.now }
         ensures same_target { SameTarget self.old self.new }
-        ensures ok { OnOk result (TakesBlocks W.contents self.old self.new (header_block first_file header.now)) }
-        ensures err { OnErr result (TakesBlocksBeginning W.contents self.old self.new (header_block first_file header.now)) }
+        ensures ok { OnOk result (TakesBlocks W.contents self.old self.new (header_block written_file header.now)) }
+        ensures err { OnErr result (TakesBlocksBeginning W.contents self.old self.new (header_block written_file header.now)) }
         ensures failed { IsErr result ↔ IsTrue (file_failed self.new) }
         ensures closed { IsTrue (file_failed self.old) → IsErr result × TargetUntouched self.old self.new }
     {
@@ -65,7 +65,7 @@ impl<'w, W: Write> FileWriter<'w, W> {
         ensures same_target { SameTarget self.old self.new }
         ensures ok { OnOk result (TakesBlocks W.contents self.old self.new (page_block page.now)) }
         // The types of a page hold no others.
-        ensures in_range { IsInRange first_version page.now }
+        ensures in_range { IsInRange written_version page.now }
         ensures err { OnErr result (TakesBlocksBeginning W.contents self.old self.new (page_block page.now)) }
         ensures failed { IsErr result ↔ IsTrue (file_failed self.new) }
         ensures closed { IsTrue (file_failed self.old) → IsErr result × TargetUntouched self.old self.new }
@@ -81,10 +81,10 @@ impl<'w, W: Write> FileWriter<'w, W> {
     pub fn write_entry(&mut self, item: &FileEntry) -> Result<(), WriteFault>
         requires { length item.now.prefix < LIMIT }
         ensures same_target { SameTarget self.old self.new }
-        ensures ok { OnOk result (TakesEntries W.contents first_version self.old self.new (item.now ∷ [])) }
+        ensures ok { OnOk result (TakesEntries W.contents written_version self.old self.new (item.now ∷ [])) }
         // The types of an entry hold no others.
-        ensures valid { IsFileEntry first_version item.now }
-        ensures err { OnErr result (TakesEntriesBeginning W.contents first_version self.old self.new (item.now ∷ [])) }
+        ensures valid { IsFileEntry written_version item.now }
+        ensures err { OnErr result (TakesEntriesBeginning W.contents written_version self.old self.new (item.now ∷ [])) }
         ensures failed { IsErr result ↔ IsTrue (file_failed self.new) }
         ensures closed { IsTrue (file_failed self.old) → IsErr result × TargetUntouched self.old self.new }
     {

@@ -1,7 +1,7 @@
 ghost use Rattle.std.specs.Prelude.{◌≡◌, ◌+◌, ◌<◌, ◌^◌, [], ◌∷◌, ◌++◌, ◌↔◌, length, map, IfOk, OnOk, IfErr, IsErrOf, IsTrue, IsFalse};
 ghost use Rattle.std.specs.List.{sum};
 ghost use Rattle.exh_keyer.specs.Pseudokey.{any_pseudokey};
-ghost use Rattle.exh_prefix.specs.Version.{first_version};
+ghost use Rattle.exh_prefix.specs.Layout.{layout};
 ghost use Rattle.exh_page_file.specs.FileParts.{pages_in};
 ghost use Rattle.exh_page_file.specs.Reading.{FailsInPages, GivesPages, IsOf, blocks_failed, left};
 
@@ -9,6 +9,7 @@ use crate::ReadFileFault;
 use crate::block_source::BlockSource;
 use exh_keyer::AnyKeyer;
 use exh_page::Page;
+use exh_prefix::Version;
 use std::alloc::{AllocError, Global};
 use std::io::Read;
 
@@ -16,6 +17,7 @@ use std::io::Read;
 pub(crate) fn read_wards<R: Read>(
     alloc: Global,
     blocks: &mut BlockSource<'_, R>,
+    version: Version,
     keyer: AnyKeyer,
     counts: &[u32],
 ) -> Result<Vec<Vec<Page>>, ReadFileFault>
@@ -24,14 +26,14 @@ pub(crate) fn read_wards<R: Read>(
     ensures place { OnOk result (blocks.new.place ≡ blocks.old.place + sum counts.now) }
     ensures counts { IfOk result (λ wards. map (λ ward. length ward.items) wards.items ≡ counts.now) }
     ensures given { IfOk result (λ wards.
-        GivesPages first_version (any_pseudokey keyer) (left R.remaining blocks.old) (left R.remaining blocks.new) (pages_in wards.items)) }
+        GivesPages (layout version) (any_pseudokey keyer) (left R.remaining blocks.old) (left R.remaining blocks.new) (pages_in wards.items)) }
     ensures err { IfErr result (IsOf
-        (FailsInPages first_version (any_pseudokey keyer) blocks.old.place (sum counts.now)) (left R.remaining blocks.old)) }
+        (FailsInPages (layout version) (any_pseudokey keyer) blocks.old.place (sum counts.now)) (left R.remaining blocks.old)) }
     ensures failed { IsErrOf result ReadFileFault.Read ↔ IsTrue (blocks_failed blocks.new) }
 {
     let mut wards = Vec::new(alloc);
     for count in counts {
-        let pages = read_pages(alloc, blocks, keyer, *count)?;
+        let pages = read_pages(alloc, blocks, version, keyer, *count)?;
         push(&mut wards, pages)?;
     }
     Ok(wards)
@@ -41,6 +43,7 @@ pub(crate) fn read_wards<R: Read>(
 fn read_pages<R: Read>(
     alloc: Global,
     blocks: &mut BlockSource<'_, R>,
+    version: Version,
     keyer: AnyKeyer,
     count: u32,
 ) -> Result<Vec<Page>, ReadFileFault>
@@ -49,14 +52,14 @@ fn read_pages<R: Read>(
     ensures place { OnOk result (blocks.new.place ≡ blocks.old.place + count) }
     ensures count { IfOk result (λ pages. length pages.items ≡ count) }
     ensures given { IfOk result (λ pages.
-        GivesPages first_version (any_pseudokey keyer) (left R.remaining blocks.old) (left R.remaining blocks.new) pages.items) }
+        GivesPages (layout version) (any_pseudokey keyer) (left R.remaining blocks.old) (left R.remaining blocks.new) pages.items) }
     ensures err { IfErr result (IsOf
-        (FailsInPages first_version (any_pseudokey keyer) blocks.old.place count) (left R.remaining blocks.old)) }
+        (FailsInPages (layout version) (any_pseudokey keyer) blocks.old.place count) (left R.remaining blocks.old)) }
     ensures failed { IsErrOf result ReadFileFault.Read ↔ IsTrue (blocks_failed blocks.new) }
 {
     let mut pages = Vec::new(alloc);
     for number in 0..count {
-        let page = blocks.read_page(alloc, keyer)?;
+        let page = blocks.read_page(alloc, version, keyer)?;
         push(&mut pages, page)?;
     }
     Ok(pages)

@@ -1,12 +1,12 @@
 ghost use Rattle.std.specs.Prelude.{◌≡◌, ◌+◌, ◌<◌, ◌^◌, ◌++◌, ◌↔◌, length, None, IfOk, IfErr, OnOk, IsErrOf, IsTrue, IsFalse};
-ghost use Rattle.exh_prefix.specs.Version.{first_version};
+ghost use Rattle.exh_prefix.specs.Layout.{layout};
 ghost use Rattle.exh_page_file.specs.PageFile.{table_blocks};
 ghost use Rattle.exh_page_file.specs.Reading.{FailsInTable, GivesEntries, IsOf, blocks_failed, last_prefix, left};
 
 use crate::ReadFileFault;
 use crate::block_source::BlockSource;
 use exh_file::{BLOCK_ENTRIES, FileEntry};
-use exh_prefix::Prefix;
+use exh_prefix::{Prefix, Version};
 use std::alloc::{AllocError, Global};
 use std::io::Read;
 
@@ -14,6 +14,7 @@ use std::io::Read;
 pub(crate) fn read_table<R: Read>(
     alloc: Global,
     blocks: &mut BlockSource<'_, R>,
+    version: Version,
     count: usize,
 ) -> Result<Vec<FileEntry>, ReadFileFault>
     requires place { blocks.old.place + table_blocks count < 2 ^ 32 }
@@ -21,15 +22,15 @@ pub(crate) fn read_table<R: Read>(
     requires open { IsFalse (blocks_failed blocks.old) }
     ensures count { IfOk result (λ entries. length entries.items ≡ count) }
     ensures given { IfOk result (λ entries.
-        GivesEntries first_version (left R.remaining blocks.old) (left R.remaining blocks.new) (table_blocks count) entries.items) }
-    ensures err { IfErr result (IsOf (FailsInTable first_version blocks.old.place count) (left R.remaining blocks.old)) }
+        GivesEntries (layout version) (left R.remaining blocks.old) (left R.remaining blocks.new) (table_blocks count) entries.items) }
+    ensures err { IfErr result (IsOf (FailsInTable (layout version) blocks.old.place count) (left R.remaining blocks.old)) }
     ensures failed { IsErrOf result ReadFileFault.Read ↔ IsTrue (blocks_failed blocks.new) }
 {
     let mut entries = Vec::new(alloc);
     for number in 0..(count + (BLOCK_ENTRIES - 1)) / BLOCK_ENTRIES {
         let more = BLOCK_ENTRIES.min(count - BLOCK_ENTRIES * number);
         let before = last_prefix(&entries);
-        let next = blocks.read_entries(alloc, more, before)?;
+        let next = blocks.read_entries(alloc, version, more, before)?;
         append(&mut entries, &next)?;
     }
     Ok(entries)

@@ -1,6 +1,6 @@
 ghost use Rattle.std.specs.Prelude.{◌≡◌, ◌^◌, ◌≤◌, ◌↔◌, List, ℕ, Some, IfOk, IfErr, IsErrOf, IsFalse, IsTrue, MatchResult};
-ghost use Rattle.exh_file.specs.FileVersion.{first_file};
-ghost use Rattle.exh_file.specs.HeaderImage.{IsHeader};
+ghost use Rattle.exh_file.specs.FileVersion.{file_version, first_file};
+ghost use Rattle.exh_file.specs.declared.header.TheConstants.{COUNTS_LEN};
 ghost use Rattle.exh_page_file.specs.FileParts.{file_of};
 ghost use Rattle.exh_page_file.specs.FileTests.{IsFileFault};
 ghost use Rattle.exh_page_file.specs.PageFile.{IsPageFile, PageFile};
@@ -11,6 +11,7 @@ use crate::read_pages::read_wards;
 use crate::read_table::read_table;
 use crate::{FileParts, ReadFileFault, files_pass, one_file};
 use exh_file::Header;
+use exh_prefix::Version;
 use std::alloc::Global;
 use std::io::Read;
 
@@ -27,28 +28,29 @@ pub fn read_file<R: Read>(alloc: Global, reader: &mut R) -> Result<FileParts, Re
 {
     one_file();
     files_pass();
-    read_parts(alloc, &mut BlockSource::new(reader))
+    read_parts(alloc, Version::First, &mut BlockSource::new(reader))
 }
 
-// The parts that the blocks of a file say.
+// The parts that the blocks of a file of a version say.
 fn read_parts<R: Read>(
     alloc: Global,
+    version: Version,
     blocks: &mut BlockSource<'_, R>,
 ) -> Result<FileParts, ReadFileFault>
     requires place { blocks.old.place ≡ 0 }
     requires open { IsFalse (blocks_failed blocks.old) }
-    ensures parts { IfOk result (λ parts. (bytes : List ℕ) × IsAll (left R.remaining blocks.old) bytes × AreBytes bytes × IsPageFile first_file (file_of parts) bytes) }
-    ensures fault { IfErr result (IsOf (IsFileFault first_file) (left R.remaining blocks.old)) }
+    ensures parts { IfOk result (λ parts. (bytes : List ℕ) × IsAll (left R.remaining blocks.old) bytes × AreBytes bytes × IsPageFile (file_version version) (file_of parts) bytes) }
+    ensures fault { IfErr result (IsOf (IsFileFault (file_version version)) (left R.remaining blocks.old)) }
     ensures failed { IsErrOf result ReadFileFault.Read ↔ IsTrue (blocks_failed blocks.new) }
 {
     exh_codec::images_pass();
     exh_codec::images_are_blocks();
     exh_file::images_pass();
     exh_file::images_are_blocks();
-    let header = blocks.read_header()?;
+    let header = blocks.read_header(version)?;
     let counts = &header.page_counts[..wards_of(&header)];
-    let wards = read_wards(alloc, blocks, header.settings.keyer, counts)?;
-    let entries = read_table(alloc, blocks, header.entry_count as usize)?;
+    let wards = read_wards(alloc, blocks, version, header.settings.keyer, counts)?;
+    let entries = read_table(alloc, blocks, version, header.entry_count as usize)?;
     blocks.read_end()?;
     Ok(FileParts {
         header,
@@ -59,7 +61,7 @@ fn read_parts<R: Read>(
 
 // How many wards a file has.
 fn wards_of(header: &Header) -> usize
-    requires { IsHeader first_file header.now }
+    requires { 2 ^ header.now.settings.ward_bits ≤ COUNTS_LEN }
     ensures power { result ≡ 2 ^ header.now.settings.ward_bits }
     ensures few { result ≤ 16 }
 {

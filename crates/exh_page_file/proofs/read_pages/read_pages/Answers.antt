@@ -1,6 +1,6 @@
 use Rattle.std.proofs.Common.{rules, ◌≡◌, ◌+◌, ◌∷◌, [], ◌++◌, ℕ, length, sym, ap, subst, arith}
 use Rattle.std.proofs.lemmas.List.{length-append}
-use Rattle.exh_prefix.specs.Version.{first_version}
+use Rattle.exh_prefix.specs.Layout.{layout}
 use Rattle.exh_keyer.specs.Pseudokey.{any_pseudokey}
 use Rattle.exh_page_file.specs.FileTests.{NextFails, PageFails}
 use Rattle.exh_page_file.specs.Reading.{FailsInPages, GivesPages, IsOf}
@@ -15,10 +15,10 @@ returns-in_err-page-clause-err g c =
     let pages = c.loop-number.pages.items in
     let fails = c.in_err-page.ensures.err in
     let there : c.loop-number.blocks.place ≡ place + length pages = omega (arith, c.loop-number.invariant.place, c.loop-number.invariant.some) in
-    err_is c.from_residual.result c.in_err-page.field-0.0 (IsOf (FailsInPages first_version pseudo place c.args.count) known) c.from_residual.ensures.1
-    (of_later (NextFails (PageFails first_version pseudo (place + length pages))) (FailsInPages first_version pseudo place c.args.count) known _ c.in_err-page.field-0.0
-    (λ fault. fails_next first_version pseudo known _ place c.args.count pages fault (omega (arith, c.loop-number.invariant.some, c.loop-number-test.true)) c.loop-number.invariant.given)
-    (subst (λ (place : ℕ). IsOf (NextFails (PageFails first_version pseudo place)) (g.R.Read.remaining c.loop-number.blocks.source.reader.now) c.in_err-page.field-0.0) there fails))
+    err_is c.from_residual.result c.in_err-page.field-0.0 (IsOf (FailsInPages (layout c.args.version) pseudo place c.args.count) known) c.from_residual.ensures.1
+    (of_later (NextFails (PageFails (layout c.args.version) pseudo (place + length pages))) (FailsInPages (layout c.args.version) pseudo place c.args.count) known _ c.in_err-page.field-0.0
+    (λ fault. fails_next (layout c.args.version) pseudo known _ place c.args.count pages fault (omega (arith, c.loop-number.invariant.some, c.loop-number-test.true)) c.loop-number.invariant.given)
+    (subst (λ (place : ℕ). IsOf (NextFails (PageFails (layout c.args.version) pseudo place)) (g.R.Read.remaining c.loop-number.blocks.source.reader.now) c.in_err-page.field-0.0) there fails))
 
 pub loop-number-preserved : goal.loop-number-preserved
 loop-number-preserved g c =
@@ -30,6 +30,6 @@ loop-number-preserved g c =
       unfailed = search rules;
       place = omega (arith, c.loop-number.invariant.place, c.in_ok-page.ensures.place);
       some = omega (arith, ap length pushed, length-append pages (c.in_ok-page.page ∷ []), c.loop-number.invariant.some);
-      given = subst (GivesPages first_version pseudo _ _) (sym pushed)
-          (more_pages first_version pseudo _ _ _ pages (c.in_ok-page.page ∷ []) c.loop-number.invariant.given (one_page first_version pseudo _ _ c.in_ok-page.page read.0 read.1 read.2 read.3));
+      given = subst (GivesPages (layout c.args.version) pseudo _ _) (sym pushed)
+          (more_pages (layout c.args.version) pseudo _ _ _ pages (c.in_ok-page.page ∷ []) c.loop-number.invariant.given (one_page (layout c.args.version) pseudo _ _ c.in_ok-page.page read.0 read.1 read.2 read.3));
     }

@@ -1,6 +1,6 @@
 use Rattle.std.proofs.Common.{◌≡◌, ◌+◌, length}
 use Rattle.std.specs.Prelude.{IsFalse}
-use Rattle.exh_prefix.specs.Version.{first_version}
+use Rattle.exh_prefix.specs.Layout.{layout}
 use Rattle.exh_keyer.specs.Pseudokey.{any_pseudokey}
 use Rattle.exh_page_file.specs.Reading.{GivesPages, blocks_failed, left}
 use Rattle.exh_page_file.proofs.read_pages.read_pages.Given as goal
@@ -10,5 +10,5 @@ invariant-loop-number g l = record {
   unfailed : IsFalse (blocks_failed l.blocks);
   place : l.blocks.place ≡ l.initial.blocks.place + l.number;
   some : length l.pages.items ≡ l.number;
-  given : GivesPages first_version (any_pseudokey l.keyer) (left g.R.Read.remaining l.initial.blocks) (left g.R.Read.remaining l.blocks) l.pages.items;
+  given : GivesPages (layout l.fn.version) (any_pseudokey l.keyer) (left g.R.Read.remaining l.initial.blocks) (left g.R.Read.remaining l.blocks) l.pages.items;
 }

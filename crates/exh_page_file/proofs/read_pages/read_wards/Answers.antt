@@ -1,6 +1,6 @@
 use Rattle.std.proofs.Common.{◌≡◌, ◌+◌, ◌≤◌, length, take, get_or, arith}
 use Rattle.std.specs.List.{sum}
-use Rattle.exh_prefix.specs.Version.{first_version}
+use Rattle.exh_prefix.specs.Layout.{layout}
 use Rattle.exh_keyer.specs.Pseudokey.{any_pseudokey}
 use Rattle.exh_page_file.specs.FileParts.{pages_in}
 use Rattle.exh_page_file.specs.Reading.{FailsInPages, IsOf}
@@ -17,7 +17,7 @@ returns-in_err-pages-clause-err g c =
     let i = c.loop-count.count-index in
     let within : sum (take i counts) + get_or counts i 0 ≤ sum counts = sum_more_le counts i (omega arith) in
     let there : c.loop-count.blocks.place ≡ place + length pages = omega (arith, c.loop-count.invariant.place, c.loop-count.invariant.some) in
-    err_is c.from_residual.result c.in_err-pages.field-0.0 (IsOf (FailsInPages first_version pseudo place (sum counts)) known) c.from_residual.ensures.1
-    (of_later (FailsInPages first_version pseudo c.loop-count.blocks.place (get_or counts i 0)) (FailsInPages first_version pseudo place (sum counts)) known _ c.in_err-pages.field-0.0
-    (λ fault. fails_later first_version pseudo known _ place (sum counts) c.loop-count.blocks.place (get_or counts i 0) pages fault c.loop-count.invariant.given there (omega (arith, within, c.loop-count.invariant.some)))
+    err_is c.from_residual.result c.in_err-pages.field-0.0 (IsOf (FailsInPages (layout c.args.version) pseudo place (sum counts)) known) c.from_residual.ensures.1
+    (of_later (FailsInPages (layout c.args.version) pseudo c.loop-count.blocks.place (get_or counts i 0)) (FailsInPages (layout c.args.version) pseudo place (sum counts)) known _ c.in_err-pages.field-0.0
+    (λ fault. fails_later (layout c.args.version) pseudo known _ place (sum counts) c.loop-count.blocks.place (get_or counts i 0) pages fault c.loop-count.invariant.given there (omega (arith, within, c.loop-count.invariant.some)))
     c.in_err-pages.ensures.err)

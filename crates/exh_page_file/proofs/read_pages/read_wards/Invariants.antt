@@ -1,7 +1,7 @@
 use Rattle.std.proofs.Common.{◌≡◌, ◌+◌, length, map, take}
 use Rattle.std.specs.Prelude.{IsFalse}
 use Rattle.std.specs.List.{sum}
-use Rattle.exh_prefix.specs.Version.{first_version}
+use Rattle.exh_prefix.specs.Layout.{layout}
 use Rattle.exh_keyer.specs.Pseudokey.{any_pseudokey}
 use Rattle.exh_page_file.specs.FileParts.{pages_in}
 use Rattle.exh_page_file.specs.Reading.{GivesPages, blocks_failed, left}
@@ -13,5 +13,5 @@ invariant-loop-count g l = record {
   place : l.blocks.place ≡ l.initial.blocks.place + sum (take l.count-index l.counts);
   some : length (pages_in l.wards.items) ≡ sum (take l.count-index l.counts);
   counts : map (λ ward. length ward.items) l.wards.items ≡ take l.count-index l.counts;
-  given : GivesPages first_version (any_pseudokey l.keyer) (left g.R.Read.remaining l.initial.blocks) (left g.R.Read.remaining l.blocks) (pages_in l.wards.items);
+  given : GivesPages (layout l.fn.version) (any_pseudokey l.keyer) (left g.R.Read.remaining l.initial.blocks) (left g.R.Read.remaining l.blocks) (pages_in l.wards.items);
 }

@@ -1,7 +1,7 @@
 use Rattle.std.proofs.Common.{rules, ◌≡◌, ◌+◌, ◌-◌, ◌*◌, ◌<◌, ◌++◌, ℕ, Bool, List, Option, None, min, length, sym, ap, ◌∙◌, subst, arith}
 use Rattle.std.proofs.lemmas.List.{length-append}
 use Rattle.std.specs.Option.{option_to_list}
-use Rattle.exh_prefix.specs.Version.{first_version}
+use Rattle.exh_prefix.specs.Layout.{layout}
 use Rattle.exh_file.specs.declared.file_entry.FileEntry.{FileEntry}
 use Rattle.exh_file.specs.TableImage.{AreRising, prefixes_of}
 use Rattle.exh_page_file.specs.FileTests.{NextFails, TableFails}
@@ -23,13 +23,13 @@ returns-in_err-next-clause-err g c =
     let before : c.last_prefix-before.result ≡ last_prefix None entries = c.last_prefix-before.ensures ∙ ap (last_prefix None) c.deref.ensures.value in
     let later = g.R.Read.remaining c.loop-number.blocks.source.reader.now in
     let fault = c.in_err-next.field-0.0 in
-    let fails : IsOf (NextFails (TableFails first_version (place + number) (min 254 (count - length entries)) (last_prefix None entries))) later fault =
-    subst (λ (before : Option (List Bool)). IsOf (NextFails (TableFails first_version (place + number) (min 254 (count - length entries)) before)) later fault) before
-    (subst (λ (more : ℕ). IsOf (NextFails (TableFails first_version (place + number) more c.last_prefix-before.result)) later fault) more
-    (subst (λ (place : ℕ). IsOf (NextFails (TableFails first_version place c.min-more.result c.last_prefix-before.result)) later fault) c.loop-number.invariant.place c.in_err-next.ensures.err)) in
-    err_is c.from_residual.result fault (IsOf (FailsInTable first_version place count) known) c.from_residual.ensures.1
-    (of_later (NextFails (TableFails first_version (place + number) (min 254 (count - length entries)) (last_prefix None entries))) (FailsInTable first_version place count) known later fault
-    (λ fault. fails_next first_version known later place count number entries fault (omega (arith, full, inside)) full c.loop-number.invariant.given) fails)
+    let fails : IsOf (NextFails (TableFails (layout c.args.version) (place + number) (min 254 (count - length entries)) (last_prefix None entries))) later fault =
+    subst (λ (before : Option (List Bool)). IsOf (NextFails (TableFails (layout c.args.version) (place + number) (min 254 (count - length entries)) before)) later fault) before
+    (subst (λ (more : ℕ). IsOf (NextFails (TableFails (layout c.args.version) (place + number) more c.last_prefix-before.result)) later fault) more
+    (subst (λ (place : ℕ). IsOf (NextFails (TableFails (layout c.args.version) place c.min-more.result c.last_prefix-before.result)) later fault) c.loop-number.invariant.place c.in_err-next.ensures.err)) in
+    err_is c.from_residual.result fault (IsOf (FailsInTable (layout c.args.version) place count) known) c.from_residual.ensures.1
+    (of_later (NextFails (TableFails (layout c.args.version) (place + number) (min 254 (count - length entries)) (last_prefix None entries))) (FailsInTable (layout c.args.version) place count) known later fault
+    (λ fault. fails_next (layout c.args.version) known later place count number entries fault (omega (arith, full, inside)) full c.loop-number.invariant.given) fails)
 
 pub loop-number-preserved : goal.loop-number-preserved
 loop-number-preserved g c =
@@ -47,7 +47,7 @@ loop-number-preserved g c =
       unfailed = search rules;
       place = omega (arith, c.loop-number.invariant.place, c.in_ok-next.ensures.place);
       some = omega (arith, ap length joined, length-append entries next, full, more, inside);
-      given = subst (GivesEntries first_version _ _ (number + 1)) (sym joined)
-          (more_entries first_version _ _ _ number entries next read.0 full c.loop-number.invariant.given read.1 read.2 read.3
+      given = subst (GivesEntries (layout c.args.version) _ _ (number + 1)) (sym joined)
+          (more_entries (layout c.args.version) _ _ _ number entries next read.0 full c.loop-number.invariant.given read.1 read.2 read.3
           (subst (λ (before : Option (List Bool)). AreRising (option_to_list before ++ prefixes_of next)) before c.in_ok-next.ensures.rising));
     }

@@ -1,6 +1,6 @@
 use Rattle.std.proofs.Common.{◌≡◌, ◌+◌, ◌*◌, min, length}
 use Rattle.std.specs.Prelude.{IsFalse}
-use Rattle.exh_prefix.specs.Version.{first_version}
+use Rattle.exh_prefix.specs.Layout.{layout}
 use Rattle.exh_page_file.specs.Reading.{GivesEntries, blocks_failed, left}
 use Rattle.exh_page_file.proofs.read_table.read_table.Given as goal
 
@@ -9,5 +9,5 @@ invariant-loop-number g l = record {
   unfailed : IsFalse (blocks_failed l.blocks);
   place : l.blocks.place ≡ l.initial.blocks.place + l.number;
   some : length l.entries.items ≡ min (254 * l.number) l.count;
-  given : GivesEntries first_version (left g.R.Read.remaining l.initial.blocks) (left g.R.Read.remaining l.blocks) l.number l.entries.items;
+  given : GivesEntries (layout l.fn.version) (left g.R.Read.remaining l.initial.blocks) (left g.R.Read.remaining l.blocks) l.number l.entries.items;
 }

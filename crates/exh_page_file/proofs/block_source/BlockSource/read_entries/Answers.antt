@@ -1,5 +1,5 @@
 use Rattle.std.proofs.Common.{ℕ, refl, sym, ap, ◌∙◌, subst}
-use Rattle.exh_prefix.specs.Version.{first_version}
+use Rattle.exh_prefix.specs.Layout.{layout}
 use Rattle.exh_page_file.specs.FileTests.{NextFails, TableFails}
 use Rattle.exh_page_file.specs.ReadFileFault.{fault_at}
 use Rattle.exh_page_file.specs.Reading.{IsOf}
@@ -11,7 +11,7 @@ returns-in-Ok-clause-ok g c = (c.fill.new.block, c.in_ok-fill.ensures.ok, c.in-O
 
 pub returns-in-Err-clause-err : goal.returns-in-Err-clause-err
 returns-in-Err-clause-err g c =
-    let Fails = TableFails first_version c.args.self.now.place c.args.count c.args.before in
+    let Fails = TableFails (layout c.args.version) c.args.self.now.place c.args.count c.args.before in
     let fault = c.in-Err.fault in
     subst (IsOf (NextFails Fails) _) (sym (c.at_place.ensures ∙ ap (λ (place : ℕ). fault_at place fault) c.fill.ensures.place))
     (fault_of (NextFails Fails) _ _ fault (λ other. block_fails Fails _ _ c.fill.new.block _ c.in_ok-fill.ensures.ok c.in_ok-fill.ensures.block.0 (fault, c.in-Err.ensures.fault other, refl)))

@@ -1,10 +1,10 @@
-use Rattle.exh_file.specs.FileVersion.{first_file}
+use Rattle.exh_file.specs.FileVersion.{file_version}
 use Rattle.exh_page_file.specs.FileTests.{HeaderFails}
 use Rattle.exh_page_file.proofs.Blocks.{block_fails}
 use Rattle.exh_page_file.proofs.block_source.BlockSource.read_header.Goals as goal
 
 pub returns-in-Err-clause-err : goal.returns-in-Err-clause-err
-returns-in-Err-clause-err g c = block_fails (HeaderFails first_file) _ _ c.fill.new.block c.in-Err.fault c.in_ok-fill.ensures.ok c.in_ok-fill.ensures.block.0 c.in-Err.ensures.fault
+returns-in-Err-clause-err g c = block_fails (HeaderFails (file_version c.args.version)) _ _ c.fill.new.block c.in-Err.fault c.in_ok-fill.ensures.ok c.in_ok-fill.ensures.block.0 c.in-Err.ensures.fault
 
 pub returns-in-Ok-clause-ok : goal.returns-in-Ok-clause-ok
 returns-in-Ok-clause-ok g c = (c.fill.new.block, c.in_ok-fill.ensures.ok, c.in-Ok.ensures.header, c.in_ok-fill.ensures.block)

@@ -1,5 +1,5 @@
 use Rattle.std.proofs.Common.{ℕ, refl, sym, ap, ◌∙◌, subst}
-use Rattle.exh_prefix.specs.Version.{first_version}
+use Rattle.exh_prefix.specs.Layout.{layout}
 use Rattle.exh_keyer.specs.Pseudokey.{any_pseudokey}
 use Rattle.exh_page_file.specs.FileTests.{NextFails, PageFails}
 use Rattle.exh_page_file.specs.ReadFileFault.{fault_at}
@@ -12,7 +12,7 @@ returns-in-Ok-clause-ok g c = (c.fill.new.block, c.in_ok-fill.ensures.ok, c.in-O
 
 pub returns-in-Err-clause-err : goal.returns-in-Err-clause-err
 returns-in-Err-clause-err g c =
-    let Fails = PageFails first_version (any_pseudokey c.args.keyer) c.args.self.now.place in
+    let Fails = PageFails (layout c.args.version) (any_pseudokey c.args.keyer) c.args.self.now.place in
     let fault = c.in-Err.fault in
     subst (IsOf (NextFails Fails) _) (sym (c.at_place.ensures ∙ ap (λ (place : ℕ). fault_at place fault) c.fill.ensures.place))
     (fault_of (NextFails Fails) _ _ fault (λ other. block_fails Fails _ _ c.fill.new.block _ c.in_ok-fill.ensures.ok c.in_ok-fill.ensures.block.0 (fault, c.in-Err.ensures.fault other, refl)))
