@@ -1,7 +1,7 @@
 -- Pages that stand as images, and what is seen of them.
 use Rattle.std.specs.Prelude.{ℕ, ◌^◌, ◌<◌, List, length, map}
 use Rattle.std.specs.List.{AllByRecursion}
-use Rattle.exh_prefix.specs.Version.{first_version}
+use Rattle.exh_prefix.specs.Layout.{written_version}
 use Rattle.exh_page.specs.declared.page.Page.{Page}
 use Rattle.exh_codec.specs.PageImage.{IsLaidOut}
 use Rattle.exh_codec.specs.PageOf.{page_of}
@@ -9,11 +9,11 @@ use Rattle.exh_images.specs.declared.image.Image.{Image}
 
 -- the page that an image is read as
 abbrev pub page_in : (List ℕ → ℕ) → Image → Page
-page_in pseudo image = page_of first_version pseudo image.block
+page_in pseudo image = page_of written_version pseudo image.block
 
 -- the image was laid out for that page
 abbrev pub IsLaid : (List ℕ → ℕ) → Image → Type 0
-IsLaid pseudo image = IsLaidOut first_version pseudo (page_in pseudo image) image.block
+IsLaid pseudo image = IsLaidOut written_version pseudo (page_in pseudo image) image.block
 
 abbrev pub pages_in : (List ℕ → ℕ) → List Image → List Page
 pages_in pseudo images = map (page_in pseudo) images

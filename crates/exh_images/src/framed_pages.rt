@@ -1,6 +1,6 @@
 ghost use Rattle.std.specs.Prelude.{◌≡◌, ◌↔◌, ◌-◌, ◌<◌, ◌^◌, [], ◌∷◌, ◌++◌, length, remove, slice_set, IsSome, IfOk, OnOk, OnErr, IsErrOf};
 ghost use Rattle.std.specs.List.{AllByRecursion};
-ghost use Rattle.exh_prefix.specs.Version.{first_version};
+ghost use Rattle.exh_prefix.specs.Layout.{written_version};
 ghost use Rattle.exh_codec.specs.PageImage.{IsImage};
 ghost use Rattle.exh_page.specs.declared.page.Page.{Page as PageType};
 ghost use Rattle.exh_page.specs.Page.{IsLive, IsWellFormed, records_of, with_records};
@@ -82,9 +82,9 @@ impl<K: Keyer> FramedPages<K> {
     /// where memory is refused, and its pages are as before.
     pub fn add_image(&mut self, block: &[u8; BLOCK_LEN]) -> Result<(), AllocError>
         requires room { length self.old.pages < 2 ^ 32 - 1 }
-        requires image { (page : PageType) × IsImage first_version (K.pseudokey_of self.old.keyer) page block.now }
+        requires image { (page : PageType) × IsImage written_version (K.pseudokey_of self.old.keyer) page block.now }
         ensures keyer { self.new.keyer ≡ self.old.keyer }
-        ensures ok { OnOk result ((page : PageType) → IsImage first_version (K.pseudokey_of self.old.keyer) page block.now → self.new.pages ≡ self.old.pages ++ page ∷ []) }
+        ensures ok { OnOk result ((page : PageType) → IsImage written_version (K.pseudokey_of self.old.keyer) page block.now → self.new.pages ≡ self.old.pages ++ page ∷ []) }
         ensures err { OnErr result (self.new.pages ≡ self.old.pages) }
     {
         self.images.add_block(block)
@@ -94,7 +94,7 @@ impl<K: Keyer> FramedPages<K> {
     /// no memory.
     pub fn image(&self, number: PageNo) -> [u8; BLOCK_LEN]
         requires { number < length self.now.pages }
-        ensures { IfPage self.now.pages number (λ page. IsImage first_version (K.pseudokey_of self.now.keyer) page result) }
+        ensures { IfPage self.now.pages number (λ page. IsImage written_version (K.pseudokey_of self.now.keyer) page result) }
     {
         self.images.block(number)
     }

@@ -1,5 +1,5 @@
 ghost use Rattle.std.specs.Prelude.{ℕ, ◌≡◌, ◌≤◌, List, length, take, true};
-ghost use Rattle.exh_prefix.specs.Version.{first_version};
+ghost use Rattle.exh_prefix.specs.Layout.{written_version};
 ghost use Rattle.exh_codec.specs.declared.block.TheConstants.{CONTENT_LEN};
 ghost use Rattle.exh_codec.specs.Block.{IsSealed};
 ghost use Rattle.exh_codec.specs.PageImage.{IsLaidOut};
@@ -24,8 +24,8 @@ impl Image {
     /// The image of a page, with no digest yet.
     pub(crate) fn of(page: &Page) -> Image
         requires { length (records_of page.now) ≤ CAP_LIMIT }
-        ensures laid { (pseudo : List ℕ → ℕ) → IsWellFormed pseudo page.now → IsLaidOut first_version pseudo page.now result.block }
-        ensures read { (pseudo : List ℕ → ℕ) → IsWellFormed pseudo page.now → page_of first_version pseudo result.block ≡ page.now }
+        ensures laid { (pseudo : List ℕ → ℕ) → IsWellFormed pseudo page.now → IsLaidOut written_version pseudo page.now result.block }
+        ensures read { (pseudo : List ℕ → ℕ) → IsWellFormed pseudo page.now → page_of written_version pseudo result.block ≡ page.now }
     {
         blocks_are_read();
         Image::unsealed(lay_out(page))
@@ -36,8 +36,8 @@ impl Image {
         requires live { IsLive page.now }
         requires few { length (records_of page.now) ≤ CAP_LIMIT }
         requires room { length (with_record item.now (records_of page.now)) ≤ CAP_LIMIT }
-        ensures laid { (pseudo : List ℕ → ℕ) → IsWellFormed pseudo (with_records (with_record item.now (records_of page.now)) page.now) → IsLaidOut first_version pseudo (with_records (with_record item.now (records_of page.now)) page.now) result.block }
-        ensures read { (pseudo : List ℕ → ℕ) → IsWellFormed pseudo (with_records (with_record item.now (records_of page.now)) page.now) → page_of first_version pseudo result.block ≡ with_records (with_record item.now (records_of page.now)) page.now }
+        ensures laid { (pseudo : List ℕ → ℕ) → IsWellFormed pseudo (with_records (with_record item.now (records_of page.now)) page.now) → IsLaidOut written_version pseudo (with_records (with_record item.now (records_of page.now)) page.now) result.block }
+        ensures read { (pseudo : List ℕ → ℕ) → IsWellFormed pseudo (with_records (with_record item.now (records_of page.now)) page.now) → page_of written_version pseudo result.block ≡ with_records (with_record item.now (records_of page.now)) page.now }
     {
         blocks_are_read();
         Image::unsealed(lay_out_with(page, item))

@@ -3,7 +3,7 @@ ghost use Rattle.std.specs.List.{AllByRecursion};
 ghost use Rattle.exh_page.specs.Page.{IsLive, IsWellFormed, records_of, with_records};
 ghost use Rattle.exh_page.specs.Records.{with_record};
 ghost use Rattle.exh_page.specs.declared.page.Page.{Page as PageType};
-ghost use Rattle.exh_prefix.specs.Version.{first_version};
+ghost use Rattle.exh_prefix.specs.Layout.{written_version};
 ghost use Rattle.exh_codec.specs.PageImage.{IsImage};
 ghost use Rattle.exh_frames.specs.PageStore.{HasHead, IfPage};
 
@@ -13,11 +13,12 @@ use exh_codec::{
 };
 use exh_keyer::Keyer;
 use exh_page::{Page, PageHead, Record};
-use exh_prefix::PageNo;
+use exh_prefix::{PageNo, WRITTEN};
 use std::alloc::{AllocError, Global};
 use std::marker::Model;
 
-/// Pages that stand as images, numbered from 0 on, each well formed under a keyer.
+/// Pages that stand as images of the version that is written, numbered from 0 on, each well formed
+/// under a keyer.
 #[derive(Drop)]
 pub(crate) struct Images<K: Keyer> {
     keyer: K,
@@ -72,7 +73,7 @@ impl<K: Keyer> Images<K> {
     {
         let alloc = *self.images.allocator();
         let image = &self.images[number as usize];
-        match decode_content(alloc, &self.keyer, &image.block) {
+        match decode_content(alloc, WRITTEN, &self.keyer, &image.block) {
             Ok(page) => Ok(page),
             Err(ImageFault::Memory) => Err(AllocError),
             Err(_) => unreachable!(),
@@ -130,9 +131,9 @@ impl<K: Keyer> Images<K> {
     /// has changed.
     pub(crate) fn add_block(&mut self, block: &[u8; BLOCK_LEN]) -> Result<(), AllocError>
         requires room { length self.old.pages < 2 ^ 32 - 1 }
-        requires image { (page : PageType) × IsImage first_version (K.pseudokey_of self.old.keyer) page block.now }
+        requires image { (page : PageType) × IsImage written_version (K.pseudokey_of self.old.keyer) page block.now }
         ensures keyer { self.new.keyer ≡ self.old.keyer }
-        ensures ok { OnOk result ((page : PageType) → IsImage first_version (K.pseudokey_of self.old.keyer) page block.now → self.new.pages ≡ self.old.pages ++ page ∷ []) }
+        ensures ok { OnOk result ((page : PageType) → IsImage written_version (K.pseudokey_of self.old.keyer) page block.now → self.new.pages ≡ self.old.pages ++ page ∷ []) }
         ensures err { OnErr result (self.new.pages ≡ self.old.pages) }
     {
         blocks_are_read();
@@ -145,7 +146,7 @@ impl<K: Keyer> Images<K> {
     /// The image of a page, with its digest.
     pub(crate) fn block(&self, number: PageNo) -> [u8; BLOCK_LEN]
         requires { number < length self.now.pages }
-        ensures { IfPage self.now.pages number (λ page. IsImage first_version (K.pseudokey_of self.now.keyer) page result) }
+        ensures { IfPage self.now.pages number (λ page. IsImage written_version (K.pseudokey_of self.now.keyer) page result) }
     {
         images_are_sealed();
         let image = &self.images[number as usize];
