@@ -12,7 +12,7 @@ use Rattle.exh_page.specs.declared.page.Page.TheVariants.{Live, Forward}
 use Rattle.exh_page.specs.Page.{IsWellFormed}
 use Rattle.exh_legal.specs.MapLemmas.{page_at}
 use Rattle.exh_codec.specs.PageImage.{IsPage}
-use Rattle.exh_file.specs.FileVersion.{FitsFile, first_file}
+use Rattle.exh_file.specs.FileVersion.{first_file}
 use Rattle.exh_page_file.specs.PageFile.{IsFile, PageFile, pages_of}
 use Rattle.exh_reasons.specs.FileParts.{HasPartRanges, IsBounded, OfEachWard}
 use Rattle.exh_reasons.specs.Laws.{AreFormed, IsLegalFile, LegalFilesPass}
@@ -20,9 +20,6 @@ use Rattle.exh_reasons.specs.Reasons.{IsFirstReason}
 use Rattle.exh_reasons.specs.declared.reason.Reason.{Reason}
 use Rattle.exh_legal_file.specs.LegalFile.{parts_in}
 use Rattle.exh_legal_file.specs.LegalFileLemmas.{ranges_of}
-
-pub first_file_fits : FitsFile first_file
-first_file_fits = record { number = omega arith; limit = omega arith; images = record { limit = omega arith; bytes = omega arith } }
 
 -- ---- pages as readers give them
 
