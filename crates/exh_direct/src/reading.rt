@@ -15,7 +15,7 @@ use exh_codec::{BLOCK_LEN, decode_page};
 use exh_file::{FileEntry, FileFault, Header, decode_entries};
 use exh_keyer::AnyKeyer;
 use exh_page::Page;
-use exh_prefix::Prefix;
+use exh_prefix::{Prefix, Version};
 use std::alloc::Global;
 
 /// The header, which is the first of so many blocks.
@@ -29,7 +29,7 @@ pub(crate) fn read_header<B: Blocks>(blocks: &mut B, count: u64) -> Result<Heade
 {
     let mut block = [0; BLOCK_LEN];
     read_block(blocks, count, 0, &mut block)?;
-    match Header::from_block(&block) {
+    match Header::from_block(Version::First, &block) {
         Ok(header) => Ok(header),
         Err(fault) => Err(DirectFault::File(fault)),
     }
@@ -56,7 +56,7 @@ pub(crate) fn read_entries<B: Blocks>(
 {
     let mut block = [0; BLOCK_LEN];
     read_block(blocks, count, place, &mut block)?;
-    match decode_entries(alloc, &block, entries, before) {
+    match decode_entries(alloc, Version::First, &block, entries, before) {
         Ok(found) => Ok(found),
         Err(fault) => Err(DirectFault::at_place(place, fault)),
     }
@@ -79,7 +79,7 @@ pub(crate) fn read_page<B: Blocks>(
 {
     let mut block = [0; BLOCK_LEN];
     read_block(blocks, count, place, &mut block)?;
-    match decode_page(alloc, &keyer, &block) {
+    match decode_page(alloc, Version::First, &keyer, &block) {
         Ok(page) => Ok(page),
         Err(fault) => Err(DirectFault::at_place(place, fault)),
     }
