@@ -2,7 +2,7 @@
 
 use exh_join::Join;
 use exh_notice::{ENTRY_IMAGE_LEN, Entry, Kind, NOTICE_IMAGE_LEN, Notice};
-use exh_prefix::{PageNo, Prefix};
+use exh_prefix::{PageNo, Prefix, Version};
 use std::cmp::Ordering;
 
 // Every byte differs from every other, and from zero where it may.
@@ -51,11 +51,11 @@ fn notice(row: Row) -> Option<Notice> {
 fn is_imaged(notice: &Notice, image: &[u8; NOTICE_IMAGE_LEN]) -> bool {
     let front: &[u8; ENTRY_IMAGE_LEN] = image.first_chunk().unwrap();
     let entry = notice.entry();
-    notice.prefix.len() < 16
+    notice.prefix.len() < Version::First.limit()
         && notice.to_image() == *image
-        && Notice::from_image(image) == Ok(*notice)
+        && Notice::from_image(Version::First, image) == Ok(*notice)
         && entry.to_image(notice.ward, notice.prefix) == *front
-        && Entry::from_image(front) == Ok((notice.ward, notice.prefix, entry))
+        && Entry::from_image(Version::First, front) == Ok((notice.ward, notice.prefix, entry))
 }
 
 // The index of the notice that has another image.
