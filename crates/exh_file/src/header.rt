@@ -4,7 +4,7 @@ ghost use Rattle.std.specs.List.{AllByRecursion};
 ghost use Rattle.exh_file.specs.declared.header.TheConstants.{COUNTS_LEN};
 ghost use Rattle.exh_file.specs.HeaderImage.{IsPageCount};
 ghost use Rattle.exh_file.specs.HeaderTests.{HasMagic};
-ghost use Rattle.exh_file.specs.FileVersion.{number_of_version};
+ghost use Rattle.exh_file.specs.FileVersion.{number_of_version, version_of};
 ghost use Rattle.exh_prefix.specs.Layout.{layout};
 
 use crate::FileFault;
@@ -30,7 +30,7 @@ pub(crate) const HEADER_LEN: usize = FRONT_LEN + 4 * COUNTS_LEN;
 #[derive(Clone, Copy)]
 pub struct Header {
     pub settings: FileSettings<AnyKeyer>,
-    /// How many entries the table has, fewer than 2^the version's limit, 65,536 in the first.
+    /// How many entries the table has, fewer than 2^the version's limit: 65,536 in the first, 1,048,576 in the second.
     pub entry_count: u32,
     /// How many pages each ward has, ward 0 first: 1 to 2^(the limit - the ward bits) for a ward of the
     /// file, 0 for the others.
@@ -41,7 +41,7 @@ impl Header {
     ghost use Rattle.std.specs.Prelude.{◌≡◌, ◌≤◌, ◌↔◌, ◌++◌, ℕ, List, length, drop, IsTrue, IfOk, IfErr, IfSome, IfNone, Ok};
     ghost use Rattle.exh_file.specs.declared.header.TheConstants.{FRONT_LEN, HEADER_LEN};
     ghost use Rattle.exh_file.specs.declared.header.Header.{Header as HeaderValue};
-    ghost use Rattle.exh_file.specs.FileVersion.{file_version, written_file};
+    ghost use Rattle.exh_file.specs.FileVersion.{file_version, written_format};
     ghost use Rattle.exh_file.specs.FirstFailing.{IsFirstFailing};
     ghost use Rattle.exh_file.specs.HeaderImage.{IsHeader, IsHeaderImage, front_bytes, header_bytes};
     ghost use Rattle.exh_file.specs.HeaderTests.{IsReadHeader, PassesHeader, header_tests};
@@ -64,8 +64,8 @@ impl Header {
 
     /// The header's block, its image in the version that is written. It takes no memory.
     pub fn to_block(&self) -> [u8; BLOCK_LEN]
-        requires { IsHeader written_file self.now }
-        ensures { IsHeaderImage written_file self.now result }
+        requires { IsHeader written_format self.now }
+        ensures { IsHeaderImage written_format self.now result }
     {
         let mut block = [0; BLOCK_LEN];
         self.put(&mut block);
@@ -106,7 +106,7 @@ impl Header {
     fn put(&self, block: &mut [u8])
         requires len { HEADER_LEN ≤ length block.old }
         requires counts { length self.now.page_counts ≡ COUNTS_LEN }
-        ensures { block.new ≡ header_bytes written_file self.now ++ drop HEADER_LEN block.old }
+        ensures { block.new ≡ header_bytes written_format self.now ++ drop HEADER_LEN block.old }
     {
         block[..FRONT_LEN].copy_from_slice(&self.front());
         BigEndian::write_u32_into(&self.page_counts, &mut block[FRONT_LEN..HEADER_LEN]);
@@ -115,7 +115,7 @@ impl Header {
     // The bytes before the page counts.
     #[tactic(auto, unfolding(crate::specs::HeaderImage::front_bytes))]
     fn front(&self) -> [u8; FRONT_LEN]
-        ensures { result ≡ front_bytes written_file self.now }
+        ensures { result ≡ front_bytes written_format self.now }
     {
         let mut bytes = [0; FRONT_LEN];
         bytes[..8].copy_from_slice(&MAGIC);
@@ -183,12 +183,25 @@ fn wards_of(ward_bits: u8) -> Option<usize>
     }
 }
 
+/// The version that a header's block says: the first where its number stands there, else the second, of which
+/// [`Header::from_block`] then asks the number. It takes no memory.
+pub fn version_in(block: &[u8; BLOCK_LEN]) -> Version
+    ensures { result ≡ version_of block.now }
+{
+    if BigEndian::read_u16(&block[8..]) == number_of(Version::First) {
+        Version::First
+    } else {
+        Version::Second
+    }
+}
+
 // The number of a version in a header.
 fn number_of(version: Version) -> u16
     ensures { result ≡ number_of_version version }
 {
     match version {
         Version::First => 1,
+        Version::Second => 2,
     }
 }
 

@@ -12,7 +12,7 @@ use Rattle.exh_file.specs.declared.file_fault.FileFault.{FileFault}
 use Rattle.exh_file.specs.declared.file_fault.FileFault.TheVariants as faults
 use Rattle.exh_file.specs.declared.header.Header.{Header}
 use Rattle.exh_file.specs.declared.table_block.TheConstants.{BLOCK_ENTRIES}
-use Rattle.exh_file.specs.FileVersion.{FileVersion}
+use Rattle.exh_file.specs.FileVersion.{FileVersion, format_of}
 use Rattle.exh_file.specs.FirstFailing.{IsFirstFailing}
 use Rattle.exh_file.specs.HeaderImage.{IsHeaderImage}
 use Rattle.exh_file.specs.HeaderTests.{PassesHeader, header_tests}
@@ -115,3 +115,7 @@ PassesFile version bytes header = IsWhole 0 bytes × IsHeaderImage version heade
 abbrev pub IsFileFault : FileVersion → List ℕ → FileFault → Type 0
 IsFileFault version bytes fault = NextFails (HeaderFails version) bytes fault
     ⊎ ((header : Header) × IsHeaderImage version header (block_at 0 bytes) × FileFailsFirst version (any_pseudokey header.settings.keyer) bytes (places_behind header) fault)
+
+-- that in the version which the bytes say
+abbrev pub IsFault : List ℕ → FileFault → Type 0
+IsFault bytes fault = IsFileFault (format_of bytes) bytes fault

@@ -5,7 +5,7 @@ ghost use Rattle.exh_keyer.specs.Pseudokey.{any_pseudokey};
 ghost use Rattle.exh_prefix.specs.Layout.{layout};
 ghost use Rattle.exh_stream.specs.Source.{ReadsFrom};
 ghost use Rattle.exh_codec.specs.PageImage.{IsImage};
-ghost use Rattle.exh_file.specs.FileVersion.{file_version};
+ghost use Rattle.exh_file.specs.FileVersion.{file_version, format_of};
 ghost use Rattle.exh_file.specs.HeaderImage.{IsHeaderImage};
 ghost use Rattle.exh_file.specs.TableImage.{AreRising, IsTableImage, prefixes_of};
 ghost use Rattle.exh_file.specs.declared.file_fault.FileFault.TheVariants.{Trailing, Truncated};
@@ -16,7 +16,7 @@ ghost use Rattle.exh_codec.specs.declared.block.TheConstants.{BLOCK_LEN};
 
 use crate::ReadFileFault;
 use exh_codec::{BLOCK_LEN, decode_page};
-use exh_file::{BLOCK_ENTRIES, FileEntry, FileFault, Header, decode_entries};
+use exh_file::{BLOCK_ENTRIES, FileEntry, FileFault, Header, decode_entries, version_in};
 use exh_keyer::AnyKeyer;
 use exh_page::Page;
 use exh_prefix::{Prefix, Version};
@@ -44,20 +44,21 @@ impl<'r, R: Read> BlockSource<'r, R> {
         }
     }
 
-    // The header, which is the first block, in a version.
-    pub(crate) fn read_header(&mut self, version: Version) -> Result<Header, ReadFileFault>
+    // The version that the first block says, and the header that the block has in it.
+    pub(crate) fn read_header(&mut self) -> Result<(Version, Header), ReadFileFault>
         requires { self.old.place + 1 < 2 ^ 32 }
         ensures place { OnOk result (self.new.place ≡ self.old.place + 1) }
-        ensures ok { IfOk result (λ header. (block : _) × Consumes (left R.remaining self.old) (left R.remaining self.new) block × IsHeaderImage (file_version version) header block × IsBlock block) }
-        ensures err { IfErr result (IsOf (NextFails (HeaderFails (file_version version))) (left R.remaining self.old)) }
+        ensures ok { IfOk result (λ found. (block : _) × Consumes (left R.remaining self.old) (left R.remaining self.new) block × IsHeaderImage (file_version found.0) found.1 block × IsBlock block) }
+        ensures err { IfErr result (IsOf (NextFails (λ block. HeaderFails (format_of block) block)) (left R.remaining self.old)) }
         ensures failed { IsErrOf result ReadFileFault.Read ↔ IsTrue (blocks_failed self.new) }
     {
         let mut block = [0; BLOCK_LEN];
         self.fill(&mut block)?;
+        let version = version_in(&block);
         match Header::from_block(version, &block) {
             Ok(header) => {
                 self.place += 1;
-                Ok(header)
+                Ok((version, header))
             }
             Err(fault) => Err(ReadFileFault::File(fault)),
         }

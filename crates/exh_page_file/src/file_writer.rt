@@ -8,7 +8,7 @@ ghost use Rattle.exh_page.specs.Page.{records_of};
 ghost use Rattle.exh_codec.specs.declared.block.TheConstants.{CONTENT_LEN};
 ghost use Rattle.exh_codec.specs.Block.{sealed};
 ghost use Rattle.exh_codec.specs.PageImage.{IsInRange, padded};
-ghost use Rattle.exh_file.specs.FileVersion.{written_file};
+ghost use Rattle.exh_file.specs.FileVersion.{written_format};
 ghost use Rattle.exh_file.specs.HeaderImage.{IsHeader};
 ghost use Rattle.exh_file.specs.TableImage.{IsFileEntry};
 ghost use Rattle.exh_page_file.specs.PageFile.{header_block, page_block};
@@ -48,10 +48,10 @@ impl<'w, W: Write> FileWriter<'w, W> {
     /// Writes the header's block. On an `Err` the writer failed, now or before, and got a beginning of
     /// what it was due.
     pub fn write_header(&mut self, header: &Header) -> Result<(), WriteFault>
-        requires { IsHeader written_file header.now }
+        requires { IsHeader written_format header.now }
         ensures same_target { SameTarget self.old self.new }
-        ensures ok { OnOk result (TakesBlocks W.contents self.old self.new (header_block written_file header.now)) }
-        ensures err { OnErr result (TakesBlocksBeginning W.contents self.old self.new (header_block written_file header.now)) }
+        ensures ok { OnOk result (TakesBlocks W.contents self.old self.new (header_block written_format header.now)) }
+        ensures err { OnErr result (TakesBlocksBeginning W.contents self.old self.new (header_block written_format header.now)) }
         ensures failed { IsErr result ↔ IsTrue (file_failed self.new) }
         ensures closed { IsTrue (file_failed self.old) → IsErr result × TargetUntouched self.old self.new }
     {

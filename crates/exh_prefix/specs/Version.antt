@@ -9,6 +9,9 @@ pub record Version : Type 0 where
 abbrev pub first_version : Version
 first_version = record { limit = 16; bytes = 2 }
 
+abbrev pub second_version : Version
+second_version = record { limit = 20; bytes = 4 }
+
 -- prefixes of up to 32 bits in four bytes: in each version that `Fits 4`, an image of a prefix that it may have is as in this one
 abbrev pub four_bytes : Version
 four_bytes = record { limit = 32; bytes = 4 }

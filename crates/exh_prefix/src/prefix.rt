@@ -11,7 +11,7 @@ use std::fmt;
 use std::marker::Model;
 
 /// The greatest length of a prefix, in bits.
-pub const LIMIT: u8 = 16;
+pub const LIMIT: u8 = 20;
 
 /// The most leading bits by which a file is cut into wards.
 pub const WARD_BITS_LIMIT: u8 = 4;

@@ -13,10 +13,12 @@ use crate::Prefix;
 pub enum Version {
     /// A prefix of up to 16 bits stands in two bytes.
     First,
+    /// A prefix of up to 20 bits stands in four bytes.
+    Second,
 }
 
 /// The version of the images that are written.
-pub const WRITTEN: Version = Version::First;
+pub const WRITTEN: Version = Version::Second;
 
 impl Version {
     /// The greatest length of a prefix, in bits.
@@ -27,6 +29,7 @@ impl Version {
     {
         match self {
             Version::First => 16,
+            Version::Second => 20,
         }
     }
 
@@ -37,6 +40,7 @@ impl Version {
     {
         match self {
             Version::First => 2,
+            Version::Second => 4,
         }
     }
 
