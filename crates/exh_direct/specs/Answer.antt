@@ -11,7 +11,8 @@ use Rattle.exh_page.specs.Records.{value_at}
 use Rattle.exh_file.specs.declared.file_entry.FileEntry.{FileEntry}
 use Rattle.exh_file.specs.declared.header.Header.{Header}
 use Rattle.exh_file.specs.declared.table_block.TheConstants.{BLOCK_ENTRIES}
-use Rattle.exh_file.specs.FileVersion.{FileVersion}
+use Rattle.exh_prefix.specs.declared.version.Version.{Version}
+use Rattle.exh_file.specs.FileVersion.{FileVersion, file_version, format_of}
 use Rattle.exh_file.specs.TableImage.{AreRising, prefixes_of}
 use Rattle.exh_page_file.specs.FileTests.{HeaderFails, PageFails, TableFails}
 use Rattle.exh_page_file.specs.PageFile.{table_blocks}
@@ -136,15 +137,16 @@ module _ (version : FileVersion) (known : Option (List ℕ)) (header : Header) (
 
 -- ---- the whole answer
 
--- the value of a key, and the blocks that were read for it, in their order
-pub record Finds (version : FileVersion) (known : Option (List ℕ)) (key : List ℕ) (old new : Option (List ℕ)) (value : Option (List ℕ)) : Type 0 where
+-- the value of a key in the version that a header is of, and the blocks that were read for it, in their order
+pub record Finds (known : Option (List ℕ)) (key : List ℕ) (old new : Option (List ℕ)) (value : Option (List ℕ)) : Type 0 where
+  pub version : Version
   pub header : Header
-  pub head : IsHeaderAt version known header
+  pub head : IsHeaderAt (file_version version) known header
   pub between : Option (List ℕ)
   pub entries : List FileEntry
-  pub table : IsTable version known header entries
+  pub table : IsTable (file_version version) known header entries
   pub heads : Appends old between (head_places header)
-  pub found : FindsOnWay version known header key (page_named header (pseudokey_in header key) entries) between new value
+  pub found : FindsOnWay (file_version version) known header key (page_named header (pseudokey_in header key) entries) between new value
 
 -- the first fault: of the header, of the table behind it, or of the way behind both
 abbrev pub RefusesBehind : FileVersion → Option (List ℕ) → List ℕ → Option (List ℕ) → Option (List ℕ) → DirectFault → Header → Type 0
@@ -152,5 +154,6 @@ RefusesBehind version known key old new fault header = IsHeaderAt version known 
     ⊎ ((entries : List FileEntry) × IsTable version known header entries × (between : Option (List ℕ)) × Appends old between (head_places header)
     × FailsOnWay version known header key (page_named header (pseudokey_in header key) entries) between new fault))
 
-abbrev pub Refuses : FileVersion → Option (List ℕ) → List ℕ → Option (List ℕ) → Option (List ℕ) → DirectFault → Type 0
-Refuses version known key old new fault = (BlockFails (HeaderFails version) known 0 fault × ReadsUpTo old new 1) ⊎ ((header : Header) × RefusesBehind version known key old new fault header)
+abbrev pub Refuses : Option (List ℕ) → List ℕ → Option (List ℕ) → Option (List ℕ) → DirectFault → Type 0
+Refuses known key old new fault = (BlockFails (λ block. HeaderFails (format_of block) block) known 0 fault × ReadsUpTo old new 1)
+    ⊎ ((version : Version) × (header : Header) × RefusesBehind (file_version version) known key old new fault header)

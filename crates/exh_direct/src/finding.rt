@@ -1,5 +1,5 @@
 ghost use Rattle.std.specs.Prelude.{◌≡◌, ℕ, List, Some, IfOk, IfErr, MatchResult};
-ghost use Rattle.exh_file.specs.FileVersion.{first_file};
+ghost use Rattle.exh_file.specs.FileVersion.{format_of};
 ghost use Rattle.exh_page_file.specs.PageFile.{PageFile};
 ghost use Rattle.exh_page_file.specs.Reading.{AreBytes};
 ghost use Rattle.exh_legal_file.specs.LegalFile.{IsLegalPageFile};
@@ -14,7 +14,7 @@ use exh_keyer::Keyer;
 use exh_page::{Key, Value};
 use std::alloc::Global;
 
-/// What a page file of the first version has at a key, `None` where it hasn't the key. Of its blocks the header, those of
+/// What a page file of either version has at a key, `None` where it hasn't the key. Of its blocks the header, those of
 /// the table and the pages on the key's way are read, and each is tested; of a legal file one page. It takes memory for
 /// the entries or records of one block at a time.
 ///
@@ -26,9 +26,9 @@ pub fn find<B: Blocks>(
     blocks: &mut B,
     key: &Key,
 ) -> Result<Option<Value>, DirectFault>
-    ensures found { IfOk result (Finds first_file (B.known blocks.old) key.now (B.reads blocks.old) (B.reads blocks.new)) }
-    ensures refused { IfErr result (Refuses first_file (B.known blocks.old) key.now (B.reads blocks.old) (B.reads blocks.new)) }
-    ensures every { (file : PageFile) (bytes : List ℕ) → B.known blocks.old ≡ Some bytes → AreBytes bytes → IsLegalPageFile first_file file bytes
+    ensures found { IfOk result (Finds (B.known blocks.old) key.now (B.reads blocks.old) (B.reads blocks.new)) }
+    ensures refused { IfErr result (Refuses (B.known blocks.old) key.now (B.reads blocks.old) (B.reads blocks.new)) }
+    ensures every { (file : PageFile) (bytes : List ℕ) → B.known blocks.old ≡ Some bytes → AreBytes bytes → IsLegalPageFile (format_of bytes) file bytes
         → MatchResult result (FindsInFile file key.now (B.reads blocks.old) (B.reads blocks.new)) IsOtherFault }
 {
     exh_codec::one_page();
@@ -47,14 +47,14 @@ fn find_on_way<B: Blocks>(
     blocks: &mut B,
     key: &Key,
 ) -> Result<Option<Value>, DirectFault>
-    ensures found { IfOk result (Finds first_file (B.known blocks.old) key.now (B.reads blocks.old) (B.reads blocks.new)) }
-    ensures refused { IfErr result (Refuses first_file (B.known blocks.old) key.now (B.reads blocks.old) (B.reads blocks.new)) }
+    ensures found { IfOk result (Finds (B.known blocks.old) key.now (B.reads blocks.old) (B.reads blocks.new)) }
+    ensures refused { IfErr result (Refuses (B.known blocks.old) key.now (B.reads blocks.old) (B.reads blocks.new)) }
 {
     let Ok(count) = blocks.count() else {
         return Err(DirectFault::Read);
     };
-    let header = read_header(blocks, count)?;
+    let (version, header) = read_header(blocks, count)?;
     let pseudokey = header.settings.keyer.pseudo(key.as_bytes());
-    let first = named_page(alloc, blocks, count, &header, pseudokey)?;
-    follow(alloc, blocks, count, &header, first, pseudokey, key)
+    let first = named_page(alloc, blocks, version, count, &header, pseudokey)?;
+    follow(alloc, blocks, version, count, &header, first, pseudokey, key)
 }

@@ -1,7 +1,7 @@
 ghost use Rattle.std.specs.Prelude.{◌≡◌, ◌+◌, ◌<◌, ◌≤◌, ◌^◌, take, IfOk, IfErr, IfSome};
 ghost use Rattle.std.specs.List.{sum};
 ghost use Rattle.exh_keyer.specs.Pseudokey.{any_pseudokey};
-ghost use Rattle.exh_file.specs.FileVersion.{first_file};
+ghost use Rattle.exh_file.specs.FileVersion.{file_version};
 ghost use Rattle.exh_file.specs.HeaderImage.{IsHeader};
 ghost use Rattle.exh_direct.specs.Known.{IsCount};
 ghost use Rattle.exh_direct.specs.Answer.{FailsOnWay, FindsOnWay, page_place};
@@ -11,13 +11,14 @@ use crate::reading::{read_page, total};
 use crate::{Blocks, DirectFault};
 use exh_file::Header;
 use exh_page::{Key, Value};
-use exh_prefix::{PageNo, ward_number};
+use exh_prefix::{PageNo, Version, ward_number};
 use std::alloc::Global;
 
 /// What the page of a key has, which the links lead to from the first page on. It takes memory for a page at a time.
 pub(crate) fn follow<B: Blocks>(
     alloc: Global,
     blocks: &mut B,
+    version: Version,
     count: u64,
     header: &Header,
     first: PageNo,
@@ -25,21 +26,21 @@ pub(crate) fn follow<B: Blocks>(
     key: &Key,
 ) -> Result<Option<Value>, DirectFault>
     requires count { IsCount (B.known blocks.old) count }
-    requires header { IsHeader first_file header.now }
+    requires header { IsHeader (file_version version) header.now }
     requires pseudokey { pseudokey ≡ any_pseudokey header.now.settings.keyer key.now }
     ensures same_bytes { B.known blocks.new ≡ B.known blocks.old }
-    ensures ok { IfOk result (FindsOnWay first_file (B.known blocks.old) header.now key.now first (B.reads blocks.old) (B.reads blocks.new)) }
-    ensures err { IfErr result (FailsOnWay first_file (B.known blocks.old) header.now key.now first (B.reads blocks.old) (B.reads blocks.new)) }
+    ensures ok { IfOk result (FindsOnWay (file_version version) (B.known blocks.old) header.now key.now first (B.reads blocks.old) (B.reads blocks.new)) }
+    ensures err { IfErr result (FailsOnWay (file_version version) (B.known blocks.old) header.now key.now first (B.reads blocks.old) (B.reads blocks.new)) }
 {
     let ward = ward_number(header.settings.ward_bits, pseudokey) as usize;
     let pages = header.page_counts[ward];
-    let before = pages_before(header, ward);
+    let before = pages_before(version, header, ward);
     let mut number = first;
     for turn in 0..pages {
         if number >= pages {
             return Err(DirectFault::Astray);
         }
-        let page = read_page(alloc, blocks, count, before + number, header.settings.keyer)?;
+        let page = read_page(alloc, blocks, version, count, before + number, header.settings.keyer)?;
         match lead_of(&page, pseudokey) {
             Lead::Home => return Ok(page.find(pseudokey, key)),
             Lead::To(next) => number = next,
@@ -50,8 +51,8 @@ pub(crate) fn follow<B: Blocks>(
 }
 
 // Where the pages of a ward begin: behind the header, and those of the wards before it.
-fn pages_before(header: &Header, ward: usize) -> u32
-    requires header { IsHeader first_file header.now }
+fn pages_before(version: Version, header: &Header, ward: usize) -> u32
+    requires header { IsHeader (file_version version) header.now }
     requires ward { ward < 16 }
     ensures place { result ≡ 1 + sum (take ward header.now.page_counts) }
     ensures few { result ≤ 2 ^ 21 + 1 }

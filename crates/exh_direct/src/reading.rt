@@ -3,8 +3,8 @@ ghost use Rattle.std.specs.List.{sum};
 ghost use Rattle.std.specs.Option.{option_to_list};
 ghost use Rattle.std.specs.Io.KnownBytes.{Appends};
 ghost use Rattle.exh_keyer.specs.Pseudokey.{any_pseudokey};
-ghost use Rattle.exh_prefix.specs.Version.{first_version};
-ghost use Rattle.exh_file.specs.FileVersion.{first_file};
+ghost use Rattle.exh_prefix.specs.Layout.{layout};
+ghost use Rattle.exh_file.specs.FileVersion.{file_version, format_of};
 ghost use Rattle.exh_file.specs.TableImage.{AreRising, prefixes_of};
 ghost use Rattle.exh_file.specs.declared.table_block.TheConstants.{BLOCK_ENTRIES};
 ghost use Rattle.exh_page_file.specs.FileTests.{HeaderFails, PageFails, TableFails};
@@ -12,33 +12,38 @@ ghost use Rattle.exh_direct.specs.Known.{BlockFails, IsBlockAt, IsCount, IsCutOf
 
 use crate::{Blocks, DirectFault};
 use exh_codec::{BLOCK_LEN, decode_page};
-use exh_file::{FileEntry, FileFault, Header, decode_entries};
+use exh_file::{FileEntry, FileFault, Header, decode_entries, version_in};
 use exh_keyer::AnyKeyer;
 use exh_page::Page;
 use exh_prefix::{Prefix, Version};
 use std::alloc::Global;
 
-/// The header, which is the first of so many blocks.
-pub(crate) fn read_header<B: Blocks>(blocks: &mut B, count: u64) -> Result<Header, DirectFault>
+/// The version that the first of so many blocks says, and the header that the block has in it.
+pub(crate) fn read_header<B: Blocks>(
+    blocks: &mut B,
+    count: u64,
+) -> Result<(Version, Header), DirectFault>
     requires { IsCount (B.known blocks.old) count }
     ensures same_bytes { B.known blocks.new ≡ B.known blocks.old }
     ensures few { ReadsUpTo (B.reads blocks.old) (B.reads blocks.new) 1 }
     ensures one_read { OnOk result (Appends (B.reads blocks.old) (B.reads blocks.new) (0 ∷ [])) }
-    ensures ok { IfOk result (IsHeaderAt first_file (B.known blocks.old)) }
-    ensures err { IfErr result (BlockFails (HeaderFails first_file) (B.known blocks.old) 0) }
+    ensures ok { IfOk result (λ found. IsHeaderAt (file_version found.0) (B.known blocks.old) found.1) }
+    ensures err { IfErr result (BlockFails (λ block. HeaderFails (format_of block) block) (B.known blocks.old) 0) }
 {
     let mut block = [0; BLOCK_LEN];
     read_block(blocks, count, 0, &mut block)?;
-    match Header::from_block(Version::First, &block) {
-        Ok(header) => Ok(header),
+    let version = version_in(&block);
+    match Header::from_block(version, &block) {
+        Ok(header) => Ok((version, header)),
         Err(fault) => Err(DirectFault::File(fault)),
     }
 }
 
-/// So many entries, of the block at a place, behind that of a prefix.
+/// So many entries in a version, of the block at a place, behind that of a prefix.
 pub(crate) fn read_entries<B: Blocks>(
     alloc: Global,
     blocks: &mut B,
+    version: Version,
     count: u64,
     place: u32,
     entries: usize,
@@ -49,23 +54,24 @@ pub(crate) fn read_entries<B: Blocks>(
     ensures same_bytes { B.known blocks.new ≡ B.known blocks.old }
     ensures few { ReadsUpTo (B.reads blocks.old) (B.reads blocks.new) 1 }
     ensures one_read { OnOk result (Appends (B.reads blocks.old) (B.reads blocks.new) (place ∷ [])) }
-    ensures ok { IfOk result (λ found. IsTableBlock first_version (B.known blocks.old) place found.items) }
+    ensures ok { IfOk result (λ found. IsTableBlock (layout version) (B.known blocks.old) place found.items) }
     ensures count { IfOk result (λ found. vec_len found ≡ entries) }
     ensures rising { IfOk result (λ found. AreRising (option_to_list before ++ prefixes_of found.items)) }
-    ensures err { IfErr result (BlockFails (TableFails first_version place entries before) (B.known blocks.old) place) }
+    ensures err { IfErr result (BlockFails (TableFails (layout version) place entries before) (B.known blocks.old) place) }
 {
     let mut block = [0; BLOCK_LEN];
     read_block(blocks, count, place, &mut block)?;
-    match decode_entries(alloc, Version::First, &block, entries, before) {
+    match decode_entries(alloc, version, &block, entries, before) {
         Ok(found) => Ok(found),
         Err(fault) => Err(DirectFault::at_place(place, fault)),
     }
 }
 
-/// The page at a place, under a keyer.
+/// The page at a place in a version, under a keyer.
 pub(crate) fn read_page<B: Blocks>(
     alloc: Global,
     blocks: &mut B,
+    version: Version,
     count: u64,
     place: u32,
     keyer: AnyKeyer,
@@ -74,12 +80,12 @@ pub(crate) fn read_page<B: Blocks>(
     ensures same_bytes { B.known blocks.new ≡ B.known blocks.old }
     ensures few { ReadsUpTo (B.reads blocks.old) (B.reads blocks.new) 1 }
     ensures one_read { OnOk result (Appends (B.reads blocks.old) (B.reads blocks.new) (place ∷ [])) }
-    ensures ok { IfOk result (IsPageBlock first_version (any_pseudokey keyer) (B.known blocks.old) place) }
-    ensures err { IfErr result (BlockFails (PageFails first_version (any_pseudokey keyer) place) (B.known blocks.old) place) }
+    ensures ok { IfOk result (IsPageBlock (layout version) (any_pseudokey keyer) (B.known blocks.old) place) }
+    ensures err { IfErr result (BlockFails (PageFails (layout version) (any_pseudokey keyer) place) (B.known blocks.old) place) }
 {
     let mut block = [0; BLOCK_LEN];
     read_block(blocks, count, place, &mut block)?;
-    match decode_page(alloc, Version::First, &keyer, &block) {
+    match decode_page(alloc, version, &keyer, &block) {
         Ok(page) => Ok(page),
         Err(fault) => Err(DirectFault::at_place(place, fault)),
     }

@@ -9,7 +9,8 @@ use Rattle.exh_codec.specs.Block.{sealed}
 use Rattle.exh_codec.specs.PageImage.{padded}
 use Rattle.exh_file.specs.declared.header.Header.{Header}
 use Rattle.exh_file.specs.declared.header.TheConstants.{COUNTS_LEN}
-use Rattle.exh_file.specs.FileVersion.{FileVersion}
+use Rattle.exh_prefix.specs.declared.version.Version.{Version as KnownVersion}
+use Rattle.exh_file.specs.FileVersion.{FileVersion, file_version}
 
 -- ---- headers
 
@@ -27,6 +28,10 @@ pub record IsHeader (version : FileVersion) (header : Header) : Type 0 where
   pub counts : length header.page_counts ≡ COUNTS_LEN
   pub pages : AllByRecursion (IsPageCount version.images.limit header.settings.ward_bits) (take (2 ^ header.settings.ward_bits) header.page_counts)
   pub others : AllByRecursion (λ count. count ≡ 0) (drop (2 ^ header.settings.ward_bits) header.page_counts)
+
+-- a version that the code knows may have the header
+abbrev pub IsKnownHeader : Header → Type 0
+IsKnownHeader header = (version : KnownVersion) × IsHeader (file_version version) header
 
 -- ---- their images
 

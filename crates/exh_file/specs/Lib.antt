@@ -1,8 +1,8 @@
 pub mod FileVersion
-pub mod FileVersionLemmas
 pub mod FirstFailing
 pub mod FileFault
 pub mod HeaderImage
+pub mod FileVersionLemmas
 pub mod HeaderTests
 pub mod TableImage
 pub mod TableTests

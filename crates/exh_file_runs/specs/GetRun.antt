@@ -2,7 +2,6 @@
 use Rattle.std.specs.Prelude.{◌≡◌, ◌⊎◌, ℕ, Bool, cond, List, ◌++◌, Option, None, Some, Result, Ok, Err, IfErr, IfOk}
 use Rattle.exh_text.specs.Contents.{on_line}
 use Rattle.exh_text.specs.Printing.{printed, refused_text}
-use Rattle.exh_file.specs.FileVersion.{first_file}
 use Rattle.exh_direct.specs.Answer.{Finds, Refuses}
 use Rattle.exh_direct.specs.DirectFault.{direct_fault_number, direct_fault_place}
 use Rattle.exh_direct.specs.declared.direct_fault.DirectFault.{DirectFault}
@@ -35,6 +34,6 @@ module _ (old new : Option (List ℕ)) (failed : Bool) where
   pub record EndsGet (known reads : Option (List ℕ)) (key : List ℕ) (status : Status) : Type 0 where
     pub outcome : Result (Option (List ℕ)) DirectFault
     pub after : Option (List ℕ)
-    pub found : IfOk outcome (Finds first_file known key reads after)
-    pub refused : IfErr outcome (Refuses first_file known key reads after)
+    pub found : IfOk outcome (Finds known key reads after)
+    pub refused : IfErr outcome (Refuses known key reads after)
     pub printed : EndsAs outcome status

@@ -2,7 +2,7 @@
 use Rattle.std.specs.Prelude.{◌≡◌, ◌⊎◌, ℕ, Bool, List, [], ◌∷◌, ◌++◌, codes, Option, Result, Ok, Err}
 use Rattle.exh_text.specs.Contents.{on_line}
 use Rattle.exh_text.specs.Printing.{refused_text}
-use Rattle.exh_file.specs.FileVersion.{first_file}
+use Rattle.exh_file.specs.FileVersion.{format_of}
 use Rattle.exh_page_file.specs.PageFile.{PageFile}
 use Rattle.exh_page_file.specs.Reading.{AreBytes, IsAll}
 use Rattle.exh_legal_file.specs.LegalFile.{IsLegalPageFile}
@@ -21,7 +21,7 @@ pub record IsOpenedFrom (known : Option (List ℕ)) (opened : OpenedState) : Typ
   pub bytes : List ℕ
   pub all : IsAll known bytes
   pub are_bytes : AreBytes bytes
-  pub legal : IsLegalPageFile first_file file bytes
+  pub legal : IsLegalPageFile (format_of bytes) file bytes
   pub is : IsOpenedFile file opened
 
 -- the line of a refusal, which is that of `check`
@@ -35,7 +35,7 @@ module _ (old new : Option (List ℕ)) (failed : Bool) where
   -- memory ended
   pub record TellsFault (known : Option (List ℕ)) : Type 0 where
     pub fault : OpenFault
-    pub found : IsOpenFaultOf first_file known fault
+    pub found : IsOpenFaultOf known fault
     pub printed : PrintsLine old new failed (open_refusal_line fault) ⊎ PrintsLine old new failed memory_line
 
   -- the file's wards, and nothing printed; or its refusal told

@@ -5,7 +5,7 @@ use Rattle.exh_keyer.specs.declared.any_keyer.AnyKeyer.{AnyKeyer}
 use Rattle.exh_file_settings.specs.FileSettings.{AreInRange}
 use Rattle.exh_file_settings.specs.declared.file_settings.FileSettings.{FileSettings}
 use Rattle.exh_legal.specs.Pages.{map_of}
-use Rattle.exh_file.specs.FileVersion.{first_file}
+use Rattle.exh_file.specs.FileVersion.{format_of}
 use Rattle.exh_page_file.specs.PageFile.{PageFile, pages_of}
 use Rattle.exh_page_file.specs.Reading.{AreBytes}
 use Rattle.exh_legal_file.specs.LegalFile.{IsLegalPageFile}
@@ -32,7 +32,7 @@ pub record LoadsAgain (settings : FileSettings AnyKeyer) (file : PageFile) (text
 -- so it is of the text of a legal file, with its own keyer and a cap that is no smaller, whatever the wards are
 abbrev pub PairsLoadAgain : OtherSettings → Type 0
 PairsLoadAgain other =
-    (file : PageFile) (bytes : List ℕ) → IsLegalPageFile first_file file bytes → AreBytes bytes → let settings = settings_over other file.header.settings in
+    (file : PageFile) (bytes : List ℕ) → IsLegalPageFile (format_of bytes) file bytes → AreBytes bytes → let settings = settings_over other file.header.settings in
     AreInRange settings → settings.keyer ≡ file.header.settings.keyer → file.header.settings.cap ≤ settings.cap → LoadsAgain settings file (lines_text (pairs_lines other file))
 
 -- of what is told of a file the pairs alone

@@ -6,7 +6,7 @@ use Rattle.exh_keyer.specs.Pseudokey.{any_pseudokey}
 use Rattle.exh_notice.specs.declared.entry.Entry.{Entry}
 use Rattle.exh_table.specs.Table.{TableMap}
 use Rattle.exh_file.specs.declared.file_entry.FileEntry.{FileEntry}
-use Rattle.exh_file.specs.FileVersion.{FileVersion}
+use Rattle.exh_file.specs.FileVersion.{FileVersion, format_of}
 use Rattle.exh_page_file.specs.FileTests.{IsFileFault}
 use Rattle.exh_page_file.specs.PageFile.{PageFile, IsPageFile}
 use Rattle.exh_reasons.specs.FileParts.{FileParts, parts_of}
@@ -57,12 +57,12 @@ IsLegalFileFault version bytes (Illegal reason) = (file : PageFile) × IsPageFil
 IsLegalFileFault version bytes Read = ⊥
 IsLegalFileFault version bytes Memory = ⊥
 
--- the fault, if it is one of the bytes, is such a one, where they are known
-abbrev pub IsLegalFileFaultOf : FileVersion → Option (List ℕ) → LegalFileFault → Type 0
-IsLegalFileFaultOf version known (File fault) = IfSome known (λ bytes. IsLegalFileFault version bytes (File fault))
-IsLegalFileFaultOf version known (Illegal reason) = IfSome known (λ bytes. IsLegalFileFault version bytes (Illegal reason))
-IsLegalFileFaultOf version known Read = ⊤
-IsLegalFileFaultOf version known Memory = ⊤
+-- the fault, if it is one of the bytes, is such a one in the version that they say, where they are known
+abbrev pub IsLegalFileFaultOf : Option (List ℕ) → LegalFileFault → Type 0
+IsLegalFileFaultOf known (File fault) = IfSome known (λ bytes. IsLegalFileFault (format_of bytes) bytes (File fault))
+IsLegalFileFaultOf known (Illegal reason) = IfSome known (λ bytes. IsLegalFileFault (format_of bytes) bytes (Illegal reason))
+IsLegalFileFaultOf known Read = ⊤
+IsLegalFileFaultOf known Memory = ⊤
 
 -- the fault isn't one of the bytes
 abbrev pub IsOtherFault : LegalFileFault → Type 0

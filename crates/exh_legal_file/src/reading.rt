@@ -1,7 +1,7 @@
 ghost use Rattle.std.specs.Prelude.{◌≡◌, List, ℕ, Some, IfOk, IfErr, MatchResult};
-ghost use Rattle.exh_file.specs.FileVersion.{first_file};
+ghost use Rattle.exh_file.specs.FileVersion.{format_of};
 ghost use Rattle.exh_page_file.specs.FileParts.{file_of};
-ghost use Rattle.exh_page_file.specs.PageFile.{PageFile, IsFile};
+ghost use Rattle.exh_page_file.specs.PageFile.{PageFile, IsKnownFile};
 ghost use Rattle.exh_page_file.specs.Reading.{AreBytes, IsAll};
 ghost use Rattle.exh_reasons.specs.Reasons.{IsFirstReason};
 ghost use Rattle.exh_legal_file.specs.LegalFile.{IsLegalFileFaultOf, IsLegalPageFile, IsOtherFault, parts_in, tables_of, ward_tables};
@@ -14,7 +14,7 @@ use exh_table::Table;
 use std::alloc::{AllocError, Global};
 use std::io::Read;
 
-/// The parts of a legal page file of the first version, of which the reader has all bytes and no
+/// The parts of a legal page file of either version, of which the reader has all bytes and no
 /// others, with its table as one table a ward. A block takes at most 4,097 reads. It takes memory for
 /// what was read, never for what a header claims, and for a few words a page of one ward, which is
 /// given back.
@@ -23,10 +23,10 @@ use std::io::Read;
 /// `Illegal`: they are one, and this is the first reason for which it isn't legal. `Read`: the reader
 /// failed. `Memory`: a growth was refused. The one met first counts.
 pub fn read_legal_file<R: Read>(alloc: Global, reader: &mut R) -> Result<LegalFile, LegalFileFault>
-    ensures legal { IfOk result (λ legal. (bytes : List ℕ) × IsAll (R.remaining reader.old) bytes × AreBytes bytes × IsLegalPageFile first_file (file_of legal.parts) bytes) }
+    ensures legal { IfOk result (λ legal. (bytes : List ℕ) × IsAll (R.remaining reader.old) bytes × AreBytes bytes × IsLegalPageFile (format_of bytes) (file_of legal.parts) bytes) }
     ensures tables { IfOk result (λ legal. legal.tables.items ≡ ward_tables (file_of legal.parts)) }
-    ensures fault { IfErr result (IsLegalFileFaultOf first_file (R.remaining reader.old)) }
-    ensures every { (file : PageFile) (bytes : List ℕ) → R.remaining reader.old ≡ Some bytes → AreBytes bytes → IsLegalPageFile first_file file bytes
+    ensures fault { IfErr result (IsLegalFileFaultOf (R.remaining reader.old)) }
+    ensures every { (file : PageFile) (bytes : List ℕ) → R.remaining reader.old ≡ Some bytes → AreBytes bytes → IsLegalPageFile (format_of bytes) file bytes
         → MatchResult result (λ legal. file_of legal.parts ≡ file) IsOtherFault }
 {
     one_file();
@@ -37,9 +37,9 @@ pub fn read_legal_file<R: Read>(alloc: Global, reader: &mut R) -> Result<LegalFi
 
 // The same, told of what was found alone.
 fn read_found<R: Read>(alloc: Global, reader: &mut R) -> Result<LegalFile, LegalFileFault>
-    ensures legal { IfOk result (λ legal. (bytes : List ℕ) × IsAll (R.remaining reader.old) bytes × AreBytes bytes × IsLegalPageFile first_file (file_of legal.parts) bytes) }
+    ensures legal { IfOk result (λ legal. (bytes : List ℕ) × IsAll (R.remaining reader.old) bytes × AreBytes bytes × IsLegalPageFile (format_of bytes) (file_of legal.parts) bytes) }
     ensures tables { IfOk result (λ legal. legal.tables.items ≡ ward_tables (file_of legal.parts)) }
-    ensures fault { IfErr result (IsLegalFileFaultOf first_file (R.remaining reader.old)) }
+    ensures fault { IfErr result (IsLegalFileFaultOf (R.remaining reader.old)) }
 {
     legal_files_pass();
     let parts = read_file(alloc, reader)?;
@@ -59,7 +59,7 @@ fn reason_of(
     parts: &FileParts,
     tables: &[Table],
 ) -> Result<Option<Reason>, AllocError>
-    requires file { IsFile first_file (file_of parts.now) }
+    requires file { IsKnownFile (file_of parts.now) }
     requires tables { tables.now ≡ tables_of (file_of parts.now).entries }
     ensures { IfOk result (IsFirstReason (parts_in (file_of parts.now))) }
 {

@@ -10,7 +10,6 @@ use Rattle.exh_page.specs.Page.{IsWellFormed}
 use Rattle.exh_table.specs.Table.{TableMap}
 use Rattle.exh_legal.specs.Laws.{IsWard}
 use Rattle.exh_legal.specs.Pages.{map_of}
-use Rattle.exh_file.specs.FileVersion.{FileVersion}
 use Rattle.exh_file.specs.declared.header.Header.{Header}
 use Rattle.exh_page_file.specs.PageFile.{PageFile}
 use Rattle.exh_ward.specs.WardState.{WardState, IsSoundWard}
@@ -66,6 +65,6 @@ pub record IsOpenedFile (file : PageFile) (opened : OpenedState) : Type 0 where
 -- ---- the first fault
 
 -- the fault, if it is one of the bytes, is their first, where they are known
-abbrev pub IsOpenFaultOf : FileVersion → Option (List ℕ) → OpenFault → Type 0
-IsOpenFaultOf version known (File fault) = IsLegalFileFaultOf version known fault
-IsOpenFaultOf version known OutOfReach = ⊤
+abbrev pub IsOpenFaultOf : Option (List ℕ) → OpenFault → Type 0
+IsOpenFaultOf known (File fault) = IsLegalFileFaultOf known fault
+IsOpenFaultOf known OutOfReach = ⊤

@@ -1,9 +1,9 @@
 ghost use Rattle.std.specs.Prelude.{◌≡◌, ◌<◌, ◌^◌, ◌++◌, ◌∷◌, [], List, ℕ, Some, length, IfOk, IfErr, OnOk, MatchResult};
 ghost use Rattle.exh_keyer.specs.Pseudokey.{any_pseudokey};
-ghost use Rattle.exh_file.specs.FileVersion.{first_file};
-ghost use Rattle.exh_file.specs.HeaderImage.{IsHeader};
+ghost use Rattle.exh_file.specs.FileVersion.{format_of};
+ghost use Rattle.exh_file.specs.HeaderImage.{IsKnownHeader};
 ghost use Rattle.exh_page_file.specs.FileParts.{file_of};
-ghost use Rattle.exh_page_file.specs.PageFile.{IsFile, PageFile};
+ghost use Rattle.exh_page_file.specs.PageFile.{IsKnownFile, PageFile};
 ghost use Rattle.exh_page_file.specs.Reading.{AreBytes, IsAll};
 ghost use Rattle.exh_reasons.specs.Laws.{IsLegalFile};
 ghost use Rattle.exh_legal_file.specs.LegalFile.{IsLegalPageFile, parts_in, ward_tables};
@@ -24,7 +24,7 @@ use std::alloc::{AllocError, Global};
 use std::io::Read;
 use std::mem;
 
-/// The wards of a legal page file of the first version, of which the reader has all bytes and no
+/// The wards of a legal page file of either version, of which the reader has all bytes and no
 /// others. The base of each ward is the map of its pages, its journal and its notices are empty, and
 /// its start table is that of the entries which name it. Their stores are the maker's. A block takes at most 4,097
 /// reads.
@@ -36,9 +36,9 @@ pub fn open<R: Read, P: Pages + Drop, M: StoreMaker<P, AnyKeyer>>(
     maker: &M,
     reader: &mut R,
 ) -> Result<Opened<P>, OpenFault>
-    ensures opened { IfOk result (λ opened. (file : PageFile) × (bytes : List ℕ) × IsAll (R.remaining reader.old) bytes × AreBytes bytes × IsLegalPageFile first_file file bytes × IsOpenedFile file opened) }
-    ensures fault { IfErr result (IsOpenFaultOf first_file (R.remaining reader.old)) }
-    ensures every { (file : PageFile) (bytes : List ℕ) → R.remaining reader.old ≡ Some bytes → AreBytes bytes → IsLegalPageFile first_file file bytes
+    ensures opened { IfOk result (λ opened. (file : PageFile) × (bytes : List ℕ) × IsAll (R.remaining reader.old) bytes × AreBytes bytes × IsLegalPageFile (format_of bytes) file bytes × IsOpenedFile file opened) }
+    ensures fault { IfErr result (IsOpenFaultOf (R.remaining reader.old)) }
+    ensures every { (file : PageFile) (bytes : List ℕ) → R.remaining reader.old ≡ Some bytes → AreBytes bytes → IsLegalPageFile (format_of bytes) file bytes
         → MatchResult result (IsOpenedFile file) IsOtherOpening }
     ensures counted { IsCounted P.failures result }
 {
@@ -53,7 +53,7 @@ fn open_legal<P: Pages + Drop, M: StoreMaker<P, AnyKeyer>>(
     legal: &mut LegalFile,
 ) -> Result<Opened<P>, OpenFault>
     requires legal { IsLegalFile (any_pseudokey legal.old.parts.header.settings.keyer) (parts_in (file_of legal.old.parts)) }
-    requires file { IsFile first_file (file_of legal.old.parts) }
+    requires file { IsKnownFile (file_of legal.old.parts) }
     requires tables { legal.old.tables.items ≡ ward_tables (file_of legal.old.parts) }
     ensures opened { IfOk result (IsOpenedFile (file_of legal.old.parts)) }
     ensures fault { IfErr result IsOtherOpening }
@@ -74,7 +74,7 @@ fn open_wards<P: Pages + Drop, M: StoreMaker<P, AnyKeyer>>(
     pages: &mut [Vec<Page>],
     tables: &mut [Table],
 ) -> Result<Vec<Ward<P, AnyKeyer>>, OpenFault>
-    requires header { IsHeader first_file header.now }
+    requires header { IsKnownHeader header.now }
     requires pages { length pages.old ≡ 2 ^ header.now.settings.ward_bits }
     requires tables { length tables.old ≡ 2 ^ header.now.settings.ward_bits }
     requires legal { AreLegalWards header.now pages.old tables.old }
@@ -102,7 +102,7 @@ fn open_ward<P: Pages + Drop, M: StoreMaker<P, AnyKeyer>>(
     pages: Vec<Page>,
     table: Table,
 ) -> Result<Ward<P, AnyKeyer>, OpenFault>
-    requires header { IsHeader first_file header.now }
+    requires header { IsKnownHeader header.now }
     requires number { number < 2 ^ header.now.settings.ward_bits }
     requires legal { IsLegalWard header.now number pages.items table }
     ensures opened { IfOk result (IsOpenedWard header.now number pages.items table) }

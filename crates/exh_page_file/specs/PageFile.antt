@@ -1,6 +1,7 @@
 -- A whole page file, in each version: what it says, and the bytes that say it.
 use Rattle.std.specs.Prelude.{◌≡◌, ℕ, zero, suc, ◌+◌, ◌-◌, ◌/◌, ◌^◌, List, [], ◌++◌, length, map, take, drop}
 use Rattle.std.specs.List.{AllByRecursion, flat_map}
+use Rattle.exh_prefix.specs.declared.version.Version.{Version as KnownVersion}
 use Rattle.exh_prefix.specs.Version.{Version}
 use Rattle.exh_keyer.specs.Pseudokey.{any_pseudokey}
 use Rattle.exh_page.specs.declared.page.Page.{Page}
@@ -10,7 +11,7 @@ use Rattle.exh_codec.specs.PageImage.{IsPage, content_of, padded}
 use Rattle.exh_file.specs.declared.file_entry.FileEntry.{FileEntry}
 use Rattle.exh_file.specs.declared.header.Header.{Header}
 use Rattle.exh_file.specs.declared.table_block.TheConstants.{BLOCK_ENTRIES}
-use Rattle.exh_file.specs.FileVersion.{FileVersion}
+use Rattle.exh_file.specs.FileVersion.{FileVersion, file_version}
 use Rattle.exh_file.specs.HeaderImage.{IsHeader, header_bytes}
 use Rattle.exh_file.specs.TableImage.{AreRising, IsFileEntry, image_of, prefixes_of}
 
@@ -53,6 +54,10 @@ pub record IsFile (version : FileVersion) (file : PageFile) : Type 0 where
   pub count : length file.entries ≡ file.header.entry_count
   pub entries : AllByRecursion (IsFileEntry version.images) file.entries
   pub rising : AreRising (prefixes_of file.entries)
+
+-- a version that the code knows may have the file
+abbrev pub IsKnownFile : PageFile → Type 0
+IsKnownFile file = (version : KnownVersion) × IsFile (file_version version) file
 
 abbrev pub file_bytes : FileVersion → PageFile → List ℕ
 file_bytes version file =

@@ -1,8 +1,8 @@
 ghost use Rattle.std.specs.Prelude.{◌≡◌, ◌^◌, ◌≤◌, ◌↔◌, List, ℕ, Some, IfOk, IfErr, IsErrOf, IsFalse, IsTrue, MatchResult};
-ghost use Rattle.exh_file.specs.FileVersion.{file_version, first_file};
+ghost use Rattle.exh_file.specs.FileVersion.{format_of};
 ghost use Rattle.exh_file.specs.declared.header.TheConstants.{COUNTS_LEN};
 ghost use Rattle.exh_page_file.specs.FileParts.{file_of};
-ghost use Rattle.exh_page_file.specs.FileTests.{IsFileFault};
+ghost use Rattle.exh_page_file.specs.FileTests.{IsFault};
 ghost use Rattle.exh_page_file.specs.PageFile.{IsPageFile, PageFile};
 ghost use Rattle.exh_page_file.specs.Reading.{AreBytes, IsAll, IsOf, IsOther, blocks_failed, left};
 
@@ -11,43 +11,41 @@ use crate::read_pages::read_wards;
 use crate::read_table::read_table;
 use crate::{FileParts, ReadFileFault, files_pass, one_file};
 use exh_file::Header;
-use exh_prefix::Version;
 use std::alloc::Global;
 use std::io::Read;
 
-/// The parts of a page file of the first version, of which the reader has all bytes and no others. A
+/// The parts of a page file of either version, of which the reader has all bytes and no others. A
 /// block takes at most 4,097 reads. It takes memory for what was read, never for what a header claims.
 ///
 /// `File`: the bytes aren't one; the fault is that of the first test that they fail. `Read`: the reader
 /// failed. `Memory`: a growth was refused. The one met first counts.
 pub fn read_file<R: Read>(alloc: Global, reader: &mut R) -> Result<FileParts, ReadFileFault>
-    ensures parts { IfOk result (λ parts. (bytes : List ℕ) × IsAll (R.remaining reader.old) bytes × AreBytes bytes × IsPageFile first_file (file_of parts) bytes) }
-    ensures fault { IfErr result (IsOf (IsFileFault first_file) (R.remaining reader.old)) }
-    ensures every { (file : PageFile) (bytes : List ℕ) → R.remaining reader.old ≡ Some bytes → AreBytes bytes → IsPageFile first_file file bytes
+    ensures parts { IfOk result (λ parts. (bytes : List ℕ) × IsAll (R.remaining reader.old) bytes × AreBytes bytes × IsPageFile (format_of bytes) (file_of parts) bytes) }
+    ensures fault { IfErr result (IsOf IsFault (R.remaining reader.old)) }
+    ensures every { (file : PageFile) (bytes : List ℕ) → R.remaining reader.old ≡ Some bytes → AreBytes bytes → IsPageFile (format_of bytes) file bytes
         → MatchResult result (λ parts. file_of parts ≡ file) IsOther }
 {
     one_file();
     files_pass();
-    read_parts(alloc, Version::First, &mut BlockSource::new(reader))
+    read_parts(alloc, &mut BlockSource::new(reader))
 }
 
-// The parts that the blocks of a file of a version say.
+// The parts that the blocks of a file say.
 fn read_parts<R: Read>(
     alloc: Global,
-    version: Version,
     blocks: &mut BlockSource<'_, R>,
 ) -> Result<FileParts, ReadFileFault>
     requires place { blocks.old.place ≡ 0 }
     requires open { IsFalse (blocks_failed blocks.old) }
-    ensures parts { IfOk result (λ parts. (bytes : List ℕ) × IsAll (left R.remaining blocks.old) bytes × AreBytes bytes × IsPageFile (file_version version) (file_of parts) bytes) }
-    ensures fault { IfErr result (IsOf (IsFileFault (file_version version)) (left R.remaining blocks.old)) }
+    ensures parts { IfOk result (λ parts. (bytes : List ℕ) × IsAll (left R.remaining blocks.old) bytes × AreBytes bytes × IsPageFile (format_of bytes) (file_of parts) bytes) }
+    ensures fault { IfErr result (IsOf IsFault (left R.remaining blocks.old)) }
     ensures failed { IsErrOf result ReadFileFault.Read ↔ IsTrue (blocks_failed blocks.new) }
 {
     exh_codec::images_pass();
     exh_codec::images_are_blocks();
     exh_file::images_pass();
     exh_file::images_are_blocks();
-    let header = blocks.read_header(version)?;
+    let (version, header) = blocks.read_header()?;
     let counts = &header.page_counts[..wards_of(&header)];
     let wards = read_wards(alloc, blocks, version, header.settings.keyer, counts)?;
     let entries = read_table(alloc, blocks, version, header.entry_count as usize)?;

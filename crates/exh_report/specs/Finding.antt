@@ -2,7 +2,7 @@
 use Rattle.std.specs.Prelude.{◌≡◌, ℕ, List, [], ◌∷◌, ◌++◌, Option, Result, Ok, Err, decimal, codes}
 use Rattle.std.specs.Option.{option_map_or}
 use Rattle.exh_text.specs.Printing.{refused_text}
-use Rattle.exh_file.specs.FileVersion.{first_file}
+use Rattle.exh_file.specs.FileVersion.{format_of}
 use Rattle.exh_page_file.specs.PageFile.{PageFile}
 use Rattle.exh_page_file.specs.Reading.{AreBytes, IsAll}
 use Rattle.exh_legal_file.specs.LegalFile.{IsLegalFileFaultOf, IsLegalPageFile}
@@ -18,8 +18,8 @@ Finding = Result PageFile LegalFileFault
 
 -- it is found of bytes, which are these where they are known
 abbrev pub IsFindingOf : Option (List ℕ) → Finding → Type 0
-IsFindingOf known (Ok file) = (bytes : List ℕ) × IsAll known bytes × AreBytes bytes × IsLegalPageFile first_file file bytes
-IsFindingOf known (Err fault) = IsLegalFileFaultOf first_file known fault
+IsFindingOf known (Ok file) = (bytes : List ℕ) × IsAll known bytes × AreBytes bytes × IsLegalPageFile (format_of bytes) file bytes
+IsFindingOf known (Err fault) = IsLegalFileFaultOf known fault
 
 -- ---- a refusal
 

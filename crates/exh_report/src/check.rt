@@ -1,8 +1,7 @@
 ghost use Rattle.std.specs.Prelude.{◌≡◌, ◌↔◌, ◌++◌, IsErrOf, IsFalse, IsTrue, OnOk};
 ghost use Rattle.exh_stream.specs.Output.{SameWriter, writer_failed};
 ghost use Rattle.exh_page_file.specs.FileParts.{file_of};
-ghost use Rattle.exh_page_file.specs.PageFile.{IsFile};
-ghost use Rattle.exh_file.specs.FileVersion.{first_file};
+ghost use Rattle.exh_page_file.specs.PageFile.{IsKnownFile};
 ghost use Rattle.exh_report.specs.Check.{check_lines};
 ghost use Rattle.exh_report.specs.Lines.{TakesLines, lines_text};
 
@@ -21,7 +20,7 @@ pub(crate) fn check_parts<W: Write>(
     parts: &FileParts,
 ) -> Result<(), ReportFault>
     requires open { IsFalse (writer_failed output.old) }
-    requires file { IsFile first_file (file_of parts.now) }
+    requires file { IsKnownFile (file_of parts.now) }
     ensures same_writer { SameWriter output.old output.new }
     ensures told { TakesLines W.contents output.old output.new (check_lines (file_of parts.now)) result }
     ensures failed { IsErrOf result ReportFault.Write ↔ IsTrue (writer_failed output.new) }
@@ -33,7 +32,7 @@ pub(crate) fn check_parts<W: Write>(
 }
 
 fn push_check(out: &mut Vec<u8>, parts: &FileParts) -> Result<(), AllocError>
-    requires { IsFile first_file (file_of parts.now) }
+    requires { IsKnownFile (file_of parts.now) }
     ensures { OnOk result (out.new.items ≡ out.old.items ++ lines_text (check_lines (file_of parts.now))) }
 {
     let counts = Counts::of_wards(&parts.wards);

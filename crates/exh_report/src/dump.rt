@@ -1,9 +1,8 @@
 ghost use Rattle.std.specs.Prelude.{◌≡◌, ◌↔◌, ◌∷◌, [], ◌++◌, ◌<◌, ◌≤◌, ◌^◌, length, map, flat_map, All, IsErrOf, IsFalse, IsTrue};
 ghost use Rattle.std.specs.List.{enumerate_from};
 ghost use Rattle.exh_stream.specs.Output.{SameWriter, writer_failed};
-ghost use Rattle.exh_file.specs.FileVersion.{first_file};
 ghost use Rattle.exh_page_file.specs.FileParts.{file_of};
-ghost use Rattle.exh_page_file.specs.PageFile.{IsFile};
+ghost use Rattle.exh_page_file.specs.PageFile.{IsKnownFile};
 ghost use Rattle.exh_report.specs.Dump.{dump_lines, file_words, item_words, page_lines, ward_lines, ward_words};
 ghost use Rattle.exh_report.specs.Lines.{TakesLines};
 
@@ -25,7 +24,7 @@ pub(crate) fn dump_parts<W: Write>(
     parts: &FileParts,
 ) -> Result<(), ReportFault>
     requires open { IsFalse (writer_failed output.old) }
-    requires file { IsFile first_file (file_of parts.now) }
+    requires file { IsKnownFile (file_of parts.now) }
     ensures same_writer { SameWriter output.old output.new }
     ensures told { TakesLines W.contents output.old output.new (dump_lines (file_of parts.now)) result }
     ensures failed { IsErrOf result ReportFault.Write ↔ IsTrue (writer_failed output.new) }

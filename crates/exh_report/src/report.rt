@@ -1,8 +1,7 @@
 ghost use Rattle.std.specs.Prelude.{◌≡◌, ◌↔◌, ◌∷◌, [], Err, IfOk, IsErrOf, IsFalse, IsTrue};
 ghost use Rattle.std.specs.Io.KnownBytes.{Appends};
-ghost use Rattle.exh_file.specs.FileVersion.{first_file};
 ghost use Rattle.exh_page_file.specs.FileParts.{file_of};
-ghost use Rattle.exh_page_file.specs.PageFile.{IsFile, PageFile};
+ghost use Rattle.exh_page_file.specs.PageFile.{IsKnownFile, PageFile};
 ghost use Rattle.exh_stream.specs.Output.{AppendsBeginning, SameWriter, Takes, TakesBeginning, held, pending, writer_failed};
 ghost use Rattle.exh_report.specs.Check.{check_lines};
 ghost use Rattle.exh_report.specs.Dump.{dump_lines};
@@ -140,7 +139,7 @@ fn tell_parts<W: Write>(
     parts: &FileParts,
 ) -> Result<Verdict, ReportFault>
     requires open { IsFalse (writer_failed output.old) }
-    requires file { IsFile first_file (file_of parts.now) }
+    requires file { IsKnownFile (file_of parts.now) }
     ensures same_writer { SameWriter output.old output.new }
     ensures told { TakesLines W.contents output.old output.new (topic_lines topic (file_of parts.now)) result }
     ensures verdict { IfOk result (λ verdict. verdict ≡ Verdict.Legal) }

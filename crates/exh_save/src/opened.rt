@@ -1,7 +1,7 @@
 ghost use Rattle.std.specs.Prelude.{◌≡◌, OnErr, OnOk, IsErrOf, IsTrue};
 ghost use Rattle.std.specs.Io.KnownBytes.{Appends};
 ghost use Rattle.exh_stream.specs.Output.{AppendsBeginning};
-ghost use Rattle.exh_file.specs.FileVersion.{first_file};
+ghost use Rattle.exh_file.specs.FileVersion.{written_format};
 ghost use Rattle.exh_page_file.specs.PageFile.{file_bytes};
 ghost use Rattle.exh_page_file.specs.Writing.{IsBare, SameTarget, file_failed, written};
 ghost use Rattle.exh_save.specs.Reopened.{IsKept, IsWrittenAgain};
@@ -25,10 +25,10 @@ pub fn write_opened<P: Pages + Drop, W: Write>(
 ) -> (Result<(), SaveFault>, Opened<P>)
     requires { IsBare file.old }
     ensures same_target { SameTarget file.old file.new }
-    ensures ok { OnOk result.0 (Appends (written W.contents file.old) (written W.contents file.new) (file_bytes first_file (written_file opened))) }
-    ensures opens { OnOk result.0 (IsKept opened (file_bytes first_file (written_file opened))) }
+    ensures ok { OnOk result.0 (Appends (written W.contents file.old) (written W.contents file.new) (file_bytes written_format (written_file opened))) }
+    ensures opens { OnOk result.0 (IsKept opened (file_bytes written_format (written_file opened))) }
     ensures again { IsWrittenAgain opened }
-    ensures err { OnErr result.0 (AppendsBeginning (written W.contents file.old) (written W.contents file.new) (file_bytes first_file (written_file opened))) }
+    ensures err { OnErr result.0 (AppendsBeginning (written W.contents file.old) (written W.contents file.new) (file_bytes written_format (written_file opened))) }
     ensures failed { IsErrOf result.0 SaveFault.Write → IsTrue (file_failed file.new) }
     ensures wards { IsLeft opened result.1 }
     ensures failures { CountsSaveFailures result.0 (failures_in opened.wards) (failures_in result.1.wards) }

@@ -2,13 +2,13 @@ ghost use Rattle.std.specs.Prelude.{◌≡◌, ◌≢◌, ◌<◌, ◌≤◌, le
 ghost use Rattle.std.specs.List.{AllByRecursion, flat_map};
 ghost use Rattle.std.specs.FinMap.{entries};
 ghost use Rattle.std.specs.Io.KnownBytes.{Appends};
-ghost use Rattle.exh_prefix.specs.Version.{first_version};
+ghost use Rattle.exh_prefix.specs.Layout.{written_version};
 ghost use Rattle.exh_page.specs.declared.page.TheConstants.{CAP_LIMIT};
 ghost use Rattle.exh_page.specs.Page.{records_of};
 ghost use Rattle.exh_legal.specs.Pages.{IsAt};
 ghost use Rattle.exh_stream.specs.Output.{AppendsBeginning};
 ghost use Rattle.exh_codec.specs.PageImage.{IsInRange};
-ghost use Rattle.exh_file.specs.FileVersion.{first_file};
+ghost use Rattle.exh_file.specs.FileVersion.{written_format};
 ghost use Rattle.exh_file.specs.HeaderImage.{IsHeader};
 ghost use Rattle.exh_file.specs.TableImage.{IsFileEntry};
 ghost use Rattle.exh_page_file.specs.PageFile.{file_bytes, page_block, pages_of};
@@ -38,7 +38,7 @@ use exh_ward::Ward;
 use std::io::Write;
 
 /// Appends the page file of these wards to the writer of a file of which nothing is on its way, in the
-/// first version: one ward for each number, in order, of these settings. What was written whole is a legal
+/// version that is written: one ward for each number, in order, of these settings. What was written whole is a legal
 /// page file, and opening it gives wards of the same pages and tables; wards that were opened from a
 /// file, with no change since, are written as its very bytes. The writer isn't flushed. It takes memory
 /// for a copy of one page at a time.
@@ -53,10 +53,10 @@ pub fn write_file<P: Pages + Drop, W: Write>(
     requires wards { AreWardsOf (in_file settings wards.old) }
     requires bare { IsBare file.old }
     ensures same_target { SameTarget file.old file.new }
-    ensures ok { OnOk result (Appends (written W.contents file.old) (written W.contents file.new) (file_bytes first_file (written_file (in_file settings wards.old)))) }
-    ensures opens { OnOk result (IsKept (in_file settings wards.old) (file_bytes first_file (written_file (in_file settings wards.old)))) }
+    ensures ok { OnOk result (Appends (written W.contents file.old) (written W.contents file.new) (file_bytes written_format (written_file (in_file settings wards.old)))) }
+    ensures opens { OnOk result (IsKept (in_file settings wards.old) (file_bytes written_format (written_file (in_file settings wards.old)))) }
     ensures again { IsWrittenAgain (in_file settings wards.old) }
-    ensures err { OnErr result (AppendsBeginning (written W.contents file.old) (written W.contents file.new) (file_bytes first_file (written_file (in_file settings wards.old)))) }
+    ensures err { OnErr result (AppendsBeginning (written W.contents file.old) (written W.contents file.new) (file_bytes written_format (written_file (in_file settings wards.old)))) }
     ensures failed { IsErrOf result SaveFault.Write → IsTrue (file_failed file.new) }
     ensures wards { AreUnchanged wards.old wards.new }
     ensures failures { CountsSaveFailures result (failures_in wards.old) (failures_in wards.new) }
@@ -77,16 +77,16 @@ fn write_parts<P: Pages + Drop, W: Write>(
     wards: &mut [Ward<P, AnyKeyer>],
 ) -> Result<(), SaveFault>
     requires bare { IsBare file.old }
-    requires header { IsHeader first_file header.now }
+    requires header { IsHeader written_format header.now }
     requires caps { HasCaps wards.old }
     requires numbers { AreInOrder wards.old }
     requires few { length wards.old ≤ COUNTS_LEN }
     requires short { AreShort (entries_of_all wards.old) }
     ensures same_target { SameTarget file.old file.new }
-    ensures ok { OnOk result (Appends (written W.contents file.old) (written W.contents file.new) (file_bytes first_file (file_with header.now wards.old))) }
-    ensures pages { OnOk result (AllByRecursion (IsInRange first_version) (pages_of (pages_of_all wards.old))) }
-    ensures entries { OnOk result (AllByRecursion (IsFileEntry first_version) (entries_of_all wards.old)) }
-    ensures err { OnErr result (AppendsBeginning (written W.contents file.old) (written W.contents file.new) (file_bytes first_file (file_with header.now wards.old))) }
+    ensures ok { OnOk result (Appends (written W.contents file.old) (written W.contents file.new) (file_bytes written_format (file_with header.now wards.old))) }
+    ensures pages { OnOk result (AllByRecursion (IsInRange written_version) (pages_of (pages_of_all wards.old))) }
+    ensures entries { OnOk result (AllByRecursion (IsFileEntry written_version) (entries_of_all wards.old)) }
+    ensures err { OnErr result (AppendsBeginning (written W.contents file.old) (written W.contents file.new) (file_bytes written_format (file_with header.now wards.old))) }
     ensures failed { IsErrOf result SaveFault.Write → IsTrue (file_failed file.new) }
     ensures wards { AreUnchanged wards.old wards.new }
     ensures failures { CountsSaveFailures result (failures_in wards.old) (failures_in wards.new) }
@@ -105,7 +105,7 @@ fn write_pages<P: Pages + Drop, W: Write>(
     requires { HasCaps wards.old }
     ensures same_target { SameTarget file.old file.new }
     ensures ok { OnOk result (TakesBlocks W.contents file.old file.new (flat_map page_block (pages_of (pages_of_all wards.old)))) }
-    ensures pages { OnOk result (AllByRecursion (IsInRange first_version) (pages_of (pages_of_all wards.old))) }
+    ensures pages { OnOk result (AllByRecursion (IsInRange written_version) (pages_of (pages_of_all wards.old))) }
     ensures err { OnErr result (TakesBlocksBeginning W.contents file.old file.new (flat_map page_block (pages_of (pages_of_all wards.old)))) }
     ensures failed { IsErrOf result SaveFault.Write → IsTrue (file_failed file.new) }
     ensures same { OnOk result (wards.new ≡ wards.old) }
@@ -126,7 +126,7 @@ fn write_ward<P: Pages + Drop, W: Write>(
     requires { ward.old.cap ≤ CAP_LIMIT }
     ensures same_target { SameTarget file.old file.new }
     ensures ok { OnOk result (TakesBlocks W.contents file.old file.new (flat_map page_block ward.old.pages)) }
-    ensures pages { OnOk result (AllByRecursion (IsInRange first_version) ward.old.pages) }
+    ensures pages { OnOk result (AllByRecursion (IsInRange written_version) ward.old.pages) }
     ensures err { OnErr result (TakesBlocksBeginning W.contents file.old file.new (flat_map page_block ward.old.pages)) }
     ensures failed { IsErrOf result SaveFault.Write → IsTrue (file_failed file.new) }
     ensures same { OnOk result (ward.new ≡ ward.old) }
@@ -148,7 +148,7 @@ fn write_page<P: Pages + Drop, W: Write>(
     requires there { number < length ward.old.pages }
     requires cap { ward.old.cap ≤ CAP_LIMIT }
     ensures same_target { SameTarget file.old file.new }
-    ensures ok { OnOk result (IfPage ward.old.pages number (λ page. TakesBlocks W.contents file.old file.new (page_block page) × IsInRange first_version page)) }
+    ensures ok { OnOk result (IfPage ward.old.pages number (λ page. TakesBlocks W.contents file.old file.new (page_block page) × IsInRange written_version page)) }
     ensures err { OnErr result (IfPage ward.old.pages number (λ page. TakesBlocksBeginning W.contents file.old file.new (page_block page))) }
     ensures failed { IsErrOf result SaveFault.Write → IsTrue (file_failed file.new) }
     ensures same { OnOk result (ward.new ≡ ward.old) }
@@ -188,9 +188,9 @@ fn write_table<P: Pages + Drop, W: Write>(
     requires few { length wards.now ≤ COUNTS_LEN }
     requires short { AreShort (entries_of_all wards.now) }
     ensures same_target { SameTarget file.old file.new }
-    ensures ok { OnOk result (TakesEntries W.contents first_version file.old file.new (entries_of_all wards.now)) }
-    ensures entries { OnOk result (AllByRecursion (IsFileEntry first_version) (entries_of_all wards.now)) }
-    ensures err { OnErr result (TakesEntriesBeginning W.contents first_version file.old file.new (entries_of_all wards.now)) }
+    ensures ok { OnOk result (TakesEntries W.contents written_version file.old file.new (entries_of_all wards.now)) }
+    ensures entries { OnOk result (AllByRecursion (IsFileEntry written_version) (entries_of_all wards.now)) }
+    ensures err { OnErr result (TakesEntriesBeginning W.contents written_version file.old file.new (entries_of_all wards.now)) }
     ensures failed { IsErr result → IsTrue (file_failed file.new) }
 {
     for number in 0..wards.len() {
@@ -207,9 +207,9 @@ fn write_entries<W: Write>(
 ) -> Result<(), WriteFault>
     requires short { AreShort (map (file_entry ward) (entries table.now)) }
     ensures same_target { SameTarget file.old file.new }
-    ensures ok { OnOk result (TakesEntries W.contents first_version file.old file.new (map (file_entry ward) (entries table.now))) }
-    ensures entries { OnOk result (AllByRecursion (IsFileEntry first_version) (map (file_entry ward) (entries table.now))) }
-    ensures err { OnErr result (TakesEntriesBeginning W.contents first_version file.old file.new (map (file_entry ward) (entries table.now))) }
+    ensures ok { OnOk result (TakesEntries W.contents written_version file.old file.new (map (file_entry ward) (entries table.now))) }
+    ensures entries { OnOk result (AllByRecursion (IsFileEntry written_version) (map (file_entry ward) (entries table.now))) }
+    ensures err { OnErr result (TakesEntriesBeginning W.contents written_version file.old file.new (map (file_entry ward) (entries table.now))) }
     ensures failed { IsErr result → IsTrue (file_failed file.new) }
 {
     for (prefix, entry) in table.entries() {

@@ -51,11 +51,18 @@ fn notice(row: Row) -> Option<Notice> {
 fn is_imaged(notice: &Notice, image: &[u8; NOTICE_IMAGE_LEN]) -> bool {
     let front: &[u8; ENTRY_IMAGE_LEN] = image.first_chunk().unwrap();
     let entry = notice.entry();
-    notice.prefix.len() < Version::First.limit()
-        && notice.to_image() == *image
-        && Notice::from_image(Version::First, image) == Ok(*notice)
+    notice.to_image() == *image
         && entry.to_image(notice.ward, notice.prefix) == *front
-        && Entry::from_image(Version::First, front) == Ok((notice.ward, notice.prefix, entry))
+        && is_read(Version::First, notice, image)
+        && is_read(Version::Second, notice, image)
+}
+
+// Whether the image in a version is the notice's, and its front the entry's.
+fn is_read(version: Version, notice: &Notice, image: &[u8; NOTICE_IMAGE_LEN]) -> bool {
+    let front: &[u8; ENTRY_IMAGE_LEN] = image.first_chunk().unwrap();
+    notice.prefix.len() < version.limit()
+        && Notice::from_image(version, image) == Ok(*notice)
+        && Entry::from_image(version, front) == Ok((notice.ward, notice.prefix, notice.entry()))
 }
 
 // The index of the notice that has another image.
