@@ -16,9 +16,8 @@ use Rattle.exh_page.specs.Page.{IsWellFormed}
 use Rattle.exh_table.specs.Table.{TableMap}
 use Rattle.exh_legal.specs.Laws.{IsWard}
 use Rattle.exh_legal.specs.MapLemmas.{all_pages}
-use Rattle.exh_file.specs.FileVersion.{first_file}
 use Rattle.exh_file.specs.declared.header.Header.{Header}
-use Rattle.exh_page_file.specs.PageFile.{IsFile, PageFile}
+use Rattle.exh_page_file.specs.PageFile.{IsKnownFile, PageFile}
 use Rattle.exh_reasons.specs.Laws.{IsLegalFile, LegalFilesPass}
 use Rattle.exh_ward.specs.WardState.{WardState}
 use Rattle.exh_legal_file.specs.LegalFile.{parts_in, table_naming, ward_tables}
@@ -63,18 +62,18 @@ more_opened header pages tables wards ward number own table count at_own at_tabl
 
 -- ---- a legal file's wards
 
-pub legal_ward : LegalFilesPass → (file : PageFile) → IsFile first_file file → IsLegalFile (any_pseudokey file.header.settings.keyer) (parts_in file) → (number : ℕ) (pages : List Page) → slice_get file.wards number ≡ Some pages
+pub legal_ward : LegalFilesPass → (file : PageFile) → IsKnownFile file → IsLegalFile (any_pseudokey file.header.settings.keyer) (parts_in file) → (number : ℕ) (pages : List Page) → slice_get file.wards number ≡ Some pages
     → IsLegalWard file.header number pages (table_naming file.entries number)
 legal_ward law file valid legal number pages there =
     let pseudo = any_pseudokey file.header.settings.keyer in
-    let less : number < 256 = omega (arith, slice_get_within file.wards number pages there, count_of_wards file valid, valid.header.wards) in
+    let less : number < 256 = omega (arith, slice_get_within file.wards number pages there, count_of_wards file valid, valid.1.header.wards) in
     let formed = (((law pseudo (parts_in file) (ranges_of file valid)).1 legal).formed number pages there).formed in
     record {
       legal = subst (λ (table : TableMap). IsWard file.header.settings.cap pseudo (ward_prefix file.header.settings.ward_bits number) table [] table pages) (table_naming_at file.entries number less) (legal.wards number pages there);
       formed = all_pages (IsWellFormed pseudo) pages formed;
     }
 
-module _ (file : PageFile) (pages : List (Vec Page Global)) (tables : List TableMap) (valid : IsFile first_file file) (pages_are : file.wards ≡ map (λ (own : Vec Page Global). own.items) pages) (tables_are : tables ≡ ward_tables file) where
+module _ (file : PageFile) (pages : List (Vec Page Global)) (tables : List TableMap) (valid : IsKnownFile file) (pages_are : file.wards ≡ map (λ (own : Vec Page Global). own.items) pages) (tables_are : tables ≡ ward_tables file) where
   count_pages : length pages ≡ 2 ^ file.header.settings.ward_bits
   count_pages = sym (length-map pages (λ (own : Vec Page Global). own.items)) ∙ sym (ap length pages_are) ∙ count_of_wards file valid
 
@@ -108,8 +107,8 @@ module _ (file : PageFile) (pages : List (Vec Page Global)) (tables : List Table
 
     pub wards_of_file : AreWardsOf (in_file file.header.settings wards)
     wards_of_file = record {
-      some = valid.header.some;
-      most = valid.header.few;
+      some = valid.1.header.some;
+      most = valid.1.header.few;
       bits = (let few = few_bits file valid in omega arith);
       count = count;
       each = λ number ward there.

@@ -10,3 +10,4 @@ pub mod OneFile
 pub mod NoFault
 pub mod Read
 pub mod Written
+pub mod SameBlocks

@@ -1,12 +1,15 @@
 -- Laws of whole files, for the crates above: in every version of the page file that fits.
-use Rattle.std.specs.Prelude.{◌≡◌, List, ℕ, Some, drop, length}
+use Rattle.std.specs.Prelude.{◌≡◌, ◌++◌, List, ℕ, Some, drop, length}
 use Rattle.std.specs.Io.KnownBytes.{Appends}
+use Rattle.std.specs.List.{AllByRecursion, flat_map}
+use Rattle.exh_prefix.specs.Version.{Version, Fits}
 use Rattle.exh_file.specs.FileVersion.{FileVersion, FitsFile}
 use Rattle.exh_file.specs.declared.file_fault.FileFault.{FileFault}
 use Rattle.exh_file.specs.declared.header.Header.{Header}
+use Rattle.exh_file.specs.TableImage.{IsFileEntry}
 use Rattle.exh_page_file.specs.FileTests.{IsFileFault, PassesFile}
 use Rattle.exh_page_file.specs.Reading.{AreBytes}
-use Rattle.exh_page_file.specs.PageFile.{IsFile, IsPageFile, PageFile, file_bytes}
+use Rattle.exh_page_file.specs.PageFile.{IsFile, IsPageFile, PageFile, file_bytes, page_block, pages_of, table_blocks, table_bytes}
 
 -- a file has exactly one list of bytes
 abbrev pub OneFileImage : Type 0
@@ -27,3 +30,11 @@ PassedHasNoFault = (version : FileVersion) → FitsFile version → (header : He
 -- what a writer got of a file that was written whole, behind what it held, is that file
 abbrev pub WrittenIsFile : Type 0
 WrittenIsFile = (version : FileVersion) (file : PageFile) → IsFile version file → (old new : List ℕ) → Appends (Some old) (Some new) (file_bytes version file) → IsPageFile version file (drop (length old) new)
+
+-- the blocks behind the header's: those of the pages, and those of the table
+abbrev pub blocks_behind : Version → PageFile → List ℕ
+blocks_behind version file = flat_map page_block (pages_of file.wards) ++ table_bytes version (table_blocks (length file.entries)) file.entries
+
+-- they have the same bytes in each version that may have the file's entries
+abbrev pub SameBlocks : Type 0
+SameBlocks = (one other : Version) → Fits 4 one → Fits 4 other → (file : PageFile) → AllByRecursion (IsFileEntry one) file.entries → AllByRecursion (IsFileEntry other) file.entries → blocks_behind one file ≡ blocks_behind other file

@@ -1,6 +1,6 @@
 //! What holds of all page files, for the proofs of callers. Each function changes nothing.
 
-ghost use Rattle.exh_page_file.specs.Laws.{FilesPass, OneFile, OneFileImage, PassedHasNoFault, WrittenIsFile};
+ghost use Rattle.exh_page_file.specs.Laws.{FilesPass, OneFile, OneFileImage, PassedHasNoFault, SameBlocks, WrittenIsFile};
 
 /// In every version of the page file a file has exactly one list of bytes.
 pub fn one_image()
@@ -34,4 +34,10 @@ pub fn files_pass()
 /// file: reading it answers the same file.
 pub fn written_is_file()
     ensures { WrittenIsFile }
+{}
+
+/// The blocks of a file's pages and of its table have the same bytes in each version that may have its
+/// entries.
+pub fn same_blocks()
+    ensures { SameBlocks }
 {}

@@ -4,7 +4,7 @@
 
 pub use file_parts::FileParts;
 pub use file_writer::FileWriter;
-pub use laws::{files_pass, one_file, one_image, written_is_file};
+pub use laws::{files_pass, one_file, one_image, same_blocks, written_is_file};
 pub use read_file_fault::ReadFileFault;
 pub use reading::read_file;
 

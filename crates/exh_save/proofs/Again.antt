@@ -1,4 +1,4 @@
--- Wards that are opened from bytes: their page file is these bytes again.
+-- Wards that are opened from bytes: their page file is these bytes again, in the version that is written.
 use Rattle.std.proofs.Common.{◌≡◌, ℕ, zero, suc, ◌+◌, ◌-◌, ◌*◌, ◌^◌, ◌<◌, ◌≤◌, Bool, true, false, ◌&&◌, T, List, [], ◌∷◌, ◌++◌, length, map, take, drop, get_or, replicate, slice_get, Some, inl, inr, refl, sym, ap, ◌∙◌, subst, length-append, arith}
 use Rattle.std.specs.FinMap.{get, get-from_entries}
 use Rattle.std.specs.FinMap.Entries.{below_all, is_sorted, same_entries}
@@ -14,7 +14,12 @@ use Rattle.sha2.specs.Sha256.{sha256}
 use Rattle.exh_prefix.specs.ListLemmas.{AllByRecursion-append, AllByRecursion-append_left, AllByRecursion-append_right}
 use Rattle.exh_prefix.specs.Prefix.{prefix_cmp}
 use Rattle.exh_prefix.specs.PrefixLemmas.{prefix_cmp-exact, prefix_cmp-total}
-use Rattle.exh_prefix.specs.Version.{Version, first_version}
+use Rattle.exh_prefix.specs.Version.{Version}
+use Rattle.exh_prefix.specs.Layout.{layout, written_version}
+use Rattle.exh_prefix.specs.LayoutLemmas.{layout_fits}
+use Rattle.exh_prefix.specs.declared.version.Version.{Version as KnownVersion}
+use Rattle.exh_prefix.specs.declared.version.Version.TheVariants.{First, Second}
+use Rattle.exh_prefix.specs.declared.version.TheConstants.{WRITTEN}
 use Rattle.exh_keyer.specs.declared.any_keyer.AnyKeyer.{AnyKeyer}
 use Rattle.exh_notice.specs.ByteLemmas.{zeros_from}
 use Rattle.exh_notice.specs.declared.entry.Entry.{Entry}
@@ -22,20 +27,23 @@ use Rattle.exh_table.specs.Table.{TableMap}
 use Rattle.exh_page.specs.declared.page.Page.{Page}
 use Rattle.exh_legal.specs.Laws.{FittingTablesBeginWards}
 use Rattle.exh_codec.specs.PageImage.{padded}
-use Rattle.exh_file.specs.FileVersion.{first_file}
+use Rattle.exh_file.specs.FileVersion.{file_version, version_of, written_format}
 use Rattle.exh_file.specs.TableImage.{AreRising, image_of, prefixes_of}
 use Rattle.exh_file.specs.declared.file_entry.FileEntry.{FileEntry}
 use Rattle.exh_file.specs.declared.header.Header.{Header}
-use Rattle.exh_page_file.specs.PageFile.{PageFile, file_bytes, header_block, page_block, pages_of, table_block, table_blocks, table_bytes}
+use Rattle.exh_page_file.specs.PageFile.{IsFile, PageFile, file_bytes, header_block, page_block, pages_of, table_block, table_blocks, table_bytes}
 use Rattle.exh_page_file.specs.Reading.{AreBytes}
+use Rattle.exh_file.specs.Laws.{HeadersAreBlocks}
+use Rattle.exh_page_file.specs.Laws.{SameBlocks}
 use Rattle.exh_legal_file.specs.LegalFile.{IsLegalPageFile, table_naming, told_of}
 use Rattle.exh_legal_file.specs.LegalFileLemmas.{table_naming_at}
 use Rattle.exh_ward.specs.WardState.{WardState}
 use Rattle.exh_open.specs.Opened.{AreWardsOf, OpenedState}
 use Rattle.exh_open.specs.Opening.{IsOpenedFile}
-use Rattle.exh_save.specs.Reopened.{IsWrittenAgain}
+use Rattle.exh_save.specs.Reopened.{IsWrittenAgain, in_written, renumbered}
 use Rattle.exh_save.specs.Saved.{AreSound, counts_in, entries_of_all, file_entry, written_file, header_of, pages_of_all}
 use Rattle.exh_save.proofs.Named.{none_in, told_by, with_one}
+use Rattle.exh_save.proofs.Renumbered.{renumbered_file}
 use Rattle.exh_save.proofs.Reopened.{few, none_named, own_named, rising}
 
 -- ---- the entries of a list that name a ward
@@ -154,12 +162,12 @@ in_blocks version (suc blocks) items fit bytes =
     let back = in_blocks version blocks (drop 254 items) (omega (arith, fit, length-drop 254 items)) (AllByRecursion-append_right IsByte block blocks_behind bytes) in
     subst (AllByRecursion HasByte) (take-append-drop 254 items) (AllByRecursion-append HasByte (take 254 items) (drop 254 items) front back)
 
-in_file_bytes : (file : PageFile) → AreBytes (file_bytes first_file file) → AllByRecursion HasByte file.entries
-in_file_bytes file bytes =
+in_file_bytes : (version : KnownVersion) (file : PageFile) → AreBytes (file_bytes (file_version version) file) → AllByRecursion HasByte file.entries
+in_file_bytes version file bytes =
     let pages = flat_map page_block (pages_of file.wards) in
-    let table = table_bytes first_version (table_blocks (length file.entries)) file.entries in
-    let behind = AllByRecursion-append_right IsByte (header_block first_file file.header) (pages ++ table) bytes in
-    in_blocks first_version (table_blocks (length file.entries)) file.entries (omega arith) (AllByRecursion-append_right IsByte pages table behind)
+    let table = table_bytes (layout version) (table_blocks (length file.entries)) file.entries in
+    let behind = AllByRecursion-append_right IsByte (header_block (file_version version) file.header) (pages ++ table) bytes in
+    in_blocks (layout version) (table_blocks (length file.entries)) file.entries (omega arith) (AllByRecursion-append_right IsByte pages table behind)
 
 -- none names what no byte is
 past_bytes : (items : List FileEntry) (number : ℕ) → AllByRecursion HasByte items → 256 ≤ number → told_by items number ≡ []
@@ -184,7 +192,7 @@ padded_front counts many len long zeros =
 
 -- ---- the file of wards that were opened
 
-module _ (opened : OpenedState) (are : AreWardsOf opened) (sound : AreSound opened.wards) (begin : FittingTablesBeginWards) (file : PageFile) (bytes : List ℕ) (are_bytes : AreBytes bytes) (legal : IsLegalPageFile first_file file bytes) (is : IsOpenedFile file opened) where
+module _ (opened : OpenedState) (are : AreWardsOf opened) (sound : AreSound opened.wards) (begin : FittingTablesBeginWards) (version : KnownVersion) (file : PageFile) (bytes : List ℕ) (are_bytes : AreBytes bytes) (legal : IsLegalPageFile (file_version version) file bytes) (is : IsOpenedFile file opened) where
   abbrev items : List FileEntry
   items = entries_of_all opened.wards
 
@@ -204,7 +212,7 @@ module _ (opened : OpenedState) (are : AreWardsOf opened) (sound : AreSound open
     | inl less ↦ same_told items file.entries number (rising opened are sound begin) legal.is.valid.rising (tables_again number less)
     | inr beyond ↦
         none_in opened.wards number (λ at ward there named. omega (arith, beyond, few opened are sound begin, slice_get_within opened.wards at ward there, (are.each at ward there).number_is, named))
-        ∙ sym (past_bytes file.entries number (in_file_bytes file (subst AreBytes legal.is.whole are_bytes)) beyond)
+        ∙ sym (past_bytes file.entries number (in_file_bytes version file (subst AreBytes legal.is.whole are_bytes)) beyond)
   ]
 
   entries_again : items ≡ file.entries
@@ -233,6 +241,13 @@ module _ (opened : OpenedState) (are : AreWardsOf opened) (sound : AreSound open
       ∙ ap (λ (wards : List (List Page)). made file.header wards items) pages_again
       ∙ ap (made file.header file.wards) entries_again
 
-pub is_again : (opened : OpenedState) → AreWardsOf opened → AreSound opened.wards → FittingTablesBeginWards → IsWrittenAgain opened
-is_again opened are sound begin bytes are_bytes opens =
-    opens.legal.is.whole ∙ sym (ap (file_bytes first_file) (file_again opened are sound begin opens.file bytes are_bytes opens.legal opens.wards))
+-- a file is written in the version that is written, whichever it was read in
+in_written_version : HeadersAreBlocks → SameBlocks → (version : KnownVersion) (file : PageFile) (bytes : List ℕ) → IsFile (file_version version) file → bytes ≡ file_bytes (file_version version) file
+    → file_bytes written_format file ≡ in_written version bytes
+in_written_version blocks same First file bytes valid is = renumbered_file blocks same file valid ∙ ap (in_written First) (sym is)
+in_written_version blocks same Second file bytes valid is = sym is
+
+pub is_again : (opened : OpenedState) → AreWardsOf opened → AreSound opened.wards → FittingTablesBeginWards → HeadersAreBlocks → SameBlocks → IsWrittenAgain opened
+is_again opened are sound begin blocks same bytes are_bytes opens =
+    ap (file_bytes written_format) (file_again opened are sound begin (version_of bytes) opens.file bytes are_bytes opens.legal opens.wards)
+    ∙ in_written_version blocks same (version_of bytes) opens.file bytes opens.legal.is.valid opens.legal.is.whole

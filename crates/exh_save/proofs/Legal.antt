@@ -30,7 +30,7 @@ use Rattle.exh_page.specs.declared.page.Page.{Page}
 use Rattle.exh_legal.specs.Fit.{FitsPages}
 use Rattle.exh_legal.specs.Laws.{FittingTablesBeginWards, IsWard, PagesAreFew}
 use Rattle.exh_legal.specs.Pages.{AreLinked, IsAt, bare}
-use Rattle.exh_file.specs.FileVersion.{first_file}
+use Rattle.exh_file.specs.FileVersion.{written_format}
 use Rattle.exh_file.specs.HeaderImage.{IsHeader, IsPageCount}
 use Rattle.exh_file.specs.declared.file_entry.FileEntry.{FileEntry}
 use Rattle.exh_reasons.specs.FileParts.{parts_of}
@@ -155,7 +155,7 @@ module _ (opened : OpenedState) (are : AreWardsOf opened) (sound : AreSound open
         subst (λ (n : ℕ). length ward.pages ≤ 2 ^ (LIMIT - n)) long most,
       )
 
-  pub is_header : PagesAreFew → LegalTablesHaveRoom → IsHeader first_file (header_of opened)
+  pub is_header : PagesAreFew → LegalTablesHaveRoom → IsHeader written_format (header_of opened)
   is_header few room =
       let lens = map length (pages_of_all opened.wards) in
       let rest = replicate (16 - length lens) 0 in

@@ -8,4 +8,5 @@ pub mod Legal
 pub mod Named
 pub mod Reopened
 -- of writing what was opened
+pub mod Renumbered
 pub mod Again

@@ -13,7 +13,9 @@ use Rattle.exh_prefix.specs.Leading.{ward_prefix}
 use Rattle.exh_prefix.specs.ListLemmas.{AllByRecursion-append}
 use Rattle.exh_prefix.specs.Prefix.{IsFront, prefix_cmp}
 use Rattle.exh_prefix.specs.declared.prefix.TheConstants.{LIMIT}
-use Rattle.exh_prefix.specs.Version.{first_version}
+use Rattle.exh_prefix.specs.Layout.{written_version}
+use Rattle.exh_prefix.specs.declared.version.Version.{Version}
+use Rattle.exh_prefix.specs.declared.version.TheConstants.{WRITTEN}
 use Rattle.exh_keyer.specs.Pseudokey.{any_pseudokey}
 use Rattle.exh_keyer.specs.declared.any_keyer.AnyKeyer.{AnyKeyer}
 use Rattle.exh_notice.specs.declared.entry.Entry.{Entry}
@@ -24,11 +26,13 @@ use Rattle.exh_legal.specs.Laws.{FittingTablesBeginWards, PagesAreFew}
 use Rattle.exh_legal.specs.MapLemmas.{all_pages}
 use Rattle.exh_legal.specs.Pages.{map_of}
 use Rattle.exh_codec.specs.PageImage.{IsInRange, IsPage}
-use Rattle.exh_file.specs.FileVersion.{FitsFile, first_file}
+use Rattle.exh_file.specs.FileVersion.{file_version, version_of, written_format}
+use Rattle.exh_file.specs.FileVersionLemmas.{image_says, known_file_fits}
+use Rattle.exh_file.specs.HeaderImage.{IsHeader}
 use Rattle.exh_file.specs.TableImage.{AreRising, IsFileEntry, prefixes_of}
 use Rattle.exh_file.specs.declared.file_entry.FileEntry.{FileEntry}
-use Rattle.exh_page_file.specs.Laws.{OneFile}
-use Rattle.exh_page_file.specs.PageFile.{IsFile, PageFile, file_bytes, pages_of}
+use Rattle.exh_page_file.specs.Laws.{OneFile, blocks_behind}
+use Rattle.exh_page_file.specs.PageFile.{IsFile, PageFile, file_bytes, header_block, pages_of}
 use Rattle.exh_reasons.specs.Laws.{IsLegalFile, LegalFilesPass, LegalTablesHaveRoom}
 use Rattle.exh_legal_file.specs.LegalFile.{IsLegalPageFile, parts_in, table_naming, tables_of}
 use Rattle.exh_legal_file.specs.LegalFileLemmas.{table_naming_at}
@@ -44,11 +48,15 @@ past_tables : (items : List FileEntry) (number : ℕ) → 256 ≤ number → get
 unfolding tables_of
 past_tables items number past = get_or_past (tables_of items) number empty (omega (arith, past, length-map-range_with_len (table_naming items) 0 256))
 
-file_fits : FitsFile first_file
-file_fits = record { number = omega arith; limit = omega arith; images = record { limit = omega arith; bytes = omega arith } }
+-- the bytes of a file say their version
+says_version : (version : Version) (file : PageFile) → IsHeader (file_version version) file.header → version_of (file_bytes (file_version version) file) ≡ version
+unfolding header_block
+says_version version file valid =
+    let format = file_version version in
+    image_says version file.header (header_block format file.header) (blocks_behind format.images file) (file_bytes format file) (record { valid = valid; whole = refl }) refl
 
 -- pages in their ranges that are well formed
-all_valid : (pseudo : List ℕ → ℕ) (pages : List Page) → AllByRecursion (IsInRange first_version) pages → AllByRecursion (IsWellFormed pseudo) pages → AllByRecursion (IsPage first_version pseudo) pages
+all_valid : (pseudo : List ℕ → ℕ) (pages : List Page) → AllByRecursion (IsInRange written_version) pages → AllByRecursion (IsWellFormed pseudo) pages → AllByRecursion (IsPage written_version pseudo) pages
 all_valid pseudo [] ranges formed = tt
 all_valid pseudo (page ∷ pages) ranges formed = (record { in_range = ranges.0; formed = formed.0 }, all_valid pseudo pages ranges.1 formed.1)
 
@@ -113,14 +121,14 @@ module _ (opened : OpenedState) (are : AreWardsOf opened) (sound : AreSound open
 
   -- ---- it is a legal page file
 
-  module _ (pass : LegalFilesPass) (few_pages : PagesAreFew) (room : LegalTablesHaveRoom) (ranges : AllByRecursion (IsInRange first_version) (pages_of (pages_of_all opened.wards))) (valid : AllByRecursion (IsFileEntry first_version) items) where
+  module _ (pass : LegalFilesPass) (few_pages : PagesAreFew) (room : LegalTablesHaveRoom) (ranges : AllByRecursion (IsInRange written_version) (pages_of (pages_of_all opened.wards))) (valid : AllByRecursion (IsFileEntry written_version) items) where
     formed : AllByRecursion (IsWellFormed (any_pseudokey opened.keyer)) (pages_of (pages_of_all opened.wards))
     formed = all_formed (any_pseudokey opened.keyer) (pages_of_all opened.wards) (λ number pages there.
         let bits = are.bits in
         let passed = (pass (any_pseudokey opened.keyer) (parts_in file) (record { cap = are.most; bits = omega (arith, bits) })).1 is_legal in
         all_pages (IsWellFormed (any_pseudokey opened.keyer)) pages (passed.formed number pages there).formed)
 
-    is_file : IsFile first_file file
+    is_file : IsFile written_format file
     is_file =
         let lens = map length (pages_of_all opened.wards) in
         let many : length lens ≡ 2 ^ opened.ward_bits = length-map (pages_of_all opened.wards) (λ (pages : List Page). length pages) ∙ length-map opened.wards (λ (w : WardState AnyKeyer). w.pages) ∙ are.count in
@@ -133,7 +141,7 @@ module _ (opened : OpenedState) (are : AreWardsOf opened) (sound : AreSound open
           rising = rising;
         }
 
-    is_legal_file : IsLegalPageFile first_file file (file_bytes first_file file)
+    is_legal_file : IsLegalPageFile written_format file (file_bytes written_format file)
     is_legal_file = record { is = record { valid = is_file; whole = refl }; legal = is_legal }
 
     -- ---- what is opened from it
@@ -159,11 +167,13 @@ module _ (opened : OpenedState) (are : AreWardsOf opened) (sound : AreSound open
           ∙ ap (λ (keyer : AnyKeyer). with_settings ward.cap ward.ward_bits ward.number keyer) (sym own.keyer);
     }
 
-    pub is_kept : OneFile → IsKept opened (file_bytes first_file file)
+    pub is_kept : OneFile → IsKept opened (file_bytes written_format file)
     is_kept one = record {
       legal = is_legal_file;
       same = λ other opens.
-          let same : opens.file ≡ file = one first_file file_fits (file_bytes first_file file) opens.file file opens.legal.is is_legal_file.is in
+          let bytes = file_bytes written_format file in
+          let legal = subst (λ (version : Version). IsLegalPageFile (file_version version) opens.file bytes) (says_version WRITTEN file is_file.header) opens.legal in
+          let same : opens.file ≡ file = one written_format (known_file_fits WRITTEN) bytes opens.file file legal.is is_legal_file.is in
           begun other (subst (λ (f : PageFile). IsOpenedFile f other) same opens.wards);
     }
 

@@ -23,13 +23,13 @@ ghost use Rattle.exh_save.specs.Saved.{AreInOrder, AreShort, AreUnchanged, HasCa
 
 use crate::SaveFault;
 use crate::header::header_of;
-use exh_file::{FileEntry, Header};
+use exh_file::{FileEntry, Header, images_are_blocks};
 use exh_file_settings::FileSettings;
 use exh_frames::Pages;
 use exh_keyer::AnyKeyer;
 use exh_legal::{fitting_tables_begin_wards, pages_are_few};
 use exh_page::Page;
-use exh_page_file::{FileWriter, one_file};
+use exh_page_file::{FileWriter, one_file, same_blocks};
 use exh_prefix::PageNo;
 use exh_reasons::{legal_files_pass, legal_tables_have_room};
 use exh_stream::WriteFault;
@@ -40,8 +40,9 @@ use std::io::Write;
 /// Appends the page file of these wards to the writer of a file of which nothing is on its way, in the
 /// version that is written: one ward for each number, in order, of these settings. What was written whole is a legal
 /// page file, and opening it gives wards of the same pages and tables; wards that were opened from a
-/// file, with no change since, are written as its very bytes. The writer isn't flushed. It takes memory
-/// for a copy of one page at a time.
+/// file, with no change since, are written as its very bytes, if it was of the version that is written, and
+/// else with that version's number and the header's digest made anew. The writer isn't flushed. It takes
+/// memory for a copy of one page at a time.
 ///
 /// `Write`: the writer failed or took no bytes. `Page`: a page is out of reach. `Memory`: a growth was
 /// refused. Then a beginning of the file went out. The wards are as before.
@@ -64,8 +65,10 @@ pub fn write_file<P: Pages + Drop, W: Write>(
     fitting_tables_begin_wards();
     legal_files_pass();
     legal_tables_have_room();
+    images_are_blocks();
     one_file();
     pages_are_few();
+    same_blocks();
     let header = header_of(settings, wards);
     write_parts(file, &header, wards)
 }

@@ -3,6 +3,9 @@ use Rattle.exh_page_file.specs.FileParts.{file_of}
 use Rattle.exh_open.proofs.Legal.{count_tables, legal_wards, opened_file, wards_of_file}
 use Rattle.exh_open.proofs.opening.open_legal.Goals as goal
 
+pub open_wards-requires-clause-header : goal.open_wards-requires-clause-header
+open_wards-requires-clause-header g c = (c.requires.file.0, c.requires.file.1.header)
+
 pub open_wards-requires-clause-tables : goal.open_wards-requires-clause-tables
 open_wards-requires-clause-tables g c =
     let file = file_of c.args.legal.now.parts in

@@ -15,7 +15,7 @@ few_entries law ward bits sound =
     let own = own_prefix ward in
     let long : length own ≡ ward.ward_bits = length-bits_of ward.ward_bits ward.number in
     let few = law own ward.table ward.pages (omega (arith, long, bits)) sound.legal.legal.legal.linked sound.legal.fits in
-    omega (arith, few, pow-le-pow_right {n = 2} (omega arith) (let less : LIMIT - length own ≤ 16 = omega arith in less))
+    omega (arith, few, pow-le-pow_right {n = 2} (omega arith) (let less : LIMIT - length own ≤ LIMIT = omega arith in less))
 
 pub table_len-requires : goal.table_len-requires
 table_len-requires g c = subst (λ (t : TableMap). length (entries t) < 2 ^ LIMIT) (sym c.table.ensures.table) (few_entries c.entries_are_few.ensures c.args.ward.now c.requires c.table.ensures.sound)

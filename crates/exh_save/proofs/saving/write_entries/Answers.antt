@@ -1,7 +1,7 @@
 use Rattle.std.proofs.Common.{◌≡◌, ℕ, Bool, List, [], ◌∷◌, ◌++◌, map, refl, sym, ap, ◌∙◌, subst, append_assoc}
 use Rattle.std.specs.FinMap.{entries}
 use Rattle.exh_prefix.specs.ListLemmas.{AllByRecursion-append}
-use Rattle.exh_prefix.specs.Version.{first_version}
+use Rattle.exh_prefix.specs.Layout.{written_version}
 use Rattle.exh_notice.specs.declared.entry.Entry.{Entry}
 use Rattle.exh_stream.specs.OutputLemmas.{OnErr-from}
 use Rattle.exh_file.specs.declared.file_entry.FileEntry.{FileEntry}
@@ -44,7 +44,7 @@ loop-prefix-preserved g c =
       split = next_of c.args.ward (map (file_entry c.args.ward) (entries c.args.table.now)) inv.front c.loop-prefix.prefix-iterator c.next.new.self told inv.split c.in-Some.ensures.steps;
       target = c.in_ok-write_entry.ensures.same_target ∙ inv.target;
       taken = TakesEntries-then inv.taken c.in_ok-write_entry.ensures.ok;
-      valid = AllByRecursion-append (IsFileEntry first_version) inv.front (item ∷ []) inv.valid (c.in_ok-write_entry.ensures.valid, tt);
+      valid = AllByRecursion-append (IsFileEntry written_version) inv.front (item ∷ []) inv.valid (c.in_ok-write_entry.ensures.valid, tt);
       short = (short_next c.args.ward c.loop-prefix.prefix-iterator c.next.new.self told c.in-Some.ensures.steps inv.short).1;
     }
 
@@ -54,5 +54,5 @@ returns-in_err-write_entry-clause-err g c =
     let told : List Bool × Entry = (c.in-Some.prefix.now, c.in-Some.entry.now) in
     let all = map (file_entry c.args.ward) (entries c.args.table.now) in
     OnErr-from c.from_residual.result
-    (subst (TakesEntriesBeginning g.W.Write.contents first_version c.args.file.now c.write_entry.new.self) (sym (next_of c.args.ward all inv.front c.loop-prefix.prefix-iterator c.next.new.self told inv.split c.in-Some.ensures.steps))
+    (subst (TakesEntriesBeginning g.W.Write.contents written_version c.args.file.now c.write_entry.new.self) (sym (next_of c.args.ward all inv.front c.loop-prefix.prefix-iterator c.next.new.self told inv.split c.in-Some.ensures.steps))
     (TakesEntriesBeginning-of_more (map (file_entry c.args.ward) c.next.new.self) (TakesEntriesBeginning-then inv.taken c.in_err-write_entry.ensures.err)))

@@ -1,7 +1,7 @@
 use Rattle.std.proofs.Common.{◌≡◌, ◌++◌, List, map}
 use Rattle.std.specs.FinMap.{entries}
 use Rattle.std.specs.List.{AllByRecursion}
-use Rattle.exh_prefix.specs.Version.{first_version}
+use Rattle.exh_prefix.specs.Layout.{written_version}
 use Rattle.exh_file.specs.declared.file_entry.FileEntry.{FileEntry}
 use Rattle.exh_file.specs.TableImage.{IsFileEntry}
 use Rattle.exh_page_file.specs.Writing.{SameTarget, TakesEntries}
@@ -14,7 +14,7 @@ invariant-loop-prefix g l = record {
   front : List FileEntry;
   split : map (file_entry l.ward) (entries l.table) ≡ front ++ map (file_entry l.ward) l.prefix-iterator;
   target : SameTarget l.fn.file l.file;
-  taken : TakesEntries g.W.Write.contents first_version l.fn.file l.file front;
-  valid : AllByRecursion (IsFileEntry first_version) front;
+  taken : TakesEntries g.W.Write.contents written_version l.fn.file l.file front;
+  valid : AllByRecursion (IsFileEntry written_version) front;
   short : AreShort (map (file_entry l.ward) l.prefix-iterator);
 }

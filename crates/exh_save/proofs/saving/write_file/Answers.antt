@@ -1,7 +1,7 @@
 use Rattle.std.proofs.Common.{OnOk, OnErr, sym, subst}
 use Rattle.std.specs.Io.KnownBytes.{Appends}
 use Rattle.exh_stream.specs.Output.{AppendsBeginning}
-use Rattle.exh_file.specs.FileVersion.{first_file}
+use Rattle.exh_file.specs.FileVersion.{written_format}
 use Rattle.exh_file.specs.HeaderImage.{IsHeader}
 use Rattle.exh_file.specs.declared.header.Header.{Header}
 use Rattle.exh_page_file.specs.PageFile.{file_bytes}
@@ -15,7 +15,7 @@ use Rattle.exh_save.proofs.saving.write_file.Goals as goal
 
 pub write_parts-requires-clause-header : goal.write_parts-requires-clause-header
 write_parts-requires-clause-header g c =
-    subst (IsHeader first_file) (sym c.header_of-header.ensures.header)
+    subst (IsHeader written_format) (sym c.header_of-header.ensures.header)
     (is_header (in_file c.args.settings c.args.wards.now) c.requires.wards c.header_of-header.ensures.sound c.fitting_tables_begin_wards.ensures c.pages_are_few.ensures c.legal_tables_have_room.ensures)
 
 pub write_parts-requires-clause-short : goal.write_parts-requires-clause-short
@@ -24,12 +24,12 @@ write_parts-requires-clause-short g c =
 
 pub returns-clause-ok : goal.returns-clause-ok
 returns-clause-ok g c =
-    subst (λ (header : Header). OnOk c.write_parts.result (Appends (written g.W.Write.contents c.args.file.now) (written g.W.Write.contents c.write_parts.new.file) (file_bytes first_file (file_with header c.args.wards.now))))
+    subst (λ (header : Header). OnOk c.write_parts.result (Appends (written g.W.Write.contents c.args.file.now) (written g.W.Write.contents c.write_parts.new.file) (file_bytes written_format (file_with header c.args.wards.now))))
     c.header_of-header.ensures.header c.write_parts.ensures.ok
 
 pub returns-clause-err : goal.returns-clause-err
 returns-clause-err g c =
-    subst (λ (header : Header). OnErr c.write_parts.result (AppendsBeginning (written g.W.Write.contents c.args.file.now) (written g.W.Write.contents c.write_parts.new.file) (file_bytes first_file (file_with header c.args.wards.now))))
+    subst (λ (header : Header). OnErr c.write_parts.result (AppendsBeginning (written g.W.Write.contents c.args.file.now) (written g.W.Write.contents c.write_parts.new.file) (file_bytes written_format (file_with header c.args.wards.now))))
     c.header_of-header.ensures.header c.write_parts.ensures.err
 
 pub returns-clause-opens : goal.returns-clause-opens
@@ -40,4 +40,4 @@ returns-clause-opens g c =
     c.write_parts.result c.write_parts.ensures.pages c.write_parts.ensures.entries
 
 pub returns-clause-again : goal.returns-clause-again
-returns-clause-again g c = is_again (in_file c.args.settings c.args.wards.now) c.requires.wards c.header_of-header.ensures.sound c.fitting_tables_begin_wards.ensures
+returns-clause-again g c = is_again (in_file c.args.settings c.args.wards.now) c.requires.wards c.header_of-header.ensures.sound c.fitting_tables_begin_wards.ensures c.images_are_blocks.ensures.headers c.same_blocks.ensures

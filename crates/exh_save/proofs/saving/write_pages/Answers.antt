@@ -3,7 +3,7 @@ use Rattle.std.specs.Prelude.{slice_set}
 use Rattle.std.specs.List.{flat_map}
 use Rattle.std.proofs.lemmas.Option.{slice_get-get_or}
 use Rattle.exh_prefix.specs.ListLemmas.{set_same}
-use Rattle.exh_prefix.specs.Version.{first_version}
+use Rattle.exh_prefix.specs.Layout.{written_version}
 use Rattle.exh_keyer.specs.declared.any_keyer.AnyKeyer.{AnyKeyer}
 use Rattle.exh_stream.specs.OutputLemmas.{OnErr-from}
 use Rattle.exh_codec.specs.PageImage.{IsInRange}
@@ -53,6 +53,6 @@ loop-number-preserved g c =
     record {
       target = c.in_ok-write_ward.ensures.same_target ∙ inv.target;
       taken = blocks_next blocks_in ward_blocks_join c.args.wards.now number ward is (flat_map page_block ward.pages) (one_ward_blocks ward) inv.taken c.in_ok-write_ward.ensures.ok;
-      ranges = next_all all_pages_in pages_join c.args.wards.now number ward is ward.pages (one_ward ward) (IsInRange first_version) inv.ranges c.in_ok-write_ward.ensures.pages;
+      ranges = next_all all_pages_in pages_join c.args.wards.now number ward is ward.pages (one_ward ward) (IsInRange written_version) inv.ranges c.in_ok-write_ward.ensures.pages;
       wards = ap (λ (w : WardState AnyKeyer). slice_set now number w) c.in_ok-write_ward.ensures.same ∙ set_same now number ward is_now ∙ inv.wards;
     }

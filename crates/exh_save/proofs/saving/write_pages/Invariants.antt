@@ -1,6 +1,6 @@
 use Rattle.std.proofs.Common.{◌≡◌, take}
 use Rattle.std.specs.List.{AllByRecursion, flat_map}
-use Rattle.exh_prefix.specs.Version.{first_version}
+use Rattle.exh_prefix.specs.Layout.{written_version}
 use Rattle.exh_codec.specs.PageImage.{IsInRange}
 use Rattle.exh_page_file.specs.PageFile.{page_block, pages_of}
 use Rattle.exh_page_file.specs.Writing.{SameTarget, TakesBlocks}
@@ -12,6 +12,6 @@ abbrev pub invariant-loop-number : goal.invariant-loop-number
 invariant-loop-number g l = record {
   target : SameTarget l.fn.file l.file;
   taken : TakesBlocks g.W.Write.contents l.fn.file l.file (flat_map page_block (pages_of (pages_of_all (take l.number l.fn.wards))));
-  ranges : AllByRecursion (IsInRange first_version) (pages_of (pages_of_all (take l.number l.fn.wards)));
+  ranges : AllByRecursion (IsInRange written_version) (pages_of (pages_of_all (take l.number l.fn.wards)));
   wards : l.wards ≡ l.fn.wards;
 }

@@ -3,7 +3,7 @@ use Rattle.std.specs.FinMap.{entries}
 use Rattle.std.specs.List.{AllByRecursion}
 use Rattle.std.proofs.lemmas.Option.{slice_get_read}
 use Rattle.exh_prefix.specs.ListLemmas.{AllByRecursion-append_left, AllByRecursion-append_right}
-use Rattle.exh_prefix.specs.Version.{first_version}
+use Rattle.exh_prefix.specs.Layout.{written_version}
 use Rattle.exh_prefix.specs.declared.prefix.TheConstants.{LIMIT}
 use Rattle.exh_keyer.specs.declared.any_keyer.AnyKeyer.{AnyKeyer}
 use Rattle.exh_stream.specs.OutputLemmas.{OnErr-from}
@@ -51,7 +51,7 @@ returns-in_err-write_entries-clause-err g c =
     let is = slice_get_read wards (length wards) number ward refl less c.index-wards-number.is in
     let own = own_entries ward number c.table.result.now (c.requires.numbers number ward is) c.table.ensures.table in
     OnErr-from c.from_residual.result (entries_cut entries_of_all entries_join wards number ward is (entries_of ward) (one_wards_entries ward) c.loop-number.invariant.taken
-    (subst (TakesEntriesBeginning g.W.Write.contents first_version c.loop-number.file c.write_entries.new.file) own c.in_err-write_entries.ensures.err))
+    (subst (TakesEntriesBeginning g.W.Write.contents written_version c.loop-number.file c.write_entries.new.file) own c.in_err-write_entries.ensures.err))
 
 pub loop-number-preserved : goal.loop-number-preserved
 loop-number-preserved g c =
@@ -65,7 +65,7 @@ loop-number-preserved g c =
     record {
       target = c.in_ok-write_entries.ensures.same_target ∙ inv.target;
       taken = entries_next entries_of_all entries_join wards number ward is (entries_of ward) (one_wards_entries ward) inv.taken
-          (subst (TakesEntries g.W.Write.contents first_version c.loop-number.file c.write_entries.new.file) own c.in_ok-write_entries.ensures.ok);
-      valid = next_all entries_of_all entries_join wards number ward is (entries_of ward) (one_wards_entries ward) (IsFileEntry first_version) inv.valid
-          (subst (AllByRecursion (IsFileEntry first_version)) own c.in_ok-write_entries.ensures.entries);
+          (subst (TakesEntries g.W.Write.contents written_version c.loop-number.file c.write_entries.new.file) own c.in_ok-write_entries.ensures.ok);
+      valid = next_all entries_of_all entries_join wards number ward is (entries_of ward) (one_wards_entries ward) (IsFileEntry written_version) inv.valid
+          (subst (AllByRecursion (IsFileEntry written_version)) own c.in_ok-write_entries.ensures.entries);
     }

@@ -1,6 +1,6 @@
 use Rattle.std.proofs.Common.{take}
 use Rattle.std.specs.List.{AllByRecursion}
-use Rattle.exh_prefix.specs.Version.{first_version}
+use Rattle.exh_prefix.specs.Layout.{written_version}
 use Rattle.exh_file.specs.TableImage.{IsFileEntry}
 use Rattle.exh_page_file.specs.Writing.{SameTarget, TakesEntries}
 use Rattle.exh_save.specs.Saved.{entries_of_all}
@@ -10,6 +10,6 @@ use Rattle.exh_save.proofs.saving.write_table.Given as goal
 abbrev pub invariant-loop-number : goal.invariant-loop-number
 invariant-loop-number g l = record {
   target : SameTarget l.fn.file l.file;
-  taken : TakesEntries g.W.Write.contents first_version l.fn.file l.file (entries_of_all (take l.number l.wards));
-  valid : AllByRecursion (IsFileEntry first_version) (entries_of_all (take l.number l.wards));
+  taken : TakesEntries g.W.Write.contents written_version l.fn.file l.file (entries_of_all (take l.number l.wards));
+  valid : AllByRecursion (IsFileEntry written_version) (entries_of_all (take l.number l.wards));
 }

@@ -2,7 +2,7 @@ use Rattle.std.proofs.Common.{◌≡◌, ◌<◌, ◌≤◌, List, [], ◌∷◌
 use Rattle.std.specs.List.{AllByRecursion, flat_map}
 use Rattle.std.proofs.lemmas.List.{take_all}
 use Rattle.exh_prefix.specs.ListLemmas.{within_there}
-use Rattle.exh_prefix.specs.Version.{first_version}
+use Rattle.exh_prefix.specs.Layout.{written_version}
 use Rattle.exh_stream.specs.OutputLemmas.{OnErr-from}
 use Rattle.exh_keyer.specs.declared.any_keyer.AnyKeyer.{AnyKeyer}
 use Rattle.exh_page.specs.declared.page.Page.{Page}
@@ -34,7 +34,7 @@ loop-number-preserved g c =
       within = omega (arith, less);
       target = c.in_ok-write_page.ensures.same_target ∙ inv.target;
       taken = blocks_next (flat_map page_block) blocks_join pages number page.0 page.1 (page_block page.0) (one_page page.0) inv.taken gone.0;
-      ranges = next_all (λ (l : List Page). l) (λ front back. refl) pages number page.0 page.1 (page.0 ∷ []) refl (IsInRange first_version) inv.ranges (gone.1, tt);
+      ranges = next_all (λ (l : List Page). l) (λ front back. refl) pages number page.0 page.1 (page.0 ∷ []) refl (IsInRange written_version) inv.ranges (gone.1, tt);
       ward = c.in_ok-write_page.ensures.same ∙ inv.ward;
     }
 
@@ -56,4 +56,4 @@ returns-clause-ok g c =
 pub returns-clause-pages : goal.returns-clause-pages
 returns-clause-pages g c =
     let all : take c.loop-number.number c.args.ward.now.pages ≡ c.args.ward.now.pages = take_all c.loop-number.number c.args.ward.now.pages (omega (arith, c.loop-number-test.false, c.page_count-number-end.ensures.count)) in
-    subst (AllByRecursion (IsInRange first_version)) all c.loop-number.invariant.ranges
+    subst (AllByRecursion (IsInRange written_version)) all c.loop-number.invariant.ranges

@@ -1,6 +1,6 @@
 use Rattle.std.proofs.Common.{◌≡◌, ◌≤◌, length, take}
 use Rattle.std.specs.List.{AllByRecursion, flat_map}
-use Rattle.exh_prefix.specs.Version.{first_version}
+use Rattle.exh_prefix.specs.Layout.{written_version}
 use Rattle.exh_codec.specs.PageImage.{IsInRange}
 use Rattle.exh_page_file.specs.PageFile.{page_block}
 use Rattle.exh_page_file.specs.Writing.{SameTarget, TakesBlocks}
@@ -12,6 +12,6 @@ invariant-loop-number g l = record {
   within : l.number ≤ length l.fn.ward.pages;
   target : SameTarget l.fn.file l.file;
   taken : TakesBlocks g.W.Write.contents l.fn.file l.file (flat_map page_block (take l.number l.fn.ward.pages));
-  ranges : AllByRecursion (IsInRange first_version) (take l.number l.fn.ward.pages);
+  ranges : AllByRecursion (IsInRange written_version) (take l.number l.fn.ward.pages);
   ward : l.ward ≡ l.fn.ward;
 }
