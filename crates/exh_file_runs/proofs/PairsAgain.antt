@@ -20,7 +20,7 @@ use Rattle.exh_calls.specs.Effect.{Effect}
 use Rattle.exh_calls.specs.MapMachine.{changed, effect_in}
 use Rattle.exh_calls.specs.declared.call.Call.TheVariants.{Put}
 use Rattle.exh_legal.specs.MapLemmas.{map_of_records}
-use Rattle.exh_file.specs.FileVersion.{first_file}
+use Rattle.exh_file.specs.FileVersion.{format_of}
 use Rattle.exh_page_file.specs.PageFile.{PageFile, pages_of}
 use Rattle.exh_page_file.specs.Reading.{AreBytes}
 use Rattle.exh_legal_file.specs.LegalFile.{IsLegalPageFile}
@@ -104,7 +104,7 @@ loads_again one_maps new_maps other file bytes legal all range same_keyer lesser
     let settings = settings_over other file.header.settings in
     let records = flat_map records_of (pages_of file.wards) in
     let lines = map record_words records in
-    let can = file_tellable file bytes legal.is all in
+    let can = file_tellable (format_of bytes) file bytes legal.is all in
     let good = file_good file bytes settings.cap legal lesser in
     let fit = all_fit settings.cap (any_pseudokey file.header.settings.keyer) (pages_of file.wards) good.legal good.short good.homes in
     let fits = subst (λ keyer. AllFit settings.cap (any_pseudokey keyer) [] records) (sym same_keyer) fit in

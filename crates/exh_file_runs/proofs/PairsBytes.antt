@@ -14,7 +14,8 @@ use Rattle.exh_codec.specs.PageImage.{IsPage, content_of, used_of}
 use Rattle.exh_codec.specs.Head.{head_bytes, head_of}
 use Rattle.exh_codec.specs.declared.block.TheConstants.{CONTENT_LEN}
 use Rattle.sha2.specs.Sha256.{sha256}
-use Rattle.exh_file.specs.FileVersion.{first_file}
+use Rattle.exh_prefix.specs.Version.{Version}
+use Rattle.exh_file.specs.FileVersion.{FileVersion}
 use Rattle.exh_page_file.specs.PageFile.{IsPageFile, PageFile, header_block, page_block, pages_of, table_blocks, table_bytes}
 use Rattle.exh_file_runs.proofs.PairsText.{AreAllBytes, IsTellable}
 
@@ -43,20 +44,20 @@ all_tellable : (records : List Record) → AllByRecursion (λ pair. AreAllBytes 
 all_tellable [] all sized = tt
 all_tellable (r ∷ records) all sized = (tellable r all.0 sized.0, all_tellable records all.1 sized.1)
 
-sized_of : (pseudo : List ℕ → ℕ) (page : Page) → IsPage first_file.images pseudo page → AllByRecursion IsSizedPair (map pair_of (records_of page))
-sized_of pseudo (Live prefix right records) is = is.in_range.2
-sized_of pseudo (Forward low target) is = tt
+sized_of : (version : Version) (pseudo : List ℕ → ℕ) (page : Page) → IsPage version pseudo page → AllByRecursion IsSizedPair (map pair_of (records_of page))
+sized_of version pseudo (Live prefix right records) is = is.in_range.2
+sized_of version pseudo (Forward low target) is = tt
 
-pages_tellable : (pseudo : List ℕ → ℕ) (pages : List Page) → AllByRecursion (λ page. AreAllBytes (page_block page)) pages → AllByRecursion (IsPage first_file.images pseudo) pages → AllByRecursion IsTellable (flat_map records_of pages)
-pages_tellable pseudo [] all are = tt
-pages_tellable pseudo (page ∷ pages) all are =
+pages_tellable : (version : Version) (pseudo : List ℕ → ℕ) (pages : List Page) → AllByRecursion (λ page. AreAllBytes (page_block page)) pages → AllByRecursion (IsPage version pseudo) pages → AllByRecursion IsTellable (flat_map records_of pages)
+pages_tellable version pseudo [] all are = tt
+pages_tellable version pseudo (page ∷ pages) all are =
     AllByRecursion-append IsTellable (records_of page) (flat_map records_of pages)
-    (all_tellable (records_of page) (each_bytes pair_image (map pair_of (records_of page)) (pairs_bytes page all.0)) (sized_of pseudo page are.0))
-    (pages_tellable pseudo pages all.1 are.1)
+    (all_tellable (records_of page) (each_bytes pair_image (map pair_of (records_of page)) (pairs_bytes page all.0)) (sized_of version pseudo page are.0))
+    (pages_tellable version pseudo pages all.1 are.1)
 
-pub file_tellable : (file : PageFile) (bytes : List ℕ) → IsPageFile first_file file bytes → AreAllBytes bytes → AllByRecursion IsTellable (flat_map records_of (pages_of file.wards))
-file_tellable file bytes is all =
+pub file_tellable : (version : FileVersion) (file : PageFile) (bytes : List ℕ) → IsPageFile version file bytes → AreAllBytes bytes → AllByRecursion IsTellable (flat_map records_of (pages_of file.wards))
+file_tellable version file bytes is all =
     let pages = pages_of file.wards in
-    let table = table_bytes first_file.images (table_blocks (length file.entries)) file.entries in
-    let behind = AllByRecursion-append_right (λ byte. byte < 256) (header_block first_file file.header) (flat_map page_block pages ++ table) (subst AreAllBytes is.whole all) in
-    pages_tellable (any_pseudokey file.header.settings.keyer) pages (each_bytes page_block pages (AllByRecursion-append_left (λ byte. byte < 256) (flat_map page_block pages) table behind)) is.valid.pages
+    let table = table_bytes version.images (table_blocks (length file.entries)) file.entries in
+    let behind = AllByRecursion-append_right (λ byte. byte < 256) (header_block version file.header) (flat_map page_block pages ++ table) (subst AreAllBytes is.whole all) in
+    pages_tellable version.images (any_pseudokey file.header.settings.keyer) pages (each_bytes page_block pages (AllByRecursion-append_left (λ byte. byte < 256) (flat_map page_block pages) table behind)) is.valid.pages
