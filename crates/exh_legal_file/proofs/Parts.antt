@@ -1,9 +1,13 @@
 -- What a file's parts are worth, as the six reasons are asked of them.
-use Rattle.std.proofs.Common.{◌≡◌, ℕ, ◌^◌, ◌≤◌, List, [], ◌∷◌, length, slice_get, None, Some, zero, suc, inl, inr, sym, ap, ◌∙◌, subst, arith}
+use Rattle.std.proofs.Common.{◌≡◌, ℕ, ◌+◌, ◌-◌, ◌^◌, ◌≤◌, Bool, false, List, [], ◌∷◌, ◌++◌, length, take, slice_get, None, Some, zero, suc, inl, inr, sym, ap, ◌∙◌, subst, append_assoc, length-append, arith}
 use Rattle.std.specs.List.{AllByRecursion}
-use Rattle.std.proofs.lemmas.List.{length-map, length-take}
+use Rattle.std.proofs.lemmas.List.{length-map, length-replicate, length-take, replicate-append-replicate, take_at}
 use Rattle.std.proofs.lemmas.Bool.{cases_lt}
 use Rattle.std.proofs.lemmas.Nat.{pow_below}
+use Rattle.exh_prefix.specs.Bits.{word_bits}
+use Rattle.exh_prefix.specs.Prefix.{HasPrefixUpTo, zeros}
+use Rattle.exh_prefix.specs.PrefixLemmas.{length-up_to}
+use Rattle.exh_prefix.specs.declared.prefix.TheConstants.{LIMIT}
 use Rattle.exh_prefix.specs.ListLemmas.{AllByRecursion-append_left, AllByRecursion-append_right}
 use Rattle.exh_prefix.specs.declared.version.Version.{Version as KnownVersion}
 use Rattle.exh_prefix.specs.Layout.{layout}
@@ -33,8 +37,22 @@ bounded : (version : KnownVersion) (pseudo : List ℕ → ℕ) (page : Page) →
 bounded version pseudo (Live prefix right records) valid = omega (arith, valid.in_range.0, layout_short version)
 bounded version pseudo (Forward low target) valid = valid.in_range.0
 
+-- bits that are zero past the first so many are zero past more of them
+zero_past_more : (fewer more bits : ℕ) → fewer ≤ more → more ≤ 64 → HasPrefixUpTo fewer fewer bits → HasPrefixUpTo more more bits
+zero_past_more fewer more bits less word stored =
+    let front = take fewer (word_bits bits) in
+    let filled = front ++ zeros (more - fewer) in
+    let long : length front ≡ fewer = length-up_to fewer fewer bits (omega (arith, less, word)) stored in
+    let count : more - fewer + (64 - more) ≡ 64 - fewer = omega (arith, less, word) in
+    let parts : zeros (64 - fewer) ≡ zeros (more - fewer) ++ zeros (64 - more) = ap zeros (sym count) ∙ sym (replicate-append-replicate (more - fewer) (64 - more) false) in
+    let whole : word_bits bits ≡ filled ++ zeros (64 - more) = stored.1 ∙ ap (λ (back : List Bool). front ++ back) parts ∙ sym (append_assoc front (zeros (more - fewer)) (zeros (64 - more))) in
+    let many : length filled ≡ more = omega (arith, less, long, length-append front (zeros (more - fewer)), length-replicate (more - fewer) false) in
+    let taken : take more (word_bits bits) ≡ filled = ap (take more) whole ∙ take_at filled (zeros (64 - more)) more many in
+    (omega arith, whole ∙ ap (λ (begun : List Bool). begun ++ zeros (64 - more)) (sym taken))
+
 formed : (version : KnownVersion) (pseudo : List ℕ → ℕ) (page : Page) → IsPage (layout version) pseudo page → IsWellFormed pseudo page
-formed version pseudo page valid = valid.formed
+formed version pseudo (Live prefix right records) valid = valid.formed
+formed version pseudo (Forward low target) valid = (valid.formed.0, zero_past_more (layout version).limit LIMIT low (layout_short version) (omega arith) valid.formed.1)
 
 pub pages_formed : (file : PageFile) → IsKnownFile file → OfEachWard (parts_in file) (λ ward table pages. AreFormed (any_pseudokey file.header.settings.keyer) pages)
 pages_formed file (version, valid) number pages there =
