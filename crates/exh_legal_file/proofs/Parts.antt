@@ -5,15 +5,16 @@ use Rattle.std.proofs.lemmas.List.{length-map, length-take}
 use Rattle.std.proofs.lemmas.Bool.{cases_lt}
 use Rattle.std.proofs.lemmas.Nat.{pow_below}
 use Rattle.exh_prefix.specs.ListLemmas.{AllByRecursion-append_left, AllByRecursion-append_right}
-use Rattle.exh_prefix.specs.Version.{first_version}
+use Rattle.exh_prefix.specs.declared.version.Version.{Version as KnownVersion}
+use Rattle.exh_prefix.specs.Layout.{layout}
+use Rattle.exh_prefix.specs.LayoutLemmas.{layout_short}
 use Rattle.exh_keyer.specs.Pseudokey.{any_pseudokey}
 use Rattle.exh_page.specs.declared.page.Page.{Page}
 use Rattle.exh_page.specs.declared.page.Page.TheVariants.{Live, Forward}
 use Rattle.exh_page.specs.Page.{IsWellFormed}
 use Rattle.exh_legal.specs.MapLemmas.{page_at}
 use Rattle.exh_codec.specs.PageImage.{IsPage}
-use Rattle.exh_file.specs.FileVersion.{first_file}
-use Rattle.exh_page_file.specs.PageFile.{IsFile, PageFile, pages_of}
+use Rattle.exh_page_file.specs.PageFile.{IsKnownFile, PageFile, pages_of}
 use Rattle.exh_reasons.specs.FileParts.{HasPartRanges, IsBounded, OfEachWard}
 use Rattle.exh_reasons.specs.Laws.{AreFormed, IsLegalFile, LegalFilesPass}
 use Rattle.exh_reasons.specs.Reasons.{IsFirstReason}
@@ -28,26 +29,26 @@ pages_within P [] number pages all there = cc
 pages_within P (ward ∷ wards) zero pages all there = let same : ward ≡ pages = cc in subst (AllByRecursion P) same (AllByRecursion-append_left P ward (pages_of wards) all)
 pages_within P (ward ∷ wards) (suc number) pages all there = pages_within P wards number pages (AllByRecursion-append_right P ward (pages_of wards) all) there
 
-bounded : (pseudo : List ℕ → ℕ) (page : Page) → IsPage first_version pseudo page → IsBounded page
-bounded pseudo (Live prefix right records) valid = valid.in_range.0
-bounded pseudo (Forward low target) valid = valid.in_range.0
+bounded : (version : KnownVersion) (pseudo : List ℕ → ℕ) (page : Page) → IsPage (layout version) pseudo page → IsBounded page
+bounded version pseudo (Live prefix right records) valid = omega (arith, valid.in_range.0, layout_short version)
+bounded version pseudo (Forward low target) valid = valid.in_range.0
 
-formed : (pseudo : List ℕ → ℕ) (page : Page) → IsPage first_version pseudo page → IsWellFormed pseudo page
-formed pseudo page valid = valid.formed
+formed : (version : KnownVersion) (pseudo : List ℕ → ℕ) (page : Page) → IsPage (layout version) pseudo page → IsWellFormed pseudo page
+formed version pseudo page valid = valid.formed
 
-pub pages_formed : (file : PageFile) → IsFile first_file file → OfEachWard (parts_in file) (λ ward table pages. AreFormed (any_pseudokey file.header.settings.keyer) pages)
-pages_formed file valid number pages there =
+pub pages_formed : (file : PageFile) → IsKnownFile file → OfEachWard (parts_in file) (λ ward table pages. AreFormed (any_pseudokey file.header.settings.keyer) pages)
+pages_formed file (version, valid) number pages there =
     let pseudo = any_pseudokey file.header.settings.keyer in
-    let all = pages_within (IsPage first_version pseudo) file.wards number pages valid.pages there in
+    let all = pages_within (IsPage (layout version) pseudo) file.wards number pages valid.pages there in
     record {
-      formed = λ number page is. formed pseudo page (page_at (IsPage first_version pseudo) pages number page all is);
-      bounded = λ number page is. bounded pseudo page (page_at (IsPage first_version pseudo) pages number page all is);
+      formed = λ number page is. formed version pseudo page (page_at (IsPage (layout version) pseudo) pages number page all is);
+      bounded = λ number page is. bounded version pseudo page (page_at (IsPage (layout version) pseudo) pages number page all is);
     }
 
 -- ---- legal where there is no reason, and only there
 
-pub legal_without : LegalFilesPass → (file : PageFile) → IsFile first_file file → IsFirstReason (parts_in file) None → IsLegalFile (any_pseudokey file.header.settings.keyer) (parts_in file)
+pub legal_without : LegalFilesPass → (file : PageFile) → IsKnownFile file → IsFirstReason (parts_in file) None → IsLegalFile (any_pseudokey file.header.settings.keyer) (parts_in file)
 legal_without law file valid none = (law (any_pseudokey file.header.settings.keyer) (parts_in file) (ranges_of file valid)).0 (record { formed = pages_formed file valid; passed = none })
 
-pub no_reason : LegalFilesPass → (file : PageFile) → IsFile first_file file → IsLegalFile (any_pseudokey file.header.settings.keyer) (parts_in file) → (reason : Reason) → IsFirstReason (parts_in file) (Some reason) → ⊥
+pub no_reason : LegalFilesPass → (file : PageFile) → IsKnownFile file → IsLegalFile (any_pseudokey file.header.settings.keyer) (parts_in file) → (reason : Reason) → IsFirstReason (parts_in file) (Some reason) → ⊥
 no_reason law file valid legal reason first = first.0 (((law (any_pseudokey file.header.settings.keyer) (parts_in file) (ranges_of file valid)).1 legal).passed reason)

@@ -7,8 +7,8 @@ use Rattle.std.proofs.lemmas.List.FromFn.{get_or-map-range_with_len}
 use Rattle.std.proofs.lemmas.Nat.{pow_below}
 use Rattle.exh_page.specs.declared.page.Page.{Page}
 use Rattle.exh_file.specs.declared.file_entry.FileEntry.{FileEntry}
-use Rattle.exh_file.specs.FileVersion.{FitsFile, first_file}
-use Rattle.exh_page_file.specs.PageFile.{IsFile, PageFile}
+use Rattle.exh_file.specs.FileVersion.{FitsFile}
+use Rattle.exh_page_file.specs.PageFile.{IsKnownFile, PageFile}
 use Rattle.exh_reasons.specs.FileParts.{HasPartRanges}
 use Rattle.exh_legal_file.specs.LegalFile.{parts_in, table_naming, tables_of}
 use Rattle.exh_legal_file.specs.declared.tables.TheConstants.{NAMED_WARDS}
@@ -21,16 +21,16 @@ few_wards bits few = elim (cases_lt 4 bits) [
   | inr within ↦ within
 ]
 
-pub few_bits : (file : PageFile) → IsFile first_file file → file.header.settings.ward_bits ≤ 4
-few_bits file valid = few_wards file.header.settings.ward_bits valid.header.wards
+pub few_bits : (file : PageFile) → IsKnownFile file → file.header.settings.ward_bits ≤ 4
+few_bits file valid = few_wards file.header.settings.ward_bits valid.1.header.wards
 
-pub ranges_of : (file : PageFile) → IsFile first_file file → HasPartRanges (parts_in file)
-ranges_of file valid = record { cap = valid.header.few; bits = (let few = few_bits file valid in omega arith) }
+pub ranges_of : (file : PageFile) → IsKnownFile file → HasPartRanges (parts_in file)
+ranges_of file valid = record { cap = valid.1.header.few; bits = (let few = few_bits file valid in omega arith) }
 
-pub count_of_wards : (file : PageFile) → IsFile first_file file → length file.wards ≡ 2 ^ file.header.settings.ward_bits
+pub count_of_wards : (file : PageFile) → IsKnownFile file → length file.wards ≡ 2 ^ file.header.settings.ward_bits
 count_of_wards file valid =
-    sym (length-map file.wards (λ (pages : List Page). length pages)) ∙ ap length valid.counts
-    ∙ (let wards = valid.header.wards in omega (arith, valid.header.counts, length-take (2 ^ file.header.settings.ward_bits) file.header.page_counts))
+    sym (length-map file.wards (λ (pages : List Page). length pages)) ∙ ap length valid.1.counts
+    ∙ (let wards = valid.1.header.wards in omega (arith, valid.1.header.counts, length-take (2 ^ file.header.settings.ward_bits) file.header.page_counts))
 
 -- ---- the tables of its wards
 

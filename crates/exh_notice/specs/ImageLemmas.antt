@@ -348,26 +348,47 @@ module _ (version : Version) (fits : Fits 4 version) where
   -- ---- bytes that pass the tests are a notice's image
 
   -- the tests read the first 16 bytes alone
-  tests_agree : (one other : List ℕ) → ((k : ℕ) → k < 16 → slice_index one k ≡ slice_index other k) → PassesAll version one → PassesAll version other
-  tests_agree one other agree passed =
-      let byte = λ (k : ℕ) (within : k < 16). sym (agree k within) in
-      let kind : slice_index other 1 ≡ slice_index one 1 = byte 1 (omega arith) in
-      let prefix_len : slice_index one 2 ≡ slice_index other 2 = agree 2 (omega arith) in
-      let zeros = items-agree (4 + version.bytes) (4 - version.bytes) 16 one other (omega (arith, fits.bytes)) agree in
-      let right : big_from 12 4 other ≡ big_from 12 4 one = sym (big_from-agree 12 4 16 one other (omega arith) agree) in
-      let field : big_from 4 version.bytes one ≡ big_from 4 version.bytes other = big_from-agree 4 version.bytes 16 one other (omega (arith, fits.bytes)) agree in
-      let padded : IsPadded version other = record {
-        after_length = byte 3 (omega arith) ∙ passed.1.after_length;
-        after_prefix = subst (AllByRecursion (λ (byte : ℕ). byte ≡ 0)) zeros passed.1.after_prefix;
-        after_merge = λ merge. right ∙ passed.1.after_merge (sym kind ∙ merge);
-      } in
-      let stored : HasPrefixUpTo version.limit (slice_index other 2) (field_low version (big_from 4 version.bytes other)) =
-      subst (λ (len : ℕ). HasPrefixUpTo version.limit len (field_low version (big_from 4 version.bytes other))) prefix_len
-      (subst (λ (n : ℕ). HasPrefixUpTo version.limit (slice_index one 2) (field_low version n)) field passed.2.1) in
-      (subst HasKindByte (sym kind) passed.0, padded, (omega (arith, prefix_len, passed.2.0), stored))
-    where
-      HasKindByte : ℕ → Type 0
-      HasKindByte byte = (byte ≡ 1) ⊎ (byte ≡ 2)
+  module _ (one other : List ℕ) (agree : (k : ℕ) → k < 16 → slice_index one k ≡ slice_index other k) where
+    abbrev HasKindByte : ℕ → Type 0
+    HasKindByte byte = (byte ≡ 1) ⊎ (byte ≡ 2)
+
+    kind_agrees : HasKind one → HasKind other
+    kind_agrees has = subst HasKindByte (agree 1 (omega arith)) has
+
+    padding_agrees : IsPadded version one → IsPadded version other
+    padding_agrees padded =
+        let zeros = items-agree (4 + version.bytes) (4 - version.bytes) 16 one other (omega (arith, fits.bytes)) agree in
+        let right : big_from 12 4 other ≡ big_from 12 4 one = sym (big_from-agree 12 4 16 one other (omega arith) agree) in
+        record {
+          after_length = sym (agree 3 (omega arith)) ∙ padded.after_length;
+          after_prefix = subst (AllByRecursion (λ (byte : ℕ). byte ≡ 0)) zeros padded.after_prefix;
+          after_merge = λ merge. right ∙ padded.after_merge (agree 1 (omega arith) ∙ merge);
+        }
+
+    prefix_agrees : HasPrefixField version one → HasPrefixField version other
+    prefix_agrees has =
+        let prefix_len : slice_index one 2 ≡ slice_index other 2 = agree 2 (omega arith) in
+        let field : big_from 4 version.bytes one ≡ big_from 4 version.bytes other = big_from-agree 4 version.bytes 16 one other (omega (arith, fits.bytes)) agree in
+        let stored : HasPrefixUpTo version.limit (slice_index other 2) (field_low version (big_from 4 version.bytes other)) =
+        subst (λ (len : ℕ). HasPrefixUpTo version.limit len (field_low version (big_from 4 version.bytes other))) prefix_len
+        (subst (λ (n : ℕ). HasPrefixUpTo version.limit (slice_index one 2) (field_low version n)) field has.1) in
+        (omega (arith, prefix_len, has.0), stored)
+
+    tests_agree : PassesAll version one → PassesAll version other
+    tests_agree passed = (kind_agrees passed.0, padding_agrees passed.1, prefix_agrees passed.2)
+
+  agree_too : (one other : List ℕ) → ((k : ℕ) → k < 16 → slice_index one k ≡ slice_index other k) → (k : ℕ) → k < 16 → slice_index other k ≡ slice_index one k
+  agree_too one other agree k within = sym (agree k within)
+
+  -- and so does the first that fails
+  fault_agrees : (one other : List ℕ) → ((k : ℕ) → k < 16 → slice_index one k ≡ slice_index other k) → (found : NoticeFault) → FailsFirst version found one → FailsFirst version found other
+  fault_agrees one other agree fault.Kind fails = λ has. fails (kind_agrees other one (agree_too one other agree) has)
+  fault_agrees one other agree fault.Padding fails = (kind_agrees one other agree fails.0, λ padded. fails.1 (padding_agrees other one (agree_too one other agree) padded))
+  fault_agrees one other agree fault.Prefix fails =
+      (kind_agrees one other agree fails.0, padding_agrees one other agree fails.1, λ prefix. fails.2 (prefix_agrees other one (agree_too one other agree) prefix))
+
+  pub fails_whole : (found : NoticeFault) (image front : List ℕ) → front ≡ take 16 image → FailsFirst version found front → FailsFirst version found image
+  fails_whole found image front is fails = fault_agrees front image (λ k within. ap (λ (bytes : List ℕ). slice_index bytes k) is ∙ get_or-take 16 image k 0 within) found fails
 
   pub entry_passes : {ward : ℕ} {prefix : List Bool} {entry : Entry} {image : List ℕ} → IsEntryImage version ward prefix entry image → PassesAll version image
   entry_passes is = (image_has_kind is, image_is_padded is, image_has_prefix is)

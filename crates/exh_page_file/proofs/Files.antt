@@ -21,13 +21,14 @@ use Rattle.exh_file.specs.declared.file_entry.FileEntry.{FileEntry}
 use Rattle.exh_file.specs.declared.file_fault.FileFault.{FileFault}
 use Rattle.exh_file.specs.declared.file_fault.FileFault.TheVariants as faults
 use Rattle.exh_file.specs.declared.header.Header.{Header}
-use Rattle.exh_file.specs.FileVersion.{FileVersion, FitsFile, file_version}
+use Rattle.exh_file.specs.FileVersion.{FileVersion, FitsFile, file_version, format_of, version_of}
+use Rattle.exh_file.specs.FileVersionLemmas.{image_says, version_from_front}
 use Rattle.exh_file.specs.HeaderImage.{IsHeader, IsHeaderImage, IsPageCount}
 use Rattle.exh_file.specs.Laws.{TablesAreBlocks, TablesPass}
 use Rattle.exh_prefix.specs.declared.version.Version.{Version as KnownVersion}
 use Rattle.exh_prefix.specs.Layout.{layout}
 use Rattle.exh_prefix.specs.LayoutLemmas.{layout_short}
-use Rattle.exh_page_file.specs.FileTests.{End, FileFailsFirst, HeaderFails, IsFileFault, NextFails, PassesAt, bytes_from, page_places, places_behind, table_places}
+use Rattle.exh_page_file.specs.FileTests.{End, FileFailsFirst, HeaderFails, IsFault, IsFileFault, NextFails, PassesAt, bytes_from, page_places, places_behind, table_places}
 use Rattle.exh_page_file.specs.PageFile.{IsPageFile, PageFile, header_block, page_block, pages_of, table_blocks, table_bytes}
 use Rattle.exh_page_file.specs.Reading.{AreBytes, FailsInPages, FailsInTable, GivesEntries, GivesPages, IsAll, IsBlock}
 use Rattle.exh_page_file.proofs.Elements.{all_join}
@@ -87,9 +88,19 @@ pub record Headed (version : FileVersion) (old new : Option (List ℕ)) (header 
   pub is : IsBlock block
 
 -- a fault of the header
-pub fault_of_header : (version : FileVersion) (known : Option (List ℕ)) (fault : FileFault) → IfSome known (λ bytes. NextFails (HeaderFails version) bytes fault) → IfSome known (λ bytes. IsFileFault version bytes fault)
-fault_of_header version None fault fails = tt
-fault_of_header version (Some bytes) fault fails = inl fails
+pub fault_of_header : (known : Option (List ℕ)) (fault : FileFault) → IfSome known (λ bytes. NextFails (λ block. HeaderFails (format_of block) block) bytes fault) → IfSome known (λ bytes. IsFault bytes fault)
+fault_of_header None fault fails = tt
+fault_of_header (Some bytes) fault (inl short) = inl (inl short)
+fault_of_header (Some bytes) fault (inr whole) =
+    inl (inr (whole.0, subst (λ (version : KnownVersion). HeaderFails (file_version version) (take 4096 bytes) fault) (version_from_front (take 4096 bytes) bytes 4096 (omega arith) refl) whole.1))
+
+-- a fault behind it, in the version that it says
+pub fault_as_said : (version : KnownVersion) (a b : Option (List ℕ)) (header : Header) (block : List ℕ) (fault : FileFault) → Headed (file_version version) a b header block
+    → IfSome a (λ bytes. IsFileFault (file_version version) bytes fault) → IfSome a (λ bytes. IsFault bytes fault)
+fault_as_said version None b header block fault headed fails = tt
+fault_as_said version (Some bytes) None header block fault headed fails = absurd headed.given
+fault_as_said version (Some bytes) (Some rest) header block fault headed fails =
+    subst (λ (version : KnownVersion). IsFileFault (file_version version) bytes fault) (sym (image_says version header block rest bytes headed.image headed.given)) fails
 
 module _ (version : FileVersion) (fits : FitsFile version) (pages_law : ImagesPass) (page_blocks : ImagesAreBlocks) (tables_law : TablesPass) (table_blocks_law : TablesAreBlocks) where
   behind_header : (bytes rest block : List ℕ) (header : Header) (fault : FileFault) → bytes ≡ block ++ rest → IsHeaderImage version header block → length block ≡ 4096
@@ -204,3 +215,14 @@ module _ (version : FileVersion) (a b c e : Option (List ℕ)) (header : Header)
           whole = (λ i. headed.image.whole i ++ (flat_map page_block (sym pages i) ++ table_bytes version.images (table_blocks (sym count i)) entries));
         },
       )
+
+-- bytes of a file in a version say it
+pub file_as_said : (version : KnownVersion) (known : Option (List ℕ)) (file : PageFile)
+    → (bytes : List ℕ) × IsAll known bytes × AreBytes bytes × IsPageFile (file_version version) file bytes → (bytes : List ℕ) × IsAll known bytes × AreBytes bytes × IsPageFile (format_of bytes) file bytes
+unfolding header_block
+file_as_said version known file read =
+    let bytes = read.0 in
+    let is = read.3 in
+    let rest = flat_map page_block (pages_of file.wards) ++ table_bytes (layout version) (table_blocks (length file.entries)) file.entries in
+    let said : version_of bytes ≡ version = image_says version file.header (header_block (file_version version) file.header) rest bytes (record { valid = is.valid.header; whole = refl }) is.whole in
+    (bytes, read.1, read.2, subst (λ (version : KnownVersion). IsPageFile (file_version version) file bytes) (sym said) is)

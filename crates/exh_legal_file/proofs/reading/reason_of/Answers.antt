@@ -17,7 +17,7 @@ first_reason-requires-clause-tables c =
     let wards = ap length c.deref.ensures.value in
     let all = length-map c.args.parts.now.wards.items (λ ward. ward.items) in
     let tables = ap length c.requires.tables ∙ count_of_tables file.entries in
-    omega (arith, wards, all, tables, count_of_wards file c.requires.file, c.requires.file.header.wards)
+    omega (arith, wards, all, tables, count_of_wards file c.requires.file, c.requires.file.1.header.wards)
 
 pub returns : goal.returns
 returns c =
