@@ -41,7 +41,14 @@ pub(crate) fn follow<B: Blocks>(
         if number >= pages {
             return Err(DirectFault::Astray);
         }
-        let page = read_page(alloc, blocks, version, count, before + number, header.settings.keyer)?;
+        let page = read_page(
+            alloc,
+            blocks,
+            version,
+            count,
+            before + number,
+            header.settings.keyer,
+        )?;
         match lead_of(&page, pseudokey) {
             Lead::Home => return Ok(page.find(pseudokey, key)),
             Lead::To(next) => number = next,

@@ -36,7 +36,15 @@ pub(crate) fn named_page<B: Blocks>(
     let mut before = None;
     for number in 0..(entries + (BLOCK_ENTRIES - 1)) / BLOCK_ENTRIES {
         let more = BLOCK_ENTRIES.min(entries - BLOCK_ENTRIES * number);
-        let next = read_entries(alloc, blocks, version, count, place + number as u32, more, before)?;
+        let next = read_entries(
+            alloc,
+            blocks,
+            version,
+            count,
+            place + number as u32,
+            more,
+            before,
+        )?;
         pass_all(&mut leaf, &next, ward, pseudokey);
         note_last(&mut before, &next);
     }
