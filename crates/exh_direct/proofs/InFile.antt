@@ -19,7 +19,9 @@ use Rattle.exh_prefix.specs.Leading.{ward_prefix}
 use Rattle.exh_prefix.specs.LeadingLemmas.{leading-lt, length-leading_bits}
 use Rattle.exh_prefix.specs.Prefix.{Begins, begins, low_of, prefix_cmp}
 use Rattle.exh_prefix.specs.PrefixLemmas.{begins_low, is_front-true}
+use Rattle.exh_prefix.specs.declared.version.Version.{Version as KnownVersion}
 use Rattle.exh_prefix.specs.Version.{Fits}
+use Rattle.exh_prefix.specs.LayoutLemmas.{fits_wider}
 use Rattle.exh_table.specs.declared.leaf.Leaf.{Leaf}
 use Rattle.exh_table.specs.Table.{TableMap}
 use Rattle.exh_table.specs.Walk.{walk_in}
@@ -38,7 +40,8 @@ use Rattle.exh_codec.specs.PageImage.{IsImage}
 use Rattle.exh_file.specs.declared.file_entry.FileEntry.{FileEntry}
 use Rattle.exh_file.specs.declared.file_fault.FileFault.{FileFault}
 use Rattle.exh_file.specs.declared.header.Header.{Header}
-use Rattle.exh_file.specs.FileVersion.{FitsFile, first_file}
+use Rattle.exh_file.specs.FileVersion.{FileVersion, FitsFile, file_version, format_of, version_of}
+use Rattle.exh_file.specs.FileVersionLemmas.{image_says, known_file_fits, version_from_front}
 use Rattle.exh_file.specs.FirstFailing.{IsFirstFailing}
 use Rattle.exh_file.specs.HeaderImage.{IsHeaderImage}
 use Rattle.exh_file.specs.Laws.{HeadersAreBlocks, HeadersPass, IsOfTable, OneHeader, OneTable, TablesAreBlocks, TablesPass}
@@ -51,15 +54,12 @@ use Rattle.exh_legal_file.specs.LegalFileLemmas.{count_of_wards, few_bits, table
 use Rattle.exh_direct.specs.declared.direct_fault.DirectFault.{DirectFault}
 use Rattle.exh_direct.specs.declared.direct_fault.DirectFault.TheVariants.{File, Astray, Read, Memory}
 use Rattle.exh_direct.specs.declared.lead.Lead.TheVariants.{Home, Nowhere, To}
-use Rattle.exh_direct.specs.Answer.{FailsAtEnd, FailsBehind, FailsOnWay, Finds, FindsOnWay, IsPageIn, IsTable, IsTableFront, IsWay, Refuses, block_of, head_places, page_named, page_place, pages_in, place_in, pseudokey_in, table_place, ward_in}
+use Rattle.exh_direct.specs.Answer.{FailsAtEnd, FailsBehind, FailsOnWay, Finds, FindsOnWay, IsPageIn, IsTable, IsTableFront, IsWay, Refuses, RefusesBehind, block_of, head_places, page_named, page_place, pages_in, place_in, pseudokey_in, table_place, ward_in}
 use Rattle.exh_direct.specs.Known.{BlockFails, IsHeaderAt}
 use Rattle.exh_direct.specs.Laws.{FindsInFile, IsOtherFault, map_in}
 use Rattle.exh_direct.specs.Way.{lead_of, lead_right}
 use Rattle.exh_direct.proofs.FileBlocks.{StandsAt, block_image, header_is, header_stands, page_image, page_stands, table_stands}
 use Rattle.exh_direct.proofs.FileMap.{get_in_ward, legal_from}
-
-pub first_file_fits : FitsFile first_file
-first_file_fits = record { number = omega arith; limit = omega arith; images = record { limit = omega arith; bytes = omega arith } }
 
 -- ---- no fault where all tests are passed
 
@@ -159,7 +159,13 @@ pub record Laws : Type 0 where
   pub table_blocks : TablesAreBlocks
   pub walks : WalksNameHomes
 
-module _ (laws : Laws) (file : PageFile) (bytes : List ℕ) (small : AreBytes bytes) (legal : IsLegalPageFile first_file file bytes) where
+module _ (laws : Laws) (known_version : KnownVersion) (file : PageFile) (bytes : List ℕ) (small : AreBytes bytes) (legal : IsLegalPageFile (file_version known_version) file bytes) where
+  abbrev version : FileVersion
+  version = file_version known_version
+
+  fits : FitsFile version
+  fits = known_file_fits known_version
+
   abbrev header : Header
   header = file.header
 
@@ -168,43 +174,46 @@ module _ (laws : Laws) (file : PageFile) (bytes : List ℕ) (small : AreBytes by
 
   -- ---- its header
 
-  same_header : (other : Header) → IsHeaderAt first_file (Some bytes) other → other ≡ file.header
+  same_header : (other : Header) → IsHeaderAt version (Some bytes) other → other ≡ file.header
   same_header other (block, at, image) =
-      let here : IsHeaderImage first_file other (block_at 0 bytes) = subst (IsHeaderImage first_file other) at.1 image in
-      laws.one_header first_file first_file_fits (block_at 0 bytes) other file.header here (header_is first_file first_file_fits laws.page_blocks laws.header_blocks laws.table_blocks file bytes legal.is)
+      let here : IsHeaderImage version other (block_at 0 bytes) = subst (IsHeaderImage version other) at.1 image in
+      laws.one_header version fits (block_at 0 bytes) other file.header here (header_is version fits laws.page_blocks laws.header_blocks laws.table_blocks file bytes legal.is)
 
-  no_header_fault : (fault : DirectFault) → BlockFails (HeaderFails first_file) (Some bytes) 0 fault → IsOtherFault fault
-  no_header_fault fault fails =
-      let stands = header_stands first_file first_file_fits laws.page_blocks laws.header_blocks laws.table_blocks file bytes legal.is in
-      let passed = (laws.headers_pass first_file first_file_fits (block_at 0 bytes) (length-take-le 4096 (bytes_from 0 bytes) stands.whole) (bytes_of_block 0 bytes small)).0
-      (file.header, header_is first_file first_file_fits laws.page_blocks laws.header_blocks laws.table_blocks file bytes legal.is) in
-      no_fault (HeaderFails first_file) bytes 0 fault stands.whole (λ (fault : FileFault). λ (first : HeaderFails first_file (block_at 0 bytes) fault). none_first _ _ fault first passed) fails
+  pub header_passes : (fault : FileFault) → HeaderFails version (block_at 0 bytes) fault → ⊥
+  header_passes fault first =
+      let stands = header_stands version fits laws.page_blocks laws.header_blocks laws.table_blocks file bytes legal.is in
+      let passed = (laws.headers_pass version fits (block_at 0 bytes) (length-take-le 4096 (bytes_from 0 bytes) stands.whole) (bytes_of_block 0 bytes small)).0
+      (file.header, header_is version fits laws.page_blocks laws.header_blocks laws.table_blocks file bytes legal.is) in
+      none_first _ _ fault first passed
+
+  pub whole_header : IsWhole 0 bytes
+  whole_header = (header_stands version fits laws.page_blocks laws.header_blocks laws.table_blocks file bytes legal.is).whole
 
   -- ---- its table
 
-  table_at : (number : ℕ) → number < table_blocks file.header.entry_count → StandsAt (table_place file.header + number) bytes (table_block first_file.images (block_of number file.entries))
-  table_at number less = table_stands first_file first_file_fits laws.page_blocks laws.header_blocks laws.table_blocks file bytes legal.is number less
+  table_at : (number : ℕ) → number < table_blocks file.header.entry_count → StandsAt (table_place file.header + number) bytes (table_block version.images (block_of number file.entries))
+  table_at number less = table_stands version fits laws.page_blocks laws.header_blocks laws.table_blocks file bytes legal.is number less
 
-  image_of_block : (number : ℕ) → IsTableImage first_file.images (block_of number file.entries) (table_block first_file.images (block_of number file.entries))
-  image_of_block number = block_image first_file first_file_fits laws.page_blocks laws.header_blocks laws.table_blocks file bytes legal.is number
+  image_of_block : (number : ℕ) → IsTableImage version.images (block_of number file.entries) (table_block version.images (block_of number file.entries))
+  image_of_block number = block_image version fits laws.page_blocks laws.header_blocks laws.table_blocks file bytes legal.is number
 
-  same_block : (blocks : ℕ) (entries : List FileEntry) → IsTableFront first_file (Some bytes) file.header blocks entries → blocks ≤ table_blocks file.header.entry_count → (number : ℕ) → number < blocks → block_of number entries ≡ block_of number file.entries
+  same_block : (blocks : ℕ) (entries : List FileEntry) → IsTableFront version (Some bytes) file.header blocks entries → blocks ≤ table_blocks file.header.entry_count → (number : ℕ) → number < blocks → block_of number entries ≡ block_of number file.entries
   same_block blocks entries front few number less =
       let stands = table_at number (omega (arith, less, few)) in
       let read = front.each number less in
-      let block : read.0 ≡ table_block first_file.images (block_of number file.entries) = read.1.1 ∙ stands.is in
-      laws.one_table first_file.images first_file_fits.images (table_block first_file.images (block_of number file.entries)) (block_of number entries) (block_of number file.entries)
-      (subst (IsTableImage first_file.images (block_of number entries)) block read.2) (image_of_block number)
+      let block : read.0 ≡ table_block version.images (block_of number file.entries) = read.1.1 ∙ stands.is in
+      laws.one_table version.images fits.images (table_block version.images (block_of number file.entries)) (block_of number entries) (block_of number file.entries)
+      (subst (IsTableImage version.images (block_of number entries)) block read.2) (image_of_block number)
 
-  same_front : (blocks : ℕ) (entries : List FileEntry) → IsTableFront first_file (Some bytes) file.header blocks entries → blocks ≤ table_blocks file.header.entry_count → entries ≡ take (254 * blocks) file.entries
+  same_front : (blocks : ℕ) (entries : List FileEntry) → IsTableFront version (Some bytes) file.header blocks entries → blocks ≤ table_blocks file.header.entry_count → entries ≡ take (254 * blocks) file.entries
   same_front blocks entries front few = same_from_blocks blocks entries file.entries (omega (arith, front.count)) (same_block blocks entries front few)
 
-  same_table : (entries : List FileEntry) → IsTable first_file (Some bytes) file.header entries → entries ≡ file.entries
+  same_table : (entries : List FileEntry) → IsTable version (Some bytes) file.header entries → entries ≡ file.entries
   same_table entries table =
       same_front (table_blocks file.header.entry_count) entries table (omega arith)
       ∙ take_all (254 * table_blocks file.header.entry_count) file.entries (let count = legal.is.valid.count in omega (arith, count))
 
-  no_table_fault : (fault : DirectFault) → FailsBehind first_file (Some bytes) file.header fault → IsOtherFault fault
+  no_table_fault : (fault : DirectFault) → FailsBehind version (Some bytes) file.header fault → IsOtherFault fault
   no_table_fault fault behind =
       let number = behind.blocks in
       let entries = block_of number file.entries in
@@ -214,15 +223,15 @@ module _ (laws : Laws) (file : PageFile) (bytes : List ℕ) (small : AreBytes by
       let is_front : behind.entries ≡ take (254 * number) file.entries = same_front number behind.entries behind.front (omega (arith, behind.fewer)) in
       let all : length entries ≡ count = (let full = legal.is.valid.count in omega (arith, length-take 254 (drop (254 * number) file.entries), length-drop (254 * number) file.entries, full)) in
       let rising = subst (λ (front : List FileEntry). AreRising (option_to_list (last_prefix None front) ++ prefixes_of entries)) (sym is_front) (rising_block number file.entries legal.is.valid.rising) in
-      let of_table : IsOfTable first_file.images count before entries (block_at (table_place file.header + number) bytes) = record {
-        image = subst (IsTableImage first_file.images entries) (sym stands.is) (image_of_block number);
+      let of_table : IsOfTable version.images count before entries (block_at (table_place file.header + number) bytes) = record {
+        image = subst (IsTableImage version.images entries) (sym stands.is) (image_of_block number);
         all = all;
         rising = rising;
       } in
-      let passed = (laws.tables_pass first_file.images first_file_fits.images count before (block_at (table_place file.header + number) bytes)
+      let passed = (laws.tables_pass version.images fits.images count before (block_at (table_place file.header + number) bytes)
       (length-take-le 4096 (bytes_from (table_place file.header + number) bytes) stands.whole) (bytes_of_block (table_place file.header + number) bytes small) (omega arith)).0 (entries, of_table) in
-      no_fault (TableFails first_file.images (table_place file.header + number) count before) bytes (table_place file.header + number) fault stands.whole
-      (λ (fault : FileFault). λ (named : TableFails first_file.images (table_place file.header + number) count before (block_at (table_place file.header + number) bytes) fault). none_first _ _ named.1.0 named.1.1 passed) behind.fails
+      no_fault (TableFails version.images (table_place file.header + number) count before) bytes (table_place file.header + number) fault stands.whole
+      (λ (fault : FileFault). λ (named : TableFails version.images (table_place file.header + number) count before (block_at (table_place file.header + number) bytes) fault). none_first _ _ named.1.0 named.1.1 passed) behind.fails
 
   -- ---- the page of a key
 
@@ -237,7 +246,7 @@ module _ (laws : Laws) (file : PageFile) (bytes : List ℕ) (small : AreBytes by
     w = ward_in file.header key
 
     few_bits_there : bits ≤ 4
-    few_bits_there = few_bits file legal.is.valid
+    few_bits_there = few_bits file (known_version, legal.is.valid)
 
     small_key : k < 2 ^ 64
     small_key = any_pseudokey-lt file.header.settings.keyer key
@@ -249,7 +258,7 @@ module _ (laws : Laws) (file : PageFile) (bytes : List ℕ) (small : AreBytes by
     own_pages = get_or file.wards w []
 
     ward_there : slice_get file.wards w ≡ Some own_pages
-    ward_there = slice_get-get_or file.wards w [] (omega (arith, count_of_wards file legal.is.valid, ward_less))
+    ward_there = slice_get-get_or file.wards w [] (omega (arith, count_of_wards file (known_version, legal.is.valid), ward_less))
 
     front_len : length (take bits (word_bits k)) ≡ bits
     front_len = length-leading_bits bits k (omega (arith, few_bits_there))
@@ -309,24 +318,24 @@ module _ (laws : Laws) (file : PageFile) (bytes : List ℕ) (small : AreBytes by
       few_ward : w ≤ 2 ^ bits
       few_ward = omega (arith, ward_less)
 
-      own_image : IsImage first_file.images pseudo own (block_at own_place bytes)
-      own_image = page_image first_file first_file_fits laws.page_blocks laws.header_blocks laws.table_blocks file bytes legal.is w home.number own_pages own few_ward ward_there home.at
+      own_image : IsImage version.images pseudo own (block_at own_place bytes)
+      own_image = page_image version fits laws.page_blocks laws.header_blocks laws.table_blocks file bytes legal.is w home.number own_pages own few_ward ward_there home.at
 
       own_stands : StandsAt own_place bytes (page_block own)
-      own_stands = page_stands first_file first_file_fits laws.page_blocks laws.header_blocks laws.table_blocks file bytes legal.is w home.number own_pages own few_ward ward_there home.at
+      own_stands = page_stands version fits laws.page_blocks laws.header_blocks laws.table_blocks file bytes legal.is w home.number own_pages own few_ward ward_there home.at
 
-      fits_page : Fits 8 first_file.images
-      fits_page = record { limit = omega arith; bytes = omega arith }
+      fits_page : Fits 8 version.images
+      fits_page = fits_wider 8 version.images (omega arith) fits.images
 
-      same_page : (page : Page) → IsPageIn first_file (Some bytes) file.header key home.number page → page ≡ own
+      same_page : (page : Page) → IsPageIn version (Some bytes) file.header key home.number page → page ≡ own
       same_page page there =
           let read = there.is in
-          laws.one_page first_file.images fits_page pseudo (block_at own_place bytes) page own (subst (IsImage first_file.images pseudo page) read.1.1 read.2) own_image
+          laws.one_page version.images fits_page pseudo (block_at own_place bytes) page own (subst (IsImage version.images pseudo page) read.1.1 read.2) own_image
 
       leads_home : lead_of own k ≡ Home
       leads_home =
-          let short : length home.prefix ≤ 16 = own_image.valid.in_range.0 in
-          let low : low_of home.prefix ≤ k = (begins_low home.prefix k (omega (arith, short)) small_key home.begins).0 in
+          let short : length home.prefix ≤ version.images.limit = own_image.valid.in_range.0 in
+          let low : low_of home.prefix ≤ k = (begins_low home.prefix k (omega (arith, short, fits.limit)) small_key home.begins).0 in
           ap (λ (b : Bool). cond b (cond (begins home.prefix k) Home (lead_right home.right)) Nowhere) (le-leb (low_of home.prefix) k low)
           ∙ ap (λ (b : Bool). cond b Home (lead_right home.right)) (is_front-true home.prefix (word_bits k) home.begins)
 
@@ -335,11 +344,11 @@ module _ (laws : Laws) (file : PageFile) (bytes : List ℕ) (small : AreBytes by
         pub none : way ≡ []
         pub is : number ≡ home.number
 
-      stays : (first : ℕ) (way : List ℕ) (number : ℕ) → first ≡ home.number → IsWay first_file (Some bytes) file.header key first way number → Stays way number
+      stays : (first : ℕ) (way : List ℕ) (number : ℕ) → first ≡ home.number → IsWay version (Some bytes) file.header key first way number → Stays way number
       stays first [] number begins leads = record { none = refl; is = sym leads ∙ begins }
       stays first (one ∷ way) number begins (same, page, there, next, on, rest) =
           let here : one ≡ home.number = same ∙ begins in
-          let is = same_page page (subst (λ (n : ℕ). IsPageIn first_file (Some bytes) file.header key n page) here there) in
+          let is = same_page page (subst (λ (n : ℕ). IsPageIn version (Some bytes) file.header key n page) here there) in
           let never : Home ≡ To next = sym leads_home ∙ ap (λ (page : Page). lead_of page k) (sym is) ∙ on in
           cc
 
@@ -356,28 +365,28 @@ module _ (laws : Laws) (file : PageFile) (bytes : List ℕ) (small : AreBytes by
       within : home.number < pages_in file.header key
       within = omega (arith, counted, slice_get_within own_pages home.number own home.at)
 
-      no_page_fault : (fault : DirectFault) → BlockFails (PageFails first_file.images pseudo own_place) (Some bytes) own_place fault → IsOtherFault fault
+      no_page_fault : (fault : DirectFault) → BlockFails (PageFails version.images pseudo own_place) (Some bytes) own_place fault → IsOtherFault fault
       no_page_fault fault fails =
-          let passed = (laws.pages_pass first_file.images fits_page pseudo (block_at own_place bytes) (length-take-le 4096 (bytes_from own_place bytes) own_stands.whole) (bytes_of_block own_place bytes small)).0 (own, own_image) in
-          no_fault (PageFails first_file.images pseudo own_place) bytes own_place fault own_stands.whole
-          (λ (fault : FileFault). λ (named : PageFails first_file.images pseudo own_place (block_at own_place bytes) fault). none_first_image _ _ named.0 named.1 passed) fails
+          let passed = (laws.pages_pass version.images fits_page pseudo (block_at own_place bytes) (length-take-le 4096 (bytes_from own_place bytes) own_stands.whole) (bytes_of_block own_place bytes small)).0 (own, own_image) in
+          no_fault (PageFails version.images pseudo own_place) bytes own_place fault own_stands.whole
+          (λ (fault : FileFault). λ (named : PageFails version.images pseudo own_place (block_at own_place bytes) fault). none_first_image _ _ named.0 named.1 passed) fails
 
-      no_end_fault : (number : ℕ) (fault : DirectFault) → number ≡ home.number → FailsAtEnd first_file (Some bytes) file.header key [] number fault → IsOtherFault fault
+      no_end_fault : (number : ℕ) (fault : DirectFault) → number ≡ home.number → FailsAtEnd version (Some bytes) file.header key [] number fault → IsOtherFault fault
       no_end_fault number (File fault) here fails =
-          no_page_fault (File fault) (subst (λ (n : ℕ). BlockFails (PageFails first_file.images pseudo (page_place file.header w n)) (Some bytes) (page_place file.header w n) (File fault)) here fails.1)
+          no_page_fault (File fault) (subst (λ (n : ℕ). BlockFails (PageFails version.images pseudo (page_place file.header w n)) (Some bytes) (page_place file.header w n) (File fault)) here fails.1)
       no_end_fault number Astray here (inl none) = absurd (omega (arith, none, within))
       no_end_fault number Astray here (inr (inl outside)) = absurd (omega (arith, outside, within, here))
       no_end_fault number Astray here (inr (inr (page, there, nowhere))) =
-          let is = same_page page (subst (λ (n : ℕ). IsPageIn first_file (Some bytes) file.header key n page) here there) in
+          let is = same_page page (subst (λ (n : ℕ). IsPageIn version (Some bytes) file.header key n page) here there) in
           let never : Home ≡ Nowhere = sym leads_home ∙ ap (λ (page : Page). lead_of page k) (sym is) ∙ nowhere in
           cc
       no_end_fault number Read here fails = tt
       no_end_fault number Memory here fails = tt
 
-      no_way_fault : (old new : Option (List ℕ)) (fault : DirectFault) → FailsOnWay first_file (Some bytes) file.header key (page_named file.header k file.entries) old new fault → IsOtherFault fault
+      no_way_fault : (old new : Option (List ℕ)) (fault : DirectFault) → FailsOnWay version (Some bytes) file.header key (page_named file.header k file.entries) old new fault → IsOtherFault fault
       no_way_fault old new fault fails =
           let end = stays _ fails.way fails.number home.named fails.leads in
-          no_end_fault fails.number fault end.is (subst (λ (way : List ℕ). FailsAtEnd first_file (Some bytes) file.header key way fails.number fault) end.none fails.fails)
+          no_end_fault fails.number fault end.is (subst (λ (way : List ℕ). FailsAtEnd version (Some bytes) file.header key way fails.number fault) end.none fails.fails)
 
       -- ---- its value
 
@@ -386,13 +395,13 @@ module _ (laws : Laws) (file : PageFile) (bytes : List ℕ) (small : AreBytes by
           let legal_pages = own_ward.legal.legal in
           let all_legal = legal_from file.header.settings.cap pseudo bits 0 file.wards (λ number pages there.
           (let same : number ≡ 0 + number = omega arith in subst (λ (n : ℕ). IsLegal file.header.settings.cap pseudo (ward_prefix bits n) pages) same (legal.legal.wards number pages there).legal.legal)) in
-          sym (get_in_ward file.header.settings.cap pseudo bits w file.wards own_pages key all_legal (count_of_wards file legal.is.valid) ward_there legal_pages.each ward_begins
+          sym (get_in_ward file.header.settings.cap pseudo bits w file.wards own_pages key all_legal (count_of_wards file (known_version, legal.is.valid)) ward_there legal_pages.each ward_begins
           ∙ get-map_of file.header.settings.cap pseudo (ward_prefix bits w) own_pages home.number own key legal_pages home.at home.begins)
 
-      found_in_file : (old between new : Option (List ℕ)) (value : Option (List ℕ)) → Appends old between (head_places file.header) → FindsOnWay first_file (Some bytes) file.header key (page_named file.header k file.entries) between new value → FindsInFile file key old new value
+      found_in_file : (old between new : Option (List ℕ)) (value : Option (List ℕ)) → Appends old between (head_places file.header) → FindsOnWay version (Some bytes) file.header key (page_named file.header k file.entries) between new value → FindsInFile file key old new value
       found_in_file old between new value heads found =
           let end = stays _ found.way found.number home.named found.leads in
-          let page = same_page found.page (subst (λ (n : ℕ). IsPageIn first_file (Some bytes) file.header key n found.page) end.is found.there) in
+          let page = same_page found.page (subst (λ (n : ℕ). IsPageIn version (Some bytes) file.header key n found.page) end.is found.there) in
           let places : map (place_in file.header key) (found.way ++ found.number ∷ []) ≡ own_place ∷ [] = (λ i. map (place_in file.header key) (end.none i ++ end.is i ∷ [])) in
           record {
             is = found.is ∙ ap (λ (page : Page). value_at (k, key) (records_of page)) page ∙ value_is;
@@ -403,30 +412,60 @@ module _ (laws : Laws) (file : PageFile) (bytes : List ℕ) (small : AreBytes by
 
     -- ---- the answer
 
-    pub answers : (old new : Option (List ℕ)) (value : Option (List ℕ)) → Finds first_file (Some bytes) key old new value → FindsInFile file key old new value
-    answers old new value finds =
-        let head = same_header finds.header finds.head in
-        let table = same_table finds.entries (subst (λ (header : Header). IsTable first_file (Some bytes) header finds.entries) head finds.table) in
-        found_in_file has_home old finds.between new value
-        (subst (λ (header : Header). Appends old finds.between (head_places header)) head finds.heads)
-        (subst (λ (entries : List FileEntry). FindsOnWay first_file (Some bytes) file.header key (page_named file.header k entries) finds.between new value) table
-        (subst (λ (header : Header). FindsOnWay first_file (Some bytes) header key (page_named header (pseudokey_in header key) finds.entries) finds.between new value) head finds.found))
-
-    pub no_refusal : (old new : Option (List ℕ)) (fault : DirectFault) → Refuses first_file (Some bytes) key old new fault → IsOtherFault fault
-    no_refusal old new fault (inl refused) = no_header_fault fault refused.0
-    no_refusal old new fault (inr (other, (head, inl behind))) =
-        no_table_fault fault (subst (λ (header : Header). FailsBehind first_file (Some bytes) header fault) (same_header other head) behind.0)
-    no_refusal old new fault (inr (other, (head, inr (entries, table, between, heads, way)))) =
+    pub answers : (old between new : Option (List ℕ)) (value : Option (List ℕ)) (other : Header) (entries : List FileEntry) → IsHeaderAt version (Some bytes) other → IsTable version (Some bytes) other entries
+        → Appends old between (head_places other) → FindsOnWay version (Some bytes) other key (page_named other (pseudokey_in other key) entries) between new value → FindsInFile file key old new value
+    answers old between new value other entries head table heads found =
         let same = same_header other head in
-        let all = same_table entries (subst (λ (header : Header). IsTable first_file (Some bytes) header entries) same table) in
-        no_way_fault has_home between new fault
-        (subst (λ (entries : List FileEntry). FailsOnWay first_file (Some bytes) file.header key (page_named file.header k entries) between new fault) all
-        (subst (λ (header : Header). FailsOnWay first_file (Some bytes) header key (page_named header (pseudokey_in header key) entries) between new fault) same way))
+        let all = same_table entries (subst (λ (header : Header). IsTable version (Some bytes) header entries) same table) in
+        found_in_file has_home old between new value
+        (subst (λ (header : Header). Appends old between (head_places header)) same heads)
+        (subst (λ (entries : List FileEntry). FindsOnWay version (Some bytes) file.header key (page_named file.header k entries) between new value) all
+        (subst (λ (header : Header). FindsOnWay version (Some bytes) header key (page_named header (pseudokey_in header key) entries) between new value) same found))
 
--- where the file's bytes are known
-pub every : Laws → (known old new : Option (List ℕ)) (key : List ℕ) (result : Result (Option (List ℕ)) DirectFault) → IfOk result (Finds first_file known key old new) → IfErr result (Refuses first_file known key old new)
-    → (file : PageFile) (bytes : List ℕ) → known ≡ Some bytes → AreBytes bytes → IsLegalPageFile first_file file bytes → MatchResult result (FindsInFile file key old new) IsOtherFault
+    pub no_refusal_behind : (old new : Option (List ℕ)) (fault : DirectFault) (other : Header) → RefusesBehind version (Some bytes) key old new fault other → IsOtherFault fault
+    no_refusal_behind old new fault other (head, inl behind) =
+        no_table_fault fault (subst (λ (header : Header). FailsBehind version (Some bytes) header fault) (same_header other head) behind.0)
+    no_refusal_behind old new fault other (head, inr (entries, table, between, heads, way)) =
+        let same = same_header other head in
+        let all = same_table entries (subst (λ (header : Header). IsTable version (Some bytes) header entries) same table) in
+        no_way_fault has_home between new fault
+        (subst (λ (entries : List FileEntry). FailsOnWay version (Some bytes) file.header key (page_named file.header k entries) between new fault) all
+        (subst (λ (header : Header). FailsOnWay version (Some bytes) header key (page_named header (pseudokey_in header key) entries) between new fault) same way))
+
+-- ---- the version that the bytes say
+
+-- a header stands there in no other
+header_says : (version : KnownVersion) (header : Header) (bytes : List ℕ) → IsHeaderAt (file_version version) (Some bytes) header → version_of bytes ≡ version
+header_says version header bytes (block, at, image) =
+    image_says version header block (drop 4096 bytes) bytes image (sym (take-append-drop 4096 bytes) ∙ ap (λ (front : List ℕ). front ++ drop 4096 bytes) (sym at.1))
+
+module _ (laws : Laws) (file : PageFile) (bytes : List ℕ) (small : AreBytes bytes) (legal : IsLegalPageFile (format_of bytes) file bytes) where
+  legal_in : (version : KnownVersion) (header : Header) → IsHeaderAt (file_version version) (Some bytes) header → IsLegalPageFile (file_version version) file bytes
+  legal_in version header head = subst (λ (version : KnownVersion). IsLegalPageFile (file_version version) file bytes) (header_says version header bytes head) legal
+
+  no_header_fault : (fault : DirectFault) → BlockFails (λ (block : List ℕ). HeaderFails (format_of block) block) (Some bytes) 0 fault → IsOtherFault fault
+  no_header_fault fault fails =
+      let version = version_of bytes in
+      let block = block_at 0 bytes in
+      let same : version_of block ≡ version = version_from_front block bytes 4096 (omega arith) refl in
+      no_fault (λ (block : List ℕ). HeaderFails (format_of block) block) bytes 0 fault (whole_header laws version file bytes small legal)
+      (λ (fault : FileFault). λ (first : HeaderFails (format_of block) block fault).
+      header_passes laws version file bytes small legal fault (subst (λ (version : KnownVersion). HeaderFails (file_version version) block fault) same first)) fails
+
+  pub finds_in_file : (old new : Option (List ℕ)) (key : List ℕ) (value : Option (List ℕ)) → Finds (Some bytes) key old new value → FindsInFile file key old new value
+  finds_in_file old new key value finds =
+      answers laws finds.version file bytes small (legal_in finds.version finds.header finds.head) key old finds.between new value finds.header finds.entries finds.head finds.table finds.heads finds.found
+
+  pub no_refusal : (old new : Option (List ℕ)) (key : List ℕ) (fault : DirectFault) → Refuses (Some bytes) key old new fault → IsOtherFault fault
+  no_refusal old new key fault (inl refused) = no_header_fault fault refused.0
+  no_refusal old new key fault (inr (version, header, behind)) =
+      no_refusal_behind laws version file bytes small (legal_in version header behind.0) key old new fault header behind
+
+-- ---- where the file's bytes are known
+
+pub every : Laws → (known old new : Option (List ℕ)) (key : List ℕ) (result : Result (Option (List ℕ)) DirectFault) → IfOk result (Finds known key old new) → IfErr result (Refuses known key old new)
+    → (file : PageFile) (bytes : List ℕ) → known ≡ Some bytes → AreBytes bytes → IsLegalPageFile (format_of bytes) file bytes → MatchResult result (FindsInFile file key old new) IsOtherFault
 every laws known old new key (Ok value) found refused file bytes knows small legal =
-    answers laws file bytes small legal key old new value (subst (λ (known : Option (List ℕ)). Finds first_file known key old new value) knows found)
+    finds_in_file laws file bytes small legal old new key value (subst (λ (known : Option (List ℕ)). Finds known key old new value) knows found)
 every laws known old new key (Err fault) found refused file bytes knows small legal =
-    no_refusal laws file bytes small legal key old new fault (subst (λ (known : Option (List ℕ)). Refuses first_file known key old new fault) knows refused)
+    no_refusal laws file bytes small legal old new key fault (subst (λ (known : Option (List ℕ)). Refuses known key old new fault) knows refused)

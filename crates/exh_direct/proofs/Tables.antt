@@ -7,12 +7,17 @@ use Rattle.std.proofs.lemmas.Bool.{cases_lt}
 use Rattle.std.proofs.lemmas.List.{drop_at, drop-append-le, length-append, length-drop, length-take, take-append-le, take_all, take_more}
 use Rattle.std.proofs.lemmas.List.Sums.{sum_by-cons, sum_by_more_le, sum_by-take-drop, sum_by-take-le}
 use Rattle.std.proofs.lemmas.Nat.{pow_below}
+use Rattle.std.proofs.Math.Nat.{pow-le-pow_right}
+use Rattle.exh_prefix.specs.declared.prefix.TheConstants.{LIMIT}
+use Rattle.exh_prefix.specs.declared.version.Version.{Version as KnownVersion}
+use Rattle.exh_prefix.specs.Layout.{layout}
+use Rattle.exh_prefix.specs.LayoutLemmas.{layout_short}
 use Rattle.exh_prefix.specs.Prefix.{prefix_cmp}
 use Rattle.exh_prefix.specs.PrefixLemmas.{prefix_cmp-total}
 use Rattle.exh_file.specs.declared.file_entry.FileEntry.{FileEntry}
 use Rattle.exh_file.specs.declared.header.Header.{Header}
-use Rattle.exh_file.specs.FileVersion.{FileVersion, first_file}
-use Rattle.exh_file.specs.HeaderImage.{IsHeader, IsPageCount}
+use Rattle.exh_file.specs.FileVersion.{FileVersion, file_version}
+use Rattle.exh_file.specs.HeaderImage.{IsHeader, IsKnownHeader, IsPageCount}
 use Rattle.exh_file.specs.TableImage.{AreRising, IsFileEntry, prefixes_of}
 use Rattle.exh_page_file.specs.Reading.{last_prefix}
 use Rattle.exh_direct.specs.Answer.{IsTableFront, block_of, table_place}
@@ -48,9 +53,9 @@ rising_join (Some prefix) (item ∷ entries) more first second =
     let rest = rising_join (Some item.prefix) entries more first.1 second in
     ((first.0.0, all_after prefix item.prefix (prefixes_of (entries ++ more)) first.0.0 rest.0), rest)
 
-pub all_short : (entries : List FileEntry) → AllByRecursion (IsFileEntry first_file.images) entries → AllByRecursion (λ (item : FileEntry). length item.prefix < 16) entries
-all_short [] valid = tt
-all_short (item ∷ entries) valid = (valid.0.shorter, all_short entries valid.1)
+pub all_short : (version : KnownVersion) (entries : List FileEntry) → AllByRecursion (IsFileEntry (layout version)) entries → AllByRecursion (λ (item : FileEntry). length item.prefix < LIMIT) entries
+all_short version [] valid = tt
+all_short version (item ∷ entries) valid = (omega (arith, valid.0.shorter, layout_short version), all_short version entries valid.1)
 
 -- ---- one block more
 
@@ -104,17 +109,28 @@ pub all_counted : (version : FileVersion) (header : Header) → IsHeader version
 all_counted version header valid =
     omega (arith, sum_by-take-drop (λ (count : ℕ). count) header.page_counts (2 ^ header.settings.ward_bits), zero_sum (drop (2 ^ header.settings.ward_bits) header.page_counts) valid.others)
 
-small_sum : (limit bits : ℕ) (counts : List ℕ) → limit < 17 → AllByRecursion (IsPageCount limit bits) counts → sum counts ≤ length counts * 2 ^ 17
+small_sum : (limit bits : ℕ) (counts : List ℕ) → limit ≤ LIMIT → AllByRecursion (IsPageCount limit bits) counts → sum counts ≤ length counts * 2 ^ LIMIT
 small_sum limit bits [] small all = omega arith
 small_sum limit bits (count ∷ counts) small all =
-    omega (arith, sum_by-cons (λ (count : ℕ). count) count counts, all.0.1, pow_below (limit - bits) 17 (omega (arith, small)), small_sum limit bits counts small all.1)
+    let below : limit - bits ≤ LIMIT = omega (arith, small) in
+    let most : 2 ^ (limit - bits) ≤ 2 ^ LIMIT = pow-le-pow_right {n = 2} (omega arith) below in
+    omega (arith, sum_by-cons (λ (count : ℕ). count) count counts, all.0.1, most, small_sum limit bits counts small all.1)
 
-pub few_pages : (header : Header) → IsHeader first_file header → sum header.page_counts ≤ 2 ^ 21
-few_pages header valid =
-    omega (arith, all_counted first_file header valid, small_sum 16 header.settings.ward_bits (take (2 ^ header.settings.ward_bits) header.page_counts) (omega arith) valid.pages, length-take (2 ^ header.settings.ward_bits) header.page_counts, valid.counts, valid.wards)
+-- in every version that the code knows
+pub few_pages : (header : Header) → IsKnownHeader header → sum header.page_counts ≤ 16 * 2 ^ LIMIT
+few_pages header (version, valid) =
+    let counts = take (2 ^ header.settings.ward_bits) header.page_counts in
+    omega (
+      arith,
+      all_counted (file_version version) header valid,
+      small_sum (layout version).limit header.settings.ward_bits counts (layout_short version) valid.pages,
+      length-take (2 ^ header.settings.ward_bits) header.page_counts,
+      valid.counts,
+      valid.wards,
+    )
 
-pub few_before : (header : Header) (ward : ℕ) → IsHeader first_file header → sum (take ward header.page_counts) ≤ 2 ^ 21
-few_before header ward valid = omega (arith, few_pages header valid, sum_by-take-le (λ (count : ℕ). count) header.page_counts ward)
+pub few_before : (header : Header) (ward : ℕ) → IsKnownHeader header → sum (take ward header.page_counts) ≤ 16 * 2 ^ LIMIT
+few_before header ward known = omega (arith, few_pages header known, sum_by-take-le (λ (count : ℕ). count) header.page_counts ward)
 
-pub few_in_ward : (header : Header) (ward : ℕ) → IsHeader first_file header → ward < 16 → get_or header.page_counts ward 0 ≤ 2 ^ 21
-few_in_ward header ward valid within = omega (arith, few_pages header valid, sum_by_more_le (λ (count : ℕ). count) header.page_counts ward 0 (omega (arith, valid.counts, within)))
+pub few_in_ward : (header : Header) (ward : ℕ) → IsKnownHeader header → ward < 16 → get_or header.page_counts ward 0 ≤ 16 * 2 ^ LIMIT
+few_in_ward header ward known within = omega (arith, few_pages header known, sum_by_more_le (λ (count : ℕ). count) header.page_counts ward 0 (omega (arith, known.1.counts, within)))

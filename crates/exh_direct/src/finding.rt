@@ -56,5 +56,7 @@ fn find_on_way<B: Blocks>(
     let (version, header) = read_header(blocks, count)?;
     let pseudokey = header.settings.keyer.pseudo(key.as_bytes());
     let first = named_page(alloc, blocks, version, count, &header, pseudokey)?;
-    follow(alloc, blocks, version, count, &header, first, pseudokey, key)
+    follow(
+        alloc, blocks, version, count, &header, first, pseudokey, key,
+    )
 }

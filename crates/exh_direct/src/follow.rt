@@ -1,8 +1,9 @@
-ghost use Rattle.std.specs.Prelude.{◌≡◌, ◌+◌, ◌<◌, ◌≤◌, ◌^◌, take, IfOk, IfErr, IfSome};
+ghost use Rattle.std.specs.Prelude.{◌≡◌, ◌+◌, ◌*◌, ◌<◌, ◌≤◌, ◌^◌, take, IfOk, IfErr, IfSome};
 ghost use Rattle.std.specs.List.{sum};
 ghost use Rattle.exh_keyer.specs.Pseudokey.{any_pseudokey};
 ghost use Rattle.exh_file.specs.FileVersion.{file_version};
-ghost use Rattle.exh_file.specs.HeaderImage.{IsHeader};
+ghost use Rattle.exh_prefix.specs.declared.prefix.TheConstants.{LIMIT};
+ghost use Rattle.exh_file.specs.HeaderImage.{IsHeader, IsKnownHeader};
 ghost use Rattle.exh_direct.specs.Known.{IsCount};
 ghost use Rattle.exh_direct.specs.Answer.{FailsOnWay, FindsOnWay, page_place};
 
@@ -34,13 +35,20 @@ pub(crate) fn follow<B: Blocks>(
 {
     let ward = ward_number(header.settings.ward_bits, pseudokey) as usize;
     let pages = header.page_counts[ward];
-    let before = pages_before(version, header, ward);
+    let before = pages_before(header, ward);
     let mut number = first;
     for turn in 0..pages {
         if number >= pages {
             return Err(DirectFault::Astray);
         }
-        let page = read_page(alloc, blocks, version, count, before + number, header.settings.keyer)?;
+        let page = read_page(
+            alloc,
+            blocks,
+            version,
+            count,
+            before + number,
+            header.settings.keyer,
+        )?;
         match lead_of(&page, pseudokey) {
             Lead::Home => return Ok(page.find(pseudokey, key)),
             Lead::To(next) => number = next,
@@ -51,11 +59,11 @@ pub(crate) fn follow<B: Blocks>(
 }
 
 // Where the pages of a ward begin: behind the header, and those of the wards before it.
-fn pages_before(version: Version, header: &Header, ward: usize) -> u32
-    requires header { IsHeader (file_version version) header.now }
+fn pages_before(header: &Header, ward: usize) -> u32
+    requires header { IsKnownHeader header.now }
     requires ward { ward < 16 }
     ensures place { result ≡ 1 + sum (take ward header.now.page_counts) }
-    ensures few { result ≤ 2 ^ 21 + 1 }
+    ensures few { result ≤ 16 * 2 ^ LIMIT + 1 }
 {
     1 + total(&header.page_counts[..ward])
 }

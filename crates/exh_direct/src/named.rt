@@ -1,7 +1,8 @@
-ghost use Rattle.std.specs.Prelude.{◌≡◌, ◌+◌, ◌<◌, ◌≤◌, ◌^◌, IfOk, IfErr, length, None};
+ghost use Rattle.std.specs.Prelude.{◌≡◌, ◌+◌, ◌*◌, ◌<◌, ◌≤◌, ◌^◌, IfOk, IfErr, length, None};
 ghost use Rattle.std.specs.List.{sum};
 ghost use Rattle.exh_file.specs.FileVersion.{file_version};
-ghost use Rattle.exh_file.specs.HeaderImage.{IsHeader};
+ghost use Rattle.exh_prefix.specs.declared.prefix.TheConstants.{LIMIT};
+ghost use Rattle.exh_file.specs.HeaderImage.{IsHeader, IsKnownHeader};
 ghost use Rattle.exh_page_file.specs.Reading.{last_prefix};
 ghost use Rattle.exh_direct.specs.Known.{IsCount, ReadsUpTo};
 ghost use Rattle.exh_direct.specs.Answer.{FailsInTable, NamesPage, table_place};
@@ -28,14 +29,22 @@ pub(crate) fn named_page<B: Blocks>(
     ensures ok { IfOk result (NamesPage (file_version version) (B.known blocks.old) header.now pseudokey (B.reads blocks.old) (B.reads blocks.new)) }
     ensures err { IfErr result (FailsInTable (file_version version) (B.known blocks.old) header.now (B.reads blocks.old) (B.reads blocks.new)) }
 {
-    let place = table_place(version, header);
+    let place = table_place(header);
     let ward = ward_number(header.settings.ward_bits, pseudokey);
     let entries = header.entry_count as usize;
     let mut leaf = first_leaf(header.settings.ward_bits, pseudokey);
     let mut before = None;
     for number in 0..(entries + (BLOCK_ENTRIES - 1)) / BLOCK_ENTRIES {
         let more = BLOCK_ENTRIES.min(entries - BLOCK_ENTRIES * number);
-        let next = read_entries(alloc, blocks, version, count, place + number as u32, more, before)?;
+        let next = read_entries(
+            alloc,
+            blocks,
+            version,
+            count,
+            place + number as u32,
+            more,
+            before,
+        )?;
         pass_all(&mut leaf, &next, ward, pseudokey);
         note_last(&mut before, &next);
     }
@@ -43,10 +52,10 @@ pub(crate) fn named_page<B: Blocks>(
 }
 
 // Where the table begins: behind the header and all pages.
-fn table_place(version: Version, header: &Header) -> u32
-    requires { IsHeader (file_version version) header.now }
+fn table_place(header: &Header) -> u32
+    requires { IsKnownHeader header.now }
     ensures place { result ≡ table_place header.now }
-    ensures few { result ≤ 2 ^ 21 + 1 }
+    ensures few { result ≤ 16 * 2 ^ LIMIT + 1 }
 {
     1 + total(&header.page_counts)
 }

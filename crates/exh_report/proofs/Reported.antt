@@ -5,7 +5,6 @@ use Rattle.std.specs.Io.KnownBytes.{Appends}
 use Rattle.exh_stream.specs.Output.{AppendsBeginning, Takes, TakesBeginning, WriterUntouched, held, pending}
 use Rattle.exh_stream.specs.OutputLemmas.{AppendsBeginning-of_more, Takes-cut, Takes-finished, TakesBeginning-left}
 use Rattle.exh_stream.specs.declared.output.Output.{Output}
-use Rattle.exh_file.specs.FileVersion.{first_file}
 use Rattle.exh_page_file.specs.PageFile.{PageFile}
 use Rattle.exh_legal_file.specs.LegalFile.{IsLegalFileFaultOf}
 use Rattle.exh_legal_file.specs.declared.legal_file_fault.LegalFileFault.{LegalFileFault}
@@ -50,7 +49,7 @@ module _ (prints begins : List ℕ → Type 0) (lines : PageFile → Lines) (kno
       subst (λ f. Tells prints begins lines known (Err f)) (sym is.1) (record { finding = finding; found = found; printed = begun; verdict = tt })
 
   -- a refusal that isn't want of memory is told
-  pub refused_tells : (fault : LegalFileFault) → (fault ≡ faults.Memory → ⊥) → IsLegalFileFaultOf first_file known fault → (result : Result Verdict ReportFault)
+  pub refused_tells : (fault : LegalFileFault) → (fault ≡ faults.Memory → ⊥) → IsLegalFileFaultOf known fault → (result : Result Verdict ReportFault)
       → Prints prints begins (refusal_words fault ∷ []) result → IfOk result (λ verdict. verdict ≡ Refused) → Tells prints begins lines known result
   refused_tells faults.Memory other found result told verdict = absurd (other refl)
   refused_tells faults.Read other found result told verdict = record { finding = Err faults.Read; found = found; printed = told; verdict = verdict }

@@ -2,29 +2,32 @@
 use Rattle.std.proofs.Common.{◌≡◌, ◌∙◌, ℕ, ◌-◌, ◌*◌, ◌^◌, ◌<◌, ◌≤◌, List, [], ◌∷◌, ◌++◌, length, map, Vec, Global, All, sym, ap, subst, arith, length-append, length-take, append-nil, refl}
 use Rattle.std.proofs.lemmas.List.{length-map}
 use Rattle.std.specs.List.{AllByRecursion}
-use Rattle.std.proofs.lemmas.Nat.{pow_below}
+use Rattle.std.proofs.Math.Nat.{pow-le-pow_right}
 use Rattle.std.proofs.lemmas.List.Elements.{All-from_recursion}
 use Rattle.std.proofs.lemmas.List.Sums.{sum_by-cons}
 use Rattle.exh_page.specs.Page.{records_of}
 use Rattle.exh_page.specs.declared.page.Page.{Page}
 use Rattle.exh_prefix.specs.Version.{Version}
+use Rattle.exh_prefix.specs.Layout.{layout}
+use Rattle.exh_prefix.specs.LayoutLemmas.{layout_short}
+use Rattle.exh_prefix.specs.declared.prefix.TheConstants.{LIMIT}
 use Rattle.exh_codec.specs.PageImage.{IsPage}
 use Rattle.exh_codec.specs.PageImageLemmas.{few_records}
-use Rattle.exh_file.specs.FileVersion.{first_file}
+use Rattle.exh_file.specs.FileVersion.{file_version}
 use Rattle.exh_file.specs.HeaderImage.{IsPageCount}
 use Rattle.exh_page_file.specs.FileParts.{file_of, pages_in}
-use Rattle.exh_page_file.specs.PageFile.{IsFile, pages_of}
+use Rattle.exh_page_file.specs.PageFile.{IsFile, IsKnownFile, pages_of}
 use Rattle.exh_page_file.specs.declared.file_parts.FileParts.{FileParts}
 use Rattle.exh_text.specs.Contents.{on_line}
 use Rattle.exh_report.specs.Check.{check_lines, legal_words}
 use Rattle.exh_report.specs.Counts.{forward_count, live_count, record_count}
 use Rattle.exh_report.specs.Lines.{lines_text}
 
-module _ (bits : ℕ) where
-  few : 2 ^ (16 - bits) < 2 ^ 17
-  few = pow_below (16 - bits) 17 (omega arith)
+module _ (limit bits : ℕ) (short : limit ≤ LIMIT) where
+  few : 2 ^ (limit - bits) ≤ 2 ^ LIMIT
+  few = let below : limit - bits ≤ LIMIT = omega (arith, short) in pow-le-pow_right {n = 2} (omega arith) below
 
-  small : (wards : List (Vec Page Global)) (counts : List ℕ) → map length (map (λ ward. ward.items) wards) ≡ counts → AllByRecursion (IsPageCount 16 bits) counts → AllByRecursion (λ ward. length ward.items < 2 ^ 32) wards
+  small : (wards : List (Vec Page Global)) (counts : List ℕ) → map length (map (λ ward. ward.items) wards) ≡ counts → AllByRecursion (IsPageCount limit bits) counts → AllByRecursion (λ ward. length ward.items < 2 ^ 32) wards
   small [] counts is all = tt
   small (ward ∷ wards) [] is all = cc
   small (ward ∷ wards) (count ∷ counts) is all = (omega (arith, few, all.0.1, first is), small wards counts (rest is) all.1)
@@ -48,7 +51,10 @@ pages_are : (wards : List (Vec Page Global)) → pages_of (map (λ ward. ward.it
 pages_are [] = refl
 pages_are (ward ∷ wards) = ap (λ pages. ward.items ++ pages) (pages_are wards)
 
-module _ (parts : FileParts) (is : IsFile first_file (file_of parts)) where
+module _ (parts : FileParts) (known : IsKnownFile (file_of parts)) where
+  is : IsFile (file_version known.0) (file_of parts)
+  is = known.1
+
   abbrev wards : List (Vec Page Global)
   wards = parts.wards.items
 
@@ -64,7 +70,7 @@ module _ (parts : FileParts) (is : IsFile first_file (file_of parts)) where
       )
 
   wards_small : AllByRecursion (λ ward. length ward.items < 2 ^ 32) wards
-  wards_small = small parts.header.settings.ward_bits wards _ is.counts is.header.pages
+  wards_small = small (layout known.0).limit parts.header.settings.ward_bits (layout_short known.0) wards _ is.counts is.header.pages
 
   pub small_wards : All (λ ward. length ward.items < 2 ^ 32) wards
   small_wards = All-from_recursion _ wards wards_small

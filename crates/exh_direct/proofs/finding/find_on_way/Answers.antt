@@ -4,7 +4,7 @@ use Rattle.std.proofs.lemmas.Result.{IfErr-weaker, IfOk-weaker}
 use Rattle.std.specs.Io.KnownBytes.{Appends}
 use Rattle.std.specs.List.{range_with_len}
 use Rattle.exh_keyer.specs.Pseudokey.{any_pseudokey}
-use Rattle.exh_file.specs.FileVersion.{first_file}
+use Rattle.exh_file.specs.FileVersion.{file_version}
 use Rattle.exh_page_file.specs.PageFile.{table_blocks}
 use Rattle.exh_direct.specs.Answer.{FailsBehind, FailsOnWay, FindsOnWay, IsTable, Refuses, page_named, pseudokey_in, table_place}
 use Rattle.exh_direct.specs.Known.{IsHeaderAt}
@@ -15,64 +15,69 @@ use Rattle.exh_direct.proofs.finding.find_on_way.Goals as goal
 pub returns-in_err-first-clause-refused : goal.returns-in_err-first-clause-refused
 returns-in_err-first-clause-refused g c =
     let known = g.B.Blocks.known c.args.blocks.now in
-    let header = c.in_ok-header.header in
+    let version = c.in_ok-read_header.ok.0 in
+    let header = c.in_ok-read_header.ok.1 in
     let fault = c.in_err-first.field-0.0 in
     let opened = c.in-Ok.ensures.same_bytes in
-    let same = c.in_ok-header.ensures.same_bytes ∙ opened in
-    let head = subst (λ (known : Option (List ℕ)). IsHeaderAt first_file known header) opened c.in_ok-header.ensures.ok in
-    let heads = subst (λ (old : Option (List ℕ)). Appends old (g.B.Blocks.reads c.read_header.new.blocks) (0 ∷ [])) c.in-Ok.ensures.no_read c.in_ok-header.ensures.one_read in
+    let same = c.in_ok-read_header.ensures.same_bytes ∙ opened in
+    let head = subst (λ (known : Option (List ℕ)). IsHeaderAt (file_version version) known header) opened c.in_ok-read_header.ensures.ok in
+    let heads = subst (λ (old : Option (List ℕ)). Appends old (g.B.Blocks.reads c.read_header.new.blocks) (0 ∷ [])) c.in-Ok.ensures.no_read c.in_ok-read_header.ensures.one_read in
     let fails = c.in_err-first.ensures.err in
-    err_is c.from_residual-in_err-first.result fault (Refuses first_file known c.args.key.now _ _) c.from_residual-in_err-first.ensures.1
-    (inr (header, (head, inl (subst (λ (known : Option (List ℕ)). FailsBehind first_file known header fault) same fails.0, read_then _ _ _ (0 ∷ []) 1 (table_blocks header.entry_count) refl heads fails.1))))
+    err_is c.from_residual-in_err-first.result fault (Refuses known c.args.key.now _ _) c.from_residual-in_err-first.ensures.1
+    (inr (version, header, (head, inl (subst (λ (known : Option (List ℕ)). FailsBehind (file_version version) known header fault) same fails.0, read_then _ _ _ (0 ∷ []) 1 (table_blocks header.entry_count) refl heads fails.1))))
 
 pub returns-clause-found : goal.returns-clause-found
 returns-clause-found g c =
     let known = g.B.Blocks.known c.args.blocks.now in
-    let header = c.in_ok-header.header in
+    let version = c.in_ok-read_header.ok.0 in
+    let header = c.in_ok-read_header.ok.1 in
     let key = c.args.key.now in
     let opened = c.in-Ok.ensures.same_bytes in
-    let same = c.in_ok-header.ensures.same_bytes ∙ opened in
+    let same = c.in_ok-read_header.ensures.same_bytes ∙ opened in
     let later = c.in_ok-first.ensures.same_bytes ∙ same in
-    let head = subst (λ (known : Option (List ℕ)). IsHeaderAt first_file known header) opened c.in_ok-header.ensures.ok in
-    let heads = subst (λ (old : Option (List ℕ)). Appends old (g.B.Blocks.reads c.read_header.new.blocks) (0 ∷ [])) c.in-Ok.ensures.no_read c.in_ok-header.ensures.one_read in
+    let head = subst (λ (known : Option (List ℕ)). IsHeaderAt (file_version version) known header) opened c.in_ok-read_header.ensures.ok in
+    let heads = subst (λ (old : Option (List ℕ)). Appends old (g.B.Blocks.reads c.read_header.new.blocks) (0 ∷ [])) c.in-Ok.ensures.no_read c.in_ok-read_header.ensures.one_read in
     let names = c.in_ok-first.ensures.ok in
     let hashed : c.pseudo-pseudokey.result ≡ pseudokey_in header key = c.pseudo-pseudokey.ensures ∙ ap (any_pseudokey header.settings.keyer) c.as_bytes.ensures.bytes in
     let first : c.in_ok-first.first ≡ page_named header (pseudokey_in header key) names.entries = names.is ∙ ap (λ (pseudokey : ℕ). page_named header pseudokey names.entries) hashed in
     IfOk-weaker c.follow.result _ _ (λ value found. record {
+      version = version;
       header = header;
       head = head;
       between = g.B.Blocks.reads c.named_page.new.blocks;
       entries = names.entries;
-      table = subst (λ (known : Option (List ℕ)). IsTable first_file known header names.entries) same names.table;
+      table = subst (λ (known : Option (List ℕ)). IsTable (file_version version) known header names.entries) same names.table;
       heads = Appends-trans _ _ _ (0 ∷ []) (range_with_len (table_place header) (table_blocks header.entry_count)) heads names.reads;
-      found = subst (λ (first : ℕ). FindsOnWay first_file known header key first (g.B.Blocks.reads c.named_page.new.blocks) (g.B.Blocks.reads c.follow.new.blocks) value) first
-          (subst (λ (known : Option (List ℕ)). FindsOnWay first_file known header key c.in_ok-first.first (g.B.Blocks.reads c.named_page.new.blocks) (g.B.Blocks.reads c.follow.new.blocks) value) later found);
+      found = subst (λ (first : ℕ). FindsOnWay (file_version version) known header key first (g.B.Blocks.reads c.named_page.new.blocks) (g.B.Blocks.reads c.follow.new.blocks) value) first
+          (subst (λ (known : Option (List ℕ)). FindsOnWay (file_version version) known header key c.in_ok-first.first (g.B.Blocks.reads c.named_page.new.blocks) (g.B.Blocks.reads c.follow.new.blocks) value) later found);
     }) c.follow.ensures.ok
 
 pub returns-clause-refused : goal.returns-clause-refused
 returns-clause-refused g c =
     let known = g.B.Blocks.known c.args.blocks.now in
-    let header = c.in_ok-header.header in
+    let version = c.in_ok-read_header.ok.0 in
+    let header = c.in_ok-read_header.ok.1 in
     let key = c.args.key.now in
     let opened = c.in-Ok.ensures.same_bytes in
-    let same = c.in_ok-header.ensures.same_bytes ∙ opened in
+    let same = c.in_ok-read_header.ensures.same_bytes ∙ opened in
     let later = c.in_ok-first.ensures.same_bytes ∙ same in
-    let head = subst (λ (known : Option (List ℕ)). IsHeaderAt first_file known header) opened c.in_ok-header.ensures.ok in
-    let heads = subst (λ (old : Option (List ℕ)). Appends old (g.B.Blocks.reads c.read_header.new.blocks) (0 ∷ [])) c.in-Ok.ensures.no_read c.in_ok-header.ensures.one_read in
+    let head = subst (λ (known : Option (List ℕ)). IsHeaderAt (file_version version) known header) opened c.in_ok-read_header.ensures.ok in
+    let heads = subst (λ (old : Option (List ℕ)). Appends old (g.B.Blocks.reads c.read_header.new.blocks) (0 ∷ [])) c.in-Ok.ensures.no_read c.in_ok-read_header.ensures.one_read in
     let names = c.in_ok-first.ensures.ok in
     let hashed : c.pseudo-pseudokey.result ≡ pseudokey_in header key = c.pseudo-pseudokey.ensures ∙ ap (any_pseudokey header.settings.keyer) c.as_bytes.ensures.bytes in
     let first : c.in_ok-first.first ≡ page_named header (pseudokey_in header key) names.entries = names.is ∙ ap (λ (pseudokey : ℕ). page_named header pseudokey names.entries) hashed in
     IfErr-weaker c.follow.result _ _ (λ fault fails. inr (
+      version,
       header,
       (
         head,
         inr (
           names.entries,
-          subst (λ (known : Option (List ℕ)). IsTable first_file known header names.entries) same names.table,
+          subst (λ (known : Option (List ℕ)). IsTable (file_version version) known header names.entries) same names.table,
           g.B.Blocks.reads c.named_page.new.blocks,
           Appends-trans _ _ _ (0 ∷ []) (range_with_len (table_place header) (table_blocks header.entry_count)) heads names.reads,
-          subst (λ (first : ℕ). FailsOnWay first_file known header key first (g.B.Blocks.reads c.named_page.new.blocks) (g.B.Blocks.reads c.follow.new.blocks) fault) first
-              (subst (λ (known : Option (List ℕ)). FailsOnWay first_file known header key c.in_ok-first.first (g.B.Blocks.reads c.named_page.new.blocks) (g.B.Blocks.reads c.follow.new.blocks) fault) later fails),
+          subst (λ (first : ℕ). FailsOnWay (file_version version) known header key first (g.B.Blocks.reads c.named_page.new.blocks) (g.B.Blocks.reads c.follow.new.blocks) fault) first
+              (subst (λ (known : Option (List ℕ)). FailsOnWay (file_version version) known header key c.in_ok-first.first (g.B.Blocks.reads c.named_page.new.blocks) (g.B.Blocks.reads c.follow.new.blocks) fault) later fails),
         ),
       ),
     )) c.follow.ensures.err

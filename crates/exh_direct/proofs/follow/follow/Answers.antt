@@ -5,7 +5,8 @@ use Rattle.exh_prefix.specs.LeadingLemmas.{leading-lt}
 use Rattle.exh_page.specs.Page.{records_of}
 use Rattle.exh_page.specs.Records.{value_at}
 use Rattle.exh_file.specs.declared.header.Header.{Header}
-use Rattle.exh_file.specs.FileVersion.{first_file}
+use Rattle.exh_prefix.specs.declared.version.Version.{Version as KnownVersion}
+use Rattle.exh_file.specs.FileVersion.{file_version}
 use Rattle.exh_file.specs.HeaderImage.{IsHeader}
 use Rattle.exh_direct.specs.Answer.{FailsOnWay, pages_in, place_in, ward_in}
 use Rattle.exh_direct.specs.Way.{lead_of}
@@ -14,8 +15,8 @@ use Rattle.exh_direct.proofs.Tables.{few_in_ward, few_wards}
 use Rattle.exh_direct.proofs.Ways.{err_is, page_fails, page_in, place_there, reads_more, way_more}
 use Rattle.exh_direct.proofs.follow.follow.Goals as goal
 
-ward_within : (header : Header) (ward pseudokey : ℕ) → IsHeader first_file header → ward ≡ ward_of header.settings.ward_bits pseudokey → ward < 16
-ward_within header ward pseudokey valid is =
+ward_within : (version : KnownVersion) (header : Header) (ward pseudokey : ℕ) → IsHeader (file_version version) header → ward ≡ ward_of header.settings.ward_bits pseudokey → ward < 16
+ward_within version header ward pseudokey valid is =
     let bits = few_wards header.settings.ward_bits valid.wards in
     omega (arith, is, leading-lt header.settings.ward_bits pseudokey (omega (arith, bits)), valid.wards)
 
@@ -23,16 +24,19 @@ pub ward_number-ward-requires : goal.ward_number-ward-requires
 ward_number-ward-requires g c = let bits = few_wards c.args.header.now.settings.ward_bits c.requires.header.wards in omega (arith, bits)
 
 pub bounds-header-ward : goal.bounds-header-ward
-bounds-header-ward g c = ward_within c.args.header.now c.ward_number-ward.result c.args.pseudokey c.requires.header c.ward_number-ward.ensures
+bounds-header-ward g c = ward_within c.args.version c.args.header.now c.ward_number-ward.result c.args.pseudokey c.requires.header c.ward_number-ward.ensures
+
+pub pages_before-before-requires-clause-header : goal.pages_before-before-requires-clause-header
+pages_before-before-requires-clause-header g c = (c.args.version, c.requires.header)
 
 pub pages_before-before-requires-clause-ward : goal.pages_before-before-requires-clause-ward
-pages_before-before-requires-clause-ward g c = ward_within c.args.header.now c.ward_number-ward.result c.args.pseudokey c.requires.header c.ward_number-ward.ensures
+pages_before-before-requires-clause-ward g c = ward_within c.args.version c.args.header.now c.ward_number-ward.result c.args.pseudokey c.requires.header c.ward_number-ward.ensures
 
 pub overflow_add-before : goal.overflow_add-before
 overflow_add-before g c =
     let header = c.args.header.now in
     let ward = c.ward_number-ward.result in
-    let few = few_in_ward header ward c.requires.header (ward_within header ward c.args.pseudokey c.requires.header c.ward_number-ward.ensures) in
+    let few = few_in_ward header ward (c.args.version, c.requires.header) (ward_within c.args.version header ward c.args.pseudokey c.requires.header c.ward_number-ward.ensures) in
     omega (arith, few, c.pages_before-before.ensures.few, c.if-number-pages.false)
 
 pub returns-in_err-page-clause-err : goal.returns-in_err-page-clause-err
@@ -49,11 +53,11 @@ returns-in_err-page-clause-err g c =
     let fault = c.in_err-page.field-0.0 in
     let inside : number < slice_index header.page_counts ward = omega (arith, c.if-number-pages.false) in
     let some : pages_in header key ≡ slice_index header.page_counts ward = ap (slice_index header.page_counts) (sym ward_is) in
-    err_is c.from_residual.result fault (FailsOnWay first_file known header key c.args.first _ _) c.from_residual.ensures.1 (record {
+    err_is c.from_residual.result fault (FailsOnWay (file_version c.args.version) known header key c.args.first _ _) c.from_residual.ensures.1 (record {
       way = so_far.0;
       number = number;
       leads = so_far.2;
-      fails = page_fails first_file known now header key ward before number c.loop-turn.invariant.same ward_is c.pages_before-before.ensures.place inside so_far.0 fault c.in_err-page.ensures.err;
+      fails = page_fails (file_version c.args.version) known now header key ward before number c.loop-turn.invariant.same ward_is c.pages_before-before.ensures.place inside so_far.0 fault c.in_err-page.ensures.err;
       short = omega (arith, so_far.1, c.loop-turn-test.true, some);
       reads = read_then _ _ _ (map (place_in header key) so_far.0) (length so_far.0) 1 (length-map so_far.0 (place_in header key)) so_far.3 c.in_err-page.ensures.few;
     })
@@ -77,7 +81,7 @@ returns-in-Home-clause-ok g c =
       number = number;
       leads = so_far.2;
       page = page;
-      there = page_in first_file known now header key ward before number c.loop-turn.invariant.same ward_is c.pages_before-before.ensures.place inside page c.in_ok-page.ensures.ok;
+      there = page_in (file_version c.args.version) known now header key ward before number c.loop-turn.invariant.same ward_is c.pages_before-before.ensures.place inside page c.in_ok-page.ensures.ok;
       home = ap (lead_of page) (sym c.requires.pseudokey) ∙ sym c.lead_of.ensures ∙ c.in-Home.is;
       is = c.find.ensures ∙ ap (λ (pseudokey : ℕ). value_at (pseudokey, key) (records_of page)) c.requires.pseudokey;
       short = omega (arith, so_far.1, c.loop-turn-test.true, some);
@@ -98,7 +102,7 @@ returns-in-Nowhere-clause-err g c =
     let so_far = c.loop-turn.invariant.so_far in
     let inside : number < slice_index header.page_counts ward = omega (arith, c.if-number-pages.false) in
     let some : pages_in header key ≡ slice_index header.page_counts ward = ap (slice_index header.page_counts) (sym ward_is) in
-    let there = page_in first_file known now header key ward before number c.loop-turn.invariant.same ward_is c.pages_before-before.ensures.place inside page c.in_ok-page.ensures.ok in
+    let there = page_in (file_version c.args.version) known now header key ward before number c.loop-turn.invariant.same ward_is c.pages_before-before.ensures.place inside page c.in_ok-page.ensures.ok in
     record {
       way = so_far.0;
       number = number;
@@ -121,13 +125,13 @@ loop-turn-preserved g c =
     let ward_is : ward ≡ ward_in header key = c.ward_number-ward.ensures ∙ ap (ward_of header.settings.ward_bits) c.requires.pseudokey in
     let so_far = c.loop-turn.invariant.so_far in
     let inside : number < slice_index header.page_counts ward = omega (arith, c.if-number-pages.false) in
-    let there = page_in first_file known now header key ward before number c.loop-turn.invariant.same ward_is c.pages_before-before.ensures.place inside page c.in_ok-page.ensures.ok in
+    let there = page_in (file_version c.args.version) known now header key ward before number c.loop-turn.invariant.same ward_is c.pages_before-before.ensures.place inside page c.in_ok-page.ensures.ok in
     record {
       same = c.in_ok-page.ensures.same_bytes ∙ c.loop-turn.invariant.same;
       so_far = (
         so_far.0 ++ number ∷ [],
         length_push so_far.0 number ∙ ap (λ (n : ℕ). n + 1) so_far.1,
-        way_more first_file known header key c.args.first so_far.0 number c.in-To.next page so_far.2 there (ap (lead_of page) (sym c.requires.pseudokey) ∙ sym c.lead_of.ensures ∙ c.in-To.is),
+        way_more (file_version c.args.version) known header key c.args.first so_far.0 number c.in-To.next page so_far.2 there (ap (lead_of page) (sym c.requires.pseudokey) ∙ sym c.lead_of.ensures ∙ c.in-To.is),
         reads_more _ _ _ (place_in header key) so_far.0 number _ (place_there header key ward before number ward_is c.pages_before-before.ensures.place) so_far.3 c.in_ok-page.ensures.one_read,
       );
     }

@@ -4,10 +4,11 @@ use Rattle.std.proofs.lemmas.List.FromFn.{length-range_with_len}
 use Rattle.std.specs.Io.KnownBytes.{Appends}
 use Rattle.std.specs.List.{AllByRecursion, range_with_len}
 use Rattle.std.specs.Option.{option_to_list}
-use Rattle.exh_prefix.specs.Version.{first_version}
+use Rattle.exh_prefix.specs.declared.prefix.TheConstants.{LIMIT}
+use Rattle.exh_prefix.specs.Layout.{layout}
 use Rattle.exh_table.specs.declared.leaf.Leaf.{Leaf}
 use Rattle.exh_file.specs.declared.file_entry.FileEntry.{FileEntry}
-use Rattle.exh_file.specs.FileVersion.{first_file}
+use Rattle.exh_file.specs.FileVersion.{file_version}
 use Rattle.exh_file.specs.TableImage.{AreRising, prefixes_of}
 use Rattle.exh_page_file.specs.FileTests.{TableFails}
 use Rattle.exh_page_file.specs.PageFile.{table_blocks}
@@ -20,6 +21,9 @@ use Rattle.exh_direct.proofs.Tables.{all_short, block_more, few_wards, last_of_j
 use Rattle.exh_direct.proofs.Walks.{first_on_way, walk_first, walk_more}
 use Rattle.exh_direct.proofs.Ways.{err_is}
 use Rattle.exh_direct.proofs.named.named_page.Goals as goal
+
+pub table_place-place-requires : goal.table_place-place-requires
+table_place-place-requires g c = (c.args.version, c.requires.header)
 
 pub ward_number-ward-requires : goal.ward_number-ward-requires
 ward_number-ward-requires g c = let bits = few_wards c.args.header.now.settings.ward_bits c.requires.header.wards in omega (arith, bits)
@@ -36,7 +40,7 @@ loop-number-init g c =
       same = refl;
       reads = Appends-nil (g.B.Blocks.reads c.args.blocks.now);
       on_way = subst (IsOnWay c.args.pseudokey) (sym c.first_leaf-leaf.ensures) (first_on_way header.settings.ward_bits c.args.pseudokey (omega (arith, bits)));
-      so_far = ([], no_block first_file (g.B.Blocks.known c.args.blocks.now) header, refl, c.first_leaf-leaf.ensures ∙ sym (walk_first ward header.settings.ward_bits c.args.pseudokey));
+      so_far = ([], no_block (file_version c.args.version) (g.B.Blocks.known c.args.blocks.now) header, refl, c.first_leaf-leaf.ensures ∙ sym (walk_first ward header.settings.ward_bits c.args.pseudokey));
     }
 
 pub returns-in_err-next-clause-err : goal.returns-in_err-next-clause-err
@@ -48,11 +52,11 @@ returns-in_err-next-clause-err g c =
     let fault = c.in_err-next.field-0.0 in
     let place : c.table_place-place.result + number ≡ table_place header + number = ap (λ (place : ℕ). place + number) c.table_place-place.ensures.place in
     let fewer : number < table_blocks header.entry_count = c.loop-number-test.true in
-    let at_place = subst (λ (place : ℕ). BlockFails (TableFails first_version place c.min-more.result c.loop-number.before) (g.B.Blocks.known c.loop-number.blocks) place fault) place c.in_err-next.ensures.err in
-    let at_count = subst (λ (more : ℕ). BlockFails (TableFails first_version (table_place header + number) more c.loop-number.before) (g.B.Blocks.known c.loop-number.blocks) (table_place header + number) fault) c.min-more.ensures at_place in
-    let behind = subst (λ (before : Option (List Bool)). BlockFails (TableFails first_version (table_place header + number) (min 254 (header.entry_count - 254 * number)) before) (g.B.Blocks.known c.loop-number.blocks) (table_place header + number) fault) so_far.2 at_count in
-    let fails = subst (λ (known : Option (List ℕ)). BlockFails (TableFails first_version (table_place header + number) (min 254 (header.entry_count - 254 * number)) (last_prefix None so_far.0)) known (table_place header + number) fault) c.loop-number.invariant.same behind in
-    err_is c.from_residual.result fault (FailsInTable first_file known header _ _) c.from_residual.ensures.1 (
+    let at_place = subst (λ (place : ℕ). BlockFails (TableFails (layout c.args.version) place c.min-more.result c.loop-number.before) (g.B.Blocks.known c.loop-number.blocks) place fault) place c.in_err-next.ensures.err in
+    let at_count = subst (λ (more : ℕ). BlockFails (TableFails (layout c.args.version) (table_place header + number) more c.loop-number.before) (g.B.Blocks.known c.loop-number.blocks) (table_place header + number) fault) c.min-more.ensures at_place in
+    let behind = subst (λ (before : Option (List Bool)). BlockFails (TableFails (layout c.args.version) (table_place header + number) (min 254 (header.entry_count - 254 * number)) before) (g.B.Blocks.known c.loop-number.blocks) (table_place header + number) fault) so_far.2 at_count in
+    let fails = subst (λ (known : Option (List ℕ)). BlockFails (TableFails (layout c.args.version) (table_place header + number) (min 254 (header.entry_count - 254 * number)) (last_prefix None so_far.0)) known (table_place header + number) fault) c.loop-number.invariant.same behind in
+    err_is c.from_residual.result fault (FailsInTable (file_version c.args.version) known header _ _) c.from_residual.ensures.1 (
       record { blocks = number; fewer = fewer; entries = so_far.0; front = so_far.1; fails = fails },
       read_fewer _ _ (number + 1) (table_blocks header.entry_count) (omega (arith, fewer))
           (read_then _ _ _ (range_with_len (table_place header) number) number 1 (length-range_with_len (table_place header) number) c.loop-number.invariant.reads c.in_err-next.ensures.few),
@@ -60,7 +64,7 @@ returns-in_err-next-clause-err g c =
 
 pub pass_all-requires-clause-short : goal.pass_all-requires-clause-short
 pass_all-requires-clause-short g c =
-    subst (AllByRecursion (λ (item : FileEntry). length item.prefix < 16)) (sym c.deref.ensures.value) (all_short c.in_ok-next.next.items c.in_ok-next.ensures.ok.2.valid)
+    subst (AllByRecursion (λ (item : FileEntry). length item.prefix < LIMIT)) (sym c.deref.ensures.value) (all_short c.args.version c.in_ok-next.next.items c.in_ok-next.ensures.ok.2.valid)
 
 pub loop-number-preserved : goal.loop-number-preserved
 loop-number-preserved g c =
@@ -76,11 +80,11 @@ loop-number-preserved g c =
     let inside : 254 * number < header.entry_count = omega (arith, fewer) in
     let place : c.table_place-place.result + number ≡ table_place header + number = ap (λ (place : ℕ). place + number) c.table_place-place.ensures.place in
     let len : length next ≡ min 254 (header.entry_count - 254 * number) = omega (arith, c.in_ok-next.ensures.count, c.min-more.ensures, c.in_ok-next.next.ok.0) in
-    let block = subst (λ (place : ℕ). IsTableBlock first_version known place next) place
-    (subst (λ (known : Option (List ℕ)). IsTableBlock first_version known (c.table_place-place.result + number) next) c.loop-number.invariant.same c.in_ok-next.ensures.ok) in
+    let block = subst (λ (place : ℕ). IsTableBlock (layout c.args.version) known place next) place
+    (subst (λ (known : Option (List ℕ)). IsTableBlock (layout c.args.version) known (c.table_place-place.result + number) next) c.loop-number.invariant.same c.in_ok-next.ensures.ok) in
     let rising = subst (λ (before : Option (List Bool)). AreRising (option_to_list before ++ prefixes_of next)) so_far.2 c.in_ok-next.ensures.rising in
-    let front = block_more first_file known header number entries next so_far.1 inside block len rising in
-    let short = all_short next c.in_ok-next.ensures.ok.2.valid in
+    let front = block_more (file_version c.args.version) known header number entries next so_far.1 inside block len rising in
+    let short = all_short c.args.version next c.in_ok-next.ensures.ok.2.valid in
     record {
       same = c.in_ok-next.ensures.same_bytes ∙ c.loop-number.invariant.same;
       reads = subst (Appends _ _) (ap (λ (last : ℕ). range_with_len (table_place header) number ++ last ∷ []) place ∙ sym (range_more (table_place header) number))

@@ -3,7 +3,7 @@ use Rattle.std.specs.Io.KnownBytes.{Appends}
 use Rattle.std.specs.List.{range_with_len}
 use Rattle.exh_table.specs.Walk.{walk_of}
 use Rattle.exh_file.specs.declared.file_entry.FileEntry.{FileEntry}
-use Rattle.exh_file.specs.FileVersion.{first_file}
+use Rattle.exh_file.specs.FileVersion.{file_version}
 use Rattle.exh_page_file.specs.Reading.{last_prefix}
 use Rattle.exh_legal_file.specs.LegalFile.{table_naming}
 use Rattle.exh_direct.specs.Answer.{IsTableFront, table_place}
@@ -15,6 +15,6 @@ invariant-loop-number g l = record {
   same : g.B.Blocks.known l.blocks ≡ g.B.Blocks.known l.initial.blocks;
   reads : Appends (g.B.Blocks.reads l.initial.blocks) (g.B.Blocks.reads l.blocks) (range_with_len (table_place l.header) l.number);
   on_way : IsOnWay l.pseudokey l.leaf;
-  so_far : (entries : List FileEntry) × IsTableFront first_file (g.B.Blocks.known l.initial.blocks) l.header l.number entries × (l.before ≡ last_prefix None entries)
+  so_far : (entries : List FileEntry) × IsTableFront (file_version l.version) (g.B.Blocks.known l.initial.blocks) l.header l.number entries × (l.before ≡ last_prefix None entries)
       × (l.leaf ≡ walk_of (table_naming entries l.ward) l.header.settings.ward_bits l.pseudokey);
 }

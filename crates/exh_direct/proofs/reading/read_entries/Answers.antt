@@ -1,5 +1,5 @@
 use Rattle.std.proofs.Common.{refl, sym, subst}
-use Rattle.exh_prefix.specs.Version.{first_version}
+use Rattle.exh_prefix.specs.Layout.{layout}
 use Rattle.exh_file.specs.declared.file_fault.FileFault.TheVariants.{Block}
 use Rattle.exh_page_file.specs.FileTests.{TableFails}
 use Rattle.exh_direct.specs.Known.{BlockFails}
@@ -9,7 +9,7 @@ use Rattle.exh_direct.proofs.reading.read_entries.Goals as goal
 pub returns-in-Err-clause-err : goal.returns-in-Err-clause-err
 returns-in-Err-clause-err g c =
     let place = c.args.place in
-    let Fails = TableFails first_version place c.args.entries c.args.before in
+    let Fails = TableFails (layout c.args.version) place c.args.entries c.args.before in
     let fault = c.in-Err.fault in
     subst (BlockFails Fails _ place) (sym c.at_place.ensures)
     (image_fails Fails _ place fault (λ other. block_fails Fails _ place c.read_block.new.block (Block place fault) c.in_ok-read_block.ensures.block (fault, c.in-Err.ensures.fault other, refl)))

@@ -1,7 +1,13 @@
-use Rattle.exh_file.specs.FileVersion.{first_file}
+use Rattle.std.proofs.Common.{ℕ, List, subst}
+use Rattle.exh_prefix.specs.declared.version.Version.{Version}
+use Rattle.exh_file.specs.FileVersion.{file_version, format_of}
 use Rattle.exh_page_file.specs.FileTests.{HeaderFails}
 use Rattle.exh_direct.proofs.BlockFaults.{block_fails}
 use Rattle.exh_direct.proofs.reading.read_header.Goals as goal
 
 pub returns-in-Err-clause-err : goal.returns-in-Err-clause-err
-returns-in-Err-clause-err g c = block_fails (HeaderFails first_file) _ 0 c.read_block.new.block c.in-Err.fault c.in_ok-read_block.ensures.block c.in-Err.ensures.fault
+returns-in-Err-clause-err g c =
+    let block = c.read_block.new.block in
+    let fault = c.in-Err.fault in
+    let fails = subst (λ (version : Version). HeaderFails (file_version version) block fault) c.version_in-version.ensures c.in-Err.ensures.fault in
+    block_fails (λ (block : List ℕ). HeaderFails (format_of block) block) _ 0 block fault c.in_ok-read_block.ensures.block fails

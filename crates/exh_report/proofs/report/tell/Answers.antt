@@ -1,7 +1,11 @@
 use Rattle.std.proofs.Common.{Ok, Err}
+use Rattle.exh_file.specs.FileVersion.{version_of}
 use Rattle.exh_page_file.specs.FileParts.{file_of}
 use Rattle.exh_report.specs.Report.{topic_lines}
 use Rattle.exh_report.proofs.report.tell.Goals as goal
+
+pub tell_parts-requires-clause-file : goal.tell_parts-requires-clause-file
+tell_parts-requires-clause-file g c = let legal = c.in-Ok.ensures.legal in (version_of legal.0, legal.3.is.valid)
 
 pub returns-in-Ok-clause-told : goal.returns-in-Ok-clause-told
 returns-in-Ok-clause-told g c = record {
