@@ -15,13 +15,13 @@ use Rattle.exh_direct.proofs.finding.find_on_way.Goals as goal
 pub returns-in_err-first-clause-refused : goal.returns-in_err-first-clause-refused
 returns-in_err-first-clause-refused g c =
     let known = g.B.Blocks.known c.args.blocks.now in
-    let version = c.in_ok-read_header.ok.0 in
-    let header = c.in_ok-read_header.ok.1 in
+    let version = c.in_ok-version.version in
+    let header = c.in_ok-version.header in
     let fault = c.in_err-first.field-0.0 in
     let opened = c.in-Ok.ensures.same_bytes in
-    let same = c.in_ok-read_header.ensures.same_bytes ∙ opened in
-    let head = subst (λ (known : Option (List ℕ)). IsHeaderAt (file_version version) known header) opened c.in_ok-read_header.ensures.ok in
-    let heads = subst (λ (old : Option (List ℕ)). Appends old (g.B.Blocks.reads c.read_header.new.blocks) (0 ∷ [])) c.in-Ok.ensures.no_read c.in_ok-read_header.ensures.one_read in
+    let same = c.in_ok-version.ensures.same_bytes ∙ opened in
+    let head = subst (λ (known : Option (List ℕ)). IsHeaderAt (file_version version) known header) opened c.in_ok-version.ensures.ok in
+    let heads = subst (λ (old : Option (List ℕ)). Appends old (g.B.Blocks.reads c.read_header.new.blocks) (0 ∷ [])) c.in-Ok.ensures.no_read c.in_ok-version.ensures.one_read in
     let fails = c.in_err-first.ensures.err in
     err_is c.from_residual-in_err-first.result fault (Refuses known c.args.key.now _ _) c.from_residual-in_err-first.ensures.1
     (inr (version, header, (head, inl (subst (λ (known : Option (List ℕ)). FailsBehind (file_version version) known header fault) same fails.0, read_then _ _ _ (0 ∷ []) 1 (table_blocks header.entry_count) refl heads fails.1))))
@@ -29,14 +29,14 @@ returns-in_err-first-clause-refused g c =
 pub returns-clause-found : goal.returns-clause-found
 returns-clause-found g c =
     let known = g.B.Blocks.known c.args.blocks.now in
-    let version = c.in_ok-read_header.ok.0 in
-    let header = c.in_ok-read_header.ok.1 in
+    let version = c.in_ok-version.version in
+    let header = c.in_ok-version.header in
     let key = c.args.key.now in
     let opened = c.in-Ok.ensures.same_bytes in
-    let same = c.in_ok-read_header.ensures.same_bytes ∙ opened in
+    let same = c.in_ok-version.ensures.same_bytes ∙ opened in
     let later = c.in_ok-first.ensures.same_bytes ∙ same in
-    let head = subst (λ (known : Option (List ℕ)). IsHeaderAt (file_version version) known header) opened c.in_ok-read_header.ensures.ok in
-    let heads = subst (λ (old : Option (List ℕ)). Appends old (g.B.Blocks.reads c.read_header.new.blocks) (0 ∷ [])) c.in-Ok.ensures.no_read c.in_ok-read_header.ensures.one_read in
+    let head = subst (λ (known : Option (List ℕ)). IsHeaderAt (file_version version) known header) opened c.in_ok-version.ensures.ok in
+    let heads = subst (λ (old : Option (List ℕ)). Appends old (g.B.Blocks.reads c.read_header.new.blocks) (0 ∷ [])) c.in-Ok.ensures.no_read c.in_ok-version.ensures.one_read in
     let names = c.in_ok-first.ensures.ok in
     let hashed : c.pseudo-pseudokey.result ≡ pseudokey_in header key = c.pseudo-pseudokey.ensures ∙ ap (any_pseudokey header.settings.keyer) c.as_bytes.ensures.bytes in
     let first : c.in_ok-first.first ≡ page_named header (pseudokey_in header key) names.entries = names.is ∙ ap (λ (pseudokey : ℕ). page_named header pseudokey names.entries) hashed in
@@ -55,14 +55,14 @@ returns-clause-found g c =
 pub returns-clause-refused : goal.returns-clause-refused
 returns-clause-refused g c =
     let known = g.B.Blocks.known c.args.blocks.now in
-    let version = c.in_ok-read_header.ok.0 in
-    let header = c.in_ok-read_header.ok.1 in
+    let version = c.in_ok-version.version in
+    let header = c.in_ok-version.header in
     let key = c.args.key.now in
     let opened = c.in-Ok.ensures.same_bytes in
-    let same = c.in_ok-read_header.ensures.same_bytes ∙ opened in
+    let same = c.in_ok-version.ensures.same_bytes ∙ opened in
     let later = c.in_ok-first.ensures.same_bytes ∙ same in
-    let head = subst (λ (known : Option (List ℕ)). IsHeaderAt (file_version version) known header) opened c.in_ok-read_header.ensures.ok in
-    let heads = subst (λ (old : Option (List ℕ)). Appends old (g.B.Blocks.reads c.read_header.new.blocks) (0 ∷ [])) c.in-Ok.ensures.no_read c.in_ok-read_header.ensures.one_read in
+    let head = subst (λ (known : Option (List ℕ)). IsHeaderAt (file_version version) known header) opened c.in_ok-version.ensures.ok in
+    let heads = subst (λ (old : Option (List ℕ)). Appends old (g.B.Blocks.reads c.read_header.new.blocks) (0 ∷ [])) c.in-Ok.ensures.no_read c.in_ok-version.ensures.one_read in
     let names = c.in_ok-first.ensures.ok in
     let hashed : c.pseudo-pseudokey.result ≡ pseudokey_in header key = c.pseudo-pseudokey.ensures ∙ ap (any_pseudokey header.settings.keyer) c.as_bytes.ensures.bytes in
     let first : c.in_ok-first.first ≡ page_named header (pseudokey_in header key) names.entries = names.is ∙ ap (λ (pseudokey : ℕ). page_named header pseudokey names.entries) hashed in
