@@ -1,5 +1,6 @@
 -- Versions of the page file, in which a prefix may have other lengths and stands in other numbers of bytes.
 use Rattle.std.specs.Prelude.{ℕ, ◌*◌, ◌-◌, ◌^◌, ◌≤◌}
+use Rattle.exh_prefix.specs.declared.prefix.TheConstants.{LIMIT}
 
 -- the greatest length of a prefix, and how many bytes a prefix or low bound has in an image
 pub record Version : Type 0 where
@@ -9,8 +10,9 @@ pub record Version : Type 0 where
 abbrev pub first_version : Version
 first_version = record { limit = 16; bytes = 2 }
 
+-- every prefix that there is
 abbrev pub second_version : Version
-second_version = record { limit = 20; bytes = 4 }
+second_version = record { limit = LIMIT; bytes = 4 }
 
 -- prefixes of up to 32 bits in four bytes: in each version that `Fits 4`, an image of a prefix that it may have is as in this one
 abbrev pub four_bytes : Version

@@ -5,7 +5,7 @@ ghost use Rattle.exh_prefix.specs.Bits.{word_bits};
 ghost use Rattle.exh_prefix.specs.Prefix.{HasPrefixUpTo};
 ghost use Rattle.exh_prefix.specs.Layout.{layout};
 
-use crate::Prefix;
+use crate::{LIMIT, Prefix};
 
 /// A version of the page file, by how prefixes stand in its images: how long one may be, and in how
 /// many bytes it stands.
@@ -13,7 +13,7 @@ use crate::Prefix;
 pub enum Version {
     /// A prefix of up to 16 bits stands in two bytes.
     First,
-    /// A prefix of up to 20 bits stands in four bytes.
+    /// A prefix of up to `LIMIT` bits stands in four bytes.
     Second,
 }
 
@@ -29,7 +29,7 @@ impl Version {
     {
         match self {
             Version::First => 16,
-            Version::Second => 20,
+            Version::Second => LIMIT,
         }
     }
 
