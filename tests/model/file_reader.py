@@ -278,7 +278,7 @@ TESTS = (keep_cap, have_lows, have_leaves, have_links, have_targets, has_table)
 
 
 def version_of(content):
-    """The version by whose rules the bytes are read: the first where they name it, else the other, whatever they name."""
+    """The version by whose rules bytes are read: the first where they name it, else the other, whatever they name."""
     return FIRST if int.from_bytes(content[8:10], "big") == FIRST.number else CURRENT
 
 
