@@ -18,7 +18,7 @@ export LC_ALL=C
 
 RUNS=${1:-5}
 # Pages, how many records it takes for as many, and how many times gdbmtool's time is wanted.
-SIZES=('1000 10929 2' '10000 112666 2' '60000 684805 4')
+SIZES=('1000 10929 2' '10000 112666 2' '60000 653903 4')
 KEYS=100
 # How many pages the file has of which the pairs are timed, and how many times the digests' time is wanted.
 PAIRS_OF=60000

@@ -4,17 +4,15 @@
 #   bench/file.sh [RUNS]     the best of RUNS runs counts, 5 if left out
 #
 # The files are of one ward of cap 16, of 1,000, 10,000 and 60,000 pages, under the keyer plain. Keys and values have 8
-# bytes, and the keys' first bits are evenly spread, so that a page has some 11 records; of 60,000 pages most have the
-# longest prefixes, so that full ones turn away one record in a hundred. crates/bench_calls makes them: what `load`
-# takes in is too short for the longer ones. All files lie in memory, on /dev/shm where there is one. Timed are, in
-# turns:
+# bytes, and the keys' first bits are evenly spread, so that a page has some 11 records, and none is turned away.
+# crates/bench_calls makes them: what `load` takes in is too short for the longer ones. All files lie in memory, on
+# /dev/shm where there is one. Timed are, in turns:
 # - in crates/bench_calls, over the file's bytes in memory: the SHA-256 of its blocks alone, compared with those that
 #   they have; opening it, which tests legality and makes wards; writing it to nowhere. That is the processor's time;
 # - the program itself, by the processor that it takes: `exhash check` and `exhash dump` of the file, to nowhere;
 # - bench_calls once more, as it opens the file and writes it to another one, for the most memory that it takes;
-# - file_walk.c: walks of gdbm and LMDB over files of the same records, with those that were turned away, from
-#   opening to closing; gdbm_dump of gdbm's file and db5.3_dump of a file of Berkeley DB of the records that exhash
-#   has, to nowhere. None of them has digests.
+# - file_walk.c: walks of gdbm and LMDB over files of the same records, from opening to closing; gdbm_dump of gdbm's
+#   file and db5.3_dump of a file of Berkeley DB of the same records, to nowhere. None of them has digests.
 # Then `exhash load` of the longest input of pairs, 1 MiB, beside gdbmtool's `store` and db5.3_load of the same pairs,
 # by the processor that they take; they don't synchronize, and the fastest setting of each counts. exhash does.
 #
@@ -28,7 +26,7 @@ export LC_ALL=C
 
 RUNS=${1:-5}
 # Pages, and how many records it takes for as many.
-SIZES=('1000 10929' '10000 112666' '60000 684805')
+SIZES=('1000 10929' '10000 112666' '60000 653903')
 # Settings of gdbmtool that were worth a try.
 SETTINGS=('' '--cache-size=100' '--cache-size=4000' '--block-size=512' '--block-size=4096' '--no-mmap')
 

@@ -4,13 +4,14 @@
 #   bench/hostile.sh [SECONDS [KIB]]     a run is ended after so many seconds of processor, 120 if left out, and may
 #                                        have so many KiB of memory, 4 GiB if left out
 #
-# hostile.awk draws scripts over a new file of cap 1, whose directory is of sixteen bits' depth and has 16 entries, or
-# as many as half a script makes; the rest is one of these:
+# hostile.awk draws scripts over a new file of cap 1, whose directory is of the greatest depth, twenty bits, and has 20
+# entries, or as many as half a script makes, or 256 of sixteen wards; the rest is one of these:
 # - `combine` of a table that was sent; `restart` and `combine`; `send`; `deliver` and `send`;
+# - a merge of the deepest pages and their split, each delivered, so that the array is halved and doubled by turns;
 # - `show`; `page`; `inflight`, over as many requests in flight as entries, or as a quarter of the script begins;
 # - `begin` through a copy that was told nothing; `hop` of requests in the order begun.
-# Then `load` of pairs at cap 1, whose keys are all those of two bytes, twice; and, over the file that it makes, 100
-# `combine` of a table that was sent, and 100 `send`.
+# Then `load` of pairs at cap 1, two and two of which share nineteen bits and no more, so that there are as many splits
+# as a text can make; and, over the file that it makes, 100 `combine` of a table that was sent, and 100 `send`.
 #
 # Of each run are printed: the entries of its directory, the lines behind those that make it, the seconds of processor,
 # the MB that it printed and the MiB of memory that it had. Of one that was ended, and whose lines print a line each, it
@@ -18,7 +19,8 @@
 #
 # The program is the one that ./exhash builds, or the one that the variable EXHASH names.
 #
-# Wanted: 10 seconds, and one more for each 200 MB that is printed; 600 MiB, over an opened file 4 times its size.
+# Wanted: 10 seconds, and one more for each 200 MB that is printed; 600 MiB, of the load 1.3 times the file that it
+# writes, over an opened file 4 times its size.
 #
 # Status: 0 where all that is met, 1 where something isn't, 2 where nothing could be measured.
 set -u
@@ -27,7 +29,7 @@ export LC_ALL=C
 LIMIT=${1:-120}
 ROOM=${2:-$((4 * 1024 * 1024))}
 LARGEST=$((1024 * 1024))
-KINDS=(combine restart send deliver show page inflight begin hop)
+KINDS=(combine restart send deliver halve show page inflight begin hop)
 
 die() {
     echo "bench/hostile.sh: $*" >&2
@@ -82,16 +84,19 @@ lines_before() {
 measure_load() {
     awk -v left="$LARGEST" 'BEGIN {
         line = "file cap=1 wards=0 copies=1 keyer=plain"
-        for (number = 0; length(line) < left; number = (number + 40503) % 65536) {
+        for (pair = 0; length(line) < left; pair++) {
             print line
             left -= length(line) + 1
-            line = sprintf("#%04x v", number)
+            if (pair % 2 == 0) number = (number + 40503) % 65536
+            line = sprintf(pair % 2 ? "#%04x10 v" : "#%04x v", number)
         }
     }' > "$folder/pairs"
-    measure load 0 0 "$(wc -l < "$folder/pairs")" 600 "$folder/pairs" load "$folder/load.exh"
-    [ -s "$folder/load.exh" ] || return
-    local first='file cap=1 wards=0 copies=2 keyer=plain' size entries line
-    size=$(($(stat -c %s "$folder/load.exh") * 4 / 1024 / 1024))
+    local row first='file cap=1 wards=0 copies=2 keyer=plain' size entries line
+    row=$(measure load 0 0 "$(wc -l < "$folder/pairs")" WANTED "$folder/pairs" load "$folder/load.exh")
+    size=$(stat -c %s "$folder/load.exh" || echo 0)
+    echo "${row/WANTED/$((size * 13 / 10 / 1024 / 1024))}"
+    [ "$size" -gt 0 ] || return
+    size=$((size * 4 / 1024 / 1024))
     entries=$("$program" check "$folder/load.exh") || die 'what was loaded is no page file'
     for line in 'combine 2 1' 'send 1'; do
         { echo "$first"; echo 'send 1'; yes "$line" | head -n 100; } > "$folder/script"
@@ -105,7 +110,7 @@ cc -O2 -Wall -Wextra -o "$folder/clock" "$bench/clock.c" || die 'clock.c could n
     die 'exhash does not answer examples/one-key.script'
 {
     for kind in "${KINDS[@]}"; do
-        for table in deep wide; do
+        for table in deep wide wards; do
             measure_script "$kind" "$table"
         done
     done

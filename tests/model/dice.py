@@ -50,7 +50,7 @@ class Taste(NamedTuple):
 def keys_that_share():
     """Lists of keys whose pseudokeys under keyer sha share as many digits as a prefix may have."""
     keys = collections.defaultdict(list)
-    for number in range(3000):
+    for number in range(12_000):
         key = b"%d" % number
         keys[pseudokey_of("sha", key)[:LIMIT]].append(key)
     return [shared for shared in keys.values() if len(shared) > 1]

@@ -9,7 +9,7 @@ from .bits import WORD_BITS, digits_of, low_bound, lowest_cleared, pseudokey_of
 from .file import File, Ward
 from .page_file import BLOCK, CONTENT, ENTRIES_OF_BLOCK, FORWARD, KEYERS, LIVE, MAGIC, MERGE, NO_LINK, SPLIT
 from .tables import Entry, Kind
-from .version import CAP_LIMIT, CURRENT, KEY_LIMIT, VALUE_LIMIT, WARD_BITS_LIMIT
+from .version import CAP_LIMIT, CURRENT, FIRST, KEY_LIMIT, VALUE_LIMIT, WARD_BITS_LIMIT
 
 KIND, LENGTH, ORDER, PADDING, DIGEST, PREFIX = range(30, 36)
 OF_MAGIC, OF_VERSION, TRUNCATED, TRAILING, ILLEGAL = range(36, 41)
@@ -69,8 +69,8 @@ def has_digit(content):
 class Reader:
     """Reads a file, block by block. A fault within a block is told with its place."""
 
-    def __init__(self, content, version):
-        self.content, self.version = content, version
+    def __init__(self, content):
+        self.content, self.version = content, version_of(content)
         self.place = -1
 
     def block(self):
@@ -277,6 +277,11 @@ def has_table(parts):
 TESTS = (keep_cap, have_lows, have_leaves, have_links, have_targets, has_table)
 
 
-def file_of(content, version=CURRENT):
+def version_of(content):
+    """The version by whose rules bytes are read: the first where they name it, else the other, whatever they name."""
+    return FIRST if int.from_bytes(content[8:10], "big") == FIRST.number else CURRENT
+
+
+def file_of(content):
     """The file that the bytes are, as it is when it is opened, or their first fault."""
-    return Reader(content, version).file()
+    return Reader(content).file()

@@ -39,7 +39,7 @@ from .page_file import (
     sealed,
 )
 from .tables import Entry, Kind
-from .version import CAP_LIMIT, KEY_LIMIT, LIMIT, NUMBER_LIMIT, VALUE_LIMIT
+from .version import CAP_LIMIT, FIRST, KEY_LIMIT, KNOWN, LIMIT, NUMBER_LIMIT, VALUE_LIMIT
 
 # Right files that changes are made to, and how many splits and merges each of one ward had at most.
 RIGHT_FILES = 400
@@ -50,6 +50,13 @@ WARD_BITS = (0, 0, 0, 1, 1, 1, 2, 2, 3, 4)
 TORN, CUT, LONGER = 10, 4, 6
 LEGAL, TWO_FAULTS, RIGHT_DIGESTS = "legal", "two faults of two lines at once", "right digests"
 WITH_MERGES = "merges in the table"
+LONG, LONG_FORWARD = "a leaf longer than the first version's", "a forwarding page's low bound of more digits than those"
+# Of a hundred right files, those of which a leaf is split down to the longest prefix.
+DRILLED = 25
+# The lengths that the versions bound, and those next to them; what a field of four bytes has from the highest digit
+# down: some with one digit on either side of where a version's digits end.
+LENGTHS = (0, 1, 2, *(version.limit + by for version in KNOWN for by in (-1, 0, 1)))
+FIELDS = (0, 0, 1 << 30, 1 << 31, 3 << 30, 1, *(1 << 32 - version.limit - by for version in KNOWN for by in (0, 1)))
 
 
 class Hostile(NamedTuple):
@@ -77,17 +84,31 @@ def name_of(line):
 # Right files.
 
 
-def change(dice, ward):
-    """Splits a leaf, or merges two buddies."""
+def change(dice, ward, limit):
+    """Splits a leaf that is shorter than a limit, or merges two buddies."""
     leaf = dice.choice(sorted(ward.leaves))
     parent = leaf[:-1]
     are_buddies = leaf != ward.prefix and {parent + "0", parent + "1"} <= ward.leaves
     if are_buddies and dice.random() < 0.5:
         ward.leaves ^= {parent, parent + "0", parent + "1"}
-    elif len(leaf) < LIMIT:
-        right = low_bound(leaf + "1")
-        ward.lows += [] if right in ward.lows else [right]
-        ward.leaves ^= {leaf, leaf + "0", leaf + "1"}
+    elif len(leaf) < limit:
+        split(ward, leaf)
+
+
+def split(ward, leaf):
+    right = low_bound(leaf + "1")
+    ward.lows += [] if right in ward.lows else [right]
+    ward.leaves ^= {leaf, leaf + "0", leaf + "1"}
+
+
+def drill(dice, ward, limit):
+    """Splits a leaf, and then one of its halves, and so on down to a limit; and maybe merges the last two again."""
+    leaf = dice.choice(sorted(ward.leaves))
+    while len(leaf) < limit:
+        split(ward, leaf)
+        leaf += dice.choice("01")
+    if dice.random() < 0.5 and leaf != ward.prefix:
+        ward.leaves ^= {leaf[:-1], leaf[:-1] + "0", leaf[:-1] + "1"}
 
 
 def number_by(dice, is_split):
@@ -108,9 +129,10 @@ def tell_table(dice, ward):
 
 def key_under(dice, leaf):
     """A key whose pseudokey under keyer plain the leaf begins."""
-    digits = leaf + "".join(dice.choices("01", k=LIMIT - len(leaf)))
-    front = int(digits, 2).to_bytes(LIMIT // 8, "big")
-    length = dice.choice((0, 0, 0, 1, 6, 7, KEY_LIMIT - len(front)))
+    count = -(-LIMIT // 8)
+    digits = leaf + "".join(dice.choices("01", k=8 * count - len(leaf)))
+    front = int(digits, 2).to_bytes(count, "big")
+    length = dice.choice((0, 0, 0, 1, 5, 6, KEY_LIMIT - count))
     return front + dice.randbytes(length)
 
 
@@ -131,16 +153,22 @@ def fill(dice, file):
 def right_file(number):
     """The right file of a number: its bytes and what came up in it."""
     dice = random.Random(f"right file {number}")
-    keyer, bits = dice.choice(("sha", "plain")), WARD_BITS[number % len(WARD_BITS)]
+    keyer, bits, version = dice.choice(("sha", "plain")), WARD_BITS[number % len(WARD_BITS)], dice.choice(KNOWN)
     file = File.empty(dice.choice((1, 2, 3, 4, CAP_LIMIT)), bits, keyer)
+    if dice.randrange(100) < DRILLED:
+        drill(dice, dice.choice(file.wards), version.limit)
     for ward in file.wards:
         for _ in range(dice.randrange(CHANGES // len(file.wards) + 2)):
-            change(dice, ward)
+            change(dice, ward, version.limit)
         tell_table(dice, ward)
     fill(dice, file)
     has_merges = any(entry.kind is Kind.MERGE for ward in file.wards for _, entry in ward.start)
-    met = collections.Counter([f"keyer {keyer}", f"wards {len(file.wards)}"] + [WITH_MERGES] * has_merges)
-    return bytes_of_file(file), met
+    is_long = any(len(leaf) > FIRST.limit for ward in file.wards for leaf in ward.leaves)
+    places = [(ward.leaf_of(number), low) for ward in file.wards for number, low in enumerate(ward.lows)]
+    is_fine = any(leaf is None and "1" in low[FIRST.limit :] for leaf, low in places)
+    met = collections.Counter([f"keyer {keyer}", f"wards {len(file.wards)}", f"version {version.number}"])
+    met.update([WITH_MERGES] * has_merges + [LONG] * is_long + [LONG_FORWARD] * is_fine)
+    return bytes_of_file(file, version), met
 
 
 # Changes. Each is made to a right file, and makes the digests of what it changes right.
@@ -162,9 +190,9 @@ def with_a_page_by_chance(dice, content):
     """The file with a page in which each field is by chance."""
     place = dice.choice(places_of(content)[0])
     count = dice.choice((0, 0, 1, 2, CAP_LIMIT, CAP_LIMIT + 1))
-    kind, length = dice.choice((LIVE, LIVE, FORWARD, 0)), dice.choice((0, 1, 2, LIMIT, LIMIT + 1))
+    kind, length = dice.choice((LIVE, LIVE, FORWARD, 0)), dice.choice(LENGTHS)
     link = dice.choice((0, 1, NO_LINK))
-    head = struct.pack(">BBBxIH6x", kind, length, count, link, dice.choice((0, 0x4000, 0x8000, 0xC000, 1)))
+    head = struct.pack(">BBBxII4x", kind, length, count, link, dice.choice(FIELDS))
     records = b"".join(record_by(dice) for _ in range(min(count, 3)))
     return with_block(content, place, sealed(head + records))
 
@@ -175,19 +203,36 @@ def with_an_entry_by_chance(dice, content):
     if not tables:
         return with_another_entry(dice, content)
     [count] = struct.unpack(">I", content[16:20])
-    head = (dice.choice((0, 1, 15, 16)), dice.choice((SPLIT, MERGE, 3)), dice.choice((0, 1, 2, LIMIT - 1, LIMIT)))
-    bits, number = dice.choice((0, 0x4000, 0x8000, 1)), dice.choice((0, 1, 2, 3, NUMBER_LIMIT))
-    image = struct.pack(">BBBxH2xII", *head, bits, number, dice.choice((0, 0, 1, 2)))
+    head = (dice.choice((0, 1, 15, 16)), dice.choice((SPLIT, MERGE, 3)), dice.choice(LENGTHS))
+    bits, number = dice.choice(FIELDS), dice.choice((0, 1, 2, 3, NUMBER_LIMIT))
+    image = struct.pack(">BBBxIII", *head, bits, number, dice.choice((0, 0, 1, 2)))
     at = len(image) * dice.randrange(min(count, ENTRIES_OF_BLOCK))
     block = block_of(content, tables[0])
     block[at : at + len(image)] = image
     return with_block(content, tables[0], sealed(bytes(block)))
 
 
+def in_another_version(dice, content):
+    """The file with the number of a version that is read, or of one that isn't."""
+    header = block_of(content, 0)
+    header[8:10] = dice.choice((*(version.number for version in KNOWN), 0, 3)).to_bytes(2, "big")
+    return with_block(content, 0, sealed(bytes(header)))
+
+
+def with_a_count_beside_a_limit(dice, content):
+    """The file with a number of entries, or of a ward's pages, next to where a version's end."""
+    header, limit = block_of(content, 0), dice.choice(KNOWN).limit
+    at, most = dice.choice(((16, 2**limit), (20, 2 ** (limit - header[11]))))
+    header[at : at + 4] = (most + dice.choice((-1, 0, 1))).to_bytes(4, "big")
+    return with_block(content, 0, sealed(bytes(header)))
+
+
 # How often each change is made. What the digest would find, and what changes the length, is done at last.
 CHANGES_TO_A_FILE = {
     **{way: count for way, count in WAYS.items() if way not in (cut, lengthened, turned)},
     with_another_first_byte: 2,
+    in_another_version: 6,
+    with_a_count_beside_a_limit: 2,
     with_a_page_by_chance: 3,
     with_an_entry_by_chance: 4,
 }

@@ -23,8 +23,8 @@ SHOWN = 32
 KINDS = ("refused 60", "refused 61", "full")
 TOO_LONG = f"exhash: standard input has more than {SCRIPT_LIMIT} bytes, or has no end"
 SPREAD = {
-    "plain": "exhash: keyer=plain parts keys by their first two bytes alone",
-    "sha": "exhash: keyer=sha parts keys by two bytes of a digest of theirs",
+    "plain": "exhash: keyer=plain parts keys by their first two and a half bytes alone",
+    "sha": "exhash: keyer=sha parts keys by two and a half bytes of a digest of theirs",
 }
 
 

@@ -9,8 +9,8 @@ from .version import NUMBER_LIMIT
 HEAD_END = 16
 # The bytes of a header, a page's head and an entry that say something, and some that don't.
 HEADER = (8, 9, 10, 11, 12, 13, 15, 16, 18, 19, 23, 27, 31, 84, 4000)
-HEAD = (0, 0, 0, 1, 2, 2, 3, 4, 7, 8, 9, 10, 12)
-IMAGE = (0, 1, 2, 3, 4, 5, 6, 8, 11, 12, 15)
+HEAD = (0, 0, 0, 1, 2, 2, 3, 4, 7, 8, 9, 10, 11, 12)
+IMAGE = (0, 1, 2, 3, 4, 5, 6, 7, 8, 11, 12, 15)
 
 
 def strange(dice, file):

@@ -13,7 +13,9 @@ class Version(NamedTuple):
 
 FIRST = Version(number=1, limit=16, width=2)
 # The version whose limit the file keeps, and that is written.
-CURRENT = FIRST
+CURRENT = Version(number=2, limit=20, width=4)
+# Those that are read.
+KNOWN = (FIRST, CURRENT)
 LIMIT = CURRENT.limit
 
 CAP_LIMIT = 16

@@ -28,8 +28,8 @@ pub(crate) const LISTS: [List; 4] = [
         least: 7 + 14 + 2 + 3,
     },
     List {
-        rows: &SIXTEEN_SPLITS,
-        least: 4 + 8 + 32 + 2,
+        rows: &ALL_SPLITS,
+        least: 4 + 8 + 40 + 2,
     },
     List {
         rows: &SWAPS,
@@ -118,7 +118,7 @@ const CHANGED: Said<'static> = Changed(b"\0\0", b"d", b"a");
 
 // Two keys of equal pseudokeys fill a page: no split helps a third one, up to the last, and then it is turned away. The
 // page that the last split made is empty.
-const SIXTEEN_SPLITS: [Row; 27] = [
+const ALL_SPLITS: [Row; 31] = [
     Begin(1, 1, ONE, 0),
     Done(1, ONE, 0, 0),
     Begin(2, 1, OTHER, 0),
@@ -141,9 +141,13 @@ const SIXTEEN_SPLITS: [Row; 27] = [
     Split(0, Change(14, "0000000000000", 1, Some(14))),
     Split(0, Change(15, "00000000000000", 1, Some(15))),
     Split(0, Change(16, "000000000000000", 1, Some(16))),
-    Done(3, NO_ROOM, 0, 16),
+    Split(0, Change(17, "0000000000000000", 1, Some(17))),
+    Split(0, Change(18, "00000000000000000", 1, Some(18))),
+    Split(0, Change(19, "000000000000000000", 1, Some(19))),
+    Split(0, Change(20, "0000000000000000000", 1, Some(20))),
+    Done(3, NO_ROOM, 0, 20),
     NoSplit(0, WardFault::AtLimit),
-    NoSplit(16, WardFault::NotFull),
+    NoSplit(20, WardFault::NotFull),
     Begin(4, 1, CHANGED, 0),
     Done(4, CHANGED, 0, 0),
 ];

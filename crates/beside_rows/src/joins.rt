@@ -7,7 +7,7 @@ ghost use Rattle.exh_prefix.specs.declared.prefix.TheConstants.{LIMIT};
 use exh_array::{Directory, Pointers};
 use exh_fixtures::{merge, prefix, split};
 use exh_join::Join;
-use exh_prefix::{PageNo, Prefix};
+use exh_prefix::{LIMIT, PageNo, Prefix};
 use exh_runs::{Difference, Part, Run, again, same};
 use exh_table::Table;
 use std::alloc::{AllocError, Global};
@@ -171,33 +171,33 @@ fn is_at(
 
 // As many wards as there may be: none of them can be split.
 fn has_most_wards(alloc: Global) -> Result<(), Difference> {
-    let pointers = again!(Err(AllocError) => Pointers::new(alloc, 16))?;
-    same(pointers.depth() == 16, Part::Depth)?;
-    for leading in 0..0x1_0000_u64 {
-        let pseudokey = leading << 48;
+    let pointers = again!(Err(AllocError) => Pointers::new(alloc, LIMIT))?;
+    same(pointers.depth() == LIMIT, Part::Depth)?;
+    for leading in 0..1u64 << LIMIT {
+        let pseudokey = leading << (64 - LIMIT);
         let is_page = pointers.page(pseudokey) == 0;
         same(
-            is_page && pointers.local_depth(pseudokey) == 16,
+            is_page && pointers.local_depth(pseudokey) == LIMIT,
             Part::Pointer,
         )?;
     }
     Ok(())
 }
 
-// Splits at 0 to 16 zeros double an array, of which the last is not passed, and merges halve it again; then, told of the
-// longest first, it is doubled 16 times at once, and halved so by a merge at the root.
+// Splits at 0 to `LIMIT` zeros double an array, of which the last is not passed, and merges halve it again; then, told
+// of the longest first, it is doubled `LIMIT` times at once, and halved so by a merge at the root.
 fn take_chain(directory: &mut Directory) -> Result<(), Difference> {
-    for zeros in 0..=16u8 {
-        take_zeros(directory, zeros, 1, (zeros + 1).min(16))?;
+    for zeros in 0..=LIMIT {
+        take_zeros(directory, zeros, 1, (zeros + 1).min(LIMIT))?;
     }
     is_chain(directory)?;
-    for zeros in (0..16u8).rev() {
+    for zeros in (0..LIMIT).rev() {
         take_zeros(directory, zeros, 2, zeros)?;
     }
-    for zeros in (1..=16u8).rev() {
+    for zeros in (1..=LIMIT).rev() {
         take_zeros(directory, zeros, 3, 0)?;
     }
-    take_zeros(directory, 0, 3, 16)?;
+    take_zeros(directory, 0, 3, LIMIT)?;
     is_chain(directory)?;
     take_zeros(directory, 0, 4, 0)
 }
@@ -219,16 +219,16 @@ fn take_zeros(
     same(is_depth, Part::Depth)
 }
 
-// Where the first 1 of a pseudokey comes after fewer than 16 zeros, it is on the page after their number, and else on
-// page 0.
+// Where the first 1 of a pseudokey comes after fewer than `LIMIT` zeros, it is on the page after their number, and else
+// on page 0.
 fn is_chain(directory: &Directory) -> Result<(), Difference> {
-    for zeros in 0..16u8 {
+    for zeros in 0..LIMIT {
         for pseudokey in [0x8000_0000_0000_0000 >> zeros, u64::MAX >> zeros] {
             is_at(directory, pseudokey, PageNo::from(zeros) + 1, zeros + 1)?;
         }
     }
-    for pseudokey in [0, 1, 0x0000_8000_0000_0000, 0x0000_ffff_ffff_ffff] {
-        is_at(directory, pseudokey, 0, 16)?;
+    for pseudokey in [0, 1, 0x8000_0000_0000_0000 >> LIMIT, u64::MAX >> LIMIT] {
+        is_at(directory, pseudokey, 0, LIMIT)?;
     }
     Ok(())
 }

@@ -8,7 +8,7 @@ use crate::plain_ward::{PlainWard, plain_ward, settings};
 use exh_calls::{Call, JournalEntry, Reply};
 use exh_fixtures::{Asked, Said, first_store, hop_of, refused, split_page, value};
 use exh_keyer::PlainKeyer;
-use exh_prefix::PageNo;
+use exh_prefix::{LIMIT, PageNo};
 use exh_runs::{Difference, Part, Run, again, same};
 use exh_ward::{Hop, Ward, WardFault};
 use std::alloc::{AllocError, Global};
@@ -112,13 +112,13 @@ fn ask_many(ward: &mut PlainWard, get: &Call) -> Result<(), Difference> {
     same(journal.get(65_536) == Some(past), Part::Journal)
 }
 
-// A key is turned away where two have its 16 leading bits, and the journal says so.
+// A key is turned away where two have its `LIMIT` leading bits, and the journal says so.
 fn has_full_entry(ward: &mut PlainWard) -> Result<(), Difference> {
     let second = Asked::Put(b"\0\0", b"b");
     let third = Asked::Put(b"\0\0\0", b"c");
     let new = hop_at(ward, 0, second)?;
     same(new == Hop::Done(Reply::New), Part::Reply)?;
-    for _ in 0..16 {
+    for _ in 0..LIMIT {
         split_page(ward, 0).map_err(refused)?;
     }
     let full = hop_at(ward, 0, third)?;

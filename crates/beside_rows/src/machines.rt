@@ -23,14 +23,14 @@ const ONE_KEY: [Said<'static>; 13] = [
     Said::Unswapped(b"k", b"x", b"y"),
 ];
 
-// Two keys a page. The third key that shares sixteen bits is turned away, one that shares fifteen is not, and neither
-// is one that is present.
+// Two keys a page. The third key that shares as many bits as a prefix may have is turned away, one that shares a bit
+// less is not, and neither is one that is present.
 const EQUAL_LEADING_BITS: [Said<'static>; 10] = [
     Said::New(b"\0\0", b"a"),
     Said::New(b"\0\0\0", b"b"),
     Said::Full(b"\0\0\0\0", b"c"),
-    Said::Full(b"\0\0\xff", b"c"),
-    Said::New(b"\0\x01", b"c"),
+    Said::Full(b"\0\0\x0f", b"c"),
+    Said::New(b"\0\0\x10", b"c"),
     Said::Absent(b"\0\0\0\0"),
     Said::Changed(b"\0\0", b"d", b"a"),
     Said::Was(b"\0\0\0", b"b"),

@@ -148,8 +148,8 @@ A script has at most 1048576 bytes. Words have one space between them, and no
 line begins or ends with one.
   file        cap, the records of a page, 1 to 16; wards 0 to 4, for 2^wards
               of them; copies 1 to 8; K is sha or plain: keys are parted by two
-              bytes of a digest, or by their own first two bytes alone. Of an
-              opened file the cap, wards and K are its own.
+              and a half bytes of a digest, or by their own first ones alone. Of
+              an opened file the cap, wards and K are its own.
               `moves=yes` may stand behind it: each reply then ends with its
               moves and their bound, as ` moves 1 of 1`
   rN, cN      r or c and a number from 1 to 4294967295
@@ -251,11 +251,11 @@ many records the file has:
   refused 61   its key or value is out of range
   full KEY     there is no room for it, whatever is split
   loaded 2
-A later value of a key replaces the earlier. Keys are parted by two bytes: those
-of a digest with keyer=sha, their own first two with keyer=plain. An empty file
-there, or one that begins as a page file, is replaced once the new one is whole;
-any other stays, and nothing is saved. Which line is refused or full is said on
-standard error.
+A later value of a key replaces the earlier. Keys are parted by two and a half
+bytes: those of a digest with keyer=sha, their own first ones with keyer=plain.
+An empty file there, or one that begins as a page file, is replaced once the new
+one is whole; any other stays, and nothing is saved. Which line is refused or
+full is said on standard error.
 These stand alone or come last, and nothing is saved: 60 or 61 for the `file`
 line, 62 for more than 1048576 bytes, 41 where reading fails, 10 where memory
 ends. Why a path can't be saved to is said on standard error.
@@ -408,6 +408,9 @@ Only an empty file, or one that begins as a page file, is saved over. It is
 there whole until the new one is whole and on the disk, and where that fails it
 stays. Of two saves to one path at once one is refused; a run doesn't save over
 the file that it opened where another saved over that since.
+Page files of the first version and of the second are read, and told alike. What
+is saved is of the second, which programs that know the first alone refuse with
+37. A key for which a page of the first had no room for good may find some.
 
 Exit status: 0 where the run is done, also with refused lines, or the file is
 legal, or the key is there or changed as is asked, or all is settled; 1 where it

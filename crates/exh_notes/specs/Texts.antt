@@ -35,8 +35,8 @@ abbrev pub turned_away_text : ℕ → ℕ → List ℕ
 turned_away_text count cap = codes "exhash: pairs that aren't in the file, a page having room for cap=" ++ (decimal cap ++ counted_text count)
 
 abbrev pub spread_text : AnyKeyer → List ℕ
-spread_text Plain = codes "exhash: keyer=plain parts keys by their first two bytes alone\n"
-spread_text Sha = codes "exhash: keyer=sha parts keys by two bytes of a digest of theirs\n"
+spread_text Plain = codes "exhash: keyer=plain parts keys by their first two and a half bytes alone\n"
+spread_text Sha = codes "exhash: keyer=sha parts keys by two and a half bytes of a digest of theirs\n"
 
 -- a number of the settings; its name has the `=` behind it
 unfoldable pub setting_text : List ℕ → ℕ → List ℕ

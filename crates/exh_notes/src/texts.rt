@@ -91,8 +91,10 @@ pub(crate) fn spread(keyer: AnyKeyer) -> &'static [u8]
     ensures { result.now ≡ spread_text keyer }
 {
     match keyer {
-        AnyKeyer::Plain => b"exhash: keyer=plain parts keys by their first two bytes alone\n",
-        AnyKeyer::Sha => b"exhash: keyer=sha parts keys by two bytes of a digest of theirs\n",
+        AnyKeyer::Plain =>
+            b"exhash: keyer=plain parts keys by their first two and a half bytes alone\n",
+        AnyKeyer::Sha =>
+            b"exhash: keyer=sha parts keys by two and a half bytes of a digest of theirs\n",
     }
 }
 

@@ -23,12 +23,28 @@ const SPLIT_AT_15_ROW: Row = (
     Some(0xd1d2_d3d4),
 );
 
+// The longest prefix of an entry; the bits of its third byte are none of the first version's.
+const SPLIT_AT_19: [u8; 24] = [
+    0x0b, 1, 19, 0, 0xa1, 0xb2, 0xe0, 0, 0xc1, 0xc2, 0xc3, 0xc4, 0xd1, 0xd2, 0xd3, 0xd4, 0xe1,
+    0xe2, 0xe3, 0xe4, 0xe5, 0xe6, 0xe7, 0xe9,
+];
+
+const SPLIT_AT_19_ROW: Row = (
+    11,
+    0xe1e2_e3e4_e5e6_e7e9,
+    19,
+    0xa1b2_e000_0000_0000,
+    0xc1c2_c3c4,
+    Some(0xd1d2_d3d4),
+);
+
 const MERGE: [u8; 24] = [
     0, 2, 0, 0, 0, 0, 0, 0, 0, 0, 0, 2, 0, 0, 0, 0, 0, 0, 0, 0, 0, 0, 0, 2,
 ];
 
-const IMAGES: [(Row, [u8; 24]); 2] = [
+const IMAGES: [(Row, [u8; 24]); 3] = [
     (SPLIT_AT_15_ROW, SPLIT_AT_15),
+    (SPLIT_AT_19_ROW, SPLIT_AT_19),
     ((0, 2, 0, 0, 2, None), MERGE),
 ];
 
@@ -47,7 +63,7 @@ fn notice(row: Row) -> Option<Notice> {
     })
 }
 
-// Whether the image is the notice's, and its front the entry's, and both are read back.
+// Whether the image is the notice's, and its front the entry's, and both are read back in each version that may have them.
 fn is_imaged(notice: &Notice, image: &[u8; NOTICE_IMAGE_LEN]) -> bool {
     let front: &[u8; ENTRY_IMAGE_LEN] = image.first_chunk().unwrap();
     let entry = notice.entry();
@@ -57,11 +73,15 @@ fn is_imaged(notice: &Notice, image: &[u8; NOTICE_IMAGE_LEN]) -> bool {
         && is_read(Version::Second, notice, image)
 }
 
-// Whether the image in a version is the notice's, and its front the entry's.
+// Whether the image in a version is the notice's, and its front the entry's; neither is one where the prefix is too long
+// for it.
 fn is_read(version: Version, notice: &Notice, image: &[u8; NOTICE_IMAGE_LEN]) -> bool {
     let front: &[u8; ENTRY_IMAGE_LEN] = image.first_chunk().unwrap();
-    notice.prefix.len() < version.limit()
-        && Notice::from_image(version, image) == Ok(*notice)
+    if notice.prefix.len() >= version.limit() {
+        return Notice::from_image(version, image).is_err()
+            && Entry::from_image(version, front).is_err();
+    }
+    Notice::from_image(version, image) == Ok(*notice)
         && Entry::from_image(version, front) == Ok((notice.ward, notice.prefix, notice.entry()))
 }
 
