@@ -1,5 +1,5 @@
 -- Each version of the page file that the code knows fits, and is the one that its files say.
-use Rattle.std.proofs.Common.{◌≡◌, ℕ, ◌^◌, ◌<◌, ◌≤◌, List, ◌++◌, take, refl, sym, ap, ◌∙◌, arith}
+use Rattle.std.proofs.Common.{◌≡◌, ℕ, ◌^◌, ◌<◌, ◌≤◌, List, ◌++◌, take, refl, ap, ◌∙◌, arith}
 use Rattle.std.proofs.lemmas.List.{get_or-take}
 use Rattle.std.specs.Prelude.{cond, nat_eq}
 use Rattle.exh_notice.specs.ByteLemmas.{big_from-agree}
@@ -10,7 +10,7 @@ use Rattle.exh_prefix.specs.declared.version.Version.{Version as KnownVersion}
 use Rattle.exh_prefix.specs.declared.version.Version.TheVariants.{First, Second}
 use Rattle.exh_prefix.specs.LayoutLemmas.{layout_fits, layout_short}
 use Rattle.exh_file.specs.declared.header.Header.{Header}
-use Rattle.exh_file.specs.FileVersion.{FitsFile, number_of_version, file_version, format_of, version_of}
+use Rattle.exh_file.specs.FileVersion.{FitsFile, number_of_version, file_version, version_of}
 use Rattle.exh_file.specs.HeaderImage.{IsHeaderImage, front_bytes, header_bytes}
 
 small_number : (version : KnownVersion) → number_of_version version < 2 ^ 16
