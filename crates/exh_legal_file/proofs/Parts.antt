@@ -1,9 +1,7 @@
 -- What a file's parts are worth, as the six reasons are asked of them.
-use Rattle.std.proofs.Common.{◌≡◌, ℕ, ◌+◌, ◌-◌, ◌^◌, ◌≤◌, Bool, false, List, [], ◌∷◌, ◌++◌, length, take, slice_get, None, Some, zero, suc, inl, inr, sym, ap, ◌∙◌, subst, append_assoc, length-append, arith}
+use Rattle.std.proofs.Common.{◌≡◌, ℕ, ◌+◌, ◌-◌, ◌≤◌, Bool, false, List, [], ◌∷◌, ◌++◌, length, take, slice_get, None, Some, zero, suc, sym, ap, ◌∙◌, subst, append_assoc, length-append, arith}
 use Rattle.std.specs.List.{AllByRecursion}
-use Rattle.std.proofs.lemmas.List.{length-map, length-replicate, length-take, replicate-append-replicate, take_at}
-use Rattle.std.proofs.lemmas.Bool.{cases_lt}
-use Rattle.std.proofs.lemmas.Nat.{pow_below}
+use Rattle.std.proofs.lemmas.List.{length-replicate, replicate-append-replicate, take_at}
 use Rattle.exh_prefix.specs.Bits.{word_bits}
 use Rattle.exh_prefix.specs.Prefix.{HasPrefixUpTo, zeros}
 use Rattle.exh_prefix.specs.PrefixLemmas.{length-up_to}
@@ -19,7 +17,7 @@ use Rattle.exh_page.specs.Page.{IsWellFormed}
 use Rattle.exh_legal.specs.MapLemmas.{page_at}
 use Rattle.exh_codec.specs.PageImage.{IsPage}
 use Rattle.exh_page_file.specs.PageFile.{IsKnownFile, PageFile, pages_of}
-use Rattle.exh_reasons.specs.FileParts.{HasPartRanges, IsBounded, OfEachWard}
+use Rattle.exh_reasons.specs.FileParts.{IsBounded, OfEachWard}
 use Rattle.exh_reasons.specs.Laws.{AreFormed, IsLegalFile, LegalFilesPass}
 use Rattle.exh_reasons.specs.Reasons.{IsFirstReason}
 use Rattle.exh_reasons.specs.declared.reason.Reason.{Reason}

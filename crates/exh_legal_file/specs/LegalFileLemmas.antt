@@ -1,5 +1,5 @@
 -- Lemmas on legal files, for the proofs of the crates above.
-use Rattle.std.proofs.Common.{◌≡◌, ℕ, ◌+◌, ◌^◌, ◌<◌, ◌≤◌, List, length, get_or, inl, inr, sym, ap, ◌∙◌, arith}
+use Rattle.std.proofs.Common.{◌≡◌, ℕ, ◌^◌, ◌<◌, ◌≤◌, List, length, get_or, inl, inr, sym, ap, ◌∙◌, arith}
 use Rattle.std.specs.FinMap.{empty}
 use Rattle.std.proofs.lemmas.Bool.{cases_lt}
 use Rattle.std.proofs.lemmas.List.{length-map, length-take}
@@ -7,7 +7,6 @@ use Rattle.std.proofs.lemmas.List.FromFn.{get_or-map-range_with_len}
 use Rattle.std.proofs.lemmas.Nat.{pow_below}
 use Rattle.exh_page.specs.declared.page.Page.{Page}
 use Rattle.exh_file.specs.declared.file_entry.FileEntry.{FileEntry}
-use Rattle.exh_file.specs.FileVersion.{FitsFile}
 use Rattle.exh_page_file.specs.PageFile.{IsKnownFile, PageFile}
 use Rattle.exh_reasons.specs.FileParts.{HasPartRanges}
 use Rattle.exh_legal_file.specs.LegalFile.{parts_in, table_naming, tables_of}

@@ -1,14 +1,12 @@
 -- The wards that a legal file's pages and tables give.
-use Rattle.std.proofs.Common.{◌≡◌, ℕ, zero, suc, ◌+◌, ◌^◌, ◌<◌, ◌≤◌, List, [], ◌∷◌, ◌++◌, length, map, set, get_or, slice_get, Option, None, Some, Vec, Global, inl, inr, refl, sym, ap, ◌∙◌, subst, arith}
+use Rattle.std.proofs.Common.{◌≡◌, ℕ, zero, suc, ◌^◌, ◌<◌, List, [], ◌∷◌, ◌++◌, length, map, set, get_or, slice_get, Some, Vec, Global, inl, inr, refl, sym, ap, ◌∙◌, subst, arith}
 use Rattle.std.specs.Prelude.{◌⊎◌}
 use Rattle.std.specs.FinMap.{empty}
-use Rattle.std.specs.List.{range_with_len}
 use Rattle.std.specs.Option.{option_map}
 use Rattle.std.proofs.lemmas.List.{length-map}
 use Rattle.std.proofs.lemmas.List.FromFn.{get_or-map-range_with_len, length-map-range_with_len}
 use Rattle.std.proofs.lemmas.Option.{get_or_from_slice_get, same_Some, slice_get-map, slice_get_cases, slice_get_within}
 use Rattle.exh_prefix.specs.Leading.{ward_prefix}
-use Rattle.exh_prefix.specs.declared.prefix.TheConstants.{WARD_BITS_LIMIT}
 use Rattle.exh_keyer.specs.Pseudokey.{any_pseudokey}
 use Rattle.exh_keyer.specs.declared.any_keyer.AnyKeyer.{AnyKeyer}
 use Rattle.exh_page.specs.declared.page.Page.{Page}
@@ -22,7 +20,7 @@ use Rattle.exh_reasons.specs.Laws.{IsLegalFile, LegalFilesPass}
 use Rattle.exh_ward.specs.WardState.{WardState}
 use Rattle.exh_legal_file.specs.LegalFile.{parts_in, table_naming, ward_tables}
 use Rattle.exh_legal_file.specs.LegalFileLemmas.{count_of_wards, few_bits, ranges_of, table_naming_at}
-use Rattle.exh_open.specs.Opened.{AreWardsOf, IsWardOf, OpenedState, in_file}
+use Rattle.exh_open.specs.Opened.{AreWardsOf, OpenedState, in_file}
 use Rattle.exh_open.specs.Opening.{AreLegalWards, AreOpened, IsLegalWard, IsOpenedFile, IsOpenedWard}
 
 -- ---- lists

@@ -1,5 +1,5 @@
 -- The wards that opening a page file gives.
-use Rattle.std.specs.Prelude.{⊤, ◌≡◌, ℕ, ◌<◌, List, [], length, get_or, slice_get, Option, Some, map, Vec}
+use Rattle.std.specs.Prelude.{⊤, ◌≡◌, ℕ, List, [], length, get_or, slice_get, Option, Some, Vec}
 use Rattle.std.specs.declared.alloc.Global.{Global}
 use Rattle.std.specs.List.{AllByRecursion}
 use Rattle.exh_prefix.specs.Leading.{ward_prefix}

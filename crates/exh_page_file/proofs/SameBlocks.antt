@@ -1,5 +1,5 @@
 -- The blocks behind a header are the same in each version that may have the entries.
-use Rattle.std.proofs.Common.{◌≡◌, ℕ, zero, suc, ◌≤◌, List, [], ◌∷◌, ◌++◌, length, take, drop, refl, sym, ap, ◌∙◌, subst, take-append-drop, arith}
+use Rattle.std.proofs.Common.{◌≡◌, ℕ, zero, suc, List, [], ◌∷◌, ◌++◌, length, take, drop, refl, sym, ap, ◌∙◌, subst, take-append-drop, arith}
 use Rattle.std.specs.List.{AllByRecursion, flat_map}
 use Rattle.exh_prefix.specs.Version.{Version, Fits}
 use Rattle.exh_notice.specs.ImageLemmas.{same_in_four}

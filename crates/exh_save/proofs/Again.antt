@@ -1,5 +1,5 @@
 -- Wards that are opened from bytes: their page file is these bytes again, in the version that is written.
-use Rattle.std.proofs.Common.{◌≡◌, ℕ, zero, suc, ◌+◌, ◌-◌, ◌*◌, ◌^◌, ◌<◌, ◌≤◌, Bool, true, false, ◌&&◌, T, List, [], ◌∷◌, ◌++◌, length, map, take, drop, get_or, replicate, slice_get, Some, inl, inr, refl, sym, ap, ◌∙◌, subst, length-append, arith}
+use Rattle.std.proofs.Common.{◌≡◌, ℕ, zero, suc, ◌-◌, ◌*◌, ◌^◌, ◌<◌, ◌≤◌, Bool, true, false, ◌&&◌, T, List, [], ◌∷◌, ◌++◌, length, map, take, drop, get_or, replicate, slice_get, Some, inl, inr, refl, sym, ap, ◌∙◌, subst, length-append, arith}
 use Rattle.std.specs.FinMap.{get, get-from_entries}
 use Rattle.std.specs.FinMap.Entries.{below_all, is_sorted, same_entries}
 use Rattle.std.specs.List.{AllByRecursion, flat_map}
@@ -15,11 +15,9 @@ use Rattle.exh_prefix.specs.ListLemmas.{AllByRecursion-append, AllByRecursion-ap
 use Rattle.exh_prefix.specs.Prefix.{prefix_cmp}
 use Rattle.exh_prefix.specs.PrefixLemmas.{prefix_cmp-exact, prefix_cmp-total}
 use Rattle.exh_prefix.specs.Version.{Version}
-use Rattle.exh_prefix.specs.Layout.{layout, written_version}
-use Rattle.exh_prefix.specs.LayoutLemmas.{layout_fits}
+use Rattle.exh_prefix.specs.Layout.{layout}
 use Rattle.exh_prefix.specs.declared.version.Version.{Version as KnownVersion}
 use Rattle.exh_prefix.specs.declared.version.Version.TheVariants.{First, Second}
-use Rattle.exh_prefix.specs.declared.version.TheConstants.{WRITTEN}
 use Rattle.exh_keyer.specs.declared.any_keyer.AnyKeyer.{AnyKeyer}
 use Rattle.exh_notice.specs.ByteLemmas.{zeros_from}
 use Rattle.exh_notice.specs.declared.entry.Entry.{Entry}
@@ -40,7 +38,7 @@ use Rattle.exh_legal_file.specs.LegalFileLemmas.{table_naming_at}
 use Rattle.exh_ward.specs.WardState.{WardState}
 use Rattle.exh_open.specs.Opened.{AreWardsOf, OpenedState}
 use Rattle.exh_open.specs.Opening.{IsOpenedFile}
-use Rattle.exh_save.specs.Reopened.{IsWrittenAgain, in_written, renumbered}
+use Rattle.exh_save.specs.Reopened.{IsWrittenAgain, in_written}
 use Rattle.exh_save.specs.Saved.{AreSound, counts_in, entries_of_all, file_entry, written_file, header_of, pages_of_all}
 use Rattle.exh_save.proofs.Named.{none_in, told_by, with_one}
 use Rattle.exh_save.proofs.Renumbered.{renumbered_file}

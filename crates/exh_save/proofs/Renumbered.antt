@@ -1,6 +1,5 @@
 -- A file of the first version, in the version that is written: the same bytes with another number, and with the header's digest made anew.
-use Rattle.std.proofs.Common.{◌≡◌, ℕ, ◌+◌, ◌<◌, ◌≤◌, List, ◌++◌, length, take, drop, refl, sym, ap, ◌∙◌, append_assoc, length-append, arith}
-use Rattle.std.specs.List.{AllByRecursion}
+use Rattle.std.proofs.Common.{◌≡◌, ℕ, List, ◌++◌, length, take, drop, refl, sym, ap, ◌∙◌, append_assoc, length-append, arith}
 use Rattle.std.proofs.lemmas.List.{drop_at, take_at, take-append-le}
 use Rattle.byteorder.specs.Endian.{big_bytes}
 use Rattle.sha2.specs.Sha256.{sha256}
@@ -13,7 +12,7 @@ use Rattle.exh_prefix.specs.declared.version.TheConstants.{WRITTEN}
 use Rattle.exh_codec.specs.Block.{sealed}
 use Rattle.exh_codec.specs.PageImage.{padded}
 use Rattle.exh_file.specs.FileVersion.{FileVersion, file_version, number_of_version, written_format}
-use Rattle.exh_file.specs.HeaderImage.{IsHeader, IsHeaderImage, front_bytes, header_bytes}
+use Rattle.exh_file.specs.HeaderImage.{IsHeader, front_bytes, header_bytes}
 use Rattle.exh_file.specs.Laws.{HeadersAreBlocks}
 use Rattle.exh_file.specs.TableImage.{IsFileEntry}
 use Rattle.exh_file.specs.declared.file_entry.FileEntry.{FileEntry}

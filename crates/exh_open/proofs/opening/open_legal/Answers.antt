@@ -1,4 +1,4 @@
-use Rattle.std.proofs.Common.{◌≡◌, map, sym, ap, ◌∙◌}
+use Rattle.std.proofs.Common.{map, sym, ap, ◌∙◌}
 use Rattle.exh_page_file.specs.FileParts.{file_of}
 use Rattle.exh_open.proofs.Legal.{count_tables, legal_wards, opened_file, wards_of_file}
 use Rattle.exh_open.proofs.opening.open_legal.Goals as goal

@@ -1,6 +1,4 @@
-use Rattle.std.proofs.Common.{◌≡◌, ℕ, ◌+◌, ◌-◌, ◌^◌, ◌<◌, ◌≤◌, length, inl, inr, subst, arith}
-use Rattle.std.proofs.lemmas.Bool.{cases_lt}
-use Rattle.std.proofs.lemmas.Nat.{pow_below}
+use Rattle.std.proofs.Common.{◌≡◌, ◌-◌, ◌≤◌, length, arith}
 use Rattle.std.proofs.Math.Nat.{pow-le-pow_right}
 use Rattle.exh_prefix.specs.BitLemmas.{length-bits_of}
 use Rattle.exh_prefix.specs.Leading.{ward_prefix}

@@ -1,4 +1,4 @@
-use Rattle.std.proofs.Common.{List, sym, subst, arith}
+use Rattle.std.proofs.Common.{List, sym, subst}
 use Rattle.std.specs.List.{flat_map}
 use Rattle.exh_prefix.specs.Version.{Fits}
 use Rattle.exh_prefix.specs.Layout.{written_version}
