@@ -1,5 +1,5 @@
 //! A page file used directly: the value of one key, from the header, the table and the pages on the key's way alone, in
-//! the first version.
+//! the version that the header says.
 #![tactic(auto)]
 
 pub use blocks::Blocks;
