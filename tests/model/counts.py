@@ -31,7 +31,8 @@ SETTINGS = ("keyer plain", "keyer sha", *(f"wards {2**bits}" for bits in range(5
 REFUSED_SCRIPTS = tuple(f"script refused {number}" for number in (60, 61, 62, 63))
 FAULTS = (*range(30, 40), *(f"40 reason {reason}" for reason in range(1, 7)))
 DAMAGED_FILES = ("damaged file that is legal", *(f"damaged file refused {fault}" for fault in FAULTS))
-FILES = ("saved file", "opened file", "opened file that no run saved", "loaded file", "file told by check")
+OPENED = ("opened file", "opened file that no run saved", "opened file of the first version")
+FILES = ("saved file", *OPENED, "loaded file", "file told by check")
 TEXTS = ("file told by dump", "pair dumped", "full pair of a load", "refused line of a load")
 
 

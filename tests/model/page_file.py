@@ -60,6 +60,15 @@ def entry_image(ward, prefix, entry, version):
     return head.ljust(8, b"\0") + struct.pack(">II", entry.number, entry.right)
 
 
+def has_room(file, version):
+    """Whether a page file of the version may have these wards."""
+    are_short = all(len(leaf) <= version.limit for ward in file.wards for leaf in ward.leaves)
+    are_coarse = not any("1" in low[version.limit :] for ward in file.wards for low in ward.lows)
+    most = 2 ** (version.limit - file.ward_bits)
+    are_few = all(len(ward.lows) <= most for ward in file.wards) and len(entries_of(file)) < 2**version.limit
+    return are_short and are_coarse and are_few
+
+
 def bytes_of_file(file, version=CURRENT):
     """The bytes of the page file of wards."""
     pages = [page_block(file, ward, it, version) for ward in file.wards for it in range(len(ward.lows))]

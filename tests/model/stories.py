@@ -8,9 +8,9 @@ from typing import NamedTuple
 from .dice import COPIES, WRONG_BYTES, WRONG_LINES, file_line, spelled, taste_of, value_by, wrong_file_line
 from .file_reader import file_of
 from .other_files import damaged, strange
-from .page_file import bytes_of_file
+from .page_file import bytes_of_file, has_room
 from .program import outcome_of
-from .version import KEY_LIMIT, SCRIPT_LIMIT, VALUE_LIMIT
+from .version import CURRENT, FIRST, KEY_LIMIT, SCRIPT_LIMIT, VALUE_LIMIT
 from .writer import Writer
 
 # Lines of a script, and pairs of a load.
@@ -111,7 +111,9 @@ class Teller:
             return name
         self.story.met["opened file that no run saved"] += 1
         file = strange(self.dice, file_of(self.files[name]))
-        return self.lay(f"strange-{len(self.story.runs)}.exh", bytes_of_file(file))
+        version = FIRST if has_room(file, FIRST) and self.chance(90) else CURRENT
+        self.story.met["opened file of the first version"] += version is FIRST
+        return self.lay(f"strange-{len(self.story.runs)}.exh", bytes_of_file(file, version))
 
     def joined(self, lines):
         """The bytes of a text: an empty line among the others, and maybe no newline at the end."""

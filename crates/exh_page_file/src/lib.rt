@@ -1,5 +1,5 @@
-//! Whole page files, in the first version: from bytes to their parts and back. The parts of a file have
-//! exactly one list of bytes, and bytes are those of one file.
+//! Whole page files, in each version: from bytes to their parts and back. The parts of a file have
+//! exactly one list of bytes in a version, and bytes are those of one file.
 #![tactic(auto)]
 
 pub use file_parts::FileParts;
