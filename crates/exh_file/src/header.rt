@@ -73,8 +73,9 @@ impl Header {
         block
     }
 
-    /// The header that has this image in a version. Where there is none, the fault is the first of `Magic`, `Version` and, at place 0, `Digest`, `Length` (a field out of its range) and
-    /// `Padding` whose test the block fails, each test being over the whole block. It takes no memory.
+    /// The header that has this image in a version. Where there is none, the fault is the first of
+    /// `Magic`, `Version` and, at place 0, `Digest`, `Length` (a field out of its range) and `Padding`
+    /// whose test the block fails, each test being over the whole block. It takes no memory.
     pub fn from_block(version: Version, block: &[u8; BLOCK_LEN]) -> Result<Header, FileFault>
         ensures header { IfOk result (λ header. IsHeaderImage (file_version version) header block.now) }
         ensures every { (header : HeaderValue) → IsHeaderImage (file_version version) header block.now → result ≡ Ok header }
