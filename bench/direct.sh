@@ -1,6 +1,6 @@
 #!/usr/bin/env bash
-# Times a get of one key out of a page file, beside gdbmtool's fetch of the same key, and counts what it reads; and the
-# pairs of the greatest file, beside the digests of its blocks.
+# Times a get of one key out of a page file, beside gdbmtool's fetch of the same key, and counts what it reads; the
+# pairs of the greatest file, beside the digests of its blocks; and loads of long texts, beside gdbmtool's stores.
 #
 #   bench/direct.sh [RUNS]     the best of RUNS runs counts, 5 if left out
 #
@@ -9,8 +9,13 @@
 # file, each a program of its own, by the processor that they take, the start of the program included. strace counts the
 # blocks that the get of each of ten keys reads: the header, the table's blocks and one page.
 #
-# Wanted: at most 2 times gdbmtool's time, at 60,000 pages, whose table has digests of its own, 4 times; and no block more
-# than the header, the table and one page. `pairs` at 60,000 pages, to nowhere: at most 1.3 times the digests' time.
+# Wanted: at most 2 times gdbmtool's time, at 60,000 pages, whose table has digests of its own, 4 times; and no block
+# more than the header, the table and one page. `pairs` at 60,000 pages, to nowhere: at most 1.3 times the digests' time.
+#
+# The long texts have 10 and 100 MiB, of pairs of keys of 12 bytes and values of 40, for `load --long` at keyer sha and
+# cap 16. gdbmtool stores the same pairs, without a lock and without synchronizing. One run each counts, by the
+# processor that it takes. Wanted: at most gdbmtool's time without the digests of the file, and memory of at most 1.5 of
+# the file.
 #
 # Status: 0 where all that is met, 1 where something isn't, 2 where nothing could be measured.
 set -u
@@ -23,6 +28,8 @@ KEYS=100
 # How many pages the file has of which the pairs are timed, and how many times the digests' time is wanted.
 PAIRS_OF=60000
 PAIRS_WANTED=1.3
+# How many MiB the long texts have.
+LONG_TEXTS=(10 100)
 
 die() {
     echo "bench/direct.sh: $*" >&2
@@ -92,6 +99,42 @@ time_pairs() {
     }' || short=1
 }
 
+# Times the load of a text of so many MiB, and the stores of the same pairs.
+time_load() {
+    local line own memory digests rival size
+    rm -f "$folder/file.exh" "$folder/base"
+    awk -v most=$(($1 * 1024 * 1024)) -v stores="$folder/stores" 'BEGIN {
+        print "file cap=16 wards=0 copies=1 keyer=sha"
+        while (printed < most) {
+            key = sprintf("key%09d", ++count)
+            value = sprintf("value%035d", count * 7)
+            print key " " value
+            print "store " key " " value > stores
+            printed += 54
+        }
+    }' > "$folder/text"
+    line=$("$folder/clock" "$folder/text" /dev/null "$program" load --long "$folder/file.exh") ||
+        die 'a long text is not loaded'
+    read -r own _ memory <<< "$line"
+    line=$("$timed" open "$folder/file.exh") || die 'the digests could not be timed'
+    digests=${line%% *}
+    line=$("$folder/clock" "$folder/stores" /dev/null gdbmtool --norc --quiet --newdb --no-lock "$folder/base") ||
+        die 'gdbmtool made no file'
+    rival=${line%% *}
+    size=$(stat -c %s "$folder/file.exh")
+    awk -v mib="$1" -v own="$own" -v memory="$memory" -v digests="$digests" -v rival="$rival" -v size="$size" 'BEGIN {
+        time = (own - digests / 1e3) / rival
+        room = memory * 1024 / size
+        printf "%6d MiB of pairs: load --long %.1f s, of which digests %.1f, gdbmtool %.1f s: %.2f times without them; ",
+            mib, own / 1e6, digests / 1e9, rival / 1e6, time
+        printf "%.0f MB of memory, %.2f of the file\n", memory * 1024 / 1e6, room
+        if (time > 1 || room > 1.5) {
+            printf "FALLS SHORT: a load of %d MiB: %.2f and %.2f, at most 1 and 1.5 are wanted\n", mib, time, room
+            exit 1
+        }
+    }' || short=1
+}
+
 for size in "${SIZES[@]}"; do
     # shellcheck disable=SC2086 # Three words.
     set -- $size
@@ -130,4 +173,5 @@ for size in "${SIZES[@]}"; do
     }' || short=1
     [ "$1" != "$PAIRS_OF" ] || time_pairs "$1"
 done
+for mib in "${LONG_TEXTS[@]}"; do time_load "$mib"; done
 exit "$short"
