@@ -13,9 +13,9 @@
 # more than the header, the table and one page. `pairs` at 60,000 pages, to nowhere: at most 1.3 times the digests' time.
 #
 # The long texts have 10 and 100 MiB, of pairs of keys of 12 bytes and values of 40, for `load --long` at keyer sha and
-# cap 16. gdbmtool stores the same pairs, without a lock and without synchronizing. One run each counts, by the
-# processor that it takes. Wanted: at most gdbmtool's time without the digests of the file, and memory of at most 1.5 of
-# the file.
+# cap 16. gdbmtool stores the same pairs, without a lock and without synchronizing, and mdb_load of LMDB loads them. One
+# run each counts, by the processor that it takes. Wanted: at most gdbmtool's time without the digests of the file, and
+# memory of at most 1.5 of the file. (LMDB has no tool that fetches one key.)
 #
 # Status: 0 where all that is met, 1 where something isn't, 2 where nothing could be measured.
 set -u
@@ -46,8 +46,8 @@ folder=$(mktemp -d "$shared/exhash-bench.XXXXXX") || exit 2
 trap 'rm -rf "$folder"' EXIT
 short=0
 
-for name in gdbmtool strace; do
-    [ -n "$(command -v "$name")" ] || die "there is no $name (Debian: apt-get install gdbmtool strace)"
+for name in gdbmtool mdb_load strace; do
+    [ -n "$(command -v "$name")" ] || die "there is no $name (Debian: apt-get install gdbmtool lmdb-utils strace)"
 done
 (cd "$root/crates/bench_calls" && rt run) > "$folder/log" 2>&1 || {
     cat "$folder/log" >&2
@@ -101,17 +101,20 @@ time_pairs() {
 
 # Times the load of a text of so many MiB, and the stores of the same pairs.
 time_load() {
-    local line own memory digests rival size
+    local line own memory digests rival tree size
     rm -f "$folder/file.exh" "$folder/base"
-    awk -v most=$(($1 * 1024 * 1024)) -v stores="$folder/stores" 'BEGIN {
+    awk -v most=$(($1 * 1024 * 1024)) -v stores="$folder/stores" -v lines="$folder/lines" 'BEGIN {
         print "file cap=16 wards=0 copies=1 keyer=sha"
+        print "VERSION=3\nformat=print\ntype=btree\nmapsize=4294967296\nHEADER=END" > lines
         while (printed < most) {
             key = sprintf("key%09d", ++count)
             value = sprintf("value%035d", count * 7)
             print key " " value
             print "store " key " " value > stores
+            print " " key "\n " value > lines
             printed += 54
         }
+        print "DATA=END" > lines
     }' > "$folder/text"
     line=$("$folder/clock" "$folder/text" /dev/null "$program" load --long "$folder/file.exh") ||
         die 'a long text is not loaded'
@@ -121,12 +124,17 @@ time_load() {
     line=$("$folder/clock" "$folder/stores" /dev/null gdbmtool --norc --quiet --newdb --no-lock "$folder/base") ||
         die 'gdbmtool made no file'
     rival=${line%% *}
+    line=$("$folder/clock" "$folder/lines" /dev/null mdb_load -n "$folder/tree") || die 'mdb_load made no file'
+    tree=${line%% *}
+    rm -f "$folder/tree" "$folder/tree-lock"
     size=$(stat -c %s "$folder/file.exh")
-    awk -v mib="$1" -v own="$own" -v memory="$memory" -v digests="$digests" -v rival="$rival" -v size="$size" 'BEGIN {
+    awk -v mib="$1" -v own="$own" -v memory="$memory" -v digests="$digests" -v rival="$rival" -v tree="$tree" \
+        -v size="$size" 'BEGIN {
         time = (own - digests / 1e3) / rival
         room = memory * 1024 / size
-        printf "%6d MiB of pairs: load --long %.1f s, of which digests %.1f, gdbmtool %.1f s: %.2f times without them; ",
-            mib, own / 1e6, digests / 1e9, rival / 1e6, time
+        printf "%6d MiB of pairs: load --long %.1f s, of which digests %.1f, gdbmtool %.1f s: %.2f times without; ", mib,
+            own / 1e6, digests / 1e9, rival / 1e6, time
+        printf "mdb_load %.1f s; ", tree / 1e6
         printf "%.0f MB of memory, %.2f of the file\n", memory * 1024 / 1e6, room
         if (time > 1 || room > 1.5) {
             printf "FALLS SHORT: a load of %d MiB: %.2f and %.2f, at most 1 and 1.5 are wanted\n", mib, time, room
