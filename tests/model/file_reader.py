@@ -12,7 +12,7 @@ from .tables import Entry, Kind
 from .version import CAP_LIMIT, CURRENT, FIRST, KEY_LIMIT, VALUE_LIMIT, WARD_BITS_LIMIT
 
 KIND, LENGTH, ORDER, PADDING, DIGEST, PREFIX = range(30, 36)
-OF_MAGIC, OF_VERSION, TRUNCATED, TRAILING, ILLEGAL = range(36, 41)
+OF_MAGIC, OF_VERSION, TRUNCATED, TRAILING, ILLEGAL, READ = range(36, 42)
 HEAD = 16
 IMAGE = 16
 
@@ -25,7 +25,7 @@ class Fault(Exception):
         self.number, self.place, self.reason = number, place, reason
 
     def text(self):
-        """How `check`, `dump` and `serve --open` print it."""
+        """How `check`, `dump`, `pairs` and `serve --open` print it."""
         place = "" if self.place is None else f" at {self.place}"
         return f"refused {self.number}{place}" + (f" reason {self.reason}" if self.reason else "")
 
