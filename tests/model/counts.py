@@ -33,7 +33,9 @@ FAULTS = (*range(30, 40), *(f"40 reason {reason}" for reason in range(1, 7)))
 DAMAGED_FILES = ("damaged file that is legal", *(f"damaged file refused {fault}" for fault in FAULTS))
 OPENED = ("opened file", "opened file that no run saved", "opened file of the first version")
 FILES = ("saved file", *OPENED, "loaded file", "file told by check")
-TEXTS = ("file told by dump", "pair dumped", "full pair of a load", "refused line of a load")
+LOADED_AGAIN = tuple(f"text of pairs loaded with {it}" for it in ("the same pairs", "a smaller cap or another keyer"))
+PAIRS = ("text of pairs told by pairs", *LOADED_AGAIN)
+TEXTS = ("file told by dump", "pair dumped", "full pair of a load", "refused line of a load", *PAIRS)
 
 
 def wanted():

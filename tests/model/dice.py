@@ -108,6 +108,15 @@ def file_line(taste, copies, tells_moves):
     return f"file {settings}" + (" moves=yes" if tells_moves else "")
 
 
+def pairing_words(dice, name):
+    """The words of `pairs` for the file of a name: options, seldom all, before the name and behind it."""
+    options = (("--cap", dice.choice(CAPS)), ("--wards", dice.choice(WARD_BITS)), ("--keyer", dice.choice(KEYERS)))
+    given = dice.sample(options, dice.choice((0, 1, 2, 3)))
+    parts = [[f"{it}={value}"] if dice.random() < 0.5 else [it, str(value)] for it, value in given]
+    parts.insert(dice.randint(0, len(parts)), [name])
+    return [word for part in parts for word in part]
+
+
 def wrong_file_line(dice, taste, is_opened):
     """A first line that is refused: outside the grammar, out of range, or another file's."""
     right = file_line(taste, 2, dice.random() < 0.5)

@@ -5,7 +5,17 @@ import random
 from dataclasses import dataclass, field
 from typing import NamedTuple
 
-from .dice import COPIES, WRONG_BYTES, WRONG_LINES, file_line, spelled, taste_of, value_by, wrong_file_line
+from .dice import (
+    COPIES,
+    WRONG_BYTES,
+    WRONG_LINES,
+    file_line,
+    pairing_words,
+    spelled,
+    taste_of,
+    value_by,
+    wrong_file_line,
+)
 from .file_reader import file_of
 from .other_files import damaged, strange
 from .page_file import bytes_of_file, has_room
@@ -122,19 +132,36 @@ class Teller:
         return b"\n".join([*lines[:at], b"", *lines[at:]]) + end
 
     def report(self, name):
-        """`check` and `dump` of a file that was saved, and runs over damaged ones."""
+        """`check`, `dump` and `pairs` of a file that was saved, and runs over damaged ones."""
         for command in ("check", "dump"):
             if self.chance(60):
                 lines = self.ask([command, name])
                 self.story.met[f"file told by {command}"] += 1
                 self.story.met["pair dumped"] += sum(line.startswith("pair") for line in lines)
+        if self.chance(50):
+            self.pair_again(name)
         for _ in range(self.dice.randint(0, DAMAGED)):
             self.damage(self.files[name])
+
+    def pair_again(self, name):
+        """`pairs` of a file that was saved, and a load of that text."""
+        lines = self.ask(["pairs", *pairing_words(self.dice, name)])
+        self.story.met["text of pairs told by pairs"] += 1
+        told = self.ask(["load", "again.exh"], "".join(f"{line}\n" for line in lines).encode())
+        before, after = file_of(self.files[name]), file_of(self.files["again.exh"])
+        if after.keyer != before.keyer or after.cap < before.cap:
+            self.story.met["text of pairs loaded with a smaller cap or another keyer"] += 1
+            return
+        # What the documents say of such a load, whatever the reader comes to.
+        if told != [f"loaded {len(before.map)}"] or after.map != before.map:
+            raise ValueError(f"other pairs after `pairs` and `load` of {name}")
+        self.story.met["text of pairs loaded with the same pairs"] += 1
 
     def damage(self, content):
         """A run over a damaged file, which is refused, or is another one."""
         name = self.lay("damaged.exh", damaged(self.dice, content))
-        words = self.dice.choice((["check", name], ["dump", name], ["serve", "--open", name, "--save", name]))
+        opened = ["serve", "--open", name, "--save", name]
+        words = self.dice.choice((["check", name], ["dump", name], ["pairs", name], opened))
         [first, *_] = self.ask(words, b"inflight")
         fault = first.partition(" at ")[0]
         is_refused = fault.startswith(("refused 3", "refused 40"))
