@@ -1,6 +1,6 @@
 """The words behind a command: which stand at its places, and what its options are given."""
 
-from .grammar import WrongLine, number_of
+from .grammar import WrongLine, call_of, is_call_in_range, number_of
 from .version import CAP_LIMIT, WARD_BITS_LIMIT
 
 ANY_FURTHER = "--"
@@ -62,3 +62,15 @@ def pairing_of(words):
     if len(places) != 1:
         raise WrongWords
     return places[0], {name: OPTIONS[name](value) for name, value in options.items()}
+
+
+def calling_of(command, words):
+    """The path and the call that the words of `get`, `put`, `del` or `swap` name."""
+    places, _ = parted(words)
+    try:
+        call = call_of([command, *places[1:]])
+    except WrongLine:
+        raise WrongWords from None
+    if not is_call_in_range(call):
+        raise WrongWords
+    return places[0], call
