@@ -12,8 +12,9 @@ walk names, is worked out from these each time.
     world          copies of the directory, sent tables, requests in flight
     grammar        the words of lines, and how values are printed
     script         what each line prints
-    page_file      the bytes of a page file, and what `check`, `dump` and `load` print
+    page_file      the bytes of a page file, and what `check`, `dump`, `pairs` and `load` print
     file_reader    what the bytes of a page file say, or their first fault
+    command_line   the words behind a command
     program        what the program does with its words: what it prints, its status, and the files it leaves
 
 The others make scripts by chance, and run the program over them.

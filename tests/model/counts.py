@@ -32,8 +32,19 @@ REFUSED_SCRIPTS = tuple(f"script refused {number}" for number in (60, 61, 62, 63
 FAULTS = (*range(30, 40), *(f"40 reason {reason}" for reason in range(1, 7)))
 DAMAGED_FILES = ("damaged file that is legal", *(f"damaged file refused {fault}" for fault in FAULTS))
 OPENED = ("opened file", "opened file that no run saved", "opened file of the first version")
+# What the commands of one key come to.
+OF_ONE_KEY = {
+    "get": ("found", "absent"),
+    "put": ("new", "was", "full"),
+    "del": ("was", "none"),
+    "swap": ("swapped", "differs", "none"),
+}
+CALLS_OVER_FILES = tuple(f"{command} of a file: {it}" for command, ends in OF_ONE_KEY.items() for it in ends)
+GETS_OF_DAMAGED = tuple(f"damaged file of which a get is {it}" for it in ("refused", "answered"))
 FILES = ("saved file", *OPENED, "loaded file", "file told by check")
-TEXTS = ("file told by dump", "pair dumped", "full pair of a load", "refused line of a load")
+LOADED_AGAIN = tuple(f"text of pairs loaded with {it}" for it in ("the same pairs", "a smaller cap or another keyer"))
+PAIRS = ("text of pairs told by pairs", *LOADED_AGAIN)
+TEXTS = ("file told by dump", "pair dumped", "full pair of a load", "refused line of a load", *PAIRS)
 
 
 def wanted():
@@ -42,7 +53,7 @@ def wanted():
     words = ("file", "begin", *FORMS, "another word")
     refusals = [f"refused {number} of {word}" for word in words for number in (*REFUSALS.get(word, ()), 60)]
     of_scripts = [*lines, *refusals, *OUTCOMES, *PLACES, *COPIES, *SETTINGS, *REFUSED_SCRIPTS]
-    return [*of_scripts, *FILES, *TEXTS, *DAMAGED_FILES]
+    return [*of_scripts, *FILES, *TEXTS, *CALLS_OVER_FILES, *DAMAGED_FILES, *GETS_OF_DAMAGED]
 
 
 def printed_counts(met):

@@ -6,6 +6,7 @@ import re
 from typing import NamedTuple
 
 from .bits import pseudokey_of
+from .command_line import ANY_FURTHER, is_option
 from .grammar import hexadecimal, printed
 from .version import KEY_LIMIT, LIMIT, NUMBER_LIMIT, VALUE_LIMIT
 
@@ -106,6 +107,24 @@ def file_line(taste, copies, tells_moves):
     """A right first line."""
     settings = f"cap={taste.cap} wards={taste.ward_bits} copies={copies} keyer={taste.keyer}"
     return f"file {settings}" + (" moves=yes" if tells_moves else "")
+
+
+def pairing_words(dice, name):
+    """The words of `pairs` for the file of a name: options, seldom all, before the name and behind it."""
+    options = (("--cap", dice.choice(CAPS)), ("--wards", dice.choice(WARD_BITS)), ("--keyer", dice.choice(KEYERS)))
+    given = dice.sample(options, dice.choice((0, 1, 2, 3)))
+    parts = [[f"{it}={value}"] if dice.random() < 0.5 else [it, str(value)] for it, value in given]
+    parts.insert(dice.randint(0, len(parts)), [name])
+    return [word for part in parts for word in part]
+
+
+def placed(dice, words):
+    """Words at their places, seldom with `--` among them; always where a later one would be taken for an option."""
+    first = next((at for at, word in enumerate(words) if is_option(word)), None)
+    if first is None and dice.random() < 0.8:
+        return words
+    at = dice.randint(0, len(words) if first is None else first)
+    return [*words[:at], ANY_FURTHER, *words[at:]]
 
 
 def wrong_file_line(dice, taste, is_opened):

@@ -8,11 +8,11 @@ from typing import NamedTuple
 from .bits import WORD_BITS, digits_of, low_bound, lowest_cleared, pseudokey_of
 from .file import File, Ward
 from .page_file import BLOCK, CONTENT, ENTRIES_OF_BLOCK, FORWARD, KEYERS, LIVE, MAGIC, MERGE, NO_LINK, SPLIT
-from .tables import Entry, Kind
+from .tables import Entry, Kind, walk
 from .version import CAP_LIMIT, CURRENT, FIRST, KEY_LIMIT, VALUE_LIMIT, WARD_BITS_LIMIT
 
 KIND, LENGTH, ORDER, PADDING, DIGEST, PREFIX = range(30, 36)
-OF_MAGIC, OF_VERSION, TRUNCATED, TRAILING, ILLEGAL = range(36, 41)
+OF_MAGIC, OF_VERSION, TRUNCATED, TRAILING, ILLEGAL, READ = range(36, 42)
 HEAD = 16
 IMAGE = 16
 
@@ -25,7 +25,7 @@ class Fault(Exception):
         self.number, self.place, self.reason = number, place, reason
 
     def text(self):
-        """How `check`, `dump` and `serve --open` print it."""
+        """How `check`, `dump`, `pairs` and `serve --open` print it."""
         place = "" if self.place is None else f" at {self.place}"
         return f"refused {self.number}{place}" + (f" reason {self.reason}" if self.reason else "")
 
@@ -38,12 +38,20 @@ class Live(NamedTuple):
     right: int | None
     records: list
 
+    def leads_to(self, pseudokey):
+        """The page to which it leads from here; none where it leads nowhere."""
+        return None if self.low > pseudokey else self.right
+
 
 class Forward(NamedTuple):
     """A forwarding page as it stands in a file."""
 
     low: str
     target: int
+
+    def leads_to(self, pseudokey):
+        """The same of a forwarding page."""
+        return None if self.low > pseudokey else self.target
 
 
 class Header(NamedTuple):
@@ -54,6 +62,9 @@ class Header(NamedTuple):
     keyer: int
     entries: int
     counts: tuple
+
+    def keyer_word(self):
+        return next(word for word, number in KEYERS.items() if number == self.keyer)
 
 
 def digits_in(field):
@@ -162,15 +173,39 @@ class Reader:
         self.fails(PREFIX, length >= self.version.limit or "1" in digits[length:])
         return ward, digits[:length], Entry(number, Kind.SPLIT if kind == SPLIT else Kind.MERGE, right)
 
+    def tables(self, count):
+        """The entries of the table blocks that come next, so many."""
+        entries = []
+        while len(entries) < count:
+            most = min(ENTRIES_OF_BLOCK, count - len(entries))
+            entries += self.table(most, [prefix for _, prefix, _ in entries[-1:]])
+        return entries
+
+    def value_of(self, key):
+        """The value of a key, by the header, the table and the pages on the key's way alone; none where it has none."""
+        header = self.header()
+        pseudokey = pseudokey_of(header.keyer_word(), key)
+        ward = int(pseudokey[: header.ward_bits] or "0", 2)
+        first, count = 1 + sum(header.counts[:ward]), header.counts[ward]
+        self.place = sum(header.counts)
+        told = frozenset((prefix, entry) for of, prefix, entry in self.tables(header.entries) if of == ward)
+        _, number = walk(told, header.ward_bits, pseudokey)
+        for _ in range(count):
+            if number is None or number >= count:
+                break
+            self.place = first + number - 1
+            page = self.page(header.keyer_word())
+            if isinstance(page, Live) and pseudokey.startswith(page.prefix):
+                return dict(page.records).get(key)
+            number = page.leads_to(pseudokey)
+        raise Fault(ILLEGAL)
+
     def file(self):
         """The whole file."""
         header = self.header()
-        [keyer] = [word for word, number in KEYERS.items() if number == header.keyer]
+        keyer = header.keyer_word()
         pages = [[self.page(keyer) for _ in range(count)] for count in header.counts[: 2**header.ward_bits]]
-        entries = []
-        while len(entries) < header.entries:
-            count = min(ENTRIES_OF_BLOCK, header.entries - len(entries))
-            entries += self.table(count, [prefix for _, prefix, _ in entries[-1:]])
+        entries = self.tables(header.entries)
         if len(self.content) > (self.place + 1) * BLOCK:
             raise Fault(TRAILING)
         parts = Parts(header.cap, header.ward_bits, keyer, pages, entries)
@@ -285,3 +320,8 @@ def version_of(content):
 def file_of(content):
     """The file that the bytes are, as it is when it is opened, or their first fault."""
     return Reader(content).file()
+
+
+def value_in(content, key):
+    """The value that a key has in the file that the bytes are, or the first fault on the key's way."""
+    return Reader(content).value_of(key)

@@ -1,4 +1,4 @@
-"""The bytes of a page file, what `check` and `dump` print of it, and what `load` prints and makes."""
+"""The bytes of a page file, what `check`, `dump` and `pairs` print of it, and what `load` prints and makes."""
 
 import hashlib
 import struct
@@ -91,14 +91,23 @@ def dump_text(file):
     for ward in file.wards:
         lines.append(f"ward {ward.number} pages {len(ward.lows)}")
         for number in range(len(ward.lows)):
-            lines += [page_text(file, ward, number), *pairs_of(file, ward.leaf_of(number))]
+            lines += [page_text(file, ward, number), *(f"pair {it}" for it in pairs_of(file, ward, number))]
     return lines + [entry_text(prefix, entry) for _, prefix, entry in entries_of(file)]
 
 
-def pairs_of(file, leaf):
-    """The lines of the records of a page; none of a forwarding page."""
+def pairs_of(file, ward, number):
+    """The pairs of a page's records; none of a forwarding page."""
+    leaf = ward.leaf_of(number)
     keys = [] if leaf is None else file.keys_under(leaf)
-    return [f"pair {printed(key)} {printed(file.map[key])}" for key in keys]
+    return [f"{printed(key)} {printed(file.map[key])}" for key in keys]
+
+
+def pairs_text(file, **given):
+    """What `pairs` prints of a file, with the settings that are given in place of its own."""
+    settings = {"cap": file.cap, "wards": file.ward_bits, "copies": 1, "keyer": file.keyer} | given
+    lines = [" ".join(["file", *(f"{name}={value}" for name, value in settings.items())])]
+    pages = [(ward, number) for ward in file.wards for number in range(len(ward.lows))]
+    return lines + [pair for ward, number in pages for pair in pairs_of(file, ward, number)]
 
 
 class Load:

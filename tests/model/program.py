@@ -2,10 +2,10 @@
 
 from typing import NamedTuple
 
-from .file import Call
-from .file_reader import Fault, file_of
-from .grammar import bytes_of, printed
-from .page_file import MAGIC, bytes_of_file, check_text, dump_text, load_of, put
+from .command_line import WrongWords, calling_of, pairing_of
+from .file_reader import READ, Fault, file_of, value_in
+from .grammar import printed
+from .page_file import MAGIC, bytes_of_file, check_text, dump_text, load_of, pairs_text, put
 from .script import text_of
 
 # What stands behind a place's name in that of the file beside it.
@@ -24,46 +24,60 @@ class Outcome(NamedTuple):
 
 def outcome_of(words, given, files):
     """What the program comes to over what it is given and the files that are there."""
+    try:
+        return outcome_of_right(words, given, files)
+    except WrongWords:
+        return Outcome([], 2, files)
+    except Fault as fault:
+        return Outcome([fault.text()], 1, files)
+
+
+def outcome_of_right(words, given, files):
+    """The same, where neither the words nor the files that are read are wrong."""
     match words:
         case [("check" | "dump") as command, name]:
-            return told(check_text if command == "check" else dump_text, files[name], files)
+            text_of_file = check_text if command == "check" else dump_text
+            return Outcome(text_of_file(file_of(content_at(name, files))), 0, files)
+        case ["pairs", *spelled]:
+            name, settings = pairing_of(spelled)
+            return Outcome(pairs_text(file_of(content_at(name, files)), **settings), 0, files)
+        case ["get", *spelled]:
+            name, call = calling_of("get", spelled)
+            return got(name, call.key, files)
         case ["load", name]:
             lines, load = load_of(given)
             return ended(lines, load, files, name)
-        case [("put" | "del" | "swap") as command, name, *spelled]:
-            return changed(command, name, spelled, files)
+        case [("put" | "del" | "swap") as command, *spelled]:
+            return changed(*calling_of(command, spelled), files)
         case ["serve", *options]:
             return served(dict(zip(options[::2], options[1::2])), given, files)
     raise ValueError(words)
 
 
-def told(text_of_file, content, files):
-    """`check` or `dump` of a file's bytes."""
-    try:
-        return Outcome(text_of_file(file_of(content)), 0, files)
-    except Fault as fault:
-        return Outcome([fault.text()], 1, files)
+def content_at(name, files):
+    """The bytes of the file of a name. Where there is none the reading faults."""
+    if name not in files:
+        raise Fault(READ)
+    return files[name]
 
 
-def changed(command, name, spelled, files):
+def got(name, key, files):
+    """`get` of a key of the file of a name."""
+    value = value_in(content_at(name, files), key)
+    return Outcome([], 3, files) if value is None else Outcome([printed(value)], 0, files)
+
+
+def changed(name, call, files):
     """A call over the file of a name, which is saved there where the call is done, and else left as it was."""
-    key, *values = map(bytes_of, spelled)
-    try:
-        file = file_of(files[name])
-    except Fault as fault:
-        return Outcome([fault.text()], 1, files)
-    # Of a swap the old value comes first, of a call the new one.
-    reply = put(file, Call(command, key, *reversed(values)))
+    file = file_of(content_at(name, files))
+    reply = put(file, call)
     lines = [" ".join([reply.word] + ([] if reply.value is None else [printed(reply.value)]))]
     return saved(lines, bytes_of_file(file.opened()), files, name) if reply.word in DONE else Outcome(lines, 3, files)
 
 
 def served(options, given, files):
     """A script over the file that is opened, or a new one."""
-    try:
-        opened = file_of(files[options["--open"]]) if "--open" in options else None
-    except Fault as fault:
-        return Outcome([fault.text()], 1, files)
+    opened = file_of(content_at(options["--open"], files)) if "--open" in options else None
     lines, script = text_of(given, opened)
     return ended(lines, script, files, options.get("--save"))
 

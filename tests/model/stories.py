@@ -5,19 +5,32 @@ import random
 from dataclasses import dataclass, field
 from typing import NamedTuple
 
-from .dice import COPIES, WRONG_BYTES, WRONG_LINES, file_line, spelled, taste_of, value_by, wrong_file_line
+from .dice import (
+    COPIES,
+    WRONG_BYTES,
+    WRONG_LINES,
+    file_line,
+    other_than,
+    pairing_words,
+    placed,
+    spelled,
+    taste_of,
+    value_by,
+    wrong_file_line,
+)
 from .file_reader import file_of
 from .other_files import damaged, strange
 from .page_file import bytes_of_file, has_room
 from .program import outcome_of
-from .version import CURRENT, FIRST, KEY_LIMIT, SCRIPT_LIMIT, VALUE_LIMIT
+from .version import CURRENT, FIRST, KEY_LIMIT, LIMIT, SCRIPT_LIMIT, VALUE_LIMIT
 from .writer import Writer
 
 # Lines of a script, and pairs of a load.
 LENGTHS = (20, 60, 100, 150, 250)
 PAIRS = 40
-# The most damaged files of a file that was saved.
+# The most damaged files of a file that was saved, and the calls of one key.
 DAMAGED = 6
+CALLS = 3
 
 
 class Run(NamedTuple):
@@ -113,7 +126,10 @@ class Teller:
         file = strange(self.dice, file_of(self.files[name]))
         version = FIRST if has_room(file, FIRST) and self.chance(90) else CURRENT
         self.story.met["opened file of the first version"] += version is FIRST
-        return self.lay(f"strange-{len(self.story.runs)}.exh", bytes_of_file(file, version))
+        content = bytes_of_file(file, version)
+        for _ in range(self.dice.randrange(3)):
+            self.call_over(self.lay("changed.exh", content))
+        return self.lay(f"strange-{len(self.story.runs)}.exh", content)
 
     def joined(self, lines):
         """The bytes of a text: an empty line among the others, and maybe no newline at the end."""
@@ -122,19 +138,66 @@ class Teller:
         return b"\n".join([*lines[:at], b"", *lines[at:]]) + end
 
     def report(self, name):
-        """`check` and `dump` of a file that was saved, and runs over damaged ones."""
+        """`check`, `dump`, `pairs` and calls of one key of a file that was saved, and runs over damaged ones."""
         for command in ("check", "dump"):
             if self.chance(60):
                 lines = self.ask([command, name])
                 self.story.met[f"file told by {command}"] += 1
                 self.story.met["pair dumped"] += sum(line.startswith("pair") for line in lines)
+        if self.chance(50):
+            self.pair_again(name)
+        for _ in range(self.dice.randint(0, CALLS)):
+            self.call_over(name)
         for _ in range(self.dice.randint(0, DAMAGED)):
             self.damage(self.files[name])
 
+    def pair_again(self, name):
+        """`pairs` of a file that was saved, and a load of that text."""
+        lines = self.ask(["pairs", *pairing_words(self.dice, name)])
+        self.story.met["text of pairs told by pairs"] += 1
+        told = self.ask(["load", "again.exh"], "".join(f"{line}\n" for line in lines).encode())
+        before, after = file_of(self.files[name]), file_of(self.files["again.exh"])
+        if after.keyer != before.keyer or after.cap < before.cap:
+            self.story.met["text of pairs loaded with a smaller cap or another keyer"] += 1
+            return
+        # What the documents say of such a load, whatever the reader comes to.
+        if told != [f"loaded {len(before.map)}"] or after.map != before.map:
+            raise ValueError(f"other pairs after `pairs` and `load` of {name}")
+        self.story.met["text of pairs loaded with the same pairs"] += 1
+
+    def call_over(self, name):
+        """A call of one key of a file, by the command of its name."""
+        command = self.dice.choice(("get", "put", "put", "del", "swap"))
+        lines = self.ask(self.call_words(command, name, file_of(self.files[name])))
+        of_get = "found" if lines else "absent"
+        self.story.met[f"{command} of a file: {of_get if command == 'get' else lines[0].split(' ')[0]}"] += 1
+
+    def call_words(self, command, name, file):
+        """The words of a call over the file of a name."""
+        key = self.key_of(command, file)
+        stands = file.map.get(key, b"")
+        old = stands if self.chance(50) else other_than(self.dice, stands)
+        values = {"put": [value_by(self.dice)], "swap": [old, value_by(self.dice)]}.get(command, [])
+        return [command, *placed(self.dice, [name, *(spelled(self.dice, it) for it in (key, *values))])]
+
+    def key_of(self, command, file):
+        """A key that a file has, or one that it lacks; for a put also one for which it has no room."""
+        has, lacks = sorted(file.map), [key for key in self.taste.keys if key not in file.map]
+        full = [key for key in lacks if file.count_under(file.pseudokey(key)[:LIMIT]) >= file.cap]
+        groups = {"put": (has, lacks, full), "swap": (has, has, has, lacks)}.get(command, (has, lacks))
+        return self.dice.choice(self.dice.choice([keys for keys in groups if keys]))
+
     def damage(self, content):
-        """A run over a damaged file, which is refused, or is another one."""
+        """Runs over a damaged file, which is refused, or is another one."""
         name = self.lay("damaged.exh", damaged(self.dice, content))
-        words = self.dice.choice((["check", name], ["dump", name], ["serve", "--open", name, "--save", name]))
+        file = file_of(content)
+        if self.chance(40):
+            self.ask(self.call_words("get", name, file))
+            what = "refused" if self.story.runs[-1].status == 1 else "answered"
+            self.story.met[f"damaged file of which a get is {what}"] += 1
+        opened = ["serve", "--open", name, "--save", name]
+        call = self.call_words(self.dice.choice(("put", "del", "swap")), name, file)
+        words = self.dice.choice((["check", name], ["dump", name], ["pairs", name], opened, call))
         [first, *_] = self.ask(words, b"inflight")
         fault = first.partition(" at ")[0]
         is_refused = fault.startswith(("refused 3", "refused 40"))

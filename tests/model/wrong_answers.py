@@ -68,15 +68,36 @@ KINDS = {
     "a line twice": (r"(r\d+ .*)", r"\1\n\1"),
     "a line left out": (r"(r\d+ .*)", ""),
 }
+# The same of what one command prints, whose lines might be another's of another kind.
+KINDS_OF_COMMANDS = {
+    "pairs": {
+        "another cap told by pairs": (r"(file cap=)(\d+ .*)", r"\g<1>9\2"),
+        "another key told by pairs": (r"(?!refused )(\S+ \S+)", r"x\1"),
+        "another value told by pairs": (r"(?!refused )(\S+) (\S+)", r"\1 x\2"),
+        "a pair left out": (r"(?!refused )\S+ \S+", ""),
+    },
+    "get": {
+        "another value got": (r"(\S+)", r"x\1"),
+        "nothing for a value got": (r"\S+", ""),
+    },
+    "put": {
+        "another value before a put": (r"(was )(\S+)", r"\g<1>x\2"),
+        "new for a full put": (r"full", "new"),
+    },
+    "del": {"none for a del": (r"was \S+", "none")},
+    "swap": {"another value that differs from a swap's": (r"(differs )(\S+)", r"\g<1>x\2")},
+}
+NAMES = (*KINDS, *(name for kinds in KINDS_OF_COMMANDS.values() for name in kinds))
 BYTE_TURNED, NOTHING_SAVED = "a byte turned in a saved file", "nothing saved"
+TURNED_BY_PUT = "a byte turned in the file of a put"
 ANOTHER_STATUS, STANDARD_ERROR = "another status", "a word on standard error"
 # The byte of the file that is turned: one of a page block, behind its records and before its digest.
 TURNED = 4096 + 4000
 
 
-def altered(lines, kind):
-    """The lines, of which the last of the kind is altered."""
-    pattern, instead = KINDS.get(kind, ("", ""))
+def altered(lines, kind, command="serve"):
+    """The lines that a command prints, of which the last of the kind is altered."""
+    pattern, instead = (KINDS | KINDS_OF_COMMANDS.get(command, {})).get(kind, ("", ""))
     places = [at for at, line in enumerate(lines) if line and re.fullmatch(pattern, line)]
     if not places:
         return lines
@@ -84,23 +105,31 @@ def altered(lines, kind):
     return [*lines[: places[-1]], *(wrong.split("\n") if wrong else []), *lines[places[-1] + 1 :]]
 
 
-def spoil(file, kind):
-    """Alters a file that was saved."""
-    if kind == NOTHING_SAVED:
-        file.unlink()
-    if kind == BYTE_TURNED:
-        content = bytearray(file.read_bytes())
+def saved_by(words):
+    """The file that a run with these words saves, if it is a script that is saved or a put."""
+    if words[0] == "put":
+        return next(word for word in words[1:] if word != "--")
+    return words[-1] if "--save" in words else None
+
+
+def spoil(words, kind):
+    """Alters the file that was saved."""
+    place = saved_by(words)
+    if place is not None and kind == (TURNED_BY_PUT if words[0] == "put" else BYTE_TURNED):
+        content = bytearray(Path(place).read_bytes())
         content[TURNED] ^= 1
-        file.write_bytes(content)
+        Path(place).write_bytes(content)
+    elif "--save" in words and kind == NOTHING_SAVED:
+        Path(place).unlink()
 
 
 def main():
     program, kind, *words = sys.argv[1:]
     ended = subprocess.run([program, *words], stdout=subprocess.PIPE, check=False)
-    lines = altered(ended.stdout.decode("latin-1").split("\n"), kind)
+    lines = altered(ended.stdout.decode("latin-1").split("\n"), kind, words[0])
     sys.stdout.buffer.write("\n".join(lines).encode("latin-1"))
-    if "--save" in words and not ended.returncode:
-        spoil(Path(words[-1]), kind)
+    if not ended.returncode:
+        spoil(words, kind)
     if kind == STANDARD_ERROR:
         print("exhash:", file=sys.stderr)
     return ended.returncode + (kind == ANOTHER_STATUS)
