@@ -105,13 +105,17 @@ impl Directory {
         self.put_greater(notice.prefix, notice.entry())
     }
 
-    /// Joins another table. Where memory is refused, an `AllocError`, the directory is as before.
+    /// Joins another table. Where memory is refused, an `AllocError`, the directory is as before; none is asked for where
+    /// the other table tells nothing new.
     pub fn join_in(&mut self, other: &Table) -> Result<(), AllocError>
         ensures ok { OnOk result (self.new.table ≡ table_join self.old.table other.now) }
         ensures array { HasArrayOf self.old.pointers.ward_bits self.new }
         ensures err { OnErr result (self.new ≡ self.old) }
     {
-        let _ = &self.table;
+        // A table that tells nothing new asks for no copy of the array.
+        if other.at_most(&self.table) {
+            return Ok(());
+        }
         let mut joined = self.try_clone()?;
         for (prefix, entry) in other.entries() {
             joined.put_greater(*prefix, *entry)?;

@@ -1,9 +1,21 @@
-use Rattle.std.proofs.Common.{ap, ◌∙◌, refl, sym, subst}
+use Rattle.std.proofs.Common.{◌≡◌, ap, ◌∙◌, refl, sym, subst}
 use Rattle.exh_table.specs.Table.{TableMap}
-use Rattle.exh_table.specs.TableOrder.{table_join}
+use Rattle.exh_table.specs.TableLemmas.{table_laws}
+use Rattle.exh_table.specs.TableOrder.{IsTableUpTo, table_join}
 use Rattle.exh_table.specs.RaisedLemmas.{raised_all, raised_entries-join}
 use Rattle.exh_array.specs.Pointers.{DirectoryState, HasArrayOf}
 use Rattle.exh_array.proofs.directory.Directory.join_in.Goals as goal
+
+-- a table that is at most this one is joined in it already
+joined_already : (table other : TableMap) → IsTableUpTo other table → table ≡ table_join table other
+joined_already table other up =
+    table_laws.order.antisymmetric table (table_join table other) (table_laws.bound.above_first table other)
+    (table_laws.bound.least table other table (table_laws.order.reflexive table) up)
+
+pub returns-then-at_most-clause-ok : goal.returns-then-at_most-clause-ok
+returns-then-at_most-clause-ok c =
+    let same : c.self.inside.table ≡ c.args.self.now.table = ap (λ (directory : DirectoryState). directory.table) c.self.view_is in
+    joined_already c.args.self.now.table c.args.other.now (subst (IsTableUpTo c.args.other.now) same (c.at_most.ensures.0 c.if-at_most.true))
 
 pub loop-prefix-init : goal.loop-prefix-init
 loop-prefix-init c = record {
