@@ -1,16 +1,12 @@
--- walks along bits, and where they stop: place, depth_below, point_below
+-- walks along bits, and where they stop: place, point_below, leaf_of
 pub mod Walks
+-- what an array holds of a leaf
+pub mod Leaves
 pub mod Below
-pub mod Depth
 -- of new: the array of no table
 pub mod Start
--- of set, point and deepen: pointers written one by one
-pub mod Counts
+-- of point: pointers written one by one
 pub mod Pieces
 pub mod Ranges
--- of deepen, halve and flatten
-pub mod Deeper
-pub mod Halved
-pub mod Flat
--- of update
+-- of place, point_anew and double
 pub mod Updates

@@ -1,13 +1,16 @@
-ghost use Rattle.std.specs.Prelude.{◌≡◌, ◌≤◌, option_map, Some, IfOk, OnOk, OnErr};
+ghost use Rattle.std.specs.Prelude.{◌≡◌, ◌≤◌, length, None, IfOk, OnOk, OnErr};
 ghost use Rattle.std.specs.FinMap as map;
 ghost use Rattle.exh_prefix.specs.declared.prefix.TheConstants.{LIMIT};
 ghost use Rattle.exh_table.specs.Table.{raised, table_with};
 ghost use Rattle.exh_table.specs.TableOrder.{table_join};
 ghost use Rattle.exh_table.specs.Walk.{walk_of};
+ghost use Rattle.exh_table.specs.Leaves.{leaves_of};
+ghost use Rattle.exh_table.specs.Directory.{IsDepth};
 ghost use Rattle.exh_table.specs.Below.{depth_of};
-ghost use Rattle.exh_array.specs.Pointers.{HasArrayOf, IsArrayOf, pointer_at};
+ghost use Rattle.exh_array.specs.Pointers.{HasArrayOf, IsArrayOf, NamesPageOf, most_pointers};
 
 use crate::Pointers;
+use crate::leaf_of::leaf_of;
 use exh_join::Join;
 use exh_notice::{Entry, Notice};
 use exh_prefix::{LIMIT, PageNo, Prefix};
@@ -16,7 +19,7 @@ use std::alloc::{AllocError, Global};
 use std::marker::Model;
 
 /// A copy of the directory: a table, and beside it the table's pointers in a file of some number of
-/// ward bits, of which each look-up is made.
+/// ward bits, of which each look-up is made, as far as they reach.
 #[derive(Drop)]
 pub struct Directory {
     table: Table,
@@ -28,7 +31,7 @@ impl Model for Directory {
     ghost use Rattle.std.specs.Coded.{codes};
     ghost use Rattle.exh_table.specs.Table.{coded_table};
     ghost use Rattle.exh_prefix.specs.declared.prefix.TheConstants.{LIMIT};
-    ghost use Rattle.exh_array.specs.Pointers.{DirectoryState, IsArrayOf};
+    ghost use Rattle.exh_array.specs.Pointers.{DirectoryState, HasArrayOf};
 
     ghost Value = { DirectoryState };
 
@@ -36,7 +39,7 @@ impl Model for Directory {
 
     ghost view = { λ a. record { table = a.table; pointers = a.pointers } };
 
-    ghost invariant = { λ a. IsArrayOf a.table a.pointers × (a.pointers.ward_bits ≤ LIMIT) };
+    ghost invariant = { λ a. HasArrayOf a.pointers.ward_bits (record { table = a.table; pointers = a.pointers }) × (a.pointers.ward_bits ≤ LIMIT) };
 }
 
 impl Directory {
@@ -72,35 +75,54 @@ impl Directory {
     pub fn pointers(&self) -> &Pointers
         ensures pointers { result.now ≡ self.now.pointers }
         ensures array { IsArrayOf self.now.table result.now }
+        ensures most { length result.now.pointers ≤ most_pointers self.now.table result.now.ward_bits }
     {
         &self.pointers
     }
 
-    /// The page that the table names for a pseudokey (Fagin et al. 1979): one look at a pointer. It
-    /// takes no memory.
+    /// The page that the table names for a pseudokey (Fagin et al. 1979): one look at a pointer, and
+    /// a walk through the table where that says that the leaf is deeper than the array. It takes no
+    /// memory.
     pub fn walk(&self, pseudokey: u64) -> PageNo
-        ensures pointer { option_map (λ pointer. pointer.page) (pointer_at self.now.pointers pseudokey) ≡ Some result }
+        ensures pointer { NamesPageOf self.now.pointers pseudokey result }
         ensures page { result ≡ (walk_of self.now.table self.now.pointers.ward_bits pseudokey).page }
     {
-        self.pointers.page(pseudokey)
+        match self.pointers.page(pseudokey) {
+            Some(page) => page,
+            None => self.table.walk(self.pointers.ward_bits(), pseudokey),
+        }
+    }
+
+    /// The local depth of a pseudokey: the length of the leaf where its walk stops, in bits (Fagin et
+    /// al. 1979). It takes no memory.
+    pub fn local_depth(&self, pseudokey: u64) -> u8
+        ensures length { result ≡ length (walk_of self.now.table self.now.pointers.ward_bits pseudokey).prefix }
+        ensures limit { result ≤ LIMIT }
+    {
+        match self.pointers.local_depth(pseudokey) {
+            Some(local_depth) => local_depth,
+            None => leaf_of(&self.table, self.pointers.ward_bits(), pseudokey).prefix.len(),
+        }
     }
 
     /// The depth of the directory: the greatest length of a leaf, over all wards (Fagin et al.
-    /// 1979). It is the array's, and takes no memory.
+    /// 1979). The table is walked through for it. It takes no memory.
     pub fn depth(&self) -> u8
-        ensures depth { result ≡ self.now.pointers.depth }
+        ensures depth { IsDepth (leaves_of self.now.table self.now.pointers.ward_bits) result }
         ensures computed { result ≡ depth_of self.now.table self.now.pointers.ward_bits }
     {
-        self.pointers.depth()
+        self.table.depth(self.pointers.ward_bits())
     }
 
     /// Takes a notice: at its prefix the greater entry stays. It answers what stood there. Where
-    /// memory is refused, an `AllocError`, the directory is as before.
+    /// memory is refused, an `AllocError`, the directory is as before; it is asked for only where no
+    /// entry stands at the prefix.
     pub fn take(&mut self, notice: &Notice) -> Result<Option<Entry>, AllocError>
         ensures stood { IfOk result (λ stood. stood ≡ map.get self.old.table notice.now.prefix) }
         ensures ok { OnOk result (self.new.table ≡ table_with self.old.table notice.now) }
         ensures array { HasArrayOf self.old.pointers.ward_bits self.new }
         ensures err { OnErr result (self.new ≡ self.old) }
+        ensures absent { OnErr result (map.get self.old.table notice.now.prefix ≡ None) }
     {
         self.put_greater(notice.prefix, notice.entry())
     }
@@ -112,7 +134,7 @@ impl Directory {
         ensures array { HasArrayOf self.old.pointers.ward_bits self.new }
         ensures err { OnErr result (self.new ≡ self.old) }
     {
-        // A table that tells nothing new asks for no copy of the array.
+        // A table that tells nothing new asks for no copy.
         if other.at_most(&self.table) {
             return Ok(());
         }
@@ -140,12 +162,10 @@ impl Directory {
         ensures ok { OnOk result (self.new.table ≡ raised self.old.table prefix entry) }
         ensures array { HasArrayOf self.old.pointers.ward_bits self.new }
         ensures err { OnErr result (self.new ≡ self.old) }
+        ensures absent { OnErr result (map.get self.old.table prefix ≡ None) }
     {
         let stood = self.table.put_greater(prefix, entry)?;
-        if let Err(error) = self.pointers.update(&self.table, prefix) {
-            self.table.put_back(prefix, stood);
-            return Err(error);
-        }
+        self.pointers.update(&self.table, prefix);
         Ok(stood)
     }
 }

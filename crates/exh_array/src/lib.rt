@@ -6,5 +6,6 @@ pub use directory::Directory;
 pub use pointers::Pointers;
 
 mod directory;
+mod leaf_of;
 mod pointer;
 mod pointers;

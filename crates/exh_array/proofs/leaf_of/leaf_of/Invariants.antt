@@ -1,0 +1,15 @@
+use Rattle.std.proofs.Common.{◌-◌, [], length, take}
+use Rattle.exh_prefix.specs.Bits.{word_bits}
+use Rattle.exh_prefix.specs.declared.prefix.TheConstants.{LIMIT}
+use Rattle.exh_table.specs.Walk.{walk_on}
+use Rattle.exh_table.specs.Below.{splits_above}
+use Rattle.exh_table.specs.WalkLemmas.{IsOnWalk}
+use Rattle.exh_array.proofs.leaf_of.leaf_of.Given as goal
+
+abbrev pub invariant-loop-right : goal.invariant-loop-right
+invariant-loop-right l =
+    let splits = splits_above l.table l.ward_bits in
+    IsOnWalk splits l.pseudokey (walk_on splits (take LIMIT (word_bits l.pseudokey)) (record { prefix = []; page = 0 })) l.at
+
+abbrev pub decreases-loop-right : goal.decreases-loop-right
+decreases-loop-right l = LIMIT - length l.at.prefix
