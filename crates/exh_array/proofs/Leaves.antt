@@ -1,9 +1,15 @@
 -- What an array that reads so many bits holds of a leaf.
-use Rattle.std.proofs.Common.{◌≡◌, ℕ, suc, ◌<◌, ◌≤◌, inl, inr, cond, length, ap, ◌∙◌, sym, arith}
+use Rattle.std.proofs.Common.{◌≡◌, ℕ, suc, ◌<◌, ◌≤◌, inl, inr, cond, length, take, ap, ◌∙◌, sym, arith}
+use Rattle.std.proofs.lemmas.List.{length-take-le}
 use Rattle.std.proofs.lemmas.Bool.{lt-ltb, le-ltb}
 use Rattle.std.proofs.lemmas.Bool.Decides.{leb_tells}
+use Rattle.exh_prefix.specs.Bits.{word_bits}
+use Rattle.exh_prefix.specs.PrefixLemmas.{length-word_bits}
+use Rattle.exh_prefix.specs.declared.prefix.TheConstants.{LIMIT}
 use Rattle.exh_table.specs.declared.leaf.Leaf.{Leaf}
-use Rattle.exh_array.specs.declared.pointer.Pointer.{Pointer}
+use Rattle.exh_table.specs.Table.{TableMap}
+use Rattle.exh_table.specs.Walk.{walk_of}
+use Rattle.exh_table.specs.PathLemmas.{walk_is_path}
 use Rattle.exh_array.specs.declared.pointer.Pointer.TheVariants.{ToLeaf, Deeper}
 use Rattle.exh_array.specs.Pointers.{pointer_to}
 
@@ -35,3 +41,10 @@ of_deeper bits leaf is =
       | inl long ↦ omega (arith, long.1)
       | inr short ↦ let none : ToLeaf (length leaf.prefix) leaf.page ≡ Deeper = sym (to_leaf bits leaf (omega (arith, short.1))) ∙ is in cc
     ]
+
+-- no leaf is longer than LIMIT
+pub leaf_short : (table : TableMap) (ward_bits pseudokey : ℕ) → ward_bits ≤ LIMIT → length (walk_of table ward_bits pseudokey).prefix ≤ LIMIT
+leaf_short table ward_bits pseudokey short =
+    let ward = take ward_bits (word_bits pseudokey) in
+    let long : length ward ≡ ward_bits = length-take-le ward_bits (word_bits pseudokey) (omega (arith, length-word_bits pseudokey)) in
+    (walk_is_path table ward pseudokey (omega (arith, long)) (ap (λ n. take n (word_bits pseudokey)) long)).short

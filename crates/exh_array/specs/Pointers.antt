@@ -1,5 +1,5 @@
 -- The array of pointers of a table.
-use Rattle.std.specs.Prelude.{◌≡◌, ◌≢◌, ℕ, ◌+◌, ◌*◌, ◌<◌, ◌≤◌, ◌^◌, ⊤, nat_lt, if◌then◌else◌, Bool, List, length, slice_get, Option, Some, None}
+use Rattle.std.specs.Prelude.{◌≡◌, ◌≢◌, ℕ, ◌+◌, ◌*◌, ◌<◌, ◌≤◌, ◌^◌, nat_lt, if◌then◌else◌, Bool, List, length, slice_get, Option, Some, None}
 use Rattle.std.specs.FinMap.{entries, get}
 use Rattle.exh_prefix.specs.Leading.{leading}
 use Rattle.exh_table.specs.declared.leaf.Leaf.{Leaf}

@@ -101,7 +101,9 @@ impl Directory {
     {
         match self.pointers.local_depth(pseudokey) {
             Some(local_depth) => local_depth,
-            None => leaf_of(&self.table, self.pointers.ward_bits(), pseudokey).prefix.len(),
+            None => leaf_of(&self.table, self.pointers.ward_bits(), pseudokey)
+                .prefix
+                .len(),
         }
     }
 

@@ -165,7 +165,13 @@ impl Pointers {
     {
         let local_depth = at.prefix.len();
         let Some(right) = table.split_at(self.ward_bits, at) else {
-            self.point(at.prefix, Pointer::ToLeaf { local_depth, page: at.page });
+            self.point(
+                at.prefix,
+                Pointer::ToLeaf {
+                    local_depth,
+                    page: at.page,
+                },
+            );
             return;
         };
         if local_depth == self.bits {

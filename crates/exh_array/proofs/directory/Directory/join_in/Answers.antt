@@ -1,4 +1,4 @@
-use Rattle.std.proofs.Common.{◌≡◌, ap, ◌∙◌, refl, sym, subst}
+use Rattle.std.proofs.Common.{◌≡◌, ap, ◌∙◌, sym, subst}
 use Rattle.exh_table.specs.Table.{TableMap}
 use Rattle.exh_table.specs.TableLemmas.{table_laws}
 use Rattle.exh_table.specs.TableOrder.{IsTableUpTo, table_join}
@@ -23,7 +23,7 @@ loop-prefix-init c = record {
       ∙ raised_entries-join c.in_ok-joined.joined.table c.args.other.now
       ∙ ap (λ (directory : DirectoryState). table_join directory.table c.args.other.now) c.in_ok-joined.ensures;
   array = subst (HasArrayOf c.args.self.now.pointers.ward_bits) (sym c.in_ok-joined.ensures)
-      (subst (λ (directory : DirectoryState). HasArrayOf directory.pointers.ward_bits directory) c.self.view_is record { bits = refl; array = c.self.invariant.0 });
+      (subst (λ (directory : DirectoryState). HasArrayOf directory.pointers.ward_bits directory) c.self.view_is c.self.invariant.0);
 }
 
 pub loop-prefix-preserved : goal.loop-prefix-preserved

@@ -1,10 +1,8 @@
-use Rattle.std.proofs.Common.{◌≡◌, ◌<◌, ◌≤◌, ◌-◌, ◌^◌, ℕ, length, Bool, true, false, Option, Some, None, if◌then◌else◌, nat_lt, sym, ap, ◌∙◌, subst, arith}
-use Rattle.std.proofs.lemmas.List.{length_push}
+use Rattle.std.proofs.Common.{◌≡◌, ◌<◌, ◌^◌, ℕ, length, Option, Some, None, if◌then◌else◌, nat_lt, sym, ap, ◌∙◌, subst, arith}
 use Rattle.exh_prefix.specs.Prefix.{Begins}
 use Rattle.exh_prefix.specs.declared.prefix.TheConstants.{LIMIT}
 use Rattle.exh_table.specs.declared.leaf.Leaf.{Leaf}
 use Rattle.exh_table.specs.Table.{TableMap}
-use Rattle.exh_table.specs.Walk.{step}
 use Rattle.exh_table.specs.Below.{splits_above}
 use Rattle.exh_table.specs.WalkLemmas.{goes_on}
 use Rattle.exh_array.specs.declared.pointer.Pointer.TheVariants.{ToLeaf}

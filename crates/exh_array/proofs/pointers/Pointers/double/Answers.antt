@@ -1,9 +1,8 @@
-use Rattle.std.proofs.Common.{◌≡◌, ◌+◌, ◌*◌, ◌≤◌, ◌^◌, length, ap, add-one, ◌∙◌, subst, arith}
+use Rattle.std.proofs.Common.{◌≡◌, ◌+◌, ◌*◌, ◌^◌, length, ap, add-one, subst, arith}
 use Rattle.std.proofs.Math.Nat.{pow-suc}
-use Rattle.exh_prefix.specs.declared.prefix.TheConstants.{LIMIT}
 use Rattle.exh_table.specs.declared.leaf.Leaf.{Leaf}
 use Rattle.exh_table.specs.LeafLemmas.{root}
-use Rattle.exh_array.specs.Pointers.{PointerArray, IsArrayOf}
+use Rattle.exh_array.specs.Pointers.{PointerArray}
 use Rattle.exh_array.specs.Within.{IsPointedBelow}
 use Rattle.exh_array.proofs.Updates.{all_pointed}
 use Rattle.exh_array.proofs.pointers.Pointers.double.Goals as goal

@@ -1,4 +1,4 @@
-use Rattle.std.proofs.Common.{◌≡◌, ℕ, ◌<◌, ◌≤◌, ◌^◌, Bool, List, length, Some, inr, refl, sym, ap, ◌∙◌, subst, arith}
+use Rattle.std.proofs.Common.{◌≡◌, ℕ, ◌<◌, ◌≤◌, Bool, List, length, Some, inr, refl, sym, ap, ◌∙◌, arith}
 use Rattle.std.proofs.lemmas.Option.{same_Some}
 use Rattle.exh_prefix.specs.Prefix.{low_of}
 use Rattle.exh_prefix.specs.PrefixLemmas.{low_of-word}
@@ -77,7 +77,7 @@ returns-clause-place c =
           comes_to_leaf c.requires.0 c.args.table.now c.args.self.now c.args.prefix c.requires.1 c.requires.2 small short _ _ (stands ∙ ap Some w.in-ToLeaf.is) (omega arith) ∙ ap (λ page. record { prefix = c.args.prefix; page = page }) (sym w.page-is)
       | in-Deeper w ↦
           let is = w.page-is ∙ w.walk-page.ensures ∙ ap (λ n. (walk_of c.args.table.now n w.low-in-Deeper.result).page) (ap (λ (array : PointerArray). array.ward_bits) c.self.view_is)
-              ∙ ap (λ k. (walk_of c.args.table.now c.args.self.now.ward_bits k).page) w.low-in-Deeper.ensures in
+          ∙ ap (λ k. (walk_of c.args.table.now c.args.self.now.ward_bits k).page) w.low-in-Deeper.ensures in
           comes_deeper c.requires.0 c.args.table.now c.args.self.now c.args.prefix c.requires.1 c.requires.2 small short c.match-pointer.page (stands ∙ ap Some w.in-Deeper.is) within is
     ] in
     (refl, comes, within)

@@ -1,4 +1,3 @@
-use Rattle.std.proofs.Common.{◌≡◌}
 use Rattle.exh_array.proofs.Updates.{array_unchanged, leaves_pointed}
 use Rattle.exh_array.proofs.pointers.Pointers.point_anew.Goals as goal
 
