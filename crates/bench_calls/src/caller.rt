@@ -115,8 +115,7 @@ impl Caller {
 
     // The left page of the pair that the home of a pseudokey is of: the page of the parent's low bound.
     fn left_of_pair(&self, pseudokey: u64) -> Option<PageNo> {
-        let pointers = self.directory.pointers();
-        let above = pointers.local_depth(pseudokey).checked_sub(1)?;
-        Some(pointers.page(pseudokey & !(u64::MAX >> above)))
+        let above = self.directory.local_depth(pseudokey).checked_sub(1)?;
+        Some(self.directory.walk(pseudokey & !(u64::MAX >> above)))
     }
 }

@@ -13,7 +13,7 @@ use Rattle.exh_table.specs.WalkLemmas.{IsOnWalk, on_walk_step, on_walk_end}
 use Rattle.exh_array.specs.declared.pointer.Pointer.TheVariants.{ToLeaf, Deeper}
 use Rattle.exh_array.specs.Pointers.{PointerArray, pointer_to, pointer_at}
 use Rattle.exh_array.specs.Within.{walk_from, IsPointedBelow}
-use Rattle.exh_array.proofs.Leaves.{to_leaf, to_deeper}
+use Rattle.exh_array.specs.PointerLemmas.{to_leaf, to_deeper}
 use Rattle.exh_array.proofs.Walks.{walk_on-longer}
 
 on_walk : (table : TableMap) (ward_bits : ℕ) (at : Leaf) (pseudokey : ℕ) → length at.prefix ≤ LIMIT → Begins at.prefix pseudokey → IsOnWalk (splits_above table ward_bits) pseudokey (walk_from table ward_bits at pseudokey) at

@@ -1,7 +1,5 @@
 -- walks along bits, and where they stop: place, point_below, leaf_of
 pub mod Walks
--- what an array holds of a leaf
-pub mod Leaves
 pub mod Below
 -- of new: the array of no table
 pub mod Start

@@ -16,7 +16,7 @@ use Rattle.exh_array.specs.declared.pointer.Pointer.TheVariants.{ToLeaf}
 use Rattle.exh_array.specs.Pointers.{PointerArray, IsArrayOf, pointer_to}
 use Rattle.exh_array.specs.Within.{IsKeptArray}
 use Rattle.exh_prefix.specs.LeadingLemmas.{length-leading_bits, leading-lt}
-use Rattle.exh_array.proofs.Leaves.{to_leaf}
+use Rattle.exh_array.specs.PointerLemmas.{to_leaf}
 
 abbrev pub start : ℕ → PointerArray
 start ward_bits = record { ward_bits = ward_bits; bits = ward_bits; pointers = replicate (2 ^ ward_bits) (ToLeaf ward_bits 0) }

@@ -15,7 +15,7 @@ use Rattle.exh_table.specs.PathLemmas.{front_and_rest}
 use Rattle.exh_table.specs.LeafLemmas.{root}
 use Rattle.exh_array.specs.Pointers.{PointerArray, pointer_to, IsArrayOf, DifferAtMostAt}
 use Rattle.exh_array.specs.Within.{walk_along, walk_from, IsPlaceIn, IsPointedBelow}
-use Rattle.exh_array.proofs.Leaves.{to_deeper}
+use Rattle.exh_array.specs.PointerLemmas.{to_deeper}
 use Rattle.exh_array.proofs.Walks.{walk_on-append, walk_on-longer, walk_on-cases, walk_on-zeros, same_walk_to, same_walk_past}
 
 -- the bits that follow a prefix in a pseudokey, up to LIMIT

@@ -1,2 +1,3 @@
+pub mod PointerLemmas
 pub mod Pointers
 pub mod Within

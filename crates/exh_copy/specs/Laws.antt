@@ -1,11 +1,11 @@
 -- Laws of copies that readers look at.
-use Rattle.std.specs.Prelude.{◌≡◌, ◌↔◌, ℕ, ◌<◌, ◌^◌, Bool, List, ◌++◌, flat_map, option_map, Some, Contains}
+use Rattle.std.specs.Prelude.{◌≡◌, ◌↔◌, ℕ, ◌<◌, ◌^◌, Bool, List, ◌++◌, flat_map, Contains}
 use Rattle.std.specs.FinMap.{entries}
 use Rattle.exh_notice.specs.declared.entry.Entry.{Entry}
 use Rattle.exh_table.specs.Table.{TableMap, IsTableOf}
 use Rattle.exh_table.specs.TableOrder.{IsTableUpTo}
 use Rattle.exh_table.specs.Walk.{walk_of}
-use Rattle.exh_array.specs.Pointers.{DirectoryState, HasArrayOf, pointer_at}
+use Rattle.exh_array.specs.Pointers.{DirectoryState, HasArrayOf, NamesPageOf}
 use Rattle.exh_copy.specs.declared.addition.Addition.{Addition}
 use Rattle.exh_copy.specs.Additions.{BeginsWith, longest, table_after, told_in}
 
@@ -23,10 +23,12 @@ abbrev pub CopiesAreTablesOfTheirSets : Type 0
 CopiesAreTablesOfTheirSets = (start : TableMap) (additions : List Addition) → IsTableOf (entries start ++ flat_map told_in additions) (table_after start additions)
 
 -- A directory with its array, as a copy in a world is, that took a set of entries: where the list of a look tells the same
--- set, in whatever order and however often, the look names the page to which the directory's pointer is.
+-- set, in whatever order and however often, the look names the page that the directory's table does, and so does the
+-- directory's pointer, where it is to a leaf.
 abbrev pub LooksAreWalksOfCopies : Type 0
 LooksAreWalksOfCopies = (start : TableMap) (ward_bits : ℕ) (additions : List Addition) (directory : DirectoryState) (taken : List (List Bool × Entry)) (pseudokey : ℕ)
     → HasArrayOf ward_bits directory → IsTableOf taken directory.table
     → ((pair : List Bool × Entry) → Contains taken pair ↔ Contains (entries start ++ flat_map told_in additions) pair)
     → pseudokey < 2 ^ 64
-    → option_map (λ pointer. pointer.page) (pointer_at directory.pointers pseudokey) ≡ Some (walk_of (table_after start additions) ward_bits pseudokey).page
+    → ((walk_of directory.table ward_bits pseudokey).page ≡ (walk_of (table_after start additions) ward_bits pseudokey).page)
+    × NamesPageOf directory.pointers pseudokey (walk_of (table_after start additions) ward_bits pseudokey).page

@@ -1,5 +1,5 @@
 use Rattle.std.proofs.Common.{arith}
-use Rattle.exh_array.proofs.Leaves.{leaf_short}
+use Rattle.exh_array.specs.PointerLemmas.{leaf_short}
 use Rattle.exh_array.proofs.directory.Directory.local_depth.Goals as goal
 
 pub returns-in-Some-clause-limit : goal.returns-in-Some-clause-limit

@@ -10,7 +10,7 @@ use Rattle.exh_array.specs.declared.pointer.Pointer.{Pointer}
 use Rattle.exh_array.specs.declared.pointer.Pointer.TheVariants.{ToLeaf, Deeper}
 use Rattle.exh_array.specs.Pointers.{PointerArray, IsArrayOf, DifferAtMostAt, pointer_at, pointer_to}
 use Rattle.exh_array.specs.Within.{walk_along, IsKeptArray}
-use Rattle.exh_array.proofs.Leaves.{IsLeafOf, of_leaf, of_deeper}
+use Rattle.exh_array.specs.PointerLemmas.{IsLeafOf, of_leaf, of_deeper}
 use Rattle.exh_array.proofs.Updates.{same_along, low_page, low_short, low_there}
 use Rattle.exh_array.proofs.pointers.Pointers.place.Goals as goal
 use Rattle.exh_array.proofs.pointers.Pointers.place.Goals.{in-ToLeaf-2, in-Deeper}

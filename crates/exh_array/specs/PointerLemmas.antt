@@ -1,7 +1,8 @@
--- What an array that reads so many bits holds of a leaf.
-use Rattle.std.proofs.Common.{◌≡◌, ℕ, suc, ◌<◌, ◌≤◌, inl, inr, cond, length, take, ap, ◌∙◌, sym, arith}
+-- What an array holds of a leaf.
+use Rattle.std.proofs.Common.{◌≡◌, ℕ, suc, ◌<◌, ◌≤◌, ◌^◌, inl, inr, cond, length, take, ap, ◌∙◌, sym, arith}
 use Rattle.std.proofs.lemmas.List.{length-take-le}
 use Rattle.std.proofs.lemmas.Bool.{lt-ltb, le-ltb}
+use Rattle.std.proofs.lemmas.Option.{same_Some}
 use Rattle.std.proofs.lemmas.Bool.Decides.{leb_tells}
 use Rattle.exh_prefix.specs.Bits.{word_bits}
 use Rattle.exh_prefix.specs.PrefixLemmas.{length-word_bits}
@@ -11,7 +12,7 @@ use Rattle.exh_table.specs.Table.{TableMap}
 use Rattle.exh_table.specs.Walk.{walk_of}
 use Rattle.exh_table.specs.PathLemmas.{walk_is_path}
 use Rattle.exh_array.specs.declared.pointer.Pointer.TheVariants.{ToLeaf, Deeper}
-use Rattle.exh_array.specs.Pointers.{pointer_to}
+use Rattle.exh_array.specs.Pointers.{PointerArray, IsArrayOf, NamesPageOf, pointer_to}
 
 pub to_leaf : (bits : ℕ) (leaf : Leaf) → length leaf.prefix ≤ bits → pointer_to bits leaf ≡ ToLeaf (length leaf.prefix) leaf.page
 to_leaf bits leaf short = ap (λ deep. cond deep Deeper (ToLeaf (length leaf.prefix) leaf.page)) (le-ltb bits (length leaf.prefix) short)
@@ -48,3 +49,8 @@ leaf_short table ward_bits pseudokey short =
     let ward = take ward_bits (word_bits pseudokey) in
     let long : length ward ≡ ward_bits = length-take-le ward_bits (word_bits pseudokey) (omega (arith, length-word_bits pseudokey)) in
     (walk_is_path table ward pseudokey (omega (arith, long)) (ap (λ n. take n (word_bits pseudokey)) long)).short
+
+-- where the pointer is to a leaf, it is to the page that the table names
+pub names_page : (table : TableMap) (array : PointerArray) (pseudokey : ℕ) → IsArrayOf table array → pseudokey < 2 ^ 64 → NamesPageOf array pseudokey (walk_of table array.ward_bits pseudokey).page
+names_page table array pseudokey is small local_depth page stands =
+    sym (of_leaf array.bits (walk_of table array.ward_bits pseudokey) local_depth page (same_Some _ _ (sym (is.each pseudokey small) ∙ stands))).page_is
