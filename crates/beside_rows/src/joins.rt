@@ -71,7 +71,7 @@ const FOUR_WARDS: [&[Leaf]; 3] = [
     ],
 ];
 
-/// Tells directories of one ward and of four, makes one of the most wards, and doubles and halves one as often as may be.
+/// Tells directories of one ward and of four, makes one of the most wards, and one as deep as may be.
 pub(crate) fn run(run: &mut Run) -> Result<(), Difference> {
     run_wards(run, 0, &ONE_WARD)?;
     run_wards(run, 2, &FOUR_WARDS)?;
@@ -150,11 +150,10 @@ fn has_leaves(directory: &Directory, ward_bits: u8, leaves: &[Leaf]) -> Result<(
         is_at(directory, last, *page, own.len())?;
         depth = own.len().max(depth);
     }
-    let is_depth = directory.depth() == depth && directory.pointers().depth() == depth;
-    same(is_depth, Part::Depth)
+    same(directory.depth() == depth, Part::Depth)
 }
 
-// A pseudokey has this page and local depth.
+// A pseudokey has this page and local depth, also by its pointer, where that is to a leaf.
 fn is_at(
     directory: &Directory,
     pseudokey: u64,
@@ -162,30 +161,31 @@ fn is_at(
     local_depth: u8,
 ) -> Result<(), Difference> {
     let pointers = directory.pointers();
-    let is_page = pointers.page(pseudokey) == page && directory.walk(pseudokey) == page;
-    same(
-        is_page && pointers.local_depth(pseudokey) == local_depth,
-        Part::Pointer,
-    )
+    let is_walk = directory.walk(pseudokey) == page;
+    let is_page = pointers.page(pseudokey).unwrap_or(page) == page;
+    same(is_walk && is_page, Part::Pointer)?;
+    let is_length = directory.local_depth(pseudokey) == local_depth;
+    let is_bits = pointers.local_depth(pseudokey).unwrap_or(local_depth) == local_depth;
+    same(is_length && is_bits, Part::Pointer)
 }
 
 // As many wards as there may be: none of them can be split.
 fn has_most_wards(alloc: Global) -> Result<(), Difference> {
     let pointers = again!(Err(AllocError) => Pointers::new(alloc, LIMIT))?;
-    same(pointers.depth() == LIMIT, Part::Depth)?;
     for leading in 0..1u64 << LIMIT {
         let pseudokey = leading << (64 - LIMIT);
-        let is_page = pointers.page(pseudokey) == 0;
+        let is_page = pointers.page(pseudokey) == Some(0);
         same(
-            is_page && pointers.local_depth(pseudokey) == LIMIT,
+            is_page && pointers.local_depth(pseudokey) == Some(LIMIT),
             Part::Pointer,
         )?;
     }
     Ok(())
 }
 
-// Splits at 0 to `LIMIT` zeros double an array, of which the last is not passed, and merges halve it again; then, told
-// of the longest first, it is doubled `LIMIT` times at once, and halved so by a merge at the root.
+// Splits at 0 to `LIMIT` zeros make a directory as deep as may be, of which the last is not passed, and merges make it
+// flat again; then, told of the longest first, it is made deep by the split at the root, and flat by a merge there. Its
+// array is doubled as far as 20 entries ask for, and no further.
 fn take_chain(directory: &mut Directory) -> Result<(), Difference> {
     for zeros in 0..=LIMIT {
         take_zeros(directory, zeros, 1, (zeros + 1).min(LIMIT))?;
@@ -215,8 +215,7 @@ fn take_zeros(
         _ => split(1, at, number, PageNo::from(zeros) + 1),
     };
     again!(Err(AllocError) => directory.take(&notice))?;
-    let is_depth = directory.depth() == depth && directory.pointers().depth() == depth;
-    same(is_depth, Part::Depth)
+    same(directory.depth() == depth, Part::Depth)
 }
 
 // Where the first 1 of a pseudokey comes after fewer than `LIMIT` zeros, it is on the page after their number, and else
@@ -229,6 +228,22 @@ fn is_chain(directory: &Directory) -> Result<(), Difference> {
     }
     for pseudokey in [0, 1, 0x8000_0000_0000_0000 >> LIMIT, u64::MAX >> LIMIT] {
         is_at(directory, pseudokey, 0, LIMIT)?;
+    }
+    is_cut_off(directory)
+}
+
+// Of 21 entries and a ward there are at most 8 * 22 pointers: 2^7, so that leaves of 7 bits have one, and longer ones none.
+fn is_cut_off(directory: &Directory) -> Result<(), Difference> {
+    let pointers = directory.pointers();
+    let within = u64::MAX >> 6;
+    let is_within = pointers.page(within) == Some(7) && pointers.local_depth(within) == Some(7);
+    same(is_within, Part::Pointer)?;
+    for pseudokey in [0, u64::MAX >> 7] {
+        let is_past = pointers.page(pseudokey).is_none();
+        same(
+            is_past && pointers.local_depth(pseudokey).is_none(),
+            Part::Pointer,
+        )?;
     }
     Ok(())
 }
