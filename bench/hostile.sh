@@ -7,7 +7,7 @@
 # hostile.awk draws scripts over a new file of cap 1, whose directory is of the greatest depth, twenty bits, and has 20
 # entries, or as many as half a script makes, or 256 of sixteen wards; the rest is one of these:
 # - `combine` of a table that was sent; `restart` and `combine`; `send`; `deliver` and `send`;
-# - a merge of the deepest pages and their split, each delivered, so that the array is halved and doubled by turns;
+# - a merge of the deepest pages and their split, each delivered, so that the directory's depth changes by turns;
 # - `show`; `page`; `inflight`, over as many requests in flight as entries, or as a quarter of the script begins;
 # - `begin` through a copy that was told nothing; `hop` of requests in the order begun.
 # Then `load` of pairs at cap 1, two and two of which share nineteen bits and no more, so that there are as many splits
