@@ -5,11 +5,13 @@
 #![tactic(auto)]
 
 mod alike;
+mod failing_maker;
 mod lists;
 mod page_turns;
 mod played;
 mod readers;
 mod row;
+mod stores;
 mod three_pairs;
 mod turns;
 mod writers;
@@ -23,21 +25,34 @@ enum Kind {
     Turns,
     /// Events at once, with each page call refused.
     PageTurns,
+    /// The same over pages that stand as images.
+    ImageTurns,
     /// A file that is written, with each write refused.
     Writers,
     /// A file that is opened, with each read refused.
     Readers,
+    /// A file that is opened and written, with each page call refused.
+    Stores,
 }
 
-const KINDS: [Kind; 4] = [Kind::Turns, Kind::PageTurns, Kind::Writers, Kind::Readers];
+const KINDS: [Kind; 6] = [
+    Kind::Turns,
+    Kind::PageTurns,
+    Kind::ImageTurns,
+    Kind::Writers,
+    Kind::Readers,
+    Kind::Stores,
+];
 
 impl Kind {
     fn take_once(self, run: &mut Run) -> Result<(), Difference> {
         match self {
             Kind::Turns => turns::run(run),
             Kind::PageTurns => page_turns::run(run),
+            Kind::ImageTurns => page_turns::run_over_images(run),
             Kind::Writers => writers::run(run),
             Kind::Readers => readers::run(run),
+            Kind::Stores => stores::run(run),
         }
     }
 }
@@ -47,8 +62,10 @@ impl Named for Kind {
         match self {
             Kind::Turns => "turns",
             Kind::PageTurns => "page-turns",
+            Kind::ImageTurns => "image-turns",
             Kind::Writers => "writers",
             Kind::Readers => "readers",
+            Kind::Stores => "stores",
         }
     }
 }

@@ -2,36 +2,62 @@
 //! that isn't made. The refused turn changes nothing: at once, the other turns and what they leave are those of the list
 //! without its event; one by one, the event is asked once more, and all is as without the refusal.
 
+use crate::failing_maker::FailingMaker;
 use crate::lists::{LISTS, List};
 use crate::played::{CONFIG, OUT_OF_REACH, Played, events_of, new_world, play, turns_of};
 use exh_event::{StepFault, Turn};
-use exh_fixtures::first_store;
-use exh_frames::{FailingPages, Pages, PlainPages};
+use exh_frames::{FailingPages, Pages, PlainMaker, PlainPages, StoreMaker};
+use exh_images::{CACHE_SIZE_LIMIT, CacheFault, FramedMaker, FramedPages};
 use exh_keyer::AnyKeyer;
 use exh_runs::{Difference, Part, Run, again, same};
-use exh_ward::{Ward, WardFault};
+use exh_ward::WardFault;
 use exh_world::World;
 use std::alloc::{AllocError, Global};
-
-type FailingWorld = World<FailingPages<PlainPages>, AnyKeyer>;
 
 // More calls than a list makes.
 const MOST: u64 = 1000;
 
-/// Plays each list.
+// How many decoded pages there are beside images: of the pages of a list one, and all.
+const CACHE_SIZES: [usize; 2] = [1, CACHE_SIZE_LIMIT];
+
+/// Plays each list over pages in memory.
 pub(crate) fn run(run: &mut Run) -> Result<(), Difference> {
+    run_over::<PlainPages, PlainMaker>(run, PlainMaker)
+}
+
+/// Plays each list over pages that stand as images.
+pub(crate) fn run_over_images(run: &mut Run) -> Result<(), Difference> {
+    for size in CACHE_SIZES {
+        let maker = FramedMaker::new(size).map_err(not_made)?;
+        run_over::<FramedPages<AnyKeyer>, FramedMaker>(run, maker)?;
+    }
+    Ok(())
+}
+
+fn not_made(fault: CacheFault) -> Difference {
+    Difference::Refused(fault.number())
+}
+
+fn run_over<P: Pages + Drop, M: StoreMaker<P, AnyKeyer> + Copy>(
+    run: &mut Run,
+    maker: M,
+) -> Result<(), Difference> {
     for list in LISTS {
-        take_list(run, list)?;
+        take_list::<P, M>(run, maker, list)?;
     }
     Ok(())
 }
 
 // Each event is refused at least as often as it must reach a page, and those that reach none never.
-fn take_list(run: &mut Run, list: List) -> Result<(), Difference> {
+fn take_list<P: Pages + Drop, M: StoreMaker<P, AnyKeyer> + Copy>(
+    run: &mut Run,
+    maker: M,
+    list: List,
+) -> Result<(), Difference> {
     let turns = turns_of(run.alloc, list.rows)?;
     let mut refusals = Vec::new(run.alloc);
     refusals.resize(turns.len(), 0)?;
-    let count = refuse_each_call(run.alloc, &turns, &mut refusals)?;
+    let count = refuse_each_call::<P, M>(run.alloc, maker, &turns, &mut refusals)?;
     run.tally.check(same(count >= list.least, Part::Fault));
     for (row, times) in list.rows.iter().zip(&refusals) {
         let least = row.least_calls();
@@ -47,15 +73,23 @@ fn take_list(run: &mut Run, list: List) -> Result<(), Difference> {
 }
 
 // Counts how often each event was refused. Answers how many calls there are.
-fn refuse_each_call(
+fn refuse_each_call<P: Pages + Drop, M: StoreMaker<P, AnyKeyer> + Copy>(
     alloc: Global,
+    inner: M,
     turns: &[Turn],
     refusals: &mut [u32],
 ) -> Result<u64, Difference> {
     let mut unhurt = play(new_world(alloc)?, &events_of(alloc, turns)?)?;
     is_as_wanted(&unhurt, turns)?;
     for at in 1..MOST {
-        match refuse_call(alloc, at, turns, &mut unhurt)? {
+        let maker = FailingMaker { inner, at };
+        let met = refuse_call::<FailingPages<P>, FailingMaker<M>>(
+            alloc,
+            &maker,
+            turns,
+            &mut unhurt,
+        )?;
+        match met {
             Some(place) => count_at(refusals, place),
             None => return Ok(at - 1),
         }
@@ -70,20 +104,20 @@ fn count_at(refusals: &mut [u32], place: usize) {
 }
 
 // The place of the event in which the call of this number is refused, if there is such a call.
-fn refuse_call(
+fn refuse_call<P: Pages + Drop, M: StoreMaker<P, AnyKeyer>>(
     alloc: Global,
-    at: u64,
+    maker: &M,
     turns: &[Turn],
     unhurt: &mut Played<PlainPages>,
 ) -> Result<Option<usize>, Difference> {
-    let mut played = play(failing_world(alloc, at)?, &events_of(alloc, turns)?)?;
+    let mut played = play::<P>(new_over::<P, M>(alloc, maker)?, &events_of(alloc, turns)?)?;
     played.is_with_memory()?;
     let Some(place) = played.refused_at(OUT_OF_REACH) else {
         is_as_wanted(&played, turns)?;
         return Ok(None);
     };
     played.is_without(alloc, place)?;
-    let mut again = play_each(failing_world(alloc, at)?, alloc, turns)?;
+    let mut again = play_each::<P>(new_over::<P, M>(alloc, maker)?, alloc, turns)?;
     is_as_wanted(&again, turns)?;
     again.leaves_as(unhurt)?;
     Ok(Some(place))
@@ -94,20 +128,19 @@ fn is_as_wanted<P: Pages + Drop>(played: &Played<P>, turns: &[Turn]) -> Result<(
     same(played.has_turns(turns), Part::Outcome)
 }
 
-fn failing_world(alloc: Global, at: u64) -> Result<FailingWorld, AllocError> {
-    let mut wards = Vec::new(alloc);
-    wards.reserve(1)?;
-    let store = FailingPages::new(first_store(alloc, 0, 0)?, at);
-    wards.push_reserved(Ward::new(alloc, store, CONFIG.settings, 0));
-    World::from_wards(alloc, &CONFIG, wards)
+fn new_over<P: Pages + Drop, M: StoreMaker<P, AnyKeyer>>(
+    alloc: Global,
+    maker: &M,
+) -> Result<World<P, AnyKeyer>, AllocError> {
+    World::new_over(alloc, maker, &CONFIG)
 }
 
 // Has a world do what each event asks, once more where a page was out of reach.
-fn play_each(
-    world: FailingWorld,
+fn play_each<P: Pages + Drop>(
+    world: World<P, AnyKeyer>,
     alloc: Global,
     turns: &[Turn],
-) -> Result<Played<FailingPages<PlainPages>>, AllocError> {
+) -> Result<Played<P>, AllocError> {
     let mut world = world;
     match take_each(&mut world, alloc, turns) {
         Ok(turns) => Ok(Played {
@@ -118,8 +151,8 @@ fn play_each(
     }
 }
 
-fn take_each(
-    world: &mut FailingWorld,
+fn take_each<P: Pages + Drop>(
+    world: &mut World<P, AnyKeyer>,
     alloc: Global,
     turns: &[Turn],
 ) -> Result<Vec<Turn>, AllocError> {
