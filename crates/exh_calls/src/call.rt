@@ -1,9 +1,5 @@
-ghost use Rattle.std.specs.Prelude.{◌≡◌, ℕ, Bool, List};
-ghost use Rattle.exh_calls.specs.Effect.{effect_of};
-ghost use Rattle.exh_calls.specs.declared.call.Call.TheVariants.{Swap};
-
 use crate::{KeyChange, Reply, swaps_compare};
-use exh_page::{Key, Value};
+use exh_page::{Key, LentValue, Value};
 
 /// A call on the map from keys to values. A copy takes no memory.
 #[derive(Clone, Copy, PartialEq, Eq)]
@@ -19,7 +15,7 @@ pub enum Call {
 }
 
 impl Call {
-    ghost use Rattle.std.specs.Prelude.{◌≡◌};
+    ghost use Rattle.std.specs.Prelude.{◌≡◌, None};
     ghost use Rattle.exh_calls.specs.Call.{key_of};
     ghost use Rattle.exh_calls.specs.Effect.{change_of, effect_of, sets_new};
 
@@ -37,28 +33,23 @@ impl Call {
 
     /// What the call is answered, by whether new keys are turned away and the value that the key has.
     /// It takes no memory.
-    pub fn reply(&self, full: bool, stood: &Option<Value>) -> Reply
+    pub fn reply(&self, full: bool, stood: &Option<LentValue<'_>>) -> Reply
         ensures { result ≡ (effect_of self.now full stood.now).reply }
     {
         swaps_compare();
-        // Apart, since the other calls' replies to a key that has a value all tell it.
-        if let Call::Swap { old, .. } = self {
-            return swap_reply(old, stood);
-        }
-        match stood {
-            Some(value) => match self {
-                Call::Get { .. } => Reply::Is(*value),
-                Call::Put { .. } | Call::Del { .. } | Call::Swap { .. } => Reply::Was(*value),
-            },
-            None => match self {
-                Call::Get { .. } | Call::Del { .. } | Call::Swap { .. } => Reply::None,
-                Call::Put { .. } => { if full { Reply::Full } else { Reply::New } }
-            },
+        let Some(value) = stood else {
+            return self.reply_to_none(full);
+        };
+        match self {
+            Call::Get { .. } => Reply::Is(value.to_value()),
+            Call::Put { .. } | Call::Del { .. } => Reply::Was(value.to_value()),
+            Call::Swap { old, .. } if value.equals(old) => Reply::Swapped,
+            Call::Swap { .. } => Reply::Differs(value.to_value()),
         }
     }
 
     /// What becomes of the key, by the same. It takes no memory.
-    pub fn change(&self, full: bool, stood: &Option<Value>) -> KeyChange<'_>
+    pub fn change(&self, full: bool, stood: &Option<LentValue<'_>>) -> KeyChange<'_>
         ensures { change_of result ≡ (effect_of self.now full stood.now).change }
     {
         match stood {
@@ -66,7 +57,7 @@ impl Call {
                 Call::Get { .. } => KeyChange::Keep,
                 Call::Put { value, .. } => KeyChange::Set(value),
                 Call::Del { .. } => KeyChange::Remove,
-                Call::Swap { old, new, .. } if stood == old => KeyChange::Set(new),
+                Call::Swap { old, new, .. } if stood.equals(old) => KeyChange::Set(new),
                 Call::Swap { .. } => KeyChange::Keep,
             },
             None => match self {
@@ -74,6 +65,16 @@ impl Call {
                 Call::Put { .. } if full => KeyChange::Keep,
                 Call::Put { value, .. } => KeyChange::Set(value),
             },
+        }
+    }
+
+    // What the call is answered where the key has no value, by whether new keys are turned away.
+    fn reply_to_none(&self, full: bool) -> Reply
+        ensures { result ≡ (effect_of self.now full None).reply }
+    {
+        match self {
+            Call::Get { .. } | Call::Del { .. } | Call::Swap { .. } => Reply::None,
+            Call::Put { .. } => { if full { Reply::Full } else { Reply::New } }
         }
     }
 
@@ -85,16 +86,5 @@ impl Call {
             Call::Put { .. } => true,
             Call::Get { .. } | Call::Del { .. } | Call::Swap { .. } => false,
         }
-    }
-}
-
-// What a swap of a key is answered, by its old value and the value that the key has.
-fn swap_reply(old: &Value, stood: &Option<Value>) -> Reply
-    ensures { (key new : List ℕ) (full : Bool) → result ≡ (effect_of (Swap key old.now new) full stood.now).reply }
-{
-    match stood {
-        Some(value) if value == old => Reply::Swapped,
-        Some(value) => Reply::Differs(*value),
-        None => Reply::None,
     }
 }

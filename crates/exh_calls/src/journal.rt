@@ -74,9 +74,9 @@ impl Journal {
         });
         // There is room for these bytes.
         self.texts.extend_from_slice(key).unwrap();
-        self.texts.extend_from_slice(value).unwrap();
-        add_second(&mut self.texts, second);
-        self.texts.extend_from_slice(told).unwrap();
+        add_text(&mut self.texts, value);
+        add_text(&mut self.texts, second);
+        add_text(&mut self.texts, told);
     }
 
     /// How many entries there are.
@@ -173,17 +173,17 @@ pub(crate) fn bytes_at(texts: &[u8], start: usize, len: u8) -> &[u8]
     &texts[start..start + usize::from(len)]
 }
 
-// Adds the bytes of a second value, for which there is room. Most calls have none.
-fn add_second(texts: &mut Vec<u8>, second: &[u8])
-    requires { vec_len texts.old + length second.now ≤ vec_capacity texts.old }
-    ensures items { texts.new.items ≡ texts.old.items ++ second.now }
-    ensures len { vec_len texts.new ≡ vec_len texts.old + length second.now }
+// Adds the bytes of a value, for which there is room. Most entries lack two of three.
+fn add_text(texts: &mut Vec<u8>, text: &[u8])
+    requires { vec_len texts.old + length text.now ≤ vec_capacity texts.old }
+    ensures items { texts.new.items ≡ texts.old.items ++ text.now }
+    ensures len { vec_len texts.new ≡ vec_len texts.old + length text.now }
     ensures capacity { vec_capacity texts.old ≤ vec_capacity texts.new }
 {
-    if second.is_empty() {
+    if text.is_empty() {
         return;
     }
-    texts.extend_from_slice(second).unwrap();
+    texts.extend_from_slice(text).unwrap();
 }
 
 // The bytes of the first value that a call names, none where it names none.

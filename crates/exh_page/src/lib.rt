@@ -4,6 +4,7 @@
 
 pub use key::{KEY_LIMIT, Key};
 pub use laws::{buddies_unite, children_share_all, pages_have_limits, shares_are_records};
+pub use lent_value::LentValue;
 pub use page::{CAP_LIMIT, Page};
 pub use page_head::PageHead;
 pub use record::Record;
@@ -14,6 +15,7 @@ pub use value::{VALUE_LIMIT, Value};
 
 mod key;
 mod laws;
+mod lent_value;
 mod packed_records;
 mod page;
 mod page_head;

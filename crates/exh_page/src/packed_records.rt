@@ -10,7 +10,7 @@ ghost use Rattle.exh_page.specs.Search.{IsCutAt, IsSought, IsSpot, bound_of};
 ghost use Rattle.exh_page.specs.ShareLemmas.{AreWords};
 
 use crate::stored_record::StoredRecord;
-use crate::{Key, Record, Spot, Value};
+use crate::{Key, LentValue, Record, Spot, Value};
 use exh_prefix::{LIMIT, Prefix};
 use std::alloc::{AllocError, Global};
 use std::cmp::Ordering;
@@ -117,14 +117,14 @@ impl PackedRecords {
     }
 
     /// The value of the record of a spot. It takes no memory.
-    pub(crate) fn value(&self, spot: Spot) -> Value
+    pub(crate) fn value(&self, spot: Spot) -> LentValue<'_>
         requires there { spot.index < length self.now }
         requires spot { IsSpot self.now spot }
         ensures { IfSome (slice_get self.now spot.index) (λ r. result ≡ r.value) }
     {
         let stored = self.stored[spot.index];
         let text = self.text_from(spot);
-        Value::of(&text[usize::from(stored.key_len)..stored.text_len()])
+        LentValue::of(&text[usize::from(stored.key_len)..stored.text_len()])
     }
 
     /// Where the record of a key stands among rising records, or where it would.

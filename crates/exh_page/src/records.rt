@@ -6,7 +6,7 @@ ghost use Rattle.exh_page.specs.Page.{begun_by};
 ghost use Rattle.exh_page.specs.Search.{IsSought, IsSpot};
 
 use crate::packed_records::PackedRecords;
-use crate::{Key, Record, Spot, Value};
+use crate::{Key, LentValue, Record, Spot, Value};
 use exh_prefix::Prefix;
 use std::alloc::{AllocError, Global};
 use std::marker::Model;
@@ -87,12 +87,13 @@ impl Records {
     pub fn find(&self, pseudokey: u64, key: &Key) -> Option<Value>
         ensures { result ≡ value_at (pseudokey, key.now) self.now }
     {
-        self.seek(pseudokey, key).1
+        let stood = self.seek(pseudokey, key).1?;
+        Some(stood.to_value())
     }
 
     /// The spot of the record of a key with this pseudokey, and its value. Where no record has both,
     /// `Err` of the spot where it would stand, and `None`. It takes no memory.
-    pub fn seek(&self, pseudokey: u64, key: &Key) -> (Result<Spot, Spot>, Option<Value>)
+    pub fn seek(&self, pseudokey: u64, key: &Key) -> (Result<Spot, Spot>, Option<LentValue<'_>>)
         ensures spot { IsSought (pseudokey, key.now) self.now result.0 }
         ensures value { result.1 ≡ value_at (pseudokey, key.now) self.now }
     {
@@ -111,7 +112,11 @@ impl Records {
         ensures err { OnErr result (self.new ≡ self.old) }
         ensures replaces { IfSome (value_at (place_of item) self.old) (λ old. length item.value ≤ length old → IsOk result) }
     {
-        let (spot, old) = self.seek(item.pseudokey, &item.key);
+        let (spot, stood) = self.seek(item.pseudokey, &item.key);
+        let old = match stood {
+            Some(stood) => Some(stood.to_value()),
+            None => None,
+        };
         self.put_at(spot, item.pseudokey, &item.key, &item.value)?;
         Ok(old)
     }

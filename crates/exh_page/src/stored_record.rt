@@ -42,10 +42,13 @@ impl StoredRecord {
         requires { self.now.key_len ≤ length text.now }
         ensures { result ≡ place_cmp (self.now.pseudokey, take self.now.key_len text.now) (pseudokey, key.now) }
     {
-        // Keys are compared where pseudokeys tie alone: most searches never meet a tie before the last step.
-        match self.pseudokey.cmp(&pseudokey) {
-            Ordering::Equal => text[..usize::from(self.key_len)].cmp(&key.as_bytes()),
-            unequal => unequal,
+        // A search meets lesser pseudokeys first, and a tie at its last step alone.
+        if self.pseudokey < pseudokey {
+            return Ordering::Less;
         }
+        if self.pseudokey > pseudokey {
+            return Ordering::Greater;
+        }
+        text[..usize::from(self.key_len)].cmp(&key.as_bytes())
     }
 }

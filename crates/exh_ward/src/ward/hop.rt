@@ -7,14 +7,14 @@ ghost use Rattle.exh_ward.specs.WardFault.{IsStoreFault, CountsFailures};
 ghost use Rattle.exh_ward.specs.WardState.{IsSoundWard, IsUnchanged, LeavesAfter, own_prefix};
 
 use self::answer::write;
-use self::home_sight::HomeSight;
 use self::sight::Sight;
 use super::Ward;
 use crate::{Hop, WardFault};
-use exh_calls::Call;
+use exh_calls::{Call, KeyChange, Reply};
 use exh_frames::Pages;
 use exh_keyer::Keyer;
 use exh_legal::{pages_are_few, right_links_lead_on};
+use exh_page::Spot;
 use exh_prefix::PageNo;
 
 mod answer;
@@ -62,47 +62,37 @@ impl<P: Pages + Drop, K: Keyer> Ward<P, K> {
             return Ok(Hop::Stray);
         }
         self.store.fetch(at)?;
-        match Sight::of(self.store.fetched(at), self.cap, pseudokey, call) {
-            Sight::Beyond => Ok(Hop::Stray),
-            Sight::Leads(next) => Ok(Hop::Moved(next)),
+        let home = match Sight::of(self.store.fetched(at), self.cap, pseudokey, call) {
+            Sight::Beyond => return Ok(Hop::Stray),
+            Sight::Leads(next) => return Ok(Hop::Moved(next)),
             Sight::NoWay => unreachable!(),
-            Sight::Overflows => Ok(Hop::MustSplit),
-            Sight::Home(home) => self.answer_at(at, client, call, pseudokey, &home),
-        }
+            Sight::Overflows => return Ok(Hop::MustSplit),
+            Sight::Home(home) => home,
+        };
+        let spot = home.spot;
+        let change = call.change(home.full, &home.stood);
+        let reply = call.reply(home.full, &home.stood);
+        self.answer_at(at, client, call, pseudokey, spot, change, &reply)?;
+        Ok(Hop::Done(reply))
     }
 
-    // Answers a call at its home page, which has `home` for it.
+    // Answers a call at its home page, which has `home` for it: makes the change, and the entry of the
+    // journal.
     fn answer_at(
         &mut self,
         at: PageNo,
         client: u32,
         call: &Call,
         pseudokey: u64,
-        home: &HomeSight,
-    ) -> Result<Hop, WardFault>
-        requires hashed { pseudokey ≡ K.pseudokey_of self.old.keyer (key_of call.now) }
-        requires home { SightIn self.old.cap pseudokey self.old.pages at call.now (Sight.Home home.now) }
-        ensures hop { IfOk result (HopOf self.old.cap (K.pseudokey_of self.old.keyer) self.old.pages at call.now) }
-        ensures leaves { IfOk result (λ hop. LeavesAfter K.pseudokey_of self.old at client call.now hop self.new) }
-        ensures err { OnErr result (IsUnchanged self.old self.new) }
-        ensures fault { IfErr result IsStoreFault }
-        ensures failures { CountsFailures result self.old.failures self.new.failures }
-        ensures sound { IsSoundWard K.pseudokey_of self.new }
-    {
+        spot: Result<Spot, Spot>,
+        change: KeyChange<'_>,
+        reply: &Reply,
+    ) -> Result<(), WardFault> {
         pages_are_few();
         // Room for the entry first: nothing may fail once the page has changed.
         self.journal.reserve()?;
-        let change = call.change(home.full, &home.stood);
-        write(
-            &mut self.store,
-            at,
-            home.spot,
-            pseudokey,
-            call.key(),
-            change,
-        )?;
-        let reply = call.reply(home.full, &home.stood);
-        self.journal.push_reserved(client, call, &reply);
-        Ok(Hop::Done(reply))
+        write(&mut self.store, at, spot, pseudokey, call.key(), change)?;
+        self.journal.push_reserved(client, call, reply);
+        Ok(())
     }
 }

@@ -4,11 +4,12 @@ ghost use Rattle.exh_ward.specs.Sight.{SightOf};
 
 use super::home_sight::HomeSight;
 use exh_calls::Call;
-use exh_page::{Page, Value};
+use exh_page::{LentValue, Page};
 use exh_prefix::{LIMIT, PageNo};
 
 /// What a call meets at a page.
-pub(crate) enum Sight {
+#[derive(Drop)]
+pub(crate) enum Sight<'a> {
     /// The page is for greater pseudokeys, or isn't there.
     Beyond,
     /// Another page is nearer to the key's home.
@@ -18,12 +19,12 @@ pub(crate) enum Sight {
     /// The page is the key's home, and has to be split before it takes the key.
     Overflows,
     /// The page is the key's home, and answers.
-    Home(HomeSight),
+    Home(HomeSight<'a>),
 }
 
-impl Sight {
+impl<'a> Sight<'a> {
     /// What a call of a key with this pseudokey meets at the page. The key is searched once.
-    pub(crate) fn of(page: &Page, cap: usize, pseudokey: u64, call: &Call) -> Sight
+    pub(crate) fn of(page: &'a Page, cap: usize, pseudokey: u64, call: &Call) -> Sight<'a>
         ensures { SightOf cap pseudokey page.now call.now result }
     {
         if pseudokey < page.low() {
@@ -54,7 +55,7 @@ impl Sight {
 }
 
 // Whether the call has to wait until its home page is split. `stood`: the value that its key has.
-fn overflows(page: &Page, cap: usize, call: &Call, stood: &Option<Value>) -> bool
+fn overflows(page: &Page, cap: usize, call: &Call, stood: &Option<LentValue<'_>>) -> bool
     ensures { IsTrue result ↔ OverflowsWith cap page.now call.now stood.now }
 {
     match page {
