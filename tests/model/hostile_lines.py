@@ -15,7 +15,7 @@ from .stories import Run, Story
 from .version import CAP_LIMIT, COPY_LIMIT, INDEX_LIMIT, KEY_LIMIT, NUMBER_LIMIT, VALUE_LIMIT, WARD_BITS_LIMIT
 
 # The lines, with the names of their fields, and what stands in these in a right line.
-CALLS = ("get <key>", "del <key>", "put <key> <value>")
+CALLS = ("get <key>", "del <key>", "put <key> <value>", "swap <key> <old> <new>")
 FIELDS = {
     "hop": "hop r<name>",
     "split": "split <ward> <page>",
@@ -33,6 +33,7 @@ FIRST = "file cap=<cap> wards=<bits> copies=<copies> keyer=<keyer>"
 FIRSTS = (FIRST, f"{FIRST} moves=<moves>")
 PAIR = "<key> <value>"
 RIGHT = {"cap": "2", "bits": "1", "copies": "2", "keyer": "plain", "moves": "yes", "key": "k", "value": "v"}
+RIGHT |= {"old": "v", "new": "w"}
 RIGHT |= {"name": "1", "client": "1", "copy": "1", "table": "1", "index": "1", "ward": "0", "page": "0"}
 # The words of fields that are no numbers, at their limits and beyond.
 KEYERS = ("", "sha", "Sha", "plain ", "plain2", "1")
@@ -73,7 +74,7 @@ def words_of_bytes(least, greatest):
 
 def words_of_field(field):
     """What stands in a field, besides what a right line has there."""
-    lengths = {"key": (1, KEY_LIMIT), "value": (0, VALUE_LIMIT)}
+    lengths = {"key": (1, KEY_LIMIT), **dict.fromkeys(("value", "old", "new"), (0, VALUE_LIMIT))}
     if field in lengths:
         return words_of_bytes(*lengths[field])
     return {"keyer": KEYERS, "moves": MOVES}.get(field) or words_of_number(field)
