@@ -1,14 +1,14 @@
 /* Refuses a call of the system, kills the program there or lets it wait: tests/run, tests/failing_calls and
  * tests/meeting_saves preload it.
  *
- * The call that REFUSED_CALL names, `open`, `read`, `write`, `fsync`, `rename`, `ftruncate`, `fchmod`, `fchown`,
- * `flock`, `unlink`, `statx` or `realpath`, or each of these by `any`, fails with the error number REFUSED_ERROR, or
- * where that is 0 the program is killed in its place: the call number REFUSED_NTH, counted from 1 over all threads, or
- * each where there is no such number. Where there is REFUSED_WAITS, it doesn't fail, and is made only once that
- * descriptor is at its end. Where there is REFUSED_ABOUT, only calls about a file with this in its path count. Each of
- * these calls, of whatever name, is told to the descriptor REFUSED_TELLS, if there is one, in a line: its name; how the
- * file is opened, 0 to read, 1 to write, 2 for both; and its path, or `&N` of the descriptors 0 to 2. One that is
- * refused or waits is told again, by the name `refused`. */
+ * The call that REFUSED_CALL names, `open`, `read`, `pread`, `write`, `fsync`, `rename`, `ftruncate`, `fchmod`,
+ * `fchown`, `flock`, `unlink`, `statx` or `realpath`, or each of these by `any`, fails with the error number
+ * REFUSED_ERROR, or where that is 0 the program is killed in its place: the call number REFUSED_NTH, counted from 1
+ * over all threads, or each where there is no such number. Where there is REFUSED_WAITS, it doesn't fail, and is made
+ * only once that descriptor is at its end. Where there is REFUSED_ABOUT, only calls about a file with this in its path
+ * count. Each of these calls, of whatever name, is told to the descriptor REFUSED_TELLS, if there is one, in a line:
+ * its name; how the file is opened, 0 to read, 1 to write, 2 for both; and its path, or `&N` of the descriptors 0 to 2.
+ * One that is refused or waits is told again, by the name `refused`. */
 #define _GNU_SOURCE
 #include <dlfcn.h>
 #include <errno.h>
@@ -87,6 +87,12 @@ int open(const char *path, int flags, ...) {
 
 ssize_t read(int descriptor, void *bytes, size_t size) {
     return is_refused_of("read", descriptor) ? -1 : REAL("read", ssize_t, int, void *, size_t)(descriptor, bytes, size);
+}
+
+ssize_t pread(int descriptor, void *bytes, size_t size, off_t at) {
+    return is_refused_of("pread", descriptor)
+               ? -1
+               : REAL("pread", ssize_t, int, void *, size_t, off_t)(descriptor, bytes, size, at);
 }
 
 ssize_t write(int descriptor, const void *bytes, size_t size) {
