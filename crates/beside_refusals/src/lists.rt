@@ -9,9 +9,10 @@ use crate::row::Row::{
 use exh_fixtures::Said::{self, Absent, Changed, Differs, Full, Is, New, Swapped, Unswapped, Was};
 use exh_ward::WardFault;
 
-/// A list of events, and at least how many calls of pages they make.
+/// A list of events, what it is called, and at least how many calls of pages they make.
 #[derive(Clone, Copy)]
 pub(crate) struct List {
+    pub(crate) name: &'static str,
     pub(crate) rows: &'static [Row],
     pub(crate) least: u64,
 }
@@ -20,18 +21,22 @@ pub(crate) struct List {
 /// refused changes.
 pub(crate) const LISTS: [List; 4] = [
     List {
+        name: "revived page",
         rows: &REVIVED,
         least: 6 + 12 + 4 + 3 + 2,
     },
     List {
+        name: "late table",
         rows: &LATE_TABLE,
         least: 7 + 14 + 2 + 3,
     },
     List {
+        name: "all splits",
         rows: &ALL_SPLITS,
         least: 4 + 8 + 40 + 2,
     },
     List {
+        name: "swaps",
         rows: &SWAPS,
         least: 9 + 18 + 2,
     },

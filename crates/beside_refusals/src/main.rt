@@ -16,7 +16,7 @@ mod three_pairs;
 mod turns;
 mod writers;
 
-use exh_runs::{Difference, Named, Run, RunKind, run_program};
+use exh_runs::{Difference, Job, Named, Run, Status, Tally, has_told_difference};
 use std::process::ExitCode;
 
 #[derive(Clone, Copy)]
@@ -45,9 +45,10 @@ const KINDS: [Kind; 6] = [
 ];
 
 impl Kind {
-    fn take_once(self, run: &mut Run) -> Result<(), Difference> {
+    // Takes the steps of a run.
+    fn take_steps<R: Eprint>(self, rt: &R, run: &mut Run) -> Result<(), Difference> {
         match self {
-            Kind::Turns => turns::run(run),
+            Kind::Turns => turns::run(rt, run),
             Kind::PageTurns => page_turns::run(run),
             Kind::ImageTurns => page_turns::run_over_images(run),
             Kind::Writers => writers::run(run),
@@ -70,19 +71,26 @@ impl Named for Kind {
     }
 }
 
-impl RunKind for Kind {
-    fn take_steps(self, run: &mut Run) -> Result<(), Difference> {
-        let start = *run;
-        match self.take_once(run) {
-            Err(Difference::Memory(_)) => {
-                *run = start;
-                self.take_once(run)
-            }
-            outcome => outcome,
-        }
+// Makes a run, once more where a growth was refused outside of what it is about.
+fn run_counted<R: Eprint + AllocGlobal>(rt: &R, kind: Kind, job: &Job<'_, Kind>) -> Tally {
+    let mut run = job.new_run(rt.alloc());
+    let mut outcome = kind.take_steps(rt, &mut run);
+    if let Err(Difference::Memory(_)) = outcome {
+        run = job.new_run(rt.alloc());
+        outcome = kind.take_steps(rt, &mut run);
     }
+    run.tally.check(outcome);
+    run.tally
 }
 
 fn main(rt: HostRuntime) -> ExitCode {
-    run_program(&rt, "beside_refusals", &KINDS)
+    let Some(job) = Job::asked(&rt, "beside_refusals", &KINDS) else {
+        return Status::WrongWords.code();
+    };
+    let mut has_differed = false;
+    for kind in job.kinds {
+        let tally = run_counted(&rt, *kind, &job);
+        has_differed |= has_told_difference(&rt, kind.name(), &tally);
+    }
+    Status::of_runs(has_differed).code()
 }
