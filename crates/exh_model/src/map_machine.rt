@@ -7,7 +7,7 @@ ghost use Rattle.exh_prefix.specs.Leading.{leading};
 use crate::PairMap;
 use exh_calls::{Call, KeyChange, Reply};
 use exh_keyer::Keyer;
-use exh_page::Key;
+use exh_page::{Key, LentValue, Value};
 use exh_prefix::LIMIT;
 use std::alloc::{AllocError, Global};
 use std::marker::Model;
@@ -63,7 +63,8 @@ impl<K: Keyer> MapMachine<K> {
         ensures err { OnErr result (self.new ≡ self.old) }
     {
         let key = call.key();
-        let stood = self.map.get(key);
+        let value = self.map.get(key);
+        let stood = lent(&value);
         let full = stood.is_none() && call.sets_new() && self.is_full(key);
         match call.change(full, &stood) {
             KeyChange::Keep => {}
@@ -101,5 +102,15 @@ impl<K: Keyer> MapMachine<K> {
         ensures { result ≡ leading LIMIT (K.pseudokey_of self.now.keyer key.now) }
     {
         exh_prefix::leading(LIMIT, self.keyer.pseudo(key.as_bytes()))
+    }
+}
+
+// A value, to be read where it stands.
+fn lent(value: &Option<Value>) -> Option<LentValue<'_>>
+    ensures { result ≡ value.now }
+{
+    match value {
+        Some(value) => Some(value.lend()),
+        None => None,
     }
 }

@@ -1,10 +1,12 @@
-ghost use Rattle.std.specs.Prelude.{◌≡◌, IfOk, IfErr, OnErr};
+ghost use Rattle.std.specs.Prelude.{◌≡◌, IfOk, IfErr, OnOk, OnErr};
 ghost use Rattle.exh_prefix.specs.Prefix.{Begins};
 ghost use Rattle.exh_calls.specs.Call.{key_of};
+ghost use Rattle.exh_calls.specs.Effect.{change_of};
 ghost use Rattle.exh_ward.specs.HopTable.{HopOf};
-ghost use Rattle.exh_ward.specs.Sight.{SightIn};
+ghost use Rattle.exh_ward.specs.Sight.{IsAnswerOf};
 ghost use Rattle.exh_ward.specs.WardFault.{IsStoreFault, CountsFailures};
-ghost use Rattle.exh_ward.specs.WardState.{IsSoundWard, IsUnchanged, LeavesAfter, own_prefix};
+ghost use Rattle.exh_ward.specs.WardState.{IsAnswered, IsSoundWard, IsUnchanged, LeavesAfter, own_prefix};
+ghost use Rattle.exh_ward.specs.declared.hop.Hop.TheVariants.{Done};
 
 use self::answer::write;
 use self::sight::Sight;
@@ -76,8 +78,7 @@ impl<P: Pages + Drop, K: Keyer> Ward<P, K> {
         Ok(Hop::Done(reply))
     }
 
-    // Answers a call at its home page, which has `home` for it: makes the change, and the entry of the
-    // journal.
+    // Answers a call at its home page: makes the change where the search came to, and the journal's entry.
     fn answer_at(
         &mut self,
         at: PageNo,
@@ -87,7 +88,16 @@ impl<P: Pages + Drop, K: Keyer> Ward<P, K> {
         spot: Result<Spot, Spot>,
         change: KeyChange<'_>,
         reply: &Reply,
-    ) -> Result<(), WardFault> {
+    ) -> Result<(), WardFault>
+        requires hashed { pseudokey ≡ K.pseudokey_of self.old.keyer (key_of call.now) }
+        requires answer { IsAnswerOf self.old.cap pseudokey self.old.pages at call.now spot (change_of change) reply.now }
+        ensures hop { OnOk result (HopOf self.old.cap (K.pseudokey_of self.old.keyer) self.old.pages at call.now (Done reply.now)) }
+        ensures leaves { OnOk result (IsAnswered K.pseudokey_of self.old at client call.now reply.now self.new) }
+        ensures err { OnErr result (IsUnchanged self.old self.new) }
+        ensures fault { IfErr result IsStoreFault }
+        ensures failures { CountsFailures result self.old.failures self.new.failures }
+        ensures sound { IsSoundWard K.pseudokey_of self.new }
+    {
         pages_are_few();
         // Room for the entry first: nothing may fail once the page has changed.
         self.journal.reserve()?;

@@ -1,8 +1,9 @@
-use Rattle.std.proofs.Common.{ℕ, List, IfOk, refl, subst}
+use Rattle.std.proofs.Common.{ℕ, List, refl, subst}
 use Rattle.exh_page.specs.declared.page.Page.{Page}
 use Rattle.exh_ward.specs.HopTable.{HopOf}
 use Rattle.exh_ward.specs.Sight.{SightIn}
-use Rattle.exh_ward.specs.WardState.{WardState, IsSoundWard}
+use Rattle.exh_ward.specs.WardState.{WardState, IsAnswered, IsSoundWard}
+use Rattle.exh_ward.specs.declared.hop.Hop.TheVariants.{Done}
 use Rattle.exh_ward.specs.declared.ward.hop.sight.Sight.TheVariants.{Overflows}
 use Rattle.exh_ward.proofs.SightsAreHops.{hop_waits, sight_in}
 use Rattle.exh_ward.proofs.StepsKeepSound.{at_read, kept_read}
@@ -25,8 +26,8 @@ invariant_of-self-in-Leads g c = kept_read c.self.invariant _ c.fetch.ensures.ta
 pub invariant_of-self-in-Overflows : goal.invariant_of-self-in-Overflows
 invariant_of-self-in-Overflows g c = kept_read c.self.invariant _ c.fetch.ensures.takes _ _ _ c.fetch.ensures.pages refl
 
-pub invariant_of-self-in-Home : goal.invariant_of-self-in-Home
-invariant_of-self-in-Home g c = kept_read c.self.invariant _ c.fetch.ensures.takes _ _ _ c.fetch.ensures.pages refl
+pub invariant_of-self-2 : goal.invariant_of-self-2
+invariant_of-self-2 g c = kept_read c.self.invariant _ c.fetch.ensures.takes _ _ _ c.fetch.ensures.pages refl
 
 pub returns-in-Overflows-clause-hop : goal.returns-in-Overflows-clause-hop
 returns-in-Overflows-clause-hop g c =
@@ -40,9 +41,31 @@ returns-in-Overflows-clause-hop g c =
     let S : ℕ → Type 0 = λ k. SightIn c.args.self.now.cap k c.args.self.now.pages c.args.at c.args.call.now Overflows in
     hop_waits sound.legal.legal.legal c.args.at c.args.call.now (subst S c.requires.hashed sight)
 
-pub returns-in-Home-clause-hop : goal.returns-in-Home-clause-hop
-returns-in-Home-clause-hop g c =
+pub returns-clause-hop : goal.returns-clause-hop
+returns-clause-hop g c =
     let pseudokey_of = g.K.Keyer.pseudokey_of in
-    let R : List Page → Type 0 = λ pages. IfOk c.answer_at.result (HopOf c.self.inside.cap (pseudokey_of c.self.inside.keyer) pages c.args.at c.args.call.now) in
-    let P : WardState g.row.K.Denot → Type 0 = λ w. IfOk c.answer_at.result (HopOf w.cap (pseudokey_of w.keyer) w.pages c.args.at c.args.call.now) in
-    subst P c.self.view_is (subst R c.fetch.ensures.pages c.answer_at.ensures.hop)
+    let R : List Page → Type 0 = λ pages. HopOf c.self.inside.cap (pseudokey_of c.self.inside.keyer) pages c.args.at c.args.call.now (Done c.reply-reply.result) in
+    let P : WardState g.row.K.Denot → Type 0 = λ w. HopOf w.cap (pseudokey_of w.keyer) w.pages c.args.at c.args.call.now (Done c.reply-reply.result) in
+    subst P c.self.view_is (subst R c.fetch.ensures.pages c.in_ok-answer_at.ensures.hop)
+
+pub returns-clause-leaves : goal.returns-clause-leaves
+returns-clause-leaves g c =
+    let pseudokey_of = g.K.Keyer.pseudokey_of in
+    let inside = c.self.inside in
+    let seen : List Page → ℕ → WardState g.row.K.Denot = λ pages failures. record {
+      pages = pages;
+      base = inside.base;
+      journal = inside.journal.entries;
+      start = inside.start;
+      notices = inside.notices.items;
+      table = inside.table;
+      failures = failures;
+      cap = inside.cap;
+      ward_bits = inside.ward_bits;
+      number = inside.number;
+      keyer = inside.keyer;
+    } in
+    let IsLeft : WardState g.row.K.Denot → Type 0 = λ w. IsAnswered pseudokey_of w c.args.at c.args.client c.args.call.now c.reply-reply.result c.answer_at.new.self in
+    let R : List Page → Type 0 = λ pages. IsLeft (seen pages (g.P.Pages.failures c.fetch.new.self)) in
+    let Q : ℕ → Type 0 = λ failures. IsLeft (seen (g.P.Pages.pages inside.store) failures) in
+    subst IsLeft c.self.view_is (subst Q c.in_ok-fetch.ensures.failures (subst R c.fetch.ensures.pages c.in_ok-answer_at.ensures.leaves))
