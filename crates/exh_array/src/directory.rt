@@ -89,7 +89,7 @@ impl Directory {
     {
         match self.pointers.page(pseudokey) {
             Some(page) => page,
-            None => self.table.walk(self.pointers.ward_bits(), pseudokey),
+            None => leaf_of(&self.table, self.pointers.ward_bits(), pseudokey).page,
         }
     }
 
