@@ -1,7 +1,7 @@
-ghost use Rattle.std.specs.Prelude.{◌≡◌, ◌≤◌, length, None, IfOk, OnOk, OnErr};
+ghost use Rattle.std.specs.Prelude.{◌≡◌, ◌≤◌, length, Some, None, IsTrue, IfOk, OnOk, OnErr};
 ghost use Rattle.std.specs.FinMap as map;
 ghost use Rattle.exh_prefix.specs.declared.prefix.TheConstants.{LIMIT};
-ghost use Rattle.exh_table.specs.Table.{raised, table_with};
+ghost use Rattle.exh_table.specs.Table.{greater_of, raised, table_with};
 ghost use Rattle.exh_table.specs.TableOrder.{table_join};
 ghost use Rattle.exh_table.specs.Walk.{walk_of};
 ghost use Rattle.exh_table.specs.Leaves.{leaves_of};
@@ -89,7 +89,7 @@ impl Directory {
     {
         match self.pointers.page(pseudokey) {
             Some(page) => page,
-            None => self.table.walk(self.pointers.ward_bits(), pseudokey),
+            None => leaf_of(&self.table, self.pointers.ward_bits(), pseudokey).page,
         }
     }
 
@@ -167,7 +167,19 @@ impl Directory {
         ensures absent { OnErr result (map.get self.old.table prefix ≡ None) }
     {
         let stood = self.table.put_greater(prefix, entry)?;
-        self.pointers.update(&self.table, prefix);
+        if counts_over(stood, entry) {
+            self.pointers.update(&self.table, prefix);
+        }
         Ok(stood)
+    }
+}
+
+// Whether an entry counts where another, or none, stood: one that was told late or twice changes nothing.
+fn counts_over(stood: Option<Entry>, entry: Entry) -> bool
+    ensures { (IsTrue result → ⊥) → stood ≡ Some (greater_of stood entry) }
+{
+    match stood {
+        Some(old) => old < entry,
+        None => true,
     }
 }

@@ -6,7 +6,8 @@ use exh_prefix::LIMIT;
 use exh_table::{Leaf, Table};
 
 /// Where a table's walk for a pseudokey stops, in a file of so many ward bits, at most `LIMIT`. It takes
-/// no memory.
+/// no memory. It is kept apart from looks at pointers, which are short.
+#[inline(never)]
 pub(crate) fn leaf_of(table: &Table, ward_bits: u8, pseudokey: u64) -> Leaf
     requires { ward_bits ≤ LIMIT }
     ensures { result ≡ walk_of table.now ward_bits pseudokey }
