@@ -2,6 +2,7 @@ pub mod Call
 pub mod Effect
 pub mod MapMachine
 pub mod History
+pub mod Undone
 pub mod Journal
 pub mod PackedPairs
 pub mod Laws

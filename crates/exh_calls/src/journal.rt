@@ -79,6 +79,14 @@ impl Journal {
         add_text(&mut self.texts, told);
     }
 
+    /// Lets all entries go, and keeps their room. It takes no memory.
+    pub fn clear(&mut self)
+        ensures { self.new.entries ≡ [] }
+    {
+        self.texts.clear();
+        self.stored.clear();
+    }
+
     /// How many entries there are.
     pub fn len(&self) -> usize
         ensures { result ≡ length self.now.entries }

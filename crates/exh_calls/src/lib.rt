@@ -6,7 +6,9 @@ pub use call::Call;
 pub use journal::{Entries, Journal};
 pub use journal_entry::JournalEntry;
 pub use key_change::KeyChange;
-pub use laws::{histories_go_on, history_is_determined, sharers_begin, swaps_compare};
+pub use laws::{
+    histories_are_undone, histories_go_on, history_is_determined, sharers_begin, swaps_compare,
+};
 pub use packed_pairs::{PackedPairs, Pairs};
 pub use reply::Reply;
 
