@@ -37,7 +37,7 @@ returns-in-Overflows-clause-hop g c =
     let P : WardState g.row.K.Denot → Type 0 = λ w. IsSoundWard pseudokey_of w in
     let sound = subst P c.self.view_is c.self.invariant.sound in
     let seen : SightIn c.self.inside.cap c.args.pseudokey (g.P.Pages.pages c.self.inside.store) c.args.at c.args.call.now c.of.result =
-    sight_in c.self.inside.cap c.args.pseudokey (g.P.Pages.pages c.self.inside.store) c.args.at c.args.call.now c.of.result c.fetched.result.now (at_read _ _ _ _ c.fetch.ensures.pages c.fetched.ensures) c.of.ensures in
+    sight_in c.self.inside.cap c.args.pseudokey (g.P.Pages.pages c.self.inside.store) c.args.at c.args.call.now c.of.result c.fetched-page.result.now (at_read _ _ _ _ c.fetch.ensures.pages c.fetched-page.ensures) c.of.ensures in
     let Q : WardState g.row.K.Denot → Type 0 = λ w. SightIn w.cap c.args.pseudokey w.pages c.args.at c.args.call.now c.of.result in
     let sight = subst (SightIn c.args.self.now.cap c.args.pseudokey c.args.self.now.pages c.args.at c.args.call.now) c.in-Overflows.is (subst Q c.self.view_is seen) in
     let S : ℕ → Type 0 = λ k. SightIn c.args.self.now.cap k c.args.self.now.pages c.args.at c.args.call.now Overflows in
