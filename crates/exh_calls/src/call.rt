@@ -40,12 +40,17 @@ impl Call {
         let Some(value) = stood else {
             return self.reply_to_none(full);
         };
-        match self {
-            Call::Get { .. } => Reply::Is(value.to_value()),
-            Call::Put { .. } | Call::Del { .. } => Reply::Was(value.to_value()),
-            Call::Swap { old, .. } if value.equals(old) => Reply::Swapped,
-            Call::Swap { .. } => Reply::Differs(value.to_value()),
+        // Each branch returns its reply: where they meet, it would be moved once more.
+        if let Call::Swap { old, .. } = self {
+            if value.equals(old) {
+                return Reply::Swapped;
+            }
+            return Reply::Differs(value.to_value());
         }
+        if let Call::Get { .. } = self {
+            return Reply::Is(value.to_value());
+        }
+        Reply::Was(value.to_value())
     }
 
     /// What becomes of the key, by the same. It takes no memory.

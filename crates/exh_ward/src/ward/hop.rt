@@ -9,6 +9,7 @@ ghost use Rattle.exh_ward.specs.WardState.{IsAnswered, IsSoundWard, IsUnchanged,
 ghost use Rattle.exh_ward.specs.declared.hop.Hop.TheVariants.{Done};
 
 use self::answer::write;
+use self::home_sight::HomeSight;
 use self::sight::Sight;
 use super::Ward;
 use crate::{Hop, WardFault};
@@ -64,16 +65,16 @@ impl<P: Pages + Drop, K: Keyer> Ward<P, K> {
             return Ok(Hop::Stray);
         }
         self.store.fetch(at)?;
-        let home = match Sight::of(self.store.fetched(at), self.cap, pseudokey, call) {
+        let page = self.store.fetched(at);
+        let HomeSight { full, spot, stood } = match Sight::of(page, self.cap, pseudokey, call) {
             Sight::Beyond => return Ok(Hop::Stray),
             Sight::Leads(next) => return Ok(Hop::Moved(next)),
             Sight::NoWay => unreachable!(),
             Sight::Overflows => return Ok(Hop::MustSplit),
             Sight::Home(home) => home,
         };
-        let spot = home.spot;
-        let change = call.change(home.full, &home.stood);
-        let reply = call.reply(home.full, &home.stood);
+        let change = call.change(full, &stood);
+        let reply = call.reply(full, &stood);
         self.answer_at(at, client, call, pseudokey, spot, change, &reply)?;
         Ok(Hop::Done(reply))
     }
