@@ -73,10 +73,10 @@ fn take_call(
 // The journal has these entries and no others, and begins with no key.
 fn has_entries(ward: &PlainWard, lines: &[Line]) -> Result<(), Difference> {
     has_just(ward.journal(), lines)?;
-    let is_none = ward
-        .base()
-        .is_some_and(|base| base.pairs().next().is_none());
-    same(is_none, Part::Journal)
+    let Some(base) = ward.base() else {
+        return same(false, Part::Journal);
+    };
+    same(base.pairs().next().is_none(), Part::Journal)
 }
 
 // A history that begins anew has no entry, and the base isn't kept; the value that a key was given stands, and the call
