@@ -1,12 +1,13 @@
 -- What the copies of a directory keep, as one of them is written and a table is sent.
-use Rattle.std.proofs.Common.{◌≡◌, ℕ, ◌<◌, List, [], ◌∷◌, ◌++◌, length, map, slice_get, Option, Some, None, ◌⊎◌, inl, inr, refl, sym, ap, ◌∙◌, subst, arith}
+use Rattle.std.proofs.Common.{◌≡◌, ℕ, ◌<◌, get_or, Result, Ok, Err, OnOk, OnErr, List, [], ◌∷◌, ◌++◌, length, map, slice_get, Option, Some, None, ◌⊎◌, inl, inr, refl, sym, ap, ◌∙◌, subst, arith}
 use Rattle.std.specs.Prelude.{option_map, slice_set}
 use Rattle.std.proofs.lemmas.List.{length-map, map-set}
-use Rattle.std.proofs.lemmas.Option.{slice_get-map}
+use Rattle.std.proofs.lemmas.Option.{slice_get-map, slice_get_read}
 use Rattle.exh_prefix.specs.ListLemmas.{one_there, push_is, set_is, set_same, within_there}
 use Rattle.exh_table.specs.Table.{TableMap}
 use Rattle.exh_table.specs.TableOrder.{IsTableUpTo}
 use Rattle.exh_array.specs.Pointers.{DirectoryState, HasArrayOf}
+use Rattle.exh_sent.specs.Copies.{CopiesState}
 use Rattle.exh_sent.specs.Held.{IsHeld}
 use Rattle.exh_sent.specs.Kept.{AreKept, tables_of}
 use Rattle.exh_sent.specs.declared.held_copy.HeldCopy.{HeldCopy}
@@ -83,3 +84,33 @@ module _ (start : DirectoryState) (copies : List HeldCopy) (sent : List TableMap
       | inr last ↦ subst (IsTableUpTo start.table) (sym (last ∙ own)) (kept.held at old there).begun
     ];
   }
+
+-- ---- as a call of a copy leaves them
+
+-- a copy that is lent
+pub lent_there : (copies : List HeldCopy) (shown : List TableMap) (at : ℕ) (copy : HeldCopy) → tables_of copies ≡ shown → at < length shown → copy ≡ get_or copies at copy → slice_get copies at ≡ Some copy
+lent_there copies shown at copy shows within lent =
+    slice_get_read copies (length copies) at copy refl (omega (arith, within, ap length shows, tables-length copies)) lent
+
+module _ (state now : CopiesState) (view_is : state ≡ now) (copies : List HeldCopy) (shows : state.copies ≡ tables_of copies) (at : ℕ) (new : HeldCopy) where
+  -- one has another table
+  pub written : (table : CopiesState → TableMap) → new.directory.table ≡ table state → record state { copies = tables_of (slice_set copies at new) } ≡ record now { copies = slice_set now.copies at (table now) }
+  written table is =
+      subst (λ (n : CopiesState). record state { copies = tables_of (slice_set copies at new) } ≡ record n { copies = slice_set n.copies at (table n) }) view_is
+      (ap (λ (tables : List TableMap). record state { copies = tables }) (tables_set copies at new ∙ ap (slice_set (tables_of copies) at) is ∙ ap (λ tables. slice_set tables at (table state)) (sym shows)))
+
+  -- one sent its table
+  pub sent_one : (old : HeldCopy) (sent : List TableMap) (own : TableMap) → slice_get copies at ≡ Some old → new.directory ≡ old.directory → sent ≡ state.sent ++ own ∷ []
+      → record state { copies = tables_of (slice_set copies at new); sent = sent } ≡ record now { sent = now.sent ++ own ∷ [] }
+  sent_one old sent own there same is =
+      let tables : tables_of (slice_set copies at new) ≡ state.copies = tables_same copies at old new there same ∙ sym shows in
+      subst (λ (n : CopiesState). record state { copies = tables_of (slice_set copies at new); sent = sent } ≡ record n { sent = n.sent ++ own ∷ [] }) view_is (λ i. record state { copies = tables i; sent = is i })
+
+-- what was sent, or not
+pub kept_either : {A E : Type 0} (start : DirectoryState) (copies : List HeldCopy) (sent more : List TableMap) (at : ℕ) (old new : HeldCopy) (result : Result A E) → AreKept start copies sent → slice_get copies at ≡ Some old
+    → new.directory ≡ old.directory → IsHeld start.table more new → OnOk result (more ≡ sent ++ old.directory.table ∷ []) → OnErr result (new ≡ old) → OnErr result (more ≡ sent) → AreKept start (slice_set copies at new) more
+kept_either start copies sent more at old new (Ok x) kept there same held is copy_is sent_is =
+    subst (AreKept start (slice_set copies at new)) (sym is) (kept_sent start copies sent kept at old new there old.directory.table refl same (subst (λ tables. IsHeld start.table tables new) is held))
+kept_either start copies sent more at old new (Err e) kept there same held is copy_is sent_is =
+    let unchanged : slice_set copies at new ≡ copies = ap (slice_set copies at) copy_is ∙ set_same copies at old there in
+    subst (AreKept start (slice_set copies at new)) (sym sent_is) (subst (λ cs. AreKept start cs sent) (sym unchanged) kept)

@@ -6,6 +6,6 @@ use Rattle.exh_sent.proofs.copies.Copies.new.Given as goal
 -- so many copies so far, each at the start
 abbrev pub invariant-loop : goal.invariant-loop
 invariant-loop l = record {
-  fresh : AreFresh l.start l.copies.items;
-  tables : tables_of l.copies.items ≡ replicate l.counter l.start.table;
+  fresh : AreFresh l.fn.start l.copies.items;
+  tables : tables_of l.copies.items ≡ replicate l.counter l.fn.start.table;
 }
