@@ -25,5 +25,5 @@ invariant_of-result g c =
 pub returns-clause-sound : goal.returns-clause-sound
 returns-clause-sound g c = (invariant_of-result g c).0.sound
 
-pub new-copies-requires : goal.new-copies-requires
-new-copies-requires g c = subst (λ n. HasArrayOf n c.in_ok-start.start) (sym c.in_ok-start.ensures.array.bits) c.in_ok-start.ensures.array
+pub new-requires : goal.new-requires
+new-requires g c = subst (λ n. HasArrayOf n c.in_ok-start.start) (sym c.in_ok-start.ensures.array.bits) c.in_ok-start.ensures.array
