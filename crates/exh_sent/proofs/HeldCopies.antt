@@ -118,10 +118,11 @@ told_same start table sent place copy own news is told held there =
     subst (λ t. table_join t news ≡ table_join t table) is (told (subst (IsTableUpTo start) (sym is) held.begun) (subst (AreKnown sent copy.known) (sym is) held.known) there)
 
 -- the sent tables, once a copy's was pushed
-pub pushed : (start : TableMap) (old new : List SentTable) (copy : HeldCopy) → IsHeld start (unpacked start old) copy → new ≡ old ++ record { since = copy.since; entries = copy.news } ∷ []
+pub pushed : (start : TableMap) (old new : List SentTable) (copy : HeldCopy) (own : TableMap) → own ≡ copy.directory.table → IsHeld start (unpacked start old) copy
+    → (IsTableUpTo start own → own ≡ table_join (base_in start (unpacked start old) copy.since) copy.news → unpacked start new ≡ unpacked start old ++ own ∷ [])
     → unpacked start new ≡ unpacked start old ++ copy.directory.table ∷ []
-pushed start old new copy held is =
-    ap (unpacked start) is ∙ unpacked_on-push start [] old (record { since = copy.since; entries = copy.news }) ∙ ap (λ t. unpacked start old ++ t ∷ []) (sym held.table)
+pushed start old new copy own is held made =
+    made (subst (IsTableUpTo start) (sym is) held.begun) (is ∙ held.table) ∙ ap (λ t. unpacked start old ++ t ∷ []) is
 
 pub last_is : (sent : List TableMap) (table : TableMap) (place : ℕ) → place ≡ length sent → slice_get (sent ++ table ∷ []) place ≡ Some table
 last_is sent table place is = subst (λ n. slice_get (sent ++ table ∷ []) n ≡ Some table) (sym is) (pushed_last sent table)

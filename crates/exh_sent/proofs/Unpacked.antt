@@ -139,3 +139,20 @@ lower at (Some since) next is before = subst (λ n. suc since < height n) (sym i
 pub next_there : (next : Option ℕ) → ((at : ℕ) → next ≡ Some at → ⊥) → next ≡ None
 next_there None none = refl
 next_there (Some at) none = absurd (none at refl)
+
+-- one more that goes on from one before it
+back_on : (sent : List SentTable) (last : SentTable) (front : ℕ) → ((at : ℕ) (one : SentTable) → slice_get sent at ≡ Some one → IsBefore (front + at) one.since) → IsBefore (front + length sent) last.since
+    → (at : ℕ) (one : SentTable) → slice_get (sent ++ last ∷ []) at ≡ Some one → IsBefore (front + at) one.since
+back_on [] last front back before zero one is = let same : last ≡ one = cc in subst (λ (s : SentTable). IsBefore (front + 0) s.since) same before
+back_on [] last front back before (suc at) one is = cc
+back_on (first ∷ sent) last front back before zero one is = back zero one is
+back_on (first ∷ sent) last front back before (suc at) one is =
+    let moved : (n : ℕ) → front + suc n ≡ suc front + n = λ n. omega arith in
+    subst (λ n. IsBefore n one.since) (sym (moved at))
+    (back_on sent last (suc front) (λ n other there. subst (λ m. IsBefore m other.since) (moved n) (back (suc n) other there)) (subst (λ n. IsBefore n last.since) (moved (length sent)) before) at one is)
+
+pub back_pushed : (sent : List SentTable) (last : SentTable) → GoBack sent → IsBefore (length sent) last.since → GoBack (sent ++ last ∷ [])
+back_pushed sent last back before at one is =
+    let here : (n : ℕ) → 0 + n ≡ n = λ n. omega arith in
+    subst (λ n. IsBefore n one.since) (here at)
+    (back_on sent last 0 (λ n other there. subst (λ m. IsBefore m other.since) (sym (here n)) (back n other there)) (subst (λ n. IsBefore n last.since) (sym (here (length sent))) before) at one is)

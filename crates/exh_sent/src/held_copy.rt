@@ -78,7 +78,7 @@ impl HeldCopy {
     {
         let place = sent.len();
         let repeats = is_empty(&self.news);
-        sent.push(self.since, &mut self.news)?;
+        sent.push(self.since, &mut self.news, self.directory.table())?;
         if !repeats {
             self.since = Some(place);
             note(&mut self.known, place);

@@ -2,7 +2,7 @@ ghost use Rattle.std.specs.Prelude.{◌≡◌, ◌<◌, ◌^◌, [], ◌∷◌, 
 ghost use Rattle.std.specs.FinMap as map;
 ghost use Rattle.exh_table.specs.Table.{TableMap};
 ghost use Rattle.exh_table.specs.TableOrder.{IsTableUpTo, table_join};
-ghost use Rattle.exh_sent.specs.Sent.{IsBefore, unpacked};
+ghost use Rattle.exh_sent.specs.Sent.{IsBefore, base_in, unpacked};
 ghost use Rattle.exh_sent.specs.Known.{AreKnown, IsSentUpTo};
 
 use crate::known::note;
@@ -12,7 +12,6 @@ use exh_table::Table;
 use std::alloc::{AllocError, Global};
 use std::collections::BTreeSet;
 use std::marker::Model;
-use std::mem;
 
 /// The tables that were sent, in order. Each goes on from one before it, or from the start table.
 #[derive(Drop)]
@@ -57,18 +56,25 @@ impl SentTables {
         self.tables.len()
     }
 
-    /// Keeps one more, by the news that it has beyond the one that it goes on from; the news are none then. Where
-    /// memory is refused, an `AllocError`, all is as before.
-    pub(crate) fn push(&mut self, since: Option<usize>, news: &mut Table) -> Result<(), AllocError>
+    /// Keeps one more, a copy's own, by the news that it has beyond the one that it goes on from; these are none then.
+    /// Where memory is refused, an `AllocError`, all is as before.
+    pub(crate) fn push(
+        &mut self,
+        since: Option<usize>,
+        news: &mut Table,
+        own: &Table,
+    ) -> Result<(), AllocError>
         requires { IsBefore (length self.old) since }
-        ensures ok { OnOk result (self.new ≡ self.old ++ record { since = since; entries = news.old } ∷ []) }
+        ensures ok { (start : TableMap) → IsTableUpTo start own.now → own.now ≡ table_join (base_in start (unpacked start self.old) since) news.old
+            → OnOk result (unpacked start self.new ≡ unpacked start self.old ++ own.now ∷ []) }
         ensures none { OnOk result (news.new ≡ map.empty) }
         ensures err { OnErr result (self.new ≡ self.old) }
         ensures kept { OnErr result (news.new ≡ news.old) }
     {
         self.tables.reserve(1)?;
-        let entries = mem::replace(news, Table::new(self.alloc));
-        self.tables.push_reserved(SentTable { since, entries });
+        let told = since.map_or(0, |place| self.tables[place].told);
+        let sent = SentTable::new(self.alloc, since, told, news, own)?;
+        self.tables.push_reserved(sent);
         Ok(())
     }
 
