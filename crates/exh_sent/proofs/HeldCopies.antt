@@ -1,5 +1,5 @@
 -- What stays known of a copy that takes, joins and sends.
-use Rattle.std.proofs.Common.{◌≡◌, ℕ, suc, Bool, true, false, not, ◌<◌, List, [], ◌∷◌, ◌++◌, length, get_or, slice_get, Option, Some, None, refl, sym, ap, ◌∙◌, subst, arith}
+use Rattle.std.proofs.Common.{◌≡◌, ℕ, Bool, true, not, ◌<◌, List, [], ◌∷◌, ◌++◌, length, slice_get, Option, Some, None, refl, sym, ap, ◌∙◌, subst, arith}
 use Rattle.std.specs.FinMap.{empty}
 use Rattle.std.specs.BTreeSet.{BTreeSet}
 use Rattle.std.specs.Option.{is_some}
@@ -13,12 +13,12 @@ use Rattle.exh_table.specs.TableLemmas.{table_laws}
 use Rattle.exh_table.specs.TableOrder.{IsTableUpTo, table_join}
 use Rattle.exh_array.specs.Pointers.{DirectoryState}
 use Rattle.exh_sent.specs.Sent.{IsBefore, base_in, unpacked}
-use Rattle.exh_sent.specs.Known.{AreKnown, IsSentUpTo}
+use Rattle.exh_sent.specs.Known.{AreKnown}
 use Rattle.exh_sent.specs.Held.{IsHeld}
 use Rattle.exh_sent.specs.declared.held_copy.HeldCopy.{HeldCopy}
 use Rattle.exh_sent.specs.declared.sent_table.SentTable.{SentTable}
-use Rattle.exh_sent.proofs.Joined.{joined_already, joined_none, joined_raised, up_to_joined, up_to_raised, swapped}
-use Rattle.exh_sent.proofs.Unpacked.{pushed_front, pushed_last, unpacked_on-push}
+use Rattle.exh_sent.proofs.Joined.{joined_already, joined_none, joined_raised, up_to_raised, swapped}
+use Rattle.exh_sent.proofs.Unpacked.{pushed_front, pushed_last}
 
 -- a table that is more knows no less
 pub known_on : (sent : List TableMap) (known : BTreeSet ℕ) (own more : TableMap) → AreKnown sent known own → IsTableUpTo own more → AreKnown sent known more

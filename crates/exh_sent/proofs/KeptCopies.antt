@@ -1,9 +1,9 @@
 -- What the copies of a directory keep, as one of them is written and a table is sent.
-use Rattle.std.proofs.Common.{◌≡◌, ℕ, ◌<◌, get_or, Result, Ok, Err, OnOk, OnErr, List, [], ◌∷◌, ◌++◌, length, map, slice_get, Option, Some, None, ◌⊎◌, inl, inr, refl, sym, ap, ◌∙◌, subst, arith}
+use Rattle.std.proofs.Common.{◌≡◌, ℕ, ◌<◌, get_or, Result, Ok, Err, OnOk, OnErr, List, [], ◌∷◌, ◌++◌, length, slice_get, Some, inl, inr, refl, sym, ap, ◌∙◌, subst, arith}
 use Rattle.std.specs.Prelude.{option_map, slice_set}
 use Rattle.std.proofs.lemmas.List.{length-map, map-set}
 use Rattle.std.proofs.lemmas.Option.{slice_get-map, slice_get_read}
-use Rattle.exh_prefix.specs.ListLemmas.{one_there, push_is, set_is, set_same, within_there}
+use Rattle.exh_prefix.specs.ListLemmas.{one_there, push_is, set_is, set_same}
 use Rattle.exh_table.specs.Table.{TableMap}
 use Rattle.exh_table.specs.TableOrder.{IsTableUpTo}
 use Rattle.exh_array.specs.Pointers.{DirectoryState, HasArrayOf}

@@ -14,7 +14,7 @@ loop-prefix-init c =
 pub loop-prefix-preserved-in_ok-put_greater : goal.loop-prefix-preserved-in_ok-put_greater
 loop-prefix-preserved-in_ok-put_greater c =
     ap (λ (table : TableMap). raised_all table c.next.new.self)
-        (ap (table_join c.args.own.now) c.in_ok-put_greater.ensures.ok ∙ joined_raised c.args.own.now c.loop-prefix.news c.in-Some.prefix.now c.in-Some.entry.now)
+    (ap (table_join c.args.own.now) c.in_ok-put_greater.ensures.ok ∙ joined_raised c.args.own.now c.loop-prefix.news c.in-Some.prefix.now c.in-Some.entry.now)
     ∙ ap (raised_all (table_join c.args.own.now c.loop-prefix.news)) (sym c.in-Some.ensures.steps)
     ∙ c.loop-prefix.invariant
 

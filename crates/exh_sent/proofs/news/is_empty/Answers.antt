@@ -1,4 +1,4 @@
-use Rattle.std.proofs.Common.{◌≡◌, Bool, true, false, not, IsTrue, [], Option, MatchOption, Some, None, refl, sym, ap, ◌∙◌}
+use Rattle.std.proofs.Common.{◌≡◌, Bool, not, IsTrue, [], Option, MatchOption, Some, None, sym, ap, ◌∙◌}
 use Rattle.std.specs.FinMap.{empty, entries, get-empty, get-entries}
 use Rattle.std.specs.FinMap.Entries.{find}
 use Rattle.std.specs.Option.{is_some}

@@ -1,14 +1,11 @@
-use Rattle.std.proofs.Common.{◌≡◌, ◌<◌, ◌∷◌, ◌++◌, [], List, Some, length, slice_get, refl, sym, ap, ◌∙◌, subst, arith}
+use Rattle.std.proofs.Common.{◌≡◌, Some, length, slice_get, refl, sym, ap, ◌∙◌, subst, arith}
 use Rattle.std.proofs.lemmas.Result.{on_ok_weaker}
-use Rattle.exh_prefix.specs.ListLemmas.{set_same, within_there}
-use Rattle.exh_array.specs.Pointers.{DirectoryState, HasArrayOf}
-use Rattle.exh_table.specs.Table.{TableMap, table_with}
+use Rattle.exh_prefix.specs.ListLemmas.{within_there}
+use Rattle.exh_table.specs.Table.{TableMap}
 use Rattle.exh_table.specs.TableOrder.{table_join}
 use Rattle.exh_sent.specs.Copies.{CopiesState}
-use Rattle.exh_sent.specs.Held.{IsHeld}
-use Rattle.exh_sent.specs.Kept.{tables_of}
-use Rattle.exh_sent.specs.Sent.{IsBefore, unpacked}
-use Rattle.exh_sent.proofs.KeptCopies.{kept_either, kept_set, lent_there, own_is, sent_one, table_there, written}
+use Rattle.exh_sent.specs.Sent.{unpacked}
+use Rattle.exh_sent.proofs.KeptCopies.{kept_set, lent_there, own_is, written}
 use Rattle.exh_sent.proofs.Unpacked.{unpacked-length}
 use Rattle.exh_sent.proofs.copies.Copies.combine.Goals as goal
 
@@ -36,4 +33,4 @@ returns-clause-ok c own other own_at other_at =
     let own_is_old = own_is items c.args.at old own there (subst (λ (s : CopiesState). slice_get s.copies c.args.at ≡ Some own) (sym c.self.view_is) own_at) in
     let sent_at : slice_get sent c.args.place ≡ Some other = subst (λ (s : CopiesState). slice_get s.sent c.args.place ≡ Some other) (sym c.self.view_is) other_at in
     on_ok_weaker c.combine.result (λ is. written _ c.args.self.now c.self.view_is items refl c.args.at c.combine.new.self (λ s. table_join own other) (is ∙ ap (λ (t : TableMap). table_join t other) (sym own_is_old)))
-        (c.combine.ensures.ok start.table other (c.self.invariant.held c.args.at old there) (c.first-first.ensures.same start.table ∙ sent_at))
+    (c.combine.ensures.ok start.table other (c.self.invariant.held c.args.at old there) (c.first-first.ensures.same start.table ∙ sent_at))

@@ -1,4 +1,4 @@
-use Rattle.std.proofs.Common.{◌≡◌, ℕ, List, replicate, slice_get, Some}
+use Rattle.std.proofs.Common.{◌≡◌, replicate}
 use Rattle.exh_sent.specs.Kept.{tables_of}
 use Rattle.exh_sent.proofs.KeptCopies.{AreFresh}
 use Rattle.exh_sent.proofs.copies.Copies.new.Given as goal

@@ -1,14 +1,9 @@
-use Rattle.std.proofs.Common.{◌≡◌, ◌<◌, ◌∷◌, ◌++◌, [], List, Some, length, slice_get, refl, sym, ap, ◌∙◌, subst, arith}
+use Rattle.std.proofs.Common.{◌≡◌, ◌∷◌, ◌++◌, [], Some, slice_get, refl, sym, ap, ◌∙◌, subst}
 use Rattle.std.proofs.lemmas.Result.{on_err_weaker, on_ok_weaker}
-use Rattle.exh_prefix.specs.ListLemmas.{set_same, within_there}
-use Rattle.exh_array.specs.Pointers.{DirectoryState, HasArrayOf}
-use Rattle.exh_table.specs.Table.{TableMap, table_with}
-use Rattle.exh_table.specs.TableOrder.{table_join}
+use Rattle.exh_table.specs.Table.{TableMap}
 use Rattle.exh_sent.specs.Copies.{CopiesState}
-use Rattle.exh_sent.specs.Held.{IsHeld}
-use Rattle.exh_sent.specs.Kept.{tables_of}
 use Rattle.exh_sent.specs.Sent.{IsBefore, unpacked}
-use Rattle.exh_sent.proofs.KeptCopies.{kept_either, kept_set, lent_there, own_is, sent_one, table_there, written}
+use Rattle.exh_sent.proofs.KeptCopies.{kept_either, lent_there, own_is, sent_one}
 use Rattle.exh_sent.proofs.Unpacked.{unpacked-length}
 use Rattle.exh_sent.proofs.copies.Copies.send.Goals as goal
 
@@ -41,4 +36,4 @@ returns-clause-ok c own own_at =
     let there : slice_get items c.args.at ≡ Some old = lent_there items c.args.self.now.copies c.args.at old (ap (λ (s : CopiesState). s.copies) c.self.view_is) c.requires c.index_mut-copy.ensures.value in
     let own_is_old = own_is items c.args.at old own there (subst (λ (s : CopiesState). slice_get s.copies c.args.at ≡ Some own) (sym c.self.view_is) own_at) in
     on_ok_weaker c.send.result (λ is. sent_one _ c.args.self.now c.self.view_is items refl c.args.at c.send.new.self old (unpacked start.table c.send.new.sent) own there c.send.ensures.directory (is ∙ ap (λ (t : TableMap). sent ++ t ∷ []) (sym own_is_old)))
-        (c.send.ensures.ok start.table (c.self.invariant.held c.args.at old there))
+    (c.send.ensures.ok start.table (c.self.invariant.held c.args.at old there))

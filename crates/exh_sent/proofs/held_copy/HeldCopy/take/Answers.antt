@@ -5,7 +5,6 @@ use Rattle.exh_table.specs.Table.{TableMap, table_at}
 use Rattle.exh_table.specs.SetLemmas.{put_back}
 use Rattle.exh_table.specs.RaisedLemmas.{raised_here}
 use Rattle.exh_sent.specs.Held.{IsHeld}
-use Rattle.exh_sent.specs.declared.held_copy.HeldCopy.{HeldCopy}
 use Rattle.exh_sent.proofs.HeldCopies.{taken}
 use Rattle.exh_sent.proofs.held_copy.HeldCopy.take.Goals as goal
 

@@ -1,10 +1,9 @@
-use Rattle.std.proofs.Common.{◌≡◌, ℕ, suc, ◌<◌, length, slice_get, Option, None, Some, refl, sym, ap, ◌∙◌, subst, arith}
+use Rattle.std.proofs.Common.{◌≡◌, ◌<◌, length, slice_get, Some, refl, sym, ap, ◌∙◌, subst}
 use Rattle.std.proofs.lemmas.Option.{get_or_from_slice_get, slice_get_read}
-use Rattle.exh_table.specs.Table.{TableMap}
-use Rattle.exh_table.specs.TableOrder.{IsTableUpTo, table_join}
+use Rattle.exh_table.specs.TableOrder.{table_join}
 use Rattle.exh_sent.specs.Sent.{GoBack, IsBefore, base_in, unpacked}
 use Rattle.exh_sent.proofs.Joined.{joined_already, joined_none, up_to_joined}
-use Rattle.exh_sent.proofs.Unpacked.{base_there, before_more, height, lower, next_there, step_back}
+use Rattle.exh_sent.proofs.Unpacked.{before_more, lower, next_there, step_back}
 use Rattle.exh_sent.proofs.sent_tables.SentTables.beyond.Goals as goal
 
 pub loop-next-init : goal.loop-next-init

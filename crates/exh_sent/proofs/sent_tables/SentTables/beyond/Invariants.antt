@@ -1,4 +1,4 @@
-use Rattle.std.proofs.Common.{◌≡◌, ℕ, zero, suc, ◌<◌, length, slice_get, Option, Some, None}
+use Rattle.std.proofs.Common.{◌≡◌, length, slice_get, Some}
 use Rattle.exh_table.specs.Table.{TableMap}
 use Rattle.exh_table.specs.TableOrder.{IsTableUpTo, table_join}
 use Rattle.exh_sent.specs.Sent.{IsBefore, base_in, unpacked}

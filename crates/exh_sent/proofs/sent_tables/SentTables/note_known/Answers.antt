@@ -1,7 +1,7 @@
 use Rattle.std.proofs.Common.{◌≡◌, ◌<◌, length, slice_get, Some, refl, sym, subst}
 use Rattle.std.proofs.lemmas.Option.{slice_get_read}
 use Rattle.exh_sent.specs.Sent.{GoBack, IsBefore, unpacked}
-use Rattle.exh_sent.proofs.Unpacked.{before_more, height, lower, next_up_to, IsNextUpTo}
+use Rattle.exh_sent.proofs.Unpacked.{before_more, lower, next_up_to, IsNextUpTo}
 use Rattle.exh_sent.proofs.sent_tables.SentTables.note_known.Goals as goal
 
 pub loop-next-init : goal.loop-next-init

@@ -1,6 +1,6 @@
 use Rattle.std.proofs.Common.{◌≡◌, ◌∷◌, ◌++◌, [], List, length, sym, ap, ◌∙◌, subst}
 use Rattle.exh_table.specs.Table.{TableMap}
-use Rattle.exh_sent.specs.Sent.{GoBack, IsBefore, unpacked}
+use Rattle.exh_sent.specs.Sent.{GoBack, unpacked}
 use Rattle.exh_sent.specs.declared.sent_table.SentTable.{SentTable}
 use Rattle.exh_sent.proofs.Unpacked.{back_pushed, unpacked_on-push}
 use Rattle.exh_sent.proofs.sent_tables.SentTables.push.Goals as goal
