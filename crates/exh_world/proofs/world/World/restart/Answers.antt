@@ -1,14 +1,11 @@
-use Rattle.std.proofs.Common.{◌≡◌, ◌<◌, ◌^◌, ◌++◌, ◌∷◌, [], suc, length, None, IsSome, inl, refl, sym, ap, ◌∙◌, subst, Ok, arith}
+use Rattle.std.proofs.Common.{◌≡◌, ◌<◌, ◌^◌, length, refl, sym, ap, ◌∙◌, subst, Ok}
 use Rattle.std.specs.Prelude.{slice_set}
-use Rattle.std.proofs.lemmas.List.{length_push}
 use Rattle.exh_sent.specs.Copies.{CopiesState}
-use Rattle.exh_table.specs.TableOrder.{table_join}
 use Rattle.exh_world.specs.Kept.{IsKeptWorld}
 use Rattle.exh_world.specs.Step.{HasRestarted}
-use Rattle.exh_world.specs.World.{WorldState, numbered}
 use Rattle.exh_event.specs.declared.event.Event.TheVariants.{Restart}
 use Rattle.exh_event.specs.declared.outcome.Outcome.TheVariants.{Restarted}
-use Rattle.exh_world.proofs.CopySteps.{kept_after, is_there, placed_there, refused_same, has_restarted}
+use Rattle.exh_world.proofs.CopySteps.{kept_after, placed_there, refused_same, has_restarted}
 use Rattle.exh_world.proofs.InsideWorld.{with_copies}
 use Rattle.exh_world.proofs.world.World.restart.Given as Given
 use Rattle.exh_world.proofs.world.World.restart.Goals as goal
