@@ -20,7 +20,7 @@ use Rattle.exh_table.specs.Walk.{walk_of}
 use Rattle.exh_calls.specs.Call.{key_of}
 use Rattle.exh_calls.specs.declared.call.Call.{Call}
 use Rattle.exh_world.specs.InFlight.{Requests, request_named}
-use Rattle.exh_world.specs.Kept.{IsKeptWorld, tables_of}
+use Rattle.exh_world.specs.Kept.{IsKeptWorld}
 use Rattle.exh_route.specs.Distance.{IsDistance}
 use Rattle.exh_ward.specs.WardState.{WardState}
 use Rattle.exh_world.specs.Step.{request_begun, HasBegun}
@@ -94,7 +94,7 @@ module _ {P K : Type 0} (pseudokey_of : K → List ℕ → ℕ) (i : Inside P K)
 -- ---- the request begun
 
 module _ {P K : Type 0} (pseudokey_of : K → List ℕ → ℕ) (i : Inside P K) (name client copy : ℕ) (call : Call) where
-  pub begun : (free : request_named name i.in_flight ≡ None) (table : TableMap) (there : numbered (tables_of i.copies.items) copy ≡ Some table) (bytes : List ℕ) → bytes ≡ key_of call → (pseudokey ward page : ℕ) → pseudokey ≡ pseudokey_of i.keyer bytes
+  pub begun : (free : request_named name i.in_flight ≡ None) (table : TableMap) (there : numbered i.copies.copies copy ≡ Some table) (bytes : List ℕ) → bytes ≡ key_of call → (pseudokey ward page : ℕ) → pseudokey ≡ pseudokey_of i.keyer bytes
       → ward ≡ ward_of i.ward_bits pseudokey → page ≡ (walk_of table i.ward_bits pseudokey).page
       → (state : WardState K) → slice_get i.wards.items ward ≡ Some state → (distance : ℕ) → IsDistance state.pages page pseudokey distance → (changes : ℕ) → changes ≡ length (changes_in (world_of i) ward)
       → (requests : Requests) → requests ≡ i.in_flight ++ (name, request_begun client call pseudokey ward page distance changes) ∷ []
@@ -114,7 +114,7 @@ module _ {P K : Type 0} (pseudokey_of : K → List ℕ → ℕ) (i : Inside P K)
         after = ap (with_requests i) (requests_are ∙ ap (λ k. i.in_flight ++ (name, request_begun client call k ward page distance changes) ∷ []) hashed ∙ ap (λ n. i.in_flight ++ (name, request_begun client call (pseudokey_of i.keyer (key_of call)) ward page distance n) ∷ []) changes_are);
       }
 
-  pub begun_kept : (ward page : ℕ) (new : WorldState K) → new.ward_bits ≡ i.ward_bits → new.sent ≡ i.sent.items → IsKeptWorld pseudokey_of (world_of i) → HasBegun pseudokey_of (world_of i) name client copy call ward page new → IsKeptWorld pseudokey_of new
+  pub begun_kept : (ward page : ℕ) (new : WorldState K) → new.ward_bits ≡ i.ward_bits → new.sent ≡ i.copies.sent → IsKeptWorld pseudokey_of (world_of i) → HasBegun pseudokey_of (world_of i) name client copy call ward page new → IsKeptWorld pseudokey_of new
   begun_kept ward page new bits sent kept has = record {
     sound = after_begun pseudokey_of (world_of i) kept.sound new name client copy call ward page has (step_told pseudokey_of (world_of i) kept.sound (Begin name client copy call) (Ok (Begun ward page)) new has);
     few_wards = subst (λ n. n ≤ WARD_BITS_LIMIT) (sym bits) kept.few_wards;

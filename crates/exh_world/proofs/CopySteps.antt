@@ -1,18 +1,16 @@
 -- What becomes of the copies of a world's directory, and of the tables sent between them.
 use Rattle.std.proofs.Common.{◌≡◌, ◌≢◌, ℕ, zero, suc, cond, ◌-◌, ◌^◌, ◌<◌, List, [], ◌∷◌, ◌++◌, length, Some, Result, Ok, Err, inl, inr, refl, sym, ap, ◌∙◌, subst, arith, IsErr, IsErrAnd}
-use Rattle.std.specs.Prelude.{slice_get, slice_set, slice_index_or, Contains, IsSome, is_some}
+use Rattle.std.specs.Prelude.{slice_get, slice_set, Contains, IsSome, is_some}
 use Rattle.std.specs.Option.{option_map_or}
 use Rattle.std.proofs.lemmas.Bool.{lt-ltb}
-use Rattle.std.proofs.lemmas.Option.{slice_get_read}
 use Rattle.exh_prefix.specs.ListLemmas.{within_there}
-use Rattle.exh_array.specs.Pointers.{DirectoryState}
 use Rattle.exh_notice.specs.declared.notice.Notice.{Notice}
 use Rattle.exh_table.specs.Table.{TableMap, table_with}
 use Rattle.exh_table.specs.TableOrder.{table_join}
 use Rattle.exh_legal.specs.Numbers.{index_of}
 use Rattle.exh_ward.specs.WardState.{WardState, IsSoundWard, notices_above}
 use Rattle.exh_ward.specs.declared.ward_fault.WardFault.TheVariants.{Memory}
-use Rattle.exh_world.specs.Kept.{IsKeptWorld, IsPlaceOf, HaveIndexesInTurn, tables_of}
+use Rattle.exh_world.specs.Kept.{IsKeptWorld, IsPlaceOf, HaveIndexesInTurn}
 use Rattle.exh_world.specs.Laws.{StepsKeepWorldsSound}
 use Rattle.exh_world.specs.Sound.{IsSoundWorld}
 use Rattle.exh_world.specs.Step.{Step, HasTaken, HasSent, HasJoined, HasRestarted}
@@ -22,7 +20,6 @@ use Rattle.exh_event.specs.declared.outcome.Outcome.{Outcome}
 use Rattle.exh_event.specs.declared.step_fault.StepFault.{StepFault}
 use Rattle.exh_event.specs.declared.step_fault.StepFault.TheVariants.{Ward, NoNotice}
 use Rattle.exh_event.specs.declared.event.Event.TheVariants.{Deliver}
-use Rattle.exh_world.proofs.CopyArrays.{table_placed, table_there, tables_set, tables_same}
 
 -- notices of a sound ward
 pub indexes_in_turn : {K : Type 0} (pseudokey_of : K → List ℕ → ℕ) (ward : WardState K) → IsSoundWard pseudokey_of ward → HaveIndexesInTurn ward.notices
@@ -38,17 +35,16 @@ above_none (notice ∷ notices) some =
 pub all_above : {K : Type 0} (pseudokey_of : K → List ℕ → ℕ) (ward : WardState K) → IsSoundWard pseudokey_of ward → notices_above 0 ward.notices ≡ ward.notices
 all_above pseudokey_of ward sound = above_none ward.notices (λ place notice is. omega (arith, (sound.numbered place notice is).1))
 
--- an item that is there, as it is lent
-pub lent_there : {A : Type 0} (items : List A) (number at : ℕ) (item : A) → IsPlaceOf items number at → item ≡ slice_index_or items at item → slice_get items at ≡ Some item
-lent_there items number at item placed lent = slice_get_read items (length items) at item refl placed.1 lent
-
 -- the notices issued by a ward
 pub issued_by : {K : Type 0} (world : WorldState K) (number : ℕ) (ward : WardState K) → slice_get world.wards number ≡ Some ward → issued_in world number ≡ ward.notices
 issued_by world number ward there = ap (λ found. option_map_or (λ (w : WardState _). w.notices) found []) there
 
--- the copy is there where it has a place
-pub is_copy : (copies : List DirectoryState) (number at : ℕ) → IsPlaceOf copies number at → IsSome (numbered (tables_of copies) number)
-is_copy copies number at placed = let own = within_there copies at placed.1 in ap is_some ((table_placed copies number at placed).2 ∙ table_there copies at own.0 own.1)
+-- what has a place is there
+pub placed_there : (tables : List TableMap) (number at : ℕ) → IsPlaceOf tables number at → (own : TableMap) × (slice_get tables at ≡ Some own) × (numbered tables number ≡ Some own)
+placed_there tables number at placed = let own = within_there tables at placed.1 in (own.0, own.1, placed.2 ∙ own.1)
+
+pub is_there : (tables : List TableMap) (number at : ℕ) → IsPlaceOf tables number at → IsSome (numbered tables number)
+is_there tables number at placed = ap is_some (placed_there tables number at placed).2
 
 -- a world as it is shown, and a copy that it has
 module _ {K : Type 0} {pseudokey_of : K → List ℕ → ℕ} {world now : WorldState K} (view_is : world ≡ now) (kept : IsKeptWorld pseudokey_of world) where
@@ -67,14 +63,6 @@ module _ {K : Type 0} {pseudokey_of : K → List ℕ → ℕ} {world now : World
 
   abbrev pub with_copy : ℕ → TableMap → WorldState K
   with_copy at table = record world { copies = slice_set world.copies at table }
-
-  -- the world that shows the tables of the copies, one of which was written
-  module _ (copies : List DirectoryState) (shows : world.copies ≡ tables_of copies) (at : ℕ) (new : DirectoryState) where
-    pub with_tables : (P : WorldState K → Type 0) → P (with_copy at new.table) → P (record world { copies = tables_of (slice_set copies at new) })
-    with_tables P has = subst (λ tables. P (record world { copies = tables })) (ap (λ tables. slice_set tables at new.table) shows ∙ sym (tables_set copies at new)) has
-
-  pub same_copies : (copies : List DirectoryState) (shows : world.copies ≡ tables_of copies) (at : ℕ) (old new : DirectoryState) → slice_get copies at ≡ Some old → new ≡ old → record world { copies = tables_of (slice_set copies at new) } ≡ world
-  same_copies copies shows at old new there same = ap (λ tables. record world { copies = tables }) (tables_same copies at old new there same ∙ sym shows)
 
   module _ (copy at : ℕ) (placed : IsPlaceOf world.copies copy at) (own : TableMap) (own_at : slice_get world.copies at ≡ Some own) where
     own_there : numbered world.copies copy ≡ Some own

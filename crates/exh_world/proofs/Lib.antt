@@ -50,7 +50,6 @@ pub mod WardsLeft
 pub mod FailureCounted
 pub mod FaultsCounted
 pub mod WardChanges
-pub mod CopyArrays
 pub mod CopySteps
 pub mod BeginSteps
 pub mod HopSteps

@@ -2,16 +2,14 @@ ghost use Rattle.std.specs.Prelude.{◌≡◌};
 ghost use Rattle.exh_world.specs.Sound.{IsSoundWorld};
 
 use crate::in_flight::InFlight;
-use exh_array::Directory;
 use exh_frames::Pages;
 use exh_keyer::Keyer;
-use exh_table::Table;
+use exh_sent::Copies;
 use exh_ward::Ward;
 use std::alloc::Global;
 use std::marker::Model;
 
 mod changes;
-mod copies_of;
 mod copy_steps;
 mod new_world;
 mod notice_of;
@@ -31,26 +29,24 @@ pub struct World<P: Pages + Drop, K: Keyer> {
     ward_bits: u8,
     keyer: K,
     wards: Vec<Ward<P, K>>,
-    start: Directory,
     noticed: Vec<usize>,
-    copies: Vec<Directory>,
-    sent: Vec<Table>,
+    copies: Copies,
     in_flight: InFlight,
 }
 
 impl<P: Pages + Drop, K: Keyer> Model for World<P, K> {
-    ghost use Rattle.std.specs.Prelude.{◌≤◌, ◌<◌, ◌^◌, length};
+    ghost use Rattle.std.specs.Prelude.{◌≡◌, ◌≤◌, ◌<◌, ◌^◌, length};
     ghost use Rattle.std.specs.Coded.{codes};
     ghost use Rattle.exh_page.specs.KeyMap.{coded_key_map};
     ghost use Rattle.exh_table.specs.Table.{coded_table};
-    ghost use Rattle.exh_world.specs.Kept.{HaveArrays, IsKeptWorld, tables_of};
+    ghost use Rattle.exh_world.specs.Kept.{IsKeptWorld};
     ghost use Rattle.exh_world.specs.World.{WorldState};
 
     ghost Value = { WorldState K };
 
     ghost coded = { Prim.hlevel (codes, coded_key_map, coded_table) };
 
-    ghost view = { λ a. record { cap = a.cap; ward_bits = a.ward_bits; keyer = a.keyer; wards = a.wards.items; start = a.start.table; noticed = a.noticed.items; copies = tables_of a.copies.items; sent = a.sent.items; in_flight = a.in_flight } };
+    ghost view = { λ a. record { cap = a.cap; ward_bits = a.ward_bits; keyer = a.keyer; wards = a.wards.items; start = a.copies.start; noticed = a.noticed.items; copies = a.copies.copies; sent = a.copies.sent; in_flight = a.in_flight } };
 
-    ghost invariant = { λ a. IsKeptWorld K.pseudokey_of (record { cap = a.cap; ward_bits = a.ward_bits; keyer = a.keyer; wards = a.wards.items; start = a.start.table; noticed = a.noticed.items; copies = tables_of a.copies.items; sent = a.sent.items; in_flight = a.in_flight }) × HaveArrays a.ward_bits a.start a.copies.items };
+    ghost invariant = { λ a. IsKeptWorld K.pseudokey_of (record { cap = a.cap; ward_bits = a.ward_bits; keyer = a.keyer; wards = a.wards.items; start = a.copies.start; noticed = a.noticed.items; copies = a.copies.copies; sent = a.copies.sent; in_flight = a.in_flight }) × (a.copies.ward_bits ≡ a.ward_bits) };
 }

@@ -4,11 +4,10 @@ ghost use Rattle.exh_event.specs.declared.event.Event.TheVariants.{Deliver, Send
 
 use super::World;
 use super::notice_of::notice_of;
-use super::place::{copy_in, place_in};
+use super::place::place_of;
 use crate::laws::steps_keep_worlds_sound;
 use exh_event::{Outcome, StepFault};
 use exh_frames::Pages;
-use exh_join::Join;
 use exh_keyer::Keyer;
 use exh_ward::WardFault;
 
@@ -20,7 +19,7 @@ impl<P: Pages + Drop, K: Keyer> World<P, K> {
         ensures sound { IsSoundWorld K.pseudokey_of self.new }
     {
         steps_keep_worlds_sound::<K>();
-        let Some(at) = copy_in(&self.copies, copy) else {
+        let Some(at) = place_of(self.copies.count(), copy) else {
             return Err(StepFault::NoCopy);
         };
         let Some(teller) = self.wards.get(ward as usize) else {
@@ -29,7 +28,7 @@ impl<P: Pages + Drop, K: Keyer> World<P, K> {
         let Some(notice) = notice_of(teller.notices_after(0), index) else {
             return Err(StepFault::NoNotice);
         };
-        self.copies[at].take(&notice)?;
+        self.copies.take(at, &notice)?;
         Ok(Outcome::Taken(notice))
     }
 
@@ -41,15 +40,13 @@ impl<P: Pages + Drop, K: Keyer> World<P, K> {
         ensures sound { IsSoundWorld K.pseudokey_of self.new }
     {
         steps_keep_worlds_sound::<K>();
-        let Some(at) = copy_in(&self.copies, copy) else {
+        let Some(at) = place_of(self.copies.count(), copy) else {
             return Err(StepFault::NoCopy);
         };
-        let Ok(number) = u32::try_from(self.sent.len() + 1) else {
+        let Ok(number) = u32::try_from(self.copies.sent_count() + 1) else {
             return Err(StepFault::Ward(WardFault::Memory));
         };
-        let table = self.copies[at].table().try_clone()?;
-        self.sent.reserve(1)?;
-        self.sent.push_reserved(table);
+        self.copies.send(at)?;
         Ok(Outcome::Sent(number))
     }
 
@@ -60,13 +57,13 @@ impl<P: Pages + Drop, K: Keyer> World<P, K> {
         ensures sound { IsSoundWorld K.pseudokey_of self.new }
     {
         steps_keep_worlds_sound::<K>();
-        let Some(at) = copy_in(&self.copies, copy) else {
+        let Some(at) = place_of(self.copies.count(), copy) else {
             return Err(StepFault::NoCopy);
         };
-        let Some(other) = place_in(&self.sent, table) else {
+        let Some(other) = place_of(self.copies.sent_count(), table) else {
             return Err(StepFault::NoTable);
         };
-        self.copies[at].join_in(&self.sent[other])?;
+        self.copies.combine(at, other)?;
         Ok(Outcome::Joined)
     }
 
@@ -77,11 +74,10 @@ impl<P: Pages + Drop, K: Keyer> World<P, K> {
         ensures sound { IsSoundWorld K.pseudokey_of self.new }
     {
         steps_keep_worlds_sound::<K>();
-        let Some(at) = copy_in(&self.copies, copy) else {
+        let Some(at) = place_of(self.copies.count(), copy) else {
             return Err(StepFault::NoCopy);
         };
-        let start = self.start.try_clone()?;
-        self.copies[at] = start;
+        self.copies.restart(at)?;
         Ok(Outcome::Restarted)
     }
 }

@@ -5,11 +5,11 @@ ghost use Rattle.exh_world.specs.NewWorld.{new_world};
 ghost use Rattle.exh_world.specs.Sound.{IsSoundWorld};
 
 use super::World;
-use super::copies_of::copies_of;
 use crate::in_flight::InFlight;
 use exh_array::Directory;
 use exh_frames::{Pages, PlainMaker, PlainPages, StoreMaker};
 use exh_keyer::Keyer;
+use exh_sent::Copies;
 use exh_settings::Config;
 use exh_ward::new_wards;
 use std::alloc::{AllocError, Global};
@@ -46,7 +46,7 @@ impl<P: Pages + Drop, K: Keyer> World<P, K> {
         let mut noticed = Vec::new(alloc);
         noticed.resize(1 << settings.ward_bits, 0)?;
         let start = Directory::new(alloc, settings.ward_bits)?;
-        let copies = copies_of(alloc, &start, config.copies)?;
+        let copies = Copies::new(alloc, start, config.copies)?;
         let in_flight = InFlight::new(alloc)?;
         Ok(World {
             alloc,
@@ -54,10 +54,8 @@ impl<P: Pages + Drop, K: Keyer> World<P, K> {
             ward_bits: settings.ward_bits,
             keyer: settings.keyer,
             wards,
-            start,
             noticed,
             copies,
-            sent: Vec::new(alloc),
             in_flight,
         })
     }

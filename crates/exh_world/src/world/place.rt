@@ -1,22 +1,14 @@
-ghost use Rattle.std.specs.Prelude.{◌≡◌, IfSome, IfNone, None};
-ghost use Rattle.exh_world.specs.Kept.{IsPlaceOf, tables_of};
+ghost use Rattle.std.specs.Prelude.{◌≡◌, List, length, IfSome, IfNone, None};
+ghost use Rattle.exh_table.specs.Table.{TableMap};
+ghost use Rattle.exh_world.specs.Kept.{IsPlaceOf};
 ghost use Rattle.exh_world.specs.World.{numbered};
 
-use exh_array::Directory;
-
-/// The place in a list of the item that has a number, from 1 on; `None` where there is none.
-pub(crate) fn place_in<T>(items: &[T], number: u32) -> Option<usize>
-    ensures some { IfSome result (IsPlaceOf items.now number) }
-    ensures none { IfNone result (numbered items.now number ≡ None) }
+/// The place of a copy or a sent table that has a number, from 1 on, where there are so many; `None` where there is
+/// none.
+pub(crate) fn place_of(count: usize, number: u32) -> Option<usize>
+    ensures some { IfSome result (λ at. (tables : List TableMap) → length tables ≡ count → IsPlaceOf tables number at) }
+    ensures none { IfNone result ((tables : List TableMap) → length tables ≡ count → numbered tables number ≡ None) }
 {
     let at = number.checked_sub(1)? as usize;
-    if at < items.len() { Some(at) } else { None }
-}
-
-/// The place of the copy that has a number, from 1 on; `None` where there is none.
-pub(crate) fn copy_in(copies: &[Directory], number: u32) -> Option<usize>
-    ensures some { IfSome result (IsPlaceOf copies.now number) }
-    ensures none { IfNone result (numbered (tables_of copies.now) number ≡ None) }
-{
-    place_in(copies, number)
+    if at < count { Some(at) } else { None }
 }

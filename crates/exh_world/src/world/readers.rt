@@ -13,7 +13,7 @@ ghost use Rattle.exh_world.specs.World.{numbered};
 ghost use Rattle.exh_world.specs.declared.request.Request.{Request as RequestType};
 
 use super::World;
-use super::place::copy_in;
+use super::place::place_of;
 use crate::Request;
 use exh_array::Directory;
 use exh_event::StepFault;
@@ -40,10 +40,10 @@ impl<P: Pages + Drop, K: Keyer> World<P, K> {
         ensures array { IfOk result (λ copy. HasArrayOf self.now.ward_bits copy.now) }
         ensures refused { IfErr result (λ fault. (fault ≡ StepFault.NoCopy) × (numbered self.now.copies number ≡ None)) }
     {
-        let Some(at) = copy_in(&self.copies, number) else {
+        let Some(at) = place_of(self.copies.count(), number) else {
             return Err(StepFault::NoCopy);
         };
-        Ok(&self.copies[at])
+        Ok(self.copies.copy(at))
     }
 
     /// The requests in flight with their names, in the order begun. It takes no memory.

@@ -4,7 +4,7 @@ ghost use Rattle.exh_event.specs.declared.event.Event.TheVariants.{Begin, Hop as
 
 use super::World;
 use super::changes::changes_since;
-use super::place::copy_in;
+use super::place::place_of;
 use crate::Request;
 use crate::laws::steps_keep_worlds_sound;
 use exh_calls::Call;
@@ -33,12 +33,12 @@ impl<P: Pages + Drop, K: Keyer> World<P, K> {
         if self.in_flight.get(name).is_some() {
             return Err(StepFault::NameTaken);
         }
-        let Some(at) = copy_in(&self.copies, copy) else {
+        let Some(at) = place_of(self.copies.count(), copy) else {
             return Err(StepFault::NoCopy);
         };
         let pseudokey = self.keyer.pseudo(call.key().as_bytes());
         let ward = ward_number(self.ward_bits, pseudokey);
-        let page = self.copies[at].walk(pseudokey);
+        let page = self.copies.copy(at).walk(pseudokey);
         let state = &mut self.wards[usize::from(ward)];
         let distance = distance(state, page, pseudokey)?;
         let changes = changes_since(state, self.noticed[usize::from(ward)]);

@@ -6,12 +6,12 @@ ghost use Rattle.exh_world.specs.NewWorld.{AreWardsFor, IsMadeAnew, settings_of,
 ghost use Rattle.exh_world.specs.Sound.{IsSoundWorld};
 
 use super::World;
-use super::copies_of::copies_of;
 use crate::in_flight::InFlight;
 use exh_array::Directory;
 use exh_frames::Pages;
 use exh_keyer::Keyer;
 use exh_legal::walks_name_homes;
+use exh_sent::Copies;
 use exh_settings::Config;
 use exh_ward::Ward;
 use std::alloc::{AllocError, Global};
@@ -36,7 +36,7 @@ impl<P: Pages + Drop, K: Keyer> World<P, K> {
         walks_name_homes();
         let start = joined_tables(alloc, config.settings.ward_bits, &wards)?;
         let noticed = notice_counts(alloc, &wards)?;
-        let copies = copies_of(alloc, &start, config.copies)?;
+        let copies = Copies::new(alloc, start, config.copies)?;
         let in_flight = InFlight::new(alloc)?;
         Ok(World {
             alloc,
@@ -44,10 +44,8 @@ impl<P: Pages + Drop, K: Keyer> World<P, K> {
             ward_bits: config.settings.ward_bits,
             keyer: config.settings.keyer,
             wards,
-            start,
             noticed,
             copies,
-            sent: Vec::new(alloc),
             in_flight,
         })
     }

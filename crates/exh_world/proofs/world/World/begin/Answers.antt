@@ -1,21 +1,17 @@
-use Rattle.std.proofs.Common.{◌≡◌, ℕ, ◌-◌, ◌^◌, ◌<◌, List, length, slice_get, None, Some, inl, inr, refl, sym, ap, ◌∙◌, subst, arith}
+use Rattle.std.proofs.Common.{◌≡◌, ℕ, ◌-◌, ◌^◌, ◌<◌, length, slice_get, None, Some, inl, inr, refl, sym, ap, ◌∙◌, subst, arith}
 use Rattle.std.specs.Prelude.{is_some, IsSome}
 use Rattle.std.specs.Option.{option_copied}
-use Rattle.exh_array.specs.Pointers.{DirectoryState}
 use Rattle.exh_table.specs.Walk.{walk_of}
 use Rattle.exh_prefix.specs.Leading.{ward_of}
 use Rattle.exh_calls.specs.Call.{key_of}
 use Rattle.exh_ward.specs.WardState.{WardState}
 use Rattle.exh_ward.specs.declared.ward_fault.WardFault.TheVariants.{Memory}
 use Rattle.exh_world.specs.InFlight.{request_named}
-use Rattle.exh_world.specs.Kept.{IsPlaceOf, tables_of}
 use Rattle.exh_world.specs.Step.{HasBegun, IsRefused, ReachesInto, Step}
 use Rattle.exh_world.specs.World.{WorldState, changes_in, numbered}
 use Rattle.exh_event.specs.declared.event.Event.TheVariants.{Begin}
 use Rattle.exh_world.proofs.BeginSteps.{none_there, some_there, with_requests, at_within, found_at, noticed_within, had_few, changes_are, no_page_missing, same_ward, begun, begun_kept}
-use Rattle.exh_world.proofs.CopyArrays.{table_numbered}
 use Rattle.exh_world.proofs.InsideWorld.{with_ward, world_of}
-use Rattle.exh_world.specs.ListLemmas.{numbered_read}
 use Rattle.exh_world.proofs.WardChanges as changed
 use Rattle.exh_world.proofs.WardChanges.{same_kept, leaves_refused, memory_of, of_refusal}
 use Rattle.exh_world.proofs.world.World.begin.Given.{Over}
@@ -30,22 +26,21 @@ begun_here g c =
     let i = c.self.inside in
     let pseudokey_of = g.K.Keyer.pseudokey_of in
     let free : request_named c.args.name i.in_flight ≡ None = sym c.get.ensures ∙ ap option_copied (none_there c.get.result (sym c.is_some.ensures ∙ c.if-is_some.false)) in
-    let there = numbered_read i.copies.items c.deref.result.now c.args.copy c.in-Some.at c.index.result.now c.deref.ensures.value c.in-Some.ensures.some c.index.ensures in
+    let there : numbered i.copies.copies c.args.copy ≡ Some c.copy.result.now.table = (c.in-Some.ensures.some i.copies.copies (sym c.count.ensures)).2 ∙ c.copy.ensures.copy in
     let bytes = c.as_bytes.ensures.bytes ∙ c.key.ensures in
-    let at : slice_get i.copies.items c.in-Some.at ≡ Some c.index.result.now = sym (subst (λ (items : List DirectoryState). IsPlaceOf items c.args.copy c.in-Some.at) c.deref.ensures.value c.in-Some.ensures.some).2 ∙ there in
-    let ward_bits = (c.self.invariant.1.of_copies c.in-Some.at c.index.result.now at).bits in
-    let page = c.walk-page.ensures.page ∙ ap (λ bits. (walk_of c.index.result.now.table bits c.pseudo-pseudokey.result).page) ward_bits in
+    let ward_bits = c.copy.ensures.array.bits ∙ c.self.invariant.1 in
+    let page = c.walk-page.ensures.page ∙ ap (λ bits. (walk_of c.copy.result.now.table bits c.pseudo-pseudokey.result).page) ward_bits in
     let kept = c.self.invariant.0 in
     let state_is = c.index_mut-state.ensures.value in
     let at_is = c.from.ensures ∙ c.ward_number-ward.ensures in
     let same = c.in_ok-distance.ensures.ok in
     let found = found_at pseudokey_of i kept c.pseudo-pseudokey.result c.from.result at_is _ state_is in
     let place_is = c.from-2.ensures ∙ sym c.from.ensures in
-    let changes = c.changes_since-changes.ensures.count ∙ ap (λ (w : WardState g.row.K.Denot). length w.notices - c.index-2.result.now) same
-    ∙ changes_are pseudokey_of i kept c.pseudo-pseudokey.result c.from.result at_is _ state_is c.from-2.result place_is c.index-2.result.now c.index-2.ensures
+    let changes = c.changes_since-changes.ensures.count ∙ ap (λ (w : WardState g.row.K.Denot). length w.notices - c.index.result.now) same
+    ∙ changes_are pseudokey_of i kept c.pseudo-pseudokey.result c.from.result at_is _ state_is c.from-2.result place_is c.index.result.now c.index.ensures
     ∙ ap (λ n. length (changes_in (world_of i) n)) c.from.ensures in
     subst (HasBegun pseudokey_of (world_of i) c.args.name c.args.client c.args.copy c.args.call.now c.ward_number-ward.result c.walk-page.result) (sym (same_ward pseudokey_of i kept c.pseudo-pseudokey.result c.from.result at_is _ state_is c.distance.new.ward same c.begin.new.self))
-    (begun pseudokey_of i c.args.name c.args.client c.args.copy c.args.call.now free c.index.result.now.table (table_numbered i.copies.items c.args.copy c.index.result.now there) c.as_bytes.result.now bytes c.pseudo-pseudokey.result c.ward_number-ward.result c.walk-page.result
+    (begun pseudokey_of i c.args.name c.args.client c.args.copy c.args.call.now free c.copy.result.now.table there c.as_bytes.result.now bytes c.pseudo-pseudokey.result c.ward_number-ward.result c.walk-page.result
     c.pseudo-pseudokey.ensures c.ward_number-ward.ensures page
     _ (subst (λ n. slice_get i.wards.items n ≡ Some c.index_mut-state.result.now) c.from.ensures found) c.in_ok-distance.distance c.in_ok-distance.ensures.distance c.changes_since-changes.result changes c.begin.new.self c.in_ok-begin.ensures.ok)
 
@@ -70,7 +65,7 @@ returns-then-is_some-clause-step g c =
 pub returns-in_default-clause-step : goal.returns-in_default-clause-step
 returns-in_default-clause-step g c =
     let free : request_named c.args.name c.self.inside.in_flight ≡ None = sym c.get.ensures ∙ ap option_copied (none_there c.get.result (sym c.is_some.ensures ∙ c.if-is_some.false)) in
-    let none = subst (λ (items : List DirectoryState). numbered (tables_of items) c.args.copy ≡ None) c.deref.ensures.value c.in_default.ensures.none in inl (
+    let none = c.in_default.ensures.none c.self.inside.copies.copies (sym c.count.ensures) in inl (
       refl,
       inl (
         subst (λ (w : WorldState g.row.K.Denot). request_named c.args.name w.in_flight ≡ None) c.self.view_is free,
@@ -83,8 +78,8 @@ index_mut-state-requires g c =
     let i = c.self.inside in
     omega (arith, i.wards.ok.0, at_within g.K.Keyer.pseudokey_of i c.self.invariant.0 c.pseudo-pseudokey.result c.from.result (c.from.ensures ∙ c.ward_number-ward.ensures))
 
-pub index-requires-2 : goal.index-requires-2
-index-requires-2 g c =
+pub index-requires : goal.index-requires
+index-requires g c =
     let i = c.self.inside in
     omega (
       arith,
@@ -99,7 +94,7 @@ changes_since-changes-requires g c =
       arith,
       same,
       had_few g.K.Keyer.pseudokey_of c.self.inside c.self.invariant.0 c.pseudo-pseudokey.result c.from.result (c.from.ensures ∙ c.ward_number-ward.ensures) _ c.index_mut-state.ensures.value c.from-2.result (c.from-2.ensures ∙ sym c.from.ensures)
-          c.index-2.result.now c.index-2.ensures,
+          c.index.result.now c.index.ensures,
     )
 
 pub invariant_of-self : goal.invariant_of-self
@@ -120,18 +115,16 @@ returns-in_err-distance-clause-step g c =
     let lent = c.index_mut-state.ensures.value in
     let new = changed.after c.self.view_is kept fits lent c.distance.new.ward in
     let free : request_named c.args.name i.in_flight ≡ None = sym c.get.ensures ∙ ap option_copied (none_there c.get.result (sym c.is_some.ensures ∙ c.if-is_some.false)) in
-    let there = numbered_read i.copies.items c.deref.result.now c.args.copy c.in-Some.at c.index.result.now c.deref.ensures.value c.in-Some.ensures.some c.index.ensures in
-    let table_there = table_numbered i.copies.items c.args.copy c.index.result.now there in
-    let at : slice_get i.copies.items c.in-Some.at ≡ Some c.index.result.now = sym (subst (λ (items : List DirectoryState). IsPlaceOf items c.args.copy c.in-Some.at) c.deref.ensures.value c.in-Some.ensures.some).2 ∙ there in
-    let ward_bits = (c.self.invariant.1.of_copies c.in-Some.at c.index.result.now at).bits in
-    let page = c.walk-page.ensures.page ∙ ap (λ bits. (walk_of c.index.result.now.table bits c.pseudo-pseudokey.result).page) ward_bits in
+    let there : numbered i.copies.copies c.args.copy ≡ Some c.copy.result.now.table = (c.in-Some.ensures.some i.copies.copies (sym c.count.ensures)).2 ∙ c.copy.ensures.copy in
+    let ward_bits = c.copy.ensures.array.bits ∙ c.self.invariant.1 in
+    let page = c.walk-page.ensures.page ∙ ap (λ bits. (walk_of c.copy.result.now.table bits c.pseudo-pseudokey.result).page) ward_bits in
     let hashed = c.pseudo-pseudokey.ensures ∙ ap (pseudokey_of i.keyer) (c.as_bytes.ensures.bytes ∙ c.key.ensures) in
     let small = subst (λ k. k < 2 ^ 64) (sym hashed) (kept.sound.words (key_of c.args.call.now)) in
     let reaches : ReachesInto pseudokey_of old event c.from.result =
-    subst (λ (w : WorldState g.row.K.Denot). ReachesInto pseudokey_of w event c.from.result) c.self.view_is (free, ap is_some table_there, at_is ∙ ap (ward_of i.ward_bits) hashed) in
+    subst (λ (w : WorldState g.row.K.Denot). ReachesInto pseudokey_of w event c.from.result) c.self.view_is (free, ap is_some there, at_is ∙ ap (ward_of i.ward_bits) hashed) in
     of_refusal (λ result. Step pseudokey_of old event result new) c.from_residual.result fault c.from_residual.ensures
     (leaves_refused c.self.view_is kept fits lent c.distance.new.ward c.in_err-distance.ensures.err (ReachesInto pseudokey_of old event) (IsRefused old event) reaches ℕ fault c.in_err-distance.ensures.failures
-    (λ other. inr (memory_of fault (no_page_missing pseudokey_of i kept c.pseudo-pseudokey.result c.from.result at_is _ lent c.index.result.now.table (kept.sound.copies c.args.copy c.index.result.now.table table_there) small c.walk-page.result page fault c.in_err-distance.ensures.refused) other)))
+    (λ other. inr (memory_of fault (no_page_missing pseudokey_of i kept c.pseudo-pseudokey.result c.from.result at_is _ lent c.copy.result.now.table (kept.sound.copies c.args.copy c.copy.result.now.table there) small c.walk-page.result page fault c.in_err-distance.ensures.refused) other)))
 
 pub returns-in_err-distance-clause-sound : goal.returns-in_err-distance-clause-sound
 returns-in_err-distance-clause-sound g c = (invariant_of-self g c).0.sound
@@ -145,3 +138,6 @@ returns-in_err-begin-clause-step g c =
     same_ward g.K.Keyer.pseudokey_of i c.self.invariant.0 c.pseudo-pseudokey.result c.from.result (c.from.ensures ∙ c.ward_number-ward.ensures) _ c.index_mut-state.ensures.value c.distance.new.ward c.in_ok-distance.ensures.ok c.begin.new.self
     ∙ ap (with_requests i) c.in_err-begin.ensures.err ∙ c.self.view_is in
     of_refusal (λ result. Step g.K.Keyer.pseudokey_of c.args.self.now event result new) c.from_residual-in_err-begin.result Memory c.from_residual-in_err-begin.ensures (inl (same, inr refl))
+
+pub copy-requires : goal.copy-requires
+copy-requires g c = (c.in-Some.ensures.some c.self.inside.copies.copies (sym c.count.ensures)).1

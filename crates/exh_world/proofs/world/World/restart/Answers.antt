@@ -1,30 +1,51 @@
-use Rattle.std.proofs.Common.{refl, List, sym, subst, Ok}
-use Rattle.exh_prefix.specs.ListLemmas.{within_there}
-use Rattle.exh_array.specs.Pointers.{DirectoryState, HasArrayOf}
-use Rattle.exh_world.specs.Kept.{IsPlaceOf}
+use Rattle.std.proofs.Common.{◌≡◌, ◌<◌, ◌^◌, length, refl, sym, ap, ◌∙◌, subst, Ok}
+use Rattle.std.specs.Prelude.{slice_set}
+use Rattle.exh_sent.specs.Copies.{CopiesState}
+use Rattle.exh_world.specs.Kept.{IsKeptWorld}
 use Rattle.exh_world.specs.Step.{HasRestarted}
 use Rattle.exh_event.specs.declared.event.Event.TheVariants.{Restart}
 use Rattle.exh_event.specs.declared.outcome.Outcome.TheVariants.{Restarted}
-use Rattle.exh_world.proofs.CopyArrays.{table_placed, table_there, arrays_set}
-use Rattle.exh_world.proofs.CopySteps.{kept_after, has_restarted, with_copy, with_tables}
+use Rattle.exh_world.proofs.CopySteps.{kept_after, placed_there, refused_same, has_restarted}
+use Rattle.exh_world.proofs.InsideWorld.{with_copies}
+use Rattle.exh_world.proofs.world.World.restart.Given as Given
 use Rattle.exh_world.proofs.world.World.restart.Goals as goal
+
+pub restart-requires : goal.restart-requires
+restart-requires g c = (c.in-Some.ensures.some c.self.inside.copies.copies (sym c.count.ensures)).1
+
+-- the copies once one was restarted
+left : (g : Given.Over) (c : goal.In_ok-restart g) → c.restart.new.self ≡ record c.self.inside.copies { copies = slice_set c.self.inside.copies.copies c.in-Some.at c.self.inside.copies.start }
+left g c = c.in_ok-restart.ensures.ok
+
+few : (g : Given.Over) (c : goal.In_ok-restart g) → length c.self.inside.copies.sent < 2 ^ 32
+few g c = c.self.invariant.0.few_sent
 
 pub returns-clause-step : goal.returns-clause-step
 returns-clause-step g c =
-    let placed = subst (λ (items : List DirectoryState). IsPlaceOf items c.args.copy c.in-Some.at) c.deref.ensures.value c.in-Some.ensures.some in
-    let table_at = table_placed c.self.inside.copies.items c.args.copy c.in-Some.at placed in
-    let own = within_there c.self.inside.copies.items c.in-Some.at placed.1 in
-    with_tables c.self.view_is c.self.invariant.0 c.self.inside.copies.items refl c.in-Some.at c.in_ok-start.start (HasRestarted c.args.self.now c.args.copy)
-    (subst (λ (start : DirectoryState). HasRestarted c.args.self.now c.args.copy (with_copy c.self.view_is c.self.invariant.0 c.in-Some.at start.table)) (sym c.in_ok-start.ensures)
-    (has_restarted c.self.view_is c.self.invariant.0 c.args.copy c.in-Some.at table_at own.0.table (table_there c.self.inside.copies.items c.in-Some.at own.0 own.1)))
+    let placed = c.in-Some.ensures.some c.self.inside.copies.copies (sym c.count.ensures) in
+    let own = placed_there c.self.inside.copies.copies c.args.copy c.in-Some.at placed in
+    subst (λ (copies : CopiesState). HasRestarted c.args.self.now c.args.copy (with_copies c.self.inside copies)) (sym (left g c))
+    (has_restarted c.self.view_is c.self.invariant.0 c.args.copy c.in-Some.at placed own.0 own.1)
 
-pub invariant_of-self : goal.invariant_of-self
-invariant_of-self g c =
-    let placed = subst (λ (items : List DirectoryState). IsPlaceOf items c.args.copy c.in-Some.at) c.deref.ensures.value c.in-Some.ensures.some in
-    let own = within_there c.self.inside.copies.items c.in-Some.at placed.1 in (
-      kept_after c.self.view_is c.self.invariant.0 c.steps_keep_worlds_sound.ensures (Restart c.args.copy) (Ok Restarted) _ (returns-clause-step g c) refl refl c.self.invariant.0.few_sent,
-      arrays_set c.self.inside.ward_bits c.self.inside.start c.self.inside.copies.items c.in-Some.at own.0 c.in_ok-start.start c.self.invariant.1 own.1 (subst (HasArrayOf c.self.inside.ward_bits) (sym c.in_ok-start.ensures) c.self.invariant.1.of_start),
-    )
+pub invariant_of-self-2 : goal.invariant_of-self-2
+invariant_of-self-2 g c = (
+  kept_after c.self.view_is c.self.invariant.0 c.steps_keep_worlds_sound.ensures (Restart c.args.copy) (Ok Restarted) _ (returns-clause-step g c) refl refl
+      (subst (λ (copies : CopiesState). length copies.sent < 2 ^ 32) (sym (left g c)) (few g c)),
+  ap (λ (copies : CopiesState). copies.ward_bits) (left g c) ∙ c.self.invariant.1,
+)
 
 pub returns-clause-sound : goal.returns-clause-sound
-returns-clause-sound g c = (invariant_of-self g c).0.sound
+returns-clause-sound g c = (invariant_of-self-2 g c).0.sound
+
+pub returns-in_err-restart-clause-step : goal.returns-in_err-restart-clause-step
+returns-in_err-restart-clause-step g c =
+    refused_same c.self.view_is c.self.invariant.0 (Restart c.args.copy) c.from_residual.result _ (ap (with_copies c.self.inside) c.in_err-restart.ensures.err) c.from_residual.ensures
+
+pub invariant_of-self : goal.invariant_of-self
+invariant_of-self g c = (
+  subst (IsKeptWorld g.K.Keyer.pseudokey_of) (sym (ap (with_copies c.self.inside) c.in_err-restart.ensures.err)) c.self.invariant.0,
+  ap (λ (copies : CopiesState). copies.ward_bits) c.in_err-restart.ensures.err ∙ c.self.invariant.1,
+)
+
+pub returns-in_err-restart-clause-sound : goal.returns-in_err-restart-clause-sound
+returns-in_err-restart-clause-sound g c = (invariant_of-self g c).0.sound

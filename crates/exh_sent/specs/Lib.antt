@@ -1,0 +1,5 @@
+pub mod Sent
+pub mod Known
+pub mod Held
+pub mod Copies
+pub mod Kept
