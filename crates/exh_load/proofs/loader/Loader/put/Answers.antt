@@ -3,6 +3,7 @@ use Rattle.exh_keyer.specs.Pseudokey.{any_pseudokey}
 use Rattle.exh_prefix.specs.Leading.{ward_of}
 use Rattle.exh_calls.specs.declared.call.Call.TheVariants.{Put}
 use Rattle.exh_change.specs.InWardLemmas.{at_within, settings_kept, ward_covers, ward_hashed, wards_left}
+use Rattle.exh_stream.specs.OutputLemmas.{OnErr-from}
 use Rattle.exh_load.specs.Loader.{LoaderState, file_in}
 use Rattle.exh_load.proofs.PutIn.{are_splits_in, begun_keeps, directory_within, loading_left, maps_in, one_put_in, put_in, records_left, reply_in, ward_told}
 use Rattle.exh_load.proofs.loader.Loader.put.Goals as goal
@@ -49,8 +50,8 @@ put_pair-requires-clause-told g c =
     let at_is : c.from-at.result ≡ ward_of i.settings.ward_bits c.pseudo-pseudokey.result = c.from-at.ensures ∙ c.ward_number.ensures in
     ward_told old c.args.self.now c.self.view_is c.self.invariant c.requires c.args.key c.args.value c.pseudo-pseudokey.result c.from-at.result hashed at_is c.index_mut-ward.result.now c.index_mut-ward.ensures.value c.index_mut-directory.result.now c.index_mut-directory.ensures.value
 
-pub invariant_of-self-in_err-reply : goal.invariant_of-self-in_err-reply
-invariant_of-self-in_err-reply g c =
+pub invariant_of-self : goal.invariant_of-self
+invariant_of-self g c =
     let i = c.self.inside in
     let old : LoaderState = record { cap = i.settings.cap; ward_bits = i.settings.ward_bits; keyer = i.settings.keyer; wards = i.wards.items; directories = i.directories.items } in
     let hashed : c.pseudo-pseudokey.result ≡ any_pseudokey i.settings.keyer c.args.key = c.pseudo-pseudokey.ensures ∙ ap (any_pseudokey i.settings.keyer) c.as_bytes.ensures.bytes in
