@@ -1,0 +1,11 @@
+use Rattle.std.proofs.Common.{◌+◌, ◌≤◌}
+use Rattle.exh_live.specs.Rounds.{TakesFromTo}
+use Rattle.exh_live.proofs.courier.take_some.Given as goal
+
+-- what was taken so far, which with what is left isn't more than was to be taken
+abbrev pub invariant-loop-left : goal.invariant-loop-left
+invariant-loop-left g l = TakesFromTo l.number l.fn.copy l.fn.place l.copy l.place × (l.place + l.left ≤ l.fn.place + l.count)
+
+-- how many notices may be left
+abbrev pub decreases-loop-left : goal.decreases-loop-left
+decreases-loop-left g l = l.left
