@@ -4,13 +4,13 @@ ghost use Rattle.exh_copy.specs.declared.addition.Addition.TheVariants.{Take};
 ghost use Rattle.exh_live.specs.Rounds.{AreCarried, Follows, HadSoMany, TakesBatch, TakesBetween, TakesFromTo};
 
 use crate::lock::lock_soon;
-use crate::tallied_ward::{TURN_LIMIT, WardLock};
+use crate::tallied_ward::TURN_LIMIT;
 use crate::{Cursors, Identity, LiveFile};
 use exh_copy::{CopyWriter, Start};
 use exh_frames::Pages;
 use exh_keyer::Keyer;
 use exh_notice::Notice;
-use std::alloc::{AllocError, Global};
+use std::alloc::AllocError;
 use std::sync::Wait;
 
 impl<P: Pages + Drop, K: Keyer, F: Identity> LiveFile<P, K, F> {
@@ -69,35 +69,18 @@ impl<P: Pages + Drop, K: Keyer, F: Identity> LiveFile<P, K, F> {
         ensures few { (count : ℕ) × HadSoMany K.pseudokey_of place.old count × (place.new ≤ place.old + count) }
     {
         let ward = &self.wards[usize::from(number)];
+        let mut batch = Vec::new(self.alloc);
         let count = lock_soon(ward, rt).count_above(*place);
-        take_some(rt, self.alloc, ward, copy, number, place, count)
+        let mut left = count;
+        while 0 < left {
+            batch.clear();
+            lock_soon(ward, rt).hand_out(*place, &mut batch)?;
+            let most = left.min(TURN_LIMIT);
+            take_next(copy, number, place, &batch[..batch.len().min(most)])?;
+            left -= most;
+        }
+        Ok(())
     }
-}
-
-// Takes so many notices of a ward after a place, or as many as follow there, and moves it.
-fn take_some<R: Wait, P: Pages + Drop, K: Keyer, F: Identity, S: Start>(
-    rt: &R,
-    alloc: Global,
-    ward: &WardLock<P, K, F>,
-    copy: &mut CopyWriter<S>,
-    number: u8,
-    place: &mut u64,
-    count: usize,
-) -> Result<(), AllocError>
-    ensures taken { TakesFromTo number copy.old place.old copy.new place.new }
-    ensures few { place.new ≤ place.old + count }
-{
-    let mut batch = Vec::new(alloc);
-    let mut left = count;
-    while 0 < left {
-        batch.clear();
-        lock_soon(ward, rt).hand_out(*place, &mut batch)?;
-        let most = left.min(TURN_LIMIT);
-        let turn = &batch[..batch.len().min(most)];
-        take_next(copy, number, place, turn)?;
-        left -= most;
-    }
-    Ok(())
 }
 
 // Takes notices of the ward of this number in order, as long as each has the index after the place, which

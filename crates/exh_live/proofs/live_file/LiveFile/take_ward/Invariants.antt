@@ -1,8 +1,8 @@
 use Rattle.std.proofs.Common.{◌+◌, ◌≤◌}
 use Rattle.exh_live.specs.Rounds.{TakesFromTo}
-use Rattle.exh_live.proofs.courier.take_some.Given as goal
+use Rattle.exh_live.proofs.live_file.LiveFile.take_ward.Given as goal
 
--- what was taken so far, which with what is left isn't more than was to be taken
+-- what was taken so far, and that it is no more than what isn't left of the first count
 abbrev pub invariant-loop-left : goal.invariant-loop-left
 invariant-loop-left g l = TakesFromTo l.number l.fn.copy l.fn.place l.copy l.place × (l.place + l.left ≤ l.fn.place + l.count)
 

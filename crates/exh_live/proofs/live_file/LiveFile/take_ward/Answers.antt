@@ -1,5 +1,5 @@
 use Rattle.exh_live.proofs.Rounds.{batch_on}
-use Rattle.exh_live.proofs.courier.take_some.Goals as goal
+use Rattle.exh_live.proofs.live_file.LiveFile.take_ward.Goals as goal
 
 pub returns-in_err-take_next : goal.returns-in_err-take_next
 returns-in_err-take_next g c =
