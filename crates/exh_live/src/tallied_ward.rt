@@ -168,12 +168,13 @@ impl<P: Pages + Drop, K: Keyer, F: Identity> TalliedWard<P, K, F> {
 
     /// Pushes the first of the ward's notices above a place, in order: 256, or all where there are fewer.
     /// Where memory is refused, an `AllocError`, none is pushed.
+    #[tactic(auto, using(std::proofs::lemmas::List::take_min))]
     pub(crate) fn hand_out(&self, place: u64, notices: &mut Vec<Notice>) -> Result<(), AllocError>
         ensures ok { OnOk result (notices.new.items ≡ notices.old.items ++ take 256 (notices_above place self.now.ward.notices)) }
         ensures err { OnErr result (notices.new.items ≡ notices.old.items) }
     {
         let above = self.ward.notices_after(place);
-        notices.extend_from_slice(&above[..above.len().min(TURN_LIMIT)])
+        notices.extend_from_slice(&above[..TURN_LIMIT.min(above.len())])
     }
 }
 
