@@ -3,7 +3,7 @@ use Rattle.std.proofs.Common.{◌≡◌, ℕ, suc, ◌+◌, ◌-◌, ◌*◌, �
 use Rattle.std.proofs.lemmas.Bool.{false≢true}
 use Rattle.std.specs.Prelude.{IsErr, OnErr, OnOk}
 use Rattle.std.specs.declared.alloc.AllocError.{AllocError}
-use Rattle.std.proofs.lemmas.List.{length-append, length-map, length-take-le, length-set, length_push, same_from_push, take_more, take_more_set, take-append-drop, drop_more, drop_all, drop-set-lt, get_or-drop, map-append}
+use Rattle.std.proofs.lemmas.List.{length-append, length-map, length-take, length-take-le, length-set, length_push, same_from_push, take_more, take_more_set, take-append-drop, drop_more, drop_all, drop-set-lt, get_or-drop, map-append}
 use Rattle.std.proofs.lemmas.Grind.{drop_more_same}
 use Rattle.std.proofs.lemmas.Option.{slice_get_within}
 use Rattle.exh_prefix.specs.ListLemmas.{one_there}
@@ -112,11 +112,11 @@ pub batch_on : (ward : ℕ) (batch : List Notice) (old between new : Additions) 
 batch_on ward batch old between new place far last result so_far more =
     (so_far.0 ++ more.0, from_to_on ward place so_far.0 far more.0 last so_far.1 more.3, takes_on old between new so_far.0 more.0 so_far.2 more.4)
 
--- the place moves by no more notices than the batch has
-pub batch_within : (ward : ℕ) (batch : List Notice) (old new : Additions) (place last : ℕ) (result : Result (Unit {0}) AllocError) → TakesBatch ward batch old place result new last → last ≤ place + length batch
-batch_within ward batch old new place last result takes =
-    let whole : length batch ≡ length (takes.0 ++ takes.1) = ap length takes.2 in
-    omega (arith, last_of ward place takes.0 last takes.3, whole, length-append takes.0 takes.1)
+-- of so many notices of a batch at most the place moves by no more than these
+pub turn_within : (ward count most : ℕ) (batch : List Notice) (old new : Additions) (place last : ℕ) (result : Result (Unit {0}) AllocError) → count ≤ most → TakesBatch ward (take count batch) old place result new last → last ≤ place + most
+turn_within ward count most batch old new place last result few takes =
+    let whole : length (take count batch) ≡ length (takes.0 ++ takes.1) = ap length takes.2 in
+    omega (arith, few, last_of ward place takes.0 last takes.3, whole, length-append takes.0 takes.1, length-take count batch)
 
 -- what was taken of a batch so far, by how many
 abbrev pub BatchSoFar : ℕ → List Notice → Additions → ℕ → ℕ → Additions → ℕ → Type 0
