@@ -1,7 +1,8 @@
 //! The steps of stories of one caller.
 
 use crate::live_step::LiveStep::{
-    self, Call, Carried, Closed, Held, Idle, Kept, KeptIn, Named, Often, Refilled, Stale, Tell, Within,
+    self, Call, Carried, Closed, Held, Idle, Kept, KeptIn, Named, Often, Refilled, Stale, Tell,
+    Within,
 };
 use exh_fixtures::Said::{self, Absent, Is, New, Was};
 

@@ -7,8 +7,9 @@ ghost use Rattle.exh_live.specs.declared.ledgers.TheConstants.{ANSWER_PARTS, ENT
 ghost use Rattle.exh_prefix.specs.declared.prefix.TheConstants.{WARD_BITS_LIMIT};
 
 use crate::lists::{
-    COURIER, EVEN_HALF, FAR_BEHIND, FOUR_WARDS, KEEPER, LATE_COURIER, LONG, MERGED_COURIER, ODD_HALF,
-    OPENED_COURIER, SEVEN_SPLITS, THREE_KEYS, THREE_KEYS_EACH, TOLD_COPY, WORN_KEEPER, WRONG_HINT,
+    COURIER, EVEN_HALF, FAR_BEHIND, FOUR_WARDS, KEEPER, LATE_COURIER, LONG, MERGED_COURIER,
+    ODD_HALF, OPENED_COURIER, SEVEN_SPLITS, THREE_KEYS, THREE_KEYS_EACH, TOLD_COPY, WORN_KEEPER,
+    WRONG_HINT,
 };
 use crate::live_step::{LiveStep, take_steps};
 use crate::written_ward::written_ward;

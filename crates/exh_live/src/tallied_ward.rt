@@ -161,13 +161,11 @@ impl<P: Pages + Drop, K: Keyer, F: Identity> TalliedWard<P, K, F> {
         ensures count { result ≡ length (notices_above place self.now.ward.notices) }
         ensures sound { IsSoundWard K.pseudokey_of self.now.ward }
     {
-        // By whose contract the ward is sound.
         self.ward.journal();
         self.ward.notices_after(place).len()
     }
 
-    /// Pushes the first of the ward's notices above a place, in order: 256, or all where there are fewer.
-    /// Where memory is refused, an `AllocError`, none is pushed.
+    /// Pushes the first 256 of the ward's notices above a place, in order. At an `AllocError` none is pushed.
     #[tactic(auto, using(std::proofs::lemmas::List::take_min))]
     pub(crate) fn hand_out(&self, place: u64, notices: &mut Vec<Notice>) -> Result<(), AllocError>
         ensures ok { OnOk result (notices.new.items ≡ notices.old.items ++ take 256 (notices_above place self.now.ward.notices)) }
