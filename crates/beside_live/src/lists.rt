@@ -1,9 +1,10 @@
 //! The steps of stories of one caller.
 
 use crate::live_step::LiveStep::{
-    self, Call, Carried, Closed, Held, Idle, Kept, KeptIn, Named, Often, Stale, Tell, Within,
+    self, Call, Carried, Closed, Held, Idle, Kept, KeptIn, Named, Often, Refilled, Stale, Tell,
+    Within,
 };
-use exh_fixtures::Said::{Absent, Is, New, Was};
+use exh_fixtures::Said::{self, Absent, Is, New, Was};
 
 /// Three puts, of which the third takes one split where a page has two records: page 0 has `#00` and `#40`
 /// then, page 1 has `#80`.
@@ -121,6 +122,25 @@ pub(crate) static LONG: [LiveStep; 8] = [
     Often(20_001, Is(b"\x80", b"b")),
     Within(1, Is(b"\x80", b"b")),
     Closed(2, Is(b"\x80", b"b")),
+];
+
+/// Of the three keys these are deleted, which leaves one record in both pages.
+pub(crate) static EMPTIED: [Said<'static>; 2] = [Was(b"\x40", b"x"), Was(b"\x80", b"b")];
+
+/// They are put again, which takes a split where the pages were merged.
+pub(crate) static FILLED: [Said<'static>; 2] = [New(b"\x80", b"b"), New(b"\x40", b"x")];
+
+/// After the three keys and 300 merges and splits a round carries all 601 notices, and after 128 more all 256.
+pub(crate) static FAR_BEHIND: [LiveStep; 9] = [
+    Refilled(300),
+    Carried(601),
+    Named(b"\x80", 1),
+    Within(1, Is(b"\x80", b"b")),
+    Carried(0),
+    Refilled(128),
+    Carried(256),
+    Named(b"\x80", 1),
+    Carried(0),
 ];
 
 /// One record in the left page and, after the split, as many in the right one as a page may have, four. They

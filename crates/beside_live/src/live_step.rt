@@ -3,6 +3,7 @@ ghost use Rattle.std.specs.Prelude.{◌≡◌, ◌^◌, ◌≤◌, length, IfOk}
 ghost use Rattle.std.specs.FinMap as map;
 ghost use Rattle.exh_prefix.specs.declared.prefix.TheConstants.{WARD_BITS_LIMIT};
 
+use crate::lists::{EMPTIED, FILLED};
 use exh_callers::{Caller, PlainFile, Reader, Writer, is_carried, is_held, is_kept, is_told};
 use exh_copy::{NewCopyFault, Start, new_copy};
 use exh_fixtures::{Asked, Said, prefix, split, told_reply};
@@ -35,6 +36,9 @@ pub(crate) enum LiveStep {
     Carried(u64),
     /// So many of a courier's rounds, each of which takes nothing.
     Idle(u32),
+    /// After the three keys so many times: two of them are deleted, a keeper merges the two pages, and the two keys
+    /// are put again, which takes a split.
+    Refilled(u32),
     /// A call that is asked so many times, each time with the same reply.
     Often(u32, Said<'static>),
     /// A call of a caller that looks at a copy which was told of the first split of page 0, and is closed: it is
@@ -150,6 +154,7 @@ fn take<R: Wait, F: Identity, S: Start>(
         LiveStep::KeptIn(ward, merges) => is_kept_in(rt, file, ward_bits, *ward, *merges),
         LiveStep::Carried(notices) => is_carried(rt, file, writer, cursors, *notices),
         LiveStep::Idle(rounds) => are_idle(rt, file, writer, cursors, *rounds),
+        LiveStep::Refilled(times) => are_refilled(rt, file, ward_bits, caller, *times),
         LiveStep::Often(times, said) => is_told_often(rt, file, caller, *times, said),
         LiveStep::Closed(turns, said) => {
             let closed = closed_reader(rt, run.alloc, ward_bits)?;
@@ -194,6 +199,40 @@ fn are_idle<R: Wait, F: Identity, S: Start>(
 {
     'rounds: for _ in 0..rounds {
         is_carried(rt, file, writer, cursors, 0)?;
+    }
+    Ok(())
+}
+
+// Whether the pages of the three keys are emptied, merged and filled again so many times.
+fn are_refilled<R: Wait, F: Identity, S: Start>(
+    rt: &R,
+    file: &PlainFile<F>,
+    ward_bits: u8,
+    caller: &mut Caller<F, S>,
+    times: u32,
+) -> Result<(), Difference>
+    requires limit { file.now.ward_bits ≤ WARD_BITS_LIMIT }
+    requires bits { ward_bits ≡ file.now.ward_bits }
+    ensures { caller.new.copy.name ≡ caller.old.copy.name }
+{
+    'times: for _ in 0..times {
+        are_told(rt, file, caller, &EMPTIED)?;
+        is_kept_in(rt, file, ward_bits, 0, 1)?;
+        are_told(rt, file, caller, &FILLED)?;
+    }
+    Ok(())
+}
+
+fn are_told<R: Wait, F: Identity, S: Start>(
+    rt: &R,
+    file: &PlainFile<F>,
+    caller: &mut Caller<F, S>,
+    all: &[Said<'static>],
+) -> Result<(), Difference>
+    ensures { caller.new.copy.name ≡ caller.old.copy.name }
+{
+    'all: for said in all {
+        is_told(rt, file, caller, said.asked(), &OpenGate, said.reply()?)?;
     }
     Ok(())
 }

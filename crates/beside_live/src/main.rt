@@ -50,13 +50,14 @@ enum Story {
 }
 
 // All of them, in the order in which they are played.
-const STORIES: [Story; 16] = [
+const STORIES: [Story; 17] = [
     Story::OneCaller(OneCaller::ToldCopy),
     Story::Closing,
     Story::OneCaller(OneCaller::Courier),
     Story::OneCaller(OneCaller::Keeper),
     Story::OneCaller(OneCaller::FourWards),
     Story::OneCaller(OneCaller::Long),
+    Story::OneCaller(OneCaller::FarBehind),
     Story::OneCaller(OneCaller::EvenHalf),
     Story::OneCaller(OneCaller::OddHalf),
     Story::OneCaller(OneCaller::OpenedCourier),
@@ -89,6 +90,7 @@ impl Named for Story {
             Story::OneCaller(OneCaller::Keeper) => "keeper",
             Story::OneCaller(OneCaller::FourWards) => "four-wards",
             Story::OneCaller(OneCaller::Long) => "long",
+            Story::OneCaller(OneCaller::FarBehind) => "far-behind",
             Story::OneCaller(OneCaller::EvenHalf) => "even-half",
             Story::OneCaller(OneCaller::OddHalf) => "odd-half",
             Story::OneCaller(OneCaller::OpenedCourier) => "opened-courier",

@@ -7,8 +7,9 @@ ghost use Rattle.exh_live.specs.declared.ledgers.TheConstants.{ANSWER_PARTS, ENT
 ghost use Rattle.exh_prefix.specs.declared.prefix.TheConstants.{WARD_BITS_LIMIT};
 
 use crate::lists::{
-    COURIER, EVEN_HALF, FOUR_WARDS, KEEPER, LATE_COURIER, LONG, MERGED_COURIER, ODD_HALF,
-    OPENED_COURIER, SEVEN_SPLITS, THREE_KEYS, THREE_KEYS_EACH, TOLD_COPY, WORN_KEEPER, WRONG_HINT,
+    COURIER, EVEN_HALF, FAR_BEHIND, FOUR_WARDS, KEEPER, LATE_COURIER, LONG, MERGED_COURIER,
+    ODD_HALF, OPENED_COURIER, SEVEN_SPLITS, THREE_KEYS, THREE_KEYS_EACH, TOLD_COPY, WORN_KEEPER,
+    WRONG_HINT,
 };
 use crate::live_step::{LiveStep, take_steps};
 use crate::written_ward::written_ward;
@@ -39,6 +40,8 @@ pub(crate) enum OneCaller {
     FourWards,
     /// A courier makes 2,000 rounds and a caller 20,001 calls; then it looks at a copy that is closed.
     Long,
+    /// A courier makes a round after hundreds of changes.
+    FarBehind,
     /// Two pages are merged where they have together at most half as many records as a page may, which is
     /// an even number, 4.
     EvenHalf,
@@ -115,6 +118,7 @@ impl OneCaller {
             OneCaller::OddHalf => 11,
             OneCaller::Keeper => 12,
             OneCaller::FourWards => 24,
+            OneCaller::FarBehind => 1_716,
             OneCaller::Long => 20_007,
         }
     }
@@ -133,6 +137,7 @@ impl OneCaller {
 
     fn further_steps(self) -> [&'static [LiveStep]; 2] {
         match self {
+            OneCaller::FarBehind => [&THREE_KEYS, &FAR_BEHIND],
             OneCaller::EvenHalf => [&EVEN_HALF, &[]],
             OneCaller::OddHalf => [&ODD_HALF, &[]],
             OneCaller::OpenedCourier => [&OPENED_COURIER, &[]],

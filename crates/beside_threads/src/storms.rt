@@ -93,6 +93,14 @@ const NOES_OF_MANY: [(u32, u32, Result<u64, u8>); 9] = [
     (65_609, 1, Ok(800)),
 ];
 
+// The same of a storm of 2,000 calls: the keeper and the courier, at the last round and behind it.
+const NOES_OF_LONG: [(u32, u32, Result<u64, u8>); 4] = [
+    (65_536, 2_000, Err(50)),
+    (65_536, 2_001, Ok(2_000)),
+    (65_601, 2_000, Err(50)),
+    (65_601, 2_001, Ok(2_000)),
+];
+
 // Two storms of whose threads one that is no caller's isn't made: in the first a caller is held, and comes
 // first; in the second the second courier, and what can't be made comes before it.
 const UNMADE: [(u32, Result<u64, u8>); 2] = [(1, Err(50)), (65_602, Err(10))];
@@ -114,6 +122,8 @@ enum Size {
     Eight,
     /// As many callers, wards and copies as there may be.
     Most,
+    /// Many calls of one caller.
+    Long,
     /// More copies than callers.
     Unseen,
 }
@@ -129,6 +139,7 @@ impl Size {
             Size::Alone => (1, 100, 2, 0, 1),
             Size::Eight => (1, 100, 1, 3, 1),
             Size::Most => (16, 50, 16, 4, 8),
+            Size::Long => (1, 2_000, 2, 0, 1),
             Size::Unseen => (2, 10, 2, 1, 5),
         };
         StormConfig {
@@ -155,18 +166,26 @@ pub(crate) fn play<R: Threads + Wait + Clock + Sync>(rt: &R, story: Storms, run:
             step(rt, run, Size::Unseen, &[], Ok(20));
         }
         Storms::Closed => {
-            for (client, turn, want) in NOES {
-                let no = Rule(Who::Client(client), Some(turn), Then::No);
-                step(rt, run, Size::Few, &[no], want);
-            }
-            for (client, turn, want) in NOES_OF_MANY {
-                let no = Rule(Who::Client(client), Some(turn), Then::No);
-                step(rt, run, Size::Most, &[no], want);
-            }
+            play_closed(rt, run, Size::Few, &NOES);
+            play_closed(rt, run, Size::Most, &NOES_OF_MANY);
+            play_closed(rt, run, Size::Long, &NOES_OF_LONG);
         }
         Storms::Unmade => play_unmade(rt, run),
         Storms::Small => step(rt, run, Size::Small, &[], Ok(1)),
         Storms::Told => play_told(rt, run),
+    }
+}
+
+// Runs a storm of this size for each of these, to whom its gate says no.
+fn play_closed<R: Threads + Wait + Clock + Sync>(
+    rt: &R,
+    run: &mut Run,
+    size: Size,
+    noes: &[(u32, u32, Result<u64, u8>)],
+) {
+    for (client, turn, want) in noes {
+        let no = Rule(Who::Client(*client), Some(*turn), Then::No);
+        step(rt, run, size, &[no], *want);
     }
 }
 

@@ -3,7 +3,7 @@ use Rattle.std.proofs.Common.{◌≡◌, ℕ, suc, ◌+◌, ◌-◌, ◌*◌, �
 use Rattle.std.proofs.lemmas.Bool.{false≢true}
 use Rattle.std.specs.Prelude.{IsErr, OnErr, OnOk}
 use Rattle.std.specs.declared.alloc.AllocError.{AllocError}
-use Rattle.std.proofs.lemmas.List.{length-append, length-map, length-take-le, length-set, length_push, same_from_push, take_more, take_more_set, take-append-drop, drop_more, drop_all, drop-set-lt, get_or-drop, map-append}
+use Rattle.std.proofs.lemmas.List.{length-append, length-map, length-take, length-take-le, length-set, length_push, same_from_push, take_more, take_more_set, take-append-drop, drop_more, drop_all, drop-set-lt, get_or-drop, map-append}
 use Rattle.std.proofs.lemmas.Grind.{drop_more_same}
 use Rattle.std.proofs.lemmas.Option.{slice_get_within}
 use Rattle.exh_prefix.specs.ListLemmas.{one_there}
@@ -88,6 +88,12 @@ from_to_on : (ward place : ℕ) (notices : List Notice) (between : ℕ) (more : 
 from_to_on ward place [] between more last one other = subst (λ n. AreFromTo ward n more last) one other
 from_to_on ward place (first ∷ notices) between more last one other = (one.0, one.1, from_to_on ward first.index notices between more last one.2 other)
 
+last_of : (ward place : ℕ) (notices : List Notice) (last : ℕ) → AreFromTo ward place notices last → last ≡ place + length notices
+last_of ward place [] last from = omega (arith, from)
+last_of ward place (first ∷ notices) last from =
+    let further = last_of ward first.index notices last from.2 in
+    omega (arith, from.1, further)
+
 pub takes_nothing : (copy : Additions) → TakesAll copy [] copy
 takes_nothing copy = ap (λ pending. record copy { pending = pending }) (sym (append-nil copy.pending))
 
@@ -105,6 +111,12 @@ pub batch_on : (ward : ℕ) (batch : List Notice) (old between new : Additions) 
     → TakesFromTo ward old place new last
 batch_on ward batch old between new place far last result so_far more =
     (so_far.0 ++ more.0, from_to_on ward place so_far.0 far more.0 last so_far.1 more.3, takes_on old between new so_far.0 more.0 so_far.2 more.4)
+
+-- of so many notices of a batch at most the place moves by no more than these
+pub turn_within : (ward count most : ℕ) (batch : List Notice) (old new : Additions) (place last : ℕ) (result : Result (Unit {0}) AllocError) → count ≤ most → TakesBatch ward (take count batch) old place result new last → last ≤ place + most
+turn_within ward count most batch old new place last result few takes =
+    let whole : length (take count batch) ≡ length (takes.0 ++ takes.1) = ap length takes.2 in
+    omega (arith, few, last_of ward place takes.0 last takes.3, whole, length-append takes.0 takes.1, length-take count batch)
 
 -- what was taken of a batch so far, by how many
 abbrev pub BatchSoFar : ℕ → List Notice → Additions → ℕ → ℕ → Additions → ℕ → Type 0

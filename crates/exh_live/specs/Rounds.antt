@@ -12,7 +12,7 @@ use Rattle.exh_copy.specs.declared.addition.Addition.TheVariants.{Take}
 use Rattle.exh_ward.specs.BuddySum.{HasBuddySum}
 use Rattle.exh_ward.specs.MergeStep.{IsMergeStep}
 use Rattle.exh_ward.specs.WardFault.{MergeRefused}
-use Rattle.exh_ward.specs.WardState.{WardState}
+use Rattle.exh_ward.specs.WardState.{WardState, IsSoundWard, notices_above}
 use Rattle.exh_ward.specs.declared.ward_fault.WardFault.{WardFault}
 use Rattle.exh_ward.specs.declared.ward_fault.WardFault.TheVariants.{Worn, Memory, Page}
 
@@ -79,6 +79,10 @@ TakesFromTo ward old place new last = (notices : List Notice) × AreFromTo ward 
 -- a courier's places before and after: a copy took such notices of all wards
 abbrev pub TakesBetween : Additions → List ℕ → Additions → List ℕ → Type 0
 TakesBetween old places new lasts = (notices : List Notice) × AreCarried 0 places notices lasts × TakesAll old notices new
+
+-- some sound ward had so many notices above a place
+abbrev pub HadSoMany : {K : Type 0} → (K → List ℕ → ℕ) → ℕ → ℕ → Type 0
+HadSoMany {K} pseudokey_of place count = (ward : WardState K) × IsSoundWard pseudokey_of ward × (count ≡ length (notices_above place ward.notices))
 
 -- the notice is of the ward, and its index is the next one
 abbrev pub Follows : ℕ → ℕ → Notice → Type 0

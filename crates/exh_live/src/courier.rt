@@ -1,9 +1,10 @@
-ghost use Rattle.std.specs.Prelude.{◌≡◌, ◌+◌, ◌^◌, ◌<◌, ◌↔◌, [], ◌++◌, length, map, List, IsTrue, IfOk, OnErr};
+ghost use Rattle.std.specs.Prelude.{◌≡◌, ◌+◌, ◌^◌, ◌<◌, ◌≤◌, ◌↔◌, ℕ, [], ◌++◌, length, map, List, IsTrue, IfOk, OnErr};
 ghost use Rattle.exh_notice.specs.declared.notice.Notice.{Notice as NoticeValue};
 ghost use Rattle.exh_copy.specs.declared.addition.Addition.TheVariants.{Take};
-ghost use Rattle.exh_live.specs.Rounds.{AreCarried, Follows, TakesBatch, TakesBetween, TakesFromTo};
+ghost use Rattle.exh_live.specs.Rounds.{AreCarried, Follows, HadSoMany, TakesBatch, TakesBetween, TakesFromTo};
 
 use crate::lock::lock_soon;
+use crate::tallied_ward::TURN_LIMIT;
 use crate::{Cursors, Identity, LiveFile};
 use exh_copy::{CopyWriter, Start};
 use exh_frames::Pages;
@@ -11,9 +12,6 @@ use exh_keyer::Keyer;
 use exh_notice::Notice;
 use std::alloc::AllocError;
 use std::sync::Wait;
-
-// So many notices are copied at most in one turn of a ward's lock.
-const TURN_LIMIT: usize = 256;
 
 impl<P: Pages + Drop, K: Keyer, F: Identity> LiveFile<P, K, F> {
     /// One round of a courier to a copy of the directory, from its places, one for each ward of the file:
@@ -58,7 +56,7 @@ impl<P: Pages + Drop, K: Keyer, F: Identity> LiveFile<P, K, F> {
         Ok(())
     }
 
-    // Takes the notices of one ward after a place, and moves it.
+    // Takes the notices of one ward after a place, as many as it has at the first turn of its lock, and moves it.
     fn take_ward<R: Wait, S: Start>(
         &self,
         rt: &R,
@@ -67,16 +65,18 @@ impl<P: Pages + Drop, K: Keyer, F: Identity> LiveFile<P, K, F> {
         place: &mut u64,
     ) -> Result<(), AllocError>
         requires { number < 2 ^ self.now.ward_bits }
-        ensures { TakesFromTo number copy.old place.old copy.new place.new }
+        ensures taken { TakesFromTo number copy.old place.old copy.new place.new }
+        ensures few { (count : ℕ) × HadSoMany K.pseudokey_of place.old count × (place.new ≤ place.old + count) }
     {
         let ward = &self.wards[usize::from(number)];
         let mut batch = Vec::new(self.alloc);
-        let mut left = lock_soon(ward, rt).count_above(*place);
+        let count = lock_soon(ward, rt).count_above(*place);
+        let mut left = count;
         while 0 < left {
-            let most = left.min(TURN_LIMIT);
             batch.clear();
-            lock_soon(ward, rt).hand_out(*place, most, &mut batch)?;
-            take_next(copy, number, place, batch.as_slice())?;
+            lock_soon(ward, rt).hand_out(*place, &mut batch)?;
+            let most = left.min(TURN_LIMIT);
+            take_next(copy, number, place, &batch[..batch.len().min(most)])?;
             left -= most;
         }
         Ok(())

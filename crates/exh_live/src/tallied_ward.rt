@@ -24,6 +24,9 @@ use std::alloc::AllocError;
 use std::sync::Mutex;
 use std::sync::ledger::Share;
 
+/// So many notices are copied at most in one turn of a ward's lock.
+pub(crate) const TURN_LIMIT: usize = 256;
+
 /// The lock of a ward. Who waits for it looks at another cache line than who holds it, and the wards
 /// have no line in common.
 pub(crate) type WardLock<P, K, F> = Mutex<CachePadded<TalliedWard<P, K, F>>>;
@@ -155,24 +158,21 @@ impl<P: Pages + Drop, K: Keyer, F: Identity> TalliedWard<P, K, F> {
 
     /// How many notices the ward has above a place.
     pub(crate) fn count_above(&self, place: u64) -> usize
-        ensures { result ≡ length (notices_above place self.now.ward.notices) }
+        ensures count { result ≡ length (notices_above place self.now.ward.notices) }
+        ensures sound { IsSoundWard K.pseudokey_of self.now.ward }
     {
+        self.ward.journal();
         self.ward.notices_after(place).len()
     }
 
-    /// Pushes the first of the ward's notices above a place, in order: so many, or all where there are
-    /// fewer. Where memory is refused, an `AllocError`, none is pushed.
-    pub(crate) fn hand_out(
-        &self,
-        place: u64,
-        most: usize,
-        notices: &mut Vec<Notice>,
-    ) -> Result<(), AllocError>
-        ensures ok { OnOk result (notices.new.items ≡ notices.old.items ++ take most (notices_above place self.now.ward.notices)) }
+    /// Pushes the first 256 of the ward's notices above a place, in order. At an `AllocError` none is pushed.
+    #[tactic(auto, using(std::proofs::lemmas::List::take_min))]
+    pub(crate) fn hand_out(&self, place: u64, notices: &mut Vec<Notice>) -> Result<(), AllocError>
+        ensures ok { OnOk result (notices.new.items ≡ notices.old.items ++ take 256 (notices_above place self.now.ward.notices)) }
         ensures err { OnErr result (notices.new.items ≡ notices.old.items) }
     {
         let above = self.ward.notices_after(place);
-        notices.extend_from_slice(&above[..above.len().min(most)])
+        notices.extend_from_slice(&above[..TURN_LIMIT.min(above.len())])
     }
 }
 

@@ -1,9 +1,10 @@
+use Rattle.std.proofs.Common.{◌+◌, ◌≤◌}
 use Rattle.exh_live.specs.Rounds.{TakesFromTo}
 use Rattle.exh_live.proofs.live_file.LiveFile.take_ward.Given as goal
 
--- what was taken so far
+-- what was taken so far, and that it is no more than what isn't left of the first count
 abbrev pub invariant-loop-left : goal.invariant-loop-left
-invariant-loop-left g l = TakesFromTo l.number l.fn.copy l.fn.place l.copy l.place
+invariant-loop-left g l = TakesFromTo l.number l.fn.copy l.fn.place l.copy l.place × (l.place + l.left ≤ l.fn.place + l.count)
 
 -- how many notices may be left
 abbrev pub decreases-loop-left : goal.decreases-loop-left
