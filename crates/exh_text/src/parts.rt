@@ -3,7 +3,6 @@ ghost use Rattle.std.specs.Iterator.{YieldsFirstRef, item_count};
 ghost use Rattle.std.specs.Option.{option_copied};
 ghost use Rattle.exh_text.specs.Lines.{parts_at, parts_left};
 
-use memchr::memchr;
 use std::marker::Model;
 
 /// The parts of bytes that one byte cuts, from the first on. Bytes without it are one part.
@@ -54,7 +53,7 @@ impl<'a> Iterator for Parts<'a> {
 fn first_part(byte: u8, bytes: &[u8]) -> (&[u8], Option<&[u8]>)
     ensures { parts_at byte bytes.now ≡ result.0.now ∷ parts_left byte (option_copied result.1) }
 {
-    match memchr(byte, bytes) {
+    match bytes.iter().position(|b| *b == byte) {
         Some(end) => (&bytes[..end], Some(&bytes[end + 1..])),
         None => (bytes, None),
     }
