@@ -1,8 +1,10 @@
 -- Decoded pages of which one is changed.
-use Rattle.std.proofs.Common.{◌≡◌, ◌≢◌, ℕ, zero, suc, ◌<◌, List, [], ◌∷◌, length, set, slice_get, Option, Some, None, IsSome, inl, inr, refl, sym, ap, ◌∙◌, arith}
+use Rattle.std.proofs.Common.{◌≡◌, ◌≢◌, ℕ, zero, suc, ◌<◌, List, [], ◌∷◌, length, remove, set, slice_get, Option, Some, None, IsSome, inl, inr, refl, sym, ap, ◌∙◌, arith}
 use Rattle.std.proofs.lemmas.Bool.{cases_eq}
 use Rattle.std.proofs.lemmas.Option.{same_Some, slice_get_within}
+use Rattle.std.specs.Option.{option_map}
 use Rattle.exh_page.specs.declared.page.Page.{Page}
+use Rattle.exh_page.specs.Page.{records_of, with_records}
 use Rattle.exh_images.specs.Decoded.{AreOf, Decoded, decoded_at}
 
 get_set : (pages : List Page) (number : ℕ) (page : Page) → number < length pages → slice_get (set pages number page) number ≡ Some page
@@ -51,3 +53,11 @@ let_go pages old new number page are gone others other found is = elim (cases_eq
   | inl same ↦ let none : decoded_at other new ≡ None = ap (λ (n : ℕ). decoded_at n new) same ∙ gone in cc
   | inr differ ↦ get_set_other pages number other page differ ∙ are other found (sym (others other differ) ∙ is)
 ]
+
+-- the decoded page without a record is the page of its number without it
+pub left_of : (pages : List Page) (decoded : Decoded) (number index : ℕ) (page left : Page) (found : Option Page) → AreOf pages decoded → decoded_at number decoded ≡ found → IsSome found → slice_get pages number ≡ Some page
+    → option_map (λ page. with_records (remove (records_of page) index) page) found ≡ Some left → left ≡ with_records (remove (records_of page) index) page
+left_of pages decoded number index page left None are is some there put = cc
+left_of pages decoded number index page left (Some held) are is some there put =
+    let same : held ≡ page = same_Some held page (sym (are number held is) ∙ there) in
+    sym (same_Some (with_records (remove (records_of held) index) held) left put) ∙ ap (λ (p : Page). with_records (remove (records_of p) index) p) same

@@ -1,4 +1,5 @@
 pub mod CacheSize
+pub mod InPlace
 pub mod Images
 pub mod Decoded
 pub mod FramedStore

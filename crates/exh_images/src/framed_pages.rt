@@ -195,7 +195,7 @@ impl<K: Keyer> FramedPages<K> {
     {
         self.decoded.remove_at(number, spot);
         match self.decoded.get(number) {
-            Some(page) => self.images.set(number, page),
+            Some(page) => self.images.remove(number, page),
             None => unreachable!(),
         }
     }

@@ -5,10 +5,14 @@ ghost use Rattle.exh_codec.specs.Block.{IsSealed};
 ghost use Rattle.exh_codec.specs.PageImage.{IsLaidOut};
 ghost use Rattle.exh_codec.specs.PageOf.{page_of};
 ghost use Rattle.exh_page.specs.declared.page.TheConstants.{CAP_LIMIT};
-ghost use Rattle.exh_page.specs.Page.{IsLive, IsWellFormed, records_of, with_records};
+ghost use Rattle.exh_page.specs.declared.page.Page.{Page as PageType};
+ghost use Rattle.exh_page.specs.declared.record.Record.{Record as RecordType};
+ghost use Rattle.exh_page.specs.Page.{IsWellFormed, records_of, with_records};
 ghost use Rattle.exh_page.specs.Records.{with_record};
+ghost use Rattle.exh_images.specs.InPlace.{HasContent, LacksOne};
 
-use exh_codec::{BLOCK_LEN, blocks_are_read, lay_out, lay_out_with, seal};
+use crate::edit::{put_record, remove_record};
+use exh_codec::{BLOCK_LEN, blocks_are_read, lay_out, seal};
 use exh_page::{Page, Record};
 
 /// A page as a block, whose digest is made when it is asked for.
@@ -31,18 +35,6 @@ impl Image {
         Image::unsealed(lay_out(page))
     }
 
-    /// The image of a live page with a record put, with no digest yet.
-    pub(crate) fn of_put(page: &Page, item: &Record) -> Image
-        requires live { IsLive page.now }
-        requires few { length (records_of page.now) ≤ CAP_LIMIT }
-        requires room { length (with_record item.now (records_of page.now)) ≤ CAP_LIMIT }
-        ensures laid { (pseudo : List ℕ → ℕ) → IsWellFormed pseudo (with_records (with_record item.now (records_of page.now)) page.now) → IsLaidOut written_version pseudo (with_records (with_record item.now (records_of page.now)) page.now) result.block }
-        ensures read { (pseudo : List ℕ → ℕ) → IsWellFormed pseudo (with_records (with_record item.now (records_of page.now)) page.now) → page_of written_version pseudo result.block ≡ with_records (with_record item.now (records_of page.now)) page.now }
-    {
-        blocks_are_read();
-        Image::unsealed(lay_out_with(page, item))
-    }
-
     // The image that is this block, with no digest yet.
     fn unsealed(block: [u8; BLOCK_LEN]) -> Image
         ensures { result.block ≡ block }
@@ -62,6 +54,26 @@ impl Image {
             block: *block,
             is_sealed: true,
         }
+    }
+
+    /// Puts a record into the image of a live page, which then has no digest yet.
+    pub(crate) fn put(&mut self, page: &Page, item: &Record)
+        requires has { HasContent self.old.block page.now }
+        requires room { length (with_record item.now (records_of page.now)) ≤ CAP_LIMIT }
+        ensures { HasContent self.new.block (with_records (with_record item.now (records_of page.now)) page.now) }
+    {
+        self.is_sealed = false;
+        put_record(&mut self.block, page, item);
+    }
+
+    /// Takes out of the image the one record that the page which is left lacks. It then has no digest
+    /// yet.
+    pub(crate) fn remove(&mut self, left: &Page)
+        requires { (old : PageType) × (front : List RecordType) × (back : List RecordType) × (one : RecordType) × HasContent self.old.block old × LacksOne left.now old front back one }
+        ensures { HasContent self.new.block left.now }
+    {
+        self.is_sealed = false;
+        remove_record(&mut self.block, left);
     }
 
     /// The block with its digest.

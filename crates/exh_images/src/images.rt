@@ -1,4 +1,4 @@
-ghost use Rattle.std.specs.Prelude.{◌≡◌, ◌<◌, ◌-◌, ◌^◌, [], ◌∷◌, ◌++◌, length, slice_get, slice_set, Some, IfOk, OnOk, OnErr};
+ghost use Rattle.std.specs.Prelude.{◌≡◌, ◌<◌, ◌-◌, ◌^◌, ℕ, [], ◌∷◌, ◌++◌, length, remove, slice_get, slice_set, Some, IfOk, OnOk, OnErr};
 ghost use Rattle.std.specs.List.{AllByRecursion};
 ghost use Rattle.exh_page.specs.Page.{IsLive, IsWellFormed, records_of, with_records};
 ghost use Rattle.exh_page.specs.Records.{with_record};
@@ -110,8 +110,23 @@ impl<K: Keyer> Images<K> {
         ensures keyer { self.new.keyer ≡ self.old.keyer }
         ensures pages { self.new.pages ≡ slice_set self.old.pages number (with_records (with_record item.now (records_of page.now)) page.now) }
     {
+        blocks_are_read();
         let image = &mut self.images[number as usize];
-        *image = Image::of_put(page, item);
+        image.put(page, item);
+    }
+
+    /// Takes a record out of the page of this number, which is live: the one that the page which is
+    /// left lacks. It takes no memory.
+    pub(crate) fn remove(&mut self, number: PageNo, left: &Page)
+        requires there { number < length self.old.pages }
+        requires formed { IsWellFormed (K.pseudokey_of self.old.keyer) left.now }
+        requires lacks { IfPage self.old.pages number (λ page. IsLive page × ((i : ℕ) × (i < length (records_of page)) × (left.now ≡ with_records (remove (records_of page) i) page))) }
+        ensures keyer { self.new.keyer ≡ self.old.keyer }
+        ensures pages { self.new.pages ≡ slice_set self.old.pages number left.now }
+    {
+        blocks_are_read();
+        let image = &mut self.images[number as usize];
+        image.remove(left);
     }
 
     /// Adds a page. An `AllocError` where memory is refused, and nothing has changed.

@@ -7,7 +7,9 @@ pub use framed_pages::FramedPages;
 
 mod cache_size;
 mod decoded_pages;
+mod edit;
 mod framed_maker;
 mod framed_pages;
+mod gap;
 mod image;
 mod images;
