@@ -100,7 +100,10 @@ fn has_told(ward: &PlainWard, changes: u32, notices: &[Notice; 2]) -> Result<(),
     let mut start = ward.start().entries();
     let is_first = start.next() == Some((&first.prefix, &first.entry()));
     same(is_first && start.next().is_none(), Part::Entries)?;
-    same(ward.base().pairs().next().is_none(), Part::Journal)
+    let Some(base) = ward.base() else {
+        return same(false, Part::Journal);
+    };
+    same(base.pairs().next().is_none(), Part::Journal)
 }
 
 // The pages from 0 on have so many records with their right buddies.

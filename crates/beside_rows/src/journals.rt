@@ -5,7 +5,7 @@ ghost use Rattle.std.specs.Prelude.{◌<◌, ◌≤◌, ◌^◌};
 ghost use Rattle.exh_prefix.specs.declared.prefix.TheConstants.{WARD_BITS_LIMIT};
 
 use crate::plain_ward::{PlainWard, plain_ward, settings};
-use exh_calls::{Call, JournalEntry, Reply};
+use exh_calls::{Call, Journal, JournalEntry, Reply};
 use exh_fixtures::{Asked, Said, first_store, hop_of, refused, split_page, value};
 use exh_keyer::PlainKeyer;
 use exh_prefix::{LIMIT, PageNo};
@@ -55,6 +55,7 @@ fn run_journal(run: &mut Run) -> Result<(), Difference> {
         run.tally.check(has_entries(&ward, &LINES[..=at]));
     }
     run.tally.check(has_full_entry(&mut ward));
+    run.tally.check(has_begun(&mut ward));
     Ok(())
 }
 
@@ -71,7 +72,26 @@ fn take_call(
 
 // The journal has these entries and no others, and begins with no key.
 fn has_entries(ward: &PlainWard, lines: &[Line]) -> Result<(), Difference> {
-    let journal = ward.journal();
+    has_just(ward.journal(), lines)?;
+    let Some(base) = ward.base() else {
+        return same(false, Part::Journal);
+    };
+    same(base.pairs().next().is_none(), Part::Journal)
+}
+
+// A history that begins anew has no entry, and the base isn't kept; the value that a key was given stands, and the call
+// that asks for it is the first entry.
+fn has_begun(ward: &mut PlainWard) -> Result<(), Difference> {
+    ward.begin_history();
+    has_just(ward.journal(), &[])?;
+    let asked = (7, Said::Is(b"\0", &[8; 128]));
+    take_call(ward, asked.0, &asked.1, false)?;
+    has_just(ward.journal(), &[asked])?;
+    same(ward.base().is_none(), Part::Journal)
+}
+
+// The journal has these entries and no others.
+fn has_just(journal: &Journal, lines: &[Line]) -> Result<(), Difference> {
     for (at, (client, said)) in lines.iter().enumerate() {
         let entry = JournalEntry::new(*client, &said.asked().call()?, &said.reply()?);
         same(journal.get(at) == Some(entry), Part::Journal)?;
@@ -81,8 +101,7 @@ fn has_entries(ward: &PlainWard, lines: &[Line]) -> Result<(), Difference> {
     same(
         is_end && is_all && journal.is_empty() == lines.is_empty(),
         Part::Journal,
-    )?;
-    same(ward.base().pairs().next().is_none(), Part::Journal)
+    )
 }
 
 // More calls than 16 bits count, each of a client of its own.

@@ -5,10 +5,13 @@ use Rattle.exh_keyer.specs.declared.any_keyer.AnyKeyer.{AnyKeyer}
 use Rattle.exh_array.specs.Pointers.{DirectoryState}
 use Rattle.exh_file_settings.specs.declared.file_settings.FileSettings.{FileSettings}
 use Rattle.exh_ward.specs.NewWards.{new_wards}
-use Rattle.exh_ward.specs.WardState.{WardState}
+use Rattle.exh_calls.specs.declared.call.Call.TheVariants.{Put}
+use Rattle.exh_calls.specs.declared.reply.Reply.{Reply}
+use Rattle.exh_keyer.specs.Pseudokey.{any_pseudokey}
+use Rattle.exh_ward.specs.WardState.{WardState, history_begun}
 use Rattle.exh_open.specs.Opened.{OpenedState, in_file}
 use Rattle.exh_change.specs.FileChange.{ward_in}
-use Rattle.exh_change.specs.WardChange.{AreSplitsAtMost}
+use Rattle.exh_change.specs.WardChange.{AreSplitsAtMost, IsChanged}
 use Rattle.exh_load.specs.Put.{IsDirectoryOf}
 
 pub record LoaderState : Type 0 where
@@ -31,6 +34,14 @@ pub record IsLoading (loader : LoaderState) : Type 0 where
 -- no pair was put yet
 abbrev pub IsEmptyLoader : FileSettings AnyKeyer → LoaderState → Type 0
 IsEmptyLoader settings loader = file_in loader ≡ in_file settings (new_wards settings)
+
+-- the ward of the key answered the put, and then began its history anew; the other wards and the settings are as before
+pub record IsPutIn (old : OpenedState) (key value : List ℕ) (reply : Reply) (new : OpenedState) : Type 0 where
+  pub ward : WardState AnyKeyer
+  pub after : WardState AnyKeyer
+  pub there : slice_get old.wards (ward_in old key) ≡ Some ward
+  pub changed : IsChanged any_pseudokey ward (Put key value) reply after
+  pub others : new ≡ record old { wards = slice_set old.wards (ward_in old key) (history_begun after) }
 
 -- pages of the ward of a key may have been split, and its count of page faults may be another; the other wards are as before
 pub record HasSplitsIn (old : LoaderState) (key : List ℕ) (new : LoaderState) : Type 0 where

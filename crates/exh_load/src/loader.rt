@@ -3,12 +3,12 @@ ghost use Rattle.exh_page.specs.declared.page.TheConstants.{CAP_LIMIT};
 ghost use Rattle.exh_prefix.specs.declared.prefix.TheConstants.{WARD_BITS_LIMIT};
 ghost use Rattle.exh_array.specs.Pointers.{DirectoryState};
 ghost use Rattle.exh_calls.specs.declared.call.Call.TheVariants.{Put};
-ghost use Rattle.exh_change.specs.FileChange.{ChangesOneMap, IsChangedIn};
+ghost use Rattle.exh_change.specs.FileChange.{ChangesOneMap};
 ghost use Rattle.exh_open.specs.Opened.{settings_in};
 ghost use Rattle.exh_ward.specs.WardFault.{IsStoreFault};
 ghost use Rattle.exh_load.specs.Load.{empty_loading, new_count, record_count};
 ghost use Rattle.exh_load.specs.Loading.{after_pair, loading_of, pair_reply};
-ghost use Rattle.exh_load.specs.Loader.{AreEach, HasSplitsIn, IsDirectoryAt, IsEmptyDirectory, IsEmptyLoader, IsLoading, file_in};
+ghost use Rattle.exh_load.specs.Loader.{AreEach, HasSplitsIn, IsDirectoryAt, IsEmptyDirectory, IsEmptyLoader, IsLoading, IsPutIn, file_in};
 
 use crate::put_pair;
 use exh_array::Directory;
@@ -88,11 +88,12 @@ impl<P: Pages + Drop> Loader<P> {
     }
 
     /// Puts a pair into the ward of its key, and splits pages where they are full for it, as `put_pair`
-    /// does. The key is hashed once. `Memory` and `Page` may come at any point: splits that were made
-    /// stay made, and no more pairs can be put then, since a directory may lack a notice.
+    /// does. The key is hashed once. The ward's history begins anew then, so that no journal grows with
+    /// the pairs. `Memory` and `Page` may come at any point: splits that were made stay made, and no more
+    /// pairs can be put then, since a directory may lack a notice.
     pub fn put(&mut self, key: Key, value: Value) -> Result<Reply, WardFault>
         requires { IsLoading self.old }
-        ensures put { IfOk result (λ reply. IsChangedIn (file_in self.old) (Put key value) reply (file_in self.new)) }
+        ensures put { IfOk result (λ reply. IsPutIn (file_in self.old) key value reply (file_in self.new)) }
         ensures one { IfOk result (λ reply. ChangesOneMap (file_in self.old) (Put key value) reply (file_in self.new)) }
         ensures reply { IfOk result (λ reply. reply ≡ pair_reply (loading_of self.old) key value) }
         ensures maps { OnOk result (loading_of self.new ≡ after_pair (loading_of self.old) key value) }
@@ -105,7 +106,9 @@ impl<P: Pages + Drop> Loader<P> {
         let at = usize::from(ward_number(self.settings.ward_bits, pseudokey));
         let ward = &mut self.wards[at];
         let directory = &mut self.directories[at];
-        put_pair(ward, directory, key, value, pseudokey)
+        let reply = put_pair(ward, directory, key, value, pseudokey)?;
+        ward.begin_history();
+        Ok(reply)
     }
 
     /// The settings of the file.

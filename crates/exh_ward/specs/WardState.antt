@@ -1,5 +1,5 @@
 -- A ward as a value, and what its steps leave of it.
-use Rattle.std.specs.Prelude.{◌≡◌, ℕ, ◌+◌, nat_lt, Bool, List, ◌++◌, ◌∷◌, [], length, filter}
+use Rattle.std.specs.Prelude.{◌≡◌, ℕ, ◌+◌, nat_lt, Bool, false, List, ◌++◌, ◌∷◌, [], length, filter}
 use Rattle.exh_notice.specs.declared.notice.Notice.{Notice}
 use Rattle.exh_table.specs.Table.{TableMap, IsTableSince}
 use Rattle.exh_page.specs.declared.page.Page.{Page}
@@ -20,7 +20,9 @@ use Rattle.exh_calls.specs.declared.reply.Reply.{Reply}
 
 pub record WardState (K : Type 0) : Type 0 where
   pub pages : List Page
+  -- the map that the history begins with, and whether its pairs are kept
   pub base : KeyMap
+  pub has_base : Bool
   pub journal : List JournalEntry
   -- the table at first, the notices since, and the table of both
   pub start : TableMap
@@ -70,6 +72,12 @@ LeavesAfter pseudokey_of old at client call (Done reply) new = IsAnswered pseudo
 LeavesAfter pseudokey_of old at client call (Moved next) new = new ≡ old
 LeavesAfter pseudokey_of old at client call MustSplit new = new ≡ old
 LeavesAfter pseudokey_of old at client call Stray new = new ≡ old
+
+-- ---- histories
+
+-- the ward with its history begun anew: the base is the map of its pages, of which nothing is kept, and no call was answered since
+abbrev pub history_begun : {K : Type 0} → WardState K → WardState K
+history_begun ward = record ward { base = map_of ward.pages; has_base = false; journal = [] }
 
 -- ---- refusals
 

@@ -20,10 +20,12 @@ use exh_prefix::Prefix;
 use exh_table::Table;
 use std::alloc::Global;
 use std::marker::Model;
+use std::snapshot::Snapshot;
 
 mod buddy_sum;
 mod change;
 mod from_pages;
+mod history;
 mod hop;
 mod merge;
 mod readers;
@@ -41,7 +43,9 @@ pub struct Ward<P: Pages + Drop, K: Keyer> {
     own: Prefix,
     store: P,
     index: PageIndex,
-    base: Base,
+    // None where the history began anew: then the base is the map of the pages that `seen` shows.
+    base: Option<Base>,
+    seen: Snapshot<P>,
     journal: Journal,
     start: Table,
     told: u64,
@@ -52,12 +56,13 @@ pub struct Ward<P: Pages + Drop, K: Keyer> {
 impl<P: Pages + Drop, K: Keyer> Model for Ward<P, K> {
     ghost use Rattle.std.specs.Prelude.{◌≤◌, ◌+◌, ◌<◌, ◌^◌, length};
     ghost use Rattle.std.specs.Coded.{codes};
+    ghost use Rattle.std.specs.Option.{is_some};
     ghost use Rattle.exh_page.specs.declared.page.TheConstants.{CAP_LIMIT};
     ghost use Rattle.exh_page.specs.KeyMap.{coded_key_map};
     ghost use Rattle.exh_legal.specs.Numbers.{index_of};
-    ghost use Rattle.exh_legal.specs.Pages.{bare};
+    ghost use Rattle.exh_legal.specs.Pages.{bare, map_of};
     ghost use Rattle.exh_legal.specs.PageIndex.{IsIndexOf};
-    ghost use Rattle.exh_ward.specs.Kept.{IsKeptWard};
+    ghost use Rattle.exh_ward.specs.Kept.{IsKeptWard, base_in};
     ghost use Rattle.exh_table.specs.Table.{coded_table};
     ghost use Rattle.exh_ward.specs.WardState.{WardState};
 
@@ -65,9 +70,9 @@ impl<P: Pages + Drop, K: Keyer> Model for Ward<P, K> {
 
     ghost coded = { Prim.hlevel (codes, coded_key_map, coded_table) };
 
-    ghost view = { λ a. record { pages = P.pages a.store; base = a.base; journal = a.journal.entries; start = a.start; notices = a.notices.items; table = a.table; failures = P.failures a.store; cap = a.cap; ward_bits = a.ward_bits; number = a.number; keyer = a.keyer } };
+    ghost view = { λ a. record { pages = P.pages a.store; base = base_in a.base (map_of (P.pages a.seen.value)); has_base = is_some a.base; journal = a.journal.entries; start = a.start; notices = a.notices.items; table = a.table; failures = P.failures a.store; cap = a.cap; ward_bits = a.ward_bits; number = a.number; keyer = a.keyer } };
 
-    ghost invariant = { λ a. IsKeptWard (K.pseudokey_of a.keyer) (P.takes a.store) a.own a.index a.told (record { pages = P.pages a.store; base = a.base; journal = a.journal.entries; start = a.start; notices = a.notices.items; table = a.table; failures = P.failures a.store; cap = a.cap; ward_bits = a.ward_bits; number = a.number; keyer = a.keyer }) };
+    ghost invariant = { λ a. IsKeptWard (K.pseudokey_of a.keyer) (P.takes a.store) a.own a.index a.told (record { pages = P.pages a.store; base = base_in a.base (map_of (P.pages a.seen.value)); has_base = is_some a.base; journal = a.journal.entries; start = a.start; notices = a.notices.items; table = a.table; failures = P.failures a.store; cap = a.cap; ward_bits = a.ward_bits; number = a.number; keyer = a.keyer }) };
 }
 
 impl<P: Pages + Drop, K: Keyer> Ward<P, K> {
@@ -89,6 +94,7 @@ impl<P: Pages + Drop, K: Keyer> Ward<P, K> {
             ward_bits,
             keyer,
         } = settings;
+        let seen = Snapshot::of(&store);
         Ward {
             cap: cap as usize,
             ward_bits,
@@ -97,7 +103,8 @@ impl<P: Pages + Drop, K: Keyer> Ward<P, K> {
             own: own_prefix(ward_bits, number),
             store,
             index: PageIndex::new(alloc),
-            base: Base::new(alloc),
+            base: Some(Base::new(alloc)),
+            seen,
             journal: Journal::new(alloc),
             start: Table::new(alloc),
             told: 0,

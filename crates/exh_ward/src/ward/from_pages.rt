@@ -1,4 +1,4 @@
-ghost use Rattle.std.specs.Prelude.{◌≡◌, ◌^◌, ◌<◌, ◌≤◌, ◌++◌, [], length, map, IfOk, IfErr, OnOk};
+ghost use Rattle.std.specs.Prelude.{◌≡◌, ◌^◌, ◌<◌, ◌≤◌, ◌++◌, [], true, length, map, IfOk, IfErr, OnOk};
 ghost use Rattle.exh_prefix.specs.declared.prefix.TheConstants.{WARD_BITS_LIMIT};
 ghost use Rattle.exh_page.specs.declared.page.TheConstants.{CAP_LIMIT};
 ghost use Rattle.exh_page.specs.declared.page.Page.{Page};
@@ -26,6 +26,7 @@ use exh_page::{CAP_LIMIT, Page, Records};
 use exh_prefix::PageNo;
 use exh_table::{Table, own_entries_give_the_table};
 use std::alloc::{AllocError, Global};
+use std::snapshot::Snapshot;
 
 impl<P: Pages + Drop, K: Keyer> Ward<P, K> {
     /// Ward `number` of a file of these settings that was written: its pages, and the table of the changes that they
@@ -49,7 +50,7 @@ impl<P: Pages + Drop, K: Keyer> Ward<P, K> {
         requires most { settings.cap ≤ CAP_LIMIT }
         requires bits { settings.ward_bits ≤ WARD_BITS_LIMIT }
         requires number { number < 2 ^ settings.ward_bits }
-        ensures ward { IfOk result (λ ward. ward ≡ record { pages = P.pages pages; base = map_of (P.pages pages); journal = []; start = table; notices = []; table = table; failures = P.failures pages; cap = settings.cap; ward_bits = settings.ward_bits; number = number; keyer = settings.keyer }) }
+        ensures ward { IfOk result (λ ward. ward ≡ record { pages = P.pages pages; base = map_of (P.pages pages); has_base = true; journal = []; start = table; notices = []; table = table; failures = P.failures pages; cap = settings.cap; ward_bits = settings.ward_bits; number = number; keyer = settings.keyer }) }
         ensures sound { IfOk result (IsSoundWard K.pseudokey_of) }
         ensures fault { IfErr result IsStoreFault }
         ensures page_fault { IfErr result (λ fault. fault ≡ OutOfReach → (left : P) × (P.failures pages < P.failures left)) }
@@ -59,6 +60,7 @@ impl<P: Pages + Drop, K: Keyer> Ward<P, K> {
         let mut store = pages;
         let (index, pairs) = read_pages(alloc, &mut store)?;
         let start = table.try_clone()?;
+        let seen = Snapshot::of(&store);
         let FileSettings {
             cap,
             ward_bits,
@@ -72,7 +74,8 @@ impl<P: Pages + Drop, K: Keyer> Ward<P, K> {
             own: own_prefix(ward_bits, number),
             store,
             index,
-            base: Base::from_pairs(pairs),
+            base: Some(Base::from_pairs(pairs)),
+            seen,
             journal: Journal::new(alloc),
             start,
             told: index_of(&table),

@@ -3,8 +3,9 @@ use Rattle.exh_keyer.specs.Pseudokey.{any_pseudokey}
 use Rattle.exh_prefix.specs.Leading.{ward_of}
 use Rattle.exh_calls.specs.declared.call.Call.TheVariants.{Put}
 use Rattle.exh_change.specs.InWardLemmas.{at_within, settings_kept, ward_covers, ward_hashed, wards_left}
+use Rattle.exh_stream.specs.OutputLemmas.{OnErr-from}
 use Rattle.exh_load.specs.Loader.{LoaderState, file_in}
-use Rattle.exh_load.proofs.PutIn.{are_splits_in, directory_within, loading_left, maps_in, one_put_in, put_in, records_left, reply_in, ward_told}
+use Rattle.exh_load.proofs.PutIn.{are_splits_in, begun_keeps, directory_within, loading_left, maps_in, one_put_in, put_in, records_left, reply_in, ward_told}
 use Rattle.exh_load.proofs.loader.Loader.put.Goals as goal
 
 pub index_mut-ward-requires : goal.index_mut-ward-requires
@@ -58,6 +59,26 @@ invariant_of-self g c =
     wards_left (file_in old) c.self.invariant (Put c.args.key c.args.value) c.pseudo-pseudokey.result c.from-at.result hashed at_is c.index_mut-ward.result.now c.index_mut-ward.ensures.value c.put_pair.new.ward
     (settings_kept c.index_mut-ward.result.now c.put_pair.new.ward (Put c.args.key c.args.value) c.put_pair.result c.put_pair.ensures.put c.put_pair.ensures.err)
 
+pub returns-in_err-reply-clause-err : goal.returns-in_err-reply-clause-err
+returns-in_err-reply-clause-err g c =
+    let i = c.self.inside in
+    let old : LoaderState = record { cap = i.settings.cap; ward_bits = i.settings.ward_bits; keyer = i.settings.keyer; wards = i.wards.items; directories = i.directories.items } in
+    let hashed : c.pseudo-pseudokey.result ≡ any_pseudokey i.settings.keyer c.args.key = c.pseudo-pseudokey.ensures ∙ ap (any_pseudokey i.settings.keyer) c.as_bytes.ensures.bytes in
+    let at_is : c.from-at.result ≡ ward_of i.settings.ward_bits c.pseudo-pseudokey.result = c.from-at.ensures ∙ c.ward_number.ensures in
+    OnErr-from c.from_residual.result (are_splits_in old c.args.self.now c.self.view_is c.self.invariant c.requires c.args.key c.args.value c.pseudo-pseudokey.result c.from-at.result hashed at_is c.index_mut-ward.result.now c.index_mut-ward.ensures.value c.index_mut-directory.result.now c.index_mut-directory.ensures.value
+    c.put_pair.new.ward c.put_pair.new.directory c.in_err-reply.ensures.err)
+
+pub invariant_of-self-2 : goal.invariant_of-self-2
+invariant_of-self-2 g c =
+    let i = c.self.inside in
+    let old : LoaderState = record { cap = i.settings.cap; ward_bits = i.settings.ward_bits; keyer = i.settings.keyer; wards = i.wards.items; directories = i.directories.items } in
+    let hashed : c.pseudo-pseudokey.result ≡ any_pseudokey i.settings.keyer c.args.key = c.pseudo-pseudokey.ensures ∙ ap (any_pseudokey i.settings.keyer) c.as_bytes.ensures.bytes in
+    let at_is : c.from-at.result ≡ ward_of i.settings.ward_bits c.pseudo-pseudokey.result = c.from-at.ensures ∙ c.ward_number.ensures in
+    wards_left (file_in old) c.self.invariant (Put c.args.key c.args.value) c.pseudo-pseudokey.result c.from-at.result hashed at_is c.index_mut-ward.result.now c.index_mut-ward.ensures.value c.begin_history.new.self
+    (begun_keeps old c.args.self.now c.self.view_is c.self.invariant c.requires c.args.key c.args.value c.pseudo-pseudokey.result c.from-at.result hashed at_is c.index_mut-ward.result.now c.index_mut-ward.ensures.value c.index_mut-directory.result.now c.index_mut-directory.ensures.value
+    c.put_pair.new.ward c.put_pair.new.directory c.begin_history.new.self c.begin_history.ensures.begun
+    (settings_kept c.index_mut-ward.result.now c.put_pair.new.ward (Put c.args.key c.args.value) c.put_pair.result c.put_pair.ensures.put c.put_pair.ensures.err))
+
 pub returns-clause-put : goal.returns-clause-put
 returns-clause-put g c =
     let i = c.self.inside in
@@ -65,7 +86,7 @@ returns-clause-put g c =
     let hashed : c.pseudo-pseudokey.result ≡ any_pseudokey i.settings.keyer c.args.key = c.pseudo-pseudokey.ensures ∙ ap (any_pseudokey i.settings.keyer) c.as_bytes.ensures.bytes in
     let at_is : c.from-at.result ≡ ward_of i.settings.ward_bits c.pseudo-pseudokey.result = c.from-at.ensures ∙ c.ward_number.ensures in
     put_in old c.args.self.now c.self.view_is c.self.invariant c.requires c.args.key c.args.value c.pseudo-pseudokey.result c.from-at.result hashed at_is c.index_mut-ward.result.now c.index_mut-ward.ensures.value c.index_mut-directory.result.now c.index_mut-directory.ensures.value
-    c.put_pair.new.ward c.put_pair.new.directory c.put_pair.result c.put_pair.ensures.put
+    c.put_pair.new.ward c.put_pair.new.directory c.begin_history.new.self c.begin_history.ensures.begun c.in_ok-reply.reply c.in_ok-reply.ensures.put
 
 pub returns-clause-one : goal.returns-clause-one
 returns-clause-one g c =
@@ -74,16 +95,7 @@ returns-clause-one g c =
     let hashed : c.pseudo-pseudokey.result ≡ any_pseudokey i.settings.keyer c.args.key = c.pseudo-pseudokey.ensures ∙ ap (any_pseudokey i.settings.keyer) c.as_bytes.ensures.bytes in
     let at_is : c.from-at.result ≡ ward_of i.settings.ward_bits c.pseudo-pseudokey.result = c.from-at.ensures ∙ c.ward_number.ensures in
     one_put_in old c.args.self.now c.self.view_is c.self.invariant c.requires c.args.key c.args.value c.pseudo-pseudokey.result c.from-at.result hashed at_is c.index_mut-ward.result.now c.index_mut-ward.ensures.value c.index_mut-directory.result.now c.index_mut-directory.ensures.value
-    c.put_pair.new.ward c.put_pair.new.directory c.put_pair.result c.put_pair.ensures.put
-
-pub returns-clause-err : goal.returns-clause-err
-returns-clause-err g c =
-    let i = c.self.inside in
-    let old : LoaderState = record { cap = i.settings.cap; ward_bits = i.settings.ward_bits; keyer = i.settings.keyer; wards = i.wards.items; directories = i.directories.items } in
-    let hashed : c.pseudo-pseudokey.result ≡ any_pseudokey i.settings.keyer c.args.key = c.pseudo-pseudokey.ensures ∙ ap (any_pseudokey i.settings.keyer) c.as_bytes.ensures.bytes in
-    let at_is : c.from-at.result ≡ ward_of i.settings.ward_bits c.pseudo-pseudokey.result = c.from-at.ensures ∙ c.ward_number.ensures in
-    are_splits_in old c.args.self.now c.self.view_is c.self.invariant c.requires c.args.key c.args.value c.pseudo-pseudokey.result c.from-at.result hashed at_is c.index_mut-ward.result.now c.index_mut-ward.ensures.value c.index_mut-directory.result.now c.index_mut-directory.ensures.value
-    c.put_pair.new.ward c.put_pair.new.directory c.put_pair.result c.put_pair.ensures.err
+    c.put_pair.new.ward c.put_pair.new.directory c.begin_history.new.self c.begin_history.ensures.begun c.in_ok-reply.reply c.in_ok-reply.ensures.put
 
 pub returns-clause-reply : goal.returns-clause-reply
 returns-clause-reply g c =
@@ -92,7 +104,7 @@ returns-clause-reply g c =
     let hashed : c.pseudo-pseudokey.result ≡ any_pseudokey i.settings.keyer c.args.key = c.pseudo-pseudokey.ensures ∙ ap (any_pseudokey i.settings.keyer) c.as_bytes.ensures.bytes in
     let at_is : c.from-at.result ≡ ward_of i.settings.ward_bits c.pseudo-pseudokey.result = c.from-at.ensures ∙ c.ward_number.ensures in
     reply_in old c.args.self.now c.self.view_is c.self.invariant c.requires c.args.key c.args.value c.pseudo-pseudokey.result c.from-at.result hashed at_is c.index_mut-ward.result.now c.index_mut-ward.ensures.value c.index_mut-directory.result.now c.index_mut-directory.ensures.value
-    c.put_pair.new.ward c.put_pair.new.directory c.put_pair.result c.put_pair.ensures.put
+    c.put_pair.new.ward c.put_pair.new.directory c.begin_history.new.self c.begin_history.ensures.begun c.in_ok-reply.reply c.in_ok-reply.ensures.put
 
 pub returns-clause-maps : goal.returns-clause-maps
 returns-clause-maps g c =
@@ -101,7 +113,7 @@ returns-clause-maps g c =
     let hashed : c.pseudo-pseudokey.result ≡ any_pseudokey i.settings.keyer c.args.key = c.pseudo-pseudokey.ensures ∙ ap (any_pseudokey i.settings.keyer) c.as_bytes.ensures.bytes in
     let at_is : c.from-at.result ≡ ward_of i.settings.ward_bits c.pseudo-pseudokey.result = c.from-at.ensures ∙ c.ward_number.ensures in
     maps_in old c.args.self.now c.self.view_is c.self.invariant c.requires c.args.key c.args.value c.pseudo-pseudokey.result c.from-at.result hashed at_is c.index_mut-ward.result.now c.index_mut-ward.ensures.value c.index_mut-directory.result.now c.index_mut-directory.ensures.value
-    c.put_pair.new.ward c.put_pair.new.directory c.put_pair.result c.put_pair.ensures.put
+    c.put_pair.new.ward c.put_pair.new.directory c.begin_history.new.self c.begin_history.ensures.begun c.in_ok-reply.reply c.in_ok-reply.ensures.put
 
 pub returns-clause-records : goal.returns-clause-records
 returns-clause-records g c =
@@ -110,7 +122,7 @@ returns-clause-records g c =
     let hashed : c.pseudo-pseudokey.result ≡ any_pseudokey i.settings.keyer c.args.key = c.pseudo-pseudokey.ensures ∙ ap (any_pseudokey i.settings.keyer) c.as_bytes.ensures.bytes in
     let at_is : c.from-at.result ≡ ward_of i.settings.ward_bits c.pseudo-pseudokey.result = c.from-at.ensures ∙ c.ward_number.ensures in
     records_left old c.args.self.now c.self.view_is c.self.invariant c.requires c.args.key c.args.value c.pseudo-pseudokey.result c.from-at.result hashed at_is c.index_mut-ward.result.now c.index_mut-ward.ensures.value c.index_mut-directory.result.now c.index_mut-directory.ensures.value
-    c.put_pair.new.ward c.put_pair.new.directory c.put_pair.result c.put_pair.ensures.put
+    c.put_pair.new.ward c.put_pair.new.directory c.begin_history.new.self c.begin_history.ensures.begun c.in_ok-reply.reply c.in_ok-reply.ensures.put
 
 pub returns-clause-loading : goal.returns-clause-loading
 returns-clause-loading g c =
@@ -119,4 +131,4 @@ returns-clause-loading g c =
     let hashed : c.pseudo-pseudokey.result ≡ any_pseudokey i.settings.keyer c.args.key = c.pseudo-pseudokey.ensures ∙ ap (any_pseudokey i.settings.keyer) c.as_bytes.ensures.bytes in
     let at_is : c.from-at.result ≡ ward_of i.settings.ward_bits c.pseudo-pseudokey.result = c.from-at.ensures ∙ c.ward_number.ensures in
     loading_left old c.args.self.now c.self.view_is c.self.invariant c.requires c.args.key c.args.value c.pseudo-pseudokey.result c.from-at.result hashed at_is c.index_mut-ward.result.now c.index_mut-ward.ensures.value c.index_mut-directory.result.now c.index_mut-directory.ensures.value
-    c.put_pair.new.ward c.put_pair.new.directory c.put_pair.result c.put_pair.ensures.told
+    c.put_pair.new.ward c.put_pair.new.directory c.begin_history.new.self c.begin_history.ensures.begun c.in_ok-reply.ensures.told

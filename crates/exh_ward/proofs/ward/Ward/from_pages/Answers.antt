@@ -13,7 +13,7 @@ index_of-requires g c = few_entries c.entries_are_few.ensures c.args.settings.wa
 pub invariant_of-result : goal.invariant_of-result
 invariant_of-result g c =
     let read = c.in_ok-index.ensures in
-    kept_made c.args.settings.cap c.args.settings.ward_bits c.args.number _ c.args.settings.keyer (g.P.Pages.pages c.args.pages) c.args.table c.own_entries_give_the_table.ensures c.requires.legal
+    kept_made c.args.settings.cap c.args.settings.ward_bits c.args.number _ c.args.settings.keyer _ (g.P.Pages.pages c.args.pages) c.args.table c.own_entries_give_the_table.ensures c.requires.legal
     (λ page formed. (read.takes page).0 (c.requires.takes page formed)) c.requires.bits c.requires.some c.requires.most
     read.index c.index_of.ensures.index c.index_of.ensures.few
     read.pages (c.from_pairs.ensures ∙ ap fin.from_entries read.pairs) c.new.ensures c.in_ok-start.ensures c.new-2.ensures.items c.own_prefix.ensures
