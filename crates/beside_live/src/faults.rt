@@ -7,8 +7,6 @@ ghost use Rattle.exh_keyer.specs.Pseudokey.{plain_pseudokey};
 ghost use Rattle.exh_live.specs.LiveFile.{IsNewWardOf};
 ghost use Rattle.exh_live.specs.declared.ledgers.TheConstants.{ANSWER_PARTS, ENTRY_PARTS};
 
-use crate::lists::{FAULT_COUNT, FAULTS};
-use crate::live_step::LiveStep;
 use exh_callers::{
     CAP, Caller, File, Reader, Writer, close, is_carried, is_told, keep, next_caller,
     one_ward_file, settled,
@@ -19,6 +17,8 @@ use exh_fixtures::first_store;
 use exh_frames::{FailingPages, PlainPages};
 use exh_keyer::PlainKeyer;
 use exh_live::{ANSWER_PARTS, Cursors, ENTRY_PARTS, Identity};
+use exh_live_steps::LiveStep;
+use exh_live_steps::lists::{FAULT_COUNT, FAULTS};
 use exh_runs::{Difference, Part, Run, again, same};
 use exh_table::Table;
 use exh_walk::OpenGate;

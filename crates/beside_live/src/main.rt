@@ -15,8 +15,6 @@ ghost use Rattle.exh_prefix.specs.declared.prefix.TheConstants.{WARD_BITS_LIMIT}
 mod callers;
 mod closing;
 mod faults;
-mod lists;
-mod live_step;
 mod one_caller;
 mod written_ward;
 

@@ -3,8 +3,6 @@ ghost use Rattle.std.specs.Prelude.{◌≡◌};
 ghost use Rattle.exh_keyer.specs.Pseudokey.{plain_pseudokey};
 ghost use Rattle.exh_live.specs.declared.ledgers.TheConstants.{ANSWER_PARTS, ENTRY_PARTS};
 
-use crate::conductor::{Conductor, Count};
-use crate::rule::{Rule, Then, Who};
 use exh_audit::audit;
 use exh_callers::{
     CAP, Caller, PlainFile, PlainWard, Reader, ask, close_settled, is_told, new_file, next_caller,
@@ -16,6 +14,7 @@ use exh_live::{ANSWER_PARTS, ENTRY_PARTS, Identity};
 use exh_page::Value;
 use exh_runs::{Difference, Part, Run, again, same};
 use exh_walk::{Gate, OpenGate};
+use exh_watched::{Conductor, Count, Rule, Then, Who};
 use itoa::Buffer;
 use std::alloc::AllocError;
 use std::sync::Wait;

@@ -5,14 +5,13 @@ ghost use Rattle.exh_keyer.specs.Pseudokey.{plain_pseudokey};
 ghost use Rattle.exh_live.specs.declared.ledgers.TheConstants.{ANSWER_PARTS, ENTRY_PARTS};
 
 use crate::ask::ask_all;
-use crate::conductor::{Conductor, Count};
-use crate::rule::{Rule, Then, Who};
 use exh_callers::{CAP, Caller, PlainFile, Reader, close_settled, is_told, new_file, next_caller};
 use exh_calls::Reply;
 use exh_fixtures::{Asked, Said, value};
 use exh_live::{ANSWER_PARTS, ENTRY_PARTS, Identity};
 use exh_runs::{Difference, Part, Run, same};
 use exh_walk::OpenGate;
+use exh_watched::{Conductor, Count, Rule, Then, Who};
 use std::sync::Wait;
 use std::sync::ledger::Blank;
 use std::thread::{Threads, join};

@@ -3,8 +3,6 @@ ghost use Rattle.std.specs.Prelude.{◌≡◌};
 ghost use Rattle.exh_keyer.specs.Pseudokey.{plain_pseudokey};
 ghost use Rattle.exh_live.specs.declared.ledgers.TheConstants.{ANSWER_PARTS, ENTRY_PARTS};
 
-use crate::conductor::Conductor;
-use crate::watched_pages::{IS_LATE, IS_READ, Look, MAY_GO, WatchedPages, new_ward};
 use exh_callers::{Caller, File, Reader, is_told, next_caller};
 use exh_calls::Reply;
 use exh_file_settings::FileSettings;
@@ -13,6 +11,7 @@ use exh_keyer::PlainKeyer;
 use exh_live::{ANSWER_PARTS, ENTRY_PARTS, Identity, LiveFile};
 use exh_runs::{Difference, Part, Run, same};
 use exh_walk::OpenGate;
+use exh_watched::{Conductor, IS_LATE, IS_READ, Look, MAY_GO, WatchedPages, watched_ward};
 use std::alloc::{AllocError, Global};
 use std::sync::Wait;
 use std::sync::ledger::Blank;
@@ -92,8 +91,8 @@ fn two_wards<'a, R: Clock, F: Identity>(
 {
     let keyer = PlainKeyer;
     let mut wards = Vec::new(alloc);
-    wards.push(new_ward(alloc, keyer, signs, Look::Waits, 1, 0)?)?;
-    wards.push(new_ward(alloc, keyer, signs, Look::Nothing, 1, 1)?)?;
+    wards.push(watched_ward(alloc, keyer, signs, Look::Waits, 1, 0)?)?;
+    wards.push(watched_ward(alloc, keyer, signs, Look::Nothing, 1, 1)?)?;
     let settings = FileSettings {
         cap: 2,
         ward_bits: 1,

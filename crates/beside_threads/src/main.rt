@@ -7,24 +7,21 @@ ghost use Rattle.exh_keyer.specs.Pseudokey.{plain_pseudokey};
 ghost use Rattle.exh_live.specs.declared.ledgers.TheConstants.{ANSWER_PARTS, ENTRY_PARTS};
 
 mod ask;
-mod conductor;
 mod counter;
 mod held_look;
 mod locks;
 mod many_pages;
 mod refill;
-mod rule;
 mod storms;
 mod story;
-mod watched_pages;
 
-use crate::conductor::Conductor;
 use crate::story::{STORIES, Story};
 use exh_callers::Reader;
 use exh_copy::{NewCopyFault, new_copy};
 use exh_live::{ANSWER_PARTS, ENTRY_PARTS, Identity};
 use exh_runs::{Difference, Job, Named, Part, Run, Status, Tally, again, has_told_difference};
 use exh_table::Table;
+use exh_watched::Conductor;
 use std::alloc::AllocError;
 use std::marker::Brand;
 use std::process::ExitCode;

@@ -3,14 +3,14 @@ ghost use Rattle.std.specs.Prelude.{◌≡◌, IfOk};
 ghost use Rattle.exh_keyer.specs.Pseudokey.{plain_pseudokey};
 ghost use Rattle.exh_live.specs.declared.ledgers.TheConstants.{ANSWER_PARTS, ENTRY_PARTS};
 
-use crate::conductor::{Conductor, Count};
-use crate::rule::{Rule, Then, Who};
-use crate::watched_pages::{CAME_BETWEEN, LOOKS, Look, WatchedPages, new_ward};
 use exh_callers::{Caller, File, Reader, is_kept, is_told, next_caller, one_ward_file};
 use exh_fixtures::{Said, told_reply};
 use exh_keyer::PlainKeyer;
 use exh_live::{ANSWER_PARTS, ENTRY_PARTS, Identity};
 use exh_runs::{Difference, Part, Run, same};
+use exh_watched::{
+    CAME_BETWEEN, Conductor, Count, LOOKS, Look, Rule, Then, WatchedPages, Who, watched_ward,
+};
 use std::alloc::{AllocError, Global};
 use std::sync::Wait;
 use std::sync::ledger::Blank;
@@ -224,6 +224,6 @@ fn counted_file<'a, R: Clock, F: Identity>(
     ensures { IfOk result (λ file. file.ward_bits ≡ 0) }
 {
     let keyer = PlainKeyer;
-    let ward = new_ward(alloc, keyer, watch, Look::Counts(0), 0, 0)?;
+    let ward = watched_ward(alloc, keyer, watch, Look::Counts(0), 0, 0)?;
     one_ward_file(alloc, keyer, ward, answers, entries)
 }

@@ -5,13 +5,14 @@ ghost use Rattle.exh_keyer.specs.Pseudokey.{plain_pseudokey};
 ghost use Rattle.exh_live.specs.declared.ledgers.TheConstants.{ANSWER_PARTS, ENTRY_PARTS};
 
 use crate::ask::ask_all;
-use crate::conductor::{Conductor, Count};
-use crate::watched_pages::{HAS_MERGED, IS_OVER, Look, WatchedPages, WatchedWard, new_ward};
 use exh_callers::{Caller, File, Reader, close_settled, is_kept, keep, next_caller, one_ward_file};
 use exh_fixtures::{Said, merge, prefix, split};
 use exh_keyer::PlainKeyer;
 use exh_live::{ANSWER_PARTS, ENTRY_PARTS, Identity};
 use exh_runs::{Difference, Part, Run, same};
+use exh_watched::{
+    Conductor, Count, HAS_MERGED, IS_OVER, Look, WatchedPages, WatchedWard, watched_ward,
+};
 use std::alloc::{AllocError, Global};
 use std::sync::Wait;
 use std::sync::ledger::Blank;
@@ -176,6 +177,6 @@ fn one_ward<'a, R: Clock, F: Identity>(
     ensures { IfOk result (λ file. file.ward_bits ≡ 0) }
 {
     let keyer = PlainKeyer;
-    let ward = new_ward(alloc, keyer, watch, Look::Rests, 0, 0)?;
+    let ward = watched_ward(alloc, keyer, watch, Look::Rests, 0, 0)?;
     one_ward_file(alloc, keyer, ward, answers, entries)
 }

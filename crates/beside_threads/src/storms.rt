@@ -1,12 +1,11 @@
 //! Storms under gates, and what each comes to.
 ghost use Rattle.exh_storm_config.specs.StormConfig.{IsStormConfig};
 
-use crate::conductor::{Conductor, Count};
-use crate::rule::{Rule, Then, Who};
 use exh_frames::PlainMaker;
 use exh_runs::{Part, Run, again, same};
 use exh_storm::{StormFault, storm};
 use exh_storm_config::StormConfig;
+use exh_watched::{Conductor, Count, Rule, Then, Who};
 use std::alloc::Global;
 use std::sync::Wait;
 use std::thread::Threads;

@@ -16,28 +16,28 @@ use std::alloc::{AllocError, Global};
 use std::time::Clock;
 
 /// Given at a first look that waits, and what it waits for; and that it waited in vain.
-pub(crate) const IS_READ: Count = Count::First;
+pub const IS_READ: Count = Count::First;
 
-pub(crate) const MAY_GO: Count = Count::Second;
+pub const MAY_GO: Count = Count::Second;
 
-pub(crate) const IS_LATE: Count = Count::Third;
+pub const IS_LATE: Count = Count::Third;
 
 /// Merges, and those of pages which had more records together than half of what a page may have.
-pub(crate) const HAS_MERGED: Count = Count::First;
+pub const HAS_MERGED: Count = Count::First;
 
-pub(crate) const IS_OVER: Count = Count::Second;
+pub const IS_OVER: Count = Count::Second;
 
 /// Looks at pages; and those at page 0 after one at a page that isn't the last.
-pub(crate) const LOOKS: Count = Count::First;
+pub const LOOKS: Count = Count::First;
 
-pub(crate) const CAME_BETWEEN: Count = Count::Second;
+pub const CAME_BETWEEN: Count = Count::Second;
 
 // The last page of a file of 1,100.
 const LAST_PAGE: PageNo = 1099;
 
 /// What a look at a page does.
 #[derive(Clone, Copy)]
-pub(crate) enum Look {
+pub enum Look {
     Nothing,
     /// The first one waits.
     Waits,
@@ -49,17 +49,17 @@ pub(crate) enum Look {
 
 /// Pages in memory, and who counts what is done with them.
 #[derive(Drop)]
-pub(crate) struct WatchedPages<'a, R: Clock> {
+pub struct WatchedPages<'a, R: Clock> {
     inner: PlainPages,
     look: Look,
     conductor: &'a Conductor<'a, R>,
 }
 
 /// A ward of such pages, of two records each and of keyer plain.
-pub(crate) type WatchedWard<'a, R> = Ward<WatchedPages<'a, R>, PlainKeyer>;
+pub type WatchedWard<'a, R> = Ward<WatchedPages<'a, R>, PlainKeyer>;
 
 /// The new ward of a number, whose pages are looked at. An `AllocError` where memory is refused.
-pub(crate) fn new_ward<'a, R: Clock>(
+pub fn watched_ward<'a, R: Clock>(
     alloc: Global,
     keyer: PlainKeyer,
     conductor: &'a Conductor<'a, R>,

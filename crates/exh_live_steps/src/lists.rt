@@ -8,7 +8,7 @@ use exh_fixtures::Said::{self, Absent, Is, New, Was};
 
 /// Three puts, of which the third takes one split where a page has two records: page 0 has `#00` and `#40`
 /// then, page 1 has `#80`.
-pub(crate) static THREE_KEYS: [LiveStep; 3] = [
+pub static THREE_KEYS: [LiveStep; 3] = [
     Call(New(b"\0", b"a")),
     Call(New(b"\x80", b"b")),
     Call(New(b"\x40", b"x")),
@@ -16,7 +16,7 @@ pub(crate) static THREE_KEYS: [LiveStep; 3] = [
 
 /// After the three keys, of which the copy is told nothing: the page that is named is left at each move, and
 /// at a page that isn't there the call goes on at page 0.
-pub(crate) static TOLD_COPY: [LiveStep; 7] = [
+pub static TOLD_COPY: [LiveStep; 7] = [
     Held(1, b"\x80"),
     Within(2, Is(b"\x80", b"b")),
     Tell(1, "", 1),
@@ -27,7 +27,7 @@ pub(crate) static TOLD_COPY: [LiveStep; 7] = [
 ];
 
 /// After the three keys a round carries the one notice, and the next round none; then that of a merge.
-pub(crate) static COURIER: [LiveStep; 10] = [
+pub static COURIER: [LiveStep; 10] = [
     Carried(1),
     Named(b"\x80", 1),
     Within(1, Is(b"\x80", b"b")),
@@ -42,7 +42,7 @@ pub(crate) static COURIER: [LiveStep; 10] = [
 
 /// After the three keys and deletes of two a round makes one merge, and the next none. Where three pages are
 /// empty but for one record, a round merges two, and the next round what that left.
-pub(crate) static KEEPER: [LiveStep; 16] = [
+pub static KEEPER: [LiveStep; 16] = [
     Kept(0),
     Call(Was(b"\x40", b"x")),
     Call(Was(b"\x80", b"b")),
@@ -62,7 +62,7 @@ pub(crate) static KEEPER: [LiveStep; 16] = [
 ];
 
 /// Three puts in each of the wards 0, 1, 6 and 15 of sixteen, of which the third takes one split.
-pub(crate) static THREE_KEYS_EACH: [LiveStep; 12] = [
+pub static THREE_KEYS_EACH: [LiveStep; 12] = [
     Call(New(b"\0", b"a")),
     Call(New(b"\x08", b"b")),
     Call(New(b"\x04", b"x")),
@@ -79,7 +79,7 @@ pub(crate) static THREE_KEYS_EACH: [LiveStep; 12] = [
 
 /// After those keys a round carries a notice of each of the four wards; and once a keeper's round in each has
 /// merged what deletes left, the next round carries as many.
-pub(crate) static FOUR_WARDS: [LiveStep; 29] = [
+pub static FOUR_WARDS: [LiveStep; 29] = [
     Carried(4),
     Named(b"\x08", 1),
     Named(b"\x18", 1),
@@ -113,7 +113,7 @@ pub(crate) static FOUR_WARDS: [LiveStep; 29] = [
 
 /// After the three keys the notice of a further split is carried by the courier's 2,000th round. A call is asked
 /// 20,001 times. Over a copy that is closed a call begins at page 0, and goes by the right links of two pages.
-pub(crate) static LONG: [LiveStep; 8] = [
+pub static LONG: [LiveStep; 8] = [
     Carried(1),
     Idle(1_998),
     Call(New(b"\x20", b"y")),
@@ -131,7 +131,7 @@ pub(crate) static EMPTIED: [Said<'static>; 2] = [Was(b"\x40", b"x"), Was(b"\x80"
 pub(crate) static FILLED: [Said<'static>; 2] = [New(b"\x80", b"b"), New(b"\x40", b"x")];
 
 /// After the three keys and 300 merges and splits a round carries all 601 notices, and after 128 more all 256.
-pub(crate) static FAR_BEHIND: [LiveStep; 9] = [
+pub static FAR_BEHIND: [LiveStep; 9] = [
     Refilled(300),
     Carried(601),
     Named(b"\x80", 1),
@@ -145,7 +145,7 @@ pub(crate) static FAR_BEHIND: [LiveStep; 9] = [
 
 /// One record in the left page and, after the split, as many in the right one as a page may have, four. They
 /// are deleted down to three in both, which are too many, and down to two, which are half.
-pub(crate) static EVEN_HALF: [LiveStep; 12] = [
+pub static EVEN_HALF: [LiveStep; 12] = [
     Call(New(b"\0", b"b")),
     Call(New(b"\x80", b"b")),
     Call(New(b"\x81", b"b")),
@@ -161,7 +161,7 @@ pub(crate) static EVEN_HALF: [LiveStep; 12] = [
 ];
 
 /// The same of five.
-pub(crate) static ODD_HALF: [LiveStep; 14] = [
+pub static ODD_HALF: [LiveStep; 14] = [
     Call(New(b"\0", b"b")),
     Call(New(b"\x80", b"b")),
     Call(New(b"\x81", b"b")),
@@ -181,7 +181,7 @@ pub(crate) static ODD_HALF: [LiveStep; 14] = [
 /// A round carries nothing of what the table tells. Of six puts each third takes one split, of page 0 and of
 /// page 1: these are carried at once, and then one more. A courier with the place of a copy that was told of
 /// nothing finds no notice that is next, and carries none.
-pub(crate) static OPENED_COURIER: [LiveStep; 18] = [
+pub static OPENED_COURIER: [LiveStep; 18] = [
     Named(b"\x80", 1),
     Carried(0),
     Call(New(b"\0", b"a")),
@@ -204,7 +204,7 @@ pub(crate) static OPENED_COURIER: [LiveStep; 18] = [
 
 /// A round carries nothing of what the table tells, the split and its merge that were changes 3 and 4. The third
 /// key takes one split, change 5, which is carried, as is its merge.
-pub(crate) static MERGED_COURIER: [LiveStep; 14] = [
+pub static MERGED_COURIER: [LiveStep; 14] = [
     Named(b"\x80", 0),
     Carried(0),
     Call(New(b"\0", b"a")),
@@ -223,7 +223,7 @@ pub(crate) static MERGED_COURIER: [LiveStep; 14] = [
 
 /// After the three keys neither the split nor its merge is carried, of which the table tells; what comes after
 /// them is.
-pub(crate) static LATE_COURIER: [LiveStep; 11] = [
+pub static LATE_COURIER: [LiveStep; 11] = [
     Carried(0),
     Call(Was(b"\x40", b"x")),
     Call(Was(b"\x80", b"b")),
@@ -239,7 +239,7 @@ pub(crate) static LATE_COURIER: [LiveStep; 11] = [
 
 /// Both pages are empty, and stay: a later get finds the right one. Pages below are merged, which a courier
 /// carries.
-pub(crate) static WORN_KEEPER: [LiveStep; 15] = [
+pub static WORN_KEEPER: [LiveStep; 15] = [
     Kept(0),
     Call(New(b"\xc0", b"y")),
     Within(1, Is(b"\xc0", b"y")),
@@ -259,7 +259,7 @@ pub(crate) static WORN_KEEPER: [LiveStep; 15] = [
 
 /// The file has no key, and the copy names page 9, which isn't there: a get goes on at page 0, and is answered at its
 /// second turn.
-pub(crate) static WRONG_HINT: [LiveStep; 3] = [
+pub static WRONG_HINT: [LiveStep; 3] = [
     Tell(1, "", 9),
     Held(1, b"\x80"),
     Within(2, Absent(b"\x80")),
@@ -267,7 +267,7 @@ pub(crate) static WRONG_HINT: [LiveStep; 3] = [
 
 /// The third put takes seven splits, of the pages of the prefixes with no zero up to six: a round carries them all, and
 /// each right half has its page.
-pub(crate) static SEVEN_SPLITS: [LiveStep; 9] = [
+pub static SEVEN_SPLITS: [LiveStep; 9] = [
     Call(New(b"\0", b"a")),
     Call(New(b"\x01", b"b")),
     Call(New(b"\x02", b"x")),
@@ -280,11 +280,11 @@ pub(crate) static SEVEN_SPLITS: [LiveStep; 9] = [
 ];
 
 /// How many steps the next list has.
-pub(crate) const FAULT_COUNT: usize = 17;
+pub const FAULT_COUNT: usize = 17;
 
 /// Puts that take one split, deletes that leave a merge, and a put that takes two splits, of which one makes a page live
 /// again that was merged away.
-pub(crate) static FAULTS: [LiveStep; FAULT_COUNT] = [
+pub static FAULTS: [LiveStep; FAULT_COUNT] = [
     Call(New(b"\0", b"a")),
     Call(New(b"\x80", b"b")),
     Call(New(b"\x40", b"x")),

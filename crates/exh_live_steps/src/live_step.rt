@@ -19,7 +19,7 @@ use std::sync::Wait;
 
 /// A step of a live file, of its caller, or of the copy of its directory.
 #[derive(Clone, Copy)]
-pub(crate) enum LiveStep {
+pub enum LiveStep {
     /// A call.
     Call(Said<'static>),
     /// A call that is answered within so many turns.
@@ -52,7 +52,7 @@ pub(crate) enum LiveStep {
 
 /// Takes steps. The file has 2^`ward_bits` wards. These, and the copy that is told of them and at which the
 /// caller looks, begin with this table.
-pub(crate) fn take_steps<R: Wait, F: Identity, S: Start>(
+pub fn take_steps<R: Wait, F: Identity, S: Start>(
     rt: &R,
     run: &mut Run,
     file: &PlainFile<F>,

@@ -1,5 +1,5 @@
 use Rattle.std.specs.Prelude.{◌≡◌, length}
-use Rattle.beside_live.proofs.live_step.are_idle.Given as goal
+use Rattle.exh_live_steps.proofs.live_step.are_idle.Given as goal
 
 -- the courier has as many places as before, and the copy its name
 abbrev pub invariant-rounds : goal.invariant-rounds

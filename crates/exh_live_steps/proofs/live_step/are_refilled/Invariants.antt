@@ -1,5 +1,5 @@
 use Rattle.std.specs.Prelude.{◌≡◌}
-use Rattle.beside_live.proofs.live_step.are_refilled.Given as goal
+use Rattle.exh_live_steps.proofs.live_step.are_refilled.Given as goal
 
 -- the caller looks at the same copy
 abbrev pub invariant-times : goal.invariant-times

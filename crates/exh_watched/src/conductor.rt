@@ -13,7 +13,7 @@ const TURNS: u32 = 100_000;
 
 /// What threads count, and wait for.
 #[derive(Clone, Copy)]
-pub(crate) enum Count {
+pub enum Count {
     /// What a story means by it, as the next two.
     First,
     Second,
@@ -27,7 +27,7 @@ pub(crate) enum Count {
 
 /// Counts what threads do, as a watch and by the rules of a gate, and lets them wait for one another.
 #[derive(Drop)]
-pub(crate) struct Conductor<'a, R: Clock> {
+pub struct Conductor<'a, R: Clock> {
     clock: &'a R,
     rules: &'a [Rule],
     first: AtomicU64,
@@ -41,7 +41,7 @@ pub(crate) struct Conductor<'a, R: Clock> {
 
 impl<'a, R: Clock> Conductor<'a, R> {
     /// Counts of none.
-    pub(crate) fn new(clock: &'a R, rules: &'a [Rule]) -> Conductor<'a, R> {
+    pub fn new(clock: &'a R, rules: &'a [Rule]) -> Conductor<'a, R> {
         Conductor {
             clock,
             rules,
@@ -56,18 +56,18 @@ impl<'a, R: Clock> Conductor<'a, R> {
     }
 
     /// Counts so many more.
-    pub(crate) fn raise(&self, count: Count, by: u64) {
+    pub fn raise(&self, count: Count, by: u64) {
         self.cell(count).fetch_add(by, Ordering::SeqCst);
     }
 
     /// How many were counted.
-    pub(crate) fn count(&self, count: Count) -> u64 {
+    pub fn count(&self, count: Count) -> u64 {
         self.cell(count).load(Ordering::SeqCst)
     }
 
     /// Waits until so many were counted, and lets other threads run meanwhile. Answers whether they were; it
     /// gives up after 100,000 turns.
-    pub(crate) fn wait_for(&self, count: Count, least: u64) -> bool {
+    pub fn wait_for(&self, count: Count, least: u64) -> bool {
         for _ in 0..TURNS {
             if self.count(count) >= least {
                 return true;
@@ -78,7 +78,7 @@ impl<'a, R: Clock> Conductor<'a, R> {
     }
 
     /// Lets other threads run for ten microseconds or more.
-    pub(crate) fn rest(&self) {
+    pub fn rest(&self) {
         thread::sleep(self.clock, Duration::from_micros(10));
     }
 

@@ -5,7 +5,7 @@ use exh_storm::{COURIER_CLIENT, KEEPER_CLIENT};
 
 /// Whom a rule is for.
 #[derive(Clone, Copy)]
-pub(crate) enum Who {
+pub enum Who {
     Client(u32),
     Keepers,
     Couriers,
@@ -28,7 +28,7 @@ impl Who {
 
 /// What is done then.
 #[derive(Clone, Copy)]
-pub(crate) enum Then {
+pub enum Then {
     Raise(Count),
     /// Waits for so many: no, where that takes too long.
     Wait(Count, u64),
@@ -38,11 +38,11 @@ pub(crate) enum Then {
 
 /// What a gate does to somebody at a turn, or at each.
 #[derive(Clone, Copy)]
-pub(crate) struct Rule(pub(crate) Who, pub(crate) Option<u32>, pub(crate) Then);
+pub struct Rule(pub Who, pub Option<u32>, pub Then);
 
 impl Rule {
     /// Whether it is for this client at this turn.
-    pub(crate) fn is_for(&self, client: u32, turn: u32) -> bool {
+    pub fn is_for(&self, client: u32, turn: u32) -> bool {
         let is_turn = match self.1 {
             None => true,
             Some(own) => own == turn,

@@ -1,5 +1,5 @@
 use Rattle.std.specs.Prelude.{◌≡◌, ◌^◌, length}
-use Rattle.beside_live.proofs.live_step.take_list.Given as goal
+use Rattle.exh_live_steps.proofs.live_step.take_list.Given as goal
 
 -- the courier has as many places as before, and the caller looks at the writer's copy
 abbrev pub invariant-steps : goal.invariant-steps
