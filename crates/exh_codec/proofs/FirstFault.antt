@@ -1,7 +1,6 @@
 -- The first fault, and a block that passes all tests.
-use Rattle.std.proofs.Common.{◌≡◌, ◌≢◌, ℕ, List, [], ◌∷◌, ◌++◌, take, drop, Result, Ok, Err, refl, sym, ap, ◌∙◌, subst}
+use Rattle.std.proofs.Common.{◌≡◌, ◌≢◌, ℕ, List, [], ◌∷◌, ◌++◌, take, drop, Result, Ok, Err, refl, sym, ap, ◌∙◌}
 use Rattle.std.specs.Prelude.{MatchResult, IfOk, IfErr}
-use Rattle.std.specs.List.{AllByRecursion}
 use Rattle.std.proofs.lemmas.List.{take_at, drop_at, take-append-drop}
 use Rattle.sha2.specs.Sha256.{sha256}
 use Rattle.exh_prefix.specs.Version.{Version, Fits}
@@ -12,13 +11,9 @@ use Rattle.exh_codec.specs.Block.{sealed, IsSealed}
 use Rattle.exh_codec.specs.ImageTests.{Passes, IsFirst, content_tests, image_tests}
 use Rattle.exh_codec.specs.PageImage.{IsLaidOut, IsImage, content_of}
 use Rattle.exh_codec.specs.ReadPages.{GivesPage}
-use Rattle.exh_prefix.specs.ListLemmas.{AllByRecursion-append_right}
+use Rattle.exh_codec.specs.ImageTestLemmas.{none_first}
 use Rattle.exh_codec.proofs.ImagesPass.{passes_content, one_page_laid}
 use Rattle.exh_codec.proofs.UsedBytes.{length-content_of}
-
--- where all tests pass, none is the first that fails
-none_first : (Pass : ImageFault → Type 0) (tests : List ImageFault) (fault : ImageFault) → AllByRecursion Pass tests → IsFirst Pass tests fault → ⊥
-none_first Pass tests fault all first = first.fails (AllByRecursion-append_right Pass first.before (fault ∷ first.after) (subst (AllByRecursion Pass) first.stands all)).0
 
 module _ (version : Version) (fits : Fits 8 version) where
   first_given : (pseudo : List ℕ → ℕ) (block : List ℕ) (fault : ImageFault) → GivesPage version pseudo block (Err fault) → fault ≢ faults.Memory → IsFirst (Passes version pseudo block) content_tests fault
@@ -37,12 +32,12 @@ module _ (version : Version) (fits : Fits 8 version) where
 
   memory_alone : (pseudo : List ℕ → ℕ) (block : List ℕ) (page : Page) (fault : ImageFault) → IsLaidOut version pseudo page block → GivesPage version pseudo block (Err fault) → fault ≡ faults.Memory
   memory_alone pseudo block page faults.Memory laid gives = refl
-  memory_alone pseudo block page faults.Kind laid gives = absurd (none_first _ _ _ (passes_content version fits pseudo page block laid) gives)
-  memory_alone pseudo block page faults.Length laid gives = absurd (none_first _ _ _ (passes_content version fits pseudo page block laid) gives)
-  memory_alone pseudo block page faults.Order laid gives = absurd (none_first _ _ _ (passes_content version fits pseudo page block laid) gives)
-  memory_alone pseudo block page faults.Padding laid gives = absurd (none_first _ _ _ (passes_content version fits pseudo page block laid) gives)
-  memory_alone pseudo block page faults.Digest laid gives = absurd (none_first _ _ _ (passes_content version fits pseudo page block laid) gives)
-  memory_alone pseudo block page faults.Prefix laid gives = absurd (none_first _ _ _ (passes_content version fits pseudo page block laid) gives)
+  memory_alone pseudo block page faults.Kind laid gives = absurd (none_first _ _ _ gives (passes_content version fits pseudo page block laid))
+  memory_alone pseudo block page faults.Length laid gives = absurd (none_first _ _ _ gives (passes_content version fits pseudo page block laid))
+  memory_alone pseudo block page faults.Order laid gives = absurd (none_first _ _ _ gives (passes_content version fits pseudo page block laid))
+  memory_alone pseudo block page faults.Padding laid gives = absurd (none_first _ _ _ gives (passes_content version fits pseudo page block laid))
+  memory_alone pseudo block page faults.Digest laid gives = absurd (none_first _ _ _ gives (passes_content version fits pseudo page block laid))
+  memory_alone pseudo block page faults.Prefix laid gives = absurd (none_first _ _ _ gives (passes_content version fits pseudo page block laid))
 
   pub only_given : (pseudo : List ℕ → ℕ) (block : List ℕ) (result : Result Page ImageFault) → GivesPage version pseudo block result → (page : Page) → IsLaidOut version pseudo page block
       → MatchResult result (λ found. found ≡ page) (λ fault. fault ≡ faults.Memory)

@@ -1,8 +1,6 @@
 -- of writing: put_record, put_page, lay_out
 pub mod PutPairs
 pub mod UsedBytes
--- of lay_out_with
-pub mod Sides
 -- of reading: cells, the head, low bounds, zeros, rising records
 pub mod PairImages
 pub mod LowBytes

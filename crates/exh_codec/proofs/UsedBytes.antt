@@ -15,7 +15,7 @@ use Rattle.exh_codec.specs.Cells.{Pair, IsSizedPair, pair_image}
 use Rattle.exh_codec.specs.Head.{head_of, head_bytes, link_number}
 use Rattle.exh_codec.specs.PageImage.{IsInRange, IsPage, used_of, content_of}
 use Rattle.exh_codec.specs.PageImageLemmas.{few_records}
-use Rattle.exh_codec.proofs.PutPairs.{length-pair_image}
+use Rattle.exh_codec.specs.CellLemmas.{length-pair_image}
 
 -- prefixes as the types hold them
 abbrev pub widest : Version

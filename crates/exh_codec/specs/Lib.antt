@@ -2,11 +2,12 @@ pub mod Block
 pub mod ImageFault
 pub mod Head
 pub mod Cells
-pub mod Sides
 pub mod PageImage
 pub mod PageImageLemmas
 pub mod BlockLemmas
+pub mod CellLemmas
 pub mod ImageTests
+pub mod ImageTestLemmas
 pub mod ReadPages
 pub mod PageOf
 pub mod Laws

@@ -66,13 +66,6 @@ impl Head {
         }
     }
 
-    /// The head with another count of records.
-    pub(crate) fn with_count(self, count: u8) -> Head
-        ensures { result ≡ record self { count = count } }
-    {
-        Head { count, ..self }
-    }
-
     /// The first bytes of the image.
     #[tactic(auto, unfolding(crate::specs::Head::head_bytes))]
     pub(crate) fn to_bytes(self) -> [u8; HEAD_LEN]

@@ -4,7 +4,7 @@
 
 pub use block::{BLOCK_LEN, CONTENT_LEN, is_sealed, seal};
 pub use decode::{are_zero, decode_content, decode_head, decode_page};
-pub use encode::{encode_page, lay_out, lay_out_with};
+pub use encode::{encode_page, lay_out};
 pub use image_fault::ImageFault;
 pub use laws::{
     blocks_are_read, images_are_blocks, images_are_sealed, images_pass, one_image, one_page,

@@ -1,7 +1,7 @@
 use Rattle.std.proofs.Common.{◌≡◌, List, ℕ, ◌+◌, ◌-◌, ◌++◌, drop, length, ap, ◌∙◌, arith}
 use Rattle.exh_page.specs.KeyMap.{pair_of}
 use Rattle.exh_codec.specs.Cells.{Pair, pair_image}
-use Rattle.exh_codec.proofs.PutPairs.{put_pair, length-pair_image}
+use Rattle.exh_codec.specs.CellLemmas.{put_pair, length-pair_image}
 use Rattle.exh_codec.proofs.encode.put_record.Goals as goal
 
 pub returns-clause-len : goal.returns-clause-len
