@@ -1,10 +1,13 @@
 pub mod FileVersion
 pub mod FirstFailing
+pub mod FirstFailingLemmas
 pub mod FileFault
 pub mod HeaderImage
+pub mod HeaderLemmas
 pub mod FileVersionLemmas
 pub mod HeaderTests
 pub mod TableImage
+pub mod RisingLemmas
 pub mod TableTests
 pub mod ReadEntries
 pub mod Laws
