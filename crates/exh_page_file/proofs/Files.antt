@@ -1,12 +1,10 @@
 -- A file from the reads of its parts.
-use Rattle.std.proofs.Common.{◌≡◌, ℕ, ◌+◌, ◌*◌, ◌-◌, ◌^◌, ◌<◌, ◌≤◌, inl, inr, true, Vec, List, [], ◌∷◌, ◌++◌, length, map, take, drop, Option, None, Some, IfSome, refl, sym, ap, ◌∙◌, subst, arith}
+use Rattle.std.proofs.Common.{◌≡◌, ℕ, ◌+◌, ◌*◌, ◌^◌, ◌<◌, ◌≤◌, inl, inr, true, Vec, List, [], ◌∷◌, ◌++◌, length, map, take, Option, None, Some, IfSome, refl, sym, ap, ◌∙◌, subst, arith}
 use Rattle.std.proofs.lemmas.List.{length-append, length-take}
-use Rattle.std.proofs.lemmas.List.Sums.{sum_by-cons, sum_by-take-drop}
+use Rattle.std.proofs.lemmas.List.Sums.{sum_by-cons}
 use Rattle.std.proofs.lemmas.List.Folds.{flat_map-map}
 use Rattle.std.proofs.Math.Nat.{pow-le-pow_right}
-use Rattle.std.proofs.lemmas.Nat.{pow_below}
 use Rattle.exh_prefix.specs.declared.prefix.TheConstants.{LIMIT}
-use Rattle.std.proofs.lemmas.Bool.{cases_lt}
 use Rattle.std.specs.List.{AllByRecursion, flat_map, sum}
 use Rattle.std.specs.Io.KnownBytes.{Consumes, IsAtEnd}
 use Rattle.std.proofs.KnownBytes.{Consumes-trans, Consumes-whole}
@@ -23,7 +21,8 @@ use Rattle.exh_file.specs.declared.file_fault.FileFault.TheVariants as faults
 use Rattle.exh_file.specs.declared.header.Header.{Header}
 use Rattle.exh_file.specs.FileVersion.{FileVersion, FitsFile, file_version, format_of, version_of}
 use Rattle.exh_file.specs.FileVersionLemmas.{image_says, version_from_front}
-use Rattle.exh_file.specs.HeaderImage.{IsHeader, IsHeaderImage, IsPageCount}
+use Rattle.exh_file.specs.HeaderImage.{IsHeader, IsHeaderImage}
+use Rattle.exh_file.specs.HeaderLemmas.{small_sum}
 use Rattle.exh_file.specs.Laws.{TablesAreBlocks, TablesPass}
 use Rattle.exh_prefix.specs.declared.version.Version.{Version as KnownVersion}
 use Rattle.exh_prefix.specs.Layout.{layout}
@@ -31,7 +30,7 @@ use Rattle.exh_prefix.specs.LayoutLemmas.{layout_short}
 use Rattle.exh_page_file.specs.FileTests.{End, FileFailsFirst, HeaderFails, IsFault, IsFileFault, NextFails, PassesAt, bytes_from, page_places, places_behind, table_places}
 use Rattle.exh_page_file.specs.PageFile.{IsPageFile, PageFile, header_block, page_block, pages_of, table_blocks, table_bytes}
 use Rattle.exh_page_file.specs.Reading.{AreBytes, FailsInPages, FailsInTable, GivesEntries, GivesPages, IsAll, IsBlock}
-use Rattle.exh_page_file.proofs.Elements.{all_join}
+use Rattle.exh_prefix.specs.ListLemmas.{AllByRecursion-append}
 use Rattle.exh_page_file.proofs.Places.{block_there, fails_behind, fails_here, from_next, pages_behind, pages_fail, pages_pass}
 use Rattle.exh_page_file.proofs.TablePlaces.{table_fails, tables_behind, tables_pass}
 
@@ -39,27 +38,6 @@ pub an_entry : FileEntry
 an_entry = record { ward = 0; prefix = []; entry = record { number = 0; kind = Merge } }
 
 -- ---- how many wards and pages a header counts
-
-pub few_wards : (bits : ℕ) → 2 ^ bits ≤ 16 → bits ≤ 4
-few_wards bits few = elim (cases_lt 4 bits) [
-  | inl more ↦ absurd (omega (arith, few, pow_below 4 bits more))
-  | inr within ↦ within
-]
-
-zero_sum : (counts : List ℕ) → AllByRecursion (λ count. count ≡ 0) counts → sum counts ≡ 0
-zero_sum [] all = refl
-zero_sum (count ∷ counts) all = sum_by-cons (λ (count : ℕ). count) count counts ∙ (omega (arith, all.0, zero_sum counts all.1))
-
-pub all_counted : (version : FileVersion) (header : Header) → IsHeader version header → sum (take (2 ^ header.settings.ward_bits) header.page_counts) ≡ sum header.page_counts
-all_counted version header valid =
-    omega (arith, sum_by-take-drop (λ (count : ℕ). count) header.page_counts (2 ^ header.settings.ward_bits), zero_sum (drop (2 ^ header.settings.ward_bits) header.page_counts) valid.others)
-
-small_sum : (limit bits : ℕ) (counts : List ℕ) → limit ≤ LIMIT → AllByRecursion (IsPageCount limit bits) counts → sum counts ≤ length counts * 2 ^ LIMIT
-small_sum limit bits [] small all = omega arith
-small_sum limit bits (count ∷ counts) small all =
-    let below : limit - bits ≤ LIMIT = omega (arith, small) in
-    let most : 2 ^ (limit - bits) ≤ 2 ^ LIMIT = pow-le-pow_right {n = 2} (omega arith) below in
-    omega (arith, sum_by-cons (λ (count : ℕ). count) count counts, all.0.1, most, small_sum limit bits counts small all.1)
 
 -- a ward has at most as many pages as there are prefixes, in every version that the code knows,
 pub few_pages : (version : KnownVersion) (header : Header) → IsHeader (file_version version) header → sum (take (2 ^ header.settings.ward_bits) header.page_counts) ≤ 16 * 2 ^ LIMIT
@@ -202,7 +180,7 @@ module _ (version : FileVersion) (a b c e : Option (List ℕ)) (header : Header)
       let file : PageFile = record { header = header; wards = map (λ ward. ward.items) wards; entries = entries } in (
         bytes,
         Consumes-whole a e bytes (λ all. all ≡ bytes) consumed end refl,
-        all_join (λ (byte : ℕ). byte < 256) block (blocks ++ table) headed.is.1 (all_join (λ (byte : ℕ). byte < 256) blocks table gives.are_bytes given.are_bytes),
+        AllByRecursion-append (λ (byte : ℕ). byte < 256) block (blocks ++ table) headed.is.1 (AllByRecursion-append (λ (byte : ℕ). byte < 256) blocks table gives.are_bytes given.are_bytes),
         record {
           valid = record {
             header = headed.image.valid;

@@ -21,8 +21,8 @@ use Rattle.exh_file.specs.TableImage.{IsFileEntry, image_of}
 use Rattle.exh_page_file.specs.FileTests.{last_prefix_in, prefix_in}
 use Rattle.exh_page_file.specs.PageFile.{table_block}
 use Rattle.exh_page_file.specs.Reading.{last_prefix}
-use Rattle.exh_page_file.proofs.Elements.{all_back}
-use Rattle.exh_page_file.proofs.Tables.{last_of_more}
+use Rattle.exh_prefix.specs.ListLemmas.{AllByRecursion-append_right}
+use Rattle.exh_page_file.specs.ReadingLemmas.{last_of_more}
 
 module _ (version : Version) (fits : Fits 4 version) where
   field-lt : (prefix : List Bool) → length prefix ≤ version.limit → prefix_field version prefix < 256 ^ version.bytes
@@ -74,6 +74,6 @@ module _ (version : Version) (fits : Fits 4 version) where
       let front = take 253 entries in
       let item = get_or entries 253 d in
       let whole : front ++ item ∷ [] ≡ entries = sym (take_more entries 253 d (omega (arith, full))) ∙ take_all 254 entries (omega (arith, full)) in
-      let last = (all_back (IsFileEntry version) front (item ∷ []) (subst (AllByRecursion (IsFileEntry version)) (sym whole) valid)).0 in
+      let last = (AllByRecursion-append_right (IsFileEntry version) front (item ∷ []) (subst (AllByRecursion (IsFileEntry version)) (sym whole) valid)).0 in
       subst (λ (entries : List FileEntry). Some (last_prefix_in version (table_block version entries)) ≡ last_prefix before entries) whole
       (at_last before front item (length-take-le 253 entries (omega (arith, full))) last)

@@ -1,7 +1,6 @@
 -- Bytes are those of one file.
 use Rattle.std.proofs.Common.{◌≡◌, ℕ, zero, suc, ◌*◌, ◌^◌, ◌≤◌, List, [], ◌∷◌, ◌++◌, length, map, take, drop, refl, sym, ap, ◌∙◌, subst, append_assoc, take-append-drop, arith}
-use Rattle.std.proofs.lemmas.List.{take_at, drop_at, length-append, length-take, length-drop}
-use Rattle.std.proofs.lemmas.List.Sums.{sum_by-cons}
+use Rattle.std.proofs.lemmas.List.{take_at, drop_at, length-take, length-drop}
 use Rattle.std.specs.List.{AllByRecursion, flat_map, sum}
 use Rattle.exh_keyer.specs.Pseudokey.{any_pseudokey}
 use Rattle.exh_prefix.specs.Version.{Fits}
@@ -14,8 +13,9 @@ use Rattle.exh_file.specs.FileVersion.{FileVersion, FitsFile}
 use Rattle.exh_file.specs.HeaderImage.{IsHeaderImage}
 use Rattle.exh_file.specs.Laws.{HeadersAreBlocks, OneHeader, OneTable, TablesAreBlocks}
 use Rattle.exh_file.specs.TableImage.{IsFileEntry, IsTableImage}
+use Rattle.exh_page_file.specs.ReadingLemmas.{length-pages_of}
 use Rattle.exh_page_file.specs.PageFile.{IsFile, IsPageFile, PageFile, header_block, page_block, pages_of, table_block, table_blocks, table_bytes}
-use Rattle.exh_page_file.proofs.Elements.{all_front, all_back}
+use Rattle.exh_prefix.specs.ListLemmas.{AllByRecursion-append_left, AllByRecursion-append_right}
 
 -- bytes that begin with one of two blocks
 pub same_fronts : (one other rest after : List ℕ) → length one ≡ 4096 → length other ≡ 4096 → one ++ rest ≡ other ++ after → (one ≡ other) × (rest ≡ after)
@@ -41,10 +41,6 @@ same_wards (first ∷ one) (second ∷ other) counts same =
     let parts = cut_front first second (pages_of one) (pages_of other) head same in
     let rest = same_wards one other tail parts.1 in
     (λ i. parts.0 i ∷ rest i)
-
-pub length-pages_of : (wards : List (List Page)) → length (pages_of wards) ≡ sum (map length wards)
-length-pages_of [] = refl
-length-pages_of (ward ∷ wards) = omega (arith, length-append ward (pages_of wards), sum_by-cons (λ (count : ℕ). count) (length ward) (map length wards), length-pages_of wards)
 
 module _ (version : FileVersion) (fits : FitsFile version) (page_blocks : ImagesAreBlocks) (one_page : OnePage) (header_blocks : HeadersAreBlocks) (one_header : OneHeader) (table_blocks_law : TablesAreBlocks) (one_table : OneTable) where
   pub same_pages : (pseudo : List ℕ → ℕ) (one other : List Page) (rest after : List ℕ) → length one ≡ length other → AllByRecursion (IsPage version.images pseudo) one → AllByRecursion (IsPage version.images pseudo) other
@@ -77,9 +73,9 @@ module _ (version : FileVersion) (fits : FitsFile version) (page_blocks : Images
       let opposite_few : length opposite ≤ 254 = omega (arith, length-take 254 other) in
       let parts = subst (AllByRecursion (IsFileEntry version.images)) (sym (take-append-drop 254 one)) first in
       let opposite_parts = subst (AllByRecursion (IsFileEntry version.images)) (sym (take-append-drop 254 other)) second in
-      let image : IsTableImage version.images front (table_block version.images front) = record { few = few; valid = all_front (IsFileEntry version.images) front (drop 254 one) parts; whole = refl } in
+      let image : IsTableImage version.images front (table_block version.images front) = record { few = few; valid = AllByRecursion-append_left (IsFileEntry version.images) front (drop 254 one) parts; whole = refl } in
       let opposite_image : IsTableImage version.images opposite (table_block version.images opposite) =
-      record { few = opposite_few; valid = all_front (IsFileEntry version.images) opposite (drop 254 other) opposite_parts; whole = refl } in
+      record { few = opposite_few; valid = AllByRecursion-append_left (IsFileEntry version.images) opposite (drop 254 other) opposite_parts; whole = refl } in
       let more = table_bytes version.images blocks (drop 254 one) in
       let opposite_more = table_bytes version.images blocks (drop 254 other) in
       let heads = same_fronts (table_block version.images front) (table_block version.images opposite) (more ++ rest) (opposite_more ++ after)
@@ -87,7 +83,7 @@ module _ (version : FileVersion) (fits : FitsFile version) (page_blocks : Images
       (sym (append_assoc (table_block version.images front) more rest) ∙ same ∙ append_assoc (table_block version.images opposite) opposite_more after) in
       let here : front ≡ opposite = one_table version.images fits.images (table_block version.images opposite) front opposite (subst (IsTableImage version.images front) heads.0 image) opposite_image in
       let tails = same_tables blocks (drop 254 one) (drop 254 other) rest after (omega (arith, length-drop 254 one, length-drop 254 other, len)) (omega (arith, length-drop 254 one, room))
-      (all_back (IsFileEntry version.images) front (drop 254 one) parts) (all_back (IsFileEntry version.images) opposite (drop 254 other) opposite_parts) heads.1 in
+      (AllByRecursion-append_right (IsFileEntry version.images) front (drop 254 one) parts) (AllByRecursion-append_right (IsFileEntry version.images) opposite (drop 254 other) opposite_parts) heads.1 in
       sym (take-append-drop 254 one) ∙ (λ i. here i ++ tails i) ∙ take-append-drop 254 other
 
   -- the wards' pages, as many as the header counts

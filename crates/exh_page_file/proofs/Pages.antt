@@ -17,7 +17,7 @@ use Rattle.exh_page_file.specs.declared.read_file_fault.ReadFileFault.TheVariant
 use Rattle.exh_page_file.specs.FileTests.{NextFails, PageFails}
 use Rattle.exh_page_file.specs.PageFile.{page_block}
 use Rattle.exh_page_file.specs.Reading.{AreBytes, FailsInPages, GivesPages, IsBlock, IsOf}
-use Rattle.exh_page_file.proofs.Elements.{all_join}
+use Rattle.exh_prefix.specs.ListLemmas.{AllByRecursion-append}
 
 -- what fails of the bytes that are left fails so of all
 pub of_later : (P Q : List ℕ → FileFault → Type 0) (known later : Option (List ℕ)) (fault : ReadFileFault) → ((fault : FileFault) → IfSome later (λ bytes. P bytes fault) → IfSome known (λ bytes. Q bytes fault))
@@ -35,8 +35,8 @@ module _ (version : Version) (pseudo : List ℕ → ℕ) where
       let joined = flat_map-append page_block pages more in
       record {
         given = subst (Consumes a c) (sym joined) (Consumes-trans a b c (flat_map page_block pages) (flat_map page_block more) first.given second.given);
-        are_bytes = subst AreBytes (sym joined) (all_join (λ (byte : ℕ). byte < 256) (flat_map page_block pages) (flat_map page_block more) first.are_bytes second.are_bytes);
-        valid = all_join (IsPage version pseudo) pages more first.valid second.valid;
+        are_bytes = subst AreBytes (sym joined) (AllByRecursion-append (λ (byte : ℕ). byte < 256) (flat_map page_block pages) (flat_map page_block more) first.are_bytes second.are_bytes);
+        valid = AllByRecursion-append (IsPage version pseudo) pages more first.valid second.valid;
       }
 
   pub one_page : (a b : Option (List ℕ)) (page : Page) (block : List ℕ) → Consumes a b block → IsImage version pseudo page block → IsBlock block → GivesPages version pseudo a b (page ∷ [])
@@ -67,8 +67,8 @@ module _ (version : Version) (pseudo : List ℕ → ℕ) where
         fewer = omega (arith, many, fails.fewer, within);
         whole = gives.given ∙ ap (λ (rest : List ℕ). flat_map page_block pages ++ rest) fails.whole ∙ sym (append_assoc (flat_map page_block pages) (flat_map page_block fails.pages) fails.rest)
             ∙ ap (λ (front : List ℕ). front ++ fails.rest) (sym joined);
-        are_bytes = subst AreBytes (sym joined) (all_join (λ (byte : ℕ). byte < 256) (flat_map page_block pages) (flat_map page_block fails.pages) gives.are_bytes fails.are_bytes);
-        valid = all_join (IsPage version pseudo) pages fails.pages gives.valid fails.valid;
+        are_bytes = subst AreBytes (sym joined) (AllByRecursion-append (λ (byte : ℕ). byte < 256) (flat_map page_block pages) (flat_map page_block fails.pages) gives.are_bytes fails.are_bytes);
+        valid = AllByRecursion-append (IsPage version pseudo) pages fails.pages gives.valid fails.valid;
         fails = subst (λ (place : ℕ). NextFails (PageFails version pseudo place) fails.rest fault) there fails.fails;
       }
 

@@ -12,7 +12,8 @@ use Rattle.exh_file.specs.FileVersion.{FileVersion, FitsFile}
 use Rattle.exh_page_file.specs.FileTests.{FilePlace, OfPage, FailsAt, FileFailsFirst, NextFails, PageFails, PassesAt, block_at, bytes_from, page_places}
 use Rattle.exh_page_file.specs.PageFile.{page_block}
 use Rattle.exh_page_file.specs.Reading.{AreBytes, FailsInPages}
-use Rattle.exh_page_file.proofs.Elements.{all_front, all_back, byte_at}
+use Rattle.exh_prefix.specs.ListLemmas.{AllByRecursion-append_left, AllByRecursion-append_right}
+use Rattle.exh_page_file.specs.ReadingLemmas.{byte_at}
 
 -- the bytes from a place on, behind a block that stands there
 pub from_next : (place : ℕ) (bytes block rest : List ℕ) → bytes_from place bytes ≡ block ++ rest → length block ≡ 4096 → bytes_from (suc place) bytes ≡ rest
@@ -69,8 +70,8 @@ module _ (version : FileVersion) (pseudo : List ℕ → ℕ) (bytes : List ℕ) 
         let block = page_block page in
         let more = flat_map page_block pages in
         let here = is ∙ append_assoc block more rest in (
-          page_passes place page (more ++ rest) valid.0 (all_front (λ (byte : ℕ). byte < 256) block more small) here,
-          pages_pass (suc place) pages rest valid.1 (all_back (λ (byte : ℕ). byte < 256) block more small) (from_next place bytes block (more ++ rest) here (length-page page valid.0)),
+          page_passes place page (more ++ rest) valid.0 (AllByRecursion-append_left (λ (byte : ℕ). byte < 256) block more small) here,
+          pages_pass (suc place) pages rest valid.1 (AllByRecursion-append_right (λ (byte : ℕ). byte < 256) block more small) (from_next place bytes block (more ++ rest) here (length-page page valid.0)),
         )
 
     pub pages_behind : (place : ℕ) (pages : List Page) (rest : List ℕ) → AllByRecursion (IsPage version.images pseudo) pages
@@ -98,8 +99,8 @@ module _ (version : FileVersion) (pseudo : List ℕ → ℕ) (bytes : List ℕ) 
         let here = is ∙ append_assoc block more rest in
         let same : place + suc (length pages) ≡ suc place + length pages = omega arith in
         fails_behind (OfPage place ∷ []) (page_places (suc place) count ++ places) fault
-        (page_passes place page (more ++ rest) valid.0 (all_front (λ (byte : ℕ). byte < 256) block more small) here, tt)
-        (next_page_fails (suc place) count places pages rest fault (omega (arith, fewer)) valid.1 (all_back (λ (byte : ℕ). byte < 256) block more small)
+        (page_passes place page (more ++ rest) valid.0 (AllByRecursion-append_left (λ (byte : ℕ). byte < 256) block more small) here, tt)
+        (next_page_fails (suc place) count places pages rest fault (omega (arith, fewer)) valid.1 (AllByRecursion-append_right (λ (byte : ℕ). byte < 256) block more small)
         (from_next place bytes block (more ++ rest) here (length-page page valid.0))
         (subst (λ (place : ℕ). NextFails (PageFails version.images pseudo place) rest fault) same fails))
 

@@ -9,7 +9,7 @@ use Rattle.exh_file.specs.declared.file_entry.FileEntry.{FileEntry}
 use Rattle.exh_file.specs.TableImage.{IsFileEntry, image_of}
 use Rattle.exh_page_file.specs.Laws.{SameBlocks}
 use Rattle.exh_page_file.specs.PageFile.{page_block, pages_of, table_block, table_blocks, table_bytes}
-use Rattle.exh_page_file.proofs.Elements.{all_front, all_back}
+use Rattle.exh_prefix.specs.ListLemmas.{AllByRecursion-append_left, AllByRecursion-append_right}
 
 module _ (one other : Version) (fits : Fits 4 one) (other_fits : Fits 4 other) where
   same_image : (item : FileEntry) → IsFileEntry one item → IsFileEntry other item → image_of one item ≡ image_of other item
@@ -35,8 +35,8 @@ module _ (one other : Version) (fits : Fits 4 one) (other_fits : Fits 4 other) w
       let back = drop 254 items in
       let parts = subst (AllByRecursion (IsFileEntry one)) (sym (take-append-drop 254 items)) first in
       let other_parts = subst (AllByRecursion (IsFileEntry other)) (sym (take-append-drop 254 items)) second in
-      let here = same_block front (all_front (IsFileEntry one) front back parts) (all_front (IsFileEntry other) front back other_parts) in
-      let rest = same_tables blocks back (all_back (IsFileEntry one) front back parts) (all_back (IsFileEntry other) front back other_parts) in
+      let here = same_block front (AllByRecursion-append_left (IsFileEntry one) front back parts) (AllByRecursion-append_left (IsFileEntry other) front back other_parts) in
+      let rest = same_tables blocks back (AllByRecursion-append_right (IsFileEntry one) front back parts) (AllByRecursion-append_right (IsFileEntry other) front back other_parts) in
       (λ i. here i ++ rest i)
 
 pub same_blocks : SameBlocks

@@ -1,10 +1,8 @@
 -- The places of a table: which bytes pass what is asked of them, and the first at which they fail.
 use Rattle.std.proofs.Common.{◌≡◌, ℕ, zero, suc, ◌+◌, ◌*◌, ◌-◌, ◌<◌, ◌≤◌, min, Bool, true, false, List, [], ◌∷◌, ◌++◌, length, take, drop, Option, None, Some, refl, sym, ap, ◌∙◌, subst, append_assoc, take-append-drop, arith}
-use Rattle.std.proofs.lemmas.List.{length-drop, length-take, length-take-le, map-append}
+use Rattle.std.proofs.lemmas.List.{length-drop, length-take, length-take-le}
 use Rattle.std.specs.List.{AllByRecursion}
 use Rattle.std.specs.Option.{option_to_list}
-use Rattle.std.specs.declared.cmp.Ordering.TheVariants.{Less}
-use Rattle.exh_prefix.specs.Prefix.{prefix_cmp}
 use Rattle.exh_file.specs.declared.file_entry.FileEntry.{FileEntry}
 use Rattle.exh_file.specs.declared.file_fault.FileFault.{FileFault}
 use Rattle.exh_file.specs.FileVersion.{FileVersion, FitsFile}
@@ -14,27 +12,10 @@ use Rattle.exh_file.specs.TableTests.{PassesTable, table_tests}
 use Rattle.exh_page_file.specs.FileTests.{FilePlace, OfTable, FileFailsFirst, NextFails, PassesAt, TableFails, block_at, bytes_from, last_prefix_in, prefix_before, table_places}
 use Rattle.exh_page_file.specs.PageFile.{table_block, table_blocks, table_bytes}
 use Rattle.exh_page_file.specs.Reading.{AreBytes, FailsInTable, last_prefix}
-use Rattle.exh_page_file.proofs.Elements.{all_front, all_back, byte_at}
+use Rattle.exh_prefix.specs.ListLemmas.{AllByRecursion-append_left, AllByRecursion-append_right}
+use Rattle.exh_page_file.specs.ReadingLemmas.{byte_at, last_of_join, rising_back, rising_front}
 use Rattle.exh_page_file.proofs.LastPrefix.{last_said}
-use Rattle.exh_page_file.proofs.Tables.{last_of_join}
 use Rattle.exh_page_file.proofs.Places.{block_there, fails_behind, fails_here, from_next, whole_there}
-
--- ---- prefixes of the first entries, and of the others
-
-rising_front : (before : Option (List Bool)) (front back : List FileEntry) → AreRising (option_to_list before ++ prefixes_of (front ++ back)) → AreRising (option_to_list before ++ prefixes_of front)
-rising_front None [] back rising = tt
-rising_front (Some prefix) [] back rising = (tt, tt)
-rising_front None (item ∷ front) back rising = rising_front (Some item.prefix) front back rising
-rising_front (Some prefix) (item ∷ front) back rising =
-    let parts = map-append (λ (item : FileEntry). item.prefix) (item ∷ front) back in (
-      all_front (λ (other : List Bool). prefix_cmp prefix other ≡ Less) (prefixes_of (item ∷ front)) (prefixes_of back) (subst (AllByRecursion (λ (other : List Bool). prefix_cmp prefix other ≡ Less)) parts rising.0),
-      rising_front (Some item.prefix) front back rising.1,
-    )
-
-rising_back : (before : Option (List Bool)) (front back : List FileEntry) → AreRising (option_to_list before ++ prefixes_of (front ++ back)) → AreRising (option_to_list (last_prefix before front) ++ prefixes_of back)
-rising_back before [] back rising = rising
-rising_back None (item ∷ front) back rising = rising_back (Some item.prefix) front back rising
-rising_back (Some prefix) (item ∷ front) back rising = rising_back (Some item.prefix) front back rising.1
 
 module _ (version : FileVersion) (pseudo : List ℕ → ℕ) (bytes : List ℕ) (fits : FitsFile version) (pass : TablesPass) (are_blocks : TablesAreBlocks) where
   -- a block of the table
@@ -72,7 +53,7 @@ module _ (version : FileVersion) (pseudo : List ℕ → ℕ) (bytes : List ℕ) 
   split entries = take-append-drop 254 entries
 
   front_valid : (entries : List FileEntry) → AllByRecursion (IsFileEntry version.images) entries → AllByRecursion (IsFileEntry version.images) (take 254 entries)
-  front_valid entries valid = all_front (IsFileEntry version.images) (take 254 entries) (drop 254 entries) (subst (AllByRecursion (IsFileEntry version.images)) (sym (split entries)) valid)
+  front_valid entries valid = AllByRecursion-append_left (IsFileEntry version.images) (take 254 entries) (drop 254 entries) (subst (AllByRecursion (IsFileEntry version.images)) (sym (split entries)) valid)
 
   -- the first block passes
   first_passes : (place : ℕ) (begins : Bool) (before : Option (List Bool)) (blocks : ℕ) (entries : List FileEntry) (rest : List ℕ) → Stands place begins before (suc blocks) entries rest
@@ -86,7 +67,7 @@ module _ (version : FileVersion) (pseudo : List ℕ → ℕ) (bytes : List ℕ) 
       subst (λ (count : ℕ). PassesAt version pseudo bytes (OfTable place begins count)) count
       (table_passes place begins before front (others ++ rest) (few_first entries) (front_valid entries stands.valid)
       (rising_front before front back (subst (λ (entries : List FileEntry). AreRising (option_to_list before ++ prefixes_of entries)) (sym (split entries)) stands.rising))
-      (all_front (λ (byte : ℕ). byte < 256) block others stands.small) stands.is_before (stands.whole ∙ append_assoc block others rest))
+      (AllByRecursion-append_left (λ (byte : ℕ). byte < 256) block others stands.small) stands.is_before (stands.whole ∙ append_assoc block others rest))
 
   -- and behind it, where it is full, the other blocks stand
   others_stand : (place : ℕ) (begins : Bool) (before : Option (List Bool)) (blocks : ℕ) (entries : List FileEntry) (rest : List ℕ) (d : FileEntry) → 254 ≤ length entries → Stands place begins before (suc blocks) entries rest
@@ -102,9 +83,9 @@ module _ (version : FileVersion) (pseudo : List ℕ → ℕ) (bytes : List ℕ) 
       let count : suc place - 1 ≡ place = omega arith in
       let there : block_at (suc place - 1) bytes ≡ block = ap (λ (place : ℕ). block_at place bytes) count ∙ block_there place bytes block (others ++ rest) here len in
       record {
-        valid = all_back (IsFileEntry version.images) front back (subst (AllByRecursion (IsFileEntry version.images)) (sym (split entries)) stands.valid);
+        valid = AllByRecursion-append_right (IsFileEntry version.images) front back (subst (AllByRecursion (IsFileEntry version.images)) (sym (split entries)) stands.valid);
         rising = rising_back before front back (subst (λ (entries : List FileEntry). AreRising (option_to_list before ++ prefixes_of entries)) (sym (split entries)) stands.rising);
-        small = all_back (λ (byte : ℕ). byte < 256) block others stands.small;
+        small = AllByRecursion-append_right (λ (byte : ℕ). byte < 256) block others stands.small;
         is_before = ap (λ (block : List ℕ). Some (last_prefix_in version.images block)) there ∙ last_said version.images fits.images before front d (length-take-le 254 entries full) valid;
         whole = from_next place bytes block (others ++ rest) here len;
       }
@@ -176,7 +157,7 @@ module _ (version : FileVersion) (pseudo : List ℕ → ℕ) (bytes : List ℕ) 
       let block = table_block version.images (take 254 entries) in
       let others = table_bytes version.images blocks (drop 254 entries) in
       let same : place + suc blocks ≡ suc place + blocks = omega arith in
-      let back = all_back (IsFileEntry version.images) (take 254 entries) (drop 254 entries) (subst (AllByRecursion (IsFileEntry version.images)) (sym (split entries)) valid) in
+      let back = AllByRecursion-append_right (IsFileEntry version.images) (take 254 entries) (drop 254 entries) (subst (AllByRecursion (IsFileEntry version.images)) (sym (split entries)) valid) in
       ap (λ (place : ℕ). bytes_from place bytes) same
       ∙ tables_behind (suc place) begins before blocks (drop 254 entries) rest back
       (from_next place bytes block (others ++ rest) (is ∙ append_assoc block others rest) (length-table (take 254 entries) (few_first entries) (front_valid entries valid)))

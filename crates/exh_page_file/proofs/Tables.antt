@@ -1,52 +1,19 @@
 -- Entries that are read block by block.
-use Rattle.std.proofs.Common.{◌≡◌, ℕ, zero, suc, ◌+◌, ◌*◌, ◌-◌, ◌<◌, ◌≤◌, min, Bool, List, [], ◌∷◌, ◌++◌, length, take, drop, get_or, Option, None, Some, IfSome, refl, sym, ap, ◌∙◌, subst, append_assoc, append-nil, arith}
-use Rattle.std.proofs.lemmas.List.{length-drop, take_all, take-append-le, take_more}
+use Rattle.std.proofs.Common.{◌≡◌, ℕ, zero, suc, ◌+◌, ◌*◌, ◌-◌, ◌<◌, ◌≤◌, min, List, [], ◌∷◌, ◌++◌, length, take, drop, Option, None, Some, IfSome, sym, ap, ◌∙◌, subst, append_assoc, append-nil, arith}
+use Rattle.std.proofs.lemmas.List.{length-drop, take_all, take-append-le}
 use lib.Seq.{drop-append-le}
-use Rattle.std.specs.declared.cmp.Ordering.TheVariants.{Less}
-use Rattle.std.specs.List.{AllByRecursion}
 use Rattle.std.specs.Option.{option_to_list}
 use Rattle.std.specs.Io.KnownBytes.{Consumes}
 use Rattle.std.proofs.KnownBytes.{Consumes-nil, Consumes-trans}
-use Rattle.exh_prefix.specs.Prefix.{prefix_cmp}
-use Rattle.exh_prefix.specs.PrefixLemmas.{prefix_cmp-total}
 use Rattle.exh_prefix.specs.Version.{Version}
 use Rattle.exh_file.specs.declared.file_entry.FileEntry.{FileEntry}
 use Rattle.exh_file.specs.declared.file_fault.FileFault.{FileFault}
 use Rattle.exh_file.specs.TableImage.{AreRising, IsFileEntry, IsTableImage, prefixes_of}
 use Rattle.exh_page_file.specs.FileTests.{NextFails, TableFails}
 use Rattle.exh_page_file.specs.PageFile.{table_block, table_bytes}
+use Rattle.exh_page_file.specs.ReadingLemmas.{rising_join}
 use Rattle.exh_page_file.specs.Reading.{AreBytes, FailsInTable, GivesEntries, IsBlock, last_prefix}
-use Rattle.exh_page_file.proofs.Elements.{all_join}
-
--- ---- prefixes
-
--- one entry more
-pub last_of_more : (before : Option (List Bool)) (entries : List FileEntry) (item : FileEntry) → last_prefix before (entries ++ item ∷ []) ≡ Some item.prefix
-last_of_more before [] item = refl
-last_of_more before (one ∷ entries) item = last_of_more (Some one.prefix) entries item
-
-pub last_there : (entries : List FileEntry) (d : FileEntry) → 0 < length entries → last_prefix None entries ≡ Some (get_or entries (length entries - 1) d).prefix
-last_there entries d some =
-    let i = length entries - 1 in
-    let whole : take (i + 1) entries ≡ entries = take_all (i + 1) entries (omega arith) in
-    ap (last_prefix None) (sym whole ∙ take_more entries i d (omega arith)) ∙ last_of_more None (take i entries) (get_or entries i d)
-
-pub last_of_join : (before : Option (List Bool)) (entries more : List FileEntry) → last_prefix before (entries ++ more) ≡ last_prefix (last_prefix before entries) more
-last_of_join before [] more = refl
-last_of_join before (one ∷ entries) more = last_of_join (Some one.prefix) entries more
-
-all_after : (first next : List Bool) (rest : List (List Bool)) → prefix_cmp first next ≡ Less → AllByRecursion (λ other. prefix_cmp next other ≡ Less) rest → AllByRecursion (λ other. prefix_cmp first other ≡ Less) rest
-all_after first next [] comes all = tt
-all_after first next (other ∷ rest) comes all = (prefix_cmp-total.trans first next other comes all.0, all_after first next rest comes all.1)
-
--- prefixes that rise, and others that rise from the last of them
-pub rising_join : (before : Option (List Bool)) (entries more : List FileEntry) → AreRising (option_to_list before ++ prefixes_of entries) → AreRising (option_to_list (last_prefix before entries) ++ prefixes_of more)
-    → AreRising (option_to_list before ++ prefixes_of (entries ++ more))
-rising_join before [] more first second = second
-rising_join None (item ∷ entries) more first second = rising_join (Some item.prefix) entries more first second
-rising_join (Some prefix) (item ∷ entries) more first second =
-    let rest = rising_join (Some item.prefix) entries more first.1 second in
-    ((first.0.0, all_after prefix item.prefix (prefixes_of (entries ++ more)) first.0.0 rest.0), rest)
+use Rattle.exh_prefix.specs.ListLemmas.{AllByRecursion-append}
 
 -- ---- blocks
 
@@ -77,8 +44,8 @@ module _ (version : Version) where
       table_more blocks entries more full image.few ∙ ap (λ (block : List ℕ). table_bytes version blocks entries ++ block) (sym image.whole) in
       record {
         given = subst (Consumes a c) (sym whole) (Consumes-trans a b c (table_bytes version blocks entries) block gives.given given);
-        are_bytes = subst AreBytes (sym whole) (all_join (λ (byte : ℕ). byte < 256) (table_bytes version blocks entries) block gives.are_bytes is.1);
-        valid = all_join (IsFileEntry version) entries more gives.valid image.valid;
+        are_bytes = subst AreBytes (sym whole) (AllByRecursion-append (λ (byte : ℕ). byte < 256) (table_bytes version blocks entries) block gives.are_bytes is.1);
+        valid = AllByRecursion-append (IsFileEntry version) entries more gives.valid image.valid;
         rising = rising_join None entries more gives.rising rising;
       }
 

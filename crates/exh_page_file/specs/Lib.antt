@@ -3,6 +3,7 @@ pub mod ReadFileFault
 pub mod PageFile
 pub mod FileTests
 pub mod Reading
+pub mod ReadingLemmas
 pub mod WaitingImages
 pub mod Writing
 pub mod WritingLemmas

@@ -9,7 +9,8 @@ use Rattle.exh_file.specs.FileVersion.{file_version, format_of}
 use Rattle.exh_page_file.specs.FileParts.{pages_in}
 use Rattle.exh_page_file.specs.FileTests.{HeaderFails, IsFault, NextFails}
 use Rattle.exh_page_file.specs.Reading.{FailsInPages, FailsInTable, IsOf}
-use Rattle.exh_page_file.proofs.Files.{Headed, all_counted, all_pages, fault_of_end, fault_of_header, fault_of_pages, fault_of_table, fault_as_said, few_entries, few_pages, file_as_said, file_from}
+use Rattle.exh_file.specs.HeaderLemmas.{all_counted}
+use Rattle.exh_page_file.proofs.Files.{Headed, all_pages, fault_of_end, fault_of_header, fault_of_pages, fault_of_table, fault_as_said, few_entries, few_pages, file_as_said, file_from}
 use Rattle.exh_page_file.proofs.Pages.{err_is, of_later}
 use Rattle.exh_page_file.proofs.reading.read_parts.Goals as goal
 

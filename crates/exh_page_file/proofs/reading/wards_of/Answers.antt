@@ -1,5 +1,5 @@
 use Rattle.std.proofs.Common.{arith}
-use Rattle.exh_page_file.proofs.Files.{few_wards}
+use Rattle.exh_file.specs.HeaderLemmas.{few_wards}
 use Rattle.exh_page_file.proofs.reading.wards_of.Goals as goal
 
 pub overflow_shl-result : goal.overflow_shl-result
