@@ -7,10 +7,6 @@ use Rattle.exh_codec.specs.Cells.{Pair, pair_image}
 use Rattle.exh_images.specs.InPlace.{IsApart, bytes_of}
 use Rattle.exh_images.proofs.Edited.{bytes_of-append}
 
-pub length-cell : (pair : Pair) → length (pair_image pair) ≡ 2 + length pair.0 + length pair.1
-unfolding pair_image
-length-cell pair = omega (arith, length-append pair.0 pair.1)
-
 pub record IsCell (block : List ℕ) (start : ℕ) (pair : Pair) : Type 0 where
   pub key_len : slice_index block start ≡ length pair.0
   pub value_len : slice_index block (start + 1) ≡ length pair.1

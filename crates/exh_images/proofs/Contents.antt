@@ -2,19 +2,19 @@
 use Rattle.std.proofs.Common.{◌≡◌, ℕ, ◌+◌, ◌-◌, ◌*◌, ◌≤◌, List, [], ◌∷◌, ◌++◌, length, map, set, take, drop, replicate, slice_index, refl, sym, ap, ◌∙◌, append_assoc, append-nil, subst, arith}
 use borrow.Rule.Slice.PartMut.{put_mid}
 use Rattle.std.specs.List.{AllByRecursion}
-use Rattle.std.proofs.lemmas.List.{take_all, take_at, drop_at, drop_all, drop-drop, length-append, length-drop}
+use Rattle.std.proofs.lemmas.List.{take_all, drop_at, drop_all, drop-drop, length-append, length-drop}
 use Rattle.exh_page.specs.declared.page.Page.{Page}
 use Rattle.exh_page.specs.declared.page.Page.TheVariants.{Live, Forward}
 use Rattle.exh_page.specs.declared.record.Record.{Record}
 use Rattle.exh_page.specs.KeyMap.{pair_of}
 use Rattle.exh_page.specs.Page.{IsLive, records_of, with_records}
 use Rattle.exh_codec.specs.BlockLemmas.{padded_front}
+use Rattle.exh_codec.specs.CellLemmas.{length-pair_image}
 use Rattle.exh_codec.specs.Cells.{IsSizedPair, pair_image}
 use Rattle.exh_codec.specs.Head.{head_bytes, head_of}
 use Rattle.exh_codec.specs.PageImage.{content_of, padded}
 use Rattle.exh_images.specs.declared.gap.Gap.{Gap}
 use Rattle.exh_images.specs.InPlace.{HasContent, HasRecords, IsEdit, bytes_of}
-use Rattle.exh_images.proofs.Cells.{length-cell}
 use Rattle.exh_images.proofs.Edited.{bytes_of-append, counted, edited, length-head, read_count}
 
 -- ---- lengths that are in their ranges
@@ -24,7 +24,7 @@ AreSized records = AllByRecursion IsSizedPair (map pair_of records)
 
 pub length-bytes : (records : List Record) → AreSized records → length (bytes_of records) ≤ 194 * length records
 length-bytes [] sized = omega arith
-length-bytes (r ∷ records) sized = omega (arith, length-append (pair_image (pair_of r)) (bytes_of records), length-cell (pair_of r), sized.0.key, sized.0.value, length-bytes records sized.1)
+length-bytes (r ∷ records) sized = omega (arith, length-append (pair_image (pair_of r)) (bytes_of records), length-pair_image (pair_of r), sized.0.key, sized.0.value, length-bytes records sized.1)
 
 sized_behind : (middle back : List Record) → AreSized (middle ++ back) → AreSized back
 sized_behind [] back sized = sized
@@ -138,23 +138,6 @@ edited_content page put new gap block counted_block after used len has edit put_
     }
 
 -- ---- a record that is written from a byte on
-
-pub put_pair : (out key value : List ℕ) (k l : ℕ) → 2 ≤ length out → k ≡ length key → l ≡ length value
-    → put_mid (2 + length key) l (put_mid 2 k (set (set out 0 (length key)) 1 (length value)) key) value ≡ pair_image (key, value) ++ drop (2 + length key + length value) out
-unfolding pair_image
-put_pair [] key value k l some key_len value_len = absurd (omega (arith, some))
-put_pair (x ∷ []) key value k l some key_len value_len = absurd (omega (arith, some))
-put_pair (x ∷ y ∷ out) key value k l some key_len value_len =
-    let front = length key ∷ length value ∷ key in
-    let len : length front ≡ 2 + length key = omega arith in
-    let rest : drop l (drop k out) ≡ drop (2 + length key + length value) (x ∷ y ∷ out) =
-    drop-drop l k out ∙ drop-drop (k + l) 2 (x ∷ y ∷ out) ∙ ap (λ (n : ℕ). drop n (x ∷ y ∷ out)) (omega (arith, key_len, value_len)) in
-    let taken : take (2 + length key) (front ++ drop k out) ≡ front = take_at front (drop k out) (2 + length key) len in
-    let dropped : drop (2 + length key) (front ++ drop k out) ≡ drop k out = drop_at front (drop k out) (2 + length key) len in
-    ap (λ (taken : List ℕ). taken ++ (value ++ drop l (drop (2 + length key) (front ++ drop k out)))) taken
-    ∙ ap (λ (dropped : List ℕ). front ++ (value ++ drop l dropped)) dropped
-    ∙ ap (λ (rest : List ℕ). front ++ (value ++ rest)) rest
-    ∙ sym (append_assoc front value (drop (2 + length key + length value) (x ∷ y ∷ out)))
 
 pub put_tail : (block image new : List ℕ) (start k : ℕ) → start ≤ length block → k ≡ length block - start → new ≡ image ++ drop (length image) (take k (drop start block))
     → put_mid start k block new ≡ take start block ++ (image ++ drop (start + length image) block)

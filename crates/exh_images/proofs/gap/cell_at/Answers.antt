@@ -1,5 +1,6 @@
 use Rattle.std.proofs.Common.{◌≡◌, ℕ, ◌+◌, ◌-◌, length, take, drop, ap, ◌∙◌, arith}
-use Rattle.exh_images.proofs.Cells.{cell_bytes, length-cell}
+use Rattle.exh_codec.specs.CellLemmas.{length-pair_image}
+use Rattle.exh_images.proofs.Cells.{cell_bytes}
 use Rattle.exh_images.proofs.gap.cell_at.Goals as goal
 
 pub overflow_add-key_end : goal.overflow_add-key_end
@@ -39,4 +40,4 @@ returns-clause-key c pair rest is =
 pub returns-clause-end : goal.returns-clause-end
 returns-clause-end c pair rest is =
     let at = cell_bytes c.args.block.now c.args.start pair rest is in
-    omega (arith, at.key_len, at.value_len, c.from.ensures, c.from-2.ensures, length-cell pair)
+    omega (arith, at.key_len, at.value_len, c.from.ensures, c.from-2.ensures, length-pair_image pair)
