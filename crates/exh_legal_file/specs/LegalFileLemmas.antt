@@ -1,24 +1,17 @@
 -- Lemmas on legal files, for the proofs of the crates above.
-use Rattle.std.proofs.Common.{◌≡◌, ℕ, ◌^◌, ◌<◌, ◌≤◌, List, length, get_or, inl, inr, sym, ap, ◌∙◌, arith}
+use Rattle.std.proofs.Common.{◌≡◌, ℕ, ◌^◌, ◌<◌, ◌≤◌, List, length, get_or, sym, ap, ◌∙◌, arith}
 use Rattle.std.specs.FinMap.{empty}
-use Rattle.std.proofs.lemmas.Bool.{cases_lt}
 use Rattle.std.proofs.lemmas.List.{length-map, length-take}
 use Rattle.std.proofs.lemmas.List.FromFn.{get_or-map-range_with_len}
-use Rattle.std.proofs.lemmas.Nat.{pow_below}
 use Rattle.exh_page.specs.declared.page.Page.{Page}
 use Rattle.exh_file.specs.declared.file_entry.FileEntry.{FileEntry}
+use Rattle.exh_file.specs.HeaderLemmas.{few_wards}
 use Rattle.exh_page_file.specs.PageFile.{IsKnownFile, PageFile}
 use Rattle.exh_reasons.specs.FileParts.{HasPartRanges}
 use Rattle.exh_legal_file.specs.LegalFile.{parts_in, table_naming, tables_of}
 use Rattle.exh_legal_file.specs.declared.tables.TheConstants.{NAMED_WARDS}
 
 -- ---- what a header says
-
-pub few_wards : (bits : ℕ) → 2 ^ bits ≤ 16 → bits ≤ 4
-few_wards bits few = elim (cases_lt 4 bits) [
-  | inl more ↦ absurd (omega (arith, few, pow_below 4 bits more))
-  | inr within ↦ within
-]
 
 pub few_bits : (file : PageFile) → IsKnownFile file → file.header.settings.ward_bits ≤ 4
 few_bits file valid = few_wards file.header.settings.ward_bits valid.1.header.wards

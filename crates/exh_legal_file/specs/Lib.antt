@@ -1,3 +1,4 @@
 pub mod LegalFileFault
 pub mod LegalFile
 pub mod LegalFileLemmas
+pub mod NamingLemmas

@@ -3,7 +3,7 @@ use Rattle.std.proofs.Math.Nat.{pow-le-pow_right}
 use Rattle.exh_prefix.specs.BitLemmas.{length-bits_of}
 use Rattle.exh_prefix.specs.Leading.{ward_prefix}
 use Rattle.exh_prefix.specs.declared.prefix.TheConstants.{LIMIT}
-use Rattle.exh_legal_file.specs.LegalFileLemmas.{few_wards}
+use Rattle.exh_file.specs.HeaderLemmas.{few_wards}
 use Rattle.exh_open.proofs.opening.open_ward.Goals as goal
 
 pub of_pages-requires-clause-few : goal.of_pages-requires-clause-few
