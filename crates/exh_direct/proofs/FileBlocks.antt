@@ -11,12 +11,13 @@ use Rattle.exh_codec.specs.PageImage.{IsImage, IsPage}
 use Rattle.exh_file.specs.declared.file_entry.FileEntry.{FileEntry}
 use Rattle.exh_file.specs.FileVersion.{FileVersion, FitsFile}
 use Rattle.exh_file.specs.HeaderImage.{IsHeaderImage}
+use Rattle.exh_file.specs.HeaderLemmas.{all_counted}
 use Rattle.exh_file.specs.Laws.{HeadersAreBlocks, TablesAreBlocks}
 use Rattle.exh_file.specs.TableImage.{IsFileEntry, IsTableImage}
 use Rattle.exh_page_file.specs.FileTests.{IsWhole, block_at, bytes_from}
 use Rattle.exh_page_file.specs.PageFile.{IsPageFile, PageFile, header_block, page_block, pages_of, table_block, table_blocks, table_bytes}
+use Rattle.exh_page_file.specs.ReadingLemmas.{length-pages_of}
 use Rattle.exh_direct.specs.Answer.{block_of, page_place, table_place}
-use Rattle.exh_direct.proofs.Tables.{all_counted}
 
 -- a block stands at a place, whole
 pub record StandsAt (place : ℕ) (bytes block : List ℕ) : Type 0 where
@@ -75,10 +76,6 @@ among_all (one ∷ wards) (suc ward) number pages page there is =
     let more = sum (map length (take ward wards)) in
     let later : sum (length one ∷ map length (take ward wards)) + number ≡ length one + (more + number) = omega (arith, sum_by-cons (λ (count : ℕ). count) (length one) (map length (take ward wards))) in
     ap (slice_get (one ++ pages_of wards)) later ∙ in_back one (pages_of wards) (more + number) ∙ among_all wards ward number pages page there is
-
-length-pages_of : (wards : List (List Page)) → length (pages_of wards) ≡ sum (map length wards)
-length-pages_of [] = refl
-length-pages_of (ward ∷ wards) = omega (arith, length-append ward (pages_of wards), sum_by-cons (λ (count : ℕ). count) (length ward) (map length wards), length-pages_of wards)
 
 -- ---- a file
 

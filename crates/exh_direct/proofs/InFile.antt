@@ -2,13 +2,11 @@
 use Rattle.std.proofs.Common.{◌≡◌, ℕ, zero, suc, ◌+◌, ◌*◌, ◌-◌, ◌<◌, ◌≤◌, ◌^◌, min, Bool, cond, List, [], ◌∷◌, ◌++◌, length, map, take, drop, get_or, slice_get, slice_index, inl, inr, Option, None, Some, Result, Ok, Err, refl, sym, ap, ap₂, ◌∙◌, subst, take-append-drop, arith}
 use Rattle.std.specs.Prelude.{IfErr, IfOk, MatchResult}
 use Rattle.std.specs.FinMap.{empty, get}
-use Rattle.std.specs.List.{AllByRecursion}
 use Rattle.std.specs.Option.{option_to_list}
 use Rattle.std.specs.Io.KnownBytes.{Appends}
-use Rattle.std.specs.declared.cmp.Ordering.TheVariants.{Less}
 use Rattle.std.proofs.KnownBytes.{Appends-trans}
 use Rattle.std.proofs.lemmas.Bool.{cases_lt, le-leb}
-use Rattle.std.proofs.lemmas.List.{drop-drop, drop-take, length-drop, length-take, length-take-le, map-append, take-take, take_all, get_or-take}
+use Rattle.std.proofs.lemmas.List.{drop-drop, drop-take, length-drop, length-take, length-take-le, take-take, take_all, get_or-take}
 use Rattle.std.proofs.lemmas.Nat.{pow_below}
 use Rattle.std.proofs.lemmas.Option.{slice_get-get_or, slice_get_within}
 use Rattle.exh_keyer.specs.Pseudokey.{any_pseudokey}
@@ -16,8 +14,9 @@ use Rattle.exh_keyer.specs.PseudokeyFits.{any_pseudokey-lt}
 use Rattle.exh_prefix.specs.BitLemmas.{bits_of-number_of}
 use Rattle.exh_prefix.specs.Bits.{bits_of, word_bits}
 use Rattle.exh_prefix.specs.Leading.{ward_prefix}
+use Rattle.exh_prefix.specs.ListLemmas.{AllByRecursion-append_left, AllByRecursion-append_right}
 use Rattle.exh_prefix.specs.LeadingLemmas.{leading-lt, length-leading_bits}
-use Rattle.exh_prefix.specs.Prefix.{Begins, begins, low_of, prefix_cmp}
+use Rattle.exh_prefix.specs.Prefix.{Begins, begins, low_of}
 use Rattle.exh_prefix.specs.PrefixLemmas.{begins_low, is_front-true}
 use Rattle.exh_prefix.specs.declared.version.Version.{Version as KnownVersion}
 use Rattle.exh_prefix.specs.Version.{Fits}
@@ -33,8 +32,8 @@ use Rattle.exh_page.specs.Records.{value_at}
 use Rattle.exh_legal.specs.Laws.{IsWard, WalksNameHomes}
 use Rattle.exh_legal.specs.MapLemmas.{get-map_of}
 use Rattle.exh_legal.specs.Pages.{IsAt, IsLegal}
-use Rattle.exh_codec.specs.declared.image_fault.ImageFault.{ImageFault}
-use Rattle.exh_codec.specs.ImageTests.{IsFirst}
+use Rattle.exh_legal.specs.WardMapLemmas.{get_in_ward, legal_from}
+use Rattle.exh_codec.specs.ImageTestLemmas.{none_first as none_image_first}
 use Rattle.exh_codec.specs.Laws.{ImagesAreBlocks, ImagesPass, OnePage}
 use Rattle.exh_codec.specs.PageImage.{IsImage}
 use Rattle.exh_file.specs.declared.file_entry.FileEntry.{FileEntry}
@@ -42,13 +41,14 @@ use Rattle.exh_file.specs.declared.file_fault.FileFault.{FileFault}
 use Rattle.exh_file.specs.declared.header.Header.{Header}
 use Rattle.exh_file.specs.FileVersion.{FileVersion, FitsFile, file_version, format_of, version_of}
 use Rattle.exh_file.specs.FileVersionLemmas.{image_says, known_file_fits, version_from_front}
-use Rattle.exh_file.specs.FirstFailing.{IsFirstFailing}
+use Rattle.exh_file.specs.FirstFailingLemmas.{none_first}
 use Rattle.exh_file.specs.HeaderImage.{IsHeaderImage}
 use Rattle.exh_file.specs.Laws.{HeadersAreBlocks, HeadersPass, IsOfTable, OneHeader, OneTable, TablesAreBlocks, TablesPass}
 use Rattle.exh_file.specs.TableImage.{AreRising, IsTableImage, prefixes_of}
 use Rattle.exh_page_file.specs.FileTests.{HeaderFails, IsWhole, PageFails, TableFails, block_at, bytes_from}
 use Rattle.exh_page_file.specs.PageFile.{PageFile, page_block, table_block, table_blocks}
 use Rattle.exh_page_file.specs.Reading.{AreBytes, last_prefix}
+use Rattle.exh_page_file.specs.ReadingLemmas.{byte_at, rising_back, rising_front}
 use Rattle.exh_legal_file.specs.LegalFile.{IsLegalPageFile, parts_in, table_naming}
 use Rattle.exh_legal_file.specs.LegalFileLemmas.{count_of_wards, few_bits, table_naming_at}
 use Rattle.exh_direct.specs.declared.direct_fault.DirectFault.{DirectFault}
@@ -59,19 +59,8 @@ use Rattle.exh_direct.specs.Known.{BlockFails, IsHeaderAt}
 use Rattle.exh_direct.specs.Laws.{FindsInFile, IsOtherFault, map_in}
 use Rattle.exh_direct.specs.Way.{lead_of, lead_right}
 use Rattle.exh_direct.proofs.FileBlocks.{StandsAt, block_image, header_is, header_stands, page_image, page_stands, table_stands}
-use Rattle.exh_direct.proofs.FileMap.{get_in_ward, legal_from}
 
 -- ---- no fault where all tests are passed
-
-all_back : {X : Type 0} (P : X → Type 0) (front back : List X) → AllByRecursion P (front ++ back) → AllByRecursion P back
-all_back P [] back all = all
-all_back P (y ∷ front) back all = all_back P front back all.1
-
-none_first : {Test : Type 0} (Passed : Test → Type 0) (tests : List Test) (test : Test) → IsFirstFailing Passed tests test → AllByRecursion Passed tests → ⊥
-none_first Passed tests test first all = first.fails (all_back Passed first.before (test ∷ first.after) (subst (AllByRecursion Passed) first.stands all)).0
-
-none_first_image : (Passed : ImageFault → Type 0) (tests : List ImageFault) (test : ImageFault) → IsFirst Passed tests test → AllByRecursion Passed tests → ⊥
-none_first_image Passed tests test first all = first.fails (all_back Passed first.before (test ∷ first.after) (subst (AllByRecursion Passed) first.stands all)).0
 
 -- a whole block that doesn't fail has no fault of the file
 no_fault : (Fails : List ℕ → FileFault → Type 0) (bytes : List ℕ) (place : ℕ) (fault : DirectFault) → IsWhole place bytes → ((file : FileFault) → Fails (block_at place bytes) file → ⊥) → BlockFails Fails (Some bytes) place fault → IsOtherFault fault
@@ -81,23 +70,12 @@ no_fault Fails bytes place Astray whole none fails = fails
 no_fault Fails bytes place Read whole none fails = tt
 no_fault Fails bytes place Memory whole none fails = tt
 
-byte_at : (bytes : List ℕ) → AreBytes bytes → (i : ℕ) → get_or bytes i 0 < 256
-byte_at [] all i = omega arith
-byte_at (byte ∷ bytes) all zero = all.0
-byte_at (byte ∷ bytes) all (suc i) = byte_at bytes all.1 i
-
-all_dropped : (n : ℕ) (bytes : List ℕ) → AreBytes bytes → AreBytes (drop n bytes)
-all_dropped zero bytes all = all
-all_dropped (suc n) [] all = tt
-all_dropped (suc n) (byte ∷ bytes) all = all_dropped n bytes all.1
-
-all_taken : (n : ℕ) (bytes : List ℕ) → AreBytes bytes → AreBytes (take n bytes)
-all_taken zero bytes all = tt
-all_taken (suc n) [] all = tt
-all_taken (suc n) (byte ∷ bytes) all = (all.0, all_taken n bytes all.1)
-
 bytes_of_block : (place : ℕ) (bytes : List ℕ) → AreBytes bytes → (i : ℕ) → slice_index (block_at place bytes) i < 256
-bytes_of_block place bytes small = byte_at (block_at place bytes) (all_taken 4096 (bytes_from place bytes) (all_dropped (4096 * place) bytes small))
+bytes_of_block place bytes small =
+    let IsByte : ℕ → Type 0 = λ (byte : ℕ). byte < 256 in
+    let behind : List ℕ = bytes_from place bytes in
+    let all : AreBytes behind = AllByRecursion-append_right IsByte (take (4096 * place) bytes) behind (subst AreBytes (sym (take-append-drop (4096 * place) bytes)) small) in
+    byte_at (block_at place bytes) (AllByRecursion-append_left IsByte (block_at place bytes) (drop 4096 behind) (subst AreBytes (sym (take-append-drop 4096 behind)) all))
 
 -- ---- entries by their blocks
 
@@ -116,25 +94,6 @@ same_from_blocks (suc blocks) one other few same =
     sym (take-append-drop 254 one) ∙ sym parts ∙ take-append-drop 254 all
 
 -- ---- prefixes of the first entries, and of the others
-
-all_front : {X : Type 0} (P : X → Type 0) (front back : List X) → AllByRecursion P (front ++ back) → AllByRecursion P front
-all_front P [] back all = tt
-all_front P (y ∷ front) back all = (all.0, all_front P front back all.1)
-
-rising_front : (before : Option (List Bool)) (front back : List FileEntry) → AreRising (option_to_list before ++ prefixes_of (front ++ back)) → AreRising (option_to_list before ++ prefixes_of front)
-rising_front None [] back rising = tt
-rising_front (Some prefix) [] back rising = (tt, tt)
-rising_front None (item ∷ front) back rising = rising_front (Some item.prefix) front back rising
-rising_front (Some prefix) (item ∷ front) back rising =
-    let parts = map-append (λ (item : FileEntry). item.prefix) (item ∷ front) back in (
-      all_front (λ (other : List Bool). prefix_cmp prefix other ≡ Less) (prefixes_of (item ∷ front)) (prefixes_of back) (subst (AllByRecursion (λ (other : List Bool). prefix_cmp prefix other ≡ Less)) parts rising.0),
-      rising_front (Some item.prefix) front back rising.1,
-    )
-
-rising_back : (before : Option (List Bool)) (front back : List FileEntry) → AreRising (option_to_list before ++ prefixes_of (front ++ back)) → AreRising (option_to_list (last_prefix before front) ++ prefixes_of back)
-rising_back before [] back rising = rising
-rising_back None (item ∷ front) back rising = rising_back (Some item.prefix) front back rising
-rising_back (Some prefix) (item ∷ front) back rising = rising_back (Some item.prefix) front back rising.1
 
 -- behind a front that ends where a block begins
 rising_block : (number : ℕ) (entries : List FileEntry) → AreRising (prefixes_of entries) → AreRising (option_to_list (last_prefix None (take (254 * number) entries)) ++ prefixes_of (block_of number entries))
@@ -369,7 +328,7 @@ module _ (laws : Laws) (known_version : KnownVersion) (file : PageFile) (bytes :
       no_page_fault fault fails =
           let passed = (laws.pages_pass version.images fits_page pseudo (block_at own_place bytes) (length-take-le 4096 (bytes_from own_place bytes) own_stands.whole) (bytes_of_block own_place bytes small)).0 (own, own_image) in
           no_fault (PageFails version.images pseudo own_place) bytes own_place fault own_stands.whole
-          (λ (fault : FileFault). λ (named : PageFails version.images pseudo own_place (block_at own_place bytes) fault). none_first_image _ _ named.0 named.1 passed) fails
+          (λ (fault : FileFault). λ (named : PageFails version.images pseudo own_place (block_at own_place bytes) fault). none_image_first _ _ named.0 named.1 passed) fails
 
       no_end_fault : (number : ℕ) (fault : DirectFault) → number ≡ home.number → FailsAtEnd version (Some bytes) file.header key [] number fault → IsOtherFault fault
       no_end_fault number (File fault) here fails =

@@ -4,5 +4,4 @@ pub mod Walks
 pub mod Tables
 pub mod Ways
 pub mod FileBlocks
-pub mod FileMap
 pub mod InFile

@@ -1,57 +1,26 @@
 -- A table that is read block by block.
-use Rattle.std.proofs.Common.{◌≡◌, ℕ, ◌+◌, ◌*◌, ◌-◌, ◌<◌, ◌≤◌, ◌^◌, min, Bool, List, [], ◌∷◌, ◌++◌, length, get_or, take, drop, Option, None, Some, inl, inr, refl, sym, ap, ◌∙◌, subst, arith}
+use Rattle.std.proofs.Common.{◌≡◌, ℕ, ◌+◌, ◌*◌, ◌-◌, ◌<◌, ◌≤◌, ◌^◌, min, List, [], ◌∷◌, ◌++◌, length, get_or, take, drop, Option, None, inl, inr, sym, ap, ◌∙◌, subst, arith}
 use Rattle.std.specs.List.{AllByRecursion, sum}
 use Rattle.std.specs.Option.{option_to_list}
-use Rattle.std.specs.declared.cmp.Ordering.TheVariants.{Less}
 use Rattle.std.proofs.lemmas.Bool.{cases_lt}
-use Rattle.std.proofs.lemmas.List.{drop_at, drop-append-le, length-append, length-drop, length-take, take-append-le, take_all, take_more}
-use Rattle.std.proofs.lemmas.List.Sums.{sum_by-cons, sum_by_more_le, sum_by-take-drop, sum_by-take-le}
-use Rattle.std.proofs.lemmas.Nat.{pow_below}
-use Rattle.std.proofs.Math.Nat.{pow-le-pow_right}
+use Rattle.std.proofs.lemmas.List.{drop_at, drop-append-le, length-append, length-drop, length-take, take-append-le, take_all}
+use Rattle.std.proofs.lemmas.List.Sums.{sum_by_more_le, sum_by-take-le}
 use Rattle.exh_prefix.specs.declared.prefix.TheConstants.{LIMIT}
 use Rattle.exh_prefix.specs.declared.version.Version.{Version as KnownVersion}
 use Rattle.exh_prefix.specs.Layout.{layout}
 use Rattle.exh_prefix.specs.LayoutLemmas.{layout_short}
-use Rattle.exh_prefix.specs.Prefix.{prefix_cmp}
-use Rattle.exh_prefix.specs.PrefixLemmas.{prefix_cmp-total}
 use Rattle.exh_file.specs.declared.file_entry.FileEntry.{FileEntry}
 use Rattle.exh_file.specs.declared.header.Header.{Header}
 use Rattle.exh_file.specs.FileVersion.{FileVersion, file_version}
-use Rattle.exh_file.specs.HeaderImage.{IsHeader, IsKnownHeader, IsPageCount}
+use Rattle.exh_file.specs.HeaderImage.{IsKnownHeader}
+use Rattle.exh_file.specs.HeaderLemmas.{all_counted, small_sum}
 use Rattle.exh_file.specs.TableImage.{AreRising, IsFileEntry, prefixes_of}
 use Rattle.exh_page_file.specs.Reading.{last_prefix}
+use Rattle.exh_page_file.specs.ReadingLemmas.{rising_join}
 use Rattle.exh_direct.specs.Answer.{IsTableFront, block_of, table_place}
 use Rattle.exh_direct.specs.Known.{IsTableBlock}
 
 -- ---- prefixes
-
-pub last_of_more : (before : Option (List Bool)) (entries : List FileEntry) (item : FileEntry) → last_prefix before (entries ++ item ∷ []) ≡ Some item.prefix
-last_of_more before [] item = refl
-last_of_more before (one ∷ entries) item = last_of_more (Some one.prefix) entries item
-
--- the last entry of some is there
-pub last_there : (before : Option (List Bool)) (entries : List FileEntry) (d : FileEntry) → 0 < length entries → last_prefix before entries ≡ Some (get_or entries (length entries - 1) d).prefix
-last_there before entries d some =
-    let i = length entries - 1 in
-    let whole : take (i + 1) entries ≡ entries = take_all (i + 1) entries (omega arith) in
-    ap (last_prefix before) (sym whole ∙ take_more entries i d (omega arith)) ∙ last_of_more before (take i entries) (get_or entries i d)
-
-pub last_of_join : (before : Option (List Bool)) (entries more : List FileEntry) → last_prefix before (entries ++ more) ≡ last_prefix (last_prefix before entries) more
-last_of_join before [] more = refl
-last_of_join before (one ∷ entries) more = last_of_join (Some one.prefix) entries more
-
-all_after : (first next : List Bool) (rest : List (List Bool)) → prefix_cmp first next ≡ Less → AllByRecursion (λ other. prefix_cmp next other ≡ Less) rest → AllByRecursion (λ other. prefix_cmp first other ≡ Less) rest
-all_after first next [] comes all = tt
-all_after first next (other ∷ rest) comes all = (prefix_cmp-total.trans first next other comes all.0, all_after first next rest comes all.1)
-
--- prefixes that rise, and others that rise from the last of them
-rising_join : (before : Option (List Bool)) (entries more : List FileEntry) → AreRising (option_to_list before ++ prefixes_of entries) → AreRising (option_to_list (last_prefix before entries) ++ prefixes_of more)
-    → AreRising (option_to_list before ++ prefixes_of (entries ++ more))
-rising_join before [] more first second = second
-rising_join None (item ∷ entries) more first second = rising_join (Some item.prefix) entries more first second
-rising_join (Some prefix) (item ∷ entries) more first second =
-    let rest = rising_join (Some item.prefix) entries more first.1 second in
-    ((first.0.0, all_after prefix item.prefix (prefixes_of (entries ++ more)) first.0.0 rest.0), rest)
 
 pub all_short : (version : KnownVersion) (entries : List FileEntry) → AllByRecursion (IsFileEntry (layout version)) entries → AllByRecursion (λ (item : FileEntry). length item.prefix < LIMIT) entries
 all_short version [] valid = tt
@@ -94,27 +63,6 @@ module _ (version : FileVersion) (known : Option (List ℕ)) (header : Header) w
       }
 
 -- ---- how many pages a header counts
-
-pub few_wards : (bits : ℕ) → 2 ^ bits ≤ 16 → bits ≤ 4
-few_wards bits few = elim (cases_lt 4 bits) [
-  | inl more ↦ absurd (omega (arith, few, pow_below 4 bits more))
-  | inr within ↦ within
-]
-
-zero_sum : (counts : List ℕ) → AllByRecursion (λ count. count ≡ 0) counts → sum counts ≡ 0
-zero_sum [] all = refl
-zero_sum (count ∷ counts) all = sum_by-cons (λ (count : ℕ). count) count counts ∙ (omega (arith, all.0, zero_sum counts all.1))
-
-pub all_counted : (version : FileVersion) (header : Header) → IsHeader version header → sum (take (2 ^ header.settings.ward_bits) header.page_counts) ≡ sum header.page_counts
-all_counted version header valid =
-    omega (arith, sum_by-take-drop (λ (count : ℕ). count) header.page_counts (2 ^ header.settings.ward_bits), zero_sum (drop (2 ^ header.settings.ward_bits) header.page_counts) valid.others)
-
-small_sum : (limit bits : ℕ) (counts : List ℕ) → limit ≤ LIMIT → AllByRecursion (IsPageCount limit bits) counts → sum counts ≤ length counts * 2 ^ LIMIT
-small_sum limit bits [] small all = omega arith
-small_sum limit bits (count ∷ counts) small all =
-    let below : limit - bits ≤ LIMIT = omega (arith, small) in
-    let most : 2 ^ (limit - bits) ≤ 2 ^ LIMIT = pow-le-pow_right {n = 2} (omega arith) below in
-    omega (arith, sum_by-cons (λ (count : ℕ). count) count counts, all.0.1, most, small_sum limit bits counts small all.1)
 
 -- in every version that the code knows
 pub few_pages : (header : Header) → IsKnownHeader header → sum header.page_counts ≤ 16 * 2 ^ LIMIT

@@ -1,16 +1,14 @@
 -- A walk that takes a table's entries one after the other comes to where the walk of the whole table ends.
-use Rattle.std.proofs.Common.{◌≡◌, ℕ, ◌+◌, ◌<◌, ◌≤◌, Bool, true, false, cond, nat_eq, nat_cmp, ◌&&◌, Ordering, List, [], ◌∷◌, ◌++◌, length, map, take, drop, get_or, Option, None, Some, inl, inr, refl, sym, ap, ◌∙◌, subst, append_assoc, append-nil, arith}
-use Rattle.std.specs.FinMap.{from_entries, from_entries_push, get, get-from_entries, insert}
-use Rattle.std.specs.FinMap.Entries.{find}
+use Rattle.std.proofs.Common.{◌≡◌, ℕ, ◌+◌, ◌<◌, ◌≤◌, Bool, true, false, cond, nat_eq, nat_cmp, ◌&&◌, Ordering, List, [], ◌∷◌, ◌++◌, length, take, drop, get_or, Option, None, Some, inl, inr, refl, sym, ap, ◌∙◌, subst, append_assoc, append-nil, arith}
+use Rattle.std.specs.FinMap.{get}
 use Rattle.std.specs.List.{AllByRecursion}
 use Rattle.std.specs.Option.{option_map_or}
-use Rattle.std.specs.Ordering.{eq_by_cmp, is_eq, ordering_reverse, ordering_then}
+use Rattle.std.specs.Ordering.{is_eq, ordering_then}
 use Rattle.std.specs.declared.cmp.Ordering.TheVariants.{Less, Equal}
 use Rattle.std.proofs.lemmas.Bool.{cases_lt, false_from_ne_true, false≢true}
 use Rattle.std.specs.Cmp.{nat_cmp_is}
 use Rattle.std.proofs.lemmas.Cmp.{tied_itself}
-use Rattle.std.proofs.lemmas.List.{get_or_at, get_or-take, length-append, length_push, map-append, take-append-drop, take_more, take-take}
-use Rattle.std.proofs.lemmas.List.Elements.{filter-append}
+use Rattle.std.proofs.lemmas.List.{get_or_at, get_or-take, length-append, length_push, take-append-drop, take_more, take-take}
 use Rattle.exh_prefix.specs.Bits.{word_bits}
 use Rattle.exh_prefix.specs.LeadingLemmas.{length-leading_bits}
 use Rattle.exh_prefix.specs.ListLemmas.{is_equal}
@@ -26,34 +24,12 @@ use Rattle.exh_table.specs.Walk.{right_of, right_of_kind, split_at, step, walk_o
 use Rattle.exh_table.specs.WalkLemmas.{walk_on-step, walk_on-stop}
 use Rattle.exh_file.specs.declared.file_entry.FileEntry.{FileEntry}
 use Rattle.exh_file.specs.TableImage.{AreRising, prefixes_of}
-use Rattle.exh_legal_file.specs.LegalFile.{naming, table_naming, told_of}
+use Rattle.exh_file.specs.RisingLemmas.{all_before}
+use Rattle.exh_legal_file.specs.LegalFile.{table_naming}
+use Rattle.exh_legal_file.specs.NamingLemmas.{named_more, none_named, none_there}
 use Rattle.exh_direct.specs.Walk.{IsOnWay, first_leaf, is_due, passed, passed_all}
 
 -- ---- an entry behind others of lesser prefixes
-
-not_tied : (prefix next : List Bool) → prefix_cmp prefix next ≡ Less → eq_by_cmp prefix_cmp next prefix ≡ false
-not_tied prefix next less = ap is_eq (prefix_cmp-total.antisymm next prefix ∙ ap ordering_reverse less)
-
--- a greater prefix isn't found
-absent : (entries : List FileEntry) (ward : ℕ) (prefix : List Bool) → AllByRecursion (λ item. prefix_cmp item.prefix prefix ≡ Less) entries → find prefix_cmp prefix (map told_of (naming entries ward)) ≡ None
-absent [] ward prefix all = refl
-absent (item ∷ entries) ward prefix all =
-    elim (nat_eq item.ward ward) as (λ (named : Bool). find prefix_cmp prefix (map told_of (cond named (item ∷ naming entries ward) (naming entries ward))) ≡ None) [
-      | true ↦ ap (λ (b : Bool). cond b (Some item.entry) (find prefix_cmp prefix (map told_of (naming entries ward)))) (not_tied item.prefix prefix all.0) ∙ absent entries ward prefix all.1
-      | false ↦ absent entries ward prefix all.1
-    ]
-
-none_named : (entries : List FileEntry) (ward : ℕ) (prefix : List Bool) → AllByRecursion (λ item. prefix_cmp item.prefix prefix ≡ Less) entries → get (table_naming entries ward) prefix ≡ None
-none_named entries ward prefix all = get-from_entries prefix_cmp-total (map told_of (naming entries ward)) prefix ∙ absent entries ward prefix all
-
-first_before : (one : FileEntry) (others : List FileEntry) (item : FileEntry) (rest : List FileEntry) → AllByRecursion (λ next. prefix_cmp one.prefix next ≡ Less) (prefixes_of (others ++ item ∷ rest)) → prefix_cmp one.prefix item.prefix ≡ Less
-first_before one [] item rest all = all.0
-first_before one (other ∷ others) item rest all = first_before one others item rest all.1
-
--- each of the front comes before what stands behind it
-all_before : (front : List FileEntry) (item : FileEntry) (rest : List FileEntry) → AreRising (prefixes_of (front ++ item ∷ rest)) → AllByRecursion (λ (one : FileEntry). prefix_cmp one.prefix item.prefix ≡ Less) front
-all_before [] item rest rising = tt
-all_before (one ∷ front) item rest rising = (first_before one front item rest rising.0, all_before front item rest rising.1)
 
 later_too : (prefix next : List Bool) (entries : List FileEntry) → prefix_cmp prefix next ≡ Less → AllByRecursion (λ (one : FileEntry). prefix_cmp one.prefix prefix ≡ Less) entries → AllByRecursion (λ (one : FileEntry). prefix_cmp one.prefix next ≡ Less) entries
 later_too prefix next [] less all = tt
@@ -137,21 +113,8 @@ module _ (front : List FileEntry) (item : FileEntry) (ward : ℕ) (before : AllB
   abbrev table : TableMap
   table = table_naming front ward
 
-  none_there : get table item.prefix ≡ None
-  none_there = none_named front ward item.prefix before
-
-  raised_there : raised table item.prefix item.entry ≡ insert table item.prefix item.entry
-  raised_there = ap (λ (there : Option Entry). insert table item.prefix (greater_of there item.entry)) none_there
-
-  named_more : table_naming (front ++ item ∷ []) ward ≡ cond (nat_eq item.ward ward) (raised table item.prefix item.entry) table
-  named_more =
-      ap (λ (items : List FileEntry). from_entries {R = prefix_cmp} (map told_of items)) (filter-append (λ (one : FileEntry). nat_eq one.ward ward) front (item ∷ []))
-      ∙ elim (nat_eq item.ward ward) as (λ (named : Bool). from_entries {R = prefix_cmp} (map told_of (naming front ward ++ cond named (item ∷ []) [])) ≡ cond named (raised table item.prefix item.entry) table) [
-        | true ↦ ap (from_entries {R = prefix_cmp}) (map-append told_of (naming front ward) (item ∷ []))
-            ∙ from_entries_push prefix_cmp-total prefix_cmp-exact (map told_of (naming front ward)) item.prefix item.entry (absent front ward item.prefix before)
-            ∙ sym raised_there
-        | false ↦ ap (λ (items : List FileEntry). from_entries {R = prefix_cmp} (map told_of items)) (append-nil (naming front ward))
-      ]
+  none : get table item.prefix ≡ None
+  none = none_there front item before ward
 
   module _ (ward_bits pseudokey : ℕ) (few : ward_bits ≤ LIMIT) (short : length item.prefix < LIMIT) where
     whole : take ward_bits (word_bits pseudokey) ++ drop (length (take ward_bits (word_bits pseudokey))) (take LIMIT (word_bits pseudokey)) ≡ take LIMIT (word_bits pseudokey)
@@ -163,16 +126,16 @@ module _ (front : List FileEntry) (item : FileEntry) (ward : ℕ) (before : AllB
         ∙ take-append-drop (length (take ward_bits (word_bits pseudokey))) (take LIMIT (word_bits pseudokey))
 
     here : split_at (raised table item.prefix item.entry) item.prefix ≡ right_of_kind item.entry.kind
-    here = ap right_of (raised_here table item.prefix item.entry) ∙ ap (λ (there : Option Entry). right_of_kind (greater_of there item.entry).kind) none_there
+    here = ap right_of (raised_here table item.prefix item.entry) ∙ ap (λ (there : Option Entry). right_of_kind (greater_of there item.entry).kind) none
 
     walk_next : walk_of (table_naming (front ++ item ∷ []) ward) ward_bits pseudokey ≡ passed ward pseudokey (walk_of table ward_bits pseudokey) item
     walk_next =
-        ap (λ (table : TableMap). walk_of table ward_bits pseudokey) named_more
+        ap (λ (table : TableMap). walk_of table ward_bits pseudokey) (named_more front item before ward)
         ∙ elim (nat_eq item.ward ward) as (λ (named : Bool). walk_of (cond named (raised table item.prefix item.entry) table) ward_bits pseudokey
         ≡ (let leaf = walk_of table ward_bits pseudokey in
         cond (named && is_eq (prefix_cmp item.prefix leaf.prefix)) (option_map_or (step leaf (get_or (word_bits pseudokey) (length leaf.prefix) false)) (right_of_kind item.entry.kind) leaf) leaf)) [
           | true ↦ walk_with (split_at table) (split_at (raised table item.prefix item.entry)) item.prefix (right_of_kind item.entry.kind) pseudokey short
-              (ap right_of none_there) here (λ other apart. ap right_of (raised_elsewhere table item.prefix item.entry other apart))
+              (ap right_of none) here (λ other apart. ap right_of (raised_elsewhere table item.prefix item.entry other apart))
               (λ bit. ap right_of (none_named front ward (item.prefix ++ bit ∷ []) (later_too item.prefix (item.prefix ++ bit ∷ []) front (child_behind item.prefix bit short) before)))
               (drop (length (take ward_bits (word_bits pseudokey))) (take LIMIT (word_bits pseudokey))) (first_leaf ward_bits pseudokey) whole
           | false ↦ refl

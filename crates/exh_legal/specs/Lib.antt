@@ -8,5 +8,6 @@ pub mod Laws
 pub mod BareLemmas
 pub mod PlaceLemmas
 pub mod MapLemmas
+pub mod WardMapLemmas
 pub mod NoticeLemmas
 pub mod OrderLemmas

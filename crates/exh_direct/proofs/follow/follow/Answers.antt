@@ -11,7 +11,8 @@ use Rattle.exh_file.specs.HeaderImage.{IsHeader}
 use Rattle.exh_direct.specs.Answer.{FailsOnWay, pages_in, place_in, ward_in}
 use Rattle.exh_direct.specs.Way.{lead_of}
 use Rattle.exh_direct.proofs.ReadPlaces.{read_then}
-use Rattle.exh_direct.proofs.Tables.{few_in_ward, few_wards}
+use Rattle.exh_file.specs.HeaderLemmas.{few_wards}
+use Rattle.exh_direct.proofs.Tables.{few_in_ward}
 use Rattle.exh_direct.proofs.Ways.{err_is, page_fails, page_in, place_there, reads_more, way_more}
 use Rattle.exh_direct.proofs.follow.follow.Goals as goal
 

@@ -17,7 +17,9 @@ use Rattle.exh_direct.specs.Answer.{FailsInTable, table_place}
 use Rattle.exh_direct.specs.Known.{BlockFails, IsTableBlock}
 use Rattle.exh_direct.specs.Walk.{IsOnWay, passed_all}
 use Rattle.exh_direct.proofs.ReadPlaces.{range_more, read_fewer, read_then}
-use Rattle.exh_direct.proofs.Tables.{all_short, block_more, few_wards, last_of_join, no_block}
+use Rattle.exh_file.specs.HeaderLemmas.{few_wards}
+use Rattle.exh_page_file.specs.ReadingLemmas.{last_of_join}
+use Rattle.exh_direct.proofs.Tables.{all_short, block_more, no_block}
 use Rattle.exh_direct.proofs.Walks.{first_on_way, walk_first, walk_more}
 use Rattle.exh_direct.proofs.Ways.{err_is}
 use Rattle.exh_direct.proofs.named.named_page.Goals as goal
