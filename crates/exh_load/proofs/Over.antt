@@ -1,9 +1,9 @@
 -- The directories of an opened file's wards.
-use Rattle.std.proofs.Common.{◌≡◌, List, length, Option, Some, None, refl, sym, ap, ap₂, ◌∙◌, subst}
+use Rattle.std.proofs.Common.{◌≡◌, List, length, sym, ap, ap₂, ◌∙◌, subst}
 use Rattle.std.specs.FinMap as fin
 use Rattle.exh_keyer.specs.declared.any_keyer.AnyKeyer.{AnyKeyer}
 use Rattle.exh_prefix.specs.Prefix.{prefix_cmp}
-use Rattle.exh_notice.specs.declared.entry.Entry.{Entry}
+use Rattle.exh_table.specs.SetLemmas.{joined_none}
 use Rattle.exh_table.specs.Table.{TableMap}
 use Rattle.exh_table.specs.TableLemmas.{get-table_join, joined, same_table}
 use Rattle.exh_table.specs.TableOrder.{table_join}
@@ -14,10 +14,6 @@ use Rattle.exh_open.specs.Opened.{AreWardsOf, OpenedState, in_file, settings_in}
 use Rattle.exh_load.specs.Loader.{AreEach, IsDirectoryAt, IsLoading}
 
 -- ---- a table joined to none
-
-joined_none : (other : Option Entry) → joined None other ≡ other
-joined_none None = refl
-joined_none (Some entry) = refl
 
 pub join_of_none : (none table : TableMap) → none ≡ fin.empty → table_join none table ≡ table
 join_of_none none table is = subst (λ first. table_join first table ≡ table) (sym is) (same_table _ _ (λ prefix. get-table_join fin.empty table prefix ∙ ap (λ one. joined one (fin.get table prefix)) (fin.get-empty prefix_cmp prefix) ∙ joined_none (fin.get table prefix)))
