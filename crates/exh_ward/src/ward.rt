@@ -9,6 +9,7 @@ ghost use Rattle.exh_ward.specs.NewWards.{new_ward};
 ghost use Rattle.exh_ward.specs.WardState.{IsSoundWard, own_prefix};
 ghost use Rattle.exh_prefix.specs.declared.prefix.TheConstants.{WARD_BITS_LIMIT};
 
+use crate::seen::Seen;
 use exh_calls::{Base, Journal};
 use exh_file_settings::FileSettings;
 use exh_frames::Pages;
@@ -20,7 +21,6 @@ use exh_prefix::Prefix;
 use exh_table::Table;
 use std::alloc::Global;
 use std::marker::Model;
-use std::snapshot::Snapshot;
 
 mod buddy_sum;
 mod change;
@@ -45,7 +45,7 @@ pub struct Ward<P: Pages + Drop, K: Keyer> {
     index: PageIndex,
     // None where the history began anew: then the base is the map of the pages that `seen` shows.
     base: Option<Base>,
-    seen: Snapshot<P>,
+    seen: Seen<P>,
     journal: Journal,
     start: Table,
     told: u64,
@@ -94,7 +94,7 @@ impl<P: Pages + Drop, K: Keyer> Ward<P, K> {
             ward_bits,
             keyer,
         } = settings;
-        let seen = Snapshot::of(&store);
+        let seen = Seen::of(&store);
         Ward {
             cap: cap as usize,
             ward_bits,

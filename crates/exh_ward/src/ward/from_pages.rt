@@ -16,6 +16,7 @@ ghost use Rattle.exh_ward.specs.declared.ward_fault.WardFault.TheVariants.{Page 
 
 use super::{Ward, own_prefix};
 use crate::WardFault;
+use crate::seen::Seen;
 use exh_calls::{Base, Journal, PackedPairs};
 use exh_file_settings::FileSettings;
 use exh_frames::Pages;
@@ -26,7 +27,6 @@ use exh_page::{CAP_LIMIT, Page, Records};
 use exh_prefix::PageNo;
 use exh_table::{Table, own_entries_give_the_table};
 use std::alloc::{AllocError, Global};
-use std::snapshot::Snapshot;
 
 impl<P: Pages + Drop, K: Keyer> Ward<P, K> {
     /// Ward `number` of a file of these settings that was written: its pages, and the table of the changes that they
@@ -60,7 +60,7 @@ impl<P: Pages + Drop, K: Keyer> Ward<P, K> {
         let mut store = pages;
         let (index, pairs) = read_pages(alloc, &mut store)?;
         let start = table.try_clone()?;
-        let seen = Snapshot::of(&store);
+        let seen = Seen::of(&store);
         let FileSettings {
             cap,
             ward_bits,

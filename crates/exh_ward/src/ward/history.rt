@@ -2,9 +2,9 @@ ghost use Rattle.std.specs.Prelude.{◌≡◌};
 ghost use Rattle.exh_ward.specs.WardState.{IsSoundWard, history_begun};
 
 use super::Ward;
+use crate::seen::Seen;
 use exh_frames::Pages;
 use exh_keyer::Keyer;
-use std::snapshot::Snapshot;
 
 impl<P: Pages + Drop, K: Keyer> Ward<P, K> {
     /// Begins the history anew: its base is the map of the pages as they are now, of which nothing is
@@ -14,7 +14,7 @@ impl<P: Pages + Drop, K: Keyer> Ward<P, K> {
         ensures begun { self.new ≡ history_begun self.old }
         ensures sound { IsSoundWard K.pseudokey_of self.new }
     {
-        self.seen = Snapshot::of(&self.store);
+        self.seen = Seen::of(&self.store);
         self.base = None;
         self.journal.clear();
     }
