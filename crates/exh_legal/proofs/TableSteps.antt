@@ -1,13 +1,12 @@
 -- A table with one notice more.
-use Rattle.std.proofs.Common.{◌≡◌, ℕ, ◌+◌, ◌<◌, Bool, true, false, cond, List, [], ◌∷◌, Ordering, Option, None, Some, ◌⊎◌, inl, inr, refl, sym, ap, ◌∙◌, arith, nat_cmp}
+use Rattle.std.proofs.Common.{◌≡◌, ℕ, ◌+◌, ◌<◌, Bool, true, false, cond, List, [], ◌∷◌, None, Some, ◌⊎◌, inl, inr, refl, sym, ap, ◌∙◌, arith}
 use Rattle.std.specs.Prelude.{T}
 use Rattle.std.specs.declared.cmp.Ordering.TheVariants.{Less, Equal, Greater}
-use Rattle.std.specs.Cmp.{nat_cmp_is}
 use Rattle.std.specs.FinMap as fin
 use Rattle.std.specs.FinMap.Entries.{find, put, is_sorted, below_all, by_order}
 use Rattle.std.specs.List.{sum_by}
 use Rattle.std.specs.Option.{option_map_or}
-use Rattle.std.specs.Ordering.{is_eq, is_lt, eq_by_cmp}
+use Rattle.std.specs.Ordering.{is_eq, eq_by_cmp}
 use Rattle.std.proofs.lemmas.Bool.{cases_Bool}
 use Rattle.std.proofs.lemmas.Cmp.{tied_itself}
 use Rattle.std.proofs.lemmas.List.Sums.{sum_by-cons}
@@ -18,6 +17,7 @@ use Rattle.exh_notice.specs.declared.entry.Entry.{Entry}
 use Rattle.exh_notice.specs.declared.notice.Notice.{Notice}
 use Rattle.exh_notice.specs.Entry.{entry_of}
 use Rattle.exh_table.specs.Table.{TableMap, table_with, greater_of}
+use Rattle.exh_table.specs.TableLemmas.{later_wins}
 use Rattle.exh_legal.specs.Numbers.{number_at, index_of}
 use Rattle.exh_legal.specs.OrderLemmas.{is_less}
 
@@ -35,13 +35,6 @@ pub get_with_other : (table : TableMap) (notice : Notice) (prefix : List Bool) �
 get_with_other table notice prefix differ =
     fin.get-insert prefix_cmp-total table notice.prefix (greater_of (fin.get table notice.prefix) (entry_of notice)) prefix
     ∙ ap (λ b. cond b (Some (greater_of (fin.get table notice.prefix) (entry_of notice))) (fin.get table prefix)) (differs_by prefix notice.prefix differ _ refl)
-
--- a greater number makes a greater entry
-later_wins : (found : Option Entry) (entry : Entry) → option_map_or (λ entry. entry.number) found 0 < entry.number → greater_of found entry ≡ entry
-later_wins None entry later = refl
-later_wins (Some old) entry later =
-    let less : nat_cmp old.number entry.number ≡ Less = sym (nat_cmp_is old.number entry.number Less later) in
-    rw less refl
 
 pub get_with_same : (table : TableMap) (notice : Notice) → number_at table notice.prefix < notice.number → fin.get (table_with table notice) notice.prefix ≡ Some (entry_of notice)
 get_with_same table notice later =

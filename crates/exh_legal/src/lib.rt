@@ -7,7 +7,7 @@ pub use laws::{
     live_left_children_merge, live_pages_split, lone_pages_are_legal, merges_keep_legal,
     pages_are_few, right_links_lead_on, splits_keep_legal, targets_lead_on, walks_name_homes,
 };
-pub use numbers::{index_of, number_at};
+pub use numbers::index_of;
 pub use page_index::PageIndex;
 
 mod laws;

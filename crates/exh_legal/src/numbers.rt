@@ -3,7 +3,6 @@ ghost use Rattle.std.specs.FinMap as fin;
 ghost use Rattle.exh_prefix.specs.declared.prefix.TheConstants.{LIMIT};
 ghost use Rattle.exh_legal.specs.Numbers as numbers;
 
-use exh_prefix::Prefix;
 use exh_table::Table;
 
 /// How many changes of a ward's pages its table tells of: the index of the last. A ward's table has
@@ -18,14 +17,4 @@ pub fn index_of(table: &Table) -> u64
         told += u64::from(entry.number);
     }
     told
-}
-
-/// The number at a prefix: how many changes a table tells of there. It takes no memory.
-pub fn number_at(table: &Table, prefix: Prefix) -> u32
-    ensures { result ≡ numbers.number_at table.now prefix }
-{
-    match table.get(prefix) {
-        Some(entry) => entry.number,
-        None => 0,
-    }
 }

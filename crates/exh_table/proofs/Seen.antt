@@ -1,5 +1,5 @@
 -- A table as its map of entries shows it.
-use Rattle.std.proofs.Common.{◌≡◌, Bool, true, false, cond, List, [], ◌∷◌, Option, Some, None, refl, sym, ap, subst, ◌∙◌, IsSome}
+use Rattle.std.proofs.Common.{◌≡◌, Bool, true, false, cond, List, [], ◌∷◌, Option, Some, None, Result, Ok, Err, OnErr, refl, sym, ap, subst, ◌∙◌, IsSome}
 use Rattle.std.specs.BTreeMap.{BTreeMap, is_at, Updates}
 use Rattle.std.specs.Cmp.{eq_by_cmp_equiv}
 use Rattle.std.specs.FinMap.{from_entries, entries, get, insert, remove, get-from_entries, get-insert, get-remove, same_map, empty, len-entries, len-empty, entries-insert}
@@ -11,6 +11,7 @@ use Rattle.std.specs.declared.cmp.Ordering.TheVariants.{Less}
 use Rattle.std.specs.Ordering.{eq_by_cmp}
 use Rattle.std.proofs.lemmas.List.{nil_from_length}
 use Rattle.exh_prefix.specs.Prefix.{prefix_cmp}
+use Rattle.exh_prefix.specs.ListLemmas.{is_equal}
 use Rattle.exh_prefix.specs.PrefixLemmas.{prefix_cmp-total, prefix_cmp-exact}
 use Rattle.exh_notice.specs.declared.entry.Entry.{Entry}
 use Rattle.exh_table.specs.Table.{TableMap}
@@ -67,3 +68,17 @@ unfolding IsStrictlySortedBy
 entries_seen [] sorted = entries-none
 entries_seen (e ∷ es) sorted =
     entries-insert prefix_cmp-total (from_entries es) e.0 e.1 ∙ ap (put prefix_cmp e.0 e.1) (entries_seen es sorted.1) ∙ put_first e es sorted.0
+
+-- a fact stands where an answer is an error
+pub on_err : {A E : Type 0} (r : Result A E) {P : Type 0} → P → OnErr r P
+on_err (Ok x) p = tt
+on_err (Err e) p = p
+
+-- to put what stands there changes nothing
+pub insert_stood : (m : TableMap) (k : List Bool) (v : Entry) → get m k ≡ Some v → insert m k v ≡ m
+insert_stood m k v stands = same_map prefix_cmp-total prefix_cmp-exact _ _ (λ q.
+    get-insert prefix_cmp-total m k v q
+    ∙ elim (eq_by_cmp prefix_cmp q k) as (λ tie. eq_by_cmp prefix_cmp q k ≡ tie → cond tie (Some v) (get m q) ≡ get m q) [
+      | true ↦ λ tie. sym stands ∙ ap (get m) (sym (prefix_cmp-exact q k (is_equal (prefix_cmp q k) tie)))
+      | false ↦ λ tie. refl
+    ] refl)

@@ -1,10 +1,12 @@
 -- A table as a finite map from prefixes to entries, and the table of a set of notices.
-use Rattle.std.specs.Prelude.{Bool, List, ◌++◌, map, Option, Some, None, Contains}
+use Rattle.std.specs.Prelude.{ℕ, ◌+◌, Bool, List, ◌++◌, map, Option, Some, None, Contains}
 use Rattle.std.specs.Coded.{Coded, coded_list, coded_bool}
 use Rattle.std.specs.FinMap.{FinMap, code, entries, get, insert, remove}
+use Rattle.std.specs.Option.{option_map_or}
 use Rattle.exh_prefix.specs.Prefix.{prefix_cmp}
 use Rattle.exh_join.specs.Greater.{IsUpTo}
 use Rattle.exh_notice.specs.declared.entry.Entry.{Entry}
+use Rattle.exh_notice.specs.declared.entry.Kind.{Kind}
 use Rattle.exh_notice.specs.declared.notice.Notice.{Notice}
 use Rattle.exh_notice.specs.Entry.{entry_cmp, greater_entry, entry_of}
 
@@ -62,3 +64,13 @@ table_with table notice = raised table notice.prefix (entry_of notice)
 abbrev pub table_at : TableMap → List Bool → Option Entry → TableMap
 table_at table prefix None = remove table prefix
 table_at table prefix (Some entry) = insert table prefix entry
+
+-- ---- the next change at a prefix
+
+-- the number of what stands at a prefix, 0 where nothing does
+abbrev pub number_of : Option Entry → ℕ
+number_of stood = option_map_or (λ entry. entry.number) stood 0
+
+-- the entry that comes after it
+abbrev pub entry_after : Option Entry → Kind → Entry
+entry_after stood kind = record { number = number_of stood + 1; kind = kind }

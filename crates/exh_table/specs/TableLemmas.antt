@@ -1,8 +1,10 @@
 -- The order of tables is partial, and the join is the least table that is at least both.
-use Rattle.std.proofs.Common.{◌≡◌, Bool, true, false, cond, List, [], ◌∷◌, ◌++◌, map, Option, Some, None, ◌⊎◌, inl, inr, refl, sym, ap, ◌∙◌, subst}
+use Rattle.std.proofs.Common.{◌≡◌, ◌<◌, Bool, true, false, cond, List, [], ◌∷◌, ◌++◌, map, Option, Some, None, ◌⊎◌, inl, inr, refl, sym, ap, ◌∙◌, subst}
 use Rattle.std.specs.FinMap.{entries, get, get-entries, get-from_entries, same_map}
 use Rattle.std.specs.FinMap.Entries.{find}
-use Rattle.std.specs.Ordering.{is_lt, eq_by_cmp}
+use Rattle.std.specs.declared.cmp.Ordering.TheVariants.{Less}
+use Rattle.std.specs.Cmp.{nat_cmp_is}
+use Rattle.std.specs.Ordering.{is_lt, eq_by_cmp, nat_cmp}
 use Rattle.exh_prefix.specs.Prefix.{prefix_cmp}
 use Rattle.exh_prefix.specs.PrefixLemmas.{prefix_cmp-total, prefix_cmp-exact}
 use Rattle.exh_prefix.specs.ListLemmas.{is_equal}
@@ -11,7 +13,7 @@ use Rattle.exh_join.specs.LawsLemmas.{join_laws}
 use Rattle.exh_notice.specs.declared.entry.Entry.{Entry}
 use Rattle.exh_notice.specs.Entry.{entry_cmp}
 use Rattle.exh_notice.specs.EntryLemmas.{entry_laws}
-use Rattle.exh_table.specs.Table.{TableMap, greater_of}
+use Rattle.exh_table.specs.Table.{TableMap, greater_of, number_of}
 use Rattle.exh_table.specs.TableOrder.{IsOptionUpTo, IsTableUpTo, table_join}
 
 -- ---- at one prefix
@@ -109,3 +111,12 @@ table_bound = record {
 
 pub table_laws : JoinLaws IsTableUpTo table_join
 table_laws = join_laws table_order table_bound
+
+-- ---- the next change at a prefix
+
+-- a greater number makes a greater entry
+pub later_wins : (stood : Option Entry) (entry : Entry) → number_of stood < entry.number → greater_of stood entry ≡ entry
+later_wins None entry later = refl
+later_wins (Some old) entry later =
+    let less : nat_cmp old.number entry.number ≡ Less = sym (nat_cmp_is old.number entry.number Less later) in
+    rw less refl

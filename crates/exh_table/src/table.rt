@@ -1,12 +1,13 @@
-ghost use Rattle.std.specs.Prelude.{◌≡◌, None, IsSome, IfOk, MatchOption, OnOk, OnErr};
+ghost use Rattle.std.specs.Prelude.{◌≡◌, ◌≢◌, Some, None, IsSome, IfOk, MatchOption, OnOk, OnErr};
 ghost use Rattle.std.specs.FinMap as map;
-ghost use Rattle.exh_table.specs.Table.{table_with, table_at, raised, greater_of};
+ghost use Rattle.std.specs.BTreeMap.Entry.{MatchEntry, entry_value};
+ghost use Rattle.exh_table.specs.Table.{table_with, table_at, raised, greater_of, number_of, entry_after};
 
-use exh_notice::{Entry, Notice};
+use exh_notice::{Entry, Kind, Notice};
 use exh_prefix::Prefix;
 use std::alloc::{AllocError, Global};
 use std::collections::BTreeMap;
-use std::collections::btree_map::Iter;
+use std::collections::btree_map::{Entry as Place, Iter};
 use std::marker::Model;
 
 /// What a copy of the directory knows: at each prefix the greatest entry that it was told, or none.
@@ -85,6 +86,24 @@ impl Table {
         }
     }
 
+    /// Puts the entry of the next change at a prefix: its number is one more than that of what stands
+    /// there, 1 where nothing does. It answers what stood there: where that has the greatest number,
+    /// it stays. Where memory is refused, an `AllocError`, the table is as before; it is asked for
+    /// only where no entry stands at the prefix.
+    pub fn put_next(&mut self, prefix: Prefix, kind: Kind) -> Result<Option<Entry>, AllocError>
+        ensures stood { IfOk result (λ stood. stood ≡ map.get self.old prefix) }
+        ensures ok { OnOk result (number_of (map.get self.old prefix) ≢ u32.MAX → self.new ≡ raised self.old prefix (entry_after (map.get self.old prefix) kind)) }
+        ensures worn { number_of (map.get self.old prefix) ≡ u32.MAX → self.new ≡ self.old }
+        ensures err { OnErr result (self.new ≡ self.old) }
+        ensures absent { OnErr result (map.get self.old prefix ≡ None) }
+    {
+        let place = self.entries.entry(prefix)?;
+        let stood = stood_at(&place);
+        let next = next_after(stood, kind);
+        *place.or_insert(next) = next;
+        Ok(stood)
+    }
+
     /// Puts the given entry, or none, where one stands. It takes no memory.
     pub fn put_back(&mut self, prefix: Prefix, entry: Option<Entry>)
         requires { IsSome (map.get self.old prefix) }
@@ -110,5 +129,30 @@ fn kept_from(stood: Option<Entry>, entry: Entry) -> Option<Entry>
     match stood {
         Some(old) if old >= entry => Some(old),
         _ => None,
+    }
+}
+
+// What stands at a place, if anything does.
+fn stood_at(place: &Place<'_, Prefix, Entry, Global>) -> Option<Entry>
+    ensures { MatchEntry place.now (entry_value place.now ≡ result) (result ≡ None) }
+{
+    match place {
+        Place::Vacant(_) => None,
+        Place::Occupied(place) => Some(*place.get()),
+    }
+}
+
+// The entry of the next change after what stood at a prefix: where that has the greatest number, that
+// itself.
+fn next_after(stood: Option<Entry>, kind: Kind) -> Entry
+    ensures next { number_of stood ≢ u32.MAX → result ≡ entry_after stood kind }
+    ensures worn { number_of stood ≡ u32.MAX → stood ≡ Some result }
+{
+    match stood {
+        None => Entry { number: 1, kind },
+        Some(stood) => match stood.number.checked_add(1) {
+            Some(number) => Entry { number, kind },
+            None => stood,
+        },
     }
 }

@@ -1,5 +1,5 @@
 -- A change of a ward's pages with its notice: what is kept of the fields, and what an undone change leaves.
-use Rattle.std.proofs.Common.{◌≡◌, ℕ, zero, suc, ◌+◌, ◌<◌, Bool, true, false, cond, List, [], ◌∷◌, ◌++◌, length, slice_get, Option, None, Some, inl, inr, ◌↔◌, IsSome, refl, sym, ap, ◌∙◌, subst, arith, nat_cmp}
+use Rattle.std.proofs.Common.{◌≡◌, ℕ, zero, suc, ◌+◌, ◌<◌, Bool, true, false, cond, List, [], ◌∷◌, ◌++◌, length, slice_get, Option, None, Some, Result, Ok, Err, IfOk, IfErr, OnOk, ◌-◌, ◌^◌, inl, inr, ◌↔◌, IsSome, refl, sym, ap, ◌∙◌, subst, arith, nat_cmp}
 use Rattle.std.specs.FinMap as fin
 use Rattle.std.specs.Ordering.{is_eq, eq_by_cmp}
 use Rattle.std.proofs.lemmas.Bool.{cases_lt, cases_Bool, false≢true}
@@ -10,22 +10,26 @@ use Rattle.exh_prefix.specs.Prefix.{prefix_cmp}
 use Rattle.exh_prefix.specs.PrefixLemmas.{prefix_cmp-total, prefix_cmp-exact}
 use Rattle.exh_prefix.specs.ListLemmas.{one_there, at_front, at_last, is_equal}
 use Rattle.exh_notice.specs.declared.entry.Entry.{Entry}
+use Rattle.exh_notice.specs.declared.entry.Kind.{Kind}
 use Rattle.exh_notice.specs.declared.notice.Notice.{Notice}
 use Rattle.exh_notice.specs.Entry.{entry_of}
-use Rattle.exh_table.specs.Table.{TableMap, greater_of, table_with, table_at}
+use Rattle.exh_table.specs.Table.{TableMap, greater_of, number_of, table_with, table_at}
 use Rattle.exh_table.specs.SetLemmas.{IsTableSince-push}
 use Rattle.exh_page.specs.declared.page.Page.{Page}
 use Rattle.exh_page.specs.Page.{low_bound}
 use Rattle.exh_legal.specs.Growth.{IsPageOf}
 use Rattle.exh_legal.specs.Laws.{KeepsPlaces}
 use Rattle.exh_legal.specs.NoticeLemmas.{one_true_more, still_true}
-use Rattle.exh_legal.specs.Numbers.{index_of, AreNumbered}
+use Rattle.exh_legal.specs.Numbers.{index_of, AreNumbered, next_notice, number_at}
 use Rattle.exh_legal.specs.Pages.{IsAt, bare}
 use Rattle.exh_legal.specs.PlaceLemmas.{page_full, page_bare}
 use Rattle.exh_ward.specs.Kept.{IsKeptWard}
 use Rattle.exh_legal.specs.PageIndex.{IndexMap, IsIndexOf}
 use Rattle.exh_ward.specs.Told.{IsChangedTo, IsNextNotice}
+use Rattle.exh_ward.specs.WardFault.{IsStoreFault, IsTellingFault, SplitRefused}
 use Rattle.exh_ward.specs.WardState.{WardState, IsSound, own_prefix}
+use Rattle.exh_ward.specs.declared.ward_fault.WardFault.{WardFault}
+use Rattle.exh_ward.specs.declared.ward_fault.WardFault.TheVariants.{NoPage, NotLive, NotFull, AtLimit, NoBuddy, BuddySplit, TooMany, Worn, Memory, Page as PageFault}
 use Rattle.exh_ward.proofs.StepsKeepSound.{kept_read}
 
 -- ---- what is undone
@@ -59,6 +63,50 @@ stands table notice =
     let found : fin.get (table_with table notice) notice.prefix ≡ Some greatest =
     fin.get-insert prefix_cmp-total table notice.prefix greatest notice.prefix ∙ ap (λ o. cond (is_eq o) (Some greatest) (fin.get table notice.prefix)) (tied_itself prefix_cmp-total notice.prefix) in
     subst IsSome (sym found) refl
+
+-- the notice that a ward makes of what stood at a prefix
+pub notice_made : (ward : ℕ) (table : TableMap) (prefix : List Bool) (kind : Kind) (stood : Option Entry) → stood ≡ fin.get table prefix → (index : ℕ) → index ≡ index_of table + 1
+    → (notice : Notice) → notice ≡ record { ward = ward; index = index; prefix = prefix; number = number_of stood + 1; kind = kind } → notice ≡ next_notice ward table prefix kind
+notice_made ward table prefix kind stood is index index_is notice made =
+    made ∙ ap (λ index. let notice : Notice = record { ward = ward; index = index; prefix = prefix; number = number_of stood + 1; kind = kind } in notice) index_is
+    ∙ ap (λ stood. let notice : Notice = record { ward = ward; index = index_of table + 1; prefix = prefix; number = number_of stood + 1; kind = kind } in notice) is
+
+-- ---- as the answer is returned
+
+pub told_as : (r : Result Notice WardFault) (notice : Notice) (P : Notice → Type 0) (Q : Type 0) → IfOk r (λ told. told ≡ notice) → OnOk r Q → (Q → P notice) → IfOk r P
+told_as (Ok told) notice P Q is holds gives = subst P (sym is) (gives holds)
+told_as (Err fault) notice P Q is holds gives = tt
+
+pub refused_so : (r : Result Notice WardFault) (P Q : WardFault → Type 0) → IfErr r P → ((fault : WardFault) → P fault → Q fault) → IfErr r Q
+refused_so (Ok told) P Q is gives = tt
+refused_so (Err fault) P Q is gives = gives fault is
+
+-- ---- refusals
+
+-- where the number at the prefix isn't the greatest, only the store refuses
+pub telling_stores : {K : Type 0} (w : WardState K) (prefix : List Bool) → (number_at w.table prefix ≡ 2 ^ 32 - 1 → ⊥) → (fault : WardFault) → IsTellingFault w prefix fault → IsStoreFault fault
+telling_stores w prefix less NoPage is = is
+telling_stores w prefix less NotLive is = is
+telling_stores w prefix less NotFull is = is
+telling_stores w prefix less AtLimit is = is
+telling_stores w prefix less NoBuddy is = is
+telling_stores w prefix less BuddySplit is = is
+telling_stores w prefix less (TooMany sum) is = is
+telling_stores w prefix less Worn is = less is
+telling_stores w prefix less Memory is = is
+telling_stores w prefix less PageFault is = is
+
+pub stored_refuses : (cap : ℕ) (pages : List Page) (at : ℕ) (fault : WardFault) → IsStoreFault fault → SplitRefused cap pages at fault
+stored_refuses cap pages at NoPage is = absurd is
+stored_refuses cap pages at NotLive is = absurd is
+stored_refuses cap pages at NotFull is = absurd is
+stored_refuses cap pages at AtLimit is = absurd is
+stored_refuses cap pages at NoBuddy is = absurd is
+stored_refuses cap pages at BuddySplit is = absurd is
+stored_refuses cap pages at (TooMany sum) is = absurd is
+stored_refuses cap pages at Worn is = absurd is
+stored_refuses cap pages at Memory is = tt
+stored_refuses cap pages at PageFault is = tt
 
 remove_over : (here : Bool) (new : ℕ) (found : Option ℕ) → (here ≡ true → None ≡ found) → cond here None (cond here (Some new) found) ≡ found
 remove_over true new found same = same refl

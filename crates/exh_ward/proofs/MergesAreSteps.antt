@@ -32,7 +32,9 @@ use Rattle.exh_halves.specs.LeftHalf.{FitsBeside, IsLeftHalf}
 use Rattle.exh_halves.specs.Refusal.{NoLeftHalf, NotBeside}
 use Rattle.exh_halves.specs.declared.halves_fault.HalvesFault.{HalvesFault}
 use Rattle.exh_halves.specs.declared.left_half.LeftHalf.{LeftHalf}
-use Rattle.exh_ward.specs.WardFault.{MergeRefused, fault_of_halves}
+use Rattle.exh_ward.specs.WardFault.{MergeRefused, IsTellingFault, fault_of_halves}
+use Rattle.exh_ward.specs.declared.ward_fault.WardFault.{WardFault}
+use Rattle.exh_ward.specs.declared.ward_fault.WardFault.TheVariants.{NoPage, NotLive as WardNotLive, NotFull as WardNotFull, AtLimit as WardAtLimit, NoBuddy as WardNoBuddy, BuddySplit as WardBuddySplit, TooMany as WardTooMany, Worn, Memory as WardMemory, Page as PageFault}
 use Rattle.exh_legal.specs.PageIndex.{IndexMap}
 use Rattle.exh_ward.specs.Told.{IsChangedTo, IsTold}
 use Rattle.exh_ward.specs.JoinedPage.{FitTogether, AreJoined}
@@ -190,6 +192,20 @@ module _ {K : Type 0} {pseudo : List ℕ → ℕ} {takes : Page → Type 0} {own
         united few union is =
             let same = union_is union is in
             record { halves = halves; is = same; formed = subst (IsWellFormed pseudo) (sym same) (well_merged few) }
+
+-- ---- what is refused when it is told
+
+pub telling_refuses : {K : Type 0} {w : WardState K} {at : ℕ} {parent : List Bool} {right : ℕ} → FitTogether w at parent right → (fault : WardFault) → IsTellingFault w parent fault → MergeRefused w at fault
+telling_refuses halves NoPage is = absurd is
+telling_refuses halves WardNotLive is = absurd is
+telling_refuses halves WardNotFull is = absurd is
+telling_refuses halves WardAtLimit is = absurd is
+telling_refuses halves WardNoBuddy is = absurd is
+telling_refuses halves WardBuddySplit is = absurd is
+telling_refuses halves (WardTooMany sum) is = absurd is
+telling_refuses {parent = parent} {right = right} halves Worn is = (parent, halves.records, halves.others, halves.left, (right, halves.link, halves.buddy), halves.few, is)
+telling_refuses halves WardMemory is = tt
+telling_refuses halves PageFault is = tt
 
 -- ---- the pages that it leaves
 

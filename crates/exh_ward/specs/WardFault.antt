@@ -6,6 +6,7 @@ use Rattle.exh_page.specs.declared.page.Page.TheVariants.{Live, Forward}
 use Rattle.exh_page.specs.declared.record.Record.{Record}
 use Rattle.exh_page.specs.Page.{IsLive}
 use Rattle.exh_legal.specs.Numbers.{number_at}
+use Rattle.exh_table.specs.Table.{TableMap}
 use Rattle.exh_legal.specs.Pages.{IsAt}
 use Rattle.exh_frames.specs.declared.pages_fault.PagesFault.{PagesFault}
 use Rattle.exh_frames.specs.declared.pages_fault.PagesFault.TheVariants.{Memory as StoreMemory, Page as StorePage}
@@ -50,6 +51,17 @@ abbrev pub IsStoreFault : WardFault → Type 0
 IsStoreFault Memory = ⊤
 IsStoreFault Page = ⊤
 IsStoreFault fault = ⊥
+
+-- the refusals of a table that is told of a change at a prefix: the number there is the greatest, or memory is wanting
+abbrev pub IsTakingFault : TableMap → List Bool → WardFault → Type 0
+IsTakingFault table prefix Worn = number_at table prefix ≡ 2 ^ 32 - 1
+IsTakingFault table prefix Memory = ⊤
+IsTakingFault table prefix fault = ⊥
+
+-- and of a ward that changes pages and is told of it
+abbrev pub IsTellingFault : {K : Type 0} → WardState K → List Bool → WardFault → Type 0
+IsTellingFault ward prefix Page = ⊤
+IsTellingFault ward prefix fault = IsTakingFault ward.table prefix fault
 
 -- a page fault is answered only where the count of failures rises, and that rises nowhere else
 abbrev pub CountsFailures : {T : Type 0} → Result T WardFault → ℕ → ℕ → Type 0

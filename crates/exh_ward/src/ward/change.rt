@@ -1,157 +1,177 @@
-ghost use Rattle.std.specs.Prelude.{◌≡◌, ◌≢◌, ◌<◌, ℕ, [], ◌∷◌, ◌++◌, length, slice_set, vec_len, vec_capacity, IfOk, IfErr, OnOk, OnErr, None};
+ghost use Rattle.std.specs.Prelude.{◌≡◌, ◌≢◌, ◌+◌, ◌<◌, ℕ, [], ◌∷◌, ◌++◌, length, slice_set, vec_len, vec_capacity, IfOk, IfErr, OnOk, OnErr};
 ghost use Rattle.std.specs.FinMap as map;
-ghost use Rattle.exh_table.specs.Table.{table_with};
+ghost use Rattle.exh_table.specs.Table.{entry_after, number_of, raised};
 ghost use Rattle.exh_page.specs.declared.page.Page.{Page};
 ghost use Rattle.exh_page.specs.Page.{IsWellFormed, low_bound};
-ghost use Rattle.exh_legal.specs.Numbers.{number_at, next_notice};
+ghost use Rattle.exh_legal.specs.Numbers.{index_of, next_notice};
 ghost use Rattle.exh_legal.specs.Pages.{IsAt};
-ghost use Rattle.exh_ward.specs.Told.{IsChangedTo, IsNextNotice, IsTold};
-ghost use Rattle.exh_ward.specs.WardFault.{IsStoreFault, CountsFailures};
+ghost use Rattle.exh_ward.specs.Told.{IsChangedTo, IsTold};
+ghost use Rattle.exh_ward.specs.WardFault.{CountsFailures, IsTakingFault, IsTellingFault};
 ghost use Rattle.exh_ward.specs.WardState.{IsSoundWard, IsUnchanged};
 
 use super::Ward;
 use crate::WardFault;
 use exh_frames::Pages;
 use exh_keyer::Keyer;
-use exh_legal::{PageIndex, number_at, pages_are_few};
+use exh_legal::{PageIndex, pages_are_few};
 use exh_notice::{Entry, Kind, Notice};
 use exh_page::Page;
 use exh_prefix::{PageNo, Prefix};
 use exh_table::Table;
-use std::alloc::AllocError;
 
 impl<P: Pages + Drop, K: Keyer> Ward<P, K> {
-    /// The notice of the next change at a prefix. The number there isn't the greatest.
-    pub(super) fn next_notice(&self, prefix: Prefix, kind: Kind) -> Notice
-        requires { number_at self.now.table prefix ≢ u32.MAX }
-        ensures { result ≡ next_notice self.now.number self.now.table prefix kind }
+    // The index of the next notice.
+    fn next_index(&self) -> u64
+        ensures { result ≡ index_of self.now.table + 1 }
     {
-        Notice {
-            ward: self.number,
-            index: self.told + self.notices.len() as u64 + 1,
-            prefix,
-            number: self.number_at(prefix) + 1,
-            kind,
-        }
+        self.told + self.notices.len() as u64 + 1
     }
 
-    /// The number at a prefix.
-    pub(super) fn number_at(&self, prefix: Prefix) -> u32
-        ensures { result ≡ number_at self.now.table prefix }
-    {
-        number_at(&self.table, prefix)
-    }
-
-    /// Changes two pages, with the notice of it. What comes of the pages is legal.
+    /// Changes two pages, and tells of it at a prefix. What comes of the pages is legal.
     pub(super) fn change_two(
         &mut self,
         number: PageNo,
         page: Page,
         other: PageNo,
         twin: Page,
-        notice: &Notice,
-    ) -> Result<(), WardFault>
+        prefix: Prefix,
+        kind: Kind,
+    ) -> Result<Notice, WardFault>
         requires there { number < length self.old.pages }
         requires other_there { other < length self.old.pages }
         requires apart { number ≢ other }
         requires formed { IsWellFormed (K.pseudokey_of self.old.keyer) page }
         requires twin_formed { IsWellFormed (K.pseudokey_of self.old.keyer) twin }
-        requires next { IsNextNotice self.old notice.now }
-        requires changed { IsChangedTo (K.pseudokey_of self.old.keyer) self.old notice.now (slice_set (slice_set self.old.pages number page) other twin) }
-        ensures ok { OnOk result (IsTold self.old notice.now (slice_set (slice_set self.old.pages number page) other twin) self.new) }
+        requires changed { IsChangedTo (K.pseudokey_of self.old.keyer) self.old (next_notice self.old.number self.old.table prefix kind) (slice_set (slice_set self.old.pages number page) other twin) }
+        ensures notice { IfOk result (λ notice. notice ≡ next_notice self.old.number self.old.table prefix kind) }
+        ensures ok { OnOk result (IsTold self.old (next_notice self.old.number self.old.table prefix kind) (slice_set (slice_set self.old.pages number page) other twin) self.new) }
         ensures err { OnErr result (IsUnchanged self.old self.new) }
-        ensures fault { IfErr result IsStoreFault }
+        ensures fault { IfErr result (IsTellingFault self.old prefix) }
         ensures failures { CountsFailures result self.old.failures self.new.failures }
         ensures sound { IsSoundWard K.pseudokey_of self.new }
     {
-        let stood = take(&mut self.notices, &mut self.table, notice)?;
+        let index = self.next_index();
+        let stood = take(&mut self.notices, &mut self.table, prefix, kind)?;
         if let Err(fault) = self.store.set_two(number, page, other, twin) {
-            self.table.put_back(notice.prefix, stood);
+            self.table.put_back(prefix, stood);
             return Err(fault.into());
         }
+        let notice = &notice_after(stood, self.number, index, prefix, kind);
         self.notices.push_reserved(*notice);
-        Ok(())
+        Ok(*notice)
     }
 
-    /// Adds a page and changes one, with the notice of it. What comes of the pages is legal.
+    /// Adds a page and changes one, and tells of it at a prefix. What comes of the pages is legal.
     pub(super) fn grow(
         &mut self,
         new: Page,
         number: PageNo,
         page: Page,
-        notice: &Notice,
-    ) -> Result<(), WardFault>
+        prefix: Prefix,
+        kind: Kind,
+    ) -> Result<Notice, WardFault>
         requires there { number < length self.old.pages }
         requires formed { IsWellFormed (K.pseudokey_of self.old.keyer) page }
         requires new_formed { IsWellFormed (K.pseudokey_of self.old.keyer) new }
         requires alone { (other : ℕ) (twin : Page) → IsAt self.old.pages other twin → low_bound twin ≢ low_bound new }
-        requires next { IsNextNotice self.old notice.now }
-        requires changed { IsChangedTo (K.pseudokey_of self.old.keyer) self.old notice.now (slice_set self.old.pages number page ++ new ∷ []) }
-        ensures ok { OnOk result (IsTold self.old notice.now (slice_set self.old.pages number page ++ new ∷ []) self.new) }
+        requires changed { IsChangedTo (K.pseudokey_of self.old.keyer) self.old (next_notice self.old.number self.old.table prefix kind) (slice_set self.old.pages number page ++ new ∷ []) }
+        ensures notice { IfOk result (λ notice. notice ≡ next_notice self.old.number self.old.table prefix kind) }
+        ensures ok { OnOk result (IsTold self.old (next_notice self.old.number self.old.table prefix kind) (slice_set self.old.pages number page ++ new ∷ []) self.new) }
         ensures err { OnErr result (IsUnchanged self.old self.new) }
-        ensures fault { IfErr result IsStoreFault }
+        ensures fault { IfErr result (IsTellingFault self.old prefix) }
         ensures failures { CountsFailures result self.old.failures self.new.failures }
         ensures sound { IsSoundWard K.pseudokey_of self.new }
     {
         pages_are_few();
+        let index = self.next_index();
         let low = new.low();
         let count = self.store.count();
         let stood = take_with_page(
             &mut self.notices,
             &mut self.table,
             &mut self.index,
-            notice,
+            (prefix, kind),
             low,
             count,
         )?;
         if let Err(fault) = self.store.grow_and_set(new, number, page) {
-            self.table.put_back(notice.prefix, stood);
+            self.table.put_back(prefix, stood);
             self.index.remove(low);
             return Err(fault.into());
         }
+        let notice = &notice_after(stood, self.number, index, prefix, kind);
         self.notices.push_reserved(*notice);
-        Ok(())
+        Ok(*notice)
     }
 }
 
-// Has the table take a notice, and room for it among the notices: nothing may fail once the pages have changed. It
-// answers what stood in the table. Where memory is refused, both are as before.
+// Has the table take the entry of the next change at a prefix, and room for its notice among the
+// notices: nothing may fail once the pages have changed. It answers what stood in the table. Where it
+// is refused, `Worn` if the number there is the greatest, both are as before.
 fn take(
     notices: &mut Vec<Notice>,
     table: &mut Table,
-    notice: &Notice,
-) -> Result<Option<Entry>, AllocError>
+    prefix: Prefix,
+    kind: Kind,
+) -> Result<Option<Entry>, WardFault>
     ensures items { notices.new.items ≡ notices.old.items }
     ensures room { OnOk result (vec_len notices.new < vec_capacity notices.new) }
-    ensures stood { IfOk result (λ stood. stood ≡ map.get table.old notice.now.prefix) }
-    ensures ok { OnOk result (table.new ≡ table_with table.old notice.now) }
+    ensures stood { IfOk result (λ stood. stood ≡ map.get table.old prefix) }
+    ensures more { OnOk result (number_of (map.get table.old prefix) ≢ u32.MAX) }
+    ensures ok { OnOk result (table.new ≡ raised table.old prefix (entry_after (map.get table.old prefix) kind)) }
     ensures err { OnErr result (table.new ≡ table.old) }
+    ensures fault { IfErr result (IsTakingFault table.old prefix) }
 {
     notices.reserve(1)?;
-    table.take(notice)
+    let stood = table.put_next(prefix, kind)?;
+    match stood {
+        Some(entry) if entry.number == u32::MAX => Err(WardFault::Worn),
+        _ => Ok(stood),
+    }
 }
 
-// The same for a notice that comes with a new page, whose number then is in the index.
+// The same for a change with a new page, whose number then is in the index.
 fn take_with_page(
     notices: &mut Vec<Notice>,
     table: &mut Table,
     index: &mut PageIndex,
-    notice: &Notice,
+    change: (Prefix, Kind),
     low: u64,
     number: PageNo,
-) -> Result<Option<Entry>, AllocError>
+) -> Result<Option<Entry>, WardFault>
     ensures items { notices.new.items ≡ notices.old.items }
     ensures room { OnOk result (vec_len notices.new < vec_capacity notices.new) }
-    ensures stood { IfOk result (λ stood. stood ≡ map.get table.old notice.now.prefix) }
-    ensures ok { OnOk result (table.new ≡ table_with table.old notice.now) }
+    ensures stood { IfOk result (λ stood. stood ≡ map.get table.old change.0) }
+    ensures more { OnOk result (number_of (map.get table.old change.0) ≢ u32.MAX) }
+    ensures ok { OnOk result (table.new ≡ raised table.old change.0 (entry_after (map.get table.old change.0) change.1)) }
     ensures indexed { OnOk result (index.new ≡ map.insert index.old low number) }
     ensures err { OnErr result (table.new ≡ table.old) }
     ensures index_err { OnErr result (index.new ≡ index.old) }
+    ensures fault { IfErr result (IsTakingFault table.old change.0) }
 {
-    let stood = take(notices, table, notice)?;
+    let (prefix, kind) = change;
+    let stood = take(notices, table, prefix, kind)?;
     if let Err(error) = index.insert(low, number) {
-        table.put_back(notice.prefix, stood);
-        return Err(error);
+        table.put_back(prefix, stood);
+        return Err(error.into());
     }
     Ok(stood)
+}
+
+// The notice of the change after what stood at a prefix, whose number isn't the greatest.
+fn notice_after(stood: Option<Entry>, ward: u8, index: u64, prefix: Prefix, kind: Kind) -> Notice
+    requires { number_of stood ≢ u32.MAX }
+    ensures { result ≡ record { ward = ward; index = index; prefix = prefix; number = number_of stood + 1; kind = kind } }
+{
+    let number = match stood {
+        Some(entry) => entry.number + 1,
+        None => 1,
+    };
+    Notice {
+        ward,
+        index,
+        prefix,
+        number,
+        kind,
+    }
 }

@@ -30,19 +30,14 @@ impl<P: Pages + Drop, K: Keyer> Ward<P, K> {
     {
         merges_keep_legal();
         let (parent, right) = self.fitting_buddy(page)?;
-        if self.number_at(parent) == u32::MAX {
-            return Err(WardFault::Worn);
-        }
         let merged = self.join(page, parent, right)?;
         let forward = forward_from_right(parent, page);
-        let notice = self.next_notice(parent, Kind::Merge);
-        self.change_two(page, merged, right, forward, &notice)?;
-        Ok(notice)
+        self.change_two(page, merged, right, forward, parent, Kind::Merge)
     }
 
     // The parent of a page's prefix, and the number of the page's right buddy, where both pages fit
-    // into one. No record of them is read, so that a refused merge takes no memory. The buddy is found
-    // by the page's own right link, so that no table is walked.
+    // into one. No record of them is read, so that a merge that they refuse takes no memory. The buddy is
+    // found by the page's own right link, so that no table is walked.
     fn fitting_buddy(&mut self, page: PageNo) -> Result<(Prefix, PageNo), WardFault>
         ensures fit { IfOk result (λ found. FitTogether self.old page found.0 found.1) }
         ensures refused { IfErr result (MergeRefused self.old page) }

@@ -42,17 +42,13 @@ impl<P: Pages + Drop, K: Keyer> Ward<P, K> {
         let prefix = halves.prefix;
         match self.forward_of(prefix) {
             Some(right) => {
-                let notice = self.next_notice(prefix, Kind::Split { right });
                 let (left, right_page) = halves.into_pages(right);
-                self.change_two(page, left, right, right_page, &notice)?;
-                Ok(notice)
+                self.change_two(page, left, right, right_page, prefix, Kind::Split { right })
             }
             None => {
                 let right = self.store.count();
-                let notice = self.next_notice(prefix, Kind::Split { right });
                 let (left, right_page) = halves.into_pages(right);
-                self.grow(right_page, page, left, &notice)?;
-                Ok(notice)
+                self.grow(right_page, page, left, prefix, Kind::Split { right })
             }
         }
     }

@@ -1,13 +1,8 @@
-use Rattle.std.proofs.Common.{◌≡◌, List, Bool, sym, ap, ◌∙◌, subst, IsSome, Some, Option, Result, Ok, Err, OnErr, MatchOption, refl}
+use Rattle.std.proofs.Common.{◌≡◌, sym, ap, ◌∙◌, subst, IsSome, refl}
 use Rattle.std.specs.FinMap.{get, insert, from_entries}
-use Rattle.exh_notice.specs.declared.entry.Entry.{Entry}
 use Rattle.exh_table.specs.Table.{TableMap, greater_of}
-use Rattle.exh_table.proofs.Seen.{insert_seen, insert_twice, insert_there, get_seen}
+use Rattle.exh_table.proofs.Seen.{insert_seen, insert_twice, insert_there, get_seen, on_err}
 use Rattle.exh_table.proofs.table.Table.put_greater.Goals as goal
-
-on_err : {A E : Type 0} (r : Result A E) {P : Type 0} → P → OnErr r P
-on_err (Ok x) p = tt
-on_err (Err e) p = p
 
 pub returns-in_err-stood-clause-absent : goal.returns-in_err-stood-clause-absent
 returns-in_err-stood-clause-absent c =
