@@ -1,5 +1,5 @@
 -- What packed lists hold, and where a record's bytes stand in them.
-use Rattle.std.proofs.Common.{◌≡◌, ℕ, ◌+◌, ◌≤◌, List, [], ◌∷◌, ◌++◌, length, take, drop, map, append_assoc, refl, sym, ap, ◌∙◌, subst, arith}
+use Rattle.std.proofs.Common.{◌≡◌, ℕ, ◌+◌, ◌-◌, ◌≤◌, List, [], ◌∷◌, ◌++◌, length, take, drop, map, append_assoc, refl, sym, ap, ◌∙◌, subst, arith}
 use Rattle.std.specs.List.{flat_map}
 use Rattle.std.proofs.lemmas.Grind.{flat_map-append}
 use Rattle.std.proofs.lemmas.List.{take-append-drop, length-append}
@@ -11,7 +11,8 @@ use Rattle.exh_page.specs.PackedRecords.{ArePacked, stored_of, record_text, reco
 -- a record is read back from its bytes, whatever follows them
 pub record_back : (r : Record) (more : List ℕ) → record_in (stored_of r) (record_text r ++ more) ≡ r
 record_back r more =
-    rw (append_assoc r.key r.value more, take-append_seam r.key (r.value ++ more), drop-append_seam r.key (r.value ++ more), take-append_seam r.value more) refl
+    let rest : length r.key + length r.value - length r.key ≡ length r.value = omega arith in
+    rw (rest, append_assoc r.key r.value more, take-append_seam r.key (r.value ++ more), drop-append_seam r.key (r.value ++ more), take-append_seam r.value more) refl
 
 text_passed : (r : Record) (more : List ℕ) → drop (length r.key + length r.value) (record_text r ++ more) ≡ more
 text_passed r more = ap (λ n. drop n (record_text r ++ more)) (sym (length-append r.key r.value)) ∙ drop-append_seam (record_text r) more

@@ -95,7 +95,10 @@ module _ {records : List Record} {stored : List StoredRecord} {texts : List ℕ}
   -- its key, too
   pub key_inside : (slice : List StoredRecord) (i : ℕ) (d : StoredRecord) (text : List ℕ) → slice ≡ stored → i < length slice → text ≡ flat_map record_text (drop i records)
       → (get_or slice i d).key_len ≤ length text
-  key_inside slice i d text same within is = omega (arith, read_inside slice i d text same (omega (arith, ap length same, as_many)) is)
+  key_inside slice i d text same within is =
+      let inside : i < length records = omega (arith, ap length same, as_many) in
+      let kept = ap (λ list. get_or list i d) same ∙ kept_at i d (record_in d []) inside in
+      omega (arith, read_inside slice i d text same inside is, ap (λ (kept : StoredRecord). kept.key_len) kept, ap text_len kept)
 
   -- what an index reads is what stands there
   pub kept_read : (i : ℕ) (kept : StoredRecord) → i < length records → kept ≡ get_or stored i kept → slice_get stored i ≡ Some kept
@@ -132,8 +135,11 @@ module _ {records : List Record} {stored : List StoredRecord} {texts : List ℕ}
     pub key_fits : kept.key_len ≤ KEY_LIMIT
     key_fits = omega (arith, ap (λ (kept : StoredRecord). kept.key_len) kept_is, this_sized.key)
 
-    pub value_fits : kept.value_len ≤ VALUE_LIMIT
-    value_fits = omega (arith, ap (λ (kept : StoredRecord). kept.value_len) kept_is, this_sized.value)
+    pub key_within : kept.key_len ≤ text_len kept
+    key_within = omega (arith, ap (λ (kept : StoredRecord). kept.key_len) kept_is, ap text_len kept_is)
+
+    pub value_fits : kept.whole_len - kept.key_len ≤ VALUE_LIMIT
+    value_fits = omega (arith, ap (λ (kept : StoredRecord). kept.key_len) kept_is, ap text_len kept_is, this_sized.value)
 
     -- its key and its value are parts of the bytes
     module _ (from : ℕ) (from_is : from ≡ kept.key_len) where
@@ -141,9 +147,12 @@ module _ {records : List Record} {stored : List StoredRecord} {texts : List ℕ}
       key_part = ap (λ n. take n text) from_is
 
       pub length-key_part : length (take from text) ≡ from
-      length-key_part = length-take-le from text (omega (arith, from_is, this_inside))
+      length-key_part = length-take-le from text (omega (arith, from_is, key_within, this_inside))
 
       module _ (end : ℕ) (end_is : end ≡ text_len kept) where
+        pub part_from : from ≤ end
+        part_from = omega (arith, from_is, end_is, key_within)
+
         pub part_inside : end ≤ length text
         part_inside = omega (arith, end_is, this_inside)
 
@@ -157,7 +166,7 @@ module _ {records : List Record} {stored : List StoredRecord} {texts : List ℕ}
               value_fits,
               this_inside,
               ap length value_part,
-              length-take-le kept.value_len (drop kept.key_len text) (omega (arith, this_inside, length-drop kept.key_len text)),
+              length-take-le (kept.whole_len - kept.key_len) (drop kept.key_len text) (omega (arith, this_inside, length-drop kept.key_len text)),
             )
 
   -- ---- what the order of a record to a place says, where those before it stand before the place

@@ -7,12 +7,13 @@ ghost use Rattle.exh_page.specs.PackedRecords.{stored_of, text_len};
 use crate::Key;
 use std::cmp::Ordering;
 
-/// What is kept of a record beside its bytes: its pseudokey, and how long its key and value are.
+/// What is kept of a record beside its bytes: its pseudokey, how long its key is, and how long its key
+/// and value are together, which is what a walk over records adds up.
 #[derive(Clone, Copy)]
 pub(crate) struct StoredRecord {
     pub(crate) pseudokey: u64,
     pub(crate) key_len: u8,
-    pub(crate) value_len: u8,
+    pub(crate) whole_len: u8,
 }
 
 impl StoredRecord {
@@ -25,7 +26,7 @@ impl StoredRecord {
         StoredRecord {
             pseudokey,
             key_len: key.len() as u8,
-            value_len: value.len() as u8,
+            whole_len: (key.len() + value.len()) as u8,
         }
     }
 
@@ -33,7 +34,7 @@ impl StoredRecord {
     pub(crate) fn text_len(&self) -> usize
         ensures { result ≡ text_len self.now }
     {
-        usize::from(self.key_len) + usize::from(self.value_len)
+        usize::from(self.whole_len)
     }
 
     /// How the record's place compares with another: by pseudokey, then by key. The

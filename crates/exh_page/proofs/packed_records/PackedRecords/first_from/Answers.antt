@@ -14,7 +14,7 @@ abbrev nothing : Record
 nothing = record { pseudokey = 0; key = []; value = [] }
 
 abbrev nothing_kept : StoredRecord
-nothing_kept = record { pseudokey = 0; key_len = 0; value_len = 0 }
+nothing_kept = record { pseudokey = 0; key_len = 0; whole_len = 0 }
 
 pub loop-i-init : goal.loop-i-init
 loop-i-init c = record { start_of = refl; before = λ k d none. absurd (omega (arith, none)) }

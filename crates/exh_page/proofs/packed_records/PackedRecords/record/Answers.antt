@@ -1,6 +1,20 @@
 use Rattle.std.proofs.Common.{◌∙◌, sym, arith}
-use Rattle.exh_page.proofs.PackedReads.{key_fits, key_part, key_some, kept_read, length-key_part, packed_as, part_inside, this_read, value_part, value_part_fits}
+use Rattle.exh_page.proofs.PackedReads.{key_fits, key_part, key_some, kept_read, length-key_part, packed_as, part_from, part_inside, this_read, value_part, value_part_fits}
 use Rattle.exh_page.proofs.packed_records.PackedRecords.record.Goals as goal
+
+pub slice_bounds-value-start : goal.slice_bounds-value-start
+slice_bounds-value-start c =
+    let packed = packed_as c.self.invariant c.self.view_is in
+    let kept = c.index.result.now in
+    let there = kept_read packed c.args.spot.index kept c.requires.there c.index.ensures in
+    part_from packed c.args.spot.index kept c.text_from-text.result.now there c.text_from-text.ensures c.from.result c.from.ensures c.text_len.result c.text_len.ensures
+
+pub slice_bounds-value-count : goal.slice_bounds-value-count
+slice_bounds-value-count c =
+    let packed = packed_as c.self.invariant c.self.view_is in
+    let kept = c.index.result.now in
+    let there = kept_read packed c.args.spot.index kept c.requires.there c.index.ensures in
+    part_from packed c.args.spot.index kept c.text_from-text.result.now there c.text_from-text.ensures c.from.result c.from.ensures c.text_len.result c.text_len.ensures
 
 pub slice_bounds-value-end : goal.slice_bounds-value-end
 slice_bounds-value-end c =
