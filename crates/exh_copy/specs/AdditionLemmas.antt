@@ -1,30 +1,21 @@
 -- Tables only grow by additions, and are those of all that was added.
-use Rattle.std.proofs.Common.{◌≡◌, Bool, true, false, cond, List, [], ◌∷◌, ◌++◌, flat_map, Some, refl, sym, ap, ◌∙◌, subst}
+use Rattle.std.proofs.Common.{◌≡◌, Bool, List, [], ◌∷◌, ◌++◌, flat_map, sym, ap, ◌∙◌, subst}
 use Rattle.std.proofs.lemmas.List.{append-nil, append_assoc}
 use Rattle.std.specs.FinMap.{empty, entries, get, get-empty}
-use Rattle.std.specs.Ordering.{eq_by_cmp}
 use Rattle.core.proofs.iter.runs.Lists.{fold-append}
 use Rattle.exh_prefix.specs.Prefix.{prefix_cmp}
 use Rattle.exh_notice.specs.declared.entry.Entry.{Entry}
 use Rattle.exh_notice.specs.Entry.{entry_of}
-use Rattle.exh_table.specs.Table.{TableMap, IsTableOf, raised, greater_of, told_by}
-use Rattle.exh_table.specs.TableOrder.{IsOptionUpTo, IsTableUpTo, table_join}
-use Rattle.exh_table.specs.TableLemmas.{joined, joined_first, get-table_join, same_table, same_from_tie, table_laws}
-use Rattle.exh_table.specs.RaisedLemmas.{get-raised}
+use Rattle.exh_table.specs.Table.{TableMap, IsTableOf, told_by}
+use Rattle.exh_table.specs.TableOrder.{IsTableUpTo, table_join}
+use Rattle.exh_table.specs.TableLemmas.{joined, get-table_join, same_table, table_laws}
+use Rattle.exh_table.specs.RaisedLemmas.{raised_up}
 use Rattle.exh_table.specs.SetLemmas.{joined_none, union_is_join, one_more, own_entries}
 use Rattle.exh_copy.specs.declared.addition.Addition.{Addition}
 use Rattle.exh_copy.specs.declared.addition.Addition.TheVariants.{Take, Combine}
 use Rattle.exh_copy.specs.Additions.{added, table_after, told_in, BeginsWith}
 
 -- ---- the order
-
-raised_up : (table : TableMap) (key : List Bool) (entry : Entry) → IsTableUpTo table (raised table key entry)
-raised_up table key entry prefix =
-    subst (IsOptionUpTo (get table prefix)) (sym (get-raised table key entry prefix))
-    (elim (eq_by_cmp prefix_cmp prefix key) as (λ here. eq_by_cmp prefix_cmp prefix key ≡ here → IsOptionUpTo (get table prefix) (cond here (Some (greater_of (get table key) entry)) (get table prefix))) [
-      | true ↦ λ here. subst (λ p. IsOptionUpTo (get table p) (Some (greater_of (get table key) entry))) (sym (same_from_tie prefix key here)) (joined_first (get table key) (Some entry))
-      | false ↦ λ here. table_laws.order.reflexive table prefix
-    ] refl)
 
 added_up : (table : TableMap) (addition : Addition) → IsTableUpTo table (added table addition)
 added_up table (Take notice) = raised_up table notice.prefix (entry_of notice)

@@ -8,6 +8,7 @@ use Rattle.std.proofs.lemmas.List.{length_push}
 use Rattle.std.proofs.lemmas.Option.{get_or_from_slice_get}
 use Rattle.exh_prefix.specs.ListLemmas.{within_there}
 use Rattle.exh_notice.specs.declared.entry.Entry.{Entry}
+use Rattle.exh_table.specs.RaisedLemmas.{raised_up}
 use Rattle.exh_table.specs.Table.{TableMap, raised}
 use Rattle.exh_table.specs.TableLemmas.{table_laws}
 use Rattle.exh_table.specs.TableOrder.{IsTableUpTo, table_join}
@@ -17,7 +18,7 @@ use Rattle.exh_sent.specs.Known.{AreKnown}
 use Rattle.exh_sent.specs.Held.{IsHeld}
 use Rattle.exh_sent.specs.declared.held_copy.HeldCopy.{HeldCopy}
 use Rattle.exh_sent.specs.declared.sent_table.SentTable.{SentTable}
-use Rattle.exh_sent.proofs.Joined.{joined_already, joined_none, joined_raised, up_to_raised, swapped}
+use Rattle.exh_sent.proofs.Joined.{joined_already, joined_none, joined_raised, swapped}
 use Rattle.exh_sent.proofs.Unpacked.{pushed_front, pushed_last}
 
 -- a table that is more knows no less
@@ -44,7 +45,7 @@ module _ (start : TableMap) (sent : List TableMap) (copy : HeldCopy) (held : IsH
   pub taken : (directory : DirectoryState) (news : TableMap) (key : List Bool) (entry : Entry) → directory.table ≡ raised copy.directory.table key entry → news ≡ raised copy.news key entry
       → IsHeld start sent (record copy { directory = directory; news = news })
   taken directory news key entry table_is news_is =
-      let up : IsTableUpTo copy.directory.table directory.table = subst (IsTableUpTo copy.directory.table) (sym table_is) (up_to_raised copy.directory.table key entry) in record {
+      let up : IsTableUpTo copy.directory.table directory.table = subst (IsTableUpTo copy.directory.table) (sym table_is) (raised_up copy.directory.table key entry) in record {
         begun = table_laws.order.transitive start copy.directory.table directory.table held.begun up;
         before = held.before;
         table = table_is ∙ ap (λ t. raised t key entry) held.table ∙ sym (joined_raised (base_in start sent copy.since) copy.news key entry) ∙ ap (table_join (base_in start sent copy.since)) (sym news_is);

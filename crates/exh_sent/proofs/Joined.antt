@@ -58,10 +58,6 @@ joined_raised one other key entry =
     ∙ ap (λ stood. cond (eq_by_cmp prefix_cmp prefix key) (Some (greater_of stood entry)) (get (table_join one other) prefix)) (get-table_join one other key)
     ∙ ap (cond (eq_by_cmp prefix_cmp prefix key) (Some (greater_of (joined (get one key) (get other key)) entry))) (get-table_join one other prefix)))
 
-pub up_to_raised : (table : TableMap) (key : List Bool) (entry : Entry) → IsTableUpTo table (raised table key entry)
-up_to_raised table key entry =
-    subst (IsTableUpTo table) (joined_raised table table key entry ∙ ap (λ t. raised t key entry) (table_laws.idempotent table)) (table_laws.bound.above_first table (raised table key entry))
-
 -- an entry that was told changes nothing
 greater_stays : (stood entry : Entry) → IsUpTo entry_cmp entry stood → greater_of (Some stood) entry ≡ stood
 greater_stays stood entry up =

@@ -1,5 +1,5 @@
 -- Entries taken one after another.
-use Rattle.std.proofs.Common.{◌≡◌, ◌≢◌, Bool, true, false, cond, List, [], ◌∷◌, Some, refl, sym, ap, ◌∙◌, T}
+use Rattle.std.proofs.Common.{◌≡◌, ◌≢◌, Bool, true, false, cond, List, [], ◌∷◌, Some, refl, sym, ap, ◌∙◌, subst, T}
 use Rattle.std.specs.FinMap.{entries, entries_sorted, get, get-insert, get-entries}
 use Rattle.std.specs.FinMap.Entries.{find, is_sorted}
 use Rattle.std.proofs.lemmas.Cmp.{tied_itself}
@@ -9,8 +9,8 @@ use Rattle.exh_prefix.specs.PrefixLemmas.{prefix_cmp-total}
 use Rattle.exh_prefix.specs.ListLemmas.{first_part, second_part}
 use Rattle.exh_notice.specs.declared.entry.Entry.{Entry}
 use Rattle.exh_table.specs.Table.{TableMap, raised, greater_of}
-use Rattle.exh_table.specs.TableOrder.{table_join}
-use Rattle.exh_table.specs.TableLemmas.{joined, get-table_join, same_table, same_from_tie}
+use Rattle.exh_table.specs.TableOrder.{IsOptionUpTo, IsTableUpTo, table_join}
+use Rattle.exh_table.specs.TableLemmas.{joined, joined_first, get-table_join, same_table, same_from_tie, table_laws}
 use Rattle.exh_table.specs.SetLemmas.{none_below}
 
 -- the table that took entries at prefixes, one after another
@@ -34,6 +34,15 @@ raised_elsewhere table key entry prefix apart =
       | true ↦ λ here. absurd (apart (same_from_tie prefix key here))
       | false ↦ λ here. refl
     ] refl
+
+-- it is at least what it was
+pub raised_up : (table : TableMap) (key : List Bool) (entry : Entry) → IsTableUpTo table (raised table key entry)
+raised_up table key entry prefix =
+    subst (IsOptionUpTo (get table prefix)) (sym (get-raised table key entry prefix))
+    (elim (eq_by_cmp prefix_cmp prefix key) as (λ here. eq_by_cmp prefix_cmp prefix key ≡ here → IsOptionUpTo (get table prefix) (cond here (Some (greater_of (get table key) entry)) (get table prefix))) [
+      | true ↦ λ here. subst (λ p. IsOptionUpTo (get table p) (Some (greater_of (get table key) entry))) (sym (same_from_tie prefix key here)) (joined_first (get table key) (Some entry))
+      | false ↦ λ here. table_laws.order.reflexive table prefix
+    ] refl)
 
 pub get-raised_all : (table : TableMap) (es : List (List Bool × Entry)) (prefix : List Bool) → T (is_sorted prefix_cmp es) → get (raised_all table es) prefix ≡ joined (get table prefix) (find prefix_cmp prefix es)
 get-raised_all table [] prefix sorted = refl
