@@ -22,7 +22,6 @@ pub mod ToldTruly
 pub mod GivenWards
 -- of runs_carry_the_headline: one map, one step, a run
 pub mod OneMap
-pub mod MapsOfWards
 pub mod WorldMaps
 pub mod Known
 pub mod Named

@@ -24,7 +24,7 @@ use Rattle.exh_calls.specs.declared.call.Call.{Call}
 use Rattle.exh_world.specs.Sound.{IsSoundWorld}
 use Rattle.exh_world.specs.World.{WorldState, map_in}
 use Rattle.exh_world.proofs.BegunSound.{ward_begins, ward_there}
-use Rattle.exh_world.proofs.MapsOfWards.{all_pages_of, AreLegalFrom, get_in_ward}
+use Rattle.exh_legal.specs.WardMapLemmas.{all_pages_of, AreLegalFrom, get_in_ward}
 use Rattle.exh_world.proofs.OneMap.{AreAlike, same_reply, left_by_call}
 
 module _ {K : Type 0} where
