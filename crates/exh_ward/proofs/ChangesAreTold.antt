@@ -25,8 +25,8 @@ use Rattle.exh_legal.specs.Pages.{IsAt, bare}
 use Rattle.exh_legal.specs.PlaceLemmas.{page_full, page_bare}
 use Rattle.exh_ward.specs.Kept.{IsKeptWard}
 use Rattle.exh_legal.specs.PageIndex.{IndexMap, IsIndexOf}
-use Rattle.exh_ward.specs.Told.{IsChangedTo, IsNextNotice}
-use Rattle.exh_ward.specs.WardFault.{IsStoreFault, IsTellingFault, SplitRefused}
+use Rattle.exh_ward.specs.Told.{IsChangedTo, IsNextNotice, IsTold}
+use Rattle.exh_ward.specs.WardFault.{IsStoreFault, IsTakingFault, IsTellingFault, SplitRefused}
 use Rattle.exh_ward.specs.WardState.{WardState, IsSound, own_prefix}
 use Rattle.exh_ward.specs.declared.ward_fault.WardFault.{WardFault}
 use Rattle.exh_ward.specs.declared.ward_fault.WardFault.TheVariants.{NoPage, NotLive, NotFull, AtLimit, NoBuddy, BuddySplit, TooMany, Worn, Memory, Page as PageFault}
@@ -95,6 +95,19 @@ telling_stores w prefix less (TooMany sum) is = is
 telling_stores w prefix less Worn is = less is
 telling_stores w prefix less Memory is = is
 telling_stores w prefix less PageFault is = is
+
+-- and of a table
+pub taking_stores : (table : TableMap) (prefix : List Bool) → (number_at table prefix ≡ 2 ^ 32 - 1 → ⊥) → (fault : WardFault) → IsTakingFault table prefix fault → IsStoreFault fault
+taking_stores table prefix less NoPage is = is
+taking_stores table prefix less NotLive is = is
+taking_stores table prefix less NotFull is = is
+taking_stores table prefix less AtLimit is = is
+taking_stores table prefix less NoBuddy is = is
+taking_stores table prefix less BuddySplit is = is
+taking_stores table prefix less (TooMany sum) is = is
+taking_stores table prefix less Worn is = less is
+taking_stores table prefix less Memory is = is
+taking_stores table prefix less PageFault is = tt
 
 pub stored_refuses : (cap : ℕ) (pages : List Page) (at : ℕ) (fault : WardFault) → IsStoreFault fault → SplitRefused cap pages at fault
 stored_refuses cap pages at NoPage is = absurd is
@@ -263,6 +276,18 @@ unchanged_seen {K = K} {w = w} seen pages notices table failures same_pages same
     let by_notices = ap (λ notices. let after : WardState K = record w { notices = notices; table = table; failures = failures } in after) same_notices in
     let by_table = ap (λ table. let after : WardState K = record w { table = table; failures = failures } in after) same_table in
     by_pages ∙ by_notices ∙ by_table ∙ ap (λ (w : WardState K). let after : WardState K = record w { failures = failures } in after) seen
+
+-- the ward that is seen
+abbrev pub state_of : {K : Type 0} {w now : WardState K} → w ≡ now → WardState K
+state_of {w = w} seen = w
+
+pub told_seen : {K : Type 0} (w : WardState K) (notice : Notice) (new : List Page) (pages : List Page) (notices : List Notice) (table : TableMap) (failures : ℕ) → pages ≡ new → notices ≡ w.notices ++ notice ∷ [] → table ≡ table_with w.table notice → failures ≡ w.failures
+    → IsTold w notice new (record w { pages = pages; notices = notices; table = table; failures = failures })
+told_seen {K = K} w notice new pages notices table failures same_pages same_notices same_table same_failures =
+    ap (λ pages. let after : WardState K = record w { pages = pages; notices = notices; table = table; failures = failures } in after) same_pages
+    ∙ ap (λ notices. let after : WardState K = record w { pages = new; notices = notices; table = table; failures = failures } in after) same_notices
+    ∙ ap (λ table. let after : WardState K = record w { pages = new; notices = w.notices ++ notice ∷ []; table = table; failures = failures } in after) same_table
+    ∙ ap (λ failures. let after : WardState K = record w { pages = new; notices = w.notices ++ notice ∷ []; table = table_with w.table notice; failures = failures } in after) same_failures
 
 -- a low bound that no page has isn't in the index
 pub absent : (index : IndexMap) (pages : List Page) (low : ℕ) → IsIndexOf index (bare pages) → ((number : ℕ) (page : Page) → IsAt pages number page → low_bound page ≡ low → ⊥) → fin.get index low ≡ None

@@ -45,7 +45,7 @@ refused_in BuddySplit cap pages at page is refused = absurd refused
 refused_in (TooMany sum) cap pages at page is refused = absurd refused
 refused_in Memory cap pages at page is refused = tt
 
-failed_with : {T : Type 0} (r : Result T WardFault) (fault : WardFault) (P : WardFault → Type 0) → IsErrAnd r (λ other. other ≡ fault) → P fault → IfErr r P
+pub failed_with : {T : Type 0} (r : Result T WardFault) (fault : WardFault) (P : WardFault → Type 0) → IsErrAnd r (λ other. other ≡ fault) → P fault → IfErr r P
 failed_with (Ok value) fault P is refused = tt
 failed_with (Err other) fault P is refused = subst P (sym is) refused
 

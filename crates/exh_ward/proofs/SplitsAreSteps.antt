@@ -74,7 +74,7 @@ module _ {K : Type 0} {w : WardState K} {at : ℕ} {halves : Halves} (is : IsHal
   pub right_is : (page : Page) → page ≡ Live (halves.prefix ++ true ∷ []) halves.link halves.right → page ≡ right_page
   right_is page made = made ∙ ap (Live (halves.prefix ++ true ∷ []) halves.link) is.right
 
-  apart : (right : ℕ) → IsForwardOf w.pages low right → at ≡ right → ⊥
+  pub apart : (right : ℕ) → IsForwardOf w.pages low right → at ≡ right → ⊥
   apart right forward same =
       let both : Some (Live halves.prefix halves.link is.records) ≡ Some (Forward low forward.0) = sym is.there ∙ ap (slice_get w.pages) same ∙ forward.1 in
       cc
@@ -198,3 +198,10 @@ module _ {K : Type 0} {w : WardState K} {at : ℕ} {halves : Halves} (is : IsHal
             places = split_changed.places;
             others = refl;
           })
+
+-- the step, where the ward and its notice are as they are seen
+pub step_seen : {K : Type 0} {w now : WardState K} → w ≡ now → (at : ℕ) (notice made : Notice) → made ≡ notice → (after : WardState K) → IsSplitStep w at notice after → IsSplitStep now at made after
+step_seen {K = K} {now = now} seen at notice made same after step =
+    let P : WardState K → Type 0 = λ old. IsSplitStep old at notice after in
+    let Q : Notice → Type 0 = λ notice. IsSplitStep now at notice after in
+    subst Q (sym same) (subst P seen step)

@@ -1,10 +1,8 @@
-ghost use Rattle.std.specs.Prelude.{◌≡◌, ◌≢◌, ◌+◌, ◌<◌, ℕ, [], ◌∷◌, ◌++◌, length, slice_set, vec_len, vec_capacity, IfOk, IfErr, OnOk, OnErr};
+ghost use Rattle.std.specs.Prelude.{◌≡◌, ◌≢◌, ◌+◌, ◌<◌, length, slice_set, vec_len, vec_capacity, IfOk, IfErr, OnOk, OnErr};
 ghost use Rattle.std.specs.FinMap as map;
 ghost use Rattle.exh_table.specs.Table.{entry_after, number_of, raised};
-ghost use Rattle.exh_page.specs.declared.page.Page.{Page};
-ghost use Rattle.exh_page.specs.Page.{IsWellFormed, low_bound};
+ghost use Rattle.exh_page.specs.Page.{IsWellFormed};
 ghost use Rattle.exh_legal.specs.Numbers.{index_of, next_notice};
-ghost use Rattle.exh_legal.specs.Pages.{IsAt};
 ghost use Rattle.exh_ward.specs.Told.{IsChangedTo, IsTold};
 ghost use Rattle.exh_ward.specs.WardFault.{CountsFailures, IsTakingFault, IsTellingFault};
 ghost use Rattle.exh_ward.specs.WardState.{IsSoundWard, IsUnchanged};
@@ -13,7 +11,7 @@ use super::Ward;
 use crate::WardFault;
 use exh_frames::Pages;
 use exh_keyer::Keyer;
-use exh_legal::{PageIndex, pages_are_few};
+use exh_legal::PageIndex;
 use exh_notice::{Entry, Kind, Notice};
 use exh_page::Page;
 use exh_prefix::{PageNo, Prefix};
@@ -21,7 +19,7 @@ use exh_table::Table;
 
 impl<P: Pages + Drop, K: Keyer> Ward<P, K> {
     // The index of the next notice.
-    fn next_index(&self) -> u64
+    pub(super) fn next_index(&self) -> u64
         ensures { result ≡ index_of self.now.table + 1 }
     {
         self.told + self.notices.len() as u64 + 1
@@ -60,49 +58,6 @@ impl<P: Pages + Drop, K: Keyer> Ward<P, K> {
         self.notices.push_reserved(*notice);
         Ok(*notice)
     }
-
-    /// Adds a page and changes one, and tells of it at a prefix. What comes of the pages is legal.
-    pub(super) fn grow(
-        &mut self,
-        new: Page,
-        number: PageNo,
-        page: Page,
-        prefix: Prefix,
-        kind: Kind,
-    ) -> Result<Notice, WardFault>
-        requires there { number < length self.old.pages }
-        requires formed { IsWellFormed (K.pseudokey_of self.old.keyer) page }
-        requires new_formed { IsWellFormed (K.pseudokey_of self.old.keyer) new }
-        requires alone { (other : ℕ) (twin : Page) → IsAt self.old.pages other twin → low_bound twin ≢ low_bound new }
-        requires changed { IsChangedTo (K.pseudokey_of self.old.keyer) self.old (next_notice self.old.number self.old.table prefix kind) (slice_set self.old.pages number page ++ new ∷ []) }
-        ensures notice { IfOk result (λ notice. notice ≡ next_notice self.old.number self.old.table prefix kind) }
-        ensures ok { OnOk result (IsTold self.old (next_notice self.old.number self.old.table prefix kind) (slice_set self.old.pages number page ++ new ∷ []) self.new) }
-        ensures err { OnErr result (IsUnchanged self.old self.new) }
-        ensures fault { IfErr result (IsTellingFault self.old prefix) }
-        ensures failures { CountsFailures result self.old.failures self.new.failures }
-        ensures sound { IsSoundWard K.pseudokey_of self.new }
-    {
-        pages_are_few();
-        let index = self.next_index();
-        let low = new.low();
-        let count = self.store.count();
-        let stood = take_with_page(
-            &mut self.notices,
-            &mut self.table,
-            &mut self.index,
-            (prefix, kind),
-            low,
-            count,
-        )?;
-        if let Err(fault) = self.store.grow_and_set(new, number, page) {
-            self.table.put_back(prefix, stood);
-            self.index.remove(low);
-            return Err(fault.into());
-        }
-        let notice = &notice_after(stood, self.number, index, prefix, kind);
-        self.notices.push_reserved(*notice);
-        Ok(*notice)
-    }
 }
 
 // Has the table take the entry of the next change at a prefix, and room for its notice among the
@@ -130,36 +85,42 @@ fn take(
     }
 }
 
-// The same for a change with a new page, whose number then is in the index.
-fn take_with_page(
+// The same for a change at a low bound that was put into the index: where it is refused, that is taken
+// out again.
+pub(super) fn take_or_forget(
     notices: &mut Vec<Notice>,
     table: &mut Table,
     index: &mut PageIndex,
-    change: (Prefix, Kind),
-    low: u64,
-    number: PageNo,
+    change: (Prefix, Kind, u64),
 ) -> Result<Option<Entry>, WardFault>
     ensures items { notices.new.items ≡ notices.old.items }
     ensures room { OnOk result (vec_len notices.new < vec_capacity notices.new) }
     ensures stood { IfOk result (λ stood. stood ≡ map.get table.old change.0) }
     ensures more { OnOk result (number_of (map.get table.old change.0) ≢ u32.MAX) }
     ensures ok { OnOk result (table.new ≡ raised table.old change.0 (entry_after (map.get table.old change.0) change.1)) }
-    ensures indexed { OnOk result (index.new ≡ map.insert index.old low number) }
+    ensures index_ok { OnOk result (index.new ≡ index.old) }
     ensures err { OnErr result (table.new ≡ table.old) }
-    ensures index_err { OnErr result (index.new ≡ index.old) }
+    ensures index_err { OnErr result (index.new ≡ map.remove index.old change.2) }
     ensures fault { IfErr result (IsTakingFault table.old change.0) }
 {
-    let (prefix, kind) = change;
-    let stood = take(notices, table, prefix, kind)?;
-    if let Err(error) = index.insert(low, number) {
-        table.put_back(prefix, stood);
-        return Err(error.into());
+    let (prefix, kind, low) = change;
+    match take(notices, table, prefix, kind) {
+        Ok(stood) => Ok(stood),
+        Err(fault) => {
+            index.remove(low);
+            Err(fault)
+        }
     }
-    Ok(stood)
 }
 
 // The notice of the change after what stood at a prefix, whose number isn't the greatest.
-fn notice_after(stood: Option<Entry>, ward: u8, index: u64, prefix: Prefix, kind: Kind) -> Notice
+pub(super) fn notice_after(
+    stood: Option<Entry>,
+    ward: u8,
+    index: u64,
+    prefix: Prefix,
+    kind: Kind,
+) -> Notice
     requires { number_of stood ≢ u32.MAX }
     ensures { result ≡ record { ward = ward; index = index; prefix = prefix; number = number_of stood + 1; kind = kind } }
 {

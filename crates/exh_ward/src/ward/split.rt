@@ -1,24 +1,22 @@
-ghost use Rattle.std.specs.Prelude.{◌≡◌, ◌≢◌, ◌<◌, ℕ, [], ◌∷◌, ◌++◌, true, length, IfOk, IfErr, OnErr, MatchOption, None};
-ghost use Rattle.exh_prefix.specs.Prefix.{low_of};
+ghost use Rattle.std.specs.Prelude.{◌≡◌, ◌<◌, ◌++◌, ◌∷◌, [], length, true, false, Some, IfOk, IfErr, OnErr};
 ghost use Rattle.exh_prefix.specs.declared.prefix.TheConstants.{LIMIT};
 ghost use Rattle.exh_page.specs.declared.page.Page.{Page};
-ghost use Rattle.exh_page.specs.Page.{low_bound};
+ghost use Rattle.exh_page.specs.declared.page.Page.TheVariants.{Live};
 ghost use Rattle.exh_halves.specs.Halves.{AreHalvesOf};
-ghost use Rattle.exh_legal.specs.Change.{IsForwardOf};
-ghost use Rattle.exh_legal.specs.Growth.{IsLiveAt};
-ghost use Rattle.exh_legal.specs.Numbers.{next_notice};
 ghost use Rattle.exh_legal.specs.Pages.{IsAt};
 ghost use Rattle.exh_ward.specs.SplitStep.{IsSplitStep};
-ghost use Rattle.exh_ward.specs.WardFault.{SplitRefused, CountsFailures};
+ghost use Rattle.exh_ward.specs.WardFault.{SplitRefused, IsStoreFault, CountsFailures};
 ghost use Rattle.exh_ward.specs.WardState.{IsSoundWard, IsUnchanged};
 
 use super::Ward;
+use super::change::{notice_after, take_or_forget};
 use crate::WardFault;
 use exh_frames::Pages;
 use exh_halves::Halves;
 use exh_keyer::Keyer;
 use exh_legal::{live_pages_split, pages_are_few, splits_keep_legal};
 use exh_notice::{Kind, Notice};
+use exh_page::{Page, Records};
 use exh_prefix::{PageNo, Prefix};
 
 impl<P: Pages + Drop, K: Keyer> Ward<P, K> {
@@ -35,22 +33,8 @@ impl<P: Pages + Drop, K: Keyer> Ward<P, K> {
         ensures failures { CountsFailures result self.old.failures self.new.failures }
         ensures sound { IsSoundWard K.pseudokey_of self.new }
     {
-        splits_keep_legal();
-        live_pages_split();
-        pages_are_few();
         let halves = self.halves(page)?;
-        let prefix = halves.prefix;
-        match self.forward_of(prefix) {
-            Some(right) => {
-                let (left, right_page) = halves.into_pages(right);
-                self.change_two(page, left, right, right_page, prefix, Kind::Split { right })
-            }
-            None => {
-                let right = self.store.count();
-                let (left, right_page) = halves.into_pages(right);
-                self.grow(right_page, page, left, prefix, Kind::Split { right })
-            }
-        }
+        self.place(page, halves)
     }
 
     // What a split makes of a page.
@@ -69,13 +53,69 @@ impl<P: Pages + Drop, K: Keyer> Ward<P, K> {
         Ok(Halves::of(self.store.fetched(page), self.cap)?)
     }
 
-    // The forwarding page of the right child's low bound; where there is none, no page has it.
-    fn forward_of(&self, prefix: Prefix) -> Option<PageNo>
-        requires live { (number : ℕ) × IsLiveAt self.now.pages prefix number }
-        requires short { length prefix < LIMIT }
-        ensures { MatchOption result ((number : ℕ) (page : Page) → IsAt self.now.pages number page → low_bound page ≢ low_of (prefix ++ true ∷ [])) (λ right. IsForwardOf self.now.pages (low_of (prefix ++ true ∷ [])) right) }
+    // Puts the halves of a page in its place and at the right child's low bound, which is looked up once,
+    // and tells of it.
+    fn place(&mut self, page: PageNo, halves: Halves) -> Result<Notice, WardFault>
+        requires { (old : Page) × IsAt self.old.pages page old × AreHalvesOf self.old.cap old halves }
+        ensures ok { IfOk result (λ notice. IsSplitStep self.old page notice self.new) }
+        ensures err { OnErr result (IsUnchanged self.old self.new) }
+        ensures fault { IfErr result IsStoreFault }
+        ensures failures { CountsFailures result self.old.failures self.new.failures }
+        ensures sound { IsSoundWard K.pseudokey_of self.new }
     {
+        splits_keep_legal();
         live_pages_split();
-        self.index.get(prefix.child(true).unwrap().low())
+        pages_are_few();
+        let Halves {
+            prefix,
+            link,
+            left,
+            right,
+        } = halves;
+        let low = prefix.child(true).unwrap().low();
+        let index = self.next_index();
+        let count = self.store.count();
+        if let Some(at) = self.index.get_or_insert(low, count)? {
+            let kind = Kind::Split { right: at };
+            let (left, twin) = pages_of(prefix, link, left, right, at);
+            return self.change_two(page, left, at, twin, prefix, kind);
+        }
+        let kind = Kind::Split { right: count };
+        let (left, twin) = pages_of(prefix, link, left, right, count);
+        let stood = take_or_forget(
+            &mut self.notices,
+            &mut self.table,
+            &mut self.index,
+            (prefix, kind, low),
+        )?;
+        if let Err(fault) = self.store.grow_and_set(twin, page, left) {
+            self.table.put_back(prefix, stood);
+            self.index.remove(low);
+            return Err(fault.into());
+        }
+        let notice = &notice_after(stood, self.number, index, prefix, kind);
+        self.notices.push_reserved(*notice);
+        Ok(*notice)
     }
+}
+
+// The pages of halves, the right one being of number `number`.
+fn pages_of(
+    prefix: Prefix,
+    link: Option<PageNo>,
+    left: Records,
+    right: Records,
+    number: PageNo,
+) -> (Page, Page)
+    requires { length prefix < LIMIT }
+    ensures left { result.0 ≡ Live (prefix ++ false ∷ []) (Some number) left }
+    ensures right { result.1 ≡ Live (prefix ++ true ∷ []) link right }
+{
+    let halves = Halves {
+        prefix,
+        link,
+        left,
+        right,
+    };
+    halves.into_pages(number)
 }
