@@ -65,7 +65,7 @@ returns-in-Ok-clause-reader g c =
 pub returns-in-Err-TooLong-clause-reader : goal.returns-in-Err-TooLong-clause-reader
 returns-in-Err-TooLong-clause-reader g c =
     let lost = c.in-Err-TooLong.ensures.too_long (ap Err c.in-Err-TooLong.field-0-is) in
-    printed_read (load_of (beginning c.args.from) c.args.limit) (Takes g.W.Write.contents c.args.output.now c.refuse.new.output) _ _ (reader_failed c.read_whole.new.self) (search rules) (text_long (beginning c.args.from) c.args.limit _ lost.0 lost.1 (LosesLonger-had _ _ _ lost)) c.refuse.result c.refuse.ensures.text
+    printed_read (load_of (beginning c.args.from) c.args.limit) (Takes g.W.Write.contents c.args.output.now c.refuse.new.output) _ _ (reader_failed c.read_whole.new.self) (search (rules, c.in-Err-TooLong.ensures.failed, c.in-Err-TooLong.field-0-is)) (text_long (beginning c.args.from) c.args.limit _ lost.0 lost.1 (LosesLonger-had _ _ _ lost)) c.refuse.result c.refuse.ensures.text
 
 pub returns-in-Err-Read-clause-reader : goal.returns-in-Err-Read-clause-reader
 returns-in-Err-Read-clause-reader g c =

@@ -1,4 +1,5 @@
 use Rattle.std.proofs.Common.{Err, ap, arith, rules}
+use Rattle.std.proofs.lemmas.Bool.{false_from_ne_true}
 use Rattle.exh_stream.specs.Output.{Takes, TakesBeginning}
 use Rattle.exh_stream.specs.OutputLemmas.{Takes-none, TakesBeginning-none}
 use Rattle.exh_stream.specs.Source.{reader_failed}
@@ -27,16 +28,16 @@ returns-in-Ok-clause-front g c =
 pub returns-in-Err-TooLong-clause-text : goal.returns-in-Err-TooLong-clause-text
 returns-in-Err-TooLong-clause-text g c =
     let lost = c.in-Err-TooLong.ensures.too_long (ap Err c.in-Err-TooLong.field-0-is) in
-    long_ok (beginning c.args.from) (Takes g.W.Write.contents c.args.output.now c.refuse.new.output) _ (reader_failed c.read_whole.new.self) (search rules) lost.0 lost.1 (LosesLonger-had _ _ _ lost) c.refuse.result c.refuse.ensures.text c.refuse.ensures.left
+    long_ok (beginning c.args.from) (Takes g.W.Write.contents c.args.output.now c.refuse.new.output) _ (reader_failed c.read_whole.new.self) (search (rules, c.in-Err-TooLong.ensures.failed, c.in-Err-TooLong.field-0-is)) lost.0 lost.1 (LosesLonger-had _ _ _ lost) c.refuse.result c.refuse.ensures.text c.refuse.ensures.left
 
 pub returns-in-Err-TooLong-clause-err : goal.returns-in-Err-TooLong-clause-err
 returns-in-Err-TooLong-clause-err g c =
     let lost = c.in-Err-TooLong.ensures.too_long (ap Err c.in-Err-TooLong.field-0-is) in
-    long_err (beginning c.args.from) (TakesBeginning g.W.Write.contents c.args.output.now c.refuse.new.output) _ (reader_failed c.read_whole.new.self) (search rules) lost.0 lost.1 (LosesLonger-had _ _ _ lost) c.refuse.result _ c.refuse.ensures.err
+    long_err (beginning c.args.from) (TakesBeginning g.W.Write.contents c.args.output.now c.refuse.new.output) _ (reader_failed c.read_whole.new.self) (search (rules, c.in-Err-TooLong.ensures.failed, c.in-Err-TooLong.field-0-is)) lost.0 lost.1 (LosesLonger-had _ _ _ lost) c.refuse.result _ c.refuse.ensures.err
 
 pub returns-in-Err-TooLong-clause-front : goal.returns-in-Err-TooLong-clause-front
 returns-in-Err-TooLong-clause-front g c =
-    IfCut-map c.refuse.result (none_front (beginning c.args.from) (Takes g.W.Write.contents c.args.output.now c.refuse.new.output) _ (reader_failed c.read_whole.new.self) (search rules) _) c.refuse.ensures.front
+    IfCut-map c.refuse.result (none_front (beginning c.args.from) (Takes g.W.Write.contents c.args.output.now c.refuse.new.output) _ (reader_failed c.read_whole.new.self) (search (rules, c.in-Err-TooLong.ensures.failed, c.in-Err-TooLong.field-0-is)) _) c.refuse.ensures.front
 
 pub returns-in-Err-Read-clause-text : goal.returns-in-Err-Read-clause-text
 unfolding unread_text
@@ -50,8 +51,8 @@ returns-in-Err-Read-clause-err g c =
 
 pub returns-clause-front : goal.returns-clause-front
 returns-clause-front g c = λ _.
-    none_front (beginning c.args.from) (Takes g.W.Write.contents c.args.output.now c.args.output.now) _ (reader_failed c.read_whole.new.self) (search rules) _ (Takes-none g.W.Write.contents c.args.output.now)
+    none_front (beginning c.args.from) (Takes g.W.Write.contents c.args.output.now c.args.output.now) _ (reader_failed c.read_whole.new.self) (false_from_ne_true _ (λ failed. search (rules, c.in-Err-Memory.ensures.failed.1 failed, c.in-Err-Memory.field-0-is))) _ (Takes-none g.W.Write.contents c.args.output.now)
 
 pub returns-clause-err : goal.returns-clause-err
 returns-clause-err g c =
-    none_text (beginning c.args.from) (TakesBeginning g.W.Write.contents c.args.output.now c.args.output.now) _ (reader_failed c.read_whole.new.self) (search rules) (Err Memory) _ (TakesBeginning-none g.W.Write.contents c.args.output.now)
+    none_text (beginning c.args.from) (TakesBeginning g.W.Write.contents c.args.output.now c.args.output.now) _ (reader_failed c.read_whole.new.self) (false_from_ne_true _ (λ failed. search (rules, c.in-Err-Memory.ensures.failed.1 failed, c.in-Err-Memory.field-0-is))) (Err Memory) _ (TakesBeginning-none g.W.Write.contents c.args.output.now)
