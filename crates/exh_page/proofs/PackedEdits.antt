@@ -2,7 +2,7 @@
 use Rattle.std.proofs.Common.{◌≡◌, ℕ, ◌+◌, ◌<◌, ◌≤◌, List, [], ◌∷◌, ◌++◌, suc, length, take, drop, map, get_or, set, insert, remove, append_assoc, length-append, length-drop, refl, sym, ap, ◌∙◌, subst, arith}
 use Rattle.std.specs.List.{All, AllByRecursion, flat_map}
 use Rattle.std.proofs.lemmas.Grind.{flat_map-append}
-use Rattle.std.proofs.lemmas.List.{append-nil, map-append, take_at, drop_at, take-take, take-append-le, drop-append-le, length-take-le, length-map, take-map, drop-map, set_split}
+use Rattle.std.proofs.lemmas.List.{append-nil, map-append, take_at, drop_at, drop-drop, take-append-drop, take-take, take-append-le, drop-append-le, length-take-le, length-map, take-map, drop-map, set_split}
 use Rattle.std.proofs.lemmas.List.Edits.{length-paste, paste-paste, paste_all}
 use Rattle.std.proofs.lemmas.List.Elements.{All-from_recursion, recursion_from_All, All-append, All-take, All-drop}
 use Rattle.std.proofs.lemmas.Slice.{put_mid-paste}
@@ -23,6 +23,13 @@ moved old pad end moved_to back reach =
     append_assoc (take moved_to (old ++ pad)) _ _
     ∙ ap (λ bytes. take moved_to (old ++ pad) ++ (bytes ++ drop (moved_to + back) (old ++ pad)))
     (ap (take back) (drop-append-le end old pad (omega arith)) ∙ take_at (drop end old) pad back (omega (arith, length-drop end old)))
+
+-- bytes that are put where they stand
+pub paste_same : (bytes : List ℕ) (at n : ℕ) → paste bytes at (drop at bytes) n ≡ bytes
+paste_same bytes at n =
+    append_assoc (take at bytes) _ _
+    ∙ ap (λ rest. take at bytes ++ (take n (drop at bytes) ++ rest)) (sym (drop-drop n at bytes))
+    ∙ ap (λ rest. take at bytes ++ rest) (take-append-drop n (drop at bytes)) ∙ take-append-drop at bytes
 
 -- a write within a slice keeps its length
 pub length-put_mid : (bytes written : List ℕ) (start len : ℕ) → length written ≡ len → start + len ≤ length bytes → length (put_mid start len bytes written) ≡ length bytes

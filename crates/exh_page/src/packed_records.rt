@@ -1,5 +1,5 @@
-ghost use Rattle.std.specs.Prelude.{◌≡◌, ℕ, ◌+◌, ◌-◌, ◌<◌, ◌≤◌, [], ◌++◌, length, take, drop, insert, remove, set, slice_get, ◌↔◌, IsTrue, IsOk, IfOk, IfErr, IfSome, OnOk, OnErr};
-ghost use Rattle.std.specs.List.{flat_map};
+ghost use Rattle.std.specs.Prelude.{◌≡◌, ℕ, ◌+◌, ◌-◌, ◌<◌, ◌≤◌, [], ◌++◌, length, take, drop, insert, remove, set, slice_get, vec_len, ◌↔◌, IsTrue, IsOk, IfOk, IfErr, IfSome, OnOk, OnErr};
+ghost use Rattle.std.specs.List.{copy_within, flat_map};
 ghost use Rattle.exh_prefix.specs.declared.prefix.TheConstants.{LIMIT};
 ghost use Rattle.exh_page.specs.declared.key.TheConstants.{KEY_LIMIT};
 ghost use Rattle.exh_page.specs.declared.value.TheConstants.{VALUE_LIMIT};
@@ -329,11 +329,26 @@ fn put_text(
     if new_end > end {
         texts.resize(old_len + (new_end - end), 0)?;
     }
-    texts.copy_within(end..old_len, new_end);
+    move_tail(texts, end, old_len, new_end);
     texts[start..middle].copy_from_slice(key);
     texts[middle..new_end].copy_from_slice(value);
     texts.truncate(new_end + (old_len - end));
     Ok(())
+}
+
+// Moves the bytes from `start` to `end` to another place. Most texts are as long as those that they stand in place of,
+// and then nothing is to be moved: std's loop would move each byte to where it is.
+fn move_tail(texts: &mut Vec<u8>, start: usize, end: usize, to: usize)
+    requires order { start ≤ end }
+    requires within { end ≤ length texts.old.items }
+    requires room { to + (end - start) ≤ length texts.old.items }
+    ensures items { texts.new.items ≡ copy_within texts.old.items start end to }
+    ensures len { vec_len texts.new ≡ vec_len texts.old }
+{
+    if to == start {
+        return;
+    }
+    texts.copy_within(start..end, to);
 }
 
 // Takes out the bytes from `start` to `end`.

@@ -26,19 +26,19 @@ put c pad held_is room =
     let lent_next : List ℕ = c.deref_mut-2.result.now in
     let with_key : List ℕ = put_mid start (middle - start) lent c.copy_from_slice.new.self in
     let with_value : List ℕ = put_mid middle (new_end - middle) lent_next c.copy_from_slice-2.new.self in
-    let moved : c.copy_within.new.self.items ≡ paste (old ++ pad) new_end (drop end (old ++ pad)) back =
-    c.copy_within.ensures.items ∙ ap (λ bytes. paste bytes new_end (drop end bytes) back) held_is in
-    let long : length c.copy_within.new.self.items ≡ length (old ++ pad) =
+    let moved : c.move_tail.new.texts.items ≡ paste (old ++ pad) new_end (drop end (old ++ pad)) back =
+    c.move_tail.ensures.items ∙ ap (λ bytes. paste bytes new_end (drop end bytes) back) held_is in
+    let long : length c.move_tail.new.texts.items ≡ length (old ++ pad) =
     ap length moved ∙ length-paste (old ++ pad) new_end (drop end (old ++ pad)) back room (omega (arith, length-drop end (old ++ pad), length-append old pad)) in
-    let key_long : length with_key ≡ length c.copy_within.new.self.items =
+    let key_long : length with_key ≡ length c.move_tail.new.texts.items =
     length-put_mid lent c.copy_from_slice.new.self start (middle - start) (omega (arith, ap length c.copy_from_slice.ensures.after)) (omega (arith, ap length c.deref_mut.ensures.value))
     ∙ ap length c.deref_mut.ensures.value in
-    let key_put : lent_next ≡ with_key = c.deref_mut-2.ensures.value ∙ with_items_is c.copy_within.new.self with_key (omega arith) in
-    let value_long : length with_value ≡ length c.copy_within.new.self.items =
+    let key_put : lent_next ≡ with_key = c.deref_mut-2.ensures.value ∙ with_items_is c.move_tail.new.texts with_key (omega arith) in
+    let value_long : length with_value ≡ length c.move_tail.new.texts.items =
     length-put_mid lent_next c.copy_from_slice-2.new.self middle (new_end - middle) (omega (arith, ap length c.copy_from_slice-2.ensures.after)) (omega (arith, ap length key_put))
     ∙ ap length key_put ∙ key_long in
     let both_put : c.truncate.new.self.items ≡ take (new_end + back) with_value =
-    c.truncate.ensures.items ∙ ap (take (new_end + back)) (with_items_is (with_items c.copy_within.new.self with_key) with_value (omega arith)) in
+    c.truncate.ensures.items ∙ ap (take (new_end + back)) (with_items_is (with_items c.move_tail.new.texts with_key) with_value (omega arith)) in
     let key_is : lent_next ≡ put_mid start (middle - start) (paste (old ++ pad) new_end (drop end (old ++ pad)) back) key =
     key_put ∙ ap (λ bytes. put_mid start (middle - start) bytes c.copy_from_slice.new.self) (c.deref_mut.ensures.value ∙ moved)
     ∙ ap (put_mid start (middle - start) (paste (old ++ pad) new_end (drop end (old ++ pad)) back)) c.copy_from_slice.ensures.after in
