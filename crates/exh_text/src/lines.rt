@@ -1,23 +1,27 @@
-ghost use Rattle.std.specs.Prelude.{◌≡◌};
+ghost use Rattle.std.specs.Prelude.{◌≡◌, ◌∷◌};
 ghost use Rattle.std.specs.Iterator.{YieldsFirstRef, item_count};
-ghost use Rattle.exh_text.specs.Lines.{lines_of, without_empty, words_of};
+ghost use Rattle.std.specs.Option.{option_copied};
+ghost use Rattle.memchr.specs.Find.{IsFirstByte, is_byte};
+ghost use Rattle.exh_text.specs.Lines.{lines_of, newline, parts_at, parts_left, without_empty, words_of};
 
 use crate::Parts;
+use memchr::memchr;
 use std::marker::Model;
 
 /// The lines of a text, from the first on. Empty ones are skipped.
 #[derive(Drop)]
 pub struct Lines<'a> {
-    parts: Parts<'a>,
+    rest: Option<&'a [u8]>,
 }
 
 impl<'a> Model for Lines<'a> {
     ghost use Rattle.std.specs.Prelude.{ℕ, List};
-    ghost use Rattle.exh_text.specs.Lines.{without_empty};
+    ghost use Rattle.std.specs.Option.{option_copied};
+    ghost use Rattle.exh_text.specs.Lines.{newline, parts_left, without_empty};
 
     ghost Value = { List (List ℕ) };
 
-    ghost view = { λ lines. without_empty lines.parts };
+    ghost view = { λ lines. without_empty (parts_left newline (option_copied lines.rest)) };
 }
 
 impl<'a> Lines<'a> {
@@ -26,9 +30,7 @@ impl<'a> Lines<'a> {
     pub fn new(text: &'a [u8]) -> Self
         ensures { result ≡ lines_of text.now }
     {
-        Lines {
-            parts: Parts::new(b'\n', text),
-        }
+        Lines { rest: Some(text) }
     }
 }
 
@@ -40,13 +42,34 @@ impl<'a> Iterator for Lines<'a> {
     ghost remaining = { item_count (λ lines. lines) };
 
     fn next(&mut self) -> Option<&'a [u8]> {
-        while let Some(line) = self.parts.next() {
+        while let Some(rest) = self.rest {
+            let (line, after) = first_line(rest);
+            self.rest = after;
             if !line.is_empty() {
                 return Some(line);
             }
         }
         None
     }
+}
+
+// What stands before the first newline, and what stands after it.
+fn first_line(bytes: &[u8]) -> (&[u8], Option<&[u8]>)
+    ensures { parts_at newline bytes.now ≡ result.0.now ∷ parts_left newline (option_copied result.1) }
+{
+    match newline_in(bytes) {
+        Some(end) => (&bytes[..end], Some(&bytes[end + 1..])),
+        None => (bytes, None),
+    }
+}
+
+// Where the first newline stands. A line is cut from all that is left of a text, so many bytes are looked at at once.
+// It is kept apart: the search is long, and would keep what reads lines from being one piece of code.
+#[inline(never)]
+fn newline_in(bytes: &[u8]) -> Option<usize>
+    ensures { IsFirstByte (is_byte newline) bytes.now result }
+{
+    memchr(b'\n', bytes)
 }
 
 /// The words of a line, which single spaces part. `None` where a word would be empty.

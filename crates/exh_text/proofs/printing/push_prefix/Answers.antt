@@ -1,6 +1,6 @@
-use Rattle.std.proofs.Common.{◌≡◌, ℕ, ◌+◌, ◌-◌, ◌/◌, ◌%◌, ◌^◌, ◌<◌, List, [], ◌∷◌, ◌++◌, map, take, append_assoc, sym, ap, ◌∙◌, arith}
+use Rattle.std.proofs.Common.{◌≡◌, ℕ, ◌+◌, ◌-◌, ◌/◌, ◌%◌, ◌^◌, [], ◌∷◌, ◌++◌, append_assoc, sym, ap, ◌∙◌, arith}
 use Rattle.std.proofs.lemmas.Grind.{common_steps}
-use Rattle.exh_prefix.specs.Prefix.{bit_digit, low_of}
+use Rattle.exh_prefix.specs.Prefix.{low_of}
 use Rattle.exh_text.specs.TextLemmas.{keeps_added, keeps_more}
 use Rattle.exh_text.proofs.Digits.{digit_more}
 use Rattle.exh_text.proofs.printing.push_prefix.Goals as goal

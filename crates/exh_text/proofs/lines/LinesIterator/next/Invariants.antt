@@ -1,10 +1,11 @@
 use Rattle.std.proofs.Common.{◌≡◌, length}
-use Rattle.exh_text.specs.Lines.{without_empty}
+use Rattle.std.specs.Option.{option_copied}
+use Rattle.exh_text.specs.Lines.{newline, parts_left, without_empty}
 use Rattle.exh_text.proofs.lines.LinesIterator.next.Given as goal
 
 -- only empty parts went by
-abbrev pub invariant-loop-line : goal.invariant-loop-line
-invariant-loop-line l = without_empty l.self-inside.parts ≡ without_empty l.initial.self-inside.parts
+abbrev pub invariant-loop-self : goal.invariant-loop-self
+invariant-loop-self l = without_empty (parts_left newline (option_copied l.self-inside.rest)) ≡ without_empty (parts_left newline (option_copied l.initial.self-inside.rest))
 
-abbrev pub decreases-loop-line : goal.decreases-loop-line
-decreases-loop-line l = length l.self-inside.parts
+abbrev pub decreases-loop-self : goal.decreases-loop-self
+decreases-loop-self l = length (parts_left newline (option_copied l.self-inside.rest))
