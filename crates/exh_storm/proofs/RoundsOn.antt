@@ -1,9 +1,9 @@
--- One round more of a keeper, and why a caller is refused.
-use Rattle.std.proofs.Common.{◌≡◌, ℕ, ◌+◌, ◌≤◌, Bool, true, List, ◌∷◌, [], ◌++◌, Result, Ok, Err, IfErr, refl, subst, arith}
+-- One round more of a keeper or a courier, and why a caller is refused.
+use Rattle.std.proofs.Common.{◌≡◌, ℕ, suc, ◌+◌, ◌≤◌, Bool, true, List, ◌∷◌, [], ◌++◌, Result, Ok, Err, IfErr, refl, subst, arith}
 use Rattle.std.specs.Prelude.{IsErr, IsErrAnd}
 use Rattle.exh_table.specs.Table.{TableMap}
 use Rattle.exh_calls.specs.declared.call.Call.{Call}
-use Rattle.exh_copy.specs.Additions.{Held as HeldByCopy}
+use Rattle.exh_copy.specs.Additions.{Additions, Held as HeldByCopy}
 use Rattle.exh_walk.specs.Walk.{ask_fault_number}
 use Rattle.exh_walk.specs.declared.ask_fault.AskFault.{AskFault}
 use Rattle.exh_live.specs.Locked.{IsAsked, IsFirstPage}
@@ -11,7 +11,7 @@ use Rattle.exh_live.specs.PlaceLemmas.{one_more}
 use Rattle.exh_live.specs.Rounds.{IsKeeperRound}
 use Rattle.exh_storm.specs.StormCalls.{storm_call}
 use Rattle.exh_storm.specs.StormFault.{storm_fault_number}
-use Rattle.exh_storm.specs.StormRounds.{AreKeeperRounds, IsCallerFault}
+use Rattle.exh_storm.specs.StormRounds.{AreCourierRounds, AreKeeperRounds, IsCallerFault, IsCourierRound}
 use Rattle.exh_storm.specs.declared.fault.StormFault.{StormFault}
 
 -- a refusal that is handed on as another
@@ -35,3 +35,9 @@ keeper_round_more {K} may pseudokey_of done merges passed so_far says true_is ro
   so_far.0 ++ merges ∷ [],
   one_more (λ place made. may (place + 1) true × IsKeeperRound {K = K} pseudokey_of made) done so_far.0 merges (so_far.0 ++ merges ∷ []) so_far.1 (subst (may (done + 1)) true_is says, round) refl,
 )
+
+pub courier_round_more : (may : ℕ → Bool → Type 0) (done : ℕ) (old between new : Additions) (places at lasts : List ℕ) (passed : Bool) → AreCourierRounds may done old places between at → may (done + 1) passed → passed ≡ true → IsCourierRound between at new lasts
+    → AreCourierRounds may (done + 1) old places new lasts
+courier_round_more may done old between new places at lasts passed so_far says true_is round =
+    let next : suc done ≡ done + 1 = omega arith in
+    subst (λ rounds. AreCourierRounds may rounds old places new lasts) next (between, at, so_far, subst (may (done + 1)) true_is says, round)

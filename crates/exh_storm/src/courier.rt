@@ -43,8 +43,8 @@ impl<R: Wait, S: Start> Courier<'_, R, S> {
         requires limit { ward_bits ≤ WARD_BITS_LIMIT }
         requires bits { ward_bits ≡ file.now.ward_bits }
         ensures number { self.new.number ≡ self.old.number }
-        ensures name { self.new.copy.name ≡ self.old.copy.name }
-        ensures rounds { IfOk result (λ _. (places lasts : List ℕ) × AreFirstPlaces ward_bits map.empty places × AreCourierRounds (G.may gate.now (COURIER_CLIENT + self.old.number)) rounds self.old.copy places self.new.copy lasts) }
+        ensures name { self.new.copy.writer.name ≡ self.old.copy.writer.name }
+        ensures rounds { IfOk result (λ _. (places lasts : List ℕ) × AreFirstPlaces ward_bits map.empty places × AreCourierRounds (G.may gate.now (COURIER_CLIENT + self.old.number)) rounds self.old.copy.writer places self.new.copy.writer lasts) }
         ensures fault { IfErr result (IsCourierFault (G.may gate.now (COURIER_CLIENT + self.old.number)) rounds) }
     {
         let mut cursors = Cursors::new(alloc, ward_bits, &Table::new(alloc))?;

@@ -42,7 +42,7 @@ pub fn new_workers<'a, R: Wait, P: Pages + Drop, F: Identity, S: Start>(
     ensures seats { OnOk result (file.new.seats ≡ config.now.callers) }
     ensures fault { IfErr result IsWorkersFault }
     ensures callers { IfOk result (λ workers. AreFirst (λ place caller. caller.seat.client ≡ place + 1) config.now.callers workers.callers.items) }
-    ensures couriers { IfOk result (λ workers. AreFirst (λ place courier. (courier.number ≡ place + 1) × (courier.copy.published ≡ []) × (courier.copy.pending ≡ [])) config.now.copies workers.couriers.items) }
+    ensures couriers { IfOk result (λ workers. AreFirst (λ place courier. (courier.number ≡ place + 1) × (courier.copy.writer.published ≡ []) × (courier.copy.writer.pending ≡ [])) config.now.copies workers.couriers.items) }
 {
     let mut couriers = Vec::new(alloc);
     let mut readers = Vec::new(alloc);
@@ -76,7 +76,7 @@ fn new_courier<'a, R: Wait, S: Start>(
     requires bits { S.ward_bits ≡ ward_bits }
     requires table { S.table ≡ map.empty }
     ensures fault { IfErr result IsWorkersFault }
-    ensures made { IfOk result (λ made. (made.0.number ≡ number) × (made.0.copy.published ≡ []) × (made.0.copy.pending ≡ [])) }
+    ensures made { IfOk result (λ made. (made.0.number ≡ number) × (made.0.copy.writer.published ≡ []) × (made.0.copy.writer.pending ≡ [])) }
 {
     match new_copy::<S>(alloc, ward_bits, &Table::new(alloc), readers) {
         Ok((writer, readers)) => {

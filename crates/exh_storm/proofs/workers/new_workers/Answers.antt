@@ -10,6 +10,6 @@ loop-at-preserved g c =
     record {
       readers = search rules;
       couriers =
-          one_more (λ place (courier : Made). (courier.number ≡ place + 1) × (courier.copy.published ≡ []) × (courier.copy.pending ≡ [])) c.loop-at.at c.loop-at.couriers.items _ c.push.new.self.items was.couriers c.in_ok-courier.ensures.made
+          one_more (λ place (courier : Made). (courier.number ≡ place + 1) × (courier.copy.writer.published ≡ []) × (courier.copy.writer.pending ≡ [])) c.loop-at.at c.loop-at.couriers.items _ c.push.new.self.items was.couriers c.in_ok-courier.ensures.made
           c.in_ok-push.ensures.items;
     }

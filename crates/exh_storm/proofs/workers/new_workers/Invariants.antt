@@ -6,5 +6,5 @@ use Rattle.exh_storm.proofs.workers.new_workers.Given as goal
 abbrev pub invariant-loop-at : goal.invariant-loop-at
 invariant-loop-at g l = record {
   readers : length l.readers.items ≡ l.at;
-  couriers : AreFirst (λ place courier. (courier.number ≡ place + 1) × (courier.copy.published ≡ []) × (courier.copy.pending ≡ [])) l.at l.couriers.items;
+  couriers : AreFirst (λ place courier. (courier.number ≡ place + 1) × (courier.copy.writer.published ≡ []) × (courier.copy.writer.pending ≡ [])) l.at l.couriers.items;
 }

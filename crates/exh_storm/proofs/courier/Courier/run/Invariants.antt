@@ -7,7 +7,7 @@ use Rattle.exh_storm.proofs.courier.Courier.run.Given as goal
 abbrev pub invariant-loop-done : goal.invariant-loop-done
 invariant-loop-done g l = record {
   places : length l.cursors ≡ 2 ^ l.file.ward_bits;
-  number : l.self-inside.0.0 ≡ l.fn.self.number;
-  name : l.self-inside.0.1.0.writer.name ≡ l.fn.self.copy.name;
-  rounds : AreCourierRounds (g.G.Gate.may l.gate (COURIER_CLIENT + l.fn.self.number)) l.done l.fn.self.copy l.initial.cursors l.self-inside.0.1.0.writer l.cursors;
+  number : l.self.number ≡ l.fn.self.number;
+  name : l.self.copy.writer.name ≡ l.fn.self.copy.writer.name;
+  rounds : AreCourierRounds (g.G.Gate.may l.gate (COURIER_CLIENT + l.fn.self.number)) l.done l.fn.self.copy.writer l.initial.cursors l.self.copy.writer l.cursors;
 }
