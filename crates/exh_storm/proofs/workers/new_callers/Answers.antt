@@ -1,4 +1,4 @@
-use Rattle.std.proofs.Common.{rules, ◌≡◌, ℕ, ◌+◌, ap, ◌∙◌}
+use Rattle.std.proofs.Common.{rules, ◌≡◌, ◌+◌, ap, ◌∙◌}
 use Rattle.exh_live.specs.LiveFile.{SeatState}
 use Rattle.exh_live.specs.PlaceLemmas.{one_more}
 use Rattle.exh_storm.specs.declared.caller.Caller.{Caller}
