@@ -1,8 +1,9 @@
 -- Rounds: why sparse pages aren't merged, and notices that are taken one by one and ward by ward.
-use Rattle.std.proofs.Common.{◌≡◌, ℕ, suc, ◌+◌, ◌-◌, ◌*◌, ◌<◌, ◌≤◌, Bool, true, false, List, [], ◌∷◌, ◌++◌, append-nil, append_assoc, map, length, take, drop, set, get_or, Some, None, Result, Ok, Err, IfOk, inl, inr, refl, sym, ap, ◌∙◌, subst, arith}
+use Rattle.std.proofs.Common.{◌≡◌, ℕ, suc, ◌+◌, ◌-◌, ◌*◌, ◌<◌, ◌≤◌, Bool, true, false, cond, List, [], ◌∷◌, ◌++◌, append-nil, append_assoc, map, length, take, drop, set, get_or, Some, None, Result, Ok, Err, IfOk, inl, inr, refl, sym, ap, ◌∙◌, subst, arith}
 use Rattle.std.proofs.lemmas.Bool.{false≢true}
 use Rattle.std.specs.Prelude.{IsErr, OnErr, OnOk}
 use Rattle.std.specs.declared.alloc.AllocError.{AllocError}
+use Rattle.std.proofs.lemmas.List.Sums.{sum_by-append, sum_by-cons}
 use Rattle.std.proofs.lemmas.List.{length-append, length-map, length-take, length-take-le, length-set, length_push, same_from_push, take_more, take_more_set, take-append-drop, drop_more, drop_all, drop-set-lt, get_or-drop, map-append}
 use Rattle.std.proofs.lemmas.Grind.{drop_more_same}
 use Rattle.std.proofs.lemmas.Option.{slice_get_within}
@@ -18,7 +19,8 @@ use Rattle.exh_ward.specs.WardFault.{CountsFailures, MergeRefused}
 use Rattle.exh_ward.specs.WardState.{WardState, IsUnchanged}
 use Rattle.exh_ward.specs.declared.ward_fault.WardFault.{WardFault}
 use Rattle.exh_ward.specs.declared.ward_fault.WardFault.TheVariants.{NoPage, NotLive, NotFull, AtLimit, NoBuddy, BuddySplit, TooMany, Worn, Memory, Page}
-use Rattle.exh_live.specs.Rounds.{AreCarried, AreFromTo, Follows, IsKeeperTurn, MayRefuseKeeper, NoneFollows, TakesAll, TakesBatch, TakesBetween, TakesFromTo}
+use Rattle.exh_live.specs.PlaceLemmas.{one_more}
+use Rattle.exh_live.specs.Rounds.{AreCarried, AreFromTo, AreKeeperTurns, Follows, IsKeeperTurn, IsSomeKeeperTurn, MayRefuseKeeper, NoneFollows, TakesAll, TakesBatch, TakesBetween, TakesFromTo}
 
 -- ---- keepers
 
@@ -76,6 +78,15 @@ module _ {K : Type 0} {ward now : WardState K} {at : ℕ} where
 
     pub refused_sparse : (fault : WardFault) → now ≡ ward → 2 * sum ≤ ward.cap → MergeRefused now at fault → MayRefuseKeeper fault
     refused_sparse fault same few refused = may_refuse ward at sum is.0 is.1 (omega (arith, few)) fault (subst (λ w. MergeRefused w at fault) same refused)
+
+-- a keeper's turn more
+pub one_turn_more : {K : Type 0} (pseudokey_of : K → List ℕ → ℕ) (page merges now : ℕ) (merged : Bool) → AreKeeperTurns pseudokey_of page merges → IsSomeKeeperTurn {K = K} pseudokey_of page merged → now ≡ merges + cond merged 1 0
+    → AreKeeperTurns pseudokey_of (page + 1) now
+one_turn_more {K} pseudokey_of page merges now merged (turns, are, count) turn is = (
+  turns ++ merged ∷ [],
+  one_more (IsSomeKeeperTurn {K = K} pseudokey_of) page turns merged (turns ++ merged ∷ []) are turn refl,
+  omega (arith, is, count, sum_by-append (λ (m : Bool). cond m 1 0) turns (merged ∷ []), sum_by-cons (λ (m : Bool). cond m 1 0) merged []),
+)
 
 -- ---- couriers
 

@@ -1,5 +1,5 @@
 -- What the rounds of keepers and couriers come to.
-use Rattle.std.specs.Prelude.{◌≡◌, ⊤, ℕ, ◌+◌, ◌*◌, ◌^◌, ◌≤◌, Bool, true, false, ◌&&◌, nat_eq, leb, if◌then◌else◌, List, [], ◌∷◌, ◌++◌, length, slice_get, sum_by, map, Some, Result, OnOk}
+use Rattle.std.specs.Prelude.{◌≡◌, ⊤, ℕ, ◌+◌, ◌*◌, ◌^◌, ◌≤◌, Bool, true, false, ◌&&◌, nat_eq, leb, if◌then◌else◌, List, [], ◌∷◌, ◌++◌, length, slice_get, sum_by, count_by, map, Some, Result, OnOk}
 use Rattle.std.specs.FinMap.{entries}
 use Rattle.std.specs.declared.alloc.AllocError.{AllocError}
 use Rattle.exh_prefix.specs.Leading.{ward_of}
@@ -15,6 +15,7 @@ use Rattle.exh_ward.specs.WardFault.{MergeRefused}
 use Rattle.exh_ward.specs.WardState.{WardState, IsSoundWard, notices_above}
 use Rattle.exh_ward.specs.declared.ward_fault.WardFault.{WardFault}
 use Rattle.exh_ward.specs.declared.ward_fault.WardFault.TheVariants.{Worn, Memory, Page}
+use Rattle.exh_live.specs.PlaceLemmas.{AreFirst}
 
 -- ---- keepers
 
@@ -26,6 +27,22 @@ AreSparse ward at = (sum : ℕ) × HasBuddySum ward at sum × (2 * sum ≤ ward.
 abbrev pub IsKeeperTurn : {K : Type 0} → WardState K → ℕ → Bool → WardState K → Type 0
 IsKeeperTurn old at true new = AreSparse old at × ((notice : Notice) × IsMergeStep old at notice new)
 IsKeeperTurn old at false new = (new ≡ old) × (AreSparse old at → MergeRefused old at Worn)
+
+-- such a turn in some sound ward
+abbrev pub IsSomeKeeperTurn : {K : Type 0} → (K → List ℕ → ℕ) → ℕ → Bool → Type 0
+IsSomeKeeperTurn {K} pseudokey_of at merged = (old new : WardState K) × IsSoundWard pseudokey_of old × IsKeeperTurn old at merged new
+
+-- a turn at each of the first so many pages, in order, by which so many merges were made
+abbrev pub AreKeeperTurns : {K : Type 0} → (K → List ℕ → ℕ) → ℕ → ℕ → Type 0
+AreKeeperTurns {K} pseudokey_of pages merges = (turns : List Bool) × AreFirst (IsSomeKeeperTurn {K = K} pseudokey_of) pages turns × (merges ≡ count_by (λ merged. merged) turns)
+
+-- some sound ward had so many pages
+abbrev pub HadSoManyPages : {K : Type 0} → (K → List ℕ → ℕ) → ℕ → Type 0
+HadSoManyPages {K} pseudokey_of count = (ward : WardState K) × IsSoundWard pseudokey_of ward × (count ≡ length ward.pages)
+
+-- a keeper's round that made so many merges: a turn at each page that there was
+abbrev pub IsKeeperRound : {K : Type 0} → (K → List ℕ → ℕ) → ℕ → Type 0
+IsKeeperRound {K} pseudokey_of merges = (pages : ℕ) × HadSoManyPages {K = K} pseudokey_of pages × AreKeeperTurns {K = K} pseudokey_of pages merges
 
 -- what a merge of sparse pages may be refused for
 abbrev pub MayRefuseKeeper : WardFault → Type 0

@@ -1,5 +1,6 @@
-ghost use Rattle.std.specs.Prelude.{◌^◌, ◌<◌, IfErr};
+ghost use Rattle.std.specs.Prelude.{◌^◌, ◌<◌, IfOk, IfErr};
 ghost use Rattle.exh_ward.specs.WardFault.{IsStoreFault};
+ghost use Rattle.exh_live.specs.Rounds.{IsKeeperRound};
 
 use crate::lock::lock_soon;
 use crate::{Identity, LiveFile};
@@ -17,7 +18,8 @@ impl<P: Pages + Drop, K: Keyer, F: Identity> LiveFile<P, K, F> {
     /// made then stay. It may wait for callers.
     pub fn keeper_round<R: Wait>(&self, rt: &R, ward: u8) -> Result<u32, WardFault>
         requires { ward < 2 ^ self.now.ward_bits }
-        ensures { IfErr result IsStoreFault }
+        ensures round { IfOk result (IsKeeperRound K.pseudokey_of) }
+        ensures fault { IfErr result IsStoreFault }
     {
         let lock = &self.wards[usize::from(ward)];
         let pages = lock_soon(lock, rt).page_count();

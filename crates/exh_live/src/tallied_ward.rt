@@ -130,8 +130,10 @@ impl<P: Pages + Drop, K: Keyer, F: Identity> TalliedWard<P, K, F> {
 
     /// How many pages the ward has.
     pub(crate) fn page_count(&self) -> PageNo
-        ensures { result ≡ length self.now.ward.pages }
+        ensures count { result ≡ length self.now.ward.pages }
+        ensures sound { IsSoundWard K.pseudokey_of self.now.ward }
     {
+        self.ward.journal();
         self.ward.page_count()
     }
 
@@ -139,11 +141,14 @@ impl<P: Pages + Drop, K: Keyer, F: Identity> TalliedWard<P, K, F> {
     /// method that the world's step calls. It answers whether it merged them; not where the number at
     /// their parent is the greatest. No unit is added.
     pub(crate) fn keep(&mut self, page: PageNo) -> Result<bool, WardFault>
+        ensures sound { IsSoundWard K.pseudokey_of self.old.ward }
         ensures kept { IfOk result (λ merged. IsKeeperTurn self.old.ward page merged self.new.ward) }
         ensures err { OnErr result (IsUnchanged self.old.ward self.new.ward) }
         ensures fault { IfErr result IsStoreFault }
         ensures failures { CountsFailures result self.old.ward.failures self.new.ward.failures }
     {
+        // By whose contract the ward is sound.
+        self.ward.journal();
         let Some(sum) = self.ward.buddy_sum(page)? else {
             return Ok(false);
         };

@@ -1,18 +1,19 @@
--- How many answers callers got that each got equally many.
+-- What callers' diaries have that were answered all their calls, and how many answers.
 use Rattle.std.proofs.Common.{◌≡◌, ℕ, ◌+◌, ◌*◌, ◌^◌, ◌<◌, ◌≤◌, List, [], ◌∷◌, length, map, Result, Ok, Err, IfOk, ap, sym, ◌∙◌, subst, arith}
 use Rattle.std.specs.Prelude.{All}
 use Rattle.std.proofs.lemmas.List.{length-map}
-use Rattle.std.proofs.lemmas.List.Elements.{All-head, All-tail}
+use Rattle.std.proofs.lemmas.List.Elements.{All-nil, All-cons, All-head, All-tail, All-weaker}
 use Rattle.std.proofs.lemmas.List.Sums.{sum_by-cons}
 use Rattle.std.proofs.lemmas.Nat.{mul-le}
 use Rattle.exh_settle.specs.Diary.{DiaryState}
 use Rattle.exh_settle.specs.Settled.{answer_count}
 use Rattle.exh_live.specs.Closing.{AreDiariesOf, seat_of}
 use Rattle.exh_live.specs.LiveFile.{SeatState}
+use Rattle.exh_storm.specs.StormCalls.{AreServed, IsServed}
 use Rattle.exh_storm.specs.declared.fault.StormFault.{StormFault}
 
 -- the seat was answered so many calls
-abbrev pub IsAnswered : ℕ → SeatState → Type 0
+abbrev IsAnswered : ℕ → SeatState → Type 0
 IsAnswered calls seat = length seat.entries ≡ calls
 
 sum_answered : (calls : ℕ) (diaries : List DiaryState) → All (IsAnswered calls) (map seat_of diaries) → answer_count diaries ≡ length diaries * calls
@@ -28,8 +29,18 @@ all_answered calls diaries seats are all =
     sum_answered calls diaries (subst (All (IsAnswered calls)) (sym are) all) ∙ ap (λ n. n * calls) (sym (length-map diaries seat_of) ∙ ap length are)
 
 -- where so many callers' seats were answered so many calls each
-pub answered : (callers calls : ℕ) (diaries : List DiaryState) (seats : List SeatState) → AreDiariesOf seats diaries → All (IsAnswered calls) seats → length seats ≡ callers → answer_count diaries ≡ callers * calls
-answered callers calls diaries seats are all count = all_answered calls diaries seats are all ∙ ap (λ n. n * calls) count
+pub answered : (callers calls : ℕ) (diaries : List DiaryState) (seats : List SeatState) → AreDiariesOf seats diaries → All (IsServed calls) seats → length seats ≡ callers → answer_count diaries ≡ callers * calls
+answered callers calls diaries seats are all count = all_answered calls diaries seats are (All-weaker (IsServed calls) (IsAnswered calls) (λ seat served. served.0) seats all) ∙ ap (λ n. n * calls) count
+
+served_out : (calls : ℕ) (diaries : List DiaryState) → All (IsServed calls) (map seat_of diaries) → AreServed calls diaries
+served_out calls [] all = All-nil (λ (diary : DiaryState). IsServed calls (seat_of diary))
+served_out calls (diary ∷ diaries) all =
+    All-cons (λ (d : DiaryState). IsServed calls (seat_of d)) diary diaries (All-head (IsServed calls) (seat_of diary) (map seat_of diaries) all)
+    (served_out calls diaries (All-tail (IsServed calls) (seat_of diary) (map seat_of diaries) all))
+
+-- the diaries have what the seats were answered
+pub served : (calls : ℕ) (diaries : List DiaryState) (seats : List SeatState) → AreDiariesOf seats diaries → All (IsServed calls) seats → AreServed calls diaries
+served calls diaries seats are all = served_out calls diaries (subst (All (IsServed calls)) (sym are) all)
 
 pub few_answered : (callers calls count : ℕ) → callers ≤ 16 → calls ≤ 10000 → count ≡ callers * calls → count < 2 ^ 64
 few_answered callers calls count few short is = omega (arith, mul-le callers calls 16 10000 few short, is)

@@ -1,8 +1,10 @@
 -- The calls of a storm's callers.
-use Rattle.std.specs.Prelude.{◌≡◌, ℕ, ◌+◌, ◌*◌, ◌%◌, ◌==◌, if◌then◌else◌, List, length, slice_get, Some, decimal}
+use Rattle.std.specs.Prelude.{◌≡◌, ℕ, ◌+◌, ◌*◌, ◌%◌, ◌==◌, if◌then◌else◌, List, length, slice_get, Some, decimal, All}
 use Rattle.exh_calls.specs.declared.call.Call.{Call}
 use Rattle.exh_calls.specs.declared.call.Call.TheVariants.{Get, Put, Del}
+use Rattle.exh_settle.specs.Diary.{DiaryState}
 use Rattle.exh_settle.specs.declared.diary_entry.DiaryEntry.{DiaryEntry}
+use Rattle.exh_live.specs.Closing.{seat_of}
 use Rattle.exh_live.specs.LiveFile.{SeatState}
 
 -- the key of a caller's call of this number
@@ -24,3 +26,7 @@ AreStormCalls caller count entries =
 -- the seat of a caller that was answered so many calls, all of them
 abbrev pub IsServed : ℕ → SeatState → Type 0
 IsServed count seat = AreStormCalls seat.client count seat.entries
+
+-- the diaries of callers each of which was so
+abbrev pub AreServed : ℕ → List DiaryState → Type 0
+AreServed count diaries = All (λ diary. IsServed count (seat_of diary)) diaries

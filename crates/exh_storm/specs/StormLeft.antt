@@ -5,11 +5,13 @@ use Rattle.exh_keyer.specs.Pseudokey.{sha_pseudokey}
 use Rattle.exh_settle.specs.Diary.{DiaryState}
 use Rattle.exh_settle.specs.Settled.{IsSettled, answer_count}
 use Rattle.exh_ward.specs.WardState.{WardState}
+use Rattle.exh_storm.specs.StormCalls.{AreServed}
 use Rattle.exh_storm_config.specs.declared.config.StormConfig.{StormConfig}
 
--- the journals of the wards, by number, and the diaries are settled; the diaries have so many answers, which is what the
--- callers were to ask together
+-- the journals of the wards, by number, and the diaries are settled; each diary has its caller's first calls, as many as it was to make, in order; and the
+-- diaries have so many answers, which is what the callers were to ask together
 pub record IsLeft {K : Type 0} (config : StormConfig) (wards : List (WardState K)) (diaries : List DiaryState) (answers : ℕ) : Type 0 where
   pub settled : IsSettled (λ key. ward_of config.ward_bits (sha_pseudokey key)) (map (λ ward. ward.journal) wards) diaries
+  pub served : AreServed config.calls diaries
   pub count : answers ≡ answer_count diaries
   pub all : answers ≡ config.callers * config.calls

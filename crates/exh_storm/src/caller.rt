@@ -1,5 +1,6 @@
-ghost use Rattle.std.specs.Prelude.{◌≡◌, [], IfOk};
+ghost use Rattle.std.specs.Prelude.{◌≡◌, [], IfOk, IfErr};
 ghost use Rattle.exh_storm.specs.StormCalls.{IsServed};
+ghost use Rattle.exh_storm.specs.StormRounds.{IsCallerFault};
 
 use crate::{StormFault, Watch, storm_call};
 use exh_copy::{CopyReader, Start};
@@ -30,7 +31,9 @@ impl<F: Identity, S: Start> Caller<F, S> {
         gate: &G,
         watch: &W,
     ) -> Result<Seat<F>, StormFault>
-        ensures { IfOk result (IsServed calls) }
+        ensures served { IfOk result (IsServed calls) }
+        ensures client { IfOk result (λ seat. seat.client ≡ self.seat.client) }
+        ensures fault { IfErr result (IsCallerFault K.pseudokey_of F.hashing S.table S.ward_bits (G.may gate.now self.seat.client) self.seat.client calls) }
     {
         let Caller { mut seat, mut copy } = self;
         let client = seat.diary().client();

@@ -1,5 +1,9 @@
-ghost use Rattle.std.specs.Prelude.{◌≡◌, ◌≤◌, ◌^◌, length};
+ghost use Rattle.std.specs.Prelude.{◌≡◌, ◌+◌, ◌≤◌, ◌^◌, ℕ, length, List, IfOk, IfErr};
+ghost use Rattle.std.specs.FinMap as map;
 ghost use Rattle.exh_prefix.specs.declared.prefix.TheConstants.{WARD_BITS_LIMIT};
+ghost use Rattle.exh_live.specs.Rounds.{AreFirstPlaces};
+ghost use Rattle.exh_storm.specs.StormRounds.{AreCourierRounds, IsCourierFault};
+ghost use Rattle.exh_storm.specs.declared.courier.TheConstants.{COURIER_CLIENT};
 
 use crate::{OpenCopy, StormFault, Watch};
 use exh_copy::Start;
@@ -39,6 +43,9 @@ impl<R: Wait, S: Start> Courier<'_, R, S> {
         requires limit { ward_bits ≤ WARD_BITS_LIMIT }
         requires bits { ward_bits ≡ file.now.ward_bits }
         ensures number { self.new.number ≡ self.old.number }
+        ensures name { self.new.copy.writer.name ≡ self.old.copy.writer.name }
+        ensures rounds { IfOk result (λ _. (places lasts : List ℕ) × AreFirstPlaces ward_bits map.empty places × AreCourierRounds (G.may gate.now (COURIER_CLIENT + self.old.number)) rounds self.old.copy.writer places self.new.copy.writer lasts) }
+        ensures fault { IfErr result (IsCourierFault (G.may gate.now (COURIER_CLIENT + self.old.number)) rounds) }
     {
         let mut cursors = Cursors::new(alloc, ward_bits, &Table::new(alloc))?;
         for done in 0..rounds {

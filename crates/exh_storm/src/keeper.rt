@@ -1,4 +1,6 @@
-ghost use Rattle.std.specs.Prelude.{◌^◌, ◌<◌};
+ghost use Rattle.std.specs.Prelude.{◌+◌, ◌^◌, ◌<◌, IfOk, IfErr};
+ghost use Rattle.exh_storm.specs.StormRounds.{AreKeeperRounds, IsKeeperFault};
+ghost use Rattle.exh_storm.specs.declared.keeper.TheConstants.{KEEPER_CLIENT};
 
 use crate::{StormFault, Watch};
 use exh_frames::Pages;
@@ -29,6 +31,8 @@ impl Keeper {
         watch: &W,
     ) -> Result<(), StormFault>
         requires { self.ward < 2 ^ file.now.ward_bits }
+        ensures rounds { IfOk result (λ _. AreKeeperRounds K.pseudokey_of (G.may gate.now (KEEPER_CLIENT + self.ward)) rounds) }
+        ensures fault { IfErr result (IsKeeperFault (G.may gate.now (KEEPER_CLIENT + self.ward)) rounds) }
     {
         for done in 0..rounds {
             if !gate.pass(KEEPER_CLIENT + u32::from(self.ward), done + 1) {

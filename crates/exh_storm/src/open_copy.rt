@@ -1,3 +1,5 @@
+ghost use Rattle.std.specs.Prelude.{◌≡◌};
+
 use exh_copy::{CopyWriter, Start};
 use std::sync::Wait;
 
@@ -5,7 +7,7 @@ use std::sync::Wait;
 /// its readers.
 pub struct OpenCopy<'a, R: Wait, S: Start> {
     pub(crate) rt: &'a R,
-    pub(crate) writer: CopyWriter<S>,
+    pub writer: CopyWriter<S>,
 }
 
 impl<R: Wait, S: Start> Drop for OpenCopy<'_, R, S> {
@@ -17,7 +19,9 @@ impl<R: Wait, S: Start> Drop for OpenCopy<'_, R, S> {
 
 impl<'a, R: Wait, S: Start> OpenCopy<'a, R, S> {
     /// The copy of this writer.
-    pub fn new(rt: &'a R, writer: CopyWriter<S>) -> OpenCopy<'a, R, S> {
+    pub fn new(rt: &'a R, writer: CopyWriter<S>) -> OpenCopy<'a, R, S>
+        ensures { result.writer ≡ writer }
+    {
         OpenCopy { rt, writer }
     }
 }

@@ -1,8 +1,9 @@
-ghost use Rattle.std.specs.Prelude.{◌≡◌, ◌≤◌, ◌*◌, length, All, IfOk, OnOk};
+ghost use Rattle.std.specs.Prelude.{◌≡◌, ◌≤◌, ◌*◌, All, IfOk, OnOk};
 ghost use Rattle.std.specs.FinMap as map;
 ghost use Rattle.exh_keyer.specs.Pseudokey.{sha_pseudokey};
 ghost use Rattle.exh_live.specs.declared.ledgers.TheConstants.{ANSWER_PARTS, ENTRY_PARTS};
 ghost use Rattle.exh_settle.specs.Settled.{answer_count};
+ghost use Rattle.exh_storm.specs.StormCalls.{AreServed, IsServed};
 ghost use Rattle.exh_storm.specs.StormLeft.{IsLeft};
 ghost use Rattle.exh_storm_config.specs.StormConfig.{IsStormConfig};
 
@@ -131,7 +132,7 @@ fn serve<
     requires table { S.table ≡ map.empty }
     requires file { (file.old.ward_bits ≡ config.now.ward_bits) × (file.old.seats ≡ 0) }
     ensures seats { OnOk result (file.new.seats ≡ config.now.callers) }
-    ensures served { IfOk result (λ seats. All (λ seat. length seat.entries ≡ config.now.calls) seats.items) }
+    ensures served { IfOk result (λ seats. All (IsServed config.now.calls) seats.items) }
 {
     let workers = new_workers::<R, P, F, S>(rt, alloc, config, file)?;
     let rounds = Rounds {
@@ -149,7 +150,7 @@ fn close<P: Pages + Drop, F: Identity>(
 ) -> Result<StormLeft<P>, StormFault>
     requires config { IsStormConfig config.now }
     requires seats { file.seats ≡ config.now.callers }
-    requires served { All (λ seat. length seat.entries ≡ config.now.calls) seats.items }
+    requires served { All (IsServed config.now.calls) seats.items }
     ensures { IfOk result (λ left. IsLeft config.now left.closed.wards.items left.closed.diaries.items left.answers) }
 {
     match file.close(seats) {
@@ -165,6 +166,7 @@ fn left<P: Pages + Drop>(
 ) -> Result<StormLeft<P>, StormFault>
     requires config { IsStormConfig config.now }
     requires all { answer_count closed.diaries.items ≡ config.now.callers * config.now.calls }
+    requires served { AreServed config.now.calls closed.diaries.items }
     ensures { IfOk result (λ left. IsLeft config.now left.closed.wards.items left.closed.diaries.items left.answers) }
 {
     let wards = closed.wards.as_slice();

@@ -1,7 +1,8 @@
 //! All workers of a storm at once, each on a thread of its own.
-ghost use Rattle.std.specs.Prelude.{◌≡◌, ◌≤◌, [], length, All, IfOk};
+ghost use Rattle.std.specs.Prelude.{◌≡◌, ◌≤◌, [], All, IfOk};
 ghost use Rattle.exh_prefix.specs.declared.prefix.TheConstants.{WARD_BITS_LIMIT};
 ghost use Rattle.exh_storm.specs.Refusals.{first_refusal};
+ghost use Rattle.exh_storm.specs.StormCalls.{IsServed};
 ghost use Rattle.exh_storm.specs.declared.fault.StormFault.TheVariants.{Memory};
 
 use crate::file::StormFile;
@@ -24,16 +25,17 @@ pub(crate) struct Rounds {
     pub(crate) ward_bits: u8,
 }
 
-// What a caller's thread promises: where it isn't refused, its seat was answered so many calls.
+// What a caller's thread promises: where it isn't refused, its seat was answered its first so many calls.
 #[derive(Clone, Copy)]
 struct Serves {
     calls: u32,
 }
 
 impl<F: Identity> Promise<Result<Seat<F>, StormFault>> for Serves {
-    ghost use Rattle.std.specs.Prelude.{◌≡◌, length, IfOk};
+    ghost use Rattle.std.specs.Prelude.{IfOk};
+    ghost use Rattle.exh_storm.specs.StormCalls.{IsServed};
 
-    ghost kept_by = { λ promise result. IfOk result (λ seat. length seat.entries ≡ promise.calls) };
+    ghost kept_by = { λ promise result. IfOk result (IsServed promise.calls) };
 }
 
 // A caller's thread, or `Memory` where it can't be made.
@@ -68,7 +70,7 @@ pub(crate) fn run_all<
 ) -> Result<Vec<Seat<F>>, StormFault>
     requires limit { rounds.ward_bits ≤ WARD_BITS_LIMIT }
     requires bits { rounds.ward_bits ≡ file.now.ward_bits }
-    ensures { IfOk result (λ seats. All (λ seat. length seat.entries ≡ rounds.count) seats.items) }
+    ensures { IfOk result (λ seats. All (IsServed rounds.count) seats.items) }
 {
     let Workers { callers, couriers } = workers;
     thread::scope(
@@ -76,7 +78,7 @@ pub(crate) fn run_all<
         rt,
         move |scope| -> Result<Vec<Seat<F>>, StormFault>
             requires { (rounds.ward_bits ≤ WARD_BITS_LIMIT) × (rounds.ward_bits ≡ file.now.ward_bits) }
-            ensures { IfOk result (λ seats. All (λ seat. length seat.entries ≡ rounds.count) seats.items) }
+            ensures { IfOk result (λ seats. All (IsServed rounds.count) seats.items) }
         {
             let calling = start_callers(scope, rt, alloc, file, callers, rounds, overseers)?;
             let keeping = start_keepers(scope, rt, alloc, file, rounds, overseers)?;
@@ -224,7 +226,7 @@ fn join_callers<R: Threads, F: Identity>(
     outcomes: &mut Vec<Outcome>,
 ) -> Result<Vec<Seat<F>>, AllocError>
     requires { All (λ thread. IfOk thread (λ handle. handle.promise.calls ≡ calls)) threads.items }
-    ensures { IfOk result (λ seats. All (λ seat. length seat.entries ≡ calls) seats.items) }
+    ensures { IfOk result (λ seats. All (IsServed calls) seats.items) }
 {
     let mut seats = Vec::with_capacity(alloc, threads.len())?;
     for thread in threads {
@@ -245,7 +247,7 @@ fn join_caller<R: Threads, F: Identity>(
     calls: u32,
 ) -> Result<Seat<F>, StormFault>
     requires { IfOk thread (λ handle. handle.promise.calls ≡ calls) }
-    ensures { IfOk result (λ seat. length seat.entries ≡ calls) }
+    ensures { IfOk result (IsServed calls) }
 {
     match thread {
         Ok(handle) => handle.join(rt),

@@ -1,9 +1,11 @@
 //! The workers of a storm before it begins.
-ghost use Rattle.std.specs.Prelude.{◌≡◌, ◌+◌, ◌<◌, ◌≤◌, ◌*◌, vec_len, OnOk, IfOk};
+ghost use Rattle.std.specs.Prelude.{◌≡◌, ◌+◌, ◌<◌, ◌≤◌, ◌*◌, [], vec_len, OnOk, IfOk, IfErr};
 ghost use Rattle.std.specs.FinMap as map;
 ghost use Rattle.exh_prefix.specs.declared.prefix.TheConstants.{WARD_BITS_LIMIT};
 ghost use Rattle.exh_settle.specs.declared.diary.TheConstants.{CALLER_LIMIT};
+ghost use Rattle.exh_live.specs.PlaceLemmas.{AreFirst};
 ghost use Rattle.exh_storm_config.specs.StormConfig.{IsStormConfig};
+ghost use Rattle.exh_storm.specs.StormRounds.{IsWorkersFault};
 
 use crate::file::StormFile;
 use crate::{Caller, Courier, OpenCopy, StormFault};
@@ -38,6 +40,9 @@ pub fn new_workers<'a, R: Wait, P: Pages + Drop, F: Identity, S: Start>(
     requires new { file.old.seats ≡ 0 }
     ensures bits { file.new.ward_bits ≡ file.old.ward_bits }
     ensures seats { OnOk result (file.new.seats ≡ config.now.callers) }
+    ensures fault { IfErr result IsWorkersFault }
+    ensures callers { IfOk result (λ workers. AreFirst (λ place caller. caller.seat.client ≡ place + 1) config.now.callers workers.callers.items) }
+    ensures couriers { IfOk result (λ workers. AreFirst (λ place courier. (courier.number ≡ place + 1) × (courier.copy.writer.published ≡ []) × (courier.copy.writer.pending ≡ [])) config.now.copies workers.couriers.items) }
 {
     let mut couriers = Vec::new(alloc);
     let mut readers = Vec::new(alloc);
@@ -70,6 +75,8 @@ fn new_courier<'a, R: Wait, S: Start>(
     requires limit { ward_bits ≤ WARD_BITS_LIMIT }
     requires bits { S.ward_bits ≡ ward_bits }
     requires table { S.table ≡ map.empty }
+    ensures fault { IfErr result IsWorkersFault }
+    ensures made { IfOk result (λ made. (made.0.number ≡ number) × (made.0.copy.writer.published ≡ []) × (made.0.copy.writer.pending ≡ [])) }
 {
     match new_copy::<S>(alloc, ward_bits, &Table::new(alloc), readers) {
         Ok((writer, readers)) => {
@@ -95,6 +102,8 @@ fn new_callers<P: Pages + Drop, F: Identity, S: Start>(
     requires new { file.old.seats ≡ 0 }
     ensures bits { file.new.ward_bits ≡ file.old.ward_bits }
     ensures seats { OnOk result (file.new.seats ≡ count) }
+    ensures fault { IfErr result IsWorkersFault }
+    ensures callers { IfOk result (λ callers. AreFirst (λ place caller. caller.seat.client ≡ place + 1) count callers.items) }
 {
     let mut readers = readers;
     let mut callers = Vec::new(alloc);
@@ -109,7 +118,8 @@ fn new_callers<P: Pages + Drop, F: Identity, S: Start>(
 // A reader of the copy of the caller at a place.
 fn next_reader<S: Start>(readers: &mut Readers<S>, at: u8) -> Result<CopyReader<S>, StormFault>
     requires { 0 < vec_len readers.old }
-    ensures { vec_len readers.new ≡ vec_len readers.old }
+    ensures left { vec_len readers.new ≡ vec_len readers.old }
+    ensures fault { IfErr result IsWorkersFault }
 {
     let copy = usize::from(at) % readers.len();
     readers[copy].pop().ok_or(StormFault::Seats)

@@ -1,5 +1,5 @@
 use Rattle.std.proofs.Common.{◌∙◌}
-use Rattle.exh_storm.proofs.Sums.{answered}
+use Rattle.exh_storm.proofs.Sums.{answered, served}
 use Rattle.exh_storm.proofs.run.close.Goals as goal
 
 pub left-requires-clause-all : goal.left-requires-clause-all
@@ -7,3 +7,6 @@ left-requires-clause-all g c =
     let config = c.args.config.now in
     let closed = c.in-Ok.ensures.closed in
     answered config.callers config.calls c.in-Ok.closed.diaries.items c.args.seats.items closed.diaries_are c.requires.served (closed.all ∙ c.requires.seats)
+
+pub left-requires-clause-served : goal.left-requires-clause-served
+left-requires-clause-served g c = served c.args.config.now.calls c.in-Ok.closed.diaries.items c.args.seats.items c.in-Ok.ensures.closed.diaries_are c.requires.served

@@ -21,6 +21,7 @@ returns-in-Ok g c =
       settled =
           subst (λ (diaries : List DiaryState). IsSettled (λ key. ward_of ward_bits (sha_pseudokey key)) (map (λ (ward : WardState ShaKeyer). ward.journal) c.args.closed.wards.items) diaries) c.as_slice-diaries.ensures.value
           (subst (λ (wards : List (WardState ShaKeyer)). IsSettled (λ key. ward_of ward_bits (sha_pseudokey key)) (map (λ (ward : WardState ShaKeyer). ward.journal) wards) c.as_slice-diaries.result.now) c.as_slice-wards.ensures.value c.in-Ok.ensures.settled);
+      served = c.requires.served;
       count = count;
       all = count ∙ c.requires.all;
     }

@@ -1,7 +1,7 @@
 use Rattle.std.proofs.Common.{◌≡◌, length, IfOk, ap, arith}
 use Rattle.std.proofs.lemmas.List.Elements.{All-push, All-rest, All-same}
 use Rattle.std.specs.Vec.Iter.{into_iter_items}
-use Rattle.exh_storm.proofs.Sums.{IsAnswered}
+use Rattle.exh_storm.specs.StormCalls.{IsServed}
 use Rattle.exh_storm.proofs.threads.join_callers.Goals as goal
 
 pub loop-thread-preserved-in-Continue-branch-3 : goal.loop-thread-preserved-in-Continue-branch-3
@@ -11,7 +11,7 @@ loop-thread-preserved-in-Continue-branch-3 g c =
     record {
       len = omega (arith, was.len, step.1, ap length step.0);
       left = All-rest (λ thread. IfOk thread (λ handle. handle.promise.calls ≡ c.args.calls)) c.in-Some.thread (into_iter_items c.next.new.self) (into_iter_items c.loop-thread.thread-iterator) step.0 was.left;
-      seats = All-same (IsAnswered c.args.calls) c.push.new.self.items _ c.in_ok-push-in-Ok.ensures.items (All-push (IsAnswered c.args.calls) c.loop-thread.seats.items c.in-Ok.seat was.seats c.in-Ok.ensures);
+      seats = All-same (IsServed c.args.calls) c.push.new.self.items _ c.in_ok-push-in-Ok.ensures.items (All-push (IsServed c.args.calls) c.loop-thread.seats.items c.in-Ok.seat was.seats c.in-Ok.ensures);
     }
 
 pub loop-thread-preserved : goal.loop-thread-preserved
