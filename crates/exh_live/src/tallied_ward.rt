@@ -133,6 +133,7 @@ impl<P: Pages + Drop, K: Keyer, F: Identity> TalliedWard<P, K, F> {
         ensures count { result ≡ length self.now.ward.pages }
         ensures sound { IsSoundWard K.pseudokey_of self.now.ward }
     {
+        // By whose contract the ward is sound.
         self.ward.journal();
         self.ward.page_count()
     }
