@@ -6,8 +6,9 @@
 #
 # What is measured: storms of 16 callers by two copies of the directory, of 2 and of 16 records a page, over 1, 4 and 16
 # wards of a file in memory, by keyer sha. They call 50 keys: by turns a put, a get and a delete (`exh_storm`). There is
-# a keeper for each ward and a courier to each copy, which make rounds until all callers are done. After each run the
-# file is closed, and diaries and journals are settled. crates/bench_threads makes each run.
+# a keeper for each ward and a courier to each copy, which make rounds until all callers are done; a keeper waits for a
+# millisecond before each of its own, as one without work to do would. After each run the file is closed, and diaries
+# and journals are settled. crates/bench_threads makes each run.
 # - moves: how often a call was sent on to another page, a call, in all runs together; most: in the worst of them. A
 #   gate of each caller counts its turns: it is asked before each hop. A call's hops are those that send it on, those
 #   that find a page full, and the last, which answers it; after each that finds a page full the caller splits it, or

@@ -26,6 +26,7 @@ use std::marker::Brand;
 use std::sync::Wait;
 use std::sync::ledger::Blank;
 use std::thread::{Threads, join, map_indices, map_vec};
+use std::time::Clock;
 
 /// What a storm came to: how many calls were answered and settled, the turns of all callers, the splits
 /// that were made, and the bytes of keys and values in the journals.
@@ -42,18 +43,18 @@ type Called<F> = Result<(Seat<F>, u64), StormFault>;
 
 // What all workers have in common.
 #[derive(Drop)]
-struct Field<'a, F: Identity> {
+struct Field<'a, R: Clock, F: Identity> {
     file: &'a StormFile<PlainPages, F>,
     alloc: Global,
     ward_bits: u8,
     calls: u32,
-    meanwhile: Meanwhile,
+    meanwhile: Meanwhile<'a, R>,
     ghost limit: { ward_bits ≤ WARD_BITS_LIMIT },
     ghost bits: { ward_bits ≡ file.now.ward_bits },
 }
 
 /// Runs a storm over a new file. Afterwards the file is closed, and settled.
-pub(crate) fn measure<R: Threads + Wait + AllocGlobal + Sync>(
+pub(crate) fn measure<R: Threads + Wait + Clock + AllocGlobal + Sync>(
     rt: &R,
     config: &StormConfig,
 ) -> anyhow::Result<Measured>
@@ -65,7 +66,7 @@ pub(crate) fn measure<R: Threads + Wait + AllocGlobal + Sync>(
 }
 
 fn of_file<
-    R: Threads + Wait + AllocGlobal + Sync,
+    R: Threads + Wait + Clock + AllocGlobal + Sync,
     F: Identity + Send + Sync,
     S: Start + Send + Sync,
 >(rt: &R, config: &StormConfig, answers: Blank, entries: Blank) -> anyhow::Result<Measured>
@@ -89,7 +90,11 @@ fn of_file<
 }
 
 // Runs all workers over a new file, gives the callers' seats, and answers their turns.
-fn run<R: Threads + Wait + AllocGlobal + Sync, F: Identity + Send + Sync, S: Start + Send + Sync>(
+fn run<
+    R: Threads + Wait + Clock + AllocGlobal + Sync,
+    F: Identity + Send + Sync,
+    S: Start + Send + Sync,
+>(
     rt: &R,
     config: &StormConfig,
     file: &mut StormFile<PlainPages, F>,
@@ -111,7 +116,7 @@ fn run<R: Threads + Wait + AllocGlobal + Sync, F: Identity + Send + Sync, S: Sta
         alloc: rt.alloc(),
         ward_bits: config.ward_bits,
         calls: config.calls,
-        meanwhile: Meanwhile::new(),
+        meanwhile: Meanwhile::new(rt),
     };
     let called = work(rt, &field, callers, couriers)?;
     collect(called, seats)
@@ -119,9 +124,9 @@ fn run<R: Threads + Wait + AllocGlobal + Sync, F: Identity + Send + Sync, S: Sta
 
 // Lets all workers be at work at once, a keeper for each ward among them, and gives what came of the
 // callers. Keepers and couriers make rounds until the callers are done; then the copies are closed.
-fn work<R: Threads + Wait + Sync, F: Identity + Send + Sync, S: Start + Send + Sync>(
+fn work<R: Threads + Wait + Clock + Sync, F: Identity + Send + Sync, S: Start + Send + Sync>(
     rt: &R,
-    field: &Field<'_, F>,
+    field: &Field<'_, R, F>,
     callers: Vec<Caller<F, S>>,
     couriers: Vec<Courier<'_, R, S>>,
 ) -> anyhow::Result<Vec<Called<F>>> {
@@ -150,9 +155,9 @@ fn work<R: Threads + Wait + Sync, F: Identity + Send + Sync, S: Start + Send + S
     Ok(called?)
 }
 
-fn call<R: Wait, F: Identity, S: Start>(
+fn call<R: Wait + Clock, F: Identity, S: Start>(
     rt: &R,
-    field: &Field<'_, F>,
+    field: &Field<'_, R, F>,
     caller: Caller<F, S>,
 ) -> Called<F> {
     let gate = Turns::new();
@@ -160,7 +165,11 @@ fn call<R: Wait, F: Identity, S: Start>(
     Ok((seat, gate.count()))
 }
 
-fn keep<R: Wait, F: Identity>(rt: &R, field: &Field<'_, F>, ward: usize) -> Result<(), StormFault> {
+fn keep<R: Wait + Clock, F: Identity>(
+    rt: &R,
+    field: &Field<'_, R, F>,
+    ward: usize,
+) -> Result<(), StormFault> {
     if ward >= 1usize << field.ward_bits {
         return Ok(());
     }
@@ -169,8 +178,8 @@ fn keep<R: Wait, F: Identity>(rt: &R, field: &Field<'_, F>, ward: usize) -> Resu
 }
 
 // Gives the courier back.
-fn carry<'a, R: Wait, F: Identity, S: Start>(
-    field: &Field<'_, F>,
+fn carry<'a, R: Wait + Clock, F: Identity, S: Start>(
+    field: &Field<'_, R, F>,
     courier: Courier<'a, R, S>,
 ) -> Result<Courier<'a, R, S>, StormFault> {
     let mut courier = courier;
