@@ -1,4 +1,4 @@
-ghost use Rattle.std.specs.Prelude.{◌≡◌, ◌≤◌, ◌*◌, ◌++◌, length, map, take, drop, replicate};
+ghost use Rattle.std.specs.Prelude.{◌≡◌, ◌≤◌, ◌*◌, ◌-◌, ◌++◌, length, map, take, drop, replicate};
 ghost use Rattle.std.specs.List.{AllByRecursion, flat_map};
 ghost use Rattle.exh_prefix.specs.Version.{Version};
 ghost use Rattle.exh_page.specs.declared.page.TheConstants.{CAP_LIMIT};
@@ -43,30 +43,52 @@ pub fn lay_out(page: &Page) -> [u8; BLOCK_LEN]
     block
 }
 
-// Writes a page over the first bytes of a block.
-fn put_page(block: &mut [u8], page: &Page)
+/// Lays a page of at most 16 records out where a block's content is zero from `used` bytes on. Its
+/// digest bytes stay as they are. It takes no memory, and writes no byte that need not change behind
+/// the page's last record.
+pub fn lay_over(block: &mut [u8; BLOCK_LEN], used: usize, page: &Page)
+    requires few { length (records_of page.now) ≤ CAP_LIMIT }
+    requires used { used ≤ CONTENT_LEN }
+    requires zero { take CONTENT_LEN block.old ≡ take used block.old ++ replicate (CONTENT_LEN - used) 0 }
+    ensures content { take CONTENT_LEN block.new ≡ content_of page.now }
+    ensures digest { drop CONTENT_LEN block.new ≡ drop CONTENT_LEN block.old }
+    // The types of a page hold no others.
+    ensures in_range { IsHeld page.now }
+{
+    let end = put_page(block, page);
+    if end < used {
+        block[end..used].fill(0);
+    }
+}
+
+// Writes a page over the first bytes of a block, and answers how many it takes.
+fn put_page(block: &mut [u8], page: &Page) -> usize
     requires len { length block.old ≡ BLOCK_LEN }
     requires few { length (records_of page.now) ≤ CAP_LIMIT }
     ensures used { block.new ≡ used_of page.now ++ drop (length (used_of page.now)) block.old }
+    ensures end { result ≡ length (used_of page.now) }
     ensures in_range { IsHeld page.now }
 {
     let head = Head::of(page).to_bytes();
     block[..HEAD_LEN].copy_from_slice(&head);
-    if let Page::Live { records, .. } = page {
-        put_records(&mut block[HEAD_LEN..], records);
+    match page {
+        Page::Live { records, .. } => HEAD_LEN + put_records(&mut block[HEAD_LEN..], records),
+        Page::Forward { .. } => HEAD_LEN,
     }
 }
 
-// Writes records, one after the other, over the first bytes.
-fn put_records(out: &mut [u8], records: &Records)
+// Writes records, one after the other, over the first bytes, and answers how many they take.
+fn put_records(out: &mut [u8], records: &Records) -> usize
     requires { RECORD_LEN * length records.now ≤ length out.old }
     ensures bytes { let image = flat_map pair_image (map pair_of records.now) in out.new ≡ image ++ drop (length image) out.old }
+    ensures end { result ≡ length (flat_map pair_image (map pair_of records.now)) }
     ensures sized { AllByRecursion IsSizedPair (map pair_of records.now) }
 {
     let mut end = 0;
     for item in records.iter() {
         end += put_record(&mut out[end..], &item);
     }
+    end
 }
 
 // Writes a record over the first bytes, and answers how many it takes.

@@ -1,4 +1,4 @@
-ghost use Rattle.std.specs.Prelude.{◌≡◌, ◌↔◌, ◌-◌, ◌<◌, ◌^◌, [], ◌∷◌, ◌++◌, length, remove, slice_set, IsSome, IfOk, OnOk, OnErr, IsErrOf};
+ghost use Rattle.std.specs.Prelude.{◌≡◌, ◌↔◌, ◌-◌, ◌<◌, ◌^◌, [], ◌∷◌, ◌++◌, length, map, remove, slice_set, IsSome, IfOk, OnOk, OnErr, IsErrOf};
 ghost use Rattle.std.specs.List.{AllByRecursion};
 ghost use Rattle.exh_prefix.specs.Layout.{written_version};
 ghost use Rattle.exh_codec.specs.PageImage.{IsImage};
@@ -6,6 +6,7 @@ ghost use Rattle.exh_page.specs.declared.page.Page.{Page as PageType};
 ghost use Rattle.exh_page.specs.Page.{IsLive, IsWellFormed, records_of, with_records};
 ghost use Rattle.exh_page.specs.Records.{with_record};
 ghost use Rattle.exh_page.specs.Search.{IsSought, IsSpot};
+ghost use Rattle.exh_codec.specs.PageImage.{page_digest};
 ghost use Rattle.exh_frames.specs.PageStore.{IfPage};
 ghost use Rattle.exh_images.specs.CacheSize.{IsCacheSize};
 ghost use Rattle.exh_images.specs.Decoded.{decoded_at};
@@ -14,7 +15,7 @@ use crate::CacheFault;
 use crate::cache_size::to_cache_size;
 use crate::decoded_pages::DecodedPages;
 use crate::images::Images;
-use exh_codec::BLOCK_LEN;
+use exh_codec::{BLOCK_LEN, DIGEST_LEN};
 use exh_frames::{Pages, PagesFault};
 use exh_keyer::Keyer;
 use exh_page::{Key, Page, PageHead, Record, Spot, Value};
@@ -78,27 +79,6 @@ impl<K: Keyer> FramedPages<K> {
         Ok(FramedPages::of_given(alloc, pages, keyer, size)?)
     }
 
-    /// Adds the page that a block is the image of; its digest isn't made again. An `AllocError`
-    /// where memory is refused, and its pages are as before.
-    pub fn add_image(&mut self, block: &[u8; BLOCK_LEN]) -> Result<(), AllocError>
-        requires room { length self.old.pages < 2 ^ 32 - 1 }
-        requires image { (page : PageType) × IsImage written_version (K.pseudokey_of self.old.keyer) page block.now }
-        ensures keyer { self.new.keyer ≡ self.old.keyer }
-        ensures ok { OnOk result ((page : PageType) → IsImage written_version (K.pseudokey_of self.old.keyer) page block.now → self.new.pages ≡ self.old.pages ++ page ∷ []) }
-        ensures err { OnErr result (self.new.pages ≡ self.old.pages) }
-    {
-        self.images.add_block(block)
-    }
-
-    /// The image of the page of this number, whose digest is made here where it wasn't yet. It takes
-    /// no memory.
-    pub fn image(&self, number: PageNo) -> [u8; BLOCK_LEN]
-        requires { number < length self.now.pages }
-        ensures { IfPage self.now.pages number (λ page. IsImage written_version (K.pseudokey_of self.now.keyer) page result) }
-    {
-        self.images.block(number)
-    }
-
     // A store of one page.
     pub(crate) fn of_first(
         alloc: Global,
@@ -126,6 +106,23 @@ impl<K: Keyer> FramedPages<K> {
         ensures { IfOk result (λ store. store ≡ record { keyer = keyer; pages = given.items; decoded = [] }) }
     {
         let images = Images::of_pages(alloc, keyer, &given)?;
+        FramedPages::of_images(alloc, images, size)
+    }
+
+    // A store of given pages, each with the digest of its block.
+    pub(crate) fn of_read(
+        alloc: Global,
+        given: Vec<Page>,
+        digests: &[[u8; DIGEST_LEN]],
+        keyer: K,
+        size: NonZeroUsize,
+    ) -> Result<FramedPages<K>, AllocError>
+        requires few { length given.items < 2 ^ 32 }
+        requires formed { AllByRecursion (IsWellFormed (K.pseudokey_of keyer)) given.items }
+        requires digests { digests.now ≡ map page_digest given.items }
+        ensures { IfOk result (λ store. store ≡ record { keyer = keyer; pages = given.items; decoded = [] }) }
+    {
+        let images = Images::of_read(alloc, keyer, &given, digests)?;
         FramedPages::of_images(alloc, images, size)
     }
 
@@ -246,6 +243,11 @@ impl<K: Keyer> Pages for FramedPages<K> {
 
     fn head(&mut self, number: PageNo) -> Result<PageHead, PagesFault> {
         Ok(self.images.head(number))
+    }
+
+    fn block(&mut self, number: PageNo, out: &mut [u8; BLOCK_LEN]) -> Result<(), PagesFault> {
+        self.images.block(number, out);
+        Ok(())
     }
 
     fn fetch(&mut self, number: PageNo) -> Result<(), PagesFault>

@@ -1,7 +1,7 @@
-ghost use Rattle.std.specs.Prelude.{◌≡◌, ◌^◌, ◌≤◌, ◌↔◌, List, ℕ, Some, IfOk, IfErr, IsErrOf, IsFalse, IsTrue, MatchResult};
+ghost use Rattle.std.specs.Prelude.{◌≡◌, ◌^◌, ◌≤◌, ◌↔◌, List, [], ℕ, Some, IfOk, IfErr, IsErrOf, IsFalse, IsTrue, MatchResult};
 ghost use Rattle.exh_file.specs.FileVersion.{format_of};
 ghost use Rattle.exh_file.specs.declared.header.TheConstants.{COUNTS_LEN};
-ghost use Rattle.exh_page_file.specs.FileParts.{file_of};
+ghost use Rattle.exh_page_file.specs.FileParts.{HasDigests, file_of};
 ghost use Rattle.exh_page_file.specs.FileTests.{IsFault};
 ghost use Rattle.exh_page_file.specs.PageFile.{IsPageFile, PageFile};
 ghost use Rattle.exh_page_file.specs.Reading.{AreBytes, IsAll, IsOf, IsOther, blocks_failed, left};
@@ -21,13 +21,14 @@ use std::io::Read;
 /// failed. `Memory`: a growth was refused. The one met first counts.
 pub fn read_file<R: Read>(alloc: Global, reader: &mut R) -> Result<FileParts, ReadFileFault>
     ensures parts { IfOk result (λ parts. (bytes : List ℕ) × IsAll (R.remaining reader.old) bytes × AreBytes bytes × IsPageFile (format_of bytes) (file_of parts) bytes) }
+    ensures digests { IfOk result HasDigests }
     ensures fault { IfErr result (IsOf IsFault (R.remaining reader.old)) }
     ensures every { (file : PageFile) (bytes : List ℕ) → R.remaining reader.old ≡ Some bytes → AreBytes bytes → IsPageFile (format_of bytes) file bytes
         → MatchResult result (λ parts. file_of parts ≡ file) IsOther }
 {
     one_file();
     files_pass();
-    read_parts(alloc, &mut BlockSource::new(reader))
+    read_parts(alloc, &mut BlockSource::new(alloc, reader))
 }
 
 // The parts that the blocks of a file say.
@@ -36,8 +37,10 @@ fn read_parts<R: Read>(
     blocks: &mut BlockSource<'_, R>,
 ) -> Result<FileParts, ReadFileFault>
     requires place { blocks.old.place ≡ 0 }
+    requires bare { blocks.old.digests.items ≡ [] }
     requires open { IsFalse (blocks_failed blocks.old) }
     ensures parts { IfOk result (λ parts. (bytes : List ℕ) × IsAll (left R.remaining blocks.old) bytes × AreBytes bytes × IsPageFile (format_of bytes) (file_of parts) bytes) }
+    ensures digests { IfOk result HasDigests }
     ensures fault { IfErr result (IsOf IsFault (left R.remaining blocks.old)) }
     ensures failed { IsErrOf result ReadFileFault.Read ↔ IsTrue (blocks_failed blocks.new) }
 {
@@ -50,9 +53,11 @@ fn read_parts<R: Read>(
     let wards = read_wards(alloc, blocks, version, header.settings.keyer, counts)?;
     let entries = read_table(alloc, blocks, version, header.entry_count as usize)?;
     blocks.read_end()?;
+    let digests = blocks.take_digests(alloc);
     Ok(FileParts {
         header,
         wards,
+        digests,
         entries,
     })
 }
