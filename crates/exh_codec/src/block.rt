@@ -22,7 +22,7 @@ pub fn seal(block: &mut [u8; BLOCK_LEN])
     ensures sealed { IsSealed block.new }
 {
     let digest = digest_of(block);
-    put_digest(block, &digest);
+    block[CONTENT_LEN..].copy_from_slice(&digest);
 }
 
 /// Writes a digest over the bytes after a block's content.

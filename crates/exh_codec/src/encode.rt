@@ -1,4 +1,4 @@
-ghost use Rattle.std.specs.Prelude.{◌≡◌, ◌≤◌, ◌*◌, ◌-◌, ◌++◌, length, map, take, drop, replicate};
+ghost use Rattle.std.specs.Prelude.{◌≡◌, ◌≤◌, ◌*◌, ◌++◌, length, map, take, drop, replicate};
 ghost use Rattle.std.specs.List.{AllByRecursion, flat_map};
 ghost use Rattle.exh_prefix.specs.Version.{Version};
 ghost use Rattle.exh_page.specs.declared.page.TheConstants.{CAP_LIMIT};
@@ -43,22 +43,16 @@ pub fn lay_out(page: &Page) -> [u8; BLOCK_LEN]
     block
 }
 
-/// Lays a page of at most 16 records out where a block's content is zero from `used` bytes on. Its
-/// digest bytes stay as they are. It takes no memory, and writes no byte that need not change behind
-/// the page's last record.
-pub fn lay_over(block: &mut [u8; BLOCK_LEN], used: usize, page: &Page)
-    requires few { length (records_of page.now) ≤ CAP_LIMIT }
-    requires used { used ≤ CONTENT_LEN }
-    requires zero { take CONTENT_LEN block.old ≡ take used block.old ++ replicate (CONTENT_LEN - used) 0 }
+/// Lays a page of at most 16 records out over a block's content. What its digest bytes are isn't said.
+/// It takes no memory.
+pub fn lay_over(block: &mut [u8; BLOCK_LEN], page: &Page)
+    requires { length (records_of page.now) ≤ CAP_LIMIT }
     ensures content { take CONTENT_LEN block.new ≡ content_of page.now }
-    ensures digest { drop CONTENT_LEN block.new ≡ drop CONTENT_LEN block.old }
     // The types of a page hold no others.
     ensures in_range { IsHeld page.now }
 {
     let end = put_page(block, page);
-    if end < used {
-        block[end..used].fill(0);
-    }
+    block[end..CONTENT_LEN].fill(0);
 }
 
 // Writes a page over the first bytes of a block, and answers how many it takes.

@@ -6,7 +6,7 @@ ghost use Rattle.exh_page.specs.Search.{IsSought, IsSpot};
 ghost use Rattle.exh_codec.specs.Block.{sealed};
 ghost use Rattle.exh_codec.specs.PageImage.{IsHeld, content_of, page_digest};
 
-use exh_codec::{BLOCK_LEN, DIGEST_LEN, digest_of, lay_out, put_digest};
+use exh_codec::{BLOCK_LEN, DIGEST_LEN, digest_of, lay_over, put_digest};
 use exh_page::{Key, Page, Spot, Value};
 use std::alloc::AllocError;
 use std::marker::Model;
@@ -92,7 +92,7 @@ impl StoredPage {
         // The types of a page hold no others.
         ensures in_range { IsHeld self.old }
     {
-        *out = lay_out(&self.page);
+        lay_over(out, &self.page);
         let digest = match self.digest {
             Some(digest) => digest,
             None => digest_of(out),

@@ -1,7 +1,7 @@
-ghost use Rattle.std.specs.Prelude.{ℕ, ◌≡◌, ◌≤◌, List, length, take, replicate, true};
+ghost use Rattle.std.specs.Prelude.{ℕ, ◌≡◌, ◌≤◌, List, length, take, true};
 ghost use Rattle.sha2.specs.Sha256.{sha256};
 ghost use Rattle.exh_prefix.specs.Layout.{written_version};
-ghost use Rattle.exh_codec.specs.declared.block.TheConstants.{BLOCK_LEN, CONTENT_LEN};
+ghost use Rattle.exh_codec.specs.declared.block.TheConstants.{CONTENT_LEN};
 ghost use Rattle.exh_codec.specs.Block.{IsSealed};
 ghost use Rattle.exh_codec.specs.PageImage.{IsLaidOut};
 ghost use Rattle.exh_codec.specs.PageOf.{page_of};
@@ -13,8 +13,7 @@ ghost use Rattle.exh_page.specs.Records.{with_record};
 ghost use Rattle.exh_images.specs.InPlace.{HasContent, LacksOne};
 
 use crate::edit::{put_record, remove_record};
-use crate::gap::used_len;
-use exh_codec::{BLOCK_LEN, DIGEST_LEN, blocks_are_read, lay_over, put_digest, seal};
+use exh_codec::{BLOCK_LEN, DIGEST_LEN, blocks_are_read, lay_out, put_digest, seal};
 use exh_page::{Page, Record};
 
 /// A page as a block, whose digest is made when it is asked for.
@@ -27,27 +26,24 @@ pub(crate) struct Image {
 }
 
 impl Image {
-    /// An image of no page yet, all of whose bytes are zero.
-    pub(crate) fn blank() -> Image
-        ensures { result.block ≡ replicate BLOCK_LEN 0 }
-    {
-        Image {
-            block: [0; BLOCK_LEN],
-            is_sealed: false,
-        }
-    }
-
-    /// Lays a page out where another one stands, or none does yet. The image then has no digest yet.
-    pub(crate) fn set(&mut self, page: &Page)
-        requires few { length (records_of page.now) ≤ CAP_LIMIT }
-        requires used { (old : PageType) × HasContent self.old.block old }
-        ensures laid { (pseudo : List ℕ → ℕ) → IsWellFormed pseudo page.now → IsLaidOut written_version pseudo page.now self.new.block }
-        ensures read { (pseudo : List ℕ → ℕ) → IsWellFormed pseudo page.now → page_of written_version pseudo self.new.block ≡ page.now }
+    /// The image of a page, with no digest yet.
+    pub(crate) fn of(page: &Page) -> Image
+        requires { length (records_of page.now) ≤ CAP_LIMIT }
+        ensures laid { (pseudo : List ℕ → ℕ) → IsWellFormed pseudo page.now → IsLaidOut written_version pseudo page.now result.block }
+        ensures read { (pseudo : List ℕ → ℕ) → IsWellFormed pseudo page.now → page_of written_version pseudo result.block ≡ page.now }
     {
         blocks_are_read();
-        let used = used_len(&self.block);
-        self.is_sealed = false;
-        lay_over(&mut self.block, used, page);
+        Image::unsealed(lay_out(page))
+    }
+
+    // The image that is this block, with no digest yet.
+    fn unsealed(block: [u8; BLOCK_LEN]) -> Image
+        ensures { result.block ≡ block }
+    {
+        Image {
+            block,
+            is_sealed: false,
+        }
     }
 
     /// Puts a record into the image of a live page, which then has no digest yet.

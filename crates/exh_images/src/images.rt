@@ -123,8 +123,7 @@ impl<K: Keyer> Images<K> {
         ensures keyer { self.new.keyer ≡ self.old.keyer }
         ensures pages { self.new.pages ≡ slice_set self.old.pages number page.now }
     {
-        let image = &mut self.images[number as usize];
-        image.set(page);
+        self.images[number as usize] = Image::of(page);
     }
 
     /// Puts a record into the page of this number, which is live. It takes no memory.
@@ -162,11 +161,8 @@ impl<K: Keyer> Images<K> {
         ensures ok { OnOk result (self.new.pages ≡ self.old.pages ++ page.now ∷ []) }
         ensures err { OnErr result (self.new.pages ≡ self.old.pages) }
     {
-        let number = self.images.len();
         self.images.reserve(1)?;
-        self.images.push_reserved(Image::blank());
-        let image = &mut self.images[number];
-        image.set(page);
+        self.images.push_reserved(Image::of(page));
         Ok(())
     }
 
