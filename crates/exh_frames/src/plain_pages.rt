@@ -44,7 +44,7 @@ impl PlainPages {
     {
         let mut pages = Vec::with_capacity(alloc, given.len())?;
         for page in given {
-            pages.push_reserved(StoredPage::new(page));
+            pages.push(StoredPage::new(page))?;
         }
         Ok(PlainPages { pages })
     }
@@ -61,8 +61,9 @@ impl PlainPages {
         ensures { IfOk result (λ store. store ≡ given.items) }
     {
         let mut pages = Vec::with_capacity(alloc, given.len())?;
-        for (page, digest) in given.into_iter().zip(digests) {
-            pages.push_reserved(StoredPage::with_digest(page, *digest));
+        for page in given {
+            let digest = digests[pages.len()];
+            pages.push(StoredPage::with_digest(page, digest))?;
         }
         Ok(PlainPages { pages })
     }

@@ -1,8 +1,9 @@
-ghost use Rattle.std.specs.Prelude.{◌≡◌, ◌<◌, ◌≤◌, ◌++◌, length, remove, OnOk, OnErr};
+ghost use Rattle.std.specs.Prelude.{◌≡◌, ◌<◌, ◌≤◌, ◌++◌, length, remove, take, OnOk, OnErr};
 ghost use Rattle.exh_page.specs.declared.page.TheConstants.{CAP_LIMIT};
 ghost use Rattle.exh_page.specs.Page.{IsLive, records_of, with_records};
 ghost use Rattle.exh_page.specs.Records.{with_record};
 ghost use Rattle.exh_page.specs.Search.{IsSought, IsSpot};
+ghost use Rattle.exh_codec.specs.declared.block.TheConstants.{CONTENT_LEN};
 ghost use Rattle.exh_codec.specs.Block.{sealed};
 ghost use Rattle.exh_codec.specs.PageImage.{IsHeld, content_of, page_digest};
 
@@ -93,11 +94,19 @@ impl StoredPage {
         ensures in_range { IsHeld self.old }
     {
         lay_over(out, &self.page);
-        let digest = match self.digest {
-            Some(digest) => digest,
-            None => digest_of(out),
-        };
+        let digest = self.digest_by(out);
         self.digest = Some(digest);
         put_digest(out, &digest);
+    }
+
+    // The digest of the page's block, in which its content stands.
+    fn digest_by(&self, block: &[u8; BLOCK_LEN]) -> [u8; DIGEST_LEN]
+        requires { take CONTENT_LEN block.now ≡ content_of self.now }
+        ensures { result ≡ page_digest self.now }
+    {
+        match self.digest {
+            Some(digest) => digest,
+            None => digest_of(block),
+        }
     }
 }
