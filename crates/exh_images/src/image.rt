@@ -1,5 +1,4 @@
 ghost use Rattle.std.specs.Prelude.{ℕ, ◌≡◌, ◌≤◌, List, length, take, true};
-ghost use Rattle.sha2.specs.Sha256.{sha256};
 ghost use Rattle.exh_prefix.specs.Layout.{written_version};
 ghost use Rattle.exh_codec.specs.declared.block.TheConstants.{CONTENT_LEN};
 ghost use Rattle.exh_codec.specs.Block.{IsSealed};
@@ -13,7 +12,7 @@ ghost use Rattle.exh_page.specs.Records.{with_record};
 ghost use Rattle.exh_images.specs.InPlace.{HasContent, LacksOne};
 
 use crate::edit::{put_record, remove_record};
-use exh_codec::{BLOCK_LEN, DIGEST_LEN, blocks_are_read, lay_out, put_digest, seal};
+use exh_codec::{BLOCK_LEN, blocks_are_read, lay_out, seal};
 use exh_page::{Page, Record};
 
 /// A page as a block, whose digest is made when it is asked for.
@@ -46,6 +45,17 @@ impl Image {
         }
     }
 
+    /// The image that is this block, which has its digest.
+    pub(crate) fn of_block(block: &[u8; BLOCK_LEN]) -> Image
+        requires { IsSealed block.now }
+        ensures { result.block ≡ block.now }
+    {
+        Image {
+            block: *block,
+            is_sealed: true,
+        }
+    }
+
     /// Puts a record into the image of a live page, which then has no digest yet.
     pub(crate) fn put(&mut self, page: &Page, item: &Record)
         requires has { HasContent self.old.block page.now }
@@ -66,25 +76,16 @@ impl Image {
         remove_record(&mut self.block, left);
     }
 
-    /// Makes the digest, where it isn't made yet.
-    pub(crate) fn seal(&mut self)
-        ensures content { take CONTENT_LEN self.new.block ≡ take CONTENT_LEN self.old.block }
-        ensures sealed { IsSealed self.new.block }
+    /// The block with its digest.
+    pub(crate) fn sealed_block(&self) -> [u8; BLOCK_LEN]
+        ensures content { take CONTENT_LEN result ≡ take CONTENT_LEN self.now.block }
+        ensures sealed { IsSealed result }
     {
+        let mut block = self.block;
         if self.is_sealed {
-            return;
+            return block;
         }
-        seal(&mut self.block);
-        self.is_sealed = true;
-    }
-
-    /// Takes a digest, which is that of the content.
-    pub(crate) fn seal_as(&mut self, digest: &[u8; DIGEST_LEN])
-        requires { digest.now ≡ sha256 (take CONTENT_LEN self.old.block) }
-        ensures content { take CONTENT_LEN self.new.block ≡ take CONTENT_LEN self.old.block }
-        ensures sealed { IsSealed self.new.block }
-    {
-        put_digest(&mut self.block, digest);
-        self.is_sealed = true;
+        seal(&mut block);
+        block
     }
 }

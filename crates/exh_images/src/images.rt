@@ -1,16 +1,17 @@
-ghost use Rattle.std.specs.Prelude.{◌≡◌, ◌<◌, ◌-◌, ◌^◌, ℕ, [], ◌∷◌, ◌++◌, length, map, remove, slice_get, slice_set, Some, IfOk, OnOk, OnErr};
+ghost use Rattle.std.specs.Prelude.{◌≡◌, ◌<◌, ◌-◌, ◌^◌, ◌≤◌, ℕ, List, [], ◌∷◌, ◌++◌, length, map, remove, slice_get, slice_set, Some, IfOk, OnOk, OnErr};
 ghost use Rattle.std.specs.List.{AllByRecursion};
 ghost use Rattle.exh_page.specs.Page.{IsLive, IsWellFormed, records_of, with_records};
 ghost use Rattle.exh_page.specs.Records.{with_record};
 ghost use Rattle.exh_page.specs.declared.page.Page.{Page as PageType};
 ghost use Rattle.exh_prefix.specs.Layout.{written_version};
-ghost use Rattle.exh_codec.specs.PageImage.{IsImage};
-ghost use Rattle.exh_codec.specs.PageImage.{page_digest};
+ghost use Rattle.exh_codec.specs.PageImage.{IsImage, page_digest};
+ghost use Rattle.exh_page.specs.declared.page.TheConstants.{CAP_LIMIT};
 ghost use Rattle.exh_frames.specs.PageStore.{HasHead, IfPage};
 
 use crate::image::Image;
 use exh_codec::{
-    BLOCK_LEN, DIGEST_LEN, ImageFault, blocks_are_read, decode_content, decode_head, images_are_sealed,
+    BLOCK_LEN, DIGEST_LEN, ImageFault, blocks_are_read, decode_content, decode_head,
+    images_are_sealed, lay_out, put_digest,
 };
 use exh_keyer::Keyer;
 use exh_page::{Page, PageHead, Record};
@@ -60,8 +61,8 @@ impl<K: Keyer> Images<K> {
         Ok(images)
     }
 
-    /// The images of these pages, in their order, each with the digest of its block. An `AllocError`
-    /// where memory is refused.
+    /// The images of these pages, in their order, each with the digest of its block, which isn't made
+    /// again. An `AllocError` where memory is refused.
     pub(crate) fn of_read(
         alloc: Global,
         keyer: K,
@@ -74,11 +75,8 @@ impl<K: Keyer> Images<K> {
         ensures { IfOk result (λ images. images ≡ record { keyer = keyer; pages = pages.now }) }
     {
         let mut images = Images::new(alloc, keyer);
-        images.images.reserve(pages.len())?;
-        for (page, digest) in pages.iter().zip(digests) {
-            images.add(page)?;
-            let last = images.images.len() - 1;
-            images.images[last].seal_as(digest);
+        for number in 0..pages.len() {
+            images.add_block(&image_with(&pages[number], &digests[number]))?;
         }
         Ok(images)
     }
@@ -166,15 +164,40 @@ impl<K: Keyer> Images<K> {
         Ok(())
     }
 
-    /// Writes the image of a page, whose digest is made here where it wasn't yet.
-    pub(crate) fn block(&mut self, number: PageNo, out: &mut [u8; BLOCK_LEN])
-        requires { number < length self.old.pages }
-        ensures same { self.new ≡ self.old }
-        ensures image { IfPage self.old.pages number (λ page. IsImage written_version (K.pseudokey_of self.old.keyer) page out.new) }
+    /// Adds the page that a block is the image of. An `AllocError` where memory is refused, and nothing
+    /// has changed.
+    pub(crate) fn add_block(&mut self, block: &[u8; BLOCK_LEN]) -> Result<(), AllocError>
+        requires room { length self.old.pages < 2 ^ 32 - 1 }
+        requires image { (page : PageType) × IsImage written_version (K.pseudokey_of self.old.keyer) page block.now }
+        ensures keyer { self.new.keyer ≡ self.old.keyer }
+        ensures ok { OnOk result ((page : PageType) → IsImage written_version (K.pseudokey_of self.old.keyer) page block.now → self.new.pages ≡ self.old.pages ++ page ∷ []) }
+        ensures err { OnErr result (self.new.pages ≡ self.old.pages) }
+    {
+        blocks_are_read();
+        images_are_sealed();
+        self.images.reserve(1)?;
+        self.images.push_reserved(Image::of_block(block));
+        Ok(())
+    }
+
+    /// The image of a page, with its digest.
+    pub(crate) fn block(&self, number: PageNo) -> [u8; BLOCK_LEN]
+        requires { number < length self.now.pages }
+        ensures { IfPage self.now.pages number (λ page. IsImage written_version (K.pseudokey_of self.now.keyer) page result) }
     {
         images_are_sealed();
-        let image = &mut self.images[number as usize];
-        image.seal();
-        *out = image.block;
+        let image = &self.images[number as usize];
+        image.sealed_block()
     }
+}
+
+// The image of a page, of the digest that it has.
+fn image_with(page: &Page, digest: &[u8; DIGEST_LEN]) -> [u8; BLOCK_LEN]
+    requires few { length (records_of page.now) ≤ CAP_LIMIT }
+    requires digest { digest.now ≡ page_digest page.now }
+    ensures { (pseudo : List ℕ → ℕ) → IsWellFormed pseudo page.now → IsImage written_version pseudo page.now result }
+{
+    let mut block = lay_out(page);
+    put_digest(&mut block, digest);
+    block
 }

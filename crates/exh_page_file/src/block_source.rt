@@ -15,7 +15,7 @@ ghost use Rattle.exh_page_file.specs.Reading.{IsBlock, IsOf, blocks_failed, left
 ghost use Rattle.exh_codec.specs.declared.block.TheConstants.{BLOCK_LEN};
 
 use crate::ReadFileFault;
-use exh_codec::{BLOCK_LEN, DIGEST_LEN, decode_page, digest_in};
+use exh_codec::{BLOCK_LEN, DIGEST_LEN, decode_page, digest_in, images_are_sealed};
 use exh_file::{BLOCK_ENTRIES, FileEntry, FileFault, Header, decode_entries, version_in};
 use exh_keyer::AnyKeyer;
 use exh_page::Page;
@@ -23,15 +23,14 @@ use exh_prefix::{Prefix, Version};
 use exh_stream::Source;
 use std::alloc::Global;
 use std::io::Read;
-use std::mem;
 
 /// The blocks of a file that is read, one after the other.
 #[derive(Drop)]
 pub(crate) struct BlockSource<'r, R: Read> {
     source: Source<'r, R>,
     place: u32,
-    // Of the blocks of the pages so far.
-    digests: Vec<[u8; DIGEST_LEN]>,
+    /// Of the blocks of the pages that were read.
+    pub(crate) digests: Vec<[u8; DIGEST_LEN]>,
 }
 
 impl<'r, R: Read> BlockSource<'r, R> {
@@ -49,18 +48,11 @@ impl<'r, R: Read> BlockSource<'r, R> {
         }
     }
 
-    // The digests of the blocks of the pages that were read, which are taken out.
-    pub(crate) fn take_digests(&mut self, alloc: Global) -> Vec<[u8; DIGEST_LEN]>
-        ensures digests { result.items ≡ self.old.digests.items }
-        ensures failed { blocks_failed self.new ≡ blocks_failed self.old }
-    {
-        mem::replace(&mut self.digests, Vec::new(alloc))
-    }
-
     // The version that the first block says, and the header that the block has in it.
     pub(crate) fn read_header(&mut self) -> Result<(Version, Header), ReadFileFault>
         requires { self.old.place + 1 < 2 ^ 32 }
         ensures place { OnOk result (self.new.place ≡ self.old.place + 1) }
+        ensures digests { self.new.digests ≡ self.old.digests }
         ensures ok { IfOk result (λ found. (block : _) × Consumes (left R.remaining self.old) (left R.remaining self.new) block × IsHeaderImage (file_version found.0) found.1 block × IsBlock block) }
         ensures err { IfErr result (IsOf (NextFails (λ block. HeaderFails (format_of block) block)) (left R.remaining self.old)) }
         ensures failed { IsErrOf result ReadFileFault.Read ↔ IsTrue (blocks_failed self.new) }
@@ -91,6 +83,7 @@ impl<'r, R: Read> BlockSource<'r, R> {
         ensures err { IfErr result (IsOf (NextFails (PageFails (layout version) (any_pseudokey keyer) self.old.place)) (left R.remaining self.old)) }
         ensures failed { IsErrOf result ReadFileFault.Read ↔ IsTrue (blocks_failed self.new) }
     {
+        images_are_sealed();
         let mut block = [0; BLOCK_LEN];
         self.fill(&mut block)?;
         match decode_page(alloc, version, &keyer, &block) {
@@ -149,6 +142,7 @@ impl<'r, R: Read> BlockSource<'r, R> {
     // Reads a whole block.
     fn fill(&mut self, block: &mut [u8; BLOCK_LEN]) -> Result<(), ReadFileFault>
         ensures place { self.new.place ≡ self.old.place }
+        ensures digests { self.new.digests ≡ self.old.digests }
         ensures ok { OnOk result (Consumes (left R.remaining self.old) (left R.remaining self.new) block.new) }
         ensures block { OnOk result (IsBlock block.new) }
         ensures err { IfErr result (IsOf (λ bytes fault. (length bytes < BLOCK_LEN) × (fault ≡ Truncated)) (left R.remaining self.old)) }

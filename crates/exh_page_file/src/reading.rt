@@ -13,6 +13,7 @@ use crate::{FileParts, ReadFileFault, files_pass, one_file};
 use exh_file::Header;
 use std::alloc::Global;
 use std::io::Read;
+use std::mem;
 
 /// The parts of a page file of either version, of which the reader has all bytes and no others. A
 /// block takes at most 4,097 reads. It takes memory for what was read, never for what a header claims.
@@ -51,9 +52,9 @@ fn read_parts<R: Read>(
     let (version, header) = blocks.read_header()?;
     let counts = &header.page_counts[..wards_of(&header)];
     let wards = read_wards(alloc, blocks, version, header.settings.keyer, counts)?;
+    let digests = mem::replace(&mut blocks.digests, Vec::new(alloc));
     let entries = read_table(alloc, blocks, version, header.entry_count as usize)?;
     blocks.read_end()?;
-    let digests = blocks.take_digests(alloc);
     Ok(FileParts {
         header,
         wards,

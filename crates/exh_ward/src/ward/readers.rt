@@ -3,6 +3,7 @@ ghost use Rattle.exh_prefix.specs.Prefix.{Begins};
 ghost use Rattle.exh_prefix.specs.declared.prefix.TheConstants.{LIMIT};
 ghost use Rattle.exh_page.specs.declared.page.Page.{Page};
 ghost use Rattle.exh_page.specs.declared.page.TheConstants.{CAP_LIMIT};
+ghost use Rattle.exh_frames.specs.PageStore.{IfPage};
 ghost use Rattle.exh_codec.specs.Block.{sealed};
 ghost use Rattle.exh_codec.specs.PageImage.{IsHeld, content_of};
 ghost use Rattle.exh_page.specs.PageHead.{head_of};
@@ -14,8 +15,8 @@ ghost use Rattle.exh_ward.specs.WardState.{IsSoundWard, IsUnchanged, notices_abo
 
 use super::Ward;
 use crate::WardFault;
-use exh_codec::BLOCK_LEN;
 use exh_calls::{Base, Journal, histories_are_undone};
+use exh_codec::BLOCK_LEN;
 use exh_frames::Pages;
 use exh_keyer::Keyer;
 use exh_legal::{pages_are_few, walks_name_homes};
@@ -130,13 +131,9 @@ impl<P: Pages + Drop, K: Keyer> Ward<P, K> {
     /// Writes the block that the page of this number has in a page file of the version that is written.
     /// Its digest isn't made again where the store has it. Refused: `NoPage`; at any point `Memory` and
     /// `Page`. Then the ward is as before.
-    pub fn block(
-        &mut self,
-        number: PageNo,
-        out: &mut [u8; BLOCK_LEN],
-    ) -> Result<(), WardFault>
+    pub fn block(&mut self, number: PageNo, out: &mut [u8; BLOCK_LEN]) -> Result<(), WardFault>
         requires cap { self.old.cap ≤ CAP_LIMIT }
-        ensures block { OnOk result ((page : Page) × IsAt self.old.pages number page × (out.new ≡ sealed (content_of page)) × IsHeld page) }
+        ensures block { OnOk result (IfPage self.old.pages number (λ page. (out.new ≡ sealed (content_of page)) × IsHeld page)) }
         ensures refused { IfErr result (PageRefused self.old.pages number) }
         ensures ok { OnOk result (self.new ≡ self.old) }
         ensures err { OnErr result (IsUnchanged self.old self.new) }

@@ -34,4 +34,5 @@ loop-number-preserved g c =
           (more_opened header c.args.pages.now c.args.tables.now wards c.in_ok-ward.ward number c.index-pages-number.result c.index-tables-number.result c.loop-number.invariant.count own table made c.loop-number.invariant.opened);
       pages = λ at past. untouched c.loop-number.pages number at c.replace-own.new.dest (omega (arith, past)) ∙ c.loop-number.invariant.pages at (omega (arith, past));
       tables = λ at past. untouched c.loop-number.tables number at c.replace-table.new.dest (omega (arith, past)) ∙ c.loop-number.invariant.tables at (omega (arith, past));
+      start = ?;
     }
