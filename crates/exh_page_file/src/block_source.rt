@@ -88,9 +88,10 @@ impl<'r, R: Read> BlockSource<'r, R> {
         self.fill(&mut block)?;
         match decode_page(alloc, version, &keyer, &block) {
             Ok(page) => {
+                let digest = digest_in(&block);
                 self.place += 1;
                 self.digests.reserve(1)?;
-                self.digests.push_reserved(digest_in(&block));
+                self.digests.push_reserved(digest);
                 Ok(page)
             }
             Err(fault) => Err(ReadFileFault::at_place(self.place, fault)),
