@@ -1,4 +1,4 @@
-ghost use Rattle.std.specs.Prelude.{◌≡◌, ◌<◌, ◌^◌, ◌++◌, ◌∷◌, [], List, ℕ, Some, length, map, IfOk, IfErr, OnOk, MatchResult};
+ghost use Rattle.std.specs.Prelude.{◌≡◌, ◌+◌, ◌<◌, ◌≤◌, ◌^◌, ◌++◌, ◌∷◌, [], List, ℕ, Some, length, map, take, drop, IfOk, IfErr, OnOk, MatchResult};
 ghost use Rattle.exh_keyer.specs.Pseudokey.{any_pseudokey};
 ghost use Rattle.exh_codec.specs.PageImage.{page_digest};
 ghost use Rattle.exh_file.specs.FileVersion.{format_of};
@@ -94,13 +94,21 @@ fn open_wards<P: Pages + Drop, M: StoreMaker<P, AnyKeyer>>(
     for number in 0..pages.len() {
         let own = mem::replace(&mut pages[number], Vec::new(alloc));
         let table = mem::replace(&mut tables[number], Table::new(alloc));
-        let end = start + own.len();
-        let own_digests = &digests[start..end];
+        let count = own.len();
+        let own_digests = part(digests, start, count);
         let ward = open_ward(alloc, maker, header, number as u8, own, own_digests, table)?;
         push(&mut wards, ward)?;
-        start = end;
+        start += count;
     }
     Ok(wards)
+}
+
+// So many digests from a place on.
+fn part(digests: &[[u8; DIGEST_LEN]], start: usize, count: usize) -> &[[u8; DIGEST_LEN]]
+    requires { start + count ≤ length digests.now }
+    ensures { result.now ≡ take count (drop start digests.now) }
+{
+    &digests[start..start + count]
 }
 
 // The ward of a number, of its pages and its table.
