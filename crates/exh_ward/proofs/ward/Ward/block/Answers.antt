@@ -8,7 +8,7 @@ use Rattle.exh_ward.proofs.ward.Ward.block.Goals as goal
 
 pub block-requires-clause-few : goal.block-requires-clause-few
 block-requires-clause-few g c page is =
-    let few = subst (λ (w : WardState g.row.K.Denot). w.cap ≤ CAP_LIMIT) (sym c.self.view_is) c.requires in
+    let few = subst (λ (w : WardState g.row.K.Denot). w.cap ≤ CAP_LIMIT) (sym c.self.view_is) c.requires.cap in
     few_in_page _ _ page few (page_at _ _ c.args.number page c.self.invariant.sound.legal.legal.legal.each is)
 
 pub invariant_of-self : goal.invariant_of-self
