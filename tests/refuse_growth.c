@@ -1,14 +1,17 @@
-/* Refuses one growth of memory, or kills the program there: tests/run and tests/failing_calls preload it.
+/* Refuses one growth of memory, or kills the program there, or counts them: tests/run, tests/failing_calls and
+ * tests/decodings preload it.
  *
  * Counted from the start of main over all threads, the call number REFUSED_GROWTH of malloc, calloc, realloc,
  * aligned_alloc and posix_memalign is answered as where no memory is left, or where REFUSED_KILLS is set the program is
- * killed in its place. Before that a byte is written to the descriptor REFUSED_TELLS. */
+ * killed in its place. Before that a byte is written to the descriptor REFUSED_TELLS. Where REFUSED_COUNTS is set, the
+ * count of such calls is written there in digits once main has returned. */
 #define _GNU_SOURCE
 #include <dlfcn.h>
 #include <errno.h>
 #include <signal.h>
 #include <stdatomic.h>
 #include <stddef.h>
+#include <stdio.h>
 #include <stdlib.h>
 #include <unistd.h>
 
@@ -81,7 +84,10 @@ static int counted_main(int count, char **words, char **environment) {
         abort();
     tells = atoi(descriptor);
     refused = strtoul(number, NULL, 10);
-    return its_main(count, words, environment);
+    int status = its_main(count, words, environment);
+    if (getenv("REFUSED_COUNTS") != NULL && dprintf(tells, "%lu", atomic_load(&calls)) < 0)
+        abort();
+    return status;
 }
 
 /* What the C library begins a program with: its main becomes the counted one. */
