@@ -61,6 +61,6 @@ def printed_counts(met):
     return [f"{met[name]:8} {name}" for name in sorted({*met, *wanted()})]
 
 
-def lacking(met):
-    """The names of what came up too seldom."""
-    return [name for name in wanted() if met[name] < LEAST]
+def lacking(met, more=()):
+    """The names of what came up too seldom, of what is always wanted and of some more."""
+    return [name for name in [*wanted(), *more] if met[name] < LEAST]

@@ -24,12 +24,29 @@ def difference_in(program, story):
     return []
 
 
-def difference_in_run(program, run, folder):
-    """In what a run differs from what it must come to."""
+def is_over_a_new_file(run):
+    """Whether a run is a script that opens no file."""
+    return run.words[0] == "serve" and "--open" not in run.words
+
+
+def difference_in_images(program, story, sizes):
+    """The same over pages as images: of each run that is a script over a new file, behind caches of these sizes by turns."""
+    runs = filter(is_over_a_new_file, story.runs)
+    for number, (run, size) in enumerate(zip(runs, itertools.cycle(sizes)), 1):
+        with tempfile.TemporaryDirectory(prefix="exhash-story-") as folder:
+            run = run._replace(words=["serve"], files={})
+            found = difference_in_run(program, run, Path(folder), [str(size)])
+        if found:
+            return [f"script {number} over images, a cache of {size}: {found[0]}", *found[1:]]
+    return []
+
+
+def difference_in_run(program, run, folder, words=None):
+    """In what a run differs from what it must come to, where it is asked by its own words or by others."""
     error = notes_of(run.words, run.given, {file.name: file.read_bytes() for file in folder.iterdir()})
     how = {"cwd": folder, "env": ENVIRONMENT, "input": run.given, "capture_output": True, "timeout": SECONDS}
     try:
-        ended = subprocess.run([program, *run.words], check=False, **how)
+        ended = subprocess.run([program, *(run.words if words is None else words)], check=False, **how)
     except subprocess.TimeoutExpired:
         return ["it had not ended in time"]
     found = difference_in_text(run, ended.stdout.decode("latin-1"))
