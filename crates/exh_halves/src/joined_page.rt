@@ -11,12 +11,13 @@ use exh_prefix::{PageNo, Prefix};
 use std::alloc::AllocError;
 
 /// The page of a parent that a merge makes of its halves, both live (Fagin et al. 1979). It takes
-/// memory for the records: an `AllocError` where that is refused.
-pub fn join_pages(left: &Page, buddy: &Page, parent: Prefix) -> Result<Page, AllocError>
-    requires live { IsLive left.now }
+/// memory where the left page has no room for the buddy's records: an `AllocError` where that is
+/// refused.
+pub fn join_pages(left: Page, buddy: &Page, parent: Prefix) -> Result<Page, AllocError>
+    requires live { IsLive left }
     requires buddy_live { IsLive buddy.now }
-    requires rising { IsRising (records_of left.now ++ records_of buddy.now) }
-    ensures { IfOk result (IsUnionOf left.now buddy.now parent) }
+    requires rising { IsRising (records_of left ++ records_of buddy.now) }
+    ensures { IfOk result (IsUnionOf left buddy.now parent) }
 {
     match buddy {
         Page::Live { right, .. } => Ok(Page::Live {

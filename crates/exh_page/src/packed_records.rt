@@ -213,19 +213,16 @@ impl PackedRecords {
         self.run(from, to)
     }
 
-    /// These records and then others. It takes memory for them: an `AllocError` where that is
-    /// refused.
-    pub(crate) fn followed_by(&self, others: &PackedRecords) -> Result<PackedRecords, AllocError>
-        ensures { IfOk result (λ records. records ≡ self.now ++ others.now) }
+    /// These records and then others. It takes memory where there is no room for these: an
+    /// `AllocError` where that is refused.
+    pub(crate) fn followed_by(self, others: &PackedRecords) -> Result<PackedRecords, AllocError>
+        ensures { IfOk result (λ records. records ≡ self ++ others.now) }
     {
-        let alloc = *self.stored.allocator();
-        let count = self.stored.len().saturating_add(others.stored.len());
-        let len = self.texts.len().saturating_add(others.texts.len());
-        let mut stored = Vec::with_capacity(alloc, count)?;
-        let mut texts = Vec::with_capacity(alloc, len)?;
-        stored.extend_from_slice(&self.stored)?;
+        let PackedRecords {
+            mut stored,
+            mut texts,
+        } = self;
         stored.extend_from_slice(&others.stored)?;
-        texts.extend_from_slice(&self.texts)?;
         texts.extend_from_slice(&others.texts)?;
         Ok(PackedRecords { stored, texts })
     }
@@ -238,6 +235,30 @@ impl PackedRecords {
             stored: self.stored.clone()?,
             texts: self.texts.clone()?,
         })
+    }
+
+    /// Records equal to these, with room for `more` further ones that are as long as these are on
+    /// average. It takes memory for all of them: an `AllocError` where that is refused.
+    pub(crate) fn try_clone_with_room(&self, more: usize) -> Result<PackedRecords, AllocError>
+        ensures { IfOk result (λ records. records ≡ self.now) }
+    {
+        let alloc = *self.stored.allocator();
+        let count = self.stored.len().saturating_add(more);
+        let len = self.texts.len().saturating_add(self.average_len(more));
+        let mut stored = Vec::with_capacity(alloc, count)?;
+        let mut texts = Vec::with_capacity(alloc, len)?;
+        stored.extend_from_slice(&self.stored)?;
+        texts.extend_from_slice(&self.texts)?;
+        Ok(PackedRecords { stored, texts })
+    }
+
+    // How many bytes `count` records have that are as long as these are on average; 0 where there are
+    // none to go by.
+    fn average_len(&self, count: usize) -> usize {
+        if self.stored.is_empty() {
+            return 0;
+        }
+        self.texts.len().saturating_mul(count) / self.stored.len()
     }
 
     // The records from one spot up to another. It takes memory, room for as many as there are here, so

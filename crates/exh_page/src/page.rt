@@ -141,12 +141,13 @@ impl Page {
     }
 
     /// The records that a merge gives a page: its own, and those of its right buddy, which stand
-    /// after them all. It takes memory for the records: an `AllocError` where that is refused.
-    pub fn absorb(&self, buddy: &Page) -> Result<Records, AllocError>
-        requires live { IsLive self.now }
+    /// after them all. It takes memory where the page has no room for the buddy's: an `AllocError`
+    /// where that is refused.
+    pub fn absorb(self, buddy: &Page) -> Result<Records, AllocError>
+        requires live { IsLive self }
         requires buddy_live { IsLive buddy.now }
-        requires rising { IsRising (records_of self.now ++ records_of buddy.now) }
-        ensures { IfOk result (λ records. records ≡ records_of self.now ++ records_of buddy.now) }
+        requires rising { IsRising (records_of self ++ records_of buddy.now) }
+        ensures { IfOk result (λ records. records ≡ records_of self ++ records_of buddy.now) }
     {
         match (self, buddy) {
             (
@@ -174,6 +175,28 @@ impl Page {
                 prefix: *prefix,
                 right: *right,
                 records: records.try_clone()?,
+            }),
+            Page::Forward { low, target } => Ok(Page::Forward {
+                low: *low,
+                target: *target,
+            }),
+        }
+    }
+
+    /// A page equal to this one, with room for `more` further records that are as long as its own are
+    /// on average. It takes memory for all of them: an `AllocError` where that is refused.
+    pub fn try_clone_with_room(&self, more: usize) -> Result<Page, AllocError>
+        ensures { IfOk result (λ page. page ≡ self.now) }
+    {
+        match self {
+            Page::Live {
+                prefix,
+                right,
+                records,
+            } => Ok(Page::Live {
+                prefix: *prefix,
+                right: *right,
+                records: records.try_clone_with_room(more)?,
             }),
             Page::Forward { low, target } => Ok(Page::Forward {
                 low: *low,

@@ -162,11 +162,11 @@ impl Records {
         })
     }
 
-    /// These records and others, each of which stands after all of these. It takes memory for them:
-    /// an `AllocError` where that is refused.
-    pub fn followed_by(&self, others: &Records) -> Result<Records, AllocError>
-        requires { IsRising (self.now ++ others.now) }
-        ensures { IfOk result (λ records. records ≡ self.now ++ others.now) }
+    /// These records and others, each of which stands after all of these. It takes memory where
+    /// there is no room for the others: an `AllocError` where that is refused.
+    pub fn followed_by(self, others: &Records) -> Result<Records, AllocError>
+        requires { IsRising (self ++ others.now) }
+        ensures { IfOk result (λ records. records ≡ self ++ others.now) }
     {
         Ok(Records {
             packed: self.packed.followed_by(&others.packed)?,
@@ -179,6 +179,16 @@ impl Records {
     {
         Ok(Records {
             packed: self.packed.try_clone()?,
+        })
+    }
+
+    /// Records equal to these, with room for `more` further ones that are as long as these are on
+    /// average. It takes memory for all of them: an `AllocError` where that is refused.
+    pub fn try_clone_with_room(&self, more: usize) -> Result<Records, AllocError>
+        ensures { IfOk result (λ records. records ≡ self.now) }
+    {
+        Ok(Records {
+            packed: self.packed.try_clone_with_room(more)?,
         })
     }
 }

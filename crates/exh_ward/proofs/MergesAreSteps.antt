@@ -149,9 +149,6 @@ module _ {K : Type 0} {pseudo : List ℕ → ℕ} {takes : Page → Type 0} {own
     abbrev right_page : Page
     right_page = Live (parent ++ true ∷ []) halves.link halves.others
 
-    pub left_within : at < length w.pages
-    left_within = slice_get_within w.pages at left_page halves.left.there
-
     pub buddy_within : right < length w.pages
     buddy_within = slice_get_within w.pages right right_page halves.buddy
 

@@ -29,16 +29,16 @@ impl<P: Pages + Drop, K: Keyer> Ward<P, K> {
         ensures sound { IsSoundWard K.pseudokey_of self.new }
     {
         merges_keep_legal();
-        let (parent, right) = self.fitting_buddy(page)?;
-        let merged = self.join(page, parent, right)?;
+        let (parent, right, count) = self.fitting_buddy(page)?;
+        let merged = self.join(page, parent, right, count)?;
         let forward = forward_from_right(parent, page);
         self.change_two(page, merged, right, forward, parent, Kind::Merge)
     }
 
-    // The parent of a page's prefix, and the number of the page's right buddy, where both pages fit
-    // into one. No record of them is read, so that a merge that they refuse takes no memory. The buddy is
-    // found by the page's own right link, so that no table is walked.
-    fn fitting_buddy(&mut self, page: PageNo) -> Result<(Prefix, PageNo), WardFault>
+    // The parent of a page's prefix, the number of the page's right buddy, and how many records that has,
+    // where both pages fit into one. No record of them is read, so that a merge that they refuse takes no
+    // memory. The buddy is found by the page's own right link, so that no table is walked.
+    fn fitting_buddy(&mut self, page: PageNo) -> Result<(Prefix, PageNo, usize), WardFault>
         ensures fit { IfOk result (λ found. FitTogether self.old page found.0 found.1) }
         ensures refused { IfErr result (MergeRefused self.old page) }
         ensures ok { IfOk result (λ _. self.new ≡ self.old) }
@@ -54,12 +54,20 @@ impl<P: Pages + Drop, K: Keyer> Ward<P, K> {
         let Some(right) = half.right else {
             unreachable!()
         };
-        half.test_buddy(self.store.head(right)?, self.cap)?;
-        Ok((half.parent, right))
+        let buddy = self.store.head(right)?;
+        half.test_buddy(buddy, self.cap)?;
+        Ok((half.parent, right, buddy.count()))
     }
 
-    // The page of the parent that a merge makes of a page and its right buddy.
-    fn join(&mut self, page: PageNo, parent: Prefix, right: PageNo) -> Result<Page, WardFault>
+    // The page of the parent that a merge makes of a page and its right buddy, which has `count` records.
+    // The page is copied with room for these, so that each record is copied once.
+    fn join(
+        &mut self,
+        page: PageNo,
+        parent: Prefix,
+        right: PageNo,
+        count: usize,
+    ) -> Result<Page, WardFault>
         requires { FitTogether self.old page parent right }
         ensures united { IfOk result (AreJoined self.old (K.pseudokey_of self.old.keyer) page parent right) }
         ensures ok { IfOk result (λ _. self.new ≡ self.old) }
@@ -70,8 +78,9 @@ impl<P: Pages + Drop, K: Keyer> Ward<P, K> {
     {
         buddies_unite();
         pages_are_few();
-        let left = self.store.get(page)?;
+        self.store.fetch(page)?;
+        let left = self.store.fetched(page).try_clone_with_room(count)?;
         self.store.fetch(right)?;
-        Ok(join_pages(&left, self.store.fetched(right), parent)?)
+        Ok(join_pages(left, self.store.fetched(right), parent)?)
     }
 }

@@ -5,15 +5,11 @@ use Rattle.exh_page.proofs.Begun.{packed_same, packed_append}
 use Rattle.exh_page.proofs.packed_records.PackedRecords.followed_by.Goals as goal
 
 -- the lists that are built hold the records of the one and of the other
-both : (c : goal.In_ok-extend_from_slice-4) → ArePacked (c.args.self.now ++ c.args.others.now) c.extend_from_slice-2.new.self.items c.extend_from_slice-4.new.self.items
+both : (c : goal.In_ok-extend_from_slice-2) → ArePacked (c.args.self ++ c.args.others.now) c.extend_from_slice.new.self.items c.extend_from_slice-2.new.self.items
 both c =
     packed_same refl
-    (c.in_ok-extend_from_slice-2.ensures.items
-    ∙ ap (λ list. list ++ c.deref-2.result.now) (c.in_ok-extend_from_slice.ensures.items ∙ ap (λ list. list ++ c.deref.result.now) c.in_ok-stored.ensures.items ∙ c.deref.ensures.value)
-    ∙ ap (λ list. c.self.inside.stored.items ++ list) c.deref-2.ensures.value)
-    (c.in_ok-extend_from_slice-4.ensures.items
-    ∙ ap (λ list. list ++ c.deref-4.result.now) (c.in_ok-extend_from_slice-3.ensures.items ∙ ap (λ list. list ++ c.deref-3.result.now) c.in_ok-texts.ensures.items ∙ c.deref-3.ensures.value)
-    ∙ ap (λ list. c.self.inside.texts.items ++ list) c.deref-4.ensures.value)
+    (c.in_ok-extend_from_slice.ensures.items ∙ ap (λ list. c.self.inside.stored.items ++ list) c.deref.ensures.value)
+    (c.in_ok-extend_from_slice-2.ensures.items ∙ ap (λ list. c.self.inside.texts.items ++ list) c.deref-2.ensures.value)
     (packed_append (packed_same c.self.view_is refl refl c.self.invariant) (packed_same c.others.view_is refl refl c.others.invariant))
 
 pub invariant_of-result : goal.invariant_of-result
