@@ -3,7 +3,7 @@ use Rattle.std.specs.Prelude.{◌≡◌, ℕ, ◌+◌, filter, List, slice_get, 
 use Rattle.std.specs.FinMap.{entries}
 use Rattle.exh_notice.specs.declared.notice.Notice.{Notice}
 use Rattle.exh_table.specs.Table.{TableMap}
-use Rattle.exh_legal.specs.Numbers.{AreNumbered, index_of}
+use Rattle.exh_legal.specs.Versions.{AreNumbered, index_of}
 use Rattle.exh_live.specs.Rounds.{changes_told, is_of_ward}
 
 -- A ward's start table has the table's entries at the ward's prefixes: a courier's first place is the index of the ward's last

@@ -47,7 +47,9 @@ fn changes_of(table: &Table, ward_bits: u8, number: u8) -> Result<u64, AllocErro
     let mut told: u64 = 0;
     for (prefix, entry) in table.entries() {
         if is_of(*prefix, ward_bits, number) {
-            told = told.checked_add(u64::from(entry.number)).ok_or(AllocError)?;
+            told = told
+                .checked_add(u64::from(entry.version))
+                .ok_or(AllocError)?;
         }
     }
     Ok(told)

@@ -139,7 +139,7 @@ impl<P: Pages + Drop, K: Keyer, F: Identity> TalliedWard<P, K, F> {
     }
 
     /// A keeper's turn at a page: a look at it and its right buddy, and a merge where they are sparse, the
-    /// method that the world's step calls. It answers whether it merged them; not where the number at
+    /// method that the world's step calls. It answers whether it merged them; not where the version at
     /// their parent is the greatest. No unit is added.
     pub(crate) fn keep(&mut self, page: PageNo) -> Result<bool, WardFault>
         ensures sound { IsSoundWard K.pseudokey_of self.old.ward }

@@ -18,7 +18,7 @@ type Reader = CopyReader<Brand>;
 // The pseudokey `#80`.
 const HALF: u64 = 0x8000_0000_0000_0000;
 
-// A notice at the root: its number, and a split's right page.
+// A notice at the root: its version, and a split's right page.
 type Row = (u32, Option<PageNo>);
 
 const SPLIT: Row = (1, Some(1));
@@ -158,12 +158,12 @@ const TWO_COPIES: [(u8, Step); 19] = [
 ];
 
 fn notice(row: Row) -> Notice {
-    let (number, right) = row;
+    let (version, right) = row;
     Notice {
         ward: 0,
-        index: u64::from(number),
+        index: u64::from(version),
         prefix: Leaf::root().prefix,
-        number,
+        version,
         kind: match right {
             Some(right) => Kind::Split { right },
             None => Kind::Merge,
