@@ -7,7 +7,7 @@ use Rattle.exh_notice.specs.declared.entry.Entry.{Entry}
 use Rattle.exh_table.specs.Table.{TableMap}
 use Rattle.exh_live.specs.Rounds.{changes_told, is_of_ward}
 use Rattle.exh_legal.specs.Versions.{index_of}
-use Rattle.exh_live.proofs.laws.places_go_on_with_wards.Goals as goal
+use Rattle.exh_live.proofs.laws.cursors_go_on_with_wards.Goals as goal
 
 -- a sum over those that pass a test
 sum_of_passing : {X : Type 0} (test : X → Bool) (f : X → ℕ) (xs : List X) → sum_by (λ x. cond (test x) (f x) 0) xs ≡ sum_by f (filter test xs)
