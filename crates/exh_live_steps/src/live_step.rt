@@ -335,8 +335,8 @@ fn is_named<S: Start>(
     requires { copy.old.name ≡ writer.old.name }
     ensures { copy.new.name ≡ writer.new.name }
 {
-    match writer.tell() {
-        Ok(told) => copy.learn(told),
+    match writer.hand_on() {
+        Ok(handed) => copy.learn(handed),
         Err(_) => return Err(Difference::Apart(Part::Run)),
     }
     same(
