@@ -97,9 +97,9 @@ class Ward:
     def change(self, prefix, kind, right=0):
         """Issues the next notice at a prefix."""
         table = self.table()
-        number = table[prefix].number + 1 if prefix in table else 1
-        index = sum(entry.number for entry in table.values()) + 1
-        notice = Notice(self.number, index, prefix, Entry(number, kind, right))
+        version = table[prefix].version + 1 if prefix in table else 1
+        index = sum(entry.version for entry in table.values()) + 1
+        notice = Notice(self.number, index, prefix, Entry(version, kind, right))
         self.notices.append(notice)
         return notice
 
@@ -222,7 +222,7 @@ class File:
             raise Refused(7)
         if self.count_under(parent) > self.cap:
             raise Refused(8)
-        if ward.table()[parent].number == NUMBER_LIMIT:
+        if ward.table()[parent].version == NUMBER_LIMIT:
             raise Refused(9)
         ward.leaves ^= {parent, parent + "0", parent + "1"}
         return ward.change(parent, Kind.MERGE)

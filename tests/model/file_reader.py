@@ -166,12 +166,12 @@ class Reader:
         """The ward, the prefix and the entry of an image."""
         ward, kind, length, zero = image[:4]
         field = image[4 : 4 + self.version.width]
-        number, right = struct.unpack(">II", image[8:])
+        change_version, right = struct.unpack(">II", image[8:])
         self.fails(KIND, kind not in (SPLIT, MERGE))
         self.fails(PADDING, zero or any(image[4 + len(field) : 8]) or kind == MERGE and right)
         digits = digits_in(field)
         self.fails(PREFIX, length >= self.version.limit or "1" in digits[length:])
-        return ward, digits[:length], Entry(number, Kind.SPLIT if kind == SPLIT else Kind.MERGE, right)
+        return ward, digits[:length], Entry(change_version, Kind.SPLIT if kind == SPLIT else Kind.MERGE, right)
 
     def tables(self, count):
         """The entries of the table blocks that come next, so many."""
@@ -300,9 +300,9 @@ def has_table(parts):
     told = {Kind.SPLIT: set(), Kind.MERGE: set()}
     for ward, prefix, entry in parts.entries:
         is_own = ward < len(parts.pages) and prefix[: parts.ward_bits] == digits_of(ward, parts.ward_bits)
-        is_numbered = entry.number >= 1 and (entry.number % 2 == 1) == (entry.kind is Kind.SPLIT)
+        has_version = entry.version >= 1 and (entry.version % 2 == 1) == (entry.kind is Kind.SPLIT)
         is_right = entry.kind is Kind.MERGE or splits.get(prefix) == entry.right
-        if not is_own or not is_numbered or not is_right:
+        if not is_own or not has_version or not is_right:
             return False
         told[entry.kind].add(prefix)
     return told == {Kind.SPLIT: set(splits), Kind.MERGE: merges}

@@ -111,8 +111,8 @@ def drill(dice, ward, limit):
         ward.leaves ^= {leaf[:-1], leaf[:-1] + "0", leaf[:-1] + "1"}
 
 
-def number_by(dice, is_split):
-    """The number of an entry: odd of a split, and mostly small."""
+def version_by(dice, is_split):
+    """The version of an entry: odd of a split, and mostly small."""
     return dice.choice((2, 2, 4, 1000, NUMBER_LIMIT - 1)) + is_split - 2 * (is_split and dice.random() < 0.5)
 
 
@@ -122,8 +122,8 @@ def tell_table(dice, ward):
     ward.lows = [own, *dice.sample(rest, len(rest))]
     fronts = {leaf[:length] for leaf in ward.leaves for length in range(len(ward.prefix), len(leaf))}
     forwards = {low[: low.rindex("1")] for low in rest} - fronts
-    splits = {it: Entry(number_by(dice, True), Kind.SPLIT, ward.page_at(low_bound(it + "1"))) for it in sorted(fronts)}
-    merges = {it: Entry(number_by(dice, False), Kind.MERGE) for it in sorted(forwards)}
+    splits = {it: Entry(version_by(dice, True), Kind.SPLIT, ward.page_at(low_bound(it + "1"))) for it in sorted(fronts)}
+    merges = {it: Entry(version_by(dice, False), Kind.MERGE) for it in sorted(forwards)}
     ward.start = frozenset((splits | merges).items())
 
 

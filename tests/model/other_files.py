@@ -1,4 +1,4 @@
-"""Page files that no run saves, by chance: legal ones of greater numbers, and damaged ones."""
+"""Page files that no run saves, by chance: legal ones whose changes have greater versions, and damaged ones."""
 
 import struct
 
@@ -14,7 +14,7 @@ IMAGE = (0, 1, 2, 3, 4, 5, 6, 7, 8, 11, 12, 15)
 
 
 def strange(dice, file):
-    """An opened file with greater numbers in its tables, and its pages numbered in another order."""
+    """An opened file with greater versions in its tables, and its pages numbered in another order."""
     file = file.opened()
     for ward in file.wards:
         others = ward.lows[1:]
@@ -27,10 +27,10 @@ def strange(dice, file):
 
 
 def raised(dice, entry, places):
-    """An entry with a greater number of its kind, whose page has another number."""
-    most = NUMBER_LIMIT - (NUMBER_LIMIT - entry.number) % 2
-    number = dice.choice((entry.number, entry.number + 2, most, most))
-    return entry._replace(number=min(number, most), right=places[entry.right])
+    """An entry with a greater version of its kind, whose page has another number."""
+    most = NUMBER_LIMIT - (NUMBER_LIMIT - entry.version) % 2
+    version = dice.choice((entry.version, entry.version + 2, most, most))
+    return entry._replace(version=min(version, most), right=places[entry.right])
 
 
 def with_block(content, place, block):

@@ -57,7 +57,7 @@ def page_block(file, ward, number, version):
 def entry_image(ward, prefix, entry, version):
     kind = SPLIT if entry.kind is Kind.SPLIT else MERGE
     head = struct.pack(">BBBx", ward, kind, len(prefix)) + field_of(prefix, version.width)
-    return head.ljust(8, b"\0") + struct.pack(">II", entry.number, entry.right)
+    return head.ljust(8, b"\0") + struct.pack(">II", entry.version, entry.right)
 
 
 def has_room(file, version):

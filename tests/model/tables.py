@@ -13,7 +13,7 @@ from .version import LIMIT
 
 
 class Kind(enum.IntEnum):
-    """What a change was, in the order of entries of one number."""
+    """What a change was, in the order of entries of one version."""
 
     MERGE = 0
     SPLIT = 1
@@ -22,14 +22,14 @@ class Kind(enum.IntEnum):
 class Entry(NamedTuple):
     """What a notice leaves at its prefix. Entries are in the order of these fields; `right` is 0 of a merge."""
 
-    number: int
+    version: int
     kind: Kind
     right: int = 0
 
     def text(self):
         """The entry's words, as in the lines `notice` and `entry`."""
         what = f"split right {self.right}" if self.kind is Kind.SPLIT else "merge"
-        return f"number {self.number} {what}"
+        return f"number {self.version} {what}"
 
 
 class Notice(NamedTuple):

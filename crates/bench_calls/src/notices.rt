@@ -15,7 +15,7 @@ pub(crate) fn splits(alloc: Global, pages: u32) -> anyhow::Result<Vec<Notice>> {
             ward: 0,
             index: u64::from(right),
             prefix: prefix.context("as many pages as a file may have")?,
-            number: 1,
+            version: 1,
             kind: Kind::Split { right },
         })?;
     }
@@ -25,7 +25,7 @@ pub(crate) fn splits(alloc: Global, pages: u32) -> anyhow::Result<Vec<Notice>> {
 /// What undoes a split, and what makes it again, in turns: the i-th notice after it, from 0 on.
 pub(crate) fn later(split: &Notice, i: u32) -> Notice {
     let mut notice = *split;
-    notice.number = i.saturating_add(2);
+    notice.version = i.saturating_add(2);
     if i % 2 == 0 {
         notice.kind = Kind::Merge;
     }

@@ -1,5 +1,5 @@
 //! What happens in worlds that are made of one another's wards, and what each line prints: worked out by hand. They are
-//! of a file of one ward, of pages of two records. All notices are at the root, so indexes and numbers rise together.
+//! of a file of one ward, of pages of two records. All notices are at the root, so indexes and versions rise together.
 
 use crate::answers::Line;
 use exh_calls::{JournalEntry, Reply};

@@ -1,5 +1,5 @@
-//! Lines over worlds of wards as of a file that was written, whose numbers at their own prefixes are the greatest or near
-//! it; and what the wards have told then. All is beside what was worked out by hand.
+//! Lines over worlds of wards as of a file that was written, whose versions at their own prefixes are the greatest or
+//! near it; and what the wards have told then. All is beside what was worked out by hand.
 
 ghost use Rattle.std.specs.Prelude.{◌≡◌, ◌<◌, ◌^◌, ◌%◌, ◌≤◌, IfOk};
 ghost use Rattle.exh_keyer.specs.Pseudokey.{any_pseudokey};
@@ -22,7 +22,7 @@ use std::alloc::Global;
 
 type PlainWard = Ward<PlainPages, AnyKeyer>;
 
-// The greatest number at a prefix, and the split before the one of this number.
+// The greatest version at a prefix, and the split before the one of this version.
 const GREATEST: u32 = 4_294_967_295;
 
 const BEFORE: u32 = 4_294_967_293;

@@ -2,8 +2,8 @@
 
 use crate::answers::Line;
 
-/// In a file of one ward, whose number at the root is the greatest, no merge at the root can follow its split: what is
-/// refused for another reason still is, and changes elsewhere are made. Indexes go on from the number at the root.
+/// In a file of one ward, whose version at the root is the greatest, no merge at the root can follow its split: what is
+/// refused for another reason still is, and changes elsewhere are made. Indexes go on from the version at the root.
 pub(crate) const WORN: [Line; 15] = [
     ("merge 0 2", "refused 1\n"),
     ("merge 0 1", "refused 6\n"),

@@ -193,7 +193,7 @@ fn take<R: Wait, F: Identity, S: Start>(
     is_again: bool,
 ) -> Result<(), Difference>
     requires bits { file.now.ward_bits ≡ 0 }
-    requires places { length cursors.old ≡ 1 }
+    requires cursors { length cursors.old ≡ 1 }
     ensures { length cursors.new ≡ 1 }
 {
     match step {

@@ -53,7 +53,7 @@ pub(crate) enum OneCaller {
     MergedCourier,
     /// A courier to a copy whose table tells of a split and of its merge begins after both.
     LateCourier,
-    /// At the greatest number pages can't be merged any more: a keeper passes over them.
+    /// At the greatest version pages can't be merged any more: a keeper passes over them.
     WornKeeper,
     /// A copy names a page that isn't there, in a file without a key.
     WrongHint,
@@ -99,12 +99,12 @@ impl OneCaller {
 
     // What the start table has at the ward's prefix.
     fn entry(self) -> Option<Entry> {
-        let (number, kind) = match self {
+        let (version, kind) = match self {
             OneCaller::LateCourier => (2, Kind::Merge),
             OneCaller::MergedCourier => (4, Kind::Merge),
             _ => (self.changes()?, Kind::Split { right: 1 }),
         };
-        Some(Entry { number, kind })
+        Some(Entry { version, kind })
     }
 
     // How many calls are answered.

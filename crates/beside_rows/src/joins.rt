@@ -12,7 +12,7 @@ use exh_runs::{Difference, Part, Run, again, same};
 use exh_table::Table;
 use std::alloc::{AllocError, Global};
 
-// A notice at a prefix, of this number: a split with this right half, or a merge.
+// A notice at a prefix, of this version: a split with this right half, or a merge.
 type Told = (&'static str, u32, Option<PageNo>);
 
 // A leaf and its page.
@@ -26,7 +26,7 @@ const SOME: [Told; 4] = [
     ("10", 1, Some(9)),
 ];
 
-// Of two at one prefix the later number counts, whichever comes first.
+// Of two at one prefix the later version counts, whichever comes first.
 const OTHERS: [Told; 6] = [
     ("1", 3, Some(4)),
     ("", 3, Some(2)),
@@ -124,11 +124,11 @@ fn join(directory: &mut Directory, table: &Table) -> Result<(), AllocError> {
 }
 
 fn take_all(directory: &mut Directory, all: &[Told]) -> Result<(), Difference> {
-    for (bits, number, right) in all {
+    for (bits, version, right) in all {
         let at = prefix(bits)?;
         let notice = match right {
-            Some(right) => split(1, at, *number, *right),
-            None => merge(1, at, *number),
+            Some(right) => split(1, at, *version, *right),
+            None => merge(1, at, *version),
         };
         again!(Err(AllocError) => directory.take(&notice))?;
     }
@@ -206,13 +206,13 @@ fn take_chain(directory: &mut Directory) -> Result<(), Difference> {
 fn take_zeros(
     directory: &mut Directory,
     zeros: u8,
-    number: u32,
+    version: u32,
     depth: u8,
 ) -> Result<(), Difference> {
     let at = Prefix::new(zeros, 0).ok_or(Difference::Apart(Part::Run))?;
-    let notice = match number % 2 {
-        0 => merge(1, at, number),
-        _ => split(1, at, number, PageNo::from(zeros) + 1),
+    let notice = match version % 2 {
+        0 => merge(1, at, version),
+        _ => split(1, at, version, PageNo::from(zeros) + 1),
     };
     again!(Err(AllocError) => directory.take(&notice))?;
     same(directory.depth() == depth, Part::Depth)

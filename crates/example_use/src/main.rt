@@ -13,7 +13,7 @@ use crate::service::{NAMES, serve};
 use anyhow::Context;
 use exh_frames::{PlainMaker, PlainPages};
 use exh_open::{Opened, open};
-use exh_place::{Seen, save_at};
+use exh_path::{Seen, save_at};
 use exh_progress::{Console, Meter, Unit, Work};
 use exh_system_disk::SystemDisk;
 use std::fs::File;

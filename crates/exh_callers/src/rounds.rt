@@ -32,7 +32,7 @@ fn carry_once<R: Wait, P: Pages + Drop, F: Identity, S: Start>(
     cursors: &mut Cursors,
 ) -> Result<u64, AllocError>
     requires { length cursors.old ≡ 2 ^ file.now.ward_bits }
-    ensures places { length cursors.new ≡ length cursors.old }
+    ensures cursors { length cursors.new ≡ length cursors.old }
     ensures name { writer.new.name ≡ writer.old.name }
 {
     file.courier_round(rt, writer, cursors)
@@ -66,7 +66,7 @@ pub fn is_kept<R: Wait, P: Pages + Drop, F: Identity>(
 }
 
 /// Makes a round of a courier, once more where memory was refused, that takes so many notices. The
-/// courier has as many places then as before, and the copy its name.
+/// courier has as many cursors then as before, and the copy its name.
 pub fn is_carried<R: Wait, P: Pages + Drop, F: Identity, S: Start>(
     rt: &R,
     file: &File<P, F>,
@@ -75,7 +75,7 @@ pub fn is_carried<R: Wait, P: Pages + Drop, F: Identity, S: Start>(
     notices: u64,
 ) -> Result<(), Difference>
     requires { length cursors.old ≡ 2 ^ file.now.ward_bits }
-    ensures places { length cursors.new ≡ length cursors.old }
+    ensures cursors { length cursors.new ≡ length cursors.old }
     ensures name { writer.new.name ≡ writer.old.name }
 {
     let carried = again!(Err(AllocError) => carry_once(rt, file, writer, cursors));

@@ -15,7 +15,7 @@ use std::sync::ledger::Blank;
 
 /// A copy of the directory that has the table, in a file of so many ward bits: its writer, and so many
 /// readers, which have the copy's name. There is room for as many further readers, or for what the
-/// writer tells. Refused: `Memory`, and `NoPlace` where `left_right` gives no reader for another cause.
+/// writer hands on. Refused: `Memory`, and `NoPlace` where `left_right` gives no reader for another cause.
 pub fn new_copy<S: Start>(
     alloc: Global,
     ward_bits: u8,

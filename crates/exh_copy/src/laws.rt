@@ -7,7 +7,7 @@ pub fn copies_never_go_back()
     ensures { CopiesNeverGoBack }
 {}
 
-/// Who learns what was told of the same list holds no less than it did, and its table is no lower.
+/// Who learns what was handed on of the same list holds no less than it did, and its table is no lower.
 pub fn learning_never_goes_back()
     ensures { LearningNeverGoesBack }
 {}

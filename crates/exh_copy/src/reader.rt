@@ -7,7 +7,7 @@ ghost use Rattle.left_right.specs.Sides.{view};
 use crate::name::CopyName;
 use crate::published::Published;
 use crate::rule::{Looks, Rule, View};
-use crate::{Start, Told};
+use crate::{HandedOn, Start};
 use core::mem::replace_with;
 use exh_prefix::PageNo;
 use left_right::reader::Reader;
@@ -56,20 +56,20 @@ impl<S: Start> CopyReader<S> {
         Some(page)
     }
 
-    /// Takes in what the writer of its copy told, where that is at least as much as the reader holds. It
+    /// Takes in what the writer of its copy handed on, where that is at least as much as the reader holds. It
     /// takes no memory.
-    pub fn learn(&mut self, told: Told<S>)
-        requires own { told.name ≡ self.old.name }
-        ensures { self.new ≡ record self.old { additions = longest self.old.additions told.additions } }
+    pub fn learn(&mut self, handed: HandedOn<S>)
+        requires own { handed.name ≡ self.old.name }
+        ensures { self.new ≡ record self.old { additions = longest self.old.additions handed.additions } }
     {
-        if told.additions < self.additions {
+        if handed.additions < self.additions {
             return;
         }
-        let Told {
+        let HandedOn {
             reader,
             additions,
             name: _,
-        } = told;
+        } = handed;
         self.reader = reader;
         self.additions = additions;
     }

@@ -1,4 +1,4 @@
--- How far a file is on its way to its place: what the calls of a disk ask of it, and what they make of it.
+-- How far a file is on its way to its path: what the calls of a disk ask of it, and what they make of it.
 use Rattle.std.specs.Prelude.{Bool, true, false}
 use Rattle.exh_disk.specs.declared.stage.Stage.{Stage}
 use Rattle.exh_disk.specs.declared.stage.Stage.TheVariants.{Made, Left, Held, HeldLeft, OwnMade, OwnLeft, Restricted, Empty, Dressed, Written, Synchronized, Confirmed, Placed, Settled}

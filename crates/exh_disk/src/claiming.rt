@@ -1,4 +1,4 @@
-//! The file beside a place that a save has for itself.
+//! The file beside a path that a save has for itself.
 ghost use Rattle.std.specs.Prelude.{◌≡◌, ◌≢◌, IfOk, IfSome, OnErr, OnOk, string_bytes, true};
 ghost use Rattle.exh_disk.specs.declared.stage.Stage.TheVariants.{Empty, Made, OwnLeft};
 ghost use Rattle.exh_disk.specs.Stage.{is_ours};
@@ -15,23 +15,23 @@ const PRIVATE: u32 = 0o600;
 
 const USUAL: u32 = 0o666;
 
-/// An empty file beside a place for one save alone, and its name. What a killed save left there is taken over; where a
-/// name is taken otherwise, or is that of the place, as a long one that was cut may be, another one is tried.
+/// An empty file beside a path for one save alone, and its name. What a killed save left there is taken over; where a
+/// name is taken otherwise, or is that of the path, as a long one that was cut may be, another one is tried.
 pub(crate) fn claim<D: Disk>(
     alloc: Global,
     disk: &mut D,
-    place: &str,
+    path: &str,
     old: Option<&Found>,
 ) -> Result<(D::File, String), DiskFault>
     ensures stage { IfOk result (λ claimed. D.stage claimed.0 ≡ Empty) }
-    ensures beside { IfOk result (λ claimed. string_bytes claimed.1 ≢ place.now) }
+    ensures beside { IfOk result (λ claimed. string_bytes claimed.1 ≢ path.now) }
 {
     for suffix in SUFFIXES {
-        let name = name_beside(alloc, place, suffix).map_err(|_| DiskFault::Memory)?;
-        if name.as_str() == place {
+        let name = name_beside(alloc, path, suffix).map_err(|_| DiskFault::Memory)?;
+        if name.as_str() == path {
             continue;
         }
-        if let Some(file) = claim_name(disk, &name, place, old)? {
+        if let Some(file) = claim_name(disk, &name, path, old)? {
             return Ok((file, name));
         }
     }
@@ -43,17 +43,17 @@ pub(crate) fn claim<D: Disk>(
 fn claim_name<D: Disk>(
     disk: &mut D,
     name: &str,
-    place: &str,
+    path: &str,
     old: Option<&Found>,
 ) -> Result<Option<D::File>, DiskFault>
-    requires { name.now ≢ place.now }
+    requires { name.now ≢ path.now }
     ensures { IfOk result (λ claimed. IfSome claimed (λ file. D.stage file ≡ Empty)) }
 {
     match disk.ask_name(name) {
         Ok(found) => {
             let runner = disk.runner().ok();
             if is_left_over(&found, runner, old) {
-                take_over(disk, name, place, old)
+                take_over(disk, name, path, old)
             } else {
                 Ok(None)
             }
@@ -106,20 +106,20 @@ fn hold<D: Disk>(disk: &mut D, file: &mut D::File, name: &str) -> Result<(), Dis
 }
 
 // Takes over what a save left: only once it is locked, and still the file of its name, which another save may have given
-// it a place under. Where there is no old file it is made anew, with the usual permissions.
+// it a path under. Where there is no old file it is made anew, with the usual permissions.
 fn take_over<D: Disk>(
     disk: &mut D,
     name: &str,
-    place: &str,
+    path: &str,
     old: Option<&Found>,
 ) -> Result<Option<D::File>, DiskFault>
-    requires { name.now ≢ place.now }
+    requires { name.now ≢ path.now }
     ensures { IfOk result (λ taken. IfSome taken (λ file. D.stage file ≡ Empty)) }
 {
-    let mut file = match disk.take(name, place) {
+    let mut file = match disk.take(name, path) {
         Ok(file) => file,
         Err(error) if error.kind() == ErrorKind::PermissionDenied => return Ok(None),
-        // Where it is gone, another save gave it a place.
+        // Where it is gone, another save gave it a path.
         Err(error) => return Err(DiskFault::busy_at(ErrorKind::NotFound, Call::Make, error)),
     };
     disk.lock(&mut file).map_err(|error| DiskFault::busy_at(
@@ -154,7 +154,7 @@ fn clear<D: Disk>(disk: &mut D, left: &mut D::File) -> io::Result<()>
     disk.empty(left)
 }
 
-/// A file couldn't be asked whether it is the one of its name. Where nothing has the name, another save gave it a place.
+/// A file couldn't be asked whether it is the one of its name. Where nothing has the name, another save gave it a path.
 pub(crate) fn confirm_fault(error: io::Error) -> DiskFault {
     DiskFault::busy_at(ErrorKind::NotFound, Call::Ask, error)
 }

@@ -48,9 +48,9 @@ pub trait Disk {
     fn make(&mut self, name: &str, mode: u32) -> io::Result<Self::File>
         ensures { IfOk result (λ file. stage file ≡ Made) };
 
-    /// Opens the file of a name beside a place as it stands.
-    fn take(&mut self, name: &str, place: &str) -> io::Result<Self::File>
-        requires { name.now ≢ place.now }
+    /// Opens the file of a name beside a path as it stands.
+    fn take(&mut self, name: &str, path: &str) -> io::Result<Self::File>
+        requires { name.now ≢ path.now }
         ensures { IfOk result (λ file. stage file ≡ Left) };
 
     /// Takes the lock of a file, which one save has at a time.
@@ -103,14 +103,14 @@ pub trait Disk {
         ensures ok { OnOk result (stage file.new ≡ Synchronized) }
         ensures err { OnErr result (stage file.new ≡ stage file.old) };
 
-    /// Gives a file the place of another, or a new one.
-    fn rename(&mut self, file: &mut Self::File, name: &str, place: &str) -> io::Result<()>
+    /// Gives a file the path of another, or a new one.
+    fn rename(&mut self, file: &mut Self::File, name: &str, path: &str) -> io::Result<()>
         requires stage { stage file.old ≡ Confirmed }
-        requires beside { name.now ≢ place.now }
+        requires beside { name.now ≢ path.now }
         ensures ok { OnOk result (stage file.new ≡ Placed) }
         ensures err { OnErr result (stage file.new ≡ stage file.old) };
 
-    /// Waits until the names of a folder are on the disk, those of a file that has its place there.
+    /// Waits until the names of a folder are on the disk, those of a file that has its path there.
     fn synchronize_folder(&mut self, file: &mut Self::File, folder: &str) -> io::Result<()>
         requires { stage file.old ≡ Placed }
         ensures { stage file.new ≡ Settled };

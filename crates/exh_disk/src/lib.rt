@@ -1,4 +1,4 @@
-//! The calls that a save makes of a disk, in their order: a file is written beside its place and renamed over it. The
+//! The calls that a save makes of a disk, in their order: a file is written beside its path and renamed over it. The
 //! order is code over any disk: the system's, or one in memory, which a test sets.
 #![tactic(auto)]
 
@@ -21,7 +21,7 @@ mod fault_keeper;
 mod found;
 mod looking;
 mod names;
-mod place;
+mod path;
 mod saving;
 mod seen;
 mod stage;

@@ -1,6 +1,6 @@
 use crate::fault::Call;
 use crate::names::folder_of;
-use crate::place::{Place, old_at, place_of};
+use crate::path::{PathTo, old_at, path_to};
 use crate::{Disk, DiskFault, Kind, Target};
 use std::alloc::Global;
 
@@ -8,11 +8,11 @@ use std::alloc::Global;
 ///
 /// On an `Err` a save there would fail so, if nothing changes until then.
 pub fn look<D: Disk>(alloc: Global, disk: &mut D, target: &Target<'_>) -> Result<(), DiskFault> {
-    match place_of(alloc, disk, target.path)? {
-        Place::Device => Ok(()),
-        Place::File(place) => {
-            old_at(disk, &place, target)?;
-            look_at_folder(disk, folder_of(&place))
+    match path_to(alloc, disk, target.path)? {
+        PathTo::Device => Ok(()),
+        PathTo::File(path) => {
+            old_at(disk, &path, target)?;
+            look_at_folder(disk, folder_of(&path))
         }
     }
 }

@@ -1,4 +1,4 @@
-//! The names that a save makes of a place.
+//! The names that a save makes of a path.
 ghost use Rattle.std.specs.Prelude.{◌≡◌, ◌++◌, ◌+◌, ◌≤◌, ℕ, IfOk, length, string_bytes, take};
 
 use std::alloc::{AllocError, Global};
@@ -15,16 +15,16 @@ pub(crate) const SUFFIXES: [&str; 4] = [
 // The most bytes that systems let a name have.
 const NAME_LIMIT: usize = 255;
 
-/// The name of a file beside a place: that of the place with a suffix behind it, of which as many bytes before the suffix
+/// The name of a file beside a path: that of the path with a suffix behind it, of which as many bytes before the suffix
 /// are left out as are too many, and of a character all.
-pub(crate) fn name_beside(alloc: Global, place: &str, suffix: &str) -> Result<String, AllocError>
-    ensures cut { IfOk result (λ name. (kept : ℕ) × (string_bytes name ≡ take kept place.now ++ suffix.now)) }
-    ensures whole { length place.now + length suffix.now ≤ 255 → IfOk result (λ name. string_bytes name ≡ place.now ++ suffix.now) }
+pub(crate) fn name_beside(alloc: Global, path: &str, suffix: &str) -> Result<String, AllocError>
+    ensures cut { IfOk result (λ name. (kept : ℕ) × (string_bytes name ≡ take kept path.now ++ suffix.now)) }
+    ensures whole { length path.now + length suffix.now ≤ 255 → IfOk result (λ name. string_bytes name ≡ path.now ++ suffix.now) }
 {
-    let len = file_name_of(place).len().saturating_add(suffix.len());
+    let len = file_name_of(path).len().saturating_add(suffix.len());
     let excess = len.saturating_sub(NAME_LIMIT);
-    let kept = place.floor_char_boundary(place.len().saturating_sub(excess));
-    let mut name = String::from_str(alloc, &place[..kept])?;
+    let kept = path.floor_char_boundary(path.len().saturating_sub(excess));
+    let mut name = String::from_str(alloc, &path[..kept])?;
     name.push_str(suffix)?;
     Ok(name)
 }

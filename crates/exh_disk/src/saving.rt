@@ -4,7 +4,7 @@ ghost use Rattle.exh_disk.specs.declared.stage.Stage.TheVariants.{Settled};
 
 use crate::beside::save_beside;
 use crate::fault::Call;
-use crate::place::{Place, place_of};
+use crate::path::{PathTo, path_to};
 use crate::writing::write_source;
 use crate::{Disk, DiskFault, Kind, Source, Target};
 use std::alloc::Global;
@@ -20,7 +20,7 @@ pub struct Saved<F: Drop> {
     pub folder: Option<io::Error>,
 }
 
-/// Saves a source at a path. A regular file is written beside its place, in a file of its own that this save has the lock
+/// Saves a source at a path. A regular file is written beside its path, in a file of its own that this save has the lock
 /// of, synchronized, and renamed over what is there, whose permissions it has, after which its folder is synchronized.
 /// What is no regular file is written as it stands, and synchronized where it can be. The source comes back, as it was or
 /// as writing leaves it, so that after a fault it can be saved elsewhere.
@@ -35,16 +35,16 @@ pub fn save<D: Disk, S: Source>(
     ensures settled { IfOk result.0 (λ saved. IfSome saved.file (λ file. D.stage file ≡ Settled)) }
     ensures source { (result.1 ≡ source) ⊎ S.leaves source result.1 }
 {
-    match place_of(alloc, disk, target.path) {
-        Ok(Place::File(place)) => {
-            let (saved, source) = save_beside(alloc, disk, &place, target, source);
+    match path_to(alloc, disk, target.path) {
+        Ok(PathTo::File(path)) => {
+            let (saved, source) = save_beside(alloc, disk, &path, target, source);
             let saved = saved.map(|(file, folder)| Saved {
                 file: Some(file),
                 folder,
             });
             (saved, source)
         }
-        Ok(Place::Device) => {
+        Ok(PathTo::Device) => {
             let (written, source) = write_device(disk, target.path, source);
             let saved = written.map(|()| Saved {
                 file: None,

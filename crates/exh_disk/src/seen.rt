@@ -16,9 +16,9 @@ impl Seen {
         Ok(Seen { path, found })
     }
 
-    /// Whether what is at a place may be replaced: where that is the file that was opened, nobody wrote to it since.
-    pub(crate) fn allows(&self, place: &str, there: &Found) -> bool {
-        let is_place = self.path.as_str() == place || self.found.is_same(there);
-        !is_place || self.found.is_unchanged(there)
+    /// Whether what is at a path may be replaced: where that is the file that was opened, nobody wrote to it since.
+    pub(crate) fn allows(&self, path: &str, there: &Found) -> bool {
+        let is_at_path = self.path.as_str() == path || self.found.is_same(there);
+        !is_at_path || self.found.is_unchanged(there)
     }
 }

@@ -1,7 +1,7 @@
-//! How far a file is on its way to its place.
+//! How far a file is on its way to its path.
 ghost use Rattle.std.specs.Prelude.{◌≡◌};
 
-/// How far a file is on its way to its place. What a disk's calls ask of it and make of it is the order of a save.
+/// How far a file is on its way to its path. What a disk's calls ask of it and make of it is the order of a save.
 #[derive(Clone, Copy)]
 pub enum Stage {
     /// Made by this save, which has no lock of it yet.
@@ -28,9 +28,9 @@ pub enum Stage {
     Synchronized,
     /// The same, and it is still the file of its name.
     Confirmed,
-    /// It has its place.
+    /// It has its path.
     Placed,
-    /// It has its place on the disk too, as far as the system answers for that.
+    /// It has its path on the disk too, as far as the system answers for that.
     Settled,
 }
 

@@ -1,11 +1,11 @@
-//! A file system in memory, of one place and the names beside it.
+//! A file system in memory, of one path and the names beside it.
 
 use exh_disk::{Found, Kind, Stage};
 use std::alloc::{AllocError, Global};
 use std::io;
 use std::io::ErrorKind;
 
-/// The place, and the names that a save may use beside it.
+/// The path, and the names that a save may use beside it.
 pub const NAMES: [&str; 5] = [
     "pairs.exh",
     "pairs.exh.exhash-saving",
@@ -53,9 +53,9 @@ pub struct MemoryDisk {
     pub nodes: Vec<Node>,
     /// Which file has each name.
     pub names: [Option<usize>; 5],
-    /// Which file has the place on the disk.
+    /// Which file has the path on the disk.
     pub kept: Option<usize>,
-    /// Whether a file was at the place from the beginning.
+    /// Whether a file was at the path from the beginning.
     pub has_old: bool,
     /// Which saver makes the calls.
     pub saver: usize,
@@ -108,7 +108,7 @@ impl MemoryDisk {
         Ok(())
     }
 
-    /// Adds the old file, which has the place.
+    /// Adds the old file, which has the path.
     pub fn add_old(&mut self) -> Result<(), AllocError> {
         self.add(0, OLD, OLD_MODE)?;
         if let Some(node) = self.nodes.last_mut() {
@@ -126,7 +126,7 @@ impl MemoryDisk {
         }
     }
 
-    /// Sees what a power cut would leave at the place: the file that has it on the disk, or the one that has it now.
+    /// Sees what a power cut would leave at the path: the file that has it on the disk, or the one that has it now.
     pub fn see(&mut self) {
         let now = self.names[0];
         if !self.is_whole(now) || !self.is_whole(self.kept) {
@@ -134,7 +134,7 @@ impl MemoryDisk {
         }
     }
 
-    // Whether a file at the place is the old one whole, or a saved one.
+    // Whether a file at the path is the old one whole, or a saved one.
     fn is_whole(&self, node: Option<usize>) -> bool {
         match node {
             None => !self.has_old,
@@ -178,8 +178,8 @@ impl MemoryDisk {
         }
     }
 
-    /// What the place has now.
-    pub fn at_place(&self) -> Option<&[u8]> {
+    /// What the path has now.
+    pub fn at_path(&self) -> Option<&[u8]> {
         let number = self.names[0]?;
         Some(self.nodes.get(number)?.bytes.as_slice())
     }

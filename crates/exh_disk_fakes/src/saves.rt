@@ -1,5 +1,5 @@
 //! Saves over a file system in memory: what they leave where a call fails or a saver is killed, where another saver comes
-//! in between, and what they do with what has the name beside the place.
+//! in between, and what they do with what has the name beside the path.
 
 use crate::memory_disk::{MemoryDisk, NAMES, OLD, OLD_MODE, SAVED, USER};
 use crate::side::{Ending, Nobody, OtherSaver, Saver, Side, save_as};
@@ -25,24 +25,24 @@ fn disk_of(alloc: Global, (has_old, has_left): (bool, bool)) -> Result<MemoryDis
     Ok(disk)
 }
 
-// Whether nothing stands beside the place but what stood there before.
+// Whether nothing stands beside the path but what stood there before.
 fn is_clean(disk: &MemoryDisk, before: Option<usize>) -> bool {
     let first = disk.names[1];
     (first.is_none() || first == before) && disk.names[2..].iter().all(|name| name.is_none())
 }
 
-// Whether the place has what a saver of this number saved, and would after a power cut, where that is sure.
+// Whether the path has what a saver of this number saved, and would after a power cut, where that is sure.
 fn has_saved(disk: &MemoryDisk, saver: usize, ending: Ending) -> bool {
     let is_kept = ending != Ending::Settled || disk.kept == disk.names[0];
-    is_kept && disk.at_place() == SAVED.get(saver).copied()
+    is_kept && disk.at_path() == SAVED.get(saver).copied()
 }
 
-// Whether the place has what was there before.
+// Whether the path has what was there before.
 fn is_as_before(disk: &MemoryDisk) -> bool {
     if disk.has_old {
-        disk.at_place() == Some(OLD)
+        disk.at_path() == Some(OLD)
     } else {
-        disk.at_place().is_none()
+        disk.at_path().is_none()
     }
 }
 
@@ -144,7 +144,7 @@ fn loses_nothing_where_another_save_comes_in_between(rt: HostRuntime) -> Result<
     Ok(())
 }
 
-// What has the first name beside the place, and is no save's: a pipe, a file of two names, one of another user.
+// What has the first name beside the path, and is no save's: a pipe, a file of two names, one of another user.
 fn strange_left_over(disk: &mut MemoryDisk, number: usize) {
     if let Some(node) = disk.nodes.last_mut() {
         match number {
@@ -167,7 +167,7 @@ fn takes_another_name(disk: &mut MemoryDisk) -> bool {
 
 // Whether what is no page file stays.
 fn keeps_text(disk: &mut MemoryDisk) -> bool {
-    save_as(disk, Saver::new(0), None, Nobody) == Ending::Refused && disk.at_place() == Some(b"abc")
+    save_as(disk, Saver::new(0), None, Nobody) == Ending::Refused && disk.at_path() == Some(b"abc")
 }
 
 #[test]

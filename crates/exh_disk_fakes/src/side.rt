@@ -236,7 +236,7 @@ impl<B: Between + Drop> Disk for Side<'_, B> {
         })
     }
 
-    fn take(&mut self, name: &str, _place: &str) -> io::Result<MemoryFile> {
+    fn take(&mut self, name: &str, _path: &str) -> io::Result<MemoryFile> {
         self.enter()?;
         let node = self.disk.number(name)?;
         let is_strange = self.disk.node(node)?.about.kind != Kind::Regular;
@@ -330,9 +330,9 @@ impl<B: Between + Drop> Disk for Side<'_, B> {
         Ok(())
     }
 
-    fn rename(&mut self, file: &mut MemoryFile, name: &str, place: &str) -> io::Result<()> {
+    fn rename(&mut self, file: &mut MemoryFile, name: &str, path: &str) -> io::Result<()> {
         self.enter()?;
-        let (from, to) = (self.disk.slot(name)?, self.disk.slot(place)?);
+        let (from, to) = (self.disk.slot(name)?, self.disk.slot(path)?);
         let number = self.disk.number(name)?;
         self.disk.bind(to, Some(number));
         self.disk.bind(from, None);

@@ -200,10 +200,10 @@ fn take_rounds<R: Wait, F: Identity, S: Start>(
 {
     let mut cursors = Cursors::new(alloc, 0, &Table::new(alloc))?;
     is_carried(rt, file, writer, &mut cursors, 1)?;
-    let Ok(told) = writer.tell() else {
+    let Ok(handed) = writer.hand_on() else {
         return Err(Difference::Apart(Part::Run));
     };
-    caller.copy.learn(told);
+    caller.copy.learn(handed);
     let page = caller.copy.look(PlainKeyer.pseudo(MOVED_KEY));
     same(page == Some(ITS_PAGE), Part::Pointer)?;
     is_carried(rt, file, writer, &mut cursors, 0)

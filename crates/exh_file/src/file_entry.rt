@@ -30,17 +30,17 @@ impl FileEntry {
             prefix,
             entry,
         } = *self;
-        let _number = number_of(entry);
+        let _version = change_version_of(entry);
         let _right = right_of(entry.kind);
         entry.to_image(ward, prefix)
     }
 }
 
-// The number in an entry's image.
-fn number_of(entry: Entry) -> u32
-    ensures { result ≡ entry.number }
+// The version in an entry's image.
+fn change_version_of(entry: Entry) -> u32
+    ensures { result ≡ entry.version }
 {
-    entry.number
+    entry.version
 }
 
 // The page in an entry's image, 0 for a merge.

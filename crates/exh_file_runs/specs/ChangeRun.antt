@@ -6,7 +6,7 @@ use Rattle.exh_open.specs.Opened.{OpenedState}
 use Rattle.exh_change.specs.FileChange.{ChangesOneMap, IsChangedIn}
 use Rattle.exh_change.specs.ReplyLine.{is_done, reply_line}
 use Rattle.exh_file_runs.specs.Run.{PrintsLine, memory_line}
-use Rattle.exh_file_runs.specs.declared.place.Place.{Place}
+use Rattle.exh_file_runs.specs.declared.job_path.JobPath.{JobPath}
 use Rattle.exh_file_runs.specs.declared.run.Ending.{Ending}
 use Rattle.exh_file_runs.specs.declared.run.Ending.TheVariants.{Over, Save, SaveAndTell}
 use Rattle.exh_file_runs.specs.declared.status.Status.{Status}
@@ -21,11 +21,11 @@ pub record IsAnsweredBy (file : OpenedState) (call : Call) (reply : Reply) (left
   pub changed : IsChangedIn file call reply left
   pub one : ChangesOneMap file call reply left
 
--- the wards are to be saved at the place, and then this line is to be printed; or there is no place
-abbrev pub SavesFile : Option Place → OpenedState → List ℕ → Ending → Type 0
-SavesFile place left line (Over status) = (place ≡ None) × (status ≡ Refused)
-SavesFile place left line (Save one wards) = ⊥
-SavesFile place left line (SaveAndTell one wards told) = (place ≡ Some one) × (wards ≡ left) × (told.items ≡ line)
+-- the wards are to be saved at the job's path, and then this line is to be printed; or there is no path
+abbrev pub SavesFile : Option JobPath → OpenedState → List ℕ → Ending → Type 0
+SavesFile path left line (Over status) = (path ≡ None) × (status ≡ Refused)
+SavesFile path left line (Save one wards) = ⊥
+SavesFile path left line (SaveAndTell one wards told) = (path ≡ Some one) × (wards ≡ left) × (told.items ≡ line)
 
 -- of a writer that held `old` bytes before and `new` ones after, where these are known, and of whether it failed
 module _ (old new : Option (List ℕ)) (failed : Bool) where
@@ -41,17 +41,17 @@ module _ (old new : Option (List ℕ)) (failed : Bool) where
   abbrev pub LeavesFile : Reply → Status → Type 0
   LeavesFile reply status = (is_done reply ≡ false) × TellsLine (reply_line reply) Missing status
 
-  -- a reply that says that the call is done: its file is to be saved at the place, and nothing is printed before
-  abbrev pub LeavesToSave : Option Place → Reply → OpenedState → Ending → Type 0
-  LeavesToSave place reply left ending = (is_done reply ≡ true) × (new ≡ old) × SavesFile place left (reply_line reply) ending
+  -- a reply that says that the call is done: its file is to be saved at the job's path, and nothing is printed before
+  abbrev pub LeavesToSave : Option JobPath → Reply → OpenedState → Ending → Type 0
+  LeavesToSave path reply left ending = (is_done reply ≡ true) × (new ≡ old) × SavesFile path left (reply_line reply) ending
 
   -- after an answer
-  abbrev pub EndsAnswer : Option Place → Reply → OpenedState → Ending → Type 0
-  EndsAnswer place reply left ending = LeavesToSave place reply left ending ⊎ ((status : Status) × (ending ≡ Over status) × (LeavesFile reply status ⊎ Refuses status))
+  abbrev pub EndsAnswer : Option JobPath → Reply → OpenedState → Ending → Type 0
+  EndsAnswer path reply left ending = LeavesToSave path reply left ending ⊎ ((status : Status) × (ending ≡ Over status) × (LeavesFile reply status ⊎ Refuses status))
 
   -- and so of the answer of a call over a file; or it came to none
-  abbrev pub EndsChange : OpenedState → Call → Option Place → Ending → Type 0
-  EndsChange file call place ending = ((reply : Reply) × (left : OpenedState) × IsAnsweredBy file call reply left × EndsAnswer place reply left ending)
+  abbrev pub EndsChange : OpenedState → Call → Option JobPath → Ending → Type 0
+  EndsChange file call path ending = ((reply : Reply) × (left : OpenedState) × IsAnsweredBy file call reply left × EndsAnswer path reply left ending)
       ⊎ ((status : Status) × (ending ≡ Over status) × Refuses status)
 
   -- after the save: the line, where the file is saved

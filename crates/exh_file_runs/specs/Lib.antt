@@ -5,4 +5,4 @@ pub mod PairsAgain
 pub mod GetRun
 pub mod ChangeRun
 pub mod OpenRun
-pub mod Place
+pub mod JobPath

@@ -8,7 +8,7 @@ use Rattle.exh_serve.specs.Served.{PrintsLines, PrintsText, PrintsUnread, Prints
 use Rattle.exh_serve.specs.declared.serve_fault.ServeFault.{ServeFault}
 use Rattle.exh_serve.specs.declared.serve_fault.ServeFault.TheVariants.{Write, Memory, Page}
 use Rattle.exh_file_runs.specs.Status.{run_status}
-use Rattle.exh_file_runs.specs.declared.place.Place.{Place}
+use Rattle.exh_file_runs.specs.declared.job_path.JobPath.{JobPath}
 use Rattle.exh_file_runs.specs.declared.run.Ending.{Ending}
 use Rattle.exh_file_runs.specs.declared.run.Ending.TheVariants.{Over, Save, SaveAndTell}
 use Rattle.exh_file_runs.specs.declared.status.Status.{Status}
@@ -35,10 +35,10 @@ module _ (begin : Beginning) (old new unread : Option (List ℕ)) where
   RunPrints (Err Write) = (PrintsText begin (AppendsBeginning old new) unread ⊎ AppendsBeginning old new unread_text)
       ⊎ PrintsLines begin (λ text. AppendsBeginning old new (text ++ memory_line)) unread
 
--- After a run the program ends with its status; or the wards that it left are saved first, where it is done and has a place
+-- After a run the program ends with its status; or the wards that it left are saved first, where it is done and has a path
 -- for them.
-abbrev pub IsEnding : Result (Option OpenedState) ServeFault → Option Place → Ending → Type 0
-IsEnding outcome place (Save one wards) = (outcome ≡ Ok (Some wards)) × (place ≡ Some one)
-IsEnding outcome place (SaveAndTell one wards line) = ⊥
-IsEnding (Ok (Some wards)) place (Over status) = (place ≡ None) × (status ≡ run_status (Ok (Some wards)))
-IsEnding outcome place (Over status) = status ≡ run_status outcome
+abbrev pub IsEnding : Result (Option OpenedState) ServeFault → Option JobPath → Ending → Type 0
+IsEnding outcome path (Save one wards) = (outcome ≡ Ok (Some wards)) × (path ≡ Some one)
+IsEnding outcome path (SaveAndTell one wards line) = ⊥
+IsEnding (Ok (Some wards)) path (Over status) = (path ≡ None) × (status ≡ run_status (Ok (Some wards)))
+IsEnding outcome path (Over status) = status ≡ run_status outcome

@@ -2,10 +2,10 @@
 ghost use Rattle.std.specs.Prelude.{◌≡◌, [], IsFalse};
 ghost use Rattle.exh_stream.specs.Output.{SameWriter, held, pending, writer_failed};
 ghost use Rattle.exh_file_runs.specs.ChangeRun.{EndsAnswer, EndsChange, EndsSaved, Refuses, SavesFile, TellsLine};
-ghost use Rattle.exh_file_runs.specs.Place.{SavesAt};
+ghost use Rattle.exh_file_runs.specs.JobPath.{SavesAt};
 
+use crate::job_path::JobPath;
 use crate::last_line::{OUT_OF_MEMORY, print_line};
-use crate::place::Place;
 use crate::run::Ending;
 use crate::status::Status;
 use crate::stores::FileWards;
@@ -19,24 +19,24 @@ use std::io::Write;
 // The only line where a page is out of reach.
 const OUT_OF_REACH: &[u8] = b"refused 11\n";
 
-/// Answers a call by the wards of a file, on an output that holds nothing back and whose writer hasn't failed. Where the
-/// call is done the wards that it leaves are to be saved at the place, and then its reply is to be told; else that is
-/// told at once, and nothing is to be saved. Where memory ran out the last line is `refused 10`.
+/// Answers a call by the wards of a file, on an output that holds nothing back and whose writer hasn't failed. Where
+/// the call is done the wards that it leaves are to be saved at the job's path, and then its reply is to be told; else
+/// that is told at once, and nothing is to be saved. Where memory ran out the last line is `refused 10`.
 pub fn change_over<'w, W: Write>(
     alloc: Global,
     wards: FileWards,
     call: &Call,
-    place: Option<Place<'w>>,
+    save: Option<JobPath<'w>>,
     output: &mut Output<'_, W>,
 ) -> Ending<'w>
     requires open { IsFalse (writer_failed output.old) }
     requires empty { pending output.old ≡ [] }
     ensures same_writer { SameWriter output.old output.new }
-    ensures ends { EndsChange (held W.contents output.old) (held W.contents output.new) (writer_failed output.new) wards call.now place.entry result }
-    ensures place { SavesAt place.entry result }
+    ensures ends { EndsChange (held W.contents output.old) (held W.contents output.new) (writer_failed output.new) wards call.now save.entry result }
+    ensures path { SavesAt save.entry result }
 {
     match change_file(wards, call) {
-        Ok((reply, left)) => answer(alloc, &reply, left, place, output),
+        Ok((reply, left)) => answer(alloc, &reply, left, save, output),
         Err(fault) => Ending::Over(refuse(fault, output)),
     }
 }
@@ -46,29 +46,29 @@ fn answer<'w, W: Write>(
     alloc: Global,
     reply: &Reply,
     left: FileWards,
-    place: Option<Place<'w>>,
+    save: Option<JobPath<'w>>,
     output: &mut Output<'_, W>,
 ) -> Ending<'w>
     requires open { IsFalse (writer_failed output.old) }
     requires empty { pending output.old ≡ [] }
     ensures same_writer { SameWriter output.old output.new }
-    ensures ends { EndsAnswer (held W.contents output.old) (held W.contents output.new) (writer_failed output.new) place.entry reply.now left result }
-    ensures place { SavesAt place.entry result }
+    ensures ends { EndsAnswer (held W.contents output.old) (held W.contents output.new) (writer_failed output.new) save.entry reply.now left result }
+    ensures path { SavesAt save.entry result }
 {
     match reply_line(alloc, reply) {
         Err(_) => Ending::Over(refuse(WardFault::Memory, output)),
-        Ok(line) if is_done(reply) => save_and_tell(place, left, line),
+        Ok(line) if is_done(reply) => save_and_tell(save, left, line),
         Ok(line) => Ending::Over(tell_line(&line, Status::Missing, output)),
     }
 }
 
-// The ending that saves at a place, if there is one, and then tells a reply.
-fn save_and_tell<'w>(place: Option<Place<'w>>, wards: FileWards, line: Vec<u8>) -> Ending<'w>
-    ensures saves { SavesFile place.entry wards line.items result }
-    ensures place { SavesAt place.entry result }
+// The ending that saves at a job's path, if there is one, and then tells a reply.
+fn save_and_tell<'w>(save: Option<JobPath<'w>>, wards: FileWards, line: Vec<u8>) -> Ending<'w>
+    ensures saves { SavesFile save.entry wards line.items result }
+    ensures path { SavesAt save.entry result }
 {
-    match place {
-        Some(place) => Ending::SaveAndTell { place, wards, line },
+    match save {
+        Some(path) => Ending::SaveAndTell { path, wards, line },
         None => Ending::Over(Status::Refused),
     }
 }

@@ -2,12 +2,12 @@
 #![tactic(auto)]
 
 pub use file_run::Topic;
+pub use job_path::{JobPath, path_of};
 pub use last_line::{print_line, print_out_of_memory};
 pub use laws::pairs_load_again;
-pub use place::{Place, place_of};
 pub use run::Ending;
 pub use said::{pair_notes, tell_reason};
-pub use saving::{save_at_place, warn};
+pub use saving::{save_at_path, warn};
 pub use standard::{INPUT, change, get, opened_at, serve, tell_change, tell_path};
 pub use status::Status;
 pub use stores::{FileWards, MAKER};
@@ -17,10 +17,10 @@ mod change_run;
 mod file_blocks;
 mod file_run;
 mod get_run;
+mod job_path;
 mod last_line;
 mod laws;
 mod open_run;
-mod place;
 mod run;
 mod said;
 mod saving;

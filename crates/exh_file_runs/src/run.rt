@@ -1,10 +1,10 @@
 //! The run of a script: what it prints, and how the program then ends.
 ghost use Rattle.exh_serve.specs.Opened.{beginning};
-ghost use Rattle.exh_file_runs.specs.Place.{SavesAt};
+ghost use Rattle.exh_file_runs.specs.JobPath.{SavesAt};
 ghost use Rattle.exh_file_runs.specs.Run.{IsEnding, RunPrints};
 
+use crate::job_path::JobPath;
 use crate::last_line::print_out_of_memory;
-use crate::place::Place;
 use crate::status::Status;
 use crate::stores::{FileWards, MAKER};
 use exh_notes::Listener;
@@ -18,14 +18,14 @@ use std::io::{Read, Write};
 pub enum Ending<'w> {
     /// With this status.
     Over(Status),
-    /// After these wards are saved at a place.
+    /// After these wards are saved at a job's path.
     Save {
-        place: Place<'w>,
+        path: JobPath<'w>,
         wards: FileWards,
     },
-    /// After these wards are saved at a place, and this line is printed.
+    /// After these wards are saved at a job's path, and this line is printed.
     SaveAndTell {
-        place: Place<'w>,
+        path: JobPath<'w>,
         wards: FileWards,
         line: Vec<u8>,
     },
@@ -52,17 +52,18 @@ pub fn serve_script<R: Read, W: Write, L: Listener>(
     }
 }
 
-/// How the program ends after a run, where its wards may be saved at a place: only those of a run that is done are.
+/// How the program ends after a run, where its wards may be saved at a job's path: only those of a run that is done
+/// are.
 pub fn ending_of<'w>(
     outcome: Result<Option<FileWards>, ServeFault>,
-    save: Option<Place<'w>>,
+    save: Option<JobPath<'w>>,
 ) -> Ending<'w>
     ensures ending { IsEnding outcome save.entry result }
-    ensures place { SavesAt save.entry result }
+    ensures path { SavesAt save.entry result }
 {
     match outcome {
         Ok(Some(wards)) => match save {
-            Some(place) => Ending::Save { place, wards },
+            Some(path) => Ending::Save { path, wards },
             None => Ending::Over(Status::Done),
         },
         Ok(None) | Err(_) => Ending::Over(Status::Refused),

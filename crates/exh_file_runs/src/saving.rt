@@ -1,11 +1,11 @@
 //! Where the wards that a run leaves are saved, and what standard error says of that.
 
+use crate::job_path::JobPath;
 use crate::last_line::print_out_of_memory;
-use crate::place::Place;
 use crate::status::Status;
 use crate::stores::FileWards;
 use crate::watch::saving_meter;
-use exh_place::{DiskFault, Seen, look_at, save_at};
+use exh_path::{DiskFault, Seen, look_at, save_at};
 use exh_stream::Output;
 use exh_system_disk::SystemDisk;
 use std::fs::File;
@@ -42,15 +42,15 @@ pub fn warn(rt: &HostRuntime, path: Option<&str>, seen: Option<&Seen>) {
     }
 }
 
-/// Saves wards as the file of a place, and on a terminal tells how far that is. Standard error says in a line why it
-/// isn't saved; where memory ran out, that is the last line, `refused 10`, on standard output.
-pub fn save_at_place(
+/// Saves wards as the file of a job's path, and on a terminal tells how far that is. Standard error says in a line why
+/// it isn't saved; where memory ran out, that is the last line, `refused 10`, on standard output.
+pub fn save_at_path(
     rt: &HostRuntime,
-    place: Place<'_>,
+    save: JobPath<'_>,
     seen: Option<&Seen>,
     wards: FileWards,
 ) -> Status {
-    let path = place.path();
+    let path = save.path();
     let meter = saving_meter(rt);
     let mut disk = SystemDisk::new(rt);
     let (saved, _wards) = save_at(rt.alloc(), &mut disk, path, seen, wards, &meter);

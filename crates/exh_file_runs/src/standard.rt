@@ -1,12 +1,12 @@
 //! The runs over the program's standard streams, and over files of the system.
-ghost use Rattle.exh_file_runs.specs.Place.{SavesAt};
+ghost use Rattle.exh_file_runs.specs.JobPath.{SavesAt};
 
 use crate::change_run::{change_over, tell_saved};
 use crate::file_blocks::{FileBlocks, open_regular};
 use crate::file_run::{Topic, tell_file};
 use crate::get_run::tell_key;
+use crate::job_path::JobPath;
 use crate::open_run::open_file;
-use crate::place::Place;
 use crate::run::{Ending, ending_of, serve_script};
 use crate::said::{script_notes, tell_reason, with_reason};
 use crate::saving::{opened_seen, warn};
@@ -16,7 +16,7 @@ use crate::watch::reading_meter;
 use exh_calls::Call;
 use exh_notes::ReasonReader;
 use exh_page::Key;
-use exh_place::Seen;
+use exh_path::Seen;
 use exh_progress::{ClearingWriter, MeteredReader};
 use exh_stream::Output;
 use std::cell::Cell;
@@ -27,17 +27,17 @@ use std::io;
 pub const INPUT: &str = "standard input";
 
 /// Answers the script on standard input, over the page file of a path where one is to be opened, and says what that
-/// file is. Whether its wards can be saved at their place is seen before.
+/// file is. Whether its wards can be saved at their path is seen before.
 pub fn serve<'w>(
     rt: &HostRuntime,
     open: Option<&str>,
-    save: Option<Place<'w>>,
+    save: Option<JobPath<'w>>,
 ) -> (Ending<'w>, Option<Seen>)
     ensures { SavesAt save.entry result.0 }
 {
     match opened_at(rt, open) {
         Ok((from, seen)) => {
-            warn(rt, save.map(|place| place.path()), seen.as_ref());
+            warn(rt, save.map(|it| it.path()), seen.as_ref());
             (serve_over(rt, from, save), seen)
         }
         Err(status) => (Ending::Over(status), None),
@@ -74,7 +74,11 @@ fn open_at(rt: &HostRuntime, path: &str) -> Result<(FileWards, Option<Seen>), St
 }
 
 // Answers the script.
-fn serve_over<'w>(rt: &HostRuntime, from: Option<FileWards>, save: Option<Place<'w>>) -> Ending<'w>
+fn serve_over<'w>(
+    rt: &HostRuntime,
+    from: Option<FileWards>,
+    save: Option<JobPath<'w>>,
+) -> Ending<'w>
     ensures { SavesAt save.entry result }
 {
     let reason = Cell::new(None);
@@ -121,17 +125,17 @@ pub fn get(rt: &HostRuntime, path: &str, key: &Key) -> Status {
 }
 
 /// Answers a call by the page file of a path, and says what that file was. Where the call is done what it leaves is to be
-/// saved at the place, and then the answer told.
+/// saved at the job's path, and then the answer told.
 pub fn change<'w>(
     rt: &HostRuntime,
     path: &str,
     call: &Call,
-    place: Option<Place<'w>>,
+    save: Option<JobPath<'w>>,
 ) -> (Ending<'w>, Option<Seen>)
-    ensures { SavesAt place.entry result.0 }
+    ensures { SavesAt save.entry result.0 }
 {
     match open_at(rt, path) {
-        Ok((wards, seen)) => (answer_over(rt, wards, call, place), seen),
+        Ok((wards, seen)) => (answer_over(rt, wards, call, save), seen),
         Err(status) => (Ending::Over(status), None),
     }
 }
@@ -141,18 +145,12 @@ fn answer_over<'w>(
     rt: &HostRuntime,
     wards: FileWards,
     call: &Call,
-    place: Option<Place<'w>>,
+    save: Option<JobPath<'w>>,
 ) -> Ending<'w>
-    ensures { SavesAt place.entry result }
+    ensures { SavesAt save.entry result }
 {
     let mut writer = io::writer(rt);
-    change_over(
-        rt.alloc(),
-        wards,
-        call,
-        place,
-        &mut Output::new(&mut writer),
-    )
+    change_over(rt.alloc(), wards, call, save, &mut Output::new(&mut writer))
 }
 
 /// Tells an answer's line, where what the call left is saved, as this status of the save says.

@@ -14,23 +14,23 @@ pub fn prefix(bits: &str) -> Result<Prefix, Difference> {
 }
 
 /// A notice of ward 0 of a split.
-pub fn split(index: u64, prefix: Prefix, number: u32, right: PageNo) -> Notice {
+pub fn split(index: u64, prefix: Prefix, version: u32, right: PageNo) -> Notice {
     Notice {
         ward: 0,
         index,
         prefix,
-        number,
+        version,
         kind: Kind::Split { right },
     }
 }
 
 /// A notice of ward 0 of a merge.
-pub fn merge(index: u64, prefix: Prefix, number: u32) -> Notice {
+pub fn merge(index: u64, prefix: Prefix, version: u32) -> Notice {
     Notice {
         ward: 0,
         index,
         prefix,
-        number,
+        version,
         kind: Kind::Merge,
     }
 }

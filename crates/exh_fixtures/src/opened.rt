@@ -103,11 +103,11 @@ fn empty_page(alloc: Global, prefix: Prefix, right: Option<PageNo>) -> Page
     }
 }
 
-fn last_entry(number: u32) -> Entry
-    ensures { result ≡ entry_of_split number }
+fn last_entry(version: u32) -> Entry
+    ensures { result ≡ entry_of_split version }
 {
     Entry {
-        number,
+        version,
         kind: Kind::Split { right: 1 },
     }
 }

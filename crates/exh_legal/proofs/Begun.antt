@@ -104,8 +104,8 @@ module _ {ward : List Bool} {table : TableMap} {pages : List Page} (linked : Are
 
   merge_begun : (prefix : List Bool) (entry : Entry) → fin.get table prefix ≡ Some entry → entry.kind ≡ Merge → IsBegun prefix
   merge_begun prefix entry is kind =
-      let same : entry ≡ record { number = entry.number; kind = Merge } = λ i. record { number = entry.number; kind = kind i } in
-      let found = (fits.merges prefix).0 (entry.number, is ∙ ap (λ e. Some e) same) in
+      let same : entry ≡ record { version = entry.version; kind = Merge } = λ i. record { version = entry.version; kind = kind i } in
+      let found = (fits.merges prefix).0 (entry.version, is ∙ ap (λ e. Some e) same) in
       let page : IsPageOf pages (low_of (prefix ++ true ∷ [])) found.1.0 = (Forward (low_of (prefix ++ true ∷ [])) found.1.1.0, found.1.1.1, refl) in
       (found.1.0, not_first prefix found.1.0 (fits.entries prefix entry is).within found.0 page, page)
 

@@ -18,17 +18,17 @@ abbrev pub parity_of : Kind → ℕ
 parity_of (Split right) = 1
 parity_of Merge = 0
 
--- an entry of the ward: it has the ward's prefix in front, and a number from 1 on that tells its kind
+-- an entry of the ward: it has the ward's prefix in front, and a version from 1 on that tells its kind
 pub record IsWardEntry (ward prefix : List Bool) (entry : Entry) : Type 0 where
   pub within : IsFront ward prefix
-  pub some : 1 ≤ entry.number
-  pub parity : entry.number % 2 ≡ parity_of entry.kind
+  pub some : 1 ≤ entry.version
+  pub parity : entry.version % 2 ≡ parity_of entry.kind
 
 abbrev pub IsSplitAt : TableMap → List Bool → Type 0
 IsSplitAt table prefix = (right : ℕ) × (split_at table prefix ≡ Some right)
 
 abbrev pub IsMergeAt : TableMap → List Bool → Type 0
-IsMergeAt table prefix = (number : ℕ) × (get table prefix ≡ Some (record { number = number; kind = Merge }))
+IsMergeAt table prefix = (version : ℕ) × (get table prefix ≡ Some (record { version = version; kind = Merge }))
 
 -- a front that is shorter
 abbrev pub IsProperFront : List Bool → List Bool → Type 0

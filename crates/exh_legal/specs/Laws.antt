@@ -19,7 +19,7 @@ use Rattle.exh_legal.specs.Pages.{IsAt, IsLegal, map_of, bare, AreLinked}
 use Rattle.exh_legal.specs.Change.{IsForwardOf, IsSplit, IsMerge}
 use Rattle.exh_legal.specs.Growth.{IsLiveAt, IsPageOf, IsLegalSince}
 use Rattle.exh_legal.specs.Fit.{FitsPages, IsTrueNotice}
-use Rattle.exh_legal.specs.Numbers.{number_at, index_of}
+use Rattle.exh_legal.specs.Versions.{version_at, index_of}
 
 -- ---- changes
 
@@ -49,19 +49,19 @@ abbrev pub SplitsKeepLegal : Type 0
 SplitsKeepLegal =
     (cap : ℕ) (pseudo : List ℕ → ℕ) (ward : List Bool) (start : TableMap) (changes : List Notice) (table : TableMap) (pages : List Page) (at : ℕ) (prefix : List Bool) (right : ℕ) (new : List Page) (notice : Notice)
     → IsWard cap pseudo ward start changes table pages → IsSplit cap pages at prefix right new
-    → notice.prefix ≡ prefix → notice.number ≡ number_at table prefix + 1 → notice.kind ≡ Split right
+    → notice.prefix ≡ prefix → notice.version ≡ version_at table prefix + 1 → notice.kind ≡ Split right
     → IsChanged cap pseudo ward start changes table pages notice new
 
 abbrev pub MergesKeepLegal : Type 0
 MergesKeepLegal =
     (cap : ℕ) (pseudo : List ℕ → ℕ) (ward : List Bool) (start : TableMap) (changes : List Notice) (table : TableMap) (pages : List Page) (at : ℕ) (prefix : List Bool) (new : List Page) (notice : Notice)
     → AreOfWords pseudo → IsWard cap pseudo ward start changes table pages → IsMerge cap pages at prefix new
-    → notice.prefix ≡ prefix → notice.number ≡ number_at table prefix + 1 → notice.kind ≡ Merge
+    → notice.prefix ≡ prefix → notice.version ≡ version_at table prefix + 1 → notice.kind ≡ Merge
     → IsChanged cap pseudo ward start changes table pages notice new
 
--- before a split of a live page the number at its prefix is even, and if a page has its right child's low bound, that forwards
+-- before a split of a live page the version at its prefix is even, and if a page has its right child's low bound, that forwards
 pub record IsSplittable (table : TableMap) (pages : List Page) (prefix : List Bool) : Type 0 where
-  pub even : (number_at table prefix) % 2 ≡ 0
+  pub even : (version_at table prefix) % 2 ≡ 0
   pub forwards : (number : ℕ) → IsPageOf pages (low_of (prefix ++ true ∷ [])) number → IsForwardOf pages (low_of (prefix ++ true ∷ [])) number
 
 abbrev pub LivePagesSplit : Type 0
@@ -69,10 +69,10 @@ LivePagesSplit =
     (cap : ℕ) (pseudo : List ℕ → ℕ) (ward : List Bool) (start : TableMap) (changes : List Notice) (table : TableMap) (pages : List Page) (prefix : List Bool) (number : ℕ)
     → IsWard cap pseudo ward start changes table pages → IsLiveAt pages prefix number → length prefix < LIMIT → IsSplittable table pages prefix
 
--- before a merge of a live left child the number at its parent is odd, and the table's split there names the page of the right child's low bound, which is the right
+-- before a merge of a live left child the version at its parent is odd, and the table's split there names the page of the right child's low bound, which is the right
 -- child's page if that is live
 pub record IsMergeable (table : TableMap) (pages : List Page) (prefix : List Bool) : Type 0 where
-  pub odd : (number_at table prefix) % 2 ≡ 1
+  pub odd : (version_at table prefix) % 2 ≡ 1
   pub right : ℕ
   pub split : split_at table prefix ≡ Some right
   pub page : IsPageOf pages (low_of (prefix ++ true ∷ [])) right

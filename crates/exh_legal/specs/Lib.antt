@@ -3,7 +3,7 @@ pub mod Change
 pub mod Growth
 pub mod PageIndex
 pub mod Fit
-pub mod Numbers
+pub mod Versions
 pub mod Laws
 pub mod BareLemmas
 pub mod PlaceLemmas

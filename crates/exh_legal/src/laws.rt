@@ -8,7 +8,7 @@ pub fn splits_keep_legal()
     ensures { SplitsKeepLegal }
 {}
 
-/// A live page that is shorter than `LIMIT` can be split: the number at its prefix is even, and a
+/// A live page that is shorter than `LIMIT` can be split: the version at its prefix is even, and a
 /// page of its right child's low bound is a forwarding page.
 pub fn live_pages_split()
     ensures { LivePagesSplit }
@@ -21,7 +21,7 @@ pub fn merges_keep_legal()
 {}
 
 /// A live page that is a left child of its ward can be merged where its right buddy is live: the
-/// number at the parent is odd, and the table's split there names the buddy's page.
+/// version at the parent is odd, and the table's split there names the buddy's page.
 pub fn live_left_children_merge()
     ensures { LiveLeftChildrenMerge }
 {}

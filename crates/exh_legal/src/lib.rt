@@ -7,9 +7,9 @@ pub use laws::{
     live_left_children_merge, live_pages_split, lone_pages_are_legal, merges_keep_legal,
     pages_are_few, right_links_lead_on, splits_keep_legal, targets_lead_on, walks_name_homes,
 };
-pub use numbers::index_of;
 pub use page_index::PageIndex;
+pub use versions::index_of;
 
 mod laws;
-mod numbers;
 mod page_index;
+mod versions;

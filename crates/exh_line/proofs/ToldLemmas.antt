@@ -95,7 +95,7 @@ kind_of words = None
 abbrev told_notice : List (List ℕ) → Option Answer
 told_notice (place ∷ at ∷ prefix ∷ counted ∷ number ∷ kind) =
     place_of place >>= λ p. number_spelled number >>= λ n. kind_of kind >>= λ k.
-    Some (Changed (record { ward = p.0; index = p.1; prefix = prefix_of_text prefix; number = n; kind = k }))
+    Some (Changed (record { ward = p.0; index = p.1; prefix = prefix_of_text prefix; version = n; kind = k }))
 told_notice words = None
 
 -- those behind `copy` and its number
@@ -254,12 +254,12 @@ kind_words : Kind → List (List ℕ)
 kind_words (kinds.Split right) = codes "split" ∷ codes "right" ∷ decimal right ∷ []
 kind_words kinds.Merge = codes "merge" ∷ []
 
-number_kind : (number : ℕ) (kind : Kind) → number < 2 ^ 32 → HasKindWidth kind → parts_at space (decimal number ++ kind_text kind) ≡ decimal number ∷ kind_words kind
+version_kind : (version : ℕ) (kind : Kind) → version < 2 ^ 32 → HasKindWidth kind → parts_at space (decimal version ++ kind_text kind) ≡ decimal version ∷ kind_words kind
 unfolding kind_words
-number_kind number (kinds.Split right) small width =
+version_kind number (kinds.Split right) small width =
     behind (decimal number) (codes "split right " ++ decimal right) (decimal_graphic number (omega arith))
     (behind (codes "split") (codes "right " ++ decimal right) refl (behind (codes "right") (decimal right) refl (one_part (decimal right) (decimal_graphic right (omega arith)))))
-number_kind number kinds.Merge small width = behind (decimal number) (codes "merge") (decimal_graphic number (omega arith)) (one_part (codes "merge") refl)
+version_kind number kinds.Merge small width = behind (decimal number) (codes "merge") (decimal_graphic number (omega arith)) (one_part (codes "merge") refl)
 
 kind_told : (kind : Kind) → HasKindWidth kind → kind_of (kind_words kind) ≡ Some kind
 unfolding kind_words
@@ -268,19 +268,19 @@ kind_told kinds.Merge width = refl
 
 notice_words : (notice : Notice) → HasNoticeWidths notice
     → parts_at space (answer_words (Changed notice))
-    ≡ codes "notice" ∷ place_text notice.ward notice.index ∷ codes "prefix" ∷ prefix_text notice.prefix ∷ codes "number" ∷ decimal notice.number ∷ kind_words notice.kind
+    ≡ codes "notice" ∷ place_text notice.ward notice.index ∷ codes "prefix" ∷ prefix_text notice.prefix ∷ codes "number" ∷ decimal notice.version ∷ kind_words notice.kind
 notice_words notice (w, i, n, k) =
     behind (codes "notice") _ refl
     (behind (place_text notice.ward notice.index) _ (place_graphic notice.ward notice.index (omega arith) i)
     (behind (codes "prefix") _ refl
     (behind (prefix_text notice.prefix) _ (prefix_graphic notice.prefix)
-    (behind (codes "number") _ refl (number_kind notice.number notice.kind n k)))))
+    (behind (codes "number") _ refl (version_kind notice.version notice.kind n k)))))
 
 notice_told : (notice : Notice) → HasNoticeWidths notice → Tells (Changed notice)
 unfolding Tells
 notice_told notice (w, i, n, k) =
     ap told (notice_words notice (w, i, n, k))
-    ∙ rw (of_notice, place_told notice.ward notice.index w i, number_told notice.number n, kind_told notice.kind k, prefix_again notice.prefix) refl
+    ∙ rw (of_notice, place_told notice.ward notice.index w i, number_told notice.version n, kind_told notice.kind k, prefix_again notice.prefix) refl
 
 -- ---- of copies and tables
 

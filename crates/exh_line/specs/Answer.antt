@@ -84,7 +84,7 @@ abbrev pub request_text : ℕ → List ℕ
 request_text name = codes "r" ++ decimal name
 
 abbrev pub notice_text : Notice → List ℕ
-notice_text notice = codes "notice " ++ (place_text notice.ward notice.index ++ (codes " prefix " ++ entry_text notice.prefix notice.number notice.kind))
+notice_text notice = codes "notice " ++ (place_text notice.ward notice.index ++ (codes " prefix " ++ entry_text notice.prefix notice.version notice.kind))
 
 abbrev pub copy_text : ℕ → List ℕ
 copy_text copy = codes "copy " ++ decimal copy
@@ -129,7 +129,7 @@ HasKindWidth (kinds.Split right) = right < 2 ^ 32
 HasKindWidth kinds.Merge = ⊤
 
 abbrev pub HasNoticeWidths : Notice → Type 0
-HasNoticeWidths notice = (notice.ward < 2 ^ 8) × (notice.index < 2 ^ 64) × (notice.number < 2 ^ 32) × HasKindWidth notice.kind
+HasNoticeWidths notice = (notice.ward < 2 ^ 8) × (notice.index < 2 ^ 64) × (notice.version < 2 ^ 32) × HasKindWidth notice.kind
 
 abbrev pub HasWidths : Answer → Type 0
 HasWidths (Begun name ward page) = (name < 2 ^ 32) × (ward < 2 ^ 8) × (page < 2 ^ 32)

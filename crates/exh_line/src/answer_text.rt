@@ -185,7 +185,7 @@ fn push_notice(out: &mut Vec<u8>, notice: &Notice) -> Result<(), AllocError>
     push_text(out, "notice ")?;
     push_place(out, u32::from(notice.ward), notice.index)?;
     push_text(out, " prefix ")?;
-    push_entry(out, &notice.prefix, notice.number, &notice.kind)
+    push_entry(out, &notice.prefix, notice.version, &notice.kind)
 }
 
 fn push_reply(out: &mut Vec<u8>, reply: &Reply) -> Result<(), AllocError>

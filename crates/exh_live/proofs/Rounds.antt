@@ -91,17 +91,17 @@ one_turn_more {K} pseudokey_of page merges now merged (turns, are, count) turn i
 -- ---- couriers
 
 -- a notice more that follows
-pub one_further : (ward place : ℕ) (notices : List Notice) (last : ℕ) (notice : Notice) → AreFromTo ward place notices last → Follows ward last notice → AreFromTo ward place (notices ++ notice ∷ []) notice.index
-one_further ward place [] last notice from follows = (follows.0, follows.1 ∙ ap (λ n. n + 1) from, refl)
-one_further ward place (first ∷ notices) last notice from follows = (from.0, from.1, one_further ward first.index notices last notice from.2 follows)
+pub one_further : (ward cursor : ℕ) (notices : List Notice) (last : ℕ) (notice : Notice) → AreFromTo ward cursor notices last → Follows ward last notice → AreFromTo ward cursor (notices ++ notice ∷ []) notice.index
+one_further ward cursor [] last notice from follows = (follows.0, follows.1 ∙ ap (λ n. n + 1) from, refl)
+one_further ward cursor (first ∷ notices) last notice from follows = (from.0, from.1, one_further ward first.index notices last notice from.2 follows)
 
-from_to_on : (ward place : ℕ) (notices : List Notice) (between : ℕ) (more : List Notice) (last : ℕ) → AreFromTo ward place notices between → AreFromTo ward between more last → AreFromTo ward place (notices ++ more) last
-from_to_on ward place [] between more last one other = subst (λ n. AreFromTo ward n more last) one other
-from_to_on ward place (first ∷ notices) between more last one other = (one.0, one.1, from_to_on ward first.index notices between more last one.2 other)
+from_to_on : (ward cursor : ℕ) (notices : List Notice) (between : ℕ) (more : List Notice) (last : ℕ) → AreFromTo ward cursor notices between → AreFromTo ward between more last → AreFromTo ward cursor (notices ++ more) last
+from_to_on ward cursor [] between more last one other = subst (λ n. AreFromTo ward n more last) one other
+from_to_on ward cursor (first ∷ notices) between more last one other = (one.0, one.1, from_to_on ward first.index notices between more last one.2 other)
 
-last_of : (ward place : ℕ) (notices : List Notice) (last : ℕ) → AreFromTo ward place notices last → last ≡ place + length notices
-last_of ward place [] last from = omega (arith, from)
-last_of ward place (first ∷ notices) last from =
+last_of : (ward cursor : ℕ) (notices : List Notice) (last : ℕ) → AreFromTo ward cursor notices last → last ≡ cursor + length notices
+last_of ward cursor [] last from = omega (arith, from)
+last_of ward cursor (first ∷ notices) last from =
     let further = last_of ward first.index notices last from.2 in
     omega (arith, from.1, further)
 
@@ -114,43 +114,43 @@ takes_on old between new notices more one other =
     ∙ ap (λ (copy : Additions). record copy { pending = copy.pending ++ map Take more }) one
     ∙ ap (λ pending. record old { pending = pending }) (append_assoc old.pending (map Take notices) (map Take more) ∙ ap (λ rest. old.pending ++ rest) (sym (map-append Take notices more)))
 
-pub ward_nothing : (ward : ℕ) (copy : Additions) (place : ℕ) → TakesFromTo ward copy place copy place
-ward_nothing ward copy place = ([], refl, takes_nothing copy)
+pub ward_nothing : (ward : ℕ) (copy : Additions) (cursor : ℕ) → TakesFromTo ward copy cursor copy cursor
+ward_nothing ward copy cursor = ([], refl, takes_nothing copy)
 
 -- a batch more
-pub batch_on : (ward : ℕ) (batch : List Notice) (old between new : Additions) (place far last : ℕ) (result : Result (Unit {0}) AllocError) → TakesFromTo ward old place between far → TakesBatch ward batch between far result new last
-    → TakesFromTo ward old place new last
-batch_on ward batch old between new place far last result so_far more =
-    (so_far.0 ++ more.0, from_to_on ward place so_far.0 far more.0 last so_far.1 more.3, takes_on old between new so_far.0 more.0 so_far.2 more.4)
+pub batch_on : (ward : ℕ) (batch : List Notice) (old between new : Additions) (cursor far last : ℕ) (result : Result (Unit {0}) AllocError) → TakesFromTo ward old cursor between far → TakesBatch ward batch between far result new last
+    → TakesFromTo ward old cursor new last
+batch_on ward batch old between new cursor far last result so_far more =
+    (so_far.0 ++ more.0, from_to_on ward cursor so_far.0 far more.0 last so_far.1 more.3, takes_on old between new so_far.0 more.0 so_far.2 more.4)
 
--- of so many notices of a batch at most the place moves by no more than these
-pub turn_within : (ward count most : ℕ) (batch : List Notice) (old new : Additions) (place last : ℕ) (result : Result (Unit {0}) AllocError) → count ≤ most → TakesBatch ward (take count batch) old place result new last → last ≤ place + most
-turn_within ward count most batch old new place last result few takes =
+-- of so many notices of a batch at most the cursor moves by no more than these
+pub turn_within : (ward count most : ℕ) (batch : List Notice) (old new : Additions) (cursor last : ℕ) (result : Result (Unit {0}) AllocError) → count ≤ most → TakesBatch ward (take count batch) old cursor result new last → last ≤ cursor + most
+turn_within ward count most batch old new cursor last result few takes =
     let whole : length (take count batch) ≡ length (takes.0 ++ takes.1) = ap length takes.2 in
-    omega (arith, few, last_of ward place takes.0 last takes.3, whole, length-append takes.0 takes.1, length-take count batch)
+    omega (arith, few, last_of ward cursor takes.0 last takes.3, whole, length-append takes.0 takes.1, length-take count batch)
 
 -- what was taken of a batch so far, by how many
 abbrev pub BatchSoFar : ℕ → List Notice → Additions → ℕ → ℕ → Additions → ℕ → Type 0
-BatchSoFar ward batch old place count new last = AreFromTo ward place (take count batch) last × TakesAll old (take count batch) new
+BatchSoFar ward batch old cursor count new last = AreFromTo ward cursor (take count batch) last × TakesAll old (take count batch) new
 
-pub one_taken : (ward : ℕ) (batch : List Notice) (old between new : Additions) (place count last : ℕ) (notice : Notice) → count < length batch → BatchSoFar ward batch old place count between last → get_or batch count notice ≡ notice → Follows ward last notice
-    → TakesAll between (notice ∷ []) new → BatchSoFar ward batch old place (count + 1) new notice.index
-one_taken ward batch old between new place count last notice within so_far here follows takes =
+pub one_taken : (ward : ℕ) (batch : List Notice) (old between new : Additions) (cursor count last : ℕ) (notice : Notice) → count < length batch → BatchSoFar ward batch old cursor count between last → get_or batch count notice ≡ notice → Follows ward last notice
+    → TakesAll between (notice ∷ []) new → BatchSoFar ward batch old cursor (count + 1) new notice.index
+one_taken ward batch old between new cursor count last notice within so_far here follows takes =
     let longer : take (count + 1) batch ≡ take count batch ++ notice ∷ [] = take_more batch count notice within ∙ ap (λ n. take count batch ++ n ∷ []) here in (
-      subst (λ ns. AreFromTo ward place ns notice.index) (sym longer) (one_further ward place (take count batch) last notice so_far.0 follows),
+      subst (λ ns. AreFromTo ward cursor ns notice.index) (sym longer) (one_further ward cursor (take count batch) last notice so_far.0 follows),
       subst (λ ns. TakesAll old ns new) (sym longer) (takes_on old between new (take count batch) (notice ∷ []) so_far.1 takes),
     )
 
-pub batch_taken : (ward : ℕ) (batch : List Notice) (old new : Additions) (place count last : ℕ) (result : Result (Unit {0}) AllocError) → BatchSoFar ward batch old place count new last → OnOk result (NoneFollows ward last (drop count batch))
-    → TakesBatch ward batch old place result new last
-batch_taken ward batch old new place count last result so_far end = (take count batch, drop count batch, sym (take-append-drop count batch), so_far.0, so_far.1, end)
+pub batch_taken : (ward : ℕ) (batch : List Notice) (old new : Additions) (cursor count last : ℕ) (result : Result (Unit {0}) AllocError) → BatchSoFar ward batch old cursor count new last → OnOk result (NoneFollows ward last (drop count batch))
+    → TakesBatch ward batch old cursor result new last
+batch_taken ward batch old new cursor count last result so_far end = (take count batch, drop count batch, sym (take-append-drop count batch), so_far.0, so_far.1, end)
 
 -- where memory is refused, what was taken of the batch stays
-pub batch_refused : (ward : ℕ) (batch : List Notice) (old between new : Additions) (place count last : ℕ) (result : Result (Unit {0}) AllocError) → BatchSoFar ward batch old place count between last → new ≡ between → IsErr result
-    → TakesBatch ward batch old place result new last
-batch_refused ward batch old between new place count last (Ok done) so_far same refused = absurd (false≢true refused)
-batch_refused ward batch old between new place count last (Err error) so_far same refused =
-    batch_taken ward batch old new place count last (Err error) (subst (λ copy. BatchSoFar ward batch old place count copy last) (sym same) so_far) tt
+pub batch_refused : (ward : ℕ) (batch : List Notice) (old between new : Additions) (cursor count last : ℕ) (result : Result (Unit {0}) AllocError) → BatchSoFar ward batch old cursor count between last → new ≡ between → IsErr result
+    → TakesBatch ward batch old cursor result new last
+batch_refused ward batch old between new cursor count last (Ok done) so_far same refused = absurd (false≢true refused)
+batch_refused ward batch old between new cursor count last (Err error) so_far same refused =
+    batch_taken ward batch old new cursor count last (Err error) (subst (λ copy. BatchSoFar ward batch old cursor count copy last) (sym same) so_far) tt
 
 pub none_follows_at : (ward last : ℕ) (batch : List Notice) (count : ℕ) (notice : Notice) → count < length batch → get_or batch count notice ≡ notice → ¬ Follows ward last notice → NoneFollows ward last (drop count batch)
 none_follows_at ward last batch count notice within here not =
@@ -159,13 +159,13 @@ none_follows_at ward last batch count notice within here not =
 pub none_follows_end : (ward last : ℕ) (batch : List Notice) (count : ℕ) → length batch ≤ count → NoneFollows ward last (drop count batch)
 none_follows_end ward last batch count past = subst (NoneFollows ward last) (sym (drop_all count batch past)) tt
 
-pub one_ward_more : (ward : ℕ) (places : List ℕ) (notices : List Notice) (lasts : List ℕ) (place : ℕ) (more : List Notice) (last : ℕ) → AreCarried ward places notices lasts → AreFromTo (ward + length places) place more last
-    → AreCarried ward (places ++ place ∷ []) (notices ++ more) (lasts ++ last ∷ [])
-one_ward_more ward [] notices lasts place more last carried from =
+pub one_ward_more : (ward : ℕ) (cursors : List ℕ) (notices : List Notice) (lasts : List ℕ) (cursor : ℕ) (more : List Notice) (last : ℕ) → AreCarried ward cursors notices lasts → AreFromTo (ward + length cursors) cursor more last
+    → AreCarried ward (cursors ++ cursor ∷ []) (notices ++ more) (lasts ++ last ∷ [])
+one_ward_more ward [] notices lasts cursor more last carried from =
     let here : ward + 0 ≡ ward = omega arith in
-    (more, [], last, [], ap (λ ns. ns ++ more) carried.0 ∙ sym (append-nil more), ap (λ ls. ls ++ last ∷ []) carried.1, subst (λ n. AreFromTo n place more last) here from, (refl, refl))
-one_ward_more ward (first_place ∷ places) notices lasts place more last (first, rest, first_last, rest_lasts, is, lasts_are, first_from, carried) from =
-    let here : ward + length (first_place ∷ places) ≡ (ward + 1) + length places = omega arith in (
+    (more, [], last, [], ap (λ ns. ns ++ more) carried.0 ∙ sym (append-nil more), ap (λ ls. ls ++ last ∷ []) carried.1, subst (λ n. AreFromTo n cursor more last) here from, (refl, refl))
+one_ward_more ward (first_cursor ∷ cursors) notices lasts cursor more last (first, rest, first_last, rest_lasts, is, lasts_are, first_from, carried) from =
+    let here : ward + length (first_cursor ∷ cursors) ≡ (ward + 1) + length cursors = omega arith in (
       first,
       rest ++ more,
       first_last,
@@ -173,77 +173,77 @@ one_ward_more ward (first_place ∷ places) notices lasts place more last (first
       ap (λ ns. ns ++ more) is ∙ append_assoc first rest more,
       ap (λ ls. ls ++ last ∷ []) lasts_are,
       first_from,
-      one_ward_more (ward + 1) places rest rest_lasts place more last carried (subst (λ n. AreFromTo n place more last) here from),
+      one_ward_more (ward + 1) cursors rest rest_lasts cursor more last carried (subst (λ n. AreFromTo n cursor more last) here from),
     )
 
--- there are as many places as before
-pub as_many_places : (ward : ℕ) (places : List ℕ) (notices : List Notice) (lasts : List ℕ) → AreCarried ward places notices lasts → length lasts ≡ length places
-as_many_places ward [] notices lasts carried = ap length carried.1
-as_many_places ward (place ∷ places) notices lasts (first, rest, last, ends, is, lasts_are, from, carried) = ap length lasts_are ∙ ap suc (as_many_places (ward + 1) places rest ends carried)
+-- there are as many cursors as before
+pub as_many_cursors : (ward : ℕ) (cursors : List ℕ) (notices : List Notice) (lasts : List ℕ) → AreCarried ward cursors notices lasts → length lasts ≡ length cursors
+as_many_cursors ward [] notices lasts carried = ap length carried.1
+as_many_cursors ward (cursor ∷ cursors) notices lasts (first, rest, last, ends, is, lasts_are, from, carried) = ap length lasts_are ∙ ap suc (as_many_cursors (ward + 1) cursors rest ends carried)
 
--- the notices and places of one ward more
-pub one_place_more : (places : List ℕ) (number : ℕ) (notices more all : List Notice) (lasts ends : List ℕ) (last : ℕ) → number < length places → AreCarried 0 (take number places) notices lasts → (spot : ℕ) → spot ≡ number → AreFromTo number (get_or places spot 0) more last
-    → all ≡ notices ++ more → ends ≡ lasts ++ last ∷ [] → AreCarried 0 (take (number + 1) places) all ends
-one_place_more places number notices more all lasts ends last within carried spot here from all_is ends_are =
-    let place = get_or places number 0 in
-    let count : number ≡ 0 + length (take number places) = omega (arith, length-take-le number places (omega (arith, within))) in
-    let further = one_ward_more 0 (take number places) notices lasts place more last carried (subst (λ n. AreFromTo n place more last) count (subst (λ n. AreFromTo number (get_or places n 0) more last) here from)) in
+-- the notices and cursors of one ward more
+pub one_cursor_more : (cursors : List ℕ) (number : ℕ) (notices more all : List Notice) (lasts ends : List ℕ) (last : ℕ) → number < length cursors → AreCarried 0 (take number cursors) notices lasts → (spot : ℕ) → spot ≡ number → AreFromTo number (get_or cursors spot 0) more last
+    → all ≡ notices ++ more → ends ≡ lasts ++ last ∷ [] → AreCarried 0 (take (number + 1) cursors) all ends
+one_cursor_more cursors number notices more all lasts ends last within carried spot here from all_is ends_are =
+    let cursor = get_or cursors number 0 in
+    let count : number ≡ 0 + length (take number cursors) = omega (arith, length-take-le number cursors (omega (arith, within))) in
+    let further = one_ward_more 0 (take number cursors) notices lasts cursor more last carried (subst (λ n. AreFromTo n cursor more last) count (subst (λ n. AreFromTo number (get_or cursors n 0) more last) here from)) in
     let P : List ℕ → List Notice → List ℕ → Type 0 = λ ps ns ls. AreCarried 0 ps ns ls in
-    subst (λ ps. P ps all ends) (sym (take_more places number 0 within)) (subst (λ ns. P (take number places ++ place ∷ []) ns ends) (sym all_is) (subst (P (take number places ++ place ∷ []) (notices ++ more)) (sym ends_are) further))
+    subst (λ ps. P ps all ends) (sym (take_more cursors number 0 within)) (subst (λ ns. P (take number cursors ++ cursor ∷ []) ns ends) (sym all_is) (subst (P (take number cursors ++ cursor ∷ []) (notices ++ more)) (sym ends_are) further))
 
 -- ---- all wards
 
-none_carried : (ward : ℕ) (places : List ℕ) → AreCarried ward places [] places
+none_carried : (ward : ℕ) (cursors : List ℕ) → AreCarried ward cursors [] cursors
 none_carried ward [] = (refl, refl)
-none_carried ward (place ∷ places) = ([], [], place, places, refl, refl, refl, none_carried (ward + 1) places)
+none_carried ward (cursor ∷ cursors) = ([], [], cursor, cursors, refl, refl, refl, none_carried (ward + 1) cursors)
 
 -- wards of which nothing is carried
-carried_before : (ward : ℕ) (places rest : List ℕ) (notices : List Notice) (lasts : List ℕ) → AreCarried ward places notices lasts → AreCarried ward (places ++ rest) notices (lasts ++ rest)
+carried_before : (ward : ℕ) (cursors rest : List ℕ) (notices : List Notice) (lasts : List ℕ) → AreCarried ward cursors notices lasts → AreCarried ward (cursors ++ rest) notices (lasts ++ rest)
 carried_before ward [] rest notices lasts carried =
     subst (λ ns. AreCarried ward rest ns (lasts ++ rest)) (sym carried.0) (subst (λ ls. AreCarried ward rest [] (ls ++ rest)) (sym carried.1) (none_carried ward rest))
-carried_before ward (place ∷ places) rest notices lasts (first, more, last, ends, is, lasts_are, from, carried) =
-    (first, more, last, ends ++ rest, is, ap (λ ls. ls ++ rest) lasts_are, from, carried_before (ward + 1) places rest more ends carried)
+carried_before ward (cursor ∷ cursors) rest notices lasts (first, more, last, ends, is, lasts_are, from, carried) =
+    (first, more, last, ends ++ rest, is, ap (λ ls. ls ++ rest) lasts_are, from, carried_before (ward + 1) cursors rest more ends carried)
 
 -- what was taken of the wards below a number
 abbrev pub WardsSoFar : ℕ → Additions → List ℕ → Additions → List ℕ → Type 0
-WardsSoFar number old places new lasts =
-    (notices : List Notice) × AreCarried 0 (take number places) notices (take number lasts) × TakesAll old notices new × (drop number lasts ≡ drop number places) × (length lasts ≡ length places)
+WardsSoFar number old cursors new lasts =
+    (notices : List Notice) × AreCarried 0 (take number cursors) notices (take number lasts) × TakesAll old notices new × (drop number lasts ≡ drop number cursors) × (length lasts ≡ length cursors)
 
-pub none_so_far : (copy : Additions) (places : List ℕ) → WardsSoFar 0 copy places copy places
-none_so_far copy places = ([], (refl, refl), takes_nothing copy, refl, refl)
+pub none_so_far : (copy : Additions) (cursors : List ℕ) → WardsSoFar 0 copy cursors copy cursors
+none_so_far copy cursors = ([], (refl, refl), takes_nothing copy, refl, refl)
 
-pub one_ward_taken : (number : ℕ) (old between new : Additions) (places lasts after : List ℕ) (last : ℕ) → number < length places → WardsSoFar number old places between lasts → (spot : ℕ) → spot ≡ number → TakesFromTo number between (get_or lasts spot 0) new last
-    → after ≡ set lasts spot last → WardsSoFar (number + 1) old places new after
-one_ward_taken number old between new places lasts after last within so_far spot here more is =
+pub one_ward_taken : (number : ℕ) (old between new : Additions) (cursors lasts after : List ℕ) (last : ℕ) → number < length cursors → WardsSoFar number old cursors between lasts → (spot : ℕ) → spot ≡ number → TakesFromTo number between (get_or lasts spot 0) new last
+    → after ≡ set lasts spot last → WardsSoFar (number + 1) old cursors new after
+one_ward_taken number old between new cursors lasts after last within so_far spot here more is =
     let inside : number < length lasts = omega (arith, within, so_far.4) in
     let set_there : after ≡ set lasts number last = is ∙ ap (λ n. set lasts n last) here in
     let plain : number + 0 ≡ number = omega arith in
-    let old_place : get_or lasts spot 0 ≡ get_or places number 0 =
-    ap (λ n. get_or lasts n 0) (here ∙ sym plain) ∙ sym (get_or-drop number lasts 0 0) ∙ ap (λ rest. get_or rest 0 0) so_far.3 ∙ get_or-drop number places 0 0 ∙ ap (λ n. get_or places n 0) plain in
+    let old_cursor : get_or lasts spot 0 ≡ get_or cursors number 0 =
+    ap (λ n. get_or lasts n 0) (here ∙ sym plain) ∙ sym (get_or-drop number lasts 0 0) ∙ ap (λ rest. get_or rest 0 0) so_far.3 ∙ get_or-drop number cursors 0 0 ∙ ap (λ n. get_or cursors n 0) plain in
     let ends : take (number + 1) after ≡ take number lasts ++ last ∷ [] = ap (take (number + 1)) set_there ∙ take_more_set lasts number last inside in (
       so_far.0 ++ more.0,
-      one_place_more places number so_far.0 more.0 (so_far.0 ++ more.0) (take number lasts) (take (number + 1) after) last within so_far.1 number refl (subst (λ p. AreFromTo number p more.0 last) old_place more.1) refl ends,
+      one_cursor_more cursors number so_far.0 more.0 (so_far.0 ++ more.0) (take number lasts) (take (number + 1) after) last within so_far.1 number refl (subst (λ p. AreFromTo number p more.0 last) old_cursor more.1) refl ends,
       takes_on old between new so_far.0 more.0 so_far.2 more.2,
-      ap (drop (number + 1)) set_there ∙ drop-set-lt (number + 1) lasts number last (omega arith) ∙ drop_more_same lasts places number so_far.3,
+      ap (drop (number + 1)) set_there ∙ drop-set-lt (number + 1) lasts number last (omega arith) ∙ drop_more_same lasts cursors number so_far.3,
       ap length set_there ∙ length-set lasts number last ∙ so_far.4,
     )
 
-pub all_taken : (number : ℕ) (old new : Additions) (places lasts : List ℕ) → WardsSoFar number old places new lasts → TakesBetween old places new lasts
-all_taken number old new places lasts so_far =
-    let whole = carried_before 0 (take number places) (drop number places) so_far.0 (take number lasts) so_far.1 in
-    let lasts_are : take number lasts ++ drop number places ≡ lasts = ap (λ rest. take number lasts ++ rest) (sym so_far.3) ∙ take-append-drop number lasts in
-    (so_far.0, subst (λ ps. AreCarried 0 ps so_far.0 lasts) (take-append-drop number places) (subst (AreCarried 0 (take number places ++ drop number places) so_far.0) lasts_are whole), so_far.2)
+pub all_taken : (number : ℕ) (old new : Additions) (cursors lasts : List ℕ) → WardsSoFar number old cursors new lasts → TakesBetween old cursors new lasts
+all_taken number old new cursors lasts so_far =
+    let whole = carried_before 0 (take number cursors) (drop number cursors) so_far.0 (take number lasts) so_far.1 in
+    let lasts_are : take number lasts ++ drop number cursors ≡ lasts = ap (λ rest. take number lasts ++ rest) (sym so_far.3) ∙ take-append-drop number lasts in
+    (so_far.0, subst (λ ps. AreCarried 0 ps so_far.0 lasts) (take-append-drop number cursors) (subst (AreCarried 0 (take number cursors ++ drop number cursors) so_far.0) lasts_are whole), so_far.2)
 
 -- ---- a round
 
-pub round_refused : (old taken new : Additions) (places lasts after : List ℕ) (result : Result ℕ AllocError) → TakesBetween old places taken lasts → new ≡ taken → after ≡ lasts → OnErr result (TakesBetween old places new after)
-round_refused old taken new places lasts after (Ok count) round same back = tt
-round_refused old taken new places lasts after (Err error) round same back =
-    subst (λ ls. TakesBetween old places new ls) (sym back) (subst (λ (copy : Additions). TakesBetween old places copy lasts) (sym same) round)
+pub round_refused : (old taken new : Additions) (cursors lasts after : List ℕ) (result : Result ℕ AllocError) → TakesBetween old cursors taken lasts → new ≡ taken → after ≡ lasts → OnErr result (TakesBetween old cursors new after)
+round_refused old taken new cursors lasts after (Ok count) round same back = tt
+round_refused old taken new cursors lasts after (Err error) round same back =
+    subst (λ ls. TakesBetween old cursors new ls) (sym back) (subst (λ (copy : Additions). TakesBetween old cursors copy lasts) (sym same) round)
 
-pub round_told : (old taken new : Additions) (places lasts after : List ℕ) (all before : ℕ) → TakesBetween old places taken lasts → after ≡ lasts → new ≡ record taken { published = taken.published ++ taken.pending; pending = [] } → all ≡ length new.published
-    → before ≡ length old.published → (notices : List Notice) × AreCarried 0 places notices after × (all - before ≡ length old.pending + length notices) × (new ≡ record old { published = (old.published ++ old.pending) ++ map Take notices; pending = [] })
-round_told old taken new places lasts after all before (notices, carried, takes) back is all_is before_is =
+pub round_told : (old taken new : Additions) (cursors lasts after : List ℕ) (all before : ℕ) → TakesBetween old cursors taken lasts → after ≡ lasts → new ≡ record taken { published = taken.published ++ taken.pending; pending = [] } → all ≡ length new.published
+    → before ≡ length old.published → (notices : List Notice) × AreCarried 0 cursors notices after × (all - before ≡ length old.pending + length notices) × (new ≡ record old { published = (old.published ++ old.pending) ++ map Take notices; pending = [] })
+round_told old taken new cursors lasts after all before (notices, carried, takes) back is all_is before_is =
     let new_is : new ≡ record old { published = (old.published ++ old.pending) ++ map Take notices; pending = [] } =
     is
     ∙ ap (λ (copy : Additions). record copy { published = copy.published ++ copy.pending; pending = [] }) takes
@@ -253,4 +253,4 @@ round_told old taken new places lasts after all before (notices, carried, takes)
     let inner = length-append old.published old.pending in
     let told : length (map Take notices) ≡ length notices = length-map notices Take in
     let count : all - before ≡ length old.pending + length notices = omega (arith, all_is, before_is, long, outer, inner, told) in
-    (notices, subst (λ ls. AreCarried 0 places notices ls) (sym back) carried, count, new_is)
+    (notices, subst (λ ls. AreCarried 0 cursors notices ls) (sym back) carried, count, new_is)

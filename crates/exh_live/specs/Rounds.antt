@@ -23,7 +23,7 @@ use Rattle.exh_live.specs.PlaceLemmas.{AreFirst}
 abbrev pub AreSparse : {K : Type 0} → WardState K → ℕ → Type 0
 AreSparse ward at = (sum : ℕ) × HasBuddySum ward at sum × (2 * sum ≤ ward.cap)
 
--- a keeper's turn at a page: they were sparse and are merged, or nothing changed, since they aren't sparse or the number at the parent is the greatest
+-- a keeper's turn at a page: they were sparse and are merged, or nothing changed, since they aren't sparse or the version at the parent is the greatest
 abbrev pub IsKeeperTurn : {K : Type 0} → WardState K → ℕ → Bool → WardState K → Type 0
 IsKeeperTurn old at true new = AreSparse old at × ((notice : Notice) × IsMergeStep old at notice new)
 IsKeeperTurn old at false new = (new ≡ old) × (AreSparse old at → MergeRefused old at Worn)
@@ -57,60 +57,60 @@ MayRefuseKeeper fault = ⊥
 abbrev pub is_of_ward : ℕ → ℕ → List Bool → Bool
 is_of_ward ward_bits number prefix = leb ward_bits (length prefix) && nat_eq (ward_of ward_bits (low_of prefix)) number
 
--- what an entry at a prefix adds to the place in a ward: its number, where the prefix is the ward's
+-- what an entry at a prefix adds to the cursor in a ward: its version, where the prefix is the ward's
 abbrev pub told_of : ℕ → ℕ → List Bool × Entry → ℕ
-told_of ward_bits number e = if is_of_ward ward_bits number e.0 then e.1.number else 0
+told_of ward_bits number e = if is_of_ward ward_bits number e.0 then e.1.version else 0
 
--- how many changes of a ward's pages a table tells of: the sum of the numbers at the ward's prefixes
+-- how many changes of a ward's pages a table tells of: the sum of the versions at the ward's prefixes
 abbrev pub changes_told : ℕ → TableMap → ℕ → ℕ
 changes_told ward_bits table number = sum_by (told_of ward_bits number) (entries table)
 
--- the first places are those that a table tells of
-abbrev pub AreToldPlaces : ℕ → TableMap → ℕ → List ℕ → Type 0
-AreToldPlaces ward_bits table count places = (length places ≡ count) × ((number place : ℕ) → slice_get places number ≡ Some place → place ≡ changes_told ward_bits table number)
+-- the first cursors are those that a table tells of
+abbrev pub AreToldCursors : ℕ → TableMap → ℕ → List ℕ → Type 0
+AreToldCursors ward_bits table count cursors = (length cursors ≡ count) × ((number cursor : ℕ) → slice_get cursors number ≡ Some cursor → cursor ≡ changes_told ward_bits table number)
 
--- a courier's places at first, one a ward: what the copy's start table tells of
-abbrev pub AreFirstPlaces : ℕ → TableMap → List ℕ → Type 0
-AreFirstPlaces ward_bits table places = AreToldPlaces ward_bits table (2 ^ ward_bits) places
+-- a courier's cursors at first, one a ward: what the copy's start table tells of
+abbrev pub AreFirstCursors : ℕ → TableMap → List ℕ → Type 0
+AreFirstCursors ward_bits table cursors = AreToldCursors ward_bits table (2 ^ ward_bits) cursors
 
--- notices of a ward with consecutive indexes, from the one after a place to another
+-- notices of a ward with consecutive indexes, from the one after a cursor to another
 abbrev pub AreFromTo : ℕ → ℕ → List Notice → ℕ → Type 0
-AreFromTo ward place [] last = last ≡ place
-AreFromTo ward place (notice ∷ notices) last = (notice.ward ≡ ward) × (notice.index ≡ place + 1) × AreFromTo ward notice.index notices last
+AreFromTo ward cursor [] last = last ≡ cursor
+AreFromTo ward cursor (notice ∷ notices) last = (notice.ward ≡ ward) × (notice.index ≡ cursor + 1) × AreFromTo ward notice.index notices last
 
--- such notices ward by ward, from a number on, each ward's from its old place to its new one
+-- such notices ward by ward, from a number on, each ward's from its old cursor to its new one
 abbrev pub AreCarried : ℕ → List ℕ → List Notice → List ℕ → Type 0
 AreCarried ward [] notices new = (notices ≡ []) × (new ≡ [])
-AreCarried ward (place ∷ places) notices new =
+AreCarried ward (cursor ∷ cursors) notices new =
     (first rest : List Notice) × (last : ℕ) × (lasts : List ℕ)
-    × (notices ≡ first ++ rest) × (new ≡ last ∷ lasts) × AreFromTo ward place first last × AreCarried (ward + 1) places rest lasts
+    × (notices ≡ first ++ rest) × (new ≡ last ∷ lasts) × AreFromTo ward cursor first last × AreCarried (ward + 1) cursors rest lasts
 
 -- a copy took these notices, which are pending, and nothing else of it changed
 abbrev pub TakesAll : Additions → List Notice → Additions → Type 0
 TakesAll old notices new = new ≡ record old { pending = old.pending ++ map Take notices }
 
--- a copy took such notices of a ward, from a place to another
+-- a copy took such notices of a ward, from a cursor to another
 abbrev pub TakesFromTo : ℕ → Additions → ℕ → Additions → ℕ → Type 0
-TakesFromTo ward old place new last = (notices : List Notice) × AreFromTo ward place notices last × TakesAll old notices new
+TakesFromTo ward old cursor new last = (notices : List Notice) × AreFromTo ward cursor notices last × TakesAll old notices new
 
--- a courier's places before and after: a copy took such notices of all wards
+-- a courier's cursors before and after: a copy took such notices of all wards
 abbrev pub TakesBetween : Additions → List ℕ → Additions → List ℕ → Type 0
-TakesBetween old places new lasts = (notices : List Notice) × AreCarried 0 places notices lasts × TakesAll old notices new
+TakesBetween old cursors new lasts = (notices : List Notice) × AreCarried 0 cursors notices lasts × TakesAll old notices new
 
--- some sound ward had so many notices above a place
+-- some sound ward had so many notices above a cursor
 abbrev pub HadSoMany : {K : Type 0} → (K → List ℕ → ℕ) → ℕ → ℕ → Type 0
-HadSoMany {K} pseudokey_of place count = (ward : WardState K) × IsSoundWard pseudokey_of ward × (count ≡ length (notices_above place ward.notices))
+HadSoMany {K} pseudokey_of cursor count = (ward : WardState K) × IsSoundWard pseudokey_of ward × (count ≡ length (notices_above cursor ward.notices))
 
 -- the notice is of the ward, and its index is the next one
 abbrev pub Follows : ℕ → ℕ → Notice → Type 0
-Follows ward place notice = (notice.ward ≡ ward) × (notice.index ≡ place + 1)
+Follows ward cursor notice = (notice.ward ≡ ward) × (notice.index ≡ cursor + 1)
 
 -- the first of the notices, where there is one, doesn't follow
 abbrev pub NoneFollows : ℕ → ℕ → List Notice → Type 0
-NoneFollows ward place [] = ⊤
-NoneFollows ward place (notice ∷ notices) = ¬ Follows ward place notice
+NoneFollows ward cursor [] = ⊤
+NoneFollows ward cursor (notice ∷ notices) = ¬ Follows ward cursor notice
 
--- of a batch of notices a copy took a beginning, from a place to another; all that go on from it, or where memory was refused some
+-- of a batch of notices a copy took a beginning, from a cursor to another; all that go on from it, or where memory was refused some
 abbrev pub TakesBatch : ℕ → List Notice → Additions → ℕ → Result (Unit {0}) AllocError → Additions → ℕ → Type 0
-TakesBatch ward batch old place result new last =
-    (taken rest : List Notice) × (batch ≡ taken ++ rest) × AreFromTo ward place taken last × TakesAll old taken new × OnOk result (NoneFollows ward last rest)
+TakesBatch ward batch old cursor result new last =
+    (taken rest : List Notice) × (batch ≡ taken ++ rest) × AreFromTo ward cursor taken last × TakesAll old taken new × OnOk result (NoneFollows ward last rest)

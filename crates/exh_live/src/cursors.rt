@@ -1,17 +1,17 @@
 ghost use Rattle.std.specs.Prelude.{◌≡◌, ◌≤◌, IfOk};
 ghost use Rattle.exh_prefix.specs.declared.prefix.TheConstants.{WARD_BITS_LIMIT};
-ghost use Rattle.exh_live.specs.Rounds.{AreFirstPlaces, changes_told, is_of_ward};
+ghost use Rattle.exh_live.specs.Rounds.{AreFirstCursors, changes_told, is_of_ward};
 
 use exh_prefix::{Prefix, ward_number};
 use exh_table::Table;
 use std::alloc::{AllocError, Global};
 use std::marker::Model;
 
-/// A courier's places, one for each ward: the index of the last notice that it carried. Contracts see
+/// A courier's cursors, one for each ward: the index of the last notice that it carried. Contracts see
 /// them in the order of the wards' numbers.
 #[derive(Drop)]
 pub struct Cursors {
-    pub(crate) places: Vec<u64>,
+    pub(crate) of_wards: Vec<u64>,
 }
 
 impl Model for Cursors {
@@ -19,22 +19,22 @@ impl Model for Cursors {
 
     ghost Value = { List ℕ };
 
-    ghost view = { λ a. a.places.items };
+    ghost view = { λ a. a.of_wards.items };
 }
 
 impl Cursors {
-    /// The places of a courier to a copy that begins with this table, in a file that is cut into
+    /// The cursors of a courier to a copy that begins with this table, in a file that is cut into
     /// 2^`ward_bits` wards: of each ward how many changes of its pages the table tells of. An `AllocError`
     /// where memory is refused, or for 2^64 changes.
     pub fn new(alloc: Global, ward_bits: u8, table: &Table) -> Result<Cursors, AllocError>
         requires { ward_bits ≤ WARD_BITS_LIMIT }
-        ensures { IfOk result (AreFirstPlaces ward_bits table.now) }
+        ensures { IfOk result (AreFirstCursors ward_bits table.now) }
     {
-        let mut places = Vec::new(alloc);
+        let mut of_wards = Vec::new(alloc);
         for number in 0..1 << ward_bits {
-            places.push(changes_of(table, ward_bits, number)?)?;
+            of_wards.push(changes_of(table, ward_bits, number)?)?;
         }
-        Ok(Cursors { places })
+        Ok(Cursors { of_wards })
     }
 }
 
@@ -47,7 +47,9 @@ fn changes_of(table: &Table, ward_bits: u8, number: u8) -> Result<u64, AllocErro
     let mut told: u64 = 0;
     for (prefix, entry) in table.entries() {
         if is_of(*prefix, ward_bits, number) {
-            told = told.checked_add(u64::from(entry.number)).ok_or(AllocError)?;
+            told = told
+                .checked_add(u64::from(entry.version))
+                .ok_or(AllocError)?;
         }
     }
     Ok(told)

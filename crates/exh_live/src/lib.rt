@@ -5,7 +5,7 @@
 pub use close::{CloseFault, Closed, NotClosed};
 pub use cursors::Cursors;
 pub use identity::Identity;
-pub use laws::places_go_on_with_wards;
+pub use laws::cursors_go_on_with_wards;
 pub use ledgers::{ANSWER_PARTS, Answers, ENTRY_PARTS, Entries, LedgerNames};
 pub use live_file::LiveFile;
 pub use lock::lock_soon;

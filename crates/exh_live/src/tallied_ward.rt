@@ -139,7 +139,7 @@ impl<P: Pages + Drop, K: Keyer, F: Identity> TalliedWard<P, K, F> {
     }
 
     /// A keeper's turn at a page: a look at it and its right buddy, and a merge where they are sparse, the
-    /// method that the world's step calls. It answers whether it merged them; not where the number at
+    /// method that the world's step calls. It answers whether it merged them; not where the version at
     /// their parent is the greatest. No unit is added.
     pub(crate) fn keep(&mut self, page: PageNo) -> Result<bool, WardFault>
         ensures sound { IsSoundWard K.pseudokey_of self.old.ward }
@@ -162,22 +162,22 @@ impl<P: Pages + Drop, K: Keyer, F: Identity> TalliedWard<P, K, F> {
         }
     }
 
-    /// How many notices the ward has above a place.
-    pub(crate) fn count_above(&self, place: u64) -> usize
-        ensures count { result ≡ length (notices_above place self.now.ward.notices) }
+    /// How many notices the ward has above a cursor.
+    pub(crate) fn count_above(&self, cursor: u64) -> usize
+        ensures count { result ≡ length (notices_above cursor self.now.ward.notices) }
         ensures sound { IsSoundWard K.pseudokey_of self.now.ward }
     {
         self.ward.journal();
-        self.ward.notices_after(place).len()
+        self.ward.notices_after(cursor).len()
     }
 
-    /// Pushes the first 256 of the ward's notices above a place, in order. At an `AllocError` none is pushed.
+    /// Pushes the first 256 of the ward's notices above a cursor, in order. At an `AllocError` none is pushed.
     #[tactic(auto, using(std::proofs::lemmas::List::take_min))]
-    pub(crate) fn hand_out(&self, place: u64, notices: &mut Vec<Notice>) -> Result<(), AllocError>
-        ensures ok { OnOk result (notices.new.items ≡ notices.old.items ++ take 256 (notices_above place self.now.ward.notices)) }
+    pub(crate) fn hand_out(&self, cursor: u64, notices: &mut Vec<Notice>) -> Result<(), AllocError>
+        ensures ok { OnOk result (notices.new.items ≡ notices.old.items ++ take 256 (notices_above cursor self.now.ward.notices)) }
         ensures err { OnErr result (notices.new.items ≡ notices.old.items) }
     {
-        let above = self.ward.notices_after(place);
+        let above = self.ward.notices_after(cursor);
         notices.extend_from_slice(&above[..TURN_LIMIT.min(above.len())])
     }
 }

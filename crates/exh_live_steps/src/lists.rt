@@ -179,7 +179,7 @@ pub static ODD_HALF: [LiveStep; 14] = [
 ];
 
 /// A round carries nothing of what the table tells. Of six puts each third takes one split, of page 0 and of
-/// page 1: these are carried at once, and then one more. A courier with the place of a copy that was told of
+/// page 1: these are carried at once, and then one more. A courier with the cursor of a copy that was told of
 /// nothing finds no notice that is next, and carries none.
 pub static OPENED_COURIER: [LiveStep; 18] = [
     Named(b"\x80", 1),

@@ -68,7 +68,7 @@ pub fn take_steps<R: Wait, F: Identity, S: Start>(
     requires table { S.table ≡ map.empty }
     requires own { caller.old.copy.name ≡ writer.old.name }
 {
-    let mut cursors = first_places(run.alloc, ward_bits, start)?;
+    let mut cursors = first_cursors(run.alloc, ward_bits, start)?;
     let [first, second] = lists;
     take_list(
         rt,
@@ -107,9 +107,9 @@ fn take_list<R: Wait, F: Identity, S: Start>(
     requires bits { ward_bits ≡ file.now.ward_bits }
     requires copy { S.ward_bits ≡ ward_bits }
     requires table { S.table ≡ map.empty }
-    requires places { length cursors.old ≡ 2 ^ file.now.ward_bits }
+    requires cursors { length cursors.old ≡ 2 ^ file.now.ward_bits }
     requires own { caller.old.copy.name ≡ writer.old.name }
-    ensures places { length cursors.new ≡ 2 ^ file.now.ward_bits }
+    ensures cursors { length cursors.new ≡ 2 ^ file.now.ward_bits }
     ensures own { caller.new.copy.name ≡ writer.new.name }
 {
     'steps: for step in list {
@@ -132,9 +132,9 @@ fn take<R: Wait, F: Identity, S: Start>(
     requires bits { ward_bits ≡ file.now.ward_bits }
     requires copy { S.ward_bits ≡ ward_bits }
     requires table { S.table ≡ map.empty }
-    requires places { length cursors.old ≡ 2 ^ file.now.ward_bits }
+    requires cursors { length cursors.old ≡ 2 ^ file.now.ward_bits }
     requires own { caller.old.copy.name ≡ writer.old.name }
-    ensures places { length cursors.new ≡ length cursors.old }
+    ensures cursors { length cursors.new ≡ length cursors.old }
     ensures own { caller.new.copy.name ≡ writer.new.name }
 {
     match step {
@@ -161,7 +161,7 @@ fn take<R: Wait, F: Identity, S: Start>(
             is_told_closed(rt, file, caller, closed, *turns, said)
         }
         LiveStep::Stale(notices) => {
-            let mut others = first_places(run.alloc, ward_bits, &Table::new(run.alloc))?;
+            let mut others = first_cursors(run.alloc, ward_bits, &Table::new(run.alloc))?;
             is_carried(rt, file, writer, &mut others, *notices)
         }
         LiveStep::Named(key, page) => is_named(writer, &mut caller.copy, key, *page),
@@ -194,7 +194,7 @@ fn are_idle<R: Wait, F: Identity, S: Start>(
     rounds: u32,
 ) -> Result<(), Difference>
     requires { length cursors.old ≡ 2 ^ file.now.ward_bits }
-    ensures places { length cursors.new ≡ length cursors.old }
+    ensures cursors { length cursors.new ≡ length cursors.old }
     ensures name { writer.new.name ≡ writer.old.name }
 {
     'rounds: for _ in 0..rounds {
@@ -298,8 +298,8 @@ fn closed_reader<R: Wait, S: Start>(
     }
 }
 
-// The places of a courier to a copy that begins with a table.
-fn first_places(alloc: Global, ward_bits: u8, table: &Table) -> Result<Cursors, Difference>
+// The cursors of a courier to a copy that begins with a table.
+fn first_cursors(alloc: Global, ward_bits: u8, table: &Table) -> Result<Cursors, Difference>
     requires { ward_bits ≤ WARD_BITS_LIMIT }
     ensures { IfOk result (λ cursors. length cursors ≡ 2 ^ ward_bits) }
 {
@@ -335,8 +335,8 @@ fn is_named<S: Start>(
     requires { copy.old.name ≡ writer.old.name }
     ensures { copy.new.name ≡ writer.new.name }
 {
-    match writer.tell() {
-        Ok(told) => copy.learn(told),
+    match writer.hand_on() {
+        Ok(handed) => copy.learn(handed),
         Err(_) => return Err(Difference::Apart(Part::Run)),
     }
     same(

@@ -7,7 +7,7 @@ use Rattle.exh_load.specs.Load.{Load, Loads, Prints, PrintsFront}
 use Rattle.exh_load.specs.declared.load_fault.LoadFault.{LoadFault}
 use Rattle.exh_load.specs.declared.load_fault.LoadFault.TheVariants.{Write, Memory, Page}
 use Rattle.exh_file_runs.specs.Run.{memory_line}
-use Rattle.exh_file_runs.specs.declared.place.Place.{Place}
+use Rattle.exh_file_runs.specs.declared.job_path.JobPath.{JobPath}
 use Rattle.exh_file_runs.specs.declared.run.Ending.{Ending}
 use Rattle.exh_file_runs.specs.declared.run.Ending.TheVariants.{Over, Save}
 use Rattle.exh_file_runs.specs.declared.status.Status.TheVariants.{Refused}
@@ -22,7 +22,7 @@ LoadPrints Is old new (Err Memory) = PrintsFront Is (λ text. Appends old new (t
 LoadPrints Is old new (Err Page) = PrintsFront Is (Appends old new)
 LoadPrints Is old new (Err Write) = Prints Is (AppendsBeginning old new) ⊎ PrintsFront Is (λ text. AppendsBeginning old new (text ++ memory_line))
 
--- After a load the file that comes of it is saved at its place; without a file, or a place for it, the program ends refused.
-abbrev pub IsLoadEnding : Result (Option OpenedState) LoadFault → Option Place → Ending → Type 0
-IsLoadEnding (Ok (Some wards)) (Some place) ending = ending ≡ Save place wards
-IsLoadEnding loaded place ending = ending ≡ Over Refused
+-- After a load the file that comes of it is saved at the job's path; without a file, or a path for it, the program ends refused.
+abbrev pub IsLoadEnding : Result (Option OpenedState) LoadFault → Option JobPath → Ending → Type 0
+IsLoadEnding (Ok (Some wards)) (Some path) ending = ending ≡ Save path wards
+IsLoadEnding loaded path ending = ending ≡ Over Refused

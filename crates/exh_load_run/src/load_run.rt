@@ -4,9 +4,9 @@ ghost use Rattle.exh_load.specs.Load.{IsLoadOf, beginning, load_of};
 ghost use Rattle.exh_load.specs.LongLoad.{IsLongLoad};
 ghost use Rattle.exh_load.specs.declared.load_source.TheConstants.{TEXT_LIMIT};
 ghost use Rattle.exh_load_run.specs.LoadRun.{IsLoadEnding, LoadPrints};
-ghost use Rattle.exh_file_runs.specs.Place.{SavesAt};
+ghost use Rattle.exh_file_runs.specs.JobPath.{SavesAt};
 
-use exh_file_runs::{Ending, FileWards, MAKER, Place, Status, print_out_of_memory};
+use exh_file_runs::{Ending, FileWards, JobPath, MAKER, Status, print_out_of_memory};
 use exh_load::{LoadFault, load, load_long};
 use exh_notes::Listener;
 use exh_stream::Output;
@@ -59,16 +59,16 @@ pub fn load_long_pairs<R: Read, W: Write, L: Listener>(
     }
 }
 
-/// How the program ends after a load: the file that comes of it is saved at its place.
+/// How the program ends after a load: the file that comes of it is saved at the job's path.
 pub fn load_ending<'w>(
     loaded: Result<Option<FileWards>, LoadFault>,
-    place: Option<Place<'w>>,
+    save: Option<JobPath<'w>>,
 ) -> Ending<'w>
-    ensures ending { IsLoadEnding loaded place.entry result }
-    ensures place { SavesAt place.entry result }
+    ensures ending { IsLoadEnding loaded save.entry result }
+    ensures path { SavesAt save.entry result }
 {
-    match (loaded, place) {
-        (Ok(Some(wards)), Some(place)) => Ending::Save { place, wards },
+    match (loaded, save) {
+        (Ok(Some(wards)), Some(path)) => Ending::Save { path, wards },
         _ => Ending::Over(Status::Refused),
     }
 }

@@ -1,28 +1,28 @@
 //! The run of a load over the program's standard streams, and over the file of a path.
-ghost use Rattle.exh_file_runs.specs.Place.{SavesAt};
+ghost use Rattle.exh_file_runs.specs.JobPath.{SavesAt};
 
 use crate::load_run::{load_ending, load_long_pairs, load_pairs};
 use crate::numbered_writer::NumberedWriter;
 use exh_command::LoadWay;
 use exh_file_runs::{
-    Ending, FileWards, INPUT, Place, opened_at, pair_notes, pairs_meter, tell_reason, warn,
+    Ending, FileWards, INPUT, JobPath, opened_at, pair_notes, pairs_meter, tell_reason, warn,
 };
 use exh_notes::{Expect, Notes, ReasonReader};
-use exh_place::Seen;
+use exh_path::Seen;
 use exh_progress::{ClearingWriter, MeteredReader};
 use exh_settings::SCRIPT_LIMIT;
 use std::cell::Cell;
 use std::io;
 
-/// Loads the pairs on standard input, of which a file comes that is to be saved at a place: a new one, or the one that is
-/// there, and what that file is. A terminal is told how many were read.
+/// Loads the pairs on standard input, of which a file comes that is to be saved at a job's path: a new one, or the one
+/// that is there, and what that file is. A terminal is told how many were read.
 pub fn load<'w>(
     rt: &HostRuntime,
     path: &str,
     way: LoadWay,
-    place: Option<Place<'w>>,
+    save: Option<JobPath<'w>>,
 ) -> (Ending<'w>, Option<Seen>)
-    ensures { SavesAt place.entry result.0 }
+    ensures { SavesAt save.entry result.0 }
 {
     let from = match way {
         LoadWay::Short | LoadWay::Long => None,
@@ -30,8 +30,8 @@ pub fn load<'w>(
     };
     match opened_at(rt, from) {
         Ok((wards, seen)) => {
-            warn(rt, place.map(|place| place.path()), seen.as_ref());
-            (load_so(rt, way, wards, place), seen)
+            warn(rt, save.map(|it| it.path()), seen.as_ref());
+            (load_so(rt, way, wards, save), seen)
         }
         Err(status) => (Ending::Over(status), None),
     }
@@ -42,19 +42,19 @@ fn load_so<'w>(
     rt: &HostRuntime,
     way: LoadWay,
     from: Option<FileWards>,
-    place: Option<Place<'w>>,
+    save: Option<JobPath<'w>>,
 ) -> Ending<'w>
-    ensures { SavesAt place.entry result }
+    ensures { SavesAt save.entry result }
 {
     match way {
-        LoadWay::Short => load_short(rt, place),
-        LoadWay::Long | LoadWay::Into => load_lines(rt, from, place),
+        LoadWay::Short => load_short(rt, save),
+        LoadWay::Long | LoadWay::Into => load_lines(rt, from, save),
     }
 }
 
 // Loads a text of the length of a script, which is read whole, as a new file.
-fn load_short<'w>(rt: &HostRuntime, place: Option<Place<'w>>) -> Ending<'w>
-    ensures { SavesAt place.entry result }
+fn load_short<'w>(rt: &HostRuntime, save: Option<JobPath<'w>>) -> Ending<'w>
+    ensures { SavesAt save.entry result }
 {
     let reason = Cell::new(None);
     let meter = pairs_meter(rt);
@@ -72,12 +72,16 @@ fn load_short<'w>(rt: &HostRuntime, place: Option<Place<'w>>) -> Ending<'w>
     notes.end();
     meter.clear();
     tell_reason(rt, INPUT, &reason);
-    load_ending(loaded, place)
+    load_ending(loaded, save)
 }
 
 // Loads a text of any length, line by line.
-fn load_lines<'w>(rt: &HostRuntime, from: Option<FileWards>, place: Option<Place<'w>>) -> Ending<'w>
-    ensures { SavesAt place.entry result }
+fn load_lines<'w>(
+    rt: &HostRuntime,
+    from: Option<FileWards>,
+    save: Option<JobPath<'w>>,
+) -> Ending<'w>
+    ensures { SavesAt save.entry result }
 {
     let reason = Cell::new(None);
     let number = Cell::new(0);
@@ -97,5 +101,5 @@ fn load_lines<'w>(rt: &HostRuntime, from: Option<FileWards>, place: Option<Place
     notes.end();
     meter.clear();
     tell_reason(rt, INPUT, &reason);
-    load_ending(loaded, place)
+    load_ending(loaded, save)
 }

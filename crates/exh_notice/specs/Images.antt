@@ -30,12 +30,12 @@ prefix_field version prefix = number_of (prefix ++ zeros (8 * version.bytes - le
 abbrev pub entry_image : Version → ℕ → List Bool → Entry → List ℕ
 entry_image version ward prefix entry =
     ward ∷ kind_byte entry.kind ∷ length prefix ∷ 0 ∷ [] ++ big_bytes version.bytes (prefix_field version prefix) ++ replicate (4 - version.bytes) 0
-    ++ big_bytes 4 entry.number ++ big_bytes 4 (right_field entry.kind)
+    ++ big_bytes 4 entry.version ++ big_bytes 4 (right_field entry.kind)
 
 -- the bytes are the image of an entry at a prefix, in a ward
 pub record IsEntryImage (version : Version) (ward : ℕ) (prefix : List Bool) (entry : Entry) (image : List ℕ) : Type 0 where
   pub shorter : length prefix < version.limit
-  pub number : entry.number < 2 ^ 32
+  pub change_version : entry.version < 2 ^ 32
   pub right : right_field entry.kind < 2 ^ 32
   pub bytes : image ≡ entry_image version ward prefix entry
 
@@ -46,7 +46,7 @@ notice_image version notice = entry_image version notice.ward notice.prefix (ent
 -- the bytes are the image of a notice
 pub record IsNoticeImage (version : Version) (notice : Notice) (image : List ℕ) : Type 0 where
   pub shorter : length notice.prefix < version.limit
-  pub number : notice.number < 2 ^ 32
+  pub change_version : notice.version < 2 ^ 32
   pub right : right_field notice.kind < 2 ^ 32
   pub index : notice.index < 2 ^ 64
   pub bytes : image ≡ notice_image version notice

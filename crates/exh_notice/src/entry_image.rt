@@ -25,7 +25,7 @@ impl Entry {
         image[1] = kind_byte(self.kind);
         image[2] = prefix.len();
         BigEndian::write_u32(&mut image[4..8], prefix_field(prefix));
-        BigEndian::write_u32(&mut image[8..12], self.number);
+        BigEndian::write_u32(&mut image[8..12], self.version);
         BigEndian::write_u32(&mut image[12..], right_field(self.kind));
         image
     }
@@ -43,8 +43,11 @@ impl Entry {
     {
         let kind = read_kind(version, image)?;
         let prefix = read_prefix(version, image)?;
-        let number = BigEndian::read_u32(&image[8..]);
-        Ok((image[0], prefix, Entry { number, kind }))
+        let entry = Entry {
+            version: BigEndian::read_u32(&image[8..]),
+            kind,
+        };
+        Ok((image[0], prefix, entry))
     }
 }
 

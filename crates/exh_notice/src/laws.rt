@@ -17,8 +17,8 @@ pub fn equality_is_sameness()
     ensures { DecidesEquality ⟦<Entry as PartialEq>⟧.eq }
 {}
 
-/// Entries are ordered by number, then merges before splits, then by right page.
-pub fn order_is_by_number()
+/// Entries are ordered by version, then merges before splits, then by right page.
+pub fn order_is_by_version()
     ensures { ⟦<Entry as Ord>⟧.cmp ≡ entry_cmp }
 {}
 

@@ -34,13 +34,13 @@ impl Notice {
         ensures err { IfErr result (λ fault. FailsFirst (layout version) fault image.now) }
     {
         let (front, back) = image.split_first_chunk::<ENTRY_IMAGE_LEN>().unwrap();
-        let (ward, prefix, Entry { number, kind }) = Entry::from_image(version, front)?;
+        let (ward, prefix, entry) = Entry::from_image(version, front)?;
         Ok(Notice {
             ward,
             index: BigEndian::read_u64(back),
             prefix,
-            number,
-            kind,
+            version: entry.version,
+            kind: entry.kind,
         })
     }
 }

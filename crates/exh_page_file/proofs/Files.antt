@@ -35,7 +35,7 @@ use Rattle.exh_page_file.proofs.Places.{block_there, fails_behind, fails_here, f
 use Rattle.exh_page_file.proofs.TablePlaces.{table_fails, tables_behind, tables_pass}
 
 pub an_entry : FileEntry
-an_entry = record { ward = 0; prefix = []; entry = record { number = 0; kind = Merge } }
+an_entry = record { ward = 0; prefix = []; entry = record { version = 0; kind = Merge } }
 
 -- ---- how many wards and pages a header counts
 

@@ -36,9 +36,9 @@ module _ (version : Version) (fits : Fits 4 version) where
       let prefix = item.prefix in
       let short : length prefix ≤ version.limit = omega (arith, valid.shorter) in
       let field = big_bytes version.bytes (prefix_field version prefix) in
-      let numbers = big_bytes 4 item.entry.number ++ big_bytes 4 (right_field item.entry.kind) in
+      let numbers = big_bytes 4 item.entry.version ++ big_bytes 4 (right_field item.entry.kind) in
       let back : drop 4 (image_of version item) ≡ field ++ (replicate (4 - version.bytes) 0 ++ numbers) =
-      append_assoc (field ++ replicate (4 - version.bytes) 0) (big_bytes 4 item.entry.number) (big_bytes 4 (right_field item.entry.kind)) ∙ append_assoc field (replicate (4 - version.bytes) 0) numbers in
+      append_assoc (field ++ replicate (4 - version.bytes) 0) (big_bytes 4 item.entry.version) (big_bytes 4 (right_field item.entry.kind)) ∙ append_assoc field (replicate (4 - version.bytes) 0) numbers in
       let read : big_from 4 version.bytes (image_of version item) ≡ prefix_field version prefix =
       sym (big_from-drop 4 0 version.bytes (image_of version item)) ∙ ap (big_from 0 version.bytes) back
       ∙ big_number-reads_back version.bytes (prefix_field version prefix) (replicate (4 - version.bytes) 0 ++ numbers) (field-lt prefix short) in

@@ -86,8 +86,8 @@ parent_front parent bits child =
       omega (arith, long, front_shorter (parent ++ true ∷ []) bits child),
     )
 
-merge_no_split : (found : Option Entry) (number right : ℕ) → found ≡ Some (record { number = number; kind = Merge }) → right_of found ≡ Some right → ⊥
-merge_no_split found number right merge split = let none : Some right ≡ None = sym split ∙ ap right_of merge in cc
+merge_no_split : (found : Option Entry) (version right : ℕ) → found ≡ Some (record { version = version; kind = Merge }) → right_of found ≡ Some right → ⊥
+merge_no_split found version right merge split = let none : Some right ≡ None = sym split ∙ ap right_of merge in cc
 
 -- a live page, without its records
 record HasLivePrefix (page : Page) : Type 0 where
@@ -125,7 +125,7 @@ module _ (ward : List Bool) (start table late : TableMap) (taken later : List No
   -- where the late table has a split and the ward's a merge, a change came later
   merged_later : (prefix : List Bool) (right : ℕ) → IsFront ward prefix → split_at late prefix ≡ Some right → IsMergeAt table prefix → AnyNotice (IsChangeAt prefix) later
   merged_later prefix right within split merge =
-      let entry : Entry = record { number = merge.0; kind = Merge } in
+      let entry : Entry = record { version = merge.0; kind = Merge } in
       let told = told_later start taken later prefix entry (get late prefix) (subst (IsEntryOf all prefix) merge.1 (now prefix within)) (then prefix within) (λ same. merge_no_split (get late prefix) merge.0 right same split) in
       any_such _ (IsChangeAt prefix) (λ notice is. ap (λ (t : List Bool × Entry). t.0) is) later told
 

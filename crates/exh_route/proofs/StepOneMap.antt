@@ -13,7 +13,7 @@ use Rattle.exh_legal.specs.Fit.{FitsPages}
 use Rattle.exh_legal.specs.Growth.{IsGrown}
 use Rattle.exh_legal.specs.Laws.{IsChanged, SplitsKeepLegal, MergesKeepLegal}
 use Rattle.exh_legal.specs.NoticeLemmas.{one_true_more, places_by_bare, still_true}
-use Rattle.exh_legal.specs.Numbers.{AreNumbered, index_of}
+use Rattle.exh_legal.specs.Versions.{AreNumbered, index_of}
 use Rattle.exh_legal.specs.Pages.{IsLegal, bare, map_of}
 use Rattle.exh_ward.specs.HopTable.{HopOf}
 use Rattle.exh_calls.specs.Laws.{HistoriesGoOn}
@@ -118,14 +118,14 @@ module _ {K : Type 0} (pseudokey_of : K → List ℕ → ℕ) (words : (keyer : 
       subst (IsStepped pseudokey_of old (SplitAt at (Ok notice))) (sym step.others)
       (told_stepped notice new.pages (SplitAt at (Ok notice)) refl refl (ap (λ (n : Notice). n.ward) step.notice_is) (ap (λ (n : Notice). n.index) step.notice_is) step.map
       (λ legal. splits old.cap (pseudokey_of old.keyer) (own_prefix old) old.start old.notices old.table old.pages at notice.prefix step.right new.pages notice legal step.split
-      refl (ap (λ (n : Notice). n.number) step.notice_is) (ap (λ (n : Notice). n.kind) step.notice_is)))
+      refl (ap (λ (n : Notice). n.version) step.notice_is) (ap (λ (n : Notice). n.kind) step.notice_is)))
 
   merge_stepped : (at : ℕ) (notice : Notice) → IsMergeStep old at notice new → IsStepped pseudokey_of old (MergeAt at (Ok notice)) new
   merge_stepped at notice step =
       subst (IsStepped pseudokey_of old (MergeAt at (Ok notice))) (sym step.others)
       (told_stepped notice new.pages (MergeAt at (Ok notice)) refl refl (ap (λ (n : Notice). n.ward) step.notice_is) (ap (λ (n : Notice). n.index) step.notice_is) step.map
       (λ legal. merges old.cap (pseudokey_of old.keyer) (own_prefix old) old.start old.notices old.table old.pages at notice.prefix new.pages notice (words old.keyer) legal step.merge
-      refl (ap (λ (n : Notice). n.number) step.notice_is) (ap (λ (n : Notice). n.kind) step.notice_is)))
+      refl (ap (λ (n : Notice). n.version) step.notice_is) (ap (λ (n : Notice). n.kind) step.notice_is)))
 
   -- ---- a call was answered
 

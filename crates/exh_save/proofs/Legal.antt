@@ -80,7 +80,7 @@ module _ {ward : List Bool} {table : TableMap} (pages : List Page) (linked : Are
       let split : split_at table prefix ≡ Some right = ap right_of found ∙ ap right_of_kind is in
       let inner = ((fits.splits prefix).0 (right, split)).1 in
       omega (arith, inner.3.1, (linked.within inner.1 _ inner.2.2).1)
-  short_at prefix entry Merge is found = ((fits.merges prefix).0 (entry.number, found ∙ ap (λ kind. Some (record { number = entry.number; kind = kind })) is)).0
+  short_at prefix entry Merge is found = ((fits.merges prefix).0 (entry.version, found ∙ ap (λ kind. Some (record { version = entry.version; kind = kind })) is)).0
 
   short_entries : AllByRecursion IsShortAt (entries table)
   short_entries = each (λ prefix. length prefix < LIMIT) (entries table) (entries_sorted table) (λ prefix entry is. short_at prefix entry entry.kind refl (get-entries table prefix ∙ is))

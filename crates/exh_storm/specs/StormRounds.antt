@@ -53,13 +53,13 @@ IsWorkersFault Mismatch = ⊥
 abbrev pub AreKeeperRounds : {K : Type 0} → (K → List ℕ → ℕ) → (ℕ → Bool → Type 0) → ℕ → Type 0
 AreKeeperRounds {K} pseudokey_of may rounds = (made : List ℕ) × AreFirst (λ round merges. may (round + 1) true × IsKeeperRound {K = K} pseudokey_of merges) rounds made
 
--- a courier's round: the copy takes notices ward by ward, each ward's from its old place to its new one, and all that is pending is published
+-- a courier's round: the copy takes notices ward by ward, each ward's from its old cursor to its new one, and all that is pending is published
 abbrev pub IsCourierRound : Additions → List ℕ → Additions → List ℕ → Type 0
-IsCourierRound old places new lasts =
-    (notices : List Notice) × AreCarried 0 places notices lasts × (new ≡ record old { published = old.published ++ old.pending ++ map Take notices; pending = [] })
+IsCourierRound old cursors new lasts =
+    (notices : List Notice) × AreCarried 0 cursors notices lasts × (new ≡ record old { published = old.published ++ old.pending ++ map Take notices; pending = [] })
 
 -- so many of them, one after the other, before each of which the gate may say yes at its turn, from 1 on
 abbrev pub AreCourierRounds : (ℕ → Bool → Type 0) → ℕ → Additions → List ℕ → Additions → List ℕ → Type 0
-AreCourierRounds may zero old places new lasts = (new ≡ old) × (lasts ≡ places)
-AreCourierRounds may (suc rounds) old places new lasts =
-    (between : Additions) × (at : List ℕ) × AreCourierRounds may rounds old places between at × may (rounds + 1) true × IsCourierRound between at new lasts
+AreCourierRounds may zero old cursors new lasts = (new ≡ old) × (lasts ≡ cursors)
+AreCourierRounds may (suc rounds) old cursors new lasts =
+    (between : Additions) × (at : List ℕ) × AreCourierRounds may rounds old cursors between at × may (rounds + 1) true × IsCourierRound between at new lasts

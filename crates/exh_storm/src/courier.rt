@@ -1,7 +1,7 @@
 ghost use Rattle.std.specs.Prelude.{◌≡◌, ◌+◌, ◌≤◌, ◌^◌, ℕ, length, List, IfOk, IfErr};
 ghost use Rattle.std.specs.FinMap as map;
 ghost use Rattle.exh_prefix.specs.declared.prefix.TheConstants.{WARD_BITS_LIMIT};
-ghost use Rattle.exh_live.specs.Rounds.{AreFirstPlaces};
+ghost use Rattle.exh_live.specs.Rounds.{AreFirstCursors};
 ghost use Rattle.exh_storm.specs.StormRounds.{AreCourierRounds, IsCourierFault};
 ghost use Rattle.exh_storm.specs.declared.courier.TheConstants.{COURIER_CLIENT};
 
@@ -27,7 +27,7 @@ pub struct Courier<'a, R: Wait, S: Start> {
 }
 
 impl<R: Wait, S: Start> Courier<'_, R, S> {
-    /// Makes so many rounds to its copy, from a new file's places on. The file has 2^`ward_bits` wards.
+    /// Makes so many rounds to its copy, from a new file's cursors on. The file has 2^`ward_bits` wards.
     /// Before each round it asks the gate, as the client of its copy, at turns 1, 2, ..; after each it
     /// tells the watch how many notices it carried. Refused: `Held` where the gate says no, `Memory`. It
     /// may wait for other workers.
@@ -44,7 +44,7 @@ impl<R: Wait, S: Start> Courier<'_, R, S> {
         requires bits { ward_bits ≡ file.now.ward_bits }
         ensures number { self.new.number ≡ self.old.number }
         ensures name { self.new.copy.writer.name ≡ self.old.copy.writer.name }
-        ensures rounds { IfOk result (λ _. (places lasts : List ℕ) × AreFirstPlaces ward_bits map.empty places × AreCourierRounds (G.may gate.now (COURIER_CLIENT + self.old.number)) rounds self.old.copy.writer places self.new.copy.writer lasts) }
+        ensures rounds { IfOk result (λ _. (cursors lasts : List ℕ) × AreFirstCursors ward_bits map.empty cursors × AreCourierRounds (G.may gate.now (COURIER_CLIENT + self.old.number)) rounds self.old.copy.writer cursors self.new.copy.writer lasts) }
         ensures fault { IfErr result (IsCourierFault (G.may gate.now (COURIER_CLIENT + self.old.number)) rounds) }
     {
         let mut cursors = Cursors::new(alloc, ward_bits, &Table::new(alloc))?;

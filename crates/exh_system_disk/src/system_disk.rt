@@ -99,7 +99,7 @@ impl Disk for SystemDisk<'_> {
         })
     }
 
-    fn take(&mut self, name: &str, _place: &str) -> io::Result<SystemFile> {
+    fn take(&mut self, name: &str, _path: &str) -> io::Result<SystemFile> {
         let file = OpenOptions::new().write(true).open(self.rt, name)?;
         Ok(SystemFile {
             file,
@@ -158,8 +158,8 @@ impl Disk for SystemDisk<'_> {
         Ok(())
     }
 
-    fn rename(&mut self, file: &mut SystemFile, name: &str, place: &str) -> io::Result<()> {
-        fs::rename(self.rt, name, place)?;
+    fn rename(&mut self, file: &mut SystemFile, name: &str, path: &str) -> io::Result<()> {
+        fs::rename(self.rt, name, path)?;
         file.stage = Stage::Placed;
         Ok(())
     }

@@ -13,7 +13,7 @@ use Rattle.exh_join.specs.LawsLemmas.{join_laws}
 use Rattle.exh_notice.specs.declared.entry.Entry.{Entry}
 use Rattle.exh_notice.specs.Entry.{entry_cmp}
 use Rattle.exh_notice.specs.EntryLemmas.{entry_laws}
-use Rattle.exh_table.specs.Table.{TableMap, greater_of, number_of}
+use Rattle.exh_table.specs.Table.{TableMap, greater_of, version_of}
 use Rattle.exh_table.specs.TableOrder.{IsOptionUpTo, IsTableUpTo, table_join}
 
 -- ---- at one prefix
@@ -114,9 +114,9 @@ table_laws = join_laws table_order table_bound
 
 -- ---- the next change at a prefix
 
--- a greater number makes a greater entry
-pub later_wins : (stood : Option Entry) (entry : Entry) → number_of stood < entry.number → greater_of stood entry ≡ entry
+-- a greater version makes a greater entry
+pub later_wins : (stood : Option Entry) (entry : Entry) → version_of stood < entry.version → greater_of stood entry ≡ entry
 later_wins None entry later = refl
 later_wins (Some old) entry later =
-    let less : nat_cmp old.number entry.number ≡ Less = sym (nat_cmp_is old.number entry.number Less later) in
+    let less : nat_cmp old.version entry.version ≡ Less = sym (nat_cmp_is old.version entry.version Less later) in
     rw less refl

@@ -40,10 +40,10 @@ abbrev pub kind_text : Kind → List ℕ
 kind_text (Split right) = codes " split right " ++ decimal right
 kind_text Merge = codes " merge"
 
--- the number and the kind of what was done at a prefix
+-- the version and the kind of what was done at a prefix
 abbrev pub entry_text : List Bool → ℕ → Kind → List ℕ
-entry_text prefix number kind = prefix_text prefix ++ (codes " number " ++ (decimal number ++ kind_text kind))
+entry_text prefix version kind = prefix_text prefix ++ (codes " number " ++ (decimal version ++ kind_text kind))
 
 -- an entry at a prefix
 abbrev pub entry_words : List Bool × Entry → List ℕ
-entry_words at = codes "entry " ++ entry_text at.0 at.1.number at.1.kind
+entry_words at = codes "entry " ++ entry_text at.0 at.1.version at.1.kind

@@ -18,7 +18,7 @@ type Reader = CopyReader<Brand>;
 // The pseudokey `#80`.
 const HALF: u64 = 0x8000_0000_0000_0000;
 
-// A notice at the root: its number, and a split's right page.
+// A notice at the root: its version, and a split's right page.
 type Row = (u32, Option<PageNo>);
 
 const SPLIT: Row = (1, Some(1));
@@ -31,8 +31,8 @@ enum Step {
     // Joins the table that has the notice alone.
     Combine(Row),
     Publish,
-    // The writer tells the reader, which learns it.
-    Tell(usize),
+    // The writer hands on to the reader, which learns it.
+    HandOn(usize),
     // The reader names this page for `#80`.
     Look(usize, PageNo),
     // The reader names one of two pages that follow on one another.
@@ -51,11 +51,11 @@ const STORIES: [Story; 5] = [
             Step::Look(0, 0),
             Step::Look(1, 0),
             Step::Publish,
-            Step::Tell(0),
+            Step::HandOn(0),
             Step::Look(0, 1),
             Step::LookEither(1, 0),
             Step::LookEither(1, 0),
-            Step::Tell(1),
+            Step::HandOn(1),
             Step::Look(1, 1),
         ],
     ),
@@ -65,53 +65,53 @@ const STORIES: [Story; 5] = [
         &[
             Step::Take(SPLIT),
             Step::Publish,
-            Step::Tell(0),
+            Step::HandOn(0),
             Step::Look(0, 1),
             Step::Take(MERGE),
             Step::Publish,
-            Step::Tell(0),
+            Step::HandOn(0),
             Step::Look(0, 0),
             Step::Combine(SPLIT),
             Step::Publish,
-            Step::Tell(0),
+            Step::HandOn(0),
             Step::Look(0, 0),
         ],
     ),
-    // What is pending isn't told: both readers learn the list that is published, and it is none.
+    // What is pending isn't handed on: both readers learn the list that is published, and it is none.
     (
         2,
         &[
             Step::Take(SPLIT),
-            Step::Tell(0),
+            Step::HandOn(0),
             Step::Look(0, 0),
-            Step::Tell(1),
+            Step::HandOn(1),
             Step::Look(1, 0),
             Step::Publish,
             Step::Take(MERGE),
-            Step::Tell(0),
+            Step::HandOn(0),
             Step::Look(0, 1),
             Step::Publish,
-            Step::Tell(0),
+            Step::HandOn(0),
             Step::Look(0, 0),
         ],
     ),
-    // A list that is as long as the reader's own is told, once more and to both.
+    // A list that is as long as the reader's own is handed on, once more and to both.
     (
         2,
         &[
             Step::Take(SPLIT),
             Step::Publish,
-            Step::Tell(0),
-            Step::Tell(0),
+            Step::HandOn(0),
+            Step::HandOn(0),
             Step::Look(0, 1),
-            Step::Tell(0),
+            Step::HandOn(0),
             Step::Look(0, 1),
-            Step::Tell(1),
-            Step::Tell(1),
+            Step::HandOn(1),
+            Step::HandOn(1),
             Step::Look(1, 1),
             Step::Take(MERGE),
             Step::Publish,
-            Step::Tell(1),
+            Step::HandOn(1),
             Step::Look(1, 0),
         ],
     ),
@@ -124,10 +124,10 @@ const STORIES: [Story; 5] = [
             Step::Combine((3, Some(5))),
             Step::Look(0, 0),
             Step::Publish,
-            Step::Tell(0),
+            Step::HandOn(0),
             Step::Look(0, 5),
             Step::Publish,
-            Step::Tell(0),
+            Step::HandOn(0),
             Step::Look(0, 5),
         ],
     ),
@@ -141,29 +141,29 @@ const TWO_COPIES: [(u8, Step); 19] = [
     (0, Step::Take(SPLIT)),
     (0, Step::Take(MERGE)),
     (0, Step::Publish),
-    (0, Step::Tell(0)),
+    (0, Step::HandOn(0)),
     (0, Step::Look(0, 0)),
     (1, Step::Take(SPLIT)),
     (1, Step::Take(SPLIT)),
     (1, Step::Take(SPLIT)),
     (1, Step::Publish),
-    (1, Step::Tell(0)),
+    (1, Step::HandOn(0)),
     (1, Step::Look(0, 1)),
-    (0, Step::Tell(0)),
+    (0, Step::HandOn(0)),
     (0, Step::Look(0, 0)),
     (1, Step::Take(MERGE)),
     (1, Step::Publish),
-    (1, Step::Tell(0)),
+    (1, Step::HandOn(0)),
     (1, Step::Look(0, 0)),
 ];
 
 fn notice(row: Row) -> Notice {
-    let (number, right) = row;
+    let (version, right) = row;
     Notice {
         ward: 0,
-        index: u64::from(number),
+        index: u64::from(version),
         prefix: Leaf::root().prefix,
-        number,
+        version,
         kind: match right {
             Some(right) => Kind::Split { right },
             None => Kind::Merge,
@@ -214,13 +214,13 @@ fn publish<R: Wait>(rt: &R, writer: &mut Writer) -> Result<(), AllocError>
     }
 }
 
-// Tells one of the readers, which are of the writer's copy.
-fn tell(writer: &mut Writer, readers: &mut Vec<Reader>, at: usize) -> Option<bool>
+// Hands on to one of the readers, which are of the writer's copy.
+fn hand_on(writer: &mut Writer, readers: &mut Vec<Reader>, at: usize) -> Option<bool>
     requires { AreOf writer.old.name readers.old.items }
     ensures { AreOf writer.new.name readers.new.items }
 {
-    let told = writer.tell().ok()?;
-    readers.get_mut(at)?.learn(told);
+    let handed = writer.hand_on().ok()?;
+    readers.get_mut(at)?.learn(handed);
     Some(true)
 }
 
@@ -247,7 +247,7 @@ fn steps<R: Wait>(
         Step::Take(row) => take(writer, row).ok()?,
         Step::Combine(row) => combine(alloc, writer, row).ok()?,
         Step::Publish => publish(rt, writer).ok()?,
-        Step::Tell(reader) => return tell(writer, readers, reader),
+        Step::HandOn(reader) => return hand_on(writer, readers, reader),
         Step::Look(reader, page) => return Some(look(readers, reader, HALF) == Some(page)),
         Step::LookEither(reader, first) => {
             let page = look(readers, reader, HALF)?;
@@ -390,31 +390,31 @@ fn stories(rt: HostRuntime) {
     }
 }
 
-// Whether the writer can tell this often before there is no place, where all that it tells is kept.
-fn is_told_often(alloc: Global, writer: &mut Writer, often: usize) -> Option<bool> {
+// Whether the writer can hand on this often before there is no place, where all that it hands on is kept.
+fn is_handed_on_often(alloc: Global, writer: &mut Writer, often: usize) -> Option<bool> {
     let mut kept = Vec::new(alloc);
     kept.reserve(often).ok()?;
     for _ in 0..often {
-        let Ok(told) = writer.tell() else {
+        let Ok(handed) = writer.hand_on() else {
             return Some(false);
         };
-        kept.push(told).ok()?;
+        kept.push(handed).ok()?;
     }
-    let is_full = writer.tell().is_err();
+    let is_full = writer.hand_on().is_err();
     drop(kept.pop());
-    Some(is_full && writer.tell().is_ok())
+    Some(is_full && writer.hand_on().is_ok())
 }
 
-// A copy of n readers has 2n + 1 places: n are theirs, and the writer can tell n + 1 times. Who lets go what
-// was told makes room again.
+// A copy of n readers has 2n + 1 places: n are theirs, and the writer can hand on n + 1 times. Who lets go
+// what was handed on makes room again.
 fn is_full_in_the_end<R: Wait>(rt: &R, alloc: Global, readers: u16) -> bool {
     let Some((mut writer, made)) = made_again(rt, alloc, readers) else {
         return false;
     };
     let often = usize::from(readers) + 1;
-    let is_full = match is_told_often(alloc, &mut writer, often) {
-        None => is_told_often(alloc, &mut writer, often),
-        told => told,
+    let is_full = match is_handed_on_often(alloc, &mut writer, often) {
+        None => is_handed_on_often(alloc, &mut writer, often),
+        often_enough => often_enough,
     };
     drop(writer.close(rt));
     is_full == Some(true) && made.len() == usize::from(readers)

@@ -42,7 +42,7 @@ fn pairs_and_replicas(rt: HostRuntime) {
     assert!(rt; replicas_meet());
 }
 
-// A prefix of zeros by its length, a number, and a split's right page.
+// A prefix of zeros by its length, a version, and a split's right page.
 type Row = (u8, u32, Option<PageNo>);
 
 // The entries of two tables, whether the first is at most the second, and their join's entries with
@@ -58,7 +58,7 @@ const UNIONS: [Union; 4] = [
         &[(0, 2, None), (1, 1, Some(2))],
         0,
     ),
-    // At equal numbers a merge stands before a split, and splits are ordered by right page.
+    // At equal versions a merge stands before a split, and splits are ordered by right page.
     (
         &[(0, 3, None)],
         &[(0, 3, Some(0))],
@@ -84,7 +84,7 @@ const UNIONS: [Union; 4] = [
 ];
 
 fn notice(row: Row) -> Option<Notice> {
-    let (len, number, right) = row;
+    let (len, version, right) = row;
     let kind = match right {
         Some(right) => Kind::Split { right },
         None => Kind::Merge,
@@ -93,7 +93,7 @@ fn notice(row: Row) -> Option<Notice> {
         ward: 0,
         index: 1,
         prefix: Prefix::new(len, 0)?,
-        number,
+        version,
         kind,
     })
 }

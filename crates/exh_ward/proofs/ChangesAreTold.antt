@@ -13,14 +13,14 @@ use Rattle.exh_notice.specs.declared.entry.Entry.{Entry}
 use Rattle.exh_notice.specs.declared.entry.Kind.{Kind}
 use Rattle.exh_notice.specs.declared.notice.Notice.{Notice}
 use Rattle.exh_notice.specs.Entry.{entry_of}
-use Rattle.exh_table.specs.Table.{TableMap, greater_of, number_of, table_with, table_at}
+use Rattle.exh_table.specs.Table.{TableMap, greater_of, version_of, table_with, table_at}
 use Rattle.exh_table.specs.SetLemmas.{IsTableSince-push}
 use Rattle.exh_page.specs.declared.page.Page.{Page}
 use Rattle.exh_page.specs.Page.{low_bound}
 use Rattle.exh_legal.specs.Growth.{IsPageOf}
 use Rattle.exh_legal.specs.Laws.{KeepsPlaces}
 use Rattle.exh_legal.specs.NoticeLemmas.{one_true_more, still_true}
-use Rattle.exh_legal.specs.Numbers.{index_of, AreNumbered, next_notice, number_at}
+use Rattle.exh_legal.specs.Versions.{index_of, AreNumbered, next_notice, version_at}
 use Rattle.exh_legal.specs.Pages.{IsAt, bare}
 use Rattle.exh_legal.specs.PlaceLemmas.{page_full, page_bare}
 use Rattle.exh_ward.specs.Kept.{IsKeptWard}
@@ -66,10 +66,10 @@ stands table notice =
 
 -- the notice that a ward makes of what stood at a prefix
 pub notice_made : (ward : ℕ) (table : TableMap) (prefix : List Bool) (kind : Kind) (stood : Option Entry) → stood ≡ fin.get table prefix → (index : ℕ) → index ≡ index_of table + 1
-    → (notice : Notice) → notice ≡ record { ward = ward; index = index; prefix = prefix; number = number_of stood + 1; kind = kind } → notice ≡ next_notice ward table prefix kind
+    → (notice : Notice) → notice ≡ record { ward = ward; index = index; prefix = prefix; version = version_of stood + 1; kind = kind } → notice ≡ next_notice ward table prefix kind
 notice_made ward table prefix kind stood is index index_is notice made =
-    made ∙ ap (λ index. let notice : Notice = record { ward = ward; index = index; prefix = prefix; number = number_of stood + 1; kind = kind } in notice) index_is
-    ∙ ap (λ stood. let notice : Notice = record { ward = ward; index = index_of table + 1; prefix = prefix; number = number_of stood + 1; kind = kind } in notice) is
+    made ∙ ap (λ index. let notice : Notice = record { ward = ward; index = index; prefix = prefix; version = version_of stood + 1; kind = kind } in notice) index_is
+    ∙ ap (λ stood. let notice : Notice = record { ward = ward; index = index_of table + 1; prefix = prefix; version = version_of stood + 1; kind = kind } in notice) is
 
 -- ---- as the answer is returned
 
@@ -83,8 +83,8 @@ refused_so (Err fault) P Q is gives = gives fault is
 
 -- ---- refusals
 
--- where the number at the prefix isn't the greatest, only the store refuses
-pub telling_stores : {K : Type 0} (w : WardState K) (prefix : List Bool) → (number_at w.table prefix ≡ 2 ^ 32 - 1 → ⊥) → (fault : WardFault) → IsTellingFault w prefix fault → IsStoreFault fault
+-- where the version at the prefix isn't the greatest, only the store refuses
+pub telling_stores : {K : Type 0} (w : WardState K) (prefix : List Bool) → (version_at w.table prefix ≡ 2 ^ 32 - 1 → ⊥) → (fault : WardFault) → IsTellingFault w prefix fault → IsStoreFault fault
 telling_stores w prefix less NoPage is = is
 telling_stores w prefix less NotLive is = is
 telling_stores w prefix less NotFull is = is
@@ -97,7 +97,7 @@ telling_stores w prefix less Memory is = is
 telling_stores w prefix less PageFault is = is
 
 -- and of a table
-pub taking_stores : (table : TableMap) (prefix : List Bool) → (number_at table prefix ≡ 2 ^ 32 - 1 → ⊥) → (fault : WardFault) → IsTakingFault table prefix fault → IsStoreFault fault
+pub taking_stores : (table : TableMap) (prefix : List Bool) → (version_at table prefix ≡ 2 ^ 32 - 1 → ⊥) → (fault : WardFault) → IsTakingFault table prefix fault → IsStoreFault fault
 taking_stores table prefix less NoPage is = is
 taking_stores table prefix less NotLive is = is
 taking_stores table prefix less NotFull is = is

@@ -12,7 +12,7 @@ use Rattle.exh_legal.specs.BareLemmas.{bare_at}
 use Rattle.exh_legal.specs.Change.{IsForwardOf}
 use Rattle.exh_legal.specs.Growth.{IsLiveAt}
 use Rattle.exh_legal.specs.Laws.{IsSplittable, LivePagesSplit}
-use Rattle.exh_legal.specs.Numbers.{number_at}
+use Rattle.exh_legal.specs.Versions.{version_at}
 use Rattle.exh_legal.specs.Pages.{IsAt, bare}
 use Rattle.exh_legal.specs.PlaceLemmas.{page_full, page_bare}
 use Rattle.exh_ward.specs.Kept.{IsKeptWard}
@@ -83,6 +83,6 @@ module _ {K : Type 0} {pseudo : List ℕ → ℕ} {takes : Page → Type 0} {own
   ]
   found_forward (Some right) is = ready.forwards right (page_full w.pages low right ((kept.indexed low right).0 (sym is)).1)
 
-  -- the number at the prefix is even
-  pub even_here : (number_at w.table prefix) % 2 ≡ 0
+  -- the version at the prefix is even
+  pub even_here : (version_at w.table prefix) % 2 ≡ 0
   even_here = ready.even

@@ -13,7 +13,7 @@ use Rattle.exh_page.specs.KeyMap.{KeyMap}
 use Rattle.exh_page.specs.Page.{IsWellFormed}
 use Rattle.exh_legal.specs.BareLemmas.{bare_at, bare_low}
 use Rattle.exh_legal.specs.Laws.{EntriesAreFew, IsWard}
-use Rattle.exh_legal.specs.Numbers.{index_of}
+use Rattle.exh_legal.specs.Versions.{index_of}
 use Rattle.exh_legal.specs.Pages.{AreLinked, bare, map_of}
 use Rattle.exh_prefix.specs.Leading.{ward_prefix}
 use Rattle.exh_calls.specs.declared.journal_entry.JournalEntry.{JournalEntry}

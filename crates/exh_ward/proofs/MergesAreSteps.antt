@@ -23,7 +23,7 @@ use Rattle.exh_legal.specs.Laws.{LinksToSibling, LeftChildrenLinkToSiblings, Mer
 use Rattle.exh_prefix.specs.LowLemmas.{left_keeps, right_above}
 use Rattle.exh_prefix.specs.ListLemmas.{set_here, set_else, one_there}
 use Rattle.exh_legal.specs.MapLemmas.{page_at}
-use Rattle.exh_legal.specs.Numbers.{next_notice}
+use Rattle.exh_legal.specs.Versions.{next_notice}
 use Rattle.exh_legal.specs.Pages.{IsAt, IsLegalPage, IsWithin}
 use Rattle.exh_ward.specs.Kept.{IsKeptWard}
 use Rattle.exh_ward.specs.MergeStep.{IsLeftChild, HasNoBuddy, IsMergeStep}
@@ -256,7 +256,7 @@ module _ {K : Type 0} {w : WardState K} {pseudo : List ℕ → ℕ} {at : ℕ} {
   module _ (sound : IsSound pseudo w) (words : AreOfWords pseudo) (law : MergesKeepLegal) (notice : Notice) (next : notice ≡ next_notice w.number w.table parent Merge) where
     changed : IsChangedTo pseudo w notice new
     changed = law w.cap pseudo (own_prefix w) w.start w.notices w.table w.pages at parent new notice words sound.legal merge_is
-        (ap (λ (n : Notice). n.prefix) next) (ap (λ (n : Notice). n.number) next) (ap (λ (n : Notice). n.kind) next)
+        (ap (λ (n : Notice). n.prefix) next) (ap (λ (n : Notice). n.version) next) (ap (λ (n : Notice). n.kind) next)
 
     forward_formed : IsWellFormed pseudo forward_page
     forward_formed =

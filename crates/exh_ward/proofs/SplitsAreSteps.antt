@@ -20,7 +20,7 @@ use Rattle.exh_legal.specs.Change.{IsForwardOf, IsSplit}
 use Rattle.exh_legal.specs.Growth.{IsLiveAt}
 use Rattle.exh_legal.specs.Laws.{LivePagesSplit, PagesAreFew, SplitsKeepLegal}
 use Rattle.exh_legal.specs.MapLemmas.{page_at}
-use Rattle.exh_legal.specs.Numbers.{number_at, next_notice}
+use Rattle.exh_legal.specs.Versions.{version_at, next_notice}
 use Rattle.exh_legal.specs.Pages.{IsAt, IsLegalPage}
 use Rattle.exh_halves.specs.Halves.{AreHalvesOf}
 use Rattle.exh_ward.specs.SplitStep.{IsSplitStep}
@@ -157,18 +157,18 @@ module _ {K : Type 0} {w : WardState K} {at : ℕ} {halves : Halves} (is : IsHal
       })))
 
   module _ {pseudo : List ℕ → ℕ} (sound : IsSound pseudo w) where
-    pub number_even : LivePagesSplit → (number_at w.table halves.prefix) % 2 ≡ 0
-    number_even law = (law w.cap pseudo (own_prefix w) w.start w.notices w.table w.pages halves.prefix at sound.legal (halves.link, is.records, is.there) is.short).even
+    pub version_even : LivePagesSplit → (version_at w.table halves.prefix) % 2 ≡ 0
+    version_even law = (law w.cap pseudo (own_prefix w) w.start w.notices w.table w.pages halves.prefix at sound.legal (halves.link, is.records, is.there) is.short).even
 
-    pub not_greatest : LivePagesSplit → number_at w.table halves.prefix ≡ 2 ^ 32 - 1 → ⊥
+    pub not_greatest : LivePagesSplit → version_at w.table halves.prefix ≡ 2 ^ 32 - 1 → ⊥
     not_greatest law same =
-        let parity : (number_at w.table halves.prefix) % 2 ≡ 1 = ap (λ n. n % 2) same in
-        omega (arith, parity, number_even law)
+        let parity : (version_at w.table halves.prefix) % 2 ≡ 1 = ap (λ n. n % 2) same in
+        omega (arith, parity, version_even law)
 
     module _ (law : SplitsKeepLegal) (right : ℕ) (new : List Page) (split : IsSplit w.cap w.pages at halves.prefix right new) (notice : Notice) (next : notice ≡ next_notice w.number w.table halves.prefix (Split right)) where
       pub split_changed : IsChangedTo pseudo w notice new
       split_changed = law w.cap pseudo (own_prefix w) w.start w.notices w.table w.pages at halves.prefix right new notice sound.legal split
-          (ap (λ (n : Notice). n.prefix) next) (ap (λ (n : Notice). n.number) next) (ap (λ (n : Notice). n.kind) next)
+          (ap (λ (n : Notice). n.prefix) next) (ap (λ (n : Notice). n.version) next) (ap (λ (n : Notice). n.kind) next)
 
       -- the halves are well formed
       few_new : PagesAreFew → w.ward_bits ≤ WARD_BITS_LIMIT → length new < 2 ^ 32 - 1

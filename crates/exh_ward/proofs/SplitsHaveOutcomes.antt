@@ -15,7 +15,7 @@ use Rattle.exh_page.specs.Page.{low_bound}
 use Rattle.exh_legal.specs.Change.{IsRevived, IsFresh, IsSplit}
 use Rattle.exh_legal.specs.Laws.{IsChanged, LivePagesSplit, SplitsKeepLegal}
 use Rattle.exh_prefix.specs.LowLemmas.{right_above}
-use Rattle.exh_legal.specs.Numbers.{next_notice}
+use Rattle.exh_legal.specs.Versions.{next_notice}
 use Rattle.exh_legal.specs.Pages.{IsAt}
 use Rattle.exh_ward.specs.Laws.{IsSplitOutcome}
 use Rattle.exh_ward.specs.PlacedPages.{with_page, ward_after}

@@ -4,7 +4,7 @@ use Rattle.exh_page.specs.declared.page.TheConstants.{CAP_LIMIT}
 use Rattle.exh_page.specs.declared.page.Page.{Page}
 use Rattle.exh_page.specs.KeyMap.{KeyMap}
 use Rattle.exh_page.specs.Page.{IsWellFormed}
-use Rattle.exh_legal.specs.Numbers.{index_of}
+use Rattle.exh_legal.specs.Versions.{index_of}
 use Rattle.exh_legal.specs.Pages.{bare}
 use Rattle.exh_legal.specs.PageIndex.{IndexMap, IsIndexOf}
 use Rattle.exh_ward.specs.WardState.{WardState, IsSound, own_prefix}

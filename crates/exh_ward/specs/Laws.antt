@@ -46,7 +46,7 @@ SplitsAreComputed {K} pseudokey_of = (ward : WardState K) (at : ℕ) → IsSound
 -- so does a merge, whose notice has a number of 32 bits
 pub record IsMergeComputed {K : Type 0} (ward : WardState K) (at : ℕ) : Type 0 where
   pub refused : (fault : WardFault) → MergeRefused ward at fault → IsStoreFault fault ⊎ (merge_of ward at ≡ Err fault)
-  pub merged : (notice : Notice) (new : WardState K) → IsMergeStep ward at notice new → notice.number < 2 ^ 32 → (merge_of ward at ≡ Ok notice) × (new ≡ ward_after_merge ward at)
+  pub merged : (notice : Notice) (new : WardState K) → IsMergeStep ward at notice new → notice.version < 2 ^ 32 → (merge_of ward at ≡ Ok notice) × (new ≡ ward_after_merge ward at)
 
 abbrev pub MergesAreComputed : {K : Type 0} → (K → List ℕ → ℕ) → Type 0
 MergesAreComputed {K} pseudokey_of = (ward : WardState K) (at : ℕ) → IsSoundWard pseudokey_of ward → IsMergeComputed ward at

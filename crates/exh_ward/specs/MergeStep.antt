@@ -7,7 +7,7 @@ use Rattle.exh_page.specs.declared.page.Page.TheVariants.{Live}
 use Rattle.exh_page.specs.declared.record.Record.{Record}
 use Rattle.exh_legal.specs.Change.{IsMerge}
 use Rattle.exh_legal.specs.Laws.{KeepsPlaces}
-use Rattle.exh_legal.specs.Numbers.{next_notice}
+use Rattle.exh_legal.specs.Versions.{next_notice}
 use Rattle.exh_legal.specs.Pages.{IsAt, map_of}
 use Rattle.exh_ward.specs.WardState.{WardState, own_prefix}
 

@@ -59,7 +59,7 @@ impl<P: Pages + Drop, K: Keyer> Model for Ward<P, K> {
     ghost use Rattle.std.specs.Option.{is_some};
     ghost use Rattle.exh_page.specs.declared.page.TheConstants.{CAP_LIMIT};
     ghost use Rattle.exh_page.specs.KeyMap.{coded_key_map};
-    ghost use Rattle.exh_legal.specs.Numbers.{index_of};
+    ghost use Rattle.exh_legal.specs.Versions.{index_of};
     ghost use Rattle.exh_legal.specs.Pages.{bare, map_of};
     ghost use Rattle.exh_legal.specs.PageIndex.{IsIndexOf};
     ghost use Rattle.exh_ward.specs.Kept.{IsKeptWard, base_in};

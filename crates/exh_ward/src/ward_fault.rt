@@ -33,7 +33,7 @@ pub enum WardFault {
     /// Both pages have this many records together, more than a page may: number 8.
     #[error("both pages have {0} records together")]
     TooMany(usize),
-    /// The number at the parent is the greatest: number 9.
+    /// The version at the parent is the greatest: number 9.
     #[error("the number at the parent is the greatest")]
     Worn,
     /// A growth was refused: number 10.

@@ -7,7 +7,7 @@ use Rattle.exh_prefix.specs.ListLemmas.{within_there}
 use Rattle.exh_notice.specs.declared.notice.Notice.{Notice}
 use Rattle.exh_table.specs.Table.{TableMap, table_with}
 use Rattle.exh_table.specs.TableOrder.{table_join}
-use Rattle.exh_legal.specs.Numbers.{index_of}
+use Rattle.exh_legal.specs.Versions.{index_of}
 use Rattle.exh_ward.specs.WardState.{WardState, IsSoundWard, notices_above}
 use Rattle.exh_ward.specs.declared.ward_fault.WardFault.TheVariants.{Memory}
 use Rattle.exh_world.specs.Kept.{IsKeptWorld, IsPlaceOf, HaveIndexesInTurn}

@@ -7,7 +7,7 @@ use Rattle.std.proofs.lemmas.Option.{slice_get_read, slice_get_within, get_or_fr
 use Rattle.exh_notice.specs.declared.notice.Notice.{Notice}
 use Rattle.exh_table.specs.Table.{TableMap, table_with}
 use Rattle.exh_table.specs.TableOrder.{table_join}
-use Rattle.exh_legal.specs.Numbers.{AreNumbered}
+use Rattle.exh_legal.specs.Versions.{AreNumbered}
 use Rattle.exh_ward.specs.HopTable.{hop_of}
 use Rattle.exh_ward.specs.Laws.{HopsAreComputed, SplitsAreComputed, MergesAreComputed}
 use Rattle.exh_ward.specs.MergeFunction.{merge_of, ward_after_merge}
@@ -25,7 +25,7 @@ use Rattle.exh_route.specs.DistanceFunction.{distance_of}
 use Rattle.exh_route.specs.Laws.{DistancesAreComputed}
 use Rattle.exh_world.specs.InFlight.{requests_after}
 use Rattle.exh_event.specs.Progress.{hop_in}
-use Rattle.exh_world.specs.Laws.{HasNumberOfWord, IsComputed}
+use Rattle.exh_world.specs.Laws.{HasVersionOfWord, IsComputed}
 use Rattle.exh_world.specs.Sound.{IsSoundWorld}
 use Rattle.exh_world.specs.Step.{pseudokey_in, request_begun, IsRefused, HasBegun, HasHopped, HasChanged, HasTaken, HasSent, HasJoined, HasRestarted, HasEffect, Step}
 use Rattle.exh_world.specs.StepFunction.{Stepped, pages_in, request_at, request_from, begun, ward_after_hop, hopped, after_change, with_copy, step_of, result_of, world_after}
@@ -188,7 +188,7 @@ module _ {K : Type 0} (pseudokey_of : K → List ℕ → ℕ) (old : WorldState 
         let is = (splits has.before page (sound.wards ward has.before has.found).sound).split notice has.left has.change in
         changed_is (Split ward page) ward notice has.left (ward_after_split has.before page) new (split_of has.before page) (split_computed ward page has.before has.found) is has.after
 
-    merge_is : (ward page : ℕ) (notice : Notice) (new : WorldState K) → HasNumberOfWord (Ok (Changed notice)) → HasChanged IsMergeStep old ward page notice new → Is (Merge ward page) (Ok (Changed notice)) new
+    merge_is : (ward page : ℕ) (notice : Notice) (new : WorldState K) → HasVersionOfWord (Ok (Changed notice)) → HasChanged IsMergeStep old ward page notice new → Is (Merge ward page) (Ok (Changed notice)) new
     merge_is ward page notice new fits has =
         let is = (merges has.before page (sound.wards ward has.before has.found).sound).merged notice has.left has.change fits in
         changed_is (Merge ward page) ward notice has.left (ward_after_merge has.before page) new (merge_of has.before page) (merge_computed ward page has.before has.found) is has.after
@@ -250,8 +250,8 @@ module _ {K : Type 0} (pseudokey_of : K → List ℕ → ℕ) (old : WorldState 
 
     -- ---- every step
 
-    effect_is : HopsAreComputed → DistancesAreComputed → (event : Event) (outcome : Outcome) (new : WorldState K) → HasEffect pseudokey_of old event outcome new → HasNumberOfWord (Ok outcome) → Is event (Ok outcome) new
-    effect_is hops distances = on_effect pseudokey_of old (λ event outcome new. HasNumberOfWord (Ok outcome) → Is event (Ok outcome) new) record {
+    effect_is : HopsAreComputed → DistancesAreComputed → (event : Event) (outcome : Outcome) (new : WorldState K) → HasEffect pseudokey_of old event outcome new → HasVersionOfWord (Ok outcome) → Is event (Ok outcome) new
+    effect_is hops distances = on_effect pseudokey_of old (λ event outcome new. HasVersionOfWord (Ok outcome) → Is event (Ok outcome) new) record {
       begun = λ name client copy call ward page new has fits. begun_is sound distances name client copy call ward page new has;
       hopped = λ name ward hop new has fits. hopped_is hops name ward hop new has;
       split = λ ward page notice new has fits. split_is ward page notice new has;
@@ -266,7 +266,7 @@ module _ {K : Type 0} (pseudokey_of : K → List ℕ → ℕ) (old : WorldState 
     refusal_computed event fault new same (inl want) = inl (ap Err want, same)
     refusal_computed event fault new same (inr is) = inr (inr (is_step event (Err fault, old) is (Err fault) new refl same))
 
-    pub step_computed : HopsAreComputed → DistancesAreComputed → (event : Event) (result : Result Outcome StepFault) (new : WorldState K) → HasNumberOfWord result → Step pseudokey_of old event result new → IsComputed pseudokey_of old event result new
+    pub step_computed : HopsAreComputed → DistancesAreComputed → (event : Event) (result : Result Outcome StepFault) (new : WorldState K) → HasVersionOfWord result → Step pseudokey_of old event result new → IsComputed pseudokey_of old event result new
     step_computed hops distances event (Ok outcome) new fits step = inr (inr (effect_is hops distances event outcome new step fits))
     step_computed hops distances event (Err fault) new fits (inl (same, inl is)) = refusal_computed event fault new same (refused_is event fault is)
     step_computed hops distances event (Err fault) new fits (inl (same, inr memory)) = refusal_computed event fault new same (inl memory)

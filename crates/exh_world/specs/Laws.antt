@@ -38,10 +38,10 @@ pub record IsCounted {K : Type 0} (pseudokey_of : K → List ℕ → ℕ) (old :
 abbrev pub PageFaultsAreCounted : {K : Type 0} → (K → List ℕ → ℕ) → Type 0
 PageFaultsAreCounted {K} pseudokey_of = (old : WorldState K) (event : Event) (result : Result Outcome StepFault) (new : WorldState K) → Step pseudokey_of old event result new → IsCounted pseudokey_of old event result new
 
--- a notice that the step issued has a number of 32 bits
-abbrev pub HasNumberOfWord : Result Outcome StepFault → Type 0
-HasNumberOfWord (Ok (Changed notice)) = notice.number < 2 ^ 32
-HasNumberOfWord result = ⊤
+-- a notice that the step issued has a version of 32 bits
+abbrev pub HasVersionOfWord : Result Outcome StepFault → Type 0
+HasVersionOfWord (Ok (Changed notice)) = notice.version < 2 ^ 32
+HasVersionOfWord result = ⊤
 
 -- the step was refused for want of memory, or for a page out of reach, which its ward has counted, or it is what the function computes
 abbrev pub IsComputed : {K : Type 0} → (K → List ℕ → ℕ) → WorldState K → Event → Result Outcome StepFault → WorldState K → Type 0
@@ -52,7 +52,7 @@ IsComputed pseudokey_of old event result new =
 
 abbrev pub StepsAreComputed : {K : Type 0} → (K → List ℕ → ℕ) → Type 0
 StepsAreComputed {K} pseudokey_of = (old : WorldState K) (event : Event) (result : Result Outcome StepFault) (new : WorldState K)
-    → IsSoundWorld pseudokey_of old → HasNumberOfWord result → Step pseudokey_of old event result new → IsComputed pseudokey_of old event result new
+    → IsSoundWorld pseudokey_of old → HasVersionOfWord result → Step pseudokey_of old event result new → IsComputed pseudokey_of old event result new
 
 -- and what the function computes is a step, so each event comes to an outcome or a refusal
 abbrev pub StepsHaveOutcomes : {K : Type 0} → (K → List ℕ → ℕ) → Type 0

@@ -1,6 +1,6 @@
-use Rattle.exh_live.specs.Rounds.{AreToldPlaces}
+use Rattle.exh_live.specs.Rounds.{AreToldCursors}
 use Rattle.exh_live.proofs.cursors.Cursors.new.Given as goal
 
--- the places of the wards so far
+-- the cursors of the wards so far
 abbrev pub invariant-loop-number : goal.invariant-loop-number
-invariant-loop-number l = AreToldPlaces l.ward_bits l.table l.number l.places.items
+invariant-loop-number l = AreToldCursors l.ward_bits l.table l.number l.of_wards.items

@@ -1,29 +1,29 @@
 use Rattle.std.proofs.Common.{◌≡◌, ◌++◌, length, take, drop, refl, subst, arith}
 use Rattle.std.proofs.lemmas.List.{take_at}
 use Rattle.exh_live.specs.Rounds.{TakesBetween}
-use Rattle.exh_live.proofs.Rounds.{as_many_places, round_refused, round_told}
+use Rattle.exh_live.proofs.Rounds.{as_many_cursors, round_refused, round_told}
 use Rattle.exh_live.proofs.live_file.LiveFile.courier_round.Goals as goal
 
 pub returns-in_err-take_all-clause-err : goal.returns-in_err-take_all-clause-err
 returns-in_err-take_all-clause-err g c =
     let here : c.as_mut_slice.result.now ≡ c.args.cursors.now = cc in
-    let round = subst (λ places. TakesBetween c.args.copy.now places c.take_all.new.copy c.take_all.new.places) here c.take_all.ensures in
-    let as_many : length c.take_all.new.places ≡ c.cursors.inside.places.len = omega (arith, as_many_places 0 c.as_mut_slice.result.now c.take_all.ensures.0 c.take_all.new.places c.take_all.ensures.1, c.as_mut_slice.ensures.len) in
-    let back : take c.cursors.inside.places.len (c.take_all.new.places ++ drop (length c.take_all.new.places) c.cursors.inside.places.items) ≡ c.take_all.new.places = take_at c.take_all.new.places (drop (length c.take_all.new.places) c.cursors.inside.places.items) c.cursors.inside.places.len as_many in
-    round_refused c.args.copy.now c.take_all.new.copy c.take_all.new.copy c.args.cursors.now c.take_all.new.places _ c.from_residual.result round refl back
+    let round = subst (λ cursors. TakesBetween c.args.copy.now cursors c.take_all.new.copy c.take_all.new.cursors) here c.take_all.ensures in
+    let as_many : length c.take_all.new.cursors ≡ c.cursors.inside.of_wards.len = omega (arith, as_many_cursors 0 c.as_mut_slice.result.now c.take_all.ensures.0 c.take_all.new.cursors c.take_all.ensures.1, c.as_mut_slice.ensures.len) in
+    let back : take c.cursors.inside.of_wards.len (c.take_all.new.cursors ++ drop (length c.take_all.new.cursors) c.cursors.inside.of_wards.items) ≡ c.take_all.new.cursors = take_at c.take_all.new.cursors (drop (length c.take_all.new.cursors) c.cursors.inside.of_wards.items) c.cursors.inside.of_wards.len as_many in
+    round_refused c.args.copy.now c.take_all.new.copy c.take_all.new.copy c.args.cursors.now c.take_all.new.cursors _ c.from_residual.result round refl back
 
 pub returns-in_err-publish-clause-err : goal.returns-in_err-publish-clause-err
 returns-in_err-publish-clause-err g c =
     let here : c.as_mut_slice.result.now ≡ c.args.cursors.now = cc in
-    let round = subst (λ places. TakesBetween c.args.copy.now places c.take_all.new.copy c.take_all.new.places) here c.take_all.ensures in
-    let as_many : length c.take_all.new.places ≡ c.cursors.inside.places.len = omega (arith, as_many_places 0 c.as_mut_slice.result.now c.take_all.ensures.0 c.take_all.new.places c.take_all.ensures.1, c.as_mut_slice.ensures.len) in
-    let back : take c.cursors.inside.places.len (c.take_all.new.places ++ drop (length c.take_all.new.places) c.cursors.inside.places.items) ≡ c.take_all.new.places = take_at c.take_all.new.places (drop (length c.take_all.new.places) c.cursors.inside.places.items) c.cursors.inside.places.len as_many in
-    round_refused c.args.copy.now c.take_all.new.copy c.publish.new.self c.args.cursors.now c.take_all.new.places _ c.from_residual-in_err-publish.result round c.in_err-publish.ensures.err back
+    let round = subst (λ cursors. TakesBetween c.args.copy.now cursors c.take_all.new.copy c.take_all.new.cursors) here c.take_all.ensures in
+    let as_many : length c.take_all.new.cursors ≡ c.cursors.inside.of_wards.len = omega (arith, as_many_cursors 0 c.as_mut_slice.result.now c.take_all.ensures.0 c.take_all.new.cursors c.take_all.ensures.1, c.as_mut_slice.ensures.len) in
+    let back : take c.cursors.inside.of_wards.len (c.take_all.new.cursors ++ drop (length c.take_all.new.cursors) c.cursors.inside.of_wards.items) ≡ c.take_all.new.cursors = take_at c.take_all.new.cursors (drop (length c.take_all.new.cursors) c.cursors.inside.of_wards.items) c.cursors.inside.of_wards.len as_many in
+    round_refused c.args.copy.now c.take_all.new.copy c.publish.new.self c.args.cursors.now c.take_all.new.cursors _ c.from_residual-in_err-publish.result round c.in_err-publish.ensures.err back
 
 pub returns-clause-carried : goal.returns-clause-carried
 returns-clause-carried g c =
     let here : c.as_mut_slice.result.now ≡ c.args.cursors.now = cc in
-    let round = subst (λ places. TakesBetween c.args.copy.now places c.take_all.new.copy c.take_all.new.places) here c.take_all.ensures in
-    let as_many : length c.take_all.new.places ≡ c.cursors.inside.places.len = omega (arith, as_many_places 0 c.as_mut_slice.result.now c.take_all.ensures.0 c.take_all.new.places c.take_all.ensures.1, c.as_mut_slice.ensures.len) in
-    let back : take c.cursors.inside.places.len (c.take_all.new.places ++ drop (length c.take_all.new.places) c.cursors.inside.places.items) ≡ c.take_all.new.places = take_at c.take_all.new.places (drop (length c.take_all.new.places) c.cursors.inside.places.items) c.cursors.inside.places.len as_many in
-    round_told c.args.copy.now c.take_all.new.copy c.publish.new.self c.args.cursors.now c.take_all.new.places _ c.additions.result c.additions-published.result round back c.in_ok-publish.ensures.ok c.additions.ensures c.additions-published.ensures
+    let round = subst (λ cursors. TakesBetween c.args.copy.now cursors c.take_all.new.copy c.take_all.new.cursors) here c.take_all.ensures in
+    let as_many : length c.take_all.new.cursors ≡ c.cursors.inside.of_wards.len = omega (arith, as_many_cursors 0 c.as_mut_slice.result.now c.take_all.ensures.0 c.take_all.new.cursors c.take_all.ensures.1, c.as_mut_slice.ensures.len) in
+    let back : take c.cursors.inside.of_wards.len (c.take_all.new.cursors ++ drop (length c.take_all.new.cursors) c.cursors.inside.of_wards.items) ≡ c.take_all.new.cursors = take_at c.take_all.new.cursors (drop (length c.take_all.new.cursors) c.cursors.inside.of_wards.items) c.cursors.inside.of_wards.len as_many in
+    round_told c.args.copy.now c.take_all.new.copy c.publish.new.self c.args.cursors.now c.take_all.new.cursors _ c.additions.result c.additions-published.result round back c.in_ok-publish.ensures.ok c.additions.ensures c.additions-published.ensures

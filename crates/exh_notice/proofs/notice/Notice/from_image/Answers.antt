@@ -26,7 +26,7 @@ returns-in_err-ward-clause-every c =
 pub returns-clause-ok : goal.returns-clause-ok
 returns-clause-ok c =
     let parts = rw c.unwrap.ensures at c.split_first_chunk.ensures.cases in
-    notice_from_parts (layout c.args.version) (layout_fits c.args.version) c.args.image.now _ _ _ _ _ c.in_ok-ward.field-0-2 c.told-image c.fits-image parts.0 parts.1 c.in_ok-ward.ensures.ok c.read_u64.ensures
+    notice_from_parts (layout c.args.version) (layout_fits c.args.version) c.args.image.now _ _ _ _ _ c.in_ok-ward.entry c.told-image c.fits-image parts.0 parts.1 c.in_ok-ward.ensures.ok c.read_u64.ensures
 
 pub returns-clause-every : goal.returns-clause-every
 returns-clause-every c = λ notice is. ap Ok (one_notice (layout c.args.version) (layout_fits c.args.version) (returns-clause-ok c) is)

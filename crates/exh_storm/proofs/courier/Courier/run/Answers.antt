@@ -11,7 +11,7 @@ loop-done-preserved g c =
     let says = subst (λ number. may (COURIER_CLIENT + number) turn c.pass.result) (c.from.ensures ∙ was.number) c.pass.ensures in
     let carried = c.in_ok-notices.ensures.carried in
     record {
-      places = omega (arith, c.in_ok-notices.ensures.places, was.places);
+      cursors = omega (arith, c.in_ok-notices.ensures.cursors, was.cursors);
       number = was.number;
       name = c.in_ok-notices.ensures.name ∙ was.name;
       rounds =

@@ -4,7 +4,7 @@ use Rattle.std.specs.FinMap as fin
 use Rattle.std.proofs.lemmas.List.{length-set}
 use Rattle.exh_notice.specs.declared.notice.Notice.{Notice}
 use Rattle.exh_table.specs.Table.{TableMap, table_at}
-use Rattle.exh_legal.specs.Numbers.{index_of, next_notice}
+use Rattle.exh_legal.specs.Versions.{index_of, next_notice}
 use Rattle.exh_ward.specs.Told.{IsChangedTo}
 use Rattle.exh_ward.specs.WardState.{WardState}
 use Rattle.exh_ward.proofs.ChangesAreTold.{kept_told, kept_undone, index_kept, taken_back, stands, unchanged_seen, notice_made}

@@ -2,7 +2,7 @@ use Rattle.std.proofs.Common.{◌∙◌, refl, sym, subst}
 use Rattle.std.specs.Prelude.{slice_set}
 use Rattle.exh_notice.specs.declared.entry.Kind.TheVariants.{Merge}
 use Rattle.exh_notice.specs.declared.notice.Notice.{Notice}
-use Rattle.exh_legal.specs.Numbers.{next_notice}
+use Rattle.exh_legal.specs.Versions.{next_notice}
 use Rattle.exh_ward.specs.MergeStep.{IsMergeStep}
 use Rattle.exh_ward.specs.Told.{IsTold}
 use Rattle.exh_ward.specs.WardFault.{IsTellingFault, MergeRefused}

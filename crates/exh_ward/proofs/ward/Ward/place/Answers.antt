@@ -8,7 +8,7 @@ use Rattle.exh_notice.specs.declared.entry.Kind.TheVariants.{Split}
 use Rattle.exh_notice.specs.declared.notice.Notice.{Notice}
 use Rattle.exh_table.specs.Table.{TableMap, table_at}
 use Rattle.exh_page.specs.Page.{low_bound}
-use Rattle.exh_legal.specs.Numbers.{index_of, next_notice}
+use Rattle.exh_legal.specs.Versions.{index_of, next_notice}
 use Rattle.exh_legal.specs.PageIndex.{IndexMap, IsIndexOf}
 use Rattle.exh_legal.specs.Pages.{bare}
 use Rattle.exh_ward.specs.SplitStep.{IsSplitStep}

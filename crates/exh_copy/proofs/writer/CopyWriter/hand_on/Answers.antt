@@ -1,5 +1,5 @@
 use Rattle.exh_copy.proofs.Keeps.{admits, tells, learns}
-use Rattle.exh_copy.proofs.writer.CopyWriter.tell.Goals as goal
+use Rattle.exh_copy.proofs.writer.CopyWriter.hand_on.Goals as goal
 
 pub reader-requires : goal.reader-requires
 reader-requires g c = admits g.S.Start.table g.S.Start.ward_bits

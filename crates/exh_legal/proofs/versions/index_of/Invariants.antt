@@ -2,7 +2,7 @@ use Rattle.std.proofs.Common.{◌≡◌, ◌+◌, ◌*◌, ◌≤◌, ◌^◌, l
 use Rattle.std.specs.FinMap as fin
 use Rattle.std.specs.List.{sum_by}
 use Rattle.exh_legal.proofs.TableSteps.{weight}
-use Rattle.exh_legal.proofs.numbers.index_of.Given as goal
+use Rattle.exh_legal.proofs.versions.index_of.Given as goal
 
 -- what is left to be added makes the sum, and what was added is so much at most for each entry
 abbrev pub invariant-loop-entry : goal.invariant-loop-entry

@@ -1,16 +1,16 @@
 //! Where the run of a job saves.
 ghost use Rattle.std.specs.Prelude.{◌≡◌};
-ghost use Rattle.exh_file_runs.specs.Place.{at, place_of};
+ghost use Rattle.exh_file_runs.specs.JobPath.{at, path_of};
 
 use exh_command::Job;
 
-/// A path at which the run of a job saves: there is none but what `place_of` makes of a job.
+/// A path at which the run of a job saves: there is none but what `path_of` makes of a job.
 #[derive(Clone, Copy)]
-pub struct Place<'w> {
+pub struct JobPath<'w> {
     path: &'w str,
 }
 
-impl<'w> Place<'w> {
+impl<'w> JobPath<'w> {
     pub fn path(self) -> &'w str
         ensures { result ≡ self.entry.path }
     {
@@ -19,8 +19,8 @@ impl<'w> Place<'w> {
 }
 
 /// Where the run of a job saves, if it saves.
-pub fn place_of<'w>(job: &Job<'w>) -> Option<Place<'w>>
-    ensures { result ≡ place_of job.now }
+pub fn path_of<'w>(job: &Job<'w>) -> Option<JobPath<'w>>
+    ensures { result ≡ path_of job.now }
 {
     match job {
         Job::Serve { save, .. } => at(*save),
@@ -34,9 +34,9 @@ pub fn place_of<'w>(job: &Job<'w>) -> Option<Place<'w>>
     }
 }
 
-fn at<'w>(path: Option<&'w str>) -> Option<Place<'w>>
+fn at<'w>(path: Option<&'w str>) -> Option<JobPath<'w>>
     ensures { result ≡ at path.entry }
 {
     let path = path?;
-    Some(Place { path })
+    Some(JobPath { path })
 }

@@ -1,7 +1,7 @@
 ghost use Rattle.std.specs.Prelude.{◌≡◌, ◌^◌, ◌<◌, length};
 ghost use Rattle.std.specs.FinMap as fin;
 ghost use Rattle.exh_prefix.specs.declared.prefix.TheConstants.{LIMIT};
-ghost use Rattle.exh_legal.specs.Numbers as numbers;
+ghost use Rattle.exh_legal.specs.Versions as versions;
 
 use exh_table::Table;
 
@@ -9,12 +9,12 @@ use exh_table::Table;
 /// fewer than 2^`LIMIT` entries (`entries_are_few`). It takes no memory.
 pub fn index_of(table: &Table) -> u64
     requires { length (fin.entries table.now) < 2 ^ LIMIT }
-    ensures index { result ≡ numbers.index_of table.now }
+    ensures index { result ≡ versions.index_of table.now }
     ensures few { result < 2 ^ 62 }
 {
     let mut told = 0;
     for (_, entry) in table.entries() {
-        told += u64::from(entry.number);
+        told += u64::from(entry.version);
     }
     told
 }

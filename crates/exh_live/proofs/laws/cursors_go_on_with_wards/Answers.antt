@@ -6,8 +6,8 @@ use Rattle.std.proofs.lemmas.List.Sums.{sum_by-cons}
 use Rattle.exh_notice.specs.declared.entry.Entry.{Entry}
 use Rattle.exh_table.specs.Table.{TableMap}
 use Rattle.exh_live.specs.Rounds.{changes_told, is_of_ward}
-use Rattle.exh_legal.specs.Numbers.{index_of}
-use Rattle.exh_live.proofs.laws.places_go_on_with_wards.Goals as goal
+use Rattle.exh_legal.specs.Versions.{index_of}
+use Rattle.exh_live.proofs.laws.cursors_go_on_with_wards.Goals as goal
 
 -- a sum over those that pass a test
 sum_of_passing : {X : Type 0} (test : X → Bool) (f : X → ℕ) (xs : List X) → sum_by (λ x. cond (test x) (f x) 0) xs ≡ sum_by f (filter test xs)
@@ -30,8 +30,8 @@ sum_of_passing {X} test f (x ∷ xs) =
 
 joined : (ward_bits number : ℕ) (table start : TableMap) → entries start ≡ filter (λ e. is_of_ward ward_bits number e.0) (entries table) → changes_told ward_bits table number ≡ index_of start
 joined ward_bits number table start same =
-    sum_of_passing (λ (e : List Bool × Entry). is_of_ward ward_bits number e.0) (λ (e : List Bool × Entry). e.1.number) (entries table)
-    ∙ ap (sum_by (λ (e : List Bool × Entry). e.1.number)) (sym same)
+    sum_of_passing (λ (e : List Bool × Entry). is_of_ward ward_bits number e.0) (λ (e : List Bool × Entry). e.1.version) (entries table)
+    ∙ ap (sum_by (λ (e : List Bool × Entry). e.1.version)) (sym same)
 
 pub returns : goal.returns
 returns c ward_bits number table start same =

@@ -5,17 +5,17 @@ use crate::rule::{Rule, View};
 use left_right::reader::Reader;
 use std::marker::Model;
 
-/// What a writer told: all that it had published, by the name of its copy. It takes up a place for a
+/// What a writer handed on: all that it had published, by the name of its copy. It takes up a place for a
 /// reader until it is learned or dropped, and may go to another thread.
 #[derive(Drop)]
-pub struct Told<S: Start> {
+pub struct HandedOn<S: Start> {
     pub(crate) reader: Reader<Published, View, Rule<S>>,
     pub(crate) additions: u64,
     // Of which copy.
     pub(crate) name: CopyName,
 }
 
-impl<S: Start> Model for Told<S> {
+impl<S: Start> Model for HandedOn<S> {
     ghost use Rattle.std.specs.Prelude.{◌≡◌, length};
     ghost use Rattle.std.specs.Coded.{codes};
     ghost use Rattle.exh_table.specs.Table.{coded_table};

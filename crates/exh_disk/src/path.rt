@@ -6,7 +6,7 @@ use std::io::ErrorKind;
 
 /// What a path to be saved to leads to.
 #[derive(Drop)]
-pub(crate) enum Place {
+pub(crate) enum PathTo {
     /// Nothing, or a regular file: its path without links.
     File(String),
     /// A device, a pipe or a socket.
@@ -14,64 +14,64 @@ pub(crate) enum Place {
 }
 
 /// What a path to be saved to leads to.
-pub(crate) fn place_of<D: Disk>(
+pub(crate) fn path_to<D: Disk>(
     alloc: Global,
     disk: &mut D,
     path: &str,
-) -> Result<Place, DiskFault> {
+) -> Result<PathTo, DiskFault> {
     if file_name_of(path).is_empty() {
         return Err(DiskFault::NoFileName);
     }
     match disk.ask(path) {
-        Ok(found) => place_of_found(alloc, disk, path, found.kind),
-        Err(error) if error.kind() == ErrorKind::NotFound => new_place(alloc, disk, path),
+        Ok(found) => path_to_found(alloc, disk, path, found.kind),
+        Err(error) if error.kind() == ErrorKind::NotFound => new_path(alloc, disk, path),
         Err(error) => Err(DiskFault::at(Call::Ask, error)),
     }
 }
 
-fn place_of_found<D: Disk>(
+fn path_to_found<D: Disk>(
     alloc: Global,
     disk: &mut D,
     path: &str,
     kind: Kind,
-) -> Result<Place, DiskFault> {
+) -> Result<PathTo, DiskFault> {
     match kind {
         Kind::Regular => match disk.whole_path(alloc, path) {
-            Ok(place) => Ok(Place::File(place)),
+            Ok(path) => Ok(PathTo::File(path)),
             Err(error) => Err(DiskFault::at(Call::Ask, error)),
         },
         Kind::Folder => Err(DiskFault::Folder),
-        Kind::Link | Kind::Other => Ok(Place::Device),
+        Kind::Link | Kind::Other => Ok(PathTo::Device),
     }
 }
 
 // Of a path that leads to nothing. A link that leads nowhere would be replaced; what else has the name came meanwhile.
-fn new_place<D: Disk>(alloc: Global, disk: &mut D, path: &str) -> Result<Place, DiskFault> {
+fn new_path<D: Disk>(alloc: Global, disk: &mut D, path: &str) -> Result<PathTo, DiskFault> {
     match disk.ask_name(path) {
         Ok(found) if found.kind == Kind::Link => Err(DiskFault::DanglingLink),
         Ok(_) => Err(DiskFault::Changed),
         Err(_) => match String::from_str(alloc, path) {
-            Ok(place) => Ok(Place::File(place)),
+            Ok(path) => Ok(PathTo::File(path)),
             Err(_) => Err(DiskFault::Memory),
         },
     }
 }
 
-/// The file at a place, which a save may replace; `None` where nothing is there.
+/// The file at a path, which a save may replace; `None` where nothing is there.
 pub(crate) fn old_at<D: Disk>(
     disk: &mut D,
-    place: &str,
+    path: &str,
     target: &Target<'_>,
 ) -> Result<Option<Found>, DiskFault> {
-    match there_at(disk, place)? {
-        Some(there) => replaceable(disk, place, &there, target).map(|()| Some(there)),
+    match there_at(disk, path)? {
+        Some(there) => replaceable(disk, path, &there, target).map(|()| Some(there)),
         None => Ok(None),
     }
 }
 
-/// What has the name of a place; `None` where nothing has it.
-pub(crate) fn there_at<D: Disk>(disk: &mut D, place: &str) -> Result<Option<Found>, DiskFault> {
-    match disk.ask_name(place) {
+/// What has the name of a path; `None` where nothing has it.
+pub(crate) fn there_at<D: Disk>(disk: &mut D, path: &str) -> Result<Option<Found>, DiskFault> {
+    match disk.ask_name(path) {
         Ok(there) => Ok(Some(there)),
         Err(error) if error.kind() == ErrorKind::NotFound => Ok(None),
         Err(error) => Err(DiskFault::at(Call::Ask, error)),
@@ -81,7 +81,7 @@ pub(crate) fn there_at<D: Disk>(disk: &mut D, place: &str) -> Result<Option<Foun
 // Whether a file may be replaced. What is no regular file by now isn't opened.
 fn replaceable<D: Disk>(
     disk: &mut D,
-    place: &str,
+    path: &str,
     there: &Found,
     target: &Target<'_>,
 ) -> Result<(), DiskFault> {
@@ -89,7 +89,7 @@ fn replaceable<D: Disk>(
         return Err(DiskFault::Changed);
     }
     let head = disk
-        .head(place)
+        .head(path)
         .map_err(|error| DiskFault::at(Call::Open, error))?;
     if !there.is_unchanged(&head.found) {
         return Err(DiskFault::Changed);
@@ -98,7 +98,7 @@ fn replaceable<D: Disk>(
         return Err(DiskFault::NoPageFile);
     }
     match target.seen {
-        Some(seen) if !seen.allows(place, there) => Err(DiskFault::NotAsOpened),
+        Some(seen) if !seen.allows(path, there) => Err(DiskFault::NotAsOpened),
         _ => Ok(()),
     }
 }

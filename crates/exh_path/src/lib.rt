@@ -2,7 +2,7 @@
 #![tactic(auto)]
 
 pub use exh_disk::{DiskFault, Seen};
-pub use place::{look_at, save_at};
+pub use path::{look_at, save_at};
 
-mod place;
+mod path;
 mod wards;
