@@ -8,12 +8,14 @@
 # - looks a second by 1, 2 and 4 readers of a copy, each on a thread of its own, alone and beside a writer that takes
 #   and publishes 1,000 notices a second;
 # - as the limit, a plain read of the directory's array on one thread;
+# - as the floor of a look by `left_right`'s scheme, two additions to an atomic counter that no other thread has, and a
+#   plain read between them, on one thread;
 # - a take of a directory, and a take of a copy with its publish, with no reader on a thread.
 # crates/bench_calls makes each run, and checks nothing but that each look names a page.
 #
-# Wanted: a look by one reader takes at most 4 times a plain read; readers beside a writer make at least 0.9 times as many
-# looks as readers alone; 4 readers, where there are 4 processors, at least 3 times as many as one; and a take with its
-# publish at most 5 times the time of a take.
+# Wanted: a look by one reader takes at most 4 times a plain read, and at most 1.2 times its floor; readers beside a
+# writer make at least 0.9 times as many looks as readers alone; 4 readers, where there are 4 processors, at least 3 times
+# as many as one; and a take with its publish at most 5 times the time of a take.
 #
 # Status: 0 where all that is met, 1 where something isn't, 2 where nothing could be measured.
 set -u
@@ -47,6 +49,7 @@ measure() {
     local pages=$1 run readers
     for ((run = 0; run < RUNS; run++)); do
         clock plain "$pages" "$LOOKS"
+        clock floor "$pages" "$LOOKS"
         clock publish "$pages" "$TAKES"
         for readers in 1 2 4; do
             clock copy "$pages" "$LOOKS" "$readers"
@@ -97,10 +100,14 @@ awk -v processors="$processors" '
         for (i = 1; i <= 2; i++) {
             pages = sizes[i]
             printf "%6d  plain  alone    %8.2f\n", pages, rate["plain", pages, 1, "alone"]
+            look_by_floor = rate["floor", pages, 1, "alone"] / rate["copy", pages, 1, "alone"]
+            printf "%6d  floor  alone    %8.2f  a look takes %.2f times as long\n", pages,
+                rate["floor", pages, 1, "alone"], look_by_floor
             tell("copy", pages, "alone"); tell("copy", pages, "written")
             printf "%6d  a take %.2f microseconds, with its publish %.2f\n", pages, cost[pages, "take"] / 1000,
                 cost[pages, "publish"] / 1000
             most("a look by a plain read at " pages " pages", rate["plain", pages, 1, "alone"] / rate["copy", pages, 1, "alone"], 4)
+            most("a look by its floor at " pages " pages", look_by_floor, 1.2)
             for (readers = 1; readers <= 4; readers *= 2) {
                 least("looks by " readers " beside a writer at " pages " pages",
                     rate["copy", pages, readers, "written"] / rate["copy", pages, readers, "alone"], 0.9)

@@ -9,7 +9,7 @@ use exh_table::Table;
 use std::alloc::Global;
 use std::marker::Brand;
 use std::sync::Wait;
-use std::sync::atomic::{AtomicBool, Ordering};
+use std::sync::atomic::{AtomicBool, AtomicU64, Ordering};
 use std::thread::{self, Threads, join, map_vec};
 use std::time::{Clock, Duration, Instant};
 
@@ -18,6 +18,9 @@ use std::time::{Clock, Duration, Instant};
 pub(crate) enum Way {
     /// In the directory itself, on one thread.
     Plain,
+    /// The same, with an addition to an atomic counter of the thread's own before and after each: what a look at a
+    /// copy takes at least.
+    Floor,
     /// By so many readers of a copy, each on a thread; alone, or beside a writer that takes and publishes
     /// 1,000 notices a second.
     Copy { readers: u16, is_written: bool },
@@ -55,6 +58,7 @@ impl Looks {
         let notices = splits(rt.alloc(), pages)?;
         match way {
             Way::Plain => of_plain(rt, notices.as_slice(), count),
+            Way::Floor => of_floor(rt, notices.as_slice(), count),
             Way::Copy { readers, .. } => of_new_copy(rt, way, notices.as_slice(), readers, count),
             Way::Publish => of_new_copy(rt, way, notices.as_slice(), 1, count),
         }
@@ -76,6 +80,28 @@ fn of_plain(
     let start = Instant::now(rt)?;
     for j in 0..count {
         pages = pages.wrapping_add(u64::from(directory.walk(pseudokey(j))));
+    }
+    Ok(Looks {
+        count: u64::from(count),
+        nanoseconds: start.elapsed(rt)?.as_nanos(),
+        published: 0,
+        pages,
+    })
+}
+
+fn of_floor(
+    rt: &(impl Clock + AllocGlobal),
+    notices: &[Notice],
+    count: u32,
+) -> anyhow::Result<Looks> {
+    let directory = directory_of(rt.alloc(), notices)?;
+    let entered = AtomicU64::new(0);
+    let mut pages = 0u64;
+    let start = Instant::now(rt)?;
+    for j in 0..count {
+        entered.fetch_add(1, Ordering::SeqCst);
+        pages = pages.wrapping_add(u64::from(directory.walk(pseudokey(j))));
+        entered.fetch_add(1, Ordering::SeqCst);
     }
     Ok(Looks {
         count: u64::from(count),
@@ -123,8 +149,8 @@ fn of_copy<R: Threads + Wait + Clock + AllocGlobal + Sync>(
     readers: Vec<CopyReader<Brand>>,
     count: u32,
 ) -> anyhow::Result<Looks> {
-    fill(rt, notices, writer)?;
     let last = notices.last().context("a split")?;
+    fill(rt, notices, last, writer)?;
     match way {
         Way::Publish => {
             of_takes(
@@ -139,7 +165,8 @@ fn of_copy<R: Threads + Wait + Clock + AllocGlobal + Sync>(
             is_written: false,
             ..
         }
-        | Way::Plain => {
+        | Way::Plain
+        | Way::Floor => {
             total(
                 map_vec(rt, readers, &|reader| by_reader(rt, reader, count))?,
                 count,
@@ -153,12 +180,19 @@ fn of_copy<R: Threads + Wait + Clock + AllocGlobal + Sync>(
     }
 }
 
-fn fill<R: Wait>(rt: &R, notices: &[Notice], writer: &mut CopyWriter<Brand>) -> anyhow::Result<()> {
+fn fill<R: Wait>(
+    rt: &R,
+    notices: &[Notice],
+    last: &Notice,
+    writer: &mut CopyWriter<Brand>,
+) -> anyhow::Result<()> {
     for notice in notices {
         writer.take(notice)?;
     }
-    // The second publish brings the other value up to date.
     writer.publish(rt)?;
+    // The other value is brought up to date by the next publish that has something to publish: a
+    // notice that is told twice, which changes nothing.
+    writer.take(last)?;
     writer.publish(rt)?;
     Ok(())
 }

@@ -1,6 +1,7 @@
 //! Times what only calls can tell. Its first word says what:
 //!
 //! - `plain PAGES LOOKS`: looks of one thread at a directory of so many pages;
+//! - `floor PAGES LOOKS`: the same, with two atomic additions each;
 //! - `copy PAGES LOOKS READERS [written]`: as many looks of each reader of a copy of it, which are on threads of their
 //!   own; where the last word is there, a writer takes and publishes a notice each millisecond meanwhile;
 //! - `publish PAGES TAKES`: takes of a directory, and as many of a copy that publishes each;
@@ -48,6 +49,7 @@ fn run<R: Threads + Wait + Clock + AllocGlobal + Print + Sync>(
     };
     match job.as_str() {
         "plain" => look(threads, Way::Plain, words),
+        "floor" => look(threads, Way::Floor, words),
         "publish" => look(threads, Way::Publish, words),
         "copy" => look(threads, copy_of(words)?, words),
         "ward" => {
@@ -74,7 +76,9 @@ fn run<R: Threads + Wait + Clock + AllocGlobal + Print + Sync>(
             Ok(())
         }
         "save" => save_copy(rt, text(words, 1)?, text(words, 2)?),
-        _ => bail!("the first word is none of plain, copy, publish, ward, make, open and save"),
+        _ => bail!(
+            "the first word is none of plain, floor, copy, publish, ward, make, open and save"
+        ),
     }
 }
 
@@ -87,7 +91,7 @@ fn run_all<R: Threads + Wait + Clock + AllocGlobal + Sync>(
         readers: 1,
         is_written: true,
     };
-    for way in [Way::Plain, copy, Way::Publish] {
+    for way in [Way::Plain, Way::Floor, copy, Way::Publish] {
         Looks::measure(threads, way, 100, 1000)?;
     }
     for keyer in [AnyKeyer::Plain, AnyKeyer::Sha] {
