@@ -22,16 +22,6 @@ use Rattle.exh_save.specs.declared.save_fault.SaveFault.{SaveFault}
 use Rattle.exh_save.specs.declared.save_fault.SaveFault.TheVariants.{Write, Page, Memory}
 use Rattle.exh_save.proofs.Lists.{sum_of-set}
 
--- a page of a sound ward has few records
-few_in_page : (cap : ℕ) (pseudo : List ℕ → ℕ) (page : PageType) → cap ≤ CAP_LIMIT → IsLegalPage cap pseudo page → length (records_of page) ≤ CAP_LIMIT
-few_in_page cap pseudo (Live prefix right records) few legal = omega (arith, few, legal.1)
-few_in_page cap pseudo (Forward low target) few legal = omega arith
-
-pub few_records : (ward : WardState AnyKeyer) (number : ℕ) (page : PageType) → ward.cap ≤ CAP_LIMIT → IsSoundWard any_pseudokey ward → IsAt ward.pages number page → length (records_of page) ≤ CAP_LIMIT
-few_records ward number page few sound is =
-    let pseudo = any_pseudokey ward.keyer in
-    few_in_page ward.cap pseudo page few (page_at (IsLegalPage ward.cap pseudo) ward.pages number page sound.legal.legal.legal.each is)
-
 -- ---- wards of which one was touched
 
 module _ (wards : List (WardState AnyKeyer)) (at : ℕ) (ward left : WardState AnyKeyer) (is : slice_get wards at ≡ Some ward) where
