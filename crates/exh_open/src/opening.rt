@@ -64,9 +64,9 @@ fn open_legal<P: Pages + Drop, M: StoreMaker<P, AnyKeyer>>(
 {
     legal_files_pass();
     let header = legal.parts.header;
-    let digests = mem::replace(&mut legal.parts.digests, Vec::new(alloc));
     let pages = &mut legal.parts.wards;
-    let wards = open_wards(alloc, maker, &header, pages, &digests, &mut legal.tables)?;
+    let digests = &legal.parts.digests;
+    let wards = open_wards(alloc, maker, &header, pages, digests, &mut legal.tables)?;
     Ok(Opened::new(header.settings, wards))
 }
 
