@@ -68,5 +68,6 @@ fn reopened(alloc: Global, keyer: PlainKeyer, ward: &mut PlainWard) -> Result<Pl
         ward_bits: 0,
         keyer,
     };
-    Ward::from_pages(alloc, settings, 0, PlainPages::of_pages(pages), table)
+    let store = PlainPages::of_pages(alloc, pages)?;
+    Ward::from_pages(alloc, settings, 0, store, table)
 }

@@ -1,5 +1,6 @@
 //! Stores of which one call fails.
 
+use exh_codec::DIGEST_LEN;
 use exh_frames::{FailingPages, Pages, StoreMaker};
 use exh_keyer::Keyer;
 use exh_page::Page;
@@ -23,7 +24,9 @@ impl<P: Pages + Drop, K: Keyer, M: StoreMaker<P, K>> StoreMaker<FailingPages<P>,
         alloc: Global,
         keyer: K,
         given: Vec<Page>,
+        digests: &[[u8; DIGEST_LEN]],
     ) -> Result<FailingPages<P>, AllocError> {
-        Ok(FailingPages::new(self.inner.of_pages(alloc, keyer, given)?, self.at))
+        let inner = self.inner.of_pages(alloc, keyer, given, digests)?;
+        Ok(FailingPages::new(inner, self.at))
     }
 }

@@ -1,6 +1,7 @@
 -- The image of a page, in each version of the page file.
 use Rattle.std.specs.Prelude.{◌≡◌, ℕ, ◌-◌, ◌^◌, ◌<◌, ◌≤◌, List, ◌++◌, length, map, replicate, take, IfSome}
 use Rattle.std.specs.List.{AllByRecursion, flat_map}
+use Rattle.sha2.specs.Sha256.{sha256}
 use Rattle.exh_prefix.specs.declared.prefix.TheConstants.{LIMIT}
 use Rattle.exh_prefix.specs.Version.{Version}
 use Rattle.exh_page.specs.declared.page.Page.{Page}
@@ -23,6 +24,10 @@ used_of page = head_bytes (head_of page) ++ flat_map pair_image (map pair_of (re
 -- a block's content for a page: the bytes that it uses, and zeros
 unfoldable pub content_of : Page → List ℕ
 content_of page = padded CONTENT_LEN (used_of page)
+
+-- the digest of a page's block
+abbrev pub page_digest : Page → List ℕ
+page_digest page = sha256 (content_of page)
 
 -- the numbers and lengths in the page are those that its types and the version hold
 abbrev pub IsInRange : Version → Page → Type 0

@@ -43,30 +43,46 @@ pub fn lay_out(page: &Page) -> [u8; BLOCK_LEN]
     block
 }
 
-// Writes a page over the first bytes of a block.
-fn put_page(block: &mut [u8], page: &Page)
+/// Lays a page of at most 16 records out over a block's content. What its digest bytes are isn't said.
+/// It takes no memory.
+pub fn lay_over(block: &mut [u8; BLOCK_LEN], page: &Page)
+    requires { length (records_of page.now) ≤ CAP_LIMIT }
+    ensures content { take CONTENT_LEN block.new ≡ content_of page.now }
+    // The types of a page hold no others.
+    ensures in_range { IsHeld page.now }
+{
+    let end = put_page(block, page);
+    block[end..CONTENT_LEN].fill(0);
+}
+
+// Writes a page over the first bytes of a block, and answers how many it takes.
+fn put_page(block: &mut [u8], page: &Page) -> usize
     requires len { length block.old ≡ BLOCK_LEN }
     requires few { length (records_of page.now) ≤ CAP_LIMIT }
     ensures used { block.new ≡ used_of page.now ++ drop (length (used_of page.now)) block.old }
+    ensures end { result ≡ length (used_of page.now) }
     ensures in_range { IsHeld page.now }
 {
     let head = Head::of(page).to_bytes();
     block[..HEAD_LEN].copy_from_slice(&head);
-    if let Page::Live { records, .. } = page {
-        put_records(&mut block[HEAD_LEN..], records);
+    match page {
+        Page::Live { records, .. } => HEAD_LEN + put_records(&mut block[HEAD_LEN..], records),
+        Page::Forward { .. } => HEAD_LEN,
     }
 }
 
-// Writes records, one after the other, over the first bytes.
-fn put_records(out: &mut [u8], records: &Records)
+// Writes records, one after the other, over the first bytes, and answers how many they take.
+fn put_records(out: &mut [u8], records: &Records) -> usize
     requires { RECORD_LEN * length records.now ≤ length out.old }
     ensures bytes { let image = flat_map pair_image (map pair_of records.now) in out.new ≡ image ++ drop (length image) out.old }
+    ensures end { result ≡ length (flat_map pair_image (map pair_of records.now)) }
     ensures sized { AllByRecursion IsSizedPair (map pair_of records.now) }
 {
     let mut end = 0;
     for item in records.iter() {
         end += put_record(&mut out[end..], &item);
     }
+    end
 }
 
 // Writes a record over the first bytes, and answers how many it takes.

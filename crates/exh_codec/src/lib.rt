@@ -2,9 +2,11 @@
 //! A well-formed page has exactly one image, and an image is that of one page.
 #![tactic(auto)]
 
-pub use block::{BLOCK_LEN, CONTENT_LEN, is_sealed, seal};
+pub use block::{
+    BLOCK_LEN, CONTENT_LEN, DIGEST_LEN, digest_in, digest_of, is_sealed, put_digest, seal,
+};
 pub use decode::{are_zero, decode_content, decode_head, decode_page};
-pub use encode::{encode_page, lay_out};
+pub use encode::{encode_page, lay_out, lay_over};
 pub use image_fault::ImageFault;
 pub use laws::{
     blocks_are_read, images_are_blocks, images_are_sealed, images_pass, one_image, one_page,

@@ -2,6 +2,7 @@
 ghost use Rattle.std.specs.Prelude.{◌≡◌};
 ghost use Rattle.exh_frames.specs.PageStore.{CountsFaults};
 
+use exh_codec::BLOCK_LEN;
 use exh_frames::{Pages, PagesFault, PlainPages};
 use exh_page::{Key, Page, PageHead, Spot, Value};
 use exh_prefix::PageNo;
@@ -59,6 +60,11 @@ impl Pages for BrokenPages {
     fn head(&mut self, number: PageNo) -> Result<PageHead, PagesFault> {
         self.enter()?;
         self.inner.head(number)
+    }
+
+    fn block(&mut self, number: PageNo, out: &mut [u8; BLOCK_LEN]) -> Result<(), PagesFault> {
+        self.enter()?;
+        self.inner.block(number, out)
     }
 
     fn fetch(&mut self, number: PageNo) -> Result<(), PagesFault> {

@@ -1,11 +1,12 @@
 //! A store of pages of which one call fails: the call of each kind is refused where its turn has come, and else done.
 
-ghost use Rattle.std.specs.Prelude.{◌≡◌, ◌<◌, length, IfSome};
+ghost use Rattle.std.specs.Prelude.{◌≡◌, ◌<◌, [], length, IfSome};
 ghost use Rattle.exh_page.specs.Page.{records_of, IsLive};
 ghost use Rattle.exh_page.specs.Place.{place_of};
 ghost use Rattle.exh_page.specs.Search.{IsSought};
 ghost use Rattle.exh_frames.specs.PageStore.{IfPage};
 
+use exh_codec::BLOCK_LEN;
 use exh_frames::{FailingPages, Pages, PagesCall, PagesFault, PlainPages};
 use exh_page::{Key, Page, Record, Records, Spot, Value};
 use exh_prefix::{PageNo, Prefix};
@@ -21,7 +22,8 @@ fn record(value: &[u8]) -> Option<Record> {
 }
 
 fn live(alloc: Global, len: u8, bits: u64, right: Option<PageNo>) -> Option<Page>
-    ensures { IfSome result IsLive }
+    ensures live { IfSome result IsLive }
+    ensures bare { IfSome result (λ page. records_of page ≡ []) }
 {
     Some(Page::Live {
         prefix: Prefix::new(len, bits)?,
@@ -34,6 +36,7 @@ fn live(alloc: Global, len: u8, bits: u64, right: Option<PageNo>) -> Option<Page
 fn two_pages(alloc: Global) -> Option<PlainPages>
     ensures two { IfSome result (λ store. length store ≡ 2) }
     ensures live { IfSome result (λ store. IfPage store 0 IsLive) }
+    ensures bare { IfSome result (λ store. IfPage store 1 (λ page. records_of page ≡ [])) }
 {
     let mut records = Records::new(alloc);
     records.put(record(b"a")?).ok()?;
@@ -74,11 +77,13 @@ fn answer(
 ) -> Option<PagesFault>
     requires two { length (store.old).inner ≡ 2 }
     requires live { IfPage (store.old).inner 0 IsLive }
+    requires bare { IfPage (store.old).inner 1 (λ page. records_of page ≡ []) }
     requires sought { IfPage (store.old).inner 0 (λ page. IsSought (place_of item.now) (records_of page) spot) }
 {
     match call {
         PagesCall::Get => store.get(0).err(),
         PagesCall::Head => store.head(0).err(),
+        PagesCall::Block => store.block(1, &mut [0; BLOCK_LEN]).err(),
         PagesCall::Fetch => store.fetch(0).err(),
         PagesCall::Put => store
             .put_at(0, spot, item.pseudokey, &item.key, &item.value)
@@ -102,9 +107,10 @@ fn answers(alloc: Global, call: PagesCall, at: u64) -> Option<Answers> {
     Some((answer, store.failed(), store.failures()))
 }
 
-const CALLS: [PagesCall; 8] = [
+const CALLS: [PagesCall; 9] = [
     PagesCall::Get,
     PagesCall::Head,
+    PagesCall::Block,
     PagesCall::Fetch,
     PagesCall::Put,
     PagesCall::Remove,

@@ -3,6 +3,7 @@ ghost use Rattle.exh_frames.specs.Failure.{HasRoom, IsFaultless, after_call, cou
 ghost use Rattle.exh_frames.specs.PageStore.{CountsFaults};
 
 use crate::{Pages, PagesCall, PagesFault};
+use exh_codec::BLOCK_LEN;
 use exh_page::{Key, Page, PageHead, Spot, Value};
 use exh_prefix::PageNo;
 use std::marker::Model;
@@ -86,6 +87,9 @@ impl<P: Pages + Drop> FailingPages<P> {
 
 impl<P: Pages + Drop> Pages for FailingPages<P> {
     ghost use Rattle.std.specs.Prelude.{◌≢◌, ◌++◌, ◌∷◌, [], length, remove, slice_get, slice_set, Some, IfOk, OnErr};
+    ghost use Rattle.exh_codec.specs.Block.{sealed};
+    ghost use Rattle.exh_codec.specs.PageImage.{IsHeld, content_of};
+    ghost use Rattle.exh_page.specs.declared.page.TheConstants.{CAP_LIMIT};
     ghost use Rattle.exh_page.specs.Page.{IsLive, records_of, with_records};
     ghost use Rattle.exh_page.specs.Records.{with_record};
     ghost use Rattle.exh_page.specs.Search.{IsSought, IsSpot};
@@ -136,6 +140,21 @@ impl<P: Pages + Drop> Pages for FailingPages<P> {
     {
         self.enter(PagesCall::Head)?;
         self.inner.head(number)
+    }
+
+    fn block(&mut self, number: PageNo, out: &mut [u8; BLOCK_LEN]) -> Result<(), PagesFault>
+        requires there { number < length (P.pages self.old.inner) }
+        requires few { IfPage (P.pages self.old.inner) number (λ page. length (records_of page) ≤ CAP_LIMIT) }
+        ensures block { OnOk result (IfPage (P.pages self.old.inner) number (λ page. (out.new ≡ sealed (content_of page)) × IsHeld page)) }
+        ensures pages { P.pages self.new.inner ≡ P.pages self.old.inner }
+        ensures failures { CountsFaults result (count_with self.old.failure (P.failures self.old.inner)) (count_with self.new.failure (P.failures self.new.inner)) }
+        ensures takes { TakesTheSame P.takes self.old.inner self.new.inner }
+        ensures due { IsTrue (is_due (P.failures self.old.inner) self.old.failure) → IsErrOf result PagesFault.Page }
+        ensures others { is_due (P.failures self.old.inner) self.old.failure ≡ false → CountsFaults result (P.failures self.old.inner) (P.failures self.new.inner) }
+        ensures counted { self.new.failure ≡ after_call (P.failures self.old.inner) PagesCall.Block self.old.failure }
+    {
+        self.enter(PagesCall::Block)?;
+        self.inner.block(number, out)
     }
 
     fn fetch(&mut self, number: PageNo) -> Result<(), PagesFault>

@@ -15,3 +15,4 @@ mod pages_call;
 mod pages_fault;
 mod plain_pages;
 mod store_maker;
+mod stored_page;

@@ -1,11 +1,15 @@
-ghost use Rattle.std.specs.Prelude.{◌≡◌, ◌≢◌, ℕ, ◌-◌, ◌^◌, ◌<◌, List, [], ◌∷◌, ◌++◌, length, remove, slice_get, slice_set, Some, IfOk, OnOk, OnErr};
+ghost use Rattle.std.specs.Prelude.{◌≡◌, ◌≢◌, ℕ, ◌-◌, ◌^◌, ◌<◌, ◌≤◌, List, [], ◌∷◌, ◌++◌, length, remove, slice_get, slice_set, Some, IfOk, OnOk, OnErr};
 ghost use Rattle.exh_page.specs.Page.{IsLive, records_of, with_records};
 ghost use Rattle.exh_page.specs.Records.{with_record};
 ghost use Rattle.exh_page.specs.Search.{IsSought, IsSpot};
 ghost use Rattle.exh_page.specs.declared.page.Page.{Page};
+ghost use Rattle.exh_page.specs.declared.page.TheConstants.{CAP_LIMIT};
+ghost use Rattle.exh_codec.specs.Block.{sealed};
+ghost use Rattle.exh_codec.specs.PageImage.{IsHeld, content_of};
 ghost use Rattle.exh_frames.specs.PageStore.{IfPage, HasHead, CountsFaults, TakesTheSame};
 
 use crate::PagesFault;
+use exh_codec::BLOCK_LEN;
 use exh_page::{Key, Page, PageHead, Spot, Value};
 use exh_prefix::PageNo;
 
@@ -45,6 +49,16 @@ pub trait Pages {
     fn head(&mut self, number: PageNo) -> Result<PageHead, PagesFault>
         requires { number < length (pages self.old) }
         ensures head { IfOk result (HasHead (pages self.old) number) }
+        ensures pages { pages self.new ≡ pages self.old }
+        ensures failures { CountsFaults result (failures self.old) (failures self.new) }
+        ensures takes { TakesTheSame takes self.old self.new };
+
+    /// Writes the block that the page of this number has in a page file of the version that is written,
+    /// with its digest, which isn't made again where the store has it. It takes no memory.
+    fn block(&mut self, number: PageNo, out: &mut [u8; BLOCK_LEN]) -> Result<(), PagesFault>
+        requires there { number < length (pages self.old) }
+        requires few { IfPage (pages self.old) number (λ page. length (records_of page) ≤ CAP_LIMIT) }
+        ensures block { OnOk result (IfPage (pages self.old) number (λ page. (out.new ≡ sealed (content_of page)) × IsHeld page)) }
         ensures pages { pages self.new ≡ pages self.old }
         ensures failures { CountsFaults result (failures self.old) (failures self.new) }
         ensures takes { TakesTheSame takes self.old self.new };

@@ -5,6 +5,8 @@ pub enum PagesCall {
     Get,
     /// `Pages::head`.
     Head,
+    /// `Pages::block`.
+    Block,
     /// `Pages::fetch`.
     Fetch,
     /// `Pages::put_at`.

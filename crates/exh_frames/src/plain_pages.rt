@@ -1,15 +1,19 @@
-ghost use Rattle.std.specs.Prelude.{◌≡◌, ◌^◌, ◌<◌, [], ◌∷◌, length, IfOk};
+ghost use Rattle.std.specs.Prelude.{◌≡◌, ◌^◌, ◌<◌, [], ◌∷◌, length, map, IfOk};
+ghost use Rattle.exh_codec.specs.PageImage.{page_digest};
 
 use crate::{Pages, PagesFault};
+use crate::stored_page::StoredPage;
+use exh_codec::{BLOCK_LEN, DIGEST_LEN};
 use exh_page::{Key, Page, PageHead, Spot, Value};
 use exh_prefix::PageNo;
 use std::alloc::{AllocError, Global};
 use std::marker::Model;
 
-/// Pages in memory. It takes every page, and never answers a page fault.
+/// Pages in memory, of each the digest of its block where that is known: since it was read or written,
+/// and the page hasn't changed. It takes every page, and never answers a page fault.
 #[derive(Drop)]
 pub struct PlainPages {
-    pages: Vec<Page>,
+    pages: Vec<StoredPage>,
 }
 
 impl Model for PlainPages {
@@ -29,16 +33,39 @@ impl PlainPages {
         ensures { IfOk result (λ store. store ≡ first ∷ []) }
     {
         let mut pages = Vec::new(alloc);
-        pages.push(first)?;
+        pages.push(StoredPage::new(first))?;
         Ok(PlainPages { pages })
     }
 
-    /// A store of these pages, in their order. It takes no memory.
-    pub fn of_pages(pages: Vec<Page>) -> PlainPages
-        requires { length pages.items < 2 ^ 32 }
-        ensures { result ≡ pages.items }
+    /// A store of these pages, in their order. It takes memory: an `AllocError` where that is refused.
+    pub fn of_pages(alloc: Global, given: Vec<Page>) -> Result<PlainPages, AllocError>
+        requires { length given.items < 2 ^ 32 }
+        ensures { IfOk result (λ store. store ≡ given.items) }
     {
-        PlainPages { pages }
+        let mut pages = Vec::with_capacity(alloc, given.len())?;
+        for page in given {
+            pages.push(StoredPage::new(page))?;
+        }
+        Ok(PlainPages { pages })
+    }
+
+    /// A store of these pages, in their order, each with the digest of its block. It takes memory: an
+    /// `AllocError` where that is refused.
+    pub fn of_read(
+        alloc: Global,
+        given: Vec<Page>,
+        digests: &[[u8; DIGEST_LEN]],
+    ) -> Result<PlainPages, AllocError>
+        requires few { length given.items < 2 ^ 32 }
+        requires digests { digests.now ≡ map page_digest given.items }
+        ensures { IfOk result (λ store. store ≡ given.items) }
+    {
+        let mut pages = Vec::with_capacity(alloc, given.len())?;
+        for page in given {
+            let digest = digests[pages.len()];
+            pages.push(StoredPage::with_digest(page, digest))?;
+        }
+        Ok(PlainPages { pages })
     }
 }
 
@@ -62,11 +89,16 @@ impl Pages for PlainPages {
     }
 
     fn get(&mut self, number: PageNo) -> Result<Page, PagesFault> {
-        Ok(self.pages[number as usize].try_clone()?)
+        Ok(self.pages[number as usize].page().try_clone()?)
     }
 
     fn head(&mut self, number: PageNo) -> Result<PageHead, PagesFault> {
-        Ok(self.pages[number as usize].head())
+        Ok(self.pages[number as usize].page().head())
+    }
+
+    fn block(&mut self, number: PageNo, out: &mut [u8; BLOCK_LEN]) -> Result<(), PagesFault> {
+        self.pages[number as usize].block(out);
+        Ok(())
     }
 
     // Each page is at hand.
@@ -75,7 +107,7 @@ impl Pages for PlainPages {
     }
 
     fn fetched(&self, number: PageNo) -> &Page {
-        &self.pages[number as usize]
+        self.pages[number as usize].page()
     }
 
     fn put_at(
@@ -95,7 +127,7 @@ impl Pages for PlainPages {
     }
 
     fn set(&mut self, number: PageNo, page: Page) -> Result<(), PagesFault> {
-        self.pages[number as usize] = page;
+        self.pages[number as usize] = StoredPage::new(page);
         Ok(())
     }
 
@@ -106,16 +138,16 @@ impl Pages for PlainPages {
         other: PageNo,
         twin: Page,
     ) -> Result<(), PagesFault> {
-        self.pages[number as usize] = page;
-        self.pages[other as usize] = twin;
+        self.pages[number as usize] = StoredPage::new(page);
+        self.pages[other as usize] = StoredPage::new(twin);
         Ok(())
     }
 
     fn grow_and_set(&mut self, new: Page, number: PageNo, page: Page) -> Result<(), PagesFault> {
         // Room for the new page first: nothing may fail once a page has changed.
         self.pages.reserve(1)?;
-        self.pages[number as usize] = page;
-        self.pages.push_reserved(new);
+        self.pages[number as usize] = StoredPage::new(page);
+        self.pages.push_reserved(StoredPage::new(new));
         Ok(())
     }
 }

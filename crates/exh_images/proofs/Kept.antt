@@ -28,6 +28,12 @@ set_front [] others number page within = absurd (omega arith)
 set_front (first ∷ pages) others zero page within = refl
 set_front (first ∷ pages) others (suc number) page within = ap (λ (rest : List Page). first ∷ rest) (set_front pages others number page (omega arith))
 
+-- what holds of all holds of the one of a number
+pub all_at : {A : Type 0} (P : A → Type 0) (items : List A) (number : ℕ) (item : A) → AllByRecursion P items → slice_get items number ≡ Some item → P item
+all_at P [] number item all there = cc
+all_at P (first ∷ items) zero item all there = subst P (same_Some first item there) all.0
+all_at P (first ∷ items) (suc number) item all there = all_at P items number item all.1 there
+
 module _ (pseudo : List ℕ → ℕ) where
   all_set : (P : Image → Type 0) (images : List Image) (number : ℕ) (image : Image) → P image → AllByRecursion P images → AllByRecursion P (set images number image)
   all_set P [] number image new all = tt
@@ -57,11 +63,6 @@ module _ (pseudo : List ℕ → ℕ) where
   pages_added images image page read = map-append (page_in pseudo) images (image ∷ []) ∙ ap (λ (p : Page). pages_in pseudo images ++ p ∷ []) read
 
   -- ---- the image of a number
-
-  all_at : (P : Image → Type 0) (images : List Image) (number : ℕ) (image : Image) → AllByRecursion P images → slice_get images number ≡ Some image → P image
-  all_at P [] number image all there = cc
-  all_at P (first ∷ images) zero image all there = subst P (same_Some first image there) all.0
-  all_at P (first ∷ images) (suc number) image all there = all_at P images number image all.1 there
 
   pub laid_at : (images : List Image) (number : ℕ) (image : Image) (page : Page) → number < length (pages_in pseudo images) → image ≡ get_or images number image → AreKept pseudo images → slice_get (pages_in pseudo images) number ≡ Some page
       → IsLaidOut written_version pseudo page image.block

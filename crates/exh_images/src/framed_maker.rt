@@ -3,6 +3,7 @@ ghost use Rattle.exh_images.specs.CacheSize.{IsCacheSize};
 
 use crate::cache_size::to_cache_size;
 use crate::{CacheFault, FramedPages};
+use exh_codec::DIGEST_LEN;
 use exh_frames::StoreMaker;
 use exh_keyer::Keyer;
 use exh_page::Page;
@@ -36,7 +37,8 @@ impl<K: Keyer> StoreMaker<FramedPages<K>, K> for FramedMaker {
         alloc: Global,
         keyer: K,
         given: Vec<Page>,
+        digests: &[[u8; DIGEST_LEN]],
     ) -> Result<FramedPages<K>, AllocError> {
-        FramedPages::of_given(alloc, given, keyer, self.size)
+        FramedPages::of_read(alloc, given, digests, keyer, self.size)
     }
 }

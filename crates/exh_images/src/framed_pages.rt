@@ -1,7 +1,7 @@
-ghost use Rattle.std.specs.Prelude.{◌≡◌, ◌↔◌, ◌-◌, ◌<◌, ◌^◌, [], ◌∷◌, ◌++◌, length, remove, slice_set, IsSome, IfOk, OnOk, OnErr, IsErrOf};
+ghost use Rattle.std.specs.Prelude.{◌≡◌, ◌↔◌, ◌-◌, ◌<◌, ◌^◌, [], ◌∷◌, ◌++◌, length, map, remove, slice_set, IsSome, IfOk, OnOk, OnErr, IsErrOf};
 ghost use Rattle.std.specs.List.{AllByRecursion};
 ghost use Rattle.exh_prefix.specs.Layout.{written_version};
-ghost use Rattle.exh_codec.specs.PageImage.{IsImage};
+ghost use Rattle.exh_codec.specs.PageImage.{IsImage, page_digest};
 ghost use Rattle.exh_page.specs.declared.page.Page.{Page as PageType};
 ghost use Rattle.exh_page.specs.Page.{IsLive, IsWellFormed, records_of, with_records};
 ghost use Rattle.exh_page.specs.Records.{with_record};
@@ -14,7 +14,7 @@ use crate::CacheFault;
 use crate::cache_size::to_cache_size;
 use crate::decoded_pages::DecodedPages;
 use crate::images::Images;
-use exh_codec::BLOCK_LEN;
+use exh_codec::{BLOCK_LEN, DIGEST_LEN};
 use exh_frames::{Pages, PagesFault};
 use exh_keyer::Keyer;
 use exh_page::{Key, Page, PageHead, Record, Spot, Value};
@@ -126,6 +126,23 @@ impl<K: Keyer> FramedPages<K> {
         ensures { IfOk result (λ store. store ≡ record { keyer = keyer; pages = given.items; decoded = [] }) }
     {
         let images = Images::of_pages(alloc, keyer, &given)?;
+        FramedPages::of_images(alloc, images, size)
+    }
+
+    // A store of given pages, each with the digest of its block.
+    pub(crate) fn of_read(
+        alloc: Global,
+        given: Vec<Page>,
+        digests: &[[u8; DIGEST_LEN]],
+        keyer: K,
+        size: NonZeroUsize,
+    ) -> Result<FramedPages<K>, AllocError>
+        requires few { length given.items < 2 ^ 32 }
+        requires formed { AllByRecursion (IsWellFormed (K.pseudokey_of keyer)) given.items }
+        requires digests { digests.now ≡ map page_digest given.items }
+        ensures { IfOk result (λ store. store ≡ record { keyer = keyer; pages = given.items; decoded = [] }) }
+    {
+        let images = Images::of_read(alloc, keyer, &given, digests)?;
         FramedPages::of_images(alloc, images, size)
     }
 
@@ -246,6 +263,11 @@ impl<K: Keyer> Pages for FramedPages<K> {
 
     fn head(&mut self, number: PageNo) -> Result<PageHead, PagesFault> {
         Ok(self.images.head(number))
+    }
+
+    fn block(&mut self, number: PageNo, out: &mut [u8; BLOCK_LEN]) -> Result<(), PagesFault> {
+        *out = self.image(number);
+        Ok(())
     }
 
     fn fetch(&mut self, number: PageNo) -> Result<(), PagesFault>

@@ -1,15 +1,17 @@
-ghost use Rattle.std.specs.Prelude.{◌≡◌, ◌<◌, ◌-◌, ◌^◌, ℕ, [], ◌∷◌, ◌++◌, length, remove, slice_get, slice_set, Some, IfOk, OnOk, OnErr};
+ghost use Rattle.std.specs.Prelude.{◌≡◌, ◌<◌, ◌-◌, ◌^◌, ◌≤◌, ℕ, List, [], ◌∷◌, ◌++◌, length, map, remove, slice_get, slice_set, Some, IfOk, OnOk, OnErr};
 ghost use Rattle.std.specs.List.{AllByRecursion};
 ghost use Rattle.exh_page.specs.Page.{IsLive, IsWellFormed, records_of, with_records};
 ghost use Rattle.exh_page.specs.Records.{with_record};
 ghost use Rattle.exh_page.specs.declared.page.Page.{Page as PageType};
 ghost use Rattle.exh_prefix.specs.Layout.{written_version};
-ghost use Rattle.exh_codec.specs.PageImage.{IsImage};
+ghost use Rattle.exh_codec.specs.PageImage.{IsImage, page_digest};
+ghost use Rattle.exh_page.specs.declared.page.TheConstants.{CAP_LIMIT};
 ghost use Rattle.exh_frames.specs.PageStore.{HasHead, IfPage};
 
 use crate::image::Image;
 use exh_codec::{
-    BLOCK_LEN, ImageFault, blocks_are_read, decode_content, decode_head, images_are_sealed,
+    BLOCK_LEN, DIGEST_LEN, ImageFault, blocks_are_read, decode_content, decode_head,
+    images_are_sealed, lay_out, put_digest,
 };
 use exh_keyer::Keyer;
 use exh_page::{Page, PageHead, Record};
@@ -55,6 +57,26 @@ impl<K: Keyer> Images<K> {
         let mut images = Images::new(alloc, keyer);
         for page in pages {
             images.add(page)?;
+        }
+        Ok(images)
+    }
+
+    /// The images of these pages, in their order, each with the digest of its block, which isn't made
+    /// again. An `AllocError` where memory is refused.
+    pub(crate) fn of_read(
+        alloc: Global,
+        keyer: K,
+        pages: &[Page],
+        digests: &[[u8; DIGEST_LEN]],
+    ) -> Result<Images<K>, AllocError>
+        requires few { length pages.now < 2 ^ 32 }
+        requires formed { AllByRecursion (IsWellFormed (K.pseudokey_of keyer)) pages.now }
+        requires digests { digests.now ≡ map page_digest pages.now }
+        ensures { IfOk result (λ images. images ≡ record { keyer = keyer; pages = pages.now }) }
+    {
+        let mut images = Images::new(alloc, keyer);
+        for number in 0..pages.len() {
+            images.add_block(&image_with(&pages[number], &digests[number]))?;
         }
         Ok(images)
     }
@@ -167,4 +189,15 @@ impl<K: Keyer> Images<K> {
         let image = &self.images[number as usize];
         image.sealed_block()
     }
+}
+
+// The image of a page, of the digest that it has.
+fn image_with(page: &Page, digest: &[u8; DIGEST_LEN]) -> [u8; BLOCK_LEN]
+    requires few { length (records_of page.now) ≤ CAP_LIMIT }
+    requires digest { digest.now ≡ page_digest page.now }
+    ensures { (pseudo : List ℕ → ℕ) → IsWellFormed pseudo page.now → IsImage written_version pseudo page.now result }
+{
+    let mut block = lay_out(page);
+    put_digest(&mut block, digest);
+    block
 }

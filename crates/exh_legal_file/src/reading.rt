@@ -1,6 +1,6 @@
 ghost use Rattle.std.specs.Prelude.{◌≡◌, List, ℕ, Some, IfOk, IfErr, MatchResult};
 ghost use Rattle.exh_file.specs.FileVersion.{format_of};
-ghost use Rattle.exh_page_file.specs.FileParts.{file_of};
+ghost use Rattle.exh_page_file.specs.FileParts.{HasDigests, file_of};
 ghost use Rattle.exh_page_file.specs.PageFile.{PageFile, IsKnownFile};
 ghost use Rattle.exh_page_file.specs.Reading.{AreBytes, IsAll};
 ghost use Rattle.exh_reasons.specs.Reasons.{IsFirstReason};
@@ -25,6 +25,7 @@ use std::io::Read;
 pub fn read_legal_file<R: Read>(alloc: Global, reader: &mut R) -> Result<LegalFile, LegalFileFault>
     ensures legal { IfOk result (λ legal. (bytes : List ℕ) × IsAll (R.remaining reader.old) bytes × AreBytes bytes × IsLegalPageFile (format_of bytes) (file_of legal.parts) bytes) }
     ensures tables { IfOk result (λ legal. legal.tables.items ≡ ward_tables (file_of legal.parts)) }
+    ensures digests { IfOk result (λ legal. HasDigests legal.parts) }
     ensures fault { IfErr result (IsLegalFileFaultOf (R.remaining reader.old)) }
     ensures every { (file : PageFile) (bytes : List ℕ) → R.remaining reader.old ≡ Some bytes → AreBytes bytes → IsLegalPageFile (format_of bytes) file bytes
         → MatchResult result (λ legal. file_of legal.parts ≡ file) IsOtherFault }
@@ -39,6 +40,7 @@ pub fn read_legal_file<R: Read>(alloc: Global, reader: &mut R) -> Result<LegalFi
 fn read_found<R: Read>(alloc: Global, reader: &mut R) -> Result<LegalFile, LegalFileFault>
     ensures legal { IfOk result (λ legal. (bytes : List ℕ) × IsAll (R.remaining reader.old) bytes × AreBytes bytes × IsLegalPageFile (format_of bytes) (file_of legal.parts) bytes) }
     ensures tables { IfOk result (λ legal. legal.tables.items ≡ ward_tables (file_of legal.parts)) }
+    ensures digests { IfOk result (λ legal. HasDigests legal.parts) }
     ensures fault { IfErr result (IsLegalFileFaultOf (R.remaining reader.old)) }
 {
     legal_files_pass();

@@ -1,8 +1,9 @@
-ghost use Rattle.std.specs.Prelude.{◌≡◌, ◌<◌, ◌^◌, ◌++◌, ◌∷◌, [], List, ℕ, Some, length, IfOk, IfErr, OnOk, MatchResult};
+ghost use Rattle.std.specs.Prelude.{◌≡◌, ◌+◌, ◌<◌, ◌≤◌, ◌^◌, ◌++◌, ◌∷◌, [], List, ℕ, Some, length, map, take, drop, IfOk, IfErr, OnOk, MatchResult};
 ghost use Rattle.exh_keyer.specs.Pseudokey.{any_pseudokey};
+ghost use Rattle.exh_codec.specs.PageImage.{page_digest};
 ghost use Rattle.exh_file.specs.FileVersion.{format_of};
 ghost use Rattle.exh_file.specs.HeaderImage.{IsKnownHeader};
-ghost use Rattle.exh_page_file.specs.FileParts.{file_of};
+ghost use Rattle.exh_page_file.specs.FileParts.{HasDigests, file_of, pages_in};
 ghost use Rattle.exh_page_file.specs.PageFile.{IsKnownFile, PageFile};
 ghost use Rattle.exh_page_file.specs.Reading.{AreBytes, IsAll};
 ghost use Rattle.exh_reasons.specs.Laws.{IsLegalFile};
@@ -11,6 +12,7 @@ ghost use Rattle.exh_open.specs.OpenFault.{IsCounted, IsOtherOpening};
 ghost use Rattle.exh_open.specs.Opening.{AreLegalWards, AreOpened, IsLegalWard, IsOpenFaultOf, IsOpenedFile, IsOpenedWard};
 
 use crate::{OpenFault, Opened};
+use exh_codec::DIGEST_LEN;
 use exh_file::Header;
 use exh_frames::{Pages, StoreMaker};
 use exh_keyer::AnyKeyer;
@@ -54,6 +56,7 @@ fn open_legal<P: Pages + Drop, M: StoreMaker<P, AnyKeyer>>(
 ) -> Result<Opened<P>, OpenFault>
     requires legal { IsLegalFile (any_pseudokey legal.old.parts.header.settings.keyer) (parts_in (file_of legal.old.parts)) }
     requires file { IsKnownFile (file_of legal.old.parts) }
+    requires digests { HasDigests legal.old.parts }
     requires tables { legal.old.tables.items ≡ ward_tables (file_of legal.old.parts) }
     ensures opened { IfOk result (IsOpenedFile (file_of legal.old.parts)) }
     ensures fault { IfErr result IsOtherOpening }
@@ -62,7 +65,8 @@ fn open_legal<P: Pages + Drop, M: StoreMaker<P, AnyKeyer>>(
     legal_files_pass();
     let header = legal.parts.header;
     let pages = &mut legal.parts.wards;
-    let wards = open_wards(alloc, maker, &header, pages, &mut legal.tables)?;
+    let digests = &legal.parts.digests;
+    let wards = open_wards(alloc, maker, &header, pages, digests, &mut legal.tables)?;
     Ok(Opened::new(header.settings, wards))
 }
 
@@ -72,10 +76,12 @@ fn open_wards<P: Pages + Drop, M: StoreMaker<P, AnyKeyer>>(
     maker: &M,
     header: &Header,
     pages: &mut [Vec<Page>],
+    digests: &[[u8; DIGEST_LEN]],
     tables: &mut [Table],
 ) -> Result<Vec<Ward<P, AnyKeyer>>, OpenFault>
     requires header { IsKnownHeader header.now }
     requires pages { length pages.old ≡ 2 ^ header.now.settings.ward_bits }
+    requires digests { digests.now ≡ map page_digest (pages_in pages.old) }
     requires tables { length tables.old ≡ 2 ^ header.now.settings.ward_bits }
     requires legal { AreLegalWards header.now pages.old tables.old }
     ensures count { IfOk result (λ wards. length wards.items ≡ 2 ^ header.now.settings.ward_bits) }
@@ -84,13 +90,25 @@ fn open_wards<P: Pages + Drop, M: StoreMaker<P, AnyKeyer>>(
     ensures counted { IsCounted P.failures result }
 {
     let mut wards = Vec::new(alloc);
+    let mut start = 0;
     for number in 0..pages.len() {
         let own = mem::replace(&mut pages[number], Vec::new(alloc));
         let table = mem::replace(&mut tables[number], Table::new(alloc));
-        let ward = open_ward(alloc, maker, header, number as u8, own, table)?;
+        let count = own.len();
+        let own_digests = part(digests, start, count);
+        let ward = open_ward(alloc, maker, header, number as u8, own, own_digests, table)?;
         push(&mut wards, ward)?;
+        start += count;
     }
     Ok(wards)
+}
+
+// So many digests from a place on.
+fn part(digests: &[[u8; DIGEST_LEN]], start: usize, count: usize) -> &[[u8; DIGEST_LEN]]
+    requires { start + count ≤ length digests.now }
+    ensures { result.now ≡ take count (drop start digests.now) }
+{
+    &digests[start..start + count]
 }
 
 // The ward of a number, of its pages and its table.
@@ -100,10 +118,12 @@ fn open_ward<P: Pages + Drop, M: StoreMaker<P, AnyKeyer>>(
     header: &Header,
     number: u8,
     pages: Vec<Page>,
+    digests: &[[u8; DIGEST_LEN]],
     table: Table,
 ) -> Result<Ward<P, AnyKeyer>, OpenFault>
     requires header { IsKnownHeader header.now }
     requires number { number < 2 ^ header.now.settings.ward_bits }
+    requires digests { digests.now ≡ map page_digest pages.items }
     requires legal { IsLegalWard header.now number pages.items table }
     ensures opened { IfOk result (IsOpenedWard header.now number pages.items table) }
     ensures fault { IfErr result IsOtherOpening }
@@ -111,7 +131,7 @@ fn open_ward<P: Pages + Drop, M: StoreMaker<P, AnyKeyer>>(
 {
     pages_are_few();
     let settings = header.settings;
-    let store = maker.of_pages(alloc, settings.keyer, pages)?;
+    let store = maker.of_pages(alloc, settings.keyer, pages, digests)?;
     Ward::from_pages(alloc, settings, number, store, table).map_err(OpenFault::of_ward)
 }
 

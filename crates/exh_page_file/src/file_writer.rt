@@ -3,21 +3,18 @@ ghost use Rattle.std.specs.Io.KnownBytes.{Appends};
 ghost use Rattle.exh_prefix.specs.declared.prefix.TheConstants.{LIMIT};
 ghost use Rattle.exh_prefix.specs.Layout.{written_version};
 ghost use Rattle.exh_stream.specs.Output.{AppendsBeginning, Takes, TakesBeginning};
-ghost use Rattle.exh_page.specs.declared.page.TheConstants.{CAP_LIMIT};
-ghost use Rattle.exh_page.specs.Page.{records_of};
 ghost use Rattle.exh_codec.specs.declared.block.TheConstants.{CONTENT_LEN};
 ghost use Rattle.exh_codec.specs.Block.{sealed};
-ghost use Rattle.exh_codec.specs.PageImage.{IsInRange, padded};
+ghost use Rattle.exh_codec.specs.PageImage.{padded};
 ghost use Rattle.exh_file.specs.FileVersion.{written_format};
 ghost use Rattle.exh_file.specs.HeaderImage.{IsHeader};
 ghost use Rattle.exh_file.specs.TableImage.{IsFileEntry};
-ghost use Rattle.exh_page_file.specs.PageFile.{header_block, page_block};
+ghost use Rattle.exh_page_file.specs.PageFile.{header_block};
 ghost use Rattle.exh_page_file.specs.Writing.{GoesTo, IsBare, SameTarget, TakesBlocks, TakesBlocksBeginning, TakesEntries, TakesEntriesBeginning, TargetUntouched, file_failed, unsent, waiting_images, written};
 
 use crate::waiting_images::WaitingImages;
-use exh_codec::{lay_out, seal};
+use exh_codec::BLOCK_LEN;
 use exh_file::{FileEntry, Header};
-use exh_page::Page;
 use exh_stream::{Output, WriteFault};
 use std::io::Write;
 
@@ -58,21 +55,16 @@ impl<'w, W: Write> FileWriter<'w, W> {
         self.output.push(&header.to_block())
     }
 
-    /// Writes a page's block, under any keyer. On an `Err` the writer failed, now or before, and got a
-    /// beginning of what it was due.
-    pub fn write_page(&mut self, page: &Page) -> Result<(), WriteFault>
-        requires { length (records_of page.now) ≤ CAP_LIMIT }
+    /// Writes the block of a page. On an `Err` the writer failed, now or before, and got a beginning of
+    /// what it was due.
+    pub fn write_block(&mut self, block: &[u8; BLOCK_LEN]) -> Result<(), WriteFault>
         ensures same_target { SameTarget self.old self.new }
-        ensures ok { OnOk result (TakesBlocks W.contents self.old self.new (page_block page.now)) }
-        // The types of a page hold no others.
-        ensures in_range { IsInRange written_version page.now }
-        ensures err { OnErr result (TakesBlocksBeginning W.contents self.old self.new (page_block page.now)) }
+        ensures ok { OnOk result (TakesBlocks W.contents self.old self.new block.now) }
+        ensures err { OnErr result (TakesBlocksBeginning W.contents self.old self.new block.now) }
         ensures failed { IsErr result ↔ IsTrue (file_failed self.new) }
         ensures closed { IsTrue (file_failed self.old) → IsErr result × TargetUntouched self.old self.new }
     {
-        let mut block = lay_out(page);
-        seal(&mut block);
-        self.output.push(&block)
+        self.output.push(block)
     }
 
     /// Takes the next entry of the table. Entries wait until they fill a block, which is then written

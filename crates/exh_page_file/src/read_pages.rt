@@ -2,6 +2,7 @@ ghost use Rattle.std.specs.Prelude.{◌≡◌, ◌+◌, ◌<◌, ◌^◌, [], �
 ghost use Rattle.std.specs.List.{sum};
 ghost use Rattle.exh_keyer.specs.Pseudokey.{any_pseudokey};
 ghost use Rattle.exh_prefix.specs.Layout.{layout};
+ghost use Rattle.exh_codec.specs.PageImage.{page_digest};
 ghost use Rattle.exh_page_file.specs.FileParts.{pages_in};
 ghost use Rattle.exh_page_file.specs.Reading.{FailsInPages, GivesPages, IsOf, blocks_failed, left};
 
@@ -27,6 +28,7 @@ pub(crate) fn read_wards<R: Read>(
     ensures counts { IfOk result (λ wards. map (λ ward. length ward.items) wards.items ≡ counts.now) }
     ensures given { IfOk result (λ wards.
         GivesPages (layout version) (any_pseudokey keyer) (left R.remaining blocks.old) (left R.remaining blocks.new) (pages_in wards.items)) }
+    ensures digests { IfOk result (λ wards. blocks.new.digests.items ≡ blocks.old.digests.items ++ map page_digest (pages_in wards.items)) }
     ensures err { IfErr result (IsOf
         (FailsInPages (layout version) (any_pseudokey keyer) blocks.old.place (sum counts.now)) (left R.remaining blocks.old)) }
     ensures failed { IsErrOf result ReadFileFault.Read ↔ IsTrue (blocks_failed blocks.new) }
@@ -53,6 +55,7 @@ fn read_pages<R: Read>(
     ensures count { IfOk result (λ pages. length pages.items ≡ count) }
     ensures given { IfOk result (λ pages.
         GivesPages (layout version) (any_pseudokey keyer) (left R.remaining blocks.old) (left R.remaining blocks.new) pages.items) }
+    ensures digests { IfOk result (λ pages. blocks.new.digests.items ≡ blocks.old.digests.items ++ map page_digest pages.items) }
     ensures err { IfErr result (IsOf
         (FailsInPages (layout version) (any_pseudokey keyer) blocks.old.place count) (left R.remaining blocks.old)) }
     ensures failed { IsErrOf result ReadFileFault.Read ↔ IsTrue (blocks_failed blocks.new) }

@@ -1,19 +1,12 @@
 -- What a fault leaves of wards.
-use Rattle.std.proofs.Common.{◌≡◌, ℕ, ◌<◌, ◌≤◌, List, ◌++◌, take, ap, length, set, get_or, slice_get, Some, Result, Ok, Err, inl, inr, refl, sym, ◌∙◌, subst, arith}
+use Rattle.std.proofs.Common.{◌≡◌, ℕ, ◌<◌, List, ◌++◌, take, ap, length, set, get_or, slice_get, Some, Result, Ok, Err, inl, inr, refl, sym, ◌∙◌, subst, arith}
 use Rattle.std.proofs.lemmas.Bool.{cases_eq}
 use Rattle.std.proofs.lemmas.List.{length-set}
 use Rattle.std.proofs.lemmas.Option.{slice_get-get_or, slice_get_within}
 use Rattle.std.proofs.Math.Seq.{take-append_seam}
 use Rattle.exh_prefix.specs.ListLemmas.{one_there, set_here, set_else}
-use Rattle.exh_page.specs.declared.page.Page.{Page as PageType}
-use Rattle.exh_page.specs.declared.page.Page.TheVariants.{Live, Forward}
-use Rattle.exh_page.specs.declared.page.TheConstants.{CAP_LIMIT}
-use Rattle.exh_page.specs.Page.{records_of}
-use Rattle.exh_legal.specs.Pages.{IsAt, IsLegalPage}
-use Rattle.exh_legal.specs.MapLemmas.{page_at}
 use Rattle.exh_keyer.specs.declared.any_keyer.AnyKeyer.{AnyKeyer}
-use Rattle.exh_keyer.specs.Pseudokey.{any_pseudokey}
-use Rattle.exh_ward.specs.WardState.{IsSoundWard, IsUnchanged, WardState}
+use Rattle.exh_ward.specs.WardState.{IsUnchanged, WardState}
 use Rattle.exh_file_settings.specs.declared.file_settings.FileSettings.{FileSettings}
 use Rattle.exh_open.specs.Opened.{AreWardsOf, IsWardOf, OpenedState, in_file, settings_in}
 use Rattle.exh_save.specs.SaveFault.{CountsSaveFailures}
@@ -21,16 +14,6 @@ use Rattle.exh_save.specs.Saved.{AreUnchanged, failures_in}
 use Rattle.exh_save.specs.declared.save_fault.SaveFault.{SaveFault}
 use Rattle.exh_save.specs.declared.save_fault.SaveFault.TheVariants.{Write, Page, Memory}
 use Rattle.exh_save.proofs.Lists.{sum_of-set}
-
--- a page of a sound ward has few records
-few_in_page : (cap : ℕ) (pseudo : List ℕ → ℕ) (page : PageType) → cap ≤ CAP_LIMIT → IsLegalPage cap pseudo page → length (records_of page) ≤ CAP_LIMIT
-few_in_page cap pseudo (Live prefix right records) few legal = omega (arith, few, legal.1)
-few_in_page cap pseudo (Forward low target) few legal = omega arith
-
-pub few_records : (ward : WardState AnyKeyer) (number : ℕ) (page : PageType) → ward.cap ≤ CAP_LIMIT → IsSoundWard any_pseudokey ward → IsAt ward.pages number page → length (records_of page) ≤ CAP_LIMIT
-few_records ward number page few sound is =
-    let pseudo = any_pseudokey ward.keyer in
-    few_in_page ward.cap pseudo page few (page_at (IsLegalPage ward.cap pseudo) ward.pages number page sound.legal.legal.legal.each is)
 
 -- ---- wards of which one was touched
 

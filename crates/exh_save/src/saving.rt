@@ -1,11 +1,9 @@
-ghost use Rattle.std.specs.Prelude.{◌≡◌, ◌≢◌, ◌<◌, ◌≤◌, length, map, IfOk, IfErr, OnOk, OnErr, IsErr, IsErrOf, IsTrue};
+ghost use Rattle.std.specs.Prelude.{◌≡◌, ◌≢◌, ◌<◌, ◌≤◌, length, map, IfErr, OnOk, OnErr, IsErr, IsErrOf, IsTrue};
 ghost use Rattle.std.specs.List.{AllByRecursion, flat_map};
 ghost use Rattle.std.specs.FinMap.{entries};
 ghost use Rattle.std.specs.Io.KnownBytes.{Appends};
 ghost use Rattle.exh_prefix.specs.Layout.{written_version};
 ghost use Rattle.exh_page.specs.declared.page.TheConstants.{CAP_LIMIT};
-ghost use Rattle.exh_page.specs.Page.{records_of};
-ghost use Rattle.exh_legal.specs.Pages.{IsAt};
 ghost use Rattle.exh_stream.specs.Output.{AppendsBeginning};
 ghost use Rattle.exh_codec.specs.PageImage.{IsInRange};
 ghost use Rattle.exh_file.specs.FileVersion.{written_format};
@@ -23,12 +21,12 @@ ghost use Rattle.exh_save.specs.Saved.{AreInOrder, AreShort, AreUnchanged, HasCa
 
 use crate::SaveFault;
 use crate::header::header_of;
+use exh_codec::BLOCK_LEN;
 use exh_file::{FileEntry, Header, images_are_blocks};
 use exh_file_settings::FileSettings;
 use exh_frames::Pages;
 use exh_keyer::AnyKeyer;
 use exh_legal::{fitting_tables_begin_wards, pages_are_few};
-use exh_page::Page;
 use exh_page_file::{FileWriter, one_file, same_blocks};
 use exh_prefix::PageNo;
 use exh_reasons::{legal_files_pass, legal_tables_have_room};
@@ -42,7 +40,7 @@ use std::io::Write;
 /// page file, and opening it gives wards of the same pages and tables; wards that were opened from a
 /// file, with no change since, are written as its very bytes, if it was of the version that is written, and
 /// else with that version's number and the header's digest made anew. The writer isn't flushed. It takes
-/// memory for a copy of one page at a time.
+/// no memory of its own.
 ///
 /// `Write`: the writer failed or took no bytes. `Page`: a page is out of reach. `Memory`: a growth was
 /// refused. Then a beginning of the file went out. The wards are as before.
@@ -136,17 +134,19 @@ fn write_ward<P: Pages + Drop, W: Write>(
     ensures ward { IsUnchanged ward.old ward.new }
     ensures failures { CountsSaveFailures result ward.old.failures ward.new.failures }
 {
+    let mut block = [0; BLOCK_LEN];
     for number in 0..ward.page_count() {
-        write_page(file, ward, number)?;
+        write_page(file, ward, number, &mut block)?;
     }
     Ok(())
 }
 
-// Writes the page of a number.
+// Writes the page of a number, by way of a block.
 fn write_page<P: Pages + Drop, W: Write>(
     file: &mut FileWriter<'_, W>,
     ward: &mut Ward<P, AnyKeyer>,
     number: PageNo,
+    block: &mut [u8; BLOCK_LEN],
 ) -> Result<(), SaveFault>
     requires there { number < length ward.old.pages }
     requires cap { ward.old.cap ≤ CAP_LIMIT }
@@ -158,26 +158,26 @@ fn write_page<P: Pages + Drop, W: Write>(
     ensures ward { IsUnchanged ward.old ward.new }
     ensures failures { CountsSaveFailures result ward.old.failures ward.new.failures }
 {
-    let page = read_page(ward, number)?;
-    Ok(file.write_page(&page)?)
+    read_block(ward, number, block)?;
+    Ok(file.write_block(block)?)
 }
 
-// A page equal to the one of a number.
-fn read_page<P: Pages + Drop>(
+// The block of the page of a number.
+fn read_block<P: Pages + Drop>(
     ward: &mut Ward<P, AnyKeyer>,
     number: PageNo,
-) -> Result<Page, SaveFault>
+    block: &mut [u8; BLOCK_LEN],
+) -> Result<(), SaveFault>
     requires there { number < length ward.old.pages }
     requires cap { ward.old.cap ≤ CAP_LIMIT }
-    ensures page { IfOk result (IsAt ward.old.pages number) }
-    ensures few { IfOk result (λ page. length (records_of page) ≤ CAP_LIMIT) }
+    ensures block { OnOk result (IfPage ward.old.pages number (λ page. (block.new ≡ page_block page) × IsInRange written_version page)) }
     ensures fault { IfErr result (λ fault. fault ≢ SaveFault.Write) }
     ensures same { OnOk result (ward.new ≡ ward.old) }
     ensures ward { IsUnchanged ward.old ward.new }
     ensures failures { CountsSaveFailures result ward.old.failures ward.new.failures }
 {
-    match ward.page(number) {
-        Ok(page) => Ok(page),
+    match ward.block(number, block) {
+        Ok(()) => Ok(()),
         Err(fault) => Err(SaveFault::of_ward(fault)),
     }
 }

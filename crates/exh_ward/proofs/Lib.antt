@@ -33,3 +33,5 @@ pub mod SplitsAreComputed
 pub mod MergesAreComputed
 pub mod SplitsHaveOutcomes
 pub mod MergesHaveOutcomes
+-- a page of a legal ward has few records
+mod FewRecords

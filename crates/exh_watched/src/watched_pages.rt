@@ -5,6 +5,7 @@ ghost use Rattle.exh_prefix.specs.declared.prefix.TheConstants.{WARD_BITS_LIMIT}
 
 use crate::conductor::{Conductor, Count};
 use exh_callers::CAP;
+use exh_codec::BLOCK_LEN;
 use exh_file_settings::FileSettings;
 use exh_fixtures::first_store;
 use exh_frames::{Pages, PagesFault, PlainPages};
@@ -148,6 +149,10 @@ impl<R: Clock> Pages for WatchedPages<'_, R> {
     fn head(&mut self, number: PageNo) -> Result<PageHead, PagesFault> {
         look_on(&mut self.look, self.conductor, number);
         self.inner.head(number)
+    }
+
+    fn block(&mut self, number: PageNo, out: &mut [u8; BLOCK_LEN]) -> Result<(), PagesFault> {
+        self.inner.block(number, out)
     }
 
     fn fetch(&mut self, number: PageNo) -> Result<(), PagesFault> {

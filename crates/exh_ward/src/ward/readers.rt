@@ -1,7 +1,11 @@
-ghost use Rattle.std.specs.Prelude.{◌≡◌, ◌-◌, ◌^◌, ◌<◌, ◌≤◌, ◌↔◌, ℕ, [], length, IfOk, IfErr, IfSome, IsSome, IsTrue, OnErr};
+ghost use Rattle.std.specs.Prelude.{◌≡◌, ◌-◌, ◌^◌, ◌<◌, ◌≤◌, ◌↔◌, ℕ, [], length, IfOk, IfErr, IfSome, IsSome, IsTrue, OnOk, OnErr};
 ghost use Rattle.exh_prefix.specs.Prefix.{Begins};
 ghost use Rattle.exh_prefix.specs.declared.prefix.TheConstants.{LIMIT};
 ghost use Rattle.exh_page.specs.declared.page.Page.{Page};
+ghost use Rattle.exh_page.specs.declared.page.TheConstants.{CAP_LIMIT};
+ghost use Rattle.exh_frames.specs.PageStore.{IfPage};
+ghost use Rattle.exh_codec.specs.Block.{sealed};
+ghost use Rattle.exh_codec.specs.PageImage.{IsHeld, content_of};
 ghost use Rattle.exh_page.specs.PageHead.{head_of};
 ghost use Rattle.exh_legal.specs.Laws.{NamesHome};
 ghost use Rattle.exh_calls.specs.Undone.{map_before};
@@ -12,6 +16,7 @@ ghost use Rattle.exh_ward.specs.WardState.{IsSoundWard, IsUnchanged, notices_abo
 use super::Ward;
 use crate::WardFault;
 use exh_calls::{Base, Journal, histories_are_undone};
+use exh_codec::BLOCK_LEN;
 use exh_frames::Pages;
 use exh_keyer::Keyer;
 use exh_legal::{pages_are_few, walks_name_homes};
@@ -121,6 +126,24 @@ impl<P: Pages + Drop, K: Keyer> Ward<P, K> {
             return Err(WardFault::NoPage);
         }
         Ok(self.store.head(number)?)
+    }
+
+    /// Writes the block that the page of this number has in a page file of the version that is written.
+    /// Its digest isn't made again where the store has it. Refused: `NoPage`; at any point `Memory` and
+    /// `Page`. Then the ward is as before.
+    pub fn block(&mut self, number: PageNo, out: &mut [u8; BLOCK_LEN]) -> Result<(), WardFault>
+        requires cap { self.old.cap ≤ CAP_LIMIT }
+        ensures block { OnOk result (IfPage self.old.pages number (λ page. (out.new ≡ sealed (content_of page)) × IsHeld page)) }
+        ensures refused { IfErr result (PageRefused self.old.pages number) }
+        ensures ok { OnOk result (self.new ≡ self.old) }
+        ensures err { OnErr result (IsUnchanged self.old self.new) }
+        ensures failures { CountsFailures result self.old.failures self.new.failures }
+        ensures sound { IsSoundWard K.pseudokey_of self.new }
+    {
+        if number >= self.store.count() {
+            return Err(WardFault::NoPage);
+        }
+        Ok(self.store.block(number, out)?)
     }
 
     /// The pseudokey that the ward's keyer makes of a key. It takes no memory.

@@ -1,4 +1,5 @@
-use Rattle.std.proofs.Common.{◌≡◌, ◌≤◌, ℕ, length, slice_get}
+use Rattle.std.proofs.Common.{◌≡◌, ◌≤◌, ℕ, length, slice_get, take}
+use Rattle.exh_page_file.specs.FileParts.{pages_in}
 use Rattle.exh_open.specs.Opening.{AreOpened}
 use Rattle.exh_open.proofs.opening.open_wards.Given as goal
 
@@ -9,4 +10,5 @@ invariant-loop-number g l = record {
   opened : AreOpened l.header l.fn.pages l.fn.tables l.wards.items;
   pages : (at : ℕ) → l.number ≤ at → slice_get l.pages at ≡ slice_get l.fn.pages at;
   tables : (at : ℕ) → l.number ≤ at → slice_get l.tables at ≡ slice_get l.fn.tables at;
+  start : l.start ≡ length (pages_in (take l.number l.fn.pages));
 }

@@ -1,7 +1,8 @@
-use Rattle.std.proofs.Common.{rules, ◌≡◌, ◌+◌, ◌∷◌, [], ◌++◌, ℕ, length, sym, ap, subst, arith}
-use Rattle.std.proofs.lemmas.List.{length-append}
+use Rattle.std.proofs.Common.{rules, ◌≡◌, ◌+◌, ◌∷◌, [], ◌++◌, ℕ, List, length, map, sym, ap, ◌∙◌, subst, arith, append_assoc}
+use Rattle.std.proofs.lemmas.List.{length-append, map-append}
 use Rattle.exh_prefix.specs.Layout.{layout}
 use Rattle.exh_keyer.specs.Pseudokey.{any_pseudokey}
+use Rattle.exh_codec.specs.PageImage.{page_digest}
 use Rattle.exh_page_file.specs.FileTests.{NextFails, PageFails}
 use Rattle.exh_page_file.specs.Reading.{FailsInPages, GivesPages, IsOf}
 use Rattle.exh_page_file.proofs.Pages.{one_page, more_pages, fails_next, of_later, err_is}
@@ -32,4 +33,7 @@ loop-number-preserved g c =
       some = omega (arith, ap length pushed, length-append pages (c.in_ok-page.page ∷ []), c.loop-number.invariant.some);
       given = subst (GivesPages (layout c.args.version) pseudo _ _) (sym pushed)
           (more_pages (layout c.args.version) pseudo _ _ _ pages (c.in_ok-page.page ∷ []) c.loop-number.invariant.given (one_page (layout c.args.version) pseudo _ _ c.in_ok-page.page read.0 read.1 read.2 read.3));
+      digests = c.in_ok-page.ensures.digests ∙ ap (λ (known : List (List ℕ)). known ++ page_digest c.in_ok-page.page ∷ []) c.loop-number.invariant.digests
+          ∙ append_assoc c.args.blocks.now.digests.items (map page_digest pages) (page_digest c.in_ok-page.page ∷ [])
+          ∙ ap (λ (more : List (List ℕ)). c.args.blocks.now.digests.items ++ more) (sym (map-append page_digest pages (c.in_ok-page.page ∷ [])) ∙ ap (map page_digest) (sym pushed));
     }
