@@ -89,7 +89,7 @@ impl Pages for PlainPages {
     }
 
     fn get(&mut self, number: PageNo) -> Result<Page, PagesFault> {
-        Ok(self.pages[number as usize].page().try_clone()?)
+        Ok(self.pages[number as usize].page().try_clone_with_room(0)?)
     }
 
     fn head(&mut self, number: PageNo) -> Result<PageHead, PagesFault> {

@@ -256,7 +256,7 @@ impl<K: Keyer> Pages for FramedPages<K> {
 
     fn get(&mut self, number: PageNo) -> Result<Page, PagesFault> {
         match self.decoded.get(number) {
-            Some(page) => Ok(page.try_clone()?),
+            Some(page) => Ok(page.try_clone_with_room(0)?),
             None => Ok(self.images.page(number)?),
         }
     }

@@ -213,8 +213,7 @@ impl PackedRecords {
         self.run(from, to)
     }
 
-    /// These records and then others. It takes memory where there is no room for these: an
-    /// `AllocError` where that is refused.
+    /// These records and then others. Where these need memory and it is refused, an `AllocError`.
     pub(crate) fn followed_by(self, others: &PackedRecords) -> Result<PackedRecords, AllocError>
         ensures { IfOk result (λ records. records ≡ self ++ others.now) }
     {
@@ -227,38 +226,19 @@ impl PackedRecords {
         Ok(PackedRecords { stored, texts })
     }
 
-    /// Records equal to these. It takes memory for them: an `AllocError` where that is refused.
-    pub(crate) fn try_clone(&self) -> Result<PackedRecords, AllocError>
-        ensures { IfOk result (λ records. records ≡ self.now) }
-    {
-        Ok(PackedRecords {
-            stored: self.stored.clone()?,
-            texts: self.texts.clone()?,
-        })
-    }
-
     /// Records equal to these, with room for `more` further ones that are as long as these are on
     /// average. It takes memory for all of them: an `AllocError` where that is refused.
     pub(crate) fn try_clone_with_room(&self, more: usize) -> Result<PackedRecords, AllocError>
         ensures { IfOk result (λ records. records ≡ self.now) }
     {
         let alloc = *self.stored.allocator();
-        let count = self.stored.len().saturating_add(more);
-        let len = self.texts.len().saturating_add(self.average_len(more));
-        let mut stored = Vec::with_capacity(alloc, count)?;
-        let mut texts = Vec::with_capacity(alloc, len)?;
+        let (count, len) = (self.stored.len(), self.texts.len());
+        let more_len = len.saturating_mul(more) / count.max(1);
+        let mut stored = Vec::with_capacity(alloc, count.saturating_add(more))?;
+        let mut texts = Vec::with_capacity(alloc, len.saturating_add(more_len))?;
         stored.extend_from_slice(&self.stored)?;
         texts.extend_from_slice(&self.texts)?;
         Ok(PackedRecords { stored, texts })
-    }
-
-    // How many bytes `count` records have that are as long as these are on average; 0 where there are
-    // none to go by.
-    fn average_len(&self, count: usize) -> usize {
-        if self.stored.is_empty() {
-            return 0;
-        }
-        self.texts.len().saturating_mul(count) / self.stored.len()
     }
 
     // The records from one spot up to another. It takes memory, room for as many as there are here, so

@@ -161,28 +161,6 @@ impl Page {
         }
     }
 
-    /// A page equal to this one. It takes memory for the records: an `AllocError` where that is
-    /// refused.
-    pub fn try_clone(&self) -> Result<Page, AllocError>
-        ensures { IfOk result (λ page. page ≡ self.now) }
-    {
-        match self {
-            Page::Live {
-                prefix,
-                right,
-                records,
-            } => Ok(Page::Live {
-                prefix: *prefix,
-                right: *right,
-                records: records.try_clone()?,
-            }),
-            Page::Forward { low, target } => Ok(Page::Forward {
-                low: *low,
-                target: *target,
-            }),
-        }
-    }
-
     /// A page equal to this one, with room for `more` further records that are as long as its own are
     /// on average. It takes memory for all of them: an `AllocError` where that is refused.
     pub fn try_clone_with_room(&self, more: usize) -> Result<Page, AllocError>

@@ -1,6 +1,3 @@
-ghost use Rattle.std.specs.Prelude.{◌≡◌};
-ghost use Rattle.exh_page.specs.PageHead.{count_in};
-
 use exh_prefix::{PageNo, Prefix};
 
 /// A page without its records.
@@ -17,16 +14,4 @@ pub enum PageHead {
         low: u64,
         target: PageNo,
     },
-}
-
-impl PageHead {
-    /// How many records the page has: none where it sends callers on.
-    pub fn count(&self) -> usize
-        ensures { result ≡ count_in self.now }
-    {
-        match self {
-            PageHead::Live { count, .. } => *count,
-            PageHead::Forward { .. } => 0,
-        }
-    }
 }

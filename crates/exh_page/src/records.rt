@@ -173,15 +173,6 @@ impl Records {
         })
     }
 
-    /// Records equal to these. It takes memory for them: an `AllocError` where that is refused.
-    pub fn try_clone(&self) -> Result<Records, AllocError>
-        ensures { IfOk result (λ records. records ≡ self.now) }
-    {
-        Ok(Records {
-            packed: self.packed.try_clone()?,
-        })
-    }
-
     /// Records equal to these, with room for `more` further ones that are as long as these are on
     /// average. It takes memory for all of them: an `AllocError` where that is refused.
     pub fn try_clone_with_room(&self, more: usize) -> Result<Records, AllocError>

@@ -11,7 +11,7 @@ use exh_halves::{LeftHalf, forward_from_right, join_pages};
 use exh_keyer::Keyer;
 use exh_legal::{left_children_link_to_siblings, merges_keep_legal, pages_are_few};
 use exh_notice::{Kind, Notice};
-use exh_page::{Page, buddies_unite};
+use exh_page::{Page, PageHead, buddies_unite};
 use exh_prefix::{PageNo, Prefix};
 
 impl<P: Pages + Drop, K: Keyer> Ward<P, K> {
@@ -56,7 +56,10 @@ impl<P: Pages + Drop, K: Keyer> Ward<P, K> {
         };
         let buddy = self.store.head(right)?;
         half.test_buddy(buddy, self.cap)?;
-        Ok((half.parent, right, buddy.count()))
+        let PageHead::Live { count, .. } = buddy else {
+            unreachable!()
+        };
+        Ok((half.parent, right, count))
     }
 
     // The page of the parent that a merge makes of a page and its right buddy, which has `count` records.
