@@ -22,10 +22,10 @@ pub from_pages-requires-clause-legal : goal.from_pages-requires-clause-legal
 from_pages-requires-clause-legal c =
     let ward_is : c.loop-number.ward ≡ c.args.ward.now = c.loop-number.invariant.ward in
     let all : c.loop-number.number ≡ length c.args.ward.now.pages = search rules in
-    let pages_is : c.of_pages.result ≡ c.loop-number.ward.pages =
-    c.of_pages.ensures ∙ c.loop-number.invariant.pages ∙ ap (λ n. take n c.args.ward.now.pages) all ∙ take-length c.args.ward.now.pages ∙ ap (λ ward. ward.pages) (sym ward_is) in
+    let pages_is : c.in_ok-store.store ≡ c.loop-number.ward.pages =
+    c.in_ok-store.ensures ∙ c.loop-number.invariant.pages ∙ ap (λ n. take n c.args.ward.now.pages) all ∙ take-length c.args.ward.now.pages ∙ ap (λ ward. ward.pages) (sym ward_is) in
     let table_is : c.in_ok-table.table ≡ c.loop-number.ward.table = search rules in
-    begun c.fitting_tables_begin_wards.ensures (λ _ key. plain_pseudokey key) c.loop-number.ward c.args.keyer c.in_ok-table.table c.of_pages.result c.table.ensures.sound
+    begun c.fitting_tables_begin_wards.ensures (λ _ key. plain_pseudokey key) c.loop-number.ward c.args.keyer c.in_ok-table.table c.in_ok-store.store c.table.ensures.sound
     (ap (λ ward. ward.cap) ward_is ∙ c.requires.cap)
     (ap (λ ward. ward.ward_bits) ward_is ∙ c.requires.bits)
     (ap (λ ward. ward.number) ward_is ∙ c.requires.number)
