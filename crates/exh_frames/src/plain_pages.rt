@@ -1,8 +1,8 @@
 ghost use Rattle.std.specs.Prelude.{◌≡◌, ◌^◌, ◌<◌, [], ◌∷◌, length, map, IfOk};
 ghost use Rattle.exh_codec.specs.PageImage.{page_digest};
 
-use crate::{Pages, PagesFault};
 use crate::stored_page::StoredPage;
+use crate::{Pages, PagesFault};
 use exh_codec::{BLOCK_LEN, DIGEST_LEN};
 use exh_page::{Key, Page, PageHead, Spot, Value};
 use exh_prefix::PageNo;

@@ -49,5 +49,11 @@ module _ (wards : List (Vec Page Global)) (number : ℕ) (own : Vec Page Global)
   pub within_digests : length (pages_in (take number wards)) + length own.items ≤ length digests
   within_digests =
       let before = pages_in (take number wards) in
-      omega (arith, ap length parts, length-append (map page_digest before) (map page_digest own.items ++ map page_digest behind), length-append (map page_digest own.items) (map page_digest behind),
-        length-map before page_digest, length-map own.items page_digest)
+      omega (
+        arith,
+        ap length parts,
+        length-append (map page_digest before) (map page_digest own.items ++ map page_digest behind),
+        length-append (map page_digest own.items) (map page_digest behind),
+        length-map before page_digest,
+        length-map own.items page_digest,
+      )
