@@ -4,7 +4,8 @@
  * Counted from the start of main over all threads, the call number REFUSED_GROWTH of malloc, calloc, realloc,
  * aligned_alloc and posix_memalign is answered as where no memory is left, or where REFUSED_KILLS is set the program is
  * killed in its place. Before that a byte is written to the descriptor REFUSED_TELLS. Where REFUSED_COUNTS is set, the
- * count of such calls is written there in digits once main has returned. */
+ * count of such calls is written there in digits once main has returned, or as a program that may start threads ends
+ * itself. */
 #define _GNU_SOURCE
 #include <dlfcn.h>
 #include <errno.h>
@@ -77,6 +78,11 @@ int posix_memalign(void **block, size_t alignment, size_t size) {
     return *block == NULL ? ENOMEM : 0;
 }
 
+static void tell_count(void) {
+    if (getenv("REFUSED_COUNTS") != NULL && dprintf(tells, "%lu", atomic_load(&calls)) < 0)
+        abort();
+}
+
 static int counted_main(int count, char **words, char **environment) {
     const char *number = getenv("REFUSED_GROWTH");
     const char *descriptor = getenv("REFUSED_TELLS");
@@ -85,9 +91,16 @@ static int counted_main(int count, char **words, char **environment) {
     tells = atoi(descriptor);
     refused = strtoul(number, NULL, 10);
     int status = its_main(count, words, environment);
-    if (getenv("REFUSED_COUNTS") != NULL && dprintf(tells, "%lu", atomic_load(&calls)) < 0)
-        abort();
+    tell_count();
     return status;
+}
+
+/* By which a program that may start threads ends, and its main doesn't return. */
+void _exit(int status) {
+    void (*real)(int) = dlsym(RTLD_NEXT, "_exit");
+    tell_count();
+    real(status);
+    abort();
 }
 
 /* What the C library begins a program with: its main becomes the counted one. */

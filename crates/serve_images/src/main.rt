@@ -6,10 +6,10 @@
 ghost use Rattle.std.specs.Prelude.{IfSome};
 ghost use Rattle.exh_storm_config.specs.StormConfig.{IsStormConfig};
 
-use exh_images::{CacheFault, FramedMaker};
+use exh_images::FramedMaker;
 use exh_notes::{Expect, Notes};
 use exh_serve::{ServeFault, serve_from};
-use exh_storm::{NoWatch, StormFault, storm};
+use exh_storm::{NoWatch, storm};
 use exh_storm_config::{CALLERS_LIMIT, CALLS_LIMIT, StormConfig};
 use exh_stream::Output;
 use exh_walk::OpenGate;
