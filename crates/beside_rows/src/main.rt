@@ -1,10 +1,11 @@
-//! Takes steps of map machines, directories and wards that no script can ask, beside what was worked out by hand, and
-//! prints for each kind of run how many steps it took, and how many of them differed.
+//! Takes steps of map machines, directories, wards and stores of images that no script can ask, beside what was worked out
+//! by hand, and prints for each kind of run how many steps it took, and how many of them differed.
 //!
 //! Each growth that is refused is asked for once more, and a refused step is made once more: so it prints the same where
 //! memory is refused once, wherever that is.
 #![tactic(auto)]
 
+mod images;
 mod joins;
 mod journals;
 mod machines;
@@ -24,9 +25,17 @@ enum Kind {
     Routes,
     /// Journals, strays and refusals.
     Journals,
+    /// Stores of images.
+    Images,
 }
 
-const KINDS: [Kind; 4] = [Kind::Machines, Kind::Joins, Kind::Routes, Kind::Journals];
+const KINDS: [Kind; 5] = [
+    Kind::Machines,
+    Kind::Joins,
+    Kind::Routes,
+    Kind::Journals,
+    Kind::Images,
+];
 
 impl Named for Kind {
     fn name(self) -> &'static str {
@@ -35,6 +44,7 @@ impl Named for Kind {
             Kind::Joins => "joins",
             Kind::Routes => "routes",
             Kind::Journals => "journals",
+            Kind::Images => "images",
         }
     }
 }
@@ -46,6 +56,7 @@ impl RunKind for Kind {
             Kind::Joins => joins::run(run),
             Kind::Routes => routes::run(run),
             Kind::Journals => journals::run(run),
+            Kind::Images => images::run(run),
         }
     }
 }

@@ -3,29 +3,34 @@ ghost use Rattle.std.specs.Prelude.{◌≡◌};
 ghost use Rattle.exh_keyer.specs.Pseudokey.{plain_pseudokey};
 ghost use Rattle.exh_live.specs.declared.ledgers.TheConstants.{ANSWER_PARTS, ENTRY_PARTS};
 
-use exh_callers::{Caller, File, Reader, is_told, next_caller};
+use exh_callers::{Caller, Reader, is_told, next_caller};
 use exh_calls::Reply;
-use exh_file_settings::FileSettings;
 use exh_fixtures::Asked;
+use exh_frames::{Pages, StoreMaker};
 use exh_keyer::PlainKeyer;
-use exh_live::{ANSWER_PARTS, ENTRY_PARTS, Identity, LiveFile};
+use exh_live::{ANSWER_PARTS, ENTRY_PARTS, Identity};
 use exh_runs::{Difference, Part, Run, same};
 use exh_walk::OpenGate;
-use exh_watched::{Conductor, IS_LATE, IS_READ, Look, MAY_GO, WatchedPages, watched_ward};
-use std::alloc::{AllocError, Global};
+use exh_watched::{
+    Conductor, IS_LATE, IS_READ, Look, MAY_GO, WatchedFile, WatchedMaker, watched_file,
+};
 use std::sync::Wait;
 use std::sync::ledger::Blank;
 use std::thread::{Threads, join};
 use std::time::Clock;
 
-type WaitingFile<'a, R, F> = File<WatchedPages<'a, R>, F>;
-
-/// Runs it.
-pub(crate) fn run<R: Threads + Wait + Clock + Sync, F: Identity + Sync + Send>(
+/// Runs it, over two wards of a maker's stores, of which the first one waits at its first reading.
+pub(crate) fn run<
+    R: Threads + Wait + Clock + Sync,
+    P: Pages + Drop + Send + Sync,
+    M: StoreMaker<P, PlainKeyer>,
+    F: Identity + Sync + Send,
+>(
     rt: &R,
     run: &mut Run,
     copies: &mut Vec<Reader>,
     signs: &Conductor<'_, R>,
+    stores: M,
     answers: Blank,
     entries: Blank,
 ) -> Result<(), Difference>
@@ -33,7 +38,8 @@ pub(crate) fn run<R: Threads + Wait + Clock + Sync, F: Identity + Sync + Send>(
     requires entries { (entries.name ≡ F.entries) × (entries.parts ≡ ENTRY_PARTS) }
     requires hashed { F.hashing ≡ plain_pseudokey }
 {
-    let mut file = two_wards::<R, F>(run.alloc, &*signs, answers, entries)?;
+    let maker = WatchedMaker::new(stores, Look::Waits, &*signs);
+    let mut file = watched_file::<P, M, R, F>(run.alloc, &maker, 1, answers, entries)?;
     let mut first = next_caller(&mut file, copies)?;
     let mut second = next_caller(&mut file, copies)?;
     let (waited, told) = join(
@@ -48,9 +54,9 @@ pub(crate) fn run<R: Threads + Wait + Clock + Sync, F: Identity + Sync + Send>(
     Ok(())
 }
 
-fn put<R: Wait + Clock, F: Identity>(
+fn put<R: Wait + Clock, P: Pages + Drop, F: Identity>(
     rt: &R,
-    file: &WaitingFile<'_, R, F>,
+    file: &WatchedFile<'_, P, R, F>,
     caller: &mut Caller<F>,
     key: &[u8],
 ) -> Result<(), Difference> {
@@ -65,9 +71,9 @@ fn put<R: Wait + Clock, F: Identity>(
 }
 
 // Puts a key of ward 1 once the other caller reads in ward 0, and lets that one go on then.
-fn put_meanwhile<R: Wait + Clock, F: Identity>(
+fn put_meanwhile<R: Wait + Clock, P: Pages + Drop, F: Identity>(
     rt: &R,
-    file: &WaitingFile<'_, R, F>,
+    file: &WatchedFile<'_, P, R, F>,
     caller: &mut Caller<F>,
     signs: &Conductor<'_, R>,
 ) -> Result<(), Difference> {
@@ -76,27 +82,4 @@ fn put_meanwhile<R: Wait + Clock, F: Identity>(
     signs.raise(MAY_GO, 1);
     same(is_read, Part::Run)?;
     told
-}
-
-// A file of two wards, of which the first one waits at its first reading.
-fn two_wards<'a, R: Clock, F: Identity>(
-    alloc: Global,
-    signs: &'a Conductor<'a, R>,
-    answers: Blank,
-    entries: Blank,
-) -> Result<WaitingFile<'a, R, F>, AllocError>
-    requires answers { (answers.name ≡ F.answers) × (answers.parts ≡ ANSWER_PARTS) }
-    requires entries { (entries.name ≡ F.entries) × (entries.parts ≡ ENTRY_PARTS) }
-    requires hashed { F.hashing ≡ plain_pseudokey }
-{
-    let keyer = PlainKeyer;
-    let mut wards = Vec::new(alloc);
-    wards.push(watched_ward(alloc, keyer, signs, Look::Waits, 1, 0)?)?;
-    wards.push(watched_ward(alloc, keyer, signs, Look::Nothing, 1, 1)?)?;
-    let settings = FileSettings {
-        cap: 2,
-        ward_bits: 1,
-        keyer,
-    };
-    LiveFile::new(alloc, settings, wards, answers, entries)
 }

@@ -18,6 +18,9 @@ mod story;
 use crate::story::{STORIES, Story};
 use exh_callers::Reader;
 use exh_copy::{NewCopyFault, new_copy};
+use exh_frames::{PlainMaker, PlainPages};
+use exh_images::{FramedMaker, FramedPages};
+use exh_keyer::PlainKeyer;
 use exh_live::{ANSWER_PARTS, ENTRY_PARTS, Identity};
 use exh_runs::{Difference, Job, Named, Part, Run, Status, Tally, again, has_told_difference};
 use exh_table::Table;
@@ -32,6 +35,9 @@ use std::time::Clock;
 
 // How many readers of the copy a story may have.
 const READERS: u16 = 2;
+
+// How many decoded pages there are beside images.
+const CACHE_SIZE: usize = 1;
 
 // Plays a story with a new copy of the directory.
 fn with_copy<R: Threads + Wait + Clock + Sync>(
@@ -71,7 +77,29 @@ fn play<R: Threads + Wait + Clock + Sync, F: Identity + Sync + Send>(
     let signs = Conductor::new(rt, &[]);
     match story {
         Story::HeldLook => held_look::run::<R, F>(rt, run, &mut copies, answers, entries),
-        Story::Locks => locks::run::<R, F>(rt, run, &mut copies, &signs, answers, entries),
+        Story::Locks => {
+            locks::run::<R, PlainPages, PlainMaker, F>(
+                rt,
+                run,
+                &mut copies,
+                &signs,
+                PlainMaker,
+                answers,
+                entries,
+            )
+        }
+        Story::LocksOverImages => {
+            let maker = FramedMaker::new(CACHE_SIZE).map_err(|_| Difference::Apart(Part::Run))?;
+            locks::run::<R, FramedPages<PlainKeyer>, FramedMaker, F>(
+                rt,
+                run,
+                &mut copies,
+                &signs,
+                maker,
+                answers,
+                entries,
+            )
+        }
         Story::Refill => refill::run::<R, F>(rt, run, &mut copies, &signs, answers, entries),
         Story::Counter => counter::run::<R, F>(rt, run, &mut copies, answers, entries),
         Story::ManyPages => many_pages::run::<R, F>(rt, run, &mut copies, answers, entries),

@@ -1,23 +1,23 @@
 //! Many pages: each is called and worn down, while the gate counts turns and the store looks at pages.
-ghost use Rattle.std.specs.Prelude.{◌≡◌, IfOk};
+ghost use Rattle.std.specs.Prelude.{◌≡◌};
 ghost use Rattle.exh_keyer.specs.Pseudokey.{plain_pseudokey};
 ghost use Rattle.exh_live.specs.declared.ledgers.TheConstants.{ANSWER_PARTS, ENTRY_PARTS};
 
-use exh_callers::{Caller, File, Reader, is_kept, is_told, next_caller, one_ward_file};
+use exh_callers::{Caller, Reader, is_kept, is_told, next_caller};
 use exh_fixtures::{Said, told_reply};
-use exh_keyer::PlainKeyer;
+use exh_frames::{PlainMaker, PlainPages};
 use exh_live::{ANSWER_PARTS, ENTRY_PARTS, Identity};
 use exh_runs::{Difference, Part, Run, same};
 use exh_watched::{
-    CAME_BETWEEN, Conductor, Count, LOOKS, Look, Rule, Then, WatchedPages, Who, watched_ward,
+    CAME_BETWEEN, Conductor, Count, LOOKS, Look, Rule, Then, WatchedFile, WatchedMaker, Who,
+    watched_file,
 };
-use std::alloc::{AllocError, Global};
 use std::sync::Wait;
 use std::sync::ledger::Blank;
 use std::thread::{Threads, join};
 use std::time::Clock;
 
-type CountedFile<'a, R, F> = File<WatchedPages<'a, R>, F>;
+type CountedFile<'a, R, F> = WatchedFile<'a, PlainPages, R, F>;
 
 const TURNS: Count = Count::Third;
 
@@ -77,7 +77,9 @@ pub(crate) fn run<R: Threads + Wait + Clock + Sync, F: Identity + Sync + Send>(
     requires hashed { F.hashing ≡ plain_pseudokey }
 {
     let watch = Conductor::new(rt, &RULES);
-    let mut file = counted_file::<R, F>(run.alloc, &watch, answers, entries)?;
+    let maker = WatchedMaker::new(PlainMaker, Look::Counts(0), &watch);
+    let mut file =
+        watched_file::<PlainPages, PlainMaker, R, F>(run.alloc, &maker, 0, answers, entries)?;
     let mut caller = next_caller(&mut file, copies)?;
     take_steps(rt, run, &file, &mut caller, &watch);
     Ok(())
@@ -209,21 +211,4 @@ fn ask_on<R: Wait + Clock, F: Identity>(
         is_told(rt, file, caller, said.asked(), watch, said.reply()?)?;
     }
     Ok(())
-}
-
-// A file of one ward, at whose pages looks are counted.
-fn counted_file<'a, R: Clock, F: Identity>(
-    alloc: Global,
-    watch: &'a Conductor<'a, R>,
-    answers: Blank,
-    entries: Blank,
-) -> Result<CountedFile<'a, R, F>, AllocError>
-    requires answers { (answers.name ≡ F.answers) × (answers.parts ≡ ANSWER_PARTS) }
-    requires entries { (entries.name ≡ F.entries) × (entries.parts ≡ ENTRY_PARTS) }
-    requires hashed { F.hashing ≡ plain_pseudokey }
-    ensures { IfOk result (λ file. file.ward_bits ≡ 0) }
-{
-    let keyer = PlainKeyer;
-    let ward = watched_ward(alloc, keyer, watch, Look::Counts(0), 0, 0)?;
-    one_ward_file(alloc, keyer, ward, answers, entries)
 }

@@ -1,25 +1,29 @@
 //! The refill: a keeper makes rounds over a ward, while a caller on another thread empties its pages and
 //! fills them again.
-ghost use Rattle.std.specs.Prelude.{◌≡◌, IfOk};
+ghost use Rattle.std.specs.Prelude.{◌≡◌};
 ghost use Rattle.exh_keyer.specs.Pseudokey.{plain_pseudokey};
 ghost use Rattle.exh_live.specs.declared.ledgers.TheConstants.{ANSWER_PARTS, ENTRY_PARTS};
 
 use crate::ask::ask_all;
-use exh_callers::{Caller, File, Reader, close_settled, is_kept, keep, next_caller, one_ward_file};
+use exh_callers::{Caller, Reader, close_settled, is_kept, keep, next_caller};
 use exh_fixtures::{Said, merge, prefix, split};
+use exh_frames::{PlainMaker, PlainPages};
 use exh_keyer::PlainKeyer;
 use exh_live::{ANSWER_PARTS, ENTRY_PARTS, Identity};
 use exh_runs::{Difference, Part, Run, same};
+use exh_ward::Ward;
 use exh_watched::{
-    Conductor, Count, HAS_MERGED, IS_OVER, Look, WatchedPages, WatchedWard, watched_ward,
+    Conductor, Count, HAS_MERGED, IS_OVER, Look, WatchedFile, WatchedMaker, WatchedPages,
+    watched_file,
 };
-use std::alloc::{AllocError, Global};
 use std::sync::Wait;
 use std::sync::ledger::Blank;
 use std::thread::{Threads, join};
 use std::time::Clock;
 
-type WatchedFile<'a, R, F> = File<WatchedPages<'a, R>, F>;
+type PlainFile<'a, R, F> = WatchedFile<'a, PlainPages, R, F>;
+
+type PlainWard<'a, R> = Ward<WatchedPages<'a, PlainPages, R>, PlainKeyer>;
 
 const HAS_ENDED: Count = Count::Third;
 
@@ -59,7 +63,9 @@ pub(crate) fn run<R: Threads + Wait + Clock + Sync, F: Identity + Sync + Send>(
 {
     let mut seats = Vec::new(run.alloc);
     seats.reserve(1)?;
-    let mut file = one_ward::<R, F>(run.alloc, watch, answers, entries)?;
+    let maker = WatchedMaker::new(PlainMaker, Look::Rests, &*watch);
+    let mut file =
+        watched_file::<PlainPages, PlainMaker, R, F>(run.alloc, &maker, 0, answers, entries)?;
     let mut caller = next_caller(&mut file, copies)?;
     let turns = run.rounds / 4 + 1;
     let merges = take_turns(rt, run, &file, &mut caller, watch, turns);
@@ -78,7 +84,7 @@ pub(crate) fn run<R: Threads + Wait + Clock + Sync, F: Identity + Sync + Send>(
 fn take_turns<R: Threads + Wait + Clock + Sync, F: Identity + Sync + Send>(
     rt: &R,
     run: &mut Run,
-    file: &WatchedFile<'_, R, F>,
+    file: &PlainFile<'_, R, F>,
     caller: &mut Caller<F>,
     watch: &Conductor<'_, R>,
     turns: u32,
@@ -106,7 +112,7 @@ fn take_turns<R: Threads + Wait + Clock + Sync, F: Identity + Sync + Send>(
 // Makes rounds until the caller has ended.
 fn keep_beside<R: Wait + Clock, F: Identity>(
     rt: &R,
-    file: &WatchedFile<'_, R, F>,
+    file: &PlainFile<'_, R, F>,
     watch: &Conductor<'_, R>,
 ) -> Result<u32, Difference>
     requires { file.now.ward_bits ≡ 0 }
@@ -125,7 +131,7 @@ fn keep_beside<R: Wait + Clock, F: Identity>(
 fn refill<R: Wait + Clock, F: Identity>(
     rt: &R,
     run: &mut Run,
-    file: &WatchedFile<'_, R, F>,
+    file: &PlainFile<'_, R, F>,
     caller: &mut Caller<F>,
     watch: &Conductor<'_, R>,
     turns: u32,
@@ -144,7 +150,7 @@ fn refill<R: Wait + Clock, F: Identity>(
 // the one after it. By turns it tells of a split of its first page, whose right half is page 1, and of a
 // merge of both.
 fn are_told<R: Clock>(
-    wards: &[WatchedWard<'_, R>],
+    wards: &[PlainWard<'_, R>],
     merges: Result<u32, Difference>,
 ) -> Result<(), Difference> {
     let merges = u64::from(merges?);
@@ -162,21 +168,4 @@ fn are_told<R: Clock>(
     }
     let is_told = u64::from(told) == 2 * (merges + 1);
     same(merges > 0 && is_told, Part::Change)
-}
-
-// A file of one ward, whose merges are watched.
-fn one_ward<'a, R: Clock, F: Identity>(
-    alloc: Global,
-    watch: &'a Conductor<'a, R>,
-    answers: Blank,
-    entries: Blank,
-) -> Result<WatchedFile<'a, R, F>, AllocError>
-    requires answers { (answers.name ≡ F.answers) × (answers.parts ≡ ANSWER_PARTS) }
-    requires entries { (entries.name ≡ F.entries) × (entries.parts ≡ ENTRY_PARTS) }
-    requires hashed { F.hashing ≡ plain_pseudokey }
-    ensures { IfOk result (λ file. file.ward_bits ≡ 0) }
-{
-    let keyer = PlainKeyer;
-    let ward = watched_ward(alloc, keyer, watch, Look::Rests, 0, 0)?;
-    one_ward_file(alloc, keyer, ward, answers, entries)
 }

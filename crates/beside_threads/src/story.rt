@@ -10,6 +10,8 @@ pub(crate) enum Story {
     HeldLook,
     /// A caller waits in one ward, another one is answered in another.
     Locks,
+    /// The same over pages that stand as images.
+    LocksOverImages,
     /// A keeper merges pages, a caller fills them again.
     Refill,
     /// Two callers count by swaps.
@@ -21,9 +23,10 @@ pub(crate) enum Story {
 }
 
 /// All of them, in the order in which they are played.
-pub(crate) const STORIES: [Story; 12] = [
+pub(crate) const STORIES: [Story; 13] = [
     Story::HeldLook,
     Story::Locks,
+    Story::LocksOverImages,
     Story::Refill,
     Story::Counter,
     Story::ManyPages,
@@ -41,6 +44,7 @@ impl Named for Story {
         match self {
             Story::HeldLook => "held-look",
             Story::Locks => "locks",
+            Story::LocksOverImages => "locks-over-images",
             Story::Refill => "refill",
             Story::Counter => "counter",
             Story::ManyPages => "many-pages",

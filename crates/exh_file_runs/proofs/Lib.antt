@@ -1,4 +1,4 @@
-pub mod RunLemmas
+pub mod FileRunLemmas
 -- of what a load makes of pairs
 pub mod PairsFit
 pub mod PairsHomes

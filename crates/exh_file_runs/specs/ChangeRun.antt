@@ -5,12 +5,12 @@ use Rattle.exh_calls.specs.declared.reply.Reply.{Reply}
 use Rattle.exh_open.specs.Opened.{OpenedState}
 use Rattle.exh_change.specs.FileChange.{ChangesOneMap, IsChangedIn}
 use Rattle.exh_change.specs.ReplyLine.{is_done, reply_line}
-use Rattle.exh_file_runs.specs.Run.{PrintsLine, memory_line}
-use Rattle.exh_file_runs.specs.declared.job_path.JobPath.{JobPath}
-use Rattle.exh_file_runs.specs.declared.run.Ending.{Ending}
-use Rattle.exh_file_runs.specs.declared.run.Ending.TheVariants.{Over, Save, SaveAndTell}
-use Rattle.exh_file_runs.specs.declared.status.Status.{Status}
-use Rattle.exh_file_runs.specs.declared.status.Status.TheVariants.{Done, Missing, Refused}
+use Rattle.exh_job.specs.LastLine.{PrintsLine, memory_line}
+use Rattle.exh_job.specs.declared.job_path.JobPath.{JobPath}
+use Rattle.exh_job.specs.declared.ending.Ending.{Ending}
+use Rattle.exh_job.specs.declared.ending.Ending.TheVariants.{Over, Save, SaveAndTell}
+use Rattle.exh_job.specs.declared.status.Status.{Status}
+use Rattle.exh_job.specs.declared.status.Status.TheVariants.{Done, Missing, Refused}
 
 -- a page out of reach
 abbrev pub out_of_reach_line : List ℕ

@@ -1,5 +1,5 @@
 -- What a run of a command about a file prints, and with which status the program then ends.
-use Rattle.std.specs.Prelude.{◌≡◌, ◌⊎◌, ◌↔◌, ℕ, Bool, List, [], ◌∷◌, ◌++◌, codes, Option, Result, Ok, Err, IsErrOf, IsTrue}
+use Rattle.std.specs.Prelude.{◌≡◌, ◌⊎◌, ◌↔◌, ℕ, Bool, List, ◌++◌, Option, Result, Ok, Err, IsErrOf, IsTrue}
 use Rattle.std.specs.Io.KnownBytes.{Appends}
 use Rattle.exh_stream.specs.Output.{AppendsBeginning}
 use Rattle.exh_page_file.specs.PageFile.{PageFile}
@@ -11,22 +11,17 @@ use Rattle.exh_report.specs.Report.{Reports, Tells}
 use Rattle.exh_report.specs.declared.verdict.Verdict.{Verdict}
 use Rattle.exh_report.specs.declared.report_fault.ReportFault.{ReportFault}
 use Rattle.exh_report.specs.declared.report_fault.ReportFault.TheVariants.{Write, Memory}
-use Rattle.exh_file_runs.specs.Run.{PrintsLine, memory_line}
-use Rattle.exh_file_runs.specs.Status.{file_status}
+use Rattle.exh_job.specs.LastLine.{memory_line}
+use Rattle.exh_job.specs.Status.{file_status}
+use Rattle.exh_job.specs.declared.status.Status.{Status}
 use Rattle.exh_file_runs.specs.declared.file_run.Topic.{Topic}
 use Rattle.exh_file_runs.specs.declared.file_run.Topic.TheVariants.{Size, Content, Pairs}
-use Rattle.exh_file_runs.specs.declared.status.Status.{Status}
-use Rattle.exh_file_runs.specs.declared.status.Status.TheVariants.{Refused}
 
 -- what a command tells of a legal file
 abbrev pub lines_about : Topic → PageFile → Lines
 lines_about Size file = check_lines file
 lines_about Content file = dump_lines file
 lines_about (Pairs other) file = pairs_lines other file
-
--- the only line where a file can't be opened
-abbrev pub unopened_line : List ℕ
-unopened_line = codes "refused 41" ++ 10 ∷ []
 
 -- Of a writer that held `old` bytes before a run and `new` ones after it, where these are known.
 module _ (old new : Option (List ℕ)) where
@@ -44,7 +39,3 @@ module _ (old new : Option (List ℕ)) where
     pub printed : FileRunPrints lines known outcome
     pub cut : IsErrOf outcome Write ↔ IsTrue failed
     pub status_of_file : status ≡ file_status outcome
-
-  -- the file couldn't be opened: its line, or where the writer failed a beginning of it
-  abbrev pub EndsUnopened : Bool → Status → Type 0
-  EndsUnopened failed status = PrintsLine old new failed unopened_line × (status ≡ Refused)

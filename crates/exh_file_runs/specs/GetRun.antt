@@ -6,9 +6,9 @@ use Rattle.exh_direct.specs.Answer.{Finds, Refuses}
 use Rattle.exh_direct.specs.DirectFault.{direct_fault_number, direct_fault_place}
 use Rattle.exh_direct.specs.declared.direct_fault.DirectFault.{DirectFault}
 use Rattle.exh_report.specs.Finding.{place_words}
-use Rattle.exh_file_runs.specs.Run.{PrintsLine, memory_line}
-use Rattle.exh_file_runs.specs.declared.status.Status.{Status}
-use Rattle.exh_file_runs.specs.declared.status.Status.TheVariants.{Done, Missing, Refused}
+use Rattle.exh_job.specs.LastLine.{PrintsLine, memory_line}
+use Rattle.exh_job.specs.declared.status.Status.{Status}
+use Rattle.exh_job.specs.declared.status.Status.TheVariants.{Done, Missing, Refused}
 
 -- a value as one word
 abbrev pub value_line : List ℕ → List ℕ

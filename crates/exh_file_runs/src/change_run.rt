@@ -1,16 +1,12 @@
 //! The run of a put, a del or a swap: what it prints, and the file that it leaves.
 ghost use Rattle.std.specs.Prelude.{◌≡◌, [], IsFalse};
 ghost use Rattle.exh_stream.specs.Output.{SameWriter, held, pending, writer_failed};
+ghost use Rattle.exh_job.specs.JobPath.{SavesAt};
 ghost use Rattle.exh_file_runs.specs.ChangeRun.{EndsAnswer, EndsChange, EndsSaved, Refuses, SavesFile, TellsLine};
-ghost use Rattle.exh_file_runs.specs.JobPath.{SavesAt};
 
-use crate::job_path::JobPath;
-use crate::last_line::{OUT_OF_MEMORY, print_line};
-use crate::run::Ending;
-use crate::status::Status;
-use crate::stores::FileWards;
 use exh_calls::{Call, Reply};
 use exh_change::{change_file, is_done, reply_line};
+use exh_job::{Ending, FileWards, JobPath, OUT_OF_MEMORY, Status, print_line};
 use exh_stream::Output;
 use exh_ward::WardFault;
 use std::alloc::Global;

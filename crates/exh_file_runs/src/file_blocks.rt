@@ -1,9 +1,9 @@
 //! The blocks of a file of the system, each read at its place.
 ghost use Rattle.std.specs.Prelude.{None};
 
-use crate::said::Reason;
 use exh_codec::BLOCK_LEN;
 use exh_direct::Blocks;
+use exh_job::Reason;
 use std::fs::File;
 use std::os::unix::fs::FileExt;
 use std::{fs, io};

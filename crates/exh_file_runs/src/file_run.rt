@@ -2,20 +2,17 @@
 ghost use Rattle.std.specs.Prelude.{◌≡◌, ◌↔◌, [], IfErr, IfOk, IsErrOf, IsFalse, IsTrue};
 ghost use Rattle.exh_stream.specs.Output.{SameWriter, held, pending, writer_failed};
 ghost use Rattle.exh_report.specs.Report.{Reports};
-ghost use Rattle.exh_file_runs.specs.FileRun.{EndsTelling, EndsUnopened, FileRunPrints, lines_about};
+ghost use Rattle.exh_job.specs.OpenRun.{EndsUnopened};
+ghost use Rattle.exh_file_runs.specs.FileRun.{EndsTelling, FileRunPrints, lines_about};
 ghost use Rattle.exh_file_runs.specs.PairsAgain.{TellsAgain};
 
-use crate::last_line::{print_line, print_out_of_memory};
 use crate::laws::pairs_load_again;
-use crate::status::Status;
+use exh_job::{Status, UNOPENED, print_line, print_out_of_memory};
 use exh_report::{OtherSettings, ReportFault, Verdict, check_text, dump_text, pairs_text};
 use exh_stream::Output;
 use std::alloc::Global;
 use std::io;
 use std::io::{Read, Write};
-
-/// The only line where a file can't be opened.
-pub const UNOPENED: &[u8] = b"refused 41\n";
 
 /// What a command tells of a legal page file.
 #[derive(Clone, Copy)]

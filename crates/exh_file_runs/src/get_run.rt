@@ -2,14 +2,12 @@
 ghost use Rattle.std.specs.Prelude.{◌≡◌, ◌⊎◌, ◌++◌, [], cond, IfErr, IfOk, IsFalse, OnOk};
 ghost use Rattle.exh_report.specs.Finding.{place_words};
 ghost use Rattle.exh_stream.specs.Output.{SameWriter, held, pending, writer_failed};
-ghost use Rattle.exh_file_runs.specs.FileRun.{EndsUnopened};
+ghost use Rattle.exh_job.specs.LastLine.{PrintsLine, memory_line};
+ghost use Rattle.exh_job.specs.OpenRun.{EndsUnopened};
 ghost use Rattle.exh_file_runs.specs.GetRun.{EndsAs, EndsGet, EndsValue, get_refusal_line, value_line};
-ghost use Rattle.exh_file_runs.specs.Run.{PrintsLine, memory_line};
 
-use crate::file_run::UNOPENED;
-use crate::last_line::{OUT_OF_MEMORY, print_line};
-use crate::status::Status;
 use exh_direct::{Blocks, DirectFault, find};
+use exh_job::{OUT_OF_MEMORY, Status, UNOPENED, print_line};
 use exh_page::{Key, Value};
 use exh_stream::Output;
 use exh_text::{push_number, push_refused, push_text, push_value};

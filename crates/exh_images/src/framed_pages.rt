@@ -2,7 +2,6 @@ ghost use Rattle.std.specs.Prelude.{◌≡◌, ◌↔◌, ◌-◌, ◌<◌, ◌^
 ghost use Rattle.std.specs.List.{AllByRecursion};
 ghost use Rattle.exh_prefix.specs.Layout.{written_version};
 ghost use Rattle.exh_codec.specs.PageImage.{IsImage, page_digest};
-ghost use Rattle.exh_page.specs.declared.page.Page.{Page as PageType};
 ghost use Rattle.exh_page.specs.Page.{IsLive, IsWellFormed, records_of, with_records};
 ghost use Rattle.exh_page.specs.Records.{with_record};
 ghost use Rattle.exh_page.specs.Search.{IsSought, IsSpot};
@@ -76,18 +75,6 @@ impl<K: Keyer> FramedPages<K> {
     {
         let size = to_cache_size(cache_size)?;
         Ok(FramedPages::of_given(alloc, pages, keyer, size)?)
-    }
-
-    /// Adds the page that a block is the image of; its digest isn't made again. An `AllocError`
-    /// where memory is refused, and its pages are as before.
-    pub fn add_image(&mut self, block: &[u8; BLOCK_LEN]) -> Result<(), AllocError>
-        requires room { length self.old.pages < 2 ^ 32 - 1 }
-        requires image { (page : PageType) × IsImage written_version (K.pseudokey_of self.old.keyer) page block.now }
-        ensures keyer { self.new.keyer ≡ self.old.keyer }
-        ensures ok { OnOk result ((page : PageType) → IsImage written_version (K.pseudokey_of self.old.keyer) page block.now → self.new.pages ≡ self.old.pages ++ page ∷ []) }
-        ensures err { OnErr result (self.new.pages ≡ self.old.pages) }
-    {
-        self.images.add_block(block)
     }
 
     /// The image of the page of this number, whose digest is made here where it wasn't yet. It takes

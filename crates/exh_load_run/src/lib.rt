@@ -6,3 +6,4 @@ pub use standard::load;
 mod load_run;
 mod numbered_writer;
 mod standard;
+mod watch;

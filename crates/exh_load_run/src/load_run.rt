@@ -3,10 +3,10 @@ ghost use Rattle.std.specs.Prelude.{◌≤◌};
 ghost use Rattle.exh_load.specs.Load.{IsLoadOf, beginning, load_of};
 ghost use Rattle.exh_load.specs.LongLoad.{IsLongLoad};
 ghost use Rattle.exh_load.specs.declared.load_source.TheConstants.{TEXT_LIMIT};
+ghost use Rattle.exh_job.specs.JobPath.{SavesAt};
 ghost use Rattle.exh_load_run.specs.LoadRun.{IsLoadEnding, LoadPrints};
-ghost use Rattle.exh_file_runs.specs.JobPath.{SavesAt};
 
-use exh_file_runs::{Ending, FileWards, JobPath, MAKER, Status, print_out_of_memory};
+use exh_job::{Ending, FileWards, JobPath, MAKER, Status, print_out_of_memory};
 use exh_load::{LoadFault, load, load_long};
 use exh_notes::Listener;
 use exh_stream::Output;

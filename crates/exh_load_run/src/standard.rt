@@ -1,12 +1,11 @@
 //! The run of a load over the program's standard streams, and over the file of a path.
-ghost use Rattle.exh_file_runs.specs.JobPath.{SavesAt};
+ghost use Rattle.exh_job.specs.JobPath.{SavesAt};
 
 use crate::load_run::{load_ending, load_long_pairs, load_pairs};
 use crate::numbered_writer::NumberedWriter;
+use crate::watch::{pair_notes, pairs_meter};
 use exh_command::LoadWay;
-use exh_file_runs::{
-    Ending, FileWards, INPUT, JobPath, opened_at, pair_notes, pairs_meter, tell_reason, warn,
-};
+use exh_job::{Ending, FileWards, INPUT, JobPath, opened_at, tell_reason, warn};
 use exh_notes::{Expect, Notes, ReasonReader};
 use exh_path::Seen;
 use exh_progress::{ClearingWriter, MeteredReader};

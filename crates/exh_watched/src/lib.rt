@@ -1,14 +1,16 @@
 //! What stories of live files on threads are told by: counts that threads raise and wait for, gates by rules over them,
-//! and a store of pages that counts, or waits, where it is looked at.
+//! and stores of pages that count, or wait, where they are looked at.
 #![tactic(auto)]
 
 pub use conductor::{Conductor, Count};
 pub use rule::{Rule, Then, Who};
+pub use watched_file::{WatchedFile, watched_file};
 pub use watched_pages::{
-    CAME_BETWEEN, HAS_MERGED, IS_LATE, IS_OVER, IS_READ, LOOKS, Look, MAY_GO, WatchedPages,
-    WatchedWard, watched_ward,
+    CAME_BETWEEN, HAS_MERGED, IS_LATE, IS_OVER, IS_READ, LOOKS, Look, MAY_GO, WatchedMaker,
+    WatchedPages,
 };
 
 mod conductor;
 mod rule;
+mod watched_file;
 mod watched_pages;

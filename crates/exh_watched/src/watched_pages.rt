@@ -1,19 +1,15 @@
 //! A store of pages that is looked at.
-ghost use Rattle.std.specs.Prelude.{◌≡◌, ◌<◌, ◌≤◌, ◌^◌, IfOk};
-ghost use Rattle.exh_live.specs.LiveFile.{IsNewWardOf};
-ghost use Rattle.exh_prefix.specs.declared.prefix.TheConstants.{WARD_BITS_LIMIT};
+ghost use Rattle.std.specs.Prelude.{◌≡◌};
 
 use crate::conductor::{Conductor, Count};
 use exh_callers::CAP;
-use exh_codec::BLOCK_LEN;
-use exh_file_settings::FileSettings;
-use exh_fixtures::first_store;
-use exh_frames::{Pages, PagesFault, PlainPages};
+use exh_codec::{BLOCK_LEN, DIGEST_LEN};
+use exh_frames::{Pages, PagesFault, StoreMaker};
 use exh_keyer::PlainKeyer;
 use exh_page::{Key, Page, PageHead, Spot, Value};
 use exh_prefix::PageNo;
-use exh_ward::Ward;
 use std::alloc::{AllocError, Global};
+use std::cell::Cell;
 use std::time::Clock;
 
 /// Given at a first look that waits, and what it waits for; and that it waited in vain.
@@ -48,42 +44,64 @@ pub enum Look {
     Counts(PageNo),
 }
 
-/// Pages in memory, and who counts what is done with them.
+/// A store of pages, and who counts what is done with them.
 #[derive(Drop)]
-pub struct WatchedPages<'a, R: Clock> {
-    inner: PlainPages,
+pub struct WatchedPages<'a, P: Pages + Drop, R: Clock> {
+    inner: P,
     look: Look,
     conductor: &'a Conductor<'a, R>,
 }
 
-/// A ward of such pages, of two records each and of keyer plain.
-pub type WatchedWard<'a, R> = Ward<WatchedPages<'a, R>, PlainKeyer>;
-
-/// The new ward of a number, whose pages are looked at. An `AllocError` where memory is refused.
-pub fn watched_ward<'a, R: Clock>(
-    alloc: Global,
-    keyer: PlainKeyer,
+/// Makes stores over those that another maker makes, of which the first is looked at, and the others aren't.
+pub struct WatchedMaker<'a, M, R: Clock> {
+    inner: M,
+    look: Cell<Look>,
     conductor: &'a Conductor<'a, R>,
-    look: Look,
-    ward_bits: u8,
-    number: u8,
-) -> Result<WatchedWard<'a, R>, AllocError>
-    requires bits { ward_bits ≤ WARD_BITS_LIMIT }
-    requires number { number < 2 ^ ward_bits }
-    ensures { IfOk result (IsNewWardOf 2 ward_bits keyer number) }
-{
-    let inner = first_store(alloc, ward_bits, number)?;
-    let store = WatchedPages {
-        inner,
-        look,
-        conductor,
-    };
-    let settings = FileSettings {
-        cap: CAP as u8,
-        ward_bits,
-        keyer,
-    };
-    Ok(Ward::new(alloc, store, settings, number))
+}
+
+impl<'a, M, R: Clock> WatchedMaker<'a, M, R> {
+    pub fn new(inner: M, look: Look, conductor: &'a Conductor<'a, R>) -> WatchedMaker<'a, M, R> {
+        WatchedMaker {
+            inner,
+            look: Cell::new(look),
+            conductor,
+        }
+    }
+
+    // The store is looked at as the next one is to be.
+    fn watched<P: Pages + Drop>(&self, inner: P) -> WatchedPages<'a, P, R>
+        ensures { result.inner ≡ inner }
+    {
+        let look = self.look.get();
+        self.look.set(Look::Nothing);
+        WatchedPages {
+            inner,
+            look,
+            conductor: self.conductor,
+        }
+    }
+}
+
+impl<'a, P: Pages + Drop, M: StoreMaker<P, PlainKeyer>, R: Clock>
+    StoreMaker<WatchedPages<'a, P, R>, PlainKeyer> for WatchedMaker<'a, M, R> {
+    fn first(
+        &self,
+        alloc: Global,
+        keyer: PlainKeyer,
+        page: Page,
+    ) -> Result<WatchedPages<'a, P, R>, AllocError> {
+        Ok(self.watched(self.inner.first(alloc, keyer, page)?))
+    }
+
+    fn of_pages(
+        &self,
+        alloc: Global,
+        keyer: PlainKeyer,
+        given: Vec<Page>,
+        digests: &[[u8; DIGEST_LEN]],
+    ) -> Result<WatchedPages<'a, P, R>, AllocError> {
+        Ok(self.watched(self.inner.of_pages(alloc, keyer, given, digests)?))
+    }
 }
 
 // Looks at a page. It touches no page, so the store stays as it was.
@@ -108,7 +126,7 @@ fn look_on<R: Clock>(look: &mut Look, conductor: &Conductor<'_, R>, page: PageNo
     }
 }
 
-impl<R: Clock> WatchedPages<'_, R> {
+impl<P: Pages + Drop, R: Clock> WatchedPages<'_, P, R> {
     // Looks at two pages that are written at once. Where one is a forwarding page, they are a merge's, and
     // the other has the records of both; a split that takes such a page's place writes two live ones.
     fn see(&self, page: &Page, twin: &Page) {
@@ -123,16 +141,14 @@ impl<R: Clock> WatchedPages<'_, R> {
     }
 }
 
-impl<R: Clock> Pages for WatchedPages<'_, R> {
-    ghost use Rattle.std.specs.Prelude.{⊤, ◌<◌, length};
+impl<P: Pages + Drop, R: Clock> Pages for WatchedPages<'_, P, R> {
+    ghost pages = { λ store. P.pages store.inner };
 
-    ghost pages = { λ store. store.inner };
+    ghost takes = { λ store page. P.takes store.inner page };
 
-    ghost takes = { λ _ _. ⊤ };
+    ghost failures = { λ store. P.failures store.inner };
 
-    ghost failures = { λ _. 0 };
-
-    ghost at_hand = { λ store number. number < length store.inner };
+    ghost at_hand = { λ store number. P.at_hand store.inner number };
 
     fn count(&self) -> PageNo {
         self.inner.count()

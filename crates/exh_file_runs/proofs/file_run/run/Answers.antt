@@ -3,7 +3,7 @@ use Rattle.exh_stream.specs.Output.{held}
 use Rattle.exh_report.specs.Report.{Reports}
 use Rattle.exh_report.specs.declared.report_fault.ReportFault.TheVariants.{Memory}
 use Rattle.exh_file_runs.specs.FileRun.{lines_about}
-use Rattle.exh_file_runs.proofs.RunLemmas.{file_write_fault, last_line_cut, last_line_printed}
+use Rattle.exh_file_runs.proofs.FileRunLemmas.{file_write_fault, last_line_cut, last_line_printed}
 use Rattle.exh_file_runs.proofs.file_run.run.Goals as goal
 
 pub returns-in_err-print_out_of_memory-in-Err-Memory-clause-printed : goal.returns-in_err-print_out_of_memory-in-Err-Memory-clause-printed

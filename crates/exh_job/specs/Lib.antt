@@ -1,0 +1,4 @@
+pub mod Status
+pub mod LastLine
+pub mod OpenRun
+pub mod JobPath

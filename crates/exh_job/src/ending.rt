@@ -1,0 +1,23 @@
+//! How the program ends after the run of a job.
+
+use crate::job_path::JobPath;
+use crate::status::Status;
+use crate::stores::FileWards;
+
+/// How the program ends after the run of a job.
+#[derive(Drop)]
+pub enum Ending<'w> {
+    /// With this status.
+    Over(Status),
+    /// After these wards are saved at a job's path.
+    Save {
+        path: JobPath<'w>,
+        wards: FileWards,
+    },
+    /// After these wards are saved at a job's path, and this line is printed.
+    SaveAndTell {
+        path: JobPath<'w>,
+        wards: FileWards,
+        line: Vec<u8>,
+    },
+}

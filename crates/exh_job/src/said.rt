@@ -1,0 +1,25 @@
+//! What the program says on standard error of a run.
+
+use std::cell::Cell;
+use std::io;
+
+/// What standard input is called.
+pub const INPUT: &str = "standard input";
+
+/// Why reading failed, where it did.
+pub type Reason = Cell<Option<io::Error>>;
+
+/// What came of opening something; where it is an error, that becomes the reason.
+pub fn with_reason<T>(opened: io::Result<T>, reason: &Reason) -> io::Result<T> {
+    if let Err(error) = &opened {
+        reason.set(Some(*error));
+    }
+    opened
+}
+
+/// Says why something wasn't read, where there is a reason.
+pub fn tell_reason(rt: &impl Eprint, what: &str, reason: &Reason) {
+    if let Some(error) = reason.get() {
+        let _ = eprintln!(rt; "exhash: {what}: {error}");
+    }
+}
