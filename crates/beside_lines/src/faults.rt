@@ -7,9 +7,10 @@ ghost use Rattle.exh_world.specs.Sound.{IsSoundWorld};
 
 use crate::answers::ROOM;
 use crate::steps::{STEP_COUNT, STEPS, Step};
+use exh_failing::FailingPages;
 use exh_file_settings::FileSettings;
 use exh_fixtures::{are_same, first_store, refused};
-use exh_frames::{FailingPages, PlainPages};
+use exh_frames::PlainPages;
 use exh_keyer::AnyKeyer;
 use exh_page::Page;
 use exh_prefix::PageNo;

@@ -12,9 +12,10 @@ use exh_callers::{
     one_ward_file, settled,
 };
 use exh_copy::{NewCopyFault, Start, new_copy};
+use exh_failing::FailingPages;
 use exh_file_settings::FileSettings;
 use exh_fixtures::first_store;
-use exh_frames::{FailingPages, PlainPages};
+use exh_frames::PlainPages;
 use exh_keyer::PlainKeyer;
 use exh_live::{ANSWER_PARTS, Cursors, ENTRY_PARTS, Identity};
 use exh_live_steps::LiveStep;

@@ -1,7 +1,8 @@
 //! Stores of which one call fails.
 
 use exh_codec::DIGEST_LEN;
-use exh_frames::{FailingPages, Pages, StoreMaker};
+use exh_failing::FailingPages;
+use exh_frames::{Pages, StoreMaker};
 use exh_keyer::Keyer;
 use exh_page::Page;
 use std::alloc::{AllocError, Global};

@@ -1,3 +1,2 @@
 pub mod Digests
-pub mod Failure
 pub mod PageStore

@@ -2,16 +2,12 @@
 //! own).
 #![tactic(auto)]
 
-pub use failing_pages::FailingPages;
 pub use pages::Pages;
-pub use pages_call::PagesCall;
 pub use pages_fault::PagesFault;
 pub use plain_pages::PlainPages;
 pub use store_maker::{PlainMaker, StoreMaker};
 
-mod failing_pages;
 mod pages;
-mod pages_call;
 mod pages_fault;
 mod plain_pages;
 mod store_maker;

@@ -1,9 +1,10 @@
 ghost use Rattle.std.specs.Prelude.{◌≡◌, ◌≤◌, ◌<◌, ◌-◌, ◌^◌, false, IsTrue, IsErrOf, OnOk};
-ghost use Rattle.exh_frames.specs.Failure.{HasRoom, IsFaultless, after_call, count_with, failed_call, failure_at, is_due};
+ghost use Rattle.exh_failing.specs.Failure.{HasRoom, IsFaultless, after_call, count_with, failed_call, failure_at, is_due};
 ghost use Rattle.exh_frames.specs.PageStore.{CountsFaults};
 
-use crate::{Pages, PagesCall, PagesFault};
+use crate::PagesCall;
 use exh_codec::BLOCK_LEN;
+use exh_frames::{Pages, PagesFault};
 use exh_page::{Key, Page, PageHead, Spot, Value};
 use exh_prefix::PageNo;
 use std::marker::Model;
@@ -27,7 +28,7 @@ enum Failure {
 }
 
 impl<P: Pages + Drop> Model for FailingPages<P> {
-    ghost use Rattle.exh_frames.specs.Failure.{FailingStore};
+    ghost use Rattle.exh_failing.specs.Failure.{FailingStore};
 
     ghost Value = { FailingStore P };
 
