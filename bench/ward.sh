@@ -18,6 +18,10 @@
 # that the page is of, and tries to merge it, and then the pair of the merged page, as long as `Ward::merge` takes them.
 # It keeps no counts of its own: whether a pair fits is found by reading both pages.
 #
+# The same calls are then made, at 10,000 records, over pages that stand as images behind a cache of 1, 64 and 1,024
+# decoded pages, and in a ward of 110,000 records, some 10,000 pages, each key is got once, and then twice, one get
+# behind the other: behind a cache of one page the first of such two finds its page decoded never, the second always.
+#
 # Where valgrind is there, it counts the instructions of one round by keyer plain, a call: of puts and gets with their
 # splits, and of deletes with their merges. They hardly differ from run to run, and tell what work grows with the
 # records; the times also tell how far away the memory of that many records is.
@@ -25,7 +29,8 @@
 # Wanted: with keyer plain a put with its splits takes at most 0.25 of gdbm's time, and a get, which writes its entry
 # of the journal, no more than gdbm's; with keyer sha neither takes more than gdbm's; a put or get makes at most 900
 # instructions, a delete with its merges at most 1,300; and a call at 60,000 records, a delete too, takes at most 1.5
-# times its time at 1,000, and at most 1.2 times its instructions.
+# times its time at 1,000, and at most 1.2 times its instructions. Over images a get of a page that isn't decoded takes
+# at most 1.5 times one of a page that is.
 #
 # Status: 0 where all that is met, 1 where something isn't, 2 where nothing could be measured.
 set -u
@@ -34,6 +39,8 @@ export LC_ALL=C
 RUNS=${1:-5}
 # The records of all rounds of a run.
 readonly RECORDS=180000
+# Those of the ward that gets of images are timed in.
+readonly IMAGES=110000
 # Settings of gdbm that were worth a try: cached buckets, block size, whether the file is mapped to memory.
 SETTINGS=('0 0 1' '1000 0 1' '8000 0 1' '0 4096 1' '8000 4096 1')
 
@@ -71,6 +78,26 @@ measure() {
     done
 }
 
+# Runs the program over pages in memory and over images, by turns.
+measure_images() {
+    local run keyer size
+    for ((run = 0; run < RUNS; run++)); do
+        for keyer in plain sha; do
+            for size in 0 1 64 1024; do
+                # shellcheck disable=SC2046 # Without a size the pages are in memory.
+                clock "calls $keyer" "$size" "$program" ward "$keyer" 10000 $((RECORDS / 10000)) $(cache "$size")
+                # shellcheck disable=SC2046
+                clock "gets $keyer" "$size" "$program" gets "$keyer" "$IMAGES" $(cache "$size")
+            done
+        done
+    done
+}
+
+# The word for a cache of $1 pages, and none for pages in memory.
+cache() {
+    [ "$1" = 0 ] || echo "$1"
+}
+
 # Prints how many instructions a round of $1 records makes in a part of the program, by keyer plain.
 count() {
     valgrind --tool=callgrind --callgrind-out-file=/dev/null --toggle-collect="bench_calls::$2" "$program" ward plain "$1" 1 2>&1 |
@@ -86,9 +113,10 @@ cc -O2 -Wall -Wextra -o "$folder/ward_gdbm" "$bench/ward_gdbm.c" -lgdbm ||
 for records in 1000 10000 60000; do
     measure "$records"
     if command -v valgrind > "$folder/log"; then
-        echo "count $records $(count "$records" 'caller::Caller::call') $(count "$records" 'ward_times::delete_time*')"
+        echo "count $records $(count "$records" 'caller::Caller::call*') $(count "$records" 'ward_times::delete_time*')"
     fi
 done > "$folder/times"
+measure_images > "$folder/images"
 machine="$(nproc) x $(sed -n 's/^model name[^:]*: //p' /proc/cpuinfo | head -n 1)"
 echo "machine: $machine, load $(cut -d ' ' -f 1 /proc/loadavg); best of $RUNS runs; microseconds a call"
 awk -v run="$RECORDS" '
@@ -176,3 +204,50 @@ awk -v run="$RECORDS" '
         for (i = 1; i <= short; i++) print falls[i]
         exit (short > 0)
     }' "$folder/times"
+status=$?
+[ "$status" -le 1 ] || exit "$status"
+awk -v run="$RECORDS" -v images="$IMAGES" '
+    function fail(text) {
+        print "bench/ward.sh: " text > "/dev/stderr"
+        failed = 1
+        exit 2
+    }
+    function keep(what, nanoseconds) {
+        if (!(what in best) || nanoseconds < best[what]) best[what] = nanoseconds
+    }
+    function tell(what, keyer, calls,    i) {
+        printf "%-8s  %-5s", what, keyer
+        for (i = 1; i <= 4; i++) printf "  %9.3f", best[what, keyer, sizes[i]] / calls / 1000
+        print ""
+    }
+    # calls keyer size found puts gets deletes left; gets keyer size pages found once twice
+    $1 == "calls" {
+        if ($4 != run || $8 != run / 10) fail("wrong values: " $0)
+        keep("put" SUBSEP $2 SUBSEP $3, $5)
+        keep("get" SUBSEP $2 SUBSEP $3, $6)
+        keep("delete" SUBSEP $2 SUBSEP $3, $7)
+    }
+    $1 == "gets" {
+        if ($5 != images * 3) fail("wrong values: " $0)
+        pages[$2] = $4
+        keep("first" SUBSEP $2 SUBSEP $3, $6)
+        keep("second" SUBSEP $2 SUBSEP $3, $7 - $6)
+    }
+    END {
+        if (failed) exit 2
+        split("0 1 64 1024", sizes, " ")
+        print "call      keyer  in memory     1 page   64 pages  1,024 pages decoded beside images"
+        for (k = split("plain sha", keyers, " "); k > 0; k--) {
+            tell("put", keyers[k], run)
+            tell("get", keyers[k], run)
+            tell("delete", keyers[k], run * 9 / 10)
+            printf "          %-5s  %d pages, each key got twice in turn:\n", keyers[k], pages[keyers[k]]
+            tell("first", keyers[k], images)
+            tell("second", keyers[k], images)
+            cost = best["first", keyers[k], 1] / best["second", keyers[k], 1]
+            if (cost > 1.5) falls[++short] = sprintf("FALLS SHORT: a get of a page that is not decoded by one of a page that is, %s: %.2f, at most 1.50 is wanted", keyers[k], cost)
+        }
+        for (i = 1; i <= short; i++) print falls[i]
+        exit (short > 0)
+    }' "$folder/images" || status=$?
+exit "$status"

@@ -5,7 +5,7 @@ ghost use Rattle.std.specs.Prelude.{◌≡◌};
 use exh_array::Directory;
 use exh_calls::{Call, Reply};
 use exh_file_settings::FileSettings;
-use exh_frames::PlainPages;
+use exh_frames::{Pages, StoreMaker};
 use exh_keyer::{AnyKeyer, Keyer};
 use exh_page::{CAP_LIMIT, Key};
 use exh_prefix::{LIMIT, PageNo};
@@ -30,23 +30,27 @@ pub(crate) enum CallFault {
 /// A ward of a new file, alone in it, and its one caller, who finds pages by a copy of the directory
 /// that takes each notice at once.
 #[derive(Drop)]
-pub(crate) struct Caller {
-    ward: Ward<PlainPages, AnyKeyer>,
+pub(crate) struct Caller<P: Pages + Drop> {
+    ward: Ward<P, AnyKeyer>,
     keyer: AnyKeyer,
     directory: Directory,
     ghost hashes: { ward.keyer ≡ keyer },
     ghost alone: { ward.ward_bits ≡ 0 },
 }
 
-impl Caller {
+impl<P: Pages + Drop> Caller<P> {
     ghost use Rattle.std.specs.Prelude.{◌≡◌};
     ghost use Rattle.exh_keyer.specs.Pseudokey.{any_pseudokey};
     ghost use Rattle.exh_calls.specs.Call.{key_of};
 
-    /// The caller of a new ward of the greatest cap.
-    pub(crate) fn new(alloc: Global, keyer: AnyKeyer) -> Result<Caller, AllocError> {
+    /// The caller of a new ward of the greatest cap, over a store of this maker.
+    pub(crate) fn new<M: StoreMaker<P, AnyKeyer>>(
+        alloc: Global,
+        maker: &M,
+        keyer: AnyKeyer,
+    ) -> Result<Caller<P>, AllocError> {
         let directory = Directory::new(alloc, 0)?;
-        let store = PlainPages::new(alloc, first_page(alloc, 0, 0))?;
+        let store = maker.first(alloc, keyer, first_page(alloc, 0, 0))?;
         let settings = FileSettings {
             cap: CAP_LIMIT as u8,
             ward_bits: 0,
@@ -65,6 +69,11 @@ impl Caller {
     pub(crate) fn call(&mut self, call: &Call) -> Result<Reply, CallFault> {
         let pseudokey = self.keyer.pseudo(call.key().as_bytes());
         self.follow(call, pseudokey)
+    }
+
+    /// How many pages the ward has.
+    pub(crate) fn page_count(&self) -> PageNo {
+        self.ward.page_count()
     }
 
     /// Deletes a key, and merges the pair that its page is of, and then the pair that the merged page

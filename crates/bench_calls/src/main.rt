@@ -5,7 +5,9 @@
 //! - `copy PAGES LOOKS READERS [written]`: as many looks of each reader of a copy of it, which are on threads of their
 //!   own; where the last word is there, a writer takes and publishes a notice each millisecond meanwhile;
 //! - `publish PAGES TAKES`: takes of a directory, and as many of a copy that publishes each;
-//! - `ward KEYER RECORDS ROUNDS`: rounds of calls over new wards;
+//! - `ward KEYER RECORDS ROUNDS [SIZE]`: rounds of calls over new wards, whose pages are in memory, or stand as images
+//!   behind a cache of that size;
+//! - `gets KEYER RECORDS [SIZE]`: gets of each key of such a ward, and two of each, one behind the other;
 //! - `make PATH RECORDS`: writes a page file of one ward of keyer plain, and prints how many pages it has;
 //! - `open PATH`: the digests of a page file's blocks, opening it and writing it to nowhere, from memory;
 //! - `save PATH TO`: opens a page file and writes it to another path, and prints nothing.
@@ -21,6 +23,8 @@ mod pairs;
 mod ward_times;
 
 use anyhow::{Context, bail};
+use exh_frames::{PlainMaker, PlainPages};
+use exh_images::{FramedMaker, FramedPages};
 use exh_keyer::AnyKeyer;
 use files::{FileTimes, make, new_file, save, save_copy};
 use looks::{Looks, Way};
@@ -28,7 +32,7 @@ use std::sync::Wait;
 use std::thread::Threads;
 use std::time::Clock;
 use std::{env, fs};
-use ward_times::WardTimes;
+use ward_times::{GetTimes, WardTimes};
 
 fn main(rt: HostRuntime) -> anyhow::Result<()> {
     let mut words = Vec::new(rt.alloc());
@@ -53,16 +57,24 @@ fn run<R: Threads + Wait + Clock + AllocGlobal + Print + Sync>(
         "publish" => look(threads, Way::Publish, words),
         "copy" => look(threads, copy_of(words)?, words),
         "ward" => {
-            let keyer = keyer_of(text(words, 1)?)?;
-            let times = WardTimes::of_rounds(rt, keyer, number(words, 2)?, number(words, 3)?)?;
             let WardTimes {
                 found,
                 puts,
                 gets,
                 deletes,
                 left,
-            } = times;
+            } = ward_times(rt, words)?;
             println!(rt; "{found} {puts} {gets} {deletes} {left}")?;
+            Ok(())
+        }
+        "gets" => {
+            let GetTimes {
+                pages,
+                found,
+                once,
+                twice,
+            } = get_times(rt, words)?;
+            println!(rt; "{pages} {found} {once} {twice}")?;
             Ok(())
         }
         "make" => {
@@ -77,8 +89,31 @@ fn run<R: Threads + Wait + Clock + AllocGlobal + Print + Sync>(
         }
         "save" => save_copy(rt, text(words, 1)?, text(words, 2)?),
         _ => bail!(
-            "the first word is none of plain, floor, copy, publish, ward, make, open and save"
+            "the first word is none of plain, floor, copy, publish, ward, gets, make, open and save"
         ),
+    }
+}
+
+fn ward_times(rt: &(impl Clock + AllocGlobal), words: &[String]) -> anyhow::Result<WardTimes> {
+    let keyer = keyer_of(text(words, 1)?)?;
+    let (records, rounds) = (number(words, 2)?, number(words, 3)?);
+    if words.len() > 4 {
+        let maker = FramedMaker::new(number(words, 4)? as usize)?;
+        WardTimes::of_rounds::<FramedPages<AnyKeyer>, FramedMaker>(
+            rt, &maker, keyer, records, rounds,
+        )
+    } else {
+        WardTimes::of_rounds::<PlainPages, PlainMaker>(rt, &PlainMaker, keyer, records, rounds)
+    }
+}
+
+fn get_times(rt: &(impl Clock + AllocGlobal), words: &[String]) -> anyhow::Result<GetTimes> {
+    let (keyer, records) = (keyer_of(text(words, 1)?)?, number(words, 2)?);
+    if words.len() > 3 {
+        let maker = FramedMaker::new(number(words, 3)? as usize)?;
+        GetTimes::of_records::<FramedPages<AnyKeyer>, FramedMaker>(rt, &maker, keyer, records)
+    } else {
+        GetTimes::of_records::<PlainPages, PlainMaker>(rt, &PlainMaker, keyer, records)
     }
 }
 
@@ -95,7 +130,7 @@ fn run_all<R: Threads + Wait + Clock + AllocGlobal + Sync>(
         Looks::measure(threads, way, 100, 1000)?;
     }
     for keyer in [AnyKeyer::Plain, AnyKeyer::Sha] {
-        WardTimes::of_rounds(rt, keyer, 100, 2)?;
+        WardTimes::of_rounds::<PlainPages, PlainMaker>(rt, &PlainMaker, keyer, 100, 2)?;
     }
     let mut bytes = Vec::new(rt.alloc());
     save(new_file(rt.alloc(), 100)?, &mut bytes)?;

@@ -3,6 +3,7 @@
 use crate::caller::Caller;
 use crate::pairs::{RoundKeys, key_of, value_of};
 use exh_calls::{Call, Reply};
+use exh_frames::{Pages, StoreMaker};
 use exh_keyer::AnyKeyer;
 use std::time::{Clock, Instant};
 
@@ -22,10 +23,11 @@ pub(crate) struct WardTimes {
 }
 
 impl WardTimes {
-    /// Makes so many rounds of so many records, each of other keys, so that none is quicker for having
-    /// been made before.
-    pub(crate) fn of_rounds(
+    /// Makes so many rounds of so many records, over stores of this maker, each of other keys, so that
+    /// none is quicker for having been made before.
+    pub(crate) fn of_rounds<P: Pages + Drop, M: StoreMaker<P, AnyKeyer>>(
         rt: &(impl Clock + AllocGlobal),
+        maker: &M,
         keyer: AnyKeyer,
         records: u32,
         rounds: u32,
@@ -39,17 +41,17 @@ impl WardTimes {
         };
         for round in 0..rounds {
             let first = round.wrapping_mul(records);
-            let mut caller = Caller::new(rt.alloc(), keyer)?;
+            let mut caller = Caller::<P>::new(rt.alloc(), maker, keyer)?;
             times.add_round(rt, &mut caller, RoundKeys { first, records })?;
         }
         Ok(times)
     }
 
     // Adds a round of a new caller.
-    fn add_round(
+    fn add_round<P: Pages + Drop>(
         &mut self,
         clock: &impl Clock,
-        caller: &mut Caller,
+        caller: &mut Caller<P>,
         keys: RoundKeys,
     ) -> anyhow::Result<()> {
         let deleted = keys.records - keys.records / 10;
@@ -66,7 +68,46 @@ impl WardTimes {
     }
 }
 
-fn put_time(clock: &impl Clock, caller: &mut Caller, keys: RoundKeys) -> anyhow::Result<u128> {
+/// What gets of a ward's keys found, and the nanoseconds of all of them.
+#[derive(Clone, Copy)]
+pub(crate) struct GetTimes {
+    /// How many pages the ward has.
+    pub(crate) pages: u32,
+    /// How many of the gets found the right value.
+    pub(crate) found: u32,
+    /// A get of each key.
+    pub(crate) once: u128,
+    /// Two gets of each key, one behind the other.
+    pub(crate) twice: u128,
+}
+
+impl GetTimes {
+    /// Of a new ward of so many records, over stores of this maker.
+    pub(crate) fn of_records<P: Pages + Drop, M: StoreMaker<P, AnyKeyer>>(
+        rt: &(impl Clock + AllocGlobal),
+        maker: &M,
+        keyer: AnyKeyer,
+        records: u32,
+    ) -> anyhow::Result<GetTimes> {
+        let keys = RoundKeys { first: 0, records };
+        let mut caller = Caller::<P>::new(rt.alloc(), maker, keyer)?;
+        put_time(rt, &mut caller, keys)?;
+        let (found, once) = get_time(rt, &mut caller, 0, keys)?;
+        let (again, twice) = get_twice_time(rt, &mut caller, keys)?;
+        Ok(GetTimes {
+            pages: caller.page_count(),
+            found: found.saturating_add(again),
+            once,
+            twice,
+        })
+    }
+}
+
+fn put_time<P: Pages + Drop>(
+    clock: &impl Clock,
+    caller: &mut Caller<P>,
+    keys: RoundKeys,
+) -> anyhow::Result<u128> {
     let start = Instant::now(clock)?;
     for i in 0..keys.records {
         let number = keys.put(i);
@@ -80,31 +121,48 @@ fn put_time(clock: &impl Clock, caller: &mut Caller, keys: RoundKeys) -> anyhow:
 }
 
 // Gets the keys that are asked for from call `first` on. How many values are right comes first.
-fn get_time(
+fn get_time<P: Pages + Drop>(
     clock: &impl Clock,
-    caller: &mut Caller,
+    caller: &mut Caller<P>,
     first: u32,
     keys: RoundKeys,
 ) -> anyhow::Result<(u32, u128)> {
     let mut right = 0u32;
     let start = Instant::now(clock)?;
     for i in first..keys.records {
-        let number = keys.asked(i);
-        let reply = caller.call(&Call::Get {
-            key: key_of(number)?,
-        })?;
-        if reply == Reply::Is(value_of(number)?) {
-            right = right.saturating_add(1);
+        right = right.saturating_add(u32::from(has_value(caller, keys.asked(i))?));
+    }
+    Ok((right, start.elapsed(clock)?.as_nanos()))
+}
+
+// Gets each key twice. How many values are right comes first.
+fn get_twice_time<P: Pages + Drop>(
+    clock: &impl Clock,
+    caller: &mut Caller<P>,
+    keys: RoundKeys,
+) -> anyhow::Result<(u32, u128)> {
+    let mut right = 0u32;
+    let start = Instant::now(clock)?;
+    for i in 0..keys.records {
+        for _ in 0..2 {
+            right = right.saturating_add(u32::from(has_value(caller, keys.asked(i))?));
         }
     }
     Ok((right, start.elapsed(clock)?.as_nanos()))
 }
 
+fn has_value<P: Pages + Drop>(caller: &mut Caller<P>, number: u32) -> anyhow::Result<bool> {
+    let reply = caller.call(&Call::Get {
+        key: key_of(number)?,
+    })?;
+    Ok(reply == Reply::Is(value_of(number)?))
+}
+
 // It is kept a function of its own, so that its instructions can be counted.
 #[inline(never)]
-fn delete_time(
+fn delete_time<P: Pages + Drop>(
     clock: &impl Clock,
-    caller: &mut Caller,
+    caller: &mut Caller<P>,
     deleted: u32,
     keys: RoundKeys,
 ) -> anyhow::Result<u128> {

@@ -1,4 +1,4 @@
-ghost use Rattle.std.specs.Prelude.{◌≡◌, ◌-◌, ◌^◌, ◌<◌, ◌≤◌, ◌↔◌, [], ◌∷◌, IsTrue, None};
+ghost use Rattle.std.specs.Prelude.{◌≡◌, ◌-◌, ◌^◌, ◌<◌, ◌≤◌, ◌↔◌, ℕ, List, [], ◌∷◌, IsTrue, None};
 ghost use Rattle.exh_prefix.specs.Prefix.{Begins};
 ghost use Rattle.exh_page.specs.declared.page.TheConstants.{CAP_LIMIT};
 ghost use Rattle.exh_page.specs.declared.page.Page.{Page};
@@ -132,11 +132,12 @@ fn own_prefix(ward_bits: u8, number: u8) -> Prefix
 }
 
 /// The first page of a ward of a new file: live, empty, of the ward's own prefix, with no right
-/// link. It takes no memory.
+/// link. It is well formed under each keyer. It takes no memory.
 pub fn first_page(alloc: Global, ward_bits: u8, number: u8) -> Page
     requires bits { ward_bits ≤ WARD_BITS_LIMIT }
     requires number { number < 2 ^ ward_bits }
-    ensures { result ≡ Live (ward_prefix ward_bits number) None [] }
+    ensures page { result ≡ Live (ward_prefix ward_bits number) None [] }
+    ensures formed { (pseudo : List ℕ → ℕ) → IsWellFormed pseudo result }
 {
     Page::Live {
         prefix: own_prefix(ward_bits, number),

@@ -2,11 +2,11 @@ use Rattle.std.proofs.Common.{◌≡◌, ◌^◌, map, ap, ◌∙◌, arith}
 use Rattle.std.proofs.Math.Nat.{pow-le-pow_right}
 use Rattle.std.specs.List.{range_with_len}
 use Rattle.exh_ward.specs.NewWards.{new_ward}
-use Rattle.exh_ward.proofs.WardsOfNewFile.{empty_formed, one_ward_more}
+use Rattle.exh_ward.proofs.WardsOfNewFile.{one_ward_more}
 use Rattle.exh_ward.proofs.new_file.new_wards.Goals as goal
 
 pub first-requires : goal.first-requires
-first-requires g c = record { formed = empty_formed (g.K.Keyer.pseudokey_of c.args.settings.keyer) _ c.args.settings.ward_bits c.loop-number.number c.first_page-first.ensures }
+first-requires g c = record { formed = c.first_page-first.ensures.formed (g.K.Keyer.pseudokey_of c.args.settings.keyer) }
 
 pub loop-number-preserved : goal.loop-number-preserved
 loop-number-preserved g c =

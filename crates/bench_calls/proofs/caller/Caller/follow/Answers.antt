@@ -4,4 +4,4 @@ use Rattle.bench_calls.proofs.caller.Caller.follow.Goals as goal
 
 pub hop_hashed-requires-clause-covered : goal.hop_hashed-requires-clause-covered
 unfolding bits_of
-hop_hashed-requires-clause-covered c = rw c.hops.self.alone refl
+hop_hashed-requires-clause-covered g c = rw c.hops.self.alone refl

@@ -3,4 +3,4 @@ use Rattle.bench_calls.proofs.caller.Caller.follow.Given as goal
 
 -- the caller's keyer stays
 abbrev pub invariant-hops : goal.invariant-hops
-invariant-hops l = l.self.keyer ≡ l.fn.self.keyer
+invariant-hops g l = l.self.keyer ≡ l.fn.self.keyer
