@@ -1,20 +1,11 @@
 -- The wards of a new file, number by number.
-use Rattle.std.proofs.Common.{◌≡◌, ℕ, ◌+◌, List, [], ◌∷◌, ◌++◌, map, slice_get, Some, None, inl, inr, refl, sym, ap, ◌∙◌, subst, arith}
+use Rattle.std.proofs.Common.{◌≡◌, ℕ, ◌+◌, List, [], ◌∷◌, ◌++◌, map, slice_get, Some, inl, inr, sym, ap, ◌∙◌, subst, arith}
 use Rattle.std.specs.List.{range_with_len}
 use Rattle.std.proofs.lemmas.List.FromFn.{map-range_with_len_more}
 use Rattle.exh_prefix.specs.ListLemmas.{push_is}
-use Rattle.exh_prefix.specs.Leading.{ward_prefix}
-use Rattle.exh_page.specs.declared.page.Page.{Page}
-use Rattle.exh_page.specs.declared.page.Page.TheVariants.{Live}
-use Rattle.exh_page.specs.Page.{IsWellFormed}
 use Rattle.exh_file_settings.specs.declared.file_settings.FileSettings.{FileSettings}
 use Rattle.exh_ward.specs.NewWards.{new_ward}
 use Rattle.exh_ward.specs.WardState.{IsSoundWard, WardState}
-
--- a page of no record is well formed
-pub empty_formed : (pseudo : List ℕ → ℕ) (page : Page) (ward_bits number : ℕ) → page ≡ Live (ward_prefix ward_bits number) None [] → IsWellFormed pseudo page
-empty_formed pseudo page ward_bits number is =
-    subst (IsWellFormed pseudo) (sym is) (record { rising = tt; hashed = tt; begun = tt }, omega arith, λ same. cc)
 
 module _ {K : Type 0} (pseudokey_of : K → List ℕ → ℕ) (settings : FileSettings K) where
   -- the wards of the numbers below one, each of them sound
