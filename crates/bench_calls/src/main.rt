@@ -63,7 +63,7 @@ fn run<R: Threads + Wait + Clock + AllocGlobal + Print + Sync>(
                 gets,
                 deletes,
                 left,
-            } = ward_times(rt, words)?;
+            } = rounds_asked(rt, words)?;
             println!(rt; "{found} {puts} {gets} {deletes} {left}")?;
             Ok(())
         }
@@ -73,7 +73,7 @@ fn run<R: Threads + Wait + Clock + AllocGlobal + Print + Sync>(
                 found,
                 once,
                 twice,
-            } = get_times(rt, words)?;
+            } = gets_asked(rt, words)?;
             println!(rt; "{pages} {found} {once} {twice}")?;
             Ok(())
         }
@@ -94,7 +94,7 @@ fn run<R: Threads + Wait + Clock + AllocGlobal + Print + Sync>(
     }
 }
 
-fn ward_times(rt: &(impl Clock + AllocGlobal), words: &[String]) -> anyhow::Result<WardTimes> {
+fn rounds_asked(rt: &(impl Clock + AllocGlobal), words: &[String]) -> anyhow::Result<WardTimes> {
     let keyer = keyer_of(text(words, 1)?)?;
     let (records, rounds) = (number(words, 2)?, number(words, 3)?);
     if words.len() > 4 {
@@ -107,7 +107,7 @@ fn ward_times(rt: &(impl Clock + AllocGlobal), words: &[String]) -> anyhow::Resu
     }
 }
 
-fn get_times(rt: &(impl Clock + AllocGlobal), words: &[String]) -> anyhow::Result<GetTimes> {
+fn gets_asked(rt: &(impl Clock + AllocGlobal), words: &[String]) -> anyhow::Result<GetTimes> {
     let (keyer, records) = (keyer_of(text(words, 1)?)?, number(words, 2)?);
     if words.len() > 3 {
         let maker = FramedMaker::new(number(words, 3)? as usize)?;
