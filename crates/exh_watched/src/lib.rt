@@ -3,14 +3,14 @@
 #![tactic(auto)]
 
 pub use conductor::{Conductor, Count};
+pub use file::{WatchedFile, watched_file};
 pub use rule::{Rule, Then, Who};
-pub use watched_file::{WatchedFile, watched_file};
 pub use watched_pages::{
     CAME_BETWEEN, HAS_MERGED, IS_LATE, IS_OVER, IS_READ, LOOKS, Look, MAY_GO, WatchedMaker,
     WatchedPages,
 };
 
 mod conductor;
+mod file;
 mod rule;
-mod watched_file;
 mod watched_pages;
