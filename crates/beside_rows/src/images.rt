@@ -58,10 +58,13 @@ fn is_refused(made: Result<Images, CacheFault>) -> bool {
 fn has_one_page(alloc: Global, size: usize) -> Result<(), Difference> {
     let store = one_page(alloc, size).map_err(not_made)?;
     let image = store.image(0);
-    let is_by_hand =
-        image.starts_with(&HEAD) && image[HEAD.len()..CONTENT_LEN].iter().all(|byte| *byte == 0);
+    let is_by_hand = image.starts_with(&HEAD)
+        && image[HEAD.len()..CONTENT_LEN].iter().all(|byte| *byte == 0);
     let is_encoded = image == encode_page(&PlainKeyer, &first_page(alloc, 1, 1));
-    same(is_by_hand && is_encoded && store.count() == 1, Part::Records)
+    same(
+        is_by_hand && is_encoded && store.count() == 1,
+        Part::Records,
+    )
 }
 
 fn has_no_page(alloc: Global, size: usize) -> Result<(), Difference> {

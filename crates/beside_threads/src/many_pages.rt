@@ -78,8 +78,9 @@ pub(crate) fn run<R: Threads + Wait + Clock + Sync, F: Identity + Sync + Send>(
 {
     let watch = Conductor::new(rt, &RULES);
     let maker = WatchedMaker::new(PlainMaker, Look::Counts(0), &watch);
-    let mut file =
-        watched_file::<PlainPages, PlainMaker, R, F>(run.alloc, &maker, 0, answers, entries)?;
+    let mut file = watched_file::<PlainPages, PlainMaker, R, F>(
+        run.alloc, &maker, 0, answers, entries,
+    )?;
     let mut caller = next_caller(&mut file, copies)?;
     take_steps(rt, run, &file, &mut caller, &watch);
     Ok(())

@@ -64,8 +64,9 @@ pub(crate) fn run<R: Threads + Wait + Clock + Sync, F: Identity + Sync + Send>(
     let mut seats = Vec::new(run.alloc);
     seats.reserve(1)?;
     let maker = WatchedMaker::new(PlainMaker, Look::Rests, &*watch);
-    let mut file =
-        watched_file::<PlainPages, PlainMaker, R, F>(run.alloc, &maker, 0, answers, entries)?;
+    let mut file = watched_file::<PlainPages, PlainMaker, R, F>(
+        run.alloc, &maker, 0, answers, entries,
+    )?;
     let mut caller = next_caller(&mut file, copies)?;
     let turns = run.rounds / 4 + 1;
     let merges = take_turns(rt, run, &file, &mut caller, watch, turns);

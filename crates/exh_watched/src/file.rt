@@ -19,13 +19,7 @@ use std::time::Clock;
 pub type WatchedFile<'a, P, R, F> = File<WatchedPages<'a, P, R>, F>;
 
 /// A new one of 2^`ward_bits` wards, of pages of two records. An `AllocError` where memory is refused.
-pub fn watched_file<
-    'a,
-    P: Pages + Drop,
-    M: StoreMaker<P, PlainKeyer>,
-    R: Clock,
-    F: Identity,
->(
+pub fn watched_file<'a, P: Pages + Drop, M: StoreMaker<P, PlainKeyer>, R: Clock, F: Identity>(
     alloc: Global,
     maker: &WatchedMaker<'a, M, R>,
     ward_bits: u8,

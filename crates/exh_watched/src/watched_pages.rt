@@ -82,8 +82,10 @@ impl<'a, M, R: Clock> WatchedMaker<'a, M, R> {
     }
 }
 
-impl<'a, P: Pages + Drop, M: StoreMaker<P, PlainKeyer>, R: Clock>
-    StoreMaker<WatchedPages<'a, P, R>, PlainKeyer> for WatchedMaker<'a, M, R> {
+impl<'a, P: Pages + Drop, M: StoreMaker<P, PlainKeyer>, R: Clock> StoreMaker<
+    WatchedPages<'a, P, R>,
+    PlainKeyer,
+> for WatchedMaker<'a, M, R> {
     fn first(
         &self,
         alloc: Global,
