@@ -30,7 +30,7 @@ pub(crate) fn run<
     run: &mut Run,
     copies: &mut Vec<Reader>,
     signs: &Conductor<'_, R>,
-    stores: M,
+    stores: &M,
     answers: Blank,
     entries: Blank,
 ) -> Result<(), Difference>
@@ -38,7 +38,7 @@ pub(crate) fn run<
     requires entries { (entries.name ≡ F.entries) × (entries.parts ≡ ENTRY_PARTS) }
     requires hashed { F.hashing ≡ plain_pseudokey }
 {
-    let maker = WatchedMaker::new(stores, Look::Waits, &*signs);
+    let maker = WatchedMaker::new(&*stores, Look::Waits, &*signs);
     let mut file = watched_file::<P, M, R, F>(run.alloc, &maker, 1, answers, entries)?;
     let mut first = next_caller(&mut file, copies)?;
     let mut second = next_caller(&mut file, copies)?;

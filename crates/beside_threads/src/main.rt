@@ -83,7 +83,7 @@ fn play<R: Threads + Wait + Clock + Sync, F: Identity + Sync + Send>(
                 run,
                 &mut copies,
                 &signs,
-                PlainMaker,
+                &PlainMaker,
                 answers,
                 entries,
             )
@@ -95,7 +95,7 @@ fn play<R: Threads + Wait + Clock + Sync, F: Identity + Sync + Send>(
                 run,
                 &mut copies,
                 &signs,
-                maker,
+                &maker,
                 answers,
                 entries,
             )

@@ -77,7 +77,7 @@ pub(crate) fn run<R: Threads + Wait + Clock + Sync, F: Identity + Sync + Send>(
     requires hashed { F.hashing ≡ plain_pseudokey }
 {
     let watch = Conductor::new(rt, &RULES);
-    let maker = WatchedMaker::new(PlainMaker, Look::Counts(0), &watch);
+    let maker = WatchedMaker::new(&PlainMaker, Look::Counts(0), &watch);
     let mut file = watched_file::<PlainPages, PlainMaker, R, F>(
         run.alloc, &maker, 0, answers, entries,
     )?;

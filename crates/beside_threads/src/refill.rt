@@ -63,7 +63,7 @@ pub(crate) fn run<R: Threads + Wait + Clock + Sync, F: Identity + Sync + Send>(
 {
     let mut seats = Vec::new(run.alloc);
     seats.reserve(1)?;
-    let maker = WatchedMaker::new(PlainMaker, Look::Rests, &*watch);
+    let maker = WatchedMaker::new(&PlainMaker, Look::Rests, &*watch);
     let mut file = watched_file::<PlainPages, PlainMaker, R, F>(
         run.alloc, &maker, 0, answers, entries,
     )?;

@@ -53,14 +53,19 @@ pub struct WatchedPages<'a, P: Pages + Drop, R: Clock> {
 }
 
 /// Makes stores over those that another maker makes, of which the first is looked at, and the others aren't.
+#[derive(Drop)]
 pub struct WatchedMaker<'a, M, R: Clock> {
-    inner: M,
+    inner: &'a M,
     look: Cell<Look>,
     conductor: &'a Conductor<'a, R>,
 }
 
 impl<'a, M, R: Clock> WatchedMaker<'a, M, R> {
-    pub fn new(inner: M, look: Look, conductor: &'a Conductor<'a, R>) -> WatchedMaker<'a, M, R> {
+    pub fn new(
+        inner: &'a M,
+        look: Look,
+        conductor: &'a Conductor<'a, R>,
+    ) -> WatchedMaker<'a, M, R> {
         WatchedMaker {
             inner,
             look: Cell::new(look),
