@@ -38,7 +38,7 @@ die() {
 
 bench=$(cd "$(dirname "$0")" && pwd) || exit 2
 root=$(dirname "$bench")
-timed=$root/crates/bench_calls/out/bench_calls
+timed=$root/crates/bench/out/bench
 program=$root/crates/exh_cli/out/exh_cli
 shared=/dev/shm
 [ -d "$shared" ] && [ -w "$shared" ] || shared=${TMPDIR:-/tmp}
@@ -49,7 +49,7 @@ short=0
 for name in gdbmtool mdb_load strace; do
     [ -n "$(command -v "$name")" ] || die "there is no $name (Debian: apt-get install gdbmtool lmdb-utils strace)"
 done
-(cd "$root/crates/bench_calls" && rt run) > "$folder/log" 2>&1 || {
+(cd "$root/crates/bench" && rt run) > "$folder/log" 2>&1 || {
     cat "$folder/log" >&2
     die 'the program that makes files could not be built'
 }

@@ -5,12 +5,12 @@
 #
 # The files are of one ward of cap 16, of 1,000, 10,000 and 60,000 pages, under the keyer plain. Keys and values have 8
 # bytes, and the keys' first bits are evenly spread, so that a page has some 11 records, and none is turned away.
-# crates/bench_calls makes them: what `load` takes in is too short for the longer ones. All files lie in memory, on
+# crates/bench makes them: what `load` takes in is too short for the longer ones. All files lie in memory, on
 # /dev/shm where there is one. Timed are, in turns:
-# - in crates/bench_calls, over the file's bytes in memory: the SHA-256 of its blocks alone, compared with those that
+# - in crates/bench, over the file's bytes in memory: the SHA-256 of its blocks alone, compared with those that
 #   they have; opening it, which tests legality and makes wards; writing it to nowhere. That is the processor's time;
 # - the program itself, by the processor that it takes: `exhash check` and `exhash dump` of the file, to nowhere;
-# - bench_calls once more, as it opens the file and writes it to another one, for the most memory that it takes;
+# - bench once more, as it opens the file and writes it to another one, for the most memory that it takes;
 # - file_walk.c: walks of gdbm and LMDB over files of the same records, from opening to closing; gdbm_dump of gdbm's
 #   file and db5.3_dump of a file of Berkeley DB of the same records, to nowhere. None of them has digests.
 # Then `exhash load` of the longest input of pairs, 1 MiB, beside gdbmtool's `store` and db5.3_load of the same pairs,
@@ -37,7 +37,7 @@ die() {
 
 bench=$(cd "$(dirname "$0")" && pwd) || exit 2
 root=$(dirname "$bench")
-timed=$root/crates/bench_calls/out/bench_calls
+timed=$root/crates/bench/out/bench
 program=$root/crates/exh_cli/out/exh_cli
 shared=/dev/shm
 [ -d "$shared" ] && [ -w "$shared" ] || shared=${TMPDIR:-/tmp}
@@ -141,7 +141,7 @@ done
 for name in gdbmtool gdbm_dump db5.3_load db5.3_dump; do
     [ -n "$(command -v "$name")" ] || die "there is no $name (Debian: apt-get install gdbmtool db5.3-util)"
 done
-(cd "$root/crates/bench_calls" && rt run) > "$folder/log" 2>&1 || {
+(cd "$root/crates/bench" && rt run) > "$folder/log" 2>&1 || {
     cat "$folder/log" >&2
     die 'the program that is timed could not be built'
 }

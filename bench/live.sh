@@ -14,7 +14,7 @@
 #   directory that a courier's rounds told of what filled the file, and of nothing since. Each file is settled
 #   afterwards.
 # - alone: a ward by itself, on one thread, with neither lock nor diary.
-# crates/bench_threads makes both.
+# crates/bench makes both.
 # - lmdb, gdbm: live_rivals.c makes the calls by LMDB's threads, of which one writes at a time, and by gdbm behind one
 #   mutex. They are to stand as well as they can: their files are on /dev/shm where there is one, nothing is
 #   synchronized, and the fastest of several settings counts.
@@ -23,7 +23,7 @@
 # at least 2 times; one caller over 1 ward takes at most 1.7 times the time of a ward by itself; and callers over 4
 # wards are ahead of LMDB and gdbm at each number of callers.
 #
-# By `callers` the program beside_live plays its story of that name: the file is settled each time, all answers are
+# By `callers` the list live of crates/beside plays its story of that name: the file is settled each time, all answers are
 # there, and each reply is the map machine's, told the calls in the journals' order, of which the last ones get each key.
 #
 # Status: 0 where all that is met, 1 where something isn't, 2 where nothing could be measured.
@@ -56,9 +56,9 @@ build() {
 # Plays the story of many callers $1 times.
 play() {
     local time failed=0
-    build beside_live
+    build beside
     for ((time = 1; time <= $1; time++)); do
-        "$root/crates/beside_live/out/beside_live" "$time" 10000 callers > "$folder/said" 2>&1 || {
+        "$root/crates/beside/out/beside" live "$time" 10000 callers > "$folder/said" 2>&1 || {
             failed=$((failed + 1))
             echo "FALLS SHORT: time $time: $(tr '\n' ' ' < "$folder/said")"
         }
@@ -71,7 +71,7 @@ play() {
 
 RUNS=${1:-5}
 CALLS=${2:-400000}
-program=$root/crates/bench_threads/out/bench_threads
+program=$root/crates/bench/out/bench
 
 # Makes a run of the way $1 over $2 wards by $3 callers by the rest of the words, and prints a line.
 clock() {
@@ -101,7 +101,7 @@ measure() {
 
 cc -O2 -Wall -Wextra -o "$folder/live_rivals" "$bench/live_rivals.c" -lgdbm -llmdb -lpthread ||
     die "the rivals' libraries could not be built against (Debian: apt-get install liblmdb-dev libgdbm-dev)"
-build bench_threads
+build bench
 mkdir "$folder/lmdb" || exit 2
 for ((run = 0; run < RUNS; run++)); do
     measure

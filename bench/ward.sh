@@ -9,7 +9,7 @@
 # What is compared: microseconds a call, at 1,000, 10,000 and 60,000 records. A round begins with an empty file, puts
 # as many new keys as that, with the splits that they bring, and then gets each of them once, in another order. Keys
 # and values have 8 bytes, and the keys' first bits are evenly spread.
-# - crates/bench_calls calls a ward of 16 records a page over pages in memory, by keyer plain and by keyer sha. Its
+# - crates/bench calls a ward of 16 records a page over pages in memory, by keyer plain and by keyer sha. Its
 #   caller hashes a key once, asks a copy of the directory for the page, hops until it is answered, and splits where
 #   that is to be done first; the copy takes each notice at once.
 # - ward_gdbm.c calls gdbm_store and gdbm_fetch. It is to stand as well as it can: its file is on /dev/shm where there
@@ -51,7 +51,7 @@ die() {
 
 bench=$(cd "$(dirname "$0")" && pwd) || exit 2
 root=$(dirname "$bench")
-program=$root/crates/bench_calls/out/bench_calls
+program=$root/crates/bench/out/bench
 shared=/dev/shm
 [ -d "$shared" ] && [ -w "$shared" ] || shared=${TMPDIR:-/tmp}
 folder=$(mktemp -d "$shared/exhash-bench.XXXXXX") || exit 2
@@ -100,13 +100,13 @@ cache() {
 
 # Prints how many instructions a round of $1 records makes in a part of the program, by keyer plain.
 count() {
-    valgrind --tool=callgrind --callgrind-out-file=/dev/null --toggle-collect="bench_calls::$2" "$program" ward plain "$1" 1 2>&1 |
+    valgrind --tool=callgrind --callgrind-out-file=/dev/null --toggle-collect="bench::$2" "$program" ward plain "$1" 1 2>&1 |
         sed -n 's/.*Collected : *//p'
 }
 
 cc -O2 -Wall -Wextra -o "$folder/ward_gdbm" "$bench/ward_gdbm.c" -lgdbm ||
     die "gdbm's library could not be built against (Debian: apt-get install libgdbm-dev)"
-(cd "$root/crates/bench_calls" && rt run) > "$folder/log" 2>&1 || {
+(cd "$root/crates/bench" && rt run) > "$folder/log" 2>&1 || {
     cat "$folder/log" >&2
     die 'the program could not be built'
 }

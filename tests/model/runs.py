@@ -35,7 +35,7 @@ def difference_in_images(program, story, sizes):
     for number, (run, size) in enumerate(zip(runs, itertools.cycle(sizes)), 1):
         with tempfile.TemporaryDirectory(prefix="exhash-story-") as folder:
             run = run._replace(words=["serve"], files={})
-            found = difference_in_run(program, run, Path(folder), [str(size)])
+            found = difference_in_run(program, run, Path(folder), ["images", str(size)])
         if found:
             return [f"script {number} over images, a cache of {size}: {found[0]}", *found[1:]]
     return []

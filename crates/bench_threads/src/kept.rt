@@ -1,7 +1,7 @@
 //! Journals and diaries alone.
 ghost use Rattle.std.specs.Prelude.{◌≤◌};
 ghost use Rattle.exh_prefix.specs.declared.prefix.TheConstants.{WARD_BITS_LIMIT};
-ghost use Rattle.exh_storm_config.specs.StormConfig.{IsStormConfig};
+ghost use Rattle.exh_settings.specs.StormConfig.{IsStormConfig};
 
 use crate::texts::text_len;
 use anyhow::Context;
@@ -9,9 +9,9 @@ use exh_calls::{Call, Journal, Reply};
 use exh_keyer::{Keyer, ShaKeyer};
 use exh_model::MapMachine;
 use exh_prefix::ward_number;
+use exh_settings::StormConfig;
 use exh_settle::Diary;
 use exh_storm::storm_call;
-use exh_storm_config::StormConfig;
 use std::alloc::{AllocError, Global};
 
 /// The journals of wards and the diaries of callers, as a storm leaves them.

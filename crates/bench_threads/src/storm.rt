@@ -4,7 +4,7 @@ ghost use Rattle.std.specs.FinMap as map;
 ghost use Rattle.exh_keyer.specs.Pseudokey.{sha_pseudokey};
 ghost use Rattle.exh_live.specs.declared.ledgers.TheConstants.{ANSWER_PARTS, ENTRY_PARTS};
 ghost use Rattle.exh_prefix.specs.declared.prefix.TheConstants.{WARD_BITS_LIMIT};
-ghost use Rattle.exh_storm_config.specs.StormConfig.{IsStormConfig};
+ghost use Rattle.exh_settings.specs.StormConfig.{IsStormConfig};
 
 use crate::meanwhile::Meanwhile;
 use crate::texts::text_len;
@@ -15,12 +15,12 @@ use exh_frames::{PlainMaker, PlainPages};
 use exh_keyer::ShaKeyer;
 use exh_live::{ANSWER_PARTS, ENTRY_PARTS, Identity, Seat, WardJournals};
 use exh_notice::Kind;
+use exh_settings::StormConfig;
 use exh_settle::settle;
 use exh_storm::{
     Caller, Courier, Keeper, NoWatch, StormFault, StormFile, StormWard, Workers, new_file,
     new_workers,
 };
-use exh_storm_config::StormConfig;
 use std::alloc::Global;
 use std::marker::Brand;
 use std::sync::Wait;

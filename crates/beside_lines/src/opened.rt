@@ -7,7 +7,6 @@ ghost use Rattle.exh_world.specs.Sound.{IsSoundWorld};
 
 use crate::answers::{Line, PlainScript, answer_all};
 use crate::opened_lines::{LAST, TWO_WARDS, WORN};
-use exh_file_settings::FileSettings;
 use exh_fixtures::{merge, opened_ward, prefix, refused, split};
 use exh_frames::PlainPages;
 use exh_keyer::AnyKeyer;
@@ -15,7 +14,8 @@ use exh_notice::Notice;
 use exh_prefix::PageNo;
 use exh_runs::{Difference, Part, Run, same};
 use exh_script::Run as Script;
-use exh_settings::Config;
+use exh_settings::FileSettings;
+use exh_text::Config;
 use exh_ward::{Ward, WardFault};
 use exh_world::World;
 use std::alloc::Global;

@@ -7,20 +7,18 @@ ghost use Rattle.exh_keyer.specs.Pseudokey.{plain_pseudokey};
 ghost use Rattle.exh_live.specs.LiveFile.{IsNewWardOf};
 ghost use Rattle.exh_live.specs.declared.ledgers.TheConstants.{ANSWER_PARTS, ENTRY_PARTS};
 
+use exh_callers::lists::{FAULT_COUNT, FAULTS};
 use exh_callers::{
-    CAP, Caller, File, Reader, Writer, close, is_carried, is_told, keep, next_caller,
+    CAP, Caller, File, LiveStep, Reader, Writer, close, is_carried, is_told, keep, next_caller,
     one_ward_file, settled,
 };
 use exh_copy::{NewCopyFault, Start, new_copy};
-use exh_failing::FailingPages;
-use exh_file_settings::FileSettings;
-use exh_fixtures::first_store;
+use exh_fixtures::{FailingPages, first_store};
 use exh_frames::PlainPages;
 use exh_keyer::PlainKeyer;
 use exh_live::{ANSWER_PARTS, Cursors, ENTRY_PARTS, Identity};
-use exh_live_steps::LiveStep;
-use exh_live_steps::lists::{FAULT_COUNT, FAULTS};
 use exh_runs::{Difference, Part, Run, again, same};
+use exh_settings::FileSettings;
 use exh_table::Table;
 use exh_walk::OpenGate;
 use exh_ward::Ward;

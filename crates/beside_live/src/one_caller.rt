@@ -7,17 +7,19 @@ ghost use Rattle.exh_live.specs.declared.ledgers.TheConstants.{ANSWER_PARTS, ENT
 ghost use Rattle.exh_prefix.specs.declared.prefix.TheConstants.{WARD_BITS_LIMIT};
 
 use crate::written_ward::written_ward;
-use exh_callers::{PlainFile, Reader, Writer, close_settled, new_file, next_caller, one_ward_file};
-use exh_copy::Start;
-use exh_fixtures::prefix;
-use exh_keyer::PlainKeyer;
-use exh_live::{ANSWER_PARTS, ENTRY_PARTS, Identity};
-use exh_live_steps::lists::{
+use exh_callers::lists::{
     COURIER, EVEN_HALF, FAR_BEHIND, FOUR_WARDS, KEEPER, LATE_COURIER, LONG, MERGED_COURIER,
     ODD_HALF, OPENED_COURIER, SEVEN_SPLITS, THREE_KEYS, THREE_KEYS_EACH, TOLD_COPY, WORN_KEEPER,
     WRONG_HINT,
 };
-use exh_live_steps::{LiveStep, take_steps};
+use exh_callers::{
+    LiveStep, PlainFile, Reader, Writer, close_settled, new_file, next_caller, one_ward_file,
+    take_steps,
+};
+use exh_copy::Start;
+use exh_fixtures::prefix;
+use exh_keyer::PlainKeyer;
+use exh_live::{ANSWER_PARTS, ENTRY_PARTS, Identity};
 use exh_notice::{Entry, Kind};
 use exh_runs::{Difference, Run, again};
 use exh_table::Table;

@@ -3,13 +3,13 @@ ghost use Rattle.std.specs.Prelude.{◌≡◌, ◌≤◌, ◌%◌, IfOk};
 ghost use Rattle.exh_live.specs.LiveFile.{IsNewWardOf};
 
 use exh_callers::PlainWard;
-use exh_file_settings::FileSettings;
 use exh_fixtures::{opened_ward, refused};
 use exh_frames::PlainPages;
 use exh_join::Join;
 use exh_keyer::PlainKeyer;
 use exh_legal::fitting_tables_begin_wards;
 use exh_runs::{Difference, Part, again};
+use exh_settings::FileSettings;
 use exh_ward::{Ward, WardFault};
 use std::alloc::Global;
 

@@ -1,7 +1,7 @@
 //! Stores of which one call fails.
 
 use exh_codec::DIGEST_LEN;
-use exh_failing::FailingPages;
+use exh_fixtures::FailingPages;
 use exh_frames::{Pages, StoreMaker};
 use exh_keyer::Keyer;
 use exh_page::Page;

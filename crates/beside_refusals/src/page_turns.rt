@@ -6,7 +6,7 @@ use crate::failing_maker::FailingMaker;
 use crate::lists::{LISTS, List};
 use crate::played::{CONFIG, OUT_OF_REACH, Played, events_of, new_world, play, turns_of};
 use exh_event::{StepFault, Turn};
-use exh_failing::FailingPages;
+use exh_fixtures::FailingPages;
 use exh_frames::{Pages, PlainMaker, PlainPages, StoreMaker};
 use exh_images::{CACHE_SIZE_LIMIT, CacheFault, FramedMaker, FramedPages};
 use exh_keyer::AnyKeyer;

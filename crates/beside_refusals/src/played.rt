@@ -3,11 +3,11 @@
 use crate::alike::are_alike;
 use crate::row::Row;
 use exh_event::{Event, StepFault, Turn};
-use exh_file_settings::FileSettings;
 use exh_frames::{Pages, PlainPages};
 use exh_keyer::AnyKeyer;
 use exh_runs::{Difference, Part, again, same};
-use exh_settings::Config;
+use exh_settings::FileSettings;
+use exh_text::Config;
 use exh_ward::{Ward, WardFault};
 use exh_world::World;
 use std::alloc::{AllocError, Global};

@@ -4,10 +4,10 @@
 use crate::three_pairs::{
     BLOCK_LEN, is_saved, not_opened, reader_of, three_pairs, write_to, writer_for,
 };
+use exh_fixtures::FakeReader;
 use exh_frames::PlainMaker;
 use exh_open::{OpenFault, open};
 use exh_runs::{Difference, Part, Run, same};
-use exh_stream::FakeReader;
 use std::alloc::{AllocError, Global};
 use std::io::ErrorKind;
 

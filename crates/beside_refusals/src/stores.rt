@@ -6,11 +6,10 @@ use crate::readers::is_opened;
 use crate::three_pairs::{
     BLOCK_LEN, is_saved, not_opened, reader_of, three_pairs, write_to, writer_for,
 };
-use exh_failing::FailingPages;
+use exh_fixtures::{FailingPages, FakeWriter};
 use exh_frames::{PlainMaker, PlainPages};
 use exh_open::{OpenFault, Opened, open};
 use exh_runs::{Difference, Part, Run, same};
-use exh_stream::FakeWriter;
 use std::alloc::Global;
 
 // More calls than opening and writing make.

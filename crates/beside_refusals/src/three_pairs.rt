@@ -1,11 +1,11 @@
 //! The page file of the three pairs, and writers and readers of it.
 
+use exh_fixtures::{FakeReader, FakeWriter, WriteRefusal};
 use exh_frames::Pages;
 use exh_open::{OpenFault, Opened};
 use exh_page_file::FileWriter;
 use exh_runs::Difference;
 use exh_save::{SaveFault, write_opened};
-use exh_stream::{FakeReader, FakeWriter, WriteRefusal};
 use sha2::{Digest, Sha256};
 use std::alloc::{AllocError, Global};
 

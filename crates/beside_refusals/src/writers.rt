@@ -4,11 +4,11 @@
 ghost use Rattle.std.specs.Prelude.{◌<◌};
 
 use crate::three_pairs::{BLOCK_LEN, not_opened, reader_of, three_pairs, write_to, writer_for};
+use exh_fixtures::{FakeWriter, WriteRefusal};
 use exh_frames::{PlainMaker, PlainPages};
 use exh_open::{Opened, open};
 use exh_runs::{Difference, Part, Run, same};
 use exh_save::SaveFault;
-use exh_stream::{FakeWriter, WriteRefusal};
 use std::io::ErrorKind;
 
 // What the writer answers where it has no room.

@@ -1,10 +1,10 @@
 //! A ward of pages of two records.
 ghost use Rattle.std.specs.Prelude.{◌≡◌};
 
-use exh_file_settings::FileSettings;
 use exh_fixtures::first_store;
 use exh_frames::PlainPages;
 use exh_keyer::PlainKeyer;
+use exh_settings::FileSettings;
 use exh_ward::Ward;
 use std::alloc::{AllocError, Global};
 

@@ -3,7 +3,6 @@ ghost use Rattle.std.specs.Prelude.{◌≡◌};
 ghost use Rattle.exh_keyer.specs.Pseudokey.{plain_pseudokey};
 ghost use Rattle.exh_live.specs.declared.ledgers.TheConstants.{ANSWER_PARTS, ENTRY_PARTS};
 
-use exh_audit::audit;
 use exh_callers::{
     CAP, Caller, PlainFile, PlainWard, Reader, ask, close_settled, is_told, new_file, next_caller,
 };
@@ -11,6 +10,7 @@ use exh_calls::{Call, Reply};
 use exh_fixtures::{Asked, told_reply, value};
 use exh_keyer::PlainKeyer;
 use exh_live::{ANSWER_PARTS, ENTRY_PARTS, Identity};
+use exh_model::audit;
 use exh_page::Value;
 use exh_runs::{Difference, Part, Run, again, same};
 use exh_walk::{Gate, OpenGate};

@@ -1,10 +1,10 @@
 //! Storms under gates, and what each comes to.
-ghost use Rattle.exh_storm_config.specs.StormConfig.{IsStormConfig};
+ghost use Rattle.exh_settings.specs.StormConfig.{IsStormConfig};
 
 use exh_frames::PlainMaker;
 use exh_runs::{Part, Run, again, same};
+use exh_settings::StormConfig;
 use exh_storm::{StormFault, storm};
-use exh_storm_config::StormConfig;
 use exh_watched::{Conductor, Count, Rule, Then, Who};
 use std::alloc::Global;
 use std::sync::Wait;

@@ -13,9 +13,8 @@ use crate::service::{NAMES, serve};
 use anyhow::Context;
 use exh_frames::{PlainMaker, PlainPages};
 use exh_open::{Opened, open};
-use exh_path::{Seen, save_at};
-use exh_progress::{Console, Meter, Unit, Work};
-use exh_system_disk::SystemDisk;
+use exh_path::{Seen, SystemDisk, save_at};
+use exh_stream::{Console, Meter, Unit, Work};
 use std::fs::File;
 use std::str;
 

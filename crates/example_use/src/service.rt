@@ -8,7 +8,6 @@ ghost use Rattle.example_use.specs.Unasked.{AreUnasked};
 use crate::caller::{Caller, File, Pair};
 use anyhow::{Context, bail};
 use exh_copy::{CopyReader, CopyWriter, NewCopyFault, Start, new_copy};
-use exh_file_settings::FileSettings;
 use exh_frames::PlainPages;
 use exh_join::Join;
 use exh_keyer::AnyKeyer;
@@ -17,6 +16,7 @@ use exh_live::{
 };
 use exh_open::Opened;
 use exh_page::{Key, Value};
+use exh_settings::FileSettings;
 use exh_settle::settle;
 use exh_table::Table;
 use exh_ward::Ward;

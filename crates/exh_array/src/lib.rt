@@ -2,10 +2,17 @@
 //! to date notice by notice.
 #![tactic(auto)]
 
+pub use copies::Copies;
 pub use directory::Directory;
 pub use pointers::Pointers;
 
+mod copies;
 mod directory;
+mod held_copy;
+mod known;
 mod leaf_of;
+mod news;
 mod pointer;
 mod pointers;
+mod sent_table;
+mod sent_tables;

@@ -1,6 +1,6 @@
 -- The one ward that a live file begins with.
 use Rattle.std.proofs.Common.{◌≡◌, ℕ, zero, suc, List, [], ◌∷◌, slice_get, Some, refl, sym, subst}
-use Rattle.exh_file_settings.specs.declared.file_settings.FileSettings.{FileSettings}
+use Rattle.exh_settings.specs.declared.file_settings.FileSettings.{FileSettings}
 use Rattle.exh_ward.specs.WardState.{WardState}
 use Rattle.exh_live.specs.LiveFile.{AreNewWardsOf, IsNewWardOf}
 

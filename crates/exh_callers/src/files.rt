@@ -7,7 +7,6 @@ ghost use Rattle.exh_live.specs.declared.ledgers.TheConstants.{ANSWER_PARTS, ENT
 ghost use Rattle.exh_prefix.specs.declared.prefix.TheConstants.{WARD_BITS_LIMIT};
 
 use crate::caller::{File, PlainFile};
-use exh_file_settings::FileSettings;
 use exh_frames::{Pages, PlainMaker, PlainPages};
 use exh_keyer::PlainKeyer;
 use exh_live::{
@@ -15,6 +14,7 @@ use exh_live::{
 };
 use exh_page::CAP_LIMIT;
 use exh_runs::{Difference, Part, Run, same};
+use exh_settings::FileSettings;
 use exh_settle::{Diary, Mismatch, settle};
 use exh_ward::{Ward, new_wards};
 use std::alloc::{AllocError, Global};

@@ -5,8 +5,11 @@
 
 pub use caller::{Caller, File, PlainFile, Reader, ask, is_held, is_told, next_caller};
 pub use files::{CAP, PlainWard, close, close_settled, new_file, one_ward_file, settled};
+pub use live_step::{LiveStep, take_steps};
 pub use rounds::{Writer, is_carried, is_kept, keep};
 
 mod caller;
 mod files;
+pub mod lists;
+mod live_step;
 mod rounds;

@@ -4,7 +4,7 @@ ghost use Rattle.clap.specs.Words.{first_value, found_of};
 ghost use Rattle.exh_command.specs.Fault.{IsWrong, TellsVersion};
 ghost use Rattle.exh_command.specs.Job.{AskForVersion, Asked, Del, Get, IsWithinLimits, Pairs, Put, Storm, Swap, del_spelled, job_asked, job_named, key_spelled, keyer_given, keyer_name, named_of, number_given, number_of, pairing_of, put_spelled, storm_of, swap_spelled, value_spelled};
 ghost use Rattle.exh_command.specs.Parser.{IsJobMet, IsSomeJobMet, key_id, new_id, old_id, pairs_texts_of, path_id, texts_of, value_id};
-ghost use Rattle.exh_storm_config.specs.StormConfig.{IsStormConfig};
+ghost use Rattle.exh_settings.specs.StormConfig.{IsStormConfig};
 
 use crate::fault::CliFault;
 use crate::parser::{
@@ -13,11 +13,10 @@ use crate::parser::{
 };
 use clap::ArgMatches;
 use exh_calls::Call;
-use exh_file_settings::keyer_named;
 use exh_keyer::AnyKeyer;
 use exh_page::{CAP_LIMIT, Key, Value};
 use exh_prefix::WARD_BITS_LIMIT;
-use exh_storm_config::{CALLERS_LIMIT, CALLS_LIMIT, COPIES_LIMIT, StormConfig};
+use exh_settings::{CALLERS_LIMIT, CALLS_LIMIT, COPIES_LIMIT, StormConfig, keyer_named};
 use exh_text::{ByteWord, parse_key, parse_u32};
 use std::alloc::Global;
 use std::convert::AsStr;

@@ -49,8 +49,8 @@ use Rattle.exh_page_file.specs.FileTests.{HeaderFails, IsWhole, PageFails, Table
 use Rattle.exh_page_file.specs.PageFile.{PageFile, page_block, table_block, table_blocks}
 use Rattle.exh_page_file.specs.Reading.{AreBytes, last_prefix}
 use Rattle.exh_page_file.specs.ReadingLemmas.{byte_at, rising_back, rising_front}
-use Rattle.exh_legal_file.specs.LegalFile.{IsLegalPageFile, parts_in, table_naming}
-use Rattle.exh_legal_file.specs.LegalFileLemmas.{count_of_wards, few_bits, table_naming_at}
+use Rattle.exh_page_file.specs.LegalFile.{IsLegalPageFile, parts_in, table_naming}
+use Rattle.exh_page_file.specs.LegalFileLemmas.{count_of_wards, few_bits, table_naming_at}
 use Rattle.exh_direct.specs.declared.direct_fault.DirectFault.{DirectFault}
 use Rattle.exh_direct.specs.declared.direct_fault.DirectFault.TheVariants.{File, Astray, Read, Memory}
 use Rattle.exh_direct.specs.declared.lead.Lead.TheVariants.{Home, Nowhere, To}

@@ -25,8 +25,8 @@ use Rattle.exh_table.specs.WalkLemmas.{walk_on-step, walk_on-stop}
 use Rattle.exh_file.specs.declared.file_entry.FileEntry.{FileEntry}
 use Rattle.exh_file.specs.TableImage.{AreRising, prefixes_of}
 use Rattle.exh_file.specs.RisingLemmas.{all_before}
-use Rattle.exh_legal_file.specs.LegalFile.{table_naming}
-use Rattle.exh_legal_file.specs.NamingLemmas.{named_more, none_named, none_there}
+use Rattle.exh_page_file.specs.LegalFile.{table_naming}
+use Rattle.exh_page_file.specs.NamingLemmas.{named_more, none_named, none_there}
 use Rattle.exh_direct.specs.Walk.{IsOnWay, first_leaf, is_due, passed, passed_all}
 
 -- ---- an entry behind others of lesser prefixes

@@ -17,7 +17,7 @@ use Rattle.exh_file.specs.TableImage.{AreRising, prefixes_of}
 use Rattle.exh_page_file.specs.FileTests.{HeaderFails, PageFails, TableFails}
 use Rattle.exh_page_file.specs.PageFile.{table_blocks}
 use Rattle.exh_page_file.specs.Reading.{last_prefix}
-use Rattle.exh_legal_file.specs.LegalFile.{table_naming}
+use Rattle.exh_page_file.specs.LegalFile.{table_naming}
 use Rattle.exh_direct.specs.declared.direct_fault.DirectFault.{DirectFault}
 use Rattle.exh_direct.specs.declared.direct_fault.DirectFault.TheVariants.{File, Astray, Read, Memory}
 use Rattle.exh_direct.specs.declared.lead.Lead.TheVariants.{Home, Nowhere, To}

@@ -2,7 +2,7 @@ ghost use Rattle.std.specs.Prelude.{◌≡◌, ℕ, List, Some, IfOk, IfErr, Mat
 ghost use Rattle.exh_file.specs.FileVersion.{format_of};
 ghost use Rattle.exh_page_file.specs.PageFile.{PageFile};
 ghost use Rattle.exh_page_file.specs.Reading.{AreBytes};
-ghost use Rattle.exh_legal_file.specs.LegalFile.{IsLegalPageFile};
+ghost use Rattle.exh_page_file.specs.LegalFile.{IsLegalPageFile};
 ghost use Rattle.exh_direct.specs.Answer.{Finds, Refuses};
 ghost use Rattle.exh_direct.specs.Laws.{FindsInFile, IsOtherFault};
 

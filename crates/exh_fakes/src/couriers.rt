@@ -14,12 +14,12 @@ use exh_callers::{
 };
 use exh_calls::Reply;
 use exh_copy::{NewCopyFault, Start, new_copy};
-use exh_file_settings::FileSettings;
 use exh_fixtures::{Asked, Said, first_store};
 use exh_keyer::{Keyer, PlainKeyer};
 use exh_live::{ANSWER_PARTS, Cursors, ENTRY_PARTS, Identity};
 use exh_prefix::PageNo;
 use exh_runs::{Difference, Part, same};
+use exh_settings::FileSettings;
 use exh_table::Table;
 use exh_walk::OpenGate;
 use exh_ward::Ward;

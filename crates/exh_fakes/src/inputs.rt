@@ -1,6 +1,7 @@
 //! Readers that give pieces, and that fail at one read: how many reads there are, and that none comes after a fault.
 
-use exh_stream::{FakeReader, InputFault, ReadFault, Source};
+use exh_fixtures::FakeReader;
+use exh_stream::{InputFault, ReadFault, Source};
 use std::alloc::{AllocError, Global};
 use std::io::ErrorKind;
 use std::test::Fail;

@@ -1,7 +1,7 @@
 //! What a terminal shows, by a clock that a test sets.
 
 use crate::screen::Screen;
-use exh_progress::{ClearingWriter, Meter, MeteredReader, MeteredWriter, Unit, Work};
+use exh_stream::{ClearingWriter, Meter, MeteredReader, MeteredWriter, Unit, Work};
 use std::alloc::{AllocError, Global};
 use std::io::{Read, Write};
 use std::test::Fail;

@@ -1,6 +1,7 @@
 //! Writers that take pieces, and that refuse one write: how many writes there are, and that none comes after a fault.
 
-use exh_stream::{FakeWriter, Output, WriteFault, WriteRefusal};
+use exh_fixtures::{FakeWriter, WriteRefusal};
+use exh_stream::{Output, WriteFault};
 use std::alloc::Global;
 use std::io::ErrorKind;
 use std::test::Fail;

@@ -1,4 +1,4 @@
-use exh_progress::Terminal;
+use exh_stream::Terminal;
 use std::alloc::Global;
 use std::cell::{Cell, RefCell};
 use std::io;

@@ -7,7 +7,7 @@ ghost use Rattle.exh_page.specs.Search.{IsSought};
 ghost use Rattle.exh_frames.specs.PageStore.{IfPage};
 
 use exh_codec::BLOCK_LEN;
-use exh_failing::{FailingPages, PagesCall};
+use exh_fixtures::{FailingPages, PagesCall};
 use exh_frames::{Pages, PagesFault, PlainPages};
 use exh_page::{Key, Page, Record, Records, Spot, Value};
 use exh_prefix::{PageNo, Prefix};

@@ -2,7 +2,7 @@
 
 use crate::screen::Screen;
 use arrayvec::ArrayVec;
-use exh_progress::{StormMeter, Terminal};
+use exh_stream::{StormMeter, Terminal};
 use std::sync::Mutex;
 use std::sync::atomic::{AtomicU32, AtomicU64, Ordering};
 use std::thread;

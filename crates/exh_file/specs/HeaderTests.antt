@@ -10,7 +10,7 @@ use Rattle.exh_file.specs.declared.file_fault.FileFault.TheVariants as faults
 use Rattle.exh_file.specs.declared.header.Header.{Header}
 use Rattle.exh_file.specs.declared.header.TheConstants.{COUNTS_LEN, HEADER_LEN}
 use Rattle.exh_file.specs.FileVersion.{FileVersion}
-use Rattle.exh_file_settings.specs.Keyers.{keyer_byte}
+use Rattle.exh_settings.specs.Keyers.{keyer_byte}
 use Rattle.exh_file.specs.HeaderImage.{IsHeader}
 
 -- the header is what the fields of a block say

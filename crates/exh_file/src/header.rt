@@ -10,9 +10,9 @@ ghost use Rattle.exh_prefix.specs.Layout.{layout};
 use crate::FileFault;
 use byteorder::{BigEndian, ByteOrder};
 use exh_codec::{BLOCK_LEN, CONTENT_LEN, ImageFault, are_zero, is_sealed, seal};
-use exh_file_settings::{FileSettings, keyer_byte, keyer_of_byte};
 use exh_keyer::AnyKeyer;
 use exh_prefix::{Version, WRITTEN};
+use exh_settings::{FileSettings, keyer_byte, keyer_of_byte};
 
 /// For how many wards a header counts pages.
 pub const COUNTS_LEN: usize = 16;

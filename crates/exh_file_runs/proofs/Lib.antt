@@ -5,3 +5,4 @@ pub mod PairsHomes
 pub mod PairsText
 pub mod PairsBytes
 pub mod PairsAgain
+pub mod LoadLemmas

@@ -8,8 +8,8 @@ use Rattle.std.proofs.lemmas.List.Concat.{flat_map-append}
 use Rattle.std.proofs.lemmas.List.Folds.{sum_by-replicate}
 use Rattle.exh_keyer.specs.Pseudokey.{any_pseudokey}
 use Rattle.exh_keyer.specs.declared.any_keyer.AnyKeyer.{AnyKeyer}
-use Rattle.exh_file_settings.specs.FileSettings.{AreInRange}
-use Rattle.exh_file_settings.specs.declared.file_settings.FileSettings.{FileSettings}
+use Rattle.exh_settings.specs.FileSettings.{AreInRange}
+use Rattle.exh_settings.specs.declared.file_settings.FileSettings.{FileSettings}
 use Rattle.exh_page.specs.KeyMap.{KeyMap, pair_of}
 use Rattle.exh_page.specs.Page.{records_of}
 use Rattle.exh_page.specs.declared.page.Page.{Page}
@@ -23,13 +23,13 @@ use Rattle.exh_legal.specs.MapLemmas.{map_of_records}
 use Rattle.exh_file.specs.FileVersion.{format_of}
 use Rattle.exh_page_file.specs.PageFile.{PageFile, pages_of}
 use Rattle.exh_page_file.specs.Reading.{AreBytes}
-use Rattle.exh_legal_file.specs.LegalFile.{IsLegalPageFile}
+use Rattle.exh_page_file.specs.LegalFile.{IsLegalPageFile}
 use Rattle.exh_report.specs.Lines.{Lines, lines_text}
 use Rattle.exh_report.specs.Pairs.{first_words, pairs_lines, record_words, records_lines, settings_over}
 use Rattle.exh_report.specs.declared.other_settings.OtherSettings.{OtherSettings}
 use Rattle.exh_load.specs.Load.{at_end, empty_loading, load_after, load_of_lines, number_line, record_count, new_file}
 use Rattle.exh_load.specs.Loading.{Loading, after_pair_line, after_read_pair, load_text_from, loaded_from, pair_told, put_text}
-use Rattle.exh_change.specs.FileChange.{AreParts}
+use Rattle.exh_open.specs.FileChange.{AreParts}
 use Rattle.exh_load.specs.OneMap.{NewMapsAreNone, LoadsAreOneMaps, pair_in, pairs_of, puts_left, text_by_one, told_by_one}
 use Rattle.exh_file_runs.specs.PairsAgain.{LoadsAgain, PairsLoadAgain, TellsAgain}
 use Rattle.exh_file_runs.specs.declared.file_run.Topic.{Topic}

@@ -20,8 +20,8 @@ use Rattle.exh_legal.specs.PlaceLemmas.{home_bare}
 use Rattle.exh_legal.specs.Pages.{IsAt, IsHome, IsLegal, IsLegalPage, IsWithin}
 use Rattle.exh_file.specs.FileVersion.{format_of, version_of}
 use Rattle.exh_page_file.specs.PageFile.{PageFile, pages_of}
-use Rattle.exh_legal_file.specs.LegalFile.{IsLegalPageFile}
-use Rattle.exh_legal_file.specs.LegalFileLemmas.{count_of_wards}
+use Rattle.exh_page_file.specs.LegalFile.{IsLegalPageFile}
+use Rattle.exh_page_file.specs.LegalFileLemmas.{count_of_wards}
 use Rattle.exh_file_runs.proofs.PairsFit.{AreApartPages, HaveOneHome, IsShort}
 
 -- ---- pages of a list

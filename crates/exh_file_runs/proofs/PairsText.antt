@@ -10,8 +10,8 @@ use Rattle.hex.specs.Hex.{encode_lower}
 use Rattle.exh_keyer.specs.declared.any_keyer.AnyKeyer.{AnyKeyer}
 use Rattle.exh_keyer.specs.declared.any_keyer.AnyKeyer.TheVariants.{Plain, Sha}
 use Rattle.exh_keyer.specs.Pseudokey.{keyer_word}
-use Rattle.exh_file_settings.specs.FileSettings.{AreInRange}
-use Rattle.exh_file_settings.specs.declared.file_settings.FileSettings.{FileSettings}
+use Rattle.exh_settings.specs.FileSettings.{AreInRange}
+use Rattle.exh_settings.specs.declared.file_settings.FileSettings.{FileSettings}
 use Rattle.exh_prefix.specs.ListLemmas.{AllByRecursion-append}
 use Rattle.exh_page.specs.KeyMap.{pair_of}
 use Rattle.exh_page.specs.declared.record.Record.{Record}
@@ -21,8 +21,8 @@ use Rattle.exh_text.specs.Lines.{is_empty, lines_of, newline, parts_at, space, w
 use Rattle.exh_text.specs.Numbers.{number_after}
 use Rattle.exh_text.specs.Printing.{is_plain, printed}
 use Rattle.exh_text.specs.TextLemmas.{decimal_graphic, number_again, one_part, parts_at-append, parts_at-word, printed_again, printed_graphic}
-use Rattle.exh_settings.specs.FileLine.{file_line_of, keyer_of, settings_in_range, spelled_file, spelled_settings, telling_of}
-use Rattle.exh_settings.specs.declared.settings.Settings.{Settings}
+use Rattle.exh_text.specs.FileLine.{file_line_of, keyer_of, settings_in_range, spelled_file, spelled_settings, telling_of}
+use Rattle.exh_text.specs.declared.settings.Settings.{Settings}
 use Rattle.exh_report.specs.Lines.{Lines, lines_text}
 use Rattle.exh_report.specs.Pairs.{first_words, record_words}
 use Rattle.exh_load.specs.Loading.{pair_told}

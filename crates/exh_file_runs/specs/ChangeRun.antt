@@ -3,8 +3,8 @@ use Rattle.std.specs.Prelude.{◌≡◌, ◌⊎◌, ℕ, Bool, true, false, cond
 use Rattle.exh_calls.specs.declared.call.Call.{Call}
 use Rattle.exh_calls.specs.declared.reply.Reply.{Reply}
 use Rattle.exh_open.specs.Opened.{OpenedState}
-use Rattle.exh_change.specs.FileChange.{ChangesOneMap, IsChangedIn}
-use Rattle.exh_change.specs.ReplyLine.{is_done, reply_line}
+use Rattle.exh_open.specs.FileChange.{ChangesOneMap, IsChangedIn}
+use Rattle.exh_open.specs.ReplyLine.{is_done, reply_line}
 use Rattle.exh_job.specs.LastLine.{PrintsLine, memory_line}
 use Rattle.exh_job.specs.declared.job_path.JobPath.{JobPath}
 use Rattle.exh_job.specs.declared.ending.Ending.{Ending}

@@ -2,18 +2,18 @@
 use Rattle.std.specs.Prelude.{◌≡◌, ⊤, ◌≤◌, ℕ, List, codes, Some}
 use Rattle.exh_keyer.specs.Pseudokey.{any_pseudokey}
 use Rattle.exh_keyer.specs.declared.any_keyer.AnyKeyer.{AnyKeyer}
-use Rattle.exh_file_settings.specs.FileSettings.{AreInRange}
-use Rattle.exh_file_settings.specs.declared.file_settings.FileSettings.{FileSettings}
+use Rattle.exh_settings.specs.FileSettings.{AreInRange}
+use Rattle.exh_settings.specs.declared.file_settings.FileSettings.{FileSettings}
 use Rattle.exh_legal.specs.Pages.{map_of}
 use Rattle.exh_file.specs.FileVersion.{format_of}
 use Rattle.exh_page_file.specs.PageFile.{PageFile, pages_of}
 use Rattle.exh_page_file.specs.Reading.{AreBytes}
-use Rattle.exh_legal_file.specs.LegalFile.{IsLegalPageFile}
+use Rattle.exh_page_file.specs.LegalFile.{IsLegalPageFile}
 use Rattle.exh_text.specs.Lines.{lines_of}
 use Rattle.exh_report.specs.Lines.{lines_text}
 use Rattle.exh_report.specs.Pairs.{pairs_lines, settings_over}
 use Rattle.exh_report.specs.declared.other_settings.OtherSettings.{OtherSettings}
-use Rattle.exh_change.specs.FileChange.{AreParts}
+use Rattle.exh_open.specs.FileChange.{AreParts}
 use Rattle.exh_load.specs.Load.{at_end, load_of_lines, new_file, number_line, record_count}
 use Rattle.exh_load.specs.Loading.{Loading}
 use Rattle.exh_file_runs.specs.declared.file_run.Topic.{Topic}

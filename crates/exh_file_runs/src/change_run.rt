@@ -5,8 +5,8 @@ ghost use Rattle.exh_job.specs.JobPath.{SavesAt};
 ghost use Rattle.exh_file_runs.specs.ChangeRun.{EndsAnswer, EndsChange, EndsSaved, Refuses, SavesFile, TellsLine};
 
 use exh_calls::{Call, Reply};
-use exh_change::{change_file, is_done, reply_line};
 use exh_job::{Ending, FileWards, JobPath, OUT_OF_MEMORY, Status, print_line};
+use exh_open::{change_file, is_done, reply_line};
 use exh_stream::Output;
 use exh_ward::WardFault;
 use std::alloc::Global;

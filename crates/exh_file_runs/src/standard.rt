@@ -12,8 +12,7 @@ use exh_job::{
 use exh_notes::ReasonReader;
 use exh_page::Key;
 use exh_path::Seen;
-use exh_progress::{ClearingWriter, MeteredReader};
-use exh_stream::Output;
+use exh_stream::{ClearingWriter, MeteredReader, Output};
 use std::cell::Cell;
 use std::fs::File;
 use std::io;

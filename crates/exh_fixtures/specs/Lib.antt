@@ -1,1 +1,2 @@
 pub mod OpenedWard
+pub mod Failure

@@ -5,7 +5,6 @@ ghost use Rattle.exh_page.specs.declared.page.Page.TheVariants.{Live};
 ghost use Rattle.exh_prefix.specs.Leading.{ward_prefix};
 ghost use Rattle.exh_fixtures.specs.OpenedWard.{entry_of_split, halves};
 
-use exh_file_settings::FileSettings;
 use exh_frames::{Pages, PlainPages};
 use exh_keyer::Keyer;
 use exh_legal::{fitting_tables_begin_wards, lone_pages_are_legal, splits_keep_legal};
@@ -13,6 +12,7 @@ use exh_notice::{Entry, Kind};
 use exh_page::{Page, Records};
 use exh_prefix::{PageNo, Prefix};
 use exh_runs::again;
+use exh_settings::FileSettings;
 use exh_table::Table;
 use exh_ward::{Ward, WardFault, first_page};
 use std::alloc::Global;

@@ -5,7 +5,7 @@ use Rattle.exh_text.specs.Printing.{refused_text}
 use Rattle.exh_file.specs.FileVersion.{format_of}
 use Rattle.exh_page_file.specs.PageFile.{PageFile}
 use Rattle.exh_page_file.specs.Reading.{AreBytes, IsAll}
-use Rattle.exh_legal_file.specs.LegalFile.{IsLegalPageFile}
+use Rattle.exh_page_file.specs.LegalFile.{IsLegalPageFile}
 use Rattle.exh_open.specs.Opened.{OpenedState}
 use Rattle.exh_open.specs.Opening.{IsOpenedFile, IsOpenFaultOf}
 use Rattle.exh_open.specs.declared.open_fault.OpenFault.{OpenFault}

@@ -1,6 +1,6 @@
 //! How far reading and saving are, as a terminal is told.
 
-use exh_progress::{BLOCK_LEN, Console, Meter, Unit, Work};
+use exh_stream::{BLOCK_LEN, Console, Meter, Unit, Work};
 use std::fs::File;
 use std::io::{IsTerminal, Stderr};
 use std::{env, io};

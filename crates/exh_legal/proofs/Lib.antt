@@ -28,3 +28,16 @@ pub mod EntryCount
 pub mod Begun
 -- the index of pages by low bounds
 pub mod IndexSeen
+pub mod Bare
+pub mod Passed
+pub mod Index
+pub mod Tiles
+pub mod LeafTests
+pub mod Next
+pub mod Each
+pub mod Fits
+pub mod Entries
+pub mod Firsts
+pub mod Whole
+pub mod OwnPrefix
+pub mod Room

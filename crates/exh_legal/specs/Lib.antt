@@ -11,3 +11,7 @@ pub mod MapLemmas
 pub mod WardMapLemmas
 pub mod NoticeLemmas
 pub mod OrderLemmas
+pub mod FileParts
+pub mod Reasons
+pub mod ReasonLaws
+pub mod BuiltIndex

@@ -1,6 +1,6 @@
 -- What contracts see of a live file and of its seats, and the wards that it begins with.
 use Rattle.std.specs.Prelude.{◌≡◌, ⊤, ℕ, ◌+◌, ◌^◌, List, [], ◌∷◌, length, slice_get, Some}
-use Rattle.exh_file_settings.specs.declared.file_settings.FileSettings.{FileSettings}
+use Rattle.exh_settings.specs.declared.file_settings.FileSettings.{FileSettings}
 use Rattle.exh_settle.specs.Diary.{DiaryState}
 use Rattle.exh_settle.specs.declared.diary_entry.DiaryEntry.{DiaryEntry}
 use Rattle.exh_ward.specs.WardState.{WardState}

@@ -1,6 +1,6 @@
 -- The wards of a new file are those that a live file begins with.
 use Rattle.std.proofs.Common.{◌≡◌, List, sym, ap, subst}
-use Rattle.exh_file_settings.specs.declared.file_settings.FileSettings.{FileSettings}
+use Rattle.exh_settings.specs.declared.file_settings.FileSettings.{FileSettings}
 use Rattle.exh_ward.specs.NewWardLemmas.{count_of_new, new_ward_at}
 use Rattle.exh_ward.specs.NewWards.{new_wards}
 use Rattle.exh_ward.specs.WardState.{WardState}

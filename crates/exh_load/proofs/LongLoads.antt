@@ -5,8 +5,8 @@ use Rattle.std.specs.Option.{option_map}
 use Rattle.exh_stream.specs.Output.{Takes, TakesBeginning}
 use Rattle.exh_stream.specs.OutputLemmas.{AppendsBeginning-from, Takes-then, TakesBeginning-of_more, TakesBeginning-then}
 use Rattle.exh_stream.specs.declared.output.Output.{Output}
-use Rattle.exh_settings.specs.FileLine.{file_line_of}
-use Rattle.exh_settings.specs.declared.settings.Settings.{Settings}
+use Rattle.exh_text.specs.FileLine.{file_line_of}
+use Rattle.exh_text.specs.declared.settings.Settings.{Settings}
 use Rattle.exh_open.specs.Opened.{OpenedState}
 use Rattle.exh_load.specs.Load.{AreWholeLines, Beginning, Ending, Load, Loads, Prints, TakesFront, at_end, load_after, load_begun, load_of_lines, loaded, number_line, record_count, refused}
 use Rattle.exh_load.specs.Loading.{Loading, line_text, load_text_from, loaded_from, loading_in}

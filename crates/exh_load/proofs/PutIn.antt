@@ -17,9 +17,9 @@ use Rattle.exh_calls.specs.declared.reply.Reply.{Reply}
 use Rattle.exh_legal.specs.Pages.{map_of}
 use Rattle.exh_ward.specs.WardState.{WardState, history_begun}
 use Rattle.exh_open.specs.Opened.{AreWardsOf, OpenedState}
-use Rattle.exh_change.specs.FileChange.{AreParts, ChangesOneMap, maps_in as maps_of}
-use Rattle.exh_change.specs.InWardLemmas.{HasSettings, at_within, here, maps_here, one_in, place, reply_here, there}
-use Rattle.exh_change.specs.WardChange.{AreSplitsAtMost, IsChanged}
+use Rattle.exh_open.specs.FileChange.{AreParts, ChangesOneMap, maps_in as maps_of}
+use Rattle.exh_open.specs.InWardLemmas.{HasSettings, at_within, here, maps_here, one_in, place, reply_here, there}
+use Rattle.exh_open.specs.WardChange.{AreSplitsAtMost, IsChanged}
 use Rattle.exh_load.specs.Put.{IsDirectoryOf}
 use Rattle.exh_load.specs.Loader.{HasSplitsIn, IsLoading, IsPutIn, LoaderState, file_in}
 use Rattle.exh_load.specs.Loading.{Loading, after_pair, loading_of, pair_reply}

@@ -3,15 +3,15 @@ use Rattle.std.specs.Prelude.{◌≡◌, ℕ, List, length, slice_get, slice_set
 use Rattle.std.specs.FinMap as map
 use Rattle.exh_keyer.specs.declared.any_keyer.AnyKeyer.{AnyKeyer}
 use Rattle.exh_array.specs.Pointers.{DirectoryState}
-use Rattle.exh_file_settings.specs.declared.file_settings.FileSettings.{FileSettings}
+use Rattle.exh_settings.specs.declared.file_settings.FileSettings.{FileSettings}
 use Rattle.exh_ward.specs.NewWards.{new_wards}
 use Rattle.exh_calls.specs.declared.call.Call.TheVariants.{Put}
 use Rattle.exh_calls.specs.declared.reply.Reply.{Reply}
 use Rattle.exh_keyer.specs.Pseudokey.{any_pseudokey}
 use Rattle.exh_ward.specs.WardState.{WardState, history_begun}
 use Rattle.exh_open.specs.Opened.{OpenedState, in_file}
-use Rattle.exh_change.specs.FileChange.{ward_in}
-use Rattle.exh_change.specs.WardChange.{AreSplitsAtMost, IsChanged}
+use Rattle.exh_open.specs.FileChange.{ward_in}
+use Rattle.exh_open.specs.WardChange.{AreSplitsAtMost, IsChanged}
 use Rattle.exh_load.specs.Put.{IsDirectoryOf}
 
 pub record LoaderState : Type 0 where

@@ -16,7 +16,7 @@ use Rattle.exh_calls.specs.declared.call.Call.TheVariants.{Put}
 use Rattle.exh_calls.specs.declared.reply.Reply.{Reply}
 use Rattle.exh_calls.specs.declared.reply.Reply.TheVariants.{Full}
 use Rattle.exh_open.specs.Opened.{OpenedState}
-use Rattle.exh_change.specs.FileChange.{maps_in}
+use Rattle.exh_open.specs.FileChange.{maps_in}
 use Rattle.exh_load.specs.Loader.{LoaderState, file_in}
 
 -- a file's settings, and the map of each ward, in the order of their numbers

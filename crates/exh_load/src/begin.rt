@@ -1,6 +1,6 @@
 //! What a first line begins: the loader of a new file, or of an opened one.
 ghost use Rattle.std.specs.Prelude.{IfOk, IsTrue};
-ghost use Rattle.exh_settings.specs.FileLine.{file_in_range};
+ghost use Rattle.exh_text.specs.FileLine.{file_in_range};
 ghost use Rattle.exh_load.specs.Load.{IsBegun, beginning, opened_file};
 
 use crate::Loader;
@@ -8,7 +8,7 @@ use exh_frames::{Pages, StoreMaker};
 use exh_keyer::AnyKeyer;
 use exh_notes::Listener;
 use exh_open::Opened;
-use exh_settings::Config;
+use exh_text::Config;
 use std::alloc::{AllocError, Global};
 
 /// The loader of an opened file of these settings, or of a new one over stores that the maker makes. `None` where the

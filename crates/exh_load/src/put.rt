@@ -3,15 +3,15 @@ ghost use Rattle.exh_prefix.specs.Prefix.{Begins};
 ghost use Rattle.exh_calls.specs.declared.call.Call.TheVariants.{Put};
 ghost use Rattle.exh_ward.specs.WardFault.{CountsFailures, IsStoreFault};
 ghost use Rattle.exh_ward.specs.WardState.{IsSoundWard, own_prefix};
-ghost use Rattle.exh_change.specs.WardChange.{AreSplitsAtMost, IsChanged, IsFullAt, IsSplitAway};
+ghost use Rattle.exh_open.specs.WardChange.{AreSplitsAtMost, IsChanged, IsFullAt, IsSplitAway};
 ghost use Rattle.exh_load.specs.Put.{IsDirectoryOf};
 
 use exh_array::Directory;
 use exh_calls::{Call, Reply};
-use exh_change::CHANGER;
 use exh_frames::Pages;
 use exh_keyer::Keyer;
 use exh_legal::walks_name_homes;
+use exh_open::CHANGER;
 use exh_page::{Key, Value};
 use exh_prefix::{LIMIT, PageNo};
 use exh_ward::{Hop, Ward, WardFault};

@@ -1,2 +1,3 @@
 -- of the map machine's pairs
 pub mod PairLemmas
+pub mod Beginnings

@@ -5,6 +5,8 @@
 
 pub use map_machine::MapMachine;
 pub use pair_map::PairMap;
+pub use replay::audit;
 
 mod map_machine;
 mod pair_map;
+mod replay;

@@ -3,7 +3,7 @@ use Rattle.std.specs.Prelude.{ℕ, ◌-◌, ◌^◌, List, Bool, ◌&&◌, ◌||
 use Rattle.std.specs.Str.{bytes_eq}
 use Rattle.exh_page.specs.declared.page.TheConstants.{CAP_LIMIT}
 use Rattle.exh_prefix.specs.declared.prefix.TheConstants.{WARD_BITS_LIMIT}
-use Rattle.exh_settings.specs.declared.file_line.TheConstants.{COPIES_LIMIT}
+use Rattle.exh_text.specs.declared.file_line.TheConstants.{COPIES_LIMIT}
 use Rattle.exh_text.specs.ByteWord.{bytes_of_word, key_in_range, pair_in_range, spelled_pair}
 use Rattle.exh_text.specs.LineFault.{ranged}
 use Rattle.exh_text.specs.Numbers.{index_spelled, number_after, number_spelled}

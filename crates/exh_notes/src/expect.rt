@@ -4,8 +4,9 @@ ghost use Rattle.exh_notes.specs.Expect.{after_keyword, after_view, after_word, 
 
 use exh_page::CAP_LIMIT;
 use exh_prefix::WARD_BITS_LIMIT;
-use exh_settings::COPIES_LIMIT;
-use exh_text::{LineFault, parse_key, parse_pair, parse_u32, parse_u32_after, parse_u64};
+use exh_text::{
+    COPIES_LIMIT, LineFault, parse_key, parse_pair, parse_u32, parse_u32_after, parse_u64,
+};
 
 /// Which word of a line comes next.
 #[derive(Clone, Copy)]

@@ -1,5 +1,5 @@
-use exh_file_settings::FileSettings;
 use exh_keyer::AnyKeyer;
+use exh_settings::FileSettings;
 use exh_text::LineFault;
 
 /// Who is told what a run can't say in its text. Nothing is promised of it.

@@ -8,8 +8,8 @@ use crate::texts::{
 };
 use crate::wrong_word::wrong_word;
 use crate::{Expect, Kind, Listener};
-use exh_file_settings::{FileSettings, is_same_keyer};
 use exh_keyer::AnyKeyer;
+use exh_settings::{FileSettings, is_same_keyer};
 use exh_text::{LineFault, Parts};
 use std::io::Write;
 

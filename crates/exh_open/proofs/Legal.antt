@@ -16,10 +16,10 @@ use Rattle.exh_legal.specs.Laws.{IsWard}
 use Rattle.exh_legal.specs.MapLemmas.{all_pages}
 use Rattle.exh_file.specs.declared.header.Header.{Header}
 use Rattle.exh_page_file.specs.PageFile.{IsKnownFile, PageFile}
-use Rattle.exh_reasons.specs.Laws.{IsLegalFile, LegalFilesPass}
+use Rattle.exh_legal.specs.ReasonLaws.{IsLegalFile, LegalFilesPass}
 use Rattle.exh_ward.specs.WardState.{WardState}
-use Rattle.exh_legal_file.specs.LegalFile.{parts_in, table_naming, ward_tables}
-use Rattle.exh_legal_file.specs.LegalFileLemmas.{count_of_wards, few_bits, ranges_of, table_naming_at}
+use Rattle.exh_page_file.specs.LegalFile.{parts_in, table_naming, ward_tables}
+use Rattle.exh_page_file.specs.LegalFileLemmas.{count_of_wards, few_bits, ranges_of, table_naming_at}
 use Rattle.exh_open.specs.Opened.{AreWardsOf, OpenedState, in_file}
 use Rattle.exh_open.specs.Opening.{AreLegalWards, AreOpened, IsLegalWard, IsOpenedFile, IsOpenedWard}
 

@@ -1,8 +1,8 @@
 -- Faults of opening a page file, and their numbers among all refusals.
 use Rattle.std.specs.Prelude.{◌≡◌, ⊤, ℕ, ◌<◌, Option, None, Result, IfErr}
-use Rattle.exh_legal_file.specs.LegalFile.{IsOtherFault}
-use Rattle.exh_legal_file.specs.declared.legal_file_fault.LegalFileFault.TheVariants.{Memory}
-use Rattle.exh_legal_file.specs.LegalFileFault.{fault_place, fault_reason, legal_file_fault_number}
+use Rattle.exh_page_file.specs.LegalFile.{IsOtherFault}
+use Rattle.exh_page_file.specs.declared.legal_file_fault.LegalFileFault.TheVariants.{Memory}
+use Rattle.exh_page_file.specs.LegalFileFault.{fault_place, fault_reason, legal_file_fault_number}
 use Rattle.exh_ward.specs.declared.ward_fault.WardFault.{WardFault}
 use Rattle.exh_ward.specs.declared.ward_fault.WardFault.TheVariants.{Page as OutOfReach}
 use Rattle.exh_open.specs.declared.open_fault.OpenFault.{OpenFault}

@@ -13,7 +13,7 @@ use Rattle.exh_legal.specs.Pages.{map_of}
 use Rattle.exh_file.specs.declared.header.Header.{Header}
 use Rattle.exh_page_file.specs.PageFile.{PageFile}
 use Rattle.exh_ward.specs.WardState.{WardState, IsSoundWard}
-use Rattle.exh_legal_file.specs.LegalFile.{IsLegalFileFaultOf, table_naming}
+use Rattle.exh_page_file.specs.LegalFile.{IsLegalFileFaultOf, table_naming}
 use Rattle.exh_open.specs.declared.open_fault.OpenFault.{OpenFault}
 use Rattle.exh_open.specs.declared.open_fault.OpenFault.TheVariants.{File, Page as OutOfReach}
 use Rattle.exh_open.specs.Opened.{OpenedState}

@@ -1,10 +1,10 @@
 ghost use Rattle.std.specs.Prelude.{◌≡◌};
-ghost use Rattle.exh_legal_file.specs.declared.legal_file_fault.LegalFileFault.TheVariants.{Memory};
+ghost use Rattle.exh_page_file.specs.declared.legal_file_fault.LegalFileFault.TheVariants.{Memory};
 ghost use Rattle.exh_ward.specs.WardFault.{IsStoreFault};
 ghost use Rattle.exh_open.specs.OpenFault.{open_fault_number, open_fault_of, open_fault_place, open_fault_reason};
 ghost use Rattle.exh_open.specs.declared.open_fault.OpenFault.TheVariants.{File};
 
-use exh_legal_file::LegalFileFault;
+use exh_page_file::LegalFileFault;
 use exh_ward::WardFault;
 use std::alloc::AllocError;
 use thiserror::Error;

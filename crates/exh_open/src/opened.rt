@@ -1,9 +1,9 @@
 ghost use Rattle.std.specs.Prelude.{◌≡◌, ◌↔◌, ℕ, IfErr, IfOk, IsTrue};
 ghost use Rattle.exh_open.specs.Opened.{AreWardsOf, IsWardOf, OpenedState, in_file, settings_in};
 
-use exh_file_settings::FileSettings;
 use exh_frames::Pages;
 use exh_keyer::AnyKeyer;
+use exh_settings::FileSettings;
 use exh_ward::Ward;
 use std::marker::Model;
 

@@ -1,7 +1,7 @@
 pub mod Elements
 pub mod Blocks
 pub mod Pages
-pub mod Tables
+pub mod Entries
 pub mod Places
 pub mod LastPrefix
 pub mod TablePlaces
@@ -11,3 +11,7 @@ pub mod NoFault
 pub mod Read
 pub mod Written
 pub mod SameBlocks
+-- read_legal_file
+pub mod Named
+pub mod Parts
+pub mod LegalRead

@@ -8,3 +8,7 @@ pub mod WaitingImages
 pub mod Writing
 pub mod WritingLemmas
 pub mod Laws
+pub mod LegalFileFault
+pub mod LegalFile
+pub mod LegalFileLemmas
+pub mod NamingLemmas

@@ -3,6 +3,9 @@
 
 pub use exh_disk::{DiskFault, Seen};
 pub use path::{look_at, save_at};
+pub use system_disk::{SystemDisk, SystemFile};
 
+mod found;
 mod path;
+mod system_disk;
 mod wards;

@@ -6,7 +6,7 @@ use crate::wards::Wards;
 use exh_disk::{Disk, DiskFault, Saved, Seen, Target, look, save};
 use exh_frames::Pages;
 use exh_open::Opened;
-use exh_progress::{Meter, Terminal};
+use exh_stream::{Meter, Terminal};
 use std::alloc::Global;
 
 // The bytes that a page file begins with: only such a file is replaced, or an empty one.

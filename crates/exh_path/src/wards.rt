@@ -4,8 +4,8 @@ use exh_disk::{Source, SourceFault};
 use exh_frames::Pages;
 use exh_open::Opened;
 use exh_page_file::FileWriter;
-use exh_progress::{Meter, MeteredWriter, Terminal};
 use exh_save::{SaveFault, write_opened};
+use exh_stream::{Meter, MeteredWriter, Terminal};
 use std::io::Write;
 
 /// Wards that are to be saved as a page file. A meter counts what is written.

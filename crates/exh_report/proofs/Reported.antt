@@ -6,9 +6,9 @@ use Rattle.exh_stream.specs.Output.{AppendsBeginning, Takes, TakesBeginning, Wri
 use Rattle.exh_stream.specs.OutputLemmas.{AppendsBeginning-of_more, Takes-cut, Takes-finished, TakesBeginning-left}
 use Rattle.exh_stream.specs.declared.output.Output.{Output}
 use Rattle.exh_page_file.specs.PageFile.{PageFile}
-use Rattle.exh_legal_file.specs.LegalFile.{IsLegalFileFaultOf}
-use Rattle.exh_legal_file.specs.declared.legal_file_fault.LegalFileFault.{LegalFileFault}
-use Rattle.exh_legal_file.specs.declared.legal_file_fault.LegalFileFault.TheVariants as faults
+use Rattle.exh_page_file.specs.LegalFile.{IsLegalFileFaultOf}
+use Rattle.exh_page_file.specs.declared.legal_file_fault.LegalFileFault.{LegalFileFault}
+use Rattle.exh_page_file.specs.declared.legal_file_fault.LegalFileFault.TheVariants as faults
 use Rattle.exh_report.specs.Finding.{Finding, IsFindingOf, refusal_words, told_lines}
 use Rattle.exh_report.specs.Lines.{Lines, Prints, lines_text}
 use Rattle.exh_report.specs.Report.{Tells}

@@ -5,10 +5,10 @@ use Rattle.exh_text.specs.Printing.{refused_text}
 use Rattle.exh_file.specs.FileVersion.{format_of}
 use Rattle.exh_page_file.specs.PageFile.{PageFile}
 use Rattle.exh_page_file.specs.Reading.{AreBytes, IsAll}
-use Rattle.exh_legal_file.specs.LegalFile.{IsLegalFileFaultOf, IsLegalPageFile}
-use Rattle.exh_legal_file.specs.LegalFileFault.{fault_place, fault_reason, legal_file_fault_number}
-use Rattle.exh_legal_file.specs.declared.legal_file_fault.LegalFileFault.{LegalFileFault}
-use Rattle.exh_legal_file.specs.declared.legal_file_fault.LegalFileFault.TheVariants.{Memory}
+use Rattle.exh_page_file.specs.LegalFile.{IsLegalFileFaultOf, IsLegalPageFile}
+use Rattle.exh_page_file.specs.LegalFileFault.{fault_place, fault_reason, legal_file_fault_number}
+use Rattle.exh_page_file.specs.declared.legal_file_fault.LegalFileFault.{LegalFileFault}
+use Rattle.exh_page_file.specs.declared.legal_file_fault.LegalFileFault.TheVariants.{Memory}
 use Rattle.exh_report.specs.Lines.{Lines}
 use Rattle.exh_report.specs.declared.verdict.Verdict.{Verdict}
 use Rattle.exh_report.specs.declared.verdict.Verdict.TheVariants.{Legal, Refused}

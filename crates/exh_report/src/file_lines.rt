@@ -8,10 +8,10 @@ ghost use Rattle.exh_report.specs.Pairs.{first_words, record_words, records_line
 
 use crate::counts::Counts;
 use exh_file::Header;
-use exh_file_settings::{FileSettings, keyer_name};
 use exh_keyer::AnyKeyer;
 use exh_page::{Page, Record};
 use exh_prefix::PageNo;
+use exh_settings::{FileSettings, keyer_name};
 use exh_text::{push_forward_page, push_live_page, push_number, push_text, push_value};
 use std::alloc::AllocError;
 

@@ -1,8 +1,8 @@
 ghost use Rattle.std.specs.Prelude.{◌≡◌};
 ghost use Rattle.exh_report.specs.Pairs.{settings_over};
 
-use exh_file_settings::FileSettings;
 use exh_keyer::AnyKeyer;
+use exh_settings::FileSettings;
 
 /// Settings that a text of pairs begins with in place of the file's: a cap of 1 to 16, ward bits of 0 to 4 and a keyer,
 /// each where it is given.

@@ -6,10 +6,10 @@ ghost use Rattle.exh_report.specs.Pairs.{first_words, pairs_lines, records_lines
 
 use crate::file_lines::{push_first, push_records};
 use crate::{OtherSettings, ReportFault};
-use exh_file_settings::FileSettings;
 use exh_keyer::AnyKeyer;
 use exh_page::Page;
 use exh_page_file::FileParts;
+use exh_settings::FileSettings;
 use exh_stream::Output;
 use std::alloc::Global;
 use std::io::Write;

@@ -1,12 +1,10 @@
-//! What a program's words ask for.
+//! What words ask for of a list of kinds of run.
 
 use crate::run::USUAL_ROUNDS;
 use crate::{Named, Run};
 use std::alloc::Global;
-use std::env::{self, Env};
-use std::io;
 
-/// What a program's words ask for: the seed of the dice, how long the random runs are, which kinds of
+/// What words ask for: the seed of the dice, how long the random runs are, which kinds of
 /// run are made, and whether the slow code gives one wrong answer in each.
 #[derive(Clone, Copy)]
 pub struct Job<'a, K> {
@@ -17,36 +15,9 @@ pub struct Job<'a, K> {
 }
 
 impl<'a, K: Named> Job<'a, K> {
-    /// What the program's own words ask for, of these kinds of run. `None` where they name no run, which
-    /// is then told on standard error.
-    pub fn asked(
-        rt: &(impl Env + Eprint + AllocGlobal),
-        program: &str,
-        kinds: &'a [K],
-    ) -> Option<Job<'a, K>> {
-        let words = match words(rt) {
-            Err(error) if error.kind() == io::ErrorKind::OutOfMemory => words(rt),
-            words => words,
-        };
-        let job = match words {
-            Ok(words) => Job::of_own_words(words.as_slice(), kinds),
-            Err(_) => None,
-        };
-        if job.is_none() {
-            // Where the line cannot be written, the status alone tells.
-            let _ = eprintln!(rt; "usage: {program} [SEED ROUNDS [all|KIND [wrong]]]");
-        }
-        job
-    }
-
     /// The start of a run.
     pub fn new_run(&self, alloc: Global) -> Run {
         Run::new(alloc, self.seed, self.rounds, self.is_wrong)
-    }
-
-    // The first word is the program's name.
-    fn of_own_words(words: &[String], kinds: &'a [K]) -> Option<Job<'a, K>> {
-        Job::of_words(words.get(1..)?, kinds)
     }
 
     // All kinds of run, at their usual length.
@@ -59,8 +30,9 @@ impl<'a, K: Named> Job<'a, K> {
         }
     }
 
-    // What these words ask for; `None` where they ask for nothing. There is one round at least.
-    fn of_words(words: &[String], kinds: &'a [K]) -> Option<Job<'a, K>> {
+    /// What words ask for of these kinds of run, the usual runs of all where there is none: `None` where they name no
+    /// run. There is one round at least.
+    pub fn of_words(words: &[String], kinds: &'a [K]) -> Option<Job<'a, K>> {
         if words.is_empty() {
             return Some(Job::usual(kinds));
         }
@@ -88,13 +60,8 @@ impl<'a, K: Named> Job<'a, K> {
     }
 }
 
-// The program's name and words.
-fn words(rt: &(impl Env + AllocGlobal)) -> io::Result<Vec<String>> {
-    Ok(env::args(rt)?.collect(rt.alloc())?)
-}
-
-// The one kind of a name, if there is one.
-fn named<'a, K: Named>(kinds: &'a [K], name: &str) -> Option<&'a [K]> {
+/// The one kind of a name, if there is one.
+pub fn named<'a, K: Named>(kinds: &'a [K], name: &str) -> Option<&'a [K]> {
     let at = kinds.iter().position(|kind| kind.name() == name)?;
     kinds.get(at..)?.get(..1)
 }

@@ -4,10 +4,10 @@
 
 pub use dice::Dice;
 pub use difference::{Difference, Part, same};
-pub use job::Job;
+pub use job::{Job, named};
 pub use kind::{Named, RunKind};
 pub use lie::Lie;
-pub use program::{has_told_difference, run_program};
+pub use program::{has_told_difference, own_words, run_kinds};
 pub use run::Run;
 pub use status::Status;
 pub use tally::Tally;

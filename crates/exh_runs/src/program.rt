@@ -1,29 +1,40 @@
-//! A program that makes runs.
+//! The runs of a program, and its words.
 
 use crate::job::Job;
 use crate::status::Status;
 use crate::{RunKind, Tally};
 use std::alloc::Global;
-use std::env::Env;
+use std::env::{self, Env};
 use std::io;
-use std::process::ExitCode;
 
-/// Makes the runs that the program's own words ask for, and prints what each came to. The exit status
-/// is 0 where no step differed, 1 where one did or a line couldn't be written, and 2 where the words
-/// name no run.
-pub fn run_program<K: RunKind>(
-    rt: &(impl Env + Print + Eprint + AllocGlobal),
-    program: &str,
+/// The program's own words, without its name. `None` where they aren't text; where a growth is refused for them they are
+/// asked for again.
+pub fn own_words(rt: &(impl Env + AllocGlobal)) -> Option<Vec<String>> {
+    let words = match words(rt) {
+        Err(error) if error.kind() == io::ErrorKind::OutOfMemory => words(rt),
+        words => words,
+    };
+    words.ok()
+}
+
+fn words(rt: &(impl Env + AllocGlobal)) -> io::Result<Vec<String>> {
+    Ok(env::args(rt)?.skip(1).collect(rt.alloc())?)
+}
+
+/// Makes the runs that words ask for of these kinds, and prints what each came to.
+pub fn run_kinds<K: RunKind>(
+    rt: &(impl Print + Eprint + AllocGlobal),
+    words: &[String],
     kinds: &[K],
-) -> ExitCode {
-    let Some(job) = Job::asked(rt, program, kinds) else {
-        return Status::WrongWords.code();
+) -> Status {
+    let Some(job) = Job::of_words(words, kinds) else {
+        return Status::WrongWords;
     };
     let mut has_differed = false;
     for kind in job.kinds {
         has_differed |= has_told_difference(rt, kind.name(), &run_kind(rt.alloc(), *kind, &job));
     }
-    Status::of_runs(has_differed).code()
+    Status::of_runs(has_differed)
 }
 
 // Makes a run.

@@ -33,8 +33,8 @@ use Rattle.exh_page_file.specs.PageFile.{IsFile, PageFile, file_bytes, header_bl
 use Rattle.exh_page_file.specs.Reading.{AreBytes}
 use Rattle.exh_file.specs.Laws.{HeadersAreBlocks}
 use Rattle.exh_page_file.specs.Laws.{SameBlocks}
-use Rattle.exh_legal_file.specs.LegalFile.{IsLegalPageFile, table_naming, told_of}
-use Rattle.exh_legal_file.specs.LegalFileLemmas.{table_naming_at}
+use Rattle.exh_page_file.specs.LegalFile.{IsLegalPageFile, table_naming, told_of}
+use Rattle.exh_page_file.specs.LegalFileLemmas.{table_naming_at}
 use Rattle.exh_ward.specs.WardState.{WardState}
 use Rattle.exh_open.specs.Opened.{AreWardsOf, OpenedState}
 use Rattle.exh_open.specs.Opening.{IsOpenedFile}

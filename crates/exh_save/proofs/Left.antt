@@ -7,7 +7,7 @@ use Rattle.std.proofs.Math.Seq.{take-append_seam}
 use Rattle.exh_prefix.specs.ListLemmas.{one_there, set_here, set_else}
 use Rattle.exh_keyer.specs.declared.any_keyer.AnyKeyer.{AnyKeyer}
 use Rattle.exh_ward.specs.WardState.{IsUnchanged, WardState}
-use Rattle.exh_file_settings.specs.declared.file_settings.FileSettings.{FileSettings}
+use Rattle.exh_settings.specs.declared.file_settings.FileSettings.{FileSettings}
 use Rattle.exh_open.specs.Opened.{AreWardsOf, IsWardOf, OpenedState, in_file, settings_in}
 use Rattle.exh_save.specs.SaveFault.{CountsSaveFailures}
 use Rattle.exh_save.specs.Saved.{AreUnchanged, failures_in}

@@ -33,8 +33,8 @@ use Rattle.exh_legal.specs.Pages.{AreLinked, IsAt, bare}
 use Rattle.exh_file.specs.FileVersion.{written_format}
 use Rattle.exh_file.specs.HeaderImage.{IsHeader, IsPageCount}
 use Rattle.exh_file.specs.declared.file_entry.FileEntry.{FileEntry}
-use Rattle.exh_reasons.specs.FileParts.{parts_of}
-use Rattle.exh_reasons.specs.Laws.{IsLegalFile, LegalTablesHaveRoom}
+use Rattle.exh_legal.specs.FileParts.{parts_of}
+use Rattle.exh_legal.specs.ReasonLaws.{IsLegalFile, LegalTablesHaveRoom}
 use Rattle.exh_ward.specs.WardState.{WardState, own_prefix}
 use Rattle.exh_open.specs.Opened.{AreWardsOf, OpenedState}
 use Rattle.exh_save.specs.Saved.{AreShort, AreSound, entries_of_all, entries_of, file_entry, header_of, pages_of_all}

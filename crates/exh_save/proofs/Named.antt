@@ -24,7 +24,7 @@ use Rattle.exh_notice.specs.declared.entry.Entry.{Entry}
 use Rattle.exh_table.specs.Table.{TableMap}
 use Rattle.exh_file.specs.TableImage.{AreRising, prefixes_of}
 use Rattle.exh_file.specs.declared.file_entry.FileEntry.{FileEntry}
-use Rattle.exh_legal_file.specs.LegalFile.{naming, told_of}
+use Rattle.exh_page_file.specs.LegalFile.{naming, told_of}
 use Rattle.exh_legal.specs.OrderLemmas.{is_less}
 use Rattle.exh_ward.specs.WardState.{WardState}
 use Rattle.exh_save.specs.Saved.{entries_of_all, entries_of, file_entry}

@@ -33,9 +33,9 @@ use Rattle.exh_file.specs.TableImage.{AreRising, IsFileEntry, prefixes_of}
 use Rattle.exh_file.specs.declared.file_entry.FileEntry.{FileEntry}
 use Rattle.exh_page_file.specs.Laws.{OneFile, blocks_behind}
 use Rattle.exh_page_file.specs.PageFile.{IsFile, PageFile, file_bytes, header_block, pages_of}
-use Rattle.exh_reasons.specs.Laws.{IsLegalFile, LegalFilesPass, LegalTablesHaveRoom}
-use Rattle.exh_legal_file.specs.LegalFile.{IsLegalPageFile, parts_in, table_naming, tables_of}
-use Rattle.exh_legal_file.specs.LegalFileLemmas.{table_naming_at}
+use Rattle.exh_legal.specs.ReasonLaws.{IsLegalFile, LegalFilesPass, LegalTablesHaveRoom}
+use Rattle.exh_page_file.specs.LegalFile.{IsLegalPageFile, parts_in, table_naming, tables_of}
+use Rattle.exh_page_file.specs.LegalFileLemmas.{table_naming_at}
 use Rattle.exh_ward.specs.WardState.{WardState}
 use Rattle.exh_open.specs.Opened.{AreWardsOf, OpenedState}
 use Rattle.exh_open.specs.Opening.{IsOpenedFile, ward_opened}

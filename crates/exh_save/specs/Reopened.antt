@@ -11,7 +11,7 @@ use Rattle.exh_codec.specs.Block.{sealed}
 use Rattle.exh_file.specs.FileVersion.{format_of, number_of_version, version_of, written_format}
 use Rattle.exh_page_file.specs.PageFile.{PageFile, file_bytes}
 use Rattle.exh_page_file.specs.Reading.{AreBytes}
-use Rattle.exh_legal_file.specs.LegalFile.{IsLegalPageFile}
+use Rattle.exh_page_file.specs.LegalFile.{IsLegalPageFile}
 use Rattle.exh_ward.specs.WardState.{WardState}
 use Rattle.exh_open.specs.Opened.{OpenedState}
 use Rattle.exh_open.specs.Opening.{IsOpenedFile}

@@ -9,10 +9,10 @@ ghost use Rattle.exh_ward.specs.WardState.{IsSoundWard, WardState};
 ghost use Rattle.exh_save.specs.Saved.{AreSound, counts_in, entries_of_all, header_of};
 
 use exh_file::{COUNTS_LEN, Header};
-use exh_file_settings::FileSettings;
 use exh_frames::Pages;
 use exh_keyer::AnyKeyer;
 use exh_legal::entries_are_few;
+use exh_settings::FileSettings;
 use exh_table::Table;
 use exh_ward::Ward;
 

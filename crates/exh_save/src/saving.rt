@@ -23,13 +23,14 @@ use crate::SaveFault;
 use crate::header::header_of;
 use exh_codec::BLOCK_LEN;
 use exh_file::{FileEntry, Header, images_are_blocks};
-use exh_file_settings::FileSettings;
 use exh_frames::Pages;
 use exh_keyer::AnyKeyer;
-use exh_legal::{fitting_tables_begin_wards, pages_are_few};
+use exh_legal::{
+    fitting_tables_begin_wards, legal_files_pass, legal_tables_have_room, pages_are_few,
+};
 use exh_page_file::{FileWriter, one_file, same_blocks};
 use exh_prefix::PageNo;
-use exh_reasons::{legal_files_pass, legal_tables_have_room};
+use exh_settings::FileSettings;
 use exh_stream::WriteFault;
 use exh_table::Table;
 use exh_ward::Ward;

@@ -20,12 +20,12 @@ use Rattle.exh_world.specs.Laws.{NewWorldsAreSound}
 use Rattle.exh_ward.specs.NewWards.{new_ward}
 use Rattle.exh_world.specs.NewWorld.{new_world}
 use Rattle.exh_world.specs.World.{map_in}
-use Rattle.exh_settings.specs.declared.config.Config.{Config}
+use Rattle.exh_text.specs.declared.config.Config.{Config}
 use Rattle.exh_world.specs.ListLemmas.{mapped_is}
 use Rattle.exh_script.specs.Text.{opened, settings_of}
-use Rattle.exh_settings.specs.FileLine.{file_in_range, settings_in_range, file_line_of, spelled_file}
-use Rattle.exh_settings.specs.declared.file_line.TheConstants.{COPIES_LIMIT}
-use Rattle.exh_settings.specs.declared.settings.Settings.{Settings}
+use Rattle.exh_text.specs.FileLine.{file_in_range, settings_in_range, file_line_of, spelled_file}
+use Rattle.exh_text.specs.declared.file_line.TheConstants.{COPIES_LIMIT}
+use Rattle.exh_text.specs.declared.settings.Settings.{Settings}
 use Rattle.exh_line.specs.declared.refusal.Refusal.{Refusal}
 use Rattle.exh_text.specs.declared.line_fault.LineFault.TheVariants.{Range}
 use Rattle.exh_script.proofs.KeptWorlds.{IsServedWorld}

@@ -13,16 +13,16 @@ use Rattle.exh_world.specs.NewWorld.{settings_of}
 use Rattle.exh_world.specs.Run.{answered_in, journal_entry_of}
 use Rattle.exh_world.specs.Sound.{IsSoundWorld}
 use Rattle.exh_world.specs.World.{map_in}
-use Rattle.exh_settings.specs.declared.config.Config.{Config}
+use Rattle.exh_text.specs.declared.config.Config.{Config}
 use Rattle.exh_line.specs.Answer.{answer_text}
-use Rattle.exh_settings.specs.FileLine.{file_in_range}
+use Rattle.exh_text.specs.FileLine.{file_in_range}
 use Rattle.exh_script.specs.Replies.{turns_from, world_left, steps_from, EnterInOrder, SaysNoStray, ShowTheSame}
 use Rattle.exh_script.specs.Text.{ScriptWorld, Beginning, Start, response_text, start_of, text_of, ended_of}
 use Rattle.exh_line.specs.declared.answer.Answer.TheVariants.{Refused}
 use Rattle.exh_script.specs.declared.ended.Ended.{Ended}
 use Rattle.exh_script.specs.declared.ended.Ended.TheVariants as ended
 use Rattle.exh_line.specs.declared.refusal.Refusal.{Refusal}
-use Rattle.exh_settings.specs.declared.script.TheConstants.{SCRIPT_LIMIT}
+use Rattle.exh_text.specs.declared.script.TheConstants.{SCRIPT_LIMIT}
 
 -- each world that a right first line begins is sound, and no request is in flight there
 abbrev pub BeginsSound : Beginning → Type 0

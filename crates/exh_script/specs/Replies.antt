@@ -16,7 +16,7 @@ use Rattle.exh_world.specs.Run.{Told, answered_in, journal_entry_of}
 use Rattle.exh_world.specs.StepFunction.{result_of}
 use Rattle.exh_prefix.specs.Leading.{ward_of}
 use Rattle.exh_world.specs.World.{map_in, numbered}
-use Rattle.exh_settings.specs.declared.config.Config.{Config}
+use Rattle.exh_text.specs.declared.config.Config.{Config}
 use Rattle.exh_event.specs.declared.event.Event.TheVariants.{Begin, Hop}
 use Rattle.exh_event.specs.declared.turn.Turn.{Turn as StepTurn}
 use Rattle.exh_line.specs.Answer.{answer_text, copy_text}
@@ -26,8 +26,8 @@ use Rattle.exh_line.specs.Shown.{shown_text}
 use Rattle.exh_line.specs.declared.answer.Answer.TheVariants.{Begun, Replied, Stray, Refused}
 use Rattle.exh_script.specs.declared.ended.Ended.{Ended}
 use Rattle.exh_script.specs.declared.ended.Ended.TheVariants as ended
-use Rattle.exh_settings.specs.declared.settings.Settings.{Settings}
-use Rattle.exh_settings.specs.declared.script.TheConstants.{SCRIPT_LIMIT}
+use Rattle.exh_text.specs.declared.settings.Settings.{Settings}
+use Rattle.exh_text.specs.declared.script.TheConstants.{SCRIPT_LIMIT}
 use Rattle.exh_line.specs.declared.line.Line.{Line}
 use Rattle.exh_line.specs.declared.line.Line.TheVariants.{Step}
 use Rattle.exh_line.specs.declared.refusal.Refusal.{Refusal}

@@ -9,18 +9,18 @@ use Rattle.exh_world.specs.NewWorld.{new_world}
 use Rattle.exh_world.specs.Step.{CountsFailure}
 use Rattle.exh_world.specs.StepFunction.{result_of, world_after}
 use Rattle.exh_world.specs.World.{WorldState}
-use Rattle.exh_settings.specs.declared.config.Config.{Config}
+use Rattle.exh_text.specs.declared.config.Config.{Config}
 use Rattle.exh_event.specs.declared.step_fault.StepFault.{StepFault}
 use Rattle.exh_line.specs.Answer.{answer_text, step_answer}
-use Rattle.exh_settings.specs.FileLine.{file_line_of}
+use Rattle.exh_text.specs.FileLine.{file_line_of}
 use Rattle.exh_line.specs.Grammar.{line_of}
 use Rattle.exh_script.specs.View.{view_result}
 use Rattle.exh_line.specs.declared.answer.Answer.{Answer}
 use Rattle.exh_line.specs.declared.answer.Answer.TheVariants.{Refused}
 use Rattle.exh_script.specs.declared.ended.Ended.{Ended}
 use Rattle.exh_script.specs.declared.ended.Ended.TheVariants as ended
-use Rattle.exh_settings.specs.declared.settings.Settings.{Settings}
-use Rattle.exh_settings.specs.declared.script.TheConstants.{SCRIPT_LIMIT}
+use Rattle.exh_text.specs.declared.settings.Settings.{Settings}
+use Rattle.exh_text.specs.declared.script.TheConstants.{SCRIPT_LIMIT}
 use Rattle.exh_line.specs.declared.line.Line.{Line}
 use Rattle.exh_line.specs.declared.line.Line.TheVariants as lines
 use Rattle.exh_line.specs.declared.refusal.Refusal.{Refusal}

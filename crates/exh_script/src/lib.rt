@@ -10,11 +10,19 @@ pub use laws::{
 pub use response::push_response;
 pub use response_fault::ResponseFault;
 pub use run::Run;
+pub use serve_fault::ServeFault;
+pub use serve_laws::{done_runs_leave_wards, replies_follow_the_file};
+pub use server::serve_from;
 
+mod beginning;
 mod begun;
 mod ended;
 mod in_flight_text;
 mod laws;
+mod respond;
 mod response;
 mod response_fault;
 mod run;
+mod serve_fault;
+mod serve_laws;
+mod server;

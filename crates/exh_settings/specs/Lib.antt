@@ -1,1 +1,3 @@
-pub mod FileLine
+pub mod Keyers
+pub mod FileSettings
+pub mod StormConfig

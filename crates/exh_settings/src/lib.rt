@@ -1,12 +1,11 @@
-//! The first line of a script, and of a text of pairs: the settings of a file, in their ranges.
+//! The settings that all parts of a file have in common, in their ranges, and the word, the byte and the equality of its
+//! keyer.
 #![tactic(auto)]
 
-pub use config::Config;
-pub use file_line::{COPIES_LIMIT, parse_file_line};
-pub use script::SCRIPT_LIMIT;
-pub use settings::Settings;
+pub use config::{CALLERS_LIMIT, CALLS_LIMIT, COPIES_LIMIT, StormConfig};
+pub use file_settings::FileSettings;
+pub use keyers::{is_same_keyer, keyer_byte, keyer_name, keyer_named, keyer_of_byte};
 
 mod config;
-mod file_line;
-mod script;
-mod settings;
+mod file_settings;
+mod keyers;

@@ -4,15 +4,14 @@ ghost use Rattle.exh_prefix.specs.Leading.{ward_of};
 ghost use Rattle.exh_settle.specs.Settled.{IsSettled, answer_count};
 ghost use Rattle.exh_keyer.specs.Pseudokey.{sha_pseudokey};
 ghost use Rattle.exh_live.specs.declared.ledgers.TheConstants.{ANSWER_PARTS, ENTRY_PARTS};
-ghost use Rattle.exh_storm_config.specs.StormConfig.{IsStormConfig};
+ghost use Rattle.exh_settings.specs.StormConfig.{IsStormConfig};
 
 use crate::StormFault;
-use exh_file_settings::FileSettings;
 use exh_frames::{Pages, StoreMaker};
 use exh_keyer::ShaKeyer;
 use exh_live::{Closed, Identity, LiveFile, WardJournals};
+use exh_settings::{FileSettings, StormConfig};
 use exh_settle::{Diary, settle};
-use exh_storm_config::StormConfig;
 use exh_ward::{Ward, new_wards};
 use std::alloc::{AllocError, Global};
 use std::sync::ledger::Blank;

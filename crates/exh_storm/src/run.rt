@@ -5,7 +5,7 @@ ghost use Rattle.exh_live.specs.declared.ledgers.TheConstants.{ANSWER_PARTS, ENT
 ghost use Rattle.exh_settle.specs.Settled.{answer_count};
 ghost use Rattle.exh_storm.specs.StormCalls.{AreServed, IsServed};
 ghost use Rattle.exh_storm.specs.StormLeft.{IsLeft};
-ghost use Rattle.exh_storm_config.specs.StormConfig.{IsStormConfig};
+ghost use Rattle.exh_settings.specs.StormConfig.{IsStormConfig};
 
 use crate::file::{StormFile, StormLeft, new_file, settled};
 use crate::overseers::Overseers;
@@ -16,7 +16,7 @@ use exh_copy::Start;
 use exh_frames::{Pages, StoreMaker};
 use exh_keyer::ShaKeyer;
 use exh_live::{ANSWER_PARTS, Closed, ENTRY_PARTS, Identity, Seat};
-use exh_storm_config::StormConfig;
+use exh_settings::StormConfig;
 use exh_walk::Gate;
 use std::alloc::Global;
 use std::marker::Brand;

@@ -4,7 +4,7 @@ ghost use Rattle.std.specs.FinMap as map;
 ghost use Rattle.exh_prefix.specs.declared.prefix.TheConstants.{WARD_BITS_LIMIT};
 ghost use Rattle.exh_settle.specs.declared.diary.TheConstants.{CALLER_LIMIT};
 ghost use Rattle.exh_live.specs.PlaceLemmas.{AreFirst};
-ghost use Rattle.exh_storm_config.specs.StormConfig.{IsStormConfig};
+ghost use Rattle.exh_settings.specs.StormConfig.{IsStormConfig};
 ghost use Rattle.exh_storm.specs.StormRounds.{IsWorkersFault};
 
 use crate::file::StormFile;
@@ -12,7 +12,7 @@ use crate::{Caller, Courier, OpenCopy, StormFault};
 use exh_copy::{CopyReader, NewCopyFault, Start, new_copy};
 use exh_frames::Pages;
 use exh_live::Identity;
-use exh_storm_config::StormConfig;
+use exh_settings::StormConfig;
 use exh_table::Table;
 use std::alloc::Global;
 use std::sync::Wait;

@@ -2,3 +2,8 @@ pub mod Source
 pub mod SourceLemmas
 pub mod Output
 pub mod OutputLemmas
+pub mod Pace
+pub mod Line
+pub mod MeteredReader
+pub mod MeteredWriter
+pub mod ClearingWriter

@@ -5,3 +5,4 @@ pub mod Printing
 pub mod Contents
 pub mod LineFault
 pub mod TextLemmas
+pub mod FileLine

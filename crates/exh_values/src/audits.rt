@@ -1,8 +1,8 @@
 //! Journals whose replies were worked out by hand.
 
-use exh_audit::audit;
 use exh_calls::{Base, Call, Journal, Reply};
 use exh_keyer::PlainKeyer;
+use exh_model::audit;
 use exh_page::{Key, SizeFault, Value};
 use std::alloc::Global;
 use std::test::Fail;

@@ -11,13 +11,13 @@ ghost use Rattle.exh_prefix.specs.declared.prefix.TheConstants.{WARD_BITS_LIMIT}
 
 use crate::seen::Seen;
 use exh_calls::{Base, Journal};
-use exh_file_settings::FileSettings;
 use exh_frames::Pages;
 use exh_keyer::Keyer;
 use exh_legal::{PageIndex, lone_pages_are_legal};
 use exh_notice::Notice;
 use exh_page::{CAP_LIMIT, Page, Records};
 use exh_prefix::Prefix;
+use exh_settings::FileSettings;
 use exh_table::Table;
 use std::alloc::Global;
 use std::marker::Model;

@@ -6,10 +6,10 @@ ghost use Rattle.exh_prefix.specs.declared.prefix.TheConstants.{WARD_BITS_LIMIT}
 
 use crate::watched_pages::{WatchedMaker, WatchedPages};
 use exh_callers::{CAP, File};
-use exh_file_settings::FileSettings;
 use exh_frames::{Pages, StoreMaker};
 use exh_keyer::PlainKeyer;
 use exh_live::{ANSWER_PARTS, ENTRY_PARTS, Identity, LiveFile};
+use exh_settings::FileSettings;
 use exh_ward::new_wards;
 use std::alloc::{AllocError, Global};
 use std::sync::ledger::Blank;

@@ -18,7 +18,7 @@ use Rattle.exh_world.specs.NewWorld.{new_world}
 use Rattle.exh_world.specs.Sound.{LeadsRight, LeadsRightIn, IsWardOf, IsSoundWorld}
 use Rattle.exh_world.specs.World.{WorldState}
 use Rattle.exh_world.specs.InFlight.{Requests}
-use Rattle.exh_settings.specs.declared.config.Config.{Config}
+use Rattle.exh_text.specs.declared.config.Config.{Config}
 use Rattle.exh_world.specs.ListLemmas.{mapped_is, numbered_is, numbered_none}
 use Rattle.exh_world.proofs.ToldTruly.{new_told}
 

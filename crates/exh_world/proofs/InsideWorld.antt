@@ -1,7 +1,7 @@
 -- The world that its struct holds.
 use Rattle.std.proofs.Common.{ℕ}
 use Rattle.std.specs.Prelude.{slice_set}
-use Rattle.exh_sent.specs.Copies.{CopiesState}
+use Rattle.exh_array.specs.Copies.{CopiesState}
 use Rattle.exh_ward.specs.WardState.{WardState}
 use Rattle.exh_world.specs.InFlight.{Requests}
 use Rattle.exh_world.specs.World.{WorldState}

@@ -8,7 +8,7 @@ use Rattle.exh_ward.specs.WardState.{IsSoundWard}
 use Rattle.exh_prefix.specs.declared.prefix.TheConstants.{WARD_BITS_LIMIT}
 use Rattle.exh_ward.specs.NewWards.{new_ward}
 use Rattle.exh_world.specs.NewWorld.{new_world}
-use Rattle.exh_settings.specs.declared.config.Config.{Config}
+use Rattle.exh_text.specs.declared.config.Config.{Config}
 use Rattle.exh_world.proofs.FreshWorld.{AreSoundWards}
 use Rattle.exh_world.specs.ListLemmas.{mapped_is}
 

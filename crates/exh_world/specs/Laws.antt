@@ -10,7 +10,7 @@ use Rattle.exh_world.specs.Sound.{IsSoundWorld}
 use Rattle.exh_world.specs.Step.{CountsFailure, ReachesInto, Step}
 use Rattle.exh_world.specs.StepFunction.{result_of, world_after}
 use Rattle.exh_world.specs.World.{WorldState}
-use Rattle.exh_settings.specs.declared.config.Config.{Config}
+use Rattle.exh_text.specs.declared.config.Config.{Config}
 use Rattle.exh_event.specs.declared.event.Event.{Event}
 use Rattle.exh_event.specs.declared.outcome.Outcome.{Outcome}
 use Rattle.exh_event.specs.declared.outcome.Outcome.TheVariants.{Changed}

@@ -2,9 +2,9 @@ ghost use Rattle.std.specs.Prelude.{◌≡◌};
 ghost use Rattle.exh_world.specs.Sound.{IsSoundWorld};
 
 use crate::in_flight::InFlight;
+use exh_array::Copies;
 use exh_frames::Pages;
 use exh_keyer::Keyer;
-use exh_sent::Copies;
 use exh_ward::Ward;
 use std::alloc::Global;
 use std::marker::Model;

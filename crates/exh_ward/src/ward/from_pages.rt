@@ -18,13 +18,13 @@ use super::{Ward, own_prefix};
 use crate::WardFault;
 use crate::seen::Seen;
 use exh_calls::{Base, Journal, PackedPairs};
-use exh_file_settings::FileSettings;
 use exh_frames::Pages;
 use exh_join::Join;
 use exh_keyer::Keyer;
 use exh_legal::{PageIndex, entries_are_few, index_of};
 use exh_page::{CAP_LIMIT, Page, Records};
 use exh_prefix::PageNo;
+use exh_settings::FileSettings;
 use exh_table::{Table, own_entries_give_the_table};
 use std::alloc::{AllocError, Global};
 

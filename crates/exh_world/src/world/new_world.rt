@@ -6,11 +6,10 @@ ghost use Rattle.exh_world.specs.Sound.{IsSoundWorld};
 
 use super::World;
 use crate::in_flight::InFlight;
-use exh_array::Directory;
+use exh_array::{Copies, Directory};
 use exh_frames::{Pages, PlainMaker, PlainPages, StoreMaker};
 use exh_keyer::Keyer;
-use exh_sent::Copies;
-use exh_settings::Config;
+use exh_text::Config;
 use exh_ward::new_wards;
 use std::alloc::{AllocError, Global};
 

@@ -1,6 +1,6 @@
 use Rattle.std.proofs.Common.{◌≡◌, List, length, slice_get, sym, ap, ◌∙◌, subst}
 use Rattle.exh_keyer.specs.declared.any_keyer.AnyKeyer.{AnyKeyer}
-use Rattle.exh_file_settings.specs.declared.file_settings.FileSettings.{FileSettings}
+use Rattle.exh_settings.specs.declared.file_settings.FileSettings.{FileSettings}
 use Rattle.exh_ward.specs.WardState.{WardState}
 use Rattle.exh_open.specs.Opened.{AreWardsOf, OpenedState, settings_in}
 use Rattle.exh_live.specs.LiveFile.{AreNewWardsOf}

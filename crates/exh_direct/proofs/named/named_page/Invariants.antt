@@ -5,7 +5,7 @@ use Rattle.exh_table.specs.Walk.{walk_of}
 use Rattle.exh_file.specs.declared.file_entry.FileEntry.{FileEntry}
 use Rattle.exh_file.specs.FileVersion.{file_version}
 use Rattle.exh_page_file.specs.Reading.{last_prefix}
-use Rattle.exh_legal_file.specs.LegalFile.{table_naming}
+use Rattle.exh_page_file.specs.LegalFile.{table_naming}
 use Rattle.exh_direct.specs.Answer.{IsTableFront, table_place}
 use Rattle.exh_direct.specs.Walk.{IsOnWay}
 use Rattle.exh_direct.proofs.named.named_page.Given as goal

@@ -1,5 +1,5 @@
 use Rattle.std.proofs.Common.{[], ◌∷◌, sym, ap, ◌∙◌}
-use Rattle.exh_settings.specs.FileLine.{file_line_of}
+use Rattle.exh_text.specs.FileLine.{file_line_of}
 use Rattle.exh_load.specs.Load.{at_end, beginning, load_after, refused}
 use Rattle.exh_load.specs.LongLoad.{IsLongLoad, broken_off}
 use Rattle.exh_load.proofs.LongLoads.{long_either, takes_load}

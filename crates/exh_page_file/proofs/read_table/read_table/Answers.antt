@@ -7,7 +7,7 @@ use Rattle.exh_file.specs.TableImage.{AreRising, prefixes_of}
 use Rattle.exh_page_file.specs.FileTests.{NextFails, TableFails}
 use Rattle.exh_page_file.specs.Reading.{FailsInTable, GivesEntries, IsOf, last_prefix}
 use Rattle.exh_page_file.proofs.Pages.{of_later, err_is}
-use Rattle.exh_page_file.proofs.Tables.{fails_next, more_entries}
+use Rattle.exh_page_file.proofs.Entries.{fails_next, more_entries}
 use Rattle.exh_page_file.proofs.read_table.read_table.Goals as goal
 
 pub returns-in_err-next-clause-err : goal.returns-in_err-next-clause-err

@@ -20,8 +20,8 @@ use Rattle.exh_line.specs.declared.answer.Answer.TheVariants.{Refused}
 use Rattle.exh_script.specs.declared.ended.Ended.TheVariants as ended
 use Rattle.exh_line.specs.declared.refusal.Refusal.{Refusal}
 use Rattle.exh_line.specs.declared.refusal.Refusal.TheVariants.{Line as LineRefusal, TooLong}
-use Rattle.exh_settings.specs.declared.settings.Settings.{Settings}
-use Rattle.exh_settings.specs.declared.script.TheConstants.{SCRIPT_LIMIT}
+use Rattle.exh_text.specs.declared.settings.Settings.{Settings}
+use Rattle.exh_text.specs.declared.script.TheConstants.{SCRIPT_LIMIT}
 use Rattle.exh_script.proofs.KeptWorlds.{WorldLaws}
 use Rattle.exh_script.proofs.LineMoments.{entries_from}
 use Rattle.exh_script.proofs.NewFile.{few_ward_bits, new_map, new_journal, new_kept}

@@ -1,6 +1,6 @@
 use Rattle.std.proofs.Common.{◌≡◌, ◌<◌, ◌^◌, length, None, IsSome, inl, refl, sym, ap, ◌∙◌, subst, Ok}
 use Rattle.std.specs.Prelude.{slice_set}
-use Rattle.exh_sent.specs.Copies.{CopiesState}
+use Rattle.exh_array.specs.Copies.{CopiesState}
 use Rattle.exh_table.specs.TableOrder.{table_join}
 use Rattle.exh_world.specs.Kept.{IsKeptWorld}
 use Rattle.exh_world.specs.Step.{HasJoined}

@@ -2,7 +2,7 @@ use Rattle.std.specs.Prelude.{slice_get, slice_set}
 use Rattle.std.proofs.lemmas.Option.{slice_get_read, slice_get_past}
 use Rattle.exh_ward.specs.WardState.{WardState}
 use Rattle.std.proofs.Common.{◌≡◌, ◌≤◌, ◌<◌, ◌^◌, length, None, Some, IsSome, inl, refl, List, sym, ap, ◌∙◌, subst, Ok}
-use Rattle.exh_sent.specs.Copies.{CopiesState}
+use Rattle.exh_array.specs.Copies.{CopiesState}
 use Rattle.exh_table.specs.Table.{table_with}
 use Rattle.exh_world.specs.Kept.{IsKeptWorld, HaveIndexesInTurn}
 use Rattle.exh_world.specs.Step.{HasTaken}

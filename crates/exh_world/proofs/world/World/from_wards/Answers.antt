@@ -2,7 +2,7 @@ use Rattle.std.proofs.Common.{length, map, replicate, sym, ap, ◌∙◌, subst}
 use Rattle.exh_world.specs.Kept.{IsKeptWorld}
 use Rattle.exh_world.specs.NewWorld.{tables_joined}
 use Rattle.exh_array.specs.Pointers.{HasArrayOf}
-use Rattle.exh_sent.specs.Copies.{CopiesState}
+use Rattle.exh_array.specs.Copies.{CopiesState}
 use Rattle.exh_world.proofs.FreshWorld.{AreSoundWards}
 use Rattle.exh_world.proofs.WorldOfWards.{made_of_wards, wards_world_kept}
 use Rattle.exh_world.proofs.world.World.from_wards.Goals as goal

@@ -1,7 +1,7 @@
 use Rattle.std.proofs.Common.{replicate, sym, ap, ◌∙◌, subst, rules}
 use Rattle.exh_world.specs.Kept.{IsKeptWorld}
 use Rattle.exh_array.specs.Pointers.{HasArrayOf}
-use Rattle.exh_sent.specs.Copies.{CopiesState}
+use Rattle.exh_array.specs.Copies.{CopiesState}
 use Rattle.exh_world.proofs.FreshWorld.{made_is, none_noticed, AreSoundWards, new_kept}
 use Rattle.exh_world.proofs.world.World.new_over.Goals as goal
 

@@ -1,6 +1,6 @@
 use Rattle.std.proofs.Common.{◌≡◌, ◌<◌, ◌^◌, ◌++◌, ◌∷◌, [], suc, length, refl, sym, ap, ◌∙◌, subst, Ok, arith}
 use Rattle.std.proofs.lemmas.List.{length_push}
-use Rattle.exh_sent.specs.Copies.{CopiesState}
+use Rattle.exh_array.specs.Copies.{CopiesState}
 use Rattle.exh_world.specs.Kept.{IsKeptWorld}
 use Rattle.exh_world.specs.Step.{HasSent}
 use Rattle.exh_event.specs.declared.event.Event.TheVariants.{Send}

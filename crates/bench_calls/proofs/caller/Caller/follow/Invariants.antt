@@ -1,6 +1,0 @@
-use Rattle.std.proofs.Common.{◌≡◌}
-use Rattle.bench_calls.proofs.caller.Caller.follow.Given as goal
-
--- the caller's keyer stays
-abbrev pub invariant-hops : goal.invariant-hops
-invariant-hops g l = l.self.keyer ≡ l.fn.self.keyer

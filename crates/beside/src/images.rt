@@ -1,0 +1,131 @@
+//! Answers the script on standard input over pages that stand as images, each ward's behind a cache of as many decoded
+//! pages as a word says, and prints what `exhash serve` does, the notes on standard error too; or runs
+//! a storm over such pages, and prints what `exhash storm` does.
+ghost use Rattle.std.specs.Prelude.{IfSome};
+ghost use Rattle.exh_settings.specs.StormConfig.{IsStormConfig};
+
+use exh_images::FramedMaker;
+use exh_notes::{Expect, Notes};
+use exh_script::{ServeFault, serve_from};
+use exh_settings::{CALLERS_LIMIT, CALLS_LIMIT, StormConfig};
+use exh_storm::{NoWatch, storm};
+use exh_stream::Output;
+use exh_walk::OpenGate;
+use std::io;
+use std::process::ExitCode;
+use std::sync::Wait;
+use std::thread::Threads;
+
+// The status where the script isn't answered to its end or the storm isn't settled, and where the words are wrong.
+const REFUSED: u8 = 1;
+
+const WRONG_WORDS: u8 = 2;
+
+// The number of the refusal where memory ended the run.
+const OUT_OF_MEMORY: u8 = 10;
+
+// What words ask for: how many pages a cache holds, and a storm, or none where a script is answered.
+#[derive(Clone, Copy)]
+struct Job {
+    size: usize,
+    storm: Option<StormConfig>,
+}
+
+/// Does what words ask for: `SIZE`, or `SIZE storm CALLERS CALLS`. Only a storm starts threads. The status is 0, 1 where the
+/// script isn't answered to its end or the storm isn't settled, and 2 where the words ask for neither.
+pub(crate) fn run_images(
+    rt: &HostRuntime,
+    threads: &(impl Threads + Wait + Sync),
+    words: &[String],
+) -> ExitCode {
+    let Some(job) = job_of(words) else {
+        // Where the line can't be written, the status alone tells.
+        let _ = eprintln!(rt; "usage: beside images SIZE [storm CALLERS CALLS]");
+        return ExitCode::from(WRONG_WORDS);
+    };
+    match (FramedMaker::new(job.size), job.storm) {
+        (Ok(maker), Some(config)) => run_storm(rt, threads, &maker, &config),
+        (Ok(maker), None) => serve(rt, &maker),
+        (Err(fault), _) => refuse(rt, fault.number()),
+    }
+}
+
+// What words ask for.
+fn job_of(words: &[String]) -> Option<Job>
+    ensures { IfSome result (λ job. IfSome job.storm IsStormConfig) }
+{
+    match words {
+        [size] => Some(Job {
+            size: size.parse::<usize>().ok()?,
+            storm: None,
+        }),
+        [size, word, callers, calls] if word.as_str() == "storm" => Some(Job {
+            size: size.parse::<usize>().ok()?,
+            storm: Some(storm_of(callers, calls)?),
+        }),
+        _ => None,
+    }
+}
+
+// The storm of so many callers by so many calls, with the rest as `exhash storm` has it by itself. There is none of more
+// than the limits.
+fn storm_of(callers: &str, calls: &str) -> Option<StormConfig>
+    ensures { IfSome result IsStormConfig }
+{
+    let callers = callers.parse::<u8>().ok()?;
+    let calls = calls.parse::<u32>().ok()?;
+    if callers == 0 || callers > CALLERS_LIMIT || calls == 0 || calls > CALLS_LIMIT {
+        return None;
+    }
+    Some(StormConfig {
+        callers,
+        calls,
+        cap: 2,
+        ward_bits: 0,
+        copies: 2,
+    })
+}
+
+// Answers the script. Where memory ran out the last line is `refused 10`.
+fn serve(rt: &HostRuntime, maker: &FramedMaker) -> ExitCode {
+    let mut notes = Notes::new(rt.stderr(), Expect::Keyword);
+    let served = serve_from(
+        rt.alloc(),
+        maker,
+        None,
+        &mut rt.reader(),
+        &mut io::writer(rt),
+        &mut notes,
+    );
+    notes.end();
+    match served {
+        Ok(Some(_)) => ExitCode::SUCCESS,
+        Err(ServeFault::Memory) => refuse(rt, OUT_OF_MEMORY),
+        Ok(None) | Err(ServeFault::Write | ServeFault::Page) => ExitCode::from(REFUSED),
+    }
+}
+
+// Runs a storm whose workers no gate holds back, and prints what came of it.
+fn run_storm(
+    rt: &HostRuntime,
+    threads: &(impl Threads + Wait + Sync),
+    maker: &FramedMaker,
+    config: &StormConfig,
+) -> ExitCode
+    requires { IsStormConfig config.now }
+{
+    match storm(threads, rt.alloc(), maker, config, &OpenGate, &NoWatch) {
+        Ok(answers) => match println!(rt; "settled {answers}") {
+            Ok(()) => ExitCode::SUCCESS,
+            Err(_) => ExitCode::from(REFUSED),
+        },
+        Err(fault) => refuse(rt, fault.number()),
+    }
+}
+
+// Prints that the run was refused.
+fn refuse(rt: &HostRuntime, number: u8) -> ExitCode {
+    // Where the line can't be written, the status alone tells.
+    let _ = println!(rt; "refused {number}");
+    ExitCode::from(REFUSED)
+}

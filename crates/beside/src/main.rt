@@ -1,0 +1,119 @@
+//! Runs beside the program what no script asks for, and prints what each run came to. Its first word names a list of
+//! runs, and the others say which of them, as that list has it:
+//!
+//! - `lines`, `rows`, `refusals`, `live`, `threads`: `[SEED ROUNDS [all|KIND [wrong]]]`, how many steps each run took, and
+//!   how many of them differed from what was worked out by hand;
+//! - `images`: `SIZE [storm CALLERS CALLS]`, what a script or a storm comes to over pages that stand as images.
+//!
+//! Without words the runs of each list but the last are made, at their usual length.
+#![tactic(auto)]
+
+mod images;
+
+use crate::images::run_images;
+use beside_lines::run_lines;
+use beside_live::play_live;
+use beside_refusals::run_refusals;
+use beside_rows::run_rows;
+use beside_threads::play_threads;
+use exh_runs::{Named, Status, named, own_words};
+use std::process::ExitCode;
+use std::sync::Wait;
+use std::thread::Threads;
+use std::time::Clock;
+
+/// A list of runs.
+#[derive(Clone, Copy)]
+enum RunList {
+    Lines,
+    Rows,
+    Refusals,
+    Live,
+    Threads,
+}
+
+const LISTS: [RunList; 5] = [
+    RunList::Lines,
+    RunList::Rows,
+    RunList::Refusals,
+    RunList::Live,
+    RunList::Threads,
+];
+
+impl Named for RunList {
+    fn name(self) -> &'static str {
+        match self {
+            RunList::Lines => "lines",
+            RunList::Rows => "rows",
+            RunList::Refusals => "refusals",
+            RunList::Live => "live",
+            RunList::Threads => "threads",
+        }
+    }
+}
+
+fn main(rt: HostRuntime) -> ExitCode {
+    match own_words(&rt) {
+        Some(words) => run(&rt, &rt, words.as_slice()),
+        None => ended(&rt, Status::WrongWords),
+    }
+}
+
+// Makes the runs that words ask for.
+fn run<R: Threads + Wait + Clock + Print + Eprint + AllocGlobal + Sync>(
+    rt: &HostRuntime,
+    threads: &R,
+    words: &[String],
+) -> ExitCode {
+    match words {
+        [] => ended(rt, run_all(threads)),
+        [first, rest @ ..] if first.as_str() == "images" => run_images(rt, threads, rest),
+        [first, rest @ ..] => ended(rt, run_named(threads, first, rest)),
+    }
+}
+
+// The program's end. Words that name no run are told of.
+fn ended(rt: &impl Eprint, status: Status) -> ExitCode {
+    if let Status::WrongWords = status {
+        // Where the line can't be written, the status alone tells.
+        let _ = eprintln!(rt;
+            "usage: beside [lines|rows|refusals|live|threads [SEED ROUNDS [all|KIND [wrong]]]]"
+        );
+    }
+    status.code()
+}
+
+// Makes the runs of the list of a name.
+fn run_named<R: Threads + Wait + Clock + Print + Eprint + AllocGlobal + Sync>(
+    rt: &R,
+    name: &str,
+    words: &[String],
+) -> Status {
+    match named(&LISTS, name) {
+        Some([list, ..]) => run_list(rt, *list, words),
+        Some([]) | None => Status::WrongWords,
+    }
+}
+
+// Makes the runs of each list.
+fn run_all<R: Threads + Wait + Clock + Print + Eprint + AllocGlobal + Sync>(rt: &R) -> Status {
+    let mut has_differed = false;
+    for list in LISTS {
+        has_differed |= !matches!(run_list(rt, list, &[]), Status::Same);
+    }
+    Status::of_runs(has_differed)
+}
+
+fn run_list<R: Threads + Wait + Clock + Print + Eprint + AllocGlobal + Sync>(
+    rt: &R,
+    list: RunList,
+    words: &[String],
+) -> Status {
+    match list {
+        RunList::Lines => run_lines(rt, words),
+        RunList::Rows => run_rows(rt, words),
+        RunList::Refusals => run_refusals(rt, words),
+        RunList::Live => play_live(rt, words),
+        RunList::Threads => play_threads(rt, words),
+    }
+}

@@ -1,0 +1,36 @@
+use Rattle.std.proofs.Common.{◌≡◌, IsSome, refl, sym, ap, ◌∙◌, subst}
+use Rattle.std.specs.FinMap as map
+use Rattle.exh_notice.specs.Entry.{entry_of}
+use Rattle.exh_table.specs.Table.{TableMap, table_at}
+use Rattle.exh_table.specs.SetLemmas.{put_back}
+use Rattle.exh_table.specs.RaisedLemmas.{raised_here}
+use Rattle.exh_array.specs.Held.{IsHeld}
+use Rattle.exh_array.proofs.HeldCopies.{taken}
+use Rattle.exh_array.proofs.held_copy.HeldCopy.take.Goals as goal
+
+pub put_back-requires : goal.put_back-requires
+put_back-requires c =
+    let P : TableMap → Type 0 = λ table. IsSome (map.get table c.args.notice.now.prefix) in
+    subst P (sym c.in_ok-stood.ensures.ok) (subst IsSome (sym (raised_here c.args.self.now.news c.args.notice.now.prefix (entry_of c.args.notice.now))) refl)
+
+-- the news are as before
+undone : (c : goal.After-put_back) → c.put_back.new.self ≡ c.args.self.now.news
+undone c =
+    c.put_back.ensures
+    ∙ ap (λ (table : TableMap). table_at table c.args.notice.now.prefix c.in_ok-stood.stood) c.in_ok-stood.ensures.ok
+    ∙ ap (table_at _ c.args.notice.now.prefix) c.in_ok-stood.ensures.stood
+    ∙ put_back c.args.self.now.news c.args.notice.now.prefix (entry_of c.args.notice.now)
+
+-- so is the copy
+undone_all : (c : goal.After-put_back) → record c.args.self.now { directory = c.take-2.new.self; news = c.put_back.new.self } ≡ c.args.self.now
+undone_all c = λ i. record c.args.self.now { directory = c.in-Err.ensures.err i; news = undone c i }
+
+pub returns-in-Err-clause-err : goal.returns-in-Err-clause-err
+returns-in-Err-clause-err c = undone_all c
+
+pub returns-in-Err-clause-held : goal.returns-in-Err-clause-held
+returns-in-Err-clause-held c start sent held = subst (IsHeld start sent) (sym (undone_all c)) held
+
+pub returns-clause-held : goal.returns-clause-held
+returns-clause-held c start sent held =
+    taken start sent c.args.self.now held c.take-2.new.self c.take.new.self c.args.notice.now.prefix (entry_of c.args.notice.now) c.in_default.ensures.ok c.in_ok-stood.ensures.ok

@@ -1,0 +1,17 @@
+use Rattle.std.proofs.Common.{length}
+use Rattle.exh_table.specs.Table.{TableMap}
+use Rattle.exh_array.specs.Sent.{IsBefore, unpacked}
+use Rattle.exh_array.specs.Known.{AreKnown, IsSentUpTo}
+use Rattle.exh_array.proofs.Unpacked.{height, IsNextUpTo}
+use Rattle.exh_array.proofs.sent_tables.SentTables.note_known.Given as goal
+
+-- those that were noted are known, and the next one may be noted
+abbrev pub invariant-loop-next : goal.invariant-loop-next
+invariant-loop-next l = record {
+  within : IsBefore (length l.self) l.next;
+  known : (start own : TableMap) → AreKnown (unpacked start l.self) l.fn.known own → IsSentUpTo (unpacked start l.self) own l.place → AreKnown (unpacked start l.self) l.known own;
+  next : (start own : TableMap) → IsSentUpTo (unpacked start l.self) own l.place → IsNextUpTo (unpacked start l.self) own l.next;
+}
+
+abbrev pub decreases-loop-next : goal.decreases-loop-next
+decreases-loop-next l = height l.next

@@ -1,2 +1,0 @@
-pub mod Keyers
-pub mod FileSettings

@@ -1,0 +1,6 @@
+use Rattle.exh_legal.specs.BuiltIndex.{IsLinkedBy}
+use Rattle.exh_legal.proofs.Each.{EachBelow}
+use Rattle.exh_legal.proofs.links.has_links.Given as goal
+
+abbrev pub invariant-loop-number : goal.invariant-loop-number
+invariant-loop-number g l = EachBelow (IsLinkedBy l.index.entries) (g.P.PageList.pages l.pages) l.number

@@ -1,4 +1,0 @@
-pub mod LegalFileFault
-pub mod LegalFile
-pub mod LegalFileLemmas
-pub mod NamingLemmas

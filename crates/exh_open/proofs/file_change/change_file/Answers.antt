@@ -1,0 +1,10 @@
+use Rattle.std.proofs.Common.{sym, subst, ap₂}
+use Rattle.exh_open.specs.Opened.{OpenedState, in_file}
+use Rattle.exh_open.specs.FileChange.{ChangesOneMap}
+use Rattle.exh_open.proofs.file_change.change_file.Goals as goal
+
+pub returns-in-Ok-clause-one : goal.returns-in-Ok-clause-one
+returns-in-Ok-clause-one g c =
+    let was = ap₂ in_file c.settings-settings.ensures c.into_wards-wards.ensures.wards in
+    subst (ChangesOneMap c.args.file c.args.call.now c.in-Ok.reply) (sym c.new.ensures)
+    (subst (λ (file : OpenedState). ChangesOneMap file c.args.call.now c.in-Ok.reply (in_file c.settings-settings.result c.change_in.new.wards.items)) was c.in-Ok.ensures.one)

@@ -1,0 +1,15 @@
+use Rattle.std.proofs.Common.{[], refl, rules}
+use Rattle.exh_ward.specs.WardFault.{IsStoreFault}
+use Rattle.exh_open.specs.WardChange.{AreSplitsAtMost}
+use Rattle.exh_open.specs.FullPageLemmas.{refused_full}
+use Rattle.exh_open.proofs.ward_change.split_full.Goals as goal
+
+pub returns-in_err-split-clause-err : goal.returns-in_err-split-clause-err
+returns-in_err-split-clause-err g c =
+    let fact : AreSplitsAtMost c.args.ward.now c.split.new.self = record { splits = []; split = c.args.ward.now; run = refl; else_same = c.in_err-split.ensures.err } in
+    search rules
+
+pub returns-in_err-split-clause-fault : goal.returns-in_err-split-clause-fault
+returns-in_err-split-clause-fault g c =
+    let fact : IsStoreFault c.in_err-split.field-0.0 = refused_full c.args.ward.now c.args.at c.requires c.in_err-split.field-0.0 c.in_err-split.ensures.refused in
+    search rules

@@ -1,6 +1,0 @@
--- A reader whose bytes are counted.
-use Rattle.exh_progress.specs.declared.metered_reader.MeteredReader.{MeteredReader}
-
--- the reader inside
-abbrev pub reader_in : {R T : Type 0} → MeteredReader R T → R
-reader_in metered = metered.reader

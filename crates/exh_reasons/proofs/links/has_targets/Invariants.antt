@@ -1,6 +1,0 @@
-use Rattle.exh_reasons.specs.PageIndex.{IsAimedBy}
-use Rattle.exh_reasons.proofs.Each.{EachBelow}
-use Rattle.exh_reasons.proofs.links.has_targets.Given as goal
-
-abbrev pub invariant-loop-number : goal.invariant-loop-number
-invariant-loop-number g l = EachBelow (IsAimedBy l.index.entries) (g.P.PageList.pages l.pages) l.number

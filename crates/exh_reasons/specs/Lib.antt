@@ -1,4 +1,0 @@
-pub mod FileParts
-pub mod Reasons
-pub mod Laws
-pub mod PageIndex

@@ -1,0 +1,145 @@
+ghost use Rattle.std.specs.Prelude.{◌≡◌, ◌≢◌, ◌⊎◌, ◌≤◌, ◌↔◌, [], Ok, None, IfOk, IfErr, OnOk, OnErr, IsErrOf, IsFalse, IsTrue};
+ghost use Rattle.exh_keyer.specs.Pseudokey.{any_pseudokey};
+ghost use Rattle.exh_page.specs.declared.page.TheConstants.{CAP_LIMIT};
+ghost use Rattle.exh_prefix.specs.declared.prefix.TheConstants.{WARD_BITS_LIMIT};
+ghost use Rattle.exh_line.specs.RefusalText.{refusal_text};
+ghost use Rattle.exh_script.specs.Replies.{world_left};
+ghost use Rattle.exh_script.specs.Text.{start_in, text_after, text_from, text_of_lines};
+ghost use Rattle.exh_script.specs.Left.{left_after, left_of_lines};
+ghost use Rattle.exh_script.specs.Opened.{beginning};
+ghost use Rattle.exh_script.specs.Served.{PrintsFront, PrintsFrontFrom};
+ghost use Rattle.exh_stream.specs.Output.{SameWriter, Takes, TakesBeginning, writer_failed};
+ghost use Rattle.exh_text.specs.Lines.{lines_of};
+ghost use Rattle.exh_world.specs.Sound.{IsSoundWorld};
+
+use crate::beginning::{begin, leave};
+use crate::{Run, ServeFault, lines_keep_settings, push_response};
+use exh_frames::{Pages, StoreMaker};
+use exh_keyer::AnyKeyer;
+use exh_line::{Refusal, push_refusal};
+use exh_notes::Listener;
+use exh_open::Opened;
+use exh_stream::Output;
+use exh_text::{LineFault, Lines, Settings, parse_file_line};
+use std::alloc::Global;
+use std::io::Write;
+
+/// Answers a script over an opened file or over none. On an `Ok` with wards its run is done, and these are what it
+/// leaves; without them it was refused. On an `Err` a beginning of its text went out, after `Memory` and `Page` that of
+/// a beginning of its lines.
+#[tactic(auto, unfolding(crate::specs::Text::start_of, crate::specs::Text::settings_of))]
+pub(crate) fn respond<P: Pages + Drop, M: StoreMaker<P, AnyKeyer>, W: Write, L: Listener>(
+    alloc: Global,
+    maker: &M,
+    output: &mut Output<'_, W>,
+    script: &[u8],
+    from: Option<Opened<P>>,
+    listener: &mut L,
+) -> Result<Option<Opened<P>>, ServeFault>
+    requires { IsFalse (writer_failed output.old) }
+    ensures same_writer { SameWriter output.old output.new }
+    ensures text { OnOk result (Takes W.contents output.old output.new (text_of_lines (beginning from) (lines_of script.now))) }
+    ensures left { IfOk result (λ left. left ≡ left_of_lines (beginning from) (lines_of script.now)) }
+    ensures err { OnErr result (TakesBeginning W.contents output.old output.new (text_of_lines (beginning from) (lines_of script.now))) }
+    ensures front { IfErr result (λ fault. fault ≢ ServeFault.Write → Takes W.contents output.old output.new []
+        ⊎ PrintsFront (beginning from) (Takes W.contents output.old output.new) (lines_of script.now)) }
+    ensures failed { IsErrOf result ServeFault.Write ↔ IsTrue (writer_failed output.new) }
+{
+    let mut lines = Lines::new(script);
+    let Some(first) = lines.next() else {
+        return refuse(alloc, output, LineFault::Syntax.into());
+    };
+    match parse_file_line(first) {
+        Ok(settings) => serve_file(
+            alloc, maker, output, from, &settings, lines, script, listener,
+        ),
+        Err(fault) => {
+            listener.first_refused(script, first, fault);
+            refuse(alloc, output, fault.into())
+        }
+    }
+}
+
+/// Answers with a refusal alone, and leaves no wards.
+pub(crate) fn refuse<P: Pages + Drop, W: Write>(
+    alloc: Global,
+    output: &mut Output<'_, W>,
+    refusal: Refusal,
+) -> Result<Option<Opened<P>>, ServeFault>
+    requires { IsFalse (writer_failed output.old) }
+    ensures same_writer { SameWriter output.old output.new }
+    ensures text { OnOk result (Takes W.contents output.old output.new (refusal_text refusal)) }
+    ensures left { IfOk result (λ left. left ≡ None) }
+    ensures err { OnErr result (TakesBeginning W.contents output.old output.new (refusal_text refusal)) }
+    ensures front { IfErr result (λ fault. fault ≢ ServeFault.Write → Takes W.contents output.old output.new []) }
+    ensures failed { IsErrOf result ServeFault.Write ↔ IsTrue (writer_failed output.new) }
+{
+    let mut text = Vec::new(alloc);
+    push_refusal(&mut text, refusal)?;
+    output.push(&text)?;
+    Ok(None)
+}
+
+// Answers the lines behind a right first line.
+fn serve_file<P: Pages + Drop, M: StoreMaker<P, AnyKeyer>, W: Write, L: Listener>(
+    alloc: Global,
+    maker: &M,
+    output: &mut Output<'_, W>,
+    from: Option<Opened<P>>,
+    settings: &Settings,
+    lines: Lines<'_>,
+    script: &[u8],
+    listener: &mut L,
+) -> Result<Option<Opened<P>>, ServeFault>
+    requires open { IsFalse (writer_failed output.old) }
+    requires some { 1 ≤ settings.now.file.settings.cap }
+    requires most { settings.now.file.settings.cap ≤ CAP_LIMIT }
+    requires bits { settings.now.file.settings.ward_bits ≤ WARD_BITS_LIMIT }
+    ensures same_writer { SameWriter output.old output.new }
+    ensures text { OnOk result (Takes W.contents output.old output.new (text_after (start_in settings.now.tells_moves (beginning from settings.now.file)) lines.entry)) }
+    ensures left { IfOk result (λ left. left ≡ left_after (start_in settings.now.tells_moves (beginning from settings.now.file)) lines.entry) }
+    ensures err { OnErr result (TakesBeginning W.contents output.old output.new (text_after (start_in settings.now.tells_moves (beginning from settings.now.file)) lines.entry)) }
+    ensures front { IfErr result (λ fault. fault ≢ ServeFault.Write → Takes W.contents output.old output.new []
+        ⊎ PrintsFrontFrom (Takes W.contents output.old output.new) (start_in settings.now.tells_moves (beginning from settings.now.file)) lines.entry) }
+    ensures failed { IsErrOf result ServeFault.Write ↔ IsTrue (writer_failed output.new) }
+{
+    lines_keep_settings();
+    match begin(alloc, maker, from, &settings.file, listener)? {
+        Ok(world) => {
+            let tells_moves = settings.tells_moves;
+            let mut run = Run { world, tells_moves };
+            answer_lines(alloc, output, &mut run, lines, script, listener)?;
+            listener.script_ended(run.world.in_flight().len() as u64);
+            Ok(Some(leave(&settings.file, run.world)))
+        }
+        Err(refusal) => refuse(alloc, output, refusal),
+    }
+}
+
+// Answers lines, over whatever store of pages. Want of memory and a page out of reach leave each line whole or out.
+fn answer_lines<P: Pages + Drop, W: Write, L: Listener>(
+    alloc: Global,
+    output: &mut Output<'_, W>,
+    run: &mut Run<P>,
+    lines: Lines<'_>,
+    script: &[u8],
+    listener: &mut L,
+) -> Result<(), ServeFault>
+    requires open { IsFalse (writer_failed output.old) }
+    requires sound { IsSoundWorld any_pseudokey run.old.world }
+    ensures same_writer { SameWriter output.old output.new }
+    ensures ok { OnOk result (Takes W.contents output.old output.new (text_from run.old.tells_moves run.old.world lines.entry)) }
+    ensures world { OnOk result (run.new.world ≡ world_left run.old.world lines.entry) }
+    ensures err { OnErr result (TakesBeginning W.contents output.old output.new (text_from run.old.tells_moves run.old.world lines.entry)) }
+    ensures front { IfErr result (λ fault. fault ≢ ServeFault.Write → PrintsFrontFrom (Takes W.contents output.old output.new) (start_in run.old.tells_moves (Ok run.old.world)) lines.entry) }
+    ensures failed { IsErrOf result ServeFault.Write ↔ IsTrue (writer_failed output.new) }
+{
+    let mut text = Vec::new(alloc);
+    for line in lines {
+        text.clear();
+        push_response(&mut text, run, line)?;
+        output.push(&text)?;
+        listener.answered(script, line, &text);
+    }
+    Ok(())
+}

@@ -1,4 +1,0 @@
-pub mod Opened
-pub mod Left
-pub mod Served
-pub mod Laws
