@@ -234,10 +234,8 @@ impl PackedRecords {
         let alloc = *self.stored.allocator();
         let (count, len) = (self.stored.len(), self.texts.len());
         let more_len = len.saturating_mul(more) / count.max(1);
-        let mut stored = Vec::with_capacity(alloc, count.saturating_add(more))?;
-        let mut texts = Vec::with_capacity(alloc, len.saturating_add(more_len))?;
-        stored.extend_from_slice(&self.stored)?;
-        texts.extend_from_slice(&self.texts)?;
+        let stored = copied(alloc, &self.stored, count.saturating_add(more))?;
+        let texts = copied(alloc, &self.texts, len.saturating_add(more_len))?;
         Ok(PackedRecords { stored, texts })
     }
 
@@ -251,10 +249,8 @@ impl PackedRecords {
         ensures { IfOk result (λ records. records ≡ take (to.index - from.index) (drop from.index self.now)) }
     {
         let alloc = *self.stored.allocator();
-        let mut stored = Vec::with_capacity(alloc, self.stored.len())?;
-        let mut texts = Vec::with_capacity(alloc, self.texts.len())?;
-        stored.extend_from_slice(&self.stored[from.index..to.index])?;
-        texts.extend_from_slice(&self.texts[from.start..to.start])?;
+        let stored = copied(alloc, &self.stored[from.index..to.index], self.stored.len())?;
+        let texts = copied(alloc, &self.texts[from.start..to.start], self.texts.len())?;
         Ok(PackedRecords { stored, texts })
     }
 
@@ -305,6 +301,16 @@ fn is_below(prefix: Prefix, past: bool, pseudokey: u64) -> bool
     ensures { IsTrue result ↔ (pseudokey < bound_of prefix past) }
 {
     pseudokey < prefix.low() || (past && prefix.begins(pseudokey))
+}
+
+// The elements of a slice, in a list that has room for `room` of them, or for all if these are more. An
+// `AllocError` where that is refused.
+fn copied<T: Copy>(alloc: Global, items: &[T], room: usize) -> Result<Vec<T>, AllocError>
+    ensures { IfOk result (λ list. list.items ≡ items.now) }
+{
+    let mut list = Vec::with_capacity(alloc, room)?;
+    list.extend_from_slice(items)?;
+    Ok(list)
 }
 
 // Puts a key and a value in place of the bytes from `start` to `end`. Only more bytes than these may
