@@ -7,6 +7,8 @@ use Rattle.exh_calls.specs.Call.{key_of}
 use Rattle.exh_ward.specs.WardState.{WardState}
 use Rattle.exh_ward.specs.declared.ward_fault.WardFault.TheVariants.{Memory}
 use Rattle.exh_world.specs.InFlight.{request_named}
+use Rattle.exh_world.specs.Kept.{IsKeptWorld}
+use Rattle.exh_world.specs.Sound.{IsSoundWorld}
 use Rattle.exh_world.specs.Step.{HasBegun, IsRefused, ReachesInto, Step}
 use Rattle.exh_world.specs.World.{WorldState, changes_in, numbered}
 use Rattle.exh_event.specs.declared.event.Event.TheVariants.{Begin}
@@ -60,13 +62,13 @@ begin-requires g c = sym c.get.ensures ∙ ap option_copied (none_there c.get.re
 pub returns-then-is_some-clause-step : goal.returns-then-is_some-clause-step
 returns-then-is_some-clause-step g c =
     let taken = subst IsSome c.get.ensures (some_there c.get.result (sym c.is_some.ensures ∙ c.if-is_some.true)) in
-    inl (refl, inl (subst (λ (w : WorldState g.row.K.Denot). IsSome (request_named c.args.name w.in_flight)) c.self.view_is taken))
+    inl (refl {a = c.args.self.now}, inl (subst (λ (w : WorldState g.row.K.Denot). IsSome (request_named c.args.name w.in_flight)) c.self.view_is taken))
 
 pub returns-in_default-clause-step : goal.returns-in_default-clause-step
 returns-in_default-clause-step g c =
     let free : request_named c.args.name c.self.inside.in_flight ≡ None = sym c.get.ensures ∙ ap option_copied (none_there c.get.result (sym c.is_some.ensures ∙ c.if-is_some.false)) in
     let none = c.in_default.ensures.none c.self.inside.copies.copies (sym c.count.ensures) in inl (
-      refl,
+      refl {a = c.args.self.now},
       inl (
         subst (λ (w : WorldState g.row.K.Denot). request_named c.args.name w.in_flight ≡ None) c.self.view_is free,
         subst (λ (w : WorldState g.row.K.Denot). numbered w.copies c.args.copy ≡ None) c.self.view_is none,
@@ -129,15 +131,34 @@ returns-in_err-distance-clause-step g c =
 pub returns-in_err-distance-clause-sound : goal.returns-in_err-distance-clause-sound
 returns-in_err-distance-clause-sound g c = (invariant_of-self g c).0.sound
 
+-- the world where memory for the request was refused
+unchanged : (g : Over) (c : goal.After-from_residual-in_err-begin g) → with_ward c.self.inside c.from.result c.distance.new.ward c.begin.new.self ≡ world_of c.self.inside
+unchanged g c =
+    let i = c.self.inside in
+    same_ward g.K.Keyer.pseudokey_of i c.self.invariant.0 c.pseudo-pseudokey.result c.from.result (c.from.ensures ∙ c.ward_number-ward.ensures) _ c.index_mut-state.ensures.value c.distance.new.ward c.in_ok-distance.ensures.ok c.begin.new.self
+    ∙ ap (with_requests i) c.in_err-begin.ensures.err
+
 pub returns-in_err-begin-clause-step : goal.returns-in_err-begin-clause-step
 returns-in_err-begin-clause-step g c =
     let i = c.self.inside in
     let event = Begin c.args.name c.args.client c.args.copy c.args.call.now in
     let new = with_ward i c.from.result c.distance.new.ward c.begin.new.self in
-    let same : new ≡ c.args.self.now =
-    same_ward g.K.Keyer.pseudokey_of i c.self.invariant.0 c.pseudo-pseudokey.result c.from.result (c.from.ensures ∙ c.ward_number-ward.ensures) _ c.index_mut-state.ensures.value c.distance.new.ward c.in_ok-distance.ensures.ok c.begin.new.self
-    ∙ ap (with_requests i) c.in_err-begin.ensures.err ∙ c.self.view_is in
-    of_refusal (λ result. Step g.K.Keyer.pseudokey_of c.args.self.now event result new) c.from_residual-in_err-begin.result Memory c.from_residual-in_err-begin.ensures (inl (same, inr refl))
+    of_refusal (λ result. Step g.K.Keyer.pseudokey_of c.args.self.now event result new) c.from_residual-in_err-begin.result Memory c.from_residual-in_err-begin.ensures (inl (unchanged g c ∙ c.self.view_is, inr refl))
+
+pub invariant_of-self-in_err-begin : goal.invariant_of-self-in_err-begin
+invariant_of-self-in_err-begin g c = (subst (IsKeptWorld g.K.Keyer.pseudokey_of) (sym (unchanged g c)) c.self.invariant.0, c.self.invariant.1)
 
 pub copy-requires : goal.copy-requires
 copy-requires g c = (c.in-Some.ensures.some c.self.inside.copies.copies (sym c.count.ensures)).1
+
+pub returns-then-is_some-clause-sound : goal.returns-then-is_some-clause-sound
+returns-then-is_some-clause-sound g c = subst (IsSoundWorld g.K.Keyer.pseudokey_of) c.self.view_is c.self.invariant.0.sound
+
+pub returns-in_default-clause-sound : goal.returns-in_default-clause-sound
+returns-in_default-clause-sound g c = subst (IsSoundWorld g.K.Keyer.pseudokey_of) c.self.view_is c.self.invariant.0.sound
+
+pub returns-in_err-begin-clause-sound : goal.returns-in_err-begin-clause-sound
+returns-in_err-begin-clause-sound g c = (invariant_of-self-in_err-begin g c).0.sound
+
+pub ward_number-ward-requires : goal.ward_number-ward-requires
+ward_number-ward-requires g c = c.self.invariant.0.few_wards

@@ -3,6 +3,7 @@ use Rattle.std.specs.Prelude.{slice_set}
 use Rattle.exh_array.specs.Copies.{CopiesState}
 use Rattle.exh_table.specs.TableOrder.{table_join}
 use Rattle.exh_world.specs.Kept.{IsKeptWorld}
+use Rattle.exh_world.specs.Sound.{IsSoundWorld}
 use Rattle.exh_world.specs.Step.{HasJoined}
 use Rattle.exh_world.specs.World.{WorldState, numbered}
 use Rattle.exh_event.specs.declared.event.Event.TheVariants.{Combine}
@@ -64,9 +65,20 @@ pub returns-in_default-place_of-clause-step : goal.returns-in_default-place_of-c
 returns-in_default-place_of-clause-step g c =
     let placed = c.in-Some.ensures.some c.self.inside.copies.copies (sym c.count.ensures) in
     let none = c.in_default-place_of.ensures.none c.self.inside.copies.sent (sym c.sent_count.ensures.count) in inl (
-      refl,
+      refl {a = c.args.self.now},
       inl (
         subst (λ (w : WorldState g.row.K.Denot). IsSome (numbered w.copies c.args.copy)) c.self.view_is (is_there c.self.inside.copies.copies c.args.copy c.in-Some.at placed),
         subst (λ (w : WorldState g.row.K.Denot). numbered w.sent c.args.table ≡ None) c.self.view_is none,
       ),
     )
+
+pub returns-in_default-clause-step : goal.returns-in_default-clause-step
+returns-in_default-clause-step g c =
+    let none = c.in_default.ensures.none c.self.inside.copies.copies (sym c.count.ensures) in
+    inl (refl {a = c.args.self.now}, inl (subst (λ (w : WorldState g.row.K.Denot). numbered w.copies c.args.copy ≡ None) c.self.view_is none))
+
+pub returns-in_default-clause-sound : goal.returns-in_default-clause-sound
+returns-in_default-clause-sound g c = subst (IsSoundWorld g.K.Keyer.pseudokey_of) c.self.view_is c.self.invariant.0.sound
+
+pub returns-in_default-place_of-clause-sound : goal.returns-in_default-place_of-clause-sound
+returns-in_default-place_of-clause-sound g c = subst (IsSoundWorld g.K.Keyer.pseudokey_of) c.self.view_is c.self.invariant.0.sound

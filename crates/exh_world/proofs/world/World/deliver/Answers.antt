@@ -5,6 +5,7 @@ use Rattle.std.proofs.Common.{◌≡◌, ◌≤◌, ◌<◌, ◌^◌, length, No
 use Rattle.exh_array.specs.Copies.{CopiesState}
 use Rattle.exh_table.specs.Table.{table_with}
 use Rattle.exh_world.specs.Kept.{IsKeptWorld, HaveIndexesInTurn}
+use Rattle.exh_world.specs.Sound.{IsSoundWorld}
 use Rattle.exh_world.specs.Step.{HasTaken}
 use Rattle.exh_world.specs.World.{WorldState, numbered}
 use Rattle.exh_event.specs.declared.event.Event.TheVariants.{Deliver}
@@ -73,9 +74,23 @@ pub returns-in_default-get-clause-step : goal.returns-in_default-get-clause-step
 returns-in_default-get-clause-step g c =
     let placed = c.in-Some.ensures.some c.self.inside.copies.copies (sym c.count.ensures) in
     let past = subst (λ (wards : List (WardState g.row.K.Denot)). length wards ≤ c.args.ward) c.deref.ensures.value c.in_default-get.ensures.lookup.3 in inl (
-      refl,
+      refl {a = c.args.self.now},
       inl (
         subst (λ (w : WorldState g.row.K.Denot). IsSome (numbered w.copies c.args.copy)) c.self.view_is (is_there c.self.inside.copies.copies c.args.copy c.in-Some.at placed),
         subst (λ (w : WorldState g.row.K.Denot). slice_get w.wards c.args.ward ≡ None) c.self.view_is (slice_get_past c.self.inside.wards.items c.args.ward past),
       ),
     )
+
+pub returns-in_default-clause-step : goal.returns-in_default-clause-step
+returns-in_default-clause-step g c =
+    let none = c.in_default.ensures.none c.self.inside.copies.copies (sym c.count.ensures) in
+    inl (refl {a = c.args.self.now}, inl (subst (λ (w : WorldState g.row.K.Denot). numbered w.copies c.args.copy ≡ None) c.self.view_is none))
+
+pub returns-in_default-clause-sound : goal.returns-in_default-clause-sound
+returns-in_default-clause-sound g c = subst (IsSoundWorld g.K.Keyer.pseudokey_of) c.self.view_is c.self.invariant.0.sound
+
+pub returns-in_default-get-clause-sound : goal.returns-in_default-get-clause-sound
+returns-in_default-get-clause-sound g c = subst (IsSoundWorld g.K.Keyer.pseudokey_of) c.self.view_is c.self.invariant.0.sound
+
+pub returns-in_default-notice_of-clause-sound : goal.returns-in_default-notice_of-clause-sound
+returns-in_default-notice_of-clause-sound g c = subst (IsSoundWorld g.K.Keyer.pseudokey_of) c.self.view_is c.self.invariant.0.sound

@@ -1,7 +1,9 @@
-use Rattle.std.proofs.Common.{◌≡◌, ◌^◌, ◌<◌, inr, sym, ap, ◌∙◌, subst, arith, rules}
+use Rattle.std.proofs.Common.{◌≡◌, ◌^◌, ◌<◌, inr, sym, ap, ◌∙◌, subst, arith, rules, None, inl, refl}
 use Rattle.std.specs.Option.{option_copied}
 use Rattle.exh_ward.specs.declared.hop.Hop.{Hop}
+use Rattle.exh_world.specs.Sound.{IsSoundWorld}
 use Rattle.exh_world.specs.Step.{HasHopped, IsRefused, ReachesInto, Step}
+use Rattle.exh_world.specs.InFlight.{request_named}
 use Rattle.exh_world.specs.World.{WorldState}
 use Rattle.exh_event.specs.declared.event.Event.TheVariants.{Hop as HopOn}
 use Rattle.exh_world.proofs.HopSteps.{ward_within, at_within, reaches, hashed, covered, had_few, changed_since, bound_told, bound_small, noticed_within, room, hopped, hopped_kept}
@@ -107,3 +109,15 @@ returns-clause-step g c =
 
 pub returns-clause-sound : goal.returns-clause-sound
 returns-clause-sound g c = (invariant_of-self-2 g c).0.sound
+
+pub returns-in_default-clause-step : goal.returns-in_default-clause-step
+returns-in_default-clause-step g c =
+    inl (refl {a = c.args.self.now}, inl (subst (λ (w : WorldState g.row.K.Denot). request_named c.args.name w.in_flight ≡ None) c.self.view_is (sym c.in_default.ensures)))
+
+pub returns-in_default-clause-sound : goal.returns-in_default-clause-sound
+returns-in_default-clause-sound g c = subst (IsSoundWorld g.K.Keyer.pseudokey_of) c.self.view_is c.self.invariant.0.sound
+
+pub overflow_add-bound : goal.overflow_add-bound
+overflow_add-bound g c =
+    let far : c.in-Some.request.now.distance < 2 ^ 32 = search rules in
+    omega (arith, far, c.from-3.ensures, c.changes_since-changes.ensures.small)

@@ -1,6 +1,9 @@
-use Rattle.std.proofs.Common.{subst, arith}
+use Rattle.std.proofs.Common.{List, [], sym, ◌∙◌, subst, arith}
+use Rattle.std.proofs.lemmas.List.{take_all}
+use Rattle.std.proofs.lemmas.Result.{IfOk-from_err}
+use Rattle.exh_event.specs.declared.turn.Turn.{Turn}
 use Rattle.exh_world.specs.Sound.{IsSoundWorld}
-use Rattle.exh_world.proofs.Runs.{one_more, bounded_of, current_of, headline_of, moves_of, others_of}
+use Rattle.exh_world.proofs.Runs.{HasRun, none_run, one_more, bounded_of, current_of, headline_of, moves_of, others_of}
 use Rattle.exh_world.proofs.world.World.run.Goals as goal
 
 pub loop-event-preserved : goal.loop-event-preserved
@@ -42,3 +45,49 @@ returns-clause-others g c = others_of g.K.Keyer.pseudokey_of c.refused_turns_lea
 
 pub returns-clause-equal : goal.returns-clause-equal
 returns-clause-equal g c = (returns-clause-headline g c).equal
+
+pub returns-in_err-turns-clause-turns : goal.returns-in_err-turns-clause-turns
+returns-in_err-turns-clause-turns g c = IfOk-from_err c.from_residual.result _ c.from_residual.ensures.0
+
+pub returns-in_err-turns-clause-headline : goal.returns-in_err-turns-clause-headline
+returns-in_err-turns-clause-headline g c = IfOk-from_err c.from_residual.result _ c.from_residual.ensures.0
+
+pub returns-in_err-turns-clause-bounded : goal.returns-in_err-turns-clause-bounded
+returns-in_err-turns-clause-bounded g c = IfOk-from_err c.from_residual.result _ c.from_residual.ensures.0
+
+pub returns-in_err-turns-clause-moves : goal.returns-in_err-turns-clause-moves
+returns-in_err-turns-clause-moves g c = IfOk-from_err c.from_residual.result _ c.from_residual.ensures.0
+
+pub returns-in_err-turns-clause-current : goal.returns-in_err-turns-clause-current
+returns-in_err-turns-clause-current g c = IfOk-from_err c.from_residual.result _ c.from_residual.ensures.0
+
+pub returns-in_err-turns-clause-others : goal.returns-in_err-turns-clause-others
+returns-in_err-turns-clause-others g c = IfOk-from_err c.from_residual.result _ c.from_residual.ensures.0
+
+pub returns-in_err-turns-clause-equal : goal.returns-in_err-turns-clause-equal
+returns-in_err-turns-clause-equal g c = IfOk-from_err c.from_residual.result _ c.from_residual.ensures.0
+
+pub returns-in_err-turns-clause-sound : goal.returns-in_err-turns-clause-sound
+returns-in_err-turns-clause-sound g c = subst (IsSoundWorld g.K.Keyer.pseudokey_of) c.self.view_is c.self.invariant.0.sound
+
+pub loop-event-init : goal.loop-event-init
+loop-event-init g c =
+    let pseudokey_of = g.K.Keyer.pseudokey_of in
+    let start = c.args.self.now in
+    record {
+      has_run = subst (λ (turns : List Turn). HasRun pseudokey_of start [] turns start) (sym c.in_ok-turns.ensures.items) (none_run pseudokey_of start);
+      sound = subst (IsSoundWorld pseudokey_of) c.self.view_is c.self.invariant.0.sound;
+      room = omega (arith, c.in_ok-turns.ensures.len, c.in_ok-turns.ensures.capacity);
+    }
+
+pub push_reserved-requires : goal.push_reserved-requires
+push_reserved-requires g c = omega (arith, c.loop-event.invariant.room, c.loop-event-test.true)
+
+pub returns-clause-turns : goal.returns-clause-turns
+returns-clause-turns g c = c.loop-event.invariant.has_run.events_are ∙ take_all c.loop-event.event-index c.args.events.now c.loop-event-test.false
+
+pub returns-clause-err : goal.returns-clause-err
+returns-clause-err g c = tt
+
+pub returns-clause-sound : goal.returns-clause-sound
+returns-clause-sound g c = c.loop-event.invariant.sound

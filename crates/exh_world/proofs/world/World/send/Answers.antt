@@ -1,8 +1,10 @@
-use Rattle.std.proofs.Common.{◌≡◌, ◌<◌, ◌^◌, ◌++◌, ◌∷◌, [], suc, length, refl, sym, ap, ◌∙◌, subst, Ok, arith}
+use Rattle.std.proofs.Common.{◌≡◌, ◌<◌, ◌^◌, ◌++◌, ◌∷◌, [], suc, length, refl, sym, ap, ◌∙◌, subst, Ok, arith, None, inl, inr}
 use Rattle.std.proofs.lemmas.List.{length_push}
 use Rattle.exh_array.specs.Copies.{CopiesState}
 use Rattle.exh_world.specs.Kept.{IsKeptWorld}
+use Rattle.exh_world.specs.Sound.{IsSoundWorld}
 use Rattle.exh_world.specs.Step.{HasSent}
+use Rattle.exh_world.specs.World.{WorldState, numbered}
 use Rattle.exh_event.specs.declared.event.Event.TheVariants.{Send}
 use Rattle.exh_event.specs.declared.outcome.Outcome.TheVariants.{Sent}
 use Rattle.exh_world.proofs.CopySteps.{kept_after, placed_there, refused_same, has_sent}
@@ -52,3 +54,20 @@ invariant_of-self g c = (
 
 pub returns-in_err-send-clause-sound : goal.returns-in_err-send-clause-sound
 returns-in_err-send-clause-sound g c = (invariant_of-self g c).0.sound
+
+pub returns-in_default-clause-step : goal.returns-in_default-clause-step
+returns-in_default-clause-step g c =
+    let none = c.in_default.ensures.none c.self.inside.copies.copies (sym c.count.ensures) in
+    inl (refl {a = c.args.self.now}, inl (subst (λ (w : WorldState g.row.K.Denot). numbered w.copies c.args.copy ≡ None) c.self.view_is none))
+
+pub returns-in_default-clause-sound : goal.returns-in_default-clause-sound
+returns-in_default-clause-sound g c = subst (IsSoundWorld g.K.Keyer.pseudokey_of) c.self.view_is c.self.invariant.0.sound
+
+pub returns-in_default-try_from-clause-step : goal.returns-in_default-try_from-clause-step
+returns-in_default-try_from-clause-step g c = inl (refl {a = c.args.self.now}, inr refl)
+
+pub returns-in_default-try_from-clause-sound : goal.returns-in_default-try_from-clause-sound
+returns-in_default-try_from-clause-sound g c = subst (IsSoundWorld g.K.Keyer.pseudokey_of) c.self.view_is c.self.invariant.0.sound
+
+pub overflow_add-sent_count : goal.overflow_add-sent_count
+overflow_add-sent_count g c = omega (arith, c.sent_count.ensures.small)

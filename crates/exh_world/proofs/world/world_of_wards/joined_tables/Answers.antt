@@ -1,5 +1,8 @@
-use Rattle.std.proofs.Common.{subst, rules, arith}
+use Rattle.std.proofs.Common.{subst, rules, arith, ◌∙◌, ap}
+use Rattle.std.proofs.lemmas.List.{take_all}
+use Rattle.std.proofs.lemmas.Result.{IfOk-from_err}
 use Rattle.exh_array.specs.Pointers.{HasArrayOf}
+use Rattle.exh_world.specs.NewWorld.{tables_joined}
 use Rattle.exh_world.proofs.WorldOfWards.{none_joined, one_more_joined, all_sound}
 use Rattle.exh_world.proofs.world.world_of_wards.joined_tables.Goals as goal
 
@@ -18,3 +21,33 @@ loop-ward-preserved g c = record {
 
 pub returns-clause-sound : goal.returns-clause-sound
 returns-clause-sound g c = all_sound g.K.Keyer.pseudokey_of c.args.wards.now c.loop-ward.ward-index c.loop-ward.directory.table c.loop-ward.invariant.joined (omega (arith, c.loop-ward-test.false))
+
+pub new-requires : goal.new-requires
+new-requires g c = omega (arith, c.requires)
+
+pub returns-in_err-directory-clause-table : goal.returns-in_err-directory-clause-table
+returns-in_err-directory-clause-table g c = IfOk-from_err c.from_residual.result _ c.from_residual.ensures.0
+
+pub returns-in_err-directory-clause-array : goal.returns-in_err-directory-clause-array
+returns-in_err-directory-clause-array g c = IfOk-from_err c.from_residual.result _ c.from_residual.ensures.0
+
+pub returns-in_err-directory-clause-sound : goal.returns-in_err-directory-clause-sound
+returns-in_err-directory-clause-sound g c = IfOk-from_err c.from_residual.result _ c.from_residual.ensures.0
+
+pub offset_bounds-wards-ward-index : goal.offset_bounds-wards-ward-index
+offset_bounds-wards-ward-index g c = c.loop-ward.auto.ward-index-end
+
+pub returns-in_err-join_in-clause-table : goal.returns-in_err-join_in-clause-table
+returns-in_err-join_in-clause-table g c = IfOk-from_err c.from_residual-in_err-join_in.result _ c.from_residual-in_err-join_in.ensures.0
+
+pub returns-in_err-join_in-clause-array : goal.returns-in_err-join_in-clause-array
+returns-in_err-join_in-clause-array g c = IfOk-from_err c.from_residual-in_err-join_in.result _ c.from_residual-in_err-join_in.ensures.0
+
+pub returns-in_err-join_in-clause-sound : goal.returns-in_err-join_in-clause-sound
+returns-in_err-join_in-clause-sound g c = IfOk-from_err c.from_residual-in_err-join_in.result _ c.from_residual-in_err-join_in.ensures.0
+
+pub returns-clause-table : goal.returns-clause-table
+returns-clause-table g c = c.loop-ward.invariant.joined.joined ∙ ap tables_joined (take_all c.loop-ward.ward-index c.args.wards.now c.loop-ward-test.false)
+
+pub returns-clause-array : goal.returns-clause-array
+returns-clause-array g c = c.loop-ward.invariant.array
