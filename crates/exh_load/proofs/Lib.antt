@@ -5,7 +5,8 @@ pub mod Items
 pub mod FreshWards
 pub mod PutIn
 pub mod Over
--- of load_text: lines, and how many records there are
+-- of load_text and number_line: exits, lines, and how many records there are
+pub mod Exits
 pub mod Lines
 pub mod Records
 -- of load_source: what is printed of a load, and of the lines of a new file
