@@ -18,6 +18,8 @@ pub mod AnswersAreLeft
 pub mod HopsAreComputed
 -- each step keeps the ward sound, and what a ward keeps of its fields
 pub mod StepsKeepSound
+-- what the exits of a step return
+pub mod Exits
 -- splits and merges: a change of pages is told by its notice
 pub mod ChangesAreTold
 -- splits

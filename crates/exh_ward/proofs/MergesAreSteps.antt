@@ -219,7 +219,7 @@ module _ {K : Type 0} {w : WardState K} {pseudo : List ℕ → ℕ} {at : ℕ} {
   abbrev right : Page
   right = Live (parent ++ true ∷ []) halves.link halves.others
 
-  apart : at ≡ twin → ⊥
+  pub apart : at ≡ twin → ⊥
   apart same =
       let one : left ≡ right = one_there w.pages at left right halves.left.there (subst (λ n. IsAt w.pages n right) (sym same) halves.buddy) in
       let low : low_of (parent ++ false ∷ []) ≡ low_of (parent ++ true ∷ []) = ap low_bound one in

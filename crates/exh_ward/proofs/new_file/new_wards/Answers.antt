@@ -1,6 +1,8 @@
-use Rattle.std.proofs.Common.{◌≡◌, ◌^◌, map, ap, ◌∙◌, arith}
+use Rattle.std.proofs.Common.{◌≡◌, ◌^◌, map, ap, ◌∙◌, arith, ◌∷◌, []}
 use Rattle.std.proofs.Math.Nat.{pow-le-pow_right}
 use Rattle.std.specs.List.{range_with_len}
+use Rattle.std.proofs.lemmas.Result.{IfOk-from_err}
+use Rattle.exh_page.specs.declared.page.Page.{Page}
 use Rattle.exh_ward.specs.NewWards.{new_ward}
 use Rattle.exh_ward.proofs.WardsOfNewFile.{one_ward_more}
 use Rattle.exh_ward.proofs.new_file.new_wards.Goals as goal
@@ -19,3 +21,36 @@ returns-clause-wards g c =
     let all : c.loop-number.number ≡ 2 ^ c.args.settings.ward_bits =
     omega (arith, pow-le-pow_right {n = 2} (omega arith) c.requires.bits, c.loop-number.auto.number-end, c.loop-number-test.false) in
     c.loop-number.invariant.made ∙ ap (λ n. map (new_ward c.args.settings) (range_with_len 0 n)) all
+
+pub first_page-first-requires-clause-bits : goal.first_page-first-requires-clause-bits
+first_page-first-requires-clause-bits g c = c.requires.bits
+
+pub returns-in_err-store-clause-wards : goal.returns-in_err-store-clause-wards
+returns-in_err-store-clause-wards g c = IfOk-from_err c.from_residual.result _ c.from_residual.ensures.0
+
+pub returns-in_err-store-clause-sound : goal.returns-in_err-store-clause-sound
+returns-in_err-store-clause-sound g c = IfOk-from_err c.from_residual.result _ c.from_residual.ensures.0
+
+pub new-requires-clause-first : goal.new-requires-clause-first
+new-requires-clause-first g c = c.in_ok-store.ensures.pages ∙ ap (λ (page : Page). page ∷ []) c.first_page-first.ensures.page
+
+pub new-requires-clause-takes : goal.new-requires-clause-takes
+new-requires-clause-takes g c = c.in_ok-store.ensures.takes
+
+pub new-requires-clause-some : goal.new-requires-clause-some
+new-requires-clause-some g c = c.requires.some
+
+pub new-requires-clause-most : goal.new-requires-clause-most
+new-requires-clause-most g c = c.requires.most
+
+pub new-requires-clause-bits : goal.new-requires-clause-bits
+new-requires-clause-bits g c = c.requires.bits
+
+pub returns-in_err-push-clause-wards : goal.returns-in_err-push-clause-wards
+returns-in_err-push-clause-wards g c = IfOk-from_err c.from_residual-in_err-push.result _ c.from_residual-in_err-push.ensures.0
+
+pub returns-in_err-push-clause-sound : goal.returns-in_err-push-clause-sound
+returns-in_err-push-clause-sound g c = IfOk-from_err c.from_residual-in_err-push.result _ c.from_residual-in_err-push.ensures.0
+
+pub returns-clause-sound : goal.returns-clause-sound
+returns-clause-sound g c = c.loop-number.invariant.sound

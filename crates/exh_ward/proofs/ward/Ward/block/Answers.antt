@@ -1,9 +1,14 @@
-use Rattle.std.proofs.Common.{◌≤◌, refl, sym, subst}
+use Rattle.std.proofs.Common.{◌≤◌, refl, sym, subst, ◌<◌}
+use Rattle.std.proofs.lemmas.Result.{IfOk-from_err}
 use Rattle.exh_page.specs.declared.page.TheConstants.{CAP_LIMIT}
 use Rattle.exh_legal.specs.MapLemmas.{page_at}
-use Rattle.exh_ward.specs.WardState.{WardState}
+use Rattle.exh_legal.specs.Pages.{IsAt}
+use Rattle.exh_ward.specs.WardState.{WardState, IsSoundWard}
+use Rattle.exh_ward.specs.WardFault.{PageRefused, fault_of}
 use Rattle.exh_ward.proofs.FewRecords.{few_in_page}
 use Rattle.exh_ward.proofs.StepsKeepSound.{kept_read}
+use Rattle.exh_ward.proofs.Exits.{is_past, page_refused, on_err, unchanged_read, store_counted, same_read, same_failures}
+use Rattle.exh_ward.proofs.HalvesOfPages.{failed_with}
 use Rattle.exh_ward.proofs.ward.Ward.block.Goals as goal
 
 pub block-requires-clause-few : goal.block-requires-clause-few
@@ -19,3 +24,63 @@ returns-in_err-block-clause-sound g c = (invariant_of-self g c).sound
 
 pub invariant_of-self-2 : goal.invariant_of-self-2
 invariant_of-self-2 g c = kept_read c.self.invariant _ c.block.ensures.takes _ _ _ c.block.ensures.pages refl
+
+pub returns-then-number-count-clause-block : goal.returns-then-number-count-clause-block
+returns-then-number-count-clause-block g c = tt
+
+pub returns-then-number-count-clause-ok : goal.returns-then-number-count-clause-ok
+returns-then-number-count-clause-ok g c = tt
+
+pub returns-then-number-count-clause-err : goal.returns-then-number-count-clause-err
+returns-then-number-count-clause-err g c = refl
+
+pub returns-then-number-count-clause-failures : goal.returns-then-number-count-clause-failures
+returns-then-number-count-clause-failures g c = refl
+
+pub returns-then-number-count-clause-sound : goal.returns-then-number-count-clause-sound
+returns-then-number-count-clause-sound g c =
+    let P : WardState g.row.K.Denot → Type 0 = λ w. IsSoundWard g.K.Keyer.pseudokey_of w in
+    subst P c.self.view_is c.self.invariant.sound
+
+pub returns-then-number-count-clause-refused : goal.returns-then-number-count-clause-refused
+returns-then-number-count-clause-refused g c = is_past c.self.view_is c.count.ensures c.if-number-count.true
+
+pub block-requires-clause-there : goal.block-requires-clause-there
+block-requires-clause-there g c = subst (λ n. c.args.number < n) c.count.ensures c.if-number-count.false
+
+pub returns-in_err-block-clause-block : goal.returns-in_err-block-clause-block
+returns-in_err-block-clause-block g c = IfOk-from_err c.from_residual.result _ c.from_residual.ensures.0
+
+pub returns-in_err-block-clause-ok : goal.returns-in_err-block-clause-ok
+returns-in_err-block-clause-ok g c = IfOk-from_err c.from_residual.result _ c.from_residual.ensures.0
+
+pub returns-in_err-block-clause-refused : goal.returns-in_err-block-clause-refused
+returns-in_err-block-clause-refused g c =
+    let fault = c.in_err-block.field-0.0 in
+    failed_with c.from_residual.result (fault_of fault) (PageRefused c.args.self.now.pages c.args.number) c.from_residual.ensures.1 (page_refused c.args.self.now.pages c.args.number fault)
+
+pub returns-in_err-block-clause-err : goal.returns-in_err-block-clause-err
+returns-in_err-block-clause-err g c = on_err c.from_residual.result (unchanged_read c.self.view_is _ _ c.block.ensures.pages)
+
+pub returns-in_err-block-clause-failures : goal.returns-in_err-block-clause-failures
+returns-in_err-block-clause-failures g c = store_counted c.self.view_is c.from_residual.result c.in_err-block.field-0.0 _ _ refl c.from_residual.ensures.1 c.in_err-block.ensures.failures
+
+pub returns-clause-refused : goal.returns-clause-refused
+returns-clause-refused g c = tt
+
+pub returns-clause-err : goal.returns-clause-err
+returns-clause-err g c = tt
+
+pub returns-clause-ok : goal.returns-clause-ok
+returns-clause-ok g c = same_read c.self.view_is _ _ c.block.ensures.pages c.in_ok-block.ensures.failures
+
+pub returns-clause-failures : goal.returns-clause-failures
+returns-clause-failures g c = same_failures c.self.view_is _ c.in_ok-block.ensures.failures
+
+pub returns-clause-sound : goal.returns-clause-sound
+returns-clause-sound g c = (invariant_of-self-2 g c).sound
+
+pub returns-clause-block : goal.returns-clause-block
+returns-clause-block g c page is =
+    let P : WardState g.row.K.Denot → Type 0 = λ w. IsAt w.pages c.args.number page in
+    c.in_ok-block.ensures.block page (subst P (sym c.self.view_is) is)

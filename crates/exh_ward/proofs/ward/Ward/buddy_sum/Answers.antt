@@ -1,11 +1,15 @@
-use Rattle.std.proofs.Common.{◌<◌, length, List, None, refl, sym, subst, arith}
+use Rattle.std.proofs.Common.{◌<◌, length, List, None, refl, sym, subst, arith, ◌∙◌}
+use Rattle.std.proofs.lemmas.Result.{IfOk-from_err}
 use Rattle.exh_page.specs.declared.page.Page.{Page}
 use Rattle.exh_frames.specs.PageStore.{HasHead}
 use Rattle.exh_ward.specs.BuddySum.{IsBuddySum}
-use Rattle.exh_ward.specs.WardState.{WardState}
+use Rattle.exh_ward.specs.WardState.{WardState, IsSoundWard}
+use Rattle.exh_ward.specs.WardFault.{fault_of, IsStoreFault}
 use Rattle.exh_ward.proofs.BuddySums.{none_here, none_past, sum_is_told}
 use Rattle.exh_ward.proofs.StepsKeepSound.{kept_read}
-use Rattle.exh_ward.proofs.MergesAreSteps.{few_counted, few_left, own_in_front, right_within}
+use Rattle.exh_ward.proofs.MergesAreSteps.{few_counted, few_left, own_in_front, right_within, to_sibling}
+use Rattle.exh_ward.proofs.Exits.{on_err, unchanged_read, store_fault, store_counted, same_read, same_failures}
+use Rattle.exh_ward.proofs.HalvesOfPages.{failed_with}
 use Rattle.exh_ward.proofs.ward.Ward.buddy_sum.Goals as goal
 
 pub returns-then-page-count-clause-sum : goal.returns-then-page-count-clause-sum
@@ -63,3 +67,99 @@ returns-clause-sum g c =
     let buddy = subst L c.head.ensures.pages c.in_ok-head-2.ensures.head in
     let P : WardState g.row.K.Denot → Type 0 = λ w. IsBuddySum w c.args.page c.sum_beside.result in
     subst P c.self.view_is (sum_is_told c.self.invariant c.args.page c.in_ok-head.ensures.head c.in-Ok.ensures.ok c.left_children_link_to_siblings.ensures c.in-Some.is buddy c.sum_beside.result c.sum_beside.ensures)
+
+pub returns-then-page-count-clause-fault : goal.returns-then-page-count-clause-fault
+returns-then-page-count-clause-fault g c = tt
+
+pub returns-then-page-count-clause-err : goal.returns-then-page-count-clause-err
+returns-then-page-count-clause-err g c = tt
+
+pub returns-then-page-count-clause-ok : goal.returns-then-page-count-clause-ok
+returns-then-page-count-clause-ok g c = refl
+
+pub returns-then-page-count-clause-failures : goal.returns-then-page-count-clause-failures
+returns-then-page-count-clause-failures g c = refl
+
+pub returns-then-page-count-clause-sound : goal.returns-then-page-count-clause-sound
+returns-then-page-count-clause-sound g c =
+    let P : WardState g.row.K.Denot → Type 0 = λ w. IsSoundWard g.K.Keyer.pseudokey_of w in
+    subst P c.self.view_is c.self.invariant.sound
+
+pub head-requires : goal.head-requires
+head-requires g c = subst (λ n. c.args.page < n) c.count.ensures c.if-page-count.false
+
+pub returns-in_err-head-clause-sum : goal.returns-in_err-head-clause-sum
+returns-in_err-head-clause-sum g c = IfOk-from_err c.from_residual.result _ c.from_residual.ensures.0
+
+pub returns-in_err-head-clause-ok : goal.returns-in_err-head-clause-ok
+returns-in_err-head-clause-ok g c = IfOk-from_err c.from_residual.result _ c.from_residual.ensures.0
+
+pub returns-in_err-head-clause-err : goal.returns-in_err-head-clause-err
+returns-in_err-head-clause-err g c = on_err c.from_residual.result (unchanged_read c.self.view_is _ _ c.head.ensures.pages)
+
+pub returns-in_err-head-clause-fault : goal.returns-in_err-head-clause-fault
+returns-in_err-head-clause-fault g c = failed_with c.from_residual.result (fault_of c.in_err-head.field-0.0) IsStoreFault c.from_residual.ensures.1 (store_fault c.in_err-head.field-0.0)
+
+pub returns-in_err-head-clause-failures : goal.returns-in_err-head-clause-failures
+returns-in_err-head-clause-failures g c = store_counted c.self.view_is c.from_residual.result c.in_err-head.field-0.0 _ _ refl c.from_residual.ensures.1 c.in_err-head.ensures.failures
+
+pub returns-in_default-clause-fault : goal.returns-in_default-clause-fault
+returns-in_default-clause-fault g c = tt
+
+pub returns-in_default-clause-err : goal.returns-in_default-clause-err
+returns-in_default-clause-err g c = tt
+
+pub returns-in_default-clause-ok : goal.returns-in_default-clause-ok
+returns-in_default-clause-ok g c = same_read c.self.view_is _ _ c.head.ensures.pages c.in_ok-head.ensures.failures
+
+pub returns-in_default-clause-failures : goal.returns-in_default-clause-failures
+returns-in_default-clause-failures g c = same_failures c.self.view_is _ c.in_ok-head.ensures.failures
+
+pub returns-in_default-clause-sound : goal.returns-in_default-clause-sound
+returns-in_default-clause-sound g c = (invariant_of-self-in_default g c).sound
+
+pub returns-in_err-head-2-clause-sum : goal.returns-in_err-head-2-clause-sum
+returns-in_err-head-2-clause-sum g c = IfOk-from_err c.from_residual-in_err-head-2.result _ c.from_residual-in_err-head-2.ensures.0
+
+pub returns-in_err-head-2-clause-ok : goal.returns-in_err-head-2-clause-ok
+returns-in_err-head-2-clause-ok g c = IfOk-from_err c.from_residual-in_err-head-2.result _ c.from_residual-in_err-head-2.ensures.0
+
+pub returns-in_err-head-2-clause-err : goal.returns-in_err-head-2-clause-err
+returns-in_err-head-2-clause-err g c = on_err c.from_residual-in_err-head-2.result (unchanged_read c.self.view_is _ _ (c.head-2.ensures.pages ∙ c.head.ensures.pages))
+
+pub returns-in_err-head-2-clause-fault : goal.returns-in_err-head-2-clause-fault
+returns-in_err-head-2-clause-fault g c =
+    let fault = c.in_err-head-2.field-0.0 in
+    failed_with c.from_residual-in_err-head-2.result (fault_of fault) IsStoreFault c.from_residual-in_err-head-2.ensures.1 (store_fault fault)
+
+pub returns-in_err-head-2-clause-failures : goal.returns-in_err-head-2-clause-failures
+returns-in_err-head-2-clause-failures g c =
+    store_counted c.self.view_is c.from_residual-in_err-head-2.result c.in_err-head-2.field-0.0 _ _ c.in_ok-head.ensures.failures c.from_residual-in_err-head-2.ensures.1 c.in_err-head-2.ensures.failures
+
+pub sum_beside-requires-clause-short : goal.sum_beside-requires-clause-short
+sum_beside-requires-clause-short g c = c.in-Ok.ensures.short
+
+pub returns-clause-fault : goal.returns-clause-fault
+returns-clause-fault g c = tt
+
+pub returns-clause-err : goal.returns-clause-err
+returns-clause-err g c = tt
+
+pub returns-clause-ok : goal.returns-clause-ok
+returns-clause-ok g c = same_read c.self.view_is _ _ (c.head-2.ensures.pages ∙ c.head.ensures.pages) (c.in_ok-head-2.ensures.failures ∙ c.in_ok-head.ensures.failures)
+
+pub returns-clause-failures : goal.returns-clause-failures
+returns-clause-failures g c = same_failures c.self.view_is _ (c.in_ok-head-2.ensures.failures ∙ c.in_ok-head.ensures.failures)
+
+pub returns-clause-sound : goal.returns-clause-sound
+returns-clause-sound g c = (invariant_of-self-2 g c).sound
+
+pub unreachable-requires : goal.unreachable-requires
+unreachable-requires g c =
+    let sibling = to_sibling c.self.invariant c.args.page c.in_ok-head.ensures.head c.in-Ok.ensures.ok c.left_children_link_to_siblings.ensures in
+    c.in_default-right.not-Some _ sibling.link_is
+
+pub unreachable-unreachable : goal.unreachable-unreachable
+unreachable-unreachable g c =
+    let sibling = to_sibling c.self.invariant c.args.page c.in_ok-head.ensures.head c.in-Ok.ensures.ok c.left_children_link_to_siblings.ensures in
+    c.in_default-right.not-Some _ sibling.link_is

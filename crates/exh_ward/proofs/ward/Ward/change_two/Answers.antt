@@ -1,13 +1,18 @@
-use Rattle.std.proofs.Common.{◌≡◌, ◌+◌, List, ◌∷◌, [], ◌++◌, IsSome, refl, sym, ap, ◌∙◌, subst}
+use Rattle.std.proofs.Common.{◌≡◌, ◌+◌, List, ◌∷◌, [], ◌++◌, IsSome, refl, sym, ap, ◌∙◌, subst, ◌<◌, length}
 use Rattle.std.specs.Prelude.{slice_set}
 use Rattle.std.specs.FinMap as fin
 use Rattle.std.proofs.lemmas.List.{length-set}
+use Rattle.std.proofs.lemmas.Result.{IfOk-from_err}
+use Rattle.exh_page.specs.Page.{IsWellFormed}
 use Rattle.exh_notice.specs.declared.notice.Notice.{Notice}
-use Rattle.exh_table.specs.Table.{TableMap, table_at}
+use Rattle.exh_table.specs.Table.{TableMap, table_at, version_of}
 use Rattle.exh_legal.specs.Versions.{index_of, next_notice}
 use Rattle.exh_ward.specs.Told.{IsChangedTo}
 use Rattle.exh_ward.specs.WardState.{WardState}
-use Rattle.exh_ward.proofs.ChangesAreTold.{kept_told, kept_undone, index_kept, taken_back, stands, unchanged_seen, notice_made}
+use Rattle.exh_ward.specs.WardFault.{IsTellingFault}
+use Rattle.exh_ward.proofs.ChangesAreTold.{kept_told, kept_undone, index_kept, taken_back, stands, unchanged_seen, notice_made, told_seen, state_of}
+use Rattle.exh_ward.proofs.Exits.{taking_counted, taking_tells, storing_tells, made_counted, same_failures, told_here, on_err}
+use Rattle.exh_ward.proofs.HalvesOfPages.{failed_with}
 use Rattle.exh_ward.proofs.ward.Ward.change_two.Goals as goal
 
 pub put_back-requires : goal.put_back-requires
@@ -46,3 +51,98 @@ invariant_of-self-2 g c =
 
 pub returns-clause-sound : goal.returns-clause-sound
 returns-clause-sound g c = (invariant_of-self-2 g c).sound
+
+pub invariant_of-self : goal.invariant_of-self
+invariant_of-self g c =
+    kept_undone c.self.invariant (g.P.Pages.takes c.self.inside.store) (λ page. (λ takes. takes, λ takes. takes)) _ _ _ _ _ refl c.take.ensures.items c.in_err-stood.ensures.err refl
+
+pub returns-in_err-stood-clause-notice : goal.returns-in_err-stood-clause-notice
+returns-in_err-stood-clause-notice g c = IfOk-from_err c.from_residual.result _ c.from_residual.ensures.0
+
+pub returns-in_err-stood-clause-ok : goal.returns-in_err-stood-clause-ok
+returns-in_err-stood-clause-ok g c = IfOk-from_err c.from_residual.result _ c.from_residual.ensures.0
+
+pub returns-in_err-stood-clause-err : goal.returns-in_err-stood-clause-err
+returns-in_err-stood-clause-err g c = on_err c.from_residual.result (unchanged_seen c.self.view_is _ _ _ _ refl c.take.ensures.items c.in_err-stood.ensures.err)
+
+pub returns-in_err-stood-clause-fault : goal.returns-in_err-stood-clause-fault
+returns-in_err-stood-clause-fault g c =
+    let P : WardState g.row.K.Denot → Type 0 = λ w. IsTellingFault w c.args.prefix c.in_err-stood.field-0.0 in
+    failed_with c.from_residual.result c.in_err-stood.field-0.0 (IsTellingFault c.args.self.now c.args.prefix) c.from_residual.ensures.1 (subst P c.self.view_is (taking_tells (state_of c.self.view_is) c.args.prefix c.in_err-stood.field-0.0 c.in_err-stood.ensures.fault))
+
+pub returns-in_err-stood-clause-failures : goal.returns-in_err-stood-clause-failures
+returns-in_err-stood-clause-failures g c =
+    taking_counted c.self.view_is c.from_residual.result c.self.inside.table c.args.prefix c.in_err-stood.field-0.0 _ refl c.from_residual.ensures.1 c.in_err-stood.ensures.fault
+
+pub returns-in_err-stood-clause-sound : goal.returns-in_err-stood-clause-sound
+returns-in_err-stood-clause-sound g c = (invariant_of-self g c).sound
+
+pub set_two-requires-clause-there : goal.set_two-requires-clause-there
+set_two-requires-clause-there g c =
+    let P : WardState g.row.K.Denot → Type 0 = λ w. c.args.number < length w.pages in
+    subst P (sym c.self.view_is) c.requires.there
+
+pub set_two-requires-clause-other_there : goal.set_two-requires-clause-other_there
+set_two-requires-clause-other_there g c =
+    let P : WardState g.row.K.Denot → Type 0 = λ w. c.args.other < length w.pages in
+    subst P (sym c.self.view_is) c.requires.other_there
+
+pub set_two-requires-clause-apart : goal.set_two-requires-clause-apart
+set_two-requires-clause-apart g c = c.requires.apart
+
+pub set_two-requires-clause-taken : goal.set_two-requires-clause-taken
+set_two-requires-clause-taken g c =
+    let P : WardState g.row.K.Denot → Type 0 = λ w. IsWellFormed (g.K.Keyer.pseudokey_of w.keyer) c.args.page in
+    c.self.invariant.takes_all c.args.page (subst P (sym c.self.view_is) c.requires.formed)
+
+pub set_two-requires-clause-twin_taken : goal.set_two-requires-clause-twin_taken
+set_two-requires-clause-twin_taken g c =
+    let P : WardState g.row.K.Denot → Type 0 = λ w. IsWellFormed (g.K.Keyer.pseudokey_of w.keyer) c.args.twin in
+    c.self.invariant.takes_all c.args.twin (subst P (sym c.self.view_is) c.requires.twin_formed)
+
+pub returns-in-Err-clause-notice : goal.returns-in-Err-clause-notice
+returns-in-Err-clause-notice g c = tt
+
+pub returns-in-Err-clause-ok : goal.returns-in-Err-clause-ok
+returns-in-Err-clause-ok g c = tt
+
+pub returns-in-Err-clause-fault : goal.returns-in-Err-clause-fault
+returns-in-Err-clause-fault g c =
+    let P = IsTellingFault c.args.self.now c.args.prefix in
+    subst P (sym c.into.ensures) (storing_tells c.args.self.now c.args.prefix c.in-Err.fault)
+
+pub returns-in-Err-clause-failures : goal.returns-in-Err-clause-failures
+returns-in-Err-clause-failures g c = made_counted c.self.view_is Notice c.into.result c.in-Err.fault _ c.into.ensures c.in-Err.ensures.failures
+
+pub notice_after-requires : goal.notice_after-requires
+notice_after-requires g c = λ most. c.in_ok-stood.ensures.more (sym (ap version_of c.in_ok-stood.ensures.stood) ∙ most)
+
+pub push_reserved-requires : goal.push_reserved-requires
+push_reserved-requires g c = c.in_ok-stood.ensures.room
+
+pub returns-clause-notice : goal.returns-clause-notice
+returns-clause-notice g c =
+    let I : WardState g.row.K.Denot → Type 0 = λ w. c.next_index-index.result ≡ index_of w.table + 1 in
+    let index_is = subst I (sym c.self.view_is) c.next_index-index.ensures in
+    let made = notice_made c.self.inside.number c.self.inside.table c.args.prefix c.args.kind c.in_ok-stood.stood c.in_ok-stood.ensures.stood c.next_index-index.result index_is c.notice_after.result c.notice_after.ensures in
+    made ∙ ap (λ (w : WardState g.row.K.Denot). next_notice w.number w.table c.args.prefix c.args.kind) c.self.view_is
+
+pub returns-clause-ok : goal.returns-clause-ok
+returns-clause-ok g c =
+    let I : WardState g.row.K.Denot → Type 0 = λ w. c.next_index-index.result ≡ index_of w.table + 1 in
+    let index_is = subst I (sym c.self.view_is) c.next_index-index.ensures in
+    let made = notice_made c.self.inside.number c.self.inside.table c.args.prefix c.args.kind c.in_ok-stood.stood c.in_ok-stood.ensures.stood c.next_index-index.result index_is c.notice_after.result c.notice_after.ensures in
+    let notice = next_notice c.self.inside.number c.self.inside.table c.args.prefix c.args.kind in
+    let new = slice_set (slice_set (g.P.Pages.pages c.self.inside.store) c.args.number c.args.page) c.args.other c.args.twin in
+    let told = c.push_reserved.ensures.items ∙ ap (λ (told : Notice). c.take.new.notices.items ++ told ∷ []) made ∙ ap (λ (notices : List Notice). notices ++ notice ∷ []) c.take.ensures.items in
+    told_here c.self.view_is c.args.prefix c.args.kind c.args.number c.args.page c.args.other c.args.twin _
+    (told_seen (state_of c.self.view_is) notice new _ _ _ _ c.in_default.ensures.ok told c.in_ok-stood.ensures.ok c.in_default.ensures.failures)
+
+pub returns-clause-err : goal.returns-clause-err
+returns-clause-err g c = tt
+
+pub returns-clause-fault : goal.returns-clause-fault
+returns-clause-fault g c = tt
+
+pub returns-clause-failures : goal.returns-clause-failures
+returns-clause-failures g c = same_failures c.self.view_is _ c.in_default.ensures.failures

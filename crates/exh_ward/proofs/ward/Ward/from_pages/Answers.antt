@@ -1,7 +1,12 @@
-use Rattle.std.proofs.Common.{ap, ◌∙◌}
+use Rattle.std.proofs.Common.{ap, ◌∙◌, ◌≡◌, ◌<◌, Err, subst}
 use Rattle.std.specs.FinMap as fin
+use Rattle.std.proofs.lemmas.Result.{IfOk-from_err}
 use Rattle.exh_prefix.specs.Leading.{ward_prefix}
+use Rattle.exh_ward.specs.WardFault.{CountsFailures, IsStoreFault}
+use Rattle.exh_ward.specs.declared.ward_fault.WardFault.{WardFault}
+use Rattle.exh_ward.specs.declared.ward_fault.WardFault.TheVariants.{Memory, Page}
 use Rattle.exh_ward.proofs.MadeOfPages.{apart_from, few_entries, kept_made}
+use Rattle.exh_ward.proofs.HalvesOfPages.{failed_with}
 use Rattle.exh_ward.proofs.ward.Ward.from_pages.Goals as goal
 
 pub read_pages-requires : goal.read_pages-requires
@@ -20,3 +25,44 @@ invariant_of-result g c =
 
 pub returns-clause-sound : goal.returns-clause-sound
 returns-clause-sound g c = (invariant_of-result g c).sound
+
+pub returns-in_err-index-clause-ward : goal.returns-in_err-index-clause-ward
+returns-in_err-index-clause-ward g c = IfOk-from_err c.from_residual.result _ c.from_residual.ensures.0
+
+pub returns-in_err-index-clause-sound : goal.returns-in_err-index-clause-sound
+returns-in_err-index-clause-sound g c = IfOk-from_err c.from_residual.result _ c.from_residual.ensures.0
+
+pub returns-in_err-index-clause-fault : goal.returns-in_err-index-clause-fault
+returns-in_err-index-clause-fault g c = failed_with c.from_residual.result c.in_err-index.field-0.0 IsStoreFault c.from_residual.ensures.1 c.in_err-index.ensures.fault
+
+pub returns-in_err-index-clause-page_fault : goal.returns-in_err-index-clause-page_fault
+returns-in_err-index-clause-page_fault g c =
+    let Q : WardFault → Type 0 = λ fault. fault ≡ Page → (left : g.row.P.Denot) × (g.P.Pages.failures c.args.pages < g.P.Pages.failures left) in
+    let P : WardFault → Type 0 = λ fault. CountsFailures {T = Unit {0}} (Err fault) (g.P.Pages.failures c.args.pages) (g.P.Pages.failures c.read_pages.new.store) in
+    failed_with c.from_residual.result c.in_err-index.field-0.0 Q c.from_residual.ensures.1 (λ is_page. (c.read_pages.new.store, subst P is_page c.in_err-index.ensures.failures))
+
+pub returns-in_err-start-clause-ward : goal.returns-in_err-start-clause-ward
+returns-in_err-start-clause-ward g c = IfOk-from_err c.from_residual-in_err-start.result _ c.from_residual-in_err-start.ensures.0
+
+pub returns-in_err-start-clause-sound : goal.returns-in_err-start-clause-sound
+returns-in_err-start-clause-sound g c = IfOk-from_err c.from_residual-in_err-start.result _ c.from_residual-in_err-start.ensures.0
+
+pub returns-in_err-start-clause-fault : goal.returns-in_err-start-clause-fault
+returns-in_err-start-clause-fault g c = failed_with c.from_residual-in_err-start.result Memory IsStoreFault c.from_residual-in_err-start.ensures.1 tt
+
+pub returns-in_err-start-clause-page_fault : goal.returns-in_err-start-clause-page_fault
+returns-in_err-start-clause-page_fault g c =
+    let Q : WardFault → Type 0 = λ fault. fault ≡ Page → (left : g.row.P.Denot) × (g.P.Pages.failures c.args.pages < g.P.Pages.failures left) in
+    failed_with c.from_residual-in_err-start.result Memory Q c.from_residual-in_err-start.ensures.1 (λ is_page. let no : ⊥ = cc in absurd no)
+
+pub own_prefix-requires-clause-bits : goal.own_prefix-requires-clause-bits
+own_prefix-requires-clause-bits g c = c.requires.bits
+
+pub own_prefix-requires-clause-number : goal.own_prefix-requires-clause-number
+own_prefix-requires-clause-number g c = c.requires.number
+
+pub returns-clause-fault : goal.returns-clause-fault
+returns-clause-fault g c = tt
+
+pub returns-clause-page_fault : goal.returns-clause-page_fault
+returns-clause-page_fault g c = tt
