@@ -1,3 +1,4 @@
+mod Counts
 mod Order
 mod Rounds
 mod ToBeTallied

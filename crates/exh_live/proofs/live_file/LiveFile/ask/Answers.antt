@@ -1,11 +1,14 @@
-use Rattle.std.proofs.Common.{rules, ◌≡◌, ℕ, List, Option, Some, None, Result, IfSome, IfNone, unwrap_or, inl, inr, ap, ◌∙◌, subst}
+use Rattle.std.proofs.Common.{◌≡◌, ℕ, List, [], length, append-nil, Option, Some, None, Result, Ok, Err, IfSome, IfNone, unwrap_or, inl, inr, refl, sym, ap, ap₂, ◌∙◌, subst}
+use Rattle.std.specs.Prelude.{OnErr}
+use Rattle.std.proofs.lemmas.Result.{IfOk-from_err}
 use Rattle.exh_calls.specs.Call.{key_of}
 use Rattle.exh_calls.specs.declared.reply.Reply.{Reply}
 use Rattle.exh_copy.specs.Additions.{Held, table_after}
 use Rattle.exh_table.specs.Table.{TableMap}
 use Rattle.exh_table.specs.Walk.{walk_of}
+use Rattle.exh_settle.specs.declared.diary_entry.DiaryEntry.{DiaryEntry}
 use Rattle.exh_walk.specs.declared.ask_fault.AskFault.{AskFault}
-use Rattle.exh_live.specs.LiveFile.{SeatState}
+use Rattle.exh_live.specs.LiveFile.{LiveState, SeatState}
 use Rattle.exh_live.specs.Locked.{IsFirstPage, IsLockedWalk}
 use Rattle.exh_live.proofs.Walks.{of_fault}
 use Rattle.exh_live.proofs.live_file.LiveFile.ask.Goals as goal
@@ -16,12 +19,45 @@ first_page : (start : TableMap) (ward_bits pseudokey : ℕ) (old new : Held) (lo
 first_page start ward_bits pseudokey old new (Some page) at named none is = inl (is ∙ named)
 first_page start ward_bits pseudokey old new None at named none is = inr (is, none)
 
+abbrev seat_with : ℕ → List DiaryEntry → SeatState
+seat_with client entries = record { client = client; entries = entries }
+
+on_err : {T E : Type 0} (result : Result T E) (P : Type 0) → P → OnErr result P
+on_err (Ok value) P has = tt
+on_err (Err fault) P has = has
+
+pub invariant_of-seat : goal.invariant_of-seat
+invariant_of-seat g c = (c.seat.invariant.0, c.seat.invariant.1 ∙ ap length (sym c.reserve.ensures.entries))
+
+pub returns-then-is_err-clause-ok : goal.returns-then-is_err-clause-ok
+returns-then-is_err-clause-ok g c = tt
+
+pub returns-then-is_err-clause-err : goal.returns-then-is_err-clause-err
+returns-then-is_err-clause-err g c = ap₂ seat_with c.reserve.ensures.client c.reserve.ensures.entries ∙ c.seat.view_is
+
+pub returns-then-is_err-clause-walk : goal.returns-then-is_err-clause-walk
+returns-then-is_err-clause-walk g c = inl refl
+
+pub returns-then-is_err-clause-copy : goal.returns-then-is_err-clause-copy
+returns-then-is_err-clause-copy g c = (refl, ([], sym (append-nil c.args.copy.now.additions)))
+
+pub walk-answers-requires-clause-hashed : goal.walk-answers-requires-clause-hashed
+walk-answers-requires-clause-hashed g c =
+    c.pseudo-pseudokey.ensures
+    ∙ ap (g.K.Keyer.pseudokey_of c.self.inside.settings.keyer) (c.as_bytes.ensures.bytes ∙ c.key.ensures)
+    ∙ ap (λ (file : LiveState g.row.K.Denot). g.K.Keyer.pseudokey_of file.keyer (key_of c.args.call.now)) c.self.view_is
+
+pub returns-in_err-reply-clause-ok : goal.returns-in_err-reply-clause-ok
+returns-in_err-reply-clause-ok g c = IfOk-from_err c.from_residual.result _ c.from_residual.ensures.0
+
+pub returns-in_err-reply-clause-err : goal.returns-in_err-reply-clause-err
+returns-in_err-reply-clause-err g c = on_err c.from_residual.result _ (ap₂ seat_with c.reserve.ensures.client c.reserve.ensures.entries ∙ c.seat.view_is)
+
 pub returns-in_err-reply-clause-walk : goal.returns-in_err-reply-clause-walk
 returns-in_err-reply-clause-walk g c =
     let Walked : ℕ → ℕ → Result Reply AskFault → Type 0 = λ pseudokey client result. IsLockedWalk g.K.Keyer.pseudokey_of (g.G.Gate.may c.args.gate.now client) c.unwrap_or-at.result client c.args.call.now pseudokey result in
-    let keyed : c.pseudo-pseudokey.result ≡ g.K.Keyer.pseudokey_of c.args.self.now.keyer (key_of c.args.call.now) = search rules in
-    let same : g.K.Keyer.pseudokey_of c.args.self.now.keyer ≡ g.F.Identity.hashing = search rules in
-    let hashed = keyed ∙ ap (λ (hash : List ℕ → ℕ). hash (key_of c.args.call.now)) same in
+    let keyed = c.pseudo-pseudokey.ensures ∙ ap (g.K.Keyer.pseudokey_of c.self.inside.settings.keyer) (c.as_bytes.ensures.bytes ∙ c.key.ensures) in
+    let hashed = keyed ∙ ap (λ (hash : List ℕ → ℕ). hash (key_of c.args.call.now)) c.self.invariant.2 in
     let client = c.client-client.ensures.client ∙ c.reserve.ensures.client ∙ ap (λ (seat : SeatState). seat.client) c.seat.view_is in
     let of_client = subst (λ number. Walked c.pseudo-pseudokey.result number c.walk-answers.result.1) client c.walk-answers.ensures.walk in
     let of_key = subst (λ pseudokey. Walked pseudokey c.args.seat.now.client c.walk-answers.result.1) hashed of_client in
@@ -33,12 +69,14 @@ returns-in_err-reply-clause-walk g c =
 pub returns-clause-walk : goal.returns-clause-walk
 returns-clause-walk g c =
     let Walked : ℕ → ℕ → Result Reply AskFault → Type 0 = λ pseudokey client result. IsLockedWalk g.K.Keyer.pseudokey_of (g.G.Gate.may c.args.gate.now client) c.unwrap_or-at.result client c.args.call.now pseudokey result in
-    let keyed : c.pseudo-pseudokey.result ≡ g.K.Keyer.pseudokey_of c.args.self.now.keyer (key_of c.args.call.now) = search rules in
-    let same : g.K.Keyer.pseudokey_of c.args.self.now.keyer ≡ g.F.Identity.hashing = search rules in
-    let hashed = keyed ∙ ap (λ (hash : List ℕ → ℕ). hash (key_of c.args.call.now)) same in
+    let keyed = c.pseudo-pseudokey.ensures ∙ ap (g.K.Keyer.pseudokey_of c.self.inside.settings.keyer) (c.as_bytes.ensures.bytes ∙ c.key.ensures) in
+    let hashed = keyed ∙ ap (λ (hash : List ℕ → ℕ). hash (key_of c.args.call.now)) c.self.invariant.2 in
     let client = c.client-client.ensures.client ∙ c.reserve.ensures.client ∙ ap (λ (seat : SeatState). seat.client) c.seat.view_is in
     let of_client = subst (λ number. Walked c.pseudo-pseudokey.result number c.walk-answers.result.1) client c.walk-answers.ensures.walk in
     let of_key = subst (λ pseudokey. Walked pseudokey c.args.seat.now.client c.walk-answers.result.1) hashed of_client in
     let first = first_page g.S.Start.table g.S.Start.ward_bits c.pseudo-pseudokey.result c.args.copy.now c.look.new.self c.look.result c.unwrap_or-at.result c.look.ensures.page c.look.ensures.none c.unwrap_or-at.ensures in
     let begins = subst (λ pseudokey. IsFirstPage g.S.Start.table g.S.Start.ward_bits c.args.copy.now c.look.new.self pseudokey c.unwrap_or-at.result) hashed first in
     inr (c.unwrap_or-at.result, begins, subst (Walked (g.F.Identity.hashing (key_of c.args.call.now)) c.args.seat.now.client) c.in_ok-reply.was of_key)
+
+pub returns-clause-err : goal.returns-clause-err
+returns-clause-err g c = tt
