@@ -19,9 +19,10 @@ pub loop-digit-preserved : goal.loop-digit-preserved
 loop-digit-preserved c =
     let i = c.loop-digit.digit-index in
     let digits = c.args.digits.now in
-    let is = c.in_ok-number.ensures.1 ∙ ap₂ (λ tens digit. tens + digit) c.in_ok-checked_mul.ensures.1 c.from.ensures in
-    (rw c.in_ok-number.ensures.1 c.in_ok-number.ensures.0,
-    ap (λ number. digits_up_to (2 ^ 64 - 1) number (drop (i + 1) digits)) is ∙ sym (digits_more (2 ^ 64 - 1) c.loop-digit.number i digits c.loop-digit-test.true (sym c.if-not-is_ascii_digit.ensures.value)) ∙ c.loop-digit.invariant.1)
+    let is = c.in_ok-number.ensures.1 ∙ ap₂ (λ tens digit. tens + digit) c.in_ok-checked_mul.ensures.1 c.from.ensures in (
+      rw c.in_ok-number.ensures.1 c.in_ok-number.ensures.0,
+      ap (λ number. digits_up_to (2 ^ 64 - 1) number (drop (i + 1) digits)) is ∙ sym (digits_more (2 ^ 64 - 1) c.loop-digit.number i digits c.loop-digit-test.true (sym c.if-not-is_ascii_digit.ensures.value)) ∙ c.loop-digit.invariant.1,
+    )
 
 pub returns : goal.returns
 returns c = sym (digits_end (2 ^ 64 - 1) c.loop-digit.number c.loop-digit.digit-index c.args.digits.now (fits c.loop-digit.number c.loop-digit.invariant.0) c.loop-digit-test.false) ∙ c.loop-digit.invariant.1
