@@ -14,6 +14,10 @@ use Rattle.exh_storm.specs.StormFault.{storm_fault_number}
 use Rattle.exh_storm.specs.StormRounds.{AreCourierRounds, AreKeeperRounds, IsCallerFault, IsCourierRound}
 use Rattle.exh_storm.specs.declared.fault.StormFault.{StormFault}
 
+-- a loop that ends no sooner and no later ends there
+pub so_many : {done rounds : ℕ} → rounds ≤ done → done ≤ rounds → done ≡ rounds
+so_many least most = omega arith
+
 -- a refusal that is handed on as another
 handed_on : {T : Type 0} (From To : StormFault → Type 0) → ((fault : StormFault) → From fault → To fault) → (result : Result T StormFault) → IsErr result × IsErrAnd result From → IfErr result To
 handed_on From To so (Ok value) is = absurd is.1

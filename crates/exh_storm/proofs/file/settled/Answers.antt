@@ -1,4 +1,4 @@
-use Rattle.std.proofs.Common.{ap}
+use Rattle.std.proofs.Common.{ap, arith}
 use Rattle.exh_settle.specs.declared.settlement.Settled.{Settled}
 use Rattle.exh_storm.proofs.file.settled.Goals as goal
 
@@ -16,3 +16,6 @@ returns-in-Err-clause-settled g c = tt
 
 pub returns-in-Err-clause-count : goal.returns-in-Err-clause-count
 returns-in-Err-clause-count g c = tt
+
+pub overflow_cast-result : goal.overflow_cast-result
+overflow_cast-result g c = omega (arith, ap (λ (settled : Settled). settled.answers) c.in-Ok.ensures.1, c.requires.few)

@@ -1,8 +1,20 @@
-use Rattle.std.proofs.Common.{◌≡◌, length, IfOk, ap, arith}
-use Rattle.std.proofs.lemmas.List.Elements.{All-push, All-rest, All-same}
+use Rattle.std.proofs.Common.{◌≡◌, [], length, IfOk, ap, sym, arith}
+use Rattle.std.proofs.lemmas.List.Elements.{All-head, All-nil, All-push, All-rest, All-same}
 use Rattle.std.specs.Vec.Iter.{into_iter_items}
 use Rattle.exh_storm.specs.StormCalls.{IsServed}
 use Rattle.exh_storm.proofs.threads.join_callers.Goals as goal
+
+pub loop-thread-init : goal.loop-thread-init
+loop-thread-init g c =
+    let gives = c.into_iter-thread-iterator.ensures.into_iter_gives in
+    record {
+      len = omega (arith, gives.1, ap length gives.0, c.args.threads.ok);
+      left = All-same (λ thread. IfOk thread (λ handle. handle.promise.calls ≡ c.args.calls)) (into_iter_items c.into_iter-thread-iterator.result) c.args.threads.items gives.0 c.requires;
+      seats = All-same (IsServed c.args.calls) c.in_ok-seats.seats.items [] c.in_ok-seats.ensures.items (All-nil (IsServed c.args.calls));
+    }
+
+pub join_caller-requires : goal.join_caller-requires
+join_caller-requires g c = All-head (λ thread. IfOk thread (λ handle. handle.promise.calls ≡ c.args.calls)) c.in-Some.thread (into_iter_items c.next.new.self) (All-same (λ thread. IfOk thread (λ handle. handle.promise.calls ≡ c.args.calls)) _ _ (sym c.in-Some.ensures.steps.0) c.loop-thread.invariant.left)
 
 pub loop-thread-preserved-in-Continue-branch-3 : goal.loop-thread-preserved-in-Continue-branch-3
 loop-thread-preserved-in-Continue-branch-3 g c =

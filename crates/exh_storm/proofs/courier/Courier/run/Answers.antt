@@ -1,13 +1,10 @@
-use Rattle.std.proofs.Common.{◌≡◌, ℕ, ◌+◌, ◌^◌, ◌<◌, ◌≤◌, refl, ap, ◌∙◌, subst, arith}
+use Rattle.std.proofs.Common.{ℕ, ◌+◌, ◌^◌, ◌<◌, ◌≤◌, refl, ap, ◌∙◌, subst, arith}
 use Rattle.std.proofs.lemmas.Result.{IfOk-from_err}
 use Rattle.exh_live.specs.Rounds.{AreFirstCursors}
 use Rattle.exh_storm.specs.StormRounds.{AreCourierRounds}
 use Rattle.exh_storm.specs.declared.courier.TheConstants.{COURIER_CLIENT}
-use Rattle.exh_storm.proofs.RoundsOn.{courier_round_more}
+use Rattle.exh_storm.proofs.RoundsOn.{courier_round_more, so_many}
 use Rattle.exh_storm.proofs.courier.Courier.run.Goals as goal
-
-so_many : {done rounds : ℕ} → rounds ≤ done → done ≤ rounds → done ≡ rounds
-so_many least most = omega arith
 
 some_turn : (done : ℕ) → 1 ≤ done + 1
 some_turn done = omega arith
