@@ -1,5 +1,6 @@
 use Rattle.std.proofs.Common.{◌≡◌, List, ℕ, [], ◌∷◌, ◌++◌, Result, Ok, Err, OnOk, codes, decimal, flat_map, append_assoc, arith, rules, ap, subst, ◌∙◌}
 use Rattle.std.specs.FinMap.{entries}
+use Rattle.std.proofs.lemmas.Result.{IfOk-from_err}
 use Rattle.exh_table.specs.Below.{depth_of, leaves_listed}
 use Rattle.exh_text.specs.Lines.{newline}
 use Rattle.exh_text.specs.TextLemmas.{keeps_more}
@@ -15,6 +16,39 @@ shown (Ok made) old a b c d e new copy depth number end entries leaves is_a is_b
     last ∙ ap (λ l. l ++ leaves) (is_e ∙ ap (λ l. l ++ entries) (is_d ∙ ap (λ l. l ++ end) (is_c ∙ ap (λ l. l ++ number) (is_b ∙ ap (λ l. l ++ depth) is_a)))) ∙ simp append_assoc
 shown (Err fault) old a b c d e new copy depth number end entries leaves is_a is_b is_c is_d is_e last = tt
 
+pub returns-in_err-push_copy-clause-ok : goal.returns-in_err-push_copy-clause-ok
+returns-in_err-push_copy-clause-ok c = IfOk-from_err c.from_residual.result _ c.from_residual.ensures.0
+
+pub returns-in_err-push_copy-clause-kept : goal.returns-in_err-push_copy-clause-kept
+returns-in_err-push_copy-clause-kept c = c.push_copy.ensures.kept
+
+pub returns-in_err-push_text-clause-ok : goal.returns-in_err-push_text-clause-ok
+returns-in_err-push_text-clause-ok c = IfOk-from_err c.from_residual-in_err-push_text.result _ c.from_residual-in_err-push_text.ensures.0
+
+pub returns-in_err-push_text-clause-kept : goal.returns-in_err-push_text-clause-kept
+returns-in_err-push_text-clause-kept c = keeps_more _ _ _ c.push_copy.ensures.kept c.push_text.ensures.kept
+
+pub returns-in_err-push_number-clause-ok : goal.returns-in_err-push_number-clause-ok
+returns-in_err-push_number-clause-ok c = IfOk-from_err c.from_residual-in_err-push_number.result _ c.from_residual-in_err-push_number.ensures.0
+
+pub returns-in_err-push_number-clause-kept : goal.returns-in_err-push_number-clause-kept
+returns-in_err-push_number-clause-kept c =
+    keeps_more _ _ _ (keeps_more _ _ _ c.push_copy.ensures.kept c.push_text.ensures.kept) c.push_number.ensures.kept
+
+pub returns-in_err-push_text-2-clause-ok : goal.returns-in_err-push_text-2-clause-ok
+returns-in_err-push_text-2-clause-ok c = IfOk-from_err c.from_residual-in_err-push_text-2.result _ c.from_residual-in_err-push_text-2.ensures.0
+
+pub returns-in_err-push_text-2-clause-kept : goal.returns-in_err-push_text-2-clause-kept
+returns-in_err-push_text-2-clause-kept c =
+    keeps_more _ _ _ (keeps_more _ _ _ (keeps_more _ _ _ c.push_copy.ensures.kept c.push_text.ensures.kept) c.push_number.ensures.kept) c.push_text-2.ensures.kept
+
+pub returns-in_err-push_entries-clause-ok : goal.returns-in_err-push_entries-clause-ok
+returns-in_err-push_entries-clause-ok c = IfOk-from_err c.from_residual-in_err-push_entries.result _ c.from_residual-in_err-push_entries.ensures.0
+
+pub returns-in_err-push_entries-clause-kept : goal.returns-in_err-push_entries-clause-kept
+returns-in_err-push_entries-clause-kept c =
+    keeps_more _ _ _ (keeps_more _ _ _ (keeps_more _ _ _ (keeps_more _ _ _ c.push_copy.ensures.kept c.push_text.ensures.kept) c.push_number.ensures.kept) c.push_text-2.ensures.kept) c.push_entries.ensures.kept
+
 pub returns-clause-ok : goal.returns-clause-ok
 returns-clause-ok c =
     let table = c.args.directory.now.table in
@@ -29,3 +63,6 @@ returns-clause-ok c =
 pub returns-clause-kept : goal.returns-clause-kept
 returns-clause-kept c =
     keeps_more _ _ _ (keeps_more _ _ _ (keeps_more _ _ _ (keeps_more _ _ _ (keeps_more _ _ _ c.push_copy.ensures.kept c.push_text.ensures.kept) c.push_number.ensures.kept) c.push_text-2.ensures.kept) c.push_entries.ensures.kept) c.push_leaves.ensures.kept
+
+pub push_leaves-requires : goal.push_leaves-requires
+push_leaves-requires c = c.requires.most

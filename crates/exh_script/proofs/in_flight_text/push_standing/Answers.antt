@@ -1,6 +1,8 @@
 use Rattle.std.proofs.Common.{◌≡◌, List, ℕ, [], ◌∷◌, ◌++◌, Result, Ok, Err, OnOk, codes, append_assoc, ap, ap₂, ◌∙◌}
+use Rattle.std.proofs.lemmas.Result.{IfOk-from_err}
 use Rattle.exh_text.specs.Lines.{newline}
 use Rattle.exh_text.specs.Printing.{place_text}
+use Rattle.exh_text.specs.TextLemmas.{keeps_more}
 use Rattle.exh_line.specs.Answer.{request_text}
 use Rattle.exh_script.proofs.in_flight_text.push_standing.Goals as goal
 
@@ -17,3 +19,25 @@ returns-clause-text c =
     line c.push_text-2.result c.args.out.now.items c.push_request.new.out.items c.push_text.new.out.items c.push_place.new.out.items c.push_text-2.new.out.items
     (request_text c.args.name) (codes " at ") (place_text request.ward request.page) (newline ∷ [])
     c.in_ok-push_request.ensures.ok c.in_ok-push_text.ensures.ok placed c.push_text-2.ensures.ok
+
+pub returns-in_err-push_request-clause-text : goal.returns-in_err-push_request-clause-text
+returns-in_err-push_request-clause-text c = IfOk-from_err c.from_residual.result _ c.from_residual.ensures.0
+
+pub returns-in_err-push_request-clause-kept : goal.returns-in_err-push_request-clause-kept
+returns-in_err-push_request-clause-kept c = c.push_request.ensures.kept
+
+pub returns-in_err-push_text-clause-text : goal.returns-in_err-push_text-clause-text
+returns-in_err-push_text-clause-text c = IfOk-from_err c.from_residual-in_err-push_text.result _ c.from_residual-in_err-push_text.ensures.0
+
+pub returns-in_err-push_text-clause-kept : goal.returns-in_err-push_text-clause-kept
+returns-in_err-push_text-clause-kept c = keeps_more _ _ _ c.push_request.ensures.kept c.push_text.ensures.kept
+
+pub returns-in_err-push_place-clause-text : goal.returns-in_err-push_place-clause-text
+returns-in_err-push_place-clause-text c = IfOk-from_err c.from_residual-in_err-push_place.result _ c.from_residual-in_err-push_place.ensures.0
+
+pub returns-in_err-push_place-clause-kept : goal.returns-in_err-push_place-clause-kept
+returns-in_err-push_place-clause-kept c = keeps_more _ _ _ (keeps_more _ _ _ c.push_request.ensures.kept c.push_text.ensures.kept) c.push_place.ensures.kept
+
+pub returns-clause-kept : goal.returns-clause-kept
+returns-clause-kept c =
+    keeps_more _ _ _ (keeps_more _ _ _ (keeps_more _ _ _ c.push_request.ensures.kept c.push_text.ensures.kept) c.push_place.ensures.kept) c.push_text-2.ensures.kept

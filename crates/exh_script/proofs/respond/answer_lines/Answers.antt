@@ -1,19 +1,21 @@
-use Rattle.std.proofs.Common.{◌≡◌, [], ◌∷◌, ◌∙◌, ◌++◌, sym, ap, subst, append_assoc, rules}
+use Rattle.std.proofs.Common.{[], ◌∷◌, ◌∙◌, ◌++◌, refl, sym, ap, subst, append-nil, append_assoc, rules}
+use Rattle.std.proofs.lemmas.Result.{IfOk-from_err}
 use Rattle.exh_stream.specs.Output.{Takes}
 use Rattle.exh_stream.specs.OutputLemmas.{OnErr-from, Takes-none}
 use Rattle.exh_script.specs.Text.{line_response, response_text, text_from}
+use Rattle.exh_script.specs.declared.serve_fault.ServeFault.TheVariants.{Write}
 use Rattle.exh_script.proofs.Responded.{stopped, line_is, text_of_next, line_out, line_stopped, LeadTo-none, LeadTo-more, text_of_left, text_of_more, world_of_all}
-use Rattle.exh_script.proofs.ServedLemmas.{IfCut-from}
+use Rattle.exh_script.proofs.ServedLemmas.{IfCut-from, IfCut-handed}
 use Rattle.exh_script.proofs.respond.answer_lines.Goals as goal
 
 pub loop-line-init : goal.loop-line-init
 loop-line-init g c = record {
-  same_writer = search rules;
-  open_still = search rules;
-  sound = search rules;
+  same_writer = refl;
+  open_still = c.requires.open;
+  sound = c.requires.sound;
   answered = [];
-  split = search rules;
-  telling = search rules;
+  split = sym c.into_iter-line-iterator.ensures.into_iter_gives;
+  telling = refl;
   lead = LeadTo-none c.args.run.now.tells_moves c.args.run.now.world;
   passed = Takes-none g.W.Write.contents c.args.output.now;
 }
@@ -64,5 +66,47 @@ returns-in_err-push-clause-err g c =
 pub returns-clause-world : goal.returns-clause-world
 returns-clause-world g c =
     let i = c.loop-line.invariant in
-    let none : c.loop-line.line-iterator ≡ [] = search rules in
+    let none = c.in-None.ensures.steps.0 in
     world_of_all c.args.run.now.tells_moves c.args.run.now.world c.loop-line.run.world i.answered i.lead c.loop-line.line-iterator c.args.lines i.split none
+
+pub returns-clause-same_writer : goal.returns-clause-same_writer
+returns-clause-same_writer g c = c.loop-line.invariant.same_writer
+
+pub returns-clause-err : goal.returns-clause-err
+returns-clause-err g c = tt
+
+pub returns-clause-front : goal.returns-clause-front
+returns-clause-front g c = tt
+
+pub returns-clause-ok : goal.returns-clause-ok
+returns-clause-ok g c =
+    let i = c.loop-line.invariant in
+    let tells = c.args.run.now.tells_moves in
+    let new = c.args.run.now.world in
+    let told = text_from tells new i.answered in
+    let is = sym (append-nil told) ∙ ap (λ left. told ++ text_from tells c.loop-line.run.world left) (sym c.in-None.ensures.steps.0) ∙ text_of_left tells new _ i.answered i.lead _ _ i.split in
+    subst (Takes g.W.Write.contents c.args.output.now c.loop-line.output) is i.passed
+
+pub returns-in_err-push_response-clause-same_writer : goal.returns-in_err-push_response-clause-same_writer
+returns-in_err-push_response-clause-same_writer g c = c.loop-line.invariant.same_writer
+
+pub returns-in_err-push_response-clause-ok : goal.returns-in_err-push_response-clause-ok
+returns-in_err-push_response-clause-ok g c = IfOk-from_err c.from_residual.result _ c.from_residual.ensures.0
+
+pub returns-in_err-push_response-clause-world : goal.returns-in_err-push_response-clause-world
+returns-in_err-push_response-clause-world g c = IfOk-from_err c.from_residual.result _ c.from_residual.ensures.0
+
+pub returns-in_err-push-clause-same_writer : goal.returns-in_err-push-clause-same_writer
+returns-in_err-push-clause-same_writer g c = c.push.ensures.same_writer ∙ c.loop-line.invariant.same_writer
+
+pub returns-in_err-push-clause-ok : goal.returns-in_err-push-clause-ok
+returns-in_err-push-clause-ok g c = IfOk-from_err c.from_residual-in_err-push.result _ c.from_residual-in_err-push.ensures.0
+
+pub returns-in_err-push-clause-world : goal.returns-in_err-push-clause-world
+returns-in_err-push-clause-world g c = IfOk-from_err c.from_residual-in_err-push.result _ c.from_residual-in_err-push.ensures.0
+
+pub returns-in_err-push-clause-front : goal.returns-in_err-push-clause-front
+returns-in_err-push-clause-front g c = IfCut-handed c.from_residual-in_err-push.result Write c.from_residual-in_err-push.ensures (λ differs. absurd (differs refl))
+
+pub push_response-requires : goal.push_response-requires
+push_response-requires g c = c.loop-line.invariant.sound

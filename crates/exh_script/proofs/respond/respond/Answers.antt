@@ -102,3 +102,48 @@ returns-in-Err-clause-err g c =
 
 pub returns-in-Err-clause-front : goal.returns-in-Err-clause-front
 returns-in-Err-clause-front g c = IfCut-map c.refuse-in-Err.result inl c.refuse-in-Err.ensures.front
+
+pub returns-in-Ok-clause-same_writer : goal.returns-in-Ok-clause-same_writer
+returns-in-Ok-clause-same_writer g c = c.serve_file.ensures.same_writer
+
+pub returns-in-Ok-clause-failed : goal.returns-in-Ok-clause-failed
+returns-in-Ok-clause-failed g c = c.serve_file.ensures.failed
+
+pub returns-in-Err-clause-same_writer : goal.returns-in-Err-clause-same_writer
+returns-in-Err-clause-same_writer g c = c.refuse-in-Err.ensures.same_writer
+
+pub returns-in-Err-clause-failed : goal.returns-in-Err-clause-failed
+returns-in-Err-clause-failed g c = c.refuse-in-Err.ensures.failed
+
+pub returns-in_default-clause-same_writer : goal.returns-in_default-clause-same_writer
+returns-in_default-clause-same_writer g c = c.refuse.ensures.same_writer
+
+pub returns-in_default-clause-failed : goal.returns-in_default-clause-failed
+returns-in_default-clause-failed g c = c.refuse.ensures.failed
+
+pub returns-in_default-clause-front : goal.returns-in_default-clause-front
+returns-in_default-clause-front g c = IfCut-map c.refuse.result inl c.refuse.ensures.front
+
+pub returns-in_default-clause-text : goal.returns-in_default-clause-text
+returns-in_default-clause-text g c =
+    let none = sym c.new-lines.ensures ∙ c.in_default.ensures.steps.0 in
+    subst (λ text. OnOk c.refuse.result (Takes g.W.Write.contents c.args.output.now c.refuse.new.output text)) (ap refusal_text c.into.ensures ∙ sym (ap (text_of_lines (beginning c.args.from)) none)) c.refuse.ensures.text
+
+pub returns-in_default-clause-err : goal.returns-in_default-clause-err
+returns-in_default-clause-err g c =
+    let none = sym c.new-lines.ensures ∙ c.in_default.ensures.steps.0 in
+    subst (λ text. OnErr c.refuse.result (TakesBeginning g.W.Write.contents c.args.output.now c.refuse.new.output text)) (ap refusal_text c.into.ensures ∙ sym (ap (text_of_lines (beginning c.args.from)) none)) c.refuse.ensures.err
+
+pub returns-in_default-clause-left : goal.returns-in_default-clause-left
+returns-in_default-clause-left g c =
+    let none = sym c.new-lines.ensures ∙ c.in_default.ensures.steps.0 in
+    subst (λ (left : Option OpenedState). IfOk c.refuse.result (λ l. l ≡ left)) (sym (ap (left_of_lines (beginning c.args.from)) none)) c.refuse.ensures.left
+
+pub serve_file-requires-clause-open : goal.serve_file-requires-clause-open
+serve_file-requires-clause-open g c = c.requires
+
+pub refuse-requires : goal.refuse-requires
+refuse-requires g c = c.requires
+
+pub refuse-requires-in-Err : goal.refuse-requires-in-Err
+refuse-requires-in-Err g c = c.requires
