@@ -1,10 +1,10 @@
 -- Pages that are read one after the other.
-use Rattle.std.proofs.Common.{◌≡◌, ℕ, get_or, ◌+◌, ◌<◌, ◌≤◌, List, [], ◌∷◌, ◌++◌, length, take, Option, None, Some, IfSome, Result, Ok, Err, sym, ap, ◌∙◌, subst, append_assoc, append-nil, arith}
+use Rattle.std.proofs.Common.{◌≡◌, ℕ, get_or, ◌+◌, ◌<◌, ◌≤◌, List, [], ◌∷◌, ◌++◌, length, take, Option, None, Some, IfSome, Result, Ok, Err, refl, sym, ap, ◌∙◌, subst, append_assoc, append-nil, arith}
 use Rattle.std.proofs.lemmas.List.{length-append}
 use Rattle.std.proofs.lemmas.List.Concat.{flat_map-append}
 use Rattle.std.proofs.lemmas.Grind.{common_steps}
 use Rattle.std.proofs.lemmas.List.Sums.{sum_by_more_le}
-use Rattle.std.specs.Prelude.{IfErr, IsErrAnd}
+use Rattle.std.specs.Prelude.{Bool, true, false, IfErr, IsErrAnd, IsErrOf, IsFalse, IsTrue}
 use Rattle.std.specs.List.{flat_map, sum}
 use Rattle.std.specs.Io.KnownBytes.{Consumes}
 use Rattle.std.proofs.KnownBytes.{Consumes-nil, Consumes-trans}
@@ -76,6 +76,25 @@ module _ (version : Version) (pseudo : List ℕ → ℕ) where
 pub err_is : {T : Type 0} (r : Result T ReadFileFault) (fault : ReadFileFault) (P : ReadFileFault → Type 0) → IsErrAnd r (λ e. e ≡ fault) → P fault → IfErr r P
 err_is (Ok x) fault P is p = tt
 err_is (Err e) fault P is p = subst P (sym is) p
+
+-- a read that gave a value didn't fail
+pub still_open : {T : Type 0} (value : T) (failed : Bool) → (IsTrue failed → IsErrOf {T = T} (Ok value) Read) → IsFalse failed
+still_open value true told = let is : Ok value ≡ Err Read = told refl in cc
+still_open value false told = refl
+
+pub not_failed : {T U : Type 0} (value : T) (other : U) (failed : Bool) → (IsTrue failed → IsErrOf {T = T} (Ok value) Read)
+    → (IsErrOf {T = U} (Ok other) Read → IsTrue failed) × (IsTrue failed → IsErrOf {T = U} (Ok other) Read)
+not_failed {U = U} value other failed told =
+    (λ is. let never : Ok other ≡ Err Read = is in cc, λ fails. let is : Ok value ≡ Err Read = told fails in cc)
+
+-- a fault that a `?` hands on is a failed read where it was one
+pub failed_so : {T U : Type 0} (r : Result T ReadFileFault) (fault : ReadFileFault) (failed : Bool) → IsErrAnd r (λ e. e ≡ fault)
+    → (IsErrOf {T = U} (Err fault) Read → IsTrue failed) × (IsTrue failed → IsErrOf {T = U} (Err fault) Read) → (IsErrOf r Read → IsTrue failed) × (IsTrue failed → IsErrOf r Read)
+failed_so (Ok value) fault failed is told = absurd is
+failed_so {T = T} {U = U} (Err other) fault failed is told = (
+  λ fails. let here : ◌≡◌ {A = Result T ReadFileFault} (Err other) (Err Read) = fails in let same : fault ≡ Read = cc in told.0 (ap Err same),
+  λ fails. let there : ◌≡◌ {A = Result U ReadFileFault} (Err fault) (Err Read) = told.1 fails in let same : other ≡ Read = cc in ap Err same,
+)
 
 -- the sum so far and the next number are within the whole
 pub sum_more_le : (counts : List ℕ) (i : ℕ) → i < length counts → sum (take i counts) + get_or counts i 0 ≤ sum counts

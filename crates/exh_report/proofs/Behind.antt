@@ -15,6 +15,11 @@ pub five : {A E : Type 0} (result : Result A E) (old a b c d new v w x y z : Lis
 five (Ok made) old a b c d new v w x y z is_a is_b is_c is_d last = all_five old a b c d new v w x y z is_a is_b is_c is_d last ∙ simp append_assoc
 five (Err fault) old a b c d new v w x y z is_a is_b is_c is_d last = tt
 
+-- three, and the end of their line
+pub short_line : {A E : Type 0} (result : Result A E) (old a b c new w x y z : List ℕ) → a ≡ old ++ w → b ≡ a ++ x → c ≡ b ++ y → OnOk result (new ≡ c ++ z) → OnOk result (new ≡ old ++ ((w ++ (x ++ y)) ++ z))
+short_line (Ok made) old a b c new w x y z is_a is_b is_c last = last ∙ ap (λ l. l ++ z) (is_c ∙ ap (λ l. l ++ y) (is_b ∙ ap (λ l. l ++ x) is_a)) ∙ simp append_assoc
+short_line (Err fault) old a b c new w x y z is_a is_b is_c last = tt
+
 -- four, and the end of their line
 pub line : {A E : Type 0} (result : Result A E) (old a b c d new v w x y z : List ℕ) → a ≡ old ++ v → b ≡ a ++ w → c ≡ b ++ x → d ≡ c ++ y
     → OnOk result (new ≡ d ++ z) → OnOk result (new ≡ old ++ ((v ++ (w ++ (x ++ y))) ++ z))

@@ -1,10 +1,10 @@
 -- Lines that go to an output, part by part.
-use Rattle.std.proofs.Common.{◌≡◌, ◌∙◌, ◌<◌, ◌+◌, ℕ, suc, List, ◌∷◌, ◌++◌, Option, Result, Ok, Err, sym, ap, subst, drop, drop-cons, length, map, slice_index_or, Vec, Global, append_assoc, arith}
-use Rattle.std.specs.Prelude.{IsErr, IsErrAnd, flat_map}
+use Rattle.std.proofs.Common.{◌≡◌, ◌∙◌, ◌<◌, ◌+◌, ℕ, suc, List, ◌∷◌, ◌++◌, [], append-nil, Option, Result, Ok, Err, refl, sym, ap, subst, drop, drop-cons, length, map, slice_index_or, Vec, Global, append_assoc, arith}
+use Rattle.std.specs.Prelude.{Bool, true, false, IsErr, IsErrAnd, IsErrOf, IsFalse, IsTrue, flat_map}
 use Rattle.std.specs.List.{enumerate_from}
 use Rattle.std.proofs.lemmas.List.Concat.{flat_map-append}
 use Rattle.exh_stream.specs.Output.{Takes, TakesBeginning}
-use Rattle.exh_stream.specs.OutputLemmas.{Takes-then, TakesBeginning-of_more, TakesBeginning-then}
+use Rattle.exh_stream.specs.OutputLemmas.{Takes-none, Takes-then, TakesBeginning-of_more, TakesBeginning-then}
 use Rattle.exh_stream.specs.declared.output.Output.{Output}
 use Rattle.exh_text.specs.Contents.{on_line}
 use Rattle.exh_page.specs.declared.page.Page.{Page}
@@ -53,6 +53,42 @@ module _ {W : Type 0} (contents : W → Option (List ℕ)) where
       same Write Write e told = told
       same Memory Write e told = cc
       same Write Memory e told = cc
+
+-- an output that took some lines hasn't failed
+pub still_open : {T : Type 0} (value : T) (failed : Bool) → (IsTrue failed → IsErrOf {T = T} (Ok value) Write) → IsFalse failed
+still_open value true told = let is : Ok value ≡ Err Write = told refl in cc
+still_open value false told = refl
+
+-- a fault that a `?` hands on is the writer's where it was that
+pub failed_so : {T U : Type 0} (result : Result T ReportFault) (fault : ReportFault) (failed : Bool) → IsErrAnd result (λ f. f ≡ fault)
+    → (IsErrOf {T = U} (Err fault) Write → IsTrue failed) × (IsTrue failed → IsErrOf {T = U} (Err fault) Write) → (IsErrOf result Write → IsTrue failed) × (IsTrue failed → IsErrOf result Write)
+failed_so (Ok done) fault failed is told = absurd is
+failed_so {T = T} {U = U} (Err other) fault failed is told = (
+  λ fails. let here : ◌≡◌ {A = Result T ReportFault} (Err other) (Err Write) = fails in let same : fault ≡ Write = cc in told.0 (ap Err same),
+  λ fails. let there : ◌≡◌ {A = Result U ReportFault} (Err fault) (Err Write) = told.1 fails in let same : other ≡ Write = cc in ap Err same,
+)
+
+-- the text of a line is that line and no other
+pub one_line : (words : List ℕ) → on_line words ≡ lines_text (words ∷ [])
+one_line words = sym (append-nil (on_line words))
+
+module _ {W : Type 0} (contents : W → Option (List ℕ)) where
+  -- the text of some lines that goes out at once: all of it, a beginning, or none
+  pub told_whole : (old new : Output W) (lines : Lines) (text : List ℕ) → text ≡ lines_text lines → Takes contents old new text → Takes contents old new (lines_text lines)
+  told_whole old new lines text is taken = subst (Takes contents old new) is taken
+
+  pub told_begun : {T : Type 0} (old new : Output W) (lines : Lines) (text : List ℕ) (result : Result T ReportFault) → text ≡ lines_text lines → IsErr result × IsErrAnd result (λ f. f ≡ Write) → TakesBeginning contents old new text
+      → TakesLines contents old new lines result
+  told_begun old new lines text result is fault taken = as_told contents (Unit {0}) old new lines Write result fault (subst (TakesBeginning contents old new) is taken)
+
+  pub told_none : {T : Type 0} (output : Output W) (lines : Lines) (result : Result T ReportFault) → IsErr result × IsErrAnd result (λ f. f ≡ Memory) → TakesLines contents output output lines result
+  told_none output lines result fault =
+      as_told contents (Unit {0}) output output lines Memory result fault (record { front = []; rest = lines; split = refl; text = Takes-none contents output })
+
+module _ {W : Type 0} (contents : W → Option (List ℕ)) where
+  -- where no lines are left, all were taken
+  pub told_all : (old new : Output W) (lines front : Lines) {left : Lines} → left ≡ [] → lines ≡ front ++ left → Takes contents old new (lines_text front) → Takes contents old new (lines_text lines)
+  told_all old new lines front none split taken = subst (λ l. Takes contents old new (lines_text l)) (sym (split ∙ ap (λ l. front ++ l) none ∙ append-nil front)) taken
 
 -- what is left from a place on: its element, and what is left behind it
 pub drop_next : {A : Type 0} (xs : List A) (i : ℕ) (x : A) → i < length xs → x ≡ slice_index_or xs i x → drop i xs ≡ x ∷ drop (i + 1) xs

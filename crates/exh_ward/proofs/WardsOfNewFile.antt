@@ -1,5 +1,5 @@
 -- The wards of a new file, number by number.
-use Rattle.std.proofs.Common.{◌≡◌, ℕ, ◌+◌, List, [], ◌∷◌, ◌++◌, map, slice_get, Some, inl, inr, sym, ap, ◌∙◌, subst, arith}
+use Rattle.std.proofs.Common.{◌≡◌, ℕ, ◌+◌, List, [], ◌∷◌, ◌++◌, map, slice_get, None, Some, inl, inr, sym, ap, ◌∙◌, subst, arith}
 use Rattle.std.specs.List.{range_with_len}
 use Rattle.std.proofs.lemmas.List.FromFn.{map-range_with_len_more}
 use Rattle.exh_prefix.specs.ListLemmas.{push_is}
@@ -12,6 +12,9 @@ module _ {K : Type 0} (pseudokey_of : K → List ℕ → ℕ) (settings : FileSe
   pub record AreNewWards (number : ℕ) (wards : List (WardState K)) : Type 0 where
     pub made : wards ≡ map (new_ward settings) (range_with_len 0 number)
     pub sound : (at : ℕ) (ward : WardState K) → slice_get wards at ≡ Some ward → IsSoundWard pseudokey_of ward
+
+  pub no_ward_yet : (wards : List (WardState K)) → wards ≡ [] → AreNewWards 0 wards
+  no_ward_yet wards none = record { made = none; sound = λ at ward here. let never : None ≡ Some ward = sym (ap (λ ws. slice_get ws at) none) ∙ here in cc }
 
   pub one_ward_more : (number failures : ℕ) (wards after : List (WardState K)) (more : WardState K) → AreNewWards number wards
       → more ≡ record (new_ward settings number) { failures = failures } → failures ≡ 0 → IsSoundWard pseudokey_of more → after ≡ wards ++ more ∷ [] → AreNewWards (number + 1) after

@@ -1,4 +1,4 @@
-use Rattle.std.proofs.Common.{◌≡◌, ◌<◌, ◌+◌, ℕ, [], ◌∷◌, ◌++◌, length, map, slice_index, inr, sym, ap, ◌∙◌, arith}
+use Rattle.std.proofs.Common.{◌≡◌, ◌<◌, ◌≤◌, ◌+◌, ℕ, [], ◌∷◌, ◌++◌, length, map, slice_index, inl, inr, refl, sym, ap, ◌∙◌, arith}
 use Rattle.std.proofs.lemmas.List.{length-map, length_push}
 use Rattle.exh_prefix.specs.Leading.{ward_of}
 use Rattle.exh_prefix.specs.LeadingLemmas.{leading-lt}
@@ -10,7 +10,7 @@ use Rattle.exh_file.specs.FileVersion.{file_version}
 use Rattle.exh_file.specs.HeaderImage.{IsHeader}
 use Rattle.exh_direct.specs.Answer.{FailsOnWay, pages_in, place_in, ward_in}
 use Rattle.exh_direct.specs.Way.{lead_of}
-use Rattle.exh_direct.proofs.ReadPlaces.{read_then}
+use Rattle.exh_direct.proofs.ReadPlaces.{none_read, read_then}
 use Rattle.exh_file.specs.HeaderLemmas.{few_wards}
 use Rattle.exh_direct.proofs.Tables.{few_in_ward}
 use Rattle.exh_direct.proofs.Ways.{err_is, page_fails, page_in, place_there, reads_more, way_more}
@@ -40,6 +40,52 @@ overflow_add-before g c =
     let few = few_in_ward header ward (c.args.version, c.requires.header) (ward_within c.args.version header ward c.args.pseudokey c.requires.header c.ward_number-ward.ensures) in
     omega (arith, few, c.pages_before-before.ensures.few, c.if-number-pages.false)
 
+short_of : {way turn pages all : ℕ} → way ≡ turn → turn ≤ pages → all ≡ pages → way ≤ all
+short_of is few some = omega (arith, is, few, some)
+
+shorter_of : {way turn pages all : ℕ} → way ≡ turn → turn < pages → all ≡ pages → way ≤ all
+shorter_of is few some = omega (arith, is, few, some)
+
+less_of : {way turn pages all : ℕ} → way ≡ turn → turn < pages → all ≡ pages → way < all
+less_of is few some = omega (arith, is, few, some)
+
+past_all : {number at pages all : ℕ} → number ≡ at → pages ≤ at → all ≡ pages → all ≤ number
+past_all is past some = omega (arith, is, past, some)
+
+pub returns-then-number-pages-clause-err : goal.returns-then-number-pages-clause-err
+returns-then-number-pages-clause-err g c =
+    let header = c.args.header.now in
+    let key = c.args.key.now in
+    let ward = c.ward_number-ward.result in
+    let ward_is : ward ≡ ward_in header key = c.ward_number-ward.ensures ∙ ap (ward_of header.settings.ward_bits) c.requires.pseudokey in
+    let some : pages_in header key ≡ slice_index header.page_counts ward = ap (slice_index header.page_counts) (sym ward_is) in
+    let so_far = c.loop-turn.invariant.so_far in
+    record {
+      way = so_far.0;
+      number = c.loop-turn.number;
+      leads = so_far.2;
+      fails = inr (inl (past_all refl c.if-number-pages.true some));
+      short = shorter_of so_far.1 c.loop-turn-test.true some;
+      reads = read_then _ _ _ (map (place_in header key) so_far.0) (length so_far.0) 1 (length-map so_far.0 (place_in header key)) so_far.3 (none_read (g.B.Blocks.reads c.loop-turn.blocks) 1);
+    }
+
+pub returns-clause-err : goal.returns-clause-err
+returns-clause-err g c =
+    let header = c.args.header.now in
+    let key = c.args.key.now in
+    let ward = c.ward_number-ward.result in
+    let ward_is : ward ≡ ward_in header key = c.ward_number-ward.ensures ∙ ap (ward_of header.settings.ward_bits) c.requires.pseudokey in
+    let some : pages_in header key ≡ slice_index header.page_counts ward = ap (slice_index header.page_counts) (sym ward_is) in
+    let so_far = c.loop-turn.invariant.so_far in
+    record {
+      way = so_far.0;
+      number = c.loop-turn.number;
+      leads = so_far.2;
+      fails = inl (past_all so_far.1 c.loop-turn-test.false some);
+      short = short_of so_far.1 c.loop-turn.auto.turn-end some;
+      reads = read_then _ _ _ (map (place_in header key) so_far.0) (length so_far.0) 1 (length-map so_far.0 (place_in header key)) so_far.3 (none_read (g.B.Blocks.reads c.loop-turn.blocks) 1);
+    }
+
 pub returns-in_err-page-clause-err : goal.returns-in_err-page-clause-err
 returns-in_err-page-clause-err g c =
     let header = c.args.header.now in
@@ -52,14 +98,14 @@ returns-in_err-page-clause-err g c =
     let ward_is : ward ≡ ward_in header key = c.ward_number-ward.ensures ∙ ap (ward_of header.settings.ward_bits) c.requires.pseudokey in
     let so_far = c.loop-turn.invariant.so_far in
     let fault = c.in_err-page.field-0.0 in
-    let inside : number < slice_index header.page_counts ward = omega (arith, c.if-number-pages.false) in
+    let inside = c.if-number-pages.false in
     let some : pages_in header key ≡ slice_index header.page_counts ward = ap (slice_index header.page_counts) (sym ward_is) in
     err_is c.from_residual.result fault (FailsOnWay (file_version c.args.version) known header key c.args.first _ _) c.from_residual.ensures.1 (record {
       way = so_far.0;
       number = number;
       leads = so_far.2;
       fails = page_fails (file_version c.args.version) known now header key ward before number c.loop-turn.invariant.same ward_is c.pages_before-before.ensures.place inside so_far.0 fault c.in_err-page.ensures.err;
-      short = omega (arith, so_far.1, c.loop-turn-test.true, some);
+      short = shorter_of so_far.1 c.loop-turn-test.true some;
       reads = read_then _ _ _ (map (place_in header key) so_far.0) (length so_far.0) 1 (length-map so_far.0 (place_in header key)) so_far.3 c.in_err-page.ensures.few;
     })
 
@@ -75,7 +121,7 @@ returns-in-Home-clause-ok g c =
     let now = g.B.Blocks.known c.loop-turn.blocks in
     let ward_is : ward ≡ ward_in header key = c.ward_number-ward.ensures ∙ ap (ward_of header.settings.ward_bits) c.requires.pseudokey in
     let so_far = c.loop-turn.invariant.so_far in
-    let inside : number < slice_index header.page_counts ward = omega (arith, c.if-number-pages.false) in
+    let inside = c.if-number-pages.false in
     let some : pages_in header key ≡ slice_index header.page_counts ward = ap (slice_index header.page_counts) (sym ward_is) in
     record {
       way = so_far.0;
@@ -85,7 +131,7 @@ returns-in-Home-clause-ok g c =
       there = page_in (file_version c.args.version) known now header key ward before number c.loop-turn.invariant.same ward_is c.pages_before-before.ensures.place inside page c.in_ok-page.ensures.ok;
       home = ap (lead_of page) (sym c.requires.pseudokey) ∙ sym c.lead_of.ensures ∙ c.in-Home.is;
       is = c.find.ensures ∙ ap (λ (pseudokey : ℕ). value_at (pseudokey, key) (records_of page)) c.requires.pseudokey;
-      short = omega (arith, so_far.1, c.loop-turn-test.true, some);
+      short = less_of so_far.1 c.loop-turn-test.true some;
       reads = reads_more _ _ _ (place_in header key) so_far.0 number _ (place_there header key ward before number ward_is c.pages_before-before.ensures.place) so_far.3 c.in_ok-page.ensures.one_read;
     }
 
@@ -101,7 +147,7 @@ returns-in-Nowhere-clause-err g c =
     let now = g.B.Blocks.known c.loop-turn.blocks in
     let ward_is : ward ≡ ward_in header key = c.ward_number-ward.ensures ∙ ap (ward_of header.settings.ward_bits) c.requires.pseudokey in
     let so_far = c.loop-turn.invariant.so_far in
-    let inside : number < slice_index header.page_counts ward = omega (arith, c.if-number-pages.false) in
+    let inside = c.if-number-pages.false in
     let some : pages_in header key ≡ slice_index header.page_counts ward = ap (slice_index header.page_counts) (sym ward_is) in
     let there = page_in (file_version c.args.version) known now header key ward before number c.loop-turn.invariant.same ward_is c.pages_before-before.ensures.place inside page c.in_ok-page.ensures.ok in
     record {
@@ -109,7 +155,7 @@ returns-in-Nowhere-clause-err g c =
       number = number;
       leads = so_far.2;
       fails = inr (inr (page, there, ap (lead_of page) (sym c.requires.pseudokey) ∙ sym c.lead_of.ensures ∙ c.in-Nowhere.is));
-      short = omega (arith, so_far.1, c.loop-turn-test.true, some);
+      short = shorter_of so_far.1 c.loop-turn-test.true some;
       reads = read_then _ _ _ (map (place_in header key) so_far.0) (length so_far.0) 1 (length-map so_far.0 (place_in header key)) so_far.3 c.in_ok-page.ensures.few;
     }
 
@@ -125,7 +171,7 @@ loop-turn-preserved g c =
     let now = g.B.Blocks.known c.loop-turn.blocks in
     let ward_is : ward ≡ ward_in header key = c.ward_number-ward.ensures ∙ ap (ward_of header.settings.ward_bits) c.requires.pseudokey in
     let so_far = c.loop-turn.invariant.so_far in
-    let inside : number < slice_index header.page_counts ward = omega (arith, c.if-number-pages.false) in
+    let inside = c.if-number-pages.false in
     let there = page_in (file_version c.args.version) known now header key ward before number c.loop-turn.invariant.same ward_is c.pages_before-before.ensures.place inside page c.in_ok-page.ensures.ok in
     record {
       same = c.in_ok-page.ensures.same_bytes ∙ c.loop-turn.invariant.same;

@@ -7,7 +7,7 @@ use Rattle.exh_page.specs.Page.{low_bound}
 use Rattle.exh_legal.specs.BuiltIndex.{page_number_at}
 use Rattle.exh_legal.specs.FileParts.{IsBounded}
 use Rattle.exh_legal.proofs.Each.{each_all, each_more}
-use Rattle.exh_legal.proofs.Index.{IsBegunIndex, all_indexed, more_index, shared_low_found, none_found}
+use Rattle.exh_legal.proofs.Index.{IsBegunIndex, all_indexed, more_index, no_index, shared_low_found, none_found}
 use Rattle.exh_legal.proofs.built_index.build_index.Goals as goal
 use Rattle.exh_legal.proofs.built_index.build_index.Goals.{then-not-begins-via-then-not-begins, then-not-begins-via-else-not-begins+then-contains_key}
 
@@ -18,6 +18,9 @@ returns-then-not-begins g c lows = elim c.then-not-begins.branch [
   | then-not-begins-via-else-not-begins+then-contains_key w ↦
       shared_low_found c.args.ward _ c.loop-number.number c.loop-number.index.entries c.page.result.now c.loop-number.invariant.0 c.page.ensures c.low_bound_of-low.result c.low_bound_of-low.ensures.low (sym w.contains_key.ensures ∙ w.if-contains_key.true) lows
 ]
+
+pub loop-number-init : goal.loop-number-init
+loop-number-init g c = (no_index c.args.ward (g.P.PageList.pages c.args.pages.now) c.new-index.result.entries c.new-index.ensures.empty, λ number page less there. absurd (omega (arith, less)))
 
 pub loop-number-preserved : goal.loop-number-preserved
 loop-number-preserved g c =

@@ -1,4 +1,4 @@
-use Rattle.std.proofs.Common.{◌≡◌, ◌≤◌, length, None, Some, sym, ap, ◌∙◌, arith}
+use Rattle.std.proofs.Common.{◌≡◌, ℕ, ◌<◌, ◌≤◌, length, None, Some, sym, ap, ◌∙◌, arith}
 use Rattle.std.specs.Map.Iter.{deref_pair}
 use Rattle.std.proofs.lemmas.Bool.{eqb-true, eq-eqb, false≢true}
 use Rattle.std.proofs.lemmas.Cmp.{nat_cmp_total}
@@ -11,6 +11,12 @@ use Rattle.exh_legal.proofs.LeafTests.{ended_leaves, leaves_end, stopped_short, 
 use Rattle.exh_legal.proofs.leaves.has_leaves.Goals as goal
 use Rattle.exh_legal.proofs.leaves.has_leaves.Goals.{then-len-least-via-then-len-least, then-len-least-via-else-len-least+then-from-end}
 
+within_limit : {bits count : ℕ} → bits ≤ LIMIT → bits ≡ count → count ≤ LIMIT
+within_limit most is = omega (arith, most, is)
+
+less_as : {one other here there : ℕ} → one < other → one ≡ here → other ≡ there → here < there
+less_as less is_here is_there = omega (arith, less, is_here, is_there)
+
 pub page-requires : goal.page-requires
 page-requires g c =
     let turn = btree_map_turn deref_pair c.loop-number.yielded c.into_iter-number-iterator.result c.loop-number.number-iterator c.next.new.self c.next.result (c.in-Some.field-0-0, c.in-Some.number) c.loop-number.yielded_by c.in-Some.is c.next.ensures.steps nat_cmp_total c.args.index.now (c.into_iter-number-iterator.ensures.into_iter_gives ∙ c.iter-number-items.ensures.rest) c.iter-number-items.ensures.ordered in
@@ -19,13 +25,13 @@ page-requires g c =
 
 pub returns-then-len-least : goal.returns-then-len-least
 returns-then-len-least g c =
-    let short : length c.args.ward ≤ LIMIT = omega (arith, c.len-least.ensures.limit, c.len-least.ensures.length) in
+    let short : length c.args.ward ≤ LIMIT = within_limit c.len-least.ensures.limit c.len-least.ensures.length in
     let pages = g.P.PageList.pages c.args.pages.now in
     let rest = c.in-Some.ensures.steps in
     let there = c.page.ensures ∙ ap (λ page. Some page) c.in-Live.is in
     let none : end_over pages (length c.args.ward) c.loop-number.end c.loop-number.number-iterator ≡ None =
     ap (end_over pages (length c.args.ward) c.loop-number.end) rest ∙ elim c.then-len-least.branch [
-      | then-len-least-via-then-len-least w ↦ stopped_short pages (length c.args.ward) c.loop-number.end (c.in-Some.field-0-0.now, c.in-Some.number.now) c.next.new.self c.in-Live.prefix c.in-Live.right c.in-Live.records there (omega (arith, w.if-len-least.true, c.len.ensures.length, c.len-least.ensures.length))
+      | then-len-least-via-then-len-least w ↦ stopped_short pages (length c.args.ward) c.loop-number.end (c.in-Some.field-0-0.now, c.in-Some.number.now) c.next.new.self c.in-Live.prefix c.in-Live.right c.in-Live.records there (less_as w.if-len-least.true c.len.ensures.length c.len-least.ensures.length)
       | then-len-least-via-else-len-least+then-from-end w ↦ stopped_apart pages (length c.args.ward) c.loop-number.end (c.in-Some.field-0-0.now, c.in-Some.number.now) c.next.new.self c.in-Live.prefix c.in-Live.right c.in-Live.records there (λ same. w.if-from-end.true (w.from.ensures ∙ w.low-else-len-least.ensures ∙ same))
     ] in (
       λ is. absurd (false≢true is),
@@ -37,7 +43,7 @@ returns-then-len-least g c =
 
 pub returns : goal.returns
 returns g c =
-    let short : length c.args.ward ≤ LIMIT = omega (arith, c.len-least.ensures.limit, c.len-least.ensures.length) in
+    let short : length c.args.ward ≤ LIMIT = within_limit c.len-least.ensures.limit c.len-least.ensures.length in
     let pages = g.P.PageList.pages c.args.pages.now in
     let ended : Some c.loop-number.end ≡ end_over pages (length c.args.ward) (low_of c.args.ward) c.args.index.now.entries = ap (end_over pages (length c.args.ward) c.loop-number.end) (sym (c.in-None.ensures.steps).0) ∙ c.loop-number.invariant in (
       λ is. ended_leaves short c.requires.lows c.requires.bounded c.args.index.now.entries c.requires.index (sym ended ∙ ap (λ n. Some n) (eqb-true c.loop-number.end c.prefix_end.result is ∙ c.prefix_end.ensures)),

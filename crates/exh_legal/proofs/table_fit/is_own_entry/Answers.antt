@@ -1,10 +1,24 @@
-use Rattle.std.proofs.Common.{sym, ap, ◌∙◌}
+use Rattle.std.proofs.Common.{◌≡◌, List, Option, None, Some, sym, ap, ◌∙◌}
 use Rattle.std.proofs.lemmas.Bool.{false≢true}
+use Rattle.std.specs.Prelude.{SomeIff}
 use Rattle.std.proofs.lemmas.Option.{slice_get_within}
 use Rattle.exh_prefix.specs.Prefix.{low_of}
 use Rattle.exh_legal.specs.BuiltIndex.{page_number_at}
 use Rattle.exh_legal.proofs.Fits.{child_short_of, index_number, same_child, there_told, told_there}
 use Rattle.exh_legal.proofs.table_fit.is_own_entry.Goals as goal
+
+no_child : {X : Type 0} (found : Option (List X)) (Holds : Type 0) (value : List X) → SomeIff found Holds value → found ≡ None → Holds → ⊥
+no_child None Holds value iff is holds = iff holds
+no_child (Some own) Holds value iff is holds = cc
+
+pub returns-then-not-is_ward_entry : goal.returns-then-not-is_ward_entry
+returns-then-not-is_ward_entry g c = (
+  λ is. absurd (false≢true is),
+  λ own. absurd (false≢true (sym c.if-not-is_ward_entry.true ∙ c.is_ward_entry.ensures.1 own.own)),
+)
+
+pub returns-in_default : goal.returns-in_default
+returns-in_default g c = (λ is. absurd (false≢true is), λ own. absurd (no_child c.child.result _ _ c.child.ensures c.in_default.is own.short))
 
 pub returns-in_default-copied : goal.returns-in_default-copied
 returns-in_default-copied g c =

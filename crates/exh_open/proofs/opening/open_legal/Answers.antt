@@ -1,10 +1,16 @@
-use Rattle.std.proofs.Common.{map, sym, ap, ◌∙◌}
+use Rattle.std.proofs.Common.{length, map, sym, ap, ◌∙◌}
+use Rattle.std.proofs.lemmas.List.{length-map}
+use Rattle.exh_page_file.specs.LegalFileLemmas.{count_of_wards}
 use Rattle.exh_page_file.specs.FileParts.{file_of}
 use Rattle.exh_open.proofs.Legal.{count_tables, legal_wards, opened_file, wards_of_file}
 use Rattle.exh_open.proofs.opening.open_legal.Goals as goal
 
 pub open_wards-requires-clause-header : goal.open_wards-requires-clause-header
 open_wards-requires-clause-header g c = (c.requires.file.0, c.requires.file.1.header)
+
+pub open_wards-requires-clause-pages : goal.open_wards-requires-clause-pages
+open_wards-requires-clause-pages g c =
+    ap length c.deref_mut.ensures.value ∙ sym (length-map c.args.legal.now.parts.wards.items (λ own. own.items)) ∙ count_of_wards (file_of c.args.legal.now.parts) c.requires.file
 
 pub open_wards-requires-clause-tables : goal.open_wards-requires-clause-tables
 open_wards-requires-clause-tables g c =

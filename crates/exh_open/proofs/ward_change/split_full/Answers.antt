@@ -1,13 +1,12 @@
 use Rattle.std.proofs.Common.{[], refl, rules}
+use Rattle.exh_stream.specs.OutputLemmas.{OnErr-from}
 use Rattle.exh_ward.specs.WardFault.{IsStoreFault}
-use Rattle.exh_open.specs.WardChange.{AreSplitsAtMost}
 use Rattle.exh_open.specs.FullPageLemmas.{refused_full}
 use Rattle.exh_open.proofs.ward_change.split_full.Goals as goal
 
 pub returns-in_err-split-clause-err : goal.returns-in_err-split-clause-err
 returns-in_err-split-clause-err g c =
-    let fact : AreSplitsAtMost c.args.ward.now c.split.new.self = record { splits = []; split = c.args.ward.now; run = refl; else_same = c.in_err-split.ensures.err } in
-    search rules
+    OnErr-from c.from_residual.result (record { splits = []; split = c.args.ward.now; run = refl; else_same = c.in_err-split.ensures.err })
 
 pub returns-in_err-split-clause-fault : goal.returns-in_err-split-clause-fault
 returns-in_err-split-clause-fault g c =

@@ -1,15 +1,32 @@
-use Rattle.std.proofs.Common.{◌≡◌, ◌≤◌, length, take, ap, ◌∙◌, subst, arith}
+use Rattle.std.proofs.Common.{◌≡◌, ℕ, ◌≤◌, List, length, take, Option, None, Some, sym, ap, ◌∙◌, subst, arith}
 use Rattle.std.proofs.lemmas.List.{length-map}
-use Rattle.exh_file.specs.FileVersion.{version_of}
+use Rattle.exh_file.specs.FileVersion.{format_of, version_of}
 use Rattle.exh_page_file.specs.FileParts.{file_of}
-use Rattle.exh_page_file.specs.PageFile.{IsKnownFile}
+use Rattle.exh_page_file.specs.PageFile.{IsKnownFile, IsPageFile, PageFile}
+use Rattle.exh_page_file.specs.Reading.{IsAll}
+use Rattle.exh_page_file.specs.declared.legal_file_fault.LegalFileFault.TheVariants.{Illegal}
+use Rattle.exh_legal.specs.declared.reason.Reason.{Reason}
 use Rattle.exh_page_file.specs.declared.tables.TheConstants.{NAMED_WARDS}
 use Rattle.exh_legal.specs.Reasons.{IsFirstReason}
-use Rattle.exh_page_file.specs.LegalFile.{parts_in, tables_of}
+use Rattle.exh_page_file.specs.LegalFile.{IsLegalFileFaultOf, parts_in, tables_of}
 use Rattle.exh_page_file.proofs.Named.{front_of_tables}
 use Rattle.exh_page_file.specs.LegalFileLemmas.{count_of_wards}
 use Rattle.exh_page_file.proofs.Parts.{legal_without}
 use Rattle.exh_page_file.proofs.legal_reading.read_found.Goals as goal
+
+told_illegal : (known : Option (List ℕ)) (bytes : List ℕ) (file : PageFile) (reason : Reason) → IsAll known bytes → IsPageFile (format_of bytes) file bytes → IsFirstReason (parts_in file) (Some reason)
+    → IsLegalFileFaultOf known (Illegal reason)
+told_illegal None bytes file reason is page first = tt
+told_illegal (Some all) bytes file reason is page first = (file, subst (λ bytes. IsPageFile (format_of bytes) file bytes) (sym is) page, first)
+
+pub reason_of-requires-clause-tables : goal.reason_of-requires-clause-tables
+reason_of-requires-clause-tables g c = c.deref-2.ensures.value ∙ c.in_ok-tables.ensures ∙ ap tables_of c.deref.ensures.value
+
+pub returns-in-Some-clause-fault : goal.returns-in-Some-clause-fault
+returns-in-Some-clause-fault g c =
+    let file = file_of c.in_ok-parts.parts in
+    let read = c.in_ok-parts.ensures.parts in
+    told_illegal (g.R.Read.remaining c.args.reader.now) read.0 file c.in-Some.reason read.1 read.3 (subst (IsFirstReason (parts_in file)) c.in-Some.is c.in_ok-reason.ensures)
 
 pub returns-in-None-clause-legal : goal.returns-in-None-clause-legal
 returns-in-None-clause-legal g c =

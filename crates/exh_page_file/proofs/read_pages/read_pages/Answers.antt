@@ -1,12 +1,15 @@
-use Rattle.std.proofs.Common.{rules, ◌≡◌, ◌+◌, ◌∷◌, [], ◌++◌, ℕ, List, length, map, sym, ap, ◌∙◌, subst, arith, append_assoc}
+use Rattle.std.proofs.Common.{◌≡◌, ◌+◌, ◌∷◌, [], ◌++◌, ℕ, List, length, map, sym, ap, ◌∙◌, subst, arith, append_assoc}
 use Rattle.std.proofs.lemmas.List.{length-append, map-append}
 use Rattle.exh_prefix.specs.Layout.{layout}
 use Rattle.exh_keyer.specs.Pseudokey.{any_pseudokey}
 use Rattle.exh_codec.specs.PageImage.{page_digest}
 use Rattle.exh_page_file.specs.FileTests.{NextFails, PageFails}
 use Rattle.exh_page_file.specs.Reading.{FailsInPages, GivesPages, IsOf}
-use Rattle.exh_page_file.proofs.Pages.{one_page, more_pages, fails_next, of_later, err_is}
+use Rattle.exh_page_file.proofs.Pages.{one_page, more_pages, fails_next, of_later, err_is, failed_so, still_open}
 use Rattle.exh_page_file.proofs.read_pages.read_pages.Goals as goal
+
+pub returns-in_err-page-clause-failed : goal.returns-in_err-page-clause-failed
+returns-in_err-page-clause-failed g c = failed_so c.from_residual.result c.in_err-page.field-0.0 _ c.from_residual.ensures.1 c.in_err-page.ensures.failed
 
 pub returns-in_err-page-clause-err : goal.returns-in_err-page-clause-err
 returns-in_err-page-clause-err g c =
@@ -28,7 +31,7 @@ loop-number-preserved g c =
     let pages = c.loop-number.pages.items in
     let pushed : c.push.new.items.items ≡ pages ++ c.in_ok-page.page ∷ [] = c.in_ok-push.ensures in
     record {
-      unfailed = search rules;
+      unfailed = still_open c.in_ok-page.page _ c.in_ok-page.ensures.failed.1;
       place = omega (arith, c.loop-number.invariant.place, c.in_ok-page.ensures.place);
       some = omega (arith, ap length pushed, length-append pages (c.in_ok-page.page ∷ []), c.loop-number.invariant.some);
       given = subst (GivesPages (layout c.args.version) pseudo _ _) (sym pushed)

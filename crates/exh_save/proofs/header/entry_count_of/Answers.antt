@@ -1,6 +1,6 @@
-use Rattle.std.proofs.Common.{◌≡◌, ℕ, ◌<◌, length, take, slice_get, Some, inl, inr, refl, sym, ap, subst, length-append, arith}
+use Rattle.std.proofs.Common.{◌≡◌, ℕ, List, length, take, slice_get, Some, inl, inr, refl, sym, ap, ◌∙◌, subst, length-append, arith}
 use Rattle.std.proofs.lemmas.Bool.{cases_lt}
-use Rattle.std.proofs.lemmas.List.{length-map}
+use Rattle.std.proofs.lemmas.List.{length-map, take_all}
 use Rattle.std.proofs.lemmas.Option.{slice_get_read, slice_get_within}
 use Rattle.std.specs.FinMap.{entries}
 use Rattle.exh_prefix.specs.ListLemmas.{one_there}
@@ -16,7 +16,7 @@ pub entry_count_in-count-requires : goal.entry_count_in-count-requires
 entry_count_in-count-requires g c =
     let wards = c.args.wards.now in
     let number = c.loop-number.number in
-    let less : number < length wards = omega (arith, c.loop-number-test.true) in
+    let less = c.loop-number-test.true in
     c.requires.bits number c.index-wards-number.result (slice_get_read wards (length wards) number c.index-wards-number.result refl less c.index-wards-number.is)
 
 pub loop-number-preserved : goal.loop-number-preserved
@@ -24,7 +24,7 @@ loop-number-preserved g c =
     let wards = c.args.wards.now in
     let number = c.loop-number.number in
     let ward = c.index-wards-number.result in
-    let less : number < length wards = omega (arith, c.loop-number-test.true) in
+    let less = c.loop-number-test.true in
     let is = slice_get_read wards (length wards) number ward refl less c.index-wards-number.is in
     let inv = c.loop-number.invariant in
     let next = ap length (next_is entries_of_all entries_join wards number ward is (entries_of ward) (one_wards_entries ward)) in
@@ -40,6 +40,9 @@ loop-number-preserved g c =
             subst (λ (w : WardState AnyKeyer). IsSoundWard any_pseudokey w) (sym same) c.entry_count_in-count.ensures.sound
       ];
     }
+
+pub returns-clause-count : goal.returns-clause-count
+returns-clause-count g c = c.loop-number.invariant.count ∙ ap (λ (wards : List (WardState AnyKeyer)). length (entries_of_all wards)) (take_all c.loop-number.number c.args.wards.now c.loop-number-test.false)
 
 pub returns-clause-sound : goal.returns-clause-sound
 returns-clause-sound g c = λ number ward there. c.loop-number.invariant.sound number ward (omega (arith, slice_get_within c.args.wards.now number ward there, c.loop-number-test.false)) there

@@ -1,5 +1,5 @@
 use Rattle.std.proofs.Common.{◌≡◌, ℕ, suc, ◌+◌, ◌-◌, ◌<◌, ◌≤◌, ◌∷◌, [], ◌++◌, List, length, map, take, replicate, set, slice_get, Some, refl, sym, ap, ◌∙◌, arith}
-use Rattle.std.proofs.lemmas.List.{length-map, length_push, length-take-le, map-append}
+use Rattle.std.proofs.lemmas.List.{length-map, length_push, length-take-le, map-append, take_all}
 use Rattle.std.proofs.lemmas.Option.{slice_get_read}
 use Rattle.exh_keyer.specs.declared.any_keyer.AnyKeyer.{AnyKeyer}
 use Rattle.exh_ward.specs.WardState.{WardState}
@@ -32,6 +32,9 @@ pub loop-number-preserved : goal.loop-number-preserved
 loop-number-preserved g c =
     let wards = c.args.wards.now in
     let number = c.loop-number.number in
-    let less : number < length wards = omega (arith, c.loop-number-test.true) in
+    let less = c.loop-number-test.true in
     one_more wards number c.index-wards-number.result c.loop-number.counts c.page_count.result less c.requires
     (slice_get_read wards (length wards) number c.index-wards-number.result refl less c.index-wards-number.is) c.page_count.ensures.count c.loop-number.invariant
+
+pub returns : goal.returns
+returns g c = c.loop-number.invariant ∙ ap counts_in (take_all c.loop-number.number c.args.wards.now c.loop-number-test.false)

@@ -1,9 +1,10 @@
-use Rattle.std.proofs.Common.{◌≡◌, List, length, drop, refl, sym, ap, ◌∙◌, subst, arith}
+use Rattle.std.proofs.Common.{◌≡◌, List, length, drop, refl, sym, ap, ◌∙◌, subst}
 use Rattle.exh_keyer.specs.declared.any_keyer.AnyKeyer.{AnyKeyer}
 use Rattle.exh_ward.specs.WardState.{WardState}
-use Rattle.exh_open.specs.Opened.{AreWardsOf}
+use Rattle.exh_open.specs.Opened.{AreWardsOf, OpenedState}
 use Rattle.exh_save.specs.Reopened.{IsWrittenAgain}
-use Rattle.exh_save.specs.Saved.{AreUnchanged, IsLeft}
+use Rattle.exh_save.specs.SaveFault.{CountsSaveFailures}
+use Rattle.exh_save.specs.Saved.{AreUnchanged, IsLeft, failures_in}
 use Rattle.exh_save.proofs.Left.{put_back, same_file, still_wards}
 use Rattle.exh_save.proofs.opened.write_opened.Goals as goal
 
@@ -13,7 +14,7 @@ new-requires g c =
     let left = c.write_file-saved.new.wards in
     let given : c.deref_mut.result.now ≡ opened.wards = c.deref_mut.ensures.value ∙ c.into_wards-wards.ensures.wards in
     let same : AreUnchanged opened.wards left = subst (λ (wards : List (WardState AnyKeyer)). AreUnchanged wards left) given c.write_file-saved.ensures.wards in
-    let count : c.into_wards-wards.result.len ≡ length left = omega (arith, same.count, ap length c.into_wards-wards.ensures.wards, c.into_wards-wards.result.ok.0) in
+    let count = c.into_wards-wards.result.ok.0 ∙ ap length c.into_wards-wards.ensures.wards ∙ sym same.count in
     let whole = put_back c.into_wards-wards.result.len left (drop (length left) c.into_wards-wards.result.items) count in
     let is = same_file (record opened { wards = left }) c.settings-settings.result _ c.settings-settings.ensures whole in
     subst AreWardsOf (sym is) (still_wards opened left c.into_wards-wards.ensures.each same)
@@ -29,7 +30,19 @@ returns-clause-wards g c =
     let left = c.write_file-saved.new.wards in
     let given : c.deref_mut.result.now ≡ opened.wards = c.deref_mut.ensures.value ∙ c.into_wards-wards.ensures.wards in
     let same : AreUnchanged opened.wards left = subst (λ (wards : List (WardState AnyKeyer)). AreUnchanged wards left) given c.write_file-saved.ensures.wards in
-    let count : c.into_wards-wards.result.len ≡ length left = omega (arith, same.count, ap length c.into_wards-wards.ensures.wards, c.into_wards-wards.result.ok.0) in
+    let count = c.into_wards-wards.result.ok.0 ∙ ap length c.into_wards-wards.ensures.wards ∙ sym same.count in
     let whole = put_back c.into_wards-wards.result.len left (drop (length left) c.into_wards-wards.result.items) count in
     let is = same_file (record opened { wards = left }) c.settings-settings.result _ c.settings-settings.ensures whole in
     subst (IsLeft opened) (sym (c.new.ensures ∙ is)) (record { settings = refl; unchanged = same })
+
+pub returns-clause-failures : goal.returns-clause-failures
+returns-clause-failures g c =
+    let opened = c.args.opened in
+    let left = c.write_file-saved.new.wards in
+    let given : c.deref_mut.result.now ≡ opened.wards = c.deref_mut.ensures.value ∙ c.into_wards-wards.ensures.wards in
+    let same : AreUnchanged opened.wards left = subst (λ (wards : List (WardState AnyKeyer)). AreUnchanged wards left) given c.write_file-saved.ensures.wards in
+    let count = c.into_wards-wards.result.ok.0 ∙ ap length c.into_wards-wards.ensures.wards ∙ sym same.count in
+    let whole = put_back c.into_wards-wards.result.len left (drop (length left) c.into_wards-wards.result.items) count in
+    let is = same_file (record opened { wards = left }) c.settings-settings.result _ c.settings-settings.ensures whole in
+    subst (λ (file : OpenedState). CountsSaveFailures c.write_file-saved.result (failures_in opened.wards) (failures_in file.wards)) (sym (c.new.ensures ∙ is))
+    (subst (λ (wards : List (WardState AnyKeyer)). CountsSaveFailures c.write_file-saved.result (failures_in wards) (failures_in left)) given c.write_file-saved.ensures.failures)

@@ -1,12 +1,13 @@
-use Rattle.std.proofs.Common.{◌≡◌, ℕ, Bool, List, [], ◌∷◌, ◌++◌, map, refl, sym, ap, ◌∙◌, subst, append_assoc}
+use Rattle.std.proofs.Common.{◌≡◌, ℕ, Bool, List, [], ◌∷◌, ◌++◌, map, refl, sym, ap, ◌∙◌, subst, append-nil, append_assoc}
 use Rattle.std.specs.FinMap.{entries}
+use Rattle.std.specs.List.{AllByRecursion}
 use Rattle.exh_prefix.specs.ListLemmas.{AllByRecursion-append}
 use Rattle.exh_prefix.specs.Layout.{written_version}
 use Rattle.exh_notice.specs.declared.entry.Entry.{Entry}
 use Rattle.exh_stream.specs.OutputLemmas.{OnErr-from}
 use Rattle.exh_file.specs.declared.file_entry.FileEntry.{FileEntry}
 use Rattle.exh_file.specs.TableImage.{IsFileEntry}
-use Rattle.exh_page_file.specs.Writing.{TakesEntriesBeginning}
+use Rattle.exh_page_file.specs.Writing.{TakesEntries, TakesEntriesBeginning}
 use Rattle.exh_page_file.specs.WritingLemmas.{TakesEntries-none, TakesEntries-then, TakesEntriesBeginning-of_more, TakesEntriesBeginning-then}
 use Rattle.exh_save.specs.Saved.{AreShort, file_entry}
 use Rattle.exh_save.proofs.saving.write_entries.Goals as goal
@@ -18,6 +19,22 @@ next_of ward all front left rest told split steps =
 
 short_next : (ward : ℕ) (left rest : List (List Bool × Entry)) (told : List Bool × Entry) → left ≡ told ∷ rest → AreShort (map (file_entry ward) left) → AreShort (file_entry ward told ∷ map (file_entry ward) rest)
 short_next ward left rest told steps short = subst (λ (items : List (List Bool × Entry)). AreShort (map (file_entry ward) items)) steps short
+
+-- where none is left, all went
+whole_of : (ward : ℕ) (all front : List FileEntry) (left : List (List Bool × Entry)) → all ≡ front ++ map (file_entry ward) left → left ≡ [] → front ≡ all
+whole_of ward all front left split none = sym (split ∙ ap (λ (items : List (List Bool × Entry)). front ++ map (file_entry ward) items) none ∙ append-nil front)
+
+pub returns-clause-ok : goal.returns-clause-ok
+returns-clause-ok g c =
+    let inv = c.loop-prefix.invariant in
+    let whole = whole_of c.args.ward (map (file_entry c.args.ward) (entries c.args.table.now)) inv.front c.loop-prefix.prefix-iterator inv.split c.in-None.ensures.steps.0 in
+    subst (TakesEntries g.W.Write.contents written_version c.args.file.now c.loop-prefix.file) whole inv.taken
+
+pub returns-clause-entries : goal.returns-clause-entries
+returns-clause-entries g c =
+    let inv = c.loop-prefix.invariant in
+    let whole = whole_of c.args.ward (map (file_entry c.args.ward) (entries c.args.table.now)) inv.front c.loop-prefix.prefix-iterator inv.split c.in-None.ensures.steps.0 in
+    subst (AllByRecursion (IsFileEntry written_version)) whole inv.valid
 
 pub loop-prefix-init : goal.loop-prefix-init
 loop-prefix-init g c =

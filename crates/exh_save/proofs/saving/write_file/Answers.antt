@@ -1,5 +1,9 @@
-use Rattle.std.proofs.Common.{OnOk, OnErr, sym, subst}
+use Rattle.std.proofs.Common.{◌≡◌, ℕ, ◌^◌, ◌≤◌, OnOk, OnErr, sym, subst, arith}
+use Rattle.std.proofs.Math.Nat.{pow-le-pow_right}
 use Rattle.std.specs.Io.KnownBytes.{Appends}
+use Rattle.exh_prefix.specs.declared.prefix.TheConstants.{WARD_BITS_LIMIT}
+use Rattle.exh_page.specs.declared.page.TheConstants.{CAP_LIMIT}
+use Rattle.exh_file.specs.declared.header.TheConstants.{COUNTS_LEN}
 use Rattle.exh_stream.specs.Output.{AppendsBeginning}
 use Rattle.exh_file.specs.FileVersion.{written_format}
 use Rattle.exh_file.specs.HeaderImage.{IsHeader}
@@ -17,6 +21,18 @@ pub write_parts-requires-clause-header : goal.write_parts-requires-clause-header
 write_parts-requires-clause-header g c =
     subst (IsHeader written_format) (sym c.header_of-header.ensures.header)
     (is_header (in_file c.args.settings c.args.wards.now) c.requires.wards c.header_of-header.ensures.sound c.fitting_tables_begin_wards.ensures c.pages_are_few.ensures c.legal_tables_have_room.ensures)
+
+few_wards : {count bits : ℕ} → count ≡ 2 ^ bits → bits ≤ WARD_BITS_LIMIT → count ≤ COUNTS_LEN
+few_wards is few = omega (arith, is, pow-le-pow_right {n = 2} (omega arith) few)
+
+pub write_parts-requires-clause-few : goal.write_parts-requires-clause-few
+write_parts-requires-clause-few g c = few_wards c.requires.wards.count c.requires.wards.bits
+
+pub write_parts-requires-clause-numbers : goal.write_parts-requires-clause-numbers
+write_parts-requires-clause-numbers g c number ward there = (c.requires.wards.each number ward there).number_is
+
+pub write_parts-requires-clause-caps : goal.write_parts-requires-clause-caps
+write_parts-requires-clause-caps g c number ward there = subst (λ (cap : ℕ). cap ≤ CAP_LIMIT) (sym (c.requires.wards.each number ward there).cap) c.requires.wards.most
 
 pub write_parts-requires-clause-short : goal.write_parts-requires-clause-short
 write_parts-requires-clause-short g c =

@@ -1,5 +1,5 @@
 use Rattle.std.proofs.Common.{List, sym, subst}
-use Rattle.std.specs.List.{flat_map}
+use Rattle.std.specs.List.{AllByRecursion, flat_map}
 use Rattle.exh_prefix.specs.Version.{Fits}
 use Rattle.exh_prefix.specs.Layout.{written_version}
 use Rattle.exh_prefix.specs.LayoutLemmas.{layout_fits}
@@ -7,6 +7,7 @@ use Rattle.exh_prefix.specs.declared.version.TheConstants.{WRITTEN}
 use Rattle.exh_keyer.specs.declared.any_keyer.AnyKeyer.{AnyKeyer}
 use Rattle.exh_stream.specs.OutputLemmas.{OnErr-from}
 use Rattle.exh_file.specs.FileVersion.{written_format}
+use Rattle.exh_file.specs.TableImage.{IsFileEntry}
 use Rattle.exh_page_file.specs.PageFile.{page_block, pages_of}
 use Rattle.exh_page_file.specs.Writing.{TakesEntries, TakesEntriesBeginning}
 use Rattle.exh_page_file.specs.WritingLemmas.{TakesBlocks-then, TakesBlocksBeginning-of_more, TakesBlocksBeginning-then, cut_at_end, cut_in_blocks, cut_in_table, whole_file}
@@ -26,6 +27,13 @@ pub returns-in_err-write_pages-clause-err : goal.returns-in_err-write_pages-clau
 returns-in_err-write_pages-clause-err g c =
     OnErr-from c.from_residual-in_err-write_pages.result (cut_in_blocks g.W.Write.contents written_format fits (file_with c.args.header.now c.args.wards.now) c.args.file.now c.requires.bare c.write_pages.new.file
     (TakesBlocksBeginning-then c.in_ok-write_header.ensures.ok c.in_err-write_pages.ensures.err))
+
+pub write_pages-requires : goal.write_pages-requires
+write_pages-requires g c = c.requires.caps
+
+pub returns-clause-entries : goal.returns-clause-entries
+returns-clause-entries g c =
+    subst (λ (ws : List (WardState AnyKeyer)). AllByRecursion (IsFileEntry written_version) (entries_of_all ws)) c.in_ok-write_pages.ensures.same c.in_ok-write_table.ensures.entries
 
 pub write_table-requires-clause-numbers : goal.write_table-requires-clause-numbers
 write_table-requires-clause-numbers g c = subst AreInOrder (sym c.in_ok-write_pages.ensures.same) c.requires.numbers

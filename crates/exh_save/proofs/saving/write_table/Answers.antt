@@ -1,6 +1,7 @@
-use Rattle.std.proofs.Common.{◌≡◌, ℕ, ◌+◌, ◌<◌, ◌++◌, List, length, map, take, drop, slice_get, Some, refl, sym, ap, ◌∙◌, subst, arith}
+use Rattle.std.proofs.Common.{◌≡◌, ℕ, ◌+◌, ◌<◌, ◌++◌, List, length, map, take, drop, slice_get, Some, refl, sym, ap, ◌∙◌, subst}
 use Rattle.std.specs.FinMap.{entries}
 use Rattle.std.specs.List.{AllByRecursion}
+use Rattle.std.proofs.lemmas.List.{take_all}
 use Rattle.std.proofs.lemmas.Option.{slice_get_read}
 use Rattle.exh_prefix.specs.ListLemmas.{AllByRecursion-append_left, AllByRecursion-append_right}
 use Rattle.exh_prefix.specs.Layout.{written_version}
@@ -38,7 +39,7 @@ write_entries-requires g c =
     let wards = c.args.wards.now in
     let number = c.loop-number.number in
     let ward = c.index-wards-number.result in
-    let less : number < length wards = omega (arith, c.loop-number-test.true) in
+    let less = c.loop-number-test.true in
     let is = slice_get_read wards (length wards) number ward refl less c.index-wards-number.is in
     record { short = subst AreShort (sym (own_entries ward number c.table.result.now (c.requires.numbers number ward is) c.table.ensures.table)) (short_here wards number ward is c.requires.short) }
 
@@ -47,7 +48,7 @@ returns-in_err-write_entries-clause-err g c =
     let wards = c.args.wards.now in
     let number = c.loop-number.number in
     let ward = c.index-wards-number.result in
-    let less : number < length wards = omega (arith, c.loop-number-test.true) in
+    let less = c.loop-number-test.true in
     let is = slice_get_read wards (length wards) number ward refl less c.index-wards-number.is in
     let own = own_entries ward number c.table.result.now (c.requires.numbers number ward is) c.table.ensures.table in
     OnErr-from c.from_residual.result (entries_cut entries_of_all entries_join wards number ward is (entries_of ward) (one_wards_entries ward) c.loop-number.invariant.taken
@@ -59,7 +60,7 @@ loop-number-preserved g c =
     let wards = c.args.wards.now in
     let number = c.loop-number.number in
     let ward = c.index-wards-number.result in
-    let less : number < length wards = omega (arith, c.loop-number-test.true) in
+    let less = c.loop-number-test.true in
     let is = slice_get_read wards (length wards) number ward refl less c.index-wards-number.is in
     let own = own_entries ward number c.table.result.now (c.requires.numbers number ward is) c.table.ensures.table in
     record {
@@ -69,3 +70,12 @@ loop-number-preserved g c =
       valid = next_all entries_of_all entries_join wards number ward is (entries_of ward) (one_wards_entries ward) (IsFileEntry written_version) inv.valid
           (subst (AllByRecursion (IsFileEntry written_version)) own c.in_ok-write_entries.ensures.entries);
     }
+
+pub returns-clause-ok : goal.returns-clause-ok
+returns-clause-ok g c =
+    subst (λ (wards : List (WardState AnyKeyer)). TakesEntries g.W.Write.contents written_version c.args.file.now c.loop-number.file (entries_of_all wards)) (take_all c.loop-number.number c.args.wards.now c.loop-number-test.false)
+    c.loop-number.invariant.taken
+
+pub returns-clause-entries : goal.returns-clause-entries
+returns-clause-entries g c =
+    subst (λ (wards : List (WardState AnyKeyer)). AllByRecursion (IsFileEntry written_version) (entries_of_all wards)) (take_all c.loop-number.number c.args.wards.now c.loop-number-test.false) c.loop-number.invariant.valid

@@ -4,11 +4,14 @@ use Rattle.std.specs.List.{range_with_len}
 use Rattle.std.proofs.lemmas.Result.{IfOk-from_err}
 use Rattle.exh_page.specs.declared.page.Page.{Page}
 use Rattle.exh_ward.specs.NewWards.{new_ward}
-use Rattle.exh_ward.proofs.WardsOfNewFile.{one_ward_more}
+use Rattle.exh_ward.proofs.WardsOfNewFile.{no_ward_yet, one_ward_more}
 use Rattle.exh_ward.proofs.new_file.new_wards.Goals as goal
 
 pub first-requires : goal.first-requires
 first-requires g c = record { formed = c.first_page-first.ensures.formed (g.K.Keyer.pseudokey_of c.args.settings.keyer) }
+
+pub loop-number-init : goal.loop-number-init
+loop-number-init g c = no_ward_yet g.K.Keyer.pseudokey_of c.args.settings c.new-wards.result.items c.new-wards.ensures.items
 
 pub loop-number-preserved : goal.loop-number-preserved
 loop-number-preserved g c =

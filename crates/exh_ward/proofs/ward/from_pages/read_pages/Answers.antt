@@ -1,4 +1,4 @@
-use Rattle.std.proofs.Common.{◌++◌, List, map, slice_get, refl, sym, ap, ◌∙◌, subst, arith, ℕ, Err}
+use Rattle.std.proofs.Common.{◌≡◌, ◌≤◌, ◌++◌, List, map, slice_get, refl, sym, ap, ◌∙◌, subst, arith, ℕ, Err}
 use Rattle.std.proofs.lemmas.List.{take_all}
 use Rattle.std.proofs.lemmas.Result.{IfOk-from_err}
 use Rattle.exh_page.specs.declared.page.Page.{Page}
@@ -7,6 +7,7 @@ use Rattle.exh_frames.specs.PageStore.{CountsFaults}
 use Rattle.exh_legal.specs.Pages.{bare}
 use Rattle.exh_page.specs.KeyMap.{pair_of}
 use Rattle.exh_legal.specs.PageIndex.{IsIndexOf}
+use Rattle.exh_ward.specs.FromPages.{pairs_of}
 use Rattle.exh_ward.specs.WardFault.{IsStoreFault, fault_of, CountsFailures}
 use Rattle.exh_ward.specs.declared.ward_fault.WardFault.TheVariants.{Memory}
 use Rattle.exh_ward.proofs.StepsKeepSound.{at_read}
@@ -14,6 +15,9 @@ use Rattle.exh_ward.proofs.PagesRead.{none_indexed, one_page_more, pairs_more}
 use Rattle.exh_ward.proofs.Exits.{counted_as, fault_counted, store_fault}
 use Rattle.exh_ward.proofs.HalvesOfPages.{failed_with}
 use Rattle.exh_ward.proofs.ward.from_pages.read_pages.Goals as goal
+
+all_read : {number end count : ℕ} → end ≤ number → end ≡ count → count ≤ number
+all_read past is = omega (arith, past, is)
 
 pub loop-number-init : goal.loop-number-init
 loop-number-init g c = record {
@@ -42,7 +46,11 @@ loop-number-preserved g c =
 pub returns-clause-index : goal.returns-clause-index
 returns-clause-index g c =
     let pages = g.P.Pages.pages c.args.store.now in
-    subst (λ (pages : List Page). IsIndexOf c.loop-number.index (bare pages)) (take_all c.loop-number.number pages (omega (arith, c.loop-number-test.false, c.count-number-end.ensures))) c.loop-number.invariant.index
+    subst (λ (pages : List Page). IsIndexOf c.loop-number.index (bare pages)) (take_all c.loop-number.number pages (all_read c.loop-number-test.false c.count-number-end.ensures)) c.loop-number.invariant.index
+
+pub returns-clause-pairs : goal.returns-clause-pairs
+returns-clause-pairs g c =
+    c.loop-number.invariant.pairs ∙ ap pairs_of (take_all c.loop-number.number (g.P.Pages.pages c.args.store.now) (all_read c.loop-number-test.false c.count-number-end.ensures))
 
 pub returns-in_err-fetch-clause-index : goal.returns-in_err-fetch-clause-index
 returns-in_err-fetch-clause-index g c = IfOk-from_err c.from_residual.result _ c.from_residual.ensures.0
