@@ -3,7 +3,7 @@ ghost use Rattle.std.specs.Prelude.{◌≡◌, ◌≢◌, ◌⊎◌, IfOk, OnErr
 ghost use Rattle.exh_disk.specs.declared.stage.Stage.TheVariants.{Confirmed, Empty, Placed, Settled};
 ghost use Rattle.exh_disk.specs.Stage.{is_fillable, is_ours};
 
-use crate::claiming::{claim, confirm_fault};
+use crate::claiming::{claim, see_own};
 use crate::disk_writer::DiskWriter;
 use crate::dressing::dress;
 use crate::fault::Call;
@@ -90,14 +90,16 @@ fn prepare<D: Disk>(
         return Err(DiskFault::Changed);
     }
     match &there {
-        Some(there) => dress(disk, file, there).map_err(|error| DiskFault::at(Call::Permit, error)),
+        Some(there) => match dress(disk, file, there) {
+            Ok(()) => Ok(()),
+            Err(error) => Err(DiskFault::at(Call::Permit, error)),
+        },
         None => Ok(()),
     }
 }
 
 // Gives a file that is filled its path, once it is on the disk, and if it is still the file of its name and what is at the
 // path is what was there.
-#[tactic(auto, using(crate::proofs::Stages::fillable_ours))]
 fn put<D: Disk>(
     disk: &mut D,
     file: &mut D::File,
@@ -112,16 +114,17 @@ fn put<D: Disk>(
     ensures err { OnErr result (is_ours (D.stage file.new) ≡ true) }
 {
     filled?;
-    disk.synchronize(file)
-        .map_err(|error| DiskFault::at(Call::Synchronize, error))?;
-    if !disk.confirm(file, name).map_err(confirm_fault)? {
-        return Err(DiskFault::Busy);
+    if let Err(error) = disk.synchronize(file) {
+        return Err(DiskFault::at(Call::Synchronize, error));
     }
+    see_own(disk, file, name)?;
     if !is_unchanged(old, &there_at(disk, path)?) {
         return Err(DiskFault::Changed);
     }
-    disk.rename(file, name, path)
-        .map_err(|error| DiskFault::at(Call::Rename, error))
+    match disk.rename(file, name, path) {
+        Ok(()) => Ok(()),
+        Err(error) => Err(DiskFault::at(Call::Rename, error)),
+    }
 }
 
 // Whether nothing came, went or was written to in between.

@@ -1,13 +1,12 @@
 //! The file beside a path that a save has for itself.
-ghost use Rattle.std.specs.Prelude.{◌≡◌, ◌≢◌, IfOk, IfSome, OnErr, OnOk, string_bytes, true};
+ghost use Rattle.std.specs.Prelude.{◌≡◌, ◌≢◌, ◌⊎◌, IfOk, IfSome, OnErr, OnOk, string_bytes, true};
 ghost use Rattle.exh_disk.specs.declared.stage.Stage.TheVariants.{Empty, Made, OwnLeft};
-ghost use Rattle.exh_disk.specs.Stage.{is_ours};
+ghost use Rattle.exh_disk.specs.Stage.{asked, is_ours, locked};
 
 use crate::fault::Call;
 use crate::names::{SUFFIXES, name_beside};
 use crate::{Disk, DiskFault, Found, Kind, Runner};
 use std::alloc::Global;
-use std::io;
 use std::io::ErrorKind;
 
 // The permissions of a file beside an old one, until it has those of that one; and what a new file may have of them.
@@ -16,7 +15,7 @@ const PRIVATE: u32 = 0o600;
 const USUAL: u32 = 0o666;
 
 /// An empty file beside a path for one save alone, and its name. What a killed save left there is taken over; where a
-/// name is taken otherwise, or is that of the path, as a long one that was cut may be, another one is tried.
+/// name is taken otherwise, or is that of the path, another one is tried.
 pub(crate) fn claim<D: Disk>(
     alloc: Global,
     disk: &mut D,
@@ -27,10 +26,9 @@ pub(crate) fn claim<D: Disk>(
     ensures beside { IfOk result (λ claimed. string_bytes claimed.1 ≢ path.now) }
 {
     for suffix in SUFFIXES {
-        let name = name_beside(alloc, path, suffix).map_err(|_| DiskFault::Memory)?;
-        if name.as_str() == path {
-            continue;
-        }
+        let Ok(name) = name_beside(alloc, path, suffix) else {
+            return Err(DiskFault::Memory);
+        };
         if let Some(file) = claim_name(disk, &name, path, old)? {
             return Ok((file, name));
         }
@@ -38,17 +36,20 @@ pub(crate) fn claim<D: Disk>(
     Err(DiskFault::NoName)
 }
 
-// The same under one name; `None` where something has it that no save left. What has it is asked first: a pipe that is
-// opened would make the save wait.
+// The same under one name; `None` where something has it that no save left, or it is that of the path, as a long one that
+// was cut may be. What has it is asked first: a pipe that is opened would make the save wait.
 fn claim_name<D: Disk>(
     disk: &mut D,
     name: &str,
     path: &str,
     old: Option<&Found>,
 ) -> Result<Option<D::File>, DiskFault>
-    requires { name.now ≢ path.now }
-    ensures { IfOk result (λ claimed. IfSome claimed (λ file. D.stage file ≡ Empty)) }
+    ensures stage { IfOk result (λ claimed. IfSome claimed (λ file. D.stage file ≡ Empty)) }
+    ensures beside { IfOk result (λ claimed. IfSome claimed (λ _. name.now ≢ path.now)) }
 {
+    if name == path {
+        return Ok(None);
+    }
     match disk.ask_name(name) {
         Ok(found) => {
             let runner = disk.runner().ok();
@@ -75,11 +76,10 @@ fn make<D: Disk>(disk: &mut D, name: &str, old: Option<&Found>) -> Result<D::Fil
     ensures { IfOk result (λ file. D.stage file ≡ Empty) }
 {
     let mode = if old.is_some() { PRIVATE } else { USUAL };
-    let mut file = disk.make(name, mode).map_err(|error| DiskFault::busy_at(
-        ErrorKind::AlreadyExists,
-        Call::Make,
-        error,
-    ))?;
+    let mut file = match disk.make(name, mode) {
+        Ok(file) => file,
+        Err(error) => return Err(DiskFault::busy_at(ErrorKind::AlreadyExists, Call::Make, error)),
+    };
     match hold(disk, &mut file, name) {
         Ok(()) => Ok(file),
         Err(DiskFault::Busy) => Err(DiskFault::Busy),
@@ -97,12 +97,11 @@ fn hold<D: Disk>(disk: &mut D, file: &mut D::File, name: &str) -> Result<(), Dis
     ensures ok { OnOk result (D.stage file.new ≡ Empty) }
     ensures err { OnErr result (is_ours (D.stage file.new) ≡ true) }
 {
-    disk.lock(file).map_err(|error| DiskFault::busy_at(ErrorKind::WouldBlock, Call::Lock, error))?;
-    if !disk.confirm(file, name).map_err(confirm_fault)? {
-        return Err(DiskFault::Busy);
+    own(disk, file, name)?;
+    match disk.empty(file) {
+        Ok(()) => Ok(()),
+        Err(error) => Err(DiskFault::at(Call::Empty, error)),
     }
-    disk.empty(file)
-        .map_err(|error| DiskFault::at(Call::Empty, error))
 }
 
 // Takes over what a save left: only once it is locked, and still the file of its name, which another save may have given
@@ -122,39 +121,71 @@ fn take_over<D: Disk>(
         // Where it is gone, another save gave it a path.
         Err(error) => return Err(DiskFault::busy_at(ErrorKind::NotFound, Call::Make, error)),
     };
-    disk.lock(&mut file).map_err(|error| DiskFault::busy_at(
-        ErrorKind::WouldBlock,
-        Call::Lock,
-        error,
-    ))?;
-    if !disk.confirm(&mut file, name).map_err(confirm_fault)? {
-        return Err(DiskFault::Busy);
-    }
+    own(disk, &mut file, name)?;
     if old.is_none() {
-        disk.remove(&file, name)
-            .map_err(|error| DiskFault::at(Call::Make, error))?;
-        return Ok(Some(make(disk, name, old)?));
+        return match remake(disk, &file, name) {
+            Ok(made) => Ok(Some(made)),
+            Err(fault) => Err(fault),
+        };
     }
-    match clear(disk, &mut file) {
+    match clear(disk, &mut file, name) {
         Ok(()) => Ok(Some(file)),
+        Err(fault) => Err(fault),
+    }
+}
+
+// Makes a file in place of what a save left.
+fn remake<D: Disk>(disk: &mut D, left: &D::File, name: &str) -> Result<D::File, DiskFault>
+    requires { D.stage left.now ≡ OwnLeft }
+    ensures { IfOk result (λ file. D.stage file ≡ Empty) }
+{
+    match disk.remove(left, name) {
+        Ok(()) => make(disk, name, None),
+        Err(error) => Err(DiskFault::at(Call::Make, error)),
+    }
+}
+
+// Empties what a save left, which nobody else may open by then, or takes its name away.
+fn clear<D: Disk>(disk: &mut D, left: &mut D::File, name: &str) -> Result<(), DiskFault>
+    requires { D.stage left.old ≡ OwnLeft }
+    ensures { OnOk result (D.stage left.new ≡ Empty) }
+{
+    let cleared = match disk.restrict(left) {
+        Ok(()) => disk.empty(left),
+        Err(error) => Err(error),
+    };
+    match cleared {
+        Ok(()) => Ok(()),
         Err(error) => {
-            let _ = disk.remove(&file, name);
+            let _ = disk.remove(left, name);
             Err(DiskFault::at(Call::Empty, error))
         }
     }
 }
 
-// Empties what a save left, which nobody else may open by then.
-fn clear<D: Disk>(disk: &mut D, left: &mut D::File) -> io::Result<()>
-    requires { D.stage left.old ≡ OwnLeft }
-    ensures ok { OnOk result (D.stage left.new ≡ Empty) }
-    ensures err { OnErr result (is_ours (D.stage left.new) ≡ true) }
+// Takes the lock of a file, as long as it has its name.
+fn own<D: Disk>(disk: &mut D, file: &mut D::File, name: &str) -> Result<(), DiskFault>
+    ensures ok { OnOk result (D.stage file.new ≡ asked (locked (D.stage file.old)) true) }
+    ensures err { OnErr result ((D.stage file.new ≡ D.stage file.old) ⊎ (D.stage file.new ≡ locked (D.stage file.old))) }
 {
-    disk.restrict(left)?;
-    disk.empty(left)
+    match disk.lock(file) {
+        Ok(()) => see_own(disk, file, name),
+        Err(error) => Err(DiskFault::busy_at(ErrorKind::WouldBlock, Call::Lock, error)),
+    }
 }
 
-/// A file couldn't be asked whether it is the one of its name. Where nothing has the name, another save gave it a path.
-pub(crate) fn confirm_fault(error: io::Error) -> DiskFault {
-    DiskFault::busy_at(ErrorKind::NotFound, Call::Ask, error)
+/// Sees that a file is still the one of its name. Where nothing has the name, another save gave it a path.
+pub(crate) fn see_own<D: Disk>(
+    disk: &mut D,
+    file: &mut D::File,
+    name: &str,
+) -> Result<(), DiskFault>
+    ensures ok { OnOk result (D.stage file.new ≡ asked (D.stage file.old) true) }
+    ensures err { OnErr result (D.stage file.new ≡ D.stage file.old) }
+{
+    match disk.confirm(file, name) {
+        Ok(true) => Ok(()),
+        Ok(false) => Err(DiskFault::Busy),
+        Err(error) => Err(DiskFault::busy_at(ErrorKind::NotFound, Call::Ask, error)),
+    }
 }

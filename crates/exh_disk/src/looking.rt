@@ -18,9 +18,10 @@ pub fn look<D: Disk>(alloc: Global, disk: &mut D, target: &Target<'_>) -> Result
 }
 
 fn look_at_folder<D: Disk>(disk: &mut D, folder: &str) -> Result<(), DiskFault> {
-    let found = disk
-        .ask(folder)
-        .map_err(|error| DiskFault::at(Call::Make, error))?;
+    let found = match disk.ask(folder) {
+        Ok(found) => found,
+        Err(error) => return Err(DiskFault::at(Call::Make, error)),
+    };
     let is_closed = match disk.runner() {
         Ok(runner) => found.is_closed_to(runner),
         Err(_) => false,

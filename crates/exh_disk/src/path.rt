@@ -64,7 +64,10 @@ pub(crate) fn old_at<D: Disk>(
     target: &Target<'_>,
 ) -> Result<Option<Found>, DiskFault> {
     match there_at(disk, path)? {
-        Some(there) => replaceable(disk, path, &there, target).map(|()| Some(there)),
+        Some(there) => match replaceable(disk, path, &there, target) {
+            Ok(()) => Ok(Some(there)),
+            Err(fault) => Err(fault),
+        },
         None => Ok(None),
     }
 }
@@ -88,9 +91,10 @@ fn replaceable<D: Disk>(
     if there.kind != Kind::Regular {
         return Err(DiskFault::Changed);
     }
-    let head = disk
-        .head(path)
-        .map_err(|error| DiskFault::at(Call::Open, error))?;
+    let head = match disk.head(path) {
+        Ok(head) => head,
+        Err(error) => return Err(DiskFault::at(Call::Open, error)),
+    };
     if !there.is_unchanged(&head.found) {
         return Err(DiskFault::Changed);
     }

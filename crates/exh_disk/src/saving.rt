@@ -38,18 +38,24 @@ pub fn save<D: Disk, S: Source>(
     match path_to(alloc, disk, target.path) {
         Ok(PathTo::File(path)) => {
             let (saved, source) = save_beside(alloc, disk, &path, target, source);
-            let saved = saved.map(|(file, folder)| Saved {
-                file: Some(file),
-                folder,
-            });
+            let saved = match saved {
+                Ok((file, folder)) => Ok(Saved {
+                    file: Some(file),
+                    folder,
+                }),
+                Err(fault) => Err(fault),
+            };
             (saved, source)
         }
         Ok(PathTo::Device) => {
             let (written, source) = write_device(disk, target.path, source);
-            let saved = written.map(|()| Saved {
-                file: None,
-                folder: None,
-            });
+            let saved = match written {
+                Ok(()) => Ok(Saved {
+                    file: None,
+                    folder: None,
+                }),
+                Err(fault) => Err(fault),
+            };
             (saved, source)
         }
         Err(fault) => (Err(fault), source),

@@ -2,6 +2,7 @@ use Rattle.std.proofs.Common.{[], ◌∷◌, arith, ◌∙◌, ◌++◌, sym, ap
 use Rattle.std.proofs.lemmas.List.{length_push}
 use Rattle.exh_stream.specs.Output.{Takes}
 use Rattle.exh_stream.specs.OutputLemmas.{OnErr-from}
+use Rattle.std.proofs.lemmas.Result.{IfOk-from_err}
 use Rattle.exh_load.specs.Loading.{line_text, loading_of, load_text_from}
 use Rattle.exh_load.proofs.Lines.{IfErr-from, LeadTo-more, line_is, line_out, line_stopped, stopped, text_lines, text_of_left, text_of_more, text_of_next}
 use Rattle.exh_load.proofs.load_text.load_lines.Goals as goal
@@ -50,3 +51,45 @@ pub returns-in_err-more-clause-front : goal.returns-in_err-more-clause-front
 returns-in_err-more-clause-front g c =
     let i = c.lines.invariant in
     IfErr-from c.from_residual.result (λ fault _. record { front = load_text_from (loading_of c.args.loader.now) i.answered; rest = load_text_from (loading_of c.lines.loader) c.lines.line-iterator; split = sym (text_of_left _ _ i.answered i.lead _ _ i.split); lines = text_lines (loading_of c.args.loader.now) i.answered; taken = i.passed })
+
+pub returns-in_err-more-clause-text : goal.returns-in_err-more-clause-text
+returns-in_err-more-clause-text g c = IfOk-from_err c.from_residual.result _ c.from_residual.ensures.0
+
+pub returns-in_err-more-clause-loaded : goal.returns-in_err-more-clause-loaded
+returns-in_err-more-clause-loaded g c = IfOk-from_err c.from_residual.result _ c.from_residual.ensures.0
+
+pub returns-in_err-more-clause-loading : goal.returns-in_err-more-clause-loading
+returns-in_err-more-clause-loading g c = IfOk-from_err c.from_residual.result _ c.from_residual.ensures.0
+
+pub returns-in_err-more-clause-records : goal.returns-in_err-more-clause-records
+returns-in_err-more-clause-records g c = IfOk-from_err c.from_residual.result _ c.from_residual.ensures.0
+
+pub returns-in_err-push-clause-text : goal.returns-in_err-push-clause-text
+returns-in_err-push-clause-text g c = IfOk-from_err c.from_residual-in_err-push.result _ c.from_residual-in_err-push.ensures.0
+
+pub returns-in_err-push-clause-loaded : goal.returns-in_err-push-clause-loaded
+returns-in_err-push-clause-loaded g c = IfOk-from_err c.from_residual-in_err-push.result _ c.from_residual-in_err-push.ensures.0
+
+pub returns-in_err-push-clause-loading : goal.returns-in_err-push-clause-loading
+returns-in_err-push-clause-loading g c = IfOk-from_err c.from_residual-in_err-push.result _ c.from_residual-in_err-push.ensures.0
+
+pub returns-in_err-push-clause-records : goal.returns-in_err-push-clause-records
+returns-in_err-push-clause-records g c = IfOk-from_err c.from_residual-in_err-push.result _ c.from_residual-in_err-push.ensures.0
+
+pub returns-in_err-more-clause-same_writer : goal.returns-in_err-more-clause-same_writer
+returns-in_err-more-clause-same_writer g c = c.lines.invariant.same_writer
+
+pub returns-in_err-push-clause-same_writer : goal.returns-in_err-push-clause-same_writer
+returns-in_err-push-clause-same_writer g c = c.in_err-push.ensures.same_writer ∙ c.lines.invariant.same_writer
+
+pub returns-clause-err : goal.returns-clause-err
+returns-clause-err g c = tt
+
+pub returns-clause-front : goal.returns-clause-front
+returns-clause-front g c = tt
+
+pub returns-clause-loading : goal.returns-clause-loading
+returns-clause-loading g c = c.lines.invariant.loading
+
+pub returns-clause-same_writer : goal.returns-clause-same_writer
+returns-clause-same_writer g c = c.lines.invariant.same_writer

@@ -1,4 +1,4 @@
-use Rattle.std.proofs.Common.{[], ◌∷◌, sym, ap, ◌∙◌, subst}
+use Rattle.std.proofs.Common.{[], ◌∷◌, sym, ap, ◌∙◌, subst, refl}
 use Rattle.exh_load.specs.Load.{IsBegun, at_end, beginning, load_after, load_begun, refused}
 use Rattle.exh_load.specs.LongLoad.{IsLongLoad, broken_off}
 use Rattle.exh_load.proofs.Loads.{front_none}
@@ -24,3 +24,33 @@ returns-in-None-clause-loads g c = λ known line read passed.
     let is = long_either begin known (line ∷ []) (refused 63) (some_taken g.R.Read.remaining known c.args.lines.now (line ∷ []) passed c.requires.ends)
     (sym (ap (λ r. load_after at_end begin r []) read ∙ ap (λ b. load_begun at_end b []) begun)) (sym (ap (λ r. load_after (broken_off 41) begin r []) read ∙ ap (λ b. load_begun (broken_off 41) b []) begun)) in
     takes_load g.W.Write.contents (IsLongLoad begin known) c.args.output.now c.refuse.new.output (refused 63) is c.refuse.result c.refuse.ensures.text c.refuse.ensures.left c.refuse.ensures.err c.refuse.ensures.front
+
+pub returns-in_err-loader-clause-same_reader : goal.returns-in_err-loader-clause-same_reader
+returns-in_err-loader-clause-same_reader g c = refl
+
+pub returns-in_err-loader-clause-same_writer : goal.returns-in_err-loader-clause-same_writer
+returns-in_err-loader-clause-same_writer g c = refl
+
+pub returns-in-None-clause-same_reader : goal.returns-in-None-clause-same_reader
+returns-in-None-clause-same_reader g c = refl
+
+pub returns-in-None-clause-same_writer : goal.returns-in-None-clause-same_writer
+returns-in-None-clause-same_writer g c = c.refuse.ensures.same_writer
+
+pub returns-in-None-clause-failed : goal.returns-in-None-clause-failed
+returns-in-None-clause-failed g c = c.refuse.ensures.failed
+
+pub put_pairs-requires-clause-ends : goal.put_pairs-requires-clause-ends
+put_pairs-requires-clause-ends g c = c.requires.ends
+
+pub put_pairs-requires-clause-open : goal.put_pairs-requires-clause-open
+put_pairs-requires-clause-open g c = c.requires.open
+
+pub returns-in-Some-clause-same_reader : goal.returns-in-Some-clause-same_reader
+returns-in-Some-clause-same_reader g c = c.put_pairs.ensures.same_reader
+
+pub returns-in-Some-clause-same_writer : goal.returns-in-Some-clause-same_writer
+returns-in-Some-clause-same_writer g c = c.put_pairs.ensures.same_writer
+
+pub returns-in-Some-clause-failed : goal.returns-in-Some-clause-failed
+returns-in-Some-clause-failed g c = c.put_pairs.ensures.failed

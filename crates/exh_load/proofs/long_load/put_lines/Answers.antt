@@ -1,5 +1,6 @@
-use Rattle.std.proofs.Common.{◌≡◌, ℕ, List, false, true, [], ◌∷◌, ◌++◌, refl, sym, subst, arith, rules}
+use Rattle.std.proofs.Common.{◌≡◌, ℕ, List, false, true, [], ◌∷◌, ◌++◌, refl, sym, subst, arith, rules, ◌∙◌}
 use Rattle.exh_stream.specs.OutputLemmas.{Takes-none}
+use Rattle.std.proofs.lemmas.Result.{IfOk-from_err}
 use Rattle.exh_load.specs.LineSource.{GoesOn, Passes}
 use Rattle.exh_load.specs.Loading.{loading_of}
 use Rattle.exh_load.proofs.Lines.{LeadTo-more, LeadTo-none}
@@ -57,8 +58,8 @@ turns-preserved g c =
     let ended = subst (GoesOn R c.turns.lines c.next_line.new.self) c.in-Ok-true.field-0-test c.in-Ok-true.ensures.next in
     let on = subst (λ (l : List ℕ). Passes R c.turns.lines c.next_line.new.self (l ∷ [])) (sym c.line.ensures) ended in
     record {
-      same_reader = search rules;
-      same_writer = search rules;
+      same_reader = c.next_line.ensures.same_reader ∙ i.same_reader;
+      same_writer = c.put_line.ensures.same_writer ∙ i.same_writer;
       ends = c.in-Ok-true.ensures.ends;
       open_still = search rules;
       loading = c.in_ok-records.ensures.loading;
@@ -74,3 +75,51 @@ pub returns-clause-put : goal.returns-clause-put
 returns-clause-put g c =
     let i = c.turns.invariant in
     some_endless g.R.Read.remaining g.W.Write.contents c.args.lines.now c.turns.lines c.args.output.now c.turns.output (loading_of c.args.loader.now) i.put i.passed i.taken
+
+pub returns-in_err-records-clause-put : goal.returns-in_err-records-clause-put
+returns-in_err-records-clause-put g c = IfOk-from_err c.from_residual.result _ c.from_residual.ensures.0
+
+pub returns-in_err-records-clause-open : goal.returns-in_err-records-clause-open
+returns-in_err-records-clause-open g c = IfOk-from_err c.from_residual.result _ c.from_residual.ensures.0
+
+pub returns-in_err-records-clause-same_reader : goal.returns-in_err-records-clause-same_reader
+returns-in_err-records-clause-same_reader g c = c.next_line.ensures.same_reader ∙ c.turns.invariant.same_reader
+
+pub returns-in_err-records-clause-same_writer : goal.returns-in_err-records-clause-same_writer
+returns-in_err-records-clause-same_writer g c = c.put_line.ensures.same_writer ∙ c.turns.invariant.same_writer
+
+pub returns-in-Ok-false-clause-stopped : goal.returns-in-Ok-false-clause-stopped
+returns-in-Ok-false-clause-stopped g c = tt
+
+pub returns-in-Ok-false-clause-open : goal.returns-in-Ok-false-clause-open
+returns-in-Ok-false-clause-open g c = c.turns.invariant.open_still
+
+pub returns-in-Ok-false-clause-same_writer : goal.returns-in-Ok-false-clause-same_writer
+returns-in-Ok-false-clause-same_writer g c = c.turns.invariant.same_writer
+
+pub returns-in-Ok-false-clause-same_reader : goal.returns-in-Ok-false-clause-same_reader
+returns-in-Ok-false-clause-same_reader g c = c.next_line.ensures.same_reader ∙ c.turns.invariant.same_reader
+
+pub returns-in-Err-clause-stopped : goal.returns-in-Err-clause-stopped
+returns-in-Err-clause-stopped g c = tt
+
+pub returns-in-Err-clause-open : goal.returns-in-Err-clause-open
+returns-in-Err-clause-open g c = c.turns.invariant.open_still
+
+pub returns-in-Err-clause-same_writer : goal.returns-in-Err-clause-same_writer
+returns-in-Err-clause-same_writer g c = c.turns.invariant.same_writer
+
+pub returns-in-Err-clause-same_reader : goal.returns-in-Err-clause-same_reader
+returns-in-Err-clause-same_reader g c = c.next_line.ensures.same_reader ∙ c.turns.invariant.same_reader
+
+pub returns-clause-stopped : goal.returns-clause-stopped
+returns-clause-stopped g c = tt
+
+pub returns-clause-open : goal.returns-clause-open
+returns-clause-open g c = c.turns.invariant.open_still
+
+pub returns-clause-same_writer : goal.returns-clause-same_writer
+returns-clause-same_writer g c = c.turns.invariant.same_writer
+
+pub returns-clause-same_reader : goal.returns-clause-same_reader
+returns-clause-same_reader g c = c.turns.invariant.same_reader

@@ -25,3 +25,30 @@ returns-in-Err-clause-loads g c = λ known begin line settings read begun passed
     let put = subst (PutsLines g.R.Read.remaining g.W.Write.contents c.args.lines.now c.args.output.now c.put_lines.new.output (loading_of c.args.loader) (loading_of c.put_lines.new.loader)) c.in-Err.is c.in_ok-records.ensures.put in
     broken_takes g.R.Read.remaining g.W.Write.contents c.args.lines.now c.args.output.now c.break_off.new.output known begin line settings (loading_of c.args.loader) read begun passed c.put_lines.new.output c.in-Err.fault put c.break_off.result c.break_off.ensures.text c.break_off.ensures.left
     c.break_off.ensures.err c.break_off.ensures.front
+
+pub returns-in_err-records-clause-same_reader : goal.returns-in_err-records-clause-same_reader
+returns-in_err-records-clause-same_reader g c = c.put_lines.ensures.same_reader
+
+pub returns-in_err-records-clause-same_writer : goal.returns-in_err-records-clause-same_writer
+returns-in_err-records-clause-same_writer g c = c.put_lines.ensures.same_writer
+
+pub returns-in_err-print_number-in-Ok-clause-same_reader : goal.returns-in_err-print_number-in-Ok-clause-same_reader
+returns-in_err-print_number-in-Ok-clause-same_reader g c = c.put_lines.ensures.same_reader
+
+pub returns-in_err-print_number-in-Ok-clause-same_writer : goal.returns-in_err-print_number-in-Ok-clause-same_writer
+returns-in_err-print_number-in-Ok-clause-same_writer g c = c.print_number.ensures.same_writer ∙ c.put_lines.ensures.same_writer
+
+pub returns-in_ok-print_number-in-Ok-clause-same_reader : goal.returns-in_ok-print_number-in-Ok-clause-same_reader
+returns-in_ok-print_number-in-Ok-clause-same_reader g c = c.put_lines.ensures.same_reader
+
+pub returns-in_ok-print_number-in-Ok-clause-same_writer : goal.returns-in_ok-print_number-in-Ok-clause-same_writer
+returns-in_ok-print_number-in-Ok-clause-same_writer g c = c.print_number.ensures.same_writer ∙ c.put_lines.ensures.same_writer
+
+pub returns-in-Err-clause-same_reader : goal.returns-in-Err-clause-same_reader
+returns-in-Err-clause-same_reader g c = c.put_lines.ensures.same_reader
+
+pub returns-in-Err-clause-same_writer : goal.returns-in-Err-clause-same_writer
+returns-in-Err-clause-same_writer g c = c.break_off.ensures.same_writer ∙ c.put_lines.ensures.same_writer
+
+pub returns-in-Err-clause-failed : goal.returns-in-Err-clause-failed
+returns-in-Err-clause-failed g c = c.break_off.ensures.failed

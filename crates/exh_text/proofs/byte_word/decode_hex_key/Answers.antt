@@ -12,3 +12,9 @@ pub returns : goal.returns
 returns c =
     let read = decode_sized-hex_bytes c.args.digits.now (length c.args.digits.now / 2) c.requires refl in
     grind (arith, common_steps, read.1)
+
+pub decode_into-requires-clause-spelled : goal.decode_into-requires-clause-spelled
+decode_into-requires-clause-spelled c = c.requires
+
+pub slice_bounds-bytes-end : goal.slice_bounds-bytes-end
+slice_bounds-bytes-end c = c.if-len-gt-KEY_LIMIT.false

@@ -1,5 +1,6 @@
 use Rattle.std.proofs.Common.{List, ℕ, ◌++◌, codes, decimal}
 use Rattle.exh_prefix.specs.Prefix.{prefix_text}
+use Rattle.std.proofs.lemmas.Result.{IfOk-from_err}
 use Rattle.exh_text.specs.Contents.{right_text}
 use Rattle.exh_text.specs.TextLemmas.{added_behind, keeps_more}
 use Rattle.exh_text.proofs.contents.push_live.Goals as goal
@@ -25,3 +26,36 @@ returns-clause-ok c =
 pub returns-clause-kept : goal.returns-clause-kept
 returns-clause-kept c =
     keeps_more _ _ _ (keeps_more _ _ _ (keeps_more _ _ _ (keeps_more _ _ _ (keeps_more _ _ _ c.push_text.ensures.kept c.push_prefix.ensures.kept) c.push_text-2.ensures.kept) c.push_right.ensures.kept) c.push_text-3.ensures.kept) c.push_number.ensures.kept
+
+pub returns-in_err-push_text-clause-ok : goal.returns-in_err-push_text-clause-ok
+returns-in_err-push_text-clause-ok c = IfOk-from_err c.from_residual.result _ c.from_residual.ensures.0
+
+pub returns-in_err-push_text-clause-kept : goal.returns-in_err-push_text-clause-kept
+returns-in_err-push_text-clause-kept c = c.push_text.ensures.kept
+
+pub returns-in_err-push_prefix-clause-ok : goal.returns-in_err-push_prefix-clause-ok
+returns-in_err-push_prefix-clause-ok c =
+    IfOk-from_err c.from_residual-in_err-push_prefix.result _ c.from_residual-in_err-push_prefix.ensures.0
+
+pub returns-in_err-push_prefix-clause-kept : goal.returns-in_err-push_prefix-clause-kept
+returns-in_err-push_prefix-clause-kept c = keeps_more _ _ _ c.push_text.ensures.kept c.push_prefix.ensures.kept
+
+pub returns-in_err-push_text-2-clause-ok : goal.returns-in_err-push_text-2-clause-ok
+returns-in_err-push_text-2-clause-ok c =
+    IfOk-from_err c.from_residual-in_err-push_text-2.result _ c.from_residual-in_err-push_text-2.ensures.0
+
+pub returns-in_err-push_text-2-clause-kept : goal.returns-in_err-push_text-2-clause-kept
+returns-in_err-push_text-2-clause-kept c =
+    keeps_more _ _ _ (keeps_more _ _ _ c.push_text.ensures.kept c.push_prefix.ensures.kept) c.push_text-2.ensures.kept
+
+pub returns-in_err-push_right-clause-ok : goal.returns-in_err-push_right-clause-ok
+returns-in_err-push_right-clause-ok c =
+    IfOk-from_err c.from_residual-in_err-push_right.result _ c.from_residual-in_err-push_right.ensures.0
+
+pub returns-in_err-push_right-clause-kept : goal.returns-in_err-push_right-clause-kept
+returns-in_err-push_right-clause-kept c =
+    keeps_more _ _ _ (keeps_more _ _ _ (keeps_more _ _ _ c.push_text.ensures.kept c.push_prefix.ensures.kept) c.push_text-2.ensures.kept) c.push_right.ensures.kept
+
+pub returns-in_err-push_text-3-clause-ok : goal.returns-in_err-push_text-3-clause-ok
+returns-in_err-push_text-3-clause-ok c =
+    IfOk-from_err c.from_residual-in_err-push_text-3.result _ c.from_residual-in_err-push_text-3.ensures.0

@@ -1,6 +1,7 @@
-use Rattle.std.proofs.Common.{◌≡◌, ℕ, Option, [], ◌∷◌, ◌++◌, ◌≤◌, length, sym, ◌∙◌, subst, append-nil, arith, rules}
+use Rattle.std.proofs.Common.{◌≡◌, ℕ, Option, [], ◌∷◌, ◌++◌, ◌≤◌, length, sym, ◌∙◌, subst, append-nil, arith, rules, refl}
 use Rattle.std.specs.Prelude.{IfNone, option_to_list}
 use Rattle.std.proofs.lemmas.List.{length_push}
+use Rattle.std.proofs.lemmas.Result.{IfOk-from_err}
 use Rattle.exh_load.specs.LineSource.{AreTaken, IsAdded, IsOver}
 use Rattle.exh_load.specs.declared.line_source.TheConstants.{LINE_LEN}
 use Rattle.exh_load.proofs.TextLines.{begun_more, items_kept, line_passed, short_few, taken_else, taken_then, text_ended}
@@ -55,3 +56,33 @@ bytes-preserved g c =
       short = next.2;
       counted = omega (arith, length_push i.given c.in-Some.byte, i.counted);
     }
+
+pub returns-in_err-byte-clause-ends : goal.returns-in_err-byte-clause-ends
+returns-in_err-byte-clause-ends g c = IfOk-from_err c.from_residual.result _ c.from_residual.ensures.0
+
+pub returns-in_err-byte-clause-next : goal.returns-in_err-byte-clause-next
+returns-in_err-byte-clause-next g c = IfOk-from_err c.from_residual.result _ c.from_residual.ensures.0
+
+pub returns-in_err-add-clause-ends : goal.returns-in_err-add-clause-ends
+returns-in_err-add-clause-ends g c = IfOk-from_err c.from_residual-in_err-add.result _ c.from_residual-in_err-add.ensures.0
+
+pub returns-in_err-add-clause-next : goal.returns-in_err-add-clause-next
+returns-in_err-add-clause-next g c = IfOk-from_err c.from_residual-in_err-add.result _ c.from_residual-in_err-add.ensures.0
+
+pub returns-in_err-byte-clause-same_reader : goal.returns-in_err-byte-clause-same_reader
+returns-in_err-byte-clause-same_reader g c = c.next_byte.ensures.same_reader ∙ c.bytes.invariant.same_reader
+
+pub returns-clause-ends : goal.returns-clause-ends
+returns-clause-ends g c = tt
+
+pub returns-clause-next : goal.returns-clause-next
+returns-clause-next g c = tt
+
+pub returns-clause-same_reader : goal.returns-clause-same_reader
+returns-clause-same_reader g c = c.bytes.invariant.same_reader
+
+pub returns-in_default-clause-over : goal.returns-in_default-clause-over
+returns-in_default-clause-over g c = λ over. refl
+
+pub returns-then-branch-clause-over : goal.returns-then-branch-clause-over
+returns-then-branch-clause-over g c = λ over. refl
