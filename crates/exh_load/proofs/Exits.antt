@@ -9,7 +9,9 @@ use Rattle.exh_open.specs.Opened.{OpenedState}
 use Rattle.exh_load.specs.Load.{Load, Loads, Prints, PrintsFront, TakesFront}
 use Rattle.exh_load.specs.Loading.{loading_in}
 use Rattle.exh_load.specs.declared.load_fault.LoadFault.{LoadFault}
-use Rattle.exh_load.specs.declared.load_fault.LoadFault.TheVariants.{Write}
+use Rattle.exh_load.specs.declared.load_fault.LoadFault.TheVariants.{Memory, Write}
+use Rattle.exh_stream.specs.declared.input_fault.InputFault.{InputFault}
+use Rattle.exh_stream.specs.declared.input_fault.InputFault.TheVariants.{Read, TooLong}
 
 -- another fault than the writer's, of an output that stays open
 pub other_fault : {T : Type 0} (result : Result T LoadFault) (fault : LoadFault) (failed : Bool) → IsErr result × IsErrAnd result (λ f. f ≡ fault) → fault ≢ Write → IsFalse failed → IsErrOf result Write ↔ IsTrue failed
@@ -33,6 +35,19 @@ same_fault (Err other) fault failed is told = (λ same. told.0 (let write : othe
 -- none
 pub no_fault : {T : Type 0} (value : T) (failed : Bool) → (IsTrue failed → ⊥) → IsErrOf (Ok value) Write ↔ IsTrue failed
 no_fault value failed still = (λ same. cc, λ closed. absurd (still closed))
+
+-- what doesn't fail with a fault doesn't close
+pub not_closed : {T E : Type 0} (value : T) (fault : E) (failed : Bool) → IsErrOf (Ok value) fault ↔ IsTrue failed → IsTrue failed → ⊥
+not_closed value fault failed told closed = let never = told.1 closed in cc
+
+pub other_closed : {T E : Type 0} (other fault : E) (failed : Bool) → IsErrOf {T = T} (Err other) fault ↔ IsTrue failed → other ≢ fault → IsTrue failed → ⊥
+other_closed other fault failed told differs closed = let same = told.1 closed in differs cc
+
+pub memory_differs : Memory ≢ Write
+memory_differs same = cc
+
+pub too_long_differs : (fault : InputFault) → fault ≡ TooLong → fault ≢ Read
+too_long_differs fault is same = cc
 
 pub stays_open : (failed : Bool) → (IsTrue failed → ⊥) → IsFalse failed
 stays_open true still = absurd (still refl)

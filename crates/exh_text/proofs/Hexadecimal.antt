@@ -1,5 +1,6 @@
 -- Hexadecimal digits in lower case, two a byte.
-use Rattle.std.proofs.Common.{◌≡◌, ◌≢◌, ℕ, ◌+◌, ◌*◌, ◌/◌, ◌%◌, List, [], ◌∷◌, ◌++◌, length, slice_index, unwrap_or, IsSome, Bool, true, false, ◌&&◌, Option, Some, None, Result, Ok, Err, is_some, refl, ap, ◌∙◌, arith}
+use Rattle.std.proofs.Common.{◌≡◌, ◌≢◌, ◌≤◌, ℕ, ◌+◌, ◌*◌, ◌/◌, ◌%◌, List, [], ◌∷◌, ◌++◌, length, take, slice_index, unwrap_or, IsSome, Bool, true, false, ◌&&◌, Option, Some, None, Result, Ok, Err, is_some, refl, ap, sym, ◌∙◌, arith}
+use Rattle.std.proofs.lemmas.List.{length-append, take_at}
 use Rattle.std.specs.List.{list_all}
 use Rattle.std.proofs.lemmas.Bool.{false≢true}
 use Rattle.std.proofs.lemmas.Bool.Decides.{nat_tests}
@@ -97,3 +98,13 @@ pub encode_lower-append : (front rest : List ℕ) → encode_lower (front ++ res
 unfolding encode_with
 encode_lower-append [] rest = refl
 encode_lower-append (byte ∷ front) rest = ap (λ digits. slice_index lower_digits (byte / 16) ∷ slice_index lower_digits (byte % 16) ∷ digits) (encode_lower-append front rest)
+
+pub length-decoded : (digits out : List ℕ) → IsSome (hex_bytes digits) → out ≡ unwrap_or (hex_bytes digits) [] → length out ≡ length digits / 2
+length-decoded digits out some is = ap length is ∙ (decode_sized-hex_bytes digits (length digits / 2) some refl).1
+
+-- so many bytes in front of others
+pub prefix_within : (n : ℕ) (front rest : List ℕ) → length front ≡ n → n ≤ length (front ++ rest)
+prefix_within n front rest is = omega (arith, is, length-append front rest)
+
+pub prefix_whole : (n : ℕ) (front rest : List ℕ) → length front ≡ n → n ≡ length (take n (front ++ rest))
+prefix_whole n front rest is = sym (ap length (take_at front rest n is) ∙ is)

@@ -1,5 +1,6 @@
 use Rattle.std.proofs.Common.{◌≡◌, ◌∷◌, ◌++◌, [], Bool, List, suc, drop, take, append_assoc, ap, sym, ◌∙◌, subst, get_or, ◌+◌, arith}
 use Rattle.std.specs.Option.{option_to_list}
+use Rattle.std.proofs.lemmas.Bool.{false≢true}
 use Rattle.exh_file.specs.declared.file_entry.FileEntry.{FileEntry}
 use Rattle.exh_file.specs.TableImage.{AreRising, prefixes_of}
 use Rattle.exh_file.proofs.Rising.{rising_next, next_precedes, prefixes_split, prefixes_more}
@@ -7,7 +8,7 @@ use Rattle.exh_file.proofs.table_block.are_rising.Goals as goal
 
 pub returns-then-not-may_precede : goal.returns-then-not-may_precede
 returns-then-not-may_precede c = (
-  λ no. absurd cc,
+  λ no. absurd (false≢true no),
   λ rising.
       let items = c.args.entries.now in
       let i = c.loop-item.item-index in
@@ -19,8 +20,7 @@ returns-then-not-may_precede c = (
       ap (λ (prefixes : List (List Bool)). option_to_list c.args.before ++ prefixes) (prefixes_split items i item (omega arith) ∙ ap (λ (prefix : List Bool). prefixes_of (take i items) ++ prefix ∷ rest) here)
       ∙ sym (append_assoc (option_to_list c.args.before) (prefixes_of (take i items)) (item.prefix ∷ rest)) in
       let precedes = c.may_precede.ensures.1 (next_precedes front c.loop-item.last item.prefix rest c.loop-item.invariant.last (subst AreRising split rising)) in
-      let no = c.if-not-may_precede.true in
-      absurd cc,
+      absurd (false≢true (sym c.if-not-may_precede.true ∙ precedes)),
 )
 
 pub loop-item-preserved : goal.loop-item-preserved

@@ -1,5 +1,6 @@
 use Rattle.std.proofs.Common.{◌≡◌, ◌≢◌, ◌++◌, ℕ, List, length, sym, ◌∙◌, subst}
 use Rattle.std.specs.Option.{option_to_list}
+use Rattle.std.proofs.lemmas.Bool.{false≢true}
 use Rattle.exh_prefix.specs.declared.version.Version.{Version as KnownVersion}
 use Rattle.exh_prefix.specs.Layout.{layout}
 use Rattle.exh_prefix.specs.LayoutLemmas.{layout_fits}
@@ -18,11 +19,11 @@ says_of version count entries block image len =
 
 pub returns-then-not-is_sealed-clause-every : goal.returns-then-not-is_sealed-clause-every
 returns-then-not-is_sealed-clause-every c entries image len rising =
-    let yes = c.is_sealed.ensures.1 (says_of c.args.version c.args.count entries c.args.block.now image len).is_sealed in let no = c.if-not-is_sealed.true in absurd cc
+    absurd (false≢true (sym c.if-not-is_sealed.true ∙ c.is_sealed.ensures.1 (says_of c.args.version c.args.count entries c.args.block.now image len).is_sealed))
 
 pub returns-then-not-is_sealed-clause-fault : goal.returns-then-not-is_sealed-clause-fault
 returns-then-not-is_sealed-clause-fault c _ =
-    first_digest (layout c.args.version) (layout_fits c.args.version) c.args.count c.args.before c.args.block.now (λ is_sealed. let yes = c.is_sealed.ensures.1 is_sealed in let no = c.if-not-is_sealed.true in absurd cc)
+    first_digest (layout c.args.version) (layout_fits c.args.version) c.args.count c.args.before c.args.block.now (λ is_sealed. absurd (false≢true (sym c.if-not-is_sealed.true ∙ c.is_sealed.ensures.1 is_sealed)))
 
 pub returns-in_err-entries-clause-every : goal.returns-in_err-entries-clause-every
 returns-in_err-entries-clause-every c entries image len rising =
@@ -38,30 +39,26 @@ returns-in_err-entries-clause-fault c =
 
 pub returns-then-not-are_zero-clause-every : goal.returns-then-not-are_zero-clause-every
 returns-then-not-are_zero-clause-every c entries image len rising =
-    let yes = c.are_zero.ensures.1 (says_of c.args.version c.args.count entries c.args.block.now image len).behind in let no = c.if-not-are_zero.true in absurd cc
+    absurd (false≢true (sym c.if-not-are_zero.true ∙ c.are_zero.ensures.1 (says_of c.args.version c.args.count entries c.args.block.now image len).behind))
 
 pub returns-then-not-are_zero-clause-fault : goal.returns-then-not-are_zero-clause-fault
 returns-then-not-are_zero-clause-fault c _ =
     first_behind (layout c.args.version) (layout_fits c.args.version) c.args.count c.args.before c.args.block.now c.in_ok-entries.entries.items _ (c.is_sealed.ensures.0 c.if-not-is_sealed.false) c.in_ok-entries.ensures.entries
-    (λ zero. let yes = c.are_zero.ensures.1 zero in let no = c.if-not-are_zero.true in absurd cc)
+    (λ zero. absurd (false≢true (sym c.if-not-are_zero.true ∙ c.are_zero.ensures.1 zero)))
 
 pub returns-then-not-are_rising-clause-every : goal.returns-then-not-are_rising-clause-every
 returns-then-not-are_rising-clause-every c entries image len rising =
     let same : entries ≡ c.deref.result.now =
     one_list (layout c.args.version) (layout_fits c.args.version) c.args.count c.args.block.now entries c.in_ok-entries.entries.items _ _ (says_of c.args.version c.args.count entries c.args.block.now image len).are c.in_ok-entries.ensures.entries
     ∙ sym c.deref.ensures.value in
-    let yes = c.are_rising.ensures.1 (subst (λ (entries : List FileEntry). AreRising (option_to_list c.args.before ++ prefixes_of entries)) same rising) in
-    let no = c.if-not-are_rising.true in
-    absurd cc
+    absurd (false≢true (sym c.if-not-are_rising.true ∙ c.are_rising.ensures.1 (subst (λ (entries : List FileEntry). AreRising (option_to_list c.args.before ++ prefixes_of entries)) same rising)))
 
 pub returns-then-not-are_rising-clause-fault : goal.returns-then-not-are_rising-clause-fault
 returns-then-not-are_rising-clause-fault c _ =
     first_order (layout c.args.version) (layout_fits c.args.version) c.args.count c.args.before c.args.block.now c.in_ok-entries.entries.items _ (c.is_sealed.ensures.0 c.if-not-is_sealed.false) c.in_ok-entries.ensures.entries
     (c.are_zero.ensures.0 c.if-not-are_zero.false)
     (λ rising.
-    let yes = c.are_rising.ensures.1 (subst (λ (entries : List FileEntry). AreRising (option_to_list c.args.before ++ prefixes_of entries)) (sym c.deref.ensures.value) rising) in
-    let no = c.if-not-are_rising.true in
-    absurd cc)
+    absurd (false≢true (sym c.if-not-are_rising.true ∙ c.are_rising.ensures.1 (subst (λ (entries : List FileEntry). AreRising (option_to_list c.args.before ++ prefixes_of entries)) (sym c.deref.ensures.value) rising))))
 
 pub returns-clause-image : goal.returns-clause-image
 returns-clause-image c =
@@ -71,3 +68,6 @@ returns-clause-image c =
 pub returns-clause-every : goal.returns-clause-every
 returns-clause-every c entries image len rising =
     one_list (layout c.args.version) (layout_fits c.args.version) c.args.count c.args.block.now c.in_ok-entries.entries.items entries _ _ c.in_ok-entries.ensures.entries (says_of c.args.version c.args.count entries c.args.block.now image len).are
+
+pub returns-clause-rising : goal.returns-clause-rising
+returns-clause-rising c = subst (λ (entries : List FileEntry). AreRising (option_to_list c.args.before ++ prefixes_of entries)) c.deref.ensures.value (c.are_rising.ensures.0 c.if-not-are_rising.false)

@@ -1,4 +1,4 @@
-use Rattle.std.proofs.Common.{◌≡◌, ◌+◌, ◌-◌, ◌*◌, ◌++◌, ◌∷◌, [], List, length, take, drop, ap, sym, ◌∙◌, subst, arith}
+use Rattle.std.proofs.Common.{◌≡◌, ◌≤◌, ℕ, ◌+◌, ◌-◌, ◌*◌, ◌++◌, ◌∷◌, [], List, length, take, drop, ap, sym, ◌∙◌, subst, arith}
 use Rattle.std.proofs.lemmas.List.{take_all, length-drop}
 use Rattle.exh_prefix.specs.Layout.{layout}
 use Rattle.exh_prefix.specs.LayoutLemmas.{layout_fits}
@@ -7,6 +7,9 @@ use Rattle.exh_file.specs.declared.file_entry.FileEntry.{FileEntry}
 use Rattle.exh_file.specs.TableImage.{AreEntries}
 use Rattle.exh_file.proofs.TableBytes.{next_entry}
 use Rattle.exh_file.proofs.table_block.entries_of.Goals as goal
+
+at_end : (i count : ℕ) → i ≤ count → count ≤ i → i ≡ count
+at_end i count within over = omega (arith, within, over)
 
 pub loop-i-preserved : goal.loop-i-preserved
 loop-i-preserved c =
@@ -37,3 +40,8 @@ returns-in-Err-clause-fault c _ =
       fails = subst (FailsFirst (layout c.args.version) c.in-Err.fault) front c.in-Err.ensures.err;
       named = sym c.entry_fault.ensures;
     }
+
+pub returns-clause-entries : goal.returns-clause-entries
+returns-clause-entries c =
+    subst (λ (n : ℕ). AreEntries (layout c.args.version) n c.args.bytes.now c.loop-i.entries.items (drop (16 * n) c.args.bytes.now))
+    (at_end c.loop-i.i c.args.count c.loop-i.auto.i-end c.loop-i-test.false) c.loop-i.invariant

@@ -1,4 +1,4 @@
-use Rattle.std.proofs.Common.{◌≡◌, false, true}
+use Rattle.std.proofs.lemmas.Bool.{false≢true}
 use Rattle.exh_stream.specs.OutputLemmas.{OnErr-from}
 use Rattle.exh_stream.specs.Source.{reader_failed, unread}
 use Rattle.exh_load.proofs.Loads.{cut_err, finished_err, finished_front, finished_ok, finished_printed}
@@ -12,7 +12,7 @@ returns-clause-ok g c =
 pub returns-clause-err : goal.returns-clause-err
 returns-clause-err g c =
     finished_err g.W.Write.contents (IsLoadOf (load_of (beginning c.args.from) c.args.limit) (unread g.R.Read.remaining c.args.source.now)) c.args.output.now c.load_source-loaded.new.output c.finish.new.self c.requires.empty c.in_ok-finish.ensures.ok c.load_source-loaded.result c.load_source-loaded.ensures.front
-    (λ is. let never : false ≡ true = (c.in_ok-finish.ensures.closed (c.load_source-loaded.ensures.failed.0 is)).0 in cc)
+    (λ is. false≢true (c.in_ok-finish.ensures.closed (c.load_source-loaded.ensures.failed.0 is)).0)
 
 pub returns-in_err-finish-clause-err : goal.returns-in_err-finish-clause-err
 returns-in_err-finish-clause-err g c =

@@ -4,7 +4,7 @@ use Rattle.exh_stream.specs.OutputLemmas.{OnErr-from, TakesBeginning-none}
 use Rattle.exh_load.specs.Load.{IsBegun, at_end, beginning, load_begun}
 use Rattle.exh_load.specs.Loading.{loading_of}
 use Rattle.exh_load.specs.declared.load_fault.LoadFault.TheVariants.{Memory}
-use Rattle.exh_load.proofs.Exits.{other_fault, same_err, same_front, same_left, same_text}
+use Rattle.exh_load.proofs.Exits.{memory_differs, other_fault, same_err, same_front, same_left, same_text}
 use Rattle.exh_load.proofs.Lines.{IfErr-from}
 use Rattle.exh_load.proofs.Loads.{front_none}
 use Rattle.exh_load.proofs.Pairs.{begun_is}
@@ -26,7 +26,7 @@ pub returns-in_err-loader-clause-front : goal.returns-in_err-loader-clause-front
 returns-in_err-loader-clause-front g c = IfErr-from c.from_residual.result (λ fault _. front_none g.W.Write.contents c.args.output.now _)
 
 pub returns-in_err-loader-clause-failed : goal.returns-in_err-loader-clause-failed
-returns-in_err-loader-clause-failed g c = other_fault c.from_residual.result Memory _ c.from_residual.ensures (λ same. cc) c.requires.open
+returns-in_err-loader-clause-failed g c = other_fault c.from_residual.result Memory _ c.from_residual.ensures memory_differs c.requires.open
 
 pub returns-in-Some-clause-same_writer : goal.returns-in-Some-clause-same_writer
 returns-in-Some-clause-same_writer g c = c.put_pairs.ensures.same_writer

@@ -4,6 +4,7 @@ use Rattle.exh_stream.specs.OutputLemmas.{TakesBeginning-none}
 use Rattle.exh_stream.specs.Source.{reader_failed, unread}
 use Rattle.exh_stream.specs.SourceLemmas.{Consumes-all_given, LosesLonger-had}
 use Rattle.exh_load.specs.Load.{IsLoadOf, TakesFront, beginning, load_of, refused}
+use Rattle.exh_load.proofs.Exits.{not_closed, other_closed, stays_open, too_long_differs}
 use Rattle.exh_load.proofs.Loads.{front_none, load_long, load_read, loads_err, loads_front, loads_ok, printed_read, printed_unread, text_long, text_read}
 use Rattle.exh_load.proofs.Records.{lines_few}
 use Rattle.exh_load.proofs.load_source.load_source.Goals as goal
@@ -58,14 +59,14 @@ returns-clause-front g c = λ _. record { load = refused 41; of_reader = inr ref
 
 pub returns-in-Ok-clause-reader : goal.returns-in-Ok-clause-reader
 returns-in-Ok-clause-reader g c =
-    printed_read (load_of (beginning c.args.from) c.args.limit) (Takes g.W.Write.contents c.args.output.now c.load_text.new.output) _ _ (reader_failed c.read_whole.new.self) (search rules)
+    printed_read (load_of (beginning c.args.from) c.args.limit) (Takes g.W.Write.contents c.args.output.now c.load_text.new.output) _ _ (reader_failed c.read_whole.new.self) (stays_open _ (not_closed _ _ _ c.in-Ok.ensures.failed))
     (text_read (beginning c.args.from) c.args.limit _ c.in-Ok.text.items c.deref.result.now (Consumes-all_given _ _ _ c.in-Ok.ensures.ok c.in-Ok.ensures.end) c.deref.ensures.value (omega (arith, c.in-Ok.text.ok.0, c.in-Ok.ensures.within)))
     c.load_text.result c.load_text.ensures.text
 
 pub returns-in-Err-TooLong-clause-reader : goal.returns-in-Err-TooLong-clause-reader
 returns-in-Err-TooLong-clause-reader g c =
     let lost = c.in-Err-TooLong.ensures.too_long (ap Err c.in-Err-TooLong.field-0-is) in
-    printed_read (load_of (beginning c.args.from) c.args.limit) (Takes g.W.Write.contents c.args.output.now c.refuse.new.output) _ _ (reader_failed c.read_whole.new.self) (search (rules, c.in-Err-TooLong.ensures.failed, c.in-Err-TooLong.field-0-is)) (text_long (beginning c.args.from) c.args.limit _ lost.0 lost.1 (LosesLonger-had _ _ _ lost)) c.refuse.result c.refuse.ensures.text
+    printed_read (load_of (beginning c.args.from) c.args.limit) (Takes g.W.Write.contents c.args.output.now c.refuse.new.output) _ _ (reader_failed c.read_whole.new.self) (stays_open _ (other_closed _ _ _ c.in-Err-TooLong.ensures.failed (too_long_differs _ c.in-Err-TooLong.field-0-is))) (text_long (beginning c.args.from) c.args.limit _ lost.0 lost.1 (LosesLonger-had _ _ _ lost)) c.refuse.result c.refuse.ensures.text
 
 pub returns-in-Err-Read-clause-reader : goal.returns-in-Err-Read-clause-reader
 returns-in-Err-Read-clause-reader g c =

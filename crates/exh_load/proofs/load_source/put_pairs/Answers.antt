@@ -2,7 +2,7 @@ use Rattle.std.proofs.Common.{Some, ap, ◌∙◌}
 use Rattle.std.proofs.lemmas.Result.{IfOk-from_err}
 use Rattle.exh_stream.specs.OutputLemmas.{OnErr-from}
 use Rattle.exh_load.specs.Loading.{loading_in, loading_of}
-use Rattle.exh_load.proofs.Exits.{no_fault, same_fault, stays_open}
+use Rattle.exh_load.proofs.Exits.{no_fault, not_closed, same_fault, stays_open}
 use Rattle.exh_load.proofs.Pairs.{handed_on, lines_begun, lines_front, pairs_begun, pairs_front, pairs_out, records_told}
 use Rattle.exh_load.proofs.load_source.put_pairs.Goals as goal
 
@@ -78,7 +78,7 @@ pub returns-clause-front : goal.returns-clause-front
 returns-clause-front g c = tt
 
 pub returns-clause-failed : goal.returns-clause-failed
-returns-clause-failed g c = no_fault _ _ (λ closed. let never = c.in_ok-print_number.ensures.failed.1 closed in cc)
+returns-clause-failed g c = no_fault _ _ (not_closed _ _ _ c.in_ok-print_number.ensures.failed)
 
 pub print_number-requires : goal.print_number-requires
-print_number-requires g c = stays_open _ (λ closed. let never = c.in_ok-records.ensures.failed.1 closed in cc)
+print_number-requires g c = stays_open _ (not_closed _ _ _ c.in_ok-records.ensures.failed)

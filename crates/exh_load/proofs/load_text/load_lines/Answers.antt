@@ -1,9 +1,11 @@
-use Rattle.std.proofs.Common.{[], ◌∷◌, arith, ◌∙◌, ◌++◌, sym, ap, subst, append_assoc, rules}
+use Rattle.std.proofs.Common.{[], ◌∷◌, arith, ◌∙◌, ◌++◌, sym, ap, subst, append_assoc}
 use Rattle.std.proofs.lemmas.List.{length_push}
 use Rattle.exh_stream.specs.Output.{Takes}
 use Rattle.exh_stream.specs.OutputLemmas.{OnErr-from}
 use Rattle.std.proofs.lemmas.Result.{IfOk-from_err}
 use Rattle.exh_load.specs.Loading.{line_text, loading_of, load_text_from}
+use Rattle.std.proofs.lemmas.Bool.{false≢true}
+use Rattle.exh_load.proofs.Exits.{stays_open}
 use Rattle.exh_load.proofs.Lines.{IfErr-from, LeadTo-more, line_is, line_out, line_stopped, stopped, text_lines, text_of_left, text_of_more, text_of_next}
 use Rattle.exh_load.proofs.load_text.load_lines.Goals as goal
 
@@ -24,7 +26,7 @@ lines-preserved g c =
     let is = line_is now line c.clear.new.self.items c.push_line.new.out.items c.deref.result.now c.clear.ensures.items c.in_ok-more.ensures.text c.deref.ensures.value in
     record {
       same_writer = c.in_ok-push.ensures.same_writer ∙ i.same_writer;
-      open_still = search rules;
+      open_still = stays_open _ (λ closed. false≢true (c.in_ok-push.ensures.failed.1 closed));
       loading = c.in_ok-more.ensures.loading;
       answered = i.answered ++ line ∷ [];
       split = i.split ∙ ap (λ l. i.answered ++ l) c.in-Some.ensures.steps ∙ sym (append_assoc i.answered (line ∷ []) c.next.new.self);

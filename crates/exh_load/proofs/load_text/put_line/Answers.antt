@@ -3,6 +3,7 @@ use Rattle.std.proofs.lemmas.Result.{IfOk-from_err}
 use Rattle.exh_stream.specs.Output.{Takes, TakesBeginning}
 use Rattle.exh_stream.specs.OutputLemmas.{OnErr-from, TakesBeginning-none}
 use Rattle.exh_load.specs.Loading.{loading_of}
+use Rattle.std.proofs.lemmas.Bool.{false≢true}
 use Rattle.exh_load.proofs.Exits.{no_fault, only_writer, other_fault, writer_fault}
 use Rattle.exh_load.proofs.Lines.{IfErr-from, line_is}
 use Rattle.exh_load.proofs.load_text.put_line.Goals as goal
@@ -90,4 +91,4 @@ pub returns-clause-front : goal.returns-clause-front
 returns-clause-front g c = tt
 
 pub returns-clause-failed : goal.returns-clause-failed
-returns-clause-failed g c = no_fault _ _ (λ closed. let never = c.in_ok-push.ensures.failed.1 closed in cc)
+returns-clause-failed g c = no_fault _ _ (λ closed. false≢true (c.in_ok-push.ensures.failed.1 closed))

@@ -1,4 +1,4 @@
-use Rattle.std.proofs.Common.{◌≡◌, false, true}
+use Rattle.std.proofs.lemmas.Bool.{false≢true}
 use Rattle.exh_stream.specs.OutputLemmas.{OnErr-from}
 use Rattle.exh_load.specs.LineSource.{text_left}
 use Rattle.exh_load.specs.Load.{beginning}
@@ -18,7 +18,7 @@ returns-clause-err g c =
     let Is = IsLongLoad (beginning c.args.from) (text_left g.R.Read.remaining c.args.lines.now) in
     let took = takes_front g.W.Write.contents Is c.args.output.now c.load_lines_of-loaded.new.output c.load_lines_of-loaded.result c.load_lines_of-loaded.ensures.loads in
     finished_err g.W.Write.contents Is c.args.output.now c.load_lines_of-loaded.new.output c.finish.new.self c.requires.empty c.in_ok-finish.ensures.ok c.load_lines_of-loaded.result took
-    (λ is. let never : false ≡ true = (c.in_ok-finish.ensures.closed (c.load_lines_of-loaded.ensures.failed.0 is)).0 in cc)
+    (λ is. false≢true (c.in_ok-finish.ensures.closed (c.load_lines_of-loaded.ensures.failed.0 is)).0)
 
 pub returns-in_err-finish-clause-err : goal.returns-in_err-finish-clause-err
 returns-in_err-finish-clause-err g c =

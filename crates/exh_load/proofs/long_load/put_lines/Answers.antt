@@ -1,8 +1,9 @@
-use Rattle.std.proofs.Common.{◌≡◌, ℕ, List, false, true, [], ◌∷◌, ◌++◌, refl, sym, subst, arith, rules, ◌∙◌}
+use Rattle.std.proofs.Common.{◌≡◌, ℕ, List, false, true, [], ◌∷◌, ◌++◌, refl, sym, subst, arith, ◌∙◌}
 use Rattle.exh_stream.specs.OutputLemmas.{Takes-none}
 use Rattle.std.proofs.lemmas.Result.{IfOk-from_err}
 use Rattle.exh_load.specs.LineSource.{GoesOn, Passes}
 use Rattle.exh_load.specs.Loading.{loading_of}
+use Rattle.exh_load.proofs.Exits.{not_closed, stays_open}
 use Rattle.exh_load.proofs.Lines.{LeadTo-more, LeadTo-none}
 use Rattle.exh_load.proofs.LongLoads.{all_put, more_passed, more_taken, some_endless, some_read, stopped_on}
 use Rattle.exh_load.proofs.TextLines.{passes_none}
@@ -61,7 +62,7 @@ turns-preserved g c =
       same_reader = c.next_line.ensures.same_reader ∙ i.same_reader;
       same_writer = c.put_line.ensures.same_writer ∙ i.same_writer;
       ends = c.in-Ok-true.ensures.ends;
-      open_still = search rules;
+      open_still = stays_open _ (not_closed _ _ _ c.in_ok-records.ensures.failed);
       loading = c.in_ok-records.ensures.loading;
       put = i.put ++ line ∷ [];
       passed = more_passed R g.W.Write.contents c.args.lines.now c.turns.lines c.next_line.new.self c.args.output.now c.turns.output c.put_line.new.output first now (loading_of c.put_line.new.loader) i.put i.lead i.passed i.taken c.in-Ok-true.ensures.ends line on;

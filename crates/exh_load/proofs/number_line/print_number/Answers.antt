@@ -5,7 +5,8 @@ use Rattle.exh_stream.specs.Output.{Takes, TakesBeginning}
 use Rattle.exh_stream.specs.OutputLemmas.{OnErr-from, TakesBeginning-none}
 use Rattle.exh_load.specs.Load.{number_line}
 use Rattle.exh_load.specs.declared.load_fault.LoadFault.TheVariants.{Memory}
-use Rattle.exh_load.proofs.Exits.{no_fault, only_writer, other_fault, writer_fault}
+use Rattle.std.proofs.lemmas.Bool.{false≢true}
+use Rattle.exh_load.proofs.Exits.{memory_differs, no_fault, only_writer, other_fault, writer_fault}
 use Rattle.exh_load.proofs.Lines.{IfErr-from}
 use Rattle.exh_load.proofs.Loads.{front_none}
 use Rattle.exh_load.proofs.number_line.print_number.Goals as goal
@@ -27,7 +28,7 @@ pub returns-in_err-push_text-clause-front : goal.returns-in_err-push_text-clause
 returns-in_err-push_text-clause-front g c = IfErr-from c.from_residual.result (λ fault _. front_none g.W.Write.contents c.args.output.now _)
 
 pub returns-in_err-push_text-clause-failed : goal.returns-in_err-push_text-clause-failed
-returns-in_err-push_text-clause-failed g c = other_fault c.from_residual.result Memory _ c.from_residual.ensures (λ same. cc) c.requires
+returns-in_err-push_text-clause-failed g c = other_fault c.from_residual.result Memory _ c.from_residual.ensures memory_differs c.requires
 
 pub returns-in_err-push_number-clause-same_writer : goal.returns-in_err-push_number-clause-same_writer
 returns-in_err-push_number-clause-same_writer g c = refl
@@ -42,7 +43,7 @@ pub returns-in_err-push_number-clause-front : goal.returns-in_err-push_number-cl
 returns-in_err-push_number-clause-front g c = IfErr-from c.from_residual-in_err-push_number.result (λ fault _. front_none g.W.Write.contents c.args.output.now _)
 
 pub returns-in_err-push_number-clause-failed : goal.returns-in_err-push_number-clause-failed
-returns-in_err-push_number-clause-failed g c = other_fault c.from_residual-in_err-push_number.result Memory _ c.from_residual-in_err-push_number.ensures (λ same. cc) c.requires
+returns-in_err-push_number-clause-failed g c = other_fault c.from_residual-in_err-push_number.result Memory _ c.from_residual-in_err-push_number.ensures memory_differs c.requires
 
 pub returns-in_err-push_text-2-clause-same_writer : goal.returns-in_err-push_text-2-clause-same_writer
 returns-in_err-push_text-2-clause-same_writer g c = refl
@@ -57,7 +58,7 @@ pub returns-in_err-push_text-2-clause-front : goal.returns-in_err-push_text-2-cl
 returns-in_err-push_text-2-clause-front g c = IfErr-from c.from_residual-in_err-push_text-2.result (λ fault _. front_none g.W.Write.contents c.args.output.now _)
 
 pub returns-in_err-push_text-2-clause-failed : goal.returns-in_err-push_text-2-clause-failed
-returns-in_err-push_text-2-clause-failed g c = other_fault c.from_residual-in_err-push_text-2.result Memory _ c.from_residual-in_err-push_text-2.ensures (λ same. cc) c.requires
+returns-in_err-push_text-2-clause-failed g c = other_fault c.from_residual-in_err-push_text-2.result Memory _ c.from_residual-in_err-push_text-2.ensures memory_differs c.requires
 
 pub returns-in_err-push-clause-same_writer : goal.returns-in_err-push-clause-same_writer
 returns-in_err-push-clause-same_writer g c = c.push.ensures.same_writer
@@ -91,4 +92,4 @@ pub returns-clause-front : goal.returns-clause-front
 returns-clause-front g c = tt
 
 pub returns-clause-failed : goal.returns-clause-failed
-returns-clause-failed g c = no_fault _ _ (λ closed. let never = c.in_ok-push.ensures.failed.1 closed in cc)
+returns-clause-failed g c = no_fault _ _ (λ closed. false≢true (c.in_ok-push.ensures.failed.1 closed))

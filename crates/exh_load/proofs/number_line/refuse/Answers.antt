@@ -3,7 +3,7 @@ use Rattle.std.proofs.lemmas.Result.{IfOk-from_err}
 use Rattle.exh_stream.specs.OutputLemmas.{OnErr-from}
 use Rattle.exh_stream.specs.Output.{Takes, TakesBeginning}
 use Rattle.exh_load.specs.Load.{TakesFront, refused}
-use Rattle.exh_load.proofs.Exits.{no_fault, same_fault}
+use Rattle.exh_load.proofs.Exits.{no_fault, not_closed, same_fault}
 use Rattle.exh_load.proofs.Pairs.{handed_on}
 use Rattle.exh_load.proofs.number_line.refuse.Goals as goal
 
@@ -41,4 +41,4 @@ pub returns-clause-front : goal.returns-clause-front
 returns-clause-front g c = tt
 
 pub returns-clause-failed : goal.returns-clause-failed
-returns-clause-failed g c = no_fault _ _ (λ closed. let never = c.in_ok-print_number.ensures.failed.1 closed in cc)
+returns-clause-failed g c = no_fault _ _ (not_closed _ _ _ c.in_ok-print_number.ensures.failed)

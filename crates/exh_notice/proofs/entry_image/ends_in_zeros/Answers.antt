@@ -1,4 +1,5 @@
-use Rattle.std.proofs.Common.{◌≡◌, ℕ, suc, ◌+◌, ◌-◌, ◌≤◌, List, slice_index, subst, arith}
+use Rattle.std.proofs.Common.{◌≡◌, ℕ, suc, ◌+◌, ◌-◌, ◌≤◌, List, slice_index, refl, subst, arith}
+use Rattle.std.proofs.lemmas.Bool.{false≢true}
 use Rattle.std.specs.List.{AllByRecursion}
 use Rattle.exh_prefix.specs.Layout.{layout}
 use Rattle.exh_notice.specs.Images.{items}
@@ -21,7 +22,7 @@ returns-then-image-i-ne0 c =
     let count = 4 - (layout c.args.version).bytes in
     let from : start ≤ c.loop-i.i = omega (arith, c.bytes-i.ensures.bytes, c.loop-i.auto.i) in
     let place : start + (c.loop-i.i - start) ≡ c.loop-i.i = omega (arith, from) in (
-      λ no. absurd cc,
+      λ no. absurd (false≢true no),
       λ zeros. absurd (c.if-image-i-ne0.true
           (subst (λ (i : ℕ). slice_index c.args.image.now i ≡ 0) place (zeros-at start count (c.loop-i.i - start) c.args.image.now zeros (omega (arith, from, c.loop-i-test.true))))),
     )
@@ -41,4 +42,4 @@ returns c =
     let last : c.loop-i.i ≤ 8 = c.loop-i.auto.i-end (omega (arith, c.bytes-i.ensures.few)) in
     let all : c.loop-i.i - start ≡ 4 - (layout c.args.version).bytes = omega (arith, last, c.loop-i-test.false) in
     let zeros = subst (Zeros start c.args.image.now) all c.loop-i.invariant in
-    (λ yes. zeros, λ _. search)
+    (λ yes. zeros, λ _. refl)

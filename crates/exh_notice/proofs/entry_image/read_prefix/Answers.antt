@@ -1,4 +1,4 @@
-use Rattle.std.proofs.Common.{◌≡◌, ℕ, ◌*◌, ◌%◌, ◌^◌, ◌≤◌, Bool, List, take, slice_index, Option, None, Some, IfOk, IfErr, ◌∙◌, sym, ap, subst, arith}
+use Rattle.std.proofs.Common.{◌≡◌, ℕ, ◌*◌, ◌%◌, ◌^◌, ◌≤◌, ◌<◌, Bool, List, length, take, slice_index, Option, None, Some, IfOk, IfErr, ◌∙◌, refl, sym, ap, subst, arith}
 use Rattle.std.specs.Option.{SomeIff, ok_or}
 use Rattle.std.proofs.lemmas.Grind.{common_steps}
 use Rattle.std.proofs.Math.Nat.{mod-eq_of_lt}
@@ -6,6 +6,7 @@ use Rattle.byteorder.specs.Endian.{big_from}
 use Rattle.byteorder.specs.Numbers.{big_from-lt}
 use Rattle.exh_prefix.specs.Bits.{word_bits}
 use Rattle.exh_prefix.specs.Prefix.{HasPrefix}
+use Rattle.exh_prefix.specs.PrefixLemmas.{length-stored}
 use Rattle.exh_prefix.specs.Version.{Version, four_bytes, field_low}
 use Rattle.exh_prefix.specs.Layout.{layout}
 use Rattle.exh_prefix.specs.LayoutLemmas.{layout_fits, layout_short}
@@ -40,6 +41,11 @@ refused : (o : Option (List Bool)) (fault : NoticeFault) (P : Type 0) (len low :
 refused None fault P len low has new = λ p. new (has p)
 refused (Some prefix) fault P len low has new = tt
 
+of_length : (P : ℕ → Type 0) (o : Option (List Bool)) (fault : NoticeFault) (len low : ℕ) → P len → SomeIff o (HasPrefix len low) (take len (word_bits low))
+    → IfOk (ok_or o fault) (λ prefix. P (length prefix))
+of_length P None fault len low p new = tt
+of_length P (Some prefix) fault len low p new = subst P (sym (ap length new.1 ∙ length-stored len low new.0)) p
+
 pub returns-clause-field : goal.returns-clause-field
 returns-clause-field c =
     let form = layout c.args.version in
@@ -57,3 +63,13 @@ returns-clause-err c =
     let has = λ (stored : HasPrefixField (layout c.args.version) c.args.image.now).
     subst (HasPrefix len) (sym (low_read c)) (omega (arith, stored.1.0, layout_short c.args.version), stored.1.1) in
     rw (c.ok_or.ensures.value) (refused c.new.result _ (HasPrefixField (layout c.args.version) c.args.image.now) len _ has c.new.ensures)
+
+pub returns-clause-shorter : goal.returns-clause-shorter
+returns-clause-shorter c =
+    let short = subst (λ (limit : ℕ). slice_index c.args.image.now 2 < limit) c.limit.ensures.limit c.if-len-limit.false in
+    rw (c.ok_or.ensures.value) (of_length (λ len. len < (layout c.args.version).limit) c.new.result _ _ _ short c.new.ensures)
+
+pub returns-clause-len : goal.returns-clause-len
+returns-clause-len c =
+    let len = slice_index c.args.image.now 2 in
+    rw (c.ok_or.ensures.value) (of_length (λ other. len ≡ other) c.new.result _ len _ refl c.new.ensures)

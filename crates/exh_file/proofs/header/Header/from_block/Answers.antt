@@ -1,4 +1,5 @@
 use Rattle.std.proofs.Common.{Ok, sym, ap, ◌∙◌, subst, arith}
+use Rattle.std.proofs.lemmas.Bool.{false≢true}
 use Rattle.exh_file.specs.FileVersion.{file_version}
 use Rattle.exh_file.specs.FileVersionLemmas.{known_file_fits}
 use Rattle.exh_file.specs.FirstFailing.{IsFirstFailing}
@@ -10,11 +11,11 @@ use Rattle.exh_file.proofs.header.Header.from_block.Goals.{then-block-ne0-via-th
 
 pub returns-then-not-has_magic-clause-every : goal.returns-then-not-has_magic-clause-every
 returns-then-not-has_magic-clause-every c header image =
-    let yes = c.has_magic.ensures.1 (says (file_version c.args.version) (known_file_fits c.args.version) header c.args.block.now image).magic in let no = c.if-not-has_magic.true in absurd cc
+    absurd (false≢true (sym c.if-not-has_magic.true ∙ c.has_magic.ensures.1 (says (file_version c.args.version) (known_file_fits c.args.version) header c.args.block.now image).magic))
 
 pub returns-then-not-has_magic-clause-fault : goal.returns-then-not-has_magic-clause-fault
 returns-then-not-has_magic-clause-fault c =
-    first_magic (file_version c.args.version) c.args.block.now (λ magic. let yes = c.has_magic.ensures.1 magic in let no = c.if-not-has_magic.true in absurd cc)
+    first_magic (file_version c.args.version) c.args.block.now (λ magic. absurd (false≢true (sym c.if-not-has_magic.true ∙ c.has_magic.ensures.1 magic)))
 
 pub returns-then-read_u16-number_of-clause-every : goal.returns-then-read_u16-number_of-clause-every
 returns-then-read_u16-number_of-clause-every c header image =
@@ -27,14 +28,14 @@ returns-then-read_u16-number_of-clause-fault c =
 
 pub returns-then-not-is_sealed-clause-every : goal.returns-then-not-is_sealed-clause-every
 returns-then-not-is_sealed-clause-every c header image =
-    let yes = c.is_sealed.ensures.1 (says (file_version c.args.version) (known_file_fits c.args.version) header c.args.block.now image).is_sealed in let no = c.if-not-is_sealed.true in absurd cc
+    absurd (false≢true (sym c.if-not-is_sealed.true ∙ c.is_sealed.ensures.1 (says (file_version c.args.version) (known_file_fits c.args.version) header c.args.block.now image).is_sealed))
 
 pub returns-then-not-is_sealed-clause-fault : goal.returns-then-not-is_sealed-clause-fault
 returns-then-not-is_sealed-clause-fault c =
     let of_version : IsOfVersion (file_version c.args.version) c.args.block.now = sym (c.read_u16.ensures ∙ number_in 8 4088 2 c.args.block.now (omega arith)) ∙ c.if-read_u16-number_of.false ∙ c.number_of.ensures in
     subst (IsFirstFailing (PassesHeader (file_version c.args.version) c.args.block.now) header_tests) (sym c.at_header.ensures)
     (first_digest (file_version c.args.version) c.args.block.now (c.has_magic.ensures.0 c.if-not-has_magic.false) of_version
-    (λ is_sealed. let yes = c.is_sealed.ensures.1 is_sealed in let no = c.if-not-is_sealed.true in absurd cc))
+    (λ is_sealed. absurd (false≢true (sym c.if-not-is_sealed.true ∙ c.is_sealed.ensures.1 is_sealed))))
 
 pub returns-in_default-clause-every : goal.returns-in_default-clause-every
 returns-in_default-clause-every c header image =
@@ -54,7 +55,7 @@ returns-then-block-ne0-clause-every c header image =
       | then-block-ne0-via-then-block-ne0 w ↦ absurd (w.if-block-ne0.true padded.between.0)
       | then-block-ne0-via-else-block-ne0+then-block-ne0-2 w ↦ absurd (w.if-block-ne0-2.true padded.between.1.0)
       | then-block-ne0-via-else-block-ne0+else-block-ne0-2+then-block-ne0-3 w ↦ absurd (w.if-block-ne0-3.true padded.between.1.1.0)
-      | then-block-ne0-via-else-block-ne0+else-block-ne0-2+else-block-ne0-3+then-not-are_zero w ↦ let yes = w.are_zero.ensures.1 padded.rest in let no = w.if-not-are_zero.true in absurd cc
+      | then-block-ne0-via-else-block-ne0+else-block-ne0-2+else-block-ne0-3+then-not-are_zero w ↦ absurd (false≢true (sym w.if-not-are_zero.true ∙ w.are_zero.ensures.1 padded.rest))
     ]
 
 pub returns-then-block-ne0-clause-fault : goal.returns-then-block-ne0-clause-fault
@@ -64,7 +65,7 @@ returns-then-block-ne0-clause-fault c =
       | then-block-ne0-via-then-block-ne0 w ↦ w.if-block-ne0.true padded.between.0
       | then-block-ne0-via-else-block-ne0+then-block-ne0-2 w ↦ w.if-block-ne0-2.true padded.between.1.0
       | then-block-ne0-via-else-block-ne0+else-block-ne0-2+then-block-ne0-3 w ↦ w.if-block-ne0-3.true padded.between.1.1.0
-      | then-block-ne0-via-else-block-ne0+else-block-ne0-2+else-block-ne0-3+then-not-are_zero w ↦ let yes = w.are_zero.ensures.1 padded.rest in let no = w.if-not-are_zero.true in absurd cc
+      | then-block-ne0-via-else-block-ne0+else-block-ne0-2+else-block-ne0-3+then-not-are_zero w ↦ absurd (false≢true (sym w.if-not-are_zero.true ∙ w.are_zero.ensures.1 padded.rest))
     ] in
     subst (IsFirstFailing (PassesHeader (file_version c.args.version) c.args.block.now) header_tests) (sym c.at_header-then-block-ne0.ensures)
     (first_padding (file_version c.args.version) c.args.block.now (c.has_magic.ensures.0 c.if-not-has_magic.false) of_version (c.is_sealed.ensures.0 c.if-not-is_sealed.false)

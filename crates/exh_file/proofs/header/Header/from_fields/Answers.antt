@@ -1,4 +1,5 @@
 use Rattle.std.proofs.Common.{◌≡◌, length, sym, ◌∙◌, subst, refl, arith}
+use Rattle.std.proofs.lemmas.Bool.{false≢true}
 use Rattle.byteorder.specs.Endian.{big_from}
 use Rattle.exh_file.specs.FileVersion.{file_version}
 use Rattle.exh_file.specs.HeaderImage.{IsHeader}
@@ -28,6 +29,7 @@ returns-else-is_in_range-clause-none c header read valid =
       entries = entries;
       counts = λ ward within. sym (c.read_u32_into.ensures ward (omega (arith, within, sixteen)) ∙ count_read c.args.block.now ward within);
     }) in
-    let yes = c.is_in_range.ensures.1 (subst (IsHeader (file_version c.args.version)) same valid) in
-    let no = c.if-is_in_range.false in
-    absurd cc
+    absurd (false≢true (sym c.if-is_in_range.false ∙ c.is_in_range.ensures.1 (subst (IsHeader (file_version c.args.version)) same valid)))
+
+pub returns-then-is_in_range-clause-in_range : goal.returns-then-is_in_range-clause-in_range
+returns-then-is_in_range-clause-in_range c = c.is_in_range.ensures.0 c.if-is_in_range.true

@@ -1,13 +1,15 @@
 use Rattle.std.proofs.Common.{◌≡◌, ◌∙◌, length, ap, arith, rules}
+use Rattle.std.proofs.lemmas.Bool.{false≢true}
 use Rattle.std.proofs.lemmas.List.{drop-drop}
+use Rattle.exh_stream.proofs.Given.{stays_open}
 use Rattle.exh_stream.proofs.Taken.{AppendsAllBut-write}
 use Rattle.exh_stream.proofs.output.Output.write_block.Goals as goal
 
 pub loop-written-preserved : goal.loop-written-preserved
 loop-written-preserved g c = record {
-  same_writer = search rules;
-  block = search rules;
-  open_still = search rules;
+  same_writer = c.write_from.ensures.same_writer ∙ c.loop-written.invariant.same_writer;
+  block = c.in_ok-written.ensures.block ∙ c.loop-written.invariant.block;
+  open_still = stays_open _ (λ failed. false≢true (c.in_ok-written.ensures.failed.1 failed));
   untouched = λ none.
       let empty : length c.loop-written.self.block.items ≡ 0 = ap length (c.loop-written.invariant.block ∙ none) in
       let never : ⊥ = omega (arith, empty, c.loop-written-test.true, c.len.ensures.value) in
