@@ -1,6 +1,7 @@
 use Rattle.exh_prefix.specs.Layout.{layout}
 use Rattle.exh_codec.proofs.LowBytes.{known_fits}
-use Rattle.std.proofs.Common.{ℕ, ◌+◌, List, slice_range, sym, subst, map}
+use Rattle.std.proofs.Common.{ℕ, ◌+◌, List, slice_range, sym, ◌∙◌, subst, map}
+use Rattle.std.proofs.lemmas.Bool.{false≢true}
 use Rattle.exh_codec.specs.Block.{AreZero}
 use Rattle.exh_codec.specs.Cells.{pair_in}
 use Rattle.exh_codec.specs.declared.cell.Cell.{Cell}
@@ -26,9 +27,9 @@ returns-then-block-ne0 g c =
     let cells = body_cells (layout c.args.version) (known_fits c.args.version) block c.in-Some.head pairs rest c.in-Some.ensures.some said.cells in
     let fails : IsPaddedPage (layout c.args.version) block → ⊥ = λ padded. elim c.then-block-ne0.branch [
       | then-block-ne0-via-then-block-ne0 w ↦ w.if-block-ne0.true padded.fourth
-      | then-block-ne0-via-else-block-ne0+then-not-are_zero w ↦ let zero = w.are_zero.ensures.1 (subst (λ (n : ℕ). AreZero (slice_range block (8 + n) 16)) (sym c.bytes-low_end.ensures.bytes) padded.head) in let not_zero = w.if-not-are_zero.true in absurd cc
+      | then-block-ne0-via-else-block-ne0+then-not-are_zero w ↦ let zero = w.are_zero.ensures.1 (subst (λ (n : ℕ). AreZero (slice_range block (8 + n) 16)) (sym c.bytes-low_end.ensures.bytes) padded.head) in absurd (false≢true (sym w.if-not-are_zero.true ∙ zero))
       | then-block-ne0-via-else-block-ne0+else-not-are_zero+then-not-are_zero-2 w ↦
-          let zero = w.are_zero-else-not-are_zero.ensures.1 (padded.tail pairs rest cells) in let not_zero = w.if-not-are_zero-2.true in absurd cc
+          let zero = w.are_zero-else-not-are_zero.ensures.1 (padded.tail pairs rest cells) in absurd (false≢true (sym w.if-not-are_zero-2.true ∙ zero))
     ] in
     padding_first (layout c.args.version) (known_fits c.args.version) (g.K.Keyer.pseudokey_of c.args.keyer.now) block c.in-Some.head pairs rest c.in-Some.ensures.some said.few said.forward said.cells fails
 

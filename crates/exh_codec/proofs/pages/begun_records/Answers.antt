@@ -1,4 +1,5 @@
-use Rattle.std.proofs.Common.{sym, subst}
+use Rattle.std.proofs.Common.{sym, ◌∙◌, subst}
+use Rattle.std.proofs.lemmas.Bool.{false≢true}
 use Rattle.exh_prefix.specs.Prefix.{Begins}
 use Rattle.exh_codec.specs.Cells.{Pair}
 use Rattle.exh_codec.proofs.Rising.{pair_at}
@@ -9,4 +10,4 @@ returns-then-not-begins-clause-none g c all =
     let P : Pair → Type 0 = λ pair. Begins c.args.prefix (g.K.Keyer.pseudokey_of c.args.keyer.now pair.0) in
     let begun = pair_at P c.args.cells.now c.loop-cell.cell-index _ c.loop-cell-test.true all in
     let yes = c.begins.ensures.1 (subst (Begins c.args.prefix) (sym c.pseudo-pseudokey.ensures) begun) in
-    absurd cc
+    absurd (false≢true (sym c.if-not-begins.true ∙ yes))
