@@ -1,5 +1,5 @@
 -- The world that its struct holds.
-use Rattle.std.proofs.Common.{ℕ}
+use Rattle.std.proofs.Common.{◌≡◌, ◌<◌, ℕ, arith}
 use Rattle.std.specs.Prelude.{slice_set}
 use Rattle.exh_array.specs.Copies.{CopiesState}
 use Rattle.exh_ward.specs.WardState.{WardState}
@@ -17,3 +17,7 @@ with_ward i at left requests = record (world_of i) { wards = slice_set i.wards.i
 -- the world with its copies as a call left them
 abbrev pub with_copies : {P K : Type 0} → Inside P K → CopiesState → WorldState K
 with_copies i copies = record (world_of i) { start = copies.start; copies = copies.copies; sent = copies.sent }
+
+-- a place in a list of which one knows the length
+pub within_len : (at len count : ℕ) → len ≡ count → at < count → at < len
+within_len at len count whole within = omega (arith, whole, within)

@@ -1,5 +1,5 @@
-use Rattle.std.proofs.Common.{sym}
-use Rattle.std.proofs.Common.{Ok}
+use Rattle.std.proofs.Common.{Ok, sym, ◌∙◌}
+use Rattle.std.proofs.lemmas.Bool.{false≢true}
 use Rattle.exh_live.proofs.Rounds.{batch_refused, batch_taken, none_follows_at, one_taken}
 use Rattle.exh_live.proofs.courier.take_next.Goals as goal
 
@@ -15,4 +15,4 @@ loop-notice-preserved g c =
 pub returns-then-not-is_next : goal.returns-then-not-is_next
 returns-then-not-is_next g c =
     batch_taken c.args.number c.args.notices.now c.args.copy.now c.loop-notice.copy c.args.cursor.now c.loop-notice.notice-index c.loop-notice.cursor (Ok tt) c.loop-notice.invariant
-    (none_follows_at c.args.number c.loop-notice.cursor c.args.notices.now c.loop-notice.notice-index c.notice-item.result c.loop-notice-test.true (sym c.notice-item.is) (λ follows. let yes = c.is_next.ensures.1 follows in let none = c.if-not-is_next.true in absurd cc))
+    (none_follows_at c.args.number c.loop-notice.cursor c.args.notices.now c.loop-notice.notice-index c.notice-item.result c.loop-notice-test.true (sym c.notice-item.is) (λ follows. false≢true (sym c.if-not-is_next.true ∙ c.is_next.ensures.1 follows)))

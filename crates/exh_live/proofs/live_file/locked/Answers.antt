@@ -97,3 +97,15 @@ pub returns-clause-entered : goal.returns-clause-entered
 returns-clause-entered g c =
     let all = all_done c.loop-ward.invariant.count c.loop-ward.invariant.len c.in-None.ensures.steps.0 in
     c.loop-ward.invariant.entered ∙ ap units_of_first all
+
+pub returns-in_err-push-clause-answers : goal.returns-in_err-push-clause-answers
+returns-in_err-push-clause-answers g c = IfOk-from_err c.from_residual.result _ c.from_residual.ensures.0
+
+pub returns-in_err-push-clause-entries : goal.returns-in_err-push-clause-entries
+returns-in_err-push-clause-entries g c = IfOk-from_err c.from_residual.result _ c.from_residual.ensures.0
+
+pub returns-in_err-push-clause-stocked : goal.returns-in_err-push-clause-stocked
+returns-in_err-push-clause-stocked g c = IfOk-from_err c.from_residual.result _ c.from_residual.ensures.0
+
+pub returns-in_err-push-clause-entered : goal.returns-in_err-push-clause-entered
+returns-in_err-push-clause-entered g c = IfOk-from_err c.from_residual.result _ c.from_residual.ensures.0

@@ -1,15 +1,20 @@
-use Rattle.std.proofs.Common.{◌≡◌, ℕ, List, [], length, append-nil, Option, Some, None, Result, Ok, Err, IfSome, IfNone, unwrap_or, inl, inr, refl, sym, ap, ap₂, ◌∙◌, subst}
-use Rattle.std.specs.Prelude.{OnErr}
+use Rattle.std.proofs.Common.{◌≡◌, ℕ, ◌+◌, List, [], ◌∷◌, ◌++◌, length, append-nil, Option, Some, None, Result, Ok, Err, IfSome, IfNone, unwrap_or, inl, inr, refl, sym, ap, ap₂, ◌∙◌, subst, Bool, false, arith}
+use Rattle.std.specs.Prelude.{OnErr, OnOk, is_err}
+use Rattle.std.proofs.lemmas.List.{length_push}
 use Rattle.std.proofs.lemmas.Result.{IfOk-from_err}
 use Rattle.exh_calls.specs.Call.{key_of}
 use Rattle.exh_calls.specs.declared.reply.Reply.{Reply}
-use Rattle.exh_copy.specs.Additions.{Held, table_after}
+use Rattle.exh_copy.specs.Additions.{BeginsWith, Held, table_after}
 use Rattle.exh_table.specs.Table.{TableMap}
 use Rattle.exh_table.specs.Walk.{walk_of}
 use Rattle.exh_settle.specs.declared.diary_entry.DiaryEntry.{DiaryEntry}
 use Rattle.exh_walk.specs.declared.ask_fault.AskFault.{AskFault}
 use Rattle.exh_live.specs.LiveFile.{LiveState, SeatState}
+use Rattle.exh_live.specs.Units.{units_of}
 use Rattle.exh_live.specs.Locked.{IsFirstPage, IsLockedWalk}
+use Rattle.std.specs.declared.sync.ledger.Share.{Share}
+use Rattle.exh_live.specs.declared.ledgers.Answers.{Answers}
+use Rattle.exh_live.proofs.live_file.LiveFile.ask.Given.{Over}
 use Rattle.exh_live.proofs.Walks.{of_fault}
 use Rattle.exh_live.proofs.live_file.LiveFile.ask.Goals as goal
 
@@ -25,6 +30,24 @@ seat_with client entries = record { client = client; entries = entries }
 on_err : {T E : Type 0} (result : Result T E) (P : Type 0) → P → OnErr result P
 on_err (Ok value) P has = tt
 on_err (Err fault) P has = has
+
+on_ok : {T E : Type 0} (result : Result T E) (P : Type 0) → OnOk result P → is_err result ≡ false → P
+on_ok (Ok value) P has none = has
+on_ok (Err fault) P has none = cc
+
+begins_with : (looked : Option ℕ) (old new : Held) → IfSome looked (λ page. BeginsWith new.additions old.additions) → IfNone looked (new ≡ old) → BeginsWith new.additions old.additions
+begins_with (Some page) old new holds none = holds
+begins_with None old new holds none = ([], ap (λ (held : Held). held.additions) none ∙ sym (append-nil old.additions))
+
+-- a share that was set aside whole is put to one of none
+put_back : (put rest back : ℕ) → put ≡ rest + back → rest ≡ 0 → put ≡ back
+put_back put rest back is none = omega (arith, is, none)
+
+add_none : (had : ℕ) → had + 0 ≡ had
+add_none had = omega arith
+
+abbrev ShareOf : Over → Type 0
+ShareOf g = Share (Answers g.row.F.Denot)
 
 pub invariant_of-seat : goal.invariant_of-seat
 invariant_of-seat g c = (c.seat.invariant.0, c.seat.invariant.1 ∙ ap length (sym c.reserve.ensures.entries))
@@ -80,3 +103,35 @@ returns-clause-walk g c =
 
 pub returns-clause-err : goal.returns-clause-err
 returns-clause-err g c = tt
+
+pub push_reserved-requires : goal.push_reserved-requires
+push_reserved-requires g c = on_ok c.reserve.result _ c.reserve.ensures.ok (sym c.is_err.ensures.value ∙ c.if-is_err.false)
+
+pub returns-clause-copy : goal.returns-clause-copy
+returns-clause-copy g c = (c.look.ensures.name, begins_with c.look.result c.args.copy.now c.look.new.self c.look.ensures.holds c.look.ensures.none)
+
+pub returns-in_err-reply-clause-copy : goal.returns-in_err-reply-clause-copy
+returns-in_err-reply-clause-copy g c = (c.look.ensures.name, begins_with c.look.result c.args.copy.now c.look.new.self c.look.ensures.holds c.look.ensures.none)
+
+pub returns-clause-ok : goal.returns-clause-ok
+returns-clause-ok g c =
+    ap₂ seat_with (c.push_reserved.ensures.client ∙ c.reserve.ensures.client) (c.push_reserved.ensures.entries ∙ ap (λ entries. entries ++ record { call = c.args.call.now; reply = c.in_ok-reply.reply } ∷ []) c.reserve.ensures.entries)
+    ∙ ap (λ (seat : SeatState). seat_with seat.client (seat.entries ++ record { call = c.args.call.now; reply = c.in_ok-reply.reply } ∷ [])) c.seat.view_is
+
+pub invariant_of-seat-2 : goal.invariant_of-seat-2
+invariant_of-seat-2 g c =
+    let rest = c.replace-answers.ensures.after in (
+      put_back _ _ _ c.merge.ensures.parts (ap (λ (share : ShareOf g). share.parts) rest ∙ c.empty-none.ensures.parts) ∙ c.walk-answers.ensures.part,
+      put_back _ _ _ c.merge.ensures.amount (ap (λ (share : ShareOf g). share.amount) rest ∙ c.empty-none.ensures.amount) ∙ c.walk-answers.ensures.units
+          ∙ ap₂ (λ had more. had + more) (ap (λ (share : ShareOf g). share.amount) (c.replace-answers.ensures.value ∙ c.empty-none.ensures.same) ∙ c.seat.invariant.1 ∙ ap length (sym c.reserve.ensures.entries)) (ap units_of c.in_ok-reply.was)
+          ∙ sym (ap length c.push_reserved.ensures.entries ∙ length_push c.reserve.new.self.entries _),
+    )
+
+pub invariant_of-seat-in_err-reply : goal.invariant_of-seat-in_err-reply
+invariant_of-seat-in_err-reply g c =
+    let rest = c.replace-answers.ensures.after in (
+      put_back _ _ _ c.merge.ensures.parts (ap (λ (share : ShareOf g). share.parts) rest ∙ c.empty-none.ensures.parts) ∙ c.walk-answers.ensures.part,
+      put_back _ _ _ c.merge.ensures.amount (ap (λ (share : ShareOf g). share.amount) rest ∙ c.empty-none.ensures.amount) ∙ c.walk-answers.ensures.units
+          ∙ ap₂ (λ had more. had + more) (ap (λ (share : ShareOf g). share.amount) (c.replace-answers.ensures.value ∙ c.empty-none.ensures.same) ∙ c.seat.invariant.1 ∙ ap length (sym c.reserve.ensures.entries)) (ap units_of c.in_err-reply.was)
+          ∙ add_none (length c.reserve.new.self.entries),
+    )

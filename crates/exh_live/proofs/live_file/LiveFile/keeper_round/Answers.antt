@@ -1,8 +1,20 @@
-use Rattle.std.proofs.Common.{◌≡◌, ℕ, Bool, cond, ap, subst, arith}
+use Rattle.std.proofs.Common.{◌≡◌, ℕ, ◌+◌, ◌≤◌, Bool, cond, ap, subst, arith}
 use Rattle.exh_live.specs.Rounds.{AreKeeperTurns, IsSomeKeeperTurn}
 use Rattle.exh_live.proofs.Rounds.{one_turn_more}
 use Rattle.exh_live.proofs.live_file.LiveFile.keeper_round.Goals.{then-branch, else-branch}
 use Rattle.exh_live.proofs.live_file.LiveFile.keeper_round.Goals as goal
+
+one_counted : (now merges more : ℕ) → now ≡ merges + 1 → more ≡ 1 → now ≡ merges + more
+one_counted now merges more is one = omega (arith, is, one)
+
+none_counted : (now merges more : ℕ) → now ≡ merges → more ≡ 0 → now ≡ merges + more
+none_counted now merges more is none = omega (arith, is, none)
+
+one_more_few : (now merges page : ℕ) → merges ≤ page → now ≡ merges + 1 → now ≤ page + 1
+one_more_few now merges page few is = omega (arith, few, is)
+
+none_more_few : (now merges page : ℕ) → merges ≤ page → now ≡ merges → now ≤ page + 1
+none_more_few now merges page few is = omega (arith, few, is)
 
 pub loop-page-preserved : goal.loop-page-preserved
 loop-page-preserved g c =
@@ -13,14 +25,14 @@ loop-page-preserved g c =
       | then-branch w ↦
           let one = ap {B = ℕ} (λ (b : Bool). cond b 1 0) w.if-branch.true in
           record {
-            turns = one_turn_more g.K.Keyer.pseudokey_of c.loop-page.page c.loop-page.merges c.if-branch.merges merged was.turns turn (omega (arith, w.merges-is, one));
-            few = omega (arith, was.few, w.merges-is);
+            turns = one_turn_more g.K.Keyer.pseudokey_of c.loop-page.page c.loop-page.merges c.if-branch.merges merged was.turns turn (one_counted _ _ _ w.merges-is one);
+            few = one_more_few _ _ _ was.few w.merges-is;
           }
       | else-branch w ↦
           let none = ap {B = ℕ} (λ (b : Bool). cond b 1 0) w.if-branch.false in
           record {
-            turns = one_turn_more g.K.Keyer.pseudokey_of c.loop-page.page c.loop-page.merges c.if-branch.merges merged was.turns turn (omega (arith, w.merges-is, none));
-            few = omega (arith, was.few, w.merges-is);
+            turns = one_turn_more g.K.Keyer.pseudokey_of c.loop-page.page c.loop-page.merges c.if-branch.merges merged was.turns turn (none_counted _ _ _ w.merges-is none);
+            few = none_more_few _ _ _ was.few w.merges-is;
           }
     ]
 

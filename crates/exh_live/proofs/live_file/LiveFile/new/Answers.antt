@@ -1,7 +1,14 @@
-use Rattle.std.proofs.Common.{◌≡◌, ◌^◌, vec_len, ap, sym, arith}
+use Rattle.std.proofs.Common.{◌≡◌, ℕ, ◌^◌, ◌<◌, ◌≤◌, vec_len, ap, sym, ◌∙◌, arith}
+use Rattle.exh_settle.specs.declared.diary.TheConstants.{CALLER_LIMIT}
 use Rattle.exh_live.specs.Stock.{units_of_first}
 use Rattle.exh_live.proofs.ToBeTallied.{to_be_tallied, wards_are_few}
 use Rattle.exh_live.proofs.live_file.LiveFile.new.Goals as goal
+
+few_locks : (locks wards : ℕ) → locks ≡ wards → wards < 17 → locks ≤ 16
+few_locks locks wards is few = omega (arith, is, few)
+
+no_seats : 0 ≤ CALLER_LIMIT
+no_seats = omega arith
 
 pub locked-requires-clause-wards : goal.locked-requires-clause-wards
 locked-requires-clause-wards g c =
@@ -10,7 +17,7 @@ locked-requires-clause-wards g c =
 
 pub locked-requires-clause-count : goal.locked-requires-clause-count
 locked-requires-clause-count g c =
-    omega (arith, c.args.wards.ok.0, c.requires.wards.count, wards_are_few c.args.settings.ward_bits c.requires.bits)
+    few_locks _ _ (c.args.wards.ok.0 ∙ c.requires.wards.count) (wards_are_few c.args.settings.ward_bits c.requires.bits)
 
 pub locked-requires-clause-answers : goal.locked-requires-clause-answers
 locked-requires-clause-answers g c =
@@ -24,12 +31,12 @@ pub invariant_of-result : goal.invariant_of-result
 invariant_of-result g c =
     let made = c.in_ok-wards.ensures in
     let few = wards_are_few c.args.settings.ward_bits c.requires.bits in
-    let count : vec_len c.in_ok-wards.wards ≡ 2 ^ c.args.settings.ward_bits = omega (arith, made.count, c.args.wards.ok.0, c.requires.wards.count) in (
+    let count : vec_len c.in_ok-wards.wards ≡ 2 ^ c.args.settings.ward_bits = made.count ∙ c.args.wards.ok.0 ∙ c.requires.wards.count in (
       c.requires.bits,
       count,
       sym c.requires.hashed,
-      omega (arith, count, few),
-      omega arith,
+      few_locks _ _ count few,
+      no_seats,
       omega (arith, made.count, made.answers, c.open-given.ensures.parts),
       omega arith,
       omega arith,

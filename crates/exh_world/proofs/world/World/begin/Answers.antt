@@ -1,4 +1,4 @@
-use Rattle.std.proofs.Common.{◌≡◌, ℕ, ◌-◌, ◌^◌, ◌<◌, length, slice_get, None, Some, inl, inr, refl, sym, ap, ◌∙◌, subst, arith}
+use Rattle.std.proofs.Common.{◌≡◌, ℕ, ◌-◌, ◌^◌, ◌<◌, ◌≤◌, length, slice_get, None, Some, inl, inr, refl, sym, ap, ◌∙◌, subst, arith}
 use Rattle.std.specs.Prelude.{is_some, IsSome}
 use Rattle.std.specs.Option.{option_copied}
 use Rattle.exh_table.specs.Walk.{walk_of}
@@ -13,7 +13,7 @@ use Rattle.exh_world.specs.Step.{HasBegun, IsRefused, ReachesInto, Step}
 use Rattle.exh_world.specs.World.{WorldState, changes_in, numbered}
 use Rattle.exh_event.specs.declared.event.Event.TheVariants.{Begin}
 use Rattle.exh_world.proofs.BeginSteps.{none_there, some_there, with_requests, at_within, found_at, noticed_within, had_few, changes_are, no_page_missing, same_ward, begun, begun_kept}
-use Rattle.exh_world.proofs.InsideWorld.{with_ward, world_of}
+use Rattle.exh_world.proofs.InsideWorld.{with_ward, within_len, world_of}
 use Rattle.exh_world.proofs.WardChanges as changed
 use Rattle.exh_world.proofs.WardChanges.{same_kept, leaves_refused, memory_of, of_refusal}
 use Rattle.exh_world.proofs.world.World.begin.Given.{Over}
@@ -78,26 +78,19 @@ returns-in_default-clause-step g c =
 pub index_mut-state-requires : goal.index_mut-state-requires
 index_mut-state-requires g c =
     let i = c.self.inside in
-    omega (arith, i.wards.ok.0, at_within g.K.Keyer.pseudokey_of i c.self.invariant.0 c.pseudo-pseudokey.result c.from.result (c.from.ensures ∙ c.ward_number-ward.ensures))
+    within_len _ _ _ i.wards.ok.0 (at_within g.K.Keyer.pseudokey_of i c.self.invariant.0 c.pseudo-pseudokey.result c.from.result (c.from.ensures ∙ c.ward_number-ward.ensures))
 
 pub index-requires : goal.index-requires
 index-requires g c =
     let i = c.self.inside in
-    omega (
-      arith,
-      i.noticed.ok.0,
-      noticed_within g.K.Keyer.pseudokey_of i c.self.invariant.0 c.pseudo-pseudokey.result c.from.result (c.from.ensures ∙ c.ward_number-ward.ensures) _ c.index_mut-state.ensures.value c.from-2.result (c.from-2.ensures ∙ sym c.from.ensures),
-    )
+    within_len _ _ _ i.noticed.ok.0
+    (noticed_within g.K.Keyer.pseudokey_of i c.self.invariant.0 c.pseudo-pseudokey.result c.from.result (c.from.ensures ∙ c.ward_number-ward.ensures) _ c.index_mut-state.ensures.value c.from-2.result (c.from-2.ensures ∙ sym c.from.ensures))
 
 pub changes_since-changes-requires : goal.changes_since-changes-requires
 changes_since-changes-requires g c =
-    let same = ap (λ (w : WardState g.row.K.Denot). length w.notices) c.in_ok-distance.ensures.ok in
-    omega (
-      arith,
-      same,
-      had_few g.K.Keyer.pseudokey_of c.self.inside c.self.invariant.0 c.pseudo-pseudokey.result c.from.result (c.from.ensures ∙ c.ward_number-ward.ensures) _ c.index_mut-state.ensures.value c.from-2.result (c.from-2.ensures ∙ sym c.from.ensures)
-          c.index.result.now c.index.ensures,
-    )
+    subst (λ (w : WardState g.row.K.Denot). c.index.result.now ≤ length w.notices) (sym c.in_ok-distance.ensures.ok)
+    (had_few g.K.Keyer.pseudokey_of c.self.inside c.self.invariant.0 c.pseudo-pseudokey.result c.from.result (c.from.ensures ∙ c.ward_number-ward.ensures) _ c.index_mut-state.ensures.value c.from-2.result (c.from-2.ensures ∙ sym c.from.ensures)
+    c.index.result.now c.index.ensures)
 
 pub invariant_of-self : goal.invariant_of-self
 invariant_of-self g c =

@@ -1,4 +1,4 @@
-use Rattle.std.proofs.Common.{◌≡◌, ◌^◌, ◌<◌, inr, sym, ap, ◌∙◌, subst, arith, rules, None, inl, refl}
+use Rattle.std.proofs.Common.{◌≡◌, ℕ, ◌^◌, ◌<◌, ◌≤◌, inr, sym, ap, ◌∙◌, subst, arith, rules, None, inl, refl}
 use Rattle.std.specs.Option.{option_copied}
 use Rattle.exh_ward.specs.declared.hop.Hop.{Hop}
 use Rattle.exh_world.specs.Sound.{IsSoundWorld}
@@ -6,19 +6,22 @@ use Rattle.exh_world.specs.Step.{HasHopped, IsRefused, ReachesInto, Step}
 use Rattle.exh_world.specs.InFlight.{request_named}
 use Rattle.exh_world.specs.World.{WorldState}
 use Rattle.exh_event.specs.declared.event.Event.TheVariants.{Hop as HopOn}
-use Rattle.exh_world.proofs.HopSteps.{ward_within, at_within, reaches, hashed, covered, had_few, changed_since, bound_told, bound_small, noticed_within, room, hopped, hopped_kept}
+use Rattle.exh_world.proofs.HopSteps.{at_within, reaches, hashed, covered, had_few, changed_since, bound_told, bound_small, noticed_within, room, hopped, hopped_kept}
 use Rattle.exh_event.specs.Progress.{progress_with}
 use Rattle.exh_world.specs.Progress.{progress_of}
-use Rattle.exh_world.proofs.InsideWorld.{with_ward, world_of}
+use Rattle.exh_world.proofs.InsideWorld.{with_ward, within_len, world_of}
 use Rattle.exh_world.proofs.world.World.hop.Given.{Over}
 use Rattle.exh_world.proofs.WardChanges.{after, leaves_refused, memory_of, of_refusal, same_kept}
 use Rattle.exh_world.proofs.world.World.hop.Goals as goal
+
+at_most : (since now counted : ℕ) → now ≡ counted → since ≤ counted → since ≤ now
+at_most since now counted is had = omega (arith, is, had)
 
 pub index_mut-ward-requires : goal.index_mut-ward-requires
 index_mut-ward-requires g c =
     let i = c.self.inside in
     let named = sym c.get.ensures ∙ ap option_copied c.in-Some.is in
-    omega (arith, c.from.ensures, i.wards.ok.0, ward_within g.K.Keyer.pseudokey_of i c.self.invariant.0 c.args.name c.in-Some.request.now named)
+    within_len _ _ _ i.wards.ok.0 (at_within g.K.Keyer.pseudokey_of i c.self.invariant.0 c.args.name c.in-Some.request.now named c.from.result c.from.ensures)
 
 pub hop_hashed-requires-clause-hashed : goal.hop_hashed-requires-clause-hashed
 hop_hashed-requires-clause-hashed g c =
@@ -57,7 +60,7 @@ pub index-requires : goal.index-requires
 index-requires g c =
     let i = c.self.inside in
     let named = sym c.get.ensures ∙ ap option_copied c.in-Some.is in
-    omega (arith, i.noticed.ok.0, noticed_within g.K.Keyer.pseudokey_of i c.self.invariant.0 c.args.name c.in-Some.request.now named c.from.result c.from.ensures _ c.index_mut-ward.ensures.value c.from-2.result c.from-2.ensures)
+    within_len _ _ _ i.noticed.ok.0 (noticed_within g.K.Keyer.pseudokey_of i c.self.invariant.0 c.args.name c.in-Some.request.now named c.from.result c.from.ensures _ c.index_mut-ward.ensures.value c.from-2.result c.from-2.ensures)
 
 pub changes_since-changes-requires : goal.changes_since-changes-requires
 changes_since-changes-requires g c =
@@ -67,11 +70,8 @@ changes_since-changes-requires g c =
 pub overflow_sub-bound : goal.overflow_sub-bound
 overflow_sub-bound g c =
     let named = sym c.get.ensures ∙ ap option_copied c.in-Some.is in
-    omega (
-      arith,
-      c.changes_since-changes.ensures.count,
-      changed_since g.K.Keyer.pseudokey_of c.self.inside c.self.invariant.0 c.args.name c.in-Some.request.now named c.from.result c.from.ensures _ c.index_mut-ward.ensures.value c.from-2.result c.from-2.ensures c.index.result.now c.index.ensures,
-    )
+    at_most _ _ _ c.changes_since-changes.ensures.count
+    (changed_since g.K.Keyer.pseudokey_of c.self.inside c.self.invariant.0 c.args.name c.in-Some.request.now named c.from.result c.from.ensures _ c.index_mut-ward.ensures.value c.from-2.result c.from-2.ensures c.index.result.now c.index.ensures)
 
 pub note_hop-requires : goal.note_hop-requires
 note_hop-requires g c =

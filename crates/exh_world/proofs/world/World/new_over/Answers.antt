@@ -1,9 +1,14 @@
-use Rattle.std.proofs.Common.{replicate, sym, ap, ◌∙◌, subst, rules}
+use Rattle.std.proofs.Common.{ℕ, ◌≤◌, replicate, arith, sym, ap, ◌∙◌, subst, rules}
+use Rattle.std.proofs.lemmas.Result.{IfOk-from_err}
+use Rattle.exh_prefix.specs.declared.prefix.TheConstants.{LIMIT, WARD_BITS_LIMIT}
 use Rattle.exh_world.specs.Kept.{IsKeptWorld}
 use Rattle.exh_array.specs.Pointers.{HasArrayOf}
 use Rattle.exh_array.specs.Copies.{CopiesState}
 use Rattle.exh_world.proofs.FreshWorld.{made_is, none_noticed, AreSoundWards, new_kept}
 use Rattle.exh_world.proofs.world.World.new_over.Goals as goal
+
+small_enough : (ward_bits : ℕ) → ward_bits ≤ WARD_BITS_LIMIT → ward_bits ≤ LIMIT
+small_enough ward_bits few = omega (arith, few)
 
 pub returns-clause-world : goal.returns-clause-world
 returns-clause-world g c =
@@ -26,3 +31,24 @@ returns-clause-sound g c = (invariant_of-result g c).0.sound
 
 pub new-requires-2 : goal.new-requires-2
 new-requires-2 g c = subst (λ n. HasArrayOf n c.in_ok-start.start) (sym c.in_ok-start.ensures.array.bits) c.in_ok-start.ensures.array
+
+pub returns-in_err-start-clause-world : goal.returns-in_err-start-clause-world
+returns-in_err-start-clause-world g c = IfOk-from_err c.from_residual-in_err-start.result _ c.from_residual-in_err-start.ensures.0
+
+pub returns-in_err-start-clause-sound : goal.returns-in_err-start-clause-sound
+returns-in_err-start-clause-sound g c = IfOk-from_err c.from_residual-in_err-start.result _ c.from_residual-in_err-start.ensures.0
+
+pub returns-in_err-copies-clause-world : goal.returns-in_err-copies-clause-world
+returns-in_err-copies-clause-world g c = IfOk-from_err c.from_residual-in_err-copies.result _ c.from_residual-in_err-copies.ensures.0
+
+pub returns-in_err-copies-clause-sound : goal.returns-in_err-copies-clause-sound
+returns-in_err-copies-clause-sound g c = IfOk-from_err c.from_residual-in_err-copies.result _ c.from_residual-in_err-copies.ensures.0
+
+pub returns-in_err-in_flight-clause-world : goal.returns-in_err-in_flight-clause-world
+returns-in_err-in_flight-clause-world g c = IfOk-from_err c.from_residual-in_err-in_flight.result _ c.from_residual-in_err-in_flight.ensures.0
+
+pub returns-in_err-in_flight-clause-sound : goal.returns-in_err-in_flight-clause-sound
+returns-in_err-in_flight-clause-sound g c = IfOk-from_err c.from_residual-in_err-in_flight.result _ c.from_residual-in_err-in_flight.ensures.0
+
+pub new-requires : goal.new-requires
+new-requires g c = small_enough _ c.requires.bits
