@@ -1,5 +1,6 @@
 -- The words after a command about a key: a path, and the key behind it.
 use Rattle.std.proofs.Common.{◌≡◌, ℕ, Bool, true, false, List, [], ◌∷◌, Option, Some, None, refl, sym, ap, ap₂, subst, codes, cond, slice_index_or, is_some}
+use Rattle.std.proofs.lemmas.Option.{none-some}
 use Rattle.std.specs.Prelude.{not, ◌&&◌, fold, option_map}
 use Rattle.clap.specs.Words.{Kinds, Row, Rule, Shape, Text, first_of}
 use Rattle.clap.specs.Kinds.{or_else}
@@ -114,13 +115,13 @@ module _ (path : Text) where
     alone_met word found true e named =
         let plain : HasWords (path, key) (rows_from (word ∷ []) (behind_key path key)) = subst (λ w. HasWords (path, key) (rows_from (w ∷ []) (behind_key path key))) (is_end word e) (record { path = refl; key = refl }) in
         subst (λ found. HasWords (path, found) (rows_from (word ∷ []) (behind_key path key))) (some_is named) plain
-    alone_met word found false e named = cc
+    alone_met word found false e named = absurd (none-some found named)
 
     rest_met : (rest : List Text) (found : Text) → alone key rest ≡ Some found → HasWords (path, found) (rows_from rest (behind_key path key))
     unfolding clap_on_literals
     rest_met [] found named = subst (λ found. HasWords (path, found) (rows_from [] (behind_key path key))) (some_is named) (record { path = refl; key = refl })
     rest_met (word ∷ []) found named = alone_met word found (ends_options word) refl named
-    rest_met (word ∷ next ∷ rest) found named = cc
+    rest_met (word ∷ next ∷ rest) found named = absurd (none-some found named)
 
   -- `--`, and the key
   end_agrees : (rest : List Text) → Agrees (only_word rest) (kinds_from (codes "--" ∷ rest) [] (behind_path path))
@@ -131,9 +132,9 @@ module _ (path : Text) where
 
   end_met : (rest : List Text) (found : Text) → only_word rest ≡ Some found → HasWords (path, found) (rows_from (codes "--" ∷ rest) (behind_path path))
   unfolding clap_on_literals
-  end_met [] found named = cc
+  end_met [] found named = absurd (none-some found named)
   end_met (key ∷ []) found named = subst (λ found. HasWords (path, found) (rows_from (codes "--" ∷ key ∷ []) (behind_path path))) (some_is named) (record { path = refl; key = refl })
-  end_met (key ∷ next ∷ rest) found named = cc
+  end_met (key ∷ next ∷ rest) found named = absurd (none-some found named)
 
   second_agrees : (word : Text) (rest : List Text) (ends option : Bool) → ends_options word ≡ ends → is_option word ≡ option
       → Agrees (cond ends (only_word rest) (cond option None (alone word rest))) (kinds_from (word ∷ rest) [] (behind_path path))
@@ -151,11 +152,11 @@ module _ (path : Text) where
   second_met : (word : Text) (rest : List Text) (found : Text) (ends option : Bool) → ends_options word ≡ ends → is_option word ≡ option
       → cond ends (only_word rest) (cond option None (alone word rest)) ≡ Some found → HasWords (path, found) (rows_from (word ∷ rest) (behind_path path))
   second_met word rest found true option e o named = subst (λ w. HasWords (path, found) (rows_from (w ∷ rest) (behind_path path))) (is_end word e) (end_met rest found named)
-  second_met word rest found false true e o named = cc
+  second_met word rest found false true e o named = absurd (none-some found named)
   second_met word rest found false false e o named = subst (λ behind. HasWords (path, found) (rows_from rest behind)) (sym (key_walked word e o)) (rest_met word rest found named)
 
   behind_met : (words : List Text) (found : Text) → path_named words ≡ Some found → HasWords (path, found) (rows_from words (behind_path path))
-  behind_met [] found named = cc
+  behind_met [] found named = absurd (none-some found named)
   behind_met (word ∷ rest) found named = second_met word rest found (ends_options word) (is_option word) refl refl named
 
 -- ---- both words
@@ -169,10 +170,10 @@ two_agree (path ∷ key ∷ next ∷ rest) = tt
 
 two_met : (rest : List Text) (found : Text × Text) → only_two rest ≡ Some found → HasWords found (rows_after key_flags [] (codes "--" ∷ rest))
 unfolding clap_on_literals
-two_met [] found named = cc
-two_met (path ∷ []) found named = cc
+two_met [] found named = absurd (none-some found named)
+two_met (path ∷ []) found named = absurd (none-some found named)
 two_met (path ∷ key ∷ []) found named = subst (λ found. HasWords found (rows_after key_flags [] (codes "--" ∷ path ∷ key ∷ []))) (some_is named) (record { path = refl; key = refl })
-two_met (path ∷ key ∷ next ∷ rest) found named = cc
+two_met (path ∷ key ∷ next ∷ rest) found named = absurd (none-some found named)
 
 first_agrees : (word : Text) (rest : List Text) (ends option : Bool) → ends_options word ≡ ends → is_option word ≡ option
     → Agrees (cond ends (only_two rest) (cond option None (option_map (λ key. (word, key)) (path_named rest)))) (key_kinds (word ∷ rest))
@@ -189,15 +190,15 @@ key_agrees [] = tt
 key_agrees (word ∷ rest) = first_agrees word rest (ends_options word) (is_option word) refl refl
 
 both_met : (word : Text) (rest : List Text) (key : Option Text) (found : Text × Text) → path_named rest ≡ key → option_map (λ key. (word, key)) key ≡ Some found → HasWords found (rows_from rest (behind_path word))
-both_met word rest None found is named = cc
+both_met word rest None found is named = absurd (none-some found named)
 both_met word rest (Some key) found is named = subst (λ found. HasWords found (rows_from rest (behind_path word))) (some_is named) (behind_met word rest key is)
 
 first_met : (word : Text) (rest : List Text) (found : Text × Text) (ends option : Bool) → ends_options word ≡ ends → is_option word ≡ option
     → cond ends (only_two rest) (cond option None (option_map (λ key. (word, key)) (path_named rest))) ≡ Some found → HasWords found (rows_after key_flags [] (word ∷ rest))
 first_met word rest found true option e o named = subst (λ w. HasWords found (rows_after key_flags [] (w ∷ rest))) (is_end word e) (two_met rest found named)
-first_met word rest found false true e o named = cc
+first_met word rest found false true e o named = absurd (none-some found named)
 first_met word rest found false false e o named = subst (λ behind. HasWords found (rows_from rest behind)) (sym (path_walked word e o)) (both_met word rest (path_named rest) found refl named)
 
 pub key_met : (words : List Text) (found : Text × Text) → path_and_key words ≡ Some found → HasWords found (rows_after key_flags [] words)
-key_met [] found named = cc
+key_met [] found named = absurd (none-some found named)
 key_met (word ∷ rest) found named = first_met word rest found (ends_options word) (is_option word) refl refl named

@@ -3,7 +3,7 @@ use Rattle.std.proofs.Common.{◌≡◌, ◌∙◌, ℕ, Bool, true, false, List
 use Rattle.std.specs.Prelude.{◌⊎◌, ◌||◌, ◌&&◌, not, find, fold, map, option_and_then, option_map, slice_get, IsSome}
 use Rattle.std.specs.List.{list_any}
 use Rattle.std.specs.Option.{option_map_or}
-use Rattle.std.proofs.lemmas.Bool.{and_parts}
+use Rattle.std.proofs.lemmas.Bool.{and_parts, false≢true}
 use Rattle.std.specs.Str.{bytes_eq}
 use Rattle.std.proofs.lemmas.Slice.Eq.{bytes_eq-Decides}
 use Rattle.clap.specs.Words.{Kinds, Row, Rule, Shape, Text, first_of}
@@ -480,7 +480,7 @@ module _ (takes : Bool) (command : Text) (rules : List Rule) (names : List Text)
     flag_fails no_end is_flag = rw no_end (go is_flag)
       where
         by_some : (long : Option (Text × Option Text)) → IsSome long → Fails (kinds_by rows_so_far bare (place_of uses) word (option name) long)
-        by_some None some = cc
+        by_some None some = absurd (false≢true some)
         by_some (Some p) some = lost_option rows_so_far bare (place_of uses) word (option name) p bare_lost (is_named names p.0) refl
 
         go : IsFlagged word → Fails (kinds_by rows_so_far bare (place_of uses) word (option name) (long_of word))

@@ -1,5 +1,6 @@
 -- Which words the program's parser takes, and which command and values it then meets.
 use Rattle.std.proofs.Common.{◌≡◌, ◌∙◌, ℕ, Bool, true, false, List, [], ◌∷◌, Option, Some, None, Result, Ok, Err, IfErr, refl, sym, ap, ap₂, subst, codes, cond, slice_index_or, is_some, inl, inr, arith, Global}
+use Rattle.std.proofs.lemmas.Option.{none-some}
 use Rattle.std.specs.Prelude.{not, ◌&&◌, ◌||◌, unwrap_or, ◌⊎◌, ◌≢◌, Box, IsErrAnd, find, fold, option_map, option_and_then, IsSome}
 use Rattle.std.specs.Box.{box_value}
 use Rattle.std.specs.Str.{bytes_eq}
@@ -201,13 +202,13 @@ module _ (path : Text) (no_end : ends_options path ≡ false) (no_option : is_op
   alone_met : (word found : Text) (ends : Bool) → ends_options word ≡ ends → cond ends (Some path) None ≡ Some found → rows_from (word ∷ []) (behind_path path) ≡ Some found
   unfolding clap_on_literals
   alone_met word found true e named = subst (λ w. rows_from (w ∷ []) (behind_path path) ≡ Some path) (is_end word e) refl ∙ named
-  alone_met word found false e named = cc
+  alone_met word found false e named = absurd (none-some found named)
 
   rest_met : (rest : List Text) (found : Text) → alone path rest ≡ Some found → rows_from rest (behind_path path) ≡ Some found
   unfolding clap_on_literals
   rest_met [] found named = named
   rest_met (word ∷ []) found named = alone_met word found (ends_options word) refl named
-  rest_met (word ∷ next ∷ rest) found named = cc
+  rest_met (word ∷ next ∷ rest) found named = absurd (none-some found named)
 
 end_agrees : (rest : List Text) → Agrees (only_word rest) (path_kinds (codes "--" ∷ rest))
 unfolding clap_on_literals
@@ -217,9 +218,9 @@ end_agrees (path ∷ next ∷ rest) = tt
 
 end_met : (rest : List Text) (found : Text) → only_word rest ≡ Some found → path_rows (codes "--" ∷ rest) ≡ Some found
 unfolding clap_on_literals
-end_met [] found named = cc
+end_met [] found named = absurd (none-some found named)
 end_met (path ∷ []) found named = named
-end_met (path ∷ next ∷ rest) found named = cc
+end_met (path ∷ next ∷ rest) found named = absurd (none-some found named)
 
 first_agrees : (word : Text) (rest : List Text) (ends option : Bool) → ends_options word ≡ ends → is_option word ≡ option
     → Agrees (cond ends (only_word rest) (cond option None (alone word rest))) (path_kinds (word ∷ rest))
@@ -237,11 +238,11 @@ path_agrees (word ∷ rest) = first_agrees word rest (ends_options word) (is_opt
 first_met : (word : Text) (rest : List Text) (found : Text) (ends option : Bool) → ends_options word ≡ ends → is_option word ≡ option
     → cond ends (only_word rest) (cond option None (alone word rest)) ≡ Some found → path_rows (word ∷ rest) ≡ Some found
 first_met word rest found true option e o named = subst (λ w. path_rows (w ∷ rest) ≡ Some found) (is_end word e) (end_met rest found named)
-first_met word rest found false true e o named = cc
+first_met word rest found false true e o named = absurd (none-some found named)
 first_met word rest found false false e o named = ap (rows_from rest) (path_walked word e o) ∙ rest_met word e o rest found named
 
 path_met : (words : List Text) (found : Text) → path_named words ≡ Some found → path_rows words ≡ Some found
-path_met [] found named = cc
+path_met [] found named = absurd (none-some found named)
 path_met (word ∷ rest) found named = first_met word rest found (ends_options word) (is_option word) refl refl named
 
 -- ---- the words after the program's name
@@ -441,7 +442,7 @@ pairs_command_met name words = met_at (codes "pairs") words
 
 -- the words behind a command with options ask for no other command
 is_by : (by : List Use → Asked) (command : Text) → ((uses : List Use) → command ≡ command_of (by uses)) → (read : Option (List Use)) (asked : Asked) → option_map by read ≡ Some asked → command ≡ command_of asked
-is_by by command is None asked named = cc
+is_by by command is None asked named = absurd (none-some asked named)
 is_by by command is (Some uses) asked named = is uses ∙ ap command_of (some_is named)
 
 serve_is_met : (name : Text) (rest : List Text) (asked : Asked) → serve_asked rest ≡ Some asked → Meets program (name ∷ codes "serve" ∷ rest) asked
@@ -469,7 +470,7 @@ pairs_is_met name rest asked named = record {
 path_is_met : (name command : Text) (of : Text → Asked) → ((path : Text) → command_of (of path) ≡ command) → ((path : Text) (rows : List Row) → first_of path_id rows ≡ Some path → HasValues (of path) rows)
     → (rest : List Text) → subcommand_of program (name ∷ command ∷ rest) ≡ Some (command, rows_after path_flags [] rest)
     → (found : Option Text) (asked : Asked) → path_named rest ≡ found → option_map of found ≡ Some asked → Meets program (name ∷ command ∷ rest) asked
-path_is_met name command of is values rest met None asked named same = cc
+path_is_met name command of is values rest met None asked named same = absurd (none-some asked same)
 path_is_met name command of is values rest met (Some path) asked named same = subst (Meets program (name ∷ command ∷ rest)) (some_is same) (record {
   rows = rows_after path_flags [] rest;
   met = met ∙ ap (λ command. Some (command, rows_after path_flags [] rest)) (sym (is path));
@@ -478,7 +479,7 @@ path_is_met name command of is values rest met (Some path) asked named same = su
 
 -- and about a key
 get_is_met : (name : Text) (rest : List Text) (found : Option (Text × Text)) (asked : Asked) → path_and_key rest ≡ found → option_map got_by found ≡ Some asked → Meets program (name ∷ codes "get" ∷ rest) asked
-get_is_met name rest None asked named same = cc
+get_is_met name rest None asked named same = absurd (none-some asked same)
 get_is_met name rest (Some words) asked named same = let has = key_met rest words named in subst (Meets program (name ∷ codes "get" ∷ rest)) (some_is same) (record {
   rows = rows_after key_flags [] rest;
   met = get_met name rest;
@@ -486,7 +487,7 @@ get_is_met name rest (Some words) asked named same = let has = key_met rest word
 })
 
 put_is_met : (name : Text) (rest : List Text) (found : Option (Text × Text × Text)) (asked : Asked) → path_and_two rest ≡ found → option_map put_by found ≡ Some asked → Meets program (name ∷ codes "put" ∷ rest) asked
-put_is_met name rest None asked named same = cc
+put_is_met name rest None asked named same = absurd (none-some asked same)
 put_is_met name rest (Some words) asked named same = let has = put_met rest words named in subst (Meets program (name ∷ codes "put" ∷ rest)) (some_is same) (record {
   rows = rows_after put_flags [] rest;
   met = put_command_met name rest;
@@ -494,7 +495,7 @@ put_is_met name rest (Some words) asked named same = let has = put_met rest word
 })
 
 del_is_met : (name : Text) (rest : List Text) (found : Option (Text × Text)) (asked : Asked) → path_and_key rest ≡ found → option_map deleted_by found ≡ Some asked → Meets program (name ∷ codes "del" ∷ rest) asked
-del_is_met name rest None asked named same = cc
+del_is_met name rest None asked named same = absurd (none-some asked same)
 del_is_met name rest (Some words) asked named same = let has = key_met rest words named in subst (Meets program (name ∷ codes "del" ∷ rest)) (some_is same) (record {
   rows = rows_after key_flags [] rest;
   met = del_command_met name rest;
@@ -502,7 +503,7 @@ del_is_met name rest (Some words) asked named same = let has = key_met rest word
 })
 
 swap_is_met : (name : Text) (rest : List Text) (found : Option (Text × Text × Text × Text)) (asked : Asked) → path_and_three rest ≡ found → option_map swapped_by found ≡ Some asked → Meets program (name ∷ codes "swap" ∷ rest) asked
-swap_is_met name rest None asked named same = cc
+swap_is_met name rest None asked named same = absurd (none-some asked same)
 swap_is_met name rest (Some words) asked named same = let has = swap_met rest words named in subst (Meets program (name ∷ codes "swap" ∷ rest)) (some_is same) (record {
   rows = rows_after swap_flags [] rest;
   met = swap_command_met name rest;
@@ -532,11 +533,11 @@ command_met name word rest false false false false false false false false true 
     subst (λ w. Meets program (name ∷ w ∷ rest) asked) (is_name (codes "swap") word w) (swap_is_met name rest (path_and_three rest) asked refl named)
 command_met name word rest false false false false false false false false false true asked s c d l o g p e w i named =
     subst (λ w. Meets program (name ∷ w ∷ rest) asked) (is_name (codes "pairs") word i) (pairs_is_met name rest asked named)
-command_met name word rest false false false false false false false false false false asked s c d l o g p e w i named = cc
+command_met name word rest false false false false false false false false false false asked s c d l o g p e w i named = absurd (none-some asked named)
 
 asked_met : (words : List Text) (asked : Asked) → asked_by words ≡ Some asked → Meets program words asked
-asked_met [] asked named = cc
-asked_met (name ∷ []) asked named = cc
+asked_met [] asked named = absurd (none-some asked named)
+asked_met (name ∷ []) asked named = absurd (none-some asked named)
 asked_met (name ∷ command ∷ rest) asked named =
     command_met name command rest (bytes_eq (codes "serve") command) (bytes_eq (codes "check") command) (bytes_eq (codes "dump") command) (bytes_eq (codes "load") command) (bytes_eq (codes "storm") command) (bytes_eq (codes "get") command) (bytes_eq (codes "put") command) (bytes_eq (codes "del") command) (bytes_eq (codes "swap") command) (bytes_eq (codes "pairs") command) asked refl refl refl refl refl refl refl refl refl refl named
 

@@ -1,5 +1,6 @@
 -- The words after `put`: a path, a key and a value.
 use Rattle.std.proofs.Common.{◌≡◌, ℕ, Bool, true, false, List, [], ◌∷◌, Option, Some, None, refl, sym, ap, ap₂, subst, codes, cond, slice_index_or, is_some}
+use Rattle.std.proofs.lemmas.Option.{none-some}
 use Rattle.std.specs.Prelude.{not, ◌&&◌, fold, option_map}
 use Rattle.clap.specs.Words.{Kinds, Row, Rule, Shape, Text, first_of}
 use Rattle.clap.specs.Kinds.{or_else}
@@ -138,13 +139,13 @@ unfolding clap_on_literals
 alone_met path key value word found true e same =
     let plain : HasPut path key value (rows_from (word ∷ []) (behind_3 path key value)) = subst (λ w. HasPut path key value (rows_from (w ∷ []) (behind_3 path key value))) (is_end word e) (record { path = refl; key = refl; value = refl }) in
     subst (λ found. HasPut path key found (rows_from (word ∷ []) (behind_3 path key value))) (some_is same) plain
-alone_met path key value word found false e same = cc
+alone_met path key value word found false e same = absurd (none-some found same)
 
 rest_met : (path : Text) (key : Text) (value : Text) (rest : List Text) (found : Text) → alone value rest ≡ Some found → HasPut path key found (rows_from rest (behind_3 path key value))
 unfolding clap_on_literals
 rest_met path key value [] found same = subst (λ found. HasPut path key found (rows_from [] (behind_3 path key value))) (some_is same) (record { path = refl; key = refl; value = refl })
 rest_met path key value (word ∷ []) found same = alone_met path key value word found (ends_options word) refl same
-rest_met path key value (word ∷ next ∷ rest) found same = cc
+rest_met path key value (word ∷ next ∷ rest) found same = absurd (none-some found same)
 
 -- ---- behind 2 words
 
@@ -167,9 +168,9 @@ unfolding clap_on_literals
 end_2_value path key value = refl
 
 end_2_met : (path : Text) (key : Text) (rest : List Text) (found : Text) → only_word rest ≡ Some found → HasPut path key found (rows_from (codes "--" ∷ rest) (behind_2 path key))
-end_2_met path key [] found same = cc
+end_2_met path key [] found same = absurd (none-some found same)
 end_2_met path key (value ∷ []) found same = subst (λ (found : Text). HasPut path key found (rows_from (codes "--" ∷ value ∷ []) (behind_2 path key))) (some_is same) (record { path = end_2_path path key value; key = end_2_key path key value; value = end_2_value path key value })
-end_2_met path key (value ∷ next ∷ rest) found same = cc
+end_2_met path key (value ∷ next ∷ rest) found same = absurd (none-some found same)
 
 word_2_agrees : (path : Text) (key : Text) (value : Text) (rest : List Text) (ends option : Bool) → ends_options value ≡ ends → is_option value ≡ option
     → Agrees (cond ends (only_word rest) (cond option None (alone value rest))) (kinds_from (value ∷ rest) [] (behind_2 path key))
@@ -187,11 +188,11 @@ level_2_agrees path key (value ∷ rest) = word_2_agrees path key value rest (en
 word_2_met : (path : Text) (key : Text) (value : Text) (rest : List Text) (found : Text) (ends option : Bool) → ends_options value ≡ ends → is_option value ≡ option
     → cond ends (only_word rest) (cond option None (alone value rest)) ≡ Some found → HasPut path key found (rows_from (value ∷ rest) (behind_2 path key))
 word_2_met path key value rest found true option e o same = subst (λ w. HasPut path key found (rows_from (w ∷ rest) (behind_2 path key))) (is_end value e) (end_2_met path key rest found same)
-word_2_met path key value rest found false true e o same = cc
+word_2_met path key value rest found false true e o same = absurd (none-some found same)
 word_2_met path key value rest found false false e o same = subst (λ behind. HasPut path key found (rows_from rest behind)) (sym (walked_2 path key value e o)) (rest_met path key value rest found same)
 
 level_2_met : (path : Text) (key : Text) (words : List Text) (found : Text) → path_named words ≡ Some found → HasPut path key found (rows_from words (behind_2 path key))
-level_2_met path key [] found same = cc
+level_2_met path key [] found same = absurd (none-some found same)
 level_2_met path key (value ∷ rest) found same = word_2_met path key value rest found (ends_options value) (is_option value) refl refl same
 
 -- ---- behind 1 words
@@ -216,10 +217,10 @@ unfolding clap_on_literals
 end_1_value path key value = refl
 
 end_1_met : (path : Text) (rest : List Text) (found : Text × Text) → only_two rest ≡ Some found → HasPut path found.0 found.1 (rows_from (codes "--" ∷ rest) (behind_1 path))
-end_1_met path [] found same = cc
-end_1_met path (key ∷ []) found same = cc
+end_1_met path [] found same = absurd (none-some found same)
+end_1_met path (key ∷ []) found same = absurd (none-some found same)
 end_1_met path (key ∷ value ∷ []) found same = subst (λ (found : Text × Text). HasPut path found.0 found.1 (rows_from (codes "--" ∷ key ∷ value ∷ []) (behind_1 path))) (some_is same) (record { path = end_1_path path key value; key = end_1_key path key value; value = end_1_value path key value })
-end_1_met path (key ∷ value ∷ next ∷ rest) found same = cc
+end_1_met path (key ∷ value ∷ next ∷ rest) found same = absurd (none-some found same)
 
 word_1_agrees : (path : Text) (key : Text) (rest : List Text) (ends option : Bool) → ends_options key ≡ ends → is_option key ≡ option
     → Agrees (cond ends (only_two rest) (cond option None (option_map (λ others. (key, others)) (path_named rest)))) (kinds_from (key ∷ rest) [] (behind_1 path))
@@ -236,17 +237,17 @@ level_1_agrees path (key ∷ rest) = word_1_agrees path key rest (ends_options k
 
 both_1_met : (path : Text) (key : Text) (rest : List Text) (others : Option (Text)) (found : Text × Text) → path_named rest ≡ others → option_map (λ others. (key, others)) others ≡ Some found
     → HasPut path found.0 found.1 (rows_from rest (behind_2 path key))
-both_1_met path key rest None found is same = cc
+both_1_met path key rest None found is same = absurd (none-some found same)
 both_1_met path key rest (Some others) found is same = subst (λ (found : Text × Text). HasPut path found.0 found.1 (rows_from rest (behind_2 path key))) (some_is same) (level_2_met path key rest others is)
 
 word_1_met : (path : Text) (key : Text) (rest : List Text) (found : Text × Text) (ends option : Bool) → ends_options key ≡ ends → is_option key ≡ option
     → cond ends (only_two rest) (cond option None (option_map (λ others. (key, others)) (path_named rest))) ≡ Some found → HasPut path found.0 found.1 (rows_from (key ∷ rest) (behind_1 path))
 word_1_met path key rest found true option e o same = subst (λ w. HasPut path found.0 found.1 (rows_from (w ∷ rest) (behind_1 path))) (is_end key e) (end_1_met path rest found same)
-word_1_met path key rest found false true e o same = cc
+word_1_met path key rest found false true e o same = absurd (none-some found same)
 word_1_met path key rest found false false e o same = subst (λ behind. HasPut path found.0 found.1 (rows_from rest behind)) (sym (walked_1 path key e o)) (both_1_met path key rest (path_named rest) found refl same)
 
 level_1_met : (path : Text) (words : List Text) (found : Text × Text) → path_and_key words ≡ Some found → HasPut path found.0 found.1 (rows_from words (behind_1 path))
-level_1_met path [] found same = cc
+level_1_met path [] found same = absurd (none-some found same)
 level_1_met path (key ∷ rest) found same = word_1_met path key rest found (ends_options key) (is_option key) refl refl same
 
 -- ---- behind 0 words
@@ -272,11 +273,11 @@ unfolding clap_on_literals
 end_0_value path key value = refl
 
 end_0_met : (rest : List Text) (found : Text × Text × Text) → only_three rest ≡ Some found → HasPut found.0 found.1 found.2 (rows_after put_flags [] (codes "--" ∷ rest))
-end_0_met [] found same = cc
-end_0_met (path ∷ []) found same = cc
-end_0_met (path ∷ key ∷ []) found same = cc
+end_0_met [] found same = absurd (none-some found same)
+end_0_met (path ∷ []) found same = absurd (none-some found same)
+end_0_met (path ∷ key ∷ []) found same = absurd (none-some found same)
 end_0_met (path ∷ key ∷ value ∷ []) found same = subst (λ (found : Text × Text × Text). HasPut found.0 found.1 found.2 (rows_after put_flags [] (codes "--" ∷ path ∷ key ∷ value ∷ []))) (some_is same) (record { path = end_0_path path key value; key = end_0_key path key value; value = end_0_value path key value })
-end_0_met (path ∷ key ∷ value ∷ next ∷ rest) found same = cc
+end_0_met (path ∷ key ∷ value ∷ next ∷ rest) found same = absurd (none-some found same)
 
 word_0_agrees : (path : Text) (rest : List Text) (ends option : Bool) → ends_options path ≡ ends → is_option path ≡ option
     → Agrees (cond ends (only_three rest) (cond option None (option_map (λ others. (path, others.0, others.1)) (path_and_key rest)))) (put_kinds (path ∷ rest))
@@ -293,15 +294,15 @@ put_agrees (path ∷ rest) = word_0_agrees path rest (ends_options path) (is_opt
 
 both_0_met : (path : Text) (rest : List Text) (others : Option (Text × Text)) (found : Text × Text × Text) → path_and_key rest ≡ others → option_map (λ others. (path, others.0, others.1)) others ≡ Some found
     → HasPut found.0 found.1 found.2 (rows_from rest (behind_1 path))
-both_0_met path rest None found is same = cc
+both_0_met path rest None found is same = absurd (none-some found same)
 both_0_met path rest (Some others) found is same = subst (λ (found : Text × Text × Text). HasPut found.0 found.1 found.2 (rows_from rest (behind_1 path))) (some_is same) (level_1_met path rest others is)
 
 word_0_met : (path : Text) (rest : List Text) (found : Text × Text × Text) (ends option : Bool) → ends_options path ≡ ends → is_option path ≡ option
     → cond ends (only_three rest) (cond option None (option_map (λ others. (path, others.0, others.1)) (path_and_key rest))) ≡ Some found → HasPut found.0 found.1 found.2 (rows_after put_flags [] (path ∷ rest))
 word_0_met path rest found true option e o same = subst (λ w. HasPut found.0 found.1 found.2 (rows_after put_flags [] (w ∷ rest))) (is_end path e) (end_0_met rest found same)
-word_0_met path rest found false true e o same = cc
+word_0_met path rest found false true e o same = absurd (none-some found same)
 word_0_met path rest found false false e o same = subst (λ behind. HasPut found.0 found.1 found.2 (rows_from rest behind)) (sym (walked_0 path e o)) (both_0_met path rest (path_and_key rest) found refl same)
 
 pub put_met : (words : List Text) (found : Text × Text × Text) → path_and_two words ≡ Some found → HasPut found.0 found.1 found.2 (rows_after put_flags [] words)
-put_met [] found same = cc
+put_met [] found same = absurd (none-some found same)
 put_met (path ∷ rest) found same = word_0_met path rest found (ends_options path) (is_option path) refl refl same

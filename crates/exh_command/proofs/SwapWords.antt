@@ -1,5 +1,6 @@
 -- The words after `swap`: a path, a key and two values.
 use Rattle.std.proofs.Common.{◌≡◌, ℕ, Bool, true, false, List, [], ◌∷◌, Option, Some, None, refl, sym, ap, ap₂, subst, codes, cond, slice_index_or, is_some}
+use Rattle.std.proofs.lemmas.Option.{none-some}
 use Rattle.std.specs.Prelude.{not, ◌&&◌, fold, option_map}
 use Rattle.clap.specs.Words.{Kinds, Row, Rule, Shape, Text, first_of}
 use Rattle.clap.specs.Kinds.{or_else}
@@ -162,13 +163,13 @@ unfolding clap_on_literals
 alone_met path key old new word found true e same =
     let plain : HasSwap path key old new (rows_from (word ∷ []) (behind_4 path key old new)) = subst (λ w. HasSwap path key old new (rows_from (w ∷ []) (behind_4 path key old new))) (is_end word e) (record { path = refl; key = refl; old = refl; new = refl }) in
     subst (λ found. HasSwap path key old found (rows_from (word ∷ []) (behind_4 path key old new))) (some_is same) plain
-alone_met path key old new word found false e same = cc
+alone_met path key old new word found false e same = absurd (none-some found same)
 
 rest_met : (path : Text) (key : Text) (old : Text) (new : Text) (rest : List Text) (found : Text) → alone new rest ≡ Some found → HasSwap path key old found (rows_from rest (behind_4 path key old new))
 unfolding clap_on_literals
 rest_met path key old new [] found same = subst (λ found. HasSwap path key old found (rows_from [] (behind_4 path key old new))) (some_is same) (record { path = refl; key = refl; old = refl; new = refl })
 rest_met path key old new (word ∷ []) found same = alone_met path key old new word found (ends_options word) refl same
-rest_met path key old new (word ∷ next ∷ rest) found same = cc
+rest_met path key old new (word ∷ next ∷ rest) found same = absurd (none-some found same)
 
 -- ---- behind 3 words
 
@@ -195,9 +196,9 @@ unfolding clap_on_literals
 end_3_new path key old new = refl
 
 end_3_met : (path : Text) (key : Text) (old : Text) (rest : List Text) (found : Text) → only_word rest ≡ Some found → HasSwap path key old found (rows_from (codes "--" ∷ rest) (behind_3 path key old))
-end_3_met path key old [] found same = cc
+end_3_met path key old [] found same = absurd (none-some found same)
 end_3_met path key old (new ∷ []) found same = subst (λ (found : Text). HasSwap path key old found (rows_from (codes "--" ∷ new ∷ []) (behind_3 path key old))) (some_is same) (record { path = end_3_path path key old new; key = end_3_key path key old new; old = end_3_old path key old new; new = end_3_new path key old new })
-end_3_met path key old (new ∷ next ∷ rest) found same = cc
+end_3_met path key old (new ∷ next ∷ rest) found same = absurd (none-some found same)
 
 word_3_agrees : (path : Text) (key : Text) (old : Text) (new : Text) (rest : List Text) (ends option : Bool) → ends_options new ≡ ends → is_option new ≡ option
     → Agrees (cond ends (only_word rest) (cond option None (alone new rest))) (kinds_from (new ∷ rest) [] (behind_3 path key old))
@@ -215,11 +216,11 @@ level_3_agrees path key old (new ∷ rest) = word_3_agrees path key old new rest
 word_3_met : (path : Text) (key : Text) (old : Text) (new : Text) (rest : List Text) (found : Text) (ends option : Bool) → ends_options new ≡ ends → is_option new ≡ option
     → cond ends (only_word rest) (cond option None (alone new rest)) ≡ Some found → HasSwap path key old found (rows_from (new ∷ rest) (behind_3 path key old))
 word_3_met path key old new rest found true option e o same = subst (λ w. HasSwap path key old found (rows_from (w ∷ rest) (behind_3 path key old))) (is_end new e) (end_3_met path key old rest found same)
-word_3_met path key old new rest found false true e o same = cc
+word_3_met path key old new rest found false true e o same = absurd (none-some found same)
 word_3_met path key old new rest found false false e o same = subst (λ behind. HasSwap path key old found (rows_from rest behind)) (sym (walked_3 path key old new e o)) (rest_met path key old new rest found same)
 
 level_3_met : (path : Text) (key : Text) (old : Text) (words : List Text) (found : Text) → path_named words ≡ Some found → HasSwap path key old found (rows_from words (behind_3 path key old))
-level_3_met path key old [] found same = cc
+level_3_met path key old [] found same = absurd (none-some found same)
 level_3_met path key old (new ∷ rest) found same = word_3_met path key old new rest found (ends_options new) (is_option new) refl refl same
 
 -- ---- behind 2 words
@@ -248,10 +249,10 @@ unfolding clap_on_literals
 end_2_new path key old new = refl
 
 end_2_met : (path : Text) (key : Text) (rest : List Text) (found : Text × Text) → only_two rest ≡ Some found → HasSwap path key found.0 found.1 (rows_from (codes "--" ∷ rest) (behind_2 path key))
-end_2_met path key [] found same = cc
-end_2_met path key (old ∷ []) found same = cc
+end_2_met path key [] found same = absurd (none-some found same)
+end_2_met path key (old ∷ []) found same = absurd (none-some found same)
 end_2_met path key (old ∷ new ∷ []) found same = subst (λ (found : Text × Text). HasSwap path key found.0 found.1 (rows_from (codes "--" ∷ old ∷ new ∷ []) (behind_2 path key))) (some_is same) (record { path = end_2_path path key old new; key = end_2_key path key old new; old = end_2_old path key old new; new = end_2_new path key old new })
-end_2_met path key (old ∷ new ∷ next ∷ rest) found same = cc
+end_2_met path key (old ∷ new ∷ next ∷ rest) found same = absurd (none-some found same)
 
 word_2_agrees : (path : Text) (key : Text) (old : Text) (rest : List Text) (ends option : Bool) → ends_options old ≡ ends → is_option old ≡ option
     → Agrees (cond ends (only_two rest) (cond option None (option_map (λ others. (old, others)) (path_named rest)))) (kinds_from (old ∷ rest) [] (behind_2 path key))
@@ -268,17 +269,17 @@ level_2_agrees path key (old ∷ rest) = word_2_agrees path key old rest (ends_o
 
 both_2_met : (path : Text) (key : Text) (old : Text) (rest : List Text) (others : Option (Text)) (found : Text × Text) → path_named rest ≡ others → option_map (λ others. (old, others)) others ≡ Some found
     → HasSwap path key found.0 found.1 (rows_from rest (behind_3 path key old))
-both_2_met path key old rest None found is same = cc
+both_2_met path key old rest None found is same = absurd (none-some found same)
 both_2_met path key old rest (Some others) found is same = subst (λ (found : Text × Text). HasSwap path key found.0 found.1 (rows_from rest (behind_3 path key old))) (some_is same) (level_3_met path key old rest others is)
 
 word_2_met : (path : Text) (key : Text) (old : Text) (rest : List Text) (found : Text × Text) (ends option : Bool) → ends_options old ≡ ends → is_option old ≡ option
     → cond ends (only_two rest) (cond option None (option_map (λ others. (old, others)) (path_named rest))) ≡ Some found → HasSwap path key found.0 found.1 (rows_from (old ∷ rest) (behind_2 path key))
 word_2_met path key old rest found true option e o same = subst (λ w. HasSwap path key found.0 found.1 (rows_from (w ∷ rest) (behind_2 path key))) (is_end old e) (end_2_met path key rest found same)
-word_2_met path key old rest found false true e o same = cc
+word_2_met path key old rest found false true e o same = absurd (none-some found same)
 word_2_met path key old rest found false false e o same = subst (λ behind. HasSwap path key found.0 found.1 (rows_from rest behind)) (sym (walked_2 path key old e o)) (both_2_met path key old rest (path_named rest) found refl same)
 
 level_2_met : (path : Text) (key : Text) (words : List Text) (found : Text × Text) → path_and_key words ≡ Some found → HasSwap path key found.0 found.1 (rows_from words (behind_2 path key))
-level_2_met path key [] found same = cc
+level_2_met path key [] found same = absurd (none-some found same)
 level_2_met path key (old ∷ rest) found same = word_2_met path key old rest found (ends_options old) (is_option old) refl refl same
 
 -- ---- behind 1 words
@@ -308,11 +309,11 @@ unfolding clap_on_literals
 end_1_new path key old new = refl
 
 end_1_met : (path : Text) (rest : List Text) (found : Text × Text × Text) → only_three rest ≡ Some found → HasSwap path found.0 found.1 found.2 (rows_from (codes "--" ∷ rest) (behind_1 path))
-end_1_met path [] found same = cc
-end_1_met path (key ∷ []) found same = cc
-end_1_met path (key ∷ old ∷ []) found same = cc
+end_1_met path [] found same = absurd (none-some found same)
+end_1_met path (key ∷ []) found same = absurd (none-some found same)
+end_1_met path (key ∷ old ∷ []) found same = absurd (none-some found same)
 end_1_met path (key ∷ old ∷ new ∷ []) found same = subst (λ (found : Text × Text × Text). HasSwap path found.0 found.1 found.2 (rows_from (codes "--" ∷ key ∷ old ∷ new ∷ []) (behind_1 path))) (some_is same) (record { path = end_1_path path key old new; key = end_1_key path key old new; old = end_1_old path key old new; new = end_1_new path key old new })
-end_1_met path (key ∷ old ∷ new ∷ next ∷ rest) found same = cc
+end_1_met path (key ∷ old ∷ new ∷ next ∷ rest) found same = absurd (none-some found same)
 
 word_1_agrees : (path : Text) (key : Text) (rest : List Text) (ends option : Bool) → ends_options key ≡ ends → is_option key ≡ option
     → Agrees (cond ends (only_three rest) (cond option None (option_map (λ others. (key, others.0, others.1)) (path_and_key rest)))) (kinds_from (key ∷ rest) [] (behind_1 path))
@@ -329,17 +330,17 @@ level_1_agrees path (key ∷ rest) = word_1_agrees path key rest (ends_options k
 
 both_1_met : (path : Text) (key : Text) (rest : List Text) (others : Option (Text × Text)) (found : Text × Text × Text) → path_and_key rest ≡ others → option_map (λ others. (key, others.0, others.1)) others ≡ Some found
     → HasSwap path found.0 found.1 found.2 (rows_from rest (behind_2 path key))
-both_1_met path key rest None found is same = cc
+both_1_met path key rest None found is same = absurd (none-some found same)
 both_1_met path key rest (Some others) found is same = subst (λ (found : Text × Text × Text). HasSwap path found.0 found.1 found.2 (rows_from rest (behind_2 path key))) (some_is same) (level_2_met path key rest others is)
 
 word_1_met : (path : Text) (key : Text) (rest : List Text) (found : Text × Text × Text) (ends option : Bool) → ends_options key ≡ ends → is_option key ≡ option
     → cond ends (only_three rest) (cond option None (option_map (λ others. (key, others.0, others.1)) (path_and_key rest))) ≡ Some found → HasSwap path found.0 found.1 found.2 (rows_from (key ∷ rest) (behind_1 path))
 word_1_met path key rest found true option e o same = subst (λ w. HasSwap path found.0 found.1 found.2 (rows_from (w ∷ rest) (behind_1 path))) (is_end key e) (end_1_met path rest found same)
-word_1_met path key rest found false true e o same = cc
+word_1_met path key rest found false true e o same = absurd (none-some found same)
 word_1_met path key rest found false false e o same = subst (λ behind. HasSwap path found.0 found.1 found.2 (rows_from rest behind)) (sym (walked_1 path key e o)) (both_1_met path key rest (path_and_key rest) found refl same)
 
 level_1_met : (path : Text) (words : List Text) (found : Text × Text × Text) → path_and_two words ≡ Some found → HasSwap path found.0 found.1 found.2 (rows_from words (behind_1 path))
-level_1_met path [] found same = cc
+level_1_met path [] found same = absurd (none-some found same)
 level_1_met path (key ∷ rest) found same = word_1_met path key rest found (ends_options key) (is_option key) refl refl same
 
 -- ---- behind 0 words
@@ -370,12 +371,12 @@ unfolding clap_on_literals
 end_0_new path key old new = refl
 
 end_0_met : (rest : List Text) (found : Text × Text × Text × Text) → only_four rest ≡ Some found → HasSwap found.0 found.1 found.2 found.3 (rows_after swap_flags [] (codes "--" ∷ rest))
-end_0_met [] found same = cc
-end_0_met (path ∷ []) found same = cc
-end_0_met (path ∷ key ∷ []) found same = cc
-end_0_met (path ∷ key ∷ old ∷ []) found same = cc
+end_0_met [] found same = absurd (none-some found same)
+end_0_met (path ∷ []) found same = absurd (none-some found same)
+end_0_met (path ∷ key ∷ []) found same = absurd (none-some found same)
+end_0_met (path ∷ key ∷ old ∷ []) found same = absurd (none-some found same)
 end_0_met (path ∷ key ∷ old ∷ new ∷ []) found same = subst (λ (found : Text × Text × Text × Text). HasSwap found.0 found.1 found.2 found.3 (rows_after swap_flags [] (codes "--" ∷ path ∷ key ∷ old ∷ new ∷ []))) (some_is same) (record { path = end_0_path path key old new; key = end_0_key path key old new; old = end_0_old path key old new; new = end_0_new path key old new })
-end_0_met (path ∷ key ∷ old ∷ new ∷ next ∷ rest) found same = cc
+end_0_met (path ∷ key ∷ old ∷ new ∷ next ∷ rest) found same = absurd (none-some found same)
 
 word_0_agrees : (path : Text) (rest : List Text) (ends option : Bool) → ends_options path ≡ ends → is_option path ≡ option
     → Agrees (cond ends (only_four rest) (cond option None (option_map (λ others. (path, others.0, others.1, others.2)) (path_and_two rest)))) (swap_kinds (path ∷ rest))
@@ -392,15 +393,15 @@ swap_agrees (path ∷ rest) = word_0_agrees path rest (ends_options path) (is_op
 
 both_0_met : (path : Text) (rest : List Text) (others : Option (Text × Text × Text)) (found : Text × Text × Text × Text) → path_and_two rest ≡ others → option_map (λ others. (path, others.0, others.1, others.2)) others ≡ Some found
     → HasSwap found.0 found.1 found.2 found.3 (rows_from rest (behind_1 path))
-both_0_met path rest None found is same = cc
+both_0_met path rest None found is same = absurd (none-some found same)
 both_0_met path rest (Some others) found is same = subst (λ (found : Text × Text × Text × Text). HasSwap found.0 found.1 found.2 found.3 (rows_from rest (behind_1 path))) (some_is same) (level_1_met path rest others is)
 
 word_0_met : (path : Text) (rest : List Text) (found : Text × Text × Text × Text) (ends option : Bool) → ends_options path ≡ ends → is_option path ≡ option
     → cond ends (only_four rest) (cond option None (option_map (λ others. (path, others.0, others.1, others.2)) (path_and_two rest))) ≡ Some found → HasSwap found.0 found.1 found.2 found.3 (rows_after swap_flags [] (path ∷ rest))
 word_0_met path rest found true option e o same = subst (λ w. HasSwap found.0 found.1 found.2 found.3 (rows_after swap_flags [] (w ∷ rest))) (is_end path e) (end_0_met rest found same)
-word_0_met path rest found false true e o same = cc
+word_0_met path rest found false true e o same = absurd (none-some found same)
 word_0_met path rest found false false e o same = subst (λ behind. HasSwap found.0 found.1 found.2 found.3 (rows_from rest behind)) (sym (walked_0 path e o)) (both_0_met path rest (path_and_two rest) found refl same)
 
 pub swap_met : (words : List Text) (found : Text × Text × Text × Text) → path_and_three words ≡ Some found → HasSwap found.0 found.1 found.2 found.3 (rows_after swap_flags [] words)
-swap_met [] found same = cc
+swap_met [] found same = absurd (none-some found same)
 swap_met (path ∷ rest) found same = word_0_met path rest found (ends_options path) (is_option path) refl refl same

@@ -138,3 +138,45 @@ returns-in-pairs-clause-wrong c =
     IfErr-weaker c.pairs_job.result _ _ (λ fault none wrong asked met.
     let given = pairs asked c.in-Some.own.now (own_of c.args.matches.now c.in-Some.command.now c.in-Some.own.now _ c.in-Some.ensures.name c.in-Some.ensures.rows c.in-pairs.is asked met) in
     job_is asked _ given.asked_is ∙ none wrong given.path) c.pairs_job.ensures.wrong
+
+pub returns-in-serve-clause-limits : goal.returns-in-serve-clause-limits
+returns-in-serve-clause-limits c = tt
+
+pub returns-in-serve-clause-wrong : goal.returns-in-serve-clause-wrong
+returns-in-serve-clause-wrong c = tt
+
+pub returns-in-check-clause-limits : goal.returns-in-check-clause-limits
+returns-in-check-clause-limits c = tt
+
+pub returns-in-check-clause-wrong : goal.returns-in-check-clause-wrong
+returns-in-check-clause-wrong c = tt
+
+pub returns-in-dump-clause-limits : goal.returns-in-dump-clause-limits
+returns-in-dump-clause-limits c = tt
+
+pub returns-in-dump-clause-wrong : goal.returns-in-dump-clause-wrong
+returns-in-dump-clause-wrong c = tt
+
+pub returns-in-load-clause-limits : goal.returns-in-load-clause-limits
+returns-in-load-clause-limits c = tt
+
+pub returns-in-load-clause-wrong : goal.returns-in-load-clause-wrong
+returns-in-load-clause-wrong c = tt
+
+pub returns-in-storm-clause-limits : goal.returns-in-storm-clause-limits
+returns-in-storm-clause-limits c = c.storm_job.ensures.limits
+
+pub returns-in-get-clause-limits : goal.returns-in-get-clause-limits
+returns-in-get-clause-limits c = c.get_job.ensures.limits
+
+pub returns-in-put-clause-limits : goal.returns-in-put-clause-limits
+returns-in-put-clause-limits c = c.put_job.ensures.limits
+
+pub returns-in-del-clause-limits : goal.returns-in-del-clause-limits
+returns-in-del-clause-limits c = c.del_job.ensures.limits
+
+pub returns-in-swap-clause-limits : goal.returns-in-swap-clause-limits
+returns-in-swap-clause-limits c = c.swap_job.ensures.limits
+
+pub returns-in-pairs-clause-limits : goal.returns-in-pairs-clause-limits
+returns-in-pairs-clause-limits c = c.pairs_job.ensures.limits

@@ -1,5 +1,5 @@
 use Rattle.std.proofs.Common.{map, ◌∙◌}
-use Rattle.std.proofs.lemmas.Result.{IfErr-weaker, IfOk-weaker}
+use Rattle.std.proofs.lemmas.Result.{IfErr-weaker, IfOk-from_err, IfOk-weaker}
 use Rattle.clap.specs.Words.{app_of}
 use Rattle.exh_command.proofs.ParserLemmas.{job_of_words, no_version, parse_meets, version_told, wrong_words}
 use Rattle.exh_command.proofs.job.job_of.Goals as goal
@@ -42,3 +42,18 @@ pub returns-clause-version : goal.returns-clause-version
 returns-clause-version g c =
     let none = c.in_ok-matches.ensures.kinds c.in_ok-parser.ensures.exact in
     IfErr-weaker c.job_met.result _ _ (λ fault is asks. absurd (no_version (app_of c.in_ok-parser.field-0) (map g.S.AsStr.text c.args.words.now) c.in_ok-parser.ensures none asks)) c.job_met.ensures.wrong
+
+pub returns-clause-limits : goal.returns-clause-limits
+returns-clause-limits g c = c.job_met.ensures.limits
+
+pub returns-in_err-parser-clause-named : goal.returns-in_err-parser-clause-named
+returns-in_err-parser-clause-named g c = IfOk-from_err c.from_residual.result _ c.from_residual.ensures.0
+
+pub returns-in_err-parser-clause-limits : goal.returns-in_err-parser-clause-limits
+returns-in_err-parser-clause-limits g c = IfOk-from_err c.from_residual.result _ c.from_residual.ensures.0
+
+pub returns-in_err-matches-clause-named : goal.returns-in_err-matches-clause-named
+returns-in_err-matches-clause-named g c = IfOk-from_err c.from_residual-in_err-matches.result _ c.from_residual-in_err-matches.ensures.0
+
+pub returns-in_err-matches-clause-limits : goal.returns-in_err-matches-clause-limits
+returns-in_err-matches-clause-limits g c = IfOk-from_err c.from_residual-in_err-matches.result _ c.from_residual-in_err-matches.ensures.0

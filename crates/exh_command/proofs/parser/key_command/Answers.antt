@@ -1,6 +1,12 @@
-use Rattle.std.proofs.Common.{◌∙◌, refl}
 use Rattle.std.proofs.lemmas.Result.{IfOk-weaker}
+use Rattle.exh_command.proofs.TheProgram.{one_rule, own_still}
 use Rattle.exh_command.proofs.parser.key_command.Goals as goal
 
 pub returns-clause-own : goal.returns-clause-own
-returns-clause-own c = IfOk-weaker c.arg.result _ _ (λ command added. added.globals ∙ rw (c.in_ok-path_command.ensures.own, c.key.ensures.own) refl) c.arg.ensures
+returns-clause-own c =
+    IfOk-weaker c.arg.result _ _ (λ command added. own_still c.in_ok-path_command.ensures.own c.key.ensures.own added.globals) c.arg.ensures
+
+pub returns-clause-is : goal.returns-clause-is
+returns-clause-is c =
+    IfOk-weaker c.arg.result _ _ (λ command added. one_rule _ _ c.in_ok-path_command.ensures.is
+    c.key.ensures.rule (added.shape c.key.ensures.own)) c.arg.ensures

@@ -1,25 +1,108 @@
 use Rattle.std.proofs.Common.{◌≡◌, ◌∙◌, ap, subst, sym, codes}
-use Rattle.std.proofs.lemmas.Result.{IfOk-weaker}
-use Rattle.clap.specs.Words.{App, Shape, app_of, with_subcommand}
+use Rattle.std.proofs.lemmas.Result.{IfOk-from_err, IfOk-weaker}
+use Rattle.clap.specs.Words.{App, Shape, with_subcommand}
 use Rattle.exh_command.specs.Parser.{ReadsJobs, about_key, about_path, about_two_values, about_value}
+use Rattle.exh_command.specs.Program.{bare_program}
 use Rattle.exh_command.proofs.ParserLemmas.{program_reads}
-use Rattle.exh_command.proofs.TheProgram.{pairs, program, serve, storm}
+use Rattle.exh_command.proofs.TheProgram.{pairs, serve, storm}
 use Rattle.exh_command.proofs.parser.parser.Goals as goal
 
 below : (command : Shape) {one other : App} → one ≡ other → with_subcommand one command ≡ with_subcommand other command
 below command same = ap (λ (app : App). with_subcommand app command) same
 
+-- the commands one behind the other
+stacked : {bare serving checking dumping loading storming getting putting deleting swapping whole : App} → bare ≡ bare_program → serving ≡ with_subcommand bare serve → checking ≡ with_subcommand serving (about_path (codes "check"))
+    → dumping ≡ with_subcommand checking (about_path (codes "dump")) → loading ≡ with_subcommand dumping (about_path (codes "load")) → storming ≡ with_subcommand loading storm
+    → getting ≡ with_subcommand storming (about_key (codes "get")) → putting ≡ with_subcommand getting (about_value (codes "put")) → deleting ≡ with_subcommand putting (about_key (codes "del"))
+    → swapping ≡ with_subcommand deleting (about_two_values (codes "swap"))
+    → whole ≡ with_subcommand swapping pairs → ReadsJobs whole
+stacked is with_serve with_check with_dump with_load with_storm with_get with_put with_del with_swap with_pairs =
+    subst ReadsJobs (sym (with_pairs ∙ below pairs (with_swap ∙ below (about_two_values (codes "swap")) (with_del ∙ below (about_key (codes "del")) (with_put ∙ below (about_value (codes "put")) (with_get ∙ below (about_key (codes "get")) (with_storm ∙ below storm (with_load ∙ below (about_path (codes "load")) (with_dump ∙ below (about_path (codes "dump")) (with_check ∙ below (about_path (codes "check")) (with_serve ∙ below serve (is)))))))))))) program_reads
+
 pub returns : goal.returns
 returns c =
-    let serving = c.in_ok-serving.ensures serve c.serve.ensures.is ∙ below serve c.in_ok-bare_program.ensures in
-    let checking = c.in_ok-checking.ensures (about_path (codes "check")) c.path_command-check.ensures.is ∙ below (about_path (codes "check")) serving in
-    let dumping = c.in_ok-dumping.ensures (about_path (codes "dump")) c.path_command-dump.ensures.is ∙ below (about_path (codes "dump")) checking in
-    let loading = c.in_ok-loading.ensures (about_path (codes "load")) c.path_command-load.ensures.is ∙ below (about_path (codes "load")) dumping in
-    let storming = c.in_ok-storming.ensures storm c.storm.ensures.is ∙ below storm loading in
-    let getting = c.in_ok-getting.ensures (about_key (codes "get")) c.key_command-get.ensures.is ∙ below (about_key (codes "get")) storming in
-    let putting = c.in_ok-putting.ensures (about_value (codes "put")) c.value_command-put.ensures.is ∙ below (about_value (codes "put")) getting in
-    let deleting = c.in_ok-deleting.ensures (about_key (codes "del")) c.key_command-del.ensures.is ∙ below (about_key (codes "del")) putting in
-    let swapping = c.in_ok-swapping.ensures (about_two_values (codes "swap")) c.swap_command-swap.ensures.is ∙ below (about_two_values (codes "swap")) deleting in
-    IfOk-weaker c.with_command-10.result _ _ (λ command whole.
-    let same : app_of command ≡ program = whole ∙ below pairs swapping in
-    subst ReadsJobs (sym same) program_reads) (c.with_command-10.ensures pairs c.pairs.ensures.is)
+    IfOk-weaker c.with_command-10.result _ _ (λ command whole. stacked c.in_ok-bare_program.ensures
+    (c.in_ok-serving.ensures serve c.serve.ensures.is) (c.in_ok-checking.ensures (about_path (codes "check")) c.path_command-check.ensures.is) (c.in_ok-dumping.ensures (about_path (codes "dump")) c.path_command-dump.ensures.is)
+    (c.in_ok-loading.ensures (about_path (codes "load")) c.path_command-load.ensures.is) (c.in_ok-storming.ensures storm c.storm.ensures.is) (c.in_ok-getting.ensures (about_key (codes "get")) c.key_command-get.ensures.is)
+    (c.in_ok-putting.ensures (about_value (codes "put")) c.value_command-put.ensures.is) (c.in_ok-deleting.ensures (about_key (codes "del")) c.key_command-del.ensures.is) (c.in_ok-swapping.ensures (about_two_values (codes "swap")) c.swap_command-swap.ensures.is) whole) (c.with_command-10.ensures pairs c.pairs.ensures.is)
+
+pub with_command-requires : goal.with_command-requires
+with_command-requires c = c.serve.ensures.own
+
+pub with_command-requires-2 : goal.with_command-requires-2
+with_command-requires-2 c = c.path_command-check.ensures.own
+
+pub with_command-requires-3 : goal.with_command-requires-3
+with_command-requires-3 c = c.path_command-dump.ensures.own
+
+pub with_command-requires-4 : goal.with_command-requires-4
+with_command-requires-4 c = c.path_command-load.ensures.own
+
+pub with_command-requires-5 : goal.with_command-requires-5
+with_command-requires-5 c = c.storm.ensures.own
+
+pub with_command-requires-6 : goal.with_command-requires-6
+with_command-requires-6 c = c.key_command-get.ensures.own
+
+pub with_command-requires-7 : goal.with_command-requires-7
+with_command-requires-7 c = c.value_command-put.ensures.own
+
+pub with_command-requires-8 : goal.with_command-requires-8
+with_command-requires-8 c = c.key_command-del.ensures.own
+
+pub with_command-requires-9 : goal.with_command-requires-9
+with_command-requires-9 c = c.swap_command-swap.ensures.own
+
+pub with_command-requires-10 : goal.with_command-requires-10
+with_command-requires-10 c = c.pairs.ensures.own
+
+pub returns-in_err-bare_program : goal.returns-in_err-bare_program
+returns-in_err-bare_program c = IfOk-from_err c.from_residual.result _ c.from_residual.ensures.0
+
+pub returns-in_err-serving : goal.returns-in_err-serving
+returns-in_err-serving c = IfOk-from_err c.from_residual-in_err-serving.result _ c.from_residual-in_err-serving.ensures.0
+
+pub returns-in_err-checking : goal.returns-in_err-checking
+returns-in_err-checking c = IfOk-from_err c.from_residual-in_err-checking.result _ c.from_residual-in_err-checking.ensures.0
+
+pub returns-in_err-dumping : goal.returns-in_err-dumping
+returns-in_err-dumping c = IfOk-from_err c.from_residual-in_err-dumping.result _ c.from_residual-in_err-dumping.ensures.0
+
+pub returns-in_err-loading : goal.returns-in_err-loading
+returns-in_err-loading c = IfOk-from_err c.from_residual-in_err-loading.result _ c.from_residual-in_err-loading.ensures.0
+
+pub returns-in_err-storming : goal.returns-in_err-storming
+returns-in_err-storming c = IfOk-from_err c.from_residual-in_err-storming.result _ c.from_residual-in_err-storming.ensures.0
+
+pub returns-in_err-getting : goal.returns-in_err-getting
+returns-in_err-getting c = IfOk-from_err c.from_residual-in_err-getting.result _ c.from_residual-in_err-getting.ensures.0
+
+pub returns-in_err-putting : goal.returns-in_err-putting
+returns-in_err-putting c = IfOk-from_err c.from_residual-in_err-putting.result _ c.from_residual-in_err-putting.ensures.0
+
+pub returns-in_err-deleting : goal.returns-in_err-deleting
+returns-in_err-deleting c = IfOk-from_err c.from_residual-in_err-deleting.result _ c.from_residual-in_err-deleting.ensures.0
+
+pub returns-in_err-swapping : goal.returns-in_err-swapping
+returns-in_err-swapping c = IfOk-from_err c.from_residual-in_err-swapping.result _ c.from_residual-in_err-swapping.ensures.0
+
+pub path_command-check-requires : goal.path_command-check-requires
+path_command-check-requires c = tt
+
+pub path_command-dump-requires : goal.path_command-dump-requires
+path_command-dump-requires c = tt
+
+pub path_command-load-requires : goal.path_command-load-requires
+path_command-load-requires c = tt
+
+pub key_command-get-requires : goal.key_command-get-requires
+key_command-get-requires c = tt
+
+pub value_command-put-requires : goal.value_command-put-requires
+value_command-put-requires c = tt
+
+pub key_command-del-requires : goal.key_command-del-requires
+key_command-del-requires c = tt
+
+pub swap_command-swap-requires : goal.swap_command-swap-requires
+swap_command-swap-requires c = tt

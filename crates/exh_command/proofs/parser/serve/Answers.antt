@@ -1,15 +1,14 @@
-use Rattle.std.proofs.Common.{◌∙◌, ap₂, refl}
 use Rattle.std.proofs.lemmas.Result.{IfOk-weaker}
-use Rattle.clap.specs.Words.{with_rule}
 use Rattle.exh_command.specs.Parser.{HasOwnArgs}
+use Rattle.exh_command.proofs.TheProgram.{own_still, two_rules}
 use Rattle.exh_command.proofs.parser.serve.Goals as goal
 
 pub returns-clause-own : goal.returns-clause-own
 returns-clause-own c =
-    let opening : HasOwnArgs c.in_ok-arg.field-0 = c.in_ok-arg.ensures.globals ∙ rw (c.bare_command.ensures.own, c.option.ensures.own) refl in
-    IfOk-weaker c.arg-2.result _ _ (λ command added. added.globals ∙ rw (opening, c.option-2.ensures.own) refl) c.arg-2.ensures
+    let first : HasOwnArgs c.in_ok-arg.field-0 = own_still c.bare_command.ensures.own c.option.ensures.own c.in_ok-arg.ensures.globals in
+    IfOk-weaker c.arg-2.result _ _ (λ command added. own_still first c.option-2.ensures.own added.globals) c.arg-2.ensures
 
 pub returns-clause-is : goal.returns-clause-is
 returns-clause-is c =
-    let opening = c.in_ok-arg.ensures.shape c.option.ensures.own ∙ ap₂ with_rule c.bare_command.ensures.is c.option.ensures.rule in
-    IfOk-weaker c.arg-2.result _ _ (λ command added. added.shape c.option-2.ensures.own ∙ ap₂ with_rule opening c.option-2.ensures.rule) c.arg-2.ensures
+    IfOk-weaker c.arg-2.result _ _ (λ command added. two_rules _ _ _ c.bare_command.ensures.is c.option.ensures.rule (c.in_ok-arg.ensures.shape c.option.ensures.own)
+    c.option-2.ensures.rule (added.shape c.option-2.ensures.own)) c.arg-2.ensures

@@ -1,15 +1,14 @@
-use Rattle.std.proofs.Common.{◌∙◌, ap₂, refl}
 use Rattle.std.proofs.lemmas.Result.{IfOk-weaker}
-use Rattle.clap.specs.Words.{with_rule}
 use Rattle.exh_command.specs.Parser.{HasOwnArgs}
+use Rattle.exh_command.proofs.TheProgram.{own_still, two_rules}
 use Rattle.exh_command.proofs.parser.swap_command.Goals as goal
 
 pub returns-clause-own : goal.returns-clause-own
 returns-clause-own c =
-    let first : HasOwnArgs c.in_ok-arg.field-0 = c.in_ok-arg.ensures.globals ∙ rw (c.in_ok-key_command.ensures.own, c.word.ensures.own) refl in
-    IfOk-weaker c.arg-2.result _ _ (λ command added. added.globals ∙ rw (first, c.word-2.ensures.own) refl) c.arg-2.ensures
+    let first : HasOwnArgs c.in_ok-arg.field-0 = own_still c.in_ok-key_command.ensures.own c.word.ensures.own c.in_ok-arg.ensures.globals in
+    IfOk-weaker c.arg-2.result _ _ (λ command added. own_still first c.word-2.ensures.own added.globals) c.arg-2.ensures
 
 pub returns-clause-is : goal.returns-clause-is
 returns-clause-is c =
-    let first = c.in_ok-arg.ensures.shape c.word.ensures.own ∙ ap₂ with_rule c.in_ok-key_command.ensures.is c.word.ensures.rule in
-    IfOk-weaker c.arg-2.result _ _ (λ command added. added.shape c.word-2.ensures.own ∙ ap₂ with_rule first c.word-2.ensures.rule) c.arg-2.ensures
+    IfOk-weaker c.arg-2.result _ _ (λ command added. two_rules _ _ _ c.in_ok-key_command.ensures.is c.word.ensures.rule (c.in_ok-arg.ensures.shape c.word.ensures.own)
+    c.word-2.ensures.rule (added.shape c.word-2.ensures.own)) c.arg-2.ensures

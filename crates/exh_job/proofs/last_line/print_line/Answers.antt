@@ -5,6 +5,10 @@ use Rattle.exh_stream.specs.OutputLemmas.{Takes-cut, Takes-finished, TakesBeginn
 use Rattle.exh_job.proofs.LastLineLemmas.{OnErr-weaker, OnOk-weaker, cut_by, printed_by}
 use Rattle.exh_job.proofs.last_line.print_line.Goals as goal
 
+pub returns-clause-ok : goal.returns-clause-ok
+returns-clause-ok g c =
+    OnOk-weaker c.finish.result (λ gone. Takes-finished g.W.Write.contents c.args.output.now c.push.new.self c.finish.new.self c.requires.empty _ c.in_ok-push.ensures.ok gone) c.finish.ensures.ok
+
 pub returns-clause-err : goal.returns-clause-err
 returns-clause-err g c =
     OnErr-weaker c.finish.result (λ gone. Takes-cut g.W.Write.contents c.args.output.now c.push.new.self c.finish.new.self c.requires.empty _ c.in_ok-push.ensures.ok gone) c.finish.ensures.err
