@@ -13,7 +13,7 @@ use Rattle.exh_notice.specs.declared.entry.Entry.{Entry}
 use Rattle.exh_notice.specs.declared.entry.Kind.{Kind}
 use Rattle.exh_notice.specs.declared.notice.Notice.{Notice}
 use Rattle.exh_notice.specs.Entry.{entry_of}
-use Rattle.exh_table.specs.Table.{TableMap, greater_of, version_of, table_with, table_at}
+use Rattle.exh_table.specs.Table.{TableMap, greater_of, version_of, table_with, table_at, raised, entry_after}
 use Rattle.exh_table.specs.SetLemmas.{IsTableSince-push}
 use Rattle.exh_page.specs.declared.page.Page.{Page}
 use Rattle.exh_page.specs.Page.{low_bound}
@@ -55,6 +55,16 @@ taken_back table notice stood is =
     get-table_at (table_with table notice) notice.prefix stood prefix
     ∙ ap (cond (eq_by_cmp prefix_cmp prefix notice.prefix) stood) (fin.get-insert prefix_cmp-total table notice.prefix greatest prefix)
     ∙ put_over (eq_by_cmp prefix_cmp prefix notice.prefix) greatest stood (fin.get table prefix) (λ tied. is ∙ at_same table prefix notice.prefix tied))
+
+-- the same of a table that was raised, as it is after each step
+pub raised_back : (table now back : TableMap) (prefix : List Bool) (kind : Kind) (stood : Option Entry) → stood ≡ fin.get table prefix
+    → now ≡ raised table prefix (entry_after (fin.get table prefix) kind) → back ≡ table_at now prefix stood → back ≡ table
+raised_back table now back prefix kind stood is raised_now put_back =
+    put_back ∙ ap (λ (table : TableMap). table_at table prefix stood) raised_now ∙ taken_back table (next_notice 0 table prefix kind) stood is
+
+-- the notices, where one that is known was pushed
+pub told_more : (old between after : List Notice) (made notice : Notice) → after ≡ between ++ made ∷ [] → made ≡ notice → between ≡ old → after ≡ old ++ notice ∷ []
+told_more old between after made notice pushed same kept = pushed ∙ ap (λ (told : Notice). between ++ told ∷ []) same ∙ ap (λ (notices : List Notice). notices ++ notice ∷ []) kept
 
 -- an entry stands where a notice was taken
 pub stands : (table : TableMap) (notice : Notice) → IsSome (fin.get (table_with table notice) notice.prefix)
@@ -131,6 +141,13 @@ index_back index low number none =
     fin.get-remove nat_cmp_total (fin.insert index low number) low q
     ∙ ap (cond (eq_by_cmp nat_cmp q low) None) (fin.get-insert nat_cmp_total index low number q)
     ∙ remove_over (eq_by_cmp nat_cmp q low) number (fin.get index q) (λ tied. sym (ap (fin.get index) (fin.nat_cmp-IsAntisymmetric q low (is_equal (nat_cmp q low) tied)) ∙ none)))
+
+-- the index, where a low bound that wasn't there was put in and taken out again
+pub index_forgotten : (index grown back : IndexMap) (low number : ℕ) (found : Option ℕ) → found ≡ fin.get index low → found ≡ None
+    → (fin.get index low ≡ None → grown ≡ fin.insert index low number) → back ≡ fin.remove grown low → back ≡ index
+index_forgotten index grown back low number found is none grows removed =
+    let none_here = sym is ∙ none in
+    removed ∙ ap (λ (index : IndexMap). fin.remove index low) (grows none_here) ∙ index_back index low number none_here
 
 -- ---- the index
 

@@ -28,6 +28,9 @@ use Rattle.exh_ward.proofs.HomeReplies.{AtHome, Fit}
 use Rattle.exh_ward.proofs.AnswersKeepLegal.{new_legal, new_map, same_bare}
 
 -- a page of a store that was only read
+pub takes_both : {before between now : Page → Type 0} → ((page : Page) → before page ↔ between page) → ((page : Page) → between page ↔ now page) → (page : Page) → before page ↔ now page
+takes_both first second page = (λ takes. (second page).0 ((first page).0 takes), λ takes. (first page).1 ((second page).1 takes))
+
 pub at_read : (old new : List Page) (number : ℕ) (page : Page) → new ≡ old → IsAt new number page → IsAt old number page
 at_read old new number page same is =
     let P : List Page → Type 0 = λ pages. IsAt pages number page in

@@ -88,7 +88,7 @@ pub returns-in_err-reserve-clause-fault : goal.returns-in_err-reserve-clause-fau
 returns-in_err-reserve-clause-fault g c = failed_with c.from_residual.result Memory IsStoreFault c.from_residual.ensures.1 tt
 
 pub returns-in_err-reserve-clause-failures : goal.returns-in_err-reserve-clause-failures
-returns-in_err-reserve-clause-failures g c = memory_counted c.self.view_is c.from_residual.result _ refl c.from_residual.ensures.1
+returns-in_err-reserve-clause-failures g c = memory_counted c.self.view_is c.from_residual.result (g.P.Pages.failures c.self.inside.store) refl c.from_residual.ensures.1
 
 pub returns-in_err-reserve-clause-sound : goal.returns-in_err-reserve-clause-sound
 returns-in_err-reserve-clause-sound g c = (invariant_of-self g c).sound

@@ -17,13 +17,13 @@ block-requires-clause-few g c page is =
     few_in_page _ _ page few (page_at _ _ c.args.number page c.self.invariant.sound.legal.legal.legal.each is)
 
 pub invariant_of-self : goal.invariant_of-self
-invariant_of-self g c = kept_read c.self.invariant _ c.block.ensures.takes _ _ _ c.block.ensures.pages refl
+invariant_of-self g c = kept_read c.self.invariant (g.P.Pages.takes c.block.new.self) c.block.ensures.takes (g.P.Pages.pages c.block.new.self) c.self.inside.journal.entries (g.P.Pages.failures c.block.new.self) c.block.ensures.pages refl
 
 pub returns-in_err-block-clause-sound : goal.returns-in_err-block-clause-sound
 returns-in_err-block-clause-sound g c = (invariant_of-self g c).sound
 
 pub invariant_of-self-2 : goal.invariant_of-self-2
-invariant_of-self-2 g c = kept_read c.self.invariant _ c.block.ensures.takes _ _ _ c.block.ensures.pages refl
+invariant_of-self-2 g c = kept_read c.self.invariant (g.P.Pages.takes c.block.new.self) c.block.ensures.takes (g.P.Pages.pages c.block.new.self) c.self.inside.journal.entries (g.P.Pages.failures c.block.new.self) c.block.ensures.pages refl
 
 pub returns-then-number-count-clause-block : goal.returns-then-number-count-clause-block
 returns-then-number-count-clause-block g c = tt
@@ -60,10 +60,10 @@ returns-in_err-block-clause-refused g c =
     failed_with c.from_residual.result (fault_of fault) (PageRefused c.args.self.now.pages c.args.number) c.from_residual.ensures.1 (page_refused c.args.self.now.pages c.args.number fault)
 
 pub returns-in_err-block-clause-err : goal.returns-in_err-block-clause-err
-returns-in_err-block-clause-err g c = on_err c.from_residual.result (unchanged_read c.self.view_is _ _ c.block.ensures.pages)
+returns-in_err-block-clause-err g c = on_err c.from_residual.result (unchanged_read c.self.view_is (g.P.Pages.pages c.block.new.self) (g.P.Pages.failures c.block.new.self) c.block.ensures.pages)
 
 pub returns-in_err-block-clause-failures : goal.returns-in_err-block-clause-failures
-returns-in_err-block-clause-failures g c = store_counted c.self.view_is c.from_residual.result c.in_err-block.field-0.0 _ _ refl c.from_residual.ensures.1 c.in_err-block.ensures.failures
+returns-in_err-block-clause-failures g c = store_counted c.self.view_is c.from_residual.result c.in_err-block.field-0.0 (g.P.Pages.failures c.self.inside.store) (g.P.Pages.failures c.block.new.self) refl c.from_residual.ensures.1 c.in_err-block.ensures.failures
 
 pub returns-clause-refused : goal.returns-clause-refused
 returns-clause-refused g c = tt
@@ -72,10 +72,10 @@ pub returns-clause-err : goal.returns-clause-err
 returns-clause-err g c = tt
 
 pub returns-clause-ok : goal.returns-clause-ok
-returns-clause-ok g c = same_read c.self.view_is _ _ c.block.ensures.pages c.in_ok-block.ensures.failures
+returns-clause-ok g c = same_read c.self.view_is (g.P.Pages.pages c.block.new.self) (g.P.Pages.failures c.block.new.self) c.block.ensures.pages c.in_ok-block.ensures.failures
 
 pub returns-clause-failures : goal.returns-clause-failures
-returns-clause-failures g c = same_failures c.self.view_is _ c.in_ok-block.ensures.failures
+returns-clause-failures g c = same_failures c.self.view_is (g.P.Pages.failures c.block.new.self) c.in_ok-block.ensures.failures
 
 pub returns-clause-sound : goal.returns-clause-sound
 returns-clause-sound g c = (invariant_of-self-2 g c).sound

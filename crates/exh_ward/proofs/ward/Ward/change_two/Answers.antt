@@ -1,16 +1,16 @@
-use Rattle.std.proofs.Common.{◌≡◌, ◌+◌, List, ◌∷◌, [], ◌++◌, IsSome, refl, sym, ap, ◌∙◌, subst, ◌<◌, length}
+use Rattle.std.proofs.Common.{◌≡◌, ◌+◌, IsSome, refl, sym, ap, ◌∙◌, subst, ◌<◌, length}
 use Rattle.std.specs.Prelude.{slice_set}
 use Rattle.std.specs.FinMap as fin
 use Rattle.std.proofs.lemmas.List.{length-set}
 use Rattle.std.proofs.lemmas.Result.{IfOk-from_err}
 use Rattle.exh_page.specs.Page.{IsWellFormed}
 use Rattle.exh_notice.specs.declared.notice.Notice.{Notice}
-use Rattle.exh_table.specs.Table.{TableMap, table_at, version_of}
+use Rattle.exh_table.specs.Table.{TableMap, version_of}
 use Rattle.exh_legal.specs.Versions.{index_of, next_notice}
 use Rattle.exh_ward.specs.Told.{IsChangedTo}
 use Rattle.exh_ward.specs.WardState.{WardState}
 use Rattle.exh_ward.specs.WardFault.{IsTellingFault}
-use Rattle.exh_ward.proofs.ChangesAreTold.{kept_told, kept_undone, index_kept, taken_back, stands, unchanged_seen, notice_made, told_seen, state_of}
+use Rattle.exh_ward.proofs.ChangesAreTold.{kept_told, kept_undone, index_kept, raised_back, stands, unchanged_seen, notice_made, told_more, told_seen, state_of}
 use Rattle.exh_ward.proofs.Exits.{taking_counted, taking_tells, storing_tells, made_counted, same_failures, told_here, on_err}
 use Rattle.exh_ward.proofs.HalvesOfPages.{failed_with}
 use Rattle.exh_ward.proofs.ward.Ward.change_two.Goals as goal
@@ -22,13 +22,13 @@ put_back-requires g c =
 
 pub invariant_of-self-in-Err : goal.invariant_of-self-in-Err
 invariant_of-self-in-Err g c =
-    let undone = c.put_back.ensures ∙ ap (λ (t : TableMap). table_at t c.args.prefix c.in_ok-stood.stood) c.in_ok-stood.ensures.ok ∙ taken_back c.self.inside.table (next_notice 0 c.self.inside.table c.args.prefix c.args.kind) c.in_ok-stood.stood c.in_ok-stood.ensures.stood in
-    kept_undone c.self.invariant _ c.set_two.ensures.takes _ _ _ _ _ c.in-Err.ensures.err c.take.ensures.items undone refl
+    kept_undone c.self.invariant (g.P.Pages.takes c.set_two.new.self) c.set_two.ensures.takes (g.P.Pages.pages c.set_two.new.self) c.take.new.notices.items c.put_back.new.self (g.P.Pages.failures c.set_two.new.self) c.self.inside.index c.in-Err.ensures.err c.take.ensures.items
+    (raised_back c.self.inside.table c.take.new.table c.put_back.new.self c.args.prefix c.args.kind c.in_ok-stood.stood c.in_ok-stood.ensures.stood c.in_ok-stood.ensures.ok c.put_back.ensures) refl
 
 pub returns-in-Err-clause-err : goal.returns-in-Err-clause-err
 returns-in-Err-clause-err g c =
-    let undone = c.put_back.ensures ∙ ap (λ (t : TableMap). table_at t c.args.prefix c.in_ok-stood.stood) c.in_ok-stood.ensures.ok ∙ taken_back c.self.inside.table (next_notice 0 c.self.inside.table c.args.prefix c.args.kind) c.in_ok-stood.stood c.in_ok-stood.ensures.stood in
-    unchanged_seen c.self.view_is _ _ _ _ c.in-Err.ensures.err c.take.ensures.items undone
+    unchanged_seen c.self.view_is (g.P.Pages.pages c.set_two.new.self) c.take.new.notices.items c.put_back.new.self (g.P.Pages.failures c.set_two.new.self) c.in-Err.ensures.err c.take.ensures.items
+    (raised_back c.self.inside.table c.take.new.table c.put_back.new.self c.args.prefix c.args.kind c.in_ok-stood.stood c.in_ok-stood.ensures.stood c.in_ok-stood.ensures.ok c.put_back.ensures)
 
 pub returns-in-Err-clause-sound : goal.returns-in-Err-clause-sound
 returns-in-Err-clause-sound g c = (invariant_of-self-in-Err g c).sound
@@ -45,16 +45,15 @@ invariant_of-self-2 g c =
     let I : WardState g.row.K.Denot → Type 0 = λ w. c.next_index-index.result ≡ index_of w.table + 1 in
     let index_is = subst I (sym c.self.view_is) c.next_index-index.ensures in
     let made = notice_made c.self.inside.number c.self.inside.table c.args.prefix c.args.kind c.in_ok-stood.stood c.in_ok-stood.ensures.stood c.next_index-index.result index_is c.notice_after.result c.notice_after.ensures in
-    let told = c.push_reserved.ensures.items ∙ ap (λ (told : Notice). c.take.new.notices.items ++ told ∷ []) made ∙ ap (λ (notices : List Notice). notices ++ notice ∷ []) c.take.ensures.items in
-    kept_told c.self.invariant _ c.set_two.ensures.takes notice new refl changed _ _ _ _ _
-    (index_kept c.self.inside.index pages new c.self.invariant.indexed changed.places same) c.in_default.ensures.ok told c.in_ok-stood.ensures.ok
+    kept_told c.self.invariant (g.P.Pages.takes c.set_two.new.self) c.set_two.ensures.takes notice new refl changed (g.P.Pages.pages c.set_two.new.self) c.push_reserved.new.self.items c.take.new.table (g.P.Pages.failures c.set_two.new.self) c.self.inside.index
+    (index_kept c.self.inside.index pages new c.self.invariant.indexed changed.places same) c.in_default.ensures.ok (told_more c.self.inside.notices.items c.take.new.notices.items c.push_reserved.new.self.items c.notice_after.result notice c.push_reserved.ensures.items made c.take.ensures.items) c.in_ok-stood.ensures.ok
 
 pub returns-clause-sound : goal.returns-clause-sound
 returns-clause-sound g c = (invariant_of-self-2 g c).sound
 
 pub invariant_of-self : goal.invariant_of-self
 invariant_of-self g c =
-    kept_undone c.self.invariant (g.P.Pages.takes c.self.inside.store) (λ page. (λ takes. takes, λ takes. takes)) _ _ _ _ _ refl c.take.ensures.items c.in_err-stood.ensures.err refl
+    kept_undone c.self.invariant (g.P.Pages.takes c.self.inside.store) (λ page. (λ takes. takes, λ takes. takes)) (g.P.Pages.pages c.self.inside.store) c.take.new.notices.items c.take.new.table (g.P.Pages.failures c.self.inside.store) c.self.inside.index refl c.take.ensures.items c.in_err-stood.ensures.err refl
 
 pub returns-in_err-stood-clause-notice : goal.returns-in_err-stood-clause-notice
 returns-in_err-stood-clause-notice g c = IfOk-from_err c.from_residual.result _ c.from_residual.ensures.0
@@ -63,7 +62,7 @@ pub returns-in_err-stood-clause-ok : goal.returns-in_err-stood-clause-ok
 returns-in_err-stood-clause-ok g c = IfOk-from_err c.from_residual.result _ c.from_residual.ensures.0
 
 pub returns-in_err-stood-clause-err : goal.returns-in_err-stood-clause-err
-returns-in_err-stood-clause-err g c = on_err c.from_residual.result (unchanged_seen c.self.view_is _ _ _ _ refl c.take.ensures.items c.in_err-stood.ensures.err)
+returns-in_err-stood-clause-err g c = on_err c.from_residual.result (unchanged_seen c.self.view_is (g.P.Pages.pages c.self.inside.store) c.take.new.notices.items c.take.new.table (g.P.Pages.failures c.self.inside.store) refl c.take.ensures.items c.in_err-stood.ensures.err)
 
 pub returns-in_err-stood-clause-fault : goal.returns-in_err-stood-clause-fault
 returns-in_err-stood-clause-fault g c =
@@ -72,7 +71,7 @@ returns-in_err-stood-clause-fault g c =
 
 pub returns-in_err-stood-clause-failures : goal.returns-in_err-stood-clause-failures
 returns-in_err-stood-clause-failures g c =
-    taking_counted c.self.view_is c.from_residual.result c.self.inside.table c.args.prefix c.in_err-stood.field-0.0 _ refl c.from_residual.ensures.1 c.in_err-stood.ensures.fault
+    taking_counted c.self.view_is c.from_residual.result c.self.inside.table c.args.prefix c.in_err-stood.field-0.0 (g.P.Pages.failures c.self.inside.store) refl c.from_residual.ensures.1 c.in_err-stood.ensures.fault
 
 pub returns-in_err-stood-clause-sound : goal.returns-in_err-stood-clause-sound
 returns-in_err-stood-clause-sound g c = (invariant_of-self g c).sound
@@ -112,7 +111,7 @@ returns-in-Err-clause-fault g c =
     subst P (sym c.into.ensures) (storing_tells c.args.self.now c.args.prefix c.in-Err.fault)
 
 pub returns-in-Err-clause-failures : goal.returns-in-Err-clause-failures
-returns-in-Err-clause-failures g c = made_counted c.self.view_is Notice c.into.result c.in-Err.fault _ c.into.ensures c.in-Err.ensures.failures
+returns-in-Err-clause-failures g c = made_counted c.self.view_is Notice c.into.result c.in-Err.fault (g.P.Pages.failures c.set_two.new.self) c.into.ensures c.in-Err.ensures.failures
 
 pub notice_after-requires : goal.notice_after-requires
 notice_after-requires g c = λ most. c.in_ok-stood.ensures.more (sym (ap version_of c.in_ok-stood.ensures.stood) ∙ most)
@@ -134,9 +133,8 @@ returns-clause-ok g c =
     let made = notice_made c.self.inside.number c.self.inside.table c.args.prefix c.args.kind c.in_ok-stood.stood c.in_ok-stood.ensures.stood c.next_index-index.result index_is c.notice_after.result c.notice_after.ensures in
     let notice = next_notice c.self.inside.number c.self.inside.table c.args.prefix c.args.kind in
     let new = slice_set (slice_set (g.P.Pages.pages c.self.inside.store) c.args.number c.args.page) c.args.other c.args.twin in
-    let told = c.push_reserved.ensures.items ∙ ap (λ (told : Notice). c.take.new.notices.items ++ told ∷ []) made ∙ ap (λ (notices : List Notice). notices ++ notice ∷ []) c.take.ensures.items in
     told_here c.self.view_is c.args.prefix c.args.kind c.args.number c.args.page c.args.other c.args.twin _
-    (told_seen (state_of c.self.view_is) notice new _ _ _ _ c.in_default.ensures.ok told c.in_ok-stood.ensures.ok c.in_default.ensures.failures)
+    (told_seen (state_of c.self.view_is) notice new (g.P.Pages.pages c.set_two.new.self) c.push_reserved.new.self.items c.take.new.table (g.P.Pages.failures c.set_two.new.self) c.in_default.ensures.ok (told_more c.self.inside.notices.items c.take.new.notices.items c.push_reserved.new.self.items c.notice_after.result notice c.push_reserved.ensures.items made c.take.ensures.items) c.in_ok-stood.ensures.ok c.in_default.ensures.failures)
 
 pub returns-clause-err : goal.returns-clause-err
 returns-clause-err g c = tt
@@ -145,4 +143,4 @@ pub returns-clause-fault : goal.returns-clause-fault
 returns-clause-fault g c = tt
 
 pub returns-clause-failures : goal.returns-clause-failures
-returns-clause-failures g c = same_failures c.self.view_is _ c.in_default.ensures.failures
+returns-clause-failures g c = same_failures c.self.view_is (g.P.Pages.failures c.set_two.new.self) c.in_default.ensures.failures

@@ -6,13 +6,13 @@ use Rattle.exh_ward.specs.WardFault.{MergeRefused, fault_of_halves, fault_of}
 use Rattle.exh_ward.specs.JoinedPage.{FitTogether}
 use Rattle.exh_ward.specs.WardState.{WardState, IsSoundWard}
 use Rattle.exh_ward.proofs.HalvesOfPages.{refused_as, failed_with}
-use Rattle.exh_ward.proofs.StepsKeepSound.{kept_read}
+use Rattle.exh_ward.proofs.StepsKeepSound.{kept_read, takes_both}
 use Rattle.exh_ward.proofs.MergesAreSteps.{few_counted, few_left, halves_fit, no_left_half, not_beside, own_in_front, right_within, to_sibling}
 use Rattle.exh_ward.proofs.Exits.{is_past, storing_refuses, store_fault, on_err, unchanged_read, store_counted, halves_counted, same_read, same_failures}
 use Rattle.exh_ward.proofs.ward.Ward.fitting_buddy.Goals as goal
 
 pub invariant_of-self : goal.invariant_of-self
-invariant_of-self g c = kept_read c.self.invariant _ c.head.ensures.takes _ _ _ c.head.ensures.pages refl
+invariant_of-self g c = kept_read c.self.invariant (g.P.Pages.takes c.head.new.self) c.head.ensures.takes (g.P.Pages.pages c.head.new.self) c.self.inside.journal.entries (g.P.Pages.failures c.head.new.self) c.head.ensures.pages refl
 
 pub returns-in_err-head-clause-sound : goal.returns-in_err-head-clause-sound
 returns-in_err-head-clause-sound g c = (invariant_of-self g c).sound
@@ -21,7 +21,7 @@ pub of-requires : goal.of-requires
 of-requires g c = own_in_front c.self.invariant c.args.page c.in_ok-head.field-0 c.in_ok-head.ensures.head
 
 pub invariant_of-self-in_err-half : goal.invariant_of-self-in_err-half
-invariant_of-self-in_err-half g c = kept_read c.self.invariant _ c.head.ensures.takes _ _ _ c.head.ensures.pages refl
+invariant_of-self-in_err-half g c = kept_read c.self.invariant (g.P.Pages.takes c.head.new.self) c.head.ensures.takes (g.P.Pages.pages c.head.new.self) c.self.inside.journal.entries (g.P.Pages.failures c.head.new.self) c.head.ensures.pages refl
 
 pub returns-in_err-half-clause-refused : goal.returns-in_err-half-clause-refused
 returns-in_err-half-clause-refused g c =
@@ -38,8 +38,7 @@ head-requires-2 g c =
 
 pub invariant_of-self-in_err-buddy : goal.invariant_of-self-in_err-buddy
 invariant_of-self-in_err-buddy g c =
-    let read = kept_read c.self.invariant _ c.head.ensures.takes _ _ (g.P.Pages.failures c.head.new.self) c.head.ensures.pages refl in
-    kept_read read _ c.head-2.ensures.takes _ _ _ c.head-2.ensures.pages refl
+    kept_read c.self.invariant (g.P.Pages.takes c.head-2.new.self) (takes_both {between = g.P.Pages.takes c.head.new.self} c.head.ensures.takes c.head-2.ensures.takes) (g.P.Pages.pages c.head-2.new.self) c.self.inside.journal.entries (g.P.Pages.failures c.head-2.new.self) (c.head-2.ensures.pages ∙ c.head.ensures.pages) refl
 
 pub returns-in_err-buddy-clause-sound : goal.returns-in_err-buddy-clause-sound
 returns-in_err-buddy-clause-sound g c = (invariant_of-self-in_err-buddy g c).sound
@@ -54,8 +53,7 @@ test_buddy-requires-clause-few_others g c =
 
 pub invariant_of-self-in_err-test_buddy : goal.invariant_of-self-in_err-test_buddy
 invariant_of-self-in_err-test_buddy g c =
-    let read = kept_read c.self.invariant _ c.head.ensures.takes _ _ (g.P.Pages.failures c.head.new.self) c.head.ensures.pages refl in
-    kept_read read _ c.head-2.ensures.takes _ _ _ c.head-2.ensures.pages refl
+    kept_read c.self.invariant (g.P.Pages.takes c.head-2.new.self) (takes_both {between = g.P.Pages.takes c.head.new.self} c.head.ensures.takes c.head-2.ensures.takes) (g.P.Pages.pages c.head-2.new.self) c.self.inside.journal.entries (g.P.Pages.failures c.head-2.new.self) (c.head-2.ensures.pages ∙ c.head.ensures.pages) refl
 
 pub returns-in_err-test_buddy-clause-refused : goal.returns-in_err-test_buddy-clause-refused
 returns-in_err-test_buddy-clause-refused g c =
@@ -68,8 +66,7 @@ returns-in_err-test_buddy-clause-refused g c =
 
 pub invariant_of-self-2 : goal.invariant_of-self-2
 invariant_of-self-2 g c =
-    let read = kept_read c.self.invariant _ c.head.ensures.takes _ _ (g.P.Pages.failures c.head.new.self) c.head.ensures.pages refl in
-    kept_read read _ c.head-2.ensures.takes _ _ _ c.head-2.ensures.pages refl
+    kept_read c.self.invariant (g.P.Pages.takes c.head-2.new.self) (takes_both {between = g.P.Pages.takes c.head.new.self} c.head.ensures.takes c.head-2.ensures.takes) (g.P.Pages.pages c.head-2.new.self) c.self.inside.journal.entries (g.P.Pages.failures c.head-2.new.self) (c.head-2.ensures.pages ∙ c.head.ensures.pages) refl
 
 pub returns-clause-fit : goal.returns-clause-fit
 returns-clause-fit g c =
@@ -113,10 +110,10 @@ returns-in_err-head-clause-refused g c =
     failed_with c.from_residual.result (fault_of fault) (MergeRefused c.args.self.now c.args.page) c.from_residual.ensures.1 (storing_refuses c.args.self.now c.args.page (fault_of fault) (store_fault fault))
 
 pub returns-in_err-head-clause-err : goal.returns-in_err-head-clause-err
-returns-in_err-head-clause-err g c = on_err c.from_residual.result (unchanged_read c.self.view_is _ _ c.head.ensures.pages)
+returns-in_err-head-clause-err g c = on_err c.from_residual.result (unchanged_read c.self.view_is (g.P.Pages.pages c.head.new.self) (g.P.Pages.failures c.head.new.self) c.head.ensures.pages)
 
 pub returns-in_err-head-clause-failures : goal.returns-in_err-head-clause-failures
-returns-in_err-head-clause-failures g c = store_counted c.self.view_is c.from_residual.result c.in_err-head.field-0.0 _ _ refl c.from_residual.ensures.1 c.in_err-head.ensures.failures
+returns-in_err-head-clause-failures g c = store_counted c.self.view_is c.from_residual.result c.in_err-head.field-0.0 (g.P.Pages.failures c.self.inside.store) (g.P.Pages.failures c.head.new.self) refl c.from_residual.ensures.1 c.in_err-head.ensures.failures
 
 pub returns-in_err-half-clause-fit : goal.returns-in_err-half-clause-fit
 returns-in_err-half-clause-fit g c = IfOk-from_err c.from_residual-in_err-half.result _ c.from_residual-in_err-half.ensures.0
@@ -125,7 +122,7 @@ pub returns-in_err-half-clause-ok : goal.returns-in_err-half-clause-ok
 returns-in_err-half-clause-ok g c = IfOk-from_err c.from_residual-in_err-half.result _ c.from_residual-in_err-half.ensures.0
 
 pub returns-in_err-half-clause-err : goal.returns-in_err-half-clause-err
-returns-in_err-half-clause-err g c = on_err c.from_residual-in_err-half.result (unchanged_read c.self.view_is _ _ c.head.ensures.pages)
+returns-in_err-half-clause-err g c = on_err c.from_residual-in_err-half.result (unchanged_read c.self.view_is (g.P.Pages.pages c.head.new.self) (g.P.Pages.failures c.head.new.self) c.head.ensures.pages)
 
 pub returns-in_err-half-clause-failures : goal.returns-in_err-half-clause-failures
 returns-in_err-half-clause-failures g c =
@@ -146,7 +143,7 @@ returns-in_err-buddy-clause-refused g c =
     failed_with c.from_residual-in_err-buddy.result (fault_of fault) (MergeRefused c.args.self.now c.args.page) c.from_residual-in_err-buddy.ensures.1 (storing_refuses c.args.self.now c.args.page (fault_of fault) (store_fault fault))
 
 pub returns-in_err-buddy-clause-err : goal.returns-in_err-buddy-clause-err
-returns-in_err-buddy-clause-err g c = on_err c.from_residual-in_err-buddy.result (unchanged_read c.self.view_is _ _ (c.head-2.ensures.pages ∙ c.head.ensures.pages))
+returns-in_err-buddy-clause-err g c = on_err c.from_residual-in_err-buddy.result (unchanged_read c.self.view_is (g.P.Pages.pages c.head-2.new.self) (g.P.Pages.failures c.head-2.new.self) (c.head-2.ensures.pages ∙ c.head.ensures.pages))
 
 pub returns-in_err-buddy-clause-failures : goal.returns-in_err-buddy-clause-failures
 returns-in_err-buddy-clause-failures g c =
@@ -159,7 +156,7 @@ pub returns-in_err-test_buddy-clause-ok : goal.returns-in_err-test_buddy-clause-
 returns-in_err-test_buddy-clause-ok g c = IfOk-from_err c.from_residual-in_err-test_buddy.result _ c.from_residual-in_err-test_buddy.ensures.0
 
 pub returns-in_err-test_buddy-clause-err : goal.returns-in_err-test_buddy-clause-err
-returns-in_err-test_buddy-clause-err g c = on_err c.from_residual-in_err-test_buddy.result (unchanged_read c.self.view_is _ _ (c.head-2.ensures.pages ∙ c.head.ensures.pages))
+returns-in_err-test_buddy-clause-err g c = on_err c.from_residual-in_err-test_buddy.result (unchanged_read c.self.view_is (g.P.Pages.pages c.head-2.new.self) (g.P.Pages.failures c.head-2.new.self) (c.head-2.ensures.pages ∙ c.head.ensures.pages))
 
 pub returns-in_err-test_buddy-clause-failures : goal.returns-in_err-test_buddy-clause-failures
 returns-in_err-test_buddy-clause-failures g c =
@@ -178,10 +175,10 @@ pub returns-clause-err : goal.returns-clause-err
 returns-clause-err g c = tt
 
 pub returns-clause-ok : goal.returns-clause-ok
-returns-clause-ok g c = same_read c.self.view_is _ _ (c.head-2.ensures.pages ∙ c.head.ensures.pages) (c.in_ok-buddy.ensures.failures ∙ c.in_ok-head.ensures.failures)
+returns-clause-ok g c = same_read c.self.view_is (g.P.Pages.pages c.head-2.new.self) (g.P.Pages.failures c.head-2.new.self) (c.head-2.ensures.pages ∙ c.head.ensures.pages) (c.in_ok-buddy.ensures.failures ∙ c.in_ok-head.ensures.failures)
 
 pub returns-clause-failures : goal.returns-clause-failures
-returns-clause-failures g c = same_failures c.self.view_is _ (c.in_ok-buddy.ensures.failures ∙ c.in_ok-head.ensures.failures)
+returns-clause-failures g c = same_failures c.self.view_is (g.P.Pages.failures c.head-2.new.self) (c.in_ok-buddy.ensures.failures ∙ c.in_ok-head.ensures.failures)
 
 pub returns-clause-sound : goal.returns-clause-sound
 returns-clause-sound g c = (invariant_of-self-2 g c).sound

@@ -1,13 +1,37 @@
-use Rattle.std.proofs.Common.{ap, ◌∙◌, ◌≡◌, ◌<◌, Err, subst}
+use Rattle.std.proofs.Common.{ap, ◌∙◌, ◌≡◌, ◌<◌, ℕ, true, List, [], Err, subst}
 use Rattle.std.specs.FinMap as fin
 use Rattle.std.proofs.lemmas.Result.{IfOk-from_err}
 use Rattle.exh_prefix.specs.Leading.{ward_prefix}
+use Rattle.exh_notice.specs.declared.notice.Notice.{Notice}
+use Rattle.exh_table.specs.Table.{TableMap}
+use Rattle.exh_page.specs.declared.page.Page.{Page as PageType}
+use Rattle.exh_page.specs.KeyMap.{KeyMap}
+use Rattle.exh_legal.specs.Pages.{map_of}
+use Rattle.exh_calls.specs.declared.journal_entry.JournalEntry.{JournalEntry}
+use Rattle.exh_ward.specs.WardState.{WardState}
 use Rattle.exh_ward.specs.WardFault.{CountsFailures, IsStoreFault}
 use Rattle.exh_ward.specs.declared.ward_fault.WardFault.{WardFault}
 use Rattle.exh_ward.specs.declared.ward_fault.WardFault.TheVariants.{Memory, Page}
 use Rattle.exh_ward.proofs.MadeOfPages.{apart_from, few_entries, kept_made}
 use Rattle.exh_ward.proofs.HalvesOfPages.{failed_with}
 use Rattle.exh_ward.proofs.ward.Ward.from_pages.Goals as goal
+
+memory_apart : {A : Type 0} → Memory ≡ Page → A
+memory_apart same = let no : ⊥ = cc in absurd no
+
+-- the ward that is made, as it is seen
+made_seen : {K : Type 0} (pages given : List PageType) (base : KeyMap) (journal : List JournalEntry) (start table : TableMap) (notices : List Notice) (failures before cap ward_bits number : ℕ) (keyer : K)
+    → pages ≡ given → base ≡ map_of given → journal ≡ [] → start ≡ table → notices ≡ [] → failures ≡ before
+    → (let w : WardState K = record { pages = pages; base = base; has_base = true; journal = journal; start = start; notices = notices; table = table; failures = failures; cap = cap; ward_bits = ward_bits; number = number; keyer = keyer } in w)
+    ≡ record { pages = given; base = map_of given; has_base = true; journal = []; start = table; notices = []; table = table; failures = before; cap = cap; ward_bits = ward_bits; number = number; keyer = keyer }
+made_seen pages given base journal start table notices failures before cap ward_bits number keyer is_pages is_base is_journal is_start is_notices is_failures = cc
+
+pub returns-clause-ward : goal.returns-clause-ward
+returns-clause-ward g c =
+    let read = c.in_ok-index.ensures in
+    made_seen (g.P.Pages.pages c.read_pages.new.store) (g.P.Pages.pages c.args.pages) c.from_pairs.result c.new.result.entries c.in_ok-start.start c.args.table c.new-2.result.items (g.P.Pages.failures c.read_pages.new.store) (g.P.Pages.failures c.args.pages)
+    c.args.settings.cap c.args.settings.ward_bits c.args.number c.args.settings.keyer
+    read.pages (c.from_pairs.ensures ∙ ap fin.from_entries read.pairs) c.new.ensures c.in_ok-start.ensures c.new-2.ensures.items read.failures
 
 pub read_pages-requires : goal.read_pages-requires
 read_pages-requires g c = record { apart = apart_from (ward_prefix c.args.settings.ward_bits c.args.number) _ c.requires.legal.legal.legal.linked }
@@ -53,7 +77,7 @@ returns-in_err-start-clause-fault g c = failed_with c.from_residual-in_err-start
 pub returns-in_err-start-clause-page_fault : goal.returns-in_err-start-clause-page_fault
 returns-in_err-start-clause-page_fault g c =
     let Q : WardFault → Type 0 = λ fault. fault ≡ Page → (left : g.row.P.Denot) × (g.P.Pages.failures c.args.pages < g.P.Pages.failures left) in
-    failed_with c.from_residual-in_err-start.result Memory Q c.from_residual-in_err-start.ensures.1 (λ is_page. let no : ⊥ = cc in absurd no)
+    failed_with c.from_residual-in_err-start.result Memory Q c.from_residual-in_err-start.ensures.1 memory_apart
 
 pub own_prefix-requires-clause-bits : goal.own_prefix-requires-clause-bits
 own_prefix-requires-clause-bits g c = c.requires.bits

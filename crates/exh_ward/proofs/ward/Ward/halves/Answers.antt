@@ -12,13 +12,13 @@ use Rattle.exh_ward.proofs.ChangesAreTold.{stored_refuses}
 use Rattle.exh_ward.proofs.ward.Ward.halves.Goals as goal
 
 pub invariant_of-self : goal.invariant_of-self
-invariant_of-self g c = kept_read c.self.invariant _ c.fetch.ensures.takes _ _ _ c.fetch.ensures.pages refl
+invariant_of-self g c = kept_read c.self.invariant (g.P.Pages.takes c.fetch.new.self) c.fetch.ensures.takes (g.P.Pages.pages c.fetch.new.self) c.self.inside.journal.entries (g.P.Pages.failures c.fetch.new.self) c.fetch.ensures.pages refl
 
 pub returns-in_err-fetch-clause-sound : goal.returns-in_err-fetch-clause-sound
 returns-in_err-fetch-clause-sound g c = (invariant_of-self g c).sound
 
 pub invariant_of-self-in_err-of : goal.invariant_of-self-in_err-of
-invariant_of-self-in_err-of g c = kept_read c.self.invariant _ c.fetch.ensures.takes _ _ _ c.fetch.ensures.pages refl
+invariant_of-self-in_err-of g c = kept_read c.self.invariant (g.P.Pages.takes c.fetch.new.self) c.fetch.ensures.takes (g.P.Pages.pages c.fetch.new.self) c.self.inside.journal.entries (g.P.Pages.failures c.fetch.new.self) c.fetch.ensures.pages refl
 
 pub returns-in_err-of-clause-refused : goal.returns-in_err-of-clause-refused
 returns-in_err-of-clause-refused g c =
@@ -31,7 +31,7 @@ pub returns-in_err-of-clause-sound : goal.returns-in_err-of-clause-sound
 returns-in_err-of-clause-sound g c = (invariant_of-self-in_err-of g c).sound
 
 pub invariant_of-self-2 : goal.invariant_of-self-2
-invariant_of-self-2 g c = kept_read c.self.invariant _ c.fetch.ensures.takes _ _ _ c.fetch.ensures.pages refl
+invariant_of-self-2 g c = kept_read c.self.invariant (g.P.Pages.takes c.fetch.new.self) c.fetch.ensures.takes (g.P.Pages.pages c.fetch.new.self) c.self.inside.journal.entries (g.P.Pages.failures c.fetch.new.self) c.fetch.ensures.pages refl
 
 pub returns-clause-sound : goal.returns-clause-sound
 returns-clause-sound g c = (invariant_of-self-2 g c).sound
@@ -76,10 +76,10 @@ returns-in_err-fetch-clause-refused g c =
     failed_with c.from_residual.result (fault_of fault) (SplitRefused c.args.self.now.cap c.args.self.now.pages c.args.page) c.from_residual.ensures.1 (stored_refuses c.args.self.now.cap c.args.self.now.pages c.args.page (fault_of fault) (store_fault fault))
 
 pub returns-in_err-fetch-clause-err : goal.returns-in_err-fetch-clause-err
-returns-in_err-fetch-clause-err g c = on_err c.from_residual.result (unchanged_read c.self.view_is _ _ c.fetch.ensures.pages)
+returns-in_err-fetch-clause-err g c = on_err c.from_residual.result (unchanged_read c.self.view_is (g.P.Pages.pages c.fetch.new.self) (g.P.Pages.failures c.fetch.new.self) c.fetch.ensures.pages)
 
 pub returns-in_err-fetch-clause-failures : goal.returns-in_err-fetch-clause-failures
-returns-in_err-fetch-clause-failures g c = store_counted c.self.view_is c.from_residual.result c.in_err-fetch.field-0.0 _ _ refl c.from_residual.ensures.1 c.in_err-fetch.ensures.failures
+returns-in_err-fetch-clause-failures g c = store_counted c.self.view_is c.from_residual.result c.in_err-fetch.field-0.0 (g.P.Pages.failures c.self.inside.store) (g.P.Pages.failures c.fetch.new.self) refl c.from_residual.ensures.1 c.in_err-fetch.ensures.failures
 
 pub fetched-requires : goal.fetched-requires
 fetched-requires g c = c.in_ok-fetch.ensures.at_hand
@@ -91,7 +91,7 @@ pub returns-in_err-of-clause-ok : goal.returns-in_err-of-clause-ok
 returns-in_err-of-clause-ok g c = IfOk-from_err c.from_residual-in_err-of.result _ c.from_residual-in_err-of.ensures.0
 
 pub returns-in_err-of-clause-err : goal.returns-in_err-of-clause-err
-returns-in_err-of-clause-err g c = on_err c.from_residual-in_err-of.result (unchanged_read c.self.view_is _ _ c.fetch.ensures.pages)
+returns-in_err-of-clause-err g c = on_err c.from_residual-in_err-of.result (unchanged_read c.self.view_is (g.P.Pages.pages c.fetch.new.self) (g.P.Pages.failures c.fetch.new.self) c.fetch.ensures.pages)
 
 pub returns-in_err-of-clause-failures : goal.returns-in_err-of-clause-failures
 returns-in_err-of-clause-failures g c =
@@ -104,7 +104,7 @@ pub returns-clause-err : goal.returns-clause-err
 returns-clause-err g c = tt
 
 pub returns-clause-ok : goal.returns-clause-ok
-returns-clause-ok g c = same_read c.self.view_is _ _ c.fetch.ensures.pages c.in_ok-fetch.ensures.failures
+returns-clause-ok g c = same_read c.self.view_is (g.P.Pages.pages c.fetch.new.self) (g.P.Pages.failures c.fetch.new.self) c.fetch.ensures.pages c.in_ok-fetch.ensures.failures
 
 pub returns-clause-failures : goal.returns-clause-failures
-returns-clause-failures g c = same_failures c.self.view_is _ c.in_ok-fetch.ensures.failures
+returns-clause-failures g c = same_failures c.self.view_is (g.P.Pages.failures c.fetch.new.self) c.in_ok-fetch.ensures.failures

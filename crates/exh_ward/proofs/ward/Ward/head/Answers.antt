@@ -9,13 +9,13 @@ use Rattle.exh_ward.proofs.HalvesOfPages.{failed_with}
 use Rattle.exh_ward.proofs.ward.Ward.head.Goals as goal
 
 pub invariant_of-self : goal.invariant_of-self
-invariant_of-self g c = kept_read c.self.invariant _ c.head.ensures.takes _ _ _ c.head.ensures.pages refl
+invariant_of-self g c = kept_read c.self.invariant (g.P.Pages.takes c.head.new.self) c.head.ensures.takes (g.P.Pages.pages c.head.new.self) c.self.inside.journal.entries (g.P.Pages.failures c.head.new.self) c.head.ensures.pages refl
 
 pub returns-in_err-head-clause-sound : goal.returns-in_err-head-clause-sound
 returns-in_err-head-clause-sound g c = (invariant_of-self g c).sound
 
 pub invariant_of-self-2 : goal.invariant_of-self-2
-invariant_of-self-2 g c = kept_read c.self.invariant _ c.head.ensures.takes _ _ _ c.head.ensures.pages refl
+invariant_of-self-2 g c = kept_read c.self.invariant (g.P.Pages.takes c.head.new.self) c.head.ensures.takes (g.P.Pages.pages c.head.new.self) c.self.inside.journal.entries (g.P.Pages.failures c.head.new.self) c.head.ensures.pages refl
 
 pub returns-then-number-count-clause-head : goal.returns-then-number-count-clause-head
 returns-then-number-count-clause-head g c = tt
@@ -52,10 +52,10 @@ returns-in_err-head-clause-refused g c =
     failed_with c.from_residual.result (fault_of fault) (PageRefused c.args.self.now.pages c.args.number) c.from_residual.ensures.1 (page_refused c.args.self.now.pages c.args.number fault)
 
 pub returns-in_err-head-clause-err : goal.returns-in_err-head-clause-err
-returns-in_err-head-clause-err g c = on_err c.from_residual.result (unchanged_read c.self.view_is _ _ c.head.ensures.pages)
+returns-in_err-head-clause-err g c = on_err c.from_residual.result (unchanged_read c.self.view_is (g.P.Pages.pages c.head.new.self) (g.P.Pages.failures c.head.new.self) c.head.ensures.pages)
 
 pub returns-in_err-head-clause-failures : goal.returns-in_err-head-clause-failures
-returns-in_err-head-clause-failures g c = store_counted c.self.view_is c.from_residual.result c.in_err-head.field-0.0 _ _ refl c.from_residual.ensures.1 c.in_err-head.ensures.failures
+returns-in_err-head-clause-failures g c = store_counted c.self.view_is c.from_residual.result c.in_err-head.field-0.0 (g.P.Pages.failures c.self.inside.store) (g.P.Pages.failures c.head.new.self) refl c.from_residual.ensures.1 c.in_err-head.ensures.failures
 
 pub returns-clause-refused : goal.returns-clause-refused
 returns-clause-refused g c = tt
@@ -64,10 +64,10 @@ pub returns-clause-err : goal.returns-clause-err
 returns-clause-err g c = tt
 
 pub returns-clause-ok : goal.returns-clause-ok
-returns-clause-ok g c = same_read c.self.view_is _ _ c.head.ensures.pages c.in_ok-head.ensures.failures
+returns-clause-ok g c = same_read c.self.view_is (g.P.Pages.pages c.head.new.self) (g.P.Pages.failures c.head.new.self) c.head.ensures.pages c.in_ok-head.ensures.failures
 
 pub returns-clause-failures : goal.returns-clause-failures
-returns-clause-failures g c = same_failures c.self.view_is _ c.in_ok-head.ensures.failures
+returns-clause-failures g c = same_failures c.self.view_is (g.P.Pages.failures c.head.new.self) c.in_ok-head.ensures.failures
 
 pub returns-clause-sound : goal.returns-clause-sound
 returns-clause-sound g c = (invariant_of-self-2 g c).sound

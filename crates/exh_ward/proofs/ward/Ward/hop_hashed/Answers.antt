@@ -20,22 +20,22 @@ use Rattle.exh_ward.proofs.ward.Ward.hop_hashed.Goals as goal
 -- ---- the store is as it was after a page was fetched
 
 pub invariant_of-self : goal.invariant_of-self
-invariant_of-self g c = kept_read c.self.invariant _ c.fetch.ensures.takes _ _ _ c.fetch.ensures.pages refl
+invariant_of-self g c = kept_read c.self.invariant (g.P.Pages.takes c.fetch.new.self) c.fetch.ensures.takes (g.P.Pages.pages c.fetch.new.self) c.self.inside.journal.entries (g.P.Pages.failures c.fetch.new.self) c.fetch.ensures.pages refl
 
 pub returns-in_err-fetch-clause-sound : goal.returns-in_err-fetch-clause-sound
 returns-in_err-fetch-clause-sound g c = (invariant_of-self g c).sound
 
 pub invariant_of-self-in-Beyond : goal.invariant_of-self-in-Beyond
-invariant_of-self-in-Beyond g c = kept_read c.self.invariant _ c.fetch.ensures.takes _ _ _ c.fetch.ensures.pages refl
+invariant_of-self-in-Beyond g c = kept_read c.self.invariant (g.P.Pages.takes c.fetch.new.self) c.fetch.ensures.takes (g.P.Pages.pages c.fetch.new.self) c.self.inside.journal.entries (g.P.Pages.failures c.fetch.new.self) c.fetch.ensures.pages refl
 
 pub invariant_of-self-in-Leads : goal.invariant_of-self-in-Leads
-invariant_of-self-in-Leads g c = kept_read c.self.invariant _ c.fetch.ensures.takes _ _ _ c.fetch.ensures.pages refl
+invariant_of-self-in-Leads g c = kept_read c.self.invariant (g.P.Pages.takes c.fetch.new.self) c.fetch.ensures.takes (g.P.Pages.pages c.fetch.new.self) c.self.inside.journal.entries (g.P.Pages.failures c.fetch.new.self) c.fetch.ensures.pages refl
 
 pub invariant_of-self-in-Overflows : goal.invariant_of-self-in-Overflows
-invariant_of-self-in-Overflows g c = kept_read c.self.invariant _ c.fetch.ensures.takes _ _ _ c.fetch.ensures.pages refl
+invariant_of-self-in-Overflows g c = kept_read c.self.invariant (g.P.Pages.takes c.fetch.new.self) c.fetch.ensures.takes (g.P.Pages.pages c.fetch.new.self) c.self.inside.journal.entries (g.P.Pages.failures c.fetch.new.self) c.fetch.ensures.pages refl
 
 pub invariant_of-self-2 : goal.invariant_of-self-2
-invariant_of-self-2 g c = kept_read c.self.invariant _ c.fetch.ensures.takes _ _ _ c.fetch.ensures.pages refl
+invariant_of-self-2 g c = kept_read c.self.invariant (g.P.Pages.takes c.fetch.new.self) c.fetch.ensures.takes (g.P.Pages.pages c.fetch.new.self) c.self.inside.journal.entries (g.P.Pages.failures c.fetch.new.self) c.fetch.ensures.pages refl
 
 pub returns-in-Overflows-clause-hop : goal.returns-in-Overflows-clause-hop
 returns-in-Overflows-clause-hop g c =
@@ -101,13 +101,13 @@ pub returns-in_err-fetch-clause-leaves : goal.returns-in_err-fetch-clause-leaves
 returns-in_err-fetch-clause-leaves g c = IfOk-from_err c.from_residual.result _ c.from_residual.ensures.0
 
 pub returns-in_err-fetch-clause-err : goal.returns-in_err-fetch-clause-err
-returns-in_err-fetch-clause-err g c = on_err c.from_residual.result (unchanged_read c.self.view_is _ _ c.fetch.ensures.pages)
+returns-in_err-fetch-clause-err g c = on_err c.from_residual.result (unchanged_read c.self.view_is (g.P.Pages.pages c.fetch.new.self) (g.P.Pages.failures c.fetch.new.self) c.fetch.ensures.pages)
 
 pub returns-in_err-fetch-clause-fault : goal.returns-in_err-fetch-clause-fault
 returns-in_err-fetch-clause-fault g c = failed_with c.from_residual.result (fault_of c.in_err-fetch.field-0.0) IsStoreFault c.from_residual.ensures.1 (store_fault c.in_err-fetch.field-0.0)
 
 pub returns-in_err-fetch-clause-failures : goal.returns-in_err-fetch-clause-failures
-returns-in_err-fetch-clause-failures g c = store_counted c.self.view_is c.from_residual.result c.in_err-fetch.field-0.0 _ _ refl c.from_residual.ensures.1 c.in_err-fetch.ensures.failures
+returns-in_err-fetch-clause-failures g c = store_counted c.self.view_is c.from_residual.result c.in_err-fetch.field-0.0 (g.P.Pages.failures c.self.inside.store) (g.P.Pages.failures c.fetch.new.self) refl c.from_residual.ensures.1 c.in_err-fetch.ensures.failures
 
 pub fetched-page-requires : goal.fetched-page-requires
 fetched-page-requires g c = c.in_ok-fetch.ensures.at_hand
@@ -128,10 +128,10 @@ pub returns-in-Beyond-clause-fault : goal.returns-in-Beyond-clause-fault
 returns-in-Beyond-clause-fault g c = tt
 
 pub returns-in-Beyond-clause-leaves : goal.returns-in-Beyond-clause-leaves
-returns-in-Beyond-clause-leaves g c = same_read c.self.view_is _ _ c.fetch.ensures.pages c.in_ok-fetch.ensures.failures
+returns-in-Beyond-clause-leaves g c = same_read c.self.view_is (g.P.Pages.pages c.fetch.new.self) (g.P.Pages.failures c.fetch.new.self) c.fetch.ensures.pages c.in_ok-fetch.ensures.failures
 
 pub returns-in-Beyond-clause-failures : goal.returns-in-Beyond-clause-failures
-returns-in-Beyond-clause-failures g c = same_failures c.self.view_is _ c.in_ok-fetch.ensures.failures
+returns-in-Beyond-clause-failures g c = same_failures c.self.view_is (g.P.Pages.failures c.fetch.new.self) c.in_ok-fetch.ensures.failures
 
 pub returns-in-Beyond-clause-sound : goal.returns-in-Beyond-clause-sound
 returns-in-Beyond-clause-sound g c = (invariant_of-self-in-Beyond g c).sound
@@ -153,10 +153,10 @@ pub returns-in-Leads-clause-fault : goal.returns-in-Leads-clause-fault
 returns-in-Leads-clause-fault g c = tt
 
 pub returns-in-Leads-clause-leaves : goal.returns-in-Leads-clause-leaves
-returns-in-Leads-clause-leaves g c = same_read c.self.view_is _ _ c.fetch.ensures.pages c.in_ok-fetch.ensures.failures
+returns-in-Leads-clause-leaves g c = same_read c.self.view_is (g.P.Pages.pages c.fetch.new.self) (g.P.Pages.failures c.fetch.new.self) c.fetch.ensures.pages c.in_ok-fetch.ensures.failures
 
 pub returns-in-Leads-clause-failures : goal.returns-in-Leads-clause-failures
-returns-in-Leads-clause-failures g c = same_failures c.self.view_is _ c.in_ok-fetch.ensures.failures
+returns-in-Leads-clause-failures g c = same_failures c.self.view_is (g.P.Pages.failures c.fetch.new.self) c.in_ok-fetch.ensures.failures
 
 pub returns-in-Leads-clause-sound : goal.returns-in-Leads-clause-sound
 returns-in-Leads-clause-sound g c = (invariant_of-self-in-Leads g c).sound
@@ -168,10 +168,10 @@ pub returns-in-Overflows-clause-fault : goal.returns-in-Overflows-clause-fault
 returns-in-Overflows-clause-fault g c = tt
 
 pub returns-in-Overflows-clause-leaves : goal.returns-in-Overflows-clause-leaves
-returns-in-Overflows-clause-leaves g c = same_read c.self.view_is _ _ c.fetch.ensures.pages c.in_ok-fetch.ensures.failures
+returns-in-Overflows-clause-leaves g c = same_read c.self.view_is (g.P.Pages.pages c.fetch.new.self) (g.P.Pages.failures c.fetch.new.self) c.fetch.ensures.pages c.in_ok-fetch.ensures.failures
 
 pub returns-in-Overflows-clause-failures : goal.returns-in-Overflows-clause-failures
-returns-in-Overflows-clause-failures g c = same_failures c.self.view_is _ c.in_ok-fetch.ensures.failures
+returns-in-Overflows-clause-failures g c = same_failures c.self.view_is (g.P.Pages.failures c.fetch.new.self) c.in_ok-fetch.ensures.failures
 
 pub returns-in-Overflows-clause-sound : goal.returns-in-Overflows-clause-sound
 returns-in-Overflows-clause-sound g c = (invariant_of-self-in-Overflows g c).sound

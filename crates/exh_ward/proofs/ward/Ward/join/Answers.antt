@@ -10,7 +10,7 @@ use Rattle.exh_ward.specs.declared.ward_fault.WardFault.TheVariants.{Memory}
 use Rattle.exh_ward.proofs.AnswersAreLeft.{few_pages}
 use Rattle.exh_ward.proofs.Exits.{live_there, memory_counted, on_err, same_read, store_counted, store_fault, unchanged_read}
 use Rattle.exh_ward.proofs.HalvesOfPages.{failed_with}
-use Rattle.exh_ward.proofs.StepsKeepSound.{at_read, kept_read}
+use Rattle.exh_ward.proofs.StepsKeepSound.{at_read, kept_read, takes_both}
 use Rattle.exh_ward.proofs.MergesAreSteps.{buddy_within, rising, united}
 use Rattle.exh_ward.proofs.ward.Ward.join.Goals as goal
 
@@ -20,7 +20,7 @@ fetch-requires g c =
     subst P (sym c.self.view_is) (slice_get_within c.args.self.now.pages c.args.page _ c.requires.left.there)
 
 pub invariant_of-self : goal.invariant_of-self
-invariant_of-self g c = kept_read c.self.invariant _ c.fetch.ensures.takes _ _ _ c.fetch.ensures.pages refl
+invariant_of-self g c = kept_read c.self.invariant (g.P.Pages.takes c.fetch.new.self) c.fetch.ensures.takes (g.P.Pages.pages c.fetch.new.self) c.self.inside.journal.entries (g.P.Pages.failures c.fetch.new.self) c.fetch.ensures.pages refl
 
 pub returns-in_err-fetch-clause-united : goal.returns-in_err-fetch-clause-united
 returns-in_err-fetch-clause-united g c = IfOk-from_err c.from_residual.result _ c.from_residual.ensures.0
@@ -29,13 +29,13 @@ pub returns-in_err-fetch-clause-ok : goal.returns-in_err-fetch-clause-ok
 returns-in_err-fetch-clause-ok g c = IfOk-from_err c.from_residual.result _ c.from_residual.ensures.0
 
 pub returns-in_err-fetch-clause-err : goal.returns-in_err-fetch-clause-err
-returns-in_err-fetch-clause-err g c = on_err c.from_residual.result (unchanged_read c.self.view_is _ _ c.fetch.ensures.pages)
+returns-in_err-fetch-clause-err g c = on_err c.from_residual.result (unchanged_read c.self.view_is (g.P.Pages.pages c.fetch.new.self) (g.P.Pages.failures c.fetch.new.self) c.fetch.ensures.pages)
 
 pub returns-in_err-fetch-clause-fault : goal.returns-in_err-fetch-clause-fault
 returns-in_err-fetch-clause-fault g c = failed_with c.from_residual.result (fault_of c.in_err-fetch.field-0.0) IsStoreFault c.from_residual.ensures.1 (store_fault c.in_err-fetch.field-0.0)
 
 pub returns-in_err-fetch-clause-failures : goal.returns-in_err-fetch-clause-failures
-returns-in_err-fetch-clause-failures g c = store_counted c.self.view_is c.from_residual.result c.in_err-fetch.field-0.0 _ _ refl c.from_residual.ensures.1 c.in_err-fetch.ensures.failures
+returns-in_err-fetch-clause-failures g c = store_counted c.self.view_is c.from_residual.result c.in_err-fetch.field-0.0 (g.P.Pages.failures c.self.inside.store) (g.P.Pages.failures c.fetch.new.self) refl c.from_residual.ensures.1 c.in_err-fetch.ensures.failures
 
 pub returns-in_err-fetch-clause-sound : goal.returns-in_err-fetch-clause-sound
 returns-in_err-fetch-clause-sound g c = (invariant_of-self g c).sound
@@ -44,7 +44,7 @@ pub fetched-requires : goal.fetched-requires
 fetched-requires g c = c.in_ok-fetch.ensures.at_hand
 
 pub invariant_of-self-in_err-left : goal.invariant_of-self-in_err-left
-invariant_of-self-in_err-left g c = kept_read c.self.invariant _ c.fetch.ensures.takes _ _ _ c.fetch.ensures.pages refl
+invariant_of-self-in_err-left g c = kept_read c.self.invariant (g.P.Pages.takes c.fetch.new.self) c.fetch.ensures.takes (g.P.Pages.pages c.fetch.new.self) c.self.inside.journal.entries (g.P.Pages.failures c.fetch.new.self) c.fetch.ensures.pages refl
 
 pub returns-in_err-left-clause-united : goal.returns-in_err-left-clause-united
 returns-in_err-left-clause-united g c = IfOk-from_err c.from_residual-in_err-left.result _ c.from_residual-in_err-left.ensures.0
@@ -53,13 +53,13 @@ pub returns-in_err-left-clause-ok : goal.returns-in_err-left-clause-ok
 returns-in_err-left-clause-ok g c = IfOk-from_err c.from_residual-in_err-left.result _ c.from_residual-in_err-left.ensures.0
 
 pub returns-in_err-left-clause-err : goal.returns-in_err-left-clause-err
-returns-in_err-left-clause-err g c = on_err c.from_residual-in_err-left.result (unchanged_read c.self.view_is _ _ c.fetch.ensures.pages)
+returns-in_err-left-clause-err g c = on_err c.from_residual-in_err-left.result (unchanged_read c.self.view_is (g.P.Pages.pages c.fetch.new.self) (g.P.Pages.failures c.fetch.new.self) c.fetch.ensures.pages)
 
 pub returns-in_err-left-clause-fault : goal.returns-in_err-left-clause-fault
 returns-in_err-left-clause-fault g c = failed_with c.from_residual-in_err-left.result Memory IsStoreFault c.from_residual-in_err-left.ensures.1 tt
 
 pub returns-in_err-left-clause-failures : goal.returns-in_err-left-clause-failures
-returns-in_err-left-clause-failures g c = memory_counted c.self.view_is c.from_residual-in_err-left.result _ c.in_ok-fetch.ensures.failures c.from_residual-in_err-left.ensures.1
+returns-in_err-left-clause-failures g c = memory_counted c.self.view_is c.from_residual-in_err-left.result (g.P.Pages.failures c.fetch.new.self) c.in_ok-fetch.ensures.failures c.from_residual-in_err-left.ensures.1
 
 pub returns-in_err-left-clause-sound : goal.returns-in_err-left-clause-sound
 returns-in_err-left-clause-sound g c = (invariant_of-self-in_err-left g c).sound
@@ -72,8 +72,7 @@ fetch-requires-2 g c =
 
 pub invariant_of-self-in_err-fetch-2 : goal.invariant_of-self-in_err-fetch-2
 invariant_of-self-in_err-fetch-2 g c =
-    let read = kept_read c.self.invariant _ c.fetch.ensures.takes _ _ (g.P.Pages.failures c.fetch.new.self) c.fetch.ensures.pages refl in
-    kept_read read _ c.fetch-2.ensures.takes _ _ _ c.fetch-2.ensures.pages refl
+    kept_read c.self.invariant (g.P.Pages.takes c.fetch-2.new.self) (takes_both {between = g.P.Pages.takes c.fetch.new.self} c.fetch.ensures.takes c.fetch-2.ensures.takes) (g.P.Pages.pages c.fetch-2.new.self) c.self.inside.journal.entries (g.P.Pages.failures c.fetch-2.new.self) (c.fetch-2.ensures.pages ∙ c.fetch.ensures.pages) refl
 
 pub returns-in_err-fetch-2-clause-united : goal.returns-in_err-fetch-2-clause-united
 returns-in_err-fetch-2-clause-united g c = IfOk-from_err c.from_residual-in_err-fetch-2.result _ c.from_residual-in_err-fetch-2.ensures.0
@@ -82,7 +81,7 @@ pub returns-in_err-fetch-2-clause-ok : goal.returns-in_err-fetch-2-clause-ok
 returns-in_err-fetch-2-clause-ok g c = IfOk-from_err c.from_residual-in_err-fetch-2.result _ c.from_residual-in_err-fetch-2.ensures.0
 
 pub returns-in_err-fetch-2-clause-err : goal.returns-in_err-fetch-2-clause-err
-returns-in_err-fetch-2-clause-err g c = on_err c.from_residual-in_err-fetch-2.result (unchanged_read c.self.view_is _ _ (c.fetch-2.ensures.pages ∙ c.fetch.ensures.pages))
+returns-in_err-fetch-2-clause-err g c = on_err c.from_residual-in_err-fetch-2.result (unchanged_read c.self.view_is (g.P.Pages.pages c.fetch-2.new.self) (g.P.Pages.failures c.fetch-2.new.self) (c.fetch-2.ensures.pages ∙ c.fetch.ensures.pages))
 
 pub returns-in_err-fetch-2-clause-fault : goal.returns-in_err-fetch-2-clause-fault
 returns-in_err-fetch-2-clause-fault g c =
@@ -91,7 +90,7 @@ returns-in_err-fetch-2-clause-fault g c =
 
 pub returns-in_err-fetch-2-clause-failures : goal.returns-in_err-fetch-2-clause-failures
 returns-in_err-fetch-2-clause-failures g c =
-    store_counted c.self.view_is c.from_residual-in_err-fetch-2.result c.in_err-fetch-2.field-0.0 _ _ c.in_ok-fetch.ensures.failures c.from_residual-in_err-fetch-2.ensures.1 c.in_err-fetch-2.ensures.failures
+    store_counted c.self.view_is c.from_residual-in_err-fetch-2.result c.in_err-fetch-2.field-0.0 (g.P.Pages.failures c.fetch.new.self) (g.P.Pages.failures c.fetch-2.new.self) c.in_ok-fetch.ensures.failures c.from_residual-in_err-fetch-2.ensures.1 c.in_err-fetch-2.ensures.failures
 
 pub returns-in_err-fetch-2-clause-sound : goal.returns-in_err-fetch-2-clause-sound
 returns-in_err-fetch-2-clause-sound g c = (invariant_of-self-in_err-fetch-2 g c).sound
@@ -122,8 +121,7 @@ join_pages-requires-clause-rising g c =
 
 pub invariant_of-self-in_err-join_pages : goal.invariant_of-self-in_err-join_pages
 invariant_of-self-in_err-join_pages g c =
-    let read = kept_read c.self.invariant _ c.fetch.ensures.takes _ _ (g.P.Pages.failures c.fetch.new.self) c.fetch.ensures.pages refl in
-    kept_read read _ c.fetch-2.ensures.takes _ _ _ c.fetch-2.ensures.pages refl
+    kept_read c.self.invariant (g.P.Pages.takes c.fetch-2.new.self) (takes_both {between = g.P.Pages.takes c.fetch.new.self} c.fetch.ensures.takes c.fetch-2.ensures.takes) (g.P.Pages.pages c.fetch-2.new.self) c.self.inside.journal.entries (g.P.Pages.failures c.fetch-2.new.self) (c.fetch-2.ensures.pages ∙ c.fetch.ensures.pages) refl
 
 pub returns-in_err-join_pages-clause-united : goal.returns-in_err-join_pages-clause-united
 returns-in_err-join_pages-clause-united g c = IfOk-from_err c.from_residual-in_err-join_pages.result _ c.from_residual-in_err-join_pages.ensures.0
@@ -132,7 +130,7 @@ pub returns-in_err-join_pages-clause-ok : goal.returns-in_err-join_pages-clause-
 returns-in_err-join_pages-clause-ok g c = IfOk-from_err c.from_residual-in_err-join_pages.result _ c.from_residual-in_err-join_pages.ensures.0
 
 pub returns-in_err-join_pages-clause-err : goal.returns-in_err-join_pages-clause-err
-returns-in_err-join_pages-clause-err g c = on_err c.from_residual-in_err-join_pages.result (unchanged_read c.self.view_is _ _ (c.fetch-2.ensures.pages ∙ c.fetch.ensures.pages))
+returns-in_err-join_pages-clause-err g c = on_err c.from_residual-in_err-join_pages.result (unchanged_read c.self.view_is (g.P.Pages.pages c.fetch-2.new.self) (g.P.Pages.failures c.fetch-2.new.self) (c.fetch-2.ensures.pages ∙ c.fetch.ensures.pages))
 
 pub returns-in_err-join_pages-clause-fault : goal.returns-in_err-join_pages-clause-fault
 returns-in_err-join_pages-clause-fault g c = failed_with c.from_residual-in_err-join_pages.result Memory IsStoreFault c.from_residual-in_err-join_pages.ensures.1 tt
@@ -146,8 +144,7 @@ returns-in_err-join_pages-clause-sound g c = (invariant_of-self-in_err-join_page
 
 pub invariant_of-self-2 : goal.invariant_of-self-2
 invariant_of-self-2 g c =
-    let read = kept_read c.self.invariant _ c.fetch.ensures.takes _ _ (g.P.Pages.failures c.fetch.new.self) c.fetch.ensures.pages refl in
-    kept_read read _ c.fetch-2.ensures.takes _ _ _ c.fetch-2.ensures.pages refl
+    kept_read c.self.invariant (g.P.Pages.takes c.fetch-2.new.self) (takes_both {between = g.P.Pages.takes c.fetch.new.self} c.fetch.ensures.takes c.fetch-2.ensures.takes) (g.P.Pages.pages c.fetch-2.new.self) c.self.inside.journal.entries (g.P.Pages.failures c.fetch-2.new.self) (c.fetch-2.ensures.pages ∙ c.fetch.ensures.pages) refl
 
 pub returns-clause-united : goal.returns-clause-united
 returns-clause-united g c =
@@ -162,7 +159,7 @@ returns-clause-united g c =
     (few_pages c.pages_are_few.ensures c.self.invariant) c.in_ok-join_pages.field-0 c.in_ok-join_pages.ensures)
 
 pub returns-clause-ok : goal.returns-clause-ok
-returns-clause-ok g c = same_read c.self.view_is _ _ (c.fetch-2.ensures.pages ∙ c.fetch.ensures.pages) (c.in_ok-fetch-2.ensures.failures ∙ c.in_ok-fetch.ensures.failures)
+returns-clause-ok g c = same_read c.self.view_is (g.P.Pages.pages c.fetch-2.new.self) (g.P.Pages.failures c.fetch-2.new.self) (c.fetch-2.ensures.pages ∙ c.fetch.ensures.pages) (c.in_ok-fetch-2.ensures.failures ∙ c.in_ok-fetch.ensures.failures)
 
 pub returns-clause-err : goal.returns-clause-err
 returns-clause-err g c = tt

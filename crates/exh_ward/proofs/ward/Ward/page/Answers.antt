@@ -9,13 +9,13 @@ use Rattle.exh_ward.proofs.HalvesOfPages.{failed_with}
 use Rattle.exh_ward.proofs.ward.Ward.page.Goals as goal
 
 pub invariant_of-self : goal.invariant_of-self
-invariant_of-self g c = kept_read c.self.invariant _ c.get.ensures.takes _ _ _ c.get.ensures.pages refl
+invariant_of-self g c = kept_read c.self.invariant (g.P.Pages.takes c.get.new.self) c.get.ensures.takes (g.P.Pages.pages c.get.new.self) c.self.inside.journal.entries (g.P.Pages.failures c.get.new.self) c.get.ensures.pages refl
 
 pub returns-in_err-get-clause-sound : goal.returns-in_err-get-clause-sound
 returns-in_err-get-clause-sound g c = (invariant_of-self g c).sound
 
 pub invariant_of-self-2 : goal.invariant_of-self-2
-invariant_of-self-2 g c = kept_read c.self.invariant _ c.get.ensures.takes _ _ _ c.get.ensures.pages refl
+invariant_of-self-2 g c = kept_read c.self.invariant (g.P.Pages.takes c.get.new.self) c.get.ensures.takes (g.P.Pages.pages c.get.new.self) c.self.inside.journal.entries (g.P.Pages.failures c.get.new.self) c.get.ensures.pages refl
 
 pub returns-then-number-count-clause-page : goal.returns-then-number-count-clause-page
 returns-then-number-count-clause-page g c = tt
@@ -52,10 +52,10 @@ returns-in_err-get-clause-refused g c =
     failed_with c.from_residual.result (fault_of fault) (PageRefused c.args.self.now.pages c.args.number) c.from_residual.ensures.1 (page_refused c.args.self.now.pages c.args.number fault)
 
 pub returns-in_err-get-clause-err : goal.returns-in_err-get-clause-err
-returns-in_err-get-clause-err g c = on_err c.from_residual.result (unchanged_read c.self.view_is _ _ c.get.ensures.pages)
+returns-in_err-get-clause-err g c = on_err c.from_residual.result (unchanged_read c.self.view_is (g.P.Pages.pages c.get.new.self) (g.P.Pages.failures c.get.new.self) c.get.ensures.pages)
 
 pub returns-in_err-get-clause-failures : goal.returns-in_err-get-clause-failures
-returns-in_err-get-clause-failures g c = store_counted c.self.view_is c.from_residual.result c.in_err-get.field-0.0 _ _ refl c.from_residual.ensures.1 c.in_err-get.ensures.failures
+returns-in_err-get-clause-failures g c = store_counted c.self.view_is c.from_residual.result c.in_err-get.field-0.0 (g.P.Pages.failures c.self.inside.store) (g.P.Pages.failures c.get.new.self) refl c.from_residual.ensures.1 c.in_err-get.ensures.failures
 
 pub returns-clause-refused : goal.returns-clause-refused
 returns-clause-refused g c = tt
@@ -64,10 +64,10 @@ pub returns-clause-err : goal.returns-clause-err
 returns-clause-err g c = tt
 
 pub returns-clause-ok : goal.returns-clause-ok
-returns-clause-ok g c = same_read c.self.view_is _ _ c.get.ensures.pages c.in_ok-get.ensures.failures
+returns-clause-ok g c = same_read c.self.view_is (g.P.Pages.pages c.get.new.self) (g.P.Pages.failures c.get.new.self) c.get.ensures.pages c.in_ok-get.ensures.failures
 
 pub returns-clause-failures : goal.returns-clause-failures
-returns-clause-failures g c = same_failures c.self.view_is _ c.in_ok-get.ensures.failures
+returns-clause-failures g c = same_failures c.self.view_is (g.P.Pages.failures c.get.new.self) c.in_ok-get.ensures.failures
 
 pub returns-clause-sound : goal.returns-clause-sound
 returns-clause-sound g c = (invariant_of-self-2 g c).sound

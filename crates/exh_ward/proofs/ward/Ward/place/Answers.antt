@@ -1,102 +1,158 @@
-use Rattle.std.proofs.Common.{◌≡◌, ◌+◌, true, List, [], ◌∷◌, ◌++◌, None, Some, IsSome, refl, sym, ap, ◌∙◌, subst, arith, Option, ℕ, OnErr}
+use Rattle.std.proofs.Common.{◌≡◌, ◌+◌, ◌<◌, Bool, true, false, List, [], ◌∷◌, ◌++◌, length, None, Some, SomeIff, IsSome, ◌↔◌, refl, sym, ap, ◌∙◌, subst, arith, Option, ℕ, OnErr}
 use Rattle.std.specs.Prelude.{slice_set}
 use Rattle.std.specs.FinMap as fin
 use Rattle.std.proofs.lemmas.List.{length-set}
 use Rattle.std.proofs.lemmas.Option.{slice_get_within}
 use Rattle.std.proofs.lemmas.Result.{IfOk-from_err}
+use Rattle.exh_prefix.specs.declared.prefix.TheConstants.{LIMIT}
 use Rattle.exh_prefix.specs.Prefix.{low_of}
+use Rattle.exh_notice.specs.declared.entry.Entry.{Entry}
 use Rattle.exh_notice.specs.declared.entry.Kind.TheVariants.{Split}
 use Rattle.exh_notice.specs.declared.notice.Notice.{Notice}
-use Rattle.exh_table.specs.Table.{TableMap, table_at, version_of}
-use Rattle.exh_page.specs.Page.{low_bound}
+use Rattle.exh_table.specs.Table.{TableMap, table_with, version_of}
+use Rattle.exh_page.specs.declared.page.Page.{Page}
+use Rattle.exh_page.specs.declared.page.Page.TheVariants.{Live}
+use Rattle.exh_page.specs.Page.{IsWellFormed, low_bound}
+use Rattle.exh_halves.specs.Halves.{AreHalvesOf}
+use Rattle.exh_halves.specs.declared.halves.Halves.{Halves}
+use Rattle.exh_legal.specs.Change.{IsForwardOf}
+use Rattle.exh_legal.specs.Laws.{LivePagesSplit, PagesAreFew, SplitsKeepLegal}
 use Rattle.exh_legal.specs.Versions.{index_of, next_notice}
 use Rattle.exh_legal.specs.PageIndex.{IndexMap, IsIndexOf}
-use Rattle.exh_legal.specs.Pages.{bare}
+use Rattle.exh_legal.specs.Pages.{IsAt, bare}
+use Rattle.exh_ward.specs.Kept.{IsKeptWard}
+use Rattle.exh_ward.specs.Told.{IsChangedTo, IsTold}
 use Rattle.exh_ward.specs.SplitStep.{IsSplitStep}
 use Rattle.exh_ward.specs.WardFault.{IsStoreFault, IsTellingFault, CountsFailures}
 use Rattle.exh_ward.specs.WardState.{WardState, IsUnchanged}
 use Rattle.exh_ward.specs.declared.ward_fault.WardFault.TheVariants.{Memory}
 use Rattle.exh_ward.proofs.AnswersAreLeft.{few_pages}
-use Rattle.exh_ward.proofs.ChangesAreTold.{index_back, index_grown, kept_told, kept_undone, notice_made, refused_so, stands, state_of, taken_back, taking_stores, telling_stores, told_as, told_seen, unchanged_seen}
+use Rattle.exh_ward.proofs.ChangesAreTold.{index_forgotten, index_grown, kept_told, kept_undone, notice_made, raised_back, refused_so, stands, state_of, taking_stores, telling_stores, told_as, told_more, told_seen, unchanged_seen}
 use Rattle.exh_ward.proofs.HalvesOfPages.{failed_with, found_forward}
-use Rattle.exh_ward.proofs.SplitsAreSteps.{apart, at_within, formed, halved, live_there, made_fresh, made_revived, not_greatest, split_changed, split_step, step_seen}
+use Rattle.exh_ward.proofs.SplitsAreSteps.{IsHalved, IsMade, apart, at_within, formed, halved, live_there, made_fresh, made_revived, not_greatest, split_changed, split_step, step_seen}
 use Rattle.exh_ward.proofs.Exits.{on_err, unchanged_read, memory_counted, taking_counted, made_counted, same_failures, store_fault}
 use Rattle.exh_ward.proofs.ward.Ward.place.Goals as goal
 
+-- what has a place in it isn't empty
+some_within : {at count : ℕ} → at < count → 0 < count
+some_within within = omega (arith, within)
+
+removed_same : (grown between back : IndexMap) (low : ℕ) → back ≡ fin.remove between low → between ≡ grown → back ≡ fin.remove grown low
+removed_same grown between back low removed same = removed ∙ ap (λ (index : IndexMap). fin.remove index low) same
+
+-- the halves of a page, and what the index finds at the right child's low bound
+module _ {K : Type 0} {pseudo : List ℕ → ℕ} {takes : Page → Type 0} {own : List Bool} {index : IndexMap} {told : ℕ} {w now : WardState K} (kept : IsKeptWard pseudo takes own index told w) (seen : w ≡ now) (page : ℕ) (halves : Halves)
+    (of : (old : Page) × IsAt now.pages page old × AreHalvesOf now.cap old halves) (splits : SplitsKeepLegal) (lives : LivePagesSplit) (few : PagesAreFew) (child : List Bool) (made : Option (List Bool)) (low : ℕ) (found : Option ℕ)
+    (unwrapped : made ≡ Some child) (child_is : SomeIff made (length halves.prefix < LIMIT) (halves.prefix ++ true ∷ [])) (low_is : low ≡ low_of child) (found_is : found ≡ fin.get index low) where
+  is : IsHalved w page halves
+  is = halved seen page halves of
+
+  right_low : low ≡ low_of (halves.prefix ++ true ∷ [])
+  right_low = low_is ∙ ap low_of (rw unwrapped at child_is).1
+
+  module _ (right : ℕ) (there : found ≡ Some right) where
+    forward_there : IsForwardOf w.pages (low_of (halves.prefix ++ true ∷ [])) right
+    forward_there = let live = live_there is in found_forward lives kept halves.prefix live.0 live.1 is.short (Some right) (sym there ∙ found_is ∙ ap (fin.get index) right_low)
+
+    forward_within : right < length w.pages
+    forward_within = let forward = forward_there in slice_get_within w.pages right _ forward.1
+
+    forward_apart : page ≡ right → ⊥
+    forward_apart = apart is right forward_there
+
+    module _ (left twin : Page) (left_is : left ≡ Live (halves.prefix ++ false ∷ []) (Some right) halves.left) (twin_is : twin ≡ Live (halves.prefix ++ true ∷ []) halves.link halves.right) where
+      abbrev revived : List Page
+      revived = slice_set (slice_set w.pages page left) right twin
+
+      abbrev told_of : Notice
+      told_of = next_notice w.number w.table halves.prefix (Split right)
+
+      again : IsMade w page halves.prefix right left twin revived
+      again = made_revived is right forward_there left twin left_is twin_is
+
+      again_formed : IsWellFormed pseudo left
+      again_formed = formed is kept.sound splits right revived again.split told_of refl few kept.bits kept.most page left again.left_at again.left_live
+
+      again_twin_formed : IsWellFormed pseudo twin
+      again_twin_formed = formed is kept.sound splits right revived again.split told_of refl few kept.bits kept.most right twin again.twin_at again.twin_live
+
+      again_changed : IsChangedTo pseudo w told_of revived
+      again_changed = split_changed is kept.sound splits right revived again.split told_of refl
+
+      again_step : (after : WardState K) → IsTold w told_of revived after → IsSplitStep now page told_of after
+      again_step after told =
+          let P : WardState K → Type 0 = λ old. IsSplitStep old page told_of after in
+          subst P seen (split_step is kept.sound splits right revived again.split told_of refl after told)
+
+  module _ (absent : found ≡ None) (right : ℕ) (right_last : right ≡ length w.pages) (left twin : Page) (left_is : left ≡ Live (halves.prefix ++ false ∷ []) (Some right) halves.left) (twin_is : twin ≡ Live (halves.prefix ++ true ∷ []) halves.link halves.right) where
+    abbrev grown_pages : List Page
+    grown_pages = slice_set w.pages page left ++ twin ∷ []
+
+    abbrev notice_of : Notice
+    notice_of = next_notice w.number w.table halves.prefix (Split right)
+
+    none : (other : ℕ) (page : Page) → IsAt w.pages other page → low_bound page ≡ low_of (halves.prefix ++ true ∷ []) → ⊥
+    none = let live = live_there is in found_forward lives kept halves.prefix live.0 live.1 is.short None (sym absent ∙ found_is ∙ ap (fin.get index) right_low)
+
+    anew : IsMade w page halves.prefix right left twin grown_pages
+    anew = made_fresh is none right right_last left twin left_is twin_is
+
+    anew_formed : IsWellFormed pseudo left
+    anew_formed = formed is kept.sound splits right grown_pages anew.split notice_of refl few kept.bits kept.most page left anew.left_at anew.left_live
+
+    anew_twin_formed : IsWellFormed pseudo twin
+    anew_twin_formed = formed is kept.sound splits right grown_pages anew.split notice_of refl few kept.bits kept.most right twin anew.twin_at anew.twin_live
+
+    module _ (stood : Option Entry) (stood_is : stood ≡ fin.get w.table halves.prefix) (next : ℕ) (next_is : next ≡ index_of now.table + 1) (notice : Notice) (notice_is : notice ≡ record { ward = w.number; index = next; prefix = halves.prefix; version = version_of stood + 1; kind = Split right })
+        (pages : List Page) (between notices : List Notice) (table : TableMap) (failures : ℕ) (pages_is : pages ≡ grown_pages) (pushed : notices ≡ between ++ notice ∷ []) (taken : between ≡ w.notices) (table_is : table ≡ table_with w.table notice_of) where
+      same_notice : notice ≡ notice_of
+      same_notice =
+          let I : WardState K → Type 0 = λ w. next ≡ index_of w.table + 1 in
+          notice_made w.number w.table halves.prefix (Split right) stood stood_is next (subst I (sym seen) next_is) notice notice_is
+
+      anew_told : notices ≡ w.notices ++ notice_of ∷ []
+      anew_told = told_more w.notices between notices notice notice_of pushed same_notice taken
+
+      anew_step : failures ≡ w.failures → IsSplitStep now page notice (record w { pages = pages; notices = notices; table = table; failures = failures })
+      anew_step same =
+          let after : WardState K = record w { pages = pages; notices = notices; table = table; failures = failures } in
+          step_seen seen page notice_of notice same_notice after (split_step is kept.sound splits right grown_pages anew.split notice_of refl after (told_seen w notice_of grown_pages pages notices table failures pages_is anew_told table_is same))
+
+      anew_kept : (takes_now : Page → Type 0) (same_takes : (page : Page) → takes page ↔ takes_now page) (grown index_now : IndexMap) → (fin.get index low ≡ None → grown ≡ fin.insert index low right) → index_now ≡ grown
+          → IsKeptWard pseudo takes_now own index_now told (record w { pages = pages; notices = notices; table = table; failures = failures })
+      anew_kept takes_now same_takes grown index_now grows index_is =
+          let changed = split_changed is kept.sound splits right grown_pages anew.split notice_of refl in
+          let indexed = index_grown index w.pages (slice_set w.pages page left) twin kept.indexed changed.places (length-set w.pages page left) (some_within (at_within is))
+          (λ other page at same. none other page at (same ∙ ap low_bound twin_is)) in
+          let same_index = index_is ∙ grows (sym found_is ∙ absent) ∙ ap (λ low. fin.insert index low right) (right_low ∙ sym (ap low_bound twin_is)) ∙ ap (fin.insert index (low_bound twin)) right_last in
+          let X : IndexMap → Type 0 = λ index. IsIndexOf index (bare grown_pages) in
+          kept_told kept takes_now same_takes notice_of grown_pages refl changed pages notices table failures index_now (subst X (sym same_index) indexed) pages_is anew_told table_is
+
 pub change_two-requires-clause-other_there : goal.change_two-requires-clause-other_there
 change_two-requires-clause-other_there g c =
-    let is = halved c.self.view_is c.args.page c.args.halves c.requires in
-    let child : c.unwrap.result ≡ c.args.halves.prefix ++ true ∷ [] = (rw c.unwrap.ensures at c.child.ensures).1 in
-    let low_is : c.low-low.result ≡ low_of (c.args.halves.prefix ++ true ∷ []) = c.low-low.ensures ∙ ap low_of child in
-    let found_is : c.in_ok-at.field-0 ≡ fin.get c.self.inside.index (low_of (c.args.halves.prefix ++ true ∷ [])) = c.in_ok-at.ensures.stood ∙ ap (fin.get c.self.inside.index) low_is in
-    let live = live_there is in
-    let forward = found_forward c.live_pages_split.ensures c.self.invariant c.args.halves.prefix live.0 live.1 is.short (Some c.in-Some.at) (sym c.in-Some.is ∙ found_is) in
-    slice_get_within (g.P.Pages.pages c.self.inside.store) c.in-Some.at _ forward.1
+    forward_within c.self.invariant c.self.view_is c.args.page c.args.halves c.requires c.splits_keep_legal.ensures c.live_pages_split.ensures c.pages_are_few.ensures c.unwrap.result c.child.result c.low-low.result c.in_ok-at.field-0 c.unwrap.ensures c.child.ensures c.low-low.ensures c.in_ok-at.ensures.stood c.in-Some.at c.in-Some.is
 
 pub change_two-requires-clause-apart : goal.change_two-requires-clause-apart
 change_two-requires-clause-apart g c =
-    let is = halved c.self.view_is c.args.page c.args.halves c.requires in
-    let child : c.unwrap.result ≡ c.args.halves.prefix ++ true ∷ [] = (rw c.unwrap.ensures at c.child.ensures).1 in
-    let low_is : c.low-low.result ≡ low_of (c.args.halves.prefix ++ true ∷ []) = c.low-low.ensures ∙ ap low_of child in
-    let found_is : c.in_ok-at.field-0 ≡ fin.get c.self.inside.index (low_of (c.args.halves.prefix ++ true ∷ [])) = c.in_ok-at.ensures.stood ∙ ap (fin.get c.self.inside.index) low_is in
-    let live = live_there is in
-    let forward = found_forward c.live_pages_split.ensures c.self.invariant c.args.halves.prefix live.0 live.1 is.short (Some c.in-Some.at) (sym c.in-Some.is ∙ found_is) in
-    apart is c.in-Some.at forward
+    forward_apart c.self.invariant c.self.view_is c.args.page c.args.halves c.requires c.splits_keep_legal.ensures c.live_pages_split.ensures c.pages_are_few.ensures c.unwrap.result c.child.result c.low-low.result c.in_ok-at.field-0 c.unwrap.ensures c.child.ensures c.low-low.ensures c.in_ok-at.ensures.stood c.in-Some.at c.in-Some.is
 
 pub change_two-requires-clause-formed : goal.change_two-requires-clause-formed
 change_two-requires-clause-formed g c =
-    let is = halved c.self.view_is c.args.page c.args.halves c.requires in
-    let child : c.unwrap.result ≡ c.args.halves.prefix ++ true ∷ [] = (rw c.unwrap.ensures at c.child.ensures).1 in
-    let low_is : c.low-low.result ≡ low_of (c.args.halves.prefix ++ true ∷ []) = c.low-low.ensures ∙ ap low_of child in
-    let found_is : c.in_ok-at.field-0 ≡ fin.get c.self.inside.index (low_of (c.args.halves.prefix ++ true ∷ [])) = c.in_ok-at.ensures.stood ∙ ap (fin.get c.self.inside.index) low_is in
-    let live = live_there is in
-    let sound = c.self.invariant.sound in
-    let forward = found_forward c.live_pages_split.ensures c.self.invariant c.args.halves.prefix live.0 live.1 is.short (Some c.in-Some.at) (sym c.in-Some.is ∙ found_is) in
-    let made = made_revived is c.in-Some.at forward c.pages_of-left.result.0 c.pages_of-left.result.1 c.pages_of-left.ensures.left c.pages_of-left.ensures.right in
-    let notice = next_notice c.self.inside.number c.self.inside.table c.args.halves.prefix (Split c.in-Some.at) in
-    formed is sound c.splits_keep_legal.ensures c.in-Some.at _ made.split notice refl c.pages_are_few.ensures c.self.invariant.bits c.self.invariant.most c.args.page c.pages_of-left.result.0 made.left_at made.left_live
+    again_formed c.self.invariant c.self.view_is c.args.page c.args.halves c.requires c.splits_keep_legal.ensures c.live_pages_split.ensures c.pages_are_few.ensures c.unwrap.result c.child.result c.low-low.result c.in_ok-at.field-0 c.unwrap.ensures c.child.ensures c.low-low.ensures c.in_ok-at.ensures.stood c.in-Some.at c.in-Some.is c.pages_of-left.result.0 c.pages_of-left.result.1 c.pages_of-left.ensures.left c.pages_of-left.ensures.right
 
 pub change_two-requires-clause-twin_formed : goal.change_two-requires-clause-twin_formed
 change_two-requires-clause-twin_formed g c =
-    let is = halved c.self.view_is c.args.page c.args.halves c.requires in
-    let child : c.unwrap.result ≡ c.args.halves.prefix ++ true ∷ [] = (rw c.unwrap.ensures at c.child.ensures).1 in
-    let low_is : c.low-low.result ≡ low_of (c.args.halves.prefix ++ true ∷ []) = c.low-low.ensures ∙ ap low_of child in
-    let found_is : c.in_ok-at.field-0 ≡ fin.get c.self.inside.index (low_of (c.args.halves.prefix ++ true ∷ [])) = c.in_ok-at.ensures.stood ∙ ap (fin.get c.self.inside.index) low_is in
-    let live = live_there is in
-    let sound = c.self.invariant.sound in
-    let forward = found_forward c.live_pages_split.ensures c.self.invariant c.args.halves.prefix live.0 live.1 is.short (Some c.in-Some.at) (sym c.in-Some.is ∙ found_is) in
-    let made = made_revived is c.in-Some.at forward c.pages_of-left.result.0 c.pages_of-left.result.1 c.pages_of-left.ensures.left c.pages_of-left.ensures.right in
-    let notice = next_notice c.self.inside.number c.self.inside.table c.args.halves.prefix (Split c.in-Some.at) in
-    formed is sound c.splits_keep_legal.ensures c.in-Some.at _ made.split notice refl c.pages_are_few.ensures c.self.invariant.bits c.self.invariant.most c.in-Some.at c.pages_of-left.result.1 made.twin_at made.twin_live
+    again_twin_formed c.self.invariant c.self.view_is c.args.page c.args.halves c.requires c.splits_keep_legal.ensures c.live_pages_split.ensures c.pages_are_few.ensures c.unwrap.result c.child.result c.low-low.result c.in_ok-at.field-0 c.unwrap.ensures c.child.ensures c.low-low.ensures c.in_ok-at.ensures.stood c.in-Some.at c.in-Some.is c.pages_of-left.result.0 c.pages_of-left.result.1 c.pages_of-left.ensures.left c.pages_of-left.ensures.right
 
 pub change_two-requires-clause-changed : goal.change_two-requires-clause-changed
 change_two-requires-clause-changed g c =
-    let is = halved c.self.view_is c.args.page c.args.halves c.requires in
-    let child : c.unwrap.result ≡ c.args.halves.prefix ++ true ∷ [] = (rw c.unwrap.ensures at c.child.ensures).1 in
-    let low_is : c.low-low.result ≡ low_of (c.args.halves.prefix ++ true ∷ []) = c.low-low.ensures ∙ ap low_of child in
-    let found_is : c.in_ok-at.field-0 ≡ fin.get c.self.inside.index (low_of (c.args.halves.prefix ++ true ∷ [])) = c.in_ok-at.ensures.stood ∙ ap (fin.get c.self.inside.index) low_is in
-    let live = live_there is in
-    let sound = c.self.invariant.sound in
-    let forward = found_forward c.live_pages_split.ensures c.self.invariant c.args.halves.prefix live.0 live.1 is.short (Some c.in-Some.at) (sym c.in-Some.is ∙ found_is) in
-    let made = made_revived is c.in-Some.at forward c.pages_of-left.result.0 c.pages_of-left.result.1 c.pages_of-left.ensures.left c.pages_of-left.ensures.right in
-    let notice = next_notice c.self.inside.number c.self.inside.table c.args.halves.prefix (Split c.in-Some.at) in
-    split_changed is sound c.splits_keep_legal.ensures c.in-Some.at _ made.split notice refl
+    again_changed c.self.invariant c.self.view_is c.args.page c.args.halves c.requires c.splits_keep_legal.ensures c.live_pages_split.ensures c.pages_are_few.ensures c.unwrap.result c.child.result c.low-low.result c.in_ok-at.field-0 c.unwrap.ensures c.child.ensures c.low-low.ensures c.in_ok-at.ensures.stood c.in-Some.at c.in-Some.is c.pages_of-left.result.0 c.pages_of-left.result.1 c.pages_of-left.ensures.left c.pages_of-left.ensures.right
 
 pub returns-in-Some-clause-ok : goal.returns-in-Some-clause-ok
 returns-in-Some-clause-ok g c =
-    let is = halved c.self.view_is c.args.page c.args.halves c.requires in
-    let child : c.unwrap.result ≡ c.args.halves.prefix ++ true ∷ [] = (rw c.unwrap.ensures at c.child.ensures).1 in
-    let low_is : c.low-low.result ≡ low_of (c.args.halves.prefix ++ true ∷ []) = c.low-low.ensures ∙ ap low_of child in
-    let found_is : c.in_ok-at.field-0 ≡ fin.get c.self.inside.index (low_of (c.args.halves.prefix ++ true ∷ [])) = c.in_ok-at.ensures.stood ∙ ap (fin.get c.self.inside.index) low_is in
-    let live = live_there is in
-    let sound = c.self.invariant.sound in
-    let forward = found_forward c.live_pages_split.ensures c.self.invariant c.args.halves.prefix live.0 live.1 is.short (Some c.in-Some.at) (sym c.in-Some.is ∙ found_is) in
-    let made = made_revived is c.in-Some.at forward c.pages_of-left.result.0 c.pages_of-left.result.1 c.pages_of-left.ensures.left c.pages_of-left.ensures.right in
     let notice = next_notice c.self.inside.number c.self.inside.table c.args.halves.prefix (Split c.in-Some.at) in
-    let after = c.change_two.new.self in
-    let P : WardState g.row.K.Denot → Type 0 = λ old. IsSplitStep old c.args.page notice after in
-    told_as c.change_two.result notice (λ notice. IsSplitStep c.args.self.now c.args.page notice after) _ c.change_two.ensures.notice c.change_two.ensures.ok
-    (λ told. subst P c.self.view_is (split_step is sound c.splits_keep_legal.ensures c.in-Some.at _ made.split notice refl after told))
+    told_as c.change_two.result notice (λ notice. IsSplitStep c.args.self.now c.args.page notice c.change_two.new.self) _ c.change_two.ensures.notice c.change_two.ensures.ok
+    (again_step c.self.invariant c.self.view_is c.args.page c.args.halves c.requires c.splits_keep_legal.ensures c.live_pages_split.ensures c.pages_are_few.ensures c.unwrap.result c.child.result c.low-low.result c.in_ok-at.field-0 c.unwrap.ensures c.child.ensures c.low-low.ensures c.in_ok-at.ensures.stood c.in-Some.at c.in-Some.is c.pages_of-left.result.0 c.pages_of-left.result.1 c.pages_of-left.ensures.left c.pages_of-left.ensures.right c.change_two.new.self)
 
 pub returns-in-Some-clause-fault : goal.returns-in-Some-clause-fault
 returns-in-Some-clause-fault g c =
@@ -107,11 +163,8 @@ returns-in-Some-clause-fault g c =
 
 pub invariant_of-self-in_err-stood : goal.invariant_of-self-in_err-stood
 invariant_of-self-in_err-stood g c =
-    let none_here : fin.get c.self.inside.index c.low-low.result ≡ None = sym c.in_ok-at.ensures.stood ∙ c.in_default.is in
-    let grown_is = c.in_ok-at.ensures.added none_here in
-    let undo = index_back c.self.inside.index c.low-low.result c.count-count.result none_here in
-    let back = c.in_err-stood.ensures.index_err ∙ ap (λ (index : IndexMap). fin.remove index c.low-low.result) grown_is ∙ undo in
-    kept_undone c.self.invariant (g.P.Pages.takes c.self.inside.store) (λ page. (λ takes. takes, λ takes. takes)) _ _ _ _ _ refl c.take_or_forget.ensures.items c.in_err-stood.ensures.err back
+    kept_undone c.self.invariant (g.P.Pages.takes c.self.inside.store) (λ page. (λ takes. takes, λ takes. takes)) (g.P.Pages.pages c.self.inside.store) c.take_or_forget.new.notices.items c.take_or_forget.new.table (g.P.Pages.failures c.self.inside.store) c.take_or_forget.new.index refl c.take_or_forget.ensures.items c.in_err-stood.ensures.err
+    (index_forgotten c.self.inside.index c.get_or_insert.new.self c.take_or_forget.new.index c.low-low.result c.count-count.result c.in_ok-at.field-0 c.in_ok-at.ensures.stood c.in_default.is c.in_ok-at.ensures.added c.in_err-stood.ensures.index_err)
 
 pub returns-in_err-stood-clause-fault : goal.returns-in_err-stood-clause-fault
 returns-in_err-stood-clause-fault g c =
@@ -130,35 +183,11 @@ grow_and_set-requires-clause-room g c =
 
 pub grow_and_set-requires-clause-new_taken : goal.grow_and_set-requires-clause-new_taken
 grow_and_set-requires-clause-new_taken g c =
-    let is = halved c.self.view_is c.args.page c.args.halves c.requires in
-    let child : c.unwrap.result ≡ c.args.halves.prefix ++ true ∷ [] = (rw c.unwrap.ensures at c.child.ensures).1 in
-    let low_is : c.low-low.result ≡ low_of (c.args.halves.prefix ++ true ∷ []) = c.low-low.ensures ∙ ap low_of child in
-    let found_is : c.in_ok-at.field-0 ≡ fin.get c.self.inside.index (low_of (c.args.halves.prefix ++ true ∷ [])) = c.in_ok-at.ensures.stood ∙ ap (fin.get c.self.inside.index) low_is in
-    let live = live_there is in
-    let sound = c.self.invariant.sound in
-    let table = c.self.inside.table in
-    let notice = next_notice c.self.inside.number table c.args.halves.prefix (Split c.count-count.result) in
-    let none = found_forward c.live_pages_split.ensures c.self.invariant c.args.halves.prefix live.0 live.1 is.short None (sym c.in_default.is ∙ found_is) in
-    let left = c.pages_of-left-2.result.0 in
-    let twin = c.pages_of-left-2.result.1 in
-    let made = made_fresh is none c.count-count.result c.count-count.ensures left twin c.pages_of-left-2.ensures.left c.pages_of-left-2.ensures.right in
-    c.self.invariant.takes_all twin (formed is sound c.splits_keep_legal.ensures c.count-count.result _ made.split notice refl c.pages_are_few.ensures c.self.invariant.bits c.self.invariant.most c.count-count.result twin made.twin_at made.twin_live)
+    c.self.invariant.takes_all c.pages_of-left-2.result.1 (anew_twin_formed c.self.invariant c.self.view_is c.args.page c.args.halves c.requires c.splits_keep_legal.ensures c.live_pages_split.ensures c.pages_are_few.ensures c.unwrap.result c.child.result c.low-low.result c.in_ok-at.field-0 c.unwrap.ensures c.child.ensures c.low-low.ensures c.in_ok-at.ensures.stood c.in_default.is c.count-count.result c.count-count.ensures c.pages_of-left-2.result.0 c.pages_of-left-2.result.1 c.pages_of-left-2.ensures.left c.pages_of-left-2.ensures.right)
 
 pub grow_and_set-requires-clause-taken : goal.grow_and_set-requires-clause-taken
 grow_and_set-requires-clause-taken g c =
-    let is = halved c.self.view_is c.args.page c.args.halves c.requires in
-    let child : c.unwrap.result ≡ c.args.halves.prefix ++ true ∷ [] = (rw c.unwrap.ensures at c.child.ensures).1 in
-    let low_is : c.low-low.result ≡ low_of (c.args.halves.prefix ++ true ∷ []) = c.low-low.ensures ∙ ap low_of child in
-    let found_is : c.in_ok-at.field-0 ≡ fin.get c.self.inside.index (low_of (c.args.halves.prefix ++ true ∷ [])) = c.in_ok-at.ensures.stood ∙ ap (fin.get c.self.inside.index) low_is in
-    let live = live_there is in
-    let sound = c.self.invariant.sound in
-    let table = c.self.inside.table in
-    let notice = next_notice c.self.inside.number table c.args.halves.prefix (Split c.count-count.result) in
-    let none = found_forward c.live_pages_split.ensures c.self.invariant c.args.halves.prefix live.0 live.1 is.short None (sym c.in_default.is ∙ found_is) in
-    let left = c.pages_of-left-2.result.0 in
-    let twin = c.pages_of-left-2.result.1 in
-    let made = made_fresh is none c.count-count.result c.count-count.ensures left twin c.pages_of-left-2.ensures.left c.pages_of-left-2.ensures.right in
-    c.self.invariant.takes_all left (formed is sound c.splits_keep_legal.ensures c.count-count.result _ made.split notice refl c.pages_are_few.ensures c.self.invariant.bits c.self.invariant.most c.args.page left made.left_at made.left_live)
+    c.self.invariant.takes_all c.pages_of-left-2.result.0 (anew_formed c.self.invariant c.self.view_is c.args.page c.args.halves c.requires c.splits_keep_legal.ensures c.live_pages_split.ensures c.pages_are_few.ensures c.unwrap.result c.child.result c.low-low.result c.in_ok-at.field-0 c.unwrap.ensures c.child.ensures c.low-low.ensures c.in_ok-at.ensures.stood c.in_default.is c.count-count.result c.count-count.ensures c.pages_of-left-2.result.0 c.pages_of-left-2.result.1 c.pages_of-left-2.ensures.left c.pages_of-left-2.ensures.right)
 
 pub put_back-requires : goal.put_back-requires
 put_back-requires g c =
@@ -169,21 +198,14 @@ put_back-requires g c =
 
 pub invariant_of-self-in-Err : goal.invariant_of-self-in-Err
 invariant_of-self-in-Err g c =
-    let none_here : fin.get c.self.inside.index c.low-low.result ≡ None = sym c.in_ok-at.ensures.stood ∙ c.in_default.is in
-    let grown_is = c.in_ok-at.ensures.added none_here in
-    let undo = index_back c.self.inside.index c.low-low.result c.count-count.result none_here in
-    let table = c.self.inside.table in
-    let notice = next_notice c.self.inside.number table c.args.halves.prefix (Split c.count-count.result) in
-    let back = c.remove.ensures ∙ ap (λ (index : IndexMap). fin.remove index c.low-low.result) (c.in_ok-stood.ensures.index_ok ∙ grown_is) ∙ undo in
-    let undone = c.put_back.ensures ∙ ap (λ (t : TableMap). table_at t c.args.halves.prefix c.in_ok-stood.stood) c.in_ok-stood.ensures.ok ∙ taken_back table notice c.in_ok-stood.stood c.in_ok-stood.ensures.stood in
-    kept_undone c.self.invariant _ c.grow_and_set.ensures.takes _ _ _ _ _ c.in-Err.ensures.err c.take_or_forget.ensures.items undone back
+    kept_undone c.self.invariant (g.P.Pages.takes c.grow_and_set.new.self) c.grow_and_set.ensures.takes (g.P.Pages.pages c.grow_and_set.new.self) c.take_or_forget.new.notices.items c.put_back.new.self (g.P.Pages.failures c.grow_and_set.new.self) c.remove.new.self c.in-Err.ensures.err c.take_or_forget.ensures.items
+    (raised_back c.self.inside.table c.take_or_forget.new.table c.put_back.new.self c.args.halves.prefix (Split c.count-count.result) c.in_ok-stood.stood c.in_ok-stood.ensures.stood c.in_ok-stood.ensures.ok c.put_back.ensures)
+    (index_forgotten c.self.inside.index c.get_or_insert.new.self c.remove.new.self c.low-low.result c.count-count.result c.in_ok-at.field-0 c.in_ok-at.ensures.stood c.in_default.is c.in_ok-at.ensures.added (removed_same c.get_or_insert.new.self c.take_or_forget.new.index c.remove.new.self c.low-low.result c.remove.ensures c.in_ok-stood.ensures.index_ok))
 
 pub returns-in-Err-clause-err : goal.returns-in-Err-clause-err
 returns-in-Err-clause-err g c =
-    let table = c.self.inside.table in
-    let notice = next_notice c.self.inside.number table c.args.halves.prefix (Split c.count-count.result) in
-    let undone = c.put_back.ensures ∙ ap (λ (t : TableMap). table_at t c.args.halves.prefix c.in_ok-stood.stood) c.in_ok-stood.ensures.ok ∙ taken_back table notice c.in_ok-stood.stood c.in_ok-stood.ensures.stood in
-    unchanged_seen c.self.view_is _ _ _ _ c.in-Err.ensures.err c.take_or_forget.ensures.items undone
+    unchanged_seen c.self.view_is (g.P.Pages.pages c.grow_and_set.new.self) c.take_or_forget.new.notices.items c.put_back.new.self (g.P.Pages.failures c.grow_and_set.new.self) c.in-Err.ensures.err c.take_or_forget.ensures.items
+    (raised_back c.self.inside.table c.take_or_forget.new.table c.put_back.new.self c.args.halves.prefix (Split c.count-count.result) c.in_ok-stood.stood c.in_ok-stood.ensures.stood c.in_ok-stood.ensures.ok c.put_back.ensures)
 
 pub returns-in-Err-clause-sound : goal.returns-in-Err-clause-sound
 returns-in-Err-clause-sound g c =
@@ -191,75 +213,36 @@ returns-in-Err-clause-sound g c =
 
 pub invariant_of-self-2 : goal.invariant_of-self-2
 invariant_of-self-2 g c =
-    let is = halved c.self.view_is c.args.page c.args.halves c.requires in
-    let child : c.unwrap.result ≡ c.args.halves.prefix ++ true ∷ [] = (rw c.unwrap.ensures at c.child.ensures).1 in
-    let low_is : c.low-low.result ≡ low_of (c.args.halves.prefix ++ true ∷ []) = c.low-low.ensures ∙ ap low_of child in
-    let found_is : c.in_ok-at.field-0 ≡ fin.get c.self.inside.index (low_of (c.args.halves.prefix ++ true ∷ [])) = c.in_ok-at.ensures.stood ∙ ap (fin.get c.self.inside.index) low_is in
-    let live = live_there is in
-    let sound = c.self.invariant.sound in
-    let none_here : fin.get c.self.inside.index c.low-low.result ≡ None = sym c.in_ok-at.ensures.stood ∙ c.in_default.is in
-    let grown_is = c.in_ok-at.ensures.added none_here in
-    let table = c.self.inside.table in
-    let notice = next_notice c.self.inside.number table c.args.halves.prefix (Split c.count-count.result) in
-    let none = found_forward c.live_pages_split.ensures c.self.invariant c.args.halves.prefix live.0 live.1 is.short None (sym c.in_default.is ∙ found_is) in
-    let left = c.pages_of-left-2.result.0 in
-    let twin = c.pages_of-left-2.result.1 in
-    let made = made_fresh is none c.count-count.result c.count-count.ensures left twin c.pages_of-left-2.ensures.left c.pages_of-left-2.ensures.right in
-    let changed = split_changed is sound c.splits_keep_legal.ensures c.count-count.result _ made.split notice refl in
-    let I : WardState g.row.K.Denot → Type 0 = λ w. c.next_index-index.result ≡ index_of w.table + 1 in
-    let at_next = subst I (sym c.self.view_is) c.next_index-index.ensures in
-    let same_notice = notice_made c.self.inside.number table c.args.halves.prefix (Split c.count-count.result) c.in_ok-stood.stood c.in_ok-stood.ensures.stood c.next_index-index.result at_next c.notice_after.result c.notice_after.ensures in
-    let told = c.push_reserved.ensures.items ∙ ap (λ (told : Notice). c.take_or_forget.new.notices.items ++ told ∷ []) same_notice ∙ ap (λ (notices : List Notice). notices ++ notice ∷ []) c.take_or_forget.ensures.items in
-    let pages = g.P.Pages.pages c.self.inside.store in
-    let new = slice_set pages c.args.page left ++ twin ∷ [] in
-    let grown = index_grown c.self.inside.index pages (slice_set pages c.args.page left) twin c.self.invariant.indexed changed.places (length-set pages c.args.page left) (omega (arith, at_within is))
-    (λ other page at same. none other page at (same ∙ ap low_bound c.pages_of-left-2.ensures.right)) in
-    let index_is = c.in_ok-stood.ensures.index_ok ∙ grown_is ∙ ap (λ low. fin.insert c.self.inside.index low c.count-count.result) (low_is ∙ sym (ap low_bound c.pages_of-left-2.ensures.right)) ∙ ap (fin.insert c.self.inside.index (low_bound twin)) c.count-count.ensures in
-    let X : IndexMap → Type 0 = λ index. IsIndexOf index (bare new) in
-    kept_told c.self.invariant _ c.grow_and_set.ensures.takes notice new refl changed _ _ _ _ _ (subst X (sym index_is) grown) c.in_default-grow_and_set.ensures.ok told c.in_ok-stood.ensures.ok
+    anew_kept c.self.invariant c.self.view_is c.args.page c.args.halves c.requires c.splits_keep_legal.ensures c.live_pages_split.ensures c.pages_are_few.ensures c.unwrap.result c.child.result c.low-low.result c.in_ok-at.field-0 c.unwrap.ensures c.child.ensures c.low-low.ensures c.in_ok-at.ensures.stood c.in_default.is c.count-count.result c.count-count.ensures c.pages_of-left-2.result.0 c.pages_of-left-2.result.1 c.pages_of-left-2.ensures.left c.pages_of-left-2.ensures.right
+    c.in_ok-stood.stood c.in_ok-stood.ensures.stood c.next_index-index.result c.next_index-index.ensures c.notice_after.result c.notice_after.ensures
+    (g.P.Pages.pages c.grow_and_set.new.self) c.take_or_forget.new.notices.items c.push_reserved.new.self.items c.take_or_forget.new.table (g.P.Pages.failures c.grow_and_set.new.self) c.in_default-grow_and_set.ensures.ok c.push_reserved.ensures.items c.take_or_forget.ensures.items c.in_ok-stood.ensures.ok
+    (g.P.Pages.takes c.grow_and_set.new.self) c.grow_and_set.ensures.takes c.get_or_insert.new.self c.take_or_forget.new.index c.in_ok-at.ensures.added c.in_ok-stood.ensures.index_ok
 
 pub returns-clause-ok : goal.returns-clause-ok
 returns-clause-ok g c =
-    let is = halved c.self.view_is c.args.page c.args.halves c.requires in
-    let child : c.unwrap.result ≡ c.args.halves.prefix ++ true ∷ [] = (rw c.unwrap.ensures at c.child.ensures).1 in
-    let low_is : c.low-low.result ≡ low_of (c.args.halves.prefix ++ true ∷ []) = c.low-low.ensures ∙ ap low_of child in
-    let found_is : c.in_ok-at.field-0 ≡ fin.get c.self.inside.index (low_of (c.args.halves.prefix ++ true ∷ [])) = c.in_ok-at.ensures.stood ∙ ap (fin.get c.self.inside.index) low_is in
-    let live = live_there is in
-    let sound = c.self.invariant.sound in
-    let table = c.self.inside.table in
-    let notice = next_notice c.self.inside.number table c.args.halves.prefix (Split c.count-count.result) in
-    let none = found_forward c.live_pages_split.ensures c.self.invariant c.args.halves.prefix live.0 live.1 is.short None (sym c.in_default.is ∙ found_is) in
-    let left = c.pages_of-left-2.result.0 in
-    let twin = c.pages_of-left-2.result.1 in
-    let made = made_fresh is none c.count-count.result c.count-count.ensures left twin c.pages_of-left-2.ensures.left c.pages_of-left-2.ensures.right in
-    let I : WardState g.row.K.Denot → Type 0 = λ w. c.next_index-index.result ≡ index_of w.table + 1 in
-    let at_next = subst I (sym c.self.view_is) c.next_index-index.ensures in
-    let same_notice = notice_made c.self.inside.number table c.args.halves.prefix (Split c.count-count.result) c.in_ok-stood.stood c.in_ok-stood.ensures.stood c.next_index-index.result at_next c.notice_after.result c.notice_after.ensures in
-    let told = c.push_reserved.ensures.items ∙ ap (λ (told : Notice). c.take_or_forget.new.notices.items ++ told ∷ []) same_notice ∙ ap (λ (notices : List Notice). notices ++ notice ∷ []) c.take_or_forget.ensures.items in
-    let pages = g.P.Pages.pages c.self.inside.store in
-    let new = slice_set pages c.args.page left ++ twin ∷ [] in
-    let seen = told_seen (state_of c.self.view_is) notice new _ _ _ _ c.in_default-grow_and_set.ensures.ok told c.in_ok-stood.ensures.ok c.in_default-grow_and_set.ensures.failures in
-    let step = split_step is sound c.splits_keep_legal.ensures c.count-count.result _ made.split notice refl _ seen in
-    step_seen c.self.view_is c.args.page notice c.notice_after.result same_notice _ step
+    anew_step c.self.invariant c.self.view_is c.args.page c.args.halves c.requires c.splits_keep_legal.ensures c.live_pages_split.ensures c.pages_are_few.ensures c.unwrap.result c.child.result c.low-low.result c.in_ok-at.field-0 c.unwrap.ensures c.child.ensures c.low-low.ensures c.in_ok-at.ensures.stood c.in_default.is c.count-count.result c.count-count.ensures c.pages_of-left-2.result.0 c.pages_of-left-2.result.1 c.pages_of-left-2.ensures.left c.pages_of-left-2.ensures.right
+    c.in_ok-stood.stood c.in_ok-stood.ensures.stood c.next_index-index.result c.next_index-index.ensures c.notice_after.result c.notice_after.ensures
+    (g.P.Pages.pages c.grow_and_set.new.self) c.take_or_forget.new.notices.items c.push_reserved.new.self.items c.take_or_forget.new.table (g.P.Pages.failures c.grow_and_set.new.self) c.in_default-grow_and_set.ensures.ok c.push_reserved.ensures.items c.take_or_forget.ensures.items c.in_ok-stood.ensures.ok
+    c.in_default-grow_and_set.ensures.failures
 
 pub returns-clause-sound : goal.returns-clause-sound
 returns-clause-sound g c =
     (invariant_of-self-2 g c).sound
 
 pub invariant_of-self : goal.invariant_of-self
-invariant_of-self g c = kept_undone c.self.invariant (g.P.Pages.takes c.self.inside.store) (λ page. (λ takes. takes, λ takes. takes)) _ _ _ _ _ refl refl refl c.in_err-at.ensures.err
+invariant_of-self g c = kept_undone c.self.invariant (g.P.Pages.takes c.self.inside.store) (λ page. (λ takes. takes, λ takes. takes)) (g.P.Pages.pages c.self.inside.store) c.self.inside.notices.items c.self.inside.table (g.P.Pages.failures c.self.inside.store) c.get_or_insert.new.self refl refl refl c.in_err-at.ensures.err
 
 pub returns-in_err-at-clause-ok : goal.returns-in_err-at-clause-ok
 returns-in_err-at-clause-ok g c = IfOk-from_err c.from_residual.result _ c.from_residual.ensures.0
 
 pub returns-in_err-at-clause-err : goal.returns-in_err-at-clause-err
-returns-in_err-at-clause-err g c = on_err c.from_residual.result (unchanged_read c.self.view_is _ _ refl)
+returns-in_err-at-clause-err g c = on_err c.from_residual.result (unchanged_read c.self.view_is (g.P.Pages.pages c.self.inside.store) (g.P.Pages.failures c.self.inside.store) refl)
 
 pub returns-in_err-at-clause-fault : goal.returns-in_err-at-clause-fault
 returns-in_err-at-clause-fault g c = failed_with c.from_residual.result Memory IsStoreFault c.from_residual.ensures.1 tt
 
 pub returns-in_err-at-clause-failures : goal.returns-in_err-at-clause-failures
-returns-in_err-at-clause-failures g c = memory_counted c.self.view_is c.from_residual.result _ refl c.from_residual.ensures.1
+returns-in_err-at-clause-failures g c = memory_counted c.self.view_is c.from_residual.result (g.P.Pages.failures c.self.inside.store) refl c.from_residual.ensures.1
 
 pub returns-in_err-at-clause-sound : goal.returns-in_err-at-clause-sound
 returns-in_err-at-clause-sound g c = (invariant_of-self g c).sound
@@ -270,7 +253,7 @@ pages_of-left-requires g c = c.requires.2.short
 pub invariant_of-self-in-Some : goal.invariant_of-self-in-Some
 invariant_of-self-in-Some g c =
     let S : Option ℕ → Type 0 = λ found. IsSome found in
-    kept_undone c.self.invariant (g.P.Pages.takes c.self.inside.store) (λ page. (λ takes. takes, λ takes. takes)) _ _ _ _ _ refl refl refl (c.in_ok-at.ensures.there (subst S (sym c.in-Some.is ∙ c.in_ok-at.ensures.stood) refl))
+    kept_undone c.self.invariant (g.P.Pages.takes c.self.inside.store) (λ page. (λ takes. takes, λ takes. takes)) (g.P.Pages.pages c.self.inside.store) c.self.inside.notices.items c.self.inside.table (g.P.Pages.failures c.self.inside.store) c.get_or_insert.new.self refl refl refl (c.in_ok-at.ensures.there (subst S (sym c.in-Some.is ∙ c.in_ok-at.ensures.stood) refl))
 
 pub change_two-requires-clause-there : goal.change_two-requires-clause-there
 change_two-requires-clause-there g c = at_within (halved c.self.view_is c.args.page c.args.halves c.requires)
@@ -295,11 +278,11 @@ pub returns-in_err-stood-clause-ok : goal.returns-in_err-stood-clause-ok
 returns-in_err-stood-clause-ok g c = IfOk-from_err c.from_residual-in_err-stood.result _ c.from_residual-in_err-stood.ensures.0
 
 pub returns-in_err-stood-clause-err : goal.returns-in_err-stood-clause-err
-returns-in_err-stood-clause-err g c = on_err c.from_residual-in_err-stood.result (unchanged_seen c.self.view_is _ _ _ _ refl c.take_or_forget.ensures.items c.in_err-stood.ensures.err)
+returns-in_err-stood-clause-err g c = on_err c.from_residual-in_err-stood.result (unchanged_seen c.self.view_is (g.P.Pages.pages c.self.inside.store) c.take_or_forget.new.notices.items c.take_or_forget.new.table (g.P.Pages.failures c.self.inside.store) refl c.take_or_forget.ensures.items c.in_err-stood.ensures.err)
 
 pub returns-in_err-stood-clause-failures : goal.returns-in_err-stood-clause-failures
 returns-in_err-stood-clause-failures g c =
-    taking_counted c.self.view_is c.from_residual-in_err-stood.result c.self.inside.table c.args.halves.prefix c.in_err-stood.field-0.0 _ refl c.from_residual-in_err-stood.ensures.1 c.in_err-stood.ensures.fault
+    taking_counted c.self.view_is c.from_residual-in_err-stood.result c.self.inside.table c.args.halves.prefix c.in_err-stood.field-0.0 (g.P.Pages.failures c.self.inside.store) refl c.from_residual-in_err-stood.ensures.1 c.in_err-stood.ensures.fault
 
 pub returns-in_err-stood-clause-sound : goal.returns-in_err-stood-clause-sound
 returns-in_err-stood-clause-sound g c = (invariant_of-self-in_err-stood g c).sound
@@ -311,7 +294,7 @@ pub returns-in-Err-clause-fault : goal.returns-in-Err-clause-fault
 returns-in-Err-clause-fault g c = subst IsStoreFault (sym c.into.ensures) (store_fault c.in-Err.fault)
 
 pub returns-in-Err-clause-failures : goal.returns-in-Err-clause-failures
-returns-in-Err-clause-failures g c = made_counted c.self.view_is Notice c.into.result c.in-Err.fault _ c.into.ensures c.in-Err.ensures.failures
+returns-in-Err-clause-failures g c = made_counted c.self.view_is Notice c.into.result c.in-Err.fault (g.P.Pages.failures c.grow_and_set.new.self) c.into.ensures c.in-Err.ensures.failures
 
 pub notice_after-requires : goal.notice_after-requires
 notice_after-requires g c = λ most. c.in_ok-stood.ensures.more (sym (ap version_of c.in_ok-stood.ensures.stood) ∙ most)
@@ -326,4 +309,4 @@ pub returns-clause-fault : goal.returns-clause-fault
 returns-clause-fault g c = tt
 
 pub returns-clause-failures : goal.returns-clause-failures
-returns-clause-failures g c = same_failures c.self.view_is _ c.in_default-grow_and_set.ensures.failures
+returns-clause-failures g c = same_failures c.self.view_is (g.P.Pages.failures c.grow_and_set.new.self) c.in_default-grow_and_set.ensures.failures
