@@ -4,11 +4,11 @@
 ghost use Rattle.std.specs.Prelude.{IfSome};
 ghost use Rattle.exh_settings.specs.StormConfig.{IsStormConfig};
 
-use exh_images::FramedMaker;
+use exh_frames::FramedMaker;
+use exh_live::{NoWatch, storm};
 use exh_notes::{Expect, Notes};
 use exh_script::{ServeFault, serve_from};
 use exh_settings::{CALLERS_LIMIT, CALLS_LIMIT, StormConfig};
-use exh_storm::{NoWatch, storm};
 use exh_stream::Output;
 use exh_walk::OpenGate;
 use std::io;

@@ -11,12 +11,10 @@
 mod images;
 
 use crate::images::run_images;
-use beside_lines::run_lines;
-use beside_live::play_live;
-use beside_refusals::run_refusals;
+use beside_live::{play_live, play_threads};
 use beside_rows::run_rows;
-use beside_threads::play_threads;
-use exh_runs::{Named, Status, named, own_words};
+use beside_worlds::{run_lines, run_refusals};
+use exh_fixtures::{Named, Status, named, own_words};
 use std::process::ExitCode;
 use std::sync::Wait;
 use std::thread::Threads;

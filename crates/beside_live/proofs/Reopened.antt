@@ -5,7 +5,7 @@ use Rattle.std.proofs.lemmas.Option.{get_or_from_slice_get, slice_get_within}
 use Rattle.exh_prefix.specs.Leading.{ward_prefix}
 use Rattle.exh_table.specs.Table.{TableMap}
 use Rattle.exh_page.specs.declared.page.Page.{Page}
-use Rattle.exh_legal.specs.Laws.{FittingTablesBeginWards, IsWard}
+use Rattle.exh_legal.specs.LegalLaws.{FittingTablesBeginWards, IsWard}
 use Rattle.exh_ward.specs.WardState.{WardState, IsSoundWard, own_prefix}
 
 -- one page more

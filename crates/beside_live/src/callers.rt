@@ -2,18 +2,17 @@
 //! lost, and each reply is the map machine's, told the calls in the journals' order.
 ghost use Rattle.std.specs.Prelude.{◌≡◌};
 ghost use Rattle.exh_keyer.specs.Pseudokey.{plain_pseudokey};
-ghost use Rattle.exh_live.specs.declared.ledgers.TheConstants.{ANSWER_PARTS, ENTRY_PARTS};
+ghost use Rattle.exh_live_file.specs.declared.ledgers.TheConstants.{ANSWER_PARTS, ENTRY_PARTS};
 
 use exh_callers::{
     CAP, Caller, PlainFile, PlainWard, Reader, ask, close_settled, new_file, next_caller,
 };
 use exh_calls::Call;
 use exh_copy::Start;
-use exh_fixtures::{Asked, told_reply};
+use exh_fixtures::{Asked, Dice, Difference, Part, Run, again, same, told_reply};
 use exh_keyer::PlainKeyer;
-use exh_live::{ANSWER_PARTS, ENTRY_PARTS, Identity, Seat};
+use exh_live_file::{ANSWER_PARTS, ENTRY_PARTS, Identity, Seat};
 use exh_model::MapMachine;
-use exh_runs::{Dice, Difference, Part, Run, again, same};
 use exh_walk::OpenGate;
 use std::alloc::AllocError;
 use std::sync::Wait;

@@ -4,8 +4,8 @@
 ghost use Rattle.std.specs.Prelude.{◌≡◌, ◌^◌, ℕ, length, IfOk};
 ghost use Rattle.std.specs.FinMap as map;
 ghost use Rattle.exh_keyer.specs.Pseudokey.{plain_pseudokey};
-ghost use Rattle.exh_live.specs.LiveFile.{IsNewWardOf};
-ghost use Rattle.exh_live.specs.declared.ledgers.TheConstants.{ANSWER_PARTS, ENTRY_PARTS};
+ghost use Rattle.exh_live_file.specs.LiveFile.{IsNewWardOf};
+ghost use Rattle.exh_live_file.specs.declared.ledgers.TheConstants.{ANSWER_PARTS, ENTRY_PARTS};
 
 use exh_callers::lists::{FAULT_COUNT, FAULTS};
 use exh_callers::{
@@ -13,12 +13,11 @@ use exh_callers::{
     one_ward_file, settled,
 };
 use exh_copy::{NewCopyFault, Start, new_copy};
-use exh_fixtures::{FailingPages, first_store};
-use exh_frames::PlainPages;
+use exh_fixtures::{Difference, FailingPages, Part, Run, again, first_store, same};
 use exh_keyer::PlainKeyer;
-use exh_live::{ANSWER_PARTS, Cursors, ENTRY_PARTS, Identity};
-use exh_runs::{Difference, Part, Run, again, same};
+use exh_live_file::{ANSWER_PARTS, Cursors, ENTRY_PARTS, Identity};
 use exh_settings::FileSettings;
+use exh_stores::PlainPages;
 use exh_table::Table;
 use exh_walk::OpenGate;
 use exh_ward::Ward;

@@ -3,7 +3,7 @@ ghost use Rattle.std.specs.Prelude.{◌≡◌, ◌≤◌, IfOk, IfSome};
 ghost use Rattle.std.specs.FinMap as map;
 ghost use Rattle.exh_keyer.specs.Pseudokey.{plain_pseudokey};
 ghost use Rattle.exh_copy.specs.Additions.{AreOf};
-ghost use Rattle.exh_live.specs.declared.ledgers.TheConstants.{ANSWER_PARTS, ENTRY_PARTS};
+ghost use Rattle.exh_live_file.specs.declared.ledgers.TheConstants.{ANSWER_PARTS, ENTRY_PARTS};
 ghost use Rattle.exh_prefix.specs.declared.prefix.TheConstants.{WARD_BITS_LIMIT};
 
 use crate::written_ward::written_ward;
@@ -17,11 +17,10 @@ use exh_callers::{
     take_steps,
 };
 use exh_copy::Start;
-use exh_fixtures::prefix;
+use exh_fixtures::{Difference, Run, again, prefix};
 use exh_keyer::PlainKeyer;
-use exh_live::{ANSWER_PARTS, ENTRY_PARTS, Identity};
+use exh_live_file::{ANSWER_PARTS, ENTRY_PARTS, Identity};
 use exh_notice::{Entry, Kind};
-use exh_runs::{Difference, Run, again};
 use exh_table::Table;
 use std::alloc::{AllocError, Global};
 use std::sync::Wait;
@@ -55,7 +54,7 @@ pub(crate) enum OneCaller {
     MergedCourier,
     /// A courier to a copy whose table tells of a split and of its merge begins after both.
     LateCourier,
-    /// At the greatest version pages can't be merged any more: a keeper passes over them.
+    /// At the greatest number pages can't be merged any more: a keeper passes over them.
     WornKeeper,
     /// A copy names a page that isn't there, in a file without a key.
     WrongHint,
@@ -101,12 +100,12 @@ impl OneCaller {
 
     // What the start table has at the ward's prefix.
     fn entry(self) -> Option<Entry> {
-        let (version, kind) = match self {
+        let (number, kind) = match self {
             OneCaller::LateCourier => (2, Kind::Merge),
             OneCaller::MergedCourier => (4, Kind::Merge),
             _ => (self.changes()?, Kind::Split { right: 1 }),
         };
-        Some(Entry { version, kind })
+        Some(Entry { number, kind })
     }
 
     // How many calls are answered.

@@ -1,15 +1,14 @@
 //! Wards as of a file of keyer plain that was written before.
 ghost use Rattle.std.specs.Prelude.{◌≡◌, ◌≤◌, ◌%◌, IfOk};
-ghost use Rattle.exh_live.specs.LiveFile.{IsNewWardOf};
+ghost use Rattle.exh_live_file.specs.LiveFile.{IsNewWardOf};
 
 use exh_callers::PlainWard;
-use exh_fixtures::{opened_ward, refused};
-use exh_frames::PlainPages;
+use exh_fixtures::{Difference, Part, again, opened_ward, refused};
 use exh_join::Join;
 use exh_keyer::PlainKeyer;
 use exh_legal::fitting_tables_begin_wards;
-use exh_runs::{Difference, Part, again};
 use exh_settings::FileSettings;
+use exh_stores::PlainPages;
 use exh_ward::{Ward, WardFault};
 use std::alloc::Global;
 

@@ -2,10 +2,10 @@
 ghost use Rattle.std.specs.Prelude.{◌≡◌, length, IfOk};
 
 use exh_codec::encode_page;
-use exh_frames::Pages;
-use exh_images::{CACHE_SIZE_LIMIT, CacheFault, FramedPages};
+use exh_fixtures::{Difference, Part, Run, again, same};
+use exh_frames::{CACHE_SIZE_LIMIT, CacheFault, FramedPages};
 use exh_keyer::PlainKeyer;
-use exh_runs::{Difference, Part, Run, again, same};
+use exh_stores::Pages;
 use exh_ward::first_page;
 use std::alloc::{AllocError, Global};
 

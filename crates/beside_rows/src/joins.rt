@@ -5,14 +5,13 @@ ghost use Rattle.std.specs.Prelude.{◌≤◌};
 ghost use Rattle.exh_prefix.specs.declared.prefix.TheConstants.{LIMIT};
 
 use exh_array::{Directory, Pointers};
-use exh_fixtures::{merge, prefix, split};
+use exh_fixtures::{Difference, Part, Run, again, merge, prefix, same, split};
 use exh_join::Join;
 use exh_prefix::{LIMIT, PageNo, Prefix};
-use exh_runs::{Difference, Part, Run, again, same};
 use exh_table::Table;
 use std::alloc::{AllocError, Global};
 
-// A notice at a prefix, of this version: a split with this right half, or a merge.
+// A notice at a prefix, of this number: a split with this right half, or a merge.
 type Told = (&'static str, u32, Option<PageNo>);
 
 // A leaf and its page.
@@ -26,7 +25,7 @@ const SOME: [Told; 4] = [
     ("10", 1, Some(9)),
 ];
 
-// Of two at one prefix the later version counts, whichever comes first.
+// Of two at one prefix the later number counts, whichever comes first.
 const OTHERS: [Told; 6] = [
     ("1", 3, Some(4)),
     ("", 3, Some(2)),
@@ -124,11 +123,11 @@ fn join(directory: &mut Directory, table: &Table) -> Result<(), AllocError> {
 }
 
 fn take_all(directory: &mut Directory, all: &[Told]) -> Result<(), Difference> {
-    for (bits, version, right) in all {
+    for (bits, number, right) in all {
         let at = prefix(bits)?;
         let notice = match right {
-            Some(right) => split(1, at, *version, *right),
-            None => merge(1, at, *version),
+            Some(right) => split(1, at, *number, *right),
+            None => merge(1, at, *number),
         };
         again!(Err(AllocError) => directory.take(&notice))?;
     }
@@ -206,13 +205,13 @@ fn take_chain(directory: &mut Directory) -> Result<(), Difference> {
 fn take_zeros(
     directory: &mut Directory,
     zeros: u8,
-    version: u32,
+    number: u32,
     depth: u8,
 ) -> Result<(), Difference> {
     let at = Prefix::new(zeros, 0).ok_or(Difference::Apart(Part::Run))?;
-    let notice = match version % 2 {
-        0 => merge(1, at, version),
-        _ => split(1, at, version, PageNo::from(zeros) + 1),
+    let notice = match number % 2 {
+        0 => merge(1, at, number),
+        _ => split(1, at, number, PageNo::from(zeros) + 1),
     };
     again!(Err(AllocError) => directory.take(&notice))?;
     same(directory.depth() == depth, Part::Depth)

@@ -6,10 +6,12 @@ ghost use Rattle.exh_prefix.specs.declared.prefix.TheConstants.{WARD_BITS_LIMIT}
 
 use crate::plain_ward::{PlainWard, plain_ward, settings};
 use exh_calls::{Call, Journal, JournalEntry, Reply};
-use exh_fixtures::{Asked, Said, first_store, hop_of, refused, split_page, value};
+use exh_fixtures::{
+    Asked, Difference, Part, Run, Said, again, first_store, hop_of, refused, same, split_page,
+    value,
+};
 use exh_keyer::PlainKeyer;
 use exh_prefix::{LIMIT, PageNo};
-use exh_runs::{Difference, Part, Run, again, same};
 use exh_ward::{Hop, Ward, WardFault};
 use std::alloc::{AllocError, Global};
 

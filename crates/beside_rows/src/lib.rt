@@ -12,7 +12,7 @@ mod machines;
 mod plain_ward;
 mod routes;
 
-use exh_runs::{Difference, Named, Run, RunKind, Status, run_kinds};
+use exh_fixtures::{Difference, Named, Run, RunKind, Status, run_kinds};
 
 #[derive(Clone, Copy)]
 enum Kind {

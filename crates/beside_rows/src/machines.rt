@@ -1,10 +1,9 @@
 //! The slow map machine and its map, beside replies that were worked out by hand.
 
 use exh_calls::PackedPairs;
-use exh_fixtures::{Said, key, told_reply, value};
+use exh_fixtures::{Difference, Part, Run, Said, again, key, same, told_reply, value};
 use exh_keyer::{AnyKeyer, Keyer, PlainKeyer};
 use exh_model::{MapMachine, PairMap};
-use exh_runs::{Difference, Part, Run, again, same};
 use std::alloc::AllocError;
 
 const ONE_KEY: [Said<'static>; 13] = [

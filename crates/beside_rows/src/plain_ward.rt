@@ -2,9 +2,9 @@
 ghost use Rattle.std.specs.Prelude.{◌≡◌};
 
 use exh_fixtures::first_store;
-use exh_frames::PlainPages;
 use exh_keyer::PlainKeyer;
 use exh_settings::FileSettings;
+use exh_stores::PlainPages;
 use exh_ward::Ward;
 use std::alloc::{AllocError, Global};
 

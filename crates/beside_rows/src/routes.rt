@@ -1,10 +1,11 @@
 //! How far pages are from answers, beside what was worked out by hand.
 
 use crate::plain_ward::{PlainWard, plain_ward};
-use exh_fixtures::{Said, hop, merge_page, refused, split_page};
+use exh_fixtures::{
+    Difference, Lie, Part, Run, Said, again, hop, merge_page, refused, same, split_page,
+};
 use exh_prefix::PageNo;
 use exh_route::distance;
-use exh_runs::{Difference, Lie, Part, Run, again, same};
 use exh_ward::{Hop, WardFault};
 
 // The pseudokeys of the keys #40, #80 and #c0.

@@ -3,10 +3,10 @@
 use anyhow::bail;
 use exh_calls::{Call, Reply};
 use exh_copy::{CopyReader, Start};
-use exh_frames::PlainPages;
 use exh_keyer::AnyKeyer;
-use exh_live::{Identity, LiveFile, Seat};
+use exh_live_file::{Identity, LiveFile, Seat};
 use exh_page::{Key, Value};
+use exh_stores::PlainPages;
 use exh_walk::OpenGate;
 use std::sync::Wait;
 

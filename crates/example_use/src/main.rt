@@ -11,9 +11,9 @@ mod service;
 
 use crate::service::{NAMES, serve};
 use anyhow::Context;
-use exh_frames::{PlainMaker, PlainPages};
-use exh_open::{Opened, open};
+use exh_file::{Opened, open};
 use exh_path::{Seen, SystemDisk, save_at};
+use exh_stores::{PlainMaker, PlainPages};
 use exh_stream::{Console, Meter, Unit, Work};
 use std::fs::File;
 use std::str;

@@ -7,7 +7,7 @@ use Rattle.exh_prefix.specs.PrefixLemmas.{one_child_begins, parent_begins}
 use Rattle.exh_prefix.specs.declared.prefix.TheConstants.{LIMIT}
 use Rattle.exh_table.specs.declared.leaf.Leaf.{Leaf}
 use Rattle.exh_table.specs.Table.{TableMap}
-use Rattle.exh_table.specs.Walk.{step}
+use Rattle.exh_table.specs.TableWalk.{step}
 use Rattle.exh_table.specs.Below.{splits_above}
 use Rattle.exh_table.specs.WalkLemmas.{IsOnWalk, on_walk_step, on_walk_end}
 use Rattle.exh_array.specs.declared.pointer.Pointer.TheVariants.{ToLeaf, Deeper}

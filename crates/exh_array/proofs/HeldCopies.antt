@@ -6,7 +6,7 @@ use Rattle.std.specs.Option.{is_some}
 use Rattle.std.proofs.lemmas.Bool.{true≢false}
 use Rattle.std.proofs.lemmas.List.{length_push}
 use Rattle.std.proofs.lemmas.Option.{get_or_from_slice_get}
-use Rattle.exh_prefix.specs.ListLemmas.{within_there}
+use Rattle.exh_prefix.specs.PrefixListLemmas.{within_there}
 use Rattle.exh_notice.specs.declared.entry.Entry.{Entry}
 use Rattle.exh_table.specs.RaisedLemmas.{raised_up}
 use Rattle.exh_table.specs.Table.{TableMap, raised}
@@ -14,7 +14,7 @@ use Rattle.exh_table.specs.TableLemmas.{table_laws}
 use Rattle.exh_table.specs.TableOrder.{IsTableUpTo, table_join}
 use Rattle.exh_array.specs.Pointers.{DirectoryState}
 use Rattle.exh_array.specs.Sent.{IsBefore, base_in, unpacked}
-use Rattle.exh_array.specs.Known.{AreKnown}
+use Rattle.exh_array.specs.KnownCopy.{AreKnown}
 use Rattle.exh_array.specs.Held.{IsHeld}
 use Rattle.exh_array.specs.declared.held_copy.HeldCopy.{HeldCopy}
 use Rattle.exh_array.specs.declared.sent_table.SentTable.{SentTable}

@@ -3,13 +3,13 @@ use Rattle.std.proofs.Common.{◌≡◌, ℕ, ◌<◌, get_or, Result, Ok, Err, 
 use Rattle.std.specs.Prelude.{option_map, slice_set}
 use Rattle.std.proofs.lemmas.List.{length-map, map-set}
 use Rattle.std.proofs.lemmas.Option.{slice_get-map, slice_get_read}
-use Rattle.exh_prefix.specs.ListLemmas.{one_there, push_is, set_is, set_same}
+use Rattle.exh_prefix.specs.PrefixListLemmas.{one_there, push_is, set_is, set_same}
 use Rattle.exh_table.specs.Table.{TableMap}
 use Rattle.exh_table.specs.TableOrder.{IsTableUpTo}
 use Rattle.exh_array.specs.Pointers.{DirectoryState, HasArrayOf}
 use Rattle.exh_array.specs.Copies.{CopiesState}
 use Rattle.exh_array.specs.Held.{IsHeld}
-use Rattle.exh_array.specs.Kept.{AreKept, tables_of}
+use Rattle.exh_array.specs.KeptCopies.{AreKept, tables_of}
 use Rattle.exh_array.specs.declared.held_copy.HeldCopy.{HeldCopy}
 use Rattle.exh_array.proofs.HeldCopies.{sent_more}
 

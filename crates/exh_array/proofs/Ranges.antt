@@ -13,7 +13,7 @@ use Rattle.exh_prefix.specs.Leading.{leading}
 use Rattle.exh_array.specs.declared.pointer.Pointer.{Pointer}
 use Rattle.exh_array.specs.Pointers.{PointerArray}
 use Rattle.exh_array.specs.Pointers.{pointer_at}
-use Rattle.exh_prefix.specs.ListLemmas.{set_else}
+use Rattle.exh_prefix.specs.PrefixListLemmas.{set_else}
 use Rattle.exh_array.proofs.Pieces.{slice_get-set_same}
 use Rattle.exh_prefix.specs.LeadingLemmas.{leading-lt, leading-quotient, leading-fewer, leading-of_begun, begins-from_leading}
 

@@ -8,7 +8,7 @@ use Rattle.exh_prefix.specs.Bits.{word_bits}
 use Rattle.exh_prefix.specs.Prefix.{prefix_cmp}
 use Rattle.exh_prefix.specs.declared.prefix.TheConstants.{LIMIT}
 use Rattle.exh_table.specs.declared.leaf.Leaf.{Leaf}
-use Rattle.exh_table.specs.Walk.{right_of, split_at, walk_of}
+use Rattle.exh_table.specs.TableWalk.{right_of, split_at, walk_of}
 use Rattle.exh_table.specs.WalkLemmas.{walk_on-stop}
 use Rattle.exh_prefix.specs.Leading.{leading}
 use Rattle.exh_array.specs.declared.pointer.Pointer.{Pointer}

@@ -4,13 +4,13 @@ use Rattle.std.proofs.Common.{◌≡◌, ℕ, zero, suc, ◌+◌, ◌<◌, List,
 use Rattle.std.specs.FinMap.{empty}
 use Rattle.std.proofs.lemmas.List.{length_push}
 use Rattle.std.proofs.lemmas.Option.{get_or_from_slice_get}
-use Rattle.exh_prefix.specs.ListLemmas.{one_there, within_there}
+use Rattle.exh_prefix.specs.PrefixListLemmas.{one_there, within_there}
 use Rattle.exh_table.specs.Table.{TableMap}
 use Rattle.exh_table.specs.TableLemmas.{table_laws}
 use Rattle.exh_table.specs.TableOrder.{IsTableUpTo, table_join}
 use Rattle.exh_array.proofs.Joined.{joined_none}
 use Rattle.exh_array.specs.Sent.{base_in, unpacked, unpacked_on, GoBack, IsBefore}
-use Rattle.exh_array.specs.Known.{IsSentUpTo}
+use Rattle.exh_array.specs.KnownCopy.{IsSentUpTo}
 use Rattle.exh_array.specs.declared.sent_table.SentTable.{SentTable}
 
 module _ {A : Type 0} where

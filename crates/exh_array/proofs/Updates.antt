@@ -8,7 +8,7 @@ use Rattle.exh_prefix.specs.PrefixLemmas.{begins_or_not, word_bits-low_of}
 use Rattle.exh_prefix.specs.declared.prefix.TheConstants.{LIMIT}
 use Rattle.exh_table.specs.declared.leaf.Leaf.{Leaf}
 use Rattle.exh_table.specs.Table.{TableMap}
-use Rattle.exh_table.specs.Walk.{right_of, walk_on, walk_of}
+use Rattle.exh_table.specs.TableWalk.{right_of, walk_on, walk_of}
 use Rattle.exh_table.specs.Below.{splits_above}
 use Rattle.exh_table.specs.WalkLemmas.{walk_on-stop, walk_from_root}
 use Rattle.exh_table.specs.PathLemmas.{front_and_rest}

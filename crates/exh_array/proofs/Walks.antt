@@ -4,7 +4,7 @@ use Rattle.std.specs.Option.{option_map_or}
 use Rattle.std.proofs.lemmas.List.{append_assoc, append-nil, length_push, take_at}
 use Rattle.exh_prefix.specs.Prefix.{IsFront}
 use Rattle.exh_table.specs.declared.leaf.Leaf.{Leaf}
-use Rattle.exh_table.specs.Walk.{step, walk_on}
+use Rattle.exh_table.specs.TableWalk.{step, walk_on}
 use Rattle.exh_table.specs.WalkLemmas.{walk_on-stop}
 
 -- ---- one walk

@@ -3,7 +3,7 @@ use Rattle.std.specs.Prelude.{◌≡◌, List, length}
 use Rattle.exh_table.specs.Table.{TableMap}
 use Rattle.exh_table.specs.TableOrder.{IsTableUpTo, table_join}
 use Rattle.exh_array.specs.Sent.{IsBefore, base_in}
-use Rattle.exh_array.specs.Known.{AreKnown}
+use Rattle.exh_array.specs.KnownCopy.{AreKnown}
 use Rattle.exh_array.specs.declared.held_copy.HeldCopy.{HeldCopy}
 
 -- its table is at least the start table; it is the sent table that it goes on from, and the news; the known tables tell it nothing new

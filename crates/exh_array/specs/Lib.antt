@@ -2,7 +2,7 @@ pub mod PointerLemmas
 pub mod Pointers
 pub mod Within
 pub mod Sent
-pub mod Known
+pub mod KnownCopy
 pub mod Held
 pub mod Copies
-pub mod Kept
+pub mod KeptCopies

@@ -9,7 +9,7 @@ use Rattle.exh_prefix.specs.PrefixLemmas.{length-word_bits}
 use Rattle.exh_prefix.specs.declared.prefix.TheConstants.{LIMIT}
 use Rattle.exh_table.specs.declared.leaf.Leaf.{Leaf}
 use Rattle.exh_table.specs.Table.{TableMap}
-use Rattle.exh_table.specs.Walk.{walk_of}
+use Rattle.exh_table.specs.TableWalk.{walk_of}
 use Rattle.exh_table.specs.PathLemmas.{walk_is_path}
 use Rattle.exh_array.specs.declared.pointer.Pointer.TheVariants.{ToLeaf, Deeper}
 use Rattle.exh_array.specs.Pointers.{PointerArray, IsArrayOf, NamesPageOf, pointer_to}

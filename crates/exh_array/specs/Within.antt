@@ -5,7 +5,7 @@ use Rattle.exh_prefix.specs.Prefix.{Begins}
 use Rattle.exh_prefix.specs.declared.prefix.TheConstants.{LIMIT}
 use Rattle.exh_table.specs.declared.leaf.Leaf.{Leaf}
 use Rattle.exh_table.specs.Table.{TableMap}
-use Rattle.exh_table.specs.Walk.{walk_on}
+use Rattle.exh_table.specs.TableWalk.{walk_on}
 use Rattle.exh_table.specs.Below.{splits_above}
 use Rattle.exh_array.specs.Pointers.{PointerArray, pointer_to, pointer_at}
 

@@ -29,7 +29,7 @@ impl Model for Copies {
     ghost coded = { Prim.hlevel (codes, coded_table) };
 
     ghost use Rattle.exh_array.specs.Sent.{unpacked};
-    ghost use Rattle.exh_array.specs.Kept.{AreKept, tables_of};
+    ghost use Rattle.exh_array.specs.KeptCopies.{AreKept, tables_of};
 
     ghost view = { λ a. record { ward_bits = a.start.pointers.ward_bits; start = a.start.table; copies = tables_of a.copies.items; sent = unpacked a.start.table a.sent } };
 

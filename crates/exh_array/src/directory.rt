@@ -3,7 +3,7 @@ ghost use Rattle.std.specs.FinMap as map;
 ghost use Rattle.exh_prefix.specs.declared.prefix.TheConstants.{LIMIT};
 ghost use Rattle.exh_table.specs.Table.{greater_of, raised, table_with};
 ghost use Rattle.exh_table.specs.TableOrder.{table_join};
-ghost use Rattle.exh_table.specs.Walk.{walk_of};
+ghost use Rattle.exh_table.specs.TableWalk.{walk_of};
 ghost use Rattle.exh_table.specs.Leaves.{leaves_of};
 ghost use Rattle.exh_table.specs.Directory.{IsDepth};
 ghost use Rattle.exh_table.specs.Below.{depth_of};

@@ -1,6 +1,6 @@
 ghost use Rattle.exh_table.specs.Table.{TableMap};
 ghost use Rattle.std.specs.Prelude.{List};
-ghost use Rattle.exh_array.specs.Known.{AreKnown, IsSentUpTo};
+ghost use Rattle.exh_array.specs.KnownCopy.{AreKnown, IsSentUpTo};
 
 use std::collections::BTreeSet;
 

@@ -1,6 +1,6 @@
 ghost use Rattle.std.specs.Prelude.{◌≡◌, ◌≤◌};
 ghost use Rattle.exh_prefix.specs.declared.prefix.TheConstants.{LIMIT};
-ghost use Rattle.exh_table.specs.Walk.{walk_of};
+ghost use Rattle.exh_table.specs.TableWalk.{walk_of};
 
 use exh_prefix::LIMIT;
 use exh_table::{Leaf, Table};

@@ -3,7 +3,7 @@ ghost use Rattle.std.specs.FinMap as map;
 ghost use Rattle.exh_prefix.specs.declared.prefix.TheConstants.{LIMIT};
 ghost use Rattle.exh_prefix.specs.Prefix.{Begins};
 ghost use Rattle.exh_table.specs.Table.{TableMap};
-ghost use Rattle.exh_table.specs.Walk.{walk_of};
+ghost use Rattle.exh_table.specs.TableWalk.{walk_of};
 ghost use Rattle.exh_array.specs.declared.pointer.Pointer.TheVariants.{Deeper};
 ghost use Rattle.exh_array.specs.Pointers.{IsArrayOf, DifferAtMostAt, most_pointers, page_to, local_depth_to, pointer_at};
 ghost use Rattle.exh_array.specs.Within.{IsPlaceIn, IsPointedBelow};

@@ -3,7 +3,7 @@ ghost use Rattle.std.specs.FinMap as map;
 ghost use Rattle.exh_table.specs.Table.{TableMap};
 ghost use Rattle.exh_table.specs.TableOrder.{IsTableUpTo, table_join};
 ghost use Rattle.exh_array.specs.Sent.{IsBefore, base_in, unpacked};
-ghost use Rattle.exh_array.specs.Known.{AreKnown, IsSentUpTo};
+ghost use Rattle.exh_array.specs.KnownCopy.{AreKnown, IsSentUpTo};
 
 use crate::known::note;
 use crate::news::{add_news, is_empty};

@@ -2,7 +2,7 @@
 use Rattle.std.proofs.Common.{◌≡◌, ℕ, zero, suc, List, [], ◌∷◌, slice_get, Some, refl, sym, subst}
 use Rattle.exh_settings.specs.declared.file_settings.FileSettings.{FileSettings}
 use Rattle.exh_ward.specs.WardState.{WardState}
-use Rattle.exh_live.specs.LiveFile.{AreNewWardsOf, IsNewWardOf}
+use Rattle.exh_live_file.specs.LiveFile.{AreNewWardsOf, IsNewWardOf}
 
 module _ {K : Type 0} (cap : ℕ) (keyer : K) (only : WardState K) (is : IsNewWardOf cap 0 keyer 0 only) where
   -- those of a file that has it alone

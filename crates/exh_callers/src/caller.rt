@@ -4,11 +4,10 @@ ghost use Rattle.exh_copy.specs.Additions.{AreOf};
 
 use exh_calls::{Call, Reply};
 use exh_copy::{CopyReader, Start};
-use exh_fixtures::Asked;
-use exh_frames::{Pages, PlainPages};
+use exh_fixtures::{Asked, Difference, Part, again, same};
 use exh_keyer::PlainKeyer;
-use exh_live::{Identity, LiveFile, Seat};
-use exh_runs::{Difference, Part, again, same};
+use exh_live_file::{Identity, LiveFile, Seat};
+use exh_stores::{Pages, PlainPages};
 use exh_walk::{AskFault, Gate};
 use std::marker::Brand;
 use std::sync::Wait;

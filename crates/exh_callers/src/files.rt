@@ -1,21 +1,21 @@
 //! New live files of keyer plain, and what they leave.
 ghost use Rattle.std.specs.Prelude.{◌≡◌, ◌≤◌, IfOk};
 ghost use Rattle.exh_keyer.specs.Pseudokey.{plain_pseudokey};
-ghost use Rattle.exh_live.specs.LiveFile.{IsNewWardOf};
+ghost use Rattle.exh_live_file.specs.LiveFile.{IsNewWardOf};
 ghost use Rattle.exh_page.specs.declared.page.TheConstants.{CAP_LIMIT};
-ghost use Rattle.exh_live.specs.declared.ledgers.TheConstants.{ANSWER_PARTS, ENTRY_PARTS};
+ghost use Rattle.exh_live_file.specs.declared.ledgers.TheConstants.{ANSWER_PARTS, ENTRY_PARTS};
 ghost use Rattle.exh_prefix.specs.declared.prefix.TheConstants.{WARD_BITS_LIMIT};
 
 use crate::caller::{File, PlainFile};
-use exh_frames::{Pages, PlainMaker, PlainPages};
+use exh_calls::{Diary, Mismatch, settle};
+use exh_fixtures::{Difference, Part, Run, same};
 use exh_keyer::PlainKeyer;
-use exh_live::{
+use exh_live_file::{
     ANSWER_PARTS, CloseFault, Closed, ENTRY_PARTS, Identity, LiveFile, Seat, WardJournals,
 };
 use exh_page::CAP_LIMIT;
-use exh_runs::{Difference, Part, Run, same};
 use exh_settings::FileSettings;
-use exh_settle::{Diary, Mismatch, settle};
+use exh_stores::{Pages, PlainMaker, PlainPages};
 use exh_ward::{Ward, new_wards};
 use std::alloc::{AllocError, Global};
 use std::sync::ledger::Blank;

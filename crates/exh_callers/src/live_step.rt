@@ -6,11 +6,10 @@ ghost use Rattle.exh_prefix.specs.declared.prefix.TheConstants.{WARD_BITS_LIMIT}
 use crate::lists::{EMPTIED, FILLED};
 use crate::{Caller, PlainFile, Reader, Writer, is_carried, is_held, is_kept, is_told};
 use exh_copy::{NewCopyFault, Start, new_copy};
-use exh_fixtures::{Asked, Said, prefix, split, told_reply};
+use exh_fixtures::{Asked, Difference, Part, Run, Said, again, prefix, same, split, told_reply};
 use exh_keyer::{Keyer, PlainKeyer};
-use exh_live::{Cursors, Identity};
+use exh_live_file::{Cursors, Identity};
 use exh_prefix::PageNo;
-use exh_runs::{Difference, Part, Run, again, same};
 use exh_table::Table;
 use exh_walk::{OpenGate, TurnGate};
 use std::alloc::{AllocError, Global};
@@ -335,7 +334,7 @@ fn is_named<S: Start>(
     requires { copy.old.name ≡ writer.old.name }
     ensures { copy.new.name ≡ writer.new.name }
 {
-    match writer.hand_on() {
+    match writer.tell() {
         Ok(handed) => copy.learn(handed),
         Err(_) => return Err(Difference::Apart(Part::Run)),
     }

@@ -3,9 +3,9 @@ ghost use Rattle.std.specs.Prelude.{◌≡◌, ◌^◌, ◌<◌, length};
 
 use crate::caller::File;
 use exh_copy::{CopyWriter, Start};
-use exh_frames::Pages;
-use exh_live::{Cursors, Identity};
-use exh_runs::{Difference, Part, again, same};
+use exh_fixtures::{Difference, Part, again, same};
+use exh_live_file::{Cursors, Identity};
+use exh_stores::Pages;
 use exh_ward::WardFault;
 use std::alloc::AllocError;
 use std::marker::Brand;

@@ -1,2 +1,10 @@
-pub mod Journals
+pub mod JournalBytes
 pub mod PairsArePacked
+pub mod Beside
+pub mod Callers
+pub mod Each
+pub mod EntryLists
+pub mod Order
+pub mod Splits
+pub mod Totals
+pub mod Wards

@@ -5,7 +5,7 @@ use Rattle.std.proofs.lemmas.List.Elements.{All-head, All-tail}
 use Rattle.exh_calls.specs.Journal.{bytes_at}
 use Rattle.exh_calls.specs.PackedPairs.{ArePairsWithin, IsPairWithin, pair_in, pairs_in}
 use Rattle.exh_calls.specs.declared.packed_pairs.StoredPair.{StoredPair}
-use Rattle.exh_calls.proofs.Journals.{bytes_at-append, bytes_at-between}
+use Rattle.exh_calls.proofs.JournalBytes.{bytes_at-append, bytes_at-between}
 
 pair_in-append : (texts more : List ℕ) (stored : StoredPair) → IsPairWithin texts stored → pair_in (texts ++ more) stored ≡ pair_in texts stored
 pair_in-append texts more stored within =

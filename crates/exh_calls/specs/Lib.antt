@@ -5,7 +5,11 @@ pub mod History
 pub mod Undone
 pub mod Journal
 pub mod PackedPairs
-pub mod Laws
-pub mod EffectLemmas
+pub mod CallLaws
+pub mod CallEffectLemmas
 pub mod HistoryLemmas
 pub mod SharingLemmas
+pub mod Beside
+pub mod Diary
+pub mod Settled
+pub mod SettledLaws

@@ -1,7 +1,7 @@
 //! What holds of all histories, of leading bits and of all swaps, for the proofs of callers. Each
 //! function does nothing.
 
-ghost use Rattle.exh_calls.specs.Laws.{HistoriesGoOn, HistoriesAreUndone, HistoryIsDetermined, SharersBegin, SwapsCompare};
+ghost use Rattle.exh_calls.specs.CallLaws.{HistoriesGoOn, HistoriesAreUndone, HistoryIsDetermined, SharersBegin, SwapsCompare};
 
 /// A history goes on with the map machine's reply over the map that it leaves, and then leaves the
 /// map machine's map.

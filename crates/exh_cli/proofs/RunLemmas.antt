@@ -7,11 +7,11 @@ use Rattle.exh_stream.specs.Output.{AppendsBeginning}
 use Rattle.exh_stream.specs.OutputLemmas.{AppendsBeginning-after}
 use Rattle.exh_script.specs.Served.{PrintsFront, PrintsLines}
 use Rattle.exh_script.specs.Text.{Beginning}
-use Rattle.exh_open.specs.Opened.{OpenedState}
+use Rattle.exh_file.specs.Opened.{OpenedState}
 use Rattle.exh_script.specs.declared.serve_fault.ServeFault.{ServeFault}
 use Rattle.exh_script.specs.declared.serve_fault.ServeFault.TheVariants.{Memory, Write}
 use Rattle.exh_job.specs.LastLine.{memory_line}
-use Rattle.exh_cli.specs.Run.{RunPrints}
+use Rattle.exh_cli.specs.ScriptRun.{RunPrints}
 
 module _ (begin : Beginning) where
   module _ {P Q : List ℕ → Type 0} (more : (text : List ℕ) → P text → Q text) where

@@ -2,8 +2,8 @@
 use Rattle.std.specs.Prelude.{◌≡◌, ℕ, Bool, List, [], ◌∷◌, ◌++◌, codes, decimal, Option, Result, Ok, Err, MatchBool}
 use Rattle.std.specs.Io.KnownBytes.{Appends}
 use Rattle.exh_stream.specs.Output.{AppendsBeginning}
-use Rattle.exh_storm.specs.StormFault.{storm_fault_number}
-use Rattle.exh_storm.specs.declared.fault.StormFault.{StormFault}
+use Rattle.exh_live.specs.StormFault.{storm_fault_number}
+use Rattle.exh_live.specs.declared.fault.StormFault.{StormFault}
 use Rattle.exh_job.specs.declared.status.Status.{Status}
 use Rattle.exh_job.specs.declared.status.Status.TheVariants.{Done, Refused}
 

@@ -1,7 +1,7 @@
 //! The run of a script: what it prints, and how the program then ends.
-ghost use Rattle.exh_script.specs.Opened.{beginning};
+ghost use Rattle.exh_script.specs.OpenedScript.{beginning};
 ghost use Rattle.exh_job.specs.JobPath.{SavesAt};
-ghost use Rattle.exh_cli.specs.Run.{IsEnding, RunPrints};
+ghost use Rattle.exh_cli.specs.ScriptRun.{IsEnding, RunPrints};
 
 use exh_job::{Ending, FileWards, JobPath, MAKER, Status, print_out_of_memory};
 use exh_notes::Listener;

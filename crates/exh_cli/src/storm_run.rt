@@ -5,7 +5,7 @@ ghost use Rattle.exh_cli.specs.StormRun.{EndsStorm, storm_line, storm_status};
 
 use arrayvec::ArrayVec;
 use exh_job::{Status, print_line};
-use exh_storm::StormFault;
+use exh_live::StormFault;
 use exh_stream::Output;
 use itoa::Buffer;
 use std::io::Write;

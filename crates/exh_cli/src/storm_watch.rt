@@ -1,4 +1,4 @@
-use exh_storm::Watch;
+use exh_live::Watch;
 use exh_stream::{StormMeter, Terminal};
 
 /// What a storm tells a meter.

@@ -5,7 +5,7 @@ use Rattle.std.proofs.lemmas.List.{length-drop, length-replicate, drop-drop, dro
 use Rattle.std.proofs.lemmas.Nat.{pow-add}
 use Rattle.byteorder.specs.Endian.{big_bytes, big_from, big_number}
 use Rattle.byteorder.specs.Numbers.{big_from-cons, length-bytes_high_first}
-use Rattle.exh_prefix.specs.ByteLemmas.{power_of_bytes, drop-high_bytes, bytes_of_multiple}
+use Rattle.exh_prefix.specs.PrefixByteLemmas.{power_of_bytes, drop-high_bytes, bytes_of_multiple}
 use Rattle.exh_prefix.specs.declared.version.Version.{Version as KnownVersion}
 use Rattle.exh_prefix.specs.Version.{Version, Fits}
 use Rattle.exh_prefix.specs.Layout.{layout}

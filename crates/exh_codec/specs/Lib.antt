@@ -10,4 +10,4 @@ pub mod ImageTests
 pub mod ImageTestLemmas
 pub mod ReadPages
 pub mod PageOf
-pub mod Laws
+pub mod CodecLaws

@@ -1,6 +1,6 @@
 //! What holds of all images, for the proofs of callers. Each function does nothing.
 
-ghost use Rattle.exh_codec.specs.Laws.{BlocksAreRead, OneImage, OnePage, ImagesAreBlocks, ImagesAreSealed, ImagesPass};
+ghost use Rattle.exh_codec.specs.CodecLaws.{BlocksAreRead, OneImage, OnePage, ImagesAreBlocks, ImagesAreSealed, ImagesPass};
 
 /// A well-formed page has exactly one image.
 pub fn one_image()

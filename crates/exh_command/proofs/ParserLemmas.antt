@@ -18,7 +18,7 @@ use Rattle.clap.specs.declared.error.kind.ErrorKind.TheVariants as kind
 use Rattle.clap.proofs.OnLiterals.{clap_on_literals}
 use Rattle.clap.proofs.WalkLemmas.{both, first_value-rows, walk_stopped}
 use Rattle.clap.proofs.FaultLemmas.{stopped_fault}
-use Rattle.exh_command.specs.Fault.{IsFaultOf, IsWrong, TellsVersion}
+use Rattle.exh_command.specs.CommandFault.{IsFaultOf, IsWrong, TellsVersion}
 use Rattle.exh_command.specs.Words.{Use, alone, ends_options, gives_path, is_option, is_use_of, only_word, option_given, path_and_key, path_and_three, path_and_two, path_name, path_named, uses_and_path, uses_named, wants_path}
 use Rattle.exh_command.specs.Job.{AskForVersion, Asked, Serve, Check, Dump, Load, Storm, Get, Put, Del, Swap, Pairs, asked_by, callers_name, calls_name, cap_name, command_of, copies_name, del_asked, deleted_by, get_asked, got_by, job_asked, job_named, keyer_name, open_name, paired_by, pairs_asked, pairs_names, put_asked, put_by, save_name, serve_asked, serve_names, served_by, storm_asked, storm_names, stormed_by, swap_asked, swapped_by, wards_name}
 use Rattle.exh_command.specs.Parser.{HasPairsTexts, HasTexts, HasValues, IsJobMet, Meets, ReadsJobs, key_id, new_id, old_id, pairs_texts_of, path_id, path_rule, texts_of, value_id}

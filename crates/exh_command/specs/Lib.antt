@@ -1,4 +1,4 @@
-pub mod Fault
+pub mod CommandFault
 pub mod Words
 pub mod Job
 pub mod Parser

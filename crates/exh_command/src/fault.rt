@@ -1,6 +1,6 @@
 //! Why a command line gives no job.
 ghost use Rattle.std.specs.Prelude.{◌≡◌};
-ghost use Rattle.exh_command.specs.Fault.{IsFaultOf};
+ghost use Rattle.exh_command.specs.CommandFault.{IsFaultOf};
 ghost use Rattle.exh_command.specs.declared.fault.CliFault.TheVariants.{Memory};
 
 use clap::error::ErrorKind;

@@ -1,7 +1,7 @@
 //! What a command line asks for.
 ghost use Rattle.std.specs.Prelude.{◌≡◌, ◌<◌, ◌≤◌, ◌^◌, ℕ, List, Some, None, map, option_and_then, option_map, IfOk, IfErr, IfSome, IsSome};
 ghost use Rattle.clap.specs.Words.{first_value, found_of};
-ghost use Rattle.exh_command.specs.Fault.{IsWrong, TellsVersion};
+ghost use Rattle.exh_command.specs.CommandFault.{IsWrong, TellsVersion};
 ghost use Rattle.exh_command.specs.Job.{AskForVersion, Asked, Del, Get, IsWithinLimits, Pairs, Put, Storm, Swap, del_spelled, job_asked, job_named, key_spelled, keyer_given, keyer_name, named_of, number_given, number_of, pairing_of, put_spelled, storm_of, swap_spelled, value_spelled};
 ghost use Rattle.exh_command.specs.Parser.{IsJobMet, IsSomeJobMet, key_id, new_id, old_id, pairs_texts_of, path_id, texts_of, value_id};
 ghost use Rattle.exh_settings.specs.StormConfig.{IsStormConfig};

@@ -1,4 +1,4 @@
 pub mod AdditionLemmas
 pub mod Additions
-pub mod Laws
+pub mod CopyLaws
 pub mod Rule

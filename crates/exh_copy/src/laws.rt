@@ -1,6 +1,6 @@
 //! What holds of all copies that are looked at, for the proofs of callers. Each function does nothing.
 
-ghost use Rattle.exh_copy.specs.Laws.{CopiesNeverGoBack, LearningNeverGoesBack, CopiesAreTablesOfTheirSets, LooksAreWalksOfCopies};
+ghost use Rattle.exh_copy.specs.CopyLaws.{CopiesNeverGoBack, LearningNeverGoesBack, CopiesAreTablesOfTheirSets, LooksAreWalksOfCopies};
 
 /// Who holds more of the published list is no lower in the order of tables.
 pub fn copies_never_go_back()

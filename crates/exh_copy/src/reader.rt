@@ -1,13 +1,13 @@
 ghost use Rattle.std.specs.Prelude.{◌≡◌, length, IfSome, IfNone};
 ghost use Rattle.exh_table.specs.TableOrder.{IsTableUpTo};
-ghost use Rattle.exh_table.specs.Walk.{walk_of};
+ghost use Rattle.exh_table.specs.TableWalk.{walk_of};
 ghost use Rattle.exh_copy.specs.Additions.{BeginsWith, longest, table_after};
 ghost use Rattle.left_right.specs.Sides.{view};
 
 use crate::name::CopyName;
 use crate::published::Published;
 use crate::rule::{Looks, Rule, View};
-use crate::{HandedOn, Start};
+use crate::{Start, Told};
 use core::mem::replace_with;
 use exh_prefix::PageNo;
 use left_right::reader::Reader;
@@ -58,14 +58,14 @@ impl<S: Start> CopyReader<S> {
 
     /// Takes in what the writer of its copy handed on, where that is at least as much as the reader holds. It
     /// takes no memory.
-    pub fn learn(&mut self, handed: HandedOn<S>)
+    pub fn learn(&mut self, handed: Told<S>)
         requires own { handed.name ≡ self.old.name }
         ensures { self.new ≡ record self.old { additions = longest self.old.additions handed.additions } }
     {
         if handed.additions < self.additions {
             return;
         }
-        let HandedOn {
+        let Told {
             reader,
             additions,
             name: _,

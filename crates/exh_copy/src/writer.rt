@@ -8,7 +8,7 @@ ghost use Rattle.exh_copy.specs.declared.addition.Addition.TheVariants.{Take, Co
 use crate::name::CopyName;
 use crate::published::Published;
 use crate::rule::{Appends, Batch, Learns, Rule, Tells, View};
-use crate::{Addition, HandedOn, NoPlace, Start};
+use crate::{Addition, NoPlace, Start, Told};
 use core::mem::replace_with;
 use exh_array::Directory;
 use exh_join::Join;
@@ -94,14 +94,14 @@ impl<S: Start> CopyWriter<S> {
 
     /// What has been published by now, for a reader of the copy to learn. It takes no memory. Refused:
     /// `NoPlace`, where each place for a reader is in use. The copy is as before.
-    pub fn hand_on(&mut self) -> Result<HandedOn<S>, NoPlace>
+    pub fn tell(&mut self) -> Result<Told<S>, NoPlace>
         ensures handed { IfOk result (λ handed. handed ≡ record { name = self.old.name; additions = self.old.published }) }
         ensures same { self.new ≡ self.old }
     {
         let mut reader = self.writer.factory().reader().map_err(|_| NoPlace)?;
         reader.learn::<Learns>(self.writer.tell::<Tells>());
         let additions = self.additions();
-        Ok(HandedOn {
+        Ok(Told {
             reader,
             additions,
             name: CopyName::of(&self.name),

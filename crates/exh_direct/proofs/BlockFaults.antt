@@ -3,13 +3,13 @@ use Rattle.std.proofs.Common.{◌≢◌, ℕ, ◌*◌, ◌<◌, ◌≤◌, inl, 
 use Rattle.std.proofs.lemmas.List.{length-drop}
 use Rattle.exh_codec.specs.declared.image_fault.ImageFault.{ImageFault}
 use Rattle.exh_codec.specs.declared.image_fault.ImageFault.TheVariants as images
-use Rattle.exh_file.specs.declared.file_fault.FileFault.{FileFault}
-use Rattle.exh_file.specs.declared.file_fault.FileFault.TheVariants.{Block}
-use Rattle.exh_page_file.specs.FileTests.{bytes_from}
+use Rattle.exh_format.specs.declared.file_fault.FileFault.{FileFault}
+use Rattle.exh_format.specs.declared.file_fault.FileFault.TheVariants.{Block}
+use Rattle.exh_format.specs.FileTests.{bytes_from}
 use Rattle.exh_direct.specs.declared.direct_fault.DirectFault.{DirectFault}
 use Rattle.exh_direct.specs.declared.direct_fault.DirectFault.TheVariants.{File, Astray, Read, Memory}
 use Rattle.exh_direct.specs.DirectFault.{fault_at}
-use Rattle.exh_direct.specs.Known.{BlockFails, IsBlockAt, IsCount, IsCutOff}
+use Rattle.exh_direct.specs.KnownBlocks.{BlockFails, IsBlockAt, IsCount, IsCutOff}
 
 -- behind the last whole block
 pub cut_off : (known : Option (List ℕ)) (count place : ℕ) → IsCount known count → count ≤ place → IfSome known (λ bytes. length (bytes_from place bytes) < 4096)

@@ -6,18 +6,18 @@ use Rattle.std.specs.List.{AllByRecursion, flat_map, sum}
 use Rattle.exh_keyer.specs.Pseudokey.{any_pseudokey}
 use Rattle.exh_page.specs.declared.page.Page.{Page}
 use Rattle.exh_legal.specs.MapLemmas.{page_at}
-use Rattle.exh_codec.specs.Laws.{ImagesAreBlocks}
+use Rattle.exh_codec.specs.CodecLaws.{ImagesAreBlocks}
 use Rattle.exh_codec.specs.PageImage.{IsImage, IsPage}
-use Rattle.exh_file.specs.declared.file_entry.FileEntry.{FileEntry}
-use Rattle.exh_file.specs.FileVersion.{FileVersion, FitsFile}
-use Rattle.exh_file.specs.HeaderImage.{IsHeaderImage}
-use Rattle.exh_file.specs.HeaderLemmas.{all_counted}
-use Rattle.exh_file.specs.Laws.{HeadersAreBlocks, TablesAreBlocks}
-use Rattle.exh_file.specs.TableImage.{IsFileEntry, IsTableImage}
-use Rattle.exh_page_file.specs.FileTests.{IsWhole, block_at, bytes_from}
-use Rattle.exh_page_file.specs.PageFile.{IsPageFile, PageFile, header_block, page_block, pages_of, table_block, table_blocks, table_bytes}
-use Rattle.exh_page_file.specs.ReadingLemmas.{length-pages_of}
-use Rattle.exh_direct.specs.Answer.{block_of, page_place, table_place}
+use Rattle.exh_format.specs.declared.file_entry.FileEntry.{FileEntry}
+use Rattle.exh_format.specs.FileVersion.{FileVersion, FitsFile}
+use Rattle.exh_format.specs.HeaderImage.{IsHeaderImage}
+use Rattle.exh_format.specs.HeaderLemmas.{all_counted}
+use Rattle.exh_format.specs.BlockLaws.{HeadersAreBlocks, TablesAreBlocks}
+use Rattle.exh_format.specs.TableImage.{IsFileEntry, IsTableImage}
+use Rattle.exh_format.specs.FileTests.{IsWhole, block_at, bytes_from}
+use Rattle.exh_format.specs.PageFile.{IsPageFile, PageFile, header_block, page_block, pages_of, table_block, table_blocks, table_bytes}
+use Rattle.exh_format.specs.ReadingLemmas.{length-pages_of}
+use Rattle.exh_direct.specs.DirectAnswer.{block_of, page_place, table_place}
 
 -- a block stands at a place, whole
 pub record StandsAt (place : ℕ) (bytes block : List ℕ) : Type 0 where

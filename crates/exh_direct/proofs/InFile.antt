@@ -14,7 +14,7 @@ use Rattle.exh_keyer.specs.PseudokeyFits.{any_pseudokey-lt}
 use Rattle.exh_prefix.specs.BitLemmas.{bits_of-number_of}
 use Rattle.exh_prefix.specs.Bits.{bits_of, word_bits}
 use Rattle.exh_prefix.specs.Leading.{ward_prefix}
-use Rattle.exh_prefix.specs.ListLemmas.{AllByRecursion-append_left, AllByRecursion-append_right}
+use Rattle.exh_prefix.specs.PrefixListLemmas.{AllByRecursion-append_left, AllByRecursion-append_right}
 use Rattle.exh_prefix.specs.LeadingLemmas.{leading-lt, length-leading_bits}
 use Rattle.exh_prefix.specs.Prefix.{Begins, begins, low_of}
 use Rattle.exh_prefix.specs.PrefixLemmas.{begins_low, is_front-true}
@@ -23,40 +23,40 @@ use Rattle.exh_prefix.specs.Version.{Fits}
 use Rattle.exh_prefix.specs.LayoutLemmas.{fits_wider}
 use Rattle.exh_table.specs.declared.leaf.Leaf.{Leaf}
 use Rattle.exh_table.specs.Table.{TableMap}
-use Rattle.exh_table.specs.Walk.{walk_in}
+use Rattle.exh_table.specs.TableWalk.{walk_in}
 use Rattle.exh_page.specs.declared.page.Page.{Page}
 use Rattle.exh_page.specs.declared.page.Page.TheVariants.{Live}
 use Rattle.exh_page.specs.declared.record.Record.{Record}
 use Rattle.exh_page.specs.Page.{records_of}
 use Rattle.exh_page.specs.Records.{value_at}
-use Rattle.exh_legal.specs.Laws.{IsWard, WalksNameHomes}
+use Rattle.exh_legal.specs.LegalLaws.{IsWard, WalksNameHomes}
 use Rattle.exh_legal.specs.MapLemmas.{get-map_of}
 use Rattle.exh_legal.specs.Pages.{IsAt, IsLegal}
 use Rattle.exh_legal.specs.WardMapLemmas.{get_in_ward, legal_from}
 use Rattle.exh_codec.specs.ImageTestLemmas.{none_first as none_image_first}
-use Rattle.exh_codec.specs.Laws.{ImagesAreBlocks, ImagesPass, OnePage}
+use Rattle.exh_codec.specs.CodecLaws.{ImagesAreBlocks, ImagesPass, OnePage}
 use Rattle.exh_codec.specs.PageImage.{IsImage}
-use Rattle.exh_file.specs.declared.file_entry.FileEntry.{FileEntry}
-use Rattle.exh_file.specs.declared.file_fault.FileFault.{FileFault}
-use Rattle.exh_file.specs.declared.header.Header.{Header}
-use Rattle.exh_file.specs.FileVersion.{FileVersion, FitsFile, file_version, format_of, version_of}
-use Rattle.exh_file.specs.FileVersionLemmas.{image_says, known_file_fits, version_from_front}
-use Rattle.exh_file.specs.FirstFailingLemmas.{none_first}
-use Rattle.exh_file.specs.HeaderImage.{IsHeaderImage}
-use Rattle.exh_file.specs.Laws.{HeadersAreBlocks, HeadersPass, IsOfTable, OneHeader, OneTable, TablesAreBlocks, TablesPass}
-use Rattle.exh_file.specs.TableImage.{AreRising, IsTableImage, prefixes_of}
-use Rattle.exh_page_file.specs.FileTests.{HeaderFails, IsWhole, PageFails, TableFails, block_at, bytes_from}
-use Rattle.exh_page_file.specs.PageFile.{PageFile, page_block, table_block, table_blocks}
-use Rattle.exh_page_file.specs.Reading.{AreBytes, last_prefix}
-use Rattle.exh_page_file.specs.ReadingLemmas.{byte_at, rising_back, rising_front}
-use Rattle.exh_page_file.specs.LegalFile.{IsLegalPageFile, parts_in, table_naming}
-use Rattle.exh_page_file.specs.LegalFileLemmas.{count_of_wards, few_bits, table_naming_at}
+use Rattle.exh_format.specs.declared.file_entry.FileEntry.{FileEntry}
+use Rattle.exh_format.specs.declared.file_fault.FileFault.{FileFault}
+use Rattle.exh_format.specs.declared.header.Header.{Header}
+use Rattle.exh_format.specs.FileVersion.{FileVersion, FitsFile, file_version, format_of, version_of}
+use Rattle.exh_format.specs.FileVersionLemmas.{image_says, known_file_fits, version_from_front}
+use Rattle.exh_format.specs.FirstFailingLemmas.{none_first}
+use Rattle.exh_format.specs.HeaderImage.{IsHeaderImage}
+use Rattle.exh_format.specs.BlockLaws.{HeadersAreBlocks, HeadersPass, IsOfTable, OneHeader, OneTable, TablesAreBlocks, TablesPass}
+use Rattle.exh_format.specs.TableImage.{AreRising, IsTableImage, prefixes_of}
+use Rattle.exh_format.specs.FileTests.{HeaderFails, IsWhole, PageFails, TableFails, block_at, bytes_from}
+use Rattle.exh_format.specs.PageFile.{PageFile, page_block, table_block, table_blocks}
+use Rattle.exh_format.specs.Reading.{AreBytes, last_prefix}
+use Rattle.exh_format.specs.ReadingLemmas.{byte_at, rising_back, rising_front}
+use Rattle.exh_format.specs.LegalFile.{IsLegalPageFile, parts_in, table_naming}
+use Rattle.exh_format.specs.LegalFileLemmas.{count_of_wards, few_bits, table_naming_at}
 use Rattle.exh_direct.specs.declared.direct_fault.DirectFault.{DirectFault}
 use Rattle.exh_direct.specs.declared.direct_fault.DirectFault.TheVariants.{File, Astray, Read, Memory}
 use Rattle.exh_direct.specs.declared.lead.Lead.TheVariants.{Home, Nowhere, To}
-use Rattle.exh_direct.specs.Answer.{FailsAtEnd, FailsBehind, FailsOnWay, Finds, FindsOnWay, IsPageIn, IsTable, IsTableFront, IsWay, Refuses, RefusesBehind, block_of, head_places, page_named, page_place, pages_in, place_in, pseudokey_in, table_place, ward_in}
-use Rattle.exh_direct.specs.Known.{BlockFails, IsHeaderAt}
-use Rattle.exh_direct.specs.Laws.{FindsInFile, IsOtherFault, map_in}
+use Rattle.exh_direct.specs.DirectAnswer.{FailsAtEnd, FailsBehind, FailsOnWay, Finds, FindsOnWay, IsPageIn, IsTable, IsTableFront, IsWay, Refuses, RefusesBehind, block_of, head_places, page_named, page_place, pages_in, place_in, pseudokey_in, table_place, ward_in}
+use Rattle.exh_direct.specs.KnownBlocks.{BlockFails, IsHeaderAt}
+use Rattle.exh_direct.specs.DirectLaws.{FindsInFile, IsOtherFault, map_in}
 use Rattle.exh_direct.specs.Way.{lead_of, lead_right}
 use Rattle.exh_direct.proofs.FileBlocks.{StandsAt, block_image, header_is, header_stands, page_image, page_stands, table_stands}
 

@@ -4,7 +4,7 @@ use Rattle.std.proofs.KnownBytes.{Appends-nil, Appends-trans}
 use Rattle.std.proofs.lemmas.List.{length-append}
 use Rattle.std.specs.Io.KnownBytes.{Appends}
 use Rattle.std.specs.List.{range_with_len}
-use Rattle.exh_direct.specs.Known.{ReadsUpTo}
+use Rattle.exh_direct.specs.KnownBlocks.{ReadsUpTo}
 
 pub none_read : (a : Option (List ℕ)) (most : ℕ) → ReadsUpTo a a most
 none_read a most = record { places = []; are = Appends-nil a; few = omega arith }

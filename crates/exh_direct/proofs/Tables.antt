@@ -9,16 +9,16 @@ use Rattle.exh_prefix.specs.declared.prefix.TheConstants.{LIMIT}
 use Rattle.exh_prefix.specs.declared.version.Version.{Version as KnownVersion}
 use Rattle.exh_prefix.specs.Layout.{layout}
 use Rattle.exh_prefix.specs.LayoutLemmas.{layout_short}
-use Rattle.exh_file.specs.declared.file_entry.FileEntry.{FileEntry}
-use Rattle.exh_file.specs.declared.header.Header.{Header}
-use Rattle.exh_file.specs.FileVersion.{FileVersion, file_version}
-use Rattle.exh_file.specs.HeaderImage.{IsKnownHeader}
-use Rattle.exh_file.specs.HeaderLemmas.{all_counted, small_sum}
-use Rattle.exh_file.specs.TableImage.{AreRising, IsFileEntry, prefixes_of}
-use Rattle.exh_page_file.specs.Reading.{last_prefix}
-use Rattle.exh_page_file.specs.ReadingLemmas.{rising_join}
-use Rattle.exh_direct.specs.Answer.{IsTableFront, block_of, table_place}
-use Rattle.exh_direct.specs.Known.{IsTableBlock}
+use Rattle.exh_format.specs.declared.file_entry.FileEntry.{FileEntry}
+use Rattle.exh_format.specs.declared.header.Header.{Header}
+use Rattle.exh_format.specs.FileVersion.{FileVersion, file_version}
+use Rattle.exh_format.specs.HeaderImage.{IsKnownHeader}
+use Rattle.exh_format.specs.HeaderLemmas.{all_counted, small_sum}
+use Rattle.exh_format.specs.TableImage.{AreRising, IsFileEntry, prefixes_of}
+use Rattle.exh_format.specs.Reading.{last_prefix}
+use Rattle.exh_format.specs.ReadingLemmas.{rising_join}
+use Rattle.exh_direct.specs.DirectAnswer.{IsTableFront, block_of, table_place}
+use Rattle.exh_direct.specs.KnownBlocks.{IsTableBlock}
 
 -- ---- prefixes
 

@@ -11,7 +11,7 @@ use Rattle.std.proofs.lemmas.Cmp.{tied_itself}
 use Rattle.std.proofs.lemmas.List.{get_or_at, get_or-take, length-append, length_push, take-append-drop, take_more, take-take}
 use Rattle.exh_prefix.specs.Bits.{word_bits}
 use Rattle.exh_prefix.specs.LeadingLemmas.{length-leading_bits}
-use Rattle.exh_prefix.specs.ListLemmas.{is_equal}
+use Rattle.exh_prefix.specs.PrefixListLemmas.{is_equal}
 use Rattle.exh_prefix.specs.LowLemmas.{child_above}
 use Rattle.exh_prefix.specs.Prefix.{low_of, prefix_cmp}
 use Rattle.exh_prefix.specs.PrefixLemmas.{length-word_bits, prefix_cmp-exact, prefix_cmp-total}
@@ -20,14 +20,14 @@ use Rattle.exh_notice.specs.declared.entry.Entry.{Entry}
 use Rattle.exh_table.specs.declared.leaf.Leaf.{Leaf}
 use Rattle.exh_table.specs.RaisedLemmas.{raised_elsewhere, raised_here}
 use Rattle.exh_table.specs.Table.{TableMap, greater_of, raised}
-use Rattle.exh_table.specs.Walk.{right_of, right_of_kind, split_at, step, walk_of, walk_on}
+use Rattle.exh_table.specs.TableWalk.{right_of, right_of_kind, split_at, step, walk_of, walk_on}
 use Rattle.exh_table.specs.WalkLemmas.{walk_on-step, walk_on-stop}
-use Rattle.exh_file.specs.declared.file_entry.FileEntry.{FileEntry}
-use Rattle.exh_file.specs.TableImage.{AreRising, prefixes_of}
-use Rattle.exh_file.specs.RisingLemmas.{all_before}
-use Rattle.exh_page_file.specs.LegalFile.{table_naming}
-use Rattle.exh_page_file.specs.NamingLemmas.{named_more, none_named, none_there}
-use Rattle.exh_direct.specs.Walk.{IsOnWay, first_leaf, is_due, passed, passed_all}
+use Rattle.exh_format.specs.declared.file_entry.FileEntry.{FileEntry}
+use Rattle.exh_format.specs.TableImage.{AreRising, prefixes_of}
+use Rattle.exh_format.specs.RisingLemmas.{all_before}
+use Rattle.exh_format.specs.LegalFile.{table_naming}
+use Rattle.exh_format.specs.NamingLemmas.{named_more, none_named, none_there}
+use Rattle.exh_direct.specs.BlockWalk.{IsOnWay, first_leaf, is_due, passed, passed_all}
 
 -- ---- an entry behind others of lesser prefixes
 

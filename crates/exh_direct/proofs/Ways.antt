@@ -13,14 +13,14 @@ use Rattle.exh_prefix.specs.PrefixLemmas.{is_front-true, not_front}
 use Rattle.exh_page.specs.declared.page.Page.{Page}
 use Rattle.exh_page.specs.declared.page.Page.TheVariants.{Live}
 use Rattle.exh_page.specs.declared.record.Record.{Record}
-use Rattle.exh_file.specs.declared.header.Header.{Header}
-use Rattle.exh_file.specs.FileVersion.{FileVersion}
-use Rattle.exh_page_file.specs.FileTests.{PageFails}
+use Rattle.exh_format.specs.declared.header.Header.{Header}
+use Rattle.exh_format.specs.FileVersion.{FileVersion}
+use Rattle.exh_format.specs.FileTests.{PageFails}
 use Rattle.exh_direct.specs.declared.direct_fault.DirectFault.{DirectFault}
 use Rattle.exh_direct.specs.declared.direct_fault.DirectFault.TheVariants.{File, Astray, Read, Memory}
 use Rattle.exh_direct.specs.declared.lead.Lead.TheVariants.{Home, Nowhere, To}
-use Rattle.exh_direct.specs.Answer.{FailsAtEnd, IsPageIn, IsWay, pages_in, place_in, pseudokey_in, ward_in}
-use Rattle.exh_direct.specs.Known.{BlockFails, IsPageBlock}
+use Rattle.exh_direct.specs.DirectAnswer.{FailsAtEnd, IsPageIn, IsWay, pages_in, place_in, pseudokey_in, ward_in}
+use Rattle.exh_direct.specs.KnownBlocks.{BlockFails, IsPageBlock}
 use Rattle.exh_direct.specs.Way.{lead_of, lead_right}
 
 -- ---- where a live page leads

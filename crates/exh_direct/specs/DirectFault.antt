@@ -2,8 +2,8 @@
 use Rattle.std.specs.Prelude.{ℕ, Option, None, Some}
 use Rattle.exh_codec.specs.declared.image_fault.ImageFault.{ImageFault}
 use Rattle.exh_codec.specs.declared.image_fault.ImageFault.TheVariants as images
-use Rattle.exh_file.specs.FileFault.{file_fault_number}
-use Rattle.exh_file.specs.declared.file_fault.FileFault.TheVariants as faults
+use Rattle.exh_format.specs.FileFault.{file_fault_number}
+use Rattle.exh_format.specs.declared.file_fault.FileFault.TheVariants as faults
 use Rattle.exh_direct.specs.declared.direct_fault.DirectFault.{DirectFault}
 use Rattle.exh_direct.specs.declared.direct_fault.DirectFault.TheVariants.{File, Astray, Read, Memory}
 

@@ -1,6 +1,6 @@
-pub mod Known
+pub mod KnownBlocks
 pub mod DirectFault
-pub mod Walk
+pub mod BlockWalk
 pub mod Way
-pub mod Answer
-pub mod Laws
+pub mod DirectAnswer
+pub mod DirectLaws

@@ -1,6 +1,6 @@
 ghost use Rattle.std.specs.Prelude.{◌≡◌, ℕ, List, Option, [], ◌∷◌, IfOk, OnOk};
 ghost use Rattle.std.specs.Io.KnownBytes.{Appends};
-ghost use Rattle.exh_direct.specs.Known.{IsBlockAt, IsCount};
+ghost use Rattle.exh_direct.specs.KnownBlocks.{IsBlockAt, IsCount};
 
 use exh_codec::BLOCK_LEN;
 use std::io;

@@ -3,7 +3,7 @@ ghost use Rattle.exh_direct.specs.DirectFault.{direct_fault_number, direct_fault
 ghost use Rattle.exh_direct.specs.declared.direct_fault.DirectFault.TheVariants.{File, Memory};
 
 use exh_codec::ImageFault;
-use exh_file::FileFault;
+use exh_format::FileFault;
 use std::alloc::AllocError;
 use thiserror::Error;
 

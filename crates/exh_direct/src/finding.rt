@@ -1,10 +1,10 @@
 ghost use Rattle.std.specs.Prelude.{◌≡◌, ℕ, List, Some, IfOk, IfErr, MatchResult};
-ghost use Rattle.exh_file.specs.FileVersion.{format_of};
-ghost use Rattle.exh_page_file.specs.PageFile.{PageFile};
-ghost use Rattle.exh_page_file.specs.Reading.{AreBytes};
-ghost use Rattle.exh_page_file.specs.LegalFile.{IsLegalPageFile};
-ghost use Rattle.exh_direct.specs.Answer.{Finds, Refuses};
-ghost use Rattle.exh_direct.specs.Laws.{FindsInFile, IsOtherFault};
+ghost use Rattle.exh_format.specs.FileVersion.{format_of};
+ghost use Rattle.exh_format.specs.PageFile.{PageFile};
+ghost use Rattle.exh_format.specs.Reading.{AreBytes};
+ghost use Rattle.exh_format.specs.LegalFile.{IsLegalPageFile};
+ghost use Rattle.exh_direct.specs.DirectAnswer.{Finds, Refuses};
+ghost use Rattle.exh_direct.specs.DirectLaws.{FindsInFile, IsOtherFault};
 
 use crate::follow::follow;
 use crate::named::named_page;
@@ -34,9 +34,9 @@ pub fn find<B: Blocks>(
     exh_codec::one_page();
     exh_codec::images_pass();
     exh_codec::images_are_blocks();
-    exh_file::one_value();
-    exh_file::images_pass();
-    exh_file::images_are_blocks();
+    exh_format::one_value();
+    exh_format::images_pass();
+    exh_format::images_are_blocks();
     exh_legal::walks_name_homes();
     find_on_way(alloc, blocks, key)
 }

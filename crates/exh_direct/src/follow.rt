@@ -1,16 +1,16 @@
 ghost use Rattle.std.specs.Prelude.{◌≡◌, ◌+◌, ◌*◌, ◌<◌, ◌≤◌, ◌^◌, take, IfOk, IfErr, IfSome};
 ghost use Rattle.std.specs.List.{sum};
 ghost use Rattle.exh_keyer.specs.Pseudokey.{any_pseudokey};
-ghost use Rattle.exh_file.specs.FileVersion.{file_version};
+ghost use Rattle.exh_format.specs.FileVersion.{file_version};
 ghost use Rattle.exh_prefix.specs.declared.prefix.TheConstants.{LIMIT};
-ghost use Rattle.exh_file.specs.HeaderImage.{IsHeader, IsKnownHeader};
-ghost use Rattle.exh_direct.specs.Known.{IsCount};
-ghost use Rattle.exh_direct.specs.Answer.{FailsOnWay, FindsOnWay, page_place};
+ghost use Rattle.exh_format.specs.HeaderImage.{IsHeader, IsKnownHeader};
+ghost use Rattle.exh_direct.specs.KnownBlocks.{IsCount};
+ghost use Rattle.exh_direct.specs.DirectAnswer.{FailsOnWay, FindsOnWay, page_place};
 
 use crate::lead::{Lead, lead_of};
 use crate::reading::{read_page, total};
 use crate::{Blocks, DirectFault};
-use exh_file::Header;
+use exh_format::Header;
 use exh_page::{Key, Value};
 use exh_prefix::{PageNo, Version, ward_number};
 use std::alloc::Global;

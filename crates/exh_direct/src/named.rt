@@ -1,16 +1,16 @@
 ghost use Rattle.std.specs.Prelude.{◌≡◌, ◌+◌, ◌*◌, ◌<◌, ◌≤◌, ◌^◌, IfOk, IfErr, length, None};
 ghost use Rattle.std.specs.List.{sum};
-ghost use Rattle.exh_file.specs.FileVersion.{file_version};
+ghost use Rattle.exh_format.specs.FileVersion.{file_version};
 ghost use Rattle.exh_prefix.specs.declared.prefix.TheConstants.{LIMIT};
-ghost use Rattle.exh_file.specs.HeaderImage.{IsHeader, IsKnownHeader};
-ghost use Rattle.exh_page_file.specs.Reading.{last_prefix};
-ghost use Rattle.exh_direct.specs.Known.{IsCount, ReadsUpTo};
-ghost use Rattle.exh_direct.specs.Answer.{FailsInTable, NamesPage, table_place};
+ghost use Rattle.exh_format.specs.HeaderImage.{IsHeader, IsKnownHeader};
+ghost use Rattle.exh_format.specs.Reading.{last_prefix};
+ghost use Rattle.exh_direct.specs.KnownBlocks.{IsCount, ReadsUpTo};
+ghost use Rattle.exh_direct.specs.DirectAnswer.{FailsInTable, NamesPage, table_place};
 
 use crate::reading::{read_entries, total};
 use crate::walk::{first_leaf, pass_all};
 use crate::{Blocks, DirectFault};
-use exh_file::{BLOCK_ENTRIES, FileEntry, Header};
+use exh_format::{BLOCK_ENTRIES, FileEntry, Header};
 use exh_prefix::{PageNo, Prefix, Version, ward_number};
 use std::alloc::Global;
 

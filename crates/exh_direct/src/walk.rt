@@ -3,9 +3,9 @@ ghost use Rattle.std.specs.List.{AllByRecursion};
 ghost use Rattle.exh_prefix.specs.declared.prefix.TheConstants.{LIMIT, WARD_BITS_LIMIT};
 ghost use Rattle.exh_prefix.specs.Bits.{word_bits};
 ghost use Rattle.exh_prefix.specs.Prefix.{Begins};
-ghost use Rattle.exh_direct.specs.Walk.{IsOnWay, first_leaf, is_due, passed, passed_all};
+ghost use Rattle.exh_direct.specs.BlockWalk.{IsOnWay, first_leaf, is_due, passed, passed_all};
 
-use exh_file::FileEntry;
+use exh_format::FileEntry;
 use exh_notice::Kind;
 use exh_prefix::{Prefix, leading};
 use exh_table::Leaf;

@@ -1,2 +1,2 @@
-pub mod Fault
+pub mod DiskFault
 pub mod Stage

@@ -66,7 +66,7 @@ pub enum DiskFault {
 impl DiskFault {
     ghost use Rattle.std.specs.Prelude.{◌≡◌};
     ghost use Rattle.std.specs.IoError.{error_kind};
-    ghost use Rattle.exh_disk.specs.Fault.{is_memory, is_out_of_memory};
+    ghost use Rattle.exh_disk.specs.DiskFault.{is_memory, is_out_of_memory};
 
     /// A call of the system failed: want of memory is told apart.
     pub(crate) fn at(call: Call, error: io::Error) -> DiskFault

@@ -1,5 +1,5 @@
 ghost use Rattle.std.specs.Prelude.{◌≡◌};
-ghost use Rattle.exh_event.specs.Progress.{progress_with};
+ghost use Rattle.exh_event.specs.EventProgress.{progress_with};
 
 use exh_calls::Reply;
 use exh_prefix::PageNo;

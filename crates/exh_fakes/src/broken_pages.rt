@@ -1,11 +1,11 @@
 //! Pages in memory of which, after some calls, every call fails.
 ghost use Rattle.std.specs.Prelude.{◌≡◌};
-ghost use Rattle.exh_frames.specs.PageStore.{CountsFaults};
+ghost use Rattle.exh_stores.specs.PageStore.{CountsFaults};
 
 use exh_codec::BLOCK_LEN;
-use exh_frames::{Pages, PagesFault, PlainPages};
 use exh_page::{Key, Page, PageHead, Spot, Value};
 use exh_prefix::PageNo;
+use exh_stores::{Pages, PagesFault, PlainPages};
 
 /// Pages in memory. Of the calls that answer a `Result` so many as are left are done, and each later one fails.
 #[derive(Drop)]

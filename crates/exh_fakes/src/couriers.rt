@@ -4,8 +4,8 @@ ghost use Rattle.std.specs.Prelude.{◌≡◌, ◌^◌, ℕ, length, IfOk};
 ghost use Rattle.std.specs.FinMap as map;
 ghost use Rattle.exh_keyer.specs.Pseudokey.{plain_pseudokey};
 ghost use Rattle.exh_copy.specs.Additions.{AreOf};
-ghost use Rattle.exh_live.specs.LiveFile.{IsNewWardOf};
-ghost use Rattle.exh_live.specs.declared.ledgers.TheConstants.{ANSWER_PARTS, ENTRY_PARTS};
+ghost use Rattle.exh_live_file.specs.LiveFile.{IsNewWardOf};
+ghost use Rattle.exh_live_file.specs.declared.ledgers.TheConstants.{ANSWER_PARTS, ENTRY_PARTS};
 
 use crate::broken_pages::BrokenPages;
 use exh_callers::{
@@ -14,11 +14,10 @@ use exh_callers::{
 };
 use exh_calls::Reply;
 use exh_copy::{NewCopyFault, Start, new_copy};
-use exh_fixtures::{Asked, Said, first_store};
+use exh_fixtures::{Asked, Difference, Part, Said, first_store, same};
 use exh_keyer::{Keyer, PlainKeyer};
-use exh_live::{ANSWER_PARTS, Cursors, ENTRY_PARTS, Identity};
+use exh_live_file::{ANSWER_PARTS, Cursors, ENTRY_PARTS, Identity};
 use exh_prefix::PageNo;
-use exh_runs::{Difference, Part, same};
 use exh_settings::FileSettings;
 use exh_table::Table;
 use exh_walk::OpenGate;
@@ -200,7 +199,7 @@ fn take_rounds<R: Wait, F: Identity, S: Start>(
 {
     let mut cursors = Cursors::new(alloc, 0, &Table::new(alloc))?;
     is_carried(rt, file, writer, &mut cursors, 1)?;
-    let Ok(handed) = writer.hand_on() else {
+    let Ok(handed) = writer.tell() else {
         return Err(Difference::Apart(Part::Run));
     };
     caller.copy.learn(handed);

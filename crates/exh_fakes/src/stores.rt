@@ -4,13 +4,13 @@ ghost use Rattle.std.specs.Prelude.{◌≡◌, ◌<◌, [], length, IfSome};
 ghost use Rattle.exh_page.specs.Page.{records_of, IsLive};
 ghost use Rattle.exh_page.specs.Place.{place_of};
 ghost use Rattle.exh_page.specs.Search.{IsSought};
-ghost use Rattle.exh_frames.specs.PageStore.{IfPage};
+ghost use Rattle.exh_stores.specs.PageStore.{IfPage};
 
 use exh_codec::BLOCK_LEN;
 use exh_fixtures::{FailingPages, PagesCall};
-use exh_frames::{Pages, PagesFault, PlainPages};
 use exh_page::{Key, Page, Record, Records, Spot, Value};
 use exh_prefix::{PageNo, Prefix};
+use exh_stores::{Pages, PagesFault, PlainPages};
 use std::alloc::Global;
 
 // A record of the key `k`.

@@ -1,15 +1,23 @@
-//! The blocks of a page file that aren't pages: its header and its table, in each version (exhash's
-//! own). Each value has exactly one image, and an image is that of one value.
+//! Page files opened as wards, and wards written as one page file; one call over the wards of a file.
 #![tactic(auto)]
 
-pub use file_entry::FileEntry;
-pub use file_fault::FileFault;
-pub use header::{COUNTS_LEN, Header, version_in};
-pub use laws::{images_are_blocks, images_pass, one_image, one_value};
-pub use table_block::{BLOCK_ENTRIES, decode_entries};
+pub use file_change::change_file;
+pub use open_fault::OpenFault;
+pub use opened::Opened;
+pub use opened_writing::write_opened;
+pub use opening::open;
+pub use reply::{is_done, reply_line};
+pub use save_fault::SaveFault;
+pub use saving::write_file;
+pub use ward_change::{CHANGER, change_ward};
 
-mod file_entry;
-mod file_fault;
+mod file_change;
 mod header;
-mod laws;
-mod table_block;
+mod open_fault;
+mod opened;
+mod opened_writing;
+mod opening;
+mod reply;
+mod save_fault;
+mod saving;
+mod ward_change;

@@ -12,16 +12,16 @@ use Rattle.exh_notice.specs.declared.entry.Kind.{Kind}
 use Rattle.exh_notice.specs.declared.entry.Kind.TheVariants.{Split, Merge}
 use Rattle.exh_notice.specs.declared.notice.Notice.{Notice}
 use Rattle.exh_table.specs.Table.{TableMap, greater_of, raised}
-use Rattle.exh_table.specs.Walk.{right_of, split_at}
+use Rattle.exh_table.specs.TableWalk.{right_of, split_at}
 use Rattle.exh_page.specs.declared.page.Page.{Page}
 use Rattle.exh_page.specs.declared.page.Page.TheVariants.{Live}
 use Rattle.exh_page.specs.Page.{low_bound}
 use Rattle.exh_legal.specs.Change.{IsSplit}
 use Rattle.exh_legal.specs.Fit.{FitsPages, IsMergeAt, IsWardEntry}
-use Rattle.exh_legal.specs.Laws.{FittingTablesBeginWards, IsChanged, IsWard, LonePagesAreLegal, SplitsKeepLegal}
-use Rattle.exh_prefix.specs.ListLemmas.{is_equal}
+use Rattle.exh_legal.specs.LegalLaws.{FittingTablesBeginWards, IsChanged, IsWard, LonePagesAreLegal, SplitsKeepLegal}
+use Rattle.exh_prefix.specs.PrefixListLemmas.{is_equal}
 use Rattle.exh_prefix.specs.LowLemmas.{own_front, right_above}
-use Rattle.exh_legal.specs.Versions.{version_at}
+use Rattle.exh_legal.specs.ChangeNumbers.{number_at}
 use Rattle.exh_legal.specs.Pages.{IsAt}
 use Rattle.exh_fixtures.specs.OpenedWard.{entry_of_split, halves}
 
@@ -73,8 +73,8 @@ module _ (own : List Bool) where
   no_merge : (number : ℕ) (prefix : List Bool) → IsMergeAt (told own number) prefix → ⊥
   no_merge number prefix merge = elim (cases_Bool (is_own prefix)) [
     | inl tied ↦
-        let both : Some (entry_of_split number) ≡ Some (record { version = merge.0; kind = Merge }) = sym (get_own number prefix tied) ∙ merge.1 in
-        let entry_is : entry_of_split number ≡ record { version = merge.0; kind = Merge } = cc in
+        let both : Some (entry_of_split number) ≡ Some (record { number = merge.0; kind = Merge }) = sym (get_own number prefix tied) ∙ merge.1 in
+        let entry_is : entry_of_split number ≡ record { number = merge.0; kind = Merge } = cc in
         absurd (false≢true (ap (λ (entry : Entry). is_merge entry.kind) entry_is))
     | inr differs ↦ absurd (false≢true (ap is_some (sym (get_else number prefix differs) ∙ merge.1)))
   ]
@@ -86,7 +86,7 @@ module _ (pseudo : List ℕ → ℕ) (lone : LonePagesAreLegal) (splits : Splits
   before = Live own None [] ∷ []
 
   abbrev first : Notice
-  first = record { ward = 0; index = 1; prefix = own; version = 1; kind = Split 1 }
+  first = record { ward = 0; index = 1; prefix = own; number = 1; kind = Split 1 }
 
   only_at : (page other : Page) (number : ℕ) → IsAt (page ∷ []) number other → page ≡ other
   only_at page other zero is = cc
@@ -115,7 +115,7 @@ module _ (pseudo : List ℕ → ℕ) (lone : LonePagesAreLegal) (splits : Splits
 
   changed : IsChanged 0 pseudo own fin.empty [] fin.empty before first (halves own)
   changed =
-      let numbered : 1 ≡ version_at fin.empty own + 1 = ap (λ (found : Option Entry). option_map_or (λ entry. entry.version) found 0 + 1) (sym (fin.get-empty prefix_cmp own)) in
+      let numbered : 1 ≡ number_at fin.empty own + 1 = ap (λ (found : Option Entry). option_map_or (λ entry. entry.number) found 0 + 1) (sym (fin.get-empty prefix_cmp own)) in
       splits 0 pseudo own fin.empty [] fin.empty before 0 own 1 (halves own) first (lone 0 pseudo own (omega (arith, short))) is_split refl numbered refl
 
   module _ (number : ℕ) (odd : number % 2 ≡ 1) where

@@ -3,8 +3,8 @@ use Rattle.std.specs.Prelude.{⊤, ℕ, zero, suc, ◌+◌, ◌-◌, ◌^◌, �
 use Rattle.exh_fixtures.specs.declared.failing_pages.Failure.{Failure}
 use Rattle.exh_fixtures.specs.declared.failing_pages.Failure.TheVariants.{After, Past, Never}
 use Rattle.exh_fixtures.specs.declared.pages_call.PagesCall.{PagesCall}
-use Rattle.exh_frames.specs.declared.pages_fault.PagesFault.{PagesFault}
-use Rattle.exh_frames.specs.declared.pages_fault.PagesFault.TheVariants.{Memory, Page as OutOfReach}
+use Rattle.exh_stores.specs.declared.pages_fault.PagesFault.{PagesFault}
+use Rattle.exh_stores.specs.declared.pages_fault.PagesFault.TheVariants.{Memory, Page as OutOfReach}
 
 -- the greatest count of failures
 abbrev pub greatest : ℕ

@@ -1,2 +1,3 @@
 pub mod OpenedWard
 pub mod Failure
+pub mod RunsStatus

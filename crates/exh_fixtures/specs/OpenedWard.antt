@@ -9,4 +9,4 @@ abbrev pub halves : List Bool → List Page
 halves own = Live (own ++ false ∷ []) (Some 1) [] ∷ Live (own ++ true ∷ []) None [] ∷ []
 
 abbrev pub entry_of_split : ℕ → Entry
-entry_of_split version = record { version = version; kind = Split 1 }
+entry_of_split version = record { number = version; kind = Split 1 }

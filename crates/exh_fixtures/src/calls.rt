@@ -1,8 +1,8 @@
 //! Calls by the bytes of their keys and values.
 
+use crate::{Difference, Part};
 use exh_calls::Call;
 use exh_page::{Key, Value};
-use exh_runs::{Difference, Part};
 
 /// A call: its key, and of a put the value, of a swap the old one and the new.
 #[derive(Clone, Copy)]

@@ -1,12 +1,12 @@
 ghost use Rattle.std.specs.Prelude.{◌≡◌, ◌≤◌, ◌<◌, ◌-◌, ◌^◌, false, IsTrue, IsErrOf, OnOk};
 ghost use Rattle.exh_fixtures.specs.Failure.{HasRoom, IsFaultless, after_call, count_with, failed_call, failure_at, is_due};
-ghost use Rattle.exh_frames.specs.PageStore.{CountsFaults};
+ghost use Rattle.exh_stores.specs.PageStore.{CountsFaults};
 
 use crate::PagesCall;
 use exh_codec::BLOCK_LEN;
-use exh_frames::{Pages, PagesFault};
 use exh_page::{Key, Page, PageHead, Spot, Value};
 use exh_prefix::PageNo;
+use exh_stores::{Pages, PagesFault};
 use std::marker::Model;
 
 /// A store over any store, of which one call fails: for tests of what stands on a store.
@@ -94,7 +94,7 @@ impl<P: Pages + Drop> Pages for FailingPages<P> {
     ghost use Rattle.exh_page.specs.Page.{IsLive, records_of, with_records};
     ghost use Rattle.exh_page.specs.Records.{with_record};
     ghost use Rattle.exh_page.specs.Search.{IsSought, IsSpot};
-    ghost use Rattle.exh_frames.specs.PageStore.{HasHead, IfPage, TakesTheSame};
+    ghost use Rattle.exh_stores.specs.PageStore.{HasHead, IfPage, TakesTheSame};
 
     ghost pages = { λ store. P.pages store.inner };
 

@@ -1,27 +1,47 @@
-//! What runs are made of: calls by the bytes of their keys and values, notices, a ward's first store,
-//! and the calls of wards, each made once more where memory was refused.
+//! What the runs beside the program, and tests, are made of: calls by the bytes of their keys and values, notices, wards, the
+//! calls of wards, each made once more where memory was refused, what fails on purpose, and for each kind of run how many
+//! steps it took, and how many of them differed.
 #![tactic(auto)]
 
 pub use calls::{Asked, key, value};
+pub use dice::Dice;
+pub use difference::{Difference, Part, same};
 pub use failing_pages::FailingPages;
 pub use fakes::{FakeReader, FakeWriter, WriteRefusal};
+pub use job::{Job, named};
+pub use kind::{Named, RunKind};
+pub use lie::Lie;
 pub use new_ward::first_store;
 pub use notices::{merge, prefix, split};
 pub use opened::opened_ward;
 pub use pages_call::PagesCall;
+pub use program::{has_told_difference, own_words, run_kinds};
 pub use replies::told_reply;
+pub use run::Run;
 pub use said::Said;
 pub use same_pages::are_same;
+pub use status::Status;
+pub use tally::Tally;
 pub use ward_calls::{hop, hop_of, merge_page, page, refused, split_page};
 
+mod again;
 mod calls;
+mod dice;
+mod difference;
 mod failing_pages;
 mod fakes;
+mod job;
+mod kind;
+mod lie;
 mod new_ward;
 mod notices;
 mod opened;
 mod pages_call;
+mod program;
 mod replies;
+mod run;
 mod said;
 mod same_pages;
+mod status;
+mod tally;
 mod ward_calls;

@@ -4,8 +4,8 @@ ghost use Rattle.exh_prefix.specs.Leading.{ward_prefix};
 ghost use Rattle.exh_page.specs.declared.page.Page.TheVariants.{Live};
 ghost use Rattle.exh_prefix.specs.declared.prefix.TheConstants.{WARD_BITS_LIMIT};
 
-use exh_frames::PlainPages;
-use exh_runs::again;
+use crate::again;
+use exh_stores::PlainPages;
 use exh_ward::first_page;
 use std::alloc::{AllocError, Global};
 

@@ -1,8 +1,8 @@
 //! Notices of ward 0.
 
+use crate::{Difference, Part};
 use exh_notice::{Kind, Notice};
 use exh_prefix::{PageNo, Prefix};
-use exh_runs::{Difference, Part};
 
 /// The prefix of these bits, each of which is `0` or `1`. A `Difference` where there are too many.
 pub fn prefix(bits: &str) -> Result<Prefix, Difference> {
@@ -14,23 +14,23 @@ pub fn prefix(bits: &str) -> Result<Prefix, Difference> {
 }
 
 /// A notice of ward 0 of a split.
-pub fn split(index: u64, prefix: Prefix, version: u32, right: PageNo) -> Notice {
+pub fn split(index: u64, prefix: Prefix, number: u32, right: PageNo) -> Notice {
     Notice {
         ward: 0,
         index,
         prefix,
-        version,
+        number,
         kind: Kind::Split { right },
     }
 }
 
 /// A notice of ward 0 of a merge.
-pub fn merge(index: u64, prefix: Prefix, version: u32) -> Notice {
+pub fn merge(index: u64, prefix: Prefix, number: u32) -> Notice {
     Notice {
         ward: 0,
         index,
         prefix,
-        version,
+        number,
         kind: Kind::Merge,
     }
 }

@@ -5,14 +5,14 @@ ghost use Rattle.exh_page.specs.declared.page.Page.TheVariants.{Live};
 ghost use Rattle.exh_prefix.specs.Leading.{ward_prefix};
 ghost use Rattle.exh_fixtures.specs.OpenedWard.{entry_of_split, halves};
 
-use exh_frames::{Pages, PlainPages};
+use crate::again;
 use exh_keyer::Keyer;
 use exh_legal::{fitting_tables_begin_wards, lone_pages_are_legal, splits_keep_legal};
 use exh_notice::{Entry, Kind};
 use exh_page::{Page, Records};
 use exh_prefix::{PageNo, Prefix};
-use exh_runs::again;
 use exh_settings::FileSettings;
+use exh_stores::{Pages, PlainPages};
 use exh_table::Table;
 use exh_ward::{Ward, WardFault, first_page};
 use std::alloc::Global;
@@ -103,11 +103,11 @@ fn empty_page(alloc: Global, prefix: Prefix, right: Option<PageNo>) -> Page
     }
 }
 
-fn last_entry(version: u32) -> Entry
-    ensures { result ≡ entry_of_split version }
+fn last_entry(number: u32) -> Entry
+    ensures { result ≡ entry_of_split number }
 {
     Entry {
-        version,
+        number,
         kind: Kind::Split { right: 1 },
     }
 }

@@ -1,7 +1,7 @@
 //! Wrong replies.
 
+use crate::Lie;
 use exh_calls::Reply;
-use exh_runs::Lie;
 
 /// The reply, or another where a wrong answer is due.
 pub fn told_reply(lie: &mut Lie, reply: Reply) -> Reply {

@@ -1,8 +1,8 @@
 //! Calls by bytes, each with its reply.
 
+use crate::Difference;
 use crate::calls::{Asked, value};
 use exh_calls::Reply;
-use exh_runs::Difference;
 
 /// A call, and its reply.
 #[derive(Clone, Copy)]

@@ -1,12 +1,12 @@
 //! The calls of a ward over any store, each made once more where memory was refused.
 
+use crate::{Difference, again};
 use exh_calls::Call;
-use exh_frames::Pages;
 use exh_keyer::{Keyer, PlainKeyer};
 use exh_notice::Notice;
 use exh_page::Page;
 use exh_prefix::PageNo;
-use exh_runs::{Difference, again};
+use exh_stores::Pages;
 use exh_ward::{Hop, Ward, WardFault};
 
 // These make a call once, and need nothing of the ward: what calls them is proved with less.

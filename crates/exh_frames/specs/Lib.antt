@@ -1,2 +1,5 @@
-pub mod Digests
-pub mod PageStore
+pub mod CacheSize
+pub mod InPlace
+pub mod PageImages
+pub mod Decoded
+pub mod FramedStore

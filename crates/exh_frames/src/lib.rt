@@ -1,14 +1,15 @@
-//! Stores of pages: lists of pages that a ward reads, changes and grows, wherever they lie (exhash's
-//! own).
+//! Stores of pages over their images, behind a cache of decoded pages (exhash's own).
 #![tactic(auto)]
 
-pub use pages::Pages;
-pub use pages_fault::PagesFault;
-pub use plain_pages::PlainPages;
-pub use store_maker::{PlainMaker, StoreMaker};
+pub use cache_size::{CACHE_SIZE_LIMIT, CacheFault};
+pub use framed_maker::FramedMaker;
+pub use framed_pages::FramedPages;
 
-mod pages;
-mod pages_fault;
-mod plain_pages;
-mod store_maker;
-mod stored_page;
+mod cache_size;
+mod decoded_pages;
+mod edit;
+mod framed_maker;
+mod framed_pages;
+mod gap;
+mod image;
+mod images;

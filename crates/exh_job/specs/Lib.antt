@@ -1,4 +1,9 @@
-pub mod Status
+pub mod ExitStatus
 pub mod LastLine
 pub mod OpenRun
 pub mod JobPath
+pub mod FileRun
+pub mod PairsAgain
+pub mod GetRun
+pub mod ChangeRun
+pub mod LoadRun

@@ -2,14 +2,14 @@
 use Rattle.std.specs.Prelude.{◌≡◌, ◌⊎◌, ℕ, Bool, List, [], ◌∷◌, ◌++◌, codes, Option, Result, Ok, Err}
 use Rattle.exh_text.specs.Contents.{on_line}
 use Rattle.exh_text.specs.Printing.{refused_text}
-use Rattle.exh_file.specs.FileVersion.{format_of}
-use Rattle.exh_page_file.specs.PageFile.{PageFile}
-use Rattle.exh_page_file.specs.Reading.{AreBytes, IsAll}
-use Rattle.exh_page_file.specs.LegalFile.{IsLegalPageFile}
-use Rattle.exh_open.specs.Opened.{OpenedState}
-use Rattle.exh_open.specs.Opening.{IsOpenedFile, IsOpenFaultOf}
-use Rattle.exh_open.specs.declared.open_fault.OpenFault.{OpenFault}
-use Rattle.exh_open.specs.declared.open_fault.OpenFault.TheVariants.{File, Page}
+use Rattle.exh_format.specs.FileVersion.{format_of}
+use Rattle.exh_format.specs.PageFile.{PageFile}
+use Rattle.exh_format.specs.Reading.{AreBytes, IsAll}
+use Rattle.exh_format.specs.LegalFile.{IsLegalPageFile}
+use Rattle.exh_file.specs.Opened.{OpenedState}
+use Rattle.exh_file.specs.Opening.{IsOpenedFile, IsOpenFaultOf}
+use Rattle.exh_file.specs.declared.open_fault.OpenFault.{OpenFault}
+use Rattle.exh_file.specs.declared.open_fault.OpenFault.TheVariants.{File, Page}
 use Rattle.exh_report.specs.Finding.{refusal_words}
 use Rattle.exh_job.specs.LastLine.{PrintsLine, memory_line}
 use Rattle.exh_job.specs.declared.status.Status.{Status}

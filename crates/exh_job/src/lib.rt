@@ -1,24 +1,38 @@
-//! What the runs of the program's jobs share: the wards of a file that is opened, where they are saved, what is said of
-//! both, the last line, and the status with which the program ends.
+//! The jobs of the program that work on page files: what each opens, prints and saves, what is said of it, and the status
+//! with which the program ends.
 #![tactic(auto)]
 
 pub use ending::Ending;
+pub use file_run::Topic;
 pub use job_path::{JobPath, path_of};
 pub use last_line::{OUT_OF_MEMORY, UNOPENED, print_line, print_out_of_memory};
+pub use laws::pairs_load_again;
 pub use opened::{open_at, opened_at};
 pub use said::{INPUT, Reason, tell_reason, with_reason};
 pub use saving::{save_at_path, warn};
+pub use standard::{change, get, tell_change, tell_path};
+pub use standard_load::load;
 pub use status::Status;
 pub use stores::{FileWards, MAKER};
 pub use watch::{console, reading_meter};
 
+mod change_run;
 mod ending;
+mod file_blocks;
+mod file_run;
+mod file_watch;
+mod get_run;
 mod job_path;
 mod last_line;
+mod laws;
+mod load_run;
+mod numbered_writer;
 mod open_run;
 mod opened;
 mod said;
 mod saving;
+mod standard;
+mod standard_load;
 mod status;
 mod stores;
 mod watch;

@@ -7,7 +7,7 @@ ghost use Rattle.exh_job.specs.OpenRun.{EndsUnopened, OpensOrTells, open_refusal
 use crate::last_line::{OUT_OF_MEMORY, UNOPENED, print_line};
 use crate::status::Status;
 use crate::stores::{FileWards, MAKER};
-use exh_open::{OpenFault, open};
+use exh_file::{OpenFault, open};
 use exh_report::push_refusal;
 use exh_stream::Output;
 use exh_text::{push_refused, push_text};

@@ -1,7 +1,7 @@
 //! The program's exit status.
 ghost use Rattle.std.specs.Prelude.{◌≡◌};
 ghost use Rattle.std.specs.Process.{exit_status};
-ghost use Rattle.exh_job.specs.Status.{code_of, fault_status, file_status};
+ghost use Rattle.exh_job.specs.ExitStatus.{code_of, fault_status, file_status};
 
 use exh_command::CliFault;
 use exh_report::{ReportFault, Verdict};

@@ -3,7 +3,7 @@ use Rattle.std.proofs.Common.{◌≡◌, inl, inr, ℕ, ◌+◌, ◌<◌, List, 
 use Rattle.std.specs.List.{Contains}
 use Rattle.std.proofs.lemmas.List.{take_more}
 use Rattle.std.proofs.lemmas.List.Elements.{Contains-push, Contains-push_cases, Contains-append_left}
-use Rattle.exh_join.specs.Laws.{JoinLaws}
+use Rattle.exh_join.specs.JoinLaws.{JoinLaws}
 use Rattle.exh_join.specs.Joined.{IsLeastAboveEach}
 
 no_member : {V : Type 0} (y : V) → Contains [] y → ⊥

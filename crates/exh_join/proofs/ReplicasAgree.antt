@@ -2,7 +2,7 @@
 use Rattle.std.proofs.Common.{inl, inr, [], ◌∷◌, sym, subst, arith}
 use Rattle.std.specs.List.{Contains}
 use Rattle.std.proofs.lemmas.List.Elements.{Contains-push, Contains-push_cases, Contains-append_left, Contains-append_right, Contains-append_cases}
-use Rattle.exh_join.specs.Laws.{JoinLaws}
+use Rattle.exh_join.specs.JoinLaws.{JoinLaws}
 use Rattle.exh_join.specs.Joined.{IsAboveEach}
 use Rattle.exh_join.specs.Replicas.{History, Began, Took, Combined, value_after, taken, AllBegan, ReplicasAgree}
 

@@ -7,7 +7,7 @@ use Rattle.std.specs.Cmp.{IsTotalOrder}
 use Rattle.std.specs.FinMap.{IsAntisymmetric}
 use Rattle.std.proofs.lemmas.Bool.{true≢false}
 use Rattle.std.proofs.lemmas.Cmp.{upto, tied_itself}
-use Rattle.exh_join.specs.Laws.{IsPartialOrder, JoinLaws}
+use Rattle.exh_join.specs.JoinLaws.{IsPartialOrder, JoinLaws}
 use Rattle.exh_join.specs.LawsLemmas.{join_laws}
 use Rattle.exh_join.specs.Greater.{IsUpTo, greater}
 

@@ -5,7 +5,7 @@ use Rattle.std.specs.Ordering.{nat_cmp, on}
 use Rattle.std.specs.FinMap.{IsAntisymmetric, nat_cmp-IsAntisymmetric}
 use Rattle.std.proofs.Common.{ap}
 use Rattle.std.proofs.lemmas.Cmp.{nat_cmp_total, on_total}
-use Rattle.exh_join.specs.Laws.{JoinLaws}
+use Rattle.exh_join.specs.JoinLaws.{JoinLaws}
 use Rattle.exh_join.specs.Greater.{IsUpTo, greater}
 use Rattle.exh_join.specs.GreaterLemmas.{greater_laws}
 use Rattle.exh_join.specs.declared.greatest.Greatest.{Greatest}

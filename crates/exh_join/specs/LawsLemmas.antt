@@ -1,5 +1,5 @@
 -- The laws of a join from the fewest that give them all.
-use Rattle.exh_join.specs.Laws.{IsPartialOrder, IsLeastAboveBoth, JoinLaws}
+use Rattle.exh_join.specs.JoinLaws.{IsPartialOrder, IsLeastAboveBoth, JoinLaws}
 
 module _ {V : Type 0} {IsAtMost : V → V → Type 0} {join : V → V → V} (order : IsPartialOrder IsAtMost) (bound : IsLeastAboveBoth IsAtMost join) where
   swapped : (x y : V) → IsAtMost (join x y) (join y x)

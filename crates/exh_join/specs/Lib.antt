@@ -1,4 +1,4 @@
-pub mod Laws
+pub mod JoinLaws
 pub mod LawsLemmas
 pub mod Greater
 pub mod GreaterLemmas

@@ -1,5 +1,5 @@
 -- Two values side by side, each with its own order and join.
-use Rattle.exh_join.specs.Laws.{JoinLaws}
+use Rattle.exh_join.specs.JoinLaws.{JoinLaws}
 use Rattle.exh_join.specs.LawsLemmas.{join_laws}
 use Rattle.exh_join.specs.declared.pair_of.PairOf.{PairOf}
 

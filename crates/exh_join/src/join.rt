@@ -1,5 +1,5 @@
 ghost use Rattle.std.specs.Prelude.{◌≡◌, ◌↔◌, IsTrue, IfOk, OnOk, OnErr};
-ghost use Rattle.exh_join.specs.Laws.{JoinLaws};
+ghost use Rattle.exh_join.specs.JoinLaws.{JoinLaws};
 
 use std::alloc::AllocError;
 

@@ -1,6 +1,6 @@
 //! What holds of all joins, for the proofs of callers. Each function does nothing.
 
-ghost use Rattle.exh_join.specs.Laws.{JoinLaws};
+ghost use Rattle.exh_join.specs.JoinLaws.{JoinLaws};
 ghost use Rattle.exh_join.specs.Replicas.{ReplicasAgree};
 
 use crate::Join;

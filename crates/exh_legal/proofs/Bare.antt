@@ -8,7 +8,7 @@ use Rattle.exh_page.specs.Page.{IsLive, low_bound, with_records}
 use Rattle.exh_legal.specs.BareLemmas.{at_bare, bare_at, bare_low}
 use Rattle.exh_legal.specs.Fit.{IsInner, FitsPages}
 use Rattle.exh_legal.specs.Growth.{IsLiveAt, IsPageOf}
-use Rattle.exh_legal.specs.PlaceLemmas.{bare_live, forward_of_bare, home_bare, home_full, live_of_bare}
+use Rattle.exh_legal.specs.LegalPlaceLemmas.{bare_live, forward_of_bare, home_bare, home_full, live_of_bare}
 use Rattle.exh_legal.specs.Pages.{IsAt, IsHome, IsRightOf, IsRightLink, IsTarget, bare}
 
 pub bare_bare : (pages : List Page) → bare (bare pages) ≡ bare pages

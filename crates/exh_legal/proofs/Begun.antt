@@ -11,7 +11,7 @@ use Rattle.exh_prefix.specs.PrefixLemmas.{begins_low, front_of_front, fronts_nes
 use Rattle.exh_notice.specs.declared.entry.Entry.{Entry}
 use Rattle.exh_notice.specs.declared.entry.Kind.TheVariants.{Merge}
 use Rattle.exh_table.specs.Table.{TableMap}
-use Rattle.exh_table.specs.Walk.{split_at, right_of}
+use Rattle.exh_table.specs.TableWalk.{split_at, right_of}
 use Rattle.exh_table.specs.Leaves.{leaves_in}
 use Rattle.exh_page.specs.declared.page.Page.{Page}
 use Rattle.exh_page.specs.declared.page.Page.TheVariants.{Live, Forward}
@@ -21,7 +21,7 @@ use Rattle.exh_legal.specs.Growth.{IsLiveAt, IsPageOf, HasEntryEver, IsGrown}
 use Rattle.exh_prefix.specs.LowLemmas.{begins_own_low, front_of_longer, front_shorter, low_of-small, own_front, right_above, front_of_child, same_front}
 use Rattle.exh_legal.specs.Pages.{IsAt, AreLinked}
 use Rattle.exh_legal.proofs.SplitFit.{kind_of_entry, split_from_entry}
-use Rattle.exh_prefix.specs.ListLemmas.{one_there}
+use Rattle.exh_prefix.specs.PrefixListLemmas.{one_there}
 use Rattle.exh_legal.proofs.Walks.{live_home, walk_ends}
 
 -- ---- the right child that a low bound tells
@@ -104,8 +104,8 @@ module _ {ward : List Bool} {table : TableMap} {pages : List Page} (linked : Are
 
   merge_begun : (prefix : List Bool) (entry : Entry) → fin.get table prefix ≡ Some entry → entry.kind ≡ Merge → IsBegun prefix
   merge_begun prefix entry is kind =
-      let same : entry ≡ record { version = entry.version; kind = Merge } = λ i. record { version = entry.version; kind = kind i } in
-      let found = (fits.merges prefix).0 (entry.version, is ∙ ap (λ e. Some e) same) in
+      let same : entry ≡ record { number = entry.number; kind = Merge } = λ i. record { number = entry.number; kind = kind i } in
+      let found = (fits.merges prefix).0 (entry.number, is ∙ ap (λ e. Some e) same) in
       let page : IsPageOf pages (low_of (prefix ++ true ∷ [])) found.1.0 = (Forward (low_of (prefix ++ true ∷ [])) found.1.1.0, found.1.1.1, refl) in
       (found.1.0, not_first prefix found.1.0 (fits.entries prefix entry is).within found.0 page, page)
 

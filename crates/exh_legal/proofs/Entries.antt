@@ -9,7 +9,7 @@ use Rattle.exh_prefix.specs.Prefix.{prefix_cmp}
 use Rattle.exh_prefix.specs.PrefixLemmas.{prefix_cmp-total}
 use Rattle.exh_notice.specs.declared.entry.Entry.{Entry}
 use Rattle.exh_table.specs.SetLemmas.{none_below}
-use Rattle.exh_prefix.specs.ListLemmas.{first_part, second_part}
+use Rattle.exh_prefix.specs.PrefixListLemmas.{first_part, second_part}
 use Rattle.exh_table.specs.Table.{TableMap}
 use Rattle.exh_table.specs.TableLemmas.{same_from_tie}
 

@@ -14,9 +14,9 @@ use Rattle.exh_prefix.specs.PrefixLemmas.{begins_low, front_of_front, prefix_cmp
 use Rattle.exh_notice.specs.declared.entry.Entry.{Entry}
 use Rattle.exh_notice.specs.declared.entry.Kind.{Kind}
 use Rattle.exh_notice.specs.declared.entry.Kind.TheVariants.{Split, Merge}
-use Rattle.exh_prefix.specs.ListLemmas.{first_part, is_equal, second_part}
+use Rattle.exh_prefix.specs.PrefixListLemmas.{first_part, is_equal, second_part}
 use Rattle.exh_table.specs.Table.{TableMap}
-use Rattle.exh_table.specs.Walk.{right_of, right_of_kind, split_at}
+use Rattle.exh_table.specs.TableWalk.{right_of, right_of_kind, split_at}
 use Rattle.exh_page.specs.declared.page.Page.{Page}
 use Rattle.exh_page.specs.declared.page.Page.TheVariants.{Live}
 use Rattle.exh_page.specs.Page.{low_bound}
@@ -76,7 +76,7 @@ module _ {ward : List Bool} {table : TableMap} (pages : List Page) (short : leng
       let split : split_at table prefix ≡ Some right = ap right_of found ∙ ap right_of_kind is in
       let inner = ((fits.splits prefix).0 (right, split)).1 in
       omega (arith, inner.3.1, (linked.within inner.1 _ inner.2.2).1)
-  short_at prefix entry Merge is found = ((fits.merges prefix).0 (entry.version, found ∙ ap (λ kind. Some (record { version = entry.version; kind = kind })) is)).0
+  short_at prefix entry Merge is found = ((fits.merges prefix).0 (entry.number, found ∙ ap (λ kind. Some (record { number = entry.number; kind = kind })) is)).0
 
   -- an entry's prefix is shorter than LIMIT, and has the ward's in front
   entry_within : (place : ℕ) (e : List Bool × Entry) → slice_get (fin.entries table) place ≡ Some e → (length e.0 < LIMIT) × IsFront ward e.0

@@ -16,7 +16,7 @@ use Rattle.exh_notice.specs.declared.entry.Entry.{Entry}
 use Rattle.exh_notice.specs.declared.entry.Kind.{Kind}
 use Rattle.exh_notice.specs.declared.entry.Kind.TheVariants.{Split, Merge}
 use Rattle.exh_table.specs.Table.{TableMap}
-use Rattle.exh_table.specs.Walk.{right_of, split_at}
+use Rattle.exh_table.specs.TableWalk.{right_of, split_at}
 use Rattle.exh_page.specs.declared.page.Page.{Page}
 use Rattle.exh_page.specs.declared.page.Page.TheVariants.{Live, Forward}
 use Rattle.exh_page.specs.Page.{IsLive, low_bound}
@@ -24,7 +24,7 @@ use Rattle.exh_legal.specs.Fit.{FitsPages, IsInner, IsMergeAt, IsSplitAt, IsWard
 use Rattle.exh_legal.specs.Growth.{IsLiveAt}
 use Rattle.exh_prefix.specs.LowLemmas.{begins_own_low, child_short, front_shorter, low_of-HasPrefix, low_of-small, right_above, right_tells_parent}
 use Rattle.exh_legal.specs.Pages.{IsAt, IsHome}
-use Rattle.exh_legal.specs.FileParts.{IsBounded}
+use Rattle.exh_legal.specs.LegalParts.{IsBounded}
 use Rattle.exh_legal.specs.BuiltIndex.{AreIndex, IsOwnEntry, IsRecordedBy, IsToldBy, page_number_at}
 use Rattle.exh_legal.specs.Reasons.{HasLows, HasLeaves}
 use Rattle.exh_legal.proofs.Index.{same_page}
@@ -147,10 +147,10 @@ module _ {ward : List Bool} {pages : List Page} (short : length ward ≤ LIMIT) 
     split_of : (entry : Entry) (right : ℕ) → entry.kind ≡ Split right → right_of (Some entry) ≡ Some right
     split_of entry right is = rw is refl
 
-    merge_of : (entry : Entry) → entry.kind ≡ Merge → entry ≡ record { version = entry.version; kind = Merge }
-    merge_of entry is = λ i. record { version = entry.version; kind = is i }
+    merge_of : (entry : Entry) → entry.kind ≡ Merge → entry ≡ record { number = entry.number; kind = Merge }
+    merge_of entry is = λ i. record { number = entry.number; kind = is i }
 
-    kind_from : (kind : Kind) (right : ℕ) → right_of (Some (record { version = 0; kind = kind })) ≡ Some right → kind ≡ Split right
+    kind_from : (kind : Kind) (right : ℕ) → right_of (Some (record { number = 0; kind = kind })) ≡ Some right → kind ≡ Split right
     kind_from (Split own) right is = let same : own ≡ right = cc in ap (λ r. Split r) same
     kind_from Merge right is = cc
 
@@ -177,7 +177,7 @@ module _ {ward : List Bool} {pages : List Page} (short : length ward ≤ LIMIT) 
             told = (right, page.0, page.1, page.2, subst (λ kind. IsToldBy kind right page.0) (sym is) (refl, same_live (low_of (prefix ++ true ∷ [])) live right page.0 page.1 page.2));
           }
       own_entry prefix entry Merge found is =
-          let merge = (fits.merges prefix).0 (entry.version, found ∙ ap (λ e. Some e) (merge_of entry is)) in
+          let merge = (fits.merges prefix).0 (entry.number, found ∙ ap (λ e. Some e) (merge_of entry is)) in
           record {
             own = fits.entries prefix entry found;
             short = merge.0;
@@ -236,7 +236,7 @@ module _ {ward : List Bool} {pages : List Page} (short : length ward ≤ LIMIT) 
 
       forward_kind : (prefix : List Bool) (entry : Entry) (kind : Kind) → get table prefix ≡ Some entry → entry.kind ≡ kind → (number : ℕ) (page : Page) → IsToldBy entry.kind number page → (IsLive page → ⊥) → IsMergeAt table prefix
       forward_kind prefix entry (Split right) found is number page told dead = absurd (dead (subst (λ kind. IsToldBy kind number page) is told).1)
-      forward_kind prefix entry Merge found is number page told dead = (entry.version, found ∙ ap (λ e. Some e) (merge_of entry is))
+      forward_kind prefix entry Merge found is number page told dead = (entry.number, found ∙ ap (λ e. Some e) (merge_of entry is))
 
       forward_of : (low number : ℕ) (page : Page) → IsAt pages number page → (IsLive page → ⊥) → low_bound page ≡ low → (target : ℕ) × IsAt pages number (Forward low target)
       forward_of low number (Live prefix right records) at dead is = absurd (dead tt)

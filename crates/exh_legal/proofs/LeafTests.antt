@@ -16,7 +16,7 @@ use Rattle.exh_page.specs.Page.{low_bound}
 use Rattle.exh_legal.specs.Growth.{IsLiveAt}
 use Rattle.exh_prefix.specs.LowLemmas.{begins_own_low, front_shorter}
 use Rattle.exh_legal.specs.Pages.{IsAt, IsHome}
-use Rattle.exh_legal.specs.FileParts.{IsBounded}
+use Rattle.exh_legal.specs.LegalParts.{IsBounded}
 use Rattle.exh_legal.specs.BuiltIndex.{AreIndex, way_end_after, end_of, end_over}
 use Rattle.exh_legal.specs.Reasons.{HasLows, HasLeaves}
 use Rattle.exh_legal.proofs.Tiles.{AreTiled, InSpan, IsListed, among_found, complete, end_above, end_small, rising, sound}

@@ -7,7 +7,7 @@ use Rattle.exh_prefix.specs.declared.prefix.TheConstants.{LIMIT}
 use Rattle.exh_prefix.specs.Prefix.{low_of, prefix_cmp}
 use Rattle.exh_notice.specs.declared.entry.Entry.{Entry}
 use Rattle.exh_table.specs.Table.{TableMap}
-use Rattle.exh_table.specs.Walk.{right_of}
+use Rattle.exh_table.specs.TableWalk.{right_of}
 use Rattle.exh_table.specs.Leaves.{leaves_in, ward_leaves}
 use Rattle.exh_page.specs.declared.page.Page.{Page}
 use Rattle.exh_page.specs.declared.page.Page.TheVariants.{Live}
@@ -17,7 +17,7 @@ use Rattle.exh_legal.specs.Growth.{IsLiveAt, HasEntryEver, IsGrown}
 use Rattle.exh_legal.specs.Fit.{IsSplitAt, IsInner, FitsPages}
 use Rattle.exh_prefix.specs.LowLemmas.{own_front, begins_own_low, low_of-small, front_shorter}
 use Rattle.exh_legal.proofs.Walks.{walk_ends}
-use Rattle.exh_legal.specs.PlaceLemmas.{only_at}
+use Rattle.exh_legal.specs.LegalPlaceLemmas.{only_at}
 
 -- a lone page has none to its right
 no_right : (own : List Bool) (right : ℕ) (next : Page) → IsRightOf (Live own None [] ∷ []) (Live own None []) right next → ⊥

@@ -12,25 +12,25 @@ use Rattle.exh_notice.specs.declared.entry.Kind.TheVariants.{Split, Merge}
 use Rattle.exh_notice.specs.declared.notice.Notice.{Notice}
 use Rattle.exh_notice.specs.Entry.{entry_of}
 use Rattle.exh_table.specs.Table.{TableMap, table_with}
-use Rattle.exh_table.specs.Walk.{right_of, split_at}
+use Rattle.exh_table.specs.TableWalk.{right_of, split_at}
 use Rattle.exh_page.specs.declared.page.Page.{Page}
 use Rattle.exh_legal.specs.Pages.{AreLinked}
 use Rattle.exh_legal.specs.Change.{IsForwardOf}
 use Rattle.exh_legal.specs.Growth.{IsLiveAt, IsPageOf}
 use Rattle.exh_legal.specs.Fit.{parity_of, IsWardEntry, IsSplitAt, IsMergeAt, IsProperFront, IsInner, FitsPages}
-use Rattle.exh_legal.specs.Versions.{version_at}
+use Rattle.exh_legal.specs.ChangeNumbers.{number_at}
 use Rattle.exh_prefix.specs.LowLemmas.{own_front, begins_own_low, front_shorter, front_of_longer, right_tells_parent, front_of_child, same_front}
 use Rattle.exh_legal.proofs.MergeLinks.{IsJoined, short, became, was, stays, home_is_half, parent_in_ward}
 use Rattle.exh_legal.proofs.TableSteps.{cases_prefix, get_with_same, get_with_other}
 
 -- where a split stands the version is odd
-pub odd_at : (ward : List Bool) (table : TableMap) (pages : List Page) → FitsPages ward table pages → (prefix : List Bool) → IsSplitAt table prefix → (version_at table prefix) % 2 ≡ 1
+pub odd_at : (ward : List Bool) (table : TableMap) (pages : List Page) → FitsPages ward table pages → (prefix : List Bool) → IsSplitAt table prefix → (number_at table prefix) % 2 ≡ 1
 odd_at ward table pages fits prefix split =
-    elim (fin.get table prefix) as (λ found. fin.get table prefix ≡ found → right_of found ≡ Some split.0 → (option_map_or (λ entry. entry.version) found 0) % 2 ≡ 1) [
+    elim (fin.get table prefix) as (λ found. fin.get table prefix ≡ found → right_of found ≡ Some split.0 → (option_map_or (λ entry. entry.number) found 0) % 2 ≡ 1) [
       | None ↦ λ is right. cc
       | Some entry ↦ λ is right.
           (fits.entries prefix entry is).parity
-          ∙ elim entry.kind as (λ kind. right_of (Some (record { version = entry.version; kind = kind })) ≡ Some split.0 → parity_of kind ≡ 1) [
+          ∙ elim entry.kind as (λ kind. right_of (Some (record { number = entry.number; kind = kind })) ≡ Some split.0 → parity_of kind ≡ 1) [
             | Split target ↦ λ right. refl
             | Merge ↦ λ right. cc
           ] right
@@ -40,7 +40,7 @@ even_after_odd : (n : ℕ) → n % 2 ≡ 1 → (n + 1) % 2 ≡ 0
 even_after_odd n odd = omega arith
 
 module _ {ward : List Bool} {pages : List Page} {at : ℕ} {prefix : List Bool} {left_link : Option ℕ} {right : ℕ} {link : Option ℕ} {new : List Page} (linked : AreLinked ward pages) (joined : IsJoined pages at prefix left_link right link new)
-    {table : TableMap} (fits : FitsPages ward table pages) (notice : Notice) (at_prefix : notice.prefix ≡ prefix) (next_version : notice.version ≡ version_at table prefix + 1) (kind : notice.kind ≡ Merge) where
+    {table : TableMap} (fits : FitsPages ward table pages) (notice : Notice) (at_prefix : notice.prefix ≡ prefix) (next_number : notice.number ≡ number_at table prefix + 1) (kind : notice.kind ≡ Merge) where
   abbrev after : TableMap
   after = table_with table notice
 
@@ -51,8 +51,8 @@ module _ {ward : List Bool} {pages : List Page} {at : ℕ} {prefix : List Bool} 
   pub split_yet : IsSplitAt table prefix
   split_yet = (fits.splits prefix).1 (parent_in_ward linked joined, (prefix ++ false ∷ [], at, (left_link, [], joined.there), parent_front false))
 
-  later : version_at table notice.prefix < notice.version
-  later = omega (arith, next_version, ap (version_at table) at_prefix)
+  later : number_at table notice.prefix < notice.number
+  later = omega (arith, next_number, ap (number_at table) at_prefix)
 
   get_here : fin.get after prefix ≡ Some (entry_of notice)
   get_here = ap (fin.get after) (sym at_prefix) ∙ get_with_same table notice later
@@ -60,8 +60,8 @@ module _ {ward : List Bool} {pages : List Page} {at : ℕ} {prefix : List Bool} 
   get_else : (other : List Bool) → (other ≡ prefix → ⊥) → fin.get after other ≡ fin.get table other
   get_else other differ = get_with_other table notice other (λ same. differ (same ∙ at_prefix))
 
-  merge_here : fin.get after prefix ≡ Some (record { version = notice.version; kind = Merge })
-  merge_here = get_here ∙ ap (λ k. Some (record { version = notice.version; kind = k })) kind
+  merge_here : fin.get after prefix ≡ Some (record { number = notice.number; kind = Merge })
+  merge_here = get_here ∙ ap (λ k. Some (record { number = notice.number; kind = k })) kind
 
   none_here : split_at after prefix ≡ None
   none_here = ap right_of merge_here
@@ -73,8 +73,8 @@ module _ {ward : List Bool} {pages : List Page} {at : ℕ} {prefix : List Bool} 
   elsewhere_split : (other : List Bool) → IsSplitAt after other → other ≡ prefix → ⊥
   elsewhere_split other split same = let both : None ≡ Some split.0 = sym none_here ∙ ap (split_at after) (sym same) ∙ split.1 in cc
 
-  same_entry : (other : List Bool) (entry : Entry) → other ≡ prefix → fin.get after other ≡ Some entry → entry ≡ record { version = notice.version; kind = Merge }
-  same_entry other entry same is = let both : Some entry ≡ Some (record { version = notice.version; kind = Merge }) = sym is ∙ ap (fin.get after) same ∙ merge_here in cc
+  same_entry : (other : List Bool) (entry : Entry) → other ≡ prefix → fin.get after other ≡ Some entry → entry ≡ record { number = notice.number; kind = Merge }
+  same_entry other entry same is = let both : Some entry ≡ Some (record { number = notice.number; kind = Merge }) = sym is ∙ ap (fin.get after) same ∙ merge_here in cc
 
   entries : (other : List Bool) (entry : Entry) → fin.get after other ≡ Some entry → IsWardEntry ward other entry
   entries other entry is = elim (cases_prefix other prefix) [
@@ -82,9 +82,9 @@ module _ {ward : List Bool} {pages : List Page} {at : ℕ} {prefix : List Bool} 
         let entry_is = same_entry other entry same is in
         record {
           within = subst (IsFront ward) (sym same) (parent_in_ward linked joined);
-          some = omega (arith, ap (λ (e : Entry). e.version) entry_is, next_version);
+          some = omega (arith, ap (λ (e : Entry). e.number) entry_is, next_number);
           parity =
-              ap (λ (e : Entry). e.version % 2) entry_is ∙ ap (λ n. n % 2) next_version ∙ even_after_odd (version_at table prefix) (odd_at ward table pages fits prefix split_yet)
+              ap (λ (e : Entry). e.number % 2) entry_is ∙ ap (λ n. n % 2) next_number ∙ even_after_odd (number_at table prefix) (odd_at ward table pages fits prefix split_yet)
               ∙ sym (ap (λ (e : Entry). parity_of e.kind) entry_is);
         }
     | inr differ ↦ fits.entries other entry (sym (get_else other differ) ∙ is)
@@ -172,7 +172,7 @@ module _ {ward : List Bool} {pages : List Page} {at : ℕ} {prefix : List Bool} 
       | inl there ↦
           let low : low_of (other ++ true ∷ []) ≡ low_of (prefix ++ true ∷ []) = let page = there.1 in cc in
           let same = right_tells_parent other prefix is.0 (short linked joined) low in
-          (notice.version, ap (fin.get after) same ∙ merge_here)
+          (notice.number, ap (fin.get after) same ∙ merge_here)
       | inr old ↦ elim (cases_prefix other prefix) [
         | inl same ↦ absurd (old.1 (linked.apart is.1.0 right _ _ old.2 joined.buddy (ap (λ p. low_of (p ++ true ∷ [])) same)))
         | inr differ ↦

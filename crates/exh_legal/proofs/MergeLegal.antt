@@ -10,7 +10,7 @@ use Rattle.exh_prefix.specs.Prefix.{Begins, begins, low_of}
 use Rattle.exh_prefix.specs.PrefixLemmas.{child_of_begun, one_child_begins, parent_begins, is_front-true, IsFront-from_test}
 use Rattle.exh_page.specs.declared.page.Page.{Page}
 use Rattle.exh_page.specs.declared.page.Page.TheVariants.{Live, Forward}
-use Rattle.exh_page.specs.Laws.{AreOfWords}
+use Rattle.exh_page.specs.PageLaws.{AreOfWords}
 use Rattle.exh_page.specs.Page.{records_of}
 use Rattle.exh_page.specs.Place.{Place}
 use Rattle.exh_page.specs.Records.{is_at}

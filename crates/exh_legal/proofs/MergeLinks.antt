@@ -10,9 +10,9 @@ use Rattle.exh_page.specs.declared.page.Page.{Page}
 use Rattle.exh_page.specs.declared.page.Page.TheVariants.{Live, Forward}
 use Rattle.exh_page.specs.Page.{IsLive, low_bound}
 use Rattle.exh_legal.specs.Pages.{IsAt, IsHome, IsWithin, IsRightOf, IsRightLink, IsLinkedPage, AreLinked}
-use Rattle.exh_legal.specs.PlaceLemmas.{home_of_low}
+use Rattle.exh_legal.specs.LegalPlaceLemmas.{home_of_low}
 use Rattle.exh_prefix.specs.LowLemmas.{front_shorter, low_of-small, begins_own_low, right_above, left_keeps, begins_between, low_of-HasPrefix}
-use Rattle.exh_prefix.specs.ListLemmas.{one_there}
+use Rattle.exh_prefix.specs.PrefixListLemmas.{one_there}
 
 -- a merge, of pages without records: the page at `right` sends callers on to the one at `at`
 pub record IsJoined (pages : List Page) (at : ℕ) (prefix : List Bool) (left_link : Option ℕ) (right : ℕ) (link : Option ℕ) (new : List Page) : Type 0 where

@@ -11,7 +11,7 @@ use Rattle.exh_page.specs.Page.{IsLive, low_bound}
 use Rattle.exh_legal.specs.Growth.{IsPageOf}
 use Rattle.exh_prefix.specs.LowLemmas.{begins_own_low}
 use Rattle.exh_legal.specs.Pages.{IsAt, IsHome, IsRightLink}
-use Rattle.exh_legal.specs.FileParts.{IsBounded}
+use Rattle.exh_legal.specs.LegalParts.{IsBounded}
 use Rattle.exh_legal.specs.BuiltIndex.{AreIndex, IsAimedBy, IsLinkedBy, end_of, next_of, page_number_at}
 use Rattle.exh_prefix.specs.Bits.{lowest_cleared}
 use Rattle.exh_legal.specs.Reasons.{HasLows, HasLeaves, HasLinks, HasTargets}

@@ -17,10 +17,10 @@ use Rattle.exh_legal.specs.BareLemmas.{at_bare, bare_at, bare_low}
 use Rattle.exh_prefix.specs.LowLemmas.{begins_own_low, front_shorter}
 use Rattle.exh_legal.specs.MapLemmas.{all_pages, page_at}
 use Rattle.exh_legal.specs.Pages.{IsAt, IsHome, IsLegal, IsLegalPage, IsLinkedPage, IsRightLink, IsWithin, AreLinked, bare}
-use Rattle.exh_legal.specs.FileParts.{IsBounded}
+use Rattle.exh_legal.specs.LegalParts.{IsBounded}
 use Rattle.exh_legal.specs.ReasonLaws.{AreFormed}
 use Rattle.exh_legal.specs.Reasons.{KeepsCap, HasLows, HasLeaves, HasLinks, HasTargets}
-use Rattle.exh_legal.specs.PlaceLemmas.{bare_live, home_bare, home_full, live_of_bare}
+use Rattle.exh_legal.specs.LegalPlaceLemmas.{bare_live, home_bare, home_full, live_of_bare}
 use Rattle.exh_legal.proofs.Bare.{bare_bare, link_to, target_to}
 
 -- ---- numbers that are too great for a pseudokey have its greatest bits

@@ -4,14 +4,14 @@ use Rattle.std.proofs.lemmas.Bool.{cases_lt}
 use Rattle.std.proofs.lemmas.Nat.{and_le_l}
 use Rattle.exh_prefix.specs.Prefix.{Begins, low_of}
 use Rattle.exh_prefix.specs.PrefixLemmas.{begins_low, lowest_cleared-and}
-use Rattle.exh_prefix.specs.ListLemmas.{one_there}
+use Rattle.exh_prefix.specs.PrefixListLemmas.{one_there}
 use Rattle.exh_page.specs.declared.page.Page.{Page}
 use Rattle.exh_page.specs.declared.page.Page.TheVariants.{Live, Forward}
 use Rattle.exh_page.specs.declared.record.Record.{Record}
 use Rattle.exh_page.specs.Page.{IsLive, low_bound}
 use Rattle.exh_legal.specs.Pages.{IsAt, IsHome, IsWithin, IsRightOf, IsRightLink, AreLinked}
-use Rattle.exh_legal.specs.Laws.{LeadsOn}
-use Rattle.exh_legal.specs.PlaceLemmas.{home_live, home_of_low, home_between}
+use Rattle.exh_legal.specs.LegalLaws.{LeadsOn}
+use Rattle.exh_legal.specs.LegalPlaceLemmas.{home_live, home_of_low, home_between}
 
 -- the low bound of a home is at most the pseudokey, and what lies between it begins
 home_below : (ward : List Bool) (page : Page) (pseudokey : ℕ) → IsWithin ward page → pseudokey < 2 ^ 64 → IsHome page pseudokey → low_bound page ≤ pseudokey

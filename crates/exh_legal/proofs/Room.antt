@@ -11,9 +11,9 @@ use Rattle.exh_prefix.specs.Leading.{ward_prefix}
 use Rattle.exh_prefix.specs.Prefix.{prefix_cmp}
 use Rattle.exh_prefix.specs.declared.prefix.TheConstants.{LIMIT}
 use Rattle.exh_notice.specs.declared.entry.Entry.{Entry}
-use Rattle.exh_legal.specs.Laws.{EntriesAreFew}
+use Rattle.exh_legal.specs.LegalLaws.{EntriesAreFew}
 use Rattle.exh_table.specs.Table.{TableMap}
-use Rattle.exh_legal.specs.FileParts.{FileParts, HasPartRanges, table_of}
+use Rattle.exh_legal.specs.LegalParts.{FileParts, HasPartRanges, table_of}
 use Rattle.exh_legal.specs.ReasonLaws.{IsLegalFile}
 
 abbrev entry_count : TableMap → ℕ

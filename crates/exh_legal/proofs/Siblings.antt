@@ -12,12 +12,12 @@ use Rattle.exh_page.specs.declared.record.Record.{Record}
 use Rattle.exh_page.specs.Page.{low_bound}
 use Rattle.exh_legal.specs.BareLemmas.{bare_at}
 use Rattle.exh_legal.specs.Growth.{IsLiveAt, IsPageOf}
-use Rattle.exh_legal.specs.Laws.{LeadsOn}
+use Rattle.exh_legal.specs.LegalLaws.{LeadsOn}
 use Rattle.exh_prefix.specs.LowLemmas.{front_shorter, front_of_longer, low_of-small, begins_own_low, right_above, left_keeps, child_short, begins_between, front_of_child}
-use Rattle.exh_prefix.specs.ListLemmas.{one_there}
+use Rattle.exh_prefix.specs.PrefixListLemmas.{one_there}
 use Rattle.exh_legal.specs.Pages.{IsAt, IsRightLink, AreLinked, bare}
 use Rattle.exh_legal.proofs.RightLinks.{live_leads}
-use Rattle.exh_legal.specs.PlaceLemmas.{home_of_low}
+use Rattle.exh_legal.specs.LegalPlaceLemmas.{home_of_low}
 
 -- a live page is the page of its prefix's low bound
 pub live_is_page : {ward : List Bool} (pages : List Page) → AreLinked ward (bare pages) → (prefix : List Bool) (right number : ℕ) → IsPageOf (bare pages) (low_of prefix) right → IsLiveAt pages prefix number → number ≡ right

@@ -12,16 +12,16 @@ use Rattle.exh_notice.specs.declared.entry.Kind.TheVariants.{Split, Merge}
 use Rattle.exh_notice.specs.declared.notice.Notice.{Notice}
 use Rattle.exh_notice.specs.Entry.{entry_of}
 use Rattle.exh_table.specs.Table.{TableMap, table_with}
-use Rattle.exh_table.specs.Walk.{right_of, split_at}
+use Rattle.exh_table.specs.TableWalk.{right_of, split_at}
 use Rattle.exh_page.specs.declared.page.Page.{Page}
 use Rattle.exh_page.specs.declared.page.Page.TheVariants.{Live, Forward}
 use Rattle.exh_legal.specs.Pages.{IsAt, AreLinked}
 use Rattle.exh_legal.specs.Change.{IsForwardOf}
 use Rattle.exh_legal.specs.Growth.{IsLiveAt, IsPageOf}
 use Rattle.exh_legal.specs.Fit.{parity_of, IsWardEntry, IsSplitAt, IsMergeAt, IsProperFront, IsInner, FitsPages}
-use Rattle.exh_legal.specs.Versions.{version_at}
+use Rattle.exh_legal.specs.ChangeNumbers.{number_at}
 use Rattle.exh_prefix.specs.LowLemmas.{own_front, begins_own_low, front_shorter, front_of_longer, right_tells_parent, front_of_child, same_front}
-use Rattle.exh_prefix.specs.ListLemmas.{one_there}
+use Rattle.exh_prefix.specs.PrefixListLemmas.{one_there}
 use Rattle.exh_legal.proofs.SplitLinks.{IsParted, became, stays, live_elsewhere}
 use Rattle.exh_legal.proofs.TableSteps.{cases_prefix, get_with_same, get_with_other}
 
@@ -54,9 +54,9 @@ pub split_from_entry : (table : TableMap) (prefix : List Bool) (entry : Entry) (
 split_from_entry table prefix entry right is kind = rw (is, kind) refl
 
 -- where no split stands the version is even
-pub even_at : (ward : List Bool) (table : TableMap) (pages : List Page) → FitsPages ward table pages → (prefix : List Bool) → (IsSplitAt table prefix → ⊥) → (version_at table prefix) % 2 ≡ 0
+pub even_at : (ward : List Bool) (table : TableMap) (pages : List Page) → FitsPages ward table pages → (prefix : List Bool) → (IsSplitAt table prefix → ⊥) → (number_at table prefix) % 2 ≡ 0
 even_at ward table pages fits prefix none =
-    elim (fin.get table prefix) as (λ found. fin.get table prefix ≡ found → (option_map_or (λ entry. entry.version) found 0) % 2 ≡ 0) [
+    elim (fin.get table prefix) as (λ found. fin.get table prefix ≡ found → (option_map_or (λ entry. entry.number) found 0) % 2 ≡ 0) [
       | None ↦ λ is. refl
       | Some entry ↦ λ is. elim (kind_of_entry entry) [
         | inl merge ↦ (fits.entries prefix entry is).parity ∙ ap parity_of merge.1
@@ -68,7 +68,7 @@ pub odd_after_even : (n : ℕ) → n % 2 ≡ 0 → (n + 1) % 2 ≡ 1
 odd_after_even n even = omega arith
 
 module _ {ward : List Bool} {pages : List Page} {at : ℕ} {prefix : List Bool} {link : Option ℕ} {right : ℕ} {new : List Page} (linked : AreLinked ward pages) (parted : IsParted pages at prefix link right new)
-    {table : TableMap} (fits : FitsPages ward table pages) (notice : Notice) (at_prefix : notice.prefix ≡ prefix) (next_version : notice.version ≡ version_at table prefix + 1) (kind : notice.kind ≡ Split right) where
+    {table : TableMap} (fits : FitsPages ward table pages) (notice : Notice) (at_prefix : notice.prefix ≡ prefix) (next_number : notice.number ≡ number_at table prefix + 1) (kind : notice.kind ≡ Split right) where
   abbrev after : TableMap
   after = table_with table notice
 
@@ -79,8 +79,8 @@ module _ {ward : List Bool} {pages : List Page} {at : ℕ} {prefix : List Bool} 
   pub none_yet : IsSplitAt table prefix → ⊥
   none_yet split = no_inner ward pages linked prefix at here ((fits.splits prefix).0 split).1
 
-  later : version_at table notice.prefix < notice.version
-  later = omega (arith, next_version, ap (version_at table) at_prefix)
+  later : number_at table notice.prefix < notice.number
+  later = omega (arith, next_number, ap (number_at table) at_prefix)
 
   get_here : fin.get after prefix ≡ Some (entry_of notice)
   get_here = ap (fin.get after) (sym at_prefix) ∙ get_with_same table notice later
@@ -104,9 +104,9 @@ module _ {ward : List Bool} {pages : List Page} {at : ℕ} {prefix : List Bool} 
         let even = even_at ward table pages fits prefix none_yet in
         record {
           within = subst (IsFront ward) (sym same) (linked.within at _ parted.there).0;
-          some = omega (arith, ap (λ (e : Entry). e.version) entry_is, next_version);
+          some = omega (arith, ap (λ (e : Entry). e.number) entry_is, next_number);
           parity =
-              ap (λ (e : Entry). e.version % 2) entry_is ∙ ap (λ n. n % 2) next_version ∙ odd_after_even (version_at table prefix) even
+              ap (λ (e : Entry). e.number % 2) entry_is ∙ ap (λ n. n % 2) next_number ∙ odd_after_even (number_at table prefix) even
               ∙ sym (ap (λ (e : Entry). parity_of e.kind) entry_is ∙ ap parity_of kind);
         }
     | inr differ ↦ fits.entries other entry (sym (get_else other differ) ∙ is)
@@ -170,7 +170,7 @@ module _ {ward : List Bool} {pages : List Page} {at : ℕ} {prefix : List Bool} 
   merges_to : (other : List Bool) → IsMergeAt after other → (length other < LIMIT) × ((number : ℕ) × IsForwardOf new (low_of (other ++ true ∷ [])) number)
   merges_to other merge = elim (cases_prefix other prefix) [
     | inl same ↦
-        let entry_is : record { version = merge.0; kind = Merge } ≡ entry_of notice = same_entry other _ same merge.1 in
+        let entry_is : record { number = merge.0; kind = Merge } ≡ entry_of notice = same_entry other _ same merge.1 in
         let kinds : Merge ≡ Split right = ap (λ (e : Entry). e.kind) entry_is ∙ kind in
         cc
     | inr differ ↦

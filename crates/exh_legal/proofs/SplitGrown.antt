@@ -14,7 +14,7 @@ use Rattle.exh_page.specs.Page.{low_bound}
 use Rattle.exh_legal.specs.Pages.{IsAt, AreLinked}
 use Rattle.exh_legal.specs.Growth.{IsLiveAt, IsPageOf, HasEntryEver, IsGrown}
 use Rattle.exh_prefix.specs.LowLemmas.{left_keeps}
-use Rattle.exh_prefix.specs.ListLemmas.{one_there}
+use Rattle.exh_prefix.specs.PrefixListLemmas.{one_there}
 use Rattle.exh_legal.proofs.SplitLinks.{IsParted, became, stays, live_elsewhere}
 
 pub entry_ever_push : (start : TableMap) (changes : List Notice) (change : Notice) (prefix : List Bool) → HasEntryEver start (changes ++ change ∷ []) prefix → HasEntryEver start changes prefix ⊎ (change.prefix ≡ prefix)

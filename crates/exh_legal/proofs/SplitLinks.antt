@@ -8,9 +8,9 @@ use Rattle.exh_page.specs.declared.page.Page.{Page}
 use Rattle.exh_page.specs.declared.page.Page.TheVariants.{Live, Forward}
 use Rattle.exh_page.specs.Page.{IsLive, low_bound}
 use Rattle.exh_legal.specs.Pages.{IsAt, IsHome, IsWithin, IsRightOf, IsRightLink, IsLinkedPage, AreLinked}
-use Rattle.exh_legal.specs.PlaceLemmas.{home_live, home_of_low}
+use Rattle.exh_legal.specs.LegalPlaceLemmas.{home_live, home_of_low}
 use Rattle.exh_prefix.specs.LowLemmas.{front_of_longer, right_above, left_keeps, child_short, begins_between}
-use Rattle.exh_prefix.specs.ListLemmas.{one_there}
+use Rattle.exh_prefix.specs.PrefixListLemmas.{one_there}
 
 -- a split, of pages without records: the page at `right` takes the right child
 pub record IsParted (pages : List Page) (at : ℕ) (prefix : List Bool) (link : Option ℕ) (right : ℕ) (new : List Page) : Type 0 where

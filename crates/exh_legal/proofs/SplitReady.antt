@@ -11,10 +11,10 @@ use Rattle.exh_legal.specs.Pages.{IsAt, AreLinked, bare}
 use Rattle.exh_legal.specs.Change.{IsForwardOf}
 use Rattle.exh_legal.specs.Growth.{IsLiveAt}
 use Rattle.exh_legal.specs.Fit.{FitsPages}
-use Rattle.exh_legal.specs.Laws.{IsSplittable}
+use Rattle.exh_legal.specs.LegalLaws.{IsSplittable}
 use Rattle.exh_legal.specs.BareLemmas.{bare_at}
 use Rattle.exh_prefix.specs.LowLemmas.{right_above, begins_own_low, child_short}
-use Rattle.exh_prefix.specs.ListLemmas.{one_there}
+use Rattle.exh_prefix.specs.PrefixListLemmas.{one_there}
 use Rattle.exh_legal.proofs.SplitFit.{no_inner, even_at}
 
 module _ {ward : List Bool} {table : TableMap} (pages : List Page) (linked : AreLinked ward (bare pages)) (fits : FitsPages ward table (bare pages)) {prefix : List Bool} (number : ℕ) (live : IsLiveAt pages prefix number) (short : length prefix < LIMIT) where

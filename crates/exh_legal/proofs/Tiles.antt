@@ -19,7 +19,7 @@ use Rattle.exh_page.specs.Page.{low_bound}
 use Rattle.exh_legal.specs.Growth.{IsPageOf}
 use Rattle.exh_prefix.specs.LowLemmas.{begins_own_low, low_of-small}
 use Rattle.exh_legal.specs.Pages.{IsAt, IsHome}
-use Rattle.exh_legal.specs.FileParts.{IsBounded}
+use Rattle.exh_legal.specs.LegalParts.{IsBounded}
 use Rattle.exh_legal.specs.BuiltIndex.{way_end_after, end_of, end_over, page_number_at}
 use Rattle.exh_legal.proofs.Index.{at_same, at_other, same_page}
 

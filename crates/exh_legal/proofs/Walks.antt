@@ -10,15 +10,15 @@ use Rattle.exh_prefix.specs.PrefixLemmas.{fronts_nest, length-word_bits}
 use Rattle.exh_notice.specs.declared.notice.Notice.{Notice}
 use Rattle.exh_table.specs.declared.leaf.Leaf.{Leaf}
 use Rattle.exh_table.specs.Table.{TableMap}
-use Rattle.exh_table.specs.Walk.{split_at, step, walk_on, walk_in}
+use Rattle.exh_table.specs.TableWalk.{split_at, step, walk_on, walk_in}
 use Rattle.exh_page.specs.declared.page.Page.{Page}
 use Rattle.exh_page.specs.declared.page.Page.TheVariants.{Live, Forward}
 use Rattle.exh_legal.specs.Pages.{IsAt, IsHome, AreLinked}
 use Rattle.exh_legal.specs.Growth.{IsLiveAt, IsPageOf, IsGrown}
 use Rattle.exh_legal.specs.Fit.{IsInner, FitsPages}
-use Rattle.exh_legal.specs.Laws.{NamesHome}
+use Rattle.exh_legal.specs.LegalLaws.{NamesHome}
 use Rattle.exh_prefix.specs.LowLemmas.{own_front, front_shorter, front_of_longer, left_keeps, same_front}
-use Rattle.exh_prefix.specs.ListLemmas.{one_there}
+use Rattle.exh_prefix.specs.PrefixListLemmas.{one_there}
 use Rattle.exh_legal.proofs.SplitFit.{no_inner}
 
 pub live_home : (pages : List Page) (number : ℕ) (page : Page) (pseudokey : ℕ) → IsAt pages number page → IsHome page pseudokey → (prefix : List Bool) × IsLiveAt pages prefix number × Begins prefix pseudokey

@@ -6,7 +6,7 @@ use Rattle.std.proofs.lemmas.Bool.Decides.{leb_tells}
 use Rattle.std.proofs.lemmas.Option.{slice_get_within}
 use Rattle.exh_page.specs.declared.page.Page.{Page}
 use Rattle.exh_prefix.specs.Leading.{ward_prefix}
-use Rattle.exh_legal.specs.FileParts.{FileParts, HasNoStrays, table_of}
+use Rattle.exh_legal.specs.LegalParts.{FileParts, HasNoStrays, table_of}
 use Rattle.exh_legal.specs.Reasons.{IsFirstUnpassed, IsFirstReason, ReasonPasses, WardPasses, lesser_of, rank_of}
 use Rattle.exh_legal.specs.declared.reason.Reason.{Reason}
 use Rattle.exh_legal.specs.declared.reason.Reason.TheVariants.{Cap, LowBounds, Leaves, Links, Forwards, Table}

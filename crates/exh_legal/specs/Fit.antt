@@ -8,7 +8,7 @@ use Rattle.exh_notice.specs.declared.entry.Kind.{Kind}
 use Rattle.exh_notice.specs.declared.entry.Kind.TheVariants.{Split, Merge}
 use Rattle.exh_notice.specs.declared.notice.Notice.{Notice}
 use Rattle.exh_table.specs.Table.{TableMap}
-use Rattle.exh_table.specs.Walk.{split_at}
+use Rattle.exh_table.specs.TableWalk.{split_at}
 use Rattle.exh_page.specs.declared.page.Page.{Page}
 use Rattle.exh_legal.specs.Change.{IsForwardOf}
 use Rattle.exh_legal.specs.Growth.{IsLiveAt, IsPageOf}
@@ -21,14 +21,14 @@ parity_of Merge = 0
 -- an entry of the ward: it has the ward's prefix in front, and a version from 1 on that tells its kind
 pub record IsWardEntry (ward prefix : List Bool) (entry : Entry) : Type 0 where
   pub within : IsFront ward prefix
-  pub some : 1 ≤ entry.version
-  pub parity : entry.version % 2 ≡ parity_of entry.kind
+  pub some : 1 ≤ entry.number
+  pub parity : entry.number % 2 ≡ parity_of entry.kind
 
 abbrev pub IsSplitAt : TableMap → List Bool → Type 0
 IsSplitAt table prefix = (right : ℕ) × (split_at table prefix ≡ Some right)
 
 abbrev pub IsMergeAt : TableMap → List Bool → Type 0
-IsMergeAt table prefix = (version : ℕ) × (get table prefix ≡ Some (record { version = version; kind = Merge }))
+IsMergeAt table prefix = (version : ℕ) × (get table prefix ≡ Some (record { number = version; kind = Merge }))
 
 -- a front that is shorter
 abbrev pub IsProperFront : List Bool → List Bool → Type 0

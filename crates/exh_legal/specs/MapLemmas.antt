@@ -13,7 +13,7 @@ use Rattle.std.proofs.lemmas.Map.Lookups.{exact_bytes}
 use Rattle.exh_prefix.specs.Bits.{word_bits}
 use Rattle.exh_prefix.specs.Prefix.{Begins, begins}
 use Rattle.exh_prefix.specs.PrefixLemmas.{is_front-true}
-use Rattle.exh_prefix.specs.ListLemmas.{is_equal, AllByRecursion-append}
+use Rattle.exh_prefix.specs.PrefixListLemmas.{is_equal, AllByRecursion-append}
 use Rattle.exh_page.specs.declared.page.Page.{Page}
 use Rattle.exh_page.specs.declared.page.Page.TheVariants.{Live, Forward}
 use Rattle.exh_page.specs.declared.record.Record.{Record}
@@ -24,7 +24,7 @@ use Rattle.exh_page.specs.RecordsLemmas.{place_cmp-total, place_cmp-exact}
 use Rattle.exh_page.specs.KeyMap.{KeyMap, pair_of}
 use Rattle.exh_legal.specs.Pages.{map_of, IsAt, IsHome, IsLegalPage, IsLegal}
 use Rattle.exh_legal.specs.BareLemmas.{bare_at}
-use Rattle.exh_legal.specs.PlaceLemmas.{home_bare}
+use Rattle.exh_legal.specs.LegalPlaceLemmas.{home_bare}
 
 -- ---- the map of some records
 

@@ -6,7 +6,7 @@ use Rattle.exh_page.specs.declared.page.Page.{Page}
 use Rattle.exh_page.specs.Page.{low_bound, with_records}
 use Rattle.exh_legal.specs.BareLemmas.{bare_at, at_bare, bare_low}
 use Rattle.exh_legal.specs.Fit.{IsTrueNotice, AreTrueNotices}
-use Rattle.exh_legal.specs.Laws.{KeepsPlaces}
+use Rattle.exh_legal.specs.LegalLaws.{KeepsPlaces}
 use Rattle.exh_legal.specs.Pages.{IsAt, bare}
 
 -- pages of which the records alone changed

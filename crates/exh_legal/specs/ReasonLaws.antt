@@ -5,10 +5,10 @@ use Rattle.std.specs.List.{sum_by}
 use Rattle.exh_prefix.specs.declared.prefix.TheConstants.{LIMIT}
 use Rattle.exh_page.specs.declared.page.Page.{Page}
 use Rattle.exh_page.specs.Page.{IsWellFormed}
-use Rattle.exh_legal.specs.Laws.{IsWard}
+use Rattle.exh_legal.specs.LegalLaws.{IsWard}
 use Rattle.exh_legal.specs.Pages.{IsAt}
 use Rattle.exh_legal.specs.declared.reason.Reason.{Reason}
-use Rattle.exh_legal.specs.FileParts.{FileParts, HasPartRanges, IsBounded, OfEachWard, HasNoStrays}
+use Rattle.exh_legal.specs.LegalParts.{FileParts, HasPartRanges, IsBounded, OfEachWard, HasNoStrays}
 use Rattle.exh_legal.specs.Reasons.{ReasonPasses}
 
 -- ---- pages as readers give them

@@ -11,7 +11,7 @@ use Rattle.exh_legal.specs.Growth.{IsLiveAt}
 use Rattle.exh_legal.specs.Pages.{IsAt, IsHome, IsRightLink, IsTarget}
 use Rattle.exh_legal.specs.declared.reason.Reason.{Reason}
 use Rattle.exh_legal.specs.declared.reason.Reason.TheVariants.{Cap, LowBounds, Leaves, Links, Forwards, Table}
-use Rattle.exh_legal.specs.FileParts.{FileParts, OfEachWard, HasNoStrays}
+use Rattle.exh_legal.specs.LegalParts.{FileParts, OfEachWard, HasNoStrays}
 
 -- ---- the tests of a ward's pages
 

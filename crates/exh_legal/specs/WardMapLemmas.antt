@@ -19,7 +19,7 @@ use Rattle.exh_prefix.specs.Leading.{ward_prefix}
 use Rattle.exh_legal.specs.Pages.{map_of, IsHome, IsWithin, IsLegalPage, IsLegal}
 use Rattle.exh_legal.specs.BareLemmas.{bare_at}
 use Rattle.exh_prefix.specs.LowLemmas.{front_shorter}
-use Rattle.exh_prefix.specs.ListLemmas.{AllByRecursion-append}
+use Rattle.exh_prefix.specs.PrefixListLemmas.{AllByRecursion-append}
 use Rattle.exh_legal.specs.MapLemmas.{place_of_key, skip, or_none, nothing_found, none_elsewhere, get-map_of_pages}
 
 -- the pages of all wards, one ward after the other

@@ -4,7 +4,7 @@ ghost use Rattle.exh_legal.specs.Pages.{IsAt};
 ghost use Rattle.exh_page.specs.Page.{IsLive, low_bound};
 ghost use Rattle.exh_prefix.specs.Prefix.{low_of};
 ghost use Rattle.exh_page.specs.declared.page.Page.{Page};
-ghost use Rattle.exh_legal.specs.FileParts.{IsBounded};
+ghost use Rattle.exh_legal.specs.LegalParts.{IsBounded};
 ghost use Rattle.exh_legal.specs.BuiltIndex.{AreIndex};
 ghost use Rattle.exh_legal.specs.Reasons.{HasLows};
 

@@ -4,7 +4,7 @@ ghost use Rattle.exh_prefix.specs.declared.prefix.TheConstants.{LIMIT};
 ghost use Rattle.exh_page.specs.declared.page.Page.{Page};
 ghost use Rattle.exh_legal.specs.Pages.{IsAt};
 ghost use Rattle.exh_prefix.specs.Leading.{ward_prefix};
-ghost use Rattle.exh_legal.specs.FileParts.{parts_of};
+ghost use Rattle.exh_legal.specs.LegalParts.{parts_of};
 ghost use Rattle.exh_legal.specs.Reasons.{IsFirstReason, lesser_of};
 
 use crate::ward_tests::ward_reason;

@@ -1,6 +1,6 @@
 //! What holds of the pages of every ward, for the proofs of callers. Each function does nothing.
 
-ghost use Rattle.exh_legal.specs.Laws.{SplitsKeepLegal, MergesKeepLegal, LivePagesSplit, LiveLeftChildrenMerge, WalksNameHomes, RightLinksLeadOn, TargetsLeadOn, LeftChildrenLinkToSiblings, LonePagesAreLegal, PagesAreFew, EntriesAreFew, FittingTablesBeginWards};
+ghost use Rattle.exh_legal.specs.LegalLaws.{SplitsKeepLegal, MergesKeepLegal, LivePagesSplit, LiveLeftChildrenMerge, WalksNameHomes, RightLinksLeadOn, TargetsLeadOn, LeftChildrenLinkToSiblings, LonePagesAreLegal, PagesAreFew, EntriesAreFew, FittingTablesBeginWards};
 
 /// A split of a legal ward leaves it legal, for the changes with its notice, and leaves the map and
 /// each page's number and low bound as they were.
@@ -8,7 +8,7 @@ pub fn splits_keep_legal()
     ensures { SplitsKeepLegal }
 {}
 
-/// A live page that is shorter than `LIMIT` can be split: the version at its prefix is even, and a
+/// A live page that is shorter than `LIMIT` can be split: the number at its prefix is even, and a
 /// page of its right child's low bound is a forwarding page.
 pub fn live_pages_split()
     ensures { LivePagesSplit }
@@ -21,7 +21,7 @@ pub fn merges_keep_legal()
 {}
 
 /// A live page that is a left child of its ward can be merged where its right buddy is live: the
-/// version at the parent is odd, and the table's split there names the buddy's page.
+/// number at the parent is odd, and the table's split there names the buddy's page.
 pub fn live_left_children_merge()
     ensures { LiveLeftChildrenMerge }
 {}

@@ -2,7 +2,7 @@ ghost use Rattle.std.specs.Prelude.{◌≡◌, ◌↔◌, ℕ, ◌+◌, ◌-◌,
 ghost use Rattle.exh_prefix.specs.declared.prefix.TheConstants.{LIMIT};
 ghost use Rattle.exh_page.specs.declared.page.Page.{Page};
 ghost use Rattle.exh_legal.specs.Pages.{IsAt};
-ghost use Rattle.exh_legal.specs.FileParts.{IsBounded};
+ghost use Rattle.exh_legal.specs.LegalParts.{IsBounded};
 ghost use Rattle.exh_legal.specs.BuiltIndex.{AreIndex, end_of};
 ghost use Rattle.exh_legal.specs.Reasons.{HasLows, HasLeaves};
 

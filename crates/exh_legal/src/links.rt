@@ -1,7 +1,7 @@
 ghost use Rattle.std.specs.Prelude.{◌≡◌, ◌↔◌, ℕ, ◌<◌, ◌^◌, IsTrue, Some};
 ghost use Rattle.exh_page.specs.declared.page.Page.{Page};
 ghost use Rattle.exh_legal.specs.Pages.{IsAt};
-ghost use Rattle.exh_legal.specs.FileParts.{IsBounded};
+ghost use Rattle.exh_legal.specs.LegalParts.{IsBounded};
 ghost use Rattle.exh_legal.specs.BuiltIndex.{AreIndex, IsAimedBy, IsLinkedBy, next_of, page_number_at};
 ghost use Rattle.exh_legal.specs.Reasons.{HasLows, HasLeaves, HasLinks, HasTargets};
 

@@ -6,7 +6,7 @@ ghost use Rattle.exh_notice.specs.declared.entry.Entry.{Entry};
 ghost use Rattle.exh_page.specs.declared.page.Page.{Page};
 ghost use Rattle.exh_legal.specs.Fit.{FitsPages, IsWardEntry, parity_of};
 ghost use Rattle.exh_legal.specs.Pages.{IsAt};
-ghost use Rattle.exh_legal.specs.FileParts.{IsBounded};
+ghost use Rattle.exh_legal.specs.LegalParts.{IsBounded};
 ghost use Rattle.exh_legal.specs.BuiltIndex.{AreIndex, IsOwnEntry, IsRecordedBy, IsToldBy};
 ghost use Rattle.exh_legal.specs.Reasons.{HasLows, HasLeaves};
 
@@ -76,11 +76,11 @@ fn is_own_entry<P: PageList>(
     is_told_by(entry.kind, number, pages.page(number))
 }
 
-// Whether an entry's prefix is the ward's, and its version from 1 on tells its kind.
+// Whether an entry's prefix is the ward's, and its number from 1 on tells its kind.
 fn is_ward_entry(ward: Prefix, prefix: Prefix, entry: Entry) -> bool
     ensures { IsTrue result ↔ IsWardEntry ward prefix entry }
 {
-    is_front(ward, prefix) && entry.version > 0 && has_parity(entry)
+    is_front(ward, prefix) && entry.number > 0 && has_parity(entry)
 }
 
 // Whether a prefix is the front of another.
@@ -90,13 +90,13 @@ fn is_front(front: Prefix, prefix: Prefix) -> bool
     front.len() <= prefix.len() && front.begins(prefix.low())
 }
 
-// Whether the version is odd exactly for a split.
+// Whether the number is odd exactly for a split.
 fn has_parity(entry: Entry) -> bool
-    ensures { IsTrue result ↔ (entry.version % 2 ≡ parity_of entry.kind) }
+    ensures { IsTrue result ↔ (entry.number % 2 ≡ parity_of entry.kind) }
 {
     match entry.kind {
-        Kind::Split { .. } => entry.version % 2 == 1,
-        Kind::Merge => entry.version % 2 == 0,
+        Kind::Split { .. } => entry.number % 2 == 1,
+        Kind::Merge => entry.number % 2 == 0,
     }
 }
 

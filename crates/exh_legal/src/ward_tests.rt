@@ -1,7 +1,7 @@
 ghost use Rattle.std.specs.Prelude.{◌≡◌, ℕ, IfOk};
 ghost use Rattle.exh_page.specs.declared.page.Page.{Page};
 ghost use Rattle.exh_legal.specs.Pages.{IsAt};
-ghost use Rattle.exh_legal.specs.FileParts.{IsBounded};
+ghost use Rattle.exh_legal.specs.LegalParts.{IsBounded};
 ghost use Rattle.exh_legal.specs.Reasons.{IsFirstOfWard};
 
 use crate::built_index::build_index;

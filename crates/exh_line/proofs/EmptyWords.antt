@@ -6,7 +6,7 @@ use Rattle.std.specs.Str.{bytes_eq}
 use Rattle.std.proofs.lemmas.Bool.Decides.{nat_tests}
 use Rattle.exh_text.specs.ByteWord.{bytes_of_word}
 use Rattle.exh_text.specs.LineFault.{ranged}
-use Rattle.exh_text.specs.Lines.{is_empty, parts_at, space, words_of}
+use Rattle.exh_text.specs.TextLines.{is_empty, parts_at, space, words_of}
 use Rattle.exh_text.specs.Numbers.{◌>>=◌, index_spelled, number_after, number_spelled, number_up_to}
 use Rattle.exh_line.specs.Grammar.{line_in_range, line_of, spelled, spelled_begin, spelled_call, spelled_change, spelled_copy_step, spelled_deliver, spelled_hop, spelled_in_flight, spelled_number, spelled_pair_of_numbers, spelled_put, spelled_swap, spelled_view}
 

@@ -12,7 +12,7 @@ use Rattle.exh_notice.specs.declared.entry.Kind.TheVariants as kinds
 use Rattle.exh_notice.specs.declared.notice.Notice.{Notice}
 use Rattle.exh_text.specs.ByteWord.{bytes_of_word}
 use Rattle.exh_text.specs.Contents.{kind_text}
-use Rattle.exh_text.specs.Lines.{parts_at, space}
+use Rattle.exh_text.specs.TextLines.{parts_at, space}
 use Rattle.exh_text.specs.Numbers.{◌>>=◌, index_spelled, number_spelled, number_up_to, number_after}
 use Rattle.exh_text.specs.Printing.{printed, place_text}
 use Rattle.exh_text.specs.TextLemmas.{number_again, printed_again, prefix_again, decimal_graphic, prefix_graphic, printed_graphic, place_graphic, prefix_of_text, parts_at-word, parts_at-place, one_part}
@@ -25,8 +25,8 @@ use Rattle.exh_ward.specs.declared.ward_fault.WardFault.TheVariants.{NoPage, Not
 use Rattle.exh_event.specs.StepFault.{step_fault_number}
 use Rattle.exh_event.specs.declared.step_fault.StepFault.{StepFault}
 use Rattle.exh_event.specs.declared.step_fault.StepFault.TheVariants.{NoCopy, NoRequest, NoNotice, NoTable, NoWard, NameTaken, Ward}
-use Rattle.exh_line.specs.Answer.{answer_words, answer_text, request_text, told_answer, HasKindWidth, HasNoticeWidths, HasWidths, HasReplyWidths, HasByteValues}
-use Rattle.exh_line.specs.Refusal.{numbered_refusal, refusal_number}
+use Rattle.exh_line.specs.LineAnswer.{answer_words, answer_text, request_text, told_answer, HasKindWidth, HasNoticeWidths, HasWidths, HasReplyWidths, HasByteValues}
+use Rattle.exh_line.specs.LineRefusal.{numbered_refusal, refusal_number}
 use Rattle.exh_line.specs.declared.answer.Answer.{Answer}
 use Rattle.exh_line.specs.declared.answer.Answer.TheVariants.{Begun, Replied, Moved, MustSplit, Stray, Changed, Taken, Sent, Joined, Restarted, Refused}
 use Rattle.exh_line.specs.declared.moves.Moves.{Moves}
@@ -95,7 +95,7 @@ kind_of words = None
 abbrev told_notice : List (List ℕ) → Option Answer
 told_notice (place ∷ at ∷ prefix ∷ counted ∷ number ∷ kind) =
     place_of place >>= λ p. number_spelled number >>= λ n. kind_of kind >>= λ k.
-    Some (Changed (record { ward = p.0; index = p.1; prefix = prefix_of_text prefix; version = n; kind = k }))
+    Some (Changed (record { ward = p.0; index = p.1; prefix = prefix_of_text prefix; number = n; kind = k }))
 told_notice words = None
 
 -- those behind `copy` and its number
@@ -254,12 +254,12 @@ kind_words : Kind → List (List ℕ)
 kind_words (kinds.Split right) = codes "split" ∷ codes "right" ∷ decimal right ∷ []
 kind_words kinds.Merge = codes "merge" ∷ []
 
-version_kind : (version : ℕ) (kind : Kind) → version < 2 ^ 32 → HasKindWidth kind → parts_at space (decimal version ++ kind_text kind) ≡ decimal version ∷ kind_words kind
+number_kind : (version : ℕ) (kind : Kind) → version < 2 ^ 32 → HasKindWidth kind → parts_at space (decimal version ++ kind_text kind) ≡ decimal version ∷ kind_words kind
 unfolding kind_words
-version_kind number (kinds.Split right) small width =
+number_kind number (kinds.Split right) small width =
     behind (decimal number) (codes "split right " ++ decimal right) (decimal_graphic number (omega arith))
     (behind (codes "split") (codes "right " ++ decimal right) refl (behind (codes "right") (decimal right) refl (one_part (decimal right) (decimal_graphic right (omega arith)))))
-version_kind number kinds.Merge small width = behind (decimal number) (codes "merge") (decimal_graphic number (omega arith)) (one_part (codes "merge") refl)
+number_kind number kinds.Merge small width = behind (decimal number) (codes "merge") (decimal_graphic number (omega arith)) (one_part (codes "merge") refl)
 
 kind_told : (kind : Kind) → HasKindWidth kind → kind_of (kind_words kind) ≡ Some kind
 unfolding kind_words
@@ -268,19 +268,19 @@ kind_told kinds.Merge width = refl
 
 notice_words : (notice : Notice) → HasNoticeWidths notice
     → parts_at space (answer_words (Changed notice))
-    ≡ codes "notice" ∷ place_text notice.ward notice.index ∷ codes "prefix" ∷ prefix_text notice.prefix ∷ codes "number" ∷ decimal notice.version ∷ kind_words notice.kind
+    ≡ codes "notice" ∷ place_text notice.ward notice.index ∷ codes "prefix" ∷ prefix_text notice.prefix ∷ codes "number" ∷ decimal notice.number ∷ kind_words notice.kind
 notice_words notice (w, i, n, k) =
     behind (codes "notice") _ refl
     (behind (place_text notice.ward notice.index) _ (place_graphic notice.ward notice.index (omega arith) i)
     (behind (codes "prefix") _ refl
     (behind (prefix_text notice.prefix) _ (prefix_graphic notice.prefix)
-    (behind (codes "number") _ refl (version_kind notice.version notice.kind n k)))))
+    (behind (codes "number") _ refl (number_kind notice.number notice.kind n k)))))
 
 notice_told : (notice : Notice) → HasNoticeWidths notice → Tells (Changed notice)
 unfolding Tells
 notice_told notice (w, i, n, k) =
     ap told (notice_words notice (w, i, n, k))
-    ∙ rw (of_notice, place_told notice.ward notice.index w i, number_told notice.version n, kind_told notice.kind k, prefix_again notice.prefix) refl
+    ∙ rw (of_notice, place_told notice.ward notice.index w i, number_told notice.number n, kind_told notice.kind k, prefix_again notice.prefix) refl
 
 -- ---- of copies and tables
 

@@ -1,7 +1,7 @@
 pub mod Grammar
 pub mod LineStart
 pub mod CallWords
-pub mod Refusal
-pub mod Answer
+pub mod LineRefusal
+pub mod LineAnswer
 pub mod Shown
 pub mod RefusalText

@@ -13,7 +13,7 @@ use Rattle.exh_page.specs.declared.page_head.PageHead.TheVariants.{Live, Forward
 use Rattle.exh_page.specs.PageHead.{head_of}
 use Rattle.exh_text.specs.Contents.{entry_words, forward_page_words, live_page_words, on_line}
 use Rattle.exh_text.specs.Printing.{place_text}
-use Rattle.exh_line.specs.Answer.{copy_text}
+use Rattle.exh_line.specs.LineAnswer.{copy_text}
 
 -- ---- a table
 

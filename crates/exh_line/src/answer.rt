@@ -1,6 +1,6 @@
 ghost use Rattle.std.specs.Prelude.{◌≡◌};
 ghost use Rattle.exh_event.specs.declared.event.Event.{Event as EventType};
-ghost use Rattle.exh_line.specs.Answer.{copy_in, hop_answer, outcome_answer, request_in, table_in};
+ghost use Rattle.exh_line.specs.LineAnswer.{copy_in, hop_answer, outcome_answer, request_in, table_in};
 ghost use Rattle.exh_line.specs.LineStart.{short_event};
 
 use crate::{Moves, Refusal, ShortStep, Told};

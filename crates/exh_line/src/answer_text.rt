@@ -1,5 +1,5 @@
 ghost use Rattle.std.specs.Prelude.{◌≡◌, ◌++◌, OnOk, decimal};
-ghost use Rattle.exh_line.specs.Answer.{answer_text, answer_words, copy_text, moves_text, notice_text, outcome_answer, reply_text, request_in, request_text};
+ghost use Rattle.exh_line.specs.LineAnswer.{answer_text, answer_words, copy_text, moves_text, notice_text, outcome_answer, reply_text, request_in, request_text};
 ghost use Rattle.exh_line.specs.LineStart.{short_event};
 ghost use Rattle.exh_line.specs.declared.answer.Answer.TheVariants.{Begun, Refused, Replied};
 ghost use Rattle.exh_text.specs.Printing.{Keeps, place_text};
@@ -185,7 +185,7 @@ fn push_notice(out: &mut Vec<u8>, notice: &Notice) -> Result<(), AllocError>
     push_text(out, "notice ")?;
     push_place(out, u32::from(notice.ward), notice.index)?;
     push_text(out, " prefix ")?;
-    push_entry(out, &notice.prefix, notice.version, &notice.kind)
+    push_entry(out, &notice.prefix, notice.number, &notice.kind)
 }
 
 fn push_reply(out: &mut Vec<u8>, reply: &Reply) -> Result<(), AllocError>

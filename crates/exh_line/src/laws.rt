@@ -1,7 +1,7 @@
 //! What holds of all answers. The function does nothing.
 
 ghost use Rattle.std.specs.Prelude.{◌≡◌};
-ghost use Rattle.exh_line.specs.Answer.{answer_text, told_answer, HasWidths};
+ghost use Rattle.exh_line.specs.LineAnswer.{answer_text, told_answer, HasWidths};
 ghost use Rattle.exh_line.specs.declared.answer.Answer.{Answer};
 
 /// A printed line tells its answer: two answers that print the same are the same, their numbers and bytes being as wide

@@ -18,7 +18,7 @@ pub enum Refusal {
 
 impl Refusal {
     ghost use Rattle.std.specs.Prelude.{◌≡◌};
-    ghost use Rattle.exh_line.specs.Refusal.{refusal_number};
+    ghost use Rattle.exh_line.specs.LineRefusal.{refusal_number};
 
     /// The number by which the refusal is printed.
     pub fn number(self) -> u32

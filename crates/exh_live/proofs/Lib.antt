@@ -1,5 +1,3 @@
-mod Counts
-mod Order
-mod Rounds
-mod ToBeTallied
-mod Walks
+mod Calls
+mod RoundsOn
+mod Sums

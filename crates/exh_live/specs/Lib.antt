@@ -1,10 +1,5 @@
-pub mod Closing
-pub mod Laws
-pub mod LiveFile
-pub mod Locked
-pub mod NewWardLemmas
-pub mod PlaceLemmas
-pub mod Rounds
-pub mod Spare
-pub mod Stock
-pub mod Units
+pub mod Refusals
+pub mod StormCalls
+pub mod StormFault
+pub mod StormLeft
+pub mod StormRounds

@@ -1,34 +1,48 @@
-ghost use Rattle.std.specs.Prelude.{◌^◌, ◌<◌, IfOk, IfErr};
-ghost use Rattle.exh_ward.specs.WardFault.{IsStoreFault};
-ghost use Rattle.exh_live.specs.Rounds.{IsKeeperRound};
+ghost use Rattle.std.specs.Prelude.{◌+◌, ◌^◌, ◌<◌, IfOk, IfErr};
+ghost use Rattle.exh_live.specs.StormRounds.{AreKeeperRounds, IsKeeperFault};
+ghost use Rattle.exh_live.specs.declared.keeper.TheConstants.{KEEPER_CLIENT};
 
-use crate::lock::lock_soon;
-use crate::{Identity, LiveFile};
-use exh_frames::Pages;
+use crate::{StormFault, Watch};
 use exh_keyer::Keyer;
-use exh_ward::WardFault;
+use exh_live_file::{Identity, LiveFile};
+use exh_stores::Pages;
+use exh_walk::Gate;
 use std::sync::Wait;
 
-impl<P: Pages + Drop, K: Keyer, F: Identity> LiveFile<P, K, F> {
-    /// One round of a keeper over a ward of the file, from its page 0 upwards, each page that was there
-    /// at the first turn once: a page that is live, as is its right buddy, is merged with it where both
-    /// have together at most half as many records as a page may, rounded down. Each page is read and
-    /// merged in one turn of the ward's lock. A page is passed over whose parent has the greatest
-    /// number. It answers how many merges it made. Refused at any point: `Memory` and `Page`. The merges
-    /// made then stay. It may wait for callers.
-    pub fn keeper_round<R: Wait>(&self, rt: &R, ward: u8) -> Result<u32, WardFault>
-        requires { ward < 2 ^ self.now.ward_bits }
-        ensures round { IfOk result (IsKeeperRound K.pseudokey_of) }
-        ensures fault { IfErr result IsStoreFault }
+/// As which client the keeper of ward 0 asks the gate; that of ward n asks n further on.
+pub const KEEPER_CLIENT: u32 = 65_536;
+
+/// A keeper of a storm, which merges the sparse pages of one ward.
+#[derive(Clone, Copy)]
+pub struct Keeper {
+    pub ward: u8,
+}
+
+impl Keeper {
+    /// Makes so many rounds over its ward, which is one of the file. Before each it asks the gate, as the
+    /// client of its ward, at turns 1, 2, ..; after each it tells the watch its merges. Refused, with the
+    /// merges made kept: `Held` where the gate says no, `Memory`, `Page`. It may wait for other workers.
+    pub fn run<R: Wait, P: Pages + Drop, K: Keyer, F: Identity, G: Gate, W: Watch>(
+        self,
+        rt: &R,
+        file: &LiveFile<P, K, F>,
+        rounds: u32,
+        gate: &G,
+        watch: &W,
+    ) -> Result<(), StormFault>
+        requires { self.ward < 2 ^ file.now.ward_bits }
+        ensures rounds { IfOk result (λ _. AreKeeperRounds K.pseudokey_of (G.may gate.now (KEEPER_CLIENT + self.ward)) rounds) }
+        ensures fault { IfErr result (IsKeeperFault (G.may gate.now (KEEPER_CLIENT + self.ward)) rounds) }
     {
-        let lock = &self.wards[usize::from(ward)];
-        let pages = lock_soon(lock, rt).page_count();
-        let mut merges = 0;
-        for page in 0..pages {
-            if lock_soon(lock, rt).keep(page)? {
-                merges += 1;
+        for done in 0..rounds {
+            if !gate.pass(KEEPER_CLIENT + u32::from(self.ward), done + 1) {
+                return Err(StormFault::Held);
+            }
+            match file.keeper_round(rt, self.ward) {
+                Ok(merges) => watch.merged(merges),
+                Err(fault) => return Err(StormFault::of_round(fault)),
             }
         }
-        Ok(merges)
+        Ok(())
     }
 }

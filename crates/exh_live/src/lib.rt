@@ -1,30 +1,27 @@
-//! Wards behind locks, and callers on threads of their own, with two ledgers that join what the
-//! callers were answered to what the wards keep of it.
+//! A storm: callers, keepers and couriers over one new live file, each on a thread of its own, all at
+//! once; and what they leave is settled.
 #![tactic(auto)]
 
-pub use close::{CloseFault, Closed, NotClosed};
-pub use cursors::Cursors;
-pub use identity::Identity;
-pub use laws::cursors_go_on_with_wards;
-pub use ledgers::{ANSWER_PARTS, Answers, ENTRY_PARTS, Entries, LedgerNames};
-pub use live_file::LiveFile;
-pub use lock::lock_soon;
-pub use seat::{NoSeat, Seat};
-pub use ward_journals::WardJournals;
+pub use call::storm_call;
+pub use caller::Caller;
+pub use courier::{COURIER_CLIENT, Courier};
+pub use fault::StormFault;
+pub use file::{StormFile, StormLeft, StormWard, new_file};
+pub use keeper::{KEEPER_CLIENT, Keeper};
+pub use open_copy::OpenCopy;
+pub use run::{storm, storm_left};
+pub use watch::{NoWatch, Watch};
+pub use workers::{Workers, new_workers};
 
-mod ask;
-mod close;
+mod call;
+mod caller;
 mod courier;
-mod cursors;
-mod identity;
+mod fault;
+mod file;
 mod keeper;
-mod laws;
-mod ledgers;
-mod live_file;
-mod lock;
-mod locked_ward;
-mod seat;
-mod spare;
-mod tallied_ward;
-mod tally;
-mod ward_journals;
+mod open_copy;
+mod overseers;
+mod run;
+mod threads;
+mod watch;
+mod workers;

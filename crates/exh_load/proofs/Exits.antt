@@ -5,7 +5,7 @@ use Rattle.std.specs.Option.{option_map}
 use Rattle.std.specs.Io.KnownBytes.{Appends}
 use Rattle.exh_stream.specs.Output.{AppendsBeginning, Takes, TakesBeginning}
 use Rattle.exh_stream.specs.declared.output.Output.{Output}
-use Rattle.exh_open.specs.Opened.{OpenedState}
+use Rattle.exh_file.specs.Opened.{OpenedState}
 use Rattle.exh_load.specs.Load.{Load, Loads, Prints, PrintsFront, TakesFront}
 use Rattle.exh_load.specs.Loading.{loading_in}
 use Rattle.exh_load.specs.declared.load_fault.LoadFault.{LoadFault}

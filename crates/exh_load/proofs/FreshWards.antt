@@ -12,7 +12,7 @@ use Rattle.exh_settings.specs.declared.file_settings.FileSettings.{FileSettings}
 use Rattle.exh_ward.specs.NewWardLemmas.{count_of_new, new_ward_at}
 use Rattle.exh_ward.specs.NewWards.{new_ward, new_wards}
 use Rattle.exh_ward.specs.WardState.{WardState}
-use Rattle.exh_open.specs.Opened.{AreWardsOf, in_file}
+use Rattle.exh_file.specs.Opened.{AreWardsOf, in_file}
 use Rattle.exh_load.specs.Load.{empty_loading}
 use Rattle.exh_load.specs.Loading.{Loading, loading_of}
 use Rattle.exh_load.specs.Loader.{AreEach, IsEmptyDirectory, IsEmptyLoader, IsLoading, LoaderState, file_in}

@@ -3,7 +3,7 @@ use Rattle.std.proofs.Common.{◌≡◌, ℕ, ◌+◌, List, [], ◌∷◌, ◌+
 use Rattle.std.proofs.lemmas.Bool.{cases_lt}
 use Rattle.std.proofs.lemmas.List.{length_push}
 use Rattle.std.proofs.lemmas.Option.{slice_get_within}
-use Rattle.exh_prefix.specs.ListLemmas.{at_front, at_last, one_there}
+use Rattle.exh_prefix.specs.PrefixListLemmas.{at_front, at_last, one_there}
 use Rattle.exh_load.specs.Loader.{AreEach}
 
 pub each_more : {A : Type 0} (P : ℕ → A → Type 0) (count : ℕ) (items : List A) (item : A) (new : List A) → AreEach P count items → P count item → new ≡ items ++ item ∷ [] → AreEach P (count + 1) new

@@ -6,8 +6,8 @@ use Rattle.std.specs.Io.KnownBytes.{Appends}
 use Rattle.exh_stream.specs.Output.{AppendsBeginning, Takes, TakesBeginning, WriterUntouched, held, pending}
 use Rattle.exh_stream.specs.OutputLemmas.{AppendsBeginning-from, AppendsBeginning-of_more, Takes-finished, Takes-cut, Takes-none, TakesBeginning-left}
 use Rattle.exh_stream.specs.declared.output.Output.{Output}
-use Rattle.exh_text.specs.Lines.{lines_of}
-use Rattle.exh_open.specs.Opened.{OpenedState}
+use Rattle.exh_text.specs.TextLines.{lines_of}
+use Rattle.exh_file.specs.Opened.{OpenedState}
 use Rattle.exh_load.specs.Load.{Beginning, IsLoadBy, IsLoadOf, IsOfText, Load, Loads, Prints, PrintsFront, TakesFront, at_end, load_of, load_of_lines, refused}
 use Rattle.exh_load.specs.Loading.{loading_in}
 use Rattle.exh_load.specs.declared.load_fault.LoadFault.{LoadFault}

@@ -7,7 +7,7 @@ use Rattle.exh_stream.specs.OutputLemmas.{AppendsBeginning-from, Takes-then, Tak
 use Rattle.exh_stream.specs.declared.output.Output.{Output}
 use Rattle.exh_text.specs.FileLine.{file_line_of}
 use Rattle.exh_text.specs.declared.settings.Settings.{Settings}
-use Rattle.exh_open.specs.Opened.{OpenedState}
+use Rattle.exh_file.specs.Opened.{OpenedState}
 use Rattle.exh_load.specs.Load.{AreWholeLines, Beginning, Ending, Load, Loads, Prints, TakesFront, at_end, load_after, load_begun, load_of_lines, loaded, number_line, record_count, refused}
 use Rattle.exh_load.specs.Loading.{Loading, line_text, load_text_from, loaded_from, loading_in}
 use Rattle.exh_load.specs.LongLoad.{IsLongLoad, LoadTakes, broken_off}

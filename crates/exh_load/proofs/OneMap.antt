@@ -12,8 +12,8 @@ use Rattle.exh_text.specs.Printing.{refused_text}
 use Rattle.exh_text.specs.declared.line_fault.LineFault.{LineFault}
 use Rattle.exh_calls.specs.MapMachine.{map_after}
 use Rattle.exh_calls.specs.declared.call.Call.TheVariants.{Put}
-use Rattle.exh_open.specs.FileChange.{AreParts}
-use Rattle.exh_open.specs.OneMapLemmas.{one_reply, parts_left}
+use Rattle.exh_file.specs.FileChange.{AreParts}
+use Rattle.exh_file.specs.OneMapLemmas.{one_reply, parts_left}
 use Rattle.exh_load.specs.Loading.{Loading, after_pair_line, after_read_pair, line_text, load_text_from, loaded_from, pair_told, parsed_text, put_text}
 use Rattle.exh_load.specs.OneMap.{LoadsAreOneMaps, NewMapsAreNone, pair_in, pairs_of, puts_left, text_by_one, told_by_one}
 

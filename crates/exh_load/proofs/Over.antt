@@ -10,7 +10,7 @@ use Rattle.exh_table.specs.TableOrder.{table_join}
 use Rattle.exh_array.specs.Pointers.{DirectoryState}
 use Rattle.exh_settings.specs.declared.file_settings.FileSettings.{FileSettings}
 use Rattle.exh_ward.specs.WardState.{WardState}
-use Rattle.exh_open.specs.Opened.{AreWardsOf, OpenedState, in_file, settings_in}
+use Rattle.exh_file.specs.Opened.{AreWardsOf, OpenedState, in_file, settings_in}
 use Rattle.exh_load.specs.Loader.{AreEach, IsDirectoryAt, IsLoading}
 
 -- ---- a table joined to none

@@ -6,7 +6,7 @@ use Rattle.std.proofs.lemmas.Option.{slice_get_read}
 use Rattle.std.proofs.lemmas.List.{length-map, length-set, map-set}
 use Rattle.exh_page.specs.KeyMap.{KeyMap}
 use Rattle.exh_prefix.specs.Leading.{ward_of}
-use Rattle.exh_prefix.specs.ListLemmas.{one_there, set_else, set_here}
+use Rattle.exh_prefix.specs.PrefixListLemmas.{one_there, set_else, set_here}
 use Rattle.exh_keyer.specs.declared.any_keyer.AnyKeyer.{AnyKeyer}
 use Rattle.exh_keyer.specs.Pseudokey.{any_pseudokey}
 use Rattle.exh_array.specs.Pointers.{DirectoryState}
@@ -16,10 +16,10 @@ use Rattle.exh_calls.specs.declared.call.Call.TheVariants.{Put}
 use Rattle.exh_calls.specs.declared.reply.Reply.{Reply}
 use Rattle.exh_legal.specs.Pages.{map_of}
 use Rattle.exh_ward.specs.WardState.{WardState, history_begun}
-use Rattle.exh_open.specs.Opened.{AreWardsOf, OpenedState}
-use Rattle.exh_open.specs.FileChange.{AreParts, ChangesOneMap, maps_in as maps_of}
-use Rattle.exh_open.specs.InWardLemmas.{HasSettings, at_within, here, maps_here, one_in, place, reply_here, there}
-use Rattle.exh_open.specs.WardChange.{AreSplitsAtMost, IsChanged}
+use Rattle.exh_file.specs.Opened.{AreWardsOf, OpenedState}
+use Rattle.exh_file.specs.FileChange.{AreParts, ChangesOneMap, maps_in as maps_of}
+use Rattle.exh_file.specs.InWardLemmas.{HasSettings, at_within, here, maps_here, one_in, place, reply_here, there}
+use Rattle.exh_file.specs.WardChange.{AreSplitsAtMost, IsChanged}
 use Rattle.exh_load.specs.Put.{IsDirectoryOf}
 use Rattle.exh_load.specs.Loader.{HasSplitsIn, IsLoading, IsPutIn, LoaderState, file_in}
 use Rattle.exh_load.specs.Loading.{Loading, after_pair, loading_of, pair_reply}

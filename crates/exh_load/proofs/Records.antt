@@ -11,7 +11,7 @@ use Rattle.exh_calls.specs.declared.call.Call.TheVariants.{Put}
 use Rattle.exh_calls.specs.Effect.{effect_of}
 use Rattle.exh_calls.specs.MapMachine.{changed, is_full, map_after}
 use Rattle.exh_keyer.specs.Pseudokey.{any_pseudokey}
-use Rattle.exh_text.specs.Lines.{is_empty, lines_of, newline, parts_at}
+use Rattle.exh_text.specs.TextLines.{is_empty, lines_of, newline, parts_at}
 use Rattle.exh_load.specs.Load.{new_count, record_count}
 use Rattle.exh_load.specs.Loading.{Loading, after_pair, map_at, pair_reply, ward_at}
 

@@ -10,7 +10,7 @@ use Rattle.std.proofs.lemmas.List.{length-drop, length-take, length-take-le, map
 use Rattle.std.proofs.lemmas.List.Elements.{All-append, All-cons, All-nil}
 use Rattle.std.proofs.lemmas.List.Splits.{slice_split_at, slice_split_none}
 use Rattle.exh_stream.specs.Source.{unread}
-use Rattle.exh_text.specs.Lines.{is_empty, lines_of, newline, parts_at, without_empty}
+use Rattle.exh_text.specs.TextLines.{is_empty, lines_of, newline, parts_at, without_empty}
 use Rattle.exh_load.specs.Load.{AreWholeLines}
 use Rattle.exh_load.specs.LongLoad.{short_lines}
 use Rattle.exh_load.specs.LineSource.{AreAllLines, AreFirstLines, AreSomeLines, AreTaken, EndsRight, GoesOn, HasPassed, IsAdded, IsOver, Passes, text_left, waiting}

@@ -3,12 +3,12 @@ use Rattle.std.proofs.Common.{◌≡◌, ℕ, ◌+◌, ◌<◌, ◌^◌, List, a
 use Rattle.exh_prefix.specs.Prefix.{Begins}
 use Rattle.exh_array.specs.Pointers.{DirectoryState}
 use Rattle.exh_table.specs.Table.{TableMap}
-use Rattle.exh_table.specs.Walk.{walk_of}
-use Rattle.exh_legal.specs.Laws.{WalksNameHomes}
+use Rattle.exh_table.specs.TableWalk.{walk_of}
+use Rattle.exh_legal.specs.LegalLaws.{WalksNameHomes}
 use Rattle.exh_ward.specs.WardState.{WardState, IsSoundWard, own_prefix}
-use Rattle.exh_open.specs.HomeLemmas.{IsFullHome, home_named}
-use Rattle.exh_open.specs.TurnLemmas.{AreTurns, turn_over}
-use Rattle.exh_open.specs.WardChange.{IsHomeAt, IsSplitAway}
+use Rattle.exh_file.specs.HomeLemmas.{IsFullHome, home_named}
+use Rattle.exh_file.specs.TurnLemmas.{AreTurns, turn_over}
+use Rattle.exh_file.specs.WardChange.{IsHomeAt, IsSplitAway}
 use Rattle.exh_load.specs.Put.{IsDirectoryOf}
 
 module _ {K : Type 0} (pseudokey_of : K → List ℕ → ℕ) (ward : WardState K) (directory : DirectoryState) (pseudokey at : ℕ) (walks : WalksNameHomes) (sound : IsSoundWard pseudokey_of ward)

@@ -6,7 +6,7 @@ use Rattle.exh_stream.specs.Source.{unread}
 use Rattle.exh_stream.specs.declared.input_fault.InputFault.{InputFault}
 use Rattle.exh_stream.specs.declared.input_fault.InputFault.TheVariants.{TooLong}
 use Rattle.exh_stream.specs.declared.output.Output.{Output}
-use Rattle.exh_text.specs.Lines.{is_empty, lines_of, newline}
+use Rattle.exh_text.specs.TextLines.{is_empty, lines_of, newline}
 use Rattle.exh_load.specs.Load.{AreWholeLines, TakesFront, record_count}
 use Rattle.exh_load.specs.Loading.{Loading, load_text_from, loaded_from}
 use Rattle.exh_load.specs.LongLoad.{short_lines}

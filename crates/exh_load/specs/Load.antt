@@ -7,7 +7,7 @@ use Rattle.exh_keyer.specs.declared.any_keyer.AnyKeyer.{AnyKeyer}
 use Rattle.exh_calls.specs.declared.reply.Reply.{Reply}
 use Rattle.exh_calls.specs.declared.reply.Reply.TheVariants.{New}
 use Rattle.exh_text.specs.LineFault.{line_fault_number}
-use Rattle.exh_text.specs.Lines.{lines_of}
+use Rattle.exh_text.specs.TextLines.{lines_of}
 use Rattle.exh_text.specs.declared.line_fault.LineFault.{LineFault}
 use Rattle.exh_stream.specs.Output.{Takes}
 use Rattle.exh_stream.specs.declared.output.Output.{Output}
@@ -15,7 +15,7 @@ use Rattle.exh_text.specs.declared.config.Config.{Config}
 use Rattle.exh_text.specs.FileLine.{file_line_of}
 use Rattle.exh_text.specs.declared.settings.Settings.{Settings}
 use Rattle.exh_settings.specs.FileSettings.{are_same}
-use Rattle.exh_open.specs.Opened.{OpenedState, settings_in}
+use Rattle.exh_file.specs.Opened.{OpenedState, settings_in}
 use Rattle.exh_load.specs.Loader.{IsLoading, LoaderState}
 use Rattle.exh_load.specs.Loading.{Loading, loaded_from, loading_in, loading_of, load_text_from}
 

@@ -9,9 +9,9 @@ use Rattle.exh_calls.specs.declared.call.Call.TheVariants.{Put}
 use Rattle.exh_calls.specs.declared.reply.Reply.{Reply}
 use Rattle.exh_keyer.specs.Pseudokey.{any_pseudokey}
 use Rattle.exh_ward.specs.WardState.{WardState, history_begun}
-use Rattle.exh_open.specs.Opened.{OpenedState, in_file}
-use Rattle.exh_open.specs.FileChange.{ward_in}
-use Rattle.exh_open.specs.WardChange.{AreSplitsAtMost, IsChanged}
+use Rattle.exh_file.specs.Opened.{OpenedState, in_file}
+use Rattle.exh_file.specs.FileChange.{ward_in}
+use Rattle.exh_file.specs.WardChange.{AreSplitsAtMost, IsChanged}
 use Rattle.exh_load.specs.Put.{IsDirectoryOf}
 
 pub record LoaderState : Type 0 where

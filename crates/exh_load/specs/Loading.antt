@@ -7,7 +7,7 @@ use Rattle.exh_keyer.specs.Pseudokey.{any_pseudokey}
 use Rattle.exh_page.specs.KeyMap.{KeyMap}
 use Rattle.exh_text.specs.ByteWord.{pair_in_range, spelled_pair}
 use Rattle.exh_text.specs.LineFault.{line_fault_number, ranged}
-use Rattle.exh_text.specs.Lines.{words_of}
+use Rattle.exh_text.specs.TextLines.{words_of}
 use Rattle.exh_text.specs.Numbers.{◌>>=◌}
 use Rattle.exh_text.specs.Printing.{printed, refused_text}
 use Rattle.exh_text.specs.declared.line_fault.LineFault.{LineFault}
@@ -15,8 +15,8 @@ use Rattle.exh_calls.specs.MapMachine.{reply_of, map_after}
 use Rattle.exh_calls.specs.declared.call.Call.TheVariants.{Put}
 use Rattle.exh_calls.specs.declared.reply.Reply.{Reply}
 use Rattle.exh_calls.specs.declared.reply.Reply.TheVariants.{Full}
-use Rattle.exh_open.specs.Opened.{OpenedState}
-use Rattle.exh_open.specs.FileChange.{maps_in}
+use Rattle.exh_file.specs.Opened.{OpenedState}
+use Rattle.exh_file.specs.FileChange.{maps_in}
 use Rattle.exh_load.specs.Loader.{LoaderState, file_in}
 
 -- a file's settings, and the map of each ward, in the order of their numbers

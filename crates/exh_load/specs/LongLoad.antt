@@ -2,8 +2,8 @@
 use Rattle.std.specs.Prelude.{◌≡◌, ◌⊎◌, ℕ, List, ◌++◌, map, take, Option, IfSome, Result, Ok, Err}
 use Rattle.exh_stream.specs.Output.{Takes, TakesBeginning}
 use Rattle.exh_stream.specs.declared.output.Output.{Output}
-use Rattle.exh_text.specs.Lines.{lines_of}
-use Rattle.exh_open.specs.Opened.{OpenedState}
+use Rattle.exh_text.specs.TextLines.{lines_of}
+use Rattle.exh_file.specs.Opened.{OpenedState}
 use Rattle.exh_load.specs.Load.{AreWholeLines, Beginning, Ending, IsOfText, Load, Loads, Prints, TakesFront, at_end, load_of_lines, refused}
 use Rattle.exh_load.specs.declared.line_source.TheConstants.{LINE_LEN}
 use Rattle.exh_load.specs.declared.load_fault.LoadFault.{LoadFault}

@@ -10,7 +10,7 @@ use Rattle.exh_text.specs.Printing.{refused_text}
 use Rattle.exh_text.specs.declared.line_fault.LineFault.{LineFault}
 use Rattle.exh_calls.specs.MapMachine.{reply_of, map_after}
 use Rattle.exh_calls.specs.declared.call.Call.TheVariants.{Put}
-use Rattle.exh_open.specs.FileChange.{AreParts}
+use Rattle.exh_file.specs.FileChange.{AreParts}
 use Rattle.exh_load.specs.Load.{empty_loading}
 use Rattle.exh_load.specs.Loading.{Loading, load_text_from, loaded_from, pair_told, put_text}
 

@@ -4,10 +4,10 @@ ghost use Rattle.exh_text.specs.FileLine.{file_in_range};
 ghost use Rattle.exh_load.specs.Load.{IsBegun, beginning, opened_file};
 
 use crate::Loader;
-use exh_frames::{Pages, StoreMaker};
+use exh_file::Opened;
 use exh_keyer::AnyKeyer;
 use exh_notes::Listener;
-use exh_open::Opened;
+use exh_stores::{Pages, StoreMaker};
 use exh_text::Config;
 use std::alloc::{AllocError, Global};
 

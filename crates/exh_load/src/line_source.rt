@@ -1,7 +1,7 @@
 //! The lines of a text that comes from a reader, one at a time.
 ghost use Rattle.std.specs.Prelude.{not, ◌≡◌, ◌≢◌, ◌⊎◌, ◌≤◌, [], ◌∷◌, ◌++◌, take, length, option_to_list, IfNone, IfOk, IsOk, IsTrue, OnOk};
 ghost use Rattle.std.specs.Io.KnownBytes.{Keeps};
-ghost use Rattle.exh_text.specs.Lines.{is_empty};
+ghost use Rattle.exh_text.specs.TextLines.{is_empty};
 ghost use Rattle.exh_stream.specs.Source.{ReadsFrom, SameReader};
 ghost use Rattle.exh_load.specs.LineSource.{AreTaken, EndsRight, GoesOn, IsAdded, IsOver, text_left, waiting};
 

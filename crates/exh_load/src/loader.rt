@@ -3,8 +3,8 @@ ghost use Rattle.exh_page.specs.declared.page.TheConstants.{CAP_LIMIT};
 ghost use Rattle.exh_prefix.specs.declared.prefix.TheConstants.{WARD_BITS_LIMIT};
 ghost use Rattle.exh_array.specs.Pointers.{DirectoryState};
 ghost use Rattle.exh_calls.specs.declared.call.Call.TheVariants.{Put};
-ghost use Rattle.exh_open.specs.FileChange.{ChangesOneMap};
-ghost use Rattle.exh_open.specs.Opened.{settings_in};
+ghost use Rattle.exh_file.specs.FileChange.{ChangesOneMap};
+ghost use Rattle.exh_file.specs.Opened.{settings_in};
 ghost use Rattle.exh_ward.specs.WardFault.{IsStoreFault};
 ghost use Rattle.exh_load.specs.Load.{empty_loading, new_count, record_count};
 ghost use Rattle.exh_load.specs.Loading.{after_pair, loading_of, pair_reply};
@@ -13,12 +13,12 @@ ghost use Rattle.exh_load.specs.Loader.{AreEach, HasSplitsIn, IsDirectoryAt, IsE
 use crate::put_pair;
 use exh_array::Directory;
 use exh_calls::Reply;
-use exh_frames::{Pages, StoreMaker};
+use exh_file::Opened;
 use exh_keyer::{AnyKeyer, Keyer};
-use exh_open::Opened;
 use exh_page::{Key, Value};
 use exh_prefix::ward_number;
 use exh_settings::FileSettings;
+use exh_stores::{Pages, StoreMaker};
 use exh_table::Table;
 use exh_ward::{Ward, WardFault, new_wards};
 use std::alloc::{AllocError, Global};
@@ -36,7 +36,7 @@ impl<P: Pages + Drop> Model for Loader<P> {
     ghost use Rattle.std.specs.Coded.{codes};
     ghost use Rattle.exh_page.specs.KeyMap.{coded_key_map};
     ghost use Rattle.exh_table.specs.Table.{coded_table};
-    ghost use Rattle.exh_open.specs.Opened.{AreWardsOf, in_file};
+    ghost use Rattle.exh_file.specs.Opened.{AreWardsOf, in_file};
     ghost use Rattle.exh_load.specs.Loader.{LoaderState};
 
     ghost Value = { LoaderState };

@@ -6,8 +6,8 @@ ghost use Rattle.exh_load.specs.Load.{TakesFront, number_line, refused};
 ghost use Rattle.exh_load.specs.Loading.{loading_in};
 
 use crate::LoadFault;
-use exh_frames::Pages;
-use exh_open::Opened;
+use exh_file::Opened;
+use exh_stores::Pages;
 use exh_stream::Output;
 use exh_text::{push_number, push_text};
 use std::alloc::Global;

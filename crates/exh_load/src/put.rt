@@ -3,17 +3,17 @@ ghost use Rattle.exh_prefix.specs.Prefix.{Begins};
 ghost use Rattle.exh_calls.specs.declared.call.Call.TheVariants.{Put};
 ghost use Rattle.exh_ward.specs.WardFault.{CountsFailures, IsStoreFault};
 ghost use Rattle.exh_ward.specs.WardState.{IsSoundWard, own_prefix};
-ghost use Rattle.exh_open.specs.WardChange.{AreSplitsAtMost, IsChanged, IsFullAt, IsSplitAway};
+ghost use Rattle.exh_file.specs.WardChange.{AreSplitsAtMost, IsChanged, IsFullAt, IsSplitAway};
 ghost use Rattle.exh_load.specs.Put.{IsDirectoryOf};
 
 use exh_array::Directory;
 use exh_calls::{Call, Reply};
-use exh_frames::Pages;
+use exh_file::CHANGER;
 use exh_keyer::Keyer;
 use exh_legal::walks_name_homes;
-use exh_open::CHANGER;
 use exh_page::{Key, Value};
 use exh_prefix::{LIMIT, PageNo};
+use exh_stores::Pages;
 use exh_ward::{Hop, Ward, WardFault};
 
 /// Puts a pair into the ward that covers its key, whose pseudokey is given, by a directory that was told

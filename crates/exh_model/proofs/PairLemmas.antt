@@ -14,7 +14,7 @@ use Rattle.std.proofs.lemmas.List.Sums.{sum_by-cons}
 use Rattle.std.proofs.lemmas.Map.Lookups.{exact_bytes}
 use Rattle.exh_page.specs.KeyMap.{KeyMap}
 use Rattle.exh_page.specs.KeyMapLemmas.{same_maps}
-use Rattle.exh_model.specs.Pairs.{AreApart}
+use Rattle.exh_model.specs.MachinePairs.{AreApart}
 
 abbrev pub Pair : Type 0
 Pair = List ℕ × List ℕ

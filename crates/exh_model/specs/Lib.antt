@@ -1,2 +1,2 @@
 pub mod MachineState
-pub mod Pairs
+pub mod MachinePairs

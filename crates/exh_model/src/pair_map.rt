@@ -16,7 +16,7 @@ pub struct PairMap {
 impl Model for PairMap {
     ghost use Rattle.std.specs.FinMap as map;
     ghost use Rattle.exh_page.specs.KeyMap.{KeyMap, coded_key_map};
-    ghost use Rattle.exh_model.specs.Pairs.{AreApart};
+    ghost use Rattle.exh_model.specs.MachinePairs.{AreApart};
 
     ghost Value = { KeyMap };
 

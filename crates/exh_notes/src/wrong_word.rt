@@ -1,6 +1,6 @@
 ghost use Rattle.std.specs.Prelude.{◌≡◌};
 ghost use Rattle.std.specs.Option.{option_copied};
-ghost use Rattle.exh_text.specs.Lines.{parts_at, space};
+ghost use Rattle.exh_text.specs.TextLines.{parts_at, space};
 ghost use Rattle.exh_notes.specs.WrongWord.{first_wrong};
 
 use crate::Expect;

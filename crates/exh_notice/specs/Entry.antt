@@ -17,7 +17,7 @@ kind_cmp (Split one) (Split other) = nat_cmp one other
 
 -- by version, then by kind
 abbrev pub entry_cmp : Entry → Entry → Ordering
-entry_cmp = then_cmp (on (λ (e : Entry). e.version) nat_cmp) (on (λ (e : Entry). e.kind) kind_cmp)
+entry_cmp = then_cmp (on (λ (e : Entry). e.number) nat_cmp) (on (λ (e : Entry). e.kind) kind_cmp)
 
 -- the greater of two entries
 abbrev pub greater_entry : Entry → Entry → Entry
@@ -25,4 +25,4 @@ greater_entry = greater entry_cmp
 
 -- the entry that a notice leaves at its prefix
 abbrev pub entry_of : Notice → Entry
-entry_of notice = record { version = notice.version; kind = notice.kind }
+entry_of notice = record { number = notice.number; kind = notice.kind }

@@ -7,7 +7,7 @@ use Rattle.std.specs.FinMap.{IsAntisymmetric, nat_cmp-IsAntisymmetric}
 use Rattle.std.proofs.lemmas.Cmp.{nat_cmp_total, on_total, then_total}
 use Rattle.std.proofs.lemmas.Bool.{true≢false}
 use Rattle.std.proofs.lemmas.Map.Lookups.{exact_pairs, exact_unsigned}
-use Rattle.exh_join.specs.Laws.{JoinLaws}
+use Rattle.exh_join.specs.JoinLaws.{JoinLaws}
 use Rattle.exh_join.specs.Greater.{IsUpTo, greater}
 use Rattle.exh_join.specs.GreaterLemmas.{greater_laws}
 use Rattle.exh_notice.specs.declared.entry.Entry.{Entry}
@@ -42,14 +42,14 @@ kind_cmp-total = record {
 }
 
 pub entry_cmp-total : IsTotalOrder entry_cmp
-entry_cmp-total = then_total (on_total (λ (e : Entry). e.version) nat_cmp_total) (on_total (λ (e : Entry). e.kind) kind_cmp-total)
+entry_cmp-total = then_total (on_total (λ (e : Entry). e.number) nat_cmp_total) (on_total (λ (e : Entry). e.kind) kind_cmp-total)
 
 of_pair : ℕ × Kind → Entry
-of_pair pair = record { version = pair.0; kind = pair.1 }
+of_pair pair = record { number = pair.0; kind = pair.1 }
 
 pub entry_cmp-exact : IsAntisymmetric entry_cmp
 unfolding of_pair
-entry_cmp-exact x y level = ap of_pair (exact_pairs nat_cmp kind_cmp exact_unsigned kind_cmp-exact (x.version, x.kind) (y.version, y.kind) level)
+entry_cmp-exact x y level = ap of_pair (exact_pairs nat_cmp kind_cmp exact_unsigned kind_cmp-exact (x.number, x.kind) (y.number, y.kind) level)
 
 pub entry_laws : JoinLaws (IsUpTo entry_cmp) (greater entry_cmp)
 entry_laws = greater_laws entry_cmp-total entry_cmp-exact

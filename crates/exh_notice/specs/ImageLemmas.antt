@@ -9,7 +9,7 @@ use Rattle.byteorder.specs.Endian.{big_bytes, big_from}
 use Rattle.byteorder.specs.Numbers.{big_from-lt, big_number-reads_back, length-bytes_high_first}
 use Rattle.exh_prefix.specs.Bits.{number_of, word_bits}
 use Rattle.exh_prefix.specs.BitLemmas.{number_of-lt, number_of-append, number_of-zeros}
-use Rattle.exh_prefix.specs.ByteLemmas.{power_of_bytes}
+use Rattle.exh_prefix.specs.PrefixByteLemmas.{power_of_bytes}
 use Rattle.exh_prefix.specs.Prefix.{zeros, HasPrefixUpTo, low_of}
 use Rattle.exh_prefix.specs.PrefixLemmas.{low_of-places, low_of-up_to, length-up_to, same_prefix, up_to-low_of}
 use Rattle.exh_prefix.specs.Version.{Version, four_bytes, Fits, field_low}
@@ -19,8 +19,8 @@ use Rattle.exh_notice.specs.declared.entry.Kind.TheVariants.{Merge, Split}
 use Rattle.exh_notice.specs.declared.notice.Notice.{Notice}
 use Rattle.exh_notice.specs.declared.notice_fault.NoticeFault.{NoticeFault}
 use Rattle.exh_notice.specs.declared.notice_fault.NoticeFault.TheVariants as fault
-use Rattle.exh_notice.specs.ByteLemmas.{items_all, items-drop, items-add, items-front, items-agree, big_from-agree, length-items, zeros_are_zero, zeros_from, bytes_of_number, big_from-drop, big_from-add, zeros_number, number_then_zeros}
-use Rattle.exh_notice.specs.Images.{items, kind_byte, right_field, prefix_field, entry_image, IsEntryImage, HasKind, IsPadded, HasPrefixField, FailsFirst, PassesAll, IsNoticeImage}
+use Rattle.exh_notice.specs.NoticeByteLemmas.{items_all, items-drop, items-add, items-front, items-agree, big_from-agree, length-items, zeros_are_zero, zeros_from, bytes_of_number, big_from-drop, big_from-add, zeros_number, number_then_zeros}
+use Rattle.exh_notice.specs.NoticeImages.{items, kind_byte, right_field, prefix_field, entry_image, IsEntryImage, HasKind, IsPadded, HasPrefixField, FailsFirst, PassesAll, IsNoticeImage}
 use Rattle.exh_notice.specs.Entry.{entry_of}
 
 -- the bytes of a kind, and its right page, tell which it is
@@ -31,10 +31,10 @@ same_kind (Split page) Merge byte right = absurd (omega (arith, byte))
 same_kind (Split one) (Split other) byte right = ap Split right
 
 of_fields : ℕ → Kind → Entry
-of_fields version kind = record { version = version; kind = kind }
+of_fields version kind = record { number = version; kind = kind }
 
 notice_of : ℕ → ℕ → List Bool → Entry → Notice
-notice_of ward index prefix entry = record { ward = ward; index = index; prefix = prefix; version = entry.version; kind = entry.kind }
+notice_of ward index prefix entry = record { ward = ward; index = index; prefix = prefix; number = entry.number; kind = entry.kind }
 
 kind_passes : (kind : Kind) (image : List ℕ) → slice_index image 1 ≡ kind_byte kind → HasKind image
 kind_passes Merge image byte = inr byte
@@ -140,7 +140,7 @@ module _ (version : Version) (fits : Fits 4 version) where
   field_bytes prefix = big_bytes version.bytes (prefix_field version prefix) ++ replicate (4 - version.bytes) 0
 
   abbrev entry_back : Entry → List ℕ
-  entry_back entry = big_bytes 4 entry.version ++ big_bytes 4 (right_field entry.kind)
+  entry_back entry = big_bytes 4 entry.number ++ big_bytes 4 (right_field entry.kind)
 
   length-field_bytes : (prefix : List Bool) → length (field_bytes prefix) ≡ 4
   length-field_bytes prefix =
@@ -155,12 +155,12 @@ module _ (version : Version) (fits : Fits 4 version) where
   image_parts : (ward : ℕ) (prefix : List Bool) (entry : Entry) → entry_image version ward prefix entry ≡ ward ∷ kind_byte entry.kind ∷ length prefix ∷ 0 ∷ field_bytes prefix ++ entry_back entry
   image_parts ward prefix entry =
       ap (λ (back : List ℕ). ward ∷ kind_byte entry.kind ∷ length prefix ∷ 0 ∷ back)
-      (append_assoc (field_bytes prefix) (big_bytes 4 entry.version) (big_bytes 4 (right_field entry.kind)))
+      (append_assoc (field_bytes prefix) (big_bytes 4 entry.number) (big_bytes 4 (right_field entry.kind)))
 
   -- an image of a prefix that a version may have is as with four bytes
   pub same_in_four : (ward : ℕ) (prefix : List Bool) (entry : Entry) → length prefix ≤ version.limit → entry_image version ward prefix entry ≡ entry_image four_bytes ward prefix entry
   same_in_four ward prefix entry short =
-      let numbers = big_bytes 4 entry.version ++ big_bytes 4 (right_field entry.kind) in
+      let numbers = big_bytes 4 entry.number ++ big_bytes 4 (right_field entry.kind) in
       let count : 4 ≡ version.bytes + (4 - version.bytes) = omega (arith, fits.bytes) in
       let four : big_bytes 4 (prefix_field four_bytes prefix) ≡ big_bytes version.bytes (prefix_field version prefix) ++ replicate (4 - version.bytes) 0 =
       ap (big_bytes 4) (prefix_in_four prefix short) ∙ ap (λ n. big_bytes n (prefix_field version prefix * 256 ^ (4 - version.bytes))) count
@@ -176,23 +176,23 @@ module _ (version : Version) (fits : Fits 4 version) where
   -- 16 bytes of which each field is an entry's are its image
   pub image_from_fields : (image : List ℕ) (prefix : List Bool) (entry : Entry) → length image ≡ 16 → ((k : ℕ) → slice_index image k < 256)
       → slice_index image 1 ≡ kind_byte entry.kind → length prefix < version.limit → slice_index image 2 ≡ length prefix → IsPadded version image
-      → big_from 4 version.bytes image ≡ prefix_field version prefix → big_from 8 4 image ≡ entry.version → big_from 12 4 image ≡ right_field entry.kind
+      → big_from 4 version.bytes image ≡ prefix_field version prefix → big_from 8 4 image ≡ entry.number → big_from 12 4 image ≡ right_field entry.kind
       → IsEntryImage version (slice_index image 0) prefix entry image
-  image_from_fields image prefix entry len small kind shorter prefix_len padded field change_version right =
+  image_from_fields image prefix entry len small kind shorter prefix_len padded field change_number right =
       let count : version.bytes + (4 - version.bytes) ≡ 4 = omega (arith, fits.bytes) in
       let field_read : items 4 version.bytes image ≡ big_bytes version.bytes (prefix_field version prefix) = sym (bytes_of_number 4 version.bytes image small) ∙ ap (big_bytes version.bytes) field in
       let zeros_read : items (4 + version.bytes) (4 - version.bytes) image ≡ replicate (4 - version.bytes) 0 =
       zeros_from (4 - version.bytes) (items (4 + version.bytes) (4 - version.bytes) image) (length-items (4 + version.bytes) (4 - version.bytes) image) padded.after_prefix in
       let four : items 4 4 image ≡ field_bytes prefix =
       ap (λ (n : ℕ). items 4 n image) (sym count) ∙ items-add 4 version.bytes (4 - version.bytes) image ∙ (λ i. field_read i ++ zeros_read i) in
-      let version_bytes : items 8 4 image ≡ big_bytes 4 entry.version = sym (bytes_of_number 8 4 image small) ∙ ap (big_bytes 4) change_version in
+      let number_bytes : items 8 4 image ≡ big_bytes 4 entry.number = sym (bytes_of_number 8 4 image small) ∙ ap (big_bytes 4) change_number in
       let right_bytes : items 12 4 image ≡ big_bytes 4 (right_field entry.kind) = sym (bytes_of_number 12 4 image small) ∙ ap (big_bytes 4) right in
       record {
         shorter = shorter;
-        change_version = subst (λ n. n < 2 ^ 32) change_version (big_from-lt 8 4 image small);
+        change_number = subst (λ n. n < 2 ^ 32) change_number (big_from-lt 8 4 image small);
         right = subst (λ n. n < 2 ^ 32) right (big_from-lt 12 4 image small);
         bytes = sym (items_all 16 image len)
-            ∙ (λ i. slice_index image 0 ∷ kind i ∷ prefix_len i ∷ padded.after_length i ∷ four i ++ version_bytes i ++ right_bytes i);
+            ∙ (λ i. slice_index image 0 ∷ kind i ∷ prefix_len i ∷ padded.after_length i ∷ four i ++ number_bytes i ++ right_bytes i);
       }
 
   -- ---- from the bytes to the fields
@@ -222,8 +222,8 @@ module _ (version : Version) (fits : Fits 4 version) where
     has_back : drop 8 image ≡ entry_back entry
     has_back = ap (drop 8) (is.bytes ∙ image_parts ward prefix entry) ∙ drop_at (field_bytes prefix) (entry_back entry) 4 (length-field_bytes prefix)
 
-    has_version : big_from 8 4 image ≡ entry.version
-    has_version = sym (big_from-drop 8 0 4 image) ∙ ap (big_from 0 4) has_back ∙ big_number-reads_back 4 entry.version (big_bytes 4 (right_field entry.kind)) is.change_version
+    has_number : big_from 8 4 image ≡ entry.number
+    has_number = sym (big_from-drop 8 0 4 image) ∙ ap (big_from 0 4) has_back ∙ big_number-reads_back 4 entry.number (big_bytes 4 (right_field entry.kind)) is.change_number
 
     has_right : big_from 12 4 image ≡ right_field entry.kind
     has_right = sym (big_from-drop 8 4 4 image) ∙ ap (big_from 4 4) has_back ∙ big_number-reads_back 4 (right_field entry.kind) [] is.right
@@ -247,7 +247,7 @@ module _ (version : Version) (fits : Fits 4 version) where
   one_value {ward = ward} {other_ward = other_ward} {prefix = prefix} {other_prefix = other_prefix} {entry = entry} {other_entry = other_entry} is other =
       let wards : ward ≡ other_ward = ap (λ bytes. slice_index bytes 0) (sym is.bytes ∙ other.bytes) in
       let prefixes : prefix ≡ other_prefix = same_field prefix other_prefix (has_short is) (sym (has_length is) ∙ has_length other) (sym (has_field is) ∙ has_field other) in
-      let versions : entry.version ≡ other_entry.version = sym (has_version is) ∙ has_version other in
+      let versions : entry.number ≡ other_entry.number = sym (has_number is) ∙ has_number other in
       let kinds : entry.kind ≡ other_entry.kind = same_kind entry.kind other_entry.kind (sym (has_kind_byte is) ∙ has_kind_byte other) (sym (has_right is) ∙ has_right other) in
       (wards, prefixes, λ i. of_fields (versions i) (kinds i))
 
@@ -294,7 +294,7 @@ module _ (version : Version) (fits : Fits 4 version) where
       let field = big_from 4 version.bytes image in
       let tested = kind_tested image kind padded in
       let prefix = take (slice_index image 2) (word_bits (field_low version field)) in
-      let entry : Entry = record { version = big_from 8 4 image; kind = tested.0 } in
+      let entry : Entry = record { number = big_from 8 4 image; kind = tested.0 } in
       let word : version.limit ≤ 64 = omega (arith, fits.limit, fits.bytes) in
       let prefix_len : length prefix ≡ slice_index image 2 = length-up_to version.limit (slice_index image 2) (field_low version field) word stored.1 in
       let field_is : field ≡ prefix_field version prefix = prefix_field-read prefix (slice_index image 2) field (big_from-lt 4 version.bytes image small) stored.1 refl in
@@ -308,7 +308,7 @@ module _ (version : Version) (fits : Fits 4 version) where
       let image = entry_image version notice.ward notice.prefix (entry_of notice) in
       record {
         shorter = is.shorter;
-        change_version = is.change_version;
+        change_number = is.change_number;
         right = is.right;
         bytes = ap (take 16) is.bytes ∙ take_at image (big_bytes 8 notice.index) 16 (length-entry_image notice.ward notice.prefix (entry_of notice));
       }
@@ -332,14 +332,14 @@ module _ (version : Version) (fits : Fits 4 version) where
   -- 24 bytes that begin with an entry's image are a notice's, the other eight being its index
   pub notice_from_parts : (image front back : List ℕ) (ward index : ℕ) (prefix : List Bool) (entry : Entry) → length image ≡ 24 → ((k : ℕ) → slice_index image k < 256)
       → front ≡ take 16 image → back ≡ drop 16 image → IsEntryImage version ward prefix entry front → index ≡ big_from 0 8 back
-      → IsNoticeImage version (record { ward = ward; index = index; prefix = prefix; version = entry.version; kind = entry.kind }) image
+      → IsNoticeImage version (record { ward = ward; index = index; prefix = prefix; number = entry.number; kind = entry.kind }) image
   notice_from_parts image front back ward index prefix entry len small front_is back_is is index_is =
       let back_len : length back ≡ 8 = ap length back_is ∙ length-drop 16 image ∙ (omega (arith, len)) in
       let back_small : (k : ℕ) → slice_index back k < 256 = λ k. subst (λ n. n < 256) (sym (ap (λ bytes. slice_index bytes k) back_is ∙ get_or-drop 16 image k 0)) (small (16 + k)) in
       let index_bytes : back ≡ big_bytes 8 index = sym (ap (big_bytes 8) index_is ∙ bytes_of_number 0 8 back back_small ∙ items_all 8 back back_len) in
       record {
         shorter = is.shorter;
-        change_version = is.change_version;
+        change_number = is.change_number;
         right = is.right;
         index = subst (λ n. n < 2 ^ 64) (sym index_is) (big_from-lt 0 8 back back_small);
         bytes = sym (take-append-drop 16 image) ∙ (λ i. (sym front_is ∙ is.bytes) i ++ (sym back_is ∙ index_bytes) i);

@@ -1,7 +1,7 @@
 pub mod Entry
 pub mod EntryLemmas
-pub mod Fault
-pub mod Images
-pub mod ByteLemmas
+pub mod NoticeFault
+pub mod NoticeImages
+pub mod NoticeByteLemmas
 pub mod ImageLemmas
-pub mod Laws
+pub mod NoticeLaws

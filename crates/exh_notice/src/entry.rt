@@ -16,11 +16,11 @@ pub enum Kind {
     Split { right: PageNo },
 }
 
-/// What a table has at a prefix: the version of the last split or merge there, from 1 on, and which
-/// it was. Entries are ordered by version, then by kind.
+/// What a table has at a prefix: the number of the last split or merge there, from 1 on, and which
+/// it was. Entries are ordered by number, then by kind.
 #[derive(Clone, Copy, PartialEq, Eq, PartialOrd, Ord)]
 pub struct Entry {
-    pub version: u32,
+    pub number: u32,
     pub kind: Kind,
 }
 

@@ -4,7 +4,7 @@ ghost use Rattle.byteorder.specs.Endian.{big_from};
 ghost use Rattle.exh_prefix.specs.Layout.{layout};
 ghost use Rattle.exh_prefix.specs.Version.{Version as AnyVersion, Fits, four_bytes};
 ghost use Rattle.exh_notice.specs.declared.entry.Entry.{Entry as EntryValue};
-ghost use Rattle.exh_notice.specs.Images.{items, kind_byte, right_field, prefix_field, entry_image, IsEntryImage, IsPadded, HasPrefixField, FailsFirst};
+ghost use Rattle.exh_notice.specs.NoticeImages.{items, kind_byte, right_field, prefix_field, entry_image, IsEntryImage, IsPadded, HasPrefixField, FailsFirst};
 
 use crate::{Entry, Kind, NoticeFault};
 use byteorder::{BigEndian, ByteOrder};
@@ -25,7 +25,7 @@ impl Entry {
         image[1] = kind_byte(self.kind);
         image[2] = prefix.len();
         BigEndian::write_u32(&mut image[4..8], prefix_field(prefix));
-        BigEndian::write_u32(&mut image[8..12], self.version);
+        BigEndian::write_u32(&mut image[8..12], self.number);
         BigEndian::write_u32(&mut image[12..], right_field(self.kind));
         image
     }
@@ -44,7 +44,7 @@ impl Entry {
         let kind = read_kind(version, image)?;
         let prefix = read_prefix(version, image)?;
         let entry = Entry {
-            version: BigEndian::read_u32(&image[8..]),
+            number: BigEndian::read_u32(&image[8..]),
             kind,
         };
         Ok((image[0], prefix, entry))

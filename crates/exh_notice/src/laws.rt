@@ -2,8 +2,8 @@
 
 ghost use Rattle.std.specs.Prelude.{◌≡◌};
 ghost use Rattle.exh_notice.specs.Entry.{entry_cmp};
-ghost use Rattle.exh_prefix.specs.Laws.{DecidesEquality};
-ghost use Rattle.exh_notice.specs.Laws.{EntryOrderIsTotal, OneEntry, OneNotice, EntryImagesPass, NoticeImagesPass};
+ghost use Rattle.exh_prefix.specs.PrefixLaws.{DecidesEquality};
+ghost use Rattle.exh_notice.specs.NoticeLaws.{EntryOrderIsTotal, OneEntry, OneNotice, EntryImagesPass, NoticeImagesPass};
 
 use crate::Entry;
 
@@ -17,8 +17,8 @@ pub fn equality_is_sameness()
     ensures { DecidesEquality ⟦<Entry as PartialEq>⟧.eq }
 {}
 
-/// Entries are ordered by version, then merges before splits, then by right page.
-pub fn order_is_by_version()
+/// Entries are ordered by number, then merges before splits, then by right page.
+pub fn order_is_by_number()
     ensures { ⟦<Entry as Ord>⟧.cmp ≡ entry_cmp }
 {}
 

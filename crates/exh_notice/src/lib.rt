@@ -3,7 +3,7 @@
 
 pub use entry::{Entry, Kind};
 pub use entry_image::ENTRY_IMAGE_LEN;
-pub use laws::{equality_is_sameness, images_pass, one_value, order_is_by_version, order_is_total};
+pub use laws::{equality_is_sameness, images_pass, one_value, order_is_by_number, order_is_total};
 pub use notice::Notice;
 pub use notice_fault::NoticeFault;
 pub use notice_image::NOTICE_IMAGE_LEN;

@@ -14,7 +14,7 @@ pub struct Notice {
     /// The prefix of the page that was split, or that a merge made.
     pub prefix: Prefix,
     /// The place among the notices at this prefix, from 1 on.
-    pub version: u32,
+    pub number: u32,
     pub kind: Kind,
 }
 
@@ -24,7 +24,7 @@ impl Notice {
         ensures { result ≡ entry_of self.now }
     {
         Entry {
-            version: self.version,
+            number: self.number,
             kind: self.kind,
         }
     }

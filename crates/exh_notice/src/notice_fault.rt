@@ -1,5 +1,5 @@
 ghost use Rattle.std.specs.Prelude.{◌≡◌};
-ghost use Rattle.exh_notice.specs.Fault.{notice_fault_number};
+ghost use Rattle.exh_notice.specs.NoticeFault.{notice_fault_number};
 
 use thiserror::Error;
 

@@ -2,7 +2,7 @@ ghost use Rattle.std.specs.Prelude.{◌≡◌, ◌<◌, length, IfOk, IfErr, Ok}
 ghost use Rattle.exh_prefix.specs.Layout.{layout};
 ghost use Rattle.exh_prefix.specs.Version.{Version as AnyVersion, Fits};
 ghost use Rattle.exh_notice.specs.declared.notice.Notice.{Notice as NoticeValue};
-ghost use Rattle.exh_notice.specs.Images.{notice_image, IsNoticeImage, FailsFirst};
+ghost use Rattle.exh_notice.specs.NoticeImages.{notice_image, IsNoticeImage, FailsFirst};
 
 use crate::{ENTRY_IMAGE_LEN, Entry, Notice, NoticeFault};
 use byteorder::{BigEndian, ByteOrder};
@@ -39,7 +39,7 @@ impl Notice {
             ward,
             index: BigEndian::read_u64(back),
             prefix,
-            version: entry.version,
+            number: entry.number,
             kind: entry.kind,
         })
     }

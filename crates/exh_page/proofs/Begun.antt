@@ -9,7 +9,7 @@ use Rattle.std.proofs.Math.Seq.{take-add}
 use Rattle.exh_prefix.specs.Bits.{word_bits}
 use Rattle.exh_prefix.specs.Prefix.{Begins, begins, low_of}
 use Rattle.exh_prefix.specs.PrefixLemmas.{begins_low, begins_from_low, low_of-lt, is_front-true, not_front}
-use Rattle.exh_prefix.specs.ListLemmas.{AllByRecursion-append, AllByRecursion-append_right, AllByRecursion-weaker}
+use Rattle.exh_prefix.specs.PrefixListLemmas.{AllByRecursion-append, AllByRecursion-append_right, AllByRecursion-weaker}
 use Rattle.exh_page.specs.declared.record.Record.{Record}
 use Rattle.exh_page.specs.declared.spot.Spot.{Spot}
 use Rattle.exh_page.specs.declared.stored_record.StoredRecord.{StoredRecord}

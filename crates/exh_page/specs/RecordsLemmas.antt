@@ -8,7 +8,7 @@ use Rattle.std.specs.Ordering.{is_lt, is_eq, is_gt, ordering_reverse, nat_cmp}
 use Rattle.std.proofs.lemmas.List.{append-nil}
 use Rattle.std.proofs.lemmas.Cmp.{nat_cmp_total, nat_list_cmp_total, on_total, then_total}
 use Rattle.std.proofs.lemmas.Map.Lookups.{CmpEqualImpliesEq, exact_pairs, exact_unsigned, exact_bytes}
-use Rattle.exh_prefix.specs.ListLemmas.{AllByRecursion-append, AllByRecursion-append_left, AllByRecursion-filter, AllByRecursion-weaker, filter-passes}
+use Rattle.exh_prefix.specs.PrefixListLemmas.{AllByRecursion-append, AllByRecursion-append_left, AllByRecursion-filter, AllByRecursion-weaker, filter-passes}
 use Rattle.exh_page.specs.declared.record.Record.{Record}
 use Rattle.exh_page.specs.Place.{Place, place_cmp, place_of}
 use Rattle.exh_page.specs.Records.{IsRising, is_before, is_at, is_after, value_at, with_record, without_place}

@@ -9,7 +9,7 @@ use Rattle.std.proofs.lemmas.List.{length-append, length_push}
 use Rattle.exh_prefix.specs.Bits.{word_bits}
 use Rattle.exh_prefix.specs.Prefix.{Begins, begins}
 use Rattle.exh_prefix.specs.PrefixLemmas.{is_front-true, not_front, IsFront-from_test, begins_low, low_of-child, child_of_begun, one_child_begins, parent_begins}
-use Rattle.exh_prefix.specs.ListLemmas.{AllByRecursion-append, AllByRecursion-weaker, AllByRecursion-filter, filter-passes}
+use Rattle.exh_prefix.specs.PrefixListLemmas.{AllByRecursion-append, AllByRecursion-weaker, AllByRecursion-filter, filter-passes}
 use Rattle.exh_page.specs.declared.record.Record.{Record}
 use Rattle.exh_page.specs.Place.{place_cmp, place_of}
 use Rattle.exh_page.specs.Page.{AreRecordsOf, begun_by}

@@ -5,7 +5,7 @@ use Rattle.std.specs.List.{AllByRecursion}
 use Rattle.std.specs.Option.{option_map}
 use Rattle.std.specs.Ordering.{is_lt, is_eq, is_gt, ordering_reverse}
 use Rattle.std.proofs.lemmas.List.{length-append, append-nil}
-use Rattle.exh_prefix.specs.ListLemmas.{AllByRecursion-append, AllByRecursion-filter}
+use Rattle.exh_prefix.specs.PrefixListLemmas.{AllByRecursion-append, AllByRecursion-filter}
 use Rattle.exh_page.specs.declared.record.Record.{Record}
 use Rattle.exh_page.specs.Place.{Place, place_cmp, place_of}
 use Rattle.exh_page.specs.Records.{is_before, is_at, is_after, value_at, with_record, without_place}

@@ -1,6 +1,6 @@
 //! What holds of all pages, for the proofs of callers. Each function does nothing.
 
-ghost use Rattle.exh_page.specs.Laws.{ChildrenShareAll, SharesAreRecords, BuddiesUnite, PagesHaveLimits};
+ghost use Rattle.exh_page.specs.PageLaws.{ChildrenShareAll, SharesAreRecords, BuddiesUnite, PagesHaveLimits};
 
 /// The children of a prefix share out its records: each comes to one of them, in order (Fagin et
 /// al. 1979).

@@ -1,11 +1,11 @@
 ghost use Rattle.std.specs.Prelude.{◌≡◌, IfOk, IfSome};
 ghost use Rattle.exh_disk.specs.declared.stage.Stage.TheVariants.{Settled};
-ghost use Rattle.exh_save.specs.Saved.{IsLeft};
+ghost use Rattle.exh_file.specs.Saved.{IsLeft};
 
 use crate::wards::Wards;
 use exh_disk::{Disk, DiskFault, Saved, Seen, Target, look, save};
-use exh_frames::Pages;
-use exh_open::Opened;
+use exh_file::Opened;
+use exh_stores::Pages;
 use exh_stream::{Meter, Terminal};
 use std::alloc::Global;
 

@@ -1,10 +1,9 @@
-ghost use Rattle.exh_save.specs.Saved.{IsLeft};
+ghost use Rattle.exh_file.specs.Saved.{IsLeft};
 
 use exh_disk::{Source, SourceFault};
-use exh_frames::Pages;
-use exh_open::Opened;
-use exh_page_file::FileWriter;
-use exh_save::{SaveFault, write_opened};
+use exh_file::{Opened, SaveFault, write_opened};
+use exh_format::FileWriter;
+use exh_stores::Pages;
 use exh_stream::{Meter, MeteredWriter, Terminal};
 use std::io::Write;
 

@@ -4,10 +4,10 @@ pub mod Leading
 pub mod Version
 pub mod Layout
 pub mod LayoutLemmas
-pub mod Laws
-pub mod ListLemmas
+pub mod PrefixLaws
+pub mod PrefixListLemmas
 pub mod BitLemmas
-pub mod ByteLemmas
+pub mod PrefixByteLemmas
 pub mod PrefixLemmas
 pub mod LowLemmas
 pub mod LeadingLemmas

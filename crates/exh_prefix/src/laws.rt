@@ -1,7 +1,7 @@
 //! What holds of all prefixes, for the proofs of callers. Each function does nothing.
 
 ghost use Rattle.std.specs.Prelude.{◌≡◌};
-ghost use Rattle.exh_prefix.specs.Laws.{BeginsItsRange, BeginnersNest, ChildrenPart, LeadingBitsTell, RightChildClears, LeftChildKeepsLow, OrderIsTotal, DecidesEquality};
+ghost use Rattle.exh_prefix.specs.PrefixLaws.{BeginsItsRange, BeginnersNest, ChildrenPart, LeadingBitsTell, RightChildClears, LeftChildKeepsLow, OrderIsTotal, DecidesEquality};
 ghost use Rattle.exh_prefix.specs.Prefix.{prefix_cmp};
 
 use crate::prefix::Prefix;

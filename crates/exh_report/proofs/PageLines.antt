@@ -5,8 +5,8 @@ use Rattle.exh_page.specs.declared.page.Page.TheVariants.{Live}
 use Rattle.exh_page.specs.declared.record.Record.{Record}
 use Rattle.exh_text.specs.Contents.{live_page_words, on_line}
 use Rattle.exh_report.specs.Dump.{page_lines, pair_words}
-use Rattle.exh_report.specs.Lines.{lines_text}
-use Rattle.exh_report.specs.Pairs.{record_words, records_lines}
+use Rattle.exh_report.specs.ReportLines.{lines_text}
+use Rattle.exh_report.specs.PairsText.{record_words, records_lines}
 
 -- behind the line of a live page stand those of its records
 pub page_begun : (old new : List ℕ) (ward number count : ℕ) (page : Page) (prefix : List Bool) (right : Option ℕ) (records items : List Record)

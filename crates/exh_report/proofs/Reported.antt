@@ -5,12 +5,12 @@ use Rattle.std.specs.Io.KnownBytes.{Appends}
 use Rattle.exh_stream.specs.Output.{AppendsBeginning, Takes, TakesBeginning, WriterUntouched, held, pending}
 use Rattle.exh_stream.specs.OutputLemmas.{AppendsBeginning-of_more, Takes-cut, Takes-finished, TakesBeginning-left}
 use Rattle.exh_stream.specs.declared.output.Output.{Output}
-use Rattle.exh_page_file.specs.PageFile.{PageFile}
-use Rattle.exh_page_file.specs.LegalFile.{IsLegalFileFaultOf}
-use Rattle.exh_page_file.specs.declared.legal_file_fault.LegalFileFault.{LegalFileFault}
-use Rattle.exh_page_file.specs.declared.legal_file_fault.LegalFileFault.TheVariants as faults
+use Rattle.exh_format.specs.PageFile.{PageFile}
+use Rattle.exh_format.specs.LegalFile.{IsLegalFileFaultOf}
+use Rattle.exh_format.specs.declared.legal_file_fault.LegalFileFault.{LegalFileFault}
+use Rattle.exh_format.specs.declared.legal_file_fault.LegalFileFault.TheVariants as faults
 use Rattle.exh_report.specs.Finding.{Finding, IsFindingOf, refusal_words, told_lines}
-use Rattle.exh_report.specs.Lines.{Lines, Prints, lines_text}
+use Rattle.exh_report.specs.ReportLines.{Lines, Prints, lines_text}
 use Rattle.exh_report.specs.Report.{Tells}
 use Rattle.exh_report.specs.declared.report_fault.ReportFault.{ReportFault}
 use Rattle.exh_report.specs.declared.report_fault.ReportFault.TheVariants.{Write, Memory}

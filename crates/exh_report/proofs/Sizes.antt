@@ -13,15 +13,15 @@ use Rattle.exh_prefix.specs.LayoutLemmas.{layout_short}
 use Rattle.exh_prefix.specs.declared.prefix.TheConstants.{LIMIT}
 use Rattle.exh_codec.specs.PageImage.{IsPage}
 use Rattle.exh_codec.specs.PageImageLemmas.{few_records}
-use Rattle.exh_file.specs.FileVersion.{file_version}
-use Rattle.exh_file.specs.HeaderImage.{IsPageCount}
-use Rattle.exh_page_file.specs.FileParts.{file_of, pages_in}
-use Rattle.exh_page_file.specs.PageFile.{IsFile, IsKnownFile, pages_of}
-use Rattle.exh_page_file.specs.declared.file_parts.FileParts.{FileParts}
+use Rattle.exh_format.specs.FileVersion.{file_version}
+use Rattle.exh_format.specs.HeaderImage.{IsPageCount}
+use Rattle.exh_format.specs.FileParts.{file_of, pages_in}
+use Rattle.exh_format.specs.PageFile.{IsFile, IsKnownFile, pages_of}
+use Rattle.exh_format.specs.declared.file_parts.FileParts.{FileParts}
 use Rattle.exh_text.specs.Contents.{on_line}
 use Rattle.exh_report.specs.Check.{check_lines, legal_words}
 use Rattle.exh_report.specs.Counts.{forward_count, live_count, record_count}
-use Rattle.exh_report.specs.Lines.{lines_text}
+use Rattle.exh_report.specs.ReportLines.{lines_text}
 
 module _ (limit bits : ℕ) (short : limit ≤ LIMIT) where
   few : 2 ^ (limit - bits) ≤ 2 ^ LIMIT

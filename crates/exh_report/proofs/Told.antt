@@ -9,8 +9,8 @@ use Rattle.exh_stream.specs.declared.output.Output.{Output}
 use Rattle.exh_text.specs.Contents.{on_line}
 use Rattle.exh_page.specs.declared.page.Page.{Page}
 use Rattle.exh_report.specs.Dump.{ward_lines}
-use Rattle.exh_report.specs.Lines.{Lines, TakesLines, lines_text}
-use Rattle.exh_report.specs.Pairs.{records_lines}
+use Rattle.exh_report.specs.ReportLines.{Lines, TakesLines, lines_text}
+use Rattle.exh_report.specs.PairsText.{records_lines}
 use Rattle.exh_report.specs.declared.report_fault.ReportFault.{ReportFault}
 use Rattle.exh_report.specs.declared.report_fault.ReportFault.TheVariants.{Write, Memory}
 

@@ -1,8 +1,8 @@
 -- What `check` says of a legal file.
 use Rattle.std.specs.Prelude.{ℕ, List, [], ◌∷◌, ◌++◌, length, decimal, codes}
-use Rattle.exh_page_file.specs.PageFile.{PageFile, pages_of}
+use Rattle.exh_format.specs.PageFile.{PageFile, pages_of}
 use Rattle.exh_report.specs.Counts.{forward_count, live_count, record_count}
-use Rattle.exh_report.specs.Lines.{Lines}
+use Rattle.exh_report.specs.ReportLines.{Lines}
 
 -- how many pages there are, and of these how many live and how many forwarding ones
 abbrev pub pages_text : ℕ → ℕ → ℕ → List ℕ

@@ -7,11 +7,11 @@ use Rattle.exh_page.specs.declared.page.Page.{Page}
 use Rattle.exh_page.specs.declared.page.Page.TheVariants.{Live, Forward}
 use Rattle.exh_page.specs.declared.record.Record.{Record}
 use Rattle.exh_text.specs.Contents.{entry_words, forward_page_words, live_page_words}
-use Rattle.exh_file.specs.declared.file_entry.FileEntry.{FileEntry}
-use Rattle.exh_file.specs.declared.header.Header.{Header}
-use Rattle.exh_page_file.specs.PageFile.{PageFile}
-use Rattle.exh_report.specs.Lines.{Lines}
-use Rattle.exh_report.specs.Pairs.{record_words}
+use Rattle.exh_format.specs.declared.file_entry.FileEntry.{FileEntry}
+use Rattle.exh_format.specs.declared.header.Header.{Header}
+use Rattle.exh_format.specs.PageFile.{PageFile}
+use Rattle.exh_report.specs.ReportLines.{Lines}
+use Rattle.exh_report.specs.PairsText.{record_words}
 
 -- ---- the settings
 

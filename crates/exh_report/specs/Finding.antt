@@ -2,14 +2,14 @@
 use Rattle.std.specs.Prelude.{◌≡◌, ℕ, List, [], ◌∷◌, ◌++◌, Option, Result, Ok, Err, decimal, codes}
 use Rattle.std.specs.Option.{option_map_or}
 use Rattle.exh_text.specs.Printing.{refused_text}
-use Rattle.exh_file.specs.FileVersion.{format_of}
-use Rattle.exh_page_file.specs.PageFile.{PageFile}
-use Rattle.exh_page_file.specs.Reading.{AreBytes, IsAll}
-use Rattle.exh_page_file.specs.LegalFile.{IsLegalFileFaultOf, IsLegalPageFile}
-use Rattle.exh_page_file.specs.LegalFileFault.{fault_place, fault_reason, legal_file_fault_number}
-use Rattle.exh_page_file.specs.declared.legal_file_fault.LegalFileFault.{LegalFileFault}
-use Rattle.exh_page_file.specs.declared.legal_file_fault.LegalFileFault.TheVariants.{Memory}
-use Rattle.exh_report.specs.Lines.{Lines}
+use Rattle.exh_format.specs.FileVersion.{format_of}
+use Rattle.exh_format.specs.PageFile.{PageFile}
+use Rattle.exh_format.specs.Reading.{AreBytes, IsAll}
+use Rattle.exh_format.specs.LegalFile.{IsLegalFileFaultOf, IsLegalPageFile}
+use Rattle.exh_format.specs.LegalFileFault.{fault_place, fault_reason, legal_file_fault_number}
+use Rattle.exh_format.specs.declared.legal_file_fault.LegalFileFault.{LegalFileFault}
+use Rattle.exh_format.specs.declared.legal_file_fault.LegalFileFault.TheVariants.{Memory}
+use Rattle.exh_report.specs.ReportLines.{Lines}
 use Rattle.exh_report.specs.declared.verdict.Verdict.{Verdict}
 use Rattle.exh_report.specs.declared.verdict.Verdict.TheVariants.{Legal, Refused}
 

@@ -1,7 +1,7 @@
-pub mod Lines
+pub mod ReportLines
 pub mod Counts
 pub mod Check
-pub mod Pairs
+pub mod PairsText
 pub mod Dump
 pub mod Finding
 pub mod Report

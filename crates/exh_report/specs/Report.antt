@@ -2,12 +2,12 @@
 use Rattle.std.specs.Prelude.{ℕ, List, Option, Result, IfOk}
 use Rattle.std.specs.Io.KnownBytes.{Appends}
 use Rattle.exh_stream.specs.Output.{AppendsBeginning}
-use Rattle.exh_page_file.specs.PageFile.{PageFile}
+use Rattle.exh_format.specs.PageFile.{PageFile}
 use Rattle.exh_report.specs.Check.{check_lines}
 use Rattle.exh_report.specs.Dump.{dump_lines}
 use Rattle.exh_report.specs.Finding.{Finding, IsFindingOf, IsVerdictOf, told_lines}
-use Rattle.exh_report.specs.Lines.{Lines, Prints}
-use Rattle.exh_report.specs.Pairs.{pairs_lines}
+use Rattle.exh_report.specs.ReportLines.{Lines, Prints}
+use Rattle.exh_report.specs.PairsText.{pairs_lines}
 use Rattle.exh_report.specs.declared.report.Topic.{Topic}
 use Rattle.exh_report.specs.declared.report.Topic.TheVariants.{Content, Pairs, Size}
 use Rattle.exh_report.specs.declared.verdict.Verdict.{Verdict}

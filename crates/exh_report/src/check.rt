@@ -1,14 +1,14 @@
 ghost use Rattle.std.specs.Prelude.{◌≡◌, ◌↔◌, ◌++◌, IsErrOf, IsFalse, IsTrue, OnOk};
 ghost use Rattle.exh_stream.specs.Output.{SameWriter, writer_failed};
-ghost use Rattle.exh_page_file.specs.FileParts.{file_of};
-ghost use Rattle.exh_page_file.specs.PageFile.{IsKnownFile};
+ghost use Rattle.exh_format.specs.FileParts.{file_of};
+ghost use Rattle.exh_format.specs.PageFile.{IsKnownFile};
 ghost use Rattle.exh_report.specs.Check.{check_lines};
-ghost use Rattle.exh_report.specs.Lines.{TakesLines, lines_text};
+ghost use Rattle.exh_report.specs.ReportLines.{TakesLines, lines_text};
 
 use crate::ReportFault;
 use crate::counts::Counts;
 use crate::file_lines::push_legal;
-use exh_page_file::FileParts;
+use exh_format::FileParts;
 use exh_stream::Output;
 use std::alloc::{AllocError, Global};
 use std::io::Write;

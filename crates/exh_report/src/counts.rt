@@ -1,5 +1,5 @@
 ghost use Rattle.std.specs.Prelude.{◌≡◌, ◌+◌, ◌<◌, ◌^◌, length, map};
-ghost use Rattle.exh_page_file.specs.FileParts.{pages_in};
+ghost use Rattle.exh_format.specs.FileParts.{pages_in};
 ghost use Rattle.exh_report.specs.Counts.{forward_count, live_count, record_count};
 
 use exh_page::Page;

@@ -1,16 +1,15 @@
 ghost use Rattle.std.specs.Prelude.{◌≡◌, ◌↔◌, ◌∷◌, [], ◌++◌, ◌<◌, ◌≤◌, ◌^◌, length, map, flat_map, All, IsErrOf, IsFalse, IsTrue};
 ghost use Rattle.std.specs.List.{enumerate_from};
 ghost use Rattle.exh_stream.specs.Output.{SameWriter, writer_failed};
-ghost use Rattle.exh_page_file.specs.FileParts.{file_of};
-ghost use Rattle.exh_page_file.specs.PageFile.{IsKnownFile};
+ghost use Rattle.exh_format.specs.FileParts.{file_of};
+ghost use Rattle.exh_format.specs.PageFile.{IsKnownFile};
 ghost use Rattle.exh_report.specs.Dump.{dump_lines, file_words, item_words, page_lines, ward_lines, ward_words};
-ghost use Rattle.exh_report.specs.Lines.{TakesLines};
+ghost use Rattle.exh_report.specs.ReportLines.{TakesLines};
 
 use crate::ReportFault;
 use crate::file_lines::{push_file, push_page, push_ward};
-use exh_file::{FileEntry, Header};
+use exh_format::{FileEntry, FileParts, Header};
 use exh_page::Page;
-use exh_page_file::FileParts;
 use exh_prefix::PageNo;
 use exh_stream::Output;
 use exh_text::push_entry_line;

@@ -3,11 +3,11 @@ ghost use Rattle.exh_page.specs.Page.{records_of};
 ghost use Rattle.exh_text.specs.Contents.{on_line};
 ghost use Rattle.exh_report.specs.Check.{legal_words, pages_text, totals_text};
 ghost use Rattle.exh_report.specs.Dump.{file_words, page_lines, live_pages_told, pair_words, ward_words};
-ghost use Rattle.exh_report.specs.Lines.{lines_text};
-ghost use Rattle.exh_report.specs.Pairs.{first_words, record_words, records_lines};
+ghost use Rattle.exh_report.specs.ReportLines.{lines_text};
+ghost use Rattle.exh_report.specs.PairsText.{first_words, record_words, records_lines};
 
 use crate::counts::Counts;
-use exh_file::Header;
+use exh_format::Header;
 use exh_keyer::AnyKeyer;
 use exh_page::{Page, Record};
 use exh_prefix::PageNo;

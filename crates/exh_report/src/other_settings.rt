@@ -1,5 +1,5 @@
 ghost use Rattle.std.specs.Prelude.{◌≡◌};
-ghost use Rattle.exh_report.specs.Pairs.{settings_over};
+ghost use Rattle.exh_report.specs.PairsText.{settings_over};
 
 use exh_keyer::AnyKeyer;
 use exh_settings::FileSettings;

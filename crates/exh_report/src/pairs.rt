@@ -1,14 +1,14 @@
 ghost use Rattle.std.specs.Prelude.{◌≡◌, ◌↔◌, ◌∷◌, [], map, flat_map, IsErrOf, IsFalse, IsTrue};
 ghost use Rattle.exh_stream.specs.Output.{SameWriter, writer_failed};
-ghost use Rattle.exh_page_file.specs.FileParts.{file_of};
-ghost use Rattle.exh_report.specs.Lines.{TakesLines};
-ghost use Rattle.exh_report.specs.Pairs.{first_words, pairs_lines, records_lines};
+ghost use Rattle.exh_format.specs.FileParts.{file_of};
+ghost use Rattle.exh_report.specs.ReportLines.{TakesLines};
+ghost use Rattle.exh_report.specs.PairsText.{first_words, pairs_lines, records_lines};
 
 use crate::file_lines::{push_first, push_records};
 use crate::{OtherSettings, ReportFault};
+use exh_format::FileParts;
 use exh_keyer::AnyKeyer;
 use exh_page::Page;
-use exh_page_file::FileParts;
 use exh_settings::FileSettings;
 use exh_stream::Output;
 use std::alloc::Global;

@@ -3,7 +3,7 @@ ghost use Rattle.exh_text.specs.Contents.{on_line};
 ghost use Rattle.exh_report.specs.Finding.{place_words, reason_words, refusal_words};
 ghost use Rattle.exh_text.specs.Printing.{Keeps};
 
-use exh_page_file::LegalFileFault;
+use exh_format::LegalFileFault;
 use exh_text::{push_number, push_refused, push_text};
 use std::alloc::AllocError;
 

@@ -1,13 +1,13 @@
 ghost use Rattle.std.specs.Prelude.{◌≡◌, ◌↔◌, ◌∷◌, [], Err, IfOk, IsErrOf, IsFalse, IsTrue};
 ghost use Rattle.std.specs.Io.KnownBytes.{Appends};
-ghost use Rattle.exh_page_file.specs.FileParts.{file_of};
-ghost use Rattle.exh_page_file.specs.PageFile.{IsKnownFile, PageFile};
+ghost use Rattle.exh_format.specs.FileParts.{file_of};
+ghost use Rattle.exh_format.specs.PageFile.{IsKnownFile, PageFile};
 ghost use Rattle.exh_stream.specs.Output.{AppendsBeginning, SameWriter, Takes, TakesBeginning, held, pending, writer_failed};
 ghost use Rattle.exh_report.specs.Check.{check_lines};
 ghost use Rattle.exh_report.specs.Dump.{dump_lines};
 ghost use Rattle.exh_report.specs.Finding.{IsVerdictOf, refusal_words, told_lines};
-ghost use Rattle.exh_report.specs.Lines.{Lines, TakesLines};
-ghost use Rattle.exh_report.specs.Pairs.{pairs_lines};
+ghost use Rattle.exh_report.specs.ReportLines.{Lines, TakesLines};
+ghost use Rattle.exh_report.specs.PairsText.{pairs_lines};
 ghost use Rattle.exh_report.specs.Report.{Reports, Tells, topic_lines};
 
 use crate::check::check_parts;
@@ -15,7 +15,7 @@ use crate::dump::dump_parts;
 use crate::pairs::pairs_parts;
 use crate::refusal_line::push_refusal;
 use crate::{OtherSettings, ReportFault, Verdict};
-use exh_page_file::{FileParts, LegalFileFault, read_legal_file};
+use exh_format::{FileParts, LegalFileFault, read_legal_file};
 use exh_stream::Output;
 use std::alloc::Global;
 use std::io::{Read, Write};

@@ -17,9 +17,9 @@ use Rattle.exh_route.specs.Distance.{IsDistance, IsForwarded, is_live_between, l
 use Rattle.exh_route.specs.DistanceLaws.{IsChange, IsDistanceUpTo}
 use Rattle.exh_route.proofs.CountsWithin.{count_within, count_within_but}
 use Rattle.exh_route.proofs.Links.{apart, one_home, within_at, target_below}
-use Rattle.exh_legal.specs.PlaceLemmas.{home_of_low}
+use Rattle.exh_legal.specs.LegalPlaceLemmas.{home_of_low}
 use Rattle.exh_route.proofs.LiveCounts.{is_between}
-use Rattle.exh_prefix.specs.ListLemmas.{one_there}
+use Rattle.exh_prefix.specs.PrefixListLemmas.{one_there}
 
 -- ---- what the test that counts live pages tells
 

@@ -9,7 +9,7 @@ use Rattle.exh_prefix.specs.Prefix.{low_of}
 use Rattle.exh_page.specs.declared.page.Page.{Page}
 use Rattle.exh_page.specs.declared.page.Page.TheVariants.{Live, Forward}
 use Rattle.exh_page.specs.Page.{IsLive, low_bound}
-use Rattle.exh_legal.specs.Laws.{PagesAreFew}
+use Rattle.exh_legal.specs.LegalLaws.{PagesAreFew}
 use Rattle.exh_legal.specs.Pages.{IsAt, AreLinked, bare}
 use Rattle.exh_ward.specs.WardFault.{PageRefused}
 use Rattle.exh_ward.specs.WardState.{WardState, IsSound, IsUnchanged, own_prefix}
@@ -22,7 +22,7 @@ use Rattle.exh_route.specs.declared.distances.Lead.TheVariants.{Right, Target}
 use Rattle.exh_route.proofs.Links.{IsNext, last_live, next_live, target_cleared, ward_few}
 use Rattle.exh_route.proofs.LiveCounts.{none_between, one_less_right}
 use Rattle.exh_route.proofs.DistancesFew.{chain_few}
-use Rattle.exh_prefix.specs.ListLemmas.{one_there}
+use Rattle.exh_prefix.specs.PrefixListLemmas.{one_there}
 
 -- as many forwarding pages as were counted lead to the page
 abbrev pub HasForwarded : List Page → ℕ → ℕ → ℕ → Type 0

@@ -8,21 +8,21 @@ use Rattle.exh_page.specs.declared.page.Page.{Page}
 use Rattle.exh_page.specs.declared.page.Page.TheVariants.{Live, Forward}
 use Rattle.exh_page.specs.declared.record.Record.{Record}
 use Rattle.exh_page.specs.Page.{IsLive, low_bound}
-use Rattle.exh_legal.specs.Laws.{RightLinksLeadOn, IsBelow}
+use Rattle.exh_legal.specs.LegalLaws.{RightLinksLeadOn, IsBelow}
 use Rattle.exh_legal.specs.Pages.{IsAt, IsHome, AreLinked, bare}
 use Rattle.exh_calls.specs.Call.{key_of}
 use Rattle.exh_ward.specs.HopTable.{IsReached, LeadsTo, HopOf}
-use Rattle.exh_ward.specs.Laws.{OneHop}
+use Rattle.exh_ward.specs.WardLaws.{OneHop}
 use Rattle.exh_calls.specs.declared.call.Call.{Call}
 use Rattle.exh_ward.specs.declared.hop.Hop.{Hop}
 use Rattle.exh_ward.specs.declared.hop.Hop.TheVariants.{Moved}
 use Rattle.exh_route.specs.Distance.{IsDistance, live_between}
-use Rattle.exh_route.specs.Laws.{CanGoOn, EndsAtHome}
-use Rattle.exh_route.specs.Moves.{AreMoves, EndsMoves}
+use Rattle.exh_route.specs.RouteLaws.{CanGoOn, EndsAtHome}
+use Rattle.exh_route.specs.WardMoves.{AreMoves, EndsMoves}
 use Rattle.exh_route.proofs.Links.{IsNext, target_below, next_live, none_beyond_home}
 use Rattle.exh_route.proofs.LiveCounts.{none_between, one_less_right}
 use Rattle.exh_route.proofs.OneDistance.{same_distance}
-use Rattle.exh_prefix.specs.ListLemmas.{one_there}
+use Rattle.exh_prefix.specs.PrefixListLemmas.{one_there}
 
 -- ---- the ways
 

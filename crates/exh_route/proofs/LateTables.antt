@@ -15,7 +15,7 @@ use Rattle.exh_notice.specs.declared.notice.Notice.{Notice}
 use Rattle.exh_table.specs.declared.leaf.Leaf.{Leaf}
 use Rattle.exh_table.specs.Leaves.{leaves_after, leaves_in, ward_leaves}
 use Rattle.exh_table.specs.Table.{TableMap, IsEntryOf, told_by}
-use Rattle.exh_table.specs.Walk.{right_of, right_of_kind, split_at, walk_in}
+use Rattle.exh_table.specs.TableWalk.{right_of, right_of_kind, split_at, walk_in}
 use Rattle.exh_page.specs.declared.page.Page.{Page}
 use Rattle.exh_page.specs.declared.page.Page.TheVariants.{Live, Forward}
 use Rattle.exh_page.specs.Page.{IsLive, low_bound, with_records}
@@ -23,18 +23,18 @@ use Rattle.exh_legal.specs.BareLemmas.{bare_at}
 use Rattle.exh_legal.specs.Change.{IsForwardOf}
 use Rattle.exh_legal.specs.Fit.{FitsPages, IsInner, IsMergeAt}
 use Rattle.exh_legal.specs.Growth.{IsGrown, IsLiveAt}
-use Rattle.exh_legal.specs.Laws.{IsBelow, IsWard}
+use Rattle.exh_legal.specs.LegalLaws.{IsBelow, IsWard}
 use Rattle.exh_prefix.specs.LowLemmas.{begins_own_low, front_of_longer, front_shorter, left_keeps, own_front, same_front}
 use Rattle.exh_legal.specs.Pages.{IsAt, IsHome, AreLinked, bare}
 use Rattle.exh_route.specs.Distance.{IsDistance, IsForwarded, is_live_between, live_between}
 use Rattle.exh_route.specs.DistanceLaws.{IsDistanceUpTo, IsTableWithin, NamesPages}
-use Rattle.exh_route.specs.Laws.{GetsGoHome}
+use Rattle.exh_route.specs.RouteLaws.{GetsGoHome}
 use Rattle.exh_route.proofs.ChangedDistances.{between_tells}
 use Rattle.exh_route.proofs.CoveredPages.{count_covered, more_below}
 use Rattle.exh_route.proofs.LateWalks.{IsStop, walk_stops}
 use Rattle.exh_route.proofs.LaterNotices.{AnyNotice, IsChangeAt, IsSplitNotice, any_such, told_later, split_above, leaves_after-append}
 use Rattle.exh_route.proofs.Links.{apart, first_page, target_cleared, ward_few}
-use Rattle.exh_prefix.specs.ListLemmas.{one_there}
+use Rattle.exh_prefix.specs.PrefixListLemmas.{one_there}
 use Rattle.exh_route.proofs.WalkDistances.{none_from_home}
 
 -- ---- the right child whose low bound a prefix has
@@ -86,7 +86,7 @@ parent_front parent bits child =
       omega (arith, long, front_shorter (parent ++ true ∷ []) bits child),
     )
 
-merge_no_split : (found : Option Entry) (version right : ℕ) → found ≡ Some (record { version = version; kind = Merge }) → right_of found ≡ Some right → ⊥
+merge_no_split : (found : Option Entry) (version right : ℕ) → found ≡ Some (record { number = version; kind = Merge }) → right_of found ≡ Some right → ⊥
 merge_no_split found version right merge split = let none : Some right ≡ None = sym split ∙ ap right_of merge in cc
 
 -- a live page, without its records
@@ -125,7 +125,7 @@ module _ (ward : List Bool) (start table late : TableMap) (taken later : List No
   -- where the late table has a split and the ward's a merge, a change came later
   merged_later : (prefix : List Bool) (right : ℕ) → IsFront ward prefix → split_at late prefix ≡ Some right → IsMergeAt table prefix → AnyNotice (IsChangeAt prefix) later
   merged_later prefix right within split merge =
-      let entry : Entry = record { version = merge.0; kind = Merge } in
+      let entry : Entry = record { number = merge.0; kind = Merge } in
       let told = told_later start taken later prefix entry (get late prefix) (subst (IsEntryOf all prefix) merge.1 (now prefix within)) (then prefix within) (λ same. merge_no_split (get late prefix) merge.0 right same split) in
       any_such _ (IsChangeAt prefix) (λ notice is. ap (λ (t : List Bool × Entry). t.0) is) later told
 

@@ -10,7 +10,7 @@ use Rattle.exh_prefix.specs.Prefix.{IsFront, Begins, low_of}
 use Rattle.exh_prefix.specs.PrefixLemmas.{length-word_bits}
 use Rattle.exh_table.specs.declared.leaf.Leaf.{Leaf}
 use Rattle.exh_table.specs.Table.{TableMap}
-use Rattle.exh_table.specs.Walk.{split_at, step, walk_in, walk_on}
+use Rattle.exh_table.specs.TableWalk.{split_at, step, walk_in, walk_on}
 use Rattle.exh_page.specs.declared.page.Page.{Page}
 use Rattle.exh_legal.specs.Growth.{IsPageOf}
 use Rattle.exh_prefix.specs.LowLemmas.{front_of_longer, front_shorter, left_keeps, own_front, front_of_child, same_front}

@@ -13,7 +13,7 @@ use Rattle.exh_notice.specs.declared.notice.Notice.{Notice}
 use Rattle.exh_notice.specs.EntryLemmas.{entry_laws}
 use Rattle.exh_table.specs.Leaves.{PrefixSet, after_kind, leaves_after}
 use Rattle.exh_table.specs.Table.{TableMap, IsEntryOf, IsGreatest, told_by}
-use Rattle.exh_table.specs.Walk.{right_of_kind}
+use Rattle.exh_table.specs.TableWalk.{right_of_kind}
 use Rattle.exh_prefix.specs.LowLemmas.{front_shorter, own_front, same_front}
 
 -- one of the notices is such a one

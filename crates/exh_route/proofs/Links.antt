@@ -12,8 +12,8 @@ use Rattle.exh_page.specs.Page.{IsLive, low_bound, with_records}
 use Rattle.exh_legal.specs.BareLemmas.{bare_at, at_bare, bare_low}
 use Rattle.exh_prefix.specs.LowLemmas.{front_shorter}
 use Rattle.exh_legal.specs.Pages.{IsAt, IsHome, IsWithin, IsRightLink, AreLinked, bare}
-use Rattle.exh_legal.specs.PlaceLemmas.{bare_live, home_bare, home_between, home_of_low, live_of_bare}
-use Rattle.exh_prefix.specs.ListLemmas.{one_there}
+use Rattle.exh_legal.specs.LegalPlaceLemmas.{bare_live, home_bare, home_between, home_of_low, live_of_bare}
+use Rattle.exh_prefix.specs.PrefixListLemmas.{one_there}
 
 within_full : (ward : List Bool) (page : Page) → IsWithin ward (with_records [] page) → IsWithin ward page
 within_full ward (Live prefix right records) within = within

@@ -7,17 +7,17 @@ use Rattle.exh_notice.specs.declared.entry.Kind.TheVariants.{Split}
 use Rattle.exh_notice.specs.declared.notice.Notice.{Notice}
 use Rattle.exh_page.specs.declared.page.Page.{Page}
 use Rattle.exh_page.specs.declared.page.Page.TheVariants.{Live, Forward}
-use Rattle.exh_page.specs.Laws.{AreOfWords}
-use Rattle.exh_legal.specs.Laws.{KeepsPlaces, SplitsKeepLegal, MergesKeepLegal}
+use Rattle.exh_page.specs.PageLaws.{AreOfWords}
+use Rattle.exh_legal.specs.LegalLaws.{KeepsPlaces, SplitsKeepLegal, MergesKeepLegal}
 use Rattle.exh_legal.specs.Pages.{IsAt, AreLinked, bare}
 use Rattle.exh_ward.specs.HopTable.{HopOf, LeadsTo}
-use Rattle.exh_calls.specs.Laws.{HistoriesGoOn}
-use Rattle.exh_ward.specs.Laws.{AnswersKeepLegal}
+use Rattle.exh_calls.specs.CallLaws.{HistoriesGoOn}
+use Rattle.exh_ward.specs.WardLaws.{AnswersKeepLegal}
 use Rattle.exh_ward.specs.WardState.{WardState, LeavesAfter, own_prefix}
 use Rattle.exh_calls.specs.declared.call.Call.{Call}
 use Rattle.exh_ward.specs.declared.hop.Hop.{Hop}
 use Rattle.exh_ward.specs.declared.hop.Hop.TheVariants.{Done, Moved, MustSplit, Stray}
-use Rattle.exh_route.specs.Laws.{IsLegalWard, IsKeptPage}
+use Rattle.exh_route.specs.RouteLaws.{IsLegalWard, IsKeptPage}
 use Rattle.exh_route.specs.WardRun.{WardEvent, HopAt, SplitAt, MergeAt, WardStep, WardMoment, IsWardRun, named_by, right_page}
 use Rattle.exh_route.proofs.Links.{target_below, next_live}
 use Rattle.exh_route.proofs.PagesStay.{run_places}

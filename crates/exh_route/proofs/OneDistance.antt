@@ -5,7 +5,7 @@ use Rattle.exh_page.specs.declared.page.Page.TheVariants.{Forward}
 use Rattle.exh_page.specs.Page.{IsLive, low_bound}
 use Rattle.exh_legal.specs.Pages.{IsAt}
 use Rattle.exh_route.specs.Distance.{IsDistance, IsForwarded, live_between}
-use Rattle.exh_prefix.specs.ListLemmas.{one_there}
+use Rattle.exh_prefix.specs.PrefixListLemmas.{one_there}
 
 module _ (pages : List Page) where
   live_or_forward : (number low target : ℕ) (page : Page) → IsAt pages number page → IsLive page → IsAt pages number (Forward low target) → ⊥

@@ -2,10 +2,10 @@
 use Rattle.std.proofs.Common.{ℕ, List, [], ◌∷◌, ap}
 use Rattle.std.specs.List.{AllByRecursion}
 use Rattle.std.proofs.lemmas.List.Elements.{All-from_recursion}
-use Rattle.exh_legal.specs.Laws.{KeepsPlaces}
-use Rattle.exh_legal.specs.PlaceLemmas.{places_from, places_on, below_kept}
+use Rattle.exh_legal.specs.LegalLaws.{KeepsPlaces}
+use Rattle.exh_legal.specs.LegalPlaceLemmas.{places_from, places_on, below_kept}
 use Rattle.exh_ward.specs.WardState.{WardState}
-use Rattle.exh_route.specs.Laws.{ArePlacesKept}
+use Rattle.exh_route.specs.RouteLaws.{ArePlacesKept}
 use Rattle.exh_route.specs.WardRun.{WardMoment, IsWardRun}
 use Rattle.exh_route.proofs.StepPlaces.{step_places}
 

@@ -6,27 +6,27 @@ use Rattle.exh_prefix.specs.Prefix.{Begins}
 use Rattle.exh_notice.specs.declared.notice.Notice.{Notice}
 use Rattle.exh_page.specs.declared.page.Page.{Page}
 use Rattle.exh_page.specs.declared.page.Page.TheVariants.{Forward}
-use Rattle.exh_page.specs.Laws.{AreOfWords}
+use Rattle.exh_page.specs.PageLaws.{AreOfWords}
 use Rattle.exh_page.specs.Page.{IsLive, low_bound, with_records}
 use Rattle.exh_legal.specs.BareLemmas.{bare_at, at_bare, bare_low}
-use Rattle.exh_legal.specs.Laws.{IsBelow, SplitsKeepLegal, MergesKeepLegal, RightLinksLeadOn}
+use Rattle.exh_legal.specs.LegalLaws.{IsBelow, SplitsKeepLegal, MergesKeepLegal, RightLinksLeadOn}
 use Rattle.exh_legal.specs.Pages.{IsAt, AreLinked, bare}
 use Rattle.exh_calls.specs.Call.{key_of}
-use Rattle.exh_calls.specs.Laws.{HistoriesGoOn}
+use Rattle.exh_calls.specs.CallLaws.{HistoriesGoOn}
 use Rattle.exh_calls.specs.declared.call.Call.{Call}
-use Rattle.exh_ward.specs.Laws.{AnswersKeepLegal}
+use Rattle.exh_ward.specs.WardLaws.{AnswersKeepLegal}
 use Rattle.exh_ward.specs.WardState.{WardState, LeavesAfter, IsUnchanged, own_prefix}
 use Rattle.exh_ward.specs.declared.hop.Hop.{Hop}
 use Rattle.exh_ward.specs.declared.hop.Hop.TheVariants.{Done, Moved, MustSplit, Stray}
 use Rattle.exh_route.specs.Distance.{IsDistance}
 use Rattle.exh_route.specs.DistanceLaws.{IsDistanceUpTo, Goes, HasGone}
-use Rattle.exh_route.specs.Laws.{IsLegalWard, CanGoOn, MovesComeNearer}
+use Rattle.exh_route.specs.RouteLaws.{IsLegalWard, CanGoOn, MovesComeNearer}
 use Rattle.exh_route.specs.WardRun.{WardEvent, HopAt, SplitAt, MergeAt, WardStep, WardMoment, IsWardRun, changes_by, changes_over}
 use Rattle.exh_ward.specs.AnswerLemmas.{bare_answered}
 use Rattle.exh_route.proofs.ChangedDistances.{AreKeptBut, cut_or_kept, none_more_counted, stayed, split_adds_one, merge_adds_one}
 use Rattle.exh_route.proofs.GoHome.{moved_below}
 use Rattle.exh_route.proofs.StepPlaces.{step_places}
-use Rattle.exh_legal.specs.PlaceLemmas.{bare_live, below_kept, forward_of_bare, live_of_bare}
+use Rattle.exh_legal.specs.LegalPlaceLemmas.{bare_live, below_kept, forward_of_bare, live_of_bare}
 use Rattle.exh_route.proofs.StepOneMap.{stepped}
 
 -- ---- records don't matter

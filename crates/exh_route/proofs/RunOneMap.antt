@@ -2,15 +2,15 @@
 use Rattle.std.proofs.Common.{◌≡◌, ℕ, List, [], ◌∷◌, ◌++◌, refl, sym, ap, ◌∙◌, subst}
 use Rattle.std.proofs.lemmas.List.{append_assoc, append-nil}
 use Rattle.std.proofs.lemmas.List.Elements.{All-cons, All-from_recursion}
-use Rattle.exh_page.specs.Laws.{AreOfWords}
-use Rattle.exh_legal.specs.Laws.{SplitsKeepLegal, MergesKeepLegal}
+use Rattle.exh_page.specs.PageLaws.{AreOfWords}
+use Rattle.exh_legal.specs.LegalLaws.{SplitsKeepLegal, MergesKeepLegal}
 use Rattle.exh_legal.specs.Pages.{map_of}
 use Rattle.exh_calls.specs.History.{IsHistory, map_left}
-use Rattle.exh_calls.specs.Laws.{HistoriesGoOn}
-use Rattle.exh_ward.specs.Laws.{AnswersKeepLegal}
+use Rattle.exh_calls.specs.CallLaws.{HistoriesGoOn}
+use Rattle.exh_ward.specs.WardLaws.{AnswersKeepLegal}
 use Rattle.exh_ward.specs.WardState.{WardState, IsSoundWard}
 use Rattle.exh_calls.specs.HistoryLemmas.{history_on, left_on, unmoved_by}
-use Rattle.exh_route.specs.Laws.{IsLegalWard, LeavesMap, IsWardsOneMap}
+use Rattle.exh_route.specs.RouteLaws.{IsLegalWard, LeavesMap, IsWardsOneMap}
 use Rattle.exh_route.specs.WardRun.{WardMoment, IsWardRun, answer_of, answers_in, changes_by, changes_over}
 use Rattle.exh_route.proofs.StepOneMap.{IsStepped, stepped}
 

@@ -3,21 +3,21 @@ use Rattle.std.proofs.Common.{◌≡◌, ℕ, ◌+◌, List, [], ◌∷◌, ◌+
 use Rattle.std.proofs.lemmas.Bool.{cases_lt}
 use Rattle.std.proofs.lemmas.List.{append-nil, length-append}
 use Rattle.std.proofs.lemmas.Option.{slice_get_within}
-use Rattle.exh_prefix.specs.ListLemmas.{at_front, at_last}
+use Rattle.exh_prefix.specs.PrefixListLemmas.{at_front, at_last}
 use Rattle.exh_notice.specs.declared.notice.Notice.{Notice}
 use Rattle.exh_table.specs.SetLemmas.{IsTableSince-push}
 use Rattle.exh_table.specs.Table.{TableMap, table_with}
 use Rattle.exh_page.specs.declared.page.Page.{Page}
-use Rattle.exh_page.specs.Laws.{AreOfWords}
+use Rattle.exh_page.specs.PageLaws.{AreOfWords}
 use Rattle.exh_legal.specs.Fit.{FitsPages}
 use Rattle.exh_legal.specs.Growth.{IsGrown}
-use Rattle.exh_legal.specs.Laws.{IsChanged, SplitsKeepLegal, MergesKeepLegal}
+use Rattle.exh_legal.specs.LegalLaws.{IsChanged, SplitsKeepLegal, MergesKeepLegal}
 use Rattle.exh_legal.specs.NoticeLemmas.{one_true_more, places_by_bare, still_true}
-use Rattle.exh_legal.specs.Versions.{AreNumbered, index_of}
+use Rattle.exh_legal.specs.ChangeNumbers.{AreNumbered, index_of}
 use Rattle.exh_legal.specs.Pages.{IsLegal, bare, map_of}
 use Rattle.exh_ward.specs.HopTable.{HopOf}
-use Rattle.exh_calls.specs.Laws.{HistoriesGoOn}
-use Rattle.exh_ward.specs.Laws.{AnswersKeepLegal}
+use Rattle.exh_calls.specs.CallLaws.{HistoriesGoOn}
+use Rattle.exh_ward.specs.WardLaws.{AnswersKeepLegal}
 use Rattle.exh_calls.specs.MapMachine.{reply_of, map_after}
 use Rattle.exh_ward.specs.MergeStep.{IsMergeStep}
 use Rattle.exh_ward.specs.SplitStep.{IsSplitStep}
@@ -29,7 +29,7 @@ use Rattle.exh_calls.specs.declared.journal_entry.JournalEntry.{JournalEntry}
 use Rattle.exh_calls.specs.declared.reply.Reply.{Reply}
 use Rattle.exh_calls.specs.HistoryLemmas.{MapGoes}
 use Rattle.exh_ward.specs.AnswerLemmas.{bare_answered}
-use Rattle.exh_route.specs.Laws.{IsLegalWard}
+use Rattle.exh_route.specs.RouteLaws.{IsLegalWard}
 use Rattle.exh_route.specs.WardRun.{WardEvent, HopAt, SplitAt, MergeAt, WardStep, answer_of, changes_by}
 
 -- ---- one notice more
@@ -118,14 +118,14 @@ module _ {K : Type 0} (pseudokey_of : K → List ℕ → ℕ) (words : (keyer : 
       subst (IsStepped pseudokey_of old (SplitAt at (Ok notice))) (sym step.others)
       (told_stepped notice new.pages (SplitAt at (Ok notice)) refl refl (ap (λ (n : Notice). n.ward) step.notice_is) (ap (λ (n : Notice). n.index) step.notice_is) step.map
       (λ legal. splits old.cap (pseudokey_of old.keyer) (own_prefix old) old.start old.notices old.table old.pages at notice.prefix step.right new.pages notice legal step.split
-      refl (ap (λ (n : Notice). n.version) step.notice_is) (ap (λ (n : Notice). n.kind) step.notice_is)))
+      refl (ap (λ (n : Notice). n.number) step.notice_is) (ap (λ (n : Notice). n.kind) step.notice_is)))
 
   merge_stepped : (at : ℕ) (notice : Notice) → IsMergeStep old at notice new → IsStepped pseudokey_of old (MergeAt at (Ok notice)) new
   merge_stepped at notice step =
       subst (IsStepped pseudokey_of old (MergeAt at (Ok notice))) (sym step.others)
       (told_stepped notice new.pages (MergeAt at (Ok notice)) refl refl (ap (λ (n : Notice). n.ward) step.notice_is) (ap (λ (n : Notice). n.index) step.notice_is) step.map
       (λ legal. merges old.cap (pseudokey_of old.keyer) (own_prefix old) old.start old.notices old.table old.pages at notice.prefix new.pages notice (words old.keyer) legal step.merge
-      refl (ap (λ (n : Notice). n.version) step.notice_is) (ap (λ (n : Notice). n.kind) step.notice_is)))
+      refl (ap (λ (n : Notice). n.number) step.notice_is) (ap (λ (n : Notice). n.kind) step.notice_is)))
 
   -- ---- a call was answered
 

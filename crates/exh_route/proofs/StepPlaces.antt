@@ -1,7 +1,7 @@
 -- A step of a ward keeps the numbers and low bounds of pages.
 use Rattle.std.proofs.Common.{ℕ, List, Ok, Err, sym, ap, subst}
-use Rattle.exh_legal.specs.Laws.{KeepsPlaces}
-use Rattle.exh_legal.specs.PlaceLemmas.{places_from}
+use Rattle.exh_legal.specs.LegalLaws.{KeepsPlaces}
+use Rattle.exh_legal.specs.LegalPlaceLemmas.{places_from}
 use Rattle.exh_ward.specs.WardState.{WardState, LeavesAfter, IsUnchanged}
 use Rattle.exh_calls.specs.declared.call.Call.{Call}
 use Rattle.exh_ward.specs.declared.hop.Hop.{Hop}

@@ -11,11 +11,11 @@ use Rattle.exh_notice.specs.EntryLemmas.{entry_laws}
 use Rattle.exh_notice.specs.declared.notice.Notice.{Notice}
 use Rattle.exh_table.specs.declared.leaf.Leaf.{Leaf}
 use Rattle.exh_table.specs.Table.{TableMap, IsEntryOf}
-use Rattle.exh_table.specs.Walk.{right_of, split_at, step, walk_in, walk_on}
+use Rattle.exh_table.specs.TableWalk.{right_of, split_at, step, walk_in, walk_on}
 use Rattle.exh_page.specs.declared.page.Page.{Page}
 use Rattle.exh_page.specs.declared.page.Page.TheVariants.{Live}
 use Rattle.exh_page.specs.Page.{low_bound}
-use Rattle.exh_legal.specs.Laws.{IsWard, WalksNameHomes}
+use Rattle.exh_legal.specs.LegalLaws.{IsWard, WalksNameHomes}
 use Rattle.exh_legal.specs.Pages.{IsAt, IsHome, AreLinked, bare}
 use Rattle.exh_route.specs.Distance.{IsDistance, live_between}
 use Rattle.exh_route.specs.DistanceLaws.{IsTableWithin}

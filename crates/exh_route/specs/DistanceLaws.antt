@@ -4,18 +4,18 @@ use Rattle.std.specs.FinMap.{entries, get}
 use Rattle.exh_prefix.specs.Prefix.{IsFront, Begins, low_of}
 use Rattle.exh_notice.specs.declared.notice.Notice.{Notice}
 use Rattle.exh_table.specs.Table.{TableMap, IsEntryOf, told_by}
-use Rattle.exh_table.specs.Walk.{split_at, walk_in}
+use Rattle.exh_table.specs.TableWalk.{split_at, walk_in}
 use Rattle.exh_page.specs.declared.page.Page.{Page}
 use Rattle.exh_legal.specs.Change.{IsSplit, IsMerge}
 use Rattle.exh_legal.specs.Growth.{IsPageOf}
-use Rattle.exh_legal.specs.Laws.{IsBelow, IsWard}
+use Rattle.exh_legal.specs.LegalLaws.{IsBelow, IsWard}
 use Rattle.exh_legal.specs.Pages.{AreLinked, bare}
 use Rattle.exh_calls.specs.Call.{key_of}
 use Rattle.exh_calls.specs.declared.call.Call.{Call}
 use Rattle.exh_ward.specs.WardState.{WardState, own_prefix}
 use Rattle.exh_ward.specs.declared.hop.Hop.TheVariants.{Moved}
 use Rattle.exh_route.specs.Distance.{IsDistance}
-use Rattle.exh_route.specs.Laws.{IsLegalWard}
+use Rattle.exh_route.specs.RouteLaws.{IsLegalWard}
 use Rattle.exh_route.specs.WardRun.{HopAt, WardEvent, WardMoment, WardStep, IsWardRun, changes_by, changes_over}
 
 -- the page has a distance, and it is at most so much

@@ -1,7 +1,7 @@
 pub mod WardRun
 pub mod Distance
 pub mod DistanceFunction
-pub mod Moves
+pub mod WardMoves
 pub mod FirstLive
-pub mod Laws
+pub mod RouteLaws
 pub mod DistanceLaws

@@ -8,11 +8,11 @@ ghost use Rattle.exh_ward.specs.WardState.{IsSoundWard, IsUnchanged};
 ghost use Rattle.exh_route.specs.Distance.{IsDistance, live_between};
 ghost use Rattle.exh_route.specs.FirstLive.{lead_of, IsFirstLive, IsLivePage};
 
-use exh_frames::Pages;
 use exh_keyer::Keyer;
 use exh_legal::pages_are_few;
 use exh_page::PageHead;
 use exh_prefix::PageNo;
+use exh_stores::Pages;
 use exh_ward::{Ward, WardFault};
 
 // Where a page leads on to.

@@ -1,7 +1,7 @@
 //! What holds of every list of hops, splits and merges of one ward, and of the ways through it. Each function does
 //! nothing.
 
-ghost use Rattle.exh_route.specs.Laws.{PagesStay, NamedPagesStay, RunsAreOneMaps, RunsKeepWardsSound, GetsGoHome, CallsGoHome, MovesAreOfPseudokeys, MovesComeNearer, OneDistance, DistancesAreFew, DistancesAreComputed};
+ghost use Rattle.exh_route.specs.RouteLaws.{PagesStay, NamedPagesStay, RunsAreOneMaps, RunsKeepWardsSound, GetsGoHome, CallsGoHome, MovesAreOfPseudokeys, MovesComeNearer, OneDistance, DistancesAreFew, DistancesAreComputed};
 
 use exh_calls::histories_go_on;
 use exh_keyer::Keyer;

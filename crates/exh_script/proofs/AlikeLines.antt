@@ -7,8 +7,8 @@ use Rattle.exh_ward.specs.WardState.{WardState}
 use Rattle.exh_ward.specs.declared.ward_fault.WardFault.TheVariants.{NoPage}
 use Rattle.exh_event.specs.declared.step_fault.StepFault.TheVariants.{NoWard, Ward}
 use Rattle.exh_world.specs.Alike.{AreAlike, StepFunctionGoesAlike, uncounted}
-use Rattle.exh_world.specs.ListLemmas.{altered_has}
-use Rattle.exh_line.specs.Answer.{step_answer}
+use Rattle.exh_world.specs.WorldListLemmas.{altered_has}
+use Rattle.exh_line.specs.LineAnswer.{step_answer}
 use Rattle.exh_line.specs.Grammar.{line_of}
 use Rattle.exh_line.specs.Shown.{page_text}
 use Rattle.exh_line.specs.declared.line.Line.{Line}

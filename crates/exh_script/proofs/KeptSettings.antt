@@ -3,7 +3,7 @@ use Rattle.std.proofs.Common.{◌≡◌, ℕ, List, [], ◌∷◌, Result, Ok, E
 use Rattle.exh_keyer.specs.declared.any_keyer.AnyKeyer.{AnyKeyer}
 use Rattle.exh_keyer.specs.Pseudokey.{any_pseudokey}
 use Rattle.exh_text.specs.declared.line_fault.LineFault.{LineFault}
-use Rattle.exh_world.specs.EffectLemmas.{on_effect, on_refusal}
+use Rattle.exh_world.specs.StepEffectLemmas.{on_effect, on_refusal}
 use Rattle.exh_world.specs.NewWorld.{settings_of}
 use Rattle.exh_world.specs.Sound.{IsSoundWorld}
 use Rattle.exh_world.specs.Step.{Step}

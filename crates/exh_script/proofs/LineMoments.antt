@@ -6,7 +6,7 @@ use Rattle.exh_keyer.specs.declared.any_keyer.AnyKeyer.{AnyKeyer}
 use Rattle.exh_keyer.specs.Pseudokey.{any_pseudokey}
 use Rattle.exh_text.specs.declared.line_fault.LineFault.{LineFault}
 use Rattle.exh_calls.specs.declared.journal_entry.JournalEntry.{JournalEntry}
-use Rattle.exh_world.specs.Run.{Moment, Answered, answered_at, answered_in, journal_entry_of}
+use Rattle.exh_world.specs.WorldRun.{Moment, Answered, answered_at, answered_in, journal_entry_of}
 use Rattle.exh_world.specs.StepFunction.{result_of, world_after}
 use Rattle.exh_event.specs.declared.event.Event.{Event}
 use Rattle.exh_event.specs.declared.event.Event.TheVariants as events

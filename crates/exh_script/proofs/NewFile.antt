@@ -11,17 +11,17 @@ use Rattle.exh_page.specs.Page.{records_of}
 use Rattle.exh_page.specs.declared.page.TheConstants.{CAP_LIMIT}
 use Rattle.exh_page.specs.declared.record.Record.{Record}
 use Rattle.exh_text.specs.LineFault.{ranged}
-use Rattle.exh_text.specs.Lines.{words_of}
+use Rattle.exh_text.specs.TextLines.{words_of}
 use Rattle.exh_text.specs.Numbers.{◌>>=◌}
 use Rattle.exh_page.specs.KeyMap.{pair_of}
 use Rattle.exh_ward.specs.WardState.{WardState}
 use Rattle.exh_prefix.specs.declared.prefix.TheConstants.{WARD_BITS_LIMIT}
-use Rattle.exh_world.specs.Laws.{NewWorldsAreSound}
+use Rattle.exh_world.specs.WorldLaws.{NewWorldsAreSound}
 use Rattle.exh_ward.specs.NewWards.{new_ward}
 use Rattle.exh_world.specs.NewWorld.{new_world}
 use Rattle.exh_world.specs.World.{map_in}
 use Rattle.exh_text.specs.declared.config.Config.{Config}
-use Rattle.exh_world.specs.ListLemmas.{mapped_is}
+use Rattle.exh_world.specs.WorldListLemmas.{mapped_is}
 use Rattle.exh_script.specs.Text.{opened, settings_of}
 use Rattle.exh_text.specs.FileLine.{file_in_range, settings_in_range, file_line_of, spelled_file}
 use Rattle.exh_text.specs.declared.file_line.TheConstants.{COPIES_LIMIT}

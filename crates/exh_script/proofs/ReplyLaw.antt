@@ -12,7 +12,7 @@ use Rattle.exh_event.specs.declared.progress.Progress.{Progress}
 use Rattle.exh_event.specs.declared.progress.Progress.TheVariants as hops
 use Rattle.exh_calls.specs.declared.journal_entry.JournalEntry.{JournalEntry}
 use Rattle.exh_world.specs.InFlight.{Requests}
-use Rattle.exh_world.specs.Run.{answered_by, answered_at, journal_entry_of}
+use Rattle.exh_world.specs.WorldRun.{answered_by, answered_at, journal_entry_of}
 use Rattle.exh_world.specs.Step.{pseudokey_in, request_begun, HasBegun, HasHopped, HasEffect, Step}
 use Rattle.exh_world.specs.StepFunction.{result_of, world_after}
 use Rattle.exh_event.specs.declared.event.Event.{Event}
@@ -22,8 +22,8 @@ use Rattle.exh_event.specs.declared.outcome.Outcome.TheVariants as outcomes
 use Rattle.exh_world.specs.World.{changes_in}
 use Rattle.exh_world.specs.declared.request.Request.{Request}
 use Rattle.exh_event.specs.declared.step_fault.StepFault.{StepFault}
-use Rattle.exh_world.specs.EffectLemmas.{on_effect, on_refusal}
-use Rattle.exh_line.specs.Answer.{told_moves, hop_answer, outcome_answer, step_answer}
+use Rattle.exh_world.specs.StepEffectLemmas.{on_effect, on_refusal}
+use Rattle.exh_line.specs.LineAnswer.{told_moves, hop_answer, outcome_answer, step_answer}
 use Rattle.exh_line.specs.Grammar.{line_of}
 use Rattle.exh_script.specs.Replies.{Turn, turns_from, is_about, IsBegunLast, Enters, EnterInOrder}
 use Rattle.exh_script.specs.Text.{ScriptWorld, Response, Said, view_response, parsed_response, line_response, response_text, after_parsed, after_line, text_from}

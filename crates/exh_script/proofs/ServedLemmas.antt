@@ -6,11 +6,11 @@ use Rattle.std.specs.Io.KnownBytes.{Appends}
 use Rattle.exh_stream.specs.Output.{AppendsBeginning, Takes, TakesBeginning, WriterUntouched, held, pending}
 use Rattle.exh_stream.specs.OutputLemmas.{AppendsBeginning-from, AppendsBeginning-of_more, Takes-finished, Takes-cut, TakesBeginning-left}
 use Rattle.exh_stream.specs.declared.output.Output.{Output}
-use Rattle.exh_text.specs.Lines.{lines_of}
+use Rattle.exh_text.specs.TextLines.{lines_of}
 use Rattle.exh_script.specs.Served.{PrintsText, PrintsWhole, PrintsUnread, PrintsFront, PrintsLines, fault_of, unread_text}
 use Rattle.exh_line.specs.RefusalText.{refusal_text}
 use Rattle.exh_script.specs.Text.{Beginning, text_of_lines, text_of}
-use Rattle.exh_open.specs.Opened.{OpenedState}
+use Rattle.exh_file.specs.Opened.{OpenedState}
 use Rattle.exh_script.specs.Left.{left_of_lines, left_of}
 use Rattle.exh_line.specs.declared.refusal.Refusal.TheVariants.{TooLong}
 use Rattle.exh_script.specs.declared.response_fault.ResponseFault.{ResponseFault}

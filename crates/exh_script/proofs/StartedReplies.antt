@@ -8,8 +8,8 @@ use Rattle.exh_calls.specs.History.{IsHistory, map_left}
 use Rattle.exh_ward.specs.WardState.{WardState}
 use Rattle.exh_calls.specs.declared.journal_entry.JournalEntry.{JournalEntry}
 use Rattle.exh_world.specs.Headline.{IsHeadline, DoesNotStray as KeepsCourse}
-use Rattle.exh_world.specs.Laws.{AreWardsSound, RunsCarryTheHeadline}
-use Rattle.exh_world.specs.Run.{Moment, answered_in, journal_entry_of}
+use Rattle.exh_world.specs.WorldLaws.{AreWardsSound, RunsCarryTheHeadline}
+use Rattle.exh_world.specs.WorldRun.{Moment, answered_in, journal_entry_of}
 use Rattle.exh_world.specs.Sound.{IsSoundWorld}
 use Rattle.exh_world.specs.World.{map_in}
 use Rattle.exh_event.specs.declared.turn.Turn.{Turn as StepTurn}

@@ -8,13 +8,13 @@ use Rattle.exh_keyer.specs.Pseudokey.{any_pseudokey}
 use Rattle.exh_text.specs.declared.line_fault.LineFault.{LineFault}
 use Rattle.exh_event.specs.declared.progress.Progress.TheVariants as hops
 use Rattle.exh_world.specs.Headline.{DoesNotStray as KeepsCourse}
-use Rattle.exh_world.specs.Run.{Moment}
+use Rattle.exh_world.specs.WorldRun.{Moment}
 use Rattle.exh_world.specs.StepFunction.{result_of}
 use Rattle.exh_event.specs.declared.event.Event.{Event}
 use Rattle.exh_event.specs.declared.outcome.Outcome.{Outcome}
 use Rattle.exh_event.specs.declared.outcome.Outcome.TheVariants as outcomes
 use Rattle.exh_event.specs.declared.step_fault.StepFault.{StepFault}
-use Rattle.exh_line.specs.Answer.{step_answer}
+use Rattle.exh_line.specs.LineAnswer.{step_answer}
 use Rattle.exh_line.specs.Grammar.{line_of}
 use Rattle.exh_script.specs.Replies.{turns_from, SaysNoStray}
 use Rattle.exh_script.specs.Text.{ScriptWorld, Said, view_response, parsed_response, line_response, after_line}

@@ -7,7 +7,7 @@ use Rattle.std.proofs.lemmas.List.{append-nil}
 use Rattle.std.proofs.lemmas.Option.{slice_get_within}
 use Rattle.exh_prefix.specs.Bits.{number_of, word_bits}
 use Rattle.exh_prefix.specs.BitLemmas.{length-bits_of, number_of-bits_of}
-use Rattle.exh_prefix.specs.ListLemmas.{set_is}
+use Rattle.exh_prefix.specs.PrefixListLemmas.{set_is}
 use Rattle.exh_keyer.specs.declared.any_keyer.AnyKeyer.{AnyKeyer}
 use Rattle.exh_keyer.specs.Pseudokey.{any_pseudokey}
 use Rattle.exh_calls.specs.Call.{key_of}
@@ -17,13 +17,13 @@ use Rattle.exh_ward.specs.SplitStep.{IsSplitStep}
 use Rattle.exh_ward.specs.WardState.{WardState, IsSoundWard}
 use Rattle.exh_event.specs.declared.progress.Progress.{Progress}
 use Rattle.exh_event.specs.declared.progress.Progress.TheVariants.{Done, Moved, MustSplit, Stray}
-use Rattle.exh_event.specs.Progress.{hop_in}
+use Rattle.exh_event.specs.EventProgress.{hop_in}
 use Rattle.exh_calls.specs.declared.journal_entry.JournalEntry.{JournalEntry}
 use Rattle.exh_ward.specs.declared.ward_fault.WardFault.TheVariants.{Page}
-use Rattle.exh_route.specs.Laws.{RunsKeepWardsSound}
+use Rattle.exh_route.specs.RouteLaws.{RunsKeepWardsSound}
 use Rattle.exh_route.specs.WardRun.{WardEvent, HopAt, SplitAt, MergeAt, WardStep}
 use Rattle.exh_world.specs.InFlight.{request_named}
-use Rattle.exh_world.specs.Run.{answered_by, answered_at, journal_entry_of}
+use Rattle.exh_world.specs.WorldRun.{answered_by, answered_at, journal_entry_of}
 use Rattle.exh_world.specs.Sound.{IsOnTheWay, IsSoundWorld}
 use Rattle.exh_world.specs.Step.{HasHopped, HasChanged, HasEffect, Step}
 use Rattle.exh_prefix.specs.Leading.{ward_of, ward_prefix}
@@ -33,7 +33,7 @@ use Rattle.exh_event.specs.declared.outcome.Outcome.{Outcome}
 use Rattle.exh_event.specs.declared.outcome.Outcome.TheVariants.{Hopped}
 use Rattle.exh_world.specs.declared.request.Request.{Request}
 use Rattle.exh_event.specs.declared.step_fault.StepFault.{StepFault}
-use Rattle.exh_world.specs.EffectLemmas.{on_effect, on_refusal}
+use Rattle.exh_world.specs.StepEffectLemmas.{on_effect, on_refusal}
 use Rattle.exh_world.specs.RequestLemmas.{all_named}
 use Rattle.exh_script.specs.Text.{ScriptWorld}
 use Rattle.exh_script.proofs.LineMoments.{none_answered}

@@ -2,7 +2,7 @@
 use Rattle.std.specs.Prelude.{◌≡◌, ℕ, ◌≤◌, List, [], ◌∷◌, ◌++◌, length, map, flat_map, filter, slice_get, Bool, ◌==◌, IsTrue, Some, Ok, All}
 use Rattle.exh_keyer.specs.declared.any_keyer.AnyKeyer.{AnyKeyer}
 use Rattle.exh_keyer.specs.Pseudokey.{any_pseudokey}
-use Rattle.exh_text.specs.Lines.{lines_of}
+use Rattle.exh_text.specs.TextLines.{lines_of}
 use Rattle.exh_calls.specs.Call.{key_of}
 use Rattle.exh_calls.specs.History.{IsHistory, map_left}
 use Rattle.exh_calls.specs.declared.journal_entry.JournalEntry.{JournalEntry}
@@ -10,11 +10,11 @@ use Rattle.exh_ward.specs.WardState.{WardState}
 use Rattle.exh_prefix.specs.Leading.{ward_of}
 use Rattle.exh_world.specs.Headline.{IsHeadline}
 use Rattle.exh_world.specs.NewWorld.{settings_of}
-use Rattle.exh_world.specs.Run.{answered_in, journal_entry_of}
+use Rattle.exh_world.specs.WorldRun.{answered_in, journal_entry_of}
 use Rattle.exh_world.specs.Sound.{IsSoundWorld}
 use Rattle.exh_world.specs.World.{map_in}
 use Rattle.exh_text.specs.declared.config.Config.{Config}
-use Rattle.exh_line.specs.Answer.{answer_text}
+use Rattle.exh_line.specs.LineAnswer.{answer_text}
 use Rattle.exh_text.specs.FileLine.{file_in_range}
 use Rattle.exh_script.specs.Replies.{turns_from, world_left, steps_from, EnterInOrder, SaysNoStray, ShowTheSame}
 use Rattle.exh_script.specs.Text.{ScriptWorld, Beginning, Start, response_text, start_of, text_of, ended_of}

@@ -4,7 +4,7 @@ use Rattle.std.specs.FinMap.{empty}
 use Rattle.exh_keyer.specs.declared.any_keyer.AnyKeyer.{AnyKeyer}
 use Rattle.exh_keyer.specs.Pseudokey.{any_pseudokey}
 use Rattle.exh_table.specs.Table.{TableMap}
-use Rattle.exh_text.specs.Lines.{lines_of}
+use Rattle.exh_text.specs.TextLines.{lines_of}
 use Rattle.exh_calls.specs.Call.{key_of}
 use Rattle.exh_calls.specs.History.{IsHistory, map_left}
 use Rattle.exh_ward.specs.WardState.{WardState}
@@ -12,14 +12,14 @@ use Rattle.exh_calls.specs.declared.call.Call.{Call}
 use Rattle.exh_calls.specs.declared.journal_entry.JournalEntry.{JournalEntry}
 use Rattle.exh_world.specs.Headline.{IsHeadline, IsSameSet, taken_by}
 use Rattle.exh_world.specs.NewWorld.{new_world}
-use Rattle.exh_world.specs.Run.{Told, answered_in, journal_entry_of}
+use Rattle.exh_world.specs.WorldRun.{Told, answered_in, journal_entry_of}
 use Rattle.exh_world.specs.StepFunction.{result_of}
 use Rattle.exh_prefix.specs.Leading.{ward_of}
 use Rattle.exh_world.specs.World.{map_in, numbered}
 use Rattle.exh_text.specs.declared.config.Config.{Config}
 use Rattle.exh_event.specs.declared.event.Event.TheVariants.{Begin, Hop}
 use Rattle.exh_event.specs.declared.turn.Turn.{Turn as StepTurn}
-use Rattle.exh_line.specs.Answer.{answer_text, copy_text}
+use Rattle.exh_line.specs.LineAnswer.{answer_text, copy_text}
 use Rattle.exh_line.specs.Grammar.{line_of}
 use Rattle.exh_script.specs.Text.{ScriptWorld, Response, Said, line_response, response_text, after_line, new_file, settings_of, text_of, ended_of}
 use Rattle.exh_line.specs.Shown.{shown_text}

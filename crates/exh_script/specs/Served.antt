@@ -1,7 +1,7 @@
 -- What the server prints and leaves, for the bytes that its reader has left.
 use Rattle.std.specs.Prelude.{◌≡◌, ◌⊎◌, ◌≤◌, ℕ, List, [], ◌∷◌, ◌++◌, Option, None, IfSome, Result, length}
-use Rattle.exh_text.specs.Lines.{lines_of}
-use Rattle.exh_open.specs.Opened.{OpenedState}
+use Rattle.exh_text.specs.TextLines.{lines_of}
+use Rattle.exh_file.specs.Opened.{OpenedState}
 use Rattle.exh_line.specs.RefusalText.{refusal_text}
 use Rattle.exh_script.specs.Text.{Beginning, Start, text_after, text_of_lines, text_of}
 use Rattle.exh_line.specs.declared.refusal.Refusal.{Refusal}

@@ -2,7 +2,7 @@
 use Rattle.std.specs.Prelude.{ℕ, Bool, List, [], ◌∷◌, ◌++◌, length, nat_le, if◌then◌else◌, Result, Ok, Err}
 use Rattle.exh_keyer.specs.declared.any_keyer.AnyKeyer.{AnyKeyer}
 use Rattle.exh_keyer.specs.Pseudokey.{any_pseudokey}
-use Rattle.exh_text.specs.Lines.{lines_of}
+use Rattle.exh_text.specs.TextLines.{lines_of}
 use Rattle.exh_text.specs.declared.line_fault.LineFault.{LineFault}
 use Rattle.exh_text.specs.declared.line_fault.LineFault.TheVariants.{Syntax}
 use Rattle.exh_world.specs.NewWorld.{new_world}
@@ -11,7 +11,7 @@ use Rattle.exh_world.specs.StepFunction.{result_of, world_after}
 use Rattle.exh_world.specs.World.{WorldState}
 use Rattle.exh_text.specs.declared.config.Config.{Config}
 use Rattle.exh_event.specs.declared.step_fault.StepFault.{StepFault}
-use Rattle.exh_line.specs.Answer.{answer_text, step_answer}
+use Rattle.exh_line.specs.LineAnswer.{answer_text, step_answer}
 use Rattle.exh_text.specs.FileLine.{file_line_of}
 use Rattle.exh_line.specs.Grammar.{line_of}
 use Rattle.exh_script.specs.View.{view_result}

@@ -1,19 +1,19 @@
 ghost use Rattle.std.specs.Prelude.{◌≡◌, ◌≤◌, IfOk};
 ghost use Rattle.exh_keyer.specs.Pseudokey.{any_pseudokey};
-ghost use Rattle.exh_open.specs.Opened.{AreWardsOf};
+ghost use Rattle.exh_file.specs.Opened.{AreWardsOf};
 ghost use Rattle.exh_page.specs.declared.page.TheConstants.{CAP_LIMIT};
 ghost use Rattle.exh_prefix.specs.declared.prefix.TheConstants.{WARD_BITS_LIMIT};
 ghost use Rattle.exh_script.specs.Text.{new_file};
 ghost use Rattle.exh_script.specs.Left.{file_left};
-ghost use Rattle.exh_script.specs.Opened.{beginning, is_of_file, opened_file};
+ghost use Rattle.exh_script.specs.OpenedScript.{beginning, is_of_file, opened_file};
 ghost use Rattle.exh_world.specs.NewWorld.{settings_of};
 ghost use Rattle.exh_world.specs.Sound.{IsSoundWorld};
 
-use exh_frames::{Pages, StoreMaker};
+use exh_file::Opened;
 use exh_keyer::AnyKeyer;
 use exh_line::Refusal;
 use exh_notes::Listener;
-use exh_open::Opened;
+use exh_stores::{Pages, StoreMaker};
 use exh_text::Config;
 use exh_world::World;
 use std::alloc::{AllocError, Global};

@@ -2,9 +2,9 @@ ghost use Rattle.std.specs.Prelude.{◌≡◌, ◌++◌, flat_map, OnOk};
 ghost use Rattle.exh_script.specs.View.{in_flight_text, request_line};
 ghost use Rattle.exh_text.specs.Printing.{Keeps};
 
-use exh_frames::Pages;
 use exh_keyer::AnyKeyer;
 use exh_line::push_request;
+use exh_stores::Pages;
 use exh_text::{push_number, push_place, push_text};
 use exh_world::{Request, World};
 use std::alloc::AllocError;

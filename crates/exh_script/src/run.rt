@@ -1,5 +1,5 @@
-use exh_frames::Pages;
 use exh_keyer::AnyKeyer;
+use exh_stores::Pages;
 use exh_world::World;
 
 /// A run of a script: the world that its lines work on, over whatever store of pages, and whether a reply's line tells

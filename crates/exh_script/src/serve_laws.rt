@@ -1,6 +1,6 @@
 //! What holds of all runs. Each function does nothing.
 
-ghost use Rattle.exh_script.specs.Laws.{DoneRunsLeaveWards, RepliesFollowTheFile};
+ghost use Rattle.exh_script.specs.ScriptLaws.{DoneRunsLeaveWards, RepliesFollowTheFile};
 
 use crate::replies_follow_any_start;
 use exh_keyer::AnyKeyer;

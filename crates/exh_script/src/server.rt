@@ -1,17 +1,17 @@
 ghost use Rattle.std.specs.Prelude.{◌≡◌, ◌≢◌, ◌⊎◌, ◌↔◌, [], MatchBool, IfOk, IfErr, OnErr, IsErrOf, IsTrue, IsFalse};
 ghost use Rattle.std.specs.Io.KnownBytes.{Appends};
 ghost use Rattle.exh_script.specs.Served.{PrintsLines, PrintsText, PrintsUnread, PrintsWhole, unread_text};
-ghost use Rattle.exh_script.specs.Opened.{beginning};
+ghost use Rattle.exh_script.specs.OpenedScript.{beginning};
 ghost use Rattle.exh_stream.specs.Output.{AppendsBeginning, SameWriter, Takes, TakesBeginning, held, pending, writer_failed};
 ghost use Rattle.exh_stream.specs.Source.{SameReader, reader_failed, unread};
 
 use crate::ServeFault;
 use crate::respond::{refuse, respond};
-use exh_frames::{Pages, StoreMaker};
+use exh_file::Opened;
 use exh_keyer::AnyKeyer;
 use exh_line::Refusal;
 use exh_notes::Listener;
-use exh_open::Opened;
+use exh_stores::{Pages, StoreMaker};
 use exh_stream::{InputFault, Output, Source};
 use exh_text::SCRIPT_LIMIT;
 use std::alloc::Global;

@@ -8,7 +8,7 @@ use Rattle.exh_notice.specs.declared.entry.Kind.TheVariants.{Split, Merge}
 use Rattle.exh_notice.specs.declared.notice.Notice.{Notice}
 use Rattle.exh_table.specs.Leaves.{PrefixSet, after_split, after_merge, after_kind, leaves_after}
 use Rattle.exh_table.specs.Directory.{IsName}
-use Rattle.exh_table.specs.Laws.{CanBeMade}
+use Rattle.exh_table.specs.TableLaws.{CanBeMade}
 use Rattle.exh_table.specs.ChangeLemmas.{leaves_after-push}
 
 -- ---- a split

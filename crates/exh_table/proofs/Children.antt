@@ -4,7 +4,7 @@ use Rattle.std.specs.Option.{option_map_or}
 use Rattle.std.proofs.lemmas.List.{length_push}
 use Rattle.exh_prefix.specs.declared.prefix.TheConstants.{LIMIT}
 use Rattle.exh_table.specs.declared.leaf.Leaf.{Leaf}
-use Rattle.exh_table.specs.Walk.{step}
+use Rattle.exh_table.specs.TableWalk.{step}
 use Rattle.exh_table.specs.Below.{leaves_below, depth_below}
 
 -- how many bits are left up to LIMIT

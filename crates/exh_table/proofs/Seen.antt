@@ -11,7 +11,7 @@ use Rattle.std.specs.declared.cmp.Ordering.TheVariants.{Less}
 use Rattle.std.specs.Ordering.{eq_by_cmp}
 use Rattle.std.proofs.lemmas.List.{nil_from_length}
 use Rattle.exh_prefix.specs.Prefix.{prefix_cmp}
-use Rattle.exh_prefix.specs.ListLemmas.{is_equal}
+use Rattle.exh_prefix.specs.PrefixListLemmas.{is_equal}
 use Rattle.exh_prefix.specs.PrefixLemmas.{prefix_cmp-total, prefix_cmp-exact}
 use Rattle.exh_notice.specs.declared.entry.Entry.{Entry}
 use Rattle.exh_table.specs.Table.{TableMap}

@@ -4,7 +4,7 @@ use Rattle.std.specs.Option.{option_map_or}
 use Rattle.exh_prefix.specs.declared.prefix.TheConstants.{LIMIT}
 use Rattle.exh_table.specs.declared.leaf.Leaf.{Leaf}
 use Rattle.exh_table.specs.Table.{TableMap}
-use Rattle.exh_table.specs.Walk.{split_at, step}
+use Rattle.exh_table.specs.TableWalk.{split_at, step}
 
 -- the splits of a table, and above the wards a split everywhere, whose right page is page 0
 abbrev pub splits_above : TableMap → ℕ → List Bool → Option ℕ

@@ -13,11 +13,11 @@ use Rattle.exh_prefix.specs.Leading.{leading}
 use Rattle.exh_prefix.specs.LeadingLemmas.{leading-lt, begins_alike}
 use Rattle.exh_table.specs.declared.leaf.Leaf.{Leaf}
 use Rattle.exh_table.specs.Table.{TableMap}
-use Rattle.exh_table.specs.Walk.{walk_in, walk_of}
+use Rattle.exh_table.specs.TableWalk.{walk_in, walk_of}
 use Rattle.exh_table.specs.Leaves.{IsLeaf, IsLeafIn, leaves_of}
 use Rattle.exh_table.specs.Directory.{IsName, IsDepth, IsDirectory}
 use Rattle.exh_table.specs.Below.{splits_above, depth_below}
-use Rattle.exh_table.specs.Laws.{HasDirectory}
+use Rattle.exh_table.specs.TableLaws.{HasDirectory}
 use Rattle.exh_table.specs.LeafLemmas.{root, depth_is}
 use Rattle.exh_table.specs.PathLemmas.{walk_is_path, walk_to_leaf}
 

@@ -17,7 +17,7 @@ use Rattle.exh_prefix.specs.PrefixLemmas.{length-word_bits, low_of-child, low_of
 use Rattle.exh_prefix.specs.declared.prefix.TheConstants.{LIMIT}
 use Rattle.exh_table.specs.declared.leaf.Leaf.{Leaf}
 use Rattle.exh_table.specs.Table.{TableMap}
-use Rattle.exh_table.specs.Walk.{step, walk_on}
+use Rattle.exh_table.specs.TableWalk.{step, walk_on}
 use Rattle.exh_table.specs.Leaves.{IsLeaf, leaves_of, AreLeaves}
 use Rattle.exh_table.specs.Directory.{IsDepth}
 use Rattle.exh_table.specs.Below.{splits_above, leaves_below, depth_below}

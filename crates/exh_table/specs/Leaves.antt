@@ -7,7 +7,7 @@ use Rattle.exh_notice.specs.declared.entry.Kind.TheVariants.{Split, Merge}
 use Rattle.exh_notice.specs.declared.notice.Notice.{Notice}
 use Rattle.exh_table.specs.declared.leaf.Leaf.{Leaf}
 use Rattle.exh_table.specs.Table.{TableMap}
-use Rattle.exh_table.specs.Walk.{walk_in, walk_of}
+use Rattle.exh_table.specs.TableWalk.{walk_in, walk_of}
 
 -- ---- of a table
 

@@ -1,9 +1,9 @@
 pub mod Table
 pub mod TableOrder
-pub mod Walk
+pub mod TableWalk
 pub mod Leaves
 pub mod Directory
-pub mod Laws
+pub mod TableLaws
 pub mod Below
 pub mod TableLemmas
 pub mod RaisedLemmas

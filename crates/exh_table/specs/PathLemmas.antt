@@ -10,9 +10,9 @@ use Rattle.exh_prefix.specs.declared.prefix.TheConstants.{LIMIT}
 use Rattle.exh_prefix.specs.LeadingLemmas.{length-leading_bits}
 use Rattle.exh_table.specs.declared.leaf.Leaf.{Leaf}
 use Rattle.exh_table.specs.Table.{TableMap}
-use Rattle.exh_table.specs.Walk.{split_at, step, walk_on, walk_in}
+use Rattle.exh_table.specs.TableWalk.{split_at, step, walk_on, walk_in}
 use Rattle.exh_table.specs.Leaves.{IsLeafIn}
-use Rattle.exh_table.specs.Laws.{IsPath, IsParted}
+use Rattle.exh_table.specs.TableLaws.{IsPath, IsParted}
 
 -- a walk's way from one place to another, over some of the bits
 pub record IsWay (splits : List Bool → Option ℕ) (bits : List Bool) (at leaf : Leaf) : Type 0 where

@@ -11,7 +11,7 @@ use Rattle.std.proofs.lemmas.List.{append_assoc, map-append, nil_from_length}
 use Rattle.std.proofs.lemmas.List.Elements.{Contains-append_left, Contains-append_right, Contains-append_cases}
 use Rattle.exh_prefix.specs.Prefix.{prefix_cmp}
 use Rattle.exh_prefix.specs.PrefixLemmas.{prefix_cmp-total}
-use Rattle.exh_prefix.specs.ListLemmas.{first_part, second_part}
+use Rattle.exh_prefix.specs.PrefixListLemmas.{first_part, second_part}
 use Rattle.exh_join.specs.Greater.{IsUpTo}
 use Rattle.exh_notice.specs.declared.entry.Entry.{Entry}
 use Rattle.exh_notice.specs.declared.notice.Notice.{Notice}

@@ -68,9 +68,9 @@ table_at table prefix (Some entry) = insert table prefix entry
 -- ---- the next change at a prefix
 
 -- the version of what stands at a prefix, 0 where nothing does
-abbrev pub version_of : Option Entry → ℕ
-version_of stood = option_map_or (λ entry. entry.version) stood 0
+abbrev pub entry_number : Option Entry → ℕ
+entry_number stood = option_map_or (λ entry. entry.number) stood 0
 
 -- the entry that comes after it
 abbrev pub entry_after : Option Entry → Kind → Entry
-entry_after stood kind = record { version = version_of stood + 1; kind = kind }
+entry_after stood kind = record { number = entry_number stood + 1; kind = kind }

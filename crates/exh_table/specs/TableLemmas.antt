@@ -7,13 +7,13 @@ use Rattle.std.specs.Cmp.{nat_cmp_is}
 use Rattle.std.specs.Ordering.{is_lt, eq_by_cmp, nat_cmp}
 use Rattle.exh_prefix.specs.Prefix.{prefix_cmp}
 use Rattle.exh_prefix.specs.PrefixLemmas.{prefix_cmp-total, prefix_cmp-exact}
-use Rattle.exh_prefix.specs.ListLemmas.{is_equal}
-use Rattle.exh_join.specs.Laws.{IsPartialOrder, IsLeastAboveBoth, JoinLaws}
+use Rattle.exh_prefix.specs.PrefixListLemmas.{is_equal}
+use Rattle.exh_join.specs.JoinLaws.{IsPartialOrder, IsLeastAboveBoth, JoinLaws}
 use Rattle.exh_join.specs.LawsLemmas.{join_laws}
 use Rattle.exh_notice.specs.declared.entry.Entry.{Entry}
 use Rattle.exh_notice.specs.Entry.{entry_cmp}
 use Rattle.exh_notice.specs.EntryLemmas.{entry_laws}
-use Rattle.exh_table.specs.Table.{TableMap, greater_of, version_of}
+use Rattle.exh_table.specs.Table.{TableMap, greater_of, entry_number}
 use Rattle.exh_table.specs.TableOrder.{IsOptionUpTo, IsTableUpTo, table_join}
 
 -- ---- at one prefix
@@ -115,8 +115,8 @@ table_laws = join_laws table_order table_bound
 -- ---- the next change at a prefix
 
 -- a greater version makes a greater entry
-pub later_wins : (stood : Option Entry) (entry : Entry) → version_of stood < entry.version → greater_of stood entry ≡ entry
+pub later_wins : (stood : Option Entry) (entry : Entry) → entry_number stood < entry.number → greater_of stood entry ≡ entry
 later_wins None entry later = refl
 later_wins (Some old) entry later =
-    let less : nat_cmp old.version entry.version ≡ Less = sym (nat_cmp_is old.version entry.version Less later) in
+    let less : nat_cmp old.number entry.number ≡ Less = sym (nat_cmp_is old.number entry.number Less later) in
     rw less refl

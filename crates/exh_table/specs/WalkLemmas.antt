@@ -11,7 +11,7 @@ use Rattle.exh_prefix.specs.PrefixLemmas.{length-word_bits}
 use Rattle.exh_prefix.specs.declared.prefix.TheConstants.{LIMIT}
 use Rattle.exh_table.specs.declared.leaf.Leaf.{Leaf}
 use Rattle.exh_table.specs.Table.{TableMap}
-use Rattle.exh_table.specs.Walk.{split_at, step, walk_on, walk_of}
+use Rattle.exh_table.specs.TableWalk.{split_at, step, walk_on, walk_of}
 use Rattle.exh_table.specs.Below.{splits_above}
 
 -- ---- the next bit of a pseudokey

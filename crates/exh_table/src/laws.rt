@@ -1,6 +1,6 @@
 //! What holds of all tables, walks and leaves, for the proofs of callers. Each function does nothing.
 
-ghost use Rattle.exh_table.specs.Laws.{OwnEntries, OneNoticeMore, UnionIsJoin, MembersDecide, PutBackUndoes, WalksArePaths, LeavesPart, WalksNameLeaves, OneDirectory, ChangesKeepNames};
+ghost use Rattle.exh_table.specs.TableLaws.{OwnEntries, OneNoticeMore, UnionIsJoin, MembersDecide, PutBackUndoes, WalksArePaths, LeavesPart, WalksNameLeaves, OneDirectory, ChangesKeepNames};
 
 /// A table's own entries, read as a set, give that table.
 pub fn own_entries_give_the_table()

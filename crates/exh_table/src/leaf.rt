@@ -16,7 +16,7 @@ pub struct Leaf {
 }
 
 impl Leaf {
-    ghost use Rattle.exh_table.specs.Walk.{step};
+    ghost use Rattle.exh_table.specs.TableWalk.{step};
 
     /// Where all walks begin: the empty prefix, with page 0.
     pub fn root() -> Leaf

@@ -1,7 +1,7 @@
 ghost use Rattle.std.specs.Prelude.{◌≡◌, ◌≢◌, Some, None, IsSome, IfOk, MatchOption, OnOk, OnErr};
 ghost use Rattle.std.specs.FinMap as map;
 ghost use Rattle.std.specs.BTreeMap.Entry.{MatchEntry, entry_value};
-ghost use Rattle.exh_table.specs.Table.{table_with, table_at, raised, greater_of, version_of, entry_after};
+ghost use Rattle.exh_table.specs.Table.{table_with, table_at, raised, greater_of, entry_number, entry_after};
 
 use exh_notice::{Entry, Kind, Notice};
 use exh_prefix::Prefix;
@@ -86,14 +86,14 @@ impl Table {
         }
     }
 
-    /// Puts the entry of the next change at a prefix: its version is one more than that of what stands
-    /// there, 1 where nothing does. It answers what stood there: where that has the greatest version,
+    /// Puts the entry of the next change at a prefix: its number is one more than that of what stands
+    /// there, 1 where nothing does. It answers what stood there: where that has the greatest number,
     /// it stays. Where memory is refused, an `AllocError`, the table is as before; it is asked for
     /// only where no entry stands at the prefix.
     pub fn put_next(&mut self, prefix: Prefix, kind: Kind) -> Result<Option<Entry>, AllocError>
         ensures stood { IfOk result (λ stood. stood ≡ map.get self.old prefix) }
-        ensures ok { OnOk result (version_of (map.get self.old prefix) ≢ u32.MAX → self.new ≡ raised self.old prefix (entry_after (map.get self.old prefix) kind)) }
-        ensures worn { version_of (map.get self.old prefix) ≡ u32.MAX → self.new ≡ self.old }
+        ensures ok { OnOk result (entry_number (map.get self.old prefix) ≢ u32.MAX → self.new ≡ raised self.old prefix (entry_after (map.get self.old prefix) kind)) }
+        ensures worn { entry_number (map.get self.old prefix) ≡ u32.MAX → self.new ≡ self.old }
         ensures err { OnErr result (self.new ≡ self.old) }
         ensures absent { OnErr result (map.get self.old prefix ≡ None) }
     {
@@ -142,16 +142,16 @@ fn stood_at(place: &Place<'_, Prefix, Entry, Global>) -> Option<Entry>
     }
 }
 
-// The entry of the next change after what stood at a prefix: where that has the greatest version, that
+// The entry of the next change after what stood at a prefix: where that has the greatest number, that
 // itself.
 fn next_after(stood: Option<Entry>, kind: Kind) -> Entry
-    ensures next { version_of stood ≢ u32.MAX → result ≡ entry_after stood kind }
-    ensures worn { version_of stood ≡ u32.MAX → stood ≡ Some result }
+    ensures next { entry_number stood ≢ u32.MAX → result ≡ entry_after stood kind }
+    ensures worn { entry_number stood ≡ u32.MAX → stood ≡ Some result }
 {
     match stood {
-        None => Entry { version: 1, kind },
-        Some(stood) => match stood.version.checked_add(1) {
-            Some(version) => Entry { version, kind },
+        None => Entry { number: 1, kind },
+        Some(stood) => match stood.number.checked_add(1) {
+            Some(number) => Entry { number, kind },
             None => stood,
         },
     }

@@ -1,6 +1,6 @@
 ghost use Rattle.std.specs.Prelude.{◌≡◌, ◌-◌, ◌≤◌, ◌++◌, length, IfOk, OnOk, nat_lt, None, if◌then◌else◌};
 ghost use Rattle.exh_prefix.specs.declared.prefix.TheConstants.{LIMIT};
-ghost use Rattle.exh_table.specs.Walk.{walk_of};
+ghost use Rattle.exh_table.specs.TableWalk.{walk_of};
 ghost use Rattle.exh_table.specs.Leaves.{leaves_of, AreLeaves};
 ghost use Rattle.exh_table.specs.Directory.{IsDepth};
 ghost use Rattle.exh_table.specs.Below.{splits_above, leaves_below, depth_below, leaves_listed, depth_of};

@@ -8,7 +8,7 @@ use Rattle.std.proofs.lemmas.List.Sums.{fails_before_first, position_or_len_is}
 use Rattle.std.proofs.lemmas.List.Splits.{slice_split_first, slice_split_none}
 use Rattle.std.proofs.lemmas.Option.{cond_some}
 use Rattle.memchr.specs.Find.{IsFirstByte, is_byte}
-use Rattle.exh_text.specs.Lines.{parts_at}
+use Rattle.exh_text.specs.TextLines.{parts_at}
 
 -- what `position` answers of the byte
 abbrev pub first_at : ℕ → List ℕ → Option ℕ

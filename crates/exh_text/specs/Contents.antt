@@ -4,7 +4,7 @@ use Rattle.exh_prefix.specs.Prefix.{prefix_text}
 use Rattle.exh_notice.specs.declared.entry.Entry.{Entry}
 use Rattle.exh_notice.specs.declared.entry.Kind.{Kind}
 use Rattle.exh_notice.specs.declared.entry.Kind.TheVariants.{Split, Merge}
-use Rattle.exh_text.specs.Lines.{newline}
+use Rattle.exh_text.specs.TextLines.{newline}
 use Rattle.exh_text.specs.Printing.{place_text}
 
 -- a line of its own
@@ -46,4 +46,4 @@ entry_text prefix version kind = prefix_text prefix ++ (codes " number " ++ (dec
 
 -- an entry at a prefix
 abbrev pub entry_words : List Bool × Entry → List ℕ
-entry_words at = codes "entry " ++ entry_text at.0 at.1.version at.1.kind
+entry_words at = codes "entry " ++ entry_text at.0 at.1.number at.1.kind

@@ -7,7 +7,7 @@ use Rattle.exh_settings.specs.Keyers.{keyer_named}
 use Rattle.exh_page.specs.declared.page.TheConstants.{CAP_LIMIT}
 use Rattle.exh_prefix.specs.declared.prefix.TheConstants.{WARD_BITS_LIMIT}
 use Rattle.exh_text.specs.LineFault.{ranged}
-use Rattle.exh_text.specs.Lines.{words_of}
+use Rattle.exh_text.specs.TextLines.{words_of}
 use Rattle.exh_text.specs.Numbers.{◌>>=◌, after_prefix, number_after}
 use Rattle.exh_text.specs.declared.line_fault.LineFault.{LineFault}
 use Rattle.exh_text.specs.declared.config.Config.{Config}

@@ -1,4 +1,4 @@
-pub mod Lines
+pub mod TextLines
 pub mod Numbers
 pub mod ByteWord
 pub mod Printing

@@ -14,7 +14,7 @@ use Rattle.std.proofs.lemmas.Str.Parse.{IsNumeralModel, numerals_by_value, tells
 use Rattle.hex.specs.Hex.{lower_digits, encode_lower, encode_with}
 use Rattle.exh_prefix.specs.Prefix.{bit_digit, prefix_text}
 use Rattle.exh_text.specs.ByteWord.{hash, hex_digit, hex_bytes, bytes_of_word}
-use Rattle.exh_text.specs.Lines.{parts_at, space, words_of}
+use Rattle.exh_text.specs.TextLines.{parts_at, space, words_of}
 use Rattle.exh_text.specs.Numbers.{number_up_to, is_numeral}
 use Rattle.exh_text.specs.Printing.{AppendsFrontOf, Keeps, is_plain, printed, place_text}
 

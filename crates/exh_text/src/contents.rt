@@ -46,23 +46,23 @@ pub fn push_entry_line(out: &mut Vec<u8>, prefix: &Prefix, entry: &Entry) -> Res
     ensures kept { Keeps out.old.items out.new.items }
 {
     push_text(out, "entry ")?;
-    push_entry(out, prefix, entry.version, &entry.kind)?;
+    push_entry(out, prefix, entry.number, &entry.kind)?;
     push_text(out, "\n")
 }
 
-/// Adds the version and the kind of what was done at a prefix.
+/// Adds the number and the kind of what was done at a prefix.
 pub fn push_entry(
     out: &mut Vec<u8>,
     prefix: &Prefix,
-    version: u32,
+    number: u32,
     kind: &Kind,
 ) -> Result<(), AllocError>
-    ensures ok { OnOk result (out.new.items ≡ out.old.items ++ entry_text prefix.now version kind.now) }
+    ensures ok { OnOk result (out.new.items ≡ out.old.items ++ entry_text prefix.now number kind.now) }
     ensures kept { Keeps out.old.items out.new.items }
 {
     push_prefix(out, prefix)?;
     push_text(out, " number ")?;
-    push_number(out, u64::from(version))?;
+    push_number(out, u64::from(number))?;
     push_kind(out, kind)
 }
 

@@ -4,7 +4,7 @@ ghost use Rattle.std.specs.Prelude.{◌≡◌, ◌≢◌, ◌<◌, ◌≤◌, �
 ghost use Rattle.std.specs.List.{join_with_byte};
 ghost use Rattle.exh_prefix.specs.Prefix.{prefix_text};
 ghost use Rattle.exh_text.specs.ByteWord.{bytes_of_word};
-ghost use Rattle.exh_text.specs.Lines.{lines_of, newline, space, words_of};
+ghost use Rattle.exh_text.specs.TextLines.{lines_of, newline, space, words_of};
 ghost use Rattle.exh_text.specs.Numbers.{number_up_to};
 ghost use Rattle.exh_text.specs.Printing.{place_text, printed};
 

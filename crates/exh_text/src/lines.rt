@@ -2,7 +2,7 @@ ghost use Rattle.std.specs.Prelude.{◌≡◌, ◌∷◌};
 ghost use Rattle.std.specs.Iterator.{YieldsFirstRef, item_count};
 ghost use Rattle.std.specs.Option.{option_copied};
 ghost use Rattle.memchr.specs.Find.{IsFirstByte, is_byte};
-ghost use Rattle.exh_text.specs.Lines.{lines_of, newline, parts_at, parts_left, without_empty, words_of};
+ghost use Rattle.exh_text.specs.TextLines.{lines_of, newline, parts_at, parts_left, without_empty, words_of};
 
 use crate::Parts;
 use memchr::memchr;
@@ -17,7 +17,7 @@ pub struct Lines<'a> {
 impl<'a> Model for Lines<'a> {
     ghost use Rattle.std.specs.Prelude.{ℕ, List};
     ghost use Rattle.std.specs.Option.{option_copied};
-    ghost use Rattle.exh_text.specs.Lines.{newline, parts_left, without_empty};
+    ghost use Rattle.exh_text.specs.TextLines.{newline, parts_left, without_empty};
 
     ghost Value = { List (List ℕ) };
 
@@ -26,7 +26,7 @@ impl<'a> Model for Lines<'a> {
 
 impl<'a> Lines<'a> {
     /// The lines that newlines part. The last may lack its newline.
-    #[tactic(auto, unfolding(crate::specs::Lines::lines_of))]
+    #[tactic(auto, unfolding(crate::specs::TextLines::lines_of))]
     pub fn new(text: &'a [u8]) -> Self
         ensures { result ≡ lines_of text.now }
     {

@@ -1,7 +1,7 @@
 ghost use Rattle.std.specs.Prelude.{◌≡◌, ◌∷◌};
 ghost use Rattle.std.specs.Iterator.{YieldsFirstRef, item_count};
 ghost use Rattle.std.specs.Option.{option_copied};
-ghost use Rattle.exh_text.specs.Lines.{parts_at, parts_left};
+ghost use Rattle.exh_text.specs.TextLines.{parts_at, parts_left};
 
 use std::marker::Model;
 
@@ -15,7 +15,7 @@ pub struct Parts<'a> {
 impl<'a> Model for Parts<'a> {
     ghost use Rattle.std.specs.Prelude.{ℕ, List};
     ghost use Rattle.std.specs.Option.{option_copied};
-    ghost use Rattle.exh_text.specs.Lines.{parts_left};
+    ghost use Rattle.exh_text.specs.TextLines.{parts_left};
 
     ghost Value = { List (List ℕ) };
 

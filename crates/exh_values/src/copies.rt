@@ -18,7 +18,7 @@ type Reader = CopyReader<Brand>;
 // The pseudokey `#80`.
 const HALF: u64 = 0x8000_0000_0000_0000;
 
-// A notice at the root: its version, and a split's right page.
+// A notice at the root: its number, and a split's right page.
 type Row = (u32, Option<PageNo>);
 
 const SPLIT: Row = (1, Some(1));
@@ -158,12 +158,12 @@ const TWO_COPIES: [(u8, Step); 19] = [
 ];
 
 fn notice(row: Row) -> Notice {
-    let (version, right) = row;
+    let (number, right) = row;
     Notice {
         ward: 0,
-        index: u64::from(version),
+        index: u64::from(number),
         prefix: Leaf::root().prefix,
-        version,
+        number,
         kind: match right {
             Some(right) => Kind::Split { right },
             None => Kind::Merge,
@@ -215,11 +215,11 @@ fn publish<R: Wait>(rt: &R, writer: &mut Writer) -> Result<(), AllocError>
 }
 
 // Hands on to one of the readers, which are of the writer's copy.
-fn hand_on(writer: &mut Writer, readers: &mut Vec<Reader>, at: usize) -> Option<bool>
+fn tell(writer: &mut Writer, readers: &mut Vec<Reader>, at: usize) -> Option<bool>
     requires { AreOf writer.old.name readers.old.items }
     ensures { AreOf writer.new.name readers.new.items }
 {
-    let handed = writer.hand_on().ok()?;
+    let handed = writer.tell().ok()?;
     readers.get_mut(at)?.learn(handed);
     Some(true)
 }
@@ -247,7 +247,7 @@ fn steps<R: Wait>(
         Step::Take(row) => take(writer, row).ok()?,
         Step::Combine(row) => combine(alloc, writer, row).ok()?,
         Step::Publish => publish(rt, writer).ok()?,
-        Step::HandOn(reader) => return hand_on(writer, readers, reader),
+        Step::HandOn(reader) => return tell(writer, readers, reader),
         Step::Look(reader, page) => return Some(look(readers, reader, HALF) == Some(page)),
         Step::LookEither(reader, first) => {
             let page = look(readers, reader, HALF)?;
@@ -391,18 +391,18 @@ fn stories(rt: HostRuntime) {
 }
 
 // Whether the writer can hand on this often before there is no place, where all that it hands on is kept.
-fn is_handed_on_often(alloc: Global, writer: &mut Writer, often: usize) -> Option<bool> {
+fn is_told_often(alloc: Global, writer: &mut Writer, often: usize) -> Option<bool> {
     let mut kept = Vec::new(alloc);
     kept.reserve(often).ok()?;
     for _ in 0..often {
-        let Ok(handed) = writer.hand_on() else {
+        let Ok(handed) = writer.tell() else {
             return Some(false);
         };
         kept.push(handed).ok()?;
     }
-    let is_full = writer.hand_on().is_err();
+    let is_full = writer.tell().is_err();
     drop(kept.pop());
-    Some(is_full && writer.hand_on().is_ok())
+    Some(is_full && writer.tell().is_ok())
 }
 
 // A copy of n readers has 2n + 1 places: n are theirs, and the writer can hand on n + 1 times. Who lets go
@@ -412,8 +412,8 @@ fn is_full_in_the_end<R: Wait>(rt: &R, alloc: Global, readers: u16) -> bool {
         return false;
     };
     let often = usize::from(readers) + 1;
-    let is_full = match is_handed_on_often(alloc, &mut writer, often) {
-        None => is_handed_on_often(alloc, &mut writer, often),
+    let is_full = match is_told_often(alloc, &mut writer, often) {
+        None => is_told_often(alloc, &mut writer, often),
         often_enough => often_enough,
     };
     drop(writer.close(rt));

@@ -1,9 +1,8 @@
 //! Diaries and journals that are settled, and that aren't, by hand.
 
-use exh_calls::{Call, Journal, Reply};
+use exh_calls::{CALLER_LIMIT, Call, Diary, FileJournals, Journal, Reply, settle};
 use exh_keyer::PlainKeyer;
 use exh_page::{Key, SizeFault, Value};
-use exh_settle::{CALLER_LIMIT, Diary, FileJournals, settle};
 use std::alloc::Global;
 use std::test::Fail;
 

@@ -42,7 +42,7 @@ fn pairs_and_replicas(rt: HostRuntime) {
     assert!(rt; replicas_meet());
 }
 
-// A prefix of zeros by its length, a version, and a split's right page.
+// A prefix of zeros by its length, a number, and a split's right page.
 type Row = (u8, u32, Option<PageNo>);
 
 // The entries of two tables, whether the first is at most the second, and their join's entries with
@@ -84,7 +84,7 @@ const UNIONS: [Union; 4] = [
 ];
 
 fn notice(row: Row) -> Option<Notice> {
-    let (len, version, right) = row;
+    let (len, number, right) = row;
     let kind = match right {
         Some(right) => Kind::Split { right },
         None => Kind::Merge,
@@ -93,7 +93,7 @@ fn notice(row: Row) -> Option<Notice> {
         ward: 0,
         index: 1,
         prefix: Prefix::new(len, 0)?,
-        version,
+        number,
         kind,
     })
 }

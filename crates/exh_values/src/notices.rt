@@ -11,7 +11,7 @@ const SPLIT_AT_15: [u8; 24] = [
     0xe3, 0xe4, 0xe5, 0xe6, 0xe7, 0xe8,
 ];
 
-// A notice: ward and index, a prefix's length and bits, version and a split's right page.
+// A notice: ward and index, a prefix's length and bits, number and a split's right page.
 type Row = (u8, u64, u8, u64, u32, Option<PageNo>);
 
 const SPLIT_AT_15_ROW: Row = (
@@ -49,7 +49,7 @@ const IMAGES: [(Row, [u8; 24]); 3] = [
 ];
 
 fn notice(row: Row) -> Option<Notice> {
-    let (ward, index, len, bits, version, right) = row;
+    let (ward, index, len, bits, number, right) = row;
     let kind = match right {
         Some(right) => Kind::Split { right },
         None => Kind::Merge,
@@ -58,7 +58,7 @@ fn notice(row: Row) -> Option<Notice> {
         ward,
         index,
         prefix: Prefix::new(len, bits)?,
-        version,
+        number,
         kind,
     })
 }
@@ -102,10 +102,10 @@ fn images_of_notices_and_entries(rt: HostRuntime) {
     assert_eq!(rt; wrong_image(), None);
 }
 
-// An entry, as its version and a split's right page.
+// An entry, as its number and a split's right page.
 type EntryRow = (u32, Option<PageNo>);
 
-// The lesser and the greater by version, by kind and by right page.
+// The lesser and the greater by number, by kind and by right page.
 const RISING: [(EntryRow, EntryRow); 3] = [
     ((1, Some(9)), (2, None)),
     ((3, None), (3, Some(0))),
@@ -113,12 +113,12 @@ const RISING: [(EntryRow, EntryRow); 3] = [
 ];
 
 fn entry(row: EntryRow) -> Entry {
-    let (version, right) = row;
+    let (number, right) = row;
     let kind = match right {
         Some(right) => Kind::Split { right },
         None => Kind::Merge,
     };
-    Entry { version, kind }
+    Entry { number, kind }
 }
 
 fn are_rising(less: Entry, more: Entry) -> bool {

@@ -1,11 +1,11 @@
 //! The texts of faults and names that no line of the program has, and records put one by one.
 
 use exh_codec::ImageFault;
-use exh_frames::PagesFault;
 use exh_keyer::AnyKeyer;
 use exh_notice::NoticeFault;
 use exh_page::{Key, Record, Records, SizeFault, Value};
 use exh_prefix::Prefix;
+use exh_stores::PagesFault;
 use std::alloc::{AllocError, Global};
 use std::fmt::Display;
 use std::test::Fail;

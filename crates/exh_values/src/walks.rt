@@ -5,12 +5,12 @@
 ghost use Rattle.std.specs.Prelude.{⊤};
 
 use exh_calls::{Call, Reply};
-use exh_frames::PlainPages;
 use exh_keyer::PlainKeyer;
 use exh_notice::Notice;
 use exh_page::{Key, Value};
 use exh_prefix::PageNo;
 use exh_settings::FileSettings;
+use exh_stores::PlainPages;
 use exh_walk::{AskFault, Gate, OpenGate, Steps, TurnGate, walk_steps, walk_ward};
 use exh_ward::{Hop, Ward, WardFault, first_page};
 use std::alloc::Global;

@@ -13,7 +13,7 @@ use Rattle.exh_walk.specs.declared.ask_fault.AskFault.TheVariants.{Held}
 use Rattle.exh_walk.specs.declared.walk.Turn.{Turn}
 use Rattle.exh_walk.specs.declared.walk.Turn.TheVariants.{Answered, At}
 use Rattle.exh_walk.specs.Turn.{IsNext, IsTurn, IsSplitTurn}
-use Rattle.exh_walk.specs.Walk.{Due, HopDue, SplitDue, Over, after_fault, due_after, due_from, IsRun, IsWhatWasDue, AreDue, hops_in, MaySayNo, MaySayYes, MayPass, IsEnd, IsWay, IsWalked}
+use Rattle.exh_walk.specs.CallerWalk.{Due, HopDue, SplitDue, Over, after_fault, due_after, due_from, IsRun, IsWhatWasDue, AreDue, hops_in, MaySayNo, MaySayYes, MayPass, IsEnd, IsWay, IsWalked}
 
 -- ---- what a turn came to
 

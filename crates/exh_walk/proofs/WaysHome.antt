@@ -11,7 +11,7 @@ use Rattle.exh_calls.specs.MapMachine.{reply_of}
 use Rattle.exh_calls.specs.declared.call.Call.{Call}
 use Rattle.exh_calls.specs.declared.reply.Reply.{Reply}
 use Rattle.exh_ward.specs.HopTable.{HopOf, Overflows}
-use Rattle.exh_ward.specs.Laws.{OneHop}
+use Rattle.exh_ward.specs.WardLaws.{OneHop}
 use Rattle.exh_ward.specs.WardFault.{IsStoreFault}
 use Rattle.exh_ward.specs.WardState.{WardState}
 use Rattle.exh_ward.specs.declared.hop.Hop.{Hop}
@@ -19,12 +19,12 @@ use Rattle.exh_ward.specs.declared.hop.Hop.TheVariants.{Done, Moved, MustSplit, 
 use Rattle.exh_ward.specs.declared.ward_fault.WardFault.{WardFault}
 use Rattle.exh_ward.specs.declared.ward_fault.WardFault.TheVariants.{Memory, Page as PageFault, NoPage, NotLive, NotFull, AtLimit, NoBuddy, BuddySplit, TooMany, Worn}
 use Rattle.exh_route.specs.Distance.{IsDistance}
-use Rattle.exh_route.specs.Laws.{EndsAtHome, OneDistance}
-use Rattle.exh_route.specs.Moves.{AreMoves, EndsMoves}
+use Rattle.exh_route.specs.RouteLaws.{EndsAtHome, OneDistance}
+use Rattle.exh_route.specs.WardMoves.{AreMoves, EndsMoves}
 use Rattle.exh_route.specs.WardRun.{WardEvent, HopAt}
 use Rattle.exh_walk.specs.declared.ask_fault.AskFault.{AskFault}
 use Rattle.exh_walk.specs.declared.ask_fault.AskFault.TheVariants.{Held}
-use Rattle.exh_walk.specs.Walk.{Due, HopDue, SplitDue, Over, IsRun, AreDue, IsWhatWasDue, IsEnd, IsWalked, MayPass, MaySayNo, MaySayYes, after_fault, fault_at, due_after, due_from, hops_in}
+use Rattle.exh_walk.specs.CallerWalk.{Due, HopDue, SplitDue, Over, IsRun, AreDue, IsWhatWasDue, IsEnd, IsWalked, MayPass, MaySayNo, MaySayYes, after_fault, fault_at, due_after, due_from, hops_in}
 use Rattle.exh_walk.specs.WardStep.{IsWardStep}
 
 -- ---- moves

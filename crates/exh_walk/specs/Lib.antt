@@ -1,4 +1,4 @@
-pub mod Walk
+pub mod CallerWalk
 pub mod Turn
 pub mod WardStep
 pub mod WardWalk

@@ -8,7 +8,7 @@ use Rattle.exh_route.specs.WardRun.{WardEvent, HopAt, SplitAt}
 use Rattle.exh_walk.specs.declared.ask_fault.AskFault.{AskFault}
 use Rattle.exh_walk.specs.declared.walk.Turn.{Turn}
 use Rattle.exh_walk.specs.declared.walk.Turn.TheVariants.{Answered, At}
-use Rattle.exh_walk.specs.Walk.{Due, HopDue, SplitDue, Over, due_after, due_from, IsRun, AreDue, hops_in}
+use Rattle.exh_walk.specs.CallerWalk.{Due, HopDue, SplitDue, Over, due_after, due_from, IsRun, AreDue, hops_in}
 
 -- what a turn came to is what is then to come
 abbrev pub IsNext : Due → Result Turn AskFault → Type 0

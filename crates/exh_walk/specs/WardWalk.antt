@@ -2,7 +2,7 @@
 use Rattle.std.specs.Prelude.{◌≡◌, ◌⊎◌, ℕ, ◌+◌, ◌≤◌, Bool, List, [], ◌∷◌, ◌++◌, All, Result, Ok, Err}
 use Rattle.exh_notice.specs.declared.notice.Notice.{Notice}
 use Rattle.exh_page.specs.declared.page.Page.{Page}
-use Rattle.exh_legal.specs.Laws.{IsBelow}
+use Rattle.exh_legal.specs.LegalLaws.{IsBelow}
 use Rattle.exh_calls.specs.declared.call.Call.{Call}
 use Rattle.exh_calls.specs.declared.reply.Reply.{Reply}
 use Rattle.exh_calls.specs.declared.journal_entry.JournalEntry.{JournalEntry}
@@ -14,7 +14,7 @@ use Rattle.exh_route.specs.Distance.{IsDistance}
 use Rattle.exh_route.specs.WardRun.{WardEvent, HopAt, SplitAt, WardMoment, IsWardRun}
 use Rattle.exh_walk.specs.declared.ask_fault.AskFault.{AskFault}
 use Rattle.exh_walk.specs.declared.ask_fault.AskFault.TheVariants.{Held}
-use Rattle.exh_walk.specs.Walk.{MaySayNo, MaySayYes}
+use Rattle.exh_walk.specs.CallerWalk.{MaySayNo, MaySayYes}
 
 -- the entry of an answer, and none of a refusal
 abbrev pub entries_of : ℕ → Call → Result Reply AskFault → List JournalEntry

@@ -1,6 +1,6 @@
 ghost use Rattle.std.specs.Prelude.{◌≡◌, Some};
 ghost use Rattle.exh_ward.specs.WardFault.{IsStoreFault};
-ghost use Rattle.exh_walk.specs.Walk.{ask_fault_number, fault_at};
+ghost use Rattle.exh_walk.specs.CallerWalk.{ask_fault_number, fault_at};
 
 use exh_ward::WardFault;
 use thiserror::Error;

@@ -1,7 +1,7 @@
 ghost use Rattle.std.specs.Prelude.{ℕ, IfErr};
 ghost use Rattle.exh_calls.specs.declared.call.Call.{Call as CallValue};
 ghost use Rattle.exh_route.specs.WardRun.{WardEvent, HopAt, SplitAt};
-ghost use Rattle.exh_walk.specs.Walk.{ServesOn};
+ghost use Rattle.exh_walk.specs.CallerWalk.{ServesOn};
 ghost use Rattle.exh_ward.specs.WardFault.{IsStoreFault};
 
 use exh_calls::Call;

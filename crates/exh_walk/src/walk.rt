@@ -1,6 +1,6 @@
 ghost use Rattle.std.specs.Prelude.{◌≡◌};
 ghost use Rattle.exh_walk.specs.Turn.{IsTurn, IsSplitTurn};
-ghost use Rattle.exh_walk.specs.Walk.{IsWalked, ServesOn, half_of, right_begins};
+ghost use Rattle.exh_walk.specs.CallerWalk.{IsWalked, ServesOn, half_of, right_begins};
 
 use crate::{AskFault, Gate, Steps};
 use exh_calls::{Call, Reply};

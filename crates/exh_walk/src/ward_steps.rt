@@ -6,10 +6,10 @@ ghost use Rattle.exh_ward.specs.WardState.{own_prefix};
 
 use crate::Steps;
 use exh_calls::Call;
-use exh_frames::Pages;
 use exh_keyer::Keyer;
 use exh_notice::Notice;
 use exh_prefix::PageNo;
+use exh_stores::Pages;
 use exh_ward::{Hop, Ward, WardFault};
 
 /// A ward by itself: nothing steps between.

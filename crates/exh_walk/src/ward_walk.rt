@@ -7,10 +7,10 @@ ghost use Rattle.exh_ward.specs.WardState.{IsSoundWard, own_prefix};
 
 use crate::{AskFault, Gate, walk_steps};
 use exh_calls::{Call, Reply};
-use exh_frames::Pages;
 use exh_keyer::Keyer;
 use exh_prefix::PageNo;
 use exh_route::{gets_go_home, one_distance};
+use exh_stores::Pages;
 use exh_ward::{Ward, one_hop};
 
 /// The walk of `walk_steps` over a ward by itself, which covers the call's key. An answer adds one

@@ -5,19 +5,19 @@ use Rattle.std.proofs.Math.Pow.{pow_mono}
 use Rattle.exh_prefix.specs.declared.prefix.TheConstants.{LIMIT}
 use Rattle.exh_prefix.specs.BitLemmas.{length-bits_of}
 use Rattle.exh_prefix.specs.Prefix.{low_of}
-use Rattle.exh_prefix.specs.ListLemmas.{one_there}
+use Rattle.exh_prefix.specs.PrefixListLemmas.{one_there}
 use Rattle.exh_page.specs.declared.page.Page.{Page}
 use Rattle.exh_page.specs.declared.page.Page.TheVariants.{Live}
 use Rattle.exh_page.specs.declared.record.Record.{Record}
 use Rattle.exh_page.specs.Page.{records_of, with_records}
 use Rattle.exh_page.specs.Records.{value_at}
 use Rattle.exh_page.specs.Search.{IsSought}
-use Rattle.exh_legal.specs.Laws.{PagesAreFew}
+use Rattle.exh_legal.specs.LegalLaws.{PagesAreFew}
 use Rattle.exh_legal.specs.Pages.{map_of, IsAt}
 use Rattle.exh_calls.specs.Call.{key_of}
 use Rattle.exh_calls.specs.Effect.{Change, effect_of}
 use Rattle.exh_ward.specs.HopTable.{HopOf, pages_after}
-use Rattle.exh_ward.specs.Kept.{IsKeptWard}
+use Rattle.exh_ward.specs.WardKept.{IsKeptWard}
 use Rattle.exh_calls.specs.MapMachine.{reply_of, map_after}
 use Rattle.exh_ward.specs.PageAnswer.{effect_at, reply_by, records_changed, records_after}
 use Rattle.exh_legal.specs.PageIndex.{IndexMap}

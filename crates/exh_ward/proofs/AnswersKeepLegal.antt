@@ -12,7 +12,7 @@ use Rattle.std.proofs.lemmas.Map.Lookups.{exact_bytes}
 use Rattle.exh_prefix.specs.Bits.{word_bits}
 use Rattle.exh_prefix.specs.Prefix.{Begins, begins}
 use Rattle.exh_prefix.specs.PrefixLemmas.{is_front-true, IsFront-from_test}
-use Rattle.exh_prefix.specs.ListLemmas.{set_here, set_else, is_equal, AllByRecursion-filter}
+use Rattle.exh_prefix.specs.PrefixListLemmas.{set_here, set_else, is_equal, AllByRecursion-filter}
 use Rattle.exh_page.specs.declared.page.Page.{Page}
 use Rattle.exh_page.specs.declared.page.Page.TheVariants.{Live}
 use Rattle.exh_page.specs.declared.record.Record.{Record}
@@ -25,10 +25,10 @@ use Rattle.exh_page.specs.KeyMap.{KeyMap}
 use Rattle.exh_legal.specs.Pages.{map_of, IsAt, IsHome, IsLegalPage, IsLegal, AreLinked, bare}
 use Rattle.exh_page.specs.KeyMapLemmas.{same_maps}
 use Rattle.exh_legal.specs.MapLemmas.{place_of_key, get-map_of, get-map_of_pages, found_at, found_alike, none_elsewhere, page_at, all_pages}
-use Rattle.exh_legal.specs.PlaceLemmas.{bare_set}
+use Rattle.exh_legal.specs.LegalPlaceLemmas.{bare_set}
 use Rattle.exh_calls.specs.Call.{key_of}
 use Rattle.exh_calls.specs.Effect.{Change, Keep, Set, Remove, Effect, effect_of}
-use Rattle.exh_calls.specs.EffectLemmas.{full_sets_nothing}
+use Rattle.exh_calls.specs.CallEffectLemmas.{full_sets_nothing}
 use Rattle.exh_calls.specs.MapMachine.{effect_in, changed, map_after}
 use Rattle.exh_ward.specs.PageAnswer.{records_changed, records_after}
 use Rattle.exh_calls.specs.declared.call.Call.{Call}

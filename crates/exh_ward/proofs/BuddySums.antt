@@ -3,23 +3,23 @@ use Rattle.std.proofs.Common.{◌≡◌, ℕ, ◌+◌, ◌≤◌, Bool, true, fa
 use Rattle.std.proofs.lemmas.Bool.{false≢true}
 use Rattle.std.proofs.lemmas.List.{length_push, same_from_push}
 use Rattle.std.proofs.lemmas.Option.{slice_get_within}
-use Rattle.exh_prefix.specs.ListLemmas.{one_there}
+use Rattle.exh_prefix.specs.PrefixListLemmas.{one_there}
 use Rattle.exh_page.specs.declared.page.Page.{Page}
 use Rattle.exh_page.specs.declared.page.Page.TheVariants.{Live}
 use Rattle.exh_page.specs.declared.page_head.PageHead.{PageHead}
 use Rattle.exh_page.specs.declared.page_head.PageHead.TheVariants.{Live as LiveHead}
-use Rattle.exh_frames.specs.PageStore.{HasHead}
+use Rattle.exh_stores.specs.PageStore.{HasHead}
 use Rattle.exh_page.specs.PageHead.{head_of}
-use Rattle.exh_halves.specs.LeftHalf.{IsLeftHalf}
-use Rattle.exh_halves.specs.Refusal.{NoLeftHalf}
-use Rattle.exh_halves.specs.declared.halves_fault.HalvesFault.{HalvesFault}
-use Rattle.exh_halves.specs.declared.halves_fault.HalvesFault.TheVariants.{NotLive, NotFull, AtLimit, NoBuddy, BuddySplit, TooMany, Memory}
-use Rattle.exh_halves.specs.declared.left_half.LeftHalf.{LeftHalf}
-use Rattle.exh_legal.specs.Laws.{LeftChildrenLinkToSiblings}
+use Rattle.exh_legal.specs.LeftHalf.{IsLeftHalf}
+use Rattle.exh_legal.specs.HalvesFault.{NoLeftHalf}
+use Rattle.exh_legal.specs.declared.halves_fault.HalvesFault.{HalvesFault}
+use Rattle.exh_legal.specs.declared.halves_fault.HalvesFault.TheVariants.{NotLive, NotFull, AtLimit, NoBuddy, BuddySplit, TooMany, Memory}
+use Rattle.exh_legal.specs.declared.left_half.LeftHalf.{LeftHalf}
+use Rattle.exh_legal.specs.LegalLaws.{LeftChildrenLinkToSiblings}
 use Rattle.exh_legal.specs.PageIndex.{IndexMap}
 use Rattle.exh_legal.specs.Pages.{IsAt}
 use Rattle.exh_ward.specs.BuddySum.{HasBuddySum, HasSumBeside, IsBuddySum}
-use Rattle.exh_ward.specs.Kept.{IsKeptWard}
+use Rattle.exh_ward.specs.WardKept.{IsKeptWard}
 use Rattle.exh_ward.specs.WardState.{WardState, own_prefix}
 use Rattle.exh_ward.proofs.Heads.{headed}
 use Rattle.exh_ward.proofs.MergesAreSteps.{left_child, live_left, page_is, right_is, to_sibling}

@@ -8,22 +8,22 @@ use Rattle.std.proofs.lemmas.List.{length-append}
 use Rattle.std.proofs.lemmas.Option.{slice_get_within}
 use Rattle.exh_prefix.specs.Prefix.{prefix_cmp}
 use Rattle.exh_prefix.specs.PrefixLemmas.{prefix_cmp-total, prefix_cmp-exact}
-use Rattle.exh_prefix.specs.ListLemmas.{one_there, at_front, at_last, is_equal}
+use Rattle.exh_prefix.specs.PrefixListLemmas.{one_there, at_front, at_last, is_equal}
 use Rattle.exh_notice.specs.declared.entry.Entry.{Entry}
 use Rattle.exh_notice.specs.declared.entry.Kind.{Kind}
 use Rattle.exh_notice.specs.declared.notice.Notice.{Notice}
 use Rattle.exh_notice.specs.Entry.{entry_of}
-use Rattle.exh_table.specs.Table.{TableMap, greater_of, version_of, table_with, table_at, raised, entry_after}
+use Rattle.exh_table.specs.Table.{TableMap, greater_of, entry_number, table_with, table_at, raised, entry_after}
 use Rattle.exh_table.specs.SetLemmas.{IsTableSince-push}
 use Rattle.exh_page.specs.declared.page.Page.{Page}
 use Rattle.exh_page.specs.Page.{low_bound}
 use Rattle.exh_legal.specs.Growth.{IsPageOf}
-use Rattle.exh_legal.specs.Laws.{KeepsPlaces}
+use Rattle.exh_legal.specs.LegalLaws.{KeepsPlaces}
 use Rattle.exh_legal.specs.NoticeLemmas.{one_true_more, still_true}
-use Rattle.exh_legal.specs.Versions.{index_of, AreNumbered, next_notice, version_at}
+use Rattle.exh_legal.specs.ChangeNumbers.{index_of, AreNumbered, next_notice, number_at}
 use Rattle.exh_legal.specs.Pages.{IsAt, bare}
-use Rattle.exh_legal.specs.PlaceLemmas.{page_full, page_bare}
-use Rattle.exh_ward.specs.Kept.{IsKeptWard}
+use Rattle.exh_legal.specs.LegalPlaceLemmas.{page_full, page_bare}
+use Rattle.exh_ward.specs.WardKept.{IsKeptWard}
 use Rattle.exh_legal.specs.PageIndex.{IndexMap, IsIndexOf}
 use Rattle.exh_ward.specs.Told.{IsChangedTo, IsNextNotice, IsTold}
 use Rattle.exh_ward.specs.WardFault.{IsStoreFault, IsTakingFault, IsTellingFault, SplitRefused}
@@ -76,10 +76,10 @@ stands table notice =
 
 -- the notice that a ward makes of what stood at a prefix
 pub notice_made : (ward : ℕ) (table : TableMap) (prefix : List Bool) (kind : Kind) (stood : Option Entry) → stood ≡ fin.get table prefix → (index : ℕ) → index ≡ index_of table + 1
-    → (notice : Notice) → notice ≡ record { ward = ward; index = index; prefix = prefix; version = version_of stood + 1; kind = kind } → notice ≡ next_notice ward table prefix kind
+    → (notice : Notice) → notice ≡ record { ward = ward; index = index; prefix = prefix; number = entry_number stood + 1; kind = kind } → notice ≡ next_notice ward table prefix kind
 notice_made ward table prefix kind stood is index index_is notice made =
-    made ∙ ap (λ index. let notice : Notice = record { ward = ward; index = index; prefix = prefix; version = version_of stood + 1; kind = kind } in notice) index_is
-    ∙ ap (λ stood. let notice : Notice = record { ward = ward; index = index_of table + 1; prefix = prefix; version = version_of stood + 1; kind = kind } in notice) is
+    made ∙ ap (λ index. let notice : Notice = record { ward = ward; index = index; prefix = prefix; number = entry_number stood + 1; kind = kind } in notice) index_is
+    ∙ ap (λ stood. let notice : Notice = record { ward = ward; index = index_of table + 1; prefix = prefix; number = entry_number stood + 1; kind = kind } in notice) is
 
 -- ---- as the answer is returned
 
@@ -94,7 +94,7 @@ refused_so (Err fault) P Q is gives = gives fault is
 -- ---- refusals
 
 -- where the version at the prefix isn't the greatest, only the store refuses
-pub telling_stores : {K : Type 0} (w : WardState K) (prefix : List Bool) → (version_at w.table prefix ≡ 2 ^ 32 - 1 → ⊥) → (fault : WardFault) → IsTellingFault w prefix fault → IsStoreFault fault
+pub telling_stores : {K : Type 0} (w : WardState K) (prefix : List Bool) → (number_at w.table prefix ≡ 2 ^ 32 - 1 → ⊥) → (fault : WardFault) → IsTellingFault w prefix fault → IsStoreFault fault
 telling_stores w prefix less NoPage is = is
 telling_stores w prefix less NotLive is = is
 telling_stores w prefix less NotFull is = is
@@ -107,7 +107,7 @@ telling_stores w prefix less Memory is = is
 telling_stores w prefix less PageFault is = is
 
 -- and of a table
-pub taking_stores : (table : TableMap) (prefix : List Bool) → (version_at table prefix ≡ 2 ^ 32 - 1 → ⊥) → (fault : WardFault) → IsTakingFault table prefix fault → IsStoreFault fault
+pub taking_stores : (table : TableMap) (prefix : List Bool) → (number_at table prefix ≡ 2 ^ 32 - 1 → ⊥) → (fault : WardFault) → IsTakingFault table prefix fault → IsStoreFault fault
 taking_stores table prefix less NoPage is = is
 taking_stores table prefix less NotLive is = is
 taking_stores table prefix less NotFull is = is

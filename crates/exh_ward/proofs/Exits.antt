@@ -5,17 +5,17 @@ use Rattle.exh_page.specs.declared.page.Page.{Page as PageType}
 use Rattle.exh_page.specs.declared.page.Page.TheVariants.{Live}
 use Rattle.exh_page.specs.declared.record.Record.{Record}
 use Rattle.exh_page.specs.Page.{IsLive}
-use Rattle.exh_frames.specs.PageStore.{CountsFaults}
-use Rattle.exh_frames.specs.declared.pages_fault.PagesFault.{PagesFault}
-use Rattle.exh_frames.specs.declared.pages_fault.PagesFault.TheVariants.{Memory as StoreMemory, Page as StorePage}
-use Rattle.exh_prefix.specs.ListLemmas.{one_there}
+use Rattle.exh_stores.specs.PageStore.{CountsFaults}
+use Rattle.exh_stores.specs.declared.pages_fault.PagesFault.{PagesFault}
+use Rattle.exh_stores.specs.declared.pages_fault.PagesFault.TheVariants.{Memory as StoreMemory, Page as StorePage}
+use Rattle.exh_prefix.specs.PrefixListLemmas.{one_there}
 use Rattle.exh_notice.specs.declared.entry.Kind.{Kind}
 use Rattle.exh_table.specs.Table.{TableMap}
 use Rattle.exh_legal.specs.Pages.{IsAt}
-use Rattle.exh_legal.specs.Versions.{next_notice}
+use Rattle.exh_legal.specs.ChangeNumbers.{next_notice}
 use Rattle.exh_calls.specs.declared.journal_entry.JournalEntry.{JournalEntry}
-use Rattle.exh_halves.specs.declared.halves_fault.HalvesFault.{HalvesFault}
-use Rattle.exh_halves.specs.declared.halves_fault.HalvesFault.TheVariants.{NotLive as SendsOn, NotFull as HasRoom, AtLimit as TooDeep, NoBuddy as NoLeftHalf, BuddySplit as NotBeside, TooMany as Together, Memory as NoMemory}
+use Rattle.exh_legal.specs.declared.halves_fault.HalvesFault.{HalvesFault}
+use Rattle.exh_legal.specs.declared.halves_fault.HalvesFault.TheVariants.{NotLive as SendsOn, NotFull as HasRoom, AtLimit as TooDeep, NoBuddy as NoLeftHalf, BuddySplit as NotBeside, TooMany as Together, Memory as NoMemory}
 use Rattle.exh_ward.specs.Told.{IsTold}
 use Rattle.exh_ward.specs.WardFault.{CountsFailures, IsStoreFault, IsTakingFault, IsTellingFault, MergeRefused, PageRefused, fault_of, fault_of_halves}
 use Rattle.exh_ward.specs.WardState.{WardState}

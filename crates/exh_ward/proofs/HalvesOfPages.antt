@@ -11,15 +11,15 @@ use Rattle.exh_page.specs.Page.{IsLive, low_bound}
 use Rattle.exh_legal.specs.BareLemmas.{bare_at}
 use Rattle.exh_legal.specs.Change.{IsForwardOf}
 use Rattle.exh_legal.specs.Growth.{IsLiveAt}
-use Rattle.exh_legal.specs.Laws.{IsSplittable, LivePagesSplit}
-use Rattle.exh_legal.specs.Versions.{version_at}
+use Rattle.exh_legal.specs.LegalLaws.{IsSplittable, LivePagesSplit}
+use Rattle.exh_legal.specs.ChangeNumbers.{number_at}
 use Rattle.exh_legal.specs.Pages.{IsAt, bare}
-use Rattle.exh_legal.specs.PlaceLemmas.{page_full, page_bare}
-use Rattle.exh_ward.specs.Kept.{IsKeptWard}
+use Rattle.exh_legal.specs.LegalPlaceLemmas.{page_full, page_bare}
+use Rattle.exh_ward.specs.WardKept.{IsKeptWard}
 use Rattle.exh_legal.specs.PageIndex.{IndexMap}
-use Rattle.exh_halves.specs.Refusal.{NotHalved}
-use Rattle.exh_halves.specs.declared.halves_fault.HalvesFault.{HalvesFault}
-use Rattle.exh_halves.specs.declared.halves_fault.HalvesFault.TheVariants.{NotLive, NotFull, AtLimit, NoBuddy, BuddySplit, TooMany, Memory}
+use Rattle.exh_legal.specs.HalvesFault.{NotHalved}
+use Rattle.exh_legal.specs.declared.halves_fault.HalvesFault.{HalvesFault}
+use Rattle.exh_legal.specs.declared.halves_fault.HalvesFault.TheVariants.{NotLive, NotFull, AtLimit, NoBuddy, BuddySplit, TooMany, Memory}
 use Rattle.exh_ward.specs.WardFault.{SplitRefusedAt, SplitRefused, fault_of_halves}
 use Rattle.exh_ward.specs.WardState.{WardState, own_prefix}
 use Rattle.exh_ward.specs.declared.ward_fault.WardFault.{WardFault}
@@ -84,5 +84,5 @@ module _ {K : Type 0} {pseudo : List ℕ → ℕ} {takes : Page → Type 0} {own
   found_forward (Some right) is = ready.forwards right (page_full w.pages low right ((kept.indexed low right).0 (sym is)).1)
 
   -- the version at the prefix is even
-  pub even_here : (version_at w.table prefix) % 2 ≡ 0
+  pub even_here : (number_at w.table prefix) % 2 ≡ 0
   even_here = ready.even

@@ -22,7 +22,7 @@ use Rattle.exh_legal.specs.BareLemmas.{bare_at}
 use Rattle.exh_legal.specs.MapLemmas.{map_of_records, place_of_key, same_test, get-map_of, get-map_of_records, none_of_others, page_at}
 use Rattle.exh_calls.specs.Call.{key_of}
 use Rattle.exh_calls.specs.Effect.{Effect, effect_of, sets_new}
-use Rattle.exh_calls.specs.EffectLemmas.{same_effect}
+use Rattle.exh_calls.specs.CallEffectLemmas.{same_effect}
 use Rattle.exh_calls.specs.MapMachine.{sharing, is_full, effect_in, reply_of}
 use Rattle.exh_ward.specs.PageAnswer.{effect_at, OverflowsPage}
 use Rattle.exh_calls.specs.declared.call.Call.{Call}

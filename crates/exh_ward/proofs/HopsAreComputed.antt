@@ -12,7 +12,7 @@ use Rattle.exh_page.specs.declared.page.Page.{Page}
 use Rattle.exh_page.specs.declared.page.Page.TheVariants.{Live, Forward}
 use Rattle.exh_page.specs.Page.{low_bound}
 use Rattle.exh_page.specs.declared.record.Record.{Record}
-use Rattle.exh_legal.specs.Laws.{RightLinksLeadOn}
+use Rattle.exh_legal.specs.LegalLaws.{RightLinksLeadOn}
 use Rattle.exh_prefix.specs.Prefix.{Begins, is_front}
 use Rattle.exh_calls.specs.Call.{key_of}
 use Rattle.exh_page.specs.KeyMap.{KeyMap}

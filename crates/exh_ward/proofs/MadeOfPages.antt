@@ -5,20 +5,20 @@ use Rattle.std.proofs.Math.Nat.{pow-le-pow_right}
 use Rattle.exh_prefix.specs.BitLemmas.{length-bits_of}
 use Rattle.exh_prefix.specs.declared.prefix.TheConstants.{LIMIT, WARD_BITS_LIMIT}
 use Rattle.exh_notice.specs.declared.notice.Notice.{Notice}
-use Rattle.exh_table.specs.Laws.{OwnEntries}
+use Rattle.exh_table.specs.TableLaws.{OwnEntries}
 use Rattle.exh_table.specs.Table.{TableMap, IsTableOf, IsTableSince}
 use Rattle.exh_page.specs.declared.page.TheConstants.{CAP_LIMIT}
 use Rattle.exh_page.specs.declared.page.Page.{Page}
 use Rattle.exh_page.specs.KeyMap.{KeyMap}
 use Rattle.exh_page.specs.Page.{IsWellFormed}
 use Rattle.exh_legal.specs.BareLemmas.{bare_at, bare_low}
-use Rattle.exh_legal.specs.Laws.{EntriesAreFew, IsWard}
-use Rattle.exh_legal.specs.Versions.{index_of}
+use Rattle.exh_legal.specs.LegalLaws.{EntriesAreFew, IsWard}
+use Rattle.exh_legal.specs.ChangeNumbers.{index_of}
 use Rattle.exh_legal.specs.Pages.{AreLinked, bare, map_of}
 use Rattle.exh_prefix.specs.Leading.{ward_prefix}
 use Rattle.exh_calls.specs.declared.journal_entry.JournalEntry.{JournalEntry}
 use Rattle.exh_ward.specs.FromPages.{HaveOwnBounds}
-use Rattle.exh_ward.specs.Kept.{IsKeptWard}
+use Rattle.exh_ward.specs.WardKept.{IsKeptWard}
 use Rattle.exh_legal.specs.PageIndex.{IndexMap, IsIndexOf}
 use Rattle.exh_ward.specs.WardState.{WardState}
 

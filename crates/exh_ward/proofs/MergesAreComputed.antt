@@ -15,7 +15,7 @@ use Rattle.exh_page.specs.declared.record.Record.{Record}
 use Rattle.exh_page.specs.Page.{low_bound, records_of}
 use Rattle.exh_legal.specs.BareLemmas.{bare_at}
 use Rattle.exh_legal.specs.Change.{IsMerge}
-use Rattle.exh_legal.specs.Versions.{next_notice, version_at}
+use Rattle.exh_legal.specs.ChangeNumbers.{next_notice, number_at}
 use Rattle.exh_legal.specs.Pages.{IsAt, AreLinked, bare}
 use Rattle.exh_ward.specs.MergeFunction.{parent_of, is_left_child, is_live_of, buddy_number, merge_of_both, merge_of_page, merge_of, united, merged, ward_after_merge}
 use Rattle.exh_ward.specs.MergeStep.{IsBuddy, HasNoBuddy, IsMergeStep}
@@ -126,12 +126,12 @@ module _ {K : Type 0} (ward : WardState K) (at : ℕ) where
       pub many : ward.cap < length records + length others → merge_of ward at ≡ Err (TooMany (length records + length others))
       many more = both_are ∙ rw (le-leb (suc ward.cap) (length records + length others) more) refl
 
-      pub worn : length records + length others ≤ ward.cap → version_at ward.table parent ≡ 2 ^ 32 - 1 → merge_of ward at ≡ Err Worn
-      worn few last = both_are ∙ rw (lt-leb (suc ward.cap) (length records + length others) (omega arith), eq-eqb (version_at ward.table parent) (2 ^ 32 - 1) last) refl
+      pub worn : length records + length others ≤ ward.cap → number_at ward.table parent ≡ 2 ^ 32 - 1 → merge_of ward at ≡ Err Worn
+      worn few last = both_are ∙ rw (lt-leb (suc ward.cap) (length records + length others) (omega arith), eq-eqb (number_at ward.table parent) (2 ^ 32 - 1) last) refl
 
-      pub noticed : length records + length others ≤ ward.cap → (version_at ward.table parent ≡ 2 ^ 32 - 1 → ⊥) → merge_of ward at ≡ Ok (next_notice ward.number ward.table parent Merge)
+      pub noticed : length records + length others ≤ ward.cap → (number_at ward.table parent ≡ 2 ^ 32 - 1 → ⊥) → merge_of ward at ≡ Ok (next_notice ward.number ward.table parent Merge)
       noticed few unworn =
-          let other : nat_eq (version_at ward.table parent) (2 ^ 32 - 1) ≡ false = false_from_ne_true _ (λ same. unworn (eqb-true (version_at ward.table parent) (2 ^ 32 - 1) same)) in
+          let other : nat_eq (number_at ward.table parent) (2 ^ 32 - 1) ≡ false = false_from_ne_true _ (λ same. unworn (eqb-true (number_at ward.table parent) (2 ^ 32 - 1) same)) in
           both_are ∙ rw (lt-leb (suc ward.cap) (length records + length others) (omega arith), other) refl
 
       pub pages_are : option_map_or (merged ward.pages at) (slice_get ward.pages at) ward.pages
@@ -171,11 +171,11 @@ module _ {K : Type 0} (ward : WardState K) (at : ℕ) where
         (slice_get_within ward.pages at _ merge.there) (omega (arith, slice_get_within ward.pages merge.right _ merge.buddy)) merge.merged merge.forwards merge.others
         ∙ sym (pages_are parent merge.left_link merge.left_records merge.there (inner_of parent new merge) linked merge.right merge.right_link merge.right_records merge.buddy)
 
-    pub merge_is : (notice : Notice) (new : WardState K) → IsMergeStep ward at notice new → notice.version < 2 ^ 32 → (merge_of ward at ≡ Ok notice) × (new ≡ ward_after_merge ward at)
+    pub merge_is : (notice : Notice) (new : WardState K) → IsMergeStep ward at notice new → notice.number < 2 ^ 32 → (merge_of ward at ≡ Ok notice) × (new ≡ ward_after_merge ward at)
     unfolding ward_after_merge
     merge_is notice new step room =
         let merge = step.merge in
-        let number : version_at ward.table notice.prefix + 1 < 2 ^ 32 = subst (λ n. n < 2 ^ 32) (ap (λ (n : Notice). n.version) step.notice_is) room in
+        let number : number_at ward.table notice.prefix + 1 < 2 ^ 32 = subst (λ n. n < 2 ^ 32) (ap (λ (n : Notice). n.number) step.notice_is) room in
         let is : merge_of ward at ≡ Ok notice =
         noticed notice.prefix merge.left_link merge.left_records merge.there (inner_of notice.prefix new.pages merge) linked merge.right merge.right_link merge.right_records merge.buddy merge.few (λ last. omega (arith, number, last))
         ∙ ap Ok (sym step.notice_is) in

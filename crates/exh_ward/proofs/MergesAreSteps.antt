@@ -10,28 +10,28 @@ use Rattle.exh_notice.specs.declared.notice.Notice.{Notice}
 use Rattle.exh_page.specs.declared.page.TheConstants.{CAP_LIMIT}
 use Rattle.exh_page.specs.declared.page.Page.{Page}
 use Rattle.exh_page.specs.declared.page.Page.TheVariants.{Live, Forward}
-use Rattle.exh_page.specs.Laws.{AreOfWords, BuddiesUnite}
+use Rattle.exh_page.specs.PageLaws.{AreOfWords, BuddiesUnite}
 use Rattle.exh_page.specs.Page.{AreRecordsOf, IsWellFormed, low_bound, records_of}
 use Rattle.exh_page.specs.PageHead.{IsLiveHead, count_in, head_of}
 use Rattle.exh_page.specs.declared.page_head.PageHead.{PageHead}
 use Rattle.exh_page.specs.declared.page_head.PageHead.TheVariants.{Live as LiveHead}
-use Rattle.exh_frames.specs.PageStore.{HasHead}
+use Rattle.exh_stores.specs.PageStore.{HasHead}
 use Rattle.exh_page.specs.Records.{IsRising}
 use Rattle.exh_legal.specs.BareLemmas.{bare_at}
 use Rattle.exh_legal.specs.Change.{IsMerge}
-use Rattle.exh_legal.specs.Laws.{LinksToSibling, LeftChildrenLinkToSiblings, MergesKeepLegal}
+use Rattle.exh_legal.specs.LegalLaws.{LinksToSibling, LeftChildrenLinkToSiblings, MergesKeepLegal}
 use Rattle.exh_prefix.specs.LowLemmas.{left_keeps, right_above}
-use Rattle.exh_prefix.specs.ListLemmas.{set_here, set_else, one_there}
+use Rattle.exh_prefix.specs.PrefixListLemmas.{set_here, set_else, one_there}
 use Rattle.exh_legal.specs.MapLemmas.{page_at}
-use Rattle.exh_legal.specs.Versions.{next_notice}
+use Rattle.exh_legal.specs.ChangeNumbers.{next_notice}
 use Rattle.exh_legal.specs.Pages.{IsAt, IsLegalPage, IsWithin}
-use Rattle.exh_ward.specs.Kept.{IsKeptWard}
+use Rattle.exh_ward.specs.WardKept.{IsKeptWard}
 use Rattle.exh_ward.specs.MergeStep.{IsLeftChild, HasNoBuddy, IsMergeStep}
-use Rattle.exh_halves.specs.Halves.{IsUnionOf}
-use Rattle.exh_halves.specs.LeftHalf.{FitsBeside, IsLeftHalf}
-use Rattle.exh_halves.specs.Refusal.{NoLeftHalf, NotBeside}
-use Rattle.exh_halves.specs.declared.halves_fault.HalvesFault.{HalvesFault}
-use Rattle.exh_halves.specs.declared.left_half.LeftHalf.{LeftHalf}
+use Rattle.exh_legal.specs.Halves.{IsUnionOf}
+use Rattle.exh_legal.specs.LeftHalf.{FitsBeside, IsLeftHalf}
+use Rattle.exh_legal.specs.HalvesFault.{NoLeftHalf, NotBeside}
+use Rattle.exh_legal.specs.declared.halves_fault.HalvesFault.{HalvesFault}
+use Rattle.exh_legal.specs.declared.left_half.LeftHalf.{LeftHalf}
 use Rattle.exh_ward.specs.WardFault.{MergeRefused, IsTellingFault, fault_of_halves}
 use Rattle.exh_ward.specs.declared.ward_fault.WardFault.{WardFault}
 use Rattle.exh_ward.specs.declared.ward_fault.WardFault.TheVariants.{NoPage, NotLive as WardNotLive, NotFull as WardNotFull, AtLimit as WardAtLimit, NoBuddy as WardNoBuddy, BuddySplit as WardBuddySplit, TooMany as WardTooMany, Worn, Memory as WardMemory, Page as PageFault}
@@ -39,7 +39,7 @@ use Rattle.exh_legal.specs.PageIndex.{IndexMap}
 use Rattle.exh_ward.specs.Told.{IsChangedTo, IsTold}
 use Rattle.exh_ward.specs.JoinedPage.{FitTogether, AreJoined}
 use Rattle.exh_ward.specs.WardState.{WardState, IsSound, own_prefix}
-use Rattle.exh_halves.specs.declared.halves_fault.HalvesFault.TheVariants.{NotLive, NotFull, AtLimit, NoBuddy, BuddySplit, TooMany, Memory}
+use Rattle.exh_legal.specs.declared.halves_fault.HalvesFault.TheVariants.{NotLive, NotFull, AtLimit, NoBuddy, BuddySplit, TooMany, Memory}
 use Rattle.exh_ward.proofs.Heads.{IsHeaded, counted_in, headed}
 use Rattle.exh_ward.proofs.StepsKeepSound.{well_formed}
 
@@ -256,7 +256,7 @@ module _ {K : Type 0} {w : WardState K} {pseudo : List ℕ → ℕ} {at : ℕ} {
   module _ (sound : IsSound pseudo w) (words : AreOfWords pseudo) (law : MergesKeepLegal) (notice : Notice) (next : notice ≡ next_notice w.number w.table parent Merge) where
     changed : IsChangedTo pseudo w notice new
     changed = law w.cap pseudo (own_prefix w) w.start w.notices w.table w.pages at parent new notice words sound.legal merge_is
-        (ap (λ (n : Notice). n.prefix) next) (ap (λ (n : Notice). n.version) next) (ap (λ (n : Notice). n.kind) next)
+        (ap (λ (n : Notice). n.prefix) next) (ap (λ (n : Notice). n.number) next) (ap (λ (n : Notice). n.kind) next)
 
     forward_formed : IsWellFormed pseudo forward_page
     forward_formed =

@@ -11,13 +11,13 @@ use Rattle.exh_notice.specs.declared.notice.Notice.{Notice}
 use Rattle.exh_page.specs.declared.page.Page.{Page}
 use Rattle.exh_page.specs.declared.page.Page.TheVariants.{Live, Forward}
 use Rattle.exh_page.specs.declared.record.Record.{Record}
-use Rattle.exh_page.specs.Laws.{AreOfWords}
+use Rattle.exh_page.specs.PageLaws.{AreOfWords}
 use Rattle.exh_legal.specs.BareLemmas.{bare_at}
 use Rattle.exh_legal.specs.Change.{IsMerge}
-use Rattle.exh_legal.specs.Laws.{IsChanged, MergesKeepLegal}
-use Rattle.exh_legal.specs.Versions.{next_notice, version_at}
+use Rattle.exh_legal.specs.LegalLaws.{IsChanged, MergesKeepLegal}
+use Rattle.exh_legal.specs.ChangeNumbers.{next_notice, number_at}
 use Rattle.exh_legal.specs.Pages.{IsAt, AreLinked, bare}
-use Rattle.exh_ward.specs.Laws.{IsMergeOutcome}
+use Rattle.exh_ward.specs.WardLaws.{IsMergeOutcome}
 use Rattle.exh_ward.specs.MergeFunction.{is_live_of, buddy_number, merge_of, merged, ward_after_merge}
 use Rattle.exh_ward.specs.MergeStep.{IsLeftChild, IsBuddy, HasNoBuddy, IsMergeStep}
 use Rattle.exh_ward.specs.WardFault.{MergeRefused}
@@ -115,7 +115,7 @@ module _ {K : Type 0} (ward : WardState K) (at : ℕ) where
           step : IsMergeStep ward at notice (ward_after ward (Ok notice) new)
           step = record { merge = merge; notice_is = refl; map = changed.map; places = changed.places; others = refl }
 
-          merge_comes : (version_at ward.table parent ≡ 2 ^ 32 - 1 → ⊥) → Comes
+          merge_comes : (number_at ward.table parent ≡ 2 ^ 32 - 1 → ⊥) → Comes
           merge_comes unworn =
               comes (Ok notice) new (noticed ward at parent link records there inner linked right right_link others buddy few unworn)
               (pages_are ward at parent link records there inner linked right right_link others buddy) step
@@ -123,7 +123,7 @@ module _ {K : Type 0} (ward : WardState K) (at : ℕ) where
         both_come : Comes
         both_come = elim (cases_lt ward.cap (length records + length others)) [
           | inl more ↦ refused (TooMany (length records + length others)) (many ward at parent link records there inner linked right right_link others buddy more) (parent, records, others, child, (right, right_link, buddy), refl, more)
-          | inr few ↦ elim (cases_eq (version_at ward.table parent) (2 ^ 32 - 1)) as (λ _. Comes) [
+          | inr few ↦ elim (cases_eq (number_at ward.table parent) (2 ^ 32 - 1)) as (λ _. Comes) [
             | inl last ↦ refused Worn (worn ward at parent link records there inner linked right right_link others buddy few last) (parent, records, others, child, (right, right_link, buddy), few, last)
             | inr unworn ↦ merge_comes few unworn
           ]

@@ -13,10 +13,10 @@ use Rattle.exh_page.specs.declared.page.Page.TheVariants.{Live}
 use Rattle.exh_page.specs.Page.{IsWellFormed}
 use Rattle.exh_page.specs.KeyMap.{KeyMap}
 use Rattle.exh_legal.specs.Growth.{IsPageOf}
-use Rattle.exh_legal.specs.Laws.{LonePagesAreLegal}
-use Rattle.exh_legal.specs.Versions.{index_of}
+use Rattle.exh_legal.specs.LegalLaws.{LonePagesAreLegal}
+use Rattle.exh_legal.specs.ChangeNumbers.{index_of}
 use Rattle.exh_prefix.specs.Leading.{ward_prefix}
-use Rattle.exh_ward.specs.Kept.{IsKeptWard}
+use Rattle.exh_ward.specs.WardKept.{IsKeptWard}
 use Rattle.exh_legal.specs.PageIndex.{IndexMap, IsIndexOf}
 use Rattle.exh_ward.specs.WardState.{WardState}
 use Rattle.exh_prefix.specs.declared.prefix.TheConstants.{WARD_BITS_LIMIT}
@@ -24,7 +24,7 @@ use Rattle.exh_calls.specs.declared.journal_entry.JournalEntry.{JournalEntry}
 use Rattle.std.specs.Ordering.{nat_cmp}
 
 no_index : index_of fin.empty ≡ 0
-no_index = ap (sum_by (λ (e : List Bool × Entry). e.1.version)) no_entries
+no_index = ap (sum_by (λ (e : List Bool × Entry). e.1.number)) no_entries
 
 pub first_alone : (page : Page) (low number : ℕ) → 0 < number → IsPageOf (page ∷ []) low number → ⊥
 first_alone page low zero some is = omega arith

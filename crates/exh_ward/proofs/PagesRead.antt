@@ -7,7 +7,7 @@ use Rattle.std.proofs.lemmas.List.{length-take-le, map-append, take_more}
 use Rattle.std.proofs.lemmas.Option.{get_or_from_slice_get, slice_get_within}
 use Rattle.exh_page.specs.declared.page.Page.{Page}
 use Rattle.exh_page.specs.Page.{low_bound, records_of, with_records}
-use Rattle.exh_legal.specs.Laws.{KeepsPlaces}
+use Rattle.exh_legal.specs.LegalLaws.{KeepsPlaces}
 use Rattle.exh_legal.specs.Pages.{IsAt, bare}
 use Rattle.exh_page.specs.KeyMap.{pair_of}
 use Rattle.exh_ward.specs.FromPages.{HaveOwnBounds, index_with, pairs_of}

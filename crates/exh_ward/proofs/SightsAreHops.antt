@@ -1,12 +1,12 @@
 -- What a call meets, and what its hop comes to.
 use Rattle.std.proofs.Common.{◌≡◌, ℕ, ◌<◌, ◌≤◌, ◌^◌, Bool, List, slice_get, Option, None, Some, refl, sym, ap, ◌∙◌, subst, arith}
 use Rattle.exh_prefix.specs.Prefix.{Begins, low_of}
-use Rattle.exh_prefix.specs.ListLemmas.{one_there}
+use Rattle.exh_prefix.specs.PrefixListLemmas.{one_there}
 use Rattle.exh_page.specs.declared.page.Page.{Page}
 use Rattle.exh_page.specs.declared.page.Page.TheVariants.{Live, Forward}
 use Rattle.exh_page.specs.declared.record.Record.{Record}
 use Rattle.exh_page.specs.Page.{low_bound}
-use Rattle.exh_legal.specs.Laws.{RightLinksLeadOn}
+use Rattle.exh_legal.specs.LegalLaws.{RightLinksLeadOn}
 use Rattle.exh_legal.specs.MapLemmas.{get-map_of}
 use Rattle.exh_legal.specs.Pages.{map_of, IsAt, IsHome, IsLegal}
 use Rattle.exh_calls.specs.Call.{key_of}

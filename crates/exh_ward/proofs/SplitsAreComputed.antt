@@ -13,7 +13,7 @@ use Rattle.exh_page.specs.declared.page.Page.TheVariants.{Live, Forward}
 use Rattle.exh_page.specs.Page.{low_bound, with_records}
 use Rattle.exh_legal.specs.BareLemmas.{bare_at, bare_low}
 use Rattle.exh_legal.specs.Change.{IsSplit}
-use Rattle.exh_legal.specs.Versions.{next_notice}
+use Rattle.exh_legal.specs.ChangeNumbers.{next_notice}
 use Rattle.exh_legal.specs.Pages.{IsAt, AreLinked, bare}
 use Rattle.exh_ward.specs.PlacedPages.{with_page, ward_after}
 use Rattle.exh_ward.specs.SplitFunction.{right_number, left_half, right_half, split_of_page, split_of, halved, ward_after_split}

@@ -8,7 +8,7 @@ use Rattle.std.proofs.Math.Pow.{pow_mono}
 use Rattle.exh_prefix.specs.declared.prefix.TheConstants.{LIMIT, WARD_BITS_LIMIT}
 use Rattle.exh_prefix.specs.BitLemmas.{length-bits_of}
 use Rattle.exh_prefix.specs.Prefix.{low_of}
-use Rattle.exh_prefix.specs.ListLemmas.{set_here, set_else, at_front, at_last}
+use Rattle.exh_prefix.specs.PrefixListLemmas.{set_here, set_else, at_front, at_last}
 use Rattle.exh_notice.specs.declared.entry.Kind.TheVariants.{Split}
 use Rattle.exh_notice.specs.declared.notice.Notice.{Notice}
 use Rattle.exh_page.specs.declared.page.TheConstants.{CAP_LIMIT}
@@ -18,15 +18,15 @@ use Rattle.exh_page.specs.declared.record.Record.{Record}
 use Rattle.exh_page.specs.Page.{IsLive, IsWellFormed, low_bound, begun_by}
 use Rattle.exh_legal.specs.Change.{IsForwardOf, IsSplit}
 use Rattle.exh_legal.specs.Growth.{IsLiveAt}
-use Rattle.exh_legal.specs.Laws.{LivePagesSplit, PagesAreFew, SplitsKeepLegal}
+use Rattle.exh_legal.specs.LegalLaws.{LivePagesSplit, PagesAreFew, SplitsKeepLegal}
 use Rattle.exh_legal.specs.MapLemmas.{page_at}
-use Rattle.exh_legal.specs.Versions.{version_at, next_notice}
+use Rattle.exh_legal.specs.ChangeNumbers.{number_at, next_notice}
 use Rattle.exh_legal.specs.Pages.{IsAt, IsLegalPage}
-use Rattle.exh_halves.specs.Halves.{AreHalvesOf}
+use Rattle.exh_legal.specs.Halves.{AreHalvesOf}
 use Rattle.exh_ward.specs.SplitStep.{IsSplitStep}
 use Rattle.exh_ward.specs.Told.{IsChangedTo, IsTold}
 use Rattle.exh_ward.specs.WardState.{WardState, IsSound, own_prefix}
-use Rattle.exh_halves.specs.declared.halves.Halves.{Halves}
+use Rattle.exh_legal.specs.declared.halves.Halves.{Halves}
 use Rattle.exh_ward.proofs.StepsKeepSound.{well_formed}
 
 -- a page of the ward, with its halves
@@ -157,18 +157,18 @@ module _ {K : Type 0} {w : WardState K} {at : ℕ} {halves : Halves} (is : IsHal
       })))
 
   module _ {pseudo : List ℕ → ℕ} (sound : IsSound pseudo w) where
-    pub version_even : LivePagesSplit → (version_at w.table halves.prefix) % 2 ≡ 0
-    version_even law = (law w.cap pseudo (own_prefix w) w.start w.notices w.table w.pages halves.prefix at sound.legal (halves.link, is.records, is.there) is.short).even
+    pub number_even : LivePagesSplit → (number_at w.table halves.prefix) % 2 ≡ 0
+    number_even law = (law w.cap pseudo (own_prefix w) w.start w.notices w.table w.pages halves.prefix at sound.legal (halves.link, is.records, is.there) is.short).even
 
-    pub not_greatest : LivePagesSplit → version_at w.table halves.prefix ≡ 2 ^ 32 - 1 → ⊥
+    pub not_greatest : LivePagesSplit → number_at w.table halves.prefix ≡ 2 ^ 32 - 1 → ⊥
     not_greatest law same =
-        let parity : (version_at w.table halves.prefix) % 2 ≡ 1 = ap (λ n. n % 2) same in
-        omega (arith, parity, version_even law)
+        let parity : (number_at w.table halves.prefix) % 2 ≡ 1 = ap (λ n. n % 2) same in
+        omega (arith, parity, number_even law)
 
     module _ (law : SplitsKeepLegal) (right : ℕ) (new : List Page) (split : IsSplit w.cap w.pages at halves.prefix right new) (notice : Notice) (next : notice ≡ next_notice w.number w.table halves.prefix (Split right)) where
       pub split_changed : IsChangedTo pseudo w notice new
       split_changed = law w.cap pseudo (own_prefix w) w.start w.notices w.table w.pages at halves.prefix right new notice sound.legal split
-          (ap (λ (n : Notice). n.prefix) next) (ap (λ (n : Notice). n.version) next) (ap (λ (n : Notice). n.kind) next)
+          (ap (λ (n : Notice). n.prefix) next) (ap (λ (n : Notice). n.number) next) (ap (λ (n : Notice). n.kind) next)
 
       -- the halves are well formed
       few_new : PagesAreFew → w.ward_bits ≤ WARD_BITS_LIMIT → length new < 2 ^ 32 - 1

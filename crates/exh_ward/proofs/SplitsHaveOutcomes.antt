@@ -13,11 +13,11 @@ use Rattle.exh_page.specs.declared.page.Page.TheVariants.{Live, Forward}
 use Rattle.exh_page.specs.declared.record.Record.{Record}
 use Rattle.exh_page.specs.Page.{low_bound}
 use Rattle.exh_legal.specs.Change.{IsRevived, IsFresh, IsSplit}
-use Rattle.exh_legal.specs.Laws.{IsChanged, LivePagesSplit, SplitsKeepLegal}
+use Rattle.exh_legal.specs.LegalLaws.{IsChanged, LivePagesSplit, SplitsKeepLegal}
 use Rattle.exh_prefix.specs.LowLemmas.{right_above}
-use Rattle.exh_legal.specs.Versions.{next_notice}
+use Rattle.exh_legal.specs.ChangeNumbers.{next_notice}
 use Rattle.exh_legal.specs.Pages.{IsAt}
-use Rattle.exh_ward.specs.Laws.{IsSplitOutcome}
+use Rattle.exh_ward.specs.WardLaws.{IsSplitOutcome}
 use Rattle.exh_ward.specs.PlacedPages.{with_page, ward_after}
 use Rattle.exh_ward.specs.SplitFunction.{right_number, left_half, right_half, split_of, halved, ward_after_split}
 use Rattle.exh_ward.specs.WardFault.{SplitRefused}

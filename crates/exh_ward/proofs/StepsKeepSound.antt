@@ -10,12 +10,12 @@ use Rattle.exh_page.specs.declared.record.Record.{Record}
 use Rattle.exh_page.specs.Page.{AreRecordsOf, IsWellFormed, with_records}
 use Rattle.exh_legal.specs.Growth.{IsGrown}
 use Rattle.exh_legal.specs.Fit.{FitsPages}
-use Rattle.exh_legal.specs.Laws.{IsWard}
+use Rattle.exh_legal.specs.LegalLaws.{IsWard}
 use Rattle.exh_legal.specs.BareLemmas.{bare_at}
 use Rattle.exh_legal.specs.NoticeLemmas.{places_by_bare, still_true}
 use Rattle.exh_legal.specs.Pages.{map_of, IsAt, IsRightLink, AreLinked, bare}
 use Rattle.exh_calls.specs.Call.{key_of}
-use Rattle.exh_ward.specs.Kept.{IsKeptWard}
+use Rattle.exh_ward.specs.WardKept.{IsKeptWard}
 use Rattle.exh_calls.specs.MapMachine.{reply_of, map_after}
 use Rattle.exh_ward.specs.PageAnswer.{records_after}
 use Rattle.exh_legal.specs.PageIndex.{IndexMap, IsIndexOf}

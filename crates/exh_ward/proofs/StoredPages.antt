@@ -1,7 +1,7 @@
 -- Pages in a store, after one is written.
 use Rattle.std.proofs.Common.{◌≡◌, ℕ, List, refl, ap, ◌∙◌}
 use Rattle.std.specs.Prelude.{slice_set}
-use Rattle.exh_prefix.specs.ListLemmas.{set_same}
+use Rattle.exh_prefix.specs.PrefixListLemmas.{set_same}
 use Rattle.exh_page.specs.declared.page.Page.{Page}
 use Rattle.exh_page.specs.declared.page.Page.TheVariants.{Live, Forward}
 use Rattle.exh_page.specs.Page.{records_of, with_records}

@@ -3,10 +3,10 @@ use Rattle.std.proofs.Common.{◌≡◌, ℕ, List, length, sym}
 use Rattle.std.specs.Prelude.{nat_le}
 use Rattle.exh_page.specs.declared.page.Page.{Page}
 use Rattle.exh_page.specs.Page.{records_of}
-use Rattle.exh_legal.specs.Laws.{KeepsPlaces}
+use Rattle.exh_legal.specs.LegalLaws.{KeepsPlaces}
 use Rattle.exh_legal.specs.NoticeLemmas.{places_by_bare}
 use Rattle.exh_legal.specs.Pages.{bare}
-use Rattle.exh_legal.specs.PlaceLemmas.{bare_with_other}
+use Rattle.exh_legal.specs.LegalPlaceLemmas.{bare_with_other}
 use Rattle.exh_calls.specs.Call.{key_of}
 use Rattle.exh_ward.specs.HopTable.{pages_after}
 use Rattle.exh_ward.specs.PageAnswer.{records_after}

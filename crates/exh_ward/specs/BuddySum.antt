@@ -1,7 +1,7 @@
 -- How many records a page and its right buddy have together.
 use Rattle.std.specs.Prelude.{◌≡◌, ℕ, ◌+◌, Bool, true, List, [], ◌∷◌, ◌++◌, length, Option}
 use Rattle.std.specs.Option.{MatchOption}
-use Rattle.exh_halves.specs.declared.left_half.LeftHalf.{LeftHalf}
+use Rattle.exh_legal.specs.declared.left_half.LeftHalf.{LeftHalf}
 use Rattle.exh_page.specs.declared.page_head.PageHead.{PageHead}
 use Rattle.exh_page.specs.declared.page_head.PageHead.TheVariants.{Live}
 use Rattle.exh_page.specs.declared.record.Record.{Record}

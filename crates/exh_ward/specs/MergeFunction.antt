@@ -9,7 +9,7 @@ use Rattle.exh_page.specs.declared.page.Page.{Page}
 use Rattle.exh_page.specs.declared.page.Page.TheVariants.{Live, Forward}
 use Rattle.exh_page.specs.declared.record.Record.{Record}
 use Rattle.exh_page.specs.Page.{records_of}
-use Rattle.exh_legal.specs.Versions.{next_notice, version_at}
+use Rattle.exh_legal.specs.ChangeNumbers.{next_notice, number_at}
 use Rattle.exh_ward.specs.PlacedPages.{with_page, ward_after}
 use Rattle.exh_ward.specs.WardState.{WardState, own_prefix}
 use Rattle.exh_ward.specs.declared.ward_fault.WardFault.{WardFault}
@@ -44,7 +44,7 @@ abbrev pub merge_of_both : {K : Type 0} → WardState K → List Bool → ℕ �
 merge_of_both ward parent sum =
     if nat_lt ward.cap sum
     then Err (TooMany sum)
-    else (if nat_eq (version_at ward.table parent) (2 ^ 32 - 1) then Err Worn else Ok (next_notice ward.number ward.table parent Merge))
+    else (if nat_eq (number_at ward.table parent) (2 ^ 32 - 1) then Err Worn else Ok (next_notice ward.number ward.table parent Merge))
 
 abbrev pub merge_of_page : {K : Type 0} → WardState K → Page → Result Notice WardFault
 merge_of_page ward (Forward low target) = Err NotLive

@@ -6,8 +6,8 @@ use Rattle.exh_table.specs.Table.{table_with}
 use Rattle.exh_page.specs.declared.page.Page.TheVariants.{Live}
 use Rattle.exh_page.specs.declared.record.Record.{Record}
 use Rattle.exh_legal.specs.Change.{IsMerge}
-use Rattle.exh_legal.specs.Laws.{KeepsPlaces}
-use Rattle.exh_legal.specs.Versions.{next_notice}
+use Rattle.exh_legal.specs.LegalLaws.{KeepsPlaces}
+use Rattle.exh_legal.specs.ChangeNumbers.{next_notice}
 use Rattle.exh_legal.specs.Pages.{IsAt, map_of}
 use Rattle.exh_ward.specs.WardState.{WardState, own_prefix}
 

@@ -10,7 +10,7 @@ use Rattle.exh_page.specs.declared.page.Page.{Page}
 use Rattle.exh_page.specs.declared.page.Page.TheVariants.{Live, Forward}
 use Rattle.exh_page.specs.declared.record.Record.{Record}
 use Rattle.exh_page.specs.Page.{low_bound, begun_by}
-use Rattle.exh_legal.specs.Versions.{next_notice}
+use Rattle.exh_legal.specs.ChangeNumbers.{next_notice}
 use Rattle.exh_ward.specs.PlacedPages.{with_page, ward_after}
 use Rattle.exh_ward.specs.WardState.{WardState}
 use Rattle.exh_ward.specs.declared.ward_fault.WardFault.{WardFault}

@@ -3,8 +3,8 @@ use Rattle.std.specs.Prelude.{◌≡◌, ℕ, List, ◌++◌, ◌∷◌, []}
 use Rattle.exh_notice.specs.declared.notice.Notice.{Notice}
 use Rattle.exh_table.specs.Table.{table_with}
 use Rattle.exh_page.specs.declared.page.Page.{Page}
-use Rattle.exh_legal.specs.Laws.{IsChanged}
-use Rattle.exh_legal.specs.Versions.{next_notice}
+use Rattle.exh_legal.specs.LegalLaws.{IsChanged}
+use Rattle.exh_legal.specs.ChangeNumbers.{next_notice}
 use Rattle.exh_ward.specs.WardState.{WardState, own_prefix}
 
 -- the ward's next notice, at its prefix and of its kind

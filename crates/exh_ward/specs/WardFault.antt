@@ -5,13 +5,13 @@ use Rattle.exh_page.specs.declared.page.Page.{Page as PageType}
 use Rattle.exh_page.specs.declared.page.Page.TheVariants.{Live, Forward}
 use Rattle.exh_page.specs.declared.record.Record.{Record}
 use Rattle.exh_page.specs.Page.{IsLive}
-use Rattle.exh_legal.specs.Versions.{version_at}
+use Rattle.exh_legal.specs.ChangeNumbers.{number_at}
 use Rattle.exh_table.specs.Table.{TableMap}
 use Rattle.exh_legal.specs.Pages.{IsAt}
-use Rattle.exh_frames.specs.declared.pages_fault.PagesFault.{PagesFault}
-use Rattle.exh_frames.specs.declared.pages_fault.PagesFault.TheVariants.{Memory as StoreMemory, Page as StorePage}
-use Rattle.exh_halves.specs.declared.halves_fault.HalvesFault.{HalvesFault}
-use Rattle.exh_halves.specs.declared.halves_fault.HalvesFault.TheVariants.{NotLive as SendsOn, NotFull as HasRoom, AtLimit as TooDeep, NoBuddy as NoLeftHalf, BuddySplit as NotBeside, TooMany as Together, Memory as NoMemory}
+use Rattle.exh_stores.specs.declared.pages_fault.PagesFault.{PagesFault}
+use Rattle.exh_stores.specs.declared.pages_fault.PagesFault.TheVariants.{Memory as StoreMemory, Page as StorePage}
+use Rattle.exh_legal.specs.declared.halves_fault.HalvesFault.{HalvesFault}
+use Rattle.exh_legal.specs.declared.halves_fault.HalvesFault.TheVariants.{NotLive as SendsOn, NotFull as HasRoom, AtLimit as TooDeep, NoBuddy as NoLeftHalf, BuddySplit as NotBeside, TooMany as Together, Memory as NoMemory}
 use Rattle.exh_ward.specs.MergeStep.{IsLeftChild, IsBuddy, HasNoBuddy}
 use Rattle.exh_ward.specs.WardState.{WardState}
 use Rattle.exh_ward.specs.declared.ward_fault.WardFault.{WardFault}
@@ -54,7 +54,7 @@ IsStoreFault fault = ⊥
 
 -- the refusals of a table that is told of a change at a prefix: the number there is the greatest, or memory is wanting
 abbrev pub IsTakingFault : TableMap → List Bool → WardFault → Type 0
-IsTakingFault table prefix Worn = version_at table prefix ≡ 2 ^ 32 - 1
+IsTakingFault table prefix Worn = number_at table prefix ≡ 2 ^ 32 - 1
 IsTakingFault table prefix Memory = ⊤
 IsTakingFault table prefix fault = ⊥
 
@@ -101,7 +101,7 @@ MergeRefused ward at NotLive = (low target : ℕ) × IsAt ward.pages at (Forward
 MergeRefused ward at NoBuddy = (prefix : List Bool) × (link : Option ℕ) × (records : List Record) × IsAt ward.pages at (Live prefix link records) × HasNoBuddy ward prefix
 MergeRefused ward at BuddySplit = (prefix : List Bool) × (records : List Record) × IsLeftChild ward at prefix records × ((others : List Record) → IsBuddy ward prefix others → ⊥)
 MergeRefused ward at (TooMany sum) = (prefix : List Bool) × (records others : List Record) × IsLeftChild ward at prefix records × IsBuddy ward prefix others × (sum ≡ length records + length others) × (ward.cap < sum)
-MergeRefused ward at Worn = (prefix : List Bool) × (records others : List Record) × IsLeftChild ward at prefix records × IsBuddy ward prefix others × (length records + length others ≤ ward.cap) × (version_at ward.table prefix ≡ 2 ^ 32 - 1)
+MergeRefused ward at Worn = (prefix : List Bool) × (records others : List Record) × IsLeftChild ward at prefix records × IsBuddy ward prefix others × (length records + length others ≤ ward.cap) × (number_at ward.table prefix ≡ 2 ^ 32 - 1)
 MergeRefused ward at Memory = ⊤
 MergeRefused ward at Page = ⊤
 MergeRefused ward at fault = ⊥

@@ -5,8 +5,8 @@ use Rattle.exh_table.specs.Table.{TableMap, IsTableSince}
 use Rattle.exh_page.specs.declared.page.Page.{Page}
 use Rattle.exh_legal.specs.Fit.{AreTrueNotices}
 use Rattle.exh_page.specs.KeyMap.{KeyMap}
-use Rattle.exh_legal.specs.Versions.{AreNumbered, index_of}
-use Rattle.exh_legal.specs.Laws.{IsWard}
+use Rattle.exh_legal.specs.ChangeNumbers.{AreNumbered, index_of}
+use Rattle.exh_legal.specs.LegalLaws.{IsWard}
 use Rattle.exh_prefix.specs.Leading.{ward_prefix}
 use Rattle.exh_legal.specs.Pages.{map_of}
 use Rattle.exh_calls.specs.History.{IsHistory, map_left}

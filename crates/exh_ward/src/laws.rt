@@ -1,7 +1,7 @@
 //! What holds of the hop table, and of splits and merges, for the proofs of callers. Each function does
 //! nothing.
 
-ghost use Rattle.exh_ward.specs.Laws.{OneHop, HopsAreComputed, HopsHaveOutcomes, SplitsAreComputed, SplitsHaveOutcomes, MergesAreComputed, MergesHaveOutcomes, AnswersKeepLegal};
+ghost use Rattle.exh_ward.specs.WardLaws.{OneHop, HopsAreComputed, HopsHaveOutcomes, SplitsAreComputed, SplitsHaveOutcomes, MergesAreComputed, MergesHaveOutcomes, AnswersKeepLegal};
 
 use exh_keyer::Keyer;
 use exh_legal::{live_pages_split, merges_keep_legal, right_links_lead_on, splits_keep_legal};

@@ -6,9 +6,9 @@ ghost use Rattle.exh_ward.specs.NewWards.{new_wards};
 ghost use Rattle.exh_ward.specs.WardState.{IsSoundWard, WardState};
 
 use crate::{Ward, first_page};
-use exh_frames::{Pages, StoreMaker};
 use exh_keyer::Keyer;
 use exh_settings::FileSettings;
+use exh_stores::{Pages, StoreMaker};
 use std::alloc::{AllocError, Global};
 
 /// The wards of a new file of these settings, one for each number, in order, each over a store of its

@@ -11,13 +11,13 @@ ghost use Rattle.exh_prefix.specs.declared.prefix.TheConstants.{WARD_BITS_LIMIT}
 
 use crate::seen::Seen;
 use exh_calls::{Base, Journal};
-use exh_frames::Pages;
 use exh_keyer::Keyer;
 use exh_legal::{PageIndex, lone_pages_are_legal};
 use exh_notice::Notice;
 use exh_page::{CAP_LIMIT, Page, Records};
 use exh_prefix::Prefix;
 use exh_settings::FileSettings;
+use exh_stores::Pages;
 use exh_table::Table;
 use std::alloc::Global;
 use std::marker::Model;
@@ -59,10 +59,10 @@ impl<P: Pages + Drop, K: Keyer> Model for Ward<P, K> {
     ghost use Rattle.std.specs.Option.{is_some};
     ghost use Rattle.exh_page.specs.declared.page.TheConstants.{CAP_LIMIT};
     ghost use Rattle.exh_page.specs.KeyMap.{coded_key_map};
-    ghost use Rattle.exh_legal.specs.Versions.{index_of};
+    ghost use Rattle.exh_legal.specs.ChangeNumbers.{index_of};
     ghost use Rattle.exh_legal.specs.Pages.{bare, map_of};
     ghost use Rattle.exh_legal.specs.PageIndex.{IsIndexOf};
-    ghost use Rattle.exh_ward.specs.Kept.{IsKeptWard, base_in};
+    ghost use Rattle.exh_ward.specs.WardKept.{IsKeptWard, base_in};
     ghost use Rattle.exh_table.specs.Table.{coded_table};
     ghost use Rattle.exh_ward.specs.WardState.{WardState};
 

@@ -1,11 +1,11 @@
 ghost use Rattle.std.specs.Prelude.{◌≡◌};
-ghost use Rattle.exh_frames.specs.declared.pages_fault.PagesFault.{PagesFault};
-ghost use Rattle.exh_halves.specs.declared.halves_fault.HalvesFault.{HalvesFault};
+ghost use Rattle.exh_stores.specs.declared.pages_fault.PagesFault.{PagesFault};
+ghost use Rattle.exh_legal.specs.declared.halves_fault.HalvesFault.{HalvesFault};
 ghost use Rattle.exh_ward.specs.WardFault.{fault_of, fault_of_halves, ward_fault_number};
 ghost use Rattle.exh_ward.specs.declared.ward_fault.WardFault.TheVariants.{Memory};
 
-use exh_frames::PagesFault;
-use exh_halves::HalvesFault;
+use exh_legal::HalvesFault;
+use exh_stores::PagesFault;
 use std::alloc::AllocError;
 use thiserror::Error;
 
@@ -33,7 +33,7 @@ pub enum WardFault {
     /// Both pages have this many records together, more than a page may: number 8.
     #[error("both pages have {0} records together")]
     TooMany(usize),
-    /// The version at the parent is the greatest: number 9.
+    /// The number at the parent is the greatest: number 9.
     #[error("the number at the parent is the greatest")]
     Worn,
     /// A growth was refused: number 10.

@@ -13,12 +13,12 @@ use Rattle.exh_event.specs.declared.outcome.Outcome.{Outcome}
 use Rattle.exh_event.specs.declared.outcome.Outcome.TheVariants.{Changed, Hopped}
 use Rattle.exh_event.specs.declared.step_fault.StepFault.{StepFault}
 use Rattle.exh_event.specs.declared.step_fault.StepFault.TheVariants.{NoCopy, NoRequest, NoWard, NoNotice, NoTable}
-use Rattle.exh_event.specs.Progress.{progress_with}
+use Rattle.exh_event.specs.EventProgress.{progress_with}
 use Rattle.exh_page.specs.declared.page.Page.{Page}
 use Rattle.exh_page.specs.declared.page.Page.TheVariants.{Live, Forward}
 use Rattle.exh_prefix.specs.Leading.{ward_of}
 use Rattle.exh_route.specs.DistanceFunction.{distance_of}
-use Rattle.exh_table.specs.Walk.{walk_of}
+use Rattle.exh_table.specs.TableWalk.{walk_of}
 use Rattle.exh_ward.specs.HopTable.{hop_of}
 use Rattle.exh_ward.specs.MergeFunction.{merge_of, merge_of_page, merged, ward_after_merge}
 use Rattle.exh_ward.specs.PlacedPages.{ward_after}
@@ -30,7 +30,7 @@ use Rattle.exh_ward.specs.declared.ward_fault.WardFault.{WardFault}
 use Rattle.exh_world.specs.Alike.{StepFunctionGoesAlike, uncounted}
 use Rattle.exh_world.specs.AlikeLemmas.{counting}
 use Rattle.exh_world.specs.InFlight.{request_named, requests_after}
-use Rattle.exh_world.specs.ListLemmas.{altered_has}
+use Rattle.exh_world.specs.WorldListLemmas.{altered_has}
 use Rattle.exh_world.specs.Step.{pseudokey_in, request_begun}
 use Rattle.exh_world.specs.StepFunction.{Stepped, after_change, begun, hopped, or_refused, pages_in, request_from, step_of, ward_after_hop}
 use Rattle.exh_world.specs.World.{WorldState, changes_in, numbered}

@@ -15,7 +15,7 @@ use Rattle.exh_event.specs.declared.outcome.Outcome.TheVariants.{Begun, Hopped}
 use Rattle.exh_event.specs.declared.progress.Progress.{Progress}
 use Rattle.exh_event.specs.declared.step_fault.StepFault.{StepFault}
 use Rattle.exh_event.specs.declared.step_fault.StepFault.TheVariants.{NameTaken, NoCopy, NoRequest, NoWard, NoNotice, NoTable, Ward}
-use Rattle.exh_event.specs.Progress.{hop_in, progress_with}
+use Rattle.exh_event.specs.EventProgress.{hop_in, progress_with}
 use Rattle.exh_page.specs.declared.record.Record.{Record}
 use Rattle.exh_ward.specs.WardState.{WardState, LeavesAfter}
 use Rattle.exh_ward.specs.MergeStep.{IsLeftChild, IsMergeStep}
@@ -30,8 +30,8 @@ use Rattle.exh_world.specs.AlikeLemmas.{counting, fault_alike, fault_too, ward_t
 use Rattle.exh_world.specs.InFlight.{requests_after}
 use Rattle.exh_world.specs.Step.{HasBegun, HasHopped, HasChanged, HasEffect, IsChangeRefused, IsRefused, ReachesInto, Step, pseudokey_in, request_begun}
 use Rattle.exh_world.specs.World.{WorldState, changes_in}
-use Rattle.exh_world.specs.EffectLemmas.{on_effect}
-use Rattle.exh_world.specs.ListLemmas.{altered_has}
+use Rattle.exh_world.specs.StepEffectLemmas.{on_effect}
+use Rattle.exh_world.specs.WorldListLemmas.{altered_has}
 
 -- ---- wards
 

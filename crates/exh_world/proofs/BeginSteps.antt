@@ -4,8 +4,8 @@ use Rattle.std.specs.Prelude.{is_some, slice_set}
 use Rattle.std.specs.Option.{option_copied}
 use Rattle.std.proofs.lemmas.Option.{get_or_from_slice_get, slice_get_read, slice_get_within}
 use Rattle.exh_prefix.specs.declared.prefix.TheConstants.{WARD_BITS_LIMIT}
-use Rattle.exh_prefix.specs.ListLemmas.{set_same}
-use Rattle.exh_legal.specs.Laws.{IsBelow}
+use Rattle.exh_prefix.specs.PrefixListLemmas.{set_same}
+use Rattle.exh_legal.specs.LegalLaws.{IsBelow}
 use Rattle.exh_ward.specs.WardFault.{IsStoreFault, PageRefused}
 use Rattle.exh_ward.specs.declared.ward_fault.WardFault.{WardFault}
 use Rattle.exh_ward.specs.declared.ward_fault.WardFault.TheVariants as faults
@@ -16,11 +16,11 @@ use Rattle.exh_world.specs.Sound.{IsWardOf, LeadsRightIn}
 use Rattle.exh_world.proofs.BegunSound.{ward_fits, walk_ends_below}
 use Rattle.exh_world.proofs.SoundKept.{count_of}
 use Rattle.exh_table.specs.Table.{TableMap}
-use Rattle.exh_table.specs.Walk.{walk_of}
+use Rattle.exh_table.specs.TableWalk.{walk_of}
 use Rattle.exh_calls.specs.Call.{key_of}
 use Rattle.exh_calls.specs.declared.call.Call.{Call}
 use Rattle.exh_world.specs.InFlight.{Requests, request_named}
-use Rattle.exh_world.specs.Kept.{IsKeptWorld}
+use Rattle.exh_world.specs.WorldKept.{IsKeptWorld}
 use Rattle.exh_route.specs.Distance.{IsDistance}
 use Rattle.exh_ward.specs.WardState.{WardState}
 use Rattle.exh_world.specs.Step.{request_begun, HasBegun}

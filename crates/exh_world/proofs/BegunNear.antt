@@ -4,14 +4,14 @@ use Rattle.std.specs.FinMap.{entries, get}
 use Rattle.std.proofs.lemmas.List.{map-append}
 use Rattle.exh_prefix.specs.Leading.{ward_prefix}
 use Rattle.exh_prefix.specs.Prefix.{IsFront}
-use Rattle.exh_prefix.specs.ListLemmas.{one_there}
+use Rattle.exh_prefix.specs.PrefixListLemmas.{one_there}
 use Rattle.exh_table.specs.Table.{TableMap, IsEntryOf, told_by}
 use Rattle.exh_calls.specs.Call.{key_of}
 use Rattle.exh_calls.specs.declared.call.Call.{Call}
 use Rattle.exh_ward.specs.WardState.{WardState, own_prefix}
 use Rattle.exh_route.specs.Distance.{IsDistance}
 use Rattle.exh_route.specs.DistanceLaws.{IsTableWithin, LateTablesAreNear, NamesPages}
-use Rattle.exh_route.specs.Laws.{DistancesAreFew, OneDistance}
+use Rattle.exh_route.specs.RouteLaws.{DistancesAreFew, OneDistance}
 use Rattle.exh_world.specs.InFlight.{request_named}
 use Rattle.exh_world.specs.Sound.{IsSoundWorld}
 use Rattle.exh_world.specs.Step.{HasBegun, pseudokey_in, request_begun}

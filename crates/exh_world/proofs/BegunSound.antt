@@ -4,12 +4,12 @@ use Rattle.exh_prefix.specs.Bits.{bits_of, number_of, word_bits}
 use Rattle.exh_prefix.specs.BitLemmas.{bits_of-number_of, length-bits_of}
 use Rattle.exh_prefix.specs.Prefix.{Begins}
 use Rattle.exh_prefix.specs.PrefixLemmas.{begins_low}
-use Rattle.exh_prefix.specs.ListLemmas.{within_there}
+use Rattle.exh_prefix.specs.PrefixListLemmas.{within_there}
 use Rattle.exh_prefix.specs.LeadingLemmas.{length-leading_bits, leading-lt}
 use Rattle.exh_table.specs.Table.{TableMap}
-use Rattle.exh_table.specs.Walk.{walk_in, walk_of}
+use Rattle.exh_table.specs.TableWalk.{walk_in, walk_of}
 use Rattle.exh_legal.specs.BareLemmas.{at_bare, bare_low}
-use Rattle.exh_legal.specs.Laws.{IsBelow}
+use Rattle.exh_legal.specs.LegalLaws.{IsBelow}
 use Rattle.exh_page.specs.Page.{low_bound}
 use Rattle.exh_calls.specs.Call.{key_of}
 use Rattle.exh_ward.specs.WardState.{WardState, own_prefix}

@@ -2,12 +2,12 @@
 use Rattle.std.proofs.Common.{◌≡◌, ℕ, List, [], ◌∷◌, Result, Ok, Err, refl, sym, ap, subst, arith}
 use Rattle.std.specs.List.{AllByRecursion}
 use Rattle.std.specs.Option.{option_map_or}
-use Rattle.exh_prefix.specs.ListLemmas.{AllByRecursion-append}
-use Rattle.exh_world.specs.EffectLemmas.{on_effect}
-use Rattle.exh_world.specs.Moves.{IsBounded}
-use Rattle.exh_world.specs.Progress.{bound_in}
+use Rattle.exh_prefix.specs.PrefixListLemmas.{AllByRecursion-append}
+use Rattle.exh_world.specs.StepEffectLemmas.{on_effect}
+use Rattle.exh_world.specs.RequestMoves.{IsBounded}
+use Rattle.exh_world.specs.RequestProgress.{bound_in}
 use Rattle.exh_world.specs.RequestLemmas.{all_named}
-use Rattle.exh_world.specs.Run.{Moment, IsRun, answered_by, answered_at, answered_in}
+use Rattle.exh_world.specs.WorldRun.{Moment, IsRun, answered_by, answered_at, answered_in}
 use Rattle.exh_world.specs.Sound.{IsOnTheWay, IsSoundWorld}
 use Rattle.exh_world.specs.Step.{HasHopped, HasEffect, Step}
 use Rattle.exh_world.specs.World.{WorldState}

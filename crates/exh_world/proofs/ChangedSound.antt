@@ -3,10 +3,10 @@ use Rattle.std.proofs.Common.{◌≡◌, ℕ, Bool, List, [], ◌∷◌, ◌++�
 use Rattle.std.specs.Prelude.{◌↔◌}
 use Rattle.std.proofs.Math.Seq.{take-append-le}
 use Rattle.std.proofs.lemmas.List.{length_push}
-use Rattle.exh_prefix.specs.ListLemmas.{drop_push}
+use Rattle.exh_prefix.specs.PrefixListLemmas.{drop_push}
 use Rattle.exh_notice.specs.declared.notice.Notice.{Notice}
 use Rattle.exh_table.specs.Leaves.{ward_leaves, leaves_in}
-use Rattle.exh_legal.specs.Laws.{KeepsPlaces}
+use Rattle.exh_legal.specs.LegalLaws.{KeepsPlaces}
 use Rattle.exh_prefix.specs.Leading.{ward_prefix}
 use Rattle.exh_ward.specs.WardState.{WardState, IsSoundWard}
 use Rattle.exh_table.specs.Table.{TableMap, table_with}

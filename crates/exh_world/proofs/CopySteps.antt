@@ -3,15 +3,15 @@ use Rattle.std.proofs.Common.{◌≡◌, ◌≢◌, ℕ, zero, suc, cond, ◌-�
 use Rattle.std.specs.Prelude.{slice_get, slice_set, Contains, IsSome, is_some}
 use Rattle.std.specs.Option.{option_map_or}
 use Rattle.std.proofs.lemmas.Bool.{lt-ltb}
-use Rattle.exh_prefix.specs.ListLemmas.{within_there}
+use Rattle.exh_prefix.specs.PrefixListLemmas.{within_there}
 use Rattle.exh_notice.specs.declared.notice.Notice.{Notice}
 use Rattle.exh_table.specs.Table.{TableMap, table_with}
 use Rattle.exh_table.specs.TableOrder.{table_join}
-use Rattle.exh_legal.specs.Versions.{index_of}
+use Rattle.exh_legal.specs.ChangeNumbers.{index_of}
 use Rattle.exh_ward.specs.WardState.{WardState, IsSoundWard, notices_above}
 use Rattle.exh_ward.specs.declared.ward_fault.WardFault.TheVariants.{Memory}
-use Rattle.exh_world.specs.Kept.{IsKeptWorld, IsPlaceOf, HaveIndexesInTurn}
-use Rattle.exh_world.specs.Laws.{StepsKeepWorldsSound}
+use Rattle.exh_world.specs.WorldKept.{IsKeptWorld, IsPlaceOf, HaveIndexesInTurn}
+use Rattle.exh_world.specs.WorldLaws.{StepsKeepWorldsSound}
 use Rattle.exh_world.specs.Sound.{IsSoundWorld}
 use Rattle.exh_world.specs.Step.{Step, HasTaken, HasSent, HasJoined, HasRestarted}
 use Rattle.exh_world.specs.World.{WorldState, numbered, issued_in}

@@ -6,18 +6,18 @@ use Rattle.exh_prefix.specs.BitLemmas.{bits_of-number_of, length-bits_of}
 use Rattle.exh_prefix.specs.Leading.{ward_of, ward_prefix}
 use Rattle.exh_prefix.specs.LeadingLemmas.{length-leading_bits}
 use Rattle.exh_prefix.specs.Prefix.{Begins, IsFront}
-use Rattle.exh_prefix.specs.ListLemmas.{one_there}
+use Rattle.exh_prefix.specs.PrefixListLemmas.{one_there}
 use Rattle.exh_table.specs.Table.{TableMap, IsEntryOf}
-use Rattle.exh_table.specs.Walk.{walk_in}
+use Rattle.exh_table.specs.TableWalk.{walk_in}
 use Rattle.exh_calls.specs.Call.{key_of}
 use Rattle.exh_calls.specs.declared.call.Call.{Call}
 use Rattle.exh_calls.specs.declared.reply.Reply.{Reply}
 use Rattle.exh_ward.specs.WardState.{WardState, own_prefix}
 use Rattle.exh_route.specs.Distance.{IsDistance}
 use Rattle.exh_route.specs.DistanceLaws.{IsTableWithin, WholeCopiesNameHomes}
-use Rattle.exh_route.specs.Laws.{MovesComeNearer, OneDistance}
+use Rattle.exh_route.specs.RouteLaws.{MovesComeNearer, OneDistance}
 use Rattle.exh_world.specs.InFlight.{request_named}
-use Rattle.exh_world.specs.Progress.{bound_in}
+use Rattle.exh_world.specs.RequestProgress.{bound_in}
 use Rattle.exh_world.specs.Sound.{IsOnTheWay, IsSoundWorld}
 use Rattle.exh_world.specs.Step.{HasBegun, HasHopped, pseudokey_in}
 use Rattle.exh_world.specs.World.{WorldState, changes_in, numbered}

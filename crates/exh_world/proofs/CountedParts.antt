@@ -1,11 +1,11 @@
 -- What is counted over the parts of a run.
 use Rattle.std.proofs.Common.{ℕ, List, [], ◌∷◌, ◌++◌, append_assoc, refl, sym, ap, ◌∙◌, subst}
-use Rattle.exh_route.specs.Laws.{RunsKeepWardsSound}
+use Rattle.exh_route.specs.RouteLaws.{RunsKeepWardsSound}
 use Rattle.exh_world.specs.Counted.{AnswersAreCounted, RequestsGoOn}
 use Rattle.exh_world.specs.Current.{CurrentCopiesBeginHome, CurrentCopiesLookOnce}
-use Rattle.exh_world.specs.Laws.{StepsKeepWorldsSound}
+use Rattle.exh_world.specs.WorldLaws.{StepsKeepWorldsSound}
 use Rattle.exh_world.specs.Parts.{HasCountedMoves, HasCurrentCopies, RunsCountMoves, RunsHaveCurrentCopies}
-use Rattle.exh_world.specs.Run.{Moment, IsRun}
+use Rattle.exh_world.specs.WorldRun.{Moment, IsRun}
 use Rattle.exh_world.specs.Step.{Step}
 use Rattle.exh_world.specs.Taken.{TakersBeginHome, TakersLookOnce, turns_of}
 use Rattle.exh_world.specs.World.{WorldState}

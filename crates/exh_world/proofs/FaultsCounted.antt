@@ -7,10 +7,10 @@ use Rattle.exh_calls.specs.declared.call.Call.{Call}
 use Rattle.exh_ward.specs.declared.hop.Hop.{Hop}
 use Rattle.exh_ward.specs.declared.hop.Hop.TheVariants.{Done, Moved, MustSplit, Stray}
 use Rattle.exh_ward.specs.declared.ward_fault.WardFault.TheVariants.{Page}
-use Rattle.exh_world.specs.EffectLemmas.{on_effect}
-use Rattle.exh_world.specs.Laws.{IsCounted, failures_in}
-use Rattle.exh_prefix.specs.ListLemmas.{set_same}
-use Rattle.exh_event.specs.Progress.{hop_in}
+use Rattle.exh_world.specs.StepEffectLemmas.{on_effect}
+use Rattle.exh_world.specs.WorldLaws.{IsCounted, failures_in}
+use Rattle.exh_prefix.specs.PrefixListLemmas.{set_same}
+use Rattle.exh_event.specs.EventProgress.{hop_in}
 use Rattle.exh_world.specs.Step.{HasEffect, IsRefused, Step}
 use Rattle.exh_world.specs.World.{WorldState}
 use Rattle.exh_event.specs.declared.event.Event.{Event}
@@ -18,7 +18,7 @@ use Rattle.exh_event.specs.declared.event.Event.TheVariants.{Split, Merge}
 use Rattle.exh_event.specs.declared.outcome.Outcome.{Outcome}
 use Rattle.exh_event.specs.declared.step_fault.StepFault.{StepFault}
 use Rattle.exh_event.specs.declared.step_fault.StepFault.TheVariants.{Ward}
-use Rattle.exh_world.specs.ListLemmas.{map_there}
+use Rattle.exh_world.specs.WorldListLemmas.{map_there}
 
 module _ {K : Type 0} (pseudokey_of : K → List ℕ → ℕ) (old : WorldState K) where
   -- a ward with the count that it had

@@ -8,18 +8,18 @@ use Rattle.std.proofs.lemmas.Option.{slice_get-get_or}
 use Rattle.exh_prefix.specs.Prefix.{prefix_cmp}
 use Rattle.exh_table.specs.SetLemmas.{since_nothing}
 use Rattle.exh_table.specs.Table.{TableMap}
-use Rattle.exh_table.specs.Walk.{right_of}
+use Rattle.exh_table.specs.TableWalk.{right_of}
 use Rattle.exh_prefix.specs.Leading.{ward_prefix}
 use Rattle.exh_ward.specs.WardState.{WardState, IsSoundWard}
 use Rattle.exh_prefix.specs.declared.prefix.TheConstants.{WARD_BITS_LIMIT}
-use Rattle.exh_world.specs.Kept.{IsKeptWorld}
+use Rattle.exh_world.specs.WorldKept.{IsKeptWorld}
 use Rattle.exh_ward.specs.NewWards.{new_ward}
 use Rattle.exh_world.specs.NewWorld.{new_world}
 use Rattle.exh_world.specs.Sound.{LeadsRight, LeadsRightIn, IsWardOf, IsSoundWorld}
 use Rattle.exh_world.specs.World.{WorldState}
 use Rattle.exh_world.specs.InFlight.{Requests}
 use Rattle.exh_text.specs.declared.config.Config.{Config}
-use Rattle.exh_world.specs.ListLemmas.{mapped_is, numbered_is, numbered_none}
+use Rattle.exh_world.specs.WorldListLemmas.{mapped_is, numbered_is, numbered_none}
 use Rattle.exh_world.proofs.ToldTruly.{new_told}
 
 replicate_there : {A : Type 0} (n : ℕ) (x : A) (at : ℕ) → at < n → slice_get (replicate n x) at ≡ Some x

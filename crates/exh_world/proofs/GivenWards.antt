@@ -6,7 +6,7 @@ use Rattle.std.specs.List.{fold}
 use Rattle.std.proofs.lemmas.Option.{slice_get_within}
 use Rattle.exh_prefix.specs.Leading.{ward_prefix}
 use Rattle.exh_prefix.specs.LeadingLemmas.{one_front}
-use Rattle.exh_prefix.specs.ListLemmas.{one_there}
+use Rattle.exh_prefix.specs.PrefixListLemmas.{one_there}
 use Rattle.exh_prefix.specs.Prefix.{IsFront, prefix_cmp}
 use Rattle.exh_notice.specs.declared.entry.Entry.{Entry}
 use Rattle.exh_table.specs.Table.{TableMap}
@@ -14,7 +14,7 @@ use Rattle.exh_table.specs.TableLemmas.{table_laws, up_to_itself, up_to_both}
 use Rattle.exh_table.specs.TableOrder.{IsOptionUpTo, IsTableUpTo, table_join}
 use Rattle.exh_ward.specs.WardState.{WardState, own_prefix}
 use Rattle.exh_world.specs.NewWorld.{AreWardsFor, tables_joined, world_of_wards}
-use Rattle.exh_world.specs.ListLemmas.{map_from, map_there, numbered_is, numbered_none}
+use Rattle.exh_world.specs.WorldListLemmas.{map_from, map_there, numbered_is, numbered_none}
 use Rattle.exh_world.specs.World.{WorldState}
 use Rattle.exh_text.specs.declared.config.Config.{Config}
 use Rattle.exh_world.specs.Tables.{TellsTruly, IsToldTruly}

@@ -7,21 +7,21 @@ use Rattle.std.proofs.lemmas.Bool.{cases_eq, eqb-true}
 use Rattle.std.proofs.lemmas.Bool.Decides.{nat_tests}
 use Rattle.exh_prefix.specs.Prefix.{Begins}
 use Rattle.exh_prefix.specs.Leading.{ward_prefix}
-use Rattle.exh_prefix.specs.ListLemmas.{set_here, set_else, set_same, one_there}
-use Rattle.exh_legal.specs.Laws.{IsBelow}
+use Rattle.exh_prefix.specs.PrefixListLemmas.{set_here, set_else, set_same, one_there}
+use Rattle.exh_legal.specs.LegalLaws.{IsBelow}
 use Rattle.exh_calls.specs.Call.{key_of}
 use Rattle.exh_ward.specs.HopTable.{HopOf}
 use Rattle.exh_ward.specs.WardState.{WardState, own_prefix}
 use Rattle.exh_ward.specs.declared.hop.Hop.TheVariants as hops
 use Rattle.exh_route.specs.Distance.{IsDistance}
 use Rattle.exh_route.specs.DistanceLaws.{StepsAddChanges}
-use Rattle.exh_route.specs.Laws.{CanGoOn, MovesComeNearer, RunsKeepWardsSound}
-use Rattle.exh_world.specs.EffectLemmas.{on_effect, on_refusal}
+use Rattle.exh_route.specs.RouteLaws.{CanGoOn, MovesComeNearer, RunsKeepWardsSound}
+use Rattle.exh_world.specs.StepEffectLemmas.{on_effect, on_refusal}
 use Rattle.exh_world.specs.InFlight.{request_named, requests_after}
-use Rattle.exh_world.specs.Laws.{StepsKeepWorldsSound}
-use Rattle.exh_event.specs.Progress.{hop_in}
+use Rattle.exh_world.specs.WorldLaws.{StepsKeepWorldsSound}
+use Rattle.exh_event.specs.EventProgress.{hop_in}
 use Rattle.exh_world.specs.RequestLemmas.{all_named}
-use Rattle.exh_world.specs.Run.{Moment, IsRun}
+use Rattle.exh_world.specs.WorldRun.{Moment, IsRun}
 use Rattle.exh_world.specs.Sound.{IsOnTheWay, IsSoundWorld}
 use Rattle.exh_world.specs.Step.{HasHopped, HasEffect, Step}
 use Rattle.exh_world.specs.World.{WorldState, changes_in}

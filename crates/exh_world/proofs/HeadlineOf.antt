@@ -4,14 +4,14 @@ use Rattle.std.specs.Prelude.{◌≢◌, Result, Ok, Err}
 use Rattle.std.specs.FinMap.{entries}
 use Rattle.std.specs.List.{AllByRecursion}
 use Rattle.std.proofs.lemmas.List.Elements.{All-from_recursion}
-use Rattle.exh_table.specs.Laws.{OwnEntries, OneNoticeMore, UnionIsJoin, MembersDecide}
+use Rattle.exh_table.specs.TableLaws.{OwnEntries, OneNoticeMore, UnionIsJoin, MembersDecide}
 use Rattle.exh_table.specs.Table.{IsTableOf}
 use Rattle.exh_table.specs.TableLemmas.{table_laws}
 use Rattle.exh_table.specs.TableOrder.{table_join}
-use Rattle.exh_calls.specs.Laws.{SharersBegin}
+use Rattle.exh_calls.specs.CallLaws.{SharersBegin}
 use Rattle.exh_world.specs.Headline.{AreTablesOfTaken, AreEqualCopies, IsCombined, CombinesLeast, IsNamed, DoesNotStray, IsHeadline}
-use Rattle.exh_world.specs.Laws.{AreWardsSound, StepsKeepWorldsSound}
-use Rattle.exh_world.specs.Run.{Moment, IsRun, known_by, known_at_end, answered_in}
+use Rattle.exh_world.specs.WorldLaws.{AreWardsSound, StepsKeepWorldsSound}
+use Rattle.exh_world.specs.WorldRun.{Moment, IsRun, known_by, known_at_end, answered_in}
 use Rattle.exh_world.specs.Sound.{IsSoundWorld}
 use Rattle.exh_world.specs.Step.{HasJoined, HasHopped, HasEffect, Step}
 use Rattle.exh_world.specs.World.{WorldState, numbered}
@@ -22,9 +22,9 @@ use Rattle.exh_event.specs.declared.outcome.Outcome.TheVariants.{Hopped}
 use Rattle.exh_event.specs.declared.progress.Progress.TheVariants.{Stray}
 use Rattle.exh_event.specs.declared.step_fault.StepFault.{StepFault}
 use Rattle.exh_event.specs.declared.turn.Turn.{Turn}
-use Rattle.exh_world.specs.EffectLemmas.{on_effect}
+use Rattle.exh_world.specs.StepEffectLemmas.{on_effect}
 use Rattle.exh_world.proofs.Known.{IsKnown, own_sets, set_of}
-use Rattle.exh_world.specs.ListLemmas.{numbered_here}
+use Rattle.exh_world.specs.WorldListLemmas.{numbered_here}
 use Rattle.exh_world.proofs.RunFacts.{AreSound, IsRunFrom, run_from}
 use Rattle.exh_world.proofs.StepSound.{does_not_stray}
 

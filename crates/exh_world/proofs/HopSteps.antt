@@ -9,14 +9,14 @@ use Rattle.exh_ward.specs.HopTable.{HopOf}
 use Rattle.exh_ward.specs.WardState.{WardState, IsSoundWard, LeavesAfter, own_prefix}
 use Rattle.exh_ward.specs.declared.hop.Hop.{Hop}
 use Rattle.exh_ward.specs.declared.hop.Hop.TheVariants.{Done, Moved, MustSplit, Stray}
-use Rattle.exh_route.specs.Laws.{MovesComeNearer}
+use Rattle.exh_route.specs.RouteLaws.{MovesComeNearer}
 use Rattle.exh_world.specs.InFlight.{HasRoom, Requests, request_named, requests_after}
-use Rattle.exh_world.specs.Kept.{IsKeptWorld}
-use Rattle.exh_world.specs.Laws.{StepsKeepWorldsSound}
+use Rattle.exh_world.specs.WorldKept.{IsKeptWorld}
+use Rattle.exh_world.specs.WorldLaws.{StepsKeepWorldsSound}
 use Rattle.exh_world.specs.Sound.{IsWardOf, IsOnTheWay}
 use Rattle.exh_world.specs.Step.{HasHopped, ReachesInto}
-use Rattle.exh_event.specs.Progress.{hop_in, progress_with}
-use Rattle.exh_world.specs.Progress.{bound_in, progress_of}
+use Rattle.exh_event.specs.EventProgress.{hop_in, progress_with}
+use Rattle.exh_world.specs.RequestProgress.{bound_in, progress_of}
 use Rattle.exh_world.specs.World.{WorldState, changes_in}
 use Rattle.exh_event.specs.declared.event.Event.TheVariants.{Hop as HopOn}
 use Rattle.exh_event.specs.declared.outcome.Outcome.TheVariants.{Hopped}

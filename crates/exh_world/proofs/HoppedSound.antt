@@ -2,13 +2,13 @@
 use Rattle.std.proofs.Common.{◌≡◌, ℕ, suc, ◌+◌, Ok, List, length, drop, take, slice_get, Some, sym, ap, ◌∙◌, subst, arith}
 use Rattle.std.specs.Prelude.{slice_set, ◌↔◌}
 use Rattle.exh_prefix.specs.Prefix.{Begins}
-use Rattle.exh_prefix.specs.ListLemmas.{set_same, one_there}
+use Rattle.exh_prefix.specs.PrefixListLemmas.{set_same, one_there}
 use Rattle.exh_notice.specs.declared.notice.Notice.{Notice}
 use Rattle.exh_table.specs.Leaves.{ward_leaves}
 use Rattle.exh_table.specs.Table.{TableMap}
 use Rattle.exh_page.specs.declared.page.Page.{Page}
 use Rattle.exh_page.specs.declared.page.Page.TheVariants.{Live, Forward}
-use Rattle.exh_legal.specs.Laws.{KeepsPlaces, RightLinksLeadOn, TargetsLeadOn, IsBelow}
+use Rattle.exh_legal.specs.LegalLaws.{KeepsPlaces, RightLinksLeadOn, TargetsLeadOn, IsBelow}
 use Rattle.exh_prefix.specs.Leading.{ward_prefix}
 use Rattle.exh_calls.specs.Call.{key_of}
 use Rattle.exh_ward.specs.HopTable.{IsReached, LeadsTo, HopOf}
@@ -18,7 +18,7 @@ use Rattle.exh_calls.specs.declared.reply.Reply.{Reply}
 use Rattle.exh_ward.specs.AnswerLemmas.{places_answered}
 use Rattle.exh_route.specs.Distance.{IsDistance}
 use Rattle.exh_route.specs.DistanceLaws.{IsTableWithin, StepsAddChanges}
-use Rattle.exh_route.specs.Laws.{CanGoOn, MovesComeNearer}
+use Rattle.exh_route.specs.RouteLaws.{CanGoOn, MovesComeNearer}
 use Rattle.exh_route.specs.WardRun.{HopAt}
 use Rattle.exh_world.specs.InFlight.{Requests, request_named, requests_after}
 use Rattle.exh_world.specs.Sound.{IsWardOf, IsOnTheWay, IsSoundWorld}

@@ -4,10 +4,10 @@ use Rattle.std.specs.Prelude.{slice_set}
 use Rattle.std.specs.Option.{option_map_or}
 use Rattle.std.specs.FinMap.{entries}
 use Rattle.exh_notice.specs.declared.notice.Notice.{Notice}
-use Rattle.exh_table.specs.Laws.{OwnEntries, OneNoticeMore, UnionIsJoin}
+use Rattle.exh_table.specs.TableLaws.{OwnEntries, OneNoticeMore, UnionIsJoin}
 use Rattle.exh_table.specs.Table.{TableMap, told_by, IsTableOf, table_with}
 use Rattle.exh_table.specs.TableOrder.{table_join}
-use Rattle.exh_world.specs.Run.{Told, Knowledge, told_too}
+use Rattle.exh_world.specs.WorldRun.{Told, Knowledge, told_too}
 use Rattle.exh_world.specs.World.{numbered}
 
 -- sets, and the table of each

@@ -52,3 +52,5 @@ pub mod WardChanges
 pub mod CopySteps
 pub mod BeginSteps
 pub mod HopSteps
+pub mod CopiesTold
+pub mod RunWords

@@ -1,7 +1,7 @@
 -- An answering hop's page has the prefix that the directory names.
 use Rattle.std.proofs.Common.{◌≡◌, ℕ, Bool, List, [], drop, slice_get, Some, sym, ap, ◌∙◌, subst}
 use Rattle.std.specs.Option.{option_map_or}
-use Rattle.exh_prefix.specs.ListLemmas.{one_there}
+use Rattle.exh_prefix.specs.PrefixListLemmas.{one_there}
 use Rattle.exh_table.specs.Directory.{IsName}
 use Rattle.exh_table.specs.Leaves.{ward_leaves}
 use Rattle.exh_page.specs.declared.page.Page.{Page}
@@ -11,7 +11,7 @@ use Rattle.exh_legal.specs.Growth.{IsLiveAt}
 use Rattle.exh_prefix.specs.Leading.{ward_prefix}
 use Rattle.exh_legal.specs.Pages.{IsAt, IsHome, bare}
 use Rattle.exh_ward.specs.WardState.{WardState, own_prefix}
-use Rattle.exh_world.specs.Run.{prefix_of, prefix_at}
+use Rattle.exh_world.specs.WorldRun.{prefix_of, prefix_at}
 use Rattle.exh_world.specs.Sound.{IsWardOf, IsSoundWorld}
 use Rattle.exh_world.specs.World.{WorldState, issued_in, changes_in}
 

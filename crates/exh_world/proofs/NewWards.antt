@@ -2,7 +2,7 @@
 use Rattle.std.proofs.Common.{ℕ, ◌^◌, ◌≤◌, List, refl, sym, subst, arith}
 use Rattle.exh_prefix.specs.BitLemmas.{length-bits_of}
 use Rattle.exh_table.specs.SetLemmas.{since_nothing}
-use Rattle.exh_legal.specs.Laws.{LonePagesAreLegal}
+use Rattle.exh_legal.specs.LegalLaws.{LonePagesAreLegal}
 use Rattle.exh_prefix.specs.Leading.{ward_prefix}
 use Rattle.exh_ward.specs.WardState.{IsSoundWard}
 use Rattle.exh_prefix.specs.declared.prefix.TheConstants.{WARD_BITS_LIMIT}
@@ -10,7 +10,7 @@ use Rattle.exh_ward.specs.NewWards.{new_ward}
 use Rattle.exh_world.specs.NewWorld.{new_world}
 use Rattle.exh_text.specs.declared.config.Config.{Config}
 use Rattle.exh_world.proofs.FreshWorld.{AreSoundWards}
-use Rattle.exh_world.specs.ListLemmas.{mapped_is}
+use Rattle.exh_world.specs.WorldListLemmas.{mapped_is}
 
 module _ {K : Type 0} (pseudokey_of : K → List ℕ → ℕ) (law : LonePagesAreLegal) (config : Config K) (bits : config.settings.ward_bits ≤ WARD_BITS_LIMIT) where
   new_ward_sound : (number : ℕ) → IsSoundWard pseudokey_of (new_ward config.settings number)

@@ -15,7 +15,7 @@ use Rattle.exh_calls.specs.MapMachine.{is_full, effect_in, changed, reply_of, ma
 use Rattle.exh_calls.specs.declared.call.Call.{Call}
 use Rattle.exh_prefix.specs.declared.prefix.TheConstants.{LIMIT}
 use Rattle.exh_prefix.specs.Leading.{leading}
-use Rattle.exh_prefix.specs.ListLemmas.{is_equal}
+use Rattle.exh_prefix.specs.PrefixListLemmas.{is_equal}
 
 -- ---- a part of a map answers as the whole does
 

@@ -6,7 +6,7 @@ use Rattle.exh_event.specs.declared.outcome.Outcome.{Outcome}
 use Rattle.exh_event.specs.declared.step_fault.StepFault.{StepFault}
 use Rattle.exh_event.specs.declared.turn.Turn.{Turn}
 use Rattle.exh_world.specs.Alike.{AreAlike, AreOtherTurns, HasOthers, OthersRun, RefusedTurnsLeaveTheOthers, StepsGoAlike, uncounted}
-use Rattle.exh_world.specs.Run.{Moment, IsRun}
+use Rattle.exh_world.specs.WorldRun.{Moment, IsRun}
 use Rattle.exh_world.specs.Step.{Step}
 use Rattle.exh_world.specs.Taken.{turns_of}
 use Rattle.exh_world.specs.World.{WorldState}

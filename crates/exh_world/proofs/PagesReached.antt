@@ -8,7 +8,7 @@ use Rattle.exh_page.specs.declared.page.Page.{Page as PageType}
 use Rattle.exh_page.specs.declared.page.Page.TheVariants.{Live, Forward}
 use Rattle.exh_page.specs.declared.record.Record.{Record}
 use Rattle.exh_page.specs.Page.{records_of}
-use Rattle.exh_legal.specs.Versions.{version_at}
+use Rattle.exh_legal.specs.ChangeNumbers.{number_at}
 use Rattle.exh_ward.specs.MergeFunction.{buddy_number, is_left_child, merge_of, merge_of_both, merge_of_page, parent_of}
 use Rattle.exh_ward.specs.SplitFunction.{split_of, split_of_live, split_of_page}
 use Rattle.exh_ward.specs.WardState.{WardState}
@@ -39,7 +39,7 @@ module _ {K : Type 0} (ward : WardState K) where
   split_reached at = found (split_of_page ward) (slice_get ward.pages at) _ split_page_reached (λ same. cc)
 
   both_reached : (parent : List Bool) (sum : ℕ) → Reaches (merge_of_both ward parent sum)
-  both_reached parent sum = either (nat_lt ward.cap sum) _ _ (λ same. cc) (either (nat_eq (version_at ward.table parent) (2 ^ 32 - 1)) _ _ (λ same. cc) (λ same. cc))
+  both_reached parent sum = either (nat_lt ward.cap sum) _ _ (λ same. cc) (either (nat_eq (number_at ward.table parent) (2 ^ 32 - 1)) _ _ (λ same. cc) (λ same. cc))
 
   merge_page_reached : (page : PageType) → Reaches (merge_of_page ward page)
   merge_page_reached (Forward low target) = λ same. cc

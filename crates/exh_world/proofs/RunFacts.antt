@@ -4,15 +4,15 @@ use Rattle.std.specs.Prelude.{Result, Ok, Err, slice_set}
 use Rattle.std.specs.FinMap.{entries}
 use Rattle.std.specs.List.{AllByRecursion}
 use Rattle.std.proofs.lemmas.List.{map-append}
-use Rattle.exh_prefix.specs.ListLemmas.{AllByRecursion-append}
-use Rattle.exh_table.specs.Laws.{OwnEntries, OneNoticeMore, UnionIsJoin}
+use Rattle.exh_prefix.specs.PrefixListLemmas.{AllByRecursion-append}
+use Rattle.exh_table.specs.TableLaws.{OwnEntries, OneNoticeMore, UnionIsJoin}
 use Rattle.exh_calls.specs.History.{IsHistory, map_left}
-use Rattle.exh_calls.specs.Laws.{SharersBegin}
+use Rattle.exh_calls.specs.CallLaws.{SharersBegin}
 use Rattle.exh_ward.specs.WardState.{WardState}
-use Rattle.exh_world.specs.EffectLemmas.{on_refusal}
+use Rattle.exh_world.specs.StepEffectLemmas.{on_refusal}
 use Rattle.exh_calls.specs.HistoryLemmas.{MapGoes, history_on, left_on}
 use Rattle.exh_world.specs.Headline.{IsNamed}
-use Rattle.exh_world.specs.Run.{Moment, IsRun, Told, Knowledge, known_after, known_at_end, answered_at, answered_in, journal_entry_of}
+use Rattle.exh_world.specs.WorldRun.{Moment, IsRun, Told, Knowledge, known_after, known_at_end, answered_at, answered_in, journal_entry_of}
 use Rattle.exh_world.specs.Sound.{IsSoundWorld}
 use Rattle.exh_world.specs.Step.{Step}
 use Rattle.exh_world.specs.World.{WorldState, map_in}

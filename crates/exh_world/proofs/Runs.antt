@@ -4,13 +4,13 @@ use Rattle.std.specs.Prelude.{Result}
 use Rattle.std.specs.List.{AllByRecursion}
 use Rattle.std.proofs.lemmas.List.{map-append, take_more}
 use Rattle.std.proofs.lemmas.List.Elements.{All-from_recursion}
-use Rattle.exh_prefix.specs.ListLemmas.{AllByRecursion-append}
+use Rattle.exh_prefix.specs.PrefixListLemmas.{AllByRecursion-append}
 use Rattle.exh_world.specs.Alike.{HasOthers, RefusedTurnsLeaveTheOthers}
 use Rattle.exh_world.specs.Headline.{IsHeadline}
-use Rattle.exh_world.specs.Laws.{AreWardsSound, RunsCarryTheHeadline}
-use Rattle.exh_world.specs.Moves.{AnswersAreBounded, HasBoundedAnswers}
+use Rattle.exh_world.specs.WorldLaws.{AreWardsSound, RunsCarryTheHeadline}
+use Rattle.exh_world.specs.RequestMoves.{AnswersAreBounded, HasBoundedAnswers}
 use Rattle.exh_world.specs.Parts.{HasCountedMoves, HasCurrentCopies, RunsCountMoves, RunsHaveCurrentCopies}
-use Rattle.exh_world.specs.Run.{Moment, IsRun}
+use Rattle.exh_world.specs.WorldRun.{Moment, IsRun}
 use Rattle.exh_world.specs.Sound.{IsSoundWorld}
 use Rattle.exh_world.specs.Step.{Step}
 use Rattle.exh_world.specs.World.{WorldState}

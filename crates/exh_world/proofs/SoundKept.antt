@@ -5,7 +5,7 @@ use Rattle.std.proofs.lemmas.Bool.{cases_eq}
 use Rattle.std.proofs.lemmas.List.{length-set, length-drop}
 use Rattle.std.specs.Option.{option_map_or}
 use Rattle.exh_prefix.specs.Prefix.{low_of}
-use Rattle.exh_prefix.specs.ListLemmas.{set_here, set_else, set_is, one_there}
+use Rattle.exh_prefix.specs.PrefixListLemmas.{set_here, set_else, set_is, one_there}
 use Rattle.exh_notice.specs.declared.entry.Kind.{Kind}
 use Rattle.exh_notice.specs.declared.entry.Kind.TheVariants.{Split, Merge}
 use Rattle.exh_notice.specs.declared.notice.Notice.{Notice}
@@ -13,9 +13,9 @@ use Rattle.exh_table.specs.Leaves.{PrefixSet, after_kind, leaves_after}
 use Rattle.exh_table.specs.Table.{TableMap}
 use Rattle.exh_table.specs.ChangeLemmas.{leaves_push_to, leaves_push_from}
 use Rattle.exh_page.specs.declared.page.Page.{Page}
-use Rattle.exh_legal.specs.Laws.{KeepsPlaces, IsBelow}
+use Rattle.exh_legal.specs.LegalLaws.{KeepsPlaces, IsBelow}
 use Rattle.exh_prefix.specs.Leading.{ward_prefix}
-use Rattle.exh_legal.specs.PlaceLemmas.{page_kept, below_kept}
+use Rattle.exh_legal.specs.LegalPlaceLemmas.{page_kept, below_kept}
 use Rattle.exh_ward.specs.WardState.{WardState}
 use Rattle.exh_route.specs.Distance.{IsDistance}
 use Rattle.exh_route.specs.DistanceLaws.{IsDistanceUpTo}

@@ -5,10 +5,10 @@ use Rattle.std.specs.FinMap.{entries}
 use Rattle.std.specs.List.{AllByRecursion}
 use Rattle.std.specs.Option.{option_map_or}
 use Rattle.exh_prefix.specs.Prefix.{Begins}
-use Rattle.exh_prefix.specs.ListLemmas.{set_same}
+use Rattle.exh_prefix.specs.PrefixListLemmas.{set_same}
 use Rattle.exh_notice.specs.declared.notice.Notice.{Notice}
 use Rattle.exh_table.specs.Directory.{IsName}
-use Rattle.exh_table.specs.Laws.{OwnEntries, OneNoticeMore, UnionIsJoin}
+use Rattle.exh_table.specs.TableLaws.{OwnEntries, OneNoticeMore, UnionIsJoin}
 use Rattle.exh_table.specs.Leaves.{ward_leaves}
 use Rattle.exh_prefix.specs.Leading.{ward_prefix}
 use Rattle.exh_legal.specs.Pages.{map_of}
@@ -17,10 +17,10 @@ use Rattle.exh_calls.specs.MapMachine.{map_after}
 use Rattle.exh_ward.specs.WardState.{WardState}
 use Rattle.exh_ward.specs.MergeStep.{IsMergeStep}
 use Rattle.exh_ward.specs.SplitStep.{IsSplitStep}
-use Rattle.exh_calls.specs.Laws.{SharersBegin}
+use Rattle.exh_calls.specs.CallLaws.{SharersBegin}
 use Rattle.exh_calls.specs.HistoryLemmas.{MapGoes}
 use Rattle.exh_world.specs.Headline.{IsNamed}
-use Rattle.exh_world.specs.Run.{Knowledge, known_after, answered_by, answered_at, journal_entry_of}
+use Rattle.exh_world.specs.WorldRun.{Knowledge, known_after, answered_by, answered_at, journal_entry_of}
 use Rattle.exh_world.specs.Sound.{IsOnTheWay, IsSoundWorld}
 use Rattle.exh_world.specs.Step.{HasHopped, HasChanged, HasEffect}
 use Rattle.exh_world.specs.World.{WorldState, map_in}
@@ -30,7 +30,7 @@ use Rattle.exh_event.specs.declared.outcome.Outcome.{Outcome}
 use Rattle.exh_event.specs.declared.outcome.Outcome.TheVariants.{Begun, Hopped, Changed, Taken, Sent, Joined, Restarted}
 use Rattle.exh_event.specs.declared.progress.Progress.{Progress}
 use Rattle.exh_event.specs.declared.progress.Progress.TheVariants.{Done, Moved, MustSplit, Stray}
-use Rattle.exh_world.specs.EffectLemmas.{on_effect}
+use Rattle.exh_world.specs.StepEffectLemmas.{on_effect}
 use Rattle.exh_world.proofs.Known.{IsKnown, taken_known, joined_known, sent_known, restarted_known}
 use Rattle.exh_world.proofs.Named.{named}
 use Rattle.exh_world.specs.RequestLemmas.{all_named}

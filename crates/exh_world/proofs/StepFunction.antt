@@ -7,9 +7,9 @@ use Rattle.std.proofs.lemmas.Option.{slice_get_read, slice_get_within, get_or_fr
 use Rattle.exh_notice.specs.declared.notice.Notice.{Notice}
 use Rattle.exh_table.specs.Table.{TableMap, table_with}
 use Rattle.exh_table.specs.TableOrder.{table_join}
-use Rattle.exh_legal.specs.Versions.{AreNumbered}
+use Rattle.exh_legal.specs.ChangeNumbers.{AreNumbered}
 use Rattle.exh_ward.specs.HopTable.{hop_of}
-use Rattle.exh_ward.specs.Laws.{HopsAreComputed, SplitsAreComputed, MergesAreComputed}
+use Rattle.exh_ward.specs.WardLaws.{HopsAreComputed, SplitsAreComputed, MergesAreComputed}
 use Rattle.exh_ward.specs.MergeFunction.{merge_of, ward_after_merge}
 use Rattle.exh_ward.specs.MergeStep.{IsMergeStep}
 use Rattle.exh_ward.specs.WardFault.{MergeRefused, SplitRefused, IsStoreFault}
@@ -22,10 +22,10 @@ use Rattle.exh_ward.specs.declared.hop.Hop.TheVariants.{Done, Moved, MustSplit, 
 use Rattle.exh_ward.specs.declared.ward_fault.WardFault.{WardFault}
 use Rattle.exh_ward.specs.declared.ward_fault.WardFault.TheVariants.{Memory, Page}
 use Rattle.exh_route.specs.DistanceFunction.{distance_of}
-use Rattle.exh_route.specs.Laws.{DistancesAreComputed}
+use Rattle.exh_route.specs.RouteLaws.{DistancesAreComputed}
 use Rattle.exh_world.specs.InFlight.{requests_after}
-use Rattle.exh_event.specs.Progress.{hop_in}
-use Rattle.exh_world.specs.Laws.{HasVersionOfWord, IsComputed}
+use Rattle.exh_event.specs.EventProgress.{hop_in}
+use Rattle.exh_world.specs.WorldLaws.{HasVersionOfWord, IsComputed}
 use Rattle.exh_world.specs.Sound.{IsSoundWorld}
 use Rattle.exh_world.specs.Step.{pseudokey_in, request_begun, IsRefused, HasBegun, HasHopped, HasChanged, HasTaken, HasSent, HasJoined, HasRestarted, HasEffect, Step}
 use Rattle.exh_world.specs.StepFunction.{Stepped, pages_in, request_at, request_from, begun, ward_after_hop, hopped, after_change, with_copy, step_of, result_of, world_after}
@@ -38,7 +38,7 @@ use Rattle.exh_event.specs.declared.outcome.Outcome.TheVariants.{Begun, Hopped, 
 use Rattle.exh_world.specs.declared.request.Request.{Request}
 use Rattle.exh_event.specs.declared.step_fault.StepFault.{StepFault}
 use Rattle.exh_event.specs.declared.step_fault.StepFault.TheVariants.{NameTaken, NoCopy, NoRequest, NoWard, NoNotice, NoTable, Ward}
-use Rattle.exh_world.specs.EffectLemmas.{on_effect}
+use Rattle.exh_world.specs.StepEffectLemmas.{on_effect}
 use Rattle.exh_world.proofs.WardChanges.{memory_of}
 
 -- ---- what is found

@@ -8,13 +8,13 @@ use Rattle.exh_prefix.specs.Prefix.{Begins}
 use Rattle.exh_notice.specs.declared.notice.Notice.{Notice}
 use Rattle.exh_table.specs.Table.{TableMap, table_with}
 use Rattle.exh_table.specs.TableOrder.{table_join}
-use Rattle.exh_table.specs.Walk.{walk_of}
-use Rattle.exh_page.specs.Laws.{AreOfWords}
+use Rattle.exh_table.specs.TableWalk.{walk_of}
+use Rattle.exh_page.specs.PageLaws.{AreOfWords}
 use Rattle.exh_prefix.specs.Leading.{ward_of, ward_prefix}
 use Rattle.exh_legal.specs.Pages.{IsLegal}
 use Rattle.exh_calls.specs.Call.{key_of}
 use Rattle.exh_ward.specs.HopTable.{HopOf, hop_of}
-use Rattle.exh_ward.specs.Laws.{HopsHaveOutcomes, AnswersKeepLegal, SplitsHaveOutcomes, MergesHaveOutcomes, IsSplitOutcome, IsMergeOutcome}
+use Rattle.exh_ward.specs.WardLaws.{HopsHaveOutcomes, AnswersKeepLegal, SplitsHaveOutcomes, MergesHaveOutcomes, IsSplitOutcome, IsMergeOutcome}
 use Rattle.exh_ward.specs.MergeFunction.{merge_of, ward_after_merge}
 use Rattle.exh_ward.specs.SplitFunction.{split_of, ward_after_split}
 use Rattle.exh_ward.specs.WardState.{WardState, LeavesAfter, own_prefix}
@@ -25,10 +25,10 @@ use Rattle.exh_ward.specs.declared.ward_fault.WardFault.{WardFault}
 use Rattle.exh_ward.specs.declared.ward_fault.WardFault.TheVariants.{Page}
 use Rattle.exh_route.specs.Distance.{IsDistance}
 use Rattle.exh_route.specs.DistanceFunction.{distance_of}
-use Rattle.exh_route.specs.Laws.{CanGoOn, DistancesAreComputed, GetsGoHome}
+use Rattle.exh_route.specs.RouteLaws.{CanGoOn, DistancesAreComputed, GetsGoHome}
 use Rattle.exh_world.specs.InFlight.{request_named, requests_after}
 use Rattle.exh_world.specs.Sound.{IsWardOf, IsOnTheWay, IsSoundWorld}
-use Rattle.exh_world.specs.Progress.{bound_in, progress_of}
+use Rattle.exh_world.specs.RequestProgress.{bound_in, progress_of}
 use Rattle.exh_world.specs.Step.{pseudokey_in, HasHopped, Step}
 use Rattle.exh_world.specs.StepFunction.{Stepped, pages_in, request_from, begun, ward_after_hop, hopped, after_change, with_copy, step_of, result_of, world_after}
 use Rattle.exh_world.specs.World.{WorldState, numbered, issued_in}

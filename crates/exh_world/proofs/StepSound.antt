@@ -1,9 +1,9 @@
 -- A step of a sound world leaves it sound, and no hop of it strays.
 use Rattle.std.proofs.Common.{◌≡◌, ℕ, List, [], ◌∷◌, ◌++◌, length, slice_get, Some, Result, Ok, Err, sym, ap, ◌∙◌, subst}
 use Rattle.std.specs.Prelude.{slice_set}
-use Rattle.exh_prefix.specs.ListLemmas.{set_here}
+use Rattle.exh_prefix.specs.PrefixListLemmas.{set_here}
 use Rattle.exh_notice.specs.declared.notice.Notice.{Notice}
-use Rattle.exh_legal.specs.Laws.{RightLinksLeadOn, TargetsLeadOn}
+use Rattle.exh_legal.specs.LegalLaws.{RightLinksLeadOn, TargetsLeadOn}
 use Rattle.exh_ward.specs.HopTable.{HopOf}
 use Rattle.exh_ward.specs.WardState.{WardState, IsSoundWard, LeavesAfter}
 use Rattle.exh_ward.specs.MergeStep.{IsMergeStep}
@@ -13,13 +13,13 @@ use Rattle.exh_ward.specs.declared.hop.Hop.{Hop}
 use Rattle.exh_ward.specs.declared.hop.Hop.TheVariants.{Done, Moved, MustSplit, Stray}
 use Rattle.exh_route.specs.Distance.{IsDistance}
 use Rattle.exh_route.specs.DistanceLaws.{StepsAddChanges}
-use Rattle.exh_route.specs.Laws.{MovesComeNearer}
+use Rattle.exh_route.specs.RouteLaws.{MovesComeNearer}
 use Rattle.exh_world.specs.InFlight.{Requests, request_named, requests_after}
-use Rattle.exh_world.specs.Laws.{AreWardsSound}
+use Rattle.exh_world.specs.WorldLaws.{AreWardsSound}
 use Rattle.exh_world.specs.Sound.{IsOnTheWay, IsSoundWorld}
 use Rattle.exh_world.specs.Step.{pseudokey_in, request_begun, HasBegun, HasHopped, HasChanged, HasTaken, HasSent, HasJoined, HasRestarted, HasEffect, Step}
 use Rattle.exh_prefix.specs.Leading.{ward_of}
-use Rattle.exh_event.specs.Progress.{hop_in}
+use Rattle.exh_event.specs.EventProgress.{hop_in}
 use Rattle.exh_world.specs.World.{WorldState, changes_in}
 use Rattle.exh_event.specs.declared.event.Event.{Event}
 use Rattle.exh_event.specs.declared.outcome.Outcome.{Outcome}
@@ -27,7 +27,7 @@ use Rattle.exh_event.specs.declared.progress.Progress.{Progress}
 use Rattle.exh_event.specs.declared.progress.Progress.TheVariants as progresses
 use Rattle.exh_world.specs.declared.request.Request.{Request}
 use Rattle.exh_event.specs.declared.step_fault.StepFault.{StepFault}
-use Rattle.exh_world.specs.EffectLemmas.{on_effect, on_refusal}
+use Rattle.exh_world.specs.StepEffectLemmas.{on_effect, on_refusal}
 use Rattle.exh_world.specs.RequestLemmas.{all_named}
 use Rattle.exh_world.proofs.BegunSound.{begun_sound}
 use Rattle.exh_world.proofs.HoppedSound.{same_sound, moved_sound, answered_sound, no_stray}

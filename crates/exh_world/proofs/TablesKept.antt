@@ -12,7 +12,7 @@ use Rattle.exh_notice.specs.Entry.{entry_of}
 use Rattle.exh_table.specs.Table.{TableMap, table_with, greater_of}
 use Rattle.exh_table.specs.TableLemmas.{joined, get-table_join, greater_is, same_from_tie}
 use Rattle.exh_table.specs.TableOrder.{table_join}
-use Rattle.exh_table.specs.Walk.{right_of_kind, right_of}
+use Rattle.exh_table.specs.TableWalk.{right_of_kind, right_of}
 use Rattle.exh_page.specs.declared.page.Page.{Page}
 use Rattle.exh_legal.specs.Fit.{IsTrueNotice}
 use Rattle.exh_legal.specs.Growth.{IsPageOf}

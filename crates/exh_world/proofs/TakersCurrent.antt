@@ -4,11 +4,11 @@ use Rattle.std.specs.List.{AllByRecursion}
 use Rattle.std.proofs.lemmas.List.Elements.{All-from_recursion}
 use Rattle.exh_table.specs.Table.{TableMap, IsTableOf}
 use Rattle.exh_ward.specs.WardState.{WardState}
-use Rattle.exh_route.specs.Laws.{RunsKeepWardsSound}
+use Rattle.exh_route.specs.RouteLaws.{RunsKeepWardsSound}
 use Rattle.exh_world.specs.Current.{IsCurrentIn}
 use Rattle.exh_world.specs.Headline.{IsHeadline}
-use Rattle.exh_world.specs.Laws.{AreWardsSound, RunsCarryTheHeadline, StepsKeepWorldsSound}
-use Rattle.exh_world.specs.Run.{Moment, IsRun}
+use Rattle.exh_world.specs.WorldLaws.{AreWardsSound, RunsCarryTheHeadline, StepsKeepWorldsSound}
+use Rattle.exh_world.specs.WorldRun.{Moment, IsRun}
 use Rattle.exh_world.specs.Sound.{IsSoundWorld}
 use Rattle.exh_world.specs.Taken.{HasTakenAll, turns_of}
 use Rattle.exh_world.specs.World.{WorldState, numbered}

@@ -15,7 +15,7 @@ use Rattle.exh_ward.specs.WardState.{WardState}
 use Rattle.exh_world.specs.Sound.{LeadsRightIn, IsOnTheWay, IsSoundWorld}
 use Rattle.exh_world.specs.World.{WorldState, numbered, issued_in}
 use Rattle.exh_world.specs.declared.request.Request.{Request}
-use Rattle.exh_world.specs.ListLemmas.{numbered_push, numbered_set}
+use Rattle.exh_world.specs.WorldListLemmas.{numbered_push, numbered_set}
 use Rattle.exh_world.specs.RequestLemmas.{all_weaker}
 use Rattle.exh_world.proofs.TablesKept.{leads_with, leads_joined}
 use Rattle.exh_world.proofs.SoundKept.{IsSoundAsTold, same_ward}

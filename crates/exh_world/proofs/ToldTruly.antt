@@ -8,7 +8,7 @@ use Rattle.std.proofs.lemmas.List.Elements.{Contains-append_right}
 use Rattle.std.proofs.lemmas.Option.{slice_get_within}
 use Rattle.exh_prefix.specs.Leading.{ward_prefix}
 use Rattle.exh_prefix.specs.LeadingLemmas.{one_front}
-use Rattle.exh_prefix.specs.ListLemmas.{Contains-map, drop_push, one_there, set_else, set_here, set_is}
+use Rattle.exh_prefix.specs.PrefixListLemmas.{Contains-map, drop_push, one_there, set_else, set_here, set_is}
 use Rattle.exh_prefix.specs.Prefix.{IsFront, prefix_cmp}
 use Rattle.exh_notice.specs.declared.entry.Entry.{Entry}
 use Rattle.exh_notice.specs.declared.notice.Notice.{Notice}
@@ -17,11 +17,11 @@ use Rattle.exh_table.specs.Table.{TableMap, IsTableOf, told_by, table_with}
 use Rattle.exh_table.specs.TableLemmas.{table_laws, up_to_both, up_to_third}
 use Rattle.exh_table.specs.TableOrder.{IsOptionUpTo, IsTableUpTo, table_join}
 use Rattle.exh_ward.specs.WardState.{WardState, own_prefix}
-use Rattle.exh_world.specs.EffectLemmas.{on_effect, on_refusal}
-use Rattle.exh_world.specs.ListLemmas.{mapped_is, numbered_is, numbered_none, numbered_push, numbered_set}
+use Rattle.exh_world.specs.StepEffectLemmas.{on_effect, on_refusal}
+use Rattle.exh_world.specs.WorldListLemmas.{mapped_is, numbered_is, numbered_none, numbered_push, numbered_set}
 use Rattle.exh_ward.specs.NewWards.{new_ward}
 use Rattle.exh_world.specs.NewWorld.{new_world}
-use Rattle.exh_world.specs.Run.{Told}
+use Rattle.exh_world.specs.WorldRun.{Told}
 use Rattle.exh_world.specs.Sound.{IsSoundWorld}
 use Rattle.exh_world.specs.Step.{HasEffect, Step}
 use Rattle.exh_world.specs.World.{WorldState, changes_in, issued_in, numbered}

@@ -9,10 +9,10 @@ use Rattle.exh_prefix.specs.Prefix.{IsFront, Begins}
 use Rattle.exh_prefix.specs.PrefixLemmas.{length-word_bits, begins_low}
 use Rattle.exh_table.specs.declared.leaf.Leaf.{Leaf}
 use Rattle.exh_table.specs.Table.{TableMap}
-use Rattle.exh_table.specs.Walk.{split_at, step, walk_on, walk_in}
+use Rattle.exh_table.specs.TableWalk.{split_at, step, walk_on, walk_in}
 use Rattle.exh_page.specs.declared.page.Page.{Page}
 use Rattle.exh_prefix.specs.LowLemmas.{front_of_longer, own_front}
-use Rattle.exh_legal.specs.Laws.{IsBelow}
+use Rattle.exh_legal.specs.LegalLaws.{IsBelow}
 use Rattle.exh_world.specs.Sound.{LeadsRight}
 
 module _ (ward : List Bool) (pages : List Page) (table : TableMap) (pseudokey : ℕ) (small : pseudokey < 2 ^ 64) (leads : LeadsRight ward pages table) where

@@ -7,9 +7,9 @@ use Rattle.exh_ward.specs.WardFault.{IsStoreFault, CountsFailures}
 use Rattle.exh_ward.specs.WardState.{WardState, IsSoundWard, IsUnchanged}
 use Rattle.exh_ward.specs.declared.ward_fault.WardFault.{WardFault}
 use Rattle.exh_ward.specs.declared.ward_fault.WardFault.TheVariants.{Memory, Page}
-use Rattle.exh_world.specs.Kept.{IsKeptWorld}
-use Rattle.exh_world.specs.Laws.{StepsKeepWorldsSound}
-use Rattle.exh_prefix.specs.ListLemmas.{set_same}
+use Rattle.exh_world.specs.WorldKept.{IsKeptWorld}
+use Rattle.exh_world.specs.WorldLaws.{StepsKeepWorldsSound}
+use Rattle.exh_prefix.specs.PrefixListLemmas.{set_same}
 use Rattle.exh_world.specs.Sound.{IsSoundWorld}
 use Rattle.exh_world.specs.Step.{HasChanged, CountsFailure, IsChangeRefused, LeavesRefused, Step}
 use Rattle.exh_world.specs.World.{WorldState}

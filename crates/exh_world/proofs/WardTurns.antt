@@ -2,7 +2,7 @@
 use Rattle.std.proofs.Common.{◌≡◌, ◌⊎◌, ℕ, ◌+◌, List, [], ◌∷◌, ◌++◌, length, slice_get, Some, Result, Ok, Err, inl, inr, refl, sym, ap, ◌∙◌, subst, arith}
 use Rattle.std.specs.Prelude.{slice_set}
 use Rattle.std.proofs.lemmas.List.{length_push}
-use Rattle.exh_prefix.specs.ListLemmas.{set_is}
+use Rattle.exh_prefix.specs.PrefixListLemmas.{set_is}
 use Rattle.exh_notice.specs.declared.notice.Notice.{Notice}
 use Rattle.exh_table.specs.Table.{table_with}
 use Rattle.exh_calls.specs.declared.call.Call.{Call}
@@ -11,11 +11,11 @@ use Rattle.exh_ward.specs.WardState.{WardState, IsSoundWard, LeavesAfter}
 use Rattle.exh_ward.specs.declared.hop.Hop.{Hop}
 use Rattle.exh_ward.specs.declared.hop.Hop.TheVariants.{Done, Moved, MustSplit, Stray}
 use Rattle.exh_ward.specs.declared.ward_fault.WardFault.TheVariants.{Page}
-use Rattle.exh_route.specs.Laws.{RunsKeepWardsSound}
+use Rattle.exh_route.specs.RouteLaws.{RunsKeepWardsSound}
 use Rattle.exh_route.specs.WardRun.{WardEvent, HopAt, SplitAt, MergeAt, WardStep, changes_by}
-use Rattle.exh_world.specs.EffectLemmas.{on_effect, on_refusal}
-use Rattle.exh_world.specs.Laws.{AreWardsSound, StepsKeepWorldsSound}
-use Rattle.exh_event.specs.Progress.{hop_in}
+use Rattle.exh_world.specs.StepEffectLemmas.{on_effect, on_refusal}
+use Rattle.exh_world.specs.WorldLaws.{AreWardsSound, StepsKeepWorldsSound}
+use Rattle.exh_event.specs.EventProgress.{hop_in}
 use Rattle.exh_world.specs.Sound.{IsSoundWorld}
 use Rattle.exh_world.specs.Step.{HasHopped, HasEffect, Step}
 use Rattle.exh_world.specs.World.{WorldState}

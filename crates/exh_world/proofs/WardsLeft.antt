@@ -1,9 +1,9 @@
 -- A world's wards stay sound where one is left sound.
 use Rattle.std.proofs.Common.{◌≡◌, ℕ, List, slice_get, Some, sym, ap, ◌∙◌, inl, inr, subst}
 use Rattle.std.specs.Prelude.{slice_set}
-use Rattle.exh_prefix.specs.ListLemmas.{set_is}
+use Rattle.exh_prefix.specs.PrefixListLemmas.{set_is}
 use Rattle.exh_ward.specs.WardState.{WardState, IsSoundWard}
-use Rattle.exh_world.specs.Laws.{AreWardsSound}
+use Rattle.exh_world.specs.WorldLaws.{AreWardsSound}
 use Rattle.exh_world.specs.Sound.{IsSoundWorld}
 use Rattle.exh_world.specs.World.{WorldState}
 

@@ -11,13 +11,13 @@ use Rattle.std.proofs.lemmas.Option.{slice_get-map}
 use Rattle.exh_prefix.specs.declared.prefix.TheConstants.{LIMIT}
 use Rattle.exh_prefix.specs.BitLemmas.{length-bits_of}
 use Rattle.exh_prefix.specs.Prefix.{Begins}
-use Rattle.exh_prefix.specs.ListLemmas.{set_here, set_else, is_equal}
+use Rattle.exh_prefix.specs.PrefixListLemmas.{set_here, set_else, is_equal}
 use Rattle.exh_prefix.specs.Leading.{leading, ward_of, ward_prefix}
 use Rattle.exh_page.specs.declared.page.Page.{Page}
 use Rattle.exh_page.specs.KeyMapLemmas.{same_maps}
 use Rattle.exh_legal.specs.Pages.{map_of, IsLegal}
 use Rattle.exh_calls.specs.Call.{key_of}
-use Rattle.exh_calls.specs.Laws.{SharersBegin}
+use Rattle.exh_calls.specs.CallLaws.{SharersBegin}
 use Rattle.exh_calls.specs.MapMachine.{reply_of, map_after}
 use Rattle.exh_ward.specs.WardState.{WardState, own_prefix}
 use Rattle.exh_calls.specs.declared.call.Call.{Call}

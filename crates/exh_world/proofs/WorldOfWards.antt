@@ -15,21 +15,21 @@ use Rattle.exh_table.specs.Leaves.{ward_leaves}
 use Rattle.exh_table.specs.Table.{TableMap, IsEntryOf, told_by}
 use Rattle.exh_table.specs.TableLemmas.{joined, get-table_join}
 use Rattle.exh_table.specs.TableOrder.{table_join}
-use Rattle.exh_table.specs.Walk.{right_of, split_at, step, walk_on, walk_in}
+use Rattle.exh_table.specs.TableWalk.{right_of, split_at, step, walk_on, walk_in}
 use Rattle.exh_table.specs.SetLemmas.{joined_none}
 use Rattle.exh_page.specs.Page.{low_bound}
 use Rattle.exh_legal.specs.BareLemmas.{at_bare, bare_low}
-use Rattle.exh_legal.specs.Laws.{IsWard, WalksNameHomes}
+use Rattle.exh_legal.specs.LegalLaws.{IsWard, WalksNameHomes}
 use Rattle.exh_prefix.specs.LowLemmas.{own_front, front_shorter, front_of_longer, low_of-small, begins_own_low}
-use Rattle.exh_prefix.specs.ListLemmas.{push_is}
+use Rattle.exh_prefix.specs.PrefixListLemmas.{push_is}
 use Rattle.exh_prefix.specs.Leading.{ward_prefix}
 use Rattle.exh_prefix.specs.LeadingLemmas.{one_front}
 use Rattle.exh_ward.specs.WardState.{WardState, IsSoundWard, notices_above}
 use Rattle.exh_prefix.specs.declared.prefix.TheConstants.{WARD_BITS_LIMIT}
 use Rattle.exh_text.specs.declared.config.Config.{Config}
 use Rattle.exh_world.specs.InFlight.{Requests}
-use Rattle.exh_world.specs.Kept.{IsKeptWorld}
-use Rattle.exh_world.specs.ListLemmas.{map_from, map_there, numbered_is, numbered_none}
+use Rattle.exh_world.specs.WorldKept.{IsKeptWorld}
+use Rattle.exh_world.specs.WorldListLemmas.{map_from, map_there, numbered_is, numbered_none}
 use Rattle.exh_world.specs.NewWorld.{IsWardFor, AreWardsFor, tables_joined, world_of_wards}
 use Rattle.exh_world.specs.Sound.{LeadsRight, LeadsRightIn, IsWardOf}
 use Rattle.exh_world.proofs.CopySteps.{all_above}

@@ -1,7 +1,7 @@
 -- Worlds that are equal but for the wards' counts of page faults, and a run without some of the turns that were refused.
 use Rattle.std.specs.Prelude.{◌≡◌, ◌⊎◌, ℕ, List, [], ◌∷◌, map, Result, IsErr}
 use Rattle.exh_ward.specs.WardState.{WardState}
-use Rattle.exh_world.specs.Run.{Moment, IsRun}
+use Rattle.exh_world.specs.WorldRun.{Moment, IsRun}
 use Rattle.exh_world.specs.Step.{Step}
 use Rattle.exh_world.specs.StepFunction.{result_of, world_after}
 use Rattle.exh_world.specs.Taken.{turns_of}

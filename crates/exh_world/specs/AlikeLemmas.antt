@@ -2,10 +2,10 @@
 use Rattle.std.proofs.Common.{◌≡◌, ℕ, suc, List, map, slice_get, Some, refl, sym, ap, ◌∙◌, subst, arith}
 use Rattle.std.specs.Prelude.{slice_set}
 use Rattle.std.proofs.lemmas.List.{map-set}
-use Rattle.exh_prefix.specs.ListLemmas.{set_same}
+use Rattle.exh_prefix.specs.PrefixListLemmas.{set_same}
 use Rattle.exh_ward.specs.WardState.{WardState}
 use Rattle.exh_world.specs.Alike.{AreAlike, uncounted}
-use Rattle.exh_world.specs.ListLemmas.{map_from, map_there}
+use Rattle.exh_world.specs.WorldListLemmas.{map_from, map_there}
 use Rattle.exh_world.specs.Step.{CountsFailure}
 use Rattle.exh_world.specs.World.{WorldState}
 

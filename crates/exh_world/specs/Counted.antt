@@ -4,7 +4,7 @@ use Rattle.exh_calls.specs.declared.reply.Reply.{Reply}
 use Rattle.exh_ward.specs.WardState.{WardState}
 use Rattle.exh_route.specs.Distance.{IsDistance}
 use Rattle.exh_world.specs.InFlight.{request_named}
-use Rattle.exh_world.specs.Run.{Moment, IsRun}
+use Rattle.exh_world.specs.WorldRun.{Moment, IsRun}
 use Rattle.exh_world.specs.Sound.{IsSoundWorld}
 use Rattle.exh_world.specs.Step.{Step}
 use Rattle.exh_world.specs.World.{WorldState, changes_in}

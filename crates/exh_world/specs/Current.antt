@@ -8,7 +8,7 @@ use Rattle.exh_calls.specs.declared.call.Call.{Call}
 use Rattle.exh_calls.specs.declared.reply.Reply.{Reply}
 use Rattle.exh_ward.specs.WardState.{WardState}
 use Rattle.exh_world.specs.InFlight.{request_named}
-use Rattle.exh_world.specs.Run.{Moment, IsRun}
+use Rattle.exh_world.specs.WorldRun.{Moment, IsRun}
 use Rattle.exh_world.specs.Sound.{IsSoundWorld}
 use Rattle.exh_world.specs.Step.{Step, pseudokey_in, request_begun}
 use Rattle.exh_world.specs.World.{WorldState, changes_in, numbered}

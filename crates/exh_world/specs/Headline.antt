@@ -8,7 +8,7 @@ use Rattle.exh_table.specs.Table.{TableMap, IsTableOf}
 use Rattle.exh_table.specs.TableOrder.{IsTableUpTo}
 use Rattle.exh_prefix.specs.Leading.{ward_prefix}
 use Rattle.exh_calls.specs.History.{IsHistory, map_left}
-use Rattle.exh_world.specs.Run.{Moment, IsRun, Told, known_by, known_at_end, Answered, answered_in, journal_entry_of}
+use Rattle.exh_world.specs.WorldRun.{Moment, IsRun, Told, known_by, known_at_end, Answered, answered_in, journal_entry_of}
 use Rattle.exh_world.specs.World.{WorldState, numbered, map_in}
 use Rattle.exh_event.specs.declared.event.Event.TheVariants.{Combine}
 use Rattle.exh_event.specs.declared.outcome.Outcome.TheVariants.{Hopped, Joined}

@@ -6,7 +6,7 @@ use Rattle.exh_calls.specs.declared.reply.Reply.{Reply}
 use Rattle.exh_world.specs.Counted.{moves_over, AllLeaveOpen, IsAway, GoesOn, TellsMoves}
 use Rattle.exh_world.specs.Current.{IsCurrentIn, LooksOnce}
 use Rattle.exh_world.specs.InFlight.{request_named}
-use Rattle.exh_world.specs.Run.{Moment, IsRun}
+use Rattle.exh_world.specs.WorldRun.{Moment, IsRun}
 use Rattle.exh_world.specs.Sound.{IsSoundWorld}
 use Rattle.exh_world.specs.Step.{pseudokey_in, request_begun}
 use Rattle.exh_world.specs.Taken.{HasTakenAll, turns_of}

@@ -5,16 +5,16 @@ use Rattle.exh_prefix.specs.declared.prefix.TheConstants.{LIMIT}
 use Rattle.exh_prefix.specs.Prefix.{IsFront, Begins, low_of}
 use Rattle.exh_table.specs.Leaves.{ward_leaves}
 use Rattle.exh_table.specs.Table.{TableMap}
-use Rattle.exh_table.specs.Walk.{split_at}
+use Rattle.exh_table.specs.TableWalk.{split_at}
 use Rattle.exh_page.specs.declared.page.Page.{Page}
 use Rattle.exh_legal.specs.Growth.{IsPageOf}
 use Rattle.exh_prefix.specs.Leading.{ward_prefix}
 use Rattle.exh_calls.specs.Call.{key_of}
-use Rattle.exh_legal.specs.Laws.{IsBelow}
+use Rattle.exh_legal.specs.LegalLaws.{IsBelow}
 use Rattle.exh_ward.specs.WardState.{WardState, IsSoundWard}
 use Rattle.exh_route.specs.Distance.{IsDistance}
 use Rattle.exh_route.specs.DistanceLaws.{IsTableWithin}
-use Rattle.exh_world.specs.Progress.{bound_in}
+use Rattle.exh_world.specs.RequestProgress.{bound_in}
 use Rattle.exh_world.specs.Tables.{IsToldTruly}
 use Rattle.exh_world.specs.World.{WorldState, changes_in, numbered}
 use Rattle.exh_world.specs.declared.request.Request.{Request}

@@ -3,7 +3,7 @@ use Rattle.std.specs.Prelude.{◌≡◌, ◌≢◌, ◌<◌, ◌⊎◌, IsSome, 
 use Rattle.exh_notice.specs.declared.notice.Notice.{Notice}
 use Rattle.exh_table.specs.Table.{TableMap, table_with}
 use Rattle.exh_table.specs.TableOrder.{table_join}
-use Rattle.exh_table.specs.Walk.{walk_of}
+use Rattle.exh_table.specs.TableWalk.{walk_of}
 use Rattle.exh_calls.specs.Call.{key_of}
 use Rattle.exh_ward.specs.HopTable.{HopOf}
 use Rattle.exh_ward.specs.WardState.{WardState, LeavesAfter}
@@ -15,8 +15,8 @@ use Rattle.exh_ward.specs.declared.ward_fault.WardFault.{WardFault}
 use Rattle.exh_ward.specs.declared.ward_fault.WardFault.TheVariants.{Memory, Page}
 use Rattle.exh_route.specs.Distance.{IsDistance}
 use Rattle.exh_world.specs.InFlight.{request_named, requests_after}
-use Rattle.exh_event.specs.Progress.{hop_in}
-use Rattle.exh_world.specs.Progress.{progress_of}
+use Rattle.exh_event.specs.EventProgress.{hop_in}
+use Rattle.exh_world.specs.RequestProgress.{progress_of}
 use Rattle.exh_prefix.specs.Leading.{ward_of}
 use Rattle.exh_world.specs.World.{WorldState, numbered, changes_in, issued_in}
 use Rattle.exh_event.specs.declared.event.Event.{Event}

@@ -4,7 +4,7 @@ use Rattle.std.specs.Option.{option_map_or}
 use Rattle.exh_notice.specs.declared.notice.Notice.{Notice}
 use Rattle.exh_table.specs.Table.{TableMap, table_with}
 use Rattle.exh_table.specs.TableOrder.{table_join}
-use Rattle.exh_table.specs.Walk.{walk_of}
+use Rattle.exh_table.specs.TableWalk.{walk_of}
 use Rattle.exh_page.specs.declared.page.Page.{Page}
 use Rattle.exh_ward.specs.HopTable.{hop_of, pages_after}
 use Rattle.exh_ward.specs.MergeFunction.{merge_of, ward_after_merge}
@@ -16,7 +16,7 @@ use Rattle.exh_ward.specs.declared.hop.Hop.TheVariants.{Done}
 use Rattle.exh_ward.specs.declared.ward_fault.WardFault.{WardFault}
 use Rattle.exh_route.specs.DistanceFunction.{distance_of}
 use Rattle.exh_world.specs.InFlight.{request_named, requests_after}
-use Rattle.exh_world.specs.Progress.{progress_of}
+use Rattle.exh_world.specs.RequestProgress.{progress_of}
 use Rattle.exh_world.specs.Step.{pseudokey_in, request_begun}
 use Rattle.exh_prefix.specs.Leading.{ward_of}
 use Rattle.exh_world.specs.World.{WorldState, changes_in, numbered}

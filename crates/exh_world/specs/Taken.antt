@@ -8,7 +8,7 @@ use Rattle.exh_world.specs.Counted.{AllLeaveOpen}
 use Rattle.exh_world.specs.Current.{IsCurrentIn, LooksOnce}
 use Rattle.exh_world.specs.Headline.{taken_by}
 use Rattle.exh_world.specs.InFlight.{request_named}
-use Rattle.exh_world.specs.Run.{Moment, IsRun, Told}
+use Rattle.exh_world.specs.WorldRun.{Moment, IsRun, Told}
 use Rattle.exh_world.specs.Sound.{IsSoundWorld}
 use Rattle.exh_world.specs.Step.{Step, pseudokey_in, request_begun}
 use Rattle.exh_world.specs.World.{WorldState, changes_in, numbered}

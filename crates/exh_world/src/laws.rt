@@ -1,7 +1,7 @@
 //! What holds of every step and every run of a world. Each function does nothing.
 
 ghost use Rattle.exh_world.specs.Alike.{RefusedTurnsLeaveTheOthers, StepFunctionGoesAlike, StepsGoAlike};
-ghost use Rattle.exh_world.specs.Laws.{NewWorldsAreSound, PageFaultsAreCounted, RunsCarryTheHeadline, StepsAreComputed, StepsHaveOutcomes, StepsKeepWorldsSound, WorldsOfWardsAreSound};
+ghost use Rattle.exh_world.specs.WorldLaws.{NewWorldsAreSound, PageFaultsAreCounted, RunsCarryTheHeadline, StepsAreComputed, StepsHaveOutcomes, StepsKeepWorldsSound, WorldsOfWardsAreSound};
 
 use exh_calls::sharers_begin;
 use exh_keyer::Keyer;

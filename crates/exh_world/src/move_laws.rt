@@ -3,7 +3,7 @@
 ghost use Rattle.exh_world.specs.Begun.{RequestsBeginNear};
 ghost use Rattle.exh_world.specs.Counted.{AnswersAreCounted, RequestsGoOn, StepsCountMoves};
 ghost use Rattle.exh_world.specs.Current.{CurrentCopiesBeginHome, CurrentCopiesLookOnce};
-ghost use Rattle.exh_world.specs.Moves.{AnswersAreBounded};
+ghost use Rattle.exh_world.specs.RequestMoves.{AnswersAreBounded};
 ghost use Rattle.exh_world.specs.Parts.{RunsCountMoves, RunsHaveCurrentCopies};
 ghost use Rattle.exh_world.specs.Taken.{TakersAreCurrent, TakersBeginHome, TakersLookOnce};
 

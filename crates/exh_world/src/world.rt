@@ -3,8 +3,8 @@ ghost use Rattle.exh_world.specs.Sound.{IsSoundWorld};
 
 use crate::in_flight::InFlight;
 use exh_array::Copies;
-use exh_frames::Pages;
 use exh_keyer::Keyer;
+use exh_stores::Pages;
 use exh_ward::Ward;
 use std::alloc::Global;
 use std::marker::Model;
@@ -39,7 +39,7 @@ impl<P: Pages + Drop, K: Keyer> Model for World<P, K> {
     ghost use Rattle.std.specs.Coded.{codes};
     ghost use Rattle.exh_page.specs.KeyMap.{coded_key_map};
     ghost use Rattle.exh_table.specs.Table.{coded_table};
-    ghost use Rattle.exh_world.specs.Kept.{IsKeptWorld};
+    ghost use Rattle.exh_world.specs.WorldKept.{IsKeptWorld};
     ghost use Rattle.exh_world.specs.World.{WorldState};
 
     ghost Value = { WorldState K };

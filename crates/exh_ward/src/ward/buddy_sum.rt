@@ -9,12 +9,11 @@ ghost use Rattle.exh_ward.specs.WardState.{IsSoundWard, IsUnchanged};
 
 use super::Ward;
 use crate::WardFault;
-use exh_frames::Pages;
-use exh_halves::{HalvesFault, LeftHalf};
 use exh_keyer::Keyer;
-use exh_legal::left_children_link_to_siblings;
+use exh_legal::{HalvesFault, LeftHalf, left_children_link_to_siblings};
 use exh_page::PageHead;
 use exh_prefix::PageNo;
+use exh_stores::Pages;
 
 impl<P: Pages + Drop, K: Keyer> Ward<P, K> {
     /// How many records a live page, the left half of its parent, has together with the live page of

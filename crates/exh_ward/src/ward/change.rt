@@ -1,20 +1,20 @@
 ghost use Rattle.std.specs.Prelude.{◌≡◌, ◌≢◌, ◌+◌, ◌<◌, length, slice_set, vec_len, vec_capacity, IfOk, IfErr, OnOk, OnErr};
 ghost use Rattle.std.specs.FinMap as map;
-ghost use Rattle.exh_table.specs.Table.{entry_after, version_of, raised};
+ghost use Rattle.exh_table.specs.Table.{entry_after, entry_number, raised};
 ghost use Rattle.exh_page.specs.Page.{IsWellFormed};
-ghost use Rattle.exh_legal.specs.Versions.{index_of, next_notice};
+ghost use Rattle.exh_legal.specs.ChangeNumbers.{index_of, next_notice};
 ghost use Rattle.exh_ward.specs.Told.{IsChangedTo, IsTold};
 ghost use Rattle.exh_ward.specs.WardFault.{CountsFailures, IsTakingFault, IsTellingFault};
 ghost use Rattle.exh_ward.specs.WardState.{IsSoundWard, IsUnchanged};
 
 use super::Ward;
 use crate::WardFault;
-use exh_frames::Pages;
 use exh_keyer::Keyer;
 use exh_legal::PageIndex;
 use exh_notice::{Entry, Kind, Notice};
 use exh_page::Page;
 use exh_prefix::{PageNo, Prefix};
+use exh_stores::Pages;
 use exh_table::Table;
 
 impl<P: Pages + Drop, K: Keyer> Ward<P, K> {
@@ -62,7 +62,7 @@ impl<P: Pages + Drop, K: Keyer> Ward<P, K> {
 
 // Has the table take the entry of the next change at a prefix, and room for its notice among the
 // notices: nothing may fail once the pages have changed. It answers what stood in the table. Where it
-// is refused, `Worn` if the version there is the greatest, both are as before.
+// is refused, `Worn` if the number there is the greatest, both are as before.
 fn take(
     notices: &mut Vec<Notice>,
     table: &mut Table,
@@ -72,7 +72,7 @@ fn take(
     ensures items { notices.new.items ≡ notices.old.items }
     ensures room { OnOk result (vec_len notices.new < vec_capacity notices.new) }
     ensures stood { IfOk result (λ stood. stood ≡ map.get table.old prefix) }
-    ensures more { OnOk result (version_of (map.get table.old prefix) ≢ u32.MAX) }
+    ensures more { OnOk result (entry_number (map.get table.old prefix) ≢ u32.MAX) }
     ensures ok { OnOk result (table.new ≡ raised table.old prefix (entry_after (map.get table.old prefix) kind)) }
     ensures err { OnErr result (table.new ≡ table.old) }
     ensures fault { IfErr result (IsTakingFault table.old prefix) }
@@ -80,7 +80,7 @@ fn take(
     notices.reserve(1)?;
     let stood = table.put_next(prefix, kind)?;
     match stood {
-        Some(entry) if entry.version == u32::MAX => Err(WardFault::Worn),
+        Some(entry) if entry.number == u32::MAX => Err(WardFault::Worn),
         _ => Ok(stood),
     }
 }
@@ -96,7 +96,7 @@ pub(super) fn take_or_forget(
     ensures items { notices.new.items ≡ notices.old.items }
     ensures room { OnOk result (vec_len notices.new < vec_capacity notices.new) }
     ensures stood { IfOk result (λ stood. stood ≡ map.get table.old change.0) }
-    ensures more { OnOk result (version_of (map.get table.old change.0) ≢ u32.MAX) }
+    ensures more { OnOk result (entry_number (map.get table.old change.0) ≢ u32.MAX) }
     ensures ok { OnOk result (table.new ≡ raised table.old change.0 (entry_after (map.get table.old change.0) change.1)) }
     ensures index_ok { OnOk result (index.new ≡ index.old) }
     ensures err { OnErr result (table.new ≡ table.old) }
@@ -113,7 +113,7 @@ pub(super) fn take_or_forget(
     }
 }
 
-// The notice of the change after what stood at a prefix, whose version isn't the greatest.
+// The notice of the change after what stood at a prefix, whose number isn't the greatest.
 pub(super) fn notice_after(
     stood: Option<Entry>,
     ward: u8,
@@ -121,18 +121,18 @@ pub(super) fn notice_after(
     prefix: Prefix,
     kind: Kind,
 ) -> Notice
-    requires { version_of stood ≢ u32.MAX }
-    ensures { result ≡ record { ward = ward; index = index; prefix = prefix; version = version_of stood + 1; kind = kind } }
+    requires { entry_number stood ≢ u32.MAX }
+    ensures { result ≡ record { ward = ward; index = index; prefix = prefix; number = entry_number stood + 1; kind = kind } }
 {
-    let version = match stood {
-        Some(entry) => entry.version + 1,
+    let number = match stood {
+        Some(entry) => entry.number + 1,
         None => 1,
     };
     Notice {
         ward,
         index,
         prefix,
-        version,
+        number,
         kind,
     }
 }

@@ -3,8 +3,8 @@ ghost use Rattle.exh_prefix.specs.declared.prefix.TheConstants.{WARD_BITS_LIMIT}
 ghost use Rattle.exh_page.specs.declared.page.TheConstants.{CAP_LIMIT};
 ghost use Rattle.exh_page.specs.declared.page.Page.{Page};
 ghost use Rattle.exh_page.specs.Page.{IsWellFormed, records_of};
-ghost use Rattle.exh_frames.specs.PageStore.{TakesTheSame};
-ghost use Rattle.exh_legal.specs.Laws.{IsWard};
+ghost use Rattle.exh_stores.specs.PageStore.{TakesTheSame};
+ghost use Rattle.exh_legal.specs.LegalLaws.{IsWard};
 ghost use Rattle.exh_legal.specs.Pages.{bare, map_of};
 ghost use Rattle.exh_page.specs.KeyMap.{pair_of};
 ghost use Rattle.exh_prefix.specs.Leading.{ward_prefix};
@@ -18,13 +18,13 @@ use super::{Ward, own_prefix};
 use crate::WardFault;
 use crate::seen::Seen;
 use exh_calls::{Base, Journal, PackedPairs};
-use exh_frames::Pages;
 use exh_join::Join;
 use exh_keyer::Keyer;
 use exh_legal::{PageIndex, entries_are_few, index_of};
 use exh_page::{CAP_LIMIT, Page, Records};
 use exh_prefix::PageNo;
 use exh_settings::FileSettings;
+use exh_stores::Pages;
 use exh_table::{Table, own_entries_give_the_table};
 use std::alloc::{AllocError, Global};
 

@@ -3,8 +3,8 @@ ghost use Rattle.exh_ward.specs.WardState.{IsSoundWard, history_begun};
 
 use super::Ward;
 use crate::seen::Seen;
-use exh_frames::Pages;
 use exh_keyer::Keyer;
+use exh_stores::Pages;
 
 impl<P: Pages + Drop, K: Keyer> Ward<P, K> {
     /// Begins the history anew: its base is the map of the pages as they are now, of which nothing is

@@ -14,11 +14,11 @@ use self::sight::Sight;
 use super::Ward;
 use crate::{Hop, WardFault};
 use exh_calls::{Call, KeyChange, Reply};
-use exh_frames::Pages;
 use exh_keyer::Keyer;
 use exh_legal::{pages_are_few, right_links_lead_on};
 use exh_page::Spot;
 use exh_prefix::PageNo;
+use exh_stores::Pages;
 
 mod answer;
 mod home_sight;

@@ -6,13 +6,15 @@ ghost use Rattle.exh_ward.specs.WardState.{IsSoundWard, IsUnchanged};
 
 use super::Ward;
 use crate::WardFault;
-use exh_frames::Pages;
-use exh_halves::{LeftHalf, forward_from_right, join_pages};
 use exh_keyer::Keyer;
-use exh_legal::{left_children_link_to_siblings, merges_keep_legal, pages_are_few};
+use exh_legal::{
+    LeftHalf, forward_from_right, join_pages, left_children_link_to_siblings, merges_keep_legal,
+    pages_are_few,
+};
 use exh_notice::{Kind, Notice};
 use exh_page::{Page, PageHead, buddies_unite};
 use exh_prefix::{PageNo, Prefix};
+use exh_stores::Pages;
 
 impl<P: Pages + Drop, K: Keyer> Ward<P, K> {
     /// Merges a live page, the left half of its parent, with the live page of the right half, and

@@ -3,11 +3,11 @@ ghost use Rattle.exh_prefix.specs.Prefix.{Begins};
 ghost use Rattle.exh_prefix.specs.declared.prefix.TheConstants.{LIMIT};
 ghost use Rattle.exh_page.specs.declared.page.Page.{Page};
 ghost use Rattle.exh_page.specs.declared.page.TheConstants.{CAP_LIMIT};
-ghost use Rattle.exh_frames.specs.PageStore.{IfPage};
+ghost use Rattle.exh_stores.specs.PageStore.{IfPage};
 ghost use Rattle.exh_codec.specs.Block.{sealed};
 ghost use Rattle.exh_codec.specs.PageImage.{IsHeld, content_of};
 ghost use Rattle.exh_page.specs.PageHead.{head_of};
-ghost use Rattle.exh_legal.specs.Laws.{NamesHome};
+ghost use Rattle.exh_legal.specs.LegalLaws.{NamesHome};
 ghost use Rattle.exh_calls.specs.Undone.{map_before};
 ghost use Rattle.exh_legal.specs.Pages.{IsAt, map_of};
 ghost use Rattle.exh_ward.specs.WardFault.{PageRefused, CountsFailures};
@@ -17,12 +17,12 @@ use super::Ward;
 use crate::WardFault;
 use exh_calls::{Base, Journal, histories_are_undone};
 use exh_codec::BLOCK_LEN;
-use exh_frames::Pages;
 use exh_keyer::Keyer;
 use exh_legal::{pages_are_few, walks_name_homes};
 use exh_notice::Notice;
 use exh_page::{Key, Page, PageHead};
 use exh_prefix::PageNo;
+use exh_stores::Pages;
 use exh_table::Table;
 
 impl<P: Pages + Drop, K: Keyer> Ward<P, K> {

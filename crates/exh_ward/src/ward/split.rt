@@ -2,7 +2,7 @@ ghost use Rattle.std.specs.Prelude.{◌≡◌, ◌<◌, ◌++◌, ◌∷◌, [],
 ghost use Rattle.exh_prefix.specs.declared.prefix.TheConstants.{LIMIT};
 ghost use Rattle.exh_page.specs.declared.page.Page.{Page};
 ghost use Rattle.exh_page.specs.declared.page.Page.TheVariants.{Live};
-ghost use Rattle.exh_halves.specs.Halves.{AreHalvesOf};
+ghost use Rattle.exh_legal.specs.Halves.{AreHalvesOf};
 ghost use Rattle.exh_legal.specs.Pages.{IsAt};
 ghost use Rattle.exh_ward.specs.SplitStep.{IsSplitStep};
 ghost use Rattle.exh_ward.specs.WardFault.{SplitRefused, IsStoreFault, CountsFailures};
@@ -11,13 +11,12 @@ ghost use Rattle.exh_ward.specs.WardState.{IsSoundWard, IsUnchanged};
 use super::Ward;
 use super::change::{notice_after, take_or_forget};
 use crate::WardFault;
-use exh_frames::Pages;
-use exh_halves::Halves;
 use exh_keyer::Keyer;
-use exh_legal::{live_pages_split, pages_are_few, splits_keep_legal};
+use exh_legal::{Halves, live_pages_split, pages_are_few, splits_keep_legal};
 use exh_notice::{Kind, Notice};
 use exh_page::{Page, Records};
 use exh_prefix::{PageNo, Prefix};
+use exh_stores::Pages;
 
 impl<P: Pages + Drop, K: Keyer> Ward<P, K> {
     /// Splits a live page that has as many records as a page may, and tells so (Fagin et al. 1979;

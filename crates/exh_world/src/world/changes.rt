@@ -1,7 +1,7 @@
 ghost use Rattle.std.specs.Prelude.{◌≡◌, ◌-◌, ◌≤◌, ◌<◌, ◌^◌, length};
 
-use exh_frames::Pages;
 use exh_keyer::Keyer;
+use exh_stores::Pages;
 use exh_ward::Ward;
 
 /// How many changes a ward has had since it had so many notices.

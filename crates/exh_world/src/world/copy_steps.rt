@@ -7,8 +7,8 @@ use super::notice_of::notice_of;
 use super::place::place_of;
 use crate::laws::steps_keep_worlds_sound;
 use exh_event::{Outcome, StepFault};
-use exh_frames::Pages;
 use exh_keyer::Keyer;
+use exh_stores::Pages;
 use exh_ward::WardFault;
 
 impl<P: Pages + Drop, K: Keyer> World<P, K> {

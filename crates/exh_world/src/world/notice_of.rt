@@ -1,6 +1,6 @@
 ghost use Rattle.std.specs.Prelude.{◌≡◌, ◌≢◌, Contains, IfSome, IfNone};
 ghost use Rattle.exh_notice.specs.declared.notice.Notice.{Notice as NoticeValue};
-ghost use Rattle.exh_world.specs.Kept.{HaveIndexesInTurn};
+ghost use Rattle.exh_world.specs.WorldKept.{HaveIndexesInTurn};
 
 use exh_notice::Notice;
 

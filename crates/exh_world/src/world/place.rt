@@ -1,6 +1,6 @@
 ghost use Rattle.std.specs.Prelude.{◌≡◌, List, length, IfSome, IfNone, None};
 ghost use Rattle.exh_table.specs.Table.{TableMap};
-ghost use Rattle.exh_world.specs.Kept.{IsPlaceOf};
+ghost use Rattle.exh_world.specs.WorldKept.{IsPlaceOf};
 ghost use Rattle.exh_world.specs.World.{numbered};
 
 /// The place of a copy or a sent table that has a number, from 1 on, where there are so many; `None` where there is

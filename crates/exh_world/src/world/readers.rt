@@ -17,10 +17,10 @@ use super::place::place_of;
 use crate::Request;
 use exh_array::Directory;
 use exh_event::StepFault;
-use exh_frames::Pages;
 use exh_keyer::Keyer;
 use exh_page::PageHead;
 use exh_prefix::PageNo;
+use exh_stores::Pages;
 use lru::Iter;
 
 impl<P: Pages + Drop, K: Keyer> World<P, K> {

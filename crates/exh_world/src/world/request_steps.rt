@@ -9,10 +9,10 @@ use crate::Request;
 use crate::laws::steps_keep_worlds_sound;
 use exh_calls::Call;
 use exh_event::{Outcome, Progress, StepFault};
-use exh_frames::Pages;
 use exh_keyer::Keyer;
 use exh_prefix::ward_number;
 use exh_route::{distance, moves_come_nearer};
+use exh_stores::Pages;
 
 impl<P: Pages + Drop, K: Keyer> World<P, K> {
     /// Begins a request of a name that no request in flight has: it stands at the page that the

@@ -2,7 +2,7 @@ ghost use Rattle.std.specs.Prelude.{◌≡◌, map, IfOk, OnErr};
 ghost use Rattle.exh_world.specs.Alike.{HasOthers};
 ghost use Rattle.exh_world.specs.Counted.{CountsMoves};
 ghost use Rattle.exh_world.specs.Headline.{AreEqualCopies, IsHeadline};
-ghost use Rattle.exh_world.specs.Moves.{HasBoundedAnswers};
+ghost use Rattle.exh_world.specs.RequestMoves.{HasBoundedAnswers};
 ghost use Rattle.exh_world.specs.Parts.{HasCountedMoves, HasCurrentCopies};
 ghost use Rattle.exh_world.specs.Sound.{IsSoundWorld};
 ghost use Rattle.exh_world.specs.Step.{Step};
@@ -11,8 +11,8 @@ use super::World;
 use crate::laws::{refused_turns_leave_the_others, runs_carry_the_headline};
 use crate::move_laws::{current_copies_look_once, moves_are_counted};
 use exh_event::{Event, Outcome, StepFault, Turn};
-use exh_frames::Pages;
 use exh_keyer::Keyer;
+use exh_stores::Pages;
 use std::alloc::AllocError;
 
 impl<P: Pages + Drop, K: Keyer> World<P, K> {

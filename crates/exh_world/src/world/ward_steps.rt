@@ -5,9 +5,9 @@ ghost use Rattle.exh_event.specs.declared.event.Event.TheVariants.{Merge, Split}
 use super::World;
 use crate::laws::steps_keep_worlds_sound;
 use exh_event::{Outcome, StepFault};
-use exh_frames::Pages;
 use exh_keyer::Keyer;
 use exh_prefix::PageNo;
+use exh_stores::Pages;
 
 impl<P: Pages + Drop, K: Keyer> World<P, K> {
     /// Splits a page of a ward, and issues the notice (Fagin et al. 1979; the notice is exhash's

@@ -2,8 +2,8 @@ use Rattle.std.proofs.Common.{◌≡◌, List, length, slice_get, sym, ap, ◌�
 use Rattle.exh_keyer.specs.declared.any_keyer.AnyKeyer.{AnyKeyer}
 use Rattle.exh_settings.specs.declared.file_settings.FileSettings.{FileSettings}
 use Rattle.exh_ward.specs.WardState.{WardState}
-use Rattle.exh_open.specs.Opened.{AreWardsOf, OpenedState, settings_in}
-use Rattle.exh_live.specs.LiveFile.{AreNewWardsOf}
+use Rattle.exh_file.specs.Opened.{AreWardsOf, OpenedState, settings_in}
+use Rattle.exh_live_file.specs.LiveFile.{AreNewWardsOf}
 use Rattle.example_use.specs.Unasked.{AreUnasked}
 use Rattle.example_use.proofs.service.serve_as.Goals as goal
 

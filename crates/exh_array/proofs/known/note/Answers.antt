@@ -3,9 +3,9 @@ use Rattle.std.specs.BTreeMap.{is_at}
 use Rattle.std.specs.BTreeSet.{BTreeSet, IsUnchanged, Updates, contains}
 use Rattle.std.specs.FinMap.{nat_cmp-IsAntisymmetric}
 use Rattle.std.specs.List.{list_any}
-use Rattle.exh_prefix.specs.ListLemmas.{is_equal}
+use Rattle.exh_prefix.specs.PrefixListLemmas.{is_equal}
 use Rattle.exh_table.specs.Table.{TableMap}
-use Rattle.exh_array.specs.Known.{AreKnown, IsSentUpTo}
+use Rattle.exh_array.specs.KnownCopy.{AreKnown, IsSentUpTo}
 use Rattle.exh_array.proofs.known.note.Goals as goal
 
 module _ (sent : List TableMap) (own : TableMap) (old new : BTreeSet ℕ) (place : ℕ) (known : AreKnown sent old own) (up : IsSentUpTo sent own place) where

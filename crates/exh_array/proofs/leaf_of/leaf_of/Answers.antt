@@ -2,10 +2,10 @@ use Rattle.std.proofs.Common.{◌≡◌, suc, ◌<◌, ◌-◌, ◌↔◌, IsTru
 use Rattle.std.proofs.lemmas.List.{length_push}
 use Rattle.exh_prefix.specs.Bits.{word_bits}
 use Rattle.exh_prefix.specs.Prefix.{Begins}
-use Rattle.exh_prefix.specs.ListLemmas.{value_of_some}
+use Rattle.exh_prefix.specs.PrefixListLemmas.{value_of_some}
 use Rattle.exh_prefix.specs.declared.prefix.TheConstants.{LIMIT}
 use Rattle.exh_table.specs.declared.leaf.Leaf.{Leaf}
-use Rattle.exh_table.specs.Walk.{step, walk_on}
+use Rattle.exh_table.specs.TableWalk.{step, walk_on}
 use Rattle.exh_table.specs.Below.{splits_above}
 use Rattle.exh_table.specs.WalkLemmas.{IsOnWalk, on_walk_start, on_walk_step, on_walk_end, goes_on, walk_from_root, next_bit_if_begins}
 use Rattle.exh_array.proofs.leaf_of.leaf_of.Goals as goal

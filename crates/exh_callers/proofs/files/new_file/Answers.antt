@@ -1,4 +1,4 @@
-use Rattle.exh_live.specs.NewWardLemmas.{answered_nothing}
+use Rattle.exh_live_file.specs.LiveWardLemmas.{answered_nothing}
 use Rattle.exh_callers.proofs.files.new_file.Goals as goal
 
 pub new-requires-clause-wards : goal.new-requires-clause-wards

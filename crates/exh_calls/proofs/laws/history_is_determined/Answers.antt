@@ -1,7 +1,7 @@
 use Rattle.std.proofs.Common.{◌≡◌, ℕ, List, [], ◌∷◌, refl, sym, ap, ◌∙◌, subst}
 use Rattle.exh_calls.specs.History.{IsHistory, map_left}
 use Rattle.exh_page.specs.KeyMap.{KeyMap}
-use Rattle.exh_calls.specs.Laws.{calls_of, replies_of}
+use Rattle.exh_calls.specs.CallLaws.{calls_of, replies_of}
 use Rattle.exh_calls.specs.MapMachine.{reply_of, map_after}
 use Rattle.exh_calls.specs.declared.journal_entry.JournalEntry.{JournalEntry}
 use Rattle.exh_calls.proofs.laws.history_is_determined.Goals as goal

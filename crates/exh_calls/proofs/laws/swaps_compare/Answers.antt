@@ -6,10 +6,10 @@ use Rattle.std.specs.Cmp.Lexicographic.{slice_cmp}
 use Rattle.std.proofs.lemmas.Cmp.{eq_by_cmp_equiv, nat_list_cmp_total}
 use Rattle.std.proofs.lemmas.Map.Lookups.{exact_bytes}
 use Rattle.std.proofs.lemmas.Slice.Eq.{bytes_eq-Decides}
-use Rattle.exh_prefix.specs.ListLemmas.{is_equal}
+use Rattle.exh_prefix.specs.PrefixListLemmas.{is_equal}
 use Rattle.exh_page.specs.KeyMap.{KeyMap}
 use Rattle.exh_calls.specs.Effect.{Effect, Keep, Set, effect_of}
-use Rattle.exh_calls.specs.Laws.{IsSwap}
+use Rattle.exh_calls.specs.CallLaws.{IsSwap}
 use Rattle.exh_calls.specs.MapMachine.{is_full, effect_in, changed, reply_of, map_after}
 use Rattle.exh_calls.specs.declared.call.Call.TheVariants.{Swap}
 use Rattle.exh_calls.specs.declared.reply.Reply.{Reply}

@@ -1,6 +1,6 @@
 use Rattle.std.proofs.Common.{◌≡◌, ap, ◌∙◌, subst}
 use Rattle.exh_table.specs.SetLemmas.{members_decide}
-use Rattle.exh_table.specs.Walk.{walk_of}
+use Rattle.exh_table.specs.TableWalk.{walk_of}
 use Rattle.exh_array.specs.Pointers.{NamesPageOf}
 use Rattle.exh_array.specs.PointerLemmas.{names_page}
 use Rattle.exh_copy.specs.AdditionLemmas.{table_after_of}

@@ -4,10 +4,10 @@ use Rattle.std.proofs.lemmas.Result.{IfErr-weaker, IfOk-weaker}
 use Rattle.std.specs.Io.KnownBytes.{Appends}
 use Rattle.std.specs.List.{range_with_len}
 use Rattle.exh_keyer.specs.Pseudokey.{any_pseudokey}
-use Rattle.exh_file.specs.FileVersion.{file_version}
-use Rattle.exh_page_file.specs.PageFile.{table_blocks}
-use Rattle.exh_direct.specs.Answer.{FailsBehind, FailsOnWay, FindsOnWay, IsTable, Refuses, page_named, pseudokey_in, table_place}
-use Rattle.exh_direct.specs.Known.{IsHeaderAt}
+use Rattle.exh_format.specs.FileVersion.{file_version}
+use Rattle.exh_format.specs.PageFile.{table_blocks}
+use Rattle.exh_direct.specs.DirectAnswer.{FailsBehind, FailsOnWay, FindsOnWay, IsTable, Refuses, page_named, pseudokey_in, table_place}
+use Rattle.exh_direct.specs.KnownBlocks.{IsHeaderAt}
 use Rattle.exh_direct.proofs.ReadPlaces.{read_then}
 use Rattle.exh_direct.proofs.Ways.{err_is}
 use Rattle.exh_direct.proofs.finding.find_on_way.Goals as goal

@@ -4,14 +4,14 @@ use Rattle.exh_prefix.specs.Leading.{ward_of}
 use Rattle.exh_prefix.specs.LeadingLemmas.{leading-lt}
 use Rattle.exh_page.specs.Page.{records_of}
 use Rattle.exh_page.specs.Records.{value_at}
-use Rattle.exh_file.specs.declared.header.Header.{Header}
+use Rattle.exh_format.specs.declared.header.Header.{Header}
 use Rattle.exh_prefix.specs.declared.version.Version.{Version as KnownVersion}
-use Rattle.exh_file.specs.FileVersion.{file_version}
-use Rattle.exh_file.specs.HeaderImage.{IsHeader}
-use Rattle.exh_direct.specs.Answer.{FailsOnWay, pages_in, place_in, ward_in}
+use Rattle.exh_format.specs.FileVersion.{file_version}
+use Rattle.exh_format.specs.HeaderImage.{IsHeader}
+use Rattle.exh_direct.specs.DirectAnswer.{FailsOnWay, pages_in, place_in, ward_in}
 use Rattle.exh_direct.specs.Way.{lead_of}
 use Rattle.exh_direct.proofs.ReadPlaces.{none_read, read_then}
-use Rattle.exh_file.specs.HeaderLemmas.{few_wards}
+use Rattle.exh_format.specs.HeaderLemmas.{few_wards}
 use Rattle.exh_direct.proofs.Tables.{few_in_ward}
 use Rattle.exh_direct.proofs.Ways.{err_is, page_fails, page_in, place_there, reads_more, way_more}
 use Rattle.exh_direct.proofs.follow.follow.Goals as goal

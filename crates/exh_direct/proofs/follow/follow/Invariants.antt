@@ -1,7 +1,7 @@
 use Rattle.std.proofs.Common.{◌≡◌, ℕ, List, length, map}
 use Rattle.std.specs.Io.KnownBytes.{Appends}
-use Rattle.exh_file.specs.FileVersion.{file_version}
-use Rattle.exh_direct.specs.Answer.{IsWay, place_in}
+use Rattle.exh_format.specs.FileVersion.{file_version}
+use Rattle.exh_direct.specs.DirectAnswer.{IsWay, place_in}
 use Rattle.exh_direct.proofs.follow.follow.Given as goal
 
 abbrev pub invariant-loop-turn : goal.invariant-loop-turn

@@ -7,18 +7,18 @@ use Rattle.std.specs.Option.{option_to_list}
 use Rattle.exh_prefix.specs.declared.prefix.TheConstants.{LIMIT}
 use Rattle.exh_prefix.specs.Layout.{layout}
 use Rattle.exh_table.specs.declared.leaf.Leaf.{Leaf}
-use Rattle.exh_file.specs.declared.file_entry.FileEntry.{FileEntry}
-use Rattle.exh_file.specs.FileVersion.{file_version}
-use Rattle.exh_file.specs.TableImage.{AreRising, prefixes_of}
-use Rattle.exh_page_file.specs.FileTests.{TableFails}
-use Rattle.exh_page_file.specs.PageFile.{table_blocks}
-use Rattle.exh_page_file.specs.Reading.{last_prefix}
-use Rattle.exh_direct.specs.Answer.{FailsInTable, table_place}
-use Rattle.exh_direct.specs.Known.{BlockFails, IsTableBlock}
-use Rattle.exh_direct.specs.Walk.{IsOnWay, passed_all}
+use Rattle.exh_format.specs.declared.file_entry.FileEntry.{FileEntry}
+use Rattle.exh_format.specs.FileVersion.{file_version}
+use Rattle.exh_format.specs.TableImage.{AreRising, prefixes_of}
+use Rattle.exh_format.specs.FileTests.{TableFails}
+use Rattle.exh_format.specs.PageFile.{table_blocks}
+use Rattle.exh_format.specs.Reading.{last_prefix}
+use Rattle.exh_direct.specs.DirectAnswer.{FailsInTable, table_place}
+use Rattle.exh_direct.specs.KnownBlocks.{BlockFails, IsTableBlock}
+use Rattle.exh_direct.specs.BlockWalk.{IsOnWay, passed_all}
 use Rattle.exh_direct.proofs.ReadPlaces.{range_more, read_fewer, read_then}
-use Rattle.exh_file.specs.HeaderLemmas.{few_wards}
-use Rattle.exh_page_file.specs.ReadingLemmas.{last_of_join}
+use Rattle.exh_format.specs.HeaderLemmas.{few_wards}
+use Rattle.exh_format.specs.ReadingLemmas.{last_of_join}
 use Rattle.exh_direct.proofs.Tables.{all_short, block_more, no_block}
 use Rattle.exh_direct.proofs.Walks.{first_on_way, walk_first, walk_more}
 use Rattle.exh_direct.proofs.Ways.{err_is}

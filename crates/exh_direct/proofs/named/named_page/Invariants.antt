@@ -1,13 +1,13 @@
 use Rattle.std.proofs.Common.{◌≡◌, List, None}
 use Rattle.std.specs.Io.KnownBytes.{Appends}
 use Rattle.std.specs.List.{range_with_len}
-use Rattle.exh_table.specs.Walk.{walk_of}
-use Rattle.exh_file.specs.declared.file_entry.FileEntry.{FileEntry}
-use Rattle.exh_file.specs.FileVersion.{file_version}
-use Rattle.exh_page_file.specs.Reading.{last_prefix}
-use Rattle.exh_page_file.specs.LegalFile.{table_naming}
-use Rattle.exh_direct.specs.Answer.{IsTableFront, table_place}
-use Rattle.exh_direct.specs.Walk.{IsOnWay}
+use Rattle.exh_table.specs.TableWalk.{walk_of}
+use Rattle.exh_format.specs.declared.file_entry.FileEntry.{FileEntry}
+use Rattle.exh_format.specs.FileVersion.{file_version}
+use Rattle.exh_format.specs.Reading.{last_prefix}
+use Rattle.exh_format.specs.LegalFile.{table_naming}
+use Rattle.exh_direct.specs.DirectAnswer.{IsTableFront, table_place}
+use Rattle.exh_direct.specs.BlockWalk.{IsOnWay}
 use Rattle.exh_direct.proofs.named.named_page.Given as goal
 
 abbrev pub invariant-loop-number : goal.invariant-loop-number

@@ -1,6 +1,6 @@
 use Rattle.std.proofs.lemmas.Grind.{common_steps}
 use Rattle.std.proofs.Common.{sym, arith}
-use Rattle.exh_page_file.specs.ReadingLemmas.{last_there}
+use Rattle.exh_format.specs.ReadingLemmas.{last_there}
 use Rattle.exh_direct.proofs.named.note_last.Goals as goal
 
 pub returns-then-not-is_empty : goal.returns-then-not-is_empty

@@ -1,7 +1,7 @@
 use Rattle.std.proofs.Common.{ℕ, List, subst}
 use Rattle.exh_prefix.specs.declared.version.Version.{Version}
-use Rattle.exh_file.specs.FileVersion.{file_version, format_of}
-use Rattle.exh_page_file.specs.FileTests.{HeaderFails}
+use Rattle.exh_format.specs.FileVersion.{file_version, format_of}
+use Rattle.exh_format.specs.FileTests.{HeaderFails}
 use Rattle.exh_direct.proofs.BlockFaults.{block_fails}
 use Rattle.exh_direct.proofs.reading.read_header.Goals as goal
 

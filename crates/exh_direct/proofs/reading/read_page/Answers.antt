@@ -1,9 +1,9 @@
 use Rattle.std.proofs.Common.{refl, sym, subst}
 use Rattle.exh_keyer.specs.Pseudokey.{any_pseudokey}
 use Rattle.exh_prefix.specs.Layout.{layout}
-use Rattle.exh_file.specs.declared.file_fault.FileFault.TheVariants.{Block}
-use Rattle.exh_page_file.specs.FileTests.{PageFails}
-use Rattle.exh_direct.specs.Known.{BlockFails}
+use Rattle.exh_format.specs.declared.file_fault.FileFault.TheVariants.{Block}
+use Rattle.exh_format.specs.FileTests.{PageFails}
+use Rattle.exh_direct.specs.KnownBlocks.{BlockFails}
 use Rattle.exh_direct.proofs.BlockFaults.{block_fails, image_fails}
 use Rattle.exh_direct.proofs.reading.read_page.Goals as goal
 

@@ -1,6 +1,6 @@
 use Rattle.std.proofs.Common.{◌<◌, length, sym, ap, ◌∙◌, subst, arith}
 use Rattle.exh_prefix.specs.declared.prefix.TheConstants.{LIMIT}
-use Rattle.exh_direct.specs.Walk.{IsOnWay}
+use Rattle.exh_direct.specs.BlockWalk.{IsOnWay}
 use Rattle.exh_direct.proofs.Walks.{due_there, step_on_way}
 use Rattle.exh_direct.proofs.walk.pass.Goals as goal
 

@@ -1,5 +1,5 @@
 use Rattle.std.proofs.Common.{◌≡◌, drop}
-use Rattle.exh_direct.specs.Walk.{IsOnWay, passed_all}
+use Rattle.exh_direct.specs.BlockWalk.{IsOnWay, passed_all}
 use Rattle.exh_direct.proofs.walk.pass_all.Given as goal
 
 abbrev pub invariant-loop-item : goal.invariant-loop-item

@@ -5,7 +5,7 @@ use Rattle.exh_prefix.specs.declared.prefix.TheConstants.{LIMIT}
 use Rattle.exh_notice.specs.declared.entry.Entry.{Entry}
 use Rattle.exh_table.specs.Table.{TableMap, raised}
 use Rattle.exh_page.specs.declared.page.Page.{Page}
-use Rattle.exh_legal.specs.Laws.{IsWard}
+use Rattle.exh_legal.specs.LegalLaws.{IsWard}
 use Rattle.exh_prefix.specs.Leading.{ward_prefix}
 use Rattle.exh_fixtures.specs.OpenedWard.{halves}
 use Rattle.exh_fixtures.proofs.OpenedWard.{opened_legal, told}

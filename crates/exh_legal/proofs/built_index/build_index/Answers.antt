@@ -5,7 +5,7 @@ use Rattle.std.proofs.lemmas.Bool.{false≢true}
 use Rattle.exh_prefix.specs.Prefix.{Begins}
 use Rattle.exh_page.specs.Page.{low_bound}
 use Rattle.exh_legal.specs.BuiltIndex.{page_number_at}
-use Rattle.exh_legal.specs.FileParts.{IsBounded}
+use Rattle.exh_legal.specs.LegalParts.{IsBounded}
 use Rattle.exh_legal.proofs.Each.{each_all, each_more}
 use Rattle.exh_legal.proofs.Index.{IsBegunIndex, all_indexed, more_index, no_index, shared_low_found, none_found}
 use Rattle.exh_legal.proofs.built_index.build_index.Goals as goal

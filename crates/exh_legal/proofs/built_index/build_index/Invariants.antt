@@ -1,4 +1,4 @@
-use Rattle.exh_legal.specs.FileParts.{IsBounded}
+use Rattle.exh_legal.specs.LegalParts.{IsBounded}
 use Rattle.exh_legal.proofs.Each.{EachBelow}
 use Rattle.exh_legal.proofs.Index.{IsBegunIndex}
 use Rattle.exh_legal.proofs.built_index.build_index.Given as goal

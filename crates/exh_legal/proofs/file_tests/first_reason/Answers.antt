@@ -5,7 +5,7 @@ use Rattle.std.proofs.lemmas.Bool.{cases_eq, false≢true}
 use Rattle.std.proofs.lemmas.Bool.Decides.{leb_tells}
 use Rattle.std.proofs.lemmas.List.{get_or_past, length-map}
 use Rattle.std.proofs.lemmas.Option.{get_or_from_slice_get, slice_get-map, slice_get_read}
-use Rattle.exh_legal.specs.FileParts.{HasNoStrays, parts_of, table_of}
+use Rattle.exh_legal.specs.LegalParts.{HasNoStrays, parts_of, table_of}
 use Rattle.exh_legal.specs.Reasons.{IsFirstUnpassed, IsFirstReason, WardPasses}
 use Rattle.exh_legal.proofs.Whole.{PassedBelow, one_more, with_strays, without_strays}
 use Rattle.exh_legal.proofs.file_tests.first_reason.Goals as goal

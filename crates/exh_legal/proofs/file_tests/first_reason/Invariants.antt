@@ -1,6 +1,6 @@
 use Rattle.std.proofs.Common.{◌≡◌, ℕ, ◌<◌, ◌≤◌, length, map}
 use Rattle.std.specs.FinMap.{empty}
-use Rattle.exh_legal.specs.FileParts.{parts_of, table_of}
+use Rattle.exh_legal.specs.LegalParts.{parts_of, table_of}
 use Rattle.exh_legal.specs.Reasons.{IsFirstUnpassed}
 use Rattle.exh_legal.proofs.Whole.{PassedBelow}
 use Rattle.exh_legal.proofs.file_tests.first_reason.Given as goal

@@ -3,7 +3,7 @@ use Rattle.exh_prefix.specs.Prefix.{low_of}
 use Rattle.exh_legal.specs.BareLemmas.{bare_at}
 use Rattle.exh_legal.proofs.Siblings.{live_is_page, sibling_linked}
 use Rattle.exh_legal.proofs.laws.left_children_link_to_siblings.Goals as goal
-use Rattle.exh_legal.specs.PlaceLemmas.{page_full}
+use Rattle.exh_legal.specs.LegalPlaceLemmas.{page_full}
 
 pub returns : goal.returns
 returns c ward pages number prefix link records linked is longer =

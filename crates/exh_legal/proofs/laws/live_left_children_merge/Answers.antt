@@ -7,7 +7,7 @@ use Rattle.exh_prefix.specs.LowLemmas.{own_front, front_of_longer, front_of_chil
 use Rattle.exh_legal.proofs.MergeFit.{odd_at}
 use Rattle.exh_legal.proofs.Siblings.{live_is_page}
 use Rattle.exh_legal.proofs.laws.live_left_children_merge.Goals as goal
-use Rattle.exh_legal.specs.PlaceLemmas.{page_full}
+use Rattle.exh_legal.specs.LegalPlaceLemmas.{page_full}
 
 pub returns : goal.returns
 returns c cap pseudo ward start changes table pages prefix number is live longer =

@@ -1,10 +1,10 @@
 use Rattle.std.proofs.Common.{ℕ, ◌≤◌, List, length, sym, arith}
 use Rattle.exh_prefix.specs.BitLemmas.{length-bits_of}
 use Rattle.exh_prefix.specs.declared.prefix.TheConstants.{LIMIT}
-use Rattle.exh_legal.specs.Laws.{FittingTablesBeginWards, PagesAreFew}
+use Rattle.exh_legal.specs.LegalLaws.{FittingTablesBeginWards, PagesAreFew}
 use Rattle.exh_legal.specs.Pages.{bare}
 use Rattle.exh_prefix.specs.Leading.{ward_prefix}
-use Rattle.exh_legal.specs.FileParts.{FileParts, HasPartRanges}
+use Rattle.exh_legal.specs.LegalParts.{FileParts, HasPartRanges}
 use Rattle.exh_legal.specs.ReasonLaws.{IsLegalFile, IsPassed}
 use Rattle.exh_legal.specs.Reasons.{ReasonPasses}
 use Rattle.exh_legal.specs.declared.reason.Reason.{Reason}

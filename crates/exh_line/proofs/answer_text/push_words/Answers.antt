@@ -3,7 +3,7 @@ use Rattle.std.proofs.lemmas.List.{append-nil}
 use Rattle.std.proofs.lemmas.Result.{IfOk-from_err}
 use Rattle.exh_text.specs.Printing.{place_text, refused_text}
 use Rattle.exh_text.specs.TextLemmas.{keeps_more}
-use Rattle.exh_line.specs.Answer.{answer_words}
+use Rattle.exh_line.specs.LineAnswer.{answer_words}
 use Rattle.exh_line.proofs.answer_text.push_words.Goals as goal
 
 -- a text behind a name and what it did

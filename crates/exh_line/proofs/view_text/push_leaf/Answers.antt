@@ -2,7 +2,7 @@ use Rattle.std.proofs.Common.{◌≡◌, List, ℕ, [], ◌∷◌, ◌++◌, Res
 use Rattle.std.proofs.lemmas.Result.{IfOk-from_err}
 use Rattle.exh_prefix.specs.Leading.{ward_of}
 use Rattle.exh_prefix.specs.Prefix.{low_of, prefix_text}
-use Rattle.exh_text.specs.Lines.{newline}
+use Rattle.exh_text.specs.TextLines.{newline}
 use Rattle.exh_text.specs.Printing.{place_text}
 use Rattle.exh_text.specs.TextLemmas.{keeps_more}
 use Rattle.exh_line.proofs.view_text.push_leaf.Goals as goal

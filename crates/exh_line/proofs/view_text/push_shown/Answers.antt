@@ -2,9 +2,9 @@ use Rattle.std.proofs.Common.{◌≡◌, List, ℕ, [], ◌∷◌, ◌++◌, Res
 use Rattle.std.specs.FinMap.{entries}
 use Rattle.std.proofs.lemmas.Result.{IfOk-from_err}
 use Rattle.exh_table.specs.Below.{depth_of, leaves_listed}
-use Rattle.exh_text.specs.Lines.{newline}
+use Rattle.exh_text.specs.TextLines.{newline}
 use Rattle.exh_text.specs.TextLemmas.{keeps_more}
-use Rattle.exh_line.specs.Answer.{copy_text}
+use Rattle.exh_line.specs.LineAnswer.{copy_text}
 use Rattle.exh_line.specs.Shown.{entry_line, leaf_line}
 use Rattle.exh_line.proofs.view_text.push_shown.Goals as goal
 

@@ -1,5 +1,5 @@
 use Rattle.std.proofs.Common.{◌≡◌, ℕ, ◌<◌, ◌^◌, List, ◌∷◌, length, ap, arith, sym, ◌∙◌}
-use Rattle.exh_text.specs.Lines.{lines_of}
+use Rattle.exh_text.specs.TextLines.{lines_of}
 use Rattle.exh_load.specs.Load.{at_end, beginning, load_after, load_of_lines, refused}
 use Rattle.exh_load.proofs.Exits.{same_err, same_front, same_left, same_text}
 use Rattle.exh_load.proofs.load_source.load_text.Goals as goal

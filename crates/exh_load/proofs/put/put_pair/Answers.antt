@@ -4,10 +4,10 @@ use Rattle.exh_calls.specs.declared.call.Call.TheVariants.{Put}
 use Rattle.exh_ward.specs.HopTable.{HopOf}
 use Rattle.exh_ward.specs.WardFault.{CountsFailures}
 use Rattle.exh_ward.specs.WardState.{IsSoundWard, LeavesAfter}
-use Rattle.exh_open.specs.HomeLemmas.{IsFullHome, full_home, left_same, never_moved, never_stray}
-use Rattle.exh_open.specs.SplitLemmas.{at_most_on, call_done, own_kept, splits_keep}
-use Rattle.exh_open.specs.WardChange.{AreSplitsAtMost, IsFullAt, IsSplitAway}
-use Rattle.exh_open.specs.declared.ward_change.TheConstants.{CHANGER}
+use Rattle.exh_file.specs.HomeLemmas.{IsFullHome, full_home, left_same, never_moved, never_stray}
+use Rattle.exh_file.specs.SplitLemmas.{at_most_on, call_done, own_kept, splits_keep}
+use Rattle.exh_file.specs.WardChange.{AreSplitsAtMost, IsFullAt, IsSplitAway}
+use Rattle.exh_file.specs.declared.ward_change.TheConstants.{CHANGER}
 use Rattle.exh_load.proofs.ToldHomes.{told_home, told_turn_over}
 use Rattle.exh_load.proofs.put.put_pair.Goals as goal
 

@@ -1,7 +1,7 @@
 use Rattle.std.proofs.Common.{[], ◌∷◌, refl, rules}
 use Rattle.exh_ward.specs.WardFault.{IsStoreFault}
-use Rattle.exh_open.specs.FullPageLemmas.{refused_full}
-use Rattle.exh_open.specs.WardChange.{AreSplitsAtMost}
+use Rattle.exh_file.specs.FullPageLemmas.{refused_full}
+use Rattle.exh_file.specs.WardChange.{AreSplitsAtMost}
 use Rattle.exh_load.proofs.put.split_told.Goals as goal
 
 pub returns-in_err-notice-clause-err : goal.returns-in_err-notice-clause-err

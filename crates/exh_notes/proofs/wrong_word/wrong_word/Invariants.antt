@@ -1,5 +1,5 @@
 use Rattle.std.proofs.Common.{◌≡◌}
-use Rattle.exh_text.specs.Lines.{parts_at, space}
+use Rattle.exh_text.specs.TextLines.{parts_at, space}
 use Rattle.exh_notes.specs.WrongWord.{first_wrong}
 use Rattle.exh_notes.proofs.wrong_word.wrong_word.Given as goal
 

@@ -2,8 +2,8 @@ use Rattle.std.proofs.Common.{◌≡◌, ℕ, suc, ◌+◌, ◌-◌, ◌≤◌, 
 use Rattle.std.proofs.lemmas.Bool.{false≢true}
 use Rattle.std.specs.List.{AllByRecursion}
 use Rattle.exh_prefix.specs.Layout.{layout}
-use Rattle.exh_notice.specs.Images.{items}
-use Rattle.exh_notice.specs.ByteLemmas.{zeros-push, zeros-at}
+use Rattle.exh_notice.specs.NoticeImages.{items}
+use Rattle.exh_notice.specs.NoticeByteLemmas.{zeros-push, zeros-at}
 use Rattle.exh_notice.proofs.entry_image.ends_in_zeros.Goals as goal
 
 -- n items from place i on are zero

@@ -1,8 +1,8 @@
 use Rattle.std.proofs.Common.{◌≡◌, ℕ, List, take, drop, inr, sym, ap, ◌∙◌, arith}
 use Rattle.byteorder.specs.Endian.{big_from}
 use Rattle.byteorder.specs.Numbers.{big_from-take}
-use Rattle.exh_notice.specs.Images.{kind_byte, right_field}
-use Rattle.exh_notice.specs.ByteLemmas.{big_from-drop}
+use Rattle.exh_notice.specs.NoticeImages.{kind_byte, right_field}
+use Rattle.exh_notice.specs.NoticeByteLemmas.{big_from-drop}
 use Rattle.exh_notice.proofs.entry_image.read_kind.Goals as goal
 use Rattle.exh_notice.proofs.entry_image.read_kind.Goals.{in-1, in-2}
 

@@ -11,7 +11,7 @@ use Rattle.exh_prefix.specs.Version.{Version, four_bytes, field_low}
 use Rattle.exh_prefix.specs.Layout.{layout}
 use Rattle.exh_prefix.specs.LayoutLemmas.{layout_fits, layout_short}
 use Rattle.exh_notice.specs.declared.notice_fault.NoticeFault.{NoticeFault}
-use Rattle.exh_notice.specs.Images.{prefix_field, HasPrefixField}
+use Rattle.exh_notice.specs.NoticeImages.{prefix_field, HasPrefixField}
 use Rattle.exh_notice.specs.ImageLemmas.{prefix_field-read, field_read}
 use Rattle.exh_notice.proofs.entry_image.read_prefix.Goals as goal
 

@@ -3,7 +3,7 @@ use Rattle.std.proofs.lemmas.List.{length-append}
 use Rattle.byteorder.specs.Endian.{big_bytes}
 use Rattle.byteorder.specs.Numbers.{length-bytes_high_first}
 use Rattle.exh_notice.specs.Entry.{entry_of}
-use Rattle.exh_notice.specs.Images.{IsEntryImage, IsNoticeImage, entry_image, notice_image}
+use Rattle.exh_notice.specs.NoticeImages.{IsEntryImage, IsNoticeImage, entry_image, notice_image}
 use Rattle.exh_notice.specs.ImageLemmas.{length-entry_image}
 use Rattle.exh_notice.specs.ImageLemmas as lemmas
 use Rattle.exh_notice.proofs.laws.one_value.Goals as goal

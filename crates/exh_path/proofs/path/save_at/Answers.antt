@@ -1,5 +1,5 @@
 use Rattle.std.proofs.Common.{inl, inr}
-use Rattle.exh_save.specs.LeftLemmas.{left_as_it_was}
+use Rattle.exh_file.specs.LeftLemmas.{left_as_it_was}
 use Rattle.exh_path.proofs.path.save_at.Goals as goal
 
 -- where nothing was written they are the same wards

@@ -1,7 +1,7 @@
 use Rattle.std.proofs.Common.{◌++◌, ap, ◌∙◌}
-use Rattle.exh_page_file.specs.FileParts.{file_of}
+use Rattle.exh_format.specs.FileParts.{file_of}
 use Rattle.exh_report.specs.Check.{check_lines}
-use Rattle.exh_report.specs.Lines.{lines_text}
+use Rattle.exh_report.specs.ReportLines.{lines_text}
 use Rattle.exh_report.proofs.Told.{told_begun, told_none, told_whole}
 use Rattle.exh_report.proofs.check.check_parts.Goals as goal
 

@@ -1,6 +1,6 @@
 use Rattle.std.proofs.Common.{◌≡◌, ◌∙◌, ◌<◌, ◌^◌, ◌++◌, List, ℕ, Vec, Global, Result, Ok, Err, OnOk, length, ap, sym, subst, arith}
 use Rattle.exh_page.specs.declared.page.Page.{Page}
-use Rattle.exh_page_file.specs.FileParts.{pages_in}
+use Rattle.exh_format.specs.FileParts.{pages_in}
 use Rattle.exh_report.specs.Counts.{forward_count, live_count, record_count}
 use Rattle.exh_report.proofs.Sizes.{check_line_is, few_pages, few_records_in_all}
 use Rattle.exh_report.proofs.check.push_check.Goals as goal

@@ -1,7 +1,7 @@
 use Rattle.std.proofs.Common.{◌≡◌, ◌++◌, IsFalse, drop, map}
 use Rattle.exh_stream.specs.Output.{SameWriter, Takes, writer_failed}
 use Rattle.exh_report.specs.Dump.{item_words}
-use Rattle.exh_report.specs.Lines.{Lines, lines_text}
+use Rattle.exh_report.specs.ReportLines.{Lines, lines_text}
 use Rattle.exh_report.proofs.dump.dump_entries.Given as goal
 
 -- some lines were taken, and those of the entries that are left are the others

@@ -3,9 +3,9 @@ use Rattle.exh_page.specs.declared.page.Page.{Page}
 use Rattle.std.specs.List.{enumerate_from}
 use Rattle.exh_stream.specs.Output.{Takes}
 use Rattle.exh_stream.specs.OutputLemmas.{Takes-none}
-use Rattle.exh_page_file.specs.FileParts.{file_of}
+use Rattle.exh_format.specs.FileParts.{file_of}
 use Rattle.exh_report.specs.Dump.{dump_lines, file_words, item_words, ward_lines}
-use Rattle.exh_report.specs.Lines.{TakesLines, lines_text}
+use Rattle.exh_report.specs.ReportLines.{TakesLines, lines_text}
 use Rattle.exh_report.proofs.Sizes.{few_wards, small_wards}
 use Rattle.exh_report.proofs.Told.{stops_told, takes_both, then_told}
 use Rattle.exh_report.proofs.dump.dump_parts.Goals as goal

@@ -2,7 +2,7 @@ use Rattle.std.proofs.Common.{◌≡◌, ◌++◌, IsFalse, drop, flat_map, map}
 use Rattle.std.specs.List.{enumerate_from}
 use Rattle.exh_stream.specs.Output.{SameWriter, Takes, writer_failed}
 use Rattle.exh_report.specs.Dump.{ward_lines}
-use Rattle.exh_report.specs.Lines.{Lines, lines_text}
+use Rattle.exh_report.specs.ReportLines.{Lines, lines_text}
 use Rattle.exh_report.proofs.dump.dump_wards.Given as goal
 
 -- some lines were taken, and those of the wards that are left are the others

@@ -1,6 +1,6 @@
 use Rattle.std.proofs.Common.{◌++◌, ap, ◌∙◌}
 use Rattle.exh_report.specs.Dump.{page_lines}
-use Rattle.exh_report.specs.Lines.{lines_text}
+use Rattle.exh_report.specs.ReportLines.{lines_text}
 use Rattle.exh_report.proofs.Told.{told_begun, told_none, told_whole}
 use Rattle.exh_report.proofs.dump.tell_page.Goals as goal
 

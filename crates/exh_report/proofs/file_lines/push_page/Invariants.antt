@@ -1,6 +1,6 @@
 use Rattle.std.proofs.Common.{◌≡◌, ◌++◌, map}
 use Rattle.exh_report.specs.Dump.{page_lines, pair_words}
-use Rattle.exh_report.specs.Lines.{lines_text}
+use Rattle.exh_report.specs.ReportLines.{lines_text}
 use Rattle.exh_report.proofs.file_lines.push_page.Given as goal
 
 -- with the lines of the records that are left, those of the page stand there

@@ -1,5 +1,5 @@
 use Rattle.std.proofs.Common.{[], ◌∷◌, codes}
-use Rattle.exh_report.specs.Pairs.{record_words}
+use Rattle.exh_report.specs.PairsText.{record_words}
 use Rattle.exh_report.proofs.Behind.{headed}
 use Rattle.exh_report.proofs.file_lines.push_pair.Goals as goal
 

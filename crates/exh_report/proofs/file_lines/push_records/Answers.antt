@@ -1,5 +1,5 @@
 use Rattle.std.proofs.Common.{◌∙◌}
-use Rattle.exh_report.specs.Pairs.{record_words}
+use Rattle.exh_report.specs.PairsText.{record_words}
 use Rattle.exh_report.proofs.PageLines.{next_line, records_begun}
 use Rattle.exh_report.proofs.file_lines.push_records.Goals as goal
 

@@ -2,9 +2,9 @@ use Rattle.std.proofs.Common.{◌∷◌, [], List, Vec, Global, Err, map, flat_m
 use Rattle.exh_stream.specs.Output.{Takes}
 use Rattle.exh_stream.specs.OutputLemmas.{Takes-none}
 use Rattle.exh_page.specs.declared.page.Page.{Page}
-use Rattle.exh_page_file.specs.FileParts.{file_of}
-use Rattle.exh_report.specs.Lines.{TakesLines, lines_text}
-use Rattle.exh_report.specs.Pairs.{first_words, pairs_lines, records_lines, settings_over}
+use Rattle.exh_format.specs.FileParts.{file_of}
+use Rattle.exh_report.specs.ReportLines.{TakesLines, lines_text}
+use Rattle.exh_report.specs.PairsText.{first_words, pairs_lines, records_lines, settings_over}
 use Rattle.exh_report.proofs.Told.{stops_told, then_told}
 use Rattle.exh_report.proofs.pairs.pairs_parts.Goals as goal
 

@@ -1,6 +1,6 @@
 use Rattle.std.proofs.Common.{◌++◌, [], ◌∷◌, ap, ◌∙◌}
 use Rattle.exh_text.specs.Contents.{on_line}
-use Rattle.exh_report.specs.Pairs.{first_words}
+use Rattle.exh_report.specs.PairsText.{first_words}
 use Rattle.exh_report.proofs.Told.{one_line, told_begun, told_none, told_whole}
 use Rattle.exh_report.proofs.pairs.tell_first.Goals as goal
 

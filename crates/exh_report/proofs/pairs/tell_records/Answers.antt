@@ -1,6 +1,6 @@
 use Rattle.std.proofs.Common.{◌++◌, ap, ◌∙◌}
-use Rattle.exh_report.specs.Pairs.{records_lines}
-use Rattle.exh_report.specs.Lines.{lines_text}
+use Rattle.exh_report.specs.PairsText.{records_lines}
+use Rattle.exh_report.specs.ReportLines.{lines_text}
 use Rattle.exh_report.proofs.Told.{told_begun, told_none, told_whole}
 use Rattle.exh_report.proofs.pairs.tell_records.Goals as goal
 

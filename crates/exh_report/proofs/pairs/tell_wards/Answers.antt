@@ -1,6 +1,6 @@
 use Rattle.std.proofs.Common.{◌∙◌, ◌++◌, ◌+◌, [], ap, drop, flat_map, map, refl}
 use Rattle.exh_stream.specs.OutputLemmas.{Takes-none}
-use Rattle.exh_report.specs.Pairs.{records_lines}
+use Rattle.exh_report.specs.PairsText.{records_lines}
 use Rattle.std.proofs.lemmas.List.{drop_all}
 use Rattle.exh_report.proofs.Told.{failed_so, next_split, records_left, still_open, stops_told, takes_both, told_all}
 use Rattle.exh_report.proofs.pairs.tell_wards.Goals as goal

@@ -1,7 +1,7 @@
 use Rattle.std.proofs.Common.{◌≡◌, ◌++◌, IsFalse, drop, flat_map, map}
 use Rattle.exh_stream.specs.Output.{SameWriter, Takes, writer_failed}
-use Rattle.exh_report.specs.Lines.{Lines, lines_text}
-use Rattle.exh_report.specs.Pairs.{records_lines}
+use Rattle.exh_report.specs.ReportLines.{Lines, lines_text}
+use Rattle.exh_report.specs.PairsText.{records_lines}
 use Rattle.exh_report.proofs.pairs.tell_wards.Given as goal
 
 -- some lines were taken, and those of the wards that are left are the others

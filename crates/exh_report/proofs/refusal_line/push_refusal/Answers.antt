@@ -1,5 +1,5 @@
 use Rattle.std.proofs.Common.{◌≡◌, ℕ, List, [], ◌∷◌, ◌++◌, Option, ap, ◌∙◌, rules}
-use Rattle.exh_page_file.specs.LegalFileFault.{fault_place, fault_reason, legal_file_fault_number}
+use Rattle.exh_format.specs.LegalFileFault.{fault_place, fault_reason, legal_file_fault_number}
 use Rattle.exh_text.specs.Printing.{refused_text}
 use Rattle.exh_text.specs.TextLemmas.{keeps_more}
 use Rattle.exh_report.specs.Finding.{place_words, reason_words}

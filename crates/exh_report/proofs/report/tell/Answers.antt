@@ -1,6 +1,6 @@
 use Rattle.std.proofs.Common.{Ok, Err}
-use Rattle.exh_file.specs.FileVersion.{version_of}
-use Rattle.exh_page_file.specs.FileParts.{file_of}
+use Rattle.exh_format.specs.FileVersion.{version_of}
+use Rattle.exh_format.specs.FileParts.{file_of}
 use Rattle.exh_report.specs.Report.{topic_lines}
 use Rattle.exh_report.proofs.report.tell.Goals as goal
 

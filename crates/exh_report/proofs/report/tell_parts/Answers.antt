@@ -1,7 +1,7 @@
 use Rattle.std.proofs.Common.{sym, subst}
 use Rattle.exh_stream.specs.Output.{Takes}
-use Rattle.exh_page_file.specs.FileParts.{file_of}
-use Rattle.exh_report.specs.Lines.{lines_text}
+use Rattle.exh_format.specs.FileParts.{file_of}
+use Rattle.exh_report.specs.ReportLines.{lines_text}
 use Rattle.exh_report.specs.Report.{topic_lines}
 use Rattle.exh_report.proofs.report.tell_parts.Goals as goal
 

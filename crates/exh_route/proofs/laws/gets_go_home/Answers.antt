@@ -6,7 +6,7 @@ use Rattle.exh_ward.specs.HopTable.{IsReached, LeadsTo, Overflows}
 use Rattle.exh_page.specs.KeyMap.{KeyMap}
 use Rattle.exh_calls.specs.declared.call.Call.{Call}
 use Rattle.exh_calls.specs.declared.call.Call.TheVariants.{Get}
-use Rattle.exh_route.specs.Moves.{AreMoves}
+use Rattle.exh_route.specs.WardMoves.{AreMoves}
 use Rattle.exh_route.proofs.GoHome.{ends_at_home}
 use Rattle.exh_route.proofs.laws.gets_go_home.Goals as goal
 

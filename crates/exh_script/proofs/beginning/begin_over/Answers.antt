@@ -1,7 +1,7 @@
 use Rattle.std.proofs.Common.{◌≡◌, length, true, sym, ap, ◌∙◌, subst}
 use Rattle.std.proofs.lemmas.Result.{IfOk-from_err}
 use Rattle.exh_world.specs.NewWorld.{AreWardsFor, settings_of}
-use Rattle.exh_script.specs.Opened.{is_of_file}
+use Rattle.exh_script.specs.OpenedScript.{is_of_file}
 use Rattle.exh_script.specs.Text.{ScriptWorld}
 use Rattle.exh_script.proofs.OpenedLemmas.{begun_of_file, begun_of_other, one_each, wards_for}
 use Rattle.exh_script.proofs.beginning.begin_over.Goals as goal

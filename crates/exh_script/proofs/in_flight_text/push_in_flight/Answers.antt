@@ -1,7 +1,7 @@
 use Rattle.std.proofs.Common.{◌≡◌, List, ℕ, [], ◌∷◌, ◌++◌, length, flat_map, Result, Ok, Err, OnOk, codes, decimal, append_assoc, arith, rules, ap, ◌∙◌}
 use Rattle.std.proofs.lemmas.Grind.{common_steps}
 use Rattle.std.proofs.lemmas.Result.{IfOk-from_err}
-use Rattle.exh_text.specs.Lines.{newline}
+use Rattle.exh_text.specs.TextLines.{newline}
 use Rattle.exh_text.specs.TextLemmas.{keeps_more}
 use Rattle.exh_script.specs.View.{request_line}
 use Rattle.exh_script.proofs.in_flight_text.push_in_flight.Goals as goal

@@ -1,9 +1,9 @@
 use Rattle.std.proofs.Common.{◌≡◌, List, ℕ, [], ◌∷◌, ◌++◌, Result, Ok, Err, OnOk, codes, append_assoc, ap, ap₂, ◌∙◌}
 use Rattle.std.proofs.lemmas.Result.{IfOk-from_err}
-use Rattle.exh_text.specs.Lines.{newline}
+use Rattle.exh_text.specs.TextLines.{newline}
 use Rattle.exh_text.specs.Printing.{place_text}
 use Rattle.exh_text.specs.TextLemmas.{keeps_more}
-use Rattle.exh_line.specs.Answer.{request_text}
+use Rattle.exh_line.specs.LineAnswer.{request_text}
 use Rattle.exh_script.proofs.in_flight_text.push_standing.Goals as goal
 
 -- three texts, and the end of their line

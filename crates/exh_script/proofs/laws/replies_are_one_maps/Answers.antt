@@ -3,16 +3,16 @@ use Rattle.std.specs.Prelude.{filter}
 use Rattle.std.proofs.lemmas.Bool.{leb-true}
 use Rattle.exh_keyer.specs.Pseudokey.{any_pseudokey}
 use Rattle.exh_keyer.specs.declared.any_keyer.AnyKeyer.{AnyKeyer}
-use Rattle.exh_text.specs.Lines.{lines_of}
+use Rattle.exh_text.specs.TextLines.{lines_of}
 use Rattle.exh_text.specs.declared.line_fault.LineFault.TheVariants.{Syntax}
 use Rattle.exh_calls.specs.History.{IsHistory, map_left}
 use Rattle.exh_page.specs.KeyMap.{KeyMap}
 use Rattle.exh_ward.specs.WardState.{WardState}
 use Rattle.exh_calls.specs.declared.journal_entry.JournalEntry.{JournalEntry}
 use Rattle.exh_prefix.specs.declared.prefix.TheConstants.{WARD_BITS_LIMIT}
-use Rattle.exh_world.specs.Laws.{NewWorldsAreSound, RunsCarryTheHeadline}
+use Rattle.exh_world.specs.WorldLaws.{NewWorldsAreSound, RunsCarryTheHeadline}
 use Rattle.exh_world.specs.NewWorld.{new_world}
-use Rattle.exh_line.specs.Answer.{answer_text}
+use Rattle.exh_line.specs.LineAnswer.{answer_text}
 use Rattle.exh_script.specs.AnyStart.{RepliesFrom}
 use Rattle.exh_script.specs.Replies.{world_left, is_of_ward, RepliesAsMap, PrintsAs}
 use Rattle.exh_script.specs.Text.{ScriptWorld, Start, new_file, started, start_of, settings_of, text_from, text_after, text_of_lines, ended_after, ended_of_lines, text_of, ended_of}

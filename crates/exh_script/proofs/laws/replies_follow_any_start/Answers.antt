@@ -1,12 +1,12 @@
 use Rattle.std.proofs.Common.{◌≡◌, ℕ, ◌≤◌, List, [], ◌∷◌, length, leb, cond, Bool, true, false, Result, Ok, Err, refl, subst}
 use Rattle.std.proofs.lemmas.Bool.{leb-true}
 use Rattle.exh_keyer.specs.Pseudokey.{any_pseudokey}
-use Rattle.exh_text.specs.Lines.{lines_of}
+use Rattle.exh_text.specs.TextLines.{lines_of}
 use Rattle.exh_text.specs.declared.line_fault.LineFault.TheVariants.{Syntax}
-use Rattle.exh_world.specs.Laws.{RunsCarryTheHeadline}
+use Rattle.exh_world.specs.WorldLaws.{RunsCarryTheHeadline}
 use Rattle.exh_world.specs.NewWorld.{new_world}
 use Rattle.exh_world.specs.Sound.{IsSoundWorld}
-use Rattle.exh_line.specs.Answer.{answer_text}
+use Rattle.exh_line.specs.LineAnswer.{answer_text}
 use Rattle.exh_script.specs.AnyStart.{BeginsSound, PrintsFrom}
 use Rattle.exh_script.specs.Text.{ScriptWorld, Beginning, Start, start_in, started, start_of, settings_of, text_after, text_of_lines, ended_after, ended_of_lines, text_of, ended_of}
 use Rattle.exh_line.specs.declared.answer.Answer.TheVariants.{Refused}

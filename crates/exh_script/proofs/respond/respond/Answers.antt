@@ -1,15 +1,15 @@
 use Rattle.std.proofs.Common.{◌≡◌, ◌⊎◌, ℕ, List, [], ◌∷◌, Option, None, Result, Ok, Err, IfOk, OnOk, OnErr, inl, inr, sym, ap, ◌∙◌, subst}
-use Rattle.exh_open.specs.Opened.{OpenedState}
+use Rattle.exh_file.specs.Opened.{OpenedState}
 use Rattle.exh_stream.specs.Output.{Takes, TakesBeginning}
 use Rattle.exh_text.specs.FileLine.{file_line_of}
-use Rattle.exh_text.specs.Lines.{lines_of}
+use Rattle.exh_text.specs.TextLines.{lines_of}
 use Rattle.exh_text.specs.declared.line_fault.LineFault.{LineFault}
 use Rattle.exh_text.specs.declared.settings.Settings.{Settings}
 use Rattle.exh_line.specs.RefusalText.{refusal_text}
 use Rattle.exh_line.specs.declared.refusal.Refusal.{Refusal}
 use Rattle.exh_line.specs.declared.refusal.Refusal.TheVariants.{Line as LineRefusal}
 use Rattle.exh_script.specs.Left.{left_after, left_of_lines}
-use Rattle.exh_script.specs.Opened.{beginning}
+use Rattle.exh_script.specs.OpenedScript.{beginning}
 use Rattle.exh_script.specs.Served.{PrintsFront, PrintsFrontFrom}
 use Rattle.exh_script.specs.Text.{Beginning, Start, opened, settings_of, start_in, start_of, started, text_after, text_of_lines}
 use Rattle.exh_script.proofs.ServedLemmas.{IfCut-map}

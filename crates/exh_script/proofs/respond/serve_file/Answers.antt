@@ -7,7 +7,7 @@ use Rattle.exh_stream.specs.Output.{Takes, TakesBeginning}
 use Rattle.exh_stream.specs.OutputLemmas.{OnErr-from, Takes-none, TakesBeginning-none}
 use Rattle.exh_line.specs.declared.refusal.Refusal.{Refusal}
 use Rattle.exh_script.specs.Left.{file_left, left_after}
-use Rattle.exh_script.specs.Opened.{beginning}
+use Rattle.exh_script.specs.OpenedScript.{beginning}
 use Rattle.exh_script.specs.Text.{ScriptWorld, start_in, text_after}
 use Rattle.exh_script.proofs.ServedLemmas.{IfCut-from, IfCut-handed, IfCut-map}
 use Rattle.exh_script.proofs.StartLemmas.{front_in}

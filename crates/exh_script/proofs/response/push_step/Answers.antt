@@ -2,8 +2,8 @@ use Rattle.std.proofs.Common.{◌≡◌, ◌≢◌, Err, inr, refl, sym, subst, 
 use Rattle.std.proofs.lemmas.Result.{IfOk-from_err}
 use Rattle.exh_event.specs.declared.step_fault.StepFault.TheVariants.{Ward}
 use Rattle.exh_ward.specs.declared.ward_fault.WardFault.TheVariants.{Memory, Page}
-use Rattle.exh_world.specs.Laws.{HasVersionOfWord}
-use Rattle.exh_line.specs.Answer.{outcome_answer}
+use Rattle.exh_world.specs.WorldLaws.{HasVersionOfWord}
+use Rattle.exh_line.specs.LineAnswer.{outcome_answer}
 use Rattle.exh_line.specs.LineStart.{short_event}
 use Rattle.exh_text.specs.TextLemmas.{keeps_all}
 use Rattle.exh_script.proofs.Stepped.{after_memory, after_page, done_after, handed_memory, refused_after, told_done, told_refused, was_done, was_memory, was_page}

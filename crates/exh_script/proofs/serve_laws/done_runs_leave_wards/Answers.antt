@@ -1,5 +1,5 @@
 use Rattle.std.proofs.Common.{◌≡◌, ℕ, List, [], ◌∷◌, length, leb, cond, Bool, true, false, None, Result, Ok, Err, refl}
-use Rattle.exh_text.specs.Lines.{lines_of}
+use Rattle.exh_text.specs.TextLines.{lines_of}
 use Rattle.exh_script.specs.Text.{Beginning, Start, start_of, ended_after, ended_of_lines, ended_of}
 use Rattle.exh_script.specs.declared.ended.Ended.TheVariants.{Refused}
 use Rattle.exh_line.specs.declared.refusal.Refusal.{Refusal}

@@ -1,4 +1,4 @@
-use Rattle.exh_script.specs.Opened.{opened_file}
+use Rattle.exh_script.specs.OpenedScript.{opened_file}
 use Rattle.exh_script.proofs.OpenedLemmas.{begins_sound}
 use Rattle.exh_script.proofs.serve_laws.replies_follow_the_file.Goals as goal
 

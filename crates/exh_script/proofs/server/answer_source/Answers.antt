@@ -7,7 +7,7 @@ use Rattle.exh_stream.specs.Source.{reader_failed, unread}
 use Rattle.exh_stream.specs.SourceLemmas.{Consumes-all_given, LosesLonger-had}
 use Rattle.exh_script.specs.Served.{PrintsLines, unread_text}
 use Rattle.exh_script.specs.declared.serve_fault.ServeFault.TheVariants.{Memory}
-use Rattle.exh_script.specs.Opened.{beginning}
+use Rattle.exh_script.specs.OpenedScript.{beginning}
 use Rattle.exh_script.proofs.ServedLemmas.{IfCut-map, whole_ok, whole_err, whole_front, long_ok, long_err, none_front, none_text, unread_ok, unread_err}
 use Rattle.exh_script.proofs.server.answer_source.Goals as goal
 

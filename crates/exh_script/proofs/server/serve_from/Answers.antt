@@ -3,7 +3,7 @@ use Rattle.std.specs.Prelude.{MatchBool}
 use Rattle.std.specs.Io.KnownBytes.{Appends}
 use Rattle.exh_stream.specs.Output.{held}
 use Rattle.exh_stream.specs.Source.{reader_failed, unread}
-use Rattle.exh_script.specs.Opened.{beginning}
+use Rattle.exh_script.specs.OpenedScript.{beginning}
 use Rattle.exh_script.specs.Served.{PrintsUnread, PrintsWhole}
 use Rattle.exh_script.proofs.server.serve_from.Goals as goal
 

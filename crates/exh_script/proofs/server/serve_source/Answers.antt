@@ -1,6 +1,6 @@
 use Rattle.std.proofs.Common.{◌≡◌, false, true}
 use Rattle.exh_stream.specs.OutputLemmas.{OnErr-from}
-use Rattle.exh_script.specs.Opened.{beginning}
+use Rattle.exh_script.specs.OpenedScript.{beginning}
 use Rattle.exh_script.proofs.ServedLemmas.{IfCut-map, finished_ok, finished_err, finished_front, cut_err}
 use Rattle.exh_script.proofs.server.serve_source.Goals as goal
 

@@ -1,8 +1,8 @@
 use Rattle.std.proofs.Common.{not, refl, ap, ◌∙◌, arith}
 use Rattle.std.proofs.lemmas.List.Elements.{filter-append}
 use Rattle.std.proofs.lemmas.Bool.Decides.{nat_tests}
-use Rattle.exh_text.specs.Lines.{is_empty, lines_of, newline, without_empty}
-use Rattle.exh_text.specs.Lines.{parts_at}
+use Rattle.exh_text.specs.TextLines.{is_empty, lines_of, newline, without_empty}
+use Rattle.exh_text.specs.TextLines.{parts_at}
 use Rattle.exh_text.specs.TextLemmas.{parts_at-append, parts_at-one}
 use Rattle.exh_text.proofs.laws.newlines_part_lines.Goals as goal
 

@@ -1,8 +1,8 @@
 use Rattle.std.proofs.Common.{◌≡◌, ℕ, List, Bool, true, false, cond, Some, None}
 use Rattle.std.specs.List.{join_with_byte}
 use Rattle.std.proofs.lemmas.List.Splits.{join_with_byte-slice_split}
-use Rattle.exh_text.specs.Lines.{space, words_of}
-use Rattle.exh_text.specs.Lines.{parts_at}
+use Rattle.exh_text.specs.TextLines.{space, words_of}
+use Rattle.exh_text.specs.TextLines.{parts_at}
 use Rattle.exh_text.proofs.laws.spaces_part_words.Goals as goal
 
 joined : (line : List ℕ) (words : List (List ℕ)) (empty : Bool) → cond empty None (Some (parts_at space line)) ≡ Some words → join_with_byte space words ≡ line

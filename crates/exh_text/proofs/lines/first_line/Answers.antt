@@ -1,5 +1,5 @@
 use Rattle.std.proofs.Common.{◌∙◌}
-use Rattle.exh_text.specs.Lines.{newline}
+use Rattle.exh_text.specs.TextLines.{newline}
 use Rattle.exh_text.proofs.Cuts.{first_by_search, parts_at_first, parts_at_none}
 use Rattle.exh_text.proofs.lines.first_line.Goals as goal
 

@@ -1,7 +1,7 @@
 use Rattle.std.proofs.Common.{refl, rules, tests}
 use Rattle.std.proofs.lemmas.Iterator.Consumers.{YieldsList-from_first}
 use Rattle.std.proofs.lemmas.Iterator.Search.{any_from_yields_List}
-use Rattle.exh_text.specs.Lines.{is_empty, words_of}
+use Rattle.exh_text.specs.TextLines.{is_empty, words_of}
 use Rattle.exh_text.proofs.lines.split_words.Goals as goal
 
 pub returns-then-any : goal.returns-then-any

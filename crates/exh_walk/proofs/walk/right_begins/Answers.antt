@@ -6,7 +6,7 @@ use Rattle.exh_prefix.specs.Bits.{word_bits}
 use Rattle.exh_prefix.specs.Prefix.{Begins, begins}
 use Rattle.exh_prefix.specs.PrefixLemmas.{is_front-true, IsFront-from_test}
 use Rattle.exh_prefix.specs.declared.prefix.TheConstants.{LIMIT}
-use Rattle.exh_walk.specs.Walk.{right_begins}
+use Rattle.exh_walk.specs.CallerWalk.{right_begins}
 use Rattle.exh_walk.proofs.walk.right_begins.Goals as goal
 
 tested : (prefix : List Bool) (pseudokey : ℕ) → Decides (begins prefix pseudokey) (Begins prefix pseudokey)

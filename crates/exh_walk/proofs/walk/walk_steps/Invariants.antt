@@ -1,4 +1,4 @@
-use Rattle.exh_walk.specs.Walk.{ServesOn}
+use Rattle.exh_walk.specs.CallerWalk.{ServesOn}
 use Rattle.exh_walk.proofs.Turns.{Stands}
 use Rattle.exh_walk.proofs.walk.walk_steps.Given as goal
 

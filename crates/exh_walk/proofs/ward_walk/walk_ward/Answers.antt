@@ -1,6 +1,6 @@
 use Rattle.exh_calls.specs.Call.{key_of}
 use Rattle.exh_ward.specs.WardState.{own_prefix}
-use Rattle.exh_route.specs.Laws.{CanGoOn}
+use Rattle.exh_route.specs.RouteLaws.{CanGoOn}
 use Rattle.exh_walk.proofs.Journals.{ward_walked}
 use Rattle.exh_walk.proofs.WaysHome.{held_in_turn, passes_in_turn}
 use Rattle.exh_walk.proofs.ward_walk.walk_ward.Goals as goal

@@ -6,7 +6,7 @@ use Rattle.exh_page.specs.declared.record.Record.{Record}
 use Rattle.exh_legal.specs.Pages.{map_of, IsAt, IsHome, IsLegal}
 use Rattle.exh_calls.specs.Call.{key_of}
 use Rattle.exh_ward.specs.HopTable.{Overflows, HopOf, pages_after}
-use Rattle.exh_ward.specs.Laws.{IsLegalAnswer}
+use Rattle.exh_ward.specs.WardLaws.{IsLegalAnswer}
 use Rattle.exh_ward.specs.PageAnswer.{records_after}
 use Rattle.exh_calls.specs.declared.call.Call.{Call}
 use Rattle.exh_ward.specs.declared.hop.Hop.TheVariants.{Done}

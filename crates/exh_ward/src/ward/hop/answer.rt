@@ -1,14 +1,14 @@
 ghost use Rattle.std.specs.Prelude.{◌≡◌, ◌<◌, length, slice_set, OnOk, OnErr};
 ghost use Rattle.exh_calls.specs.Effect.{change_of};
-ghost use Rattle.exh_frames.specs.PageStore.{CountsFaults, IfPage, TakesTheSame};
+ghost use Rattle.exh_stores.specs.PageStore.{CountsFaults, IfPage, TakesTheSame};
 ghost use Rattle.exh_page.specs.Page.{IsLive, records_of, with_records};
 ghost use Rattle.exh_page.specs.Search.{IsSought};
 ghost use Rattle.exh_ward.specs.PageAnswer.{records_changed};
 
 use exh_calls::KeyChange;
-use exh_frames::{Pages, PagesFault};
 use exh_page::{Key, Spot};
 use exh_prefix::PageNo;
+use exh_stores::{Pages, PagesFault};
 
 /// Makes the change of a key at its home page, where a search for the key came to `spot`.
 pub(crate) fn write<P: Pages>(

@@ -1,6 +1,6 @@
 use Rattle.std.proofs.lemmas.List.Elements.{recursion_from_All}
-use Rattle.exh_world.specs.Laws.{AreWardsSound}
-use Rattle.exh_world.specs.Run.{Moment}
+use Rattle.exh_world.specs.WorldLaws.{AreWardsSound}
+use Rattle.exh_world.specs.WorldRun.{Moment}
 use Rattle.exh_world.proofs.HeadlineOf.{headline, sound_around}
 use Rattle.exh_world.proofs.laws.runs_carry_the_headline.Goals as goal
 

@@ -2,9 +2,9 @@ use Rattle.std.proofs.Common.{[], refl, subst}
 use Rattle.std.specs.Prelude.{Result}
 use Rattle.std.proofs.lemmas.List.Elements.{All-from_recursion, recursion_from_All}
 use Rattle.exh_world.specs.Counted.{LeavesOpen, moves_over}
-use Rattle.exh_world.specs.Laws.{AreWardsSound}
-use Rattle.exh_world.specs.Moves.{IsBounded}
-use Rattle.exh_world.specs.Run.{Moment, answered_in}
+use Rattle.exh_world.specs.WorldLaws.{AreWardsSound}
+use Rattle.exh_world.specs.RequestMoves.{IsBounded}
+use Rattle.exh_world.specs.WorldRun.{Moment, answered_in}
 use Rattle.exh_world.specs.Step.{Step}
 use Rattle.exh_event.specs.declared.event.Event.{Event}
 use Rattle.exh_event.specs.declared.event.Event.TheVariants.{Hop}

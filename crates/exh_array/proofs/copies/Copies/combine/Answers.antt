@@ -1,6 +1,6 @@
 use Rattle.std.proofs.Common.{◌≡◌, Some, length, slice_get, refl, sym, ap, ◌∙◌, subst, arith}
 use Rattle.std.proofs.lemmas.Result.{on_ok_weaker}
-use Rattle.exh_prefix.specs.ListLemmas.{within_there}
+use Rattle.exh_prefix.specs.PrefixListLemmas.{within_there}
 use Rattle.exh_table.specs.Table.{TableMap}
 use Rattle.exh_table.specs.TableOrder.{table_join}
 use Rattle.exh_array.specs.Copies.{CopiesState}

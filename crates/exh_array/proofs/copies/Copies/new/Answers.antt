@@ -3,7 +3,7 @@ use Rattle.std.proofs.lemmas.List.{map-append, replicate-append-replicate}
 use Rattle.exh_array.specs.Pointers.{DirectoryState}
 use Rattle.exh_table.specs.Table.{TableMap}
 use Rattle.exh_array.specs.Held.{IsHeld}
-use Rattle.exh_array.specs.Kept.{AreKept, tables_of}
+use Rattle.exh_array.specs.KeptCopies.{AreKept, tables_of}
 use Rattle.exh_array.specs.Sent.{unpacked}
 use Rattle.exh_array.specs.declared.held_copy.HeldCopy.{HeldCopy}
 use Rattle.exh_array.specs.declared.sent_table.SentTable.{SentTable}

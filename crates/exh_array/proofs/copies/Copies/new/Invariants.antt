@@ -1,5 +1,5 @@
 use Rattle.std.proofs.Common.{◌≡◌, replicate}
-use Rattle.exh_array.specs.Kept.{tables_of}
+use Rattle.exh_array.specs.KeptCopies.{tables_of}
 use Rattle.exh_array.proofs.KeptCopies.{AreFresh}
 use Rattle.exh_array.proofs.copies.Copies.new.Given as goal
 

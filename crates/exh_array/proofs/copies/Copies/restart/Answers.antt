@@ -1,11 +1,11 @@
 use Rattle.std.proofs.Common.{◌≡◌, List, Some, slice_get, refl, sym, ap, ◌∙◌, subst}
 use Rattle.std.specs.Prelude.{slice_set}
-use Rattle.exh_prefix.specs.ListLemmas.{set_same}
+use Rattle.exh_prefix.specs.PrefixListLemmas.{set_same}
 use Rattle.exh_array.specs.Pointers.{DirectoryState, HasArrayOf}
 use Rattle.exh_table.specs.Table.{TableMap}
 use Rattle.exh_array.specs.Copies.{CopiesState}
 use Rattle.exh_array.specs.Held.{IsHeld}
-use Rattle.exh_array.specs.Kept.{tables_of}
+use Rattle.exh_array.specs.KeptCopies.{tables_of}
 use Rattle.exh_array.specs.Sent.{unpacked}
 use Rattle.exh_array.proofs.KeptCopies.{kept_set, lent_there, table_there, written}
 use Rattle.exh_array.proofs.copies.Copies.restart.Goals as goal

@@ -6,7 +6,7 @@ use Rattle.std.proofs.lemmas.Bool.{true≢false}
 use Rattle.exh_table.specs.Table.{TableMap}
 use Rattle.exh_table.specs.TableLemmas.{table_laws}
 use Rattle.exh_table.specs.TableOrder.{table_join}
-use Rattle.exh_array.specs.Known.{AreKnown}
+use Rattle.exh_array.specs.KnownCopy.{AreKnown}
 use Rattle.exh_array.proofs.Joined.{joined_none}
 use Rattle.exh_array.proofs.held_copy.HeldCopy.new.Goals as goal
 

@@ -5,7 +5,7 @@ use Rattle.exh_prefix.specs.PrefixLemmas.{low_of-word}
 use Rattle.exh_prefix.specs.declared.prefix.TheConstants.{LIMIT}
 use Rattle.exh_table.specs.declared.leaf.Leaf.{Leaf}
 use Rattle.exh_table.specs.Table.{TableMap}
-use Rattle.exh_table.specs.Walk.{walk_of}
+use Rattle.exh_table.specs.TableWalk.{walk_of}
 use Rattle.exh_array.specs.declared.pointer.Pointer.{Pointer}
 use Rattle.exh_array.specs.declared.pointer.Pointer.TheVariants.{ToLeaf, Deeper}
 use Rattle.exh_array.specs.Pointers.{PointerArray, IsArrayOf, DifferAtMostAt, pointer_at, pointer_to}

@@ -2,7 +2,7 @@ use Rattle.std.proofs.Common.{◌≡◌, length, slice_get, Some}
 use Rattle.exh_table.specs.Table.{TableMap}
 use Rattle.exh_table.specs.TableOrder.{IsTableUpTo, table_join}
 use Rattle.exh_array.specs.Sent.{IsBefore, base_in, unpacked}
-use Rattle.exh_array.specs.Known.{AreKnown}
+use Rattle.exh_array.specs.KnownCopy.{AreKnown}
 use Rattle.exh_array.proofs.Unpacked.{height}
 use Rattle.exh_array.proofs.sent_tables.SentTables.beyond.Given as goal
 

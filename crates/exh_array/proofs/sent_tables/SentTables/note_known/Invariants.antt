@@ -1,7 +1,7 @@
 use Rattle.std.proofs.Common.{length}
 use Rattle.exh_table.specs.Table.{TableMap}
 use Rattle.exh_array.specs.Sent.{IsBefore, unpacked}
-use Rattle.exh_array.specs.Known.{AreKnown, IsSentUpTo}
+use Rattle.exh_array.specs.KnownCopy.{AreKnown, IsSentUpTo}
 use Rattle.exh_array.proofs.Unpacked.{height, IsNextUpTo}
 use Rattle.exh_array.proofs.sent_tables.SentTables.note_known.Given as goal
 

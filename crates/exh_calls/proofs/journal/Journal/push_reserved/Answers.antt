@@ -1,5 +1,5 @@
 use Rattle.std.proofs.Common.{◌≡◌, List, ◌++◌, ℕ, length, ap, ◌∙◌, arith}
-use Rattle.exh_calls.proofs.Journals.{entries_in-push}
+use Rattle.exh_calls.proofs.JournalBytes.{entries_in-push}
 use Rattle.exh_calls.specs.Journal.{JournalState, call_as, reply_as}
 use Rattle.exh_calls.proofs.journal.Journal.push_reserved.Goals as goal
 

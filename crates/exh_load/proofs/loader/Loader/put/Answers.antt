@@ -2,7 +2,7 @@ use Rattle.std.proofs.Common.{◌≡◌, ◌<◌, length, ap, ◌∙◌, arith}
 use Rattle.exh_keyer.specs.Pseudokey.{any_pseudokey}
 use Rattle.exh_prefix.specs.Leading.{ward_of}
 use Rattle.exh_calls.specs.declared.call.Call.TheVariants.{Put}
-use Rattle.exh_open.specs.InWardLemmas.{at_within, settings_kept, ward_covers, ward_hashed, wards_left}
+use Rattle.exh_file.specs.InWardLemmas.{at_within, settings_kept, ward_covers, ward_hashed, wards_left}
 use Rattle.exh_stream.specs.OutputLemmas.{OnErr-from}
 use Rattle.exh_load.specs.Loader.{LoaderState, file_in}
 use Rattle.exh_load.proofs.PutIn.{are_splits_in, begun_keeps, directory_within, loading_left, maps_in, one_put_in, put_in, records_left, reply_in, ward_told}

@@ -3,7 +3,7 @@ use Rattle.std.specs.FinMap as map
 use Rattle.std.specs.Cmp.Lexicographic.{pointwise}
 use Rattle.std.proofs.lemmas.Fn.{filter_same}
 use Rattle.exh_page.specs.KeyMap.{KeyMap}
-use Rattle.exh_model.specs.Pairs.{AreApart}
+use Rattle.exh_model.specs.MachinePairs.{AreApart}
 use Rattle.exh_model.proofs.PairLemmas.{Pair, by_bytes, has_key, has_key-code, without, AreApart-without, AreApart-push, find-without_itself, from_entries-with}
 use Rattle.exh_model.proofs.pair_map.PairMap.insert.Goals as goal
 

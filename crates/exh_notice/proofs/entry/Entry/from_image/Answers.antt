@@ -16,8 +16,8 @@ pub returns-clause-ok : goal.returns-clause-ok
 returns-clause-ok c =
     let kind = c.in_ok-kind.ensures in
     let prefix = c.in_ok-prefix.ensures in
-    let change_version : big_from 8 4 c.args.image.now ≡ c.read_u32.result = grind (arith, common_steps) in
-    image_from_fields (layout c.args.version) (layout_fits c.args.version) c.args.image.now _ _ c.told-image c.fits-image kind.byte prefix.shorter prefix.len kind.padded prefix.field change_version kind.right
+    let change_number : big_from 8 4 c.args.image.now ≡ c.read_u32.result = grind (arith, common_steps) in
+    image_from_fields (layout c.args.version) (layout_fits c.args.version) c.args.image.now _ _ c.told-image c.fits-image kind.byte prefix.shorter prefix.len kind.padded prefix.field change_number kind.right
 
 pub returns-clause-every : goal.returns-clause-every
 returns-clause-every c = reads_every (layout c.args.version) (layout_fits c.args.version) c.args.image.now _ (returns-clause-ok c) tt

@@ -2,7 +2,7 @@ use Rattle.std.proofs.Common.{Result, Ok, Err, ap, sym, subst}
 use Rattle.std.specs.Prelude.{◌≡◌, IfErr, IsErrAnd}
 use Rattle.exh_prefix.specs.Layout.{layout}
 use Rattle.exh_prefix.specs.LayoutLemmas.{layout_fits}
-use Rattle.exh_notice.specs.Images.{FailsFirst}
+use Rattle.exh_notice.specs.NoticeImages.{FailsFirst}
 use Rattle.exh_notice.specs.ImageLemmas.{notice_from_parts, entry_image_of, one_notice, image_passes, fails_whole}
 use Rattle.exh_notice.proofs.notice.Notice.from_image.Goals as goal
 

@@ -1,5 +1,5 @@
 use Rattle.std.proofs.Common.{◌∷◌, Some, drop, sym, ap, ◌∙◌, add-one, arith}
-use Rattle.exh_prefix.specs.ListLemmas.{first_left}
+use Rattle.exh_prefix.specs.PrefixListLemmas.{first_left}
 use Rattle.exh_page.proofs.records.RecordsIterIterator.next.Goals as goal
 
 pub returns-clause-steps : goal.returns-clause-steps

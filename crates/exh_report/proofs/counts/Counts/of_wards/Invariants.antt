@@ -1,5 +1,5 @@
 use Rattle.std.proofs.Common.{◌≡◌, ◌+◌, drop, length}
-use Rattle.exh_page_file.specs.FileParts.{pages_in}
+use Rattle.exh_format.specs.FileParts.{pages_in}
 use Rattle.exh_report.specs.Counts.{forward_count, live_count, record_count}
 use Rattle.exh_report.proofs.counts.Counts.of_wards.Given as goal
 

@@ -1,7 +1,7 @@
 use Rattle.std.proofs.Common.{IsTrue, ◌↔◌, List, Bool, arith, subst}
 use Rattle.exh_prefix.specs.Prefix.{Begins}
 use Rattle.exh_table.specs.WalkLemmas.{next_bit_if_begins}
-use Rattle.exh_prefix.specs.ListLemmas.{value_of_some}
+use Rattle.exh_prefix.specs.PrefixListLemmas.{value_of_some}
 use Rattle.exh_table.proofs.leaf.Leaf.next_bit.Goals as goal
 
 pub returns : goal.returns

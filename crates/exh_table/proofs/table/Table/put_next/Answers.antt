@@ -4,7 +4,7 @@ use Rattle.std.specs.BTreeMap as tree
 use Rattle.std.below.std_collections.specs.declared.btree_map.entry.Entry.TheVariants.{Vacant, Occupied}
 use Rattle.std.specs.BTreeMap.Entry.{MatchEntry, entry_key, entry_value, map_with_value}
 use Rattle.exh_prefix.specs.Prefix.{prefix_cmp}
-use Rattle.exh_table.specs.Table.{TableMap, version_of, entry_after}
+use Rattle.exh_table.specs.Table.{TableMap, entry_number, entry_after}
 use Rattle.exh_table.proofs.Seen.{get_seen, insert_seen, insert_stood, on_err}
 use Rattle.exh_table.specs.TableLemmas.{later_wins}
 use Rattle.exh_table.proofs.table.Table.put_next.Goals as goal
@@ -37,7 +37,7 @@ returns-clause-ok c more =
     insert_seen c.self.inside.entries (map_with_value c.in_ok-place.place next) prefix next (c.in_ok-place.ensures.update.0 next)
     ∙ ap (λ (table : TableMap). insert table prefix next) c.self.view_is in
     let is : next ≡ entry_after (get now prefix) c.args.kind =
-    c.next_after-next.ensures.next (λ worn. more (ap version_of (sym was) ∙ worn)) ∙ ap (λ stood. entry_after stood c.args.kind) was in
+    c.next_after-next.ensures.next (λ worn. more (ap entry_number (sym was) ∙ worn)) ∙ ap (λ stood. entry_after stood c.args.kind) was in
     let seen = put ∙ ap (insert now prefix) (is ∙ sym (later_wins (get now prefix) (entry_after (get now prefix) c.args.kind) (omega arith))) in
     search rules
 
@@ -50,5 +50,5 @@ returns-clause-worn c worn =
     let put : from_entries (map_with_value c.in_ok-place.place next).entries ≡ insert now prefix next =
     insert_seen c.self.inside.entries (map_with_value c.in_ok-place.place next) prefix next (c.in_ok-place.ensures.update.0 next)
     ∙ ap (λ (table : TableMap). insert table prefix next) c.self.view_is in
-    let seen = put ∙ insert_stood now prefix next (sym was ∙ c.next_after-next.ensures.worn (ap version_of was ∙ worn)) in
+    let seen = put ∙ insert_stood now prefix next (sym was ∙ c.next_after-next.ensures.worn (ap entry_number was ∙ worn)) in
     search rules

@@ -3,7 +3,7 @@ use Rattle.std.proofs.lemmas.List.{length_push}
 use Rattle.exh_prefix.specs.Bits.{word_bits}
 use Rattle.exh_prefix.specs.declared.prefix.TheConstants.{LIMIT}
 use Rattle.exh_table.specs.declared.leaf.Leaf.{Leaf}
-use Rattle.exh_table.specs.Walk.{step, walk_on}
+use Rattle.exh_table.specs.TableWalk.{step, walk_on}
 use Rattle.exh_table.specs.Below.{splits_above}
 use Rattle.exh_table.specs.WalkLemmas.{IsOnWalk, on_walk_start, on_walk_step, on_walk_end, goes_on, walk_from_root}
 use Rattle.exh_table.proofs.table.Table.walk.Goals as goal

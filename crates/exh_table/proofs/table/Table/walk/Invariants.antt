@@ -1,7 +1,7 @@
 use Rattle.std.proofs.Common.{◌-◌, [], length, take}
 use Rattle.exh_prefix.specs.Bits.{word_bits}
 use Rattle.exh_prefix.specs.declared.prefix.TheConstants.{LIMIT}
-use Rattle.exh_table.specs.Walk.{walk_on}
+use Rattle.exh_table.specs.TableWalk.{walk_on}
 use Rattle.exh_table.specs.Below.{splits_above}
 use Rattle.exh_table.specs.WalkLemmas.{IsOnWalk}
 use Rattle.exh_table.proofs.table.Table.walk.Given as goal

@@ -1,6 +1,6 @@
 use Rattle.std.proofs.Common.{◌≡◌, length}
 use Rattle.std.specs.Option.{option_copied}
-use Rattle.exh_text.specs.Lines.{newline, parts_left, without_empty}
+use Rattle.exh_text.specs.TextLines.{newline, parts_left, without_empty}
 use Rattle.exh_text.proofs.lines.LinesIterator.next.Given as goal
 
 -- only empty parts went by

@@ -4,7 +4,7 @@ use Rattle.exh_page.specs.KeyMap.{KeyMap}
 use Rattle.exh_legal.specs.PageIndex.{IndexMap}
 use Rattle.exh_legal.specs.Pages.{map_of}
 use Rattle.exh_calls.specs.declared.journal_entry.JournalEntry.{JournalEntry}
-use Rattle.exh_ward.specs.Kept.{IsKeptWard}
+use Rattle.exh_ward.specs.WardKept.{IsKeptWard}
 use Rattle.exh_ward.specs.WardState.{WardState, history_begun}
 use Rattle.exh_ward.proofs.ward.Ward.begin_history.Goals as goal
 

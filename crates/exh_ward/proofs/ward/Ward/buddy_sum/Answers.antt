@@ -1,7 +1,7 @@
 use Rattle.std.proofs.Common.{◌<◌, length, List, None, refl, sym, subst, arith, ◌∙◌}
 use Rattle.std.proofs.lemmas.Result.{IfOk-from_err}
 use Rattle.exh_page.specs.declared.page.Page.{Page}
-use Rattle.exh_frames.specs.PageStore.{HasHead}
+use Rattle.exh_stores.specs.PageStore.{HasHead}
 use Rattle.exh_ward.specs.BuddySum.{IsBuddySum}
 use Rattle.exh_ward.specs.WardState.{WardState, IsSoundWard}
 use Rattle.exh_ward.specs.WardFault.{fault_of, IsStoreFault}

@@ -5,8 +5,8 @@ use Rattle.std.proofs.lemmas.List.{length-set}
 use Rattle.std.proofs.lemmas.Result.{IfOk-from_err}
 use Rattle.exh_page.specs.Page.{IsWellFormed}
 use Rattle.exh_notice.specs.declared.notice.Notice.{Notice}
-use Rattle.exh_table.specs.Table.{TableMap, version_of}
-use Rattle.exh_legal.specs.Versions.{index_of, next_notice}
+use Rattle.exh_table.specs.Table.{TableMap, entry_number}
+use Rattle.exh_legal.specs.ChangeNumbers.{index_of, next_notice}
 use Rattle.exh_ward.specs.Told.{IsChangedTo}
 use Rattle.exh_ward.specs.WardState.{WardState}
 use Rattle.exh_ward.specs.WardFault.{IsTellingFault}
@@ -114,7 +114,7 @@ pub returns-in-Err-clause-failures : goal.returns-in-Err-clause-failures
 returns-in-Err-clause-failures g c = made_counted c.self.view_is Notice c.into.result c.in-Err.fault (g.P.Pages.failures c.set_two.new.self) c.into.ensures c.in-Err.ensures.failures
 
 pub notice_after-requires : goal.notice_after-requires
-notice_after-requires g c = λ most. c.in_ok-stood.ensures.more (sym (ap version_of c.in_ok-stood.ensures.stood) ∙ most)
+notice_after-requires g c = λ most. c.in_ok-stood.ensures.more (sym (ap entry_number c.in_ok-stood.ensures.stood) ∙ most)
 
 pub push_reserved-requires : goal.push_reserved-requires
 push_reserved-requires g c = c.in_ok-stood.ensures.room

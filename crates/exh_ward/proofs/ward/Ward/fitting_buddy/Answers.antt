@@ -1,7 +1,7 @@
 use Rattle.std.proofs.Common.{◌<◌, length, List, refl, sym, subst, ◌∙◌}
 use Rattle.std.proofs.lemmas.Result.{IfOk-from_err}
 use Rattle.exh_page.specs.declared.page.Page.{Page}
-use Rattle.exh_frames.specs.PageStore.{HasHead}
+use Rattle.exh_stores.specs.PageStore.{HasHead}
 use Rattle.exh_ward.specs.WardFault.{MergeRefused, fault_of_halves, fault_of}
 use Rattle.exh_ward.specs.JoinedPage.{FitTogether}
 use Rattle.exh_ward.specs.WardState.{WardState, IsSoundWard}

@@ -1,7 +1,7 @@
 use Rattle.std.proofs.Common.{refl, subst, ◌<◌}
 use Rattle.std.proofs.lemmas.Result.{IfOk-from_err}
 use Rattle.exh_page.specs.declared.page.Page.{Page}
-use Rattle.exh_halves.specs.Halves.{AreHalvesOf}
+use Rattle.exh_legal.specs.Halves.{AreHalvesOf}
 use Rattle.exh_legal.specs.Pages.{IsAt}
 use Rattle.exh_ward.specs.WardFault.{SplitRefused, fault_of_halves, fault_of}
 use Rattle.exh_ward.specs.WardState.{WardState, IsSoundWard}

@@ -1,6 +1,6 @@
 use Rattle.std.proofs.Common.{refl, subst, ◌<◌}
 use Rattle.std.proofs.lemmas.Result.{IfOk-from_err}
-use Rattle.exh_frames.specs.PageStore.{HasHead}
+use Rattle.exh_stores.specs.PageStore.{HasHead}
 use Rattle.exh_ward.specs.WardState.{WardState, IsSoundWard}
 use Rattle.exh_ward.specs.WardFault.{PageRefused, fault_of}
 use Rattle.exh_ward.proofs.StepsKeepSound.{kept_read}

@@ -9,18 +9,18 @@ use Rattle.exh_prefix.specs.Prefix.{low_of}
 use Rattle.exh_notice.specs.declared.entry.Entry.{Entry}
 use Rattle.exh_notice.specs.declared.entry.Kind.TheVariants.{Split}
 use Rattle.exh_notice.specs.declared.notice.Notice.{Notice}
-use Rattle.exh_table.specs.Table.{TableMap, table_with, version_of}
+use Rattle.exh_table.specs.Table.{TableMap, table_with, entry_number}
 use Rattle.exh_page.specs.declared.page.Page.{Page}
 use Rattle.exh_page.specs.declared.page.Page.TheVariants.{Live}
 use Rattle.exh_page.specs.Page.{IsWellFormed, low_bound}
-use Rattle.exh_halves.specs.Halves.{AreHalvesOf}
-use Rattle.exh_halves.specs.declared.halves.Halves.{Halves}
+use Rattle.exh_legal.specs.Halves.{AreHalvesOf}
+use Rattle.exh_legal.specs.declared.halves.Halves.{Halves}
 use Rattle.exh_legal.specs.Change.{IsForwardOf}
-use Rattle.exh_legal.specs.Laws.{LivePagesSplit, PagesAreFew, SplitsKeepLegal}
-use Rattle.exh_legal.specs.Versions.{index_of, next_notice}
+use Rattle.exh_legal.specs.LegalLaws.{LivePagesSplit, PagesAreFew, SplitsKeepLegal}
+use Rattle.exh_legal.specs.ChangeNumbers.{index_of, next_notice}
 use Rattle.exh_legal.specs.PageIndex.{IndexMap, IsIndexOf}
 use Rattle.exh_legal.specs.Pages.{IsAt, bare}
-use Rattle.exh_ward.specs.Kept.{IsKeptWard}
+use Rattle.exh_ward.specs.WardKept.{IsKeptWard}
 use Rattle.exh_ward.specs.Told.{IsChangedTo, IsTold}
 use Rattle.exh_ward.specs.SplitStep.{IsSplitStep}
 use Rattle.exh_ward.specs.WardFault.{IsStoreFault, IsTellingFault, CountsFailures}
@@ -103,7 +103,7 @@ module _ {K : Type 0} {pseudo : List ℕ → ℕ} {takes : Page → Type 0} {own
     anew_twin_formed : IsWellFormed pseudo twin
     anew_twin_formed = formed is kept.sound splits right grown_pages anew.split notice_of refl few kept.bits kept.most right twin anew.twin_at anew.twin_live
 
-    module _ (stood : Option Entry) (stood_is : stood ≡ fin.get w.table halves.prefix) (next : ℕ) (next_is : next ≡ index_of now.table + 1) (notice : Notice) (notice_is : notice ≡ record { ward = w.number; index = next; prefix = halves.prefix; version = version_of stood + 1; kind = Split right })
+    module _ (stood : Option Entry) (stood_is : stood ≡ fin.get w.table halves.prefix) (next : ℕ) (next_is : next ≡ index_of now.table + 1) (notice : Notice) (notice_is : notice ≡ record { ward = w.number; index = next; prefix = halves.prefix; number = entry_number stood + 1; kind = Split right })
         (pages : List Page) (between notices : List Notice) (table : TableMap) (failures : ℕ) (pages_is : pages ≡ grown_pages) (pushed : notices ≡ between ++ notice ∷ []) (taken : between ≡ w.notices) (table_is : table ≡ table_with w.table notice_of) where
       same_notice : notice ≡ notice_of
       same_notice =
@@ -297,7 +297,7 @@ pub returns-in-Err-clause-failures : goal.returns-in-Err-clause-failures
 returns-in-Err-clause-failures g c = made_counted c.self.view_is Notice c.into.result c.in-Err.fault (g.P.Pages.failures c.grow_and_set.new.self) c.into.ensures c.in-Err.ensures.failures
 
 pub notice_after-requires : goal.notice_after-requires
-notice_after-requires g c = λ most. c.in_ok-stood.ensures.more (sym (ap version_of c.in_ok-stood.ensures.stood) ∙ most)
+notice_after-requires g c = λ most. c.in_ok-stood.ensures.more (sym (ap entry_number c.in_ok-stood.ensures.stood) ∙ most)
 
 pub push_reserved-requires : goal.push_reserved-requires
 push_reserved-requires g c = c.in_ok-stood.ensures.room

@@ -2,7 +2,7 @@ use Rattle.std.proofs.Common.{IfOk, OnErr, sym, subst}
 use Rattle.std.proofs.lemmas.Result.{IfOk-from_err}
 use Rattle.exh_page.specs.declared.page.Page.{Page}
 use Rattle.exh_legal.specs.Pages.{IsAt}
-use Rattle.exh_halves.specs.Halves.{AreHalvesOf}
+use Rattle.exh_legal.specs.Halves.{AreHalvesOf}
 use Rattle.exh_ward.specs.SplitStep.{IsSplitStep}
 use Rattle.exh_ward.specs.WardFault.{IsStoreFault, SplitRefused, CountsFailures}
 use Rattle.exh_ward.specs.WardState.{IsUnchanged, WardState}

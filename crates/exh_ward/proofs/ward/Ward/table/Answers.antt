@@ -1,6 +1,6 @@
 use Rattle.std.proofs.Common.{subst, ap}
 use Rattle.exh_prefix.specs.Prefix.{Begins}
-use Rattle.exh_legal.specs.Laws.{NamesHome}
+use Rattle.exh_legal.specs.LegalLaws.{NamesHome}
 use Rattle.exh_ward.specs.WardState.{WardState, own_prefix, IsSoundWard}
 use Rattle.exh_ward.proofs.ward.Ward.table.Goals as goal
 

@@ -1,13 +1,13 @@
 use Rattle.std.proofs.Common.{◌≡◌, ℕ, ◌+◌, ◌-◌, ◌^◌, ◌<◌, ◌≤◌, Option, None, Some, sym, ap, ◌∙◌, arith}
 use Rattle.exh_notice.specs.declared.entry.Entry.{Entry}
-use Rattle.exh_table.specs.Table.{version_of}
+use Rattle.exh_table.specs.Table.{entry_number}
 use Rattle.exh_ward.proofs.ward.change.take.Goals as goal
 
-version_here : {found stood : Option Entry} {entry : Entry} → stood ≡ found → stood ≡ Some entry → version_of found ≡ entry.version
-version_here same is = ap version_of (sym same ∙ is)
+number_here : {found stood : Option Entry} {entry : Entry} → stood ≡ found → stood ≡ Some entry → entry_number found ≡ entry.number
+number_here same is = ap entry_number (sym same ∙ is)
 
-none_fits : {found stood : Option Entry} → stood ≡ found → stood ≡ None → version_of found ≡ 2 ^ 32 - 1 → ⊥
-none_fits same is most = let no : 0 ≡ 2 ^ 32 - 1 = sym (ap version_of (sym same ∙ is)) ∙ most in omega (arith, no)
+none_fits : {found stood : Option Entry} → stood ≡ found → stood ≡ None → entry_number found ≡ 2 ^ 32 - 1 → ⊥
+none_fits same is most = let no : 0 ≡ 2 ^ 32 - 1 = sym (ap entry_number (sym same ∙ is)) ∙ most in omega (arith, no)
 
 room_for_one : {count room : ℕ} → count + 1 ≤ room → count < room
 room_for_one fits = omega (arith, fits)
@@ -16,10 +16,10 @@ pub returns-in-Some-clause-items : goal.returns-in-Some-clause-items
 returns-in-Some-clause-items c = c.in_ok-reserve.ensures.items
 
 pub returns-in-Some-clause-err : goal.returns-in-Some-clause-err
-returns-in-Some-clause-err c = c.in_ok-stood.ensures.worn (version_here c.in_ok-stood.ensures.stood c.in-Some.is ∙ c.if-entry.true)
+returns-in-Some-clause-err c = c.in_ok-stood.ensures.worn (number_here c.in_ok-stood.ensures.stood c.in-Some.is ∙ c.if-entry.true)
 
 pub returns-in-Some-clause-fault : goal.returns-in-Some-clause-fault
-returns-in-Some-clause-fault c = version_here c.in_ok-stood.ensures.stood c.in-Some.is ∙ c.if-entry.true
+returns-in-Some-clause-fault c = number_here c.in_ok-stood.ensures.stood c.in-Some.is ∙ c.if-entry.true
 
 pub returns-in_default-clause-items : goal.returns-in_default-clause-items
 returns-in_default-clause-items c = c.in_ok-reserve.ensures.items
@@ -28,10 +28,10 @@ pub returns-in_default-clause-stood : goal.returns-in_default-clause-stood
 returns-in_default-clause-stood c = sym c.in-Some.is ∙ c.in_ok-stood.ensures.stood
 
 pub returns-in_default-clause-more : goal.returns-in_default-clause-more
-returns-in_default-clause-more c = λ most. c.if-entry.false (sym (version_here c.in_ok-stood.ensures.stood c.in-Some.is) ∙ most)
+returns-in_default-clause-more c = λ most. c.if-entry.false (sym (number_here c.in_ok-stood.ensures.stood c.in-Some.is) ∙ most)
 
 pub returns-in_default-clause-ok : goal.returns-in_default-clause-ok
-returns-in_default-clause-ok c = c.in_ok-stood.ensures.ok (λ most. c.if-entry.false (sym (version_here c.in_ok-stood.ensures.stood c.in-Some.is) ∙ most))
+returns-in_default-clause-ok c = c.in_ok-stood.ensures.ok (λ most. c.if-entry.false (sym (number_here c.in_ok-stood.ensures.stood c.in-Some.is) ∙ most))
 
 pub returns-in_default-2-clause-items : goal.returns-in_default-2-clause-items
 returns-in_default-2-clause-items c = c.in_ok-reserve.ensures.items

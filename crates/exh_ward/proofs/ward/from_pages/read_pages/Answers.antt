@@ -3,7 +3,7 @@ use Rattle.std.proofs.lemmas.List.{take_all}
 use Rattle.std.proofs.lemmas.Result.{IfOk-from_err}
 use Rattle.exh_page.specs.declared.page.Page.{Page}
 use Rattle.exh_page.specs.Page.{records_of}
-use Rattle.exh_frames.specs.PageStore.{CountsFaults}
+use Rattle.exh_stores.specs.PageStore.{CountsFaults}
 use Rattle.exh_legal.specs.Pages.{bare}
 use Rattle.exh_page.specs.KeyMap.{pair_of}
 use Rattle.exh_legal.specs.PageIndex.{IsIndexOf}

@@ -1,5 +1,5 @@
 use Rattle.std.proofs.Common.{◌≡◌, ◌≤◌, length, take}
-use Rattle.exh_frames.specs.PageStore.{TakesTheSame}
+use Rattle.exh_stores.specs.PageStore.{TakesTheSame}
 use Rattle.exh_legal.specs.Pages.{bare}
 use Rattle.exh_ward.specs.FromPages.{pairs_of}
 use Rattle.exh_legal.specs.PageIndex.{IsIndexOf}

@@ -1,13 +1,13 @@
 use Rattle.std.proofs.Common.{◌≡◌, ℕ, ◌-◌, ◌^◌, ◌<◌, ◌≤◌, length, slice_get, None, Some, inl, inr, refl, sym, ap, ◌∙◌, subst, arith}
 use Rattle.std.specs.Prelude.{is_some, IsSome}
 use Rattle.std.specs.Option.{option_copied}
-use Rattle.exh_table.specs.Walk.{walk_of}
+use Rattle.exh_table.specs.TableWalk.{walk_of}
 use Rattle.exh_prefix.specs.Leading.{ward_of}
 use Rattle.exh_calls.specs.Call.{key_of}
 use Rattle.exh_ward.specs.WardState.{WardState}
 use Rattle.exh_ward.specs.declared.ward_fault.WardFault.TheVariants.{Memory}
 use Rattle.exh_world.specs.InFlight.{request_named}
-use Rattle.exh_world.specs.Kept.{IsKeptWorld}
+use Rattle.exh_world.specs.WorldKept.{IsKeptWorld}
 use Rattle.exh_world.specs.Sound.{IsSoundWorld}
 use Rattle.exh_world.specs.Step.{HasBegun, IsRefused, ReachesInto, Step}
 use Rattle.exh_world.specs.World.{WorldState, changes_in, numbered}

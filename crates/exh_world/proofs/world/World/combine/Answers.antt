@@ -2,7 +2,7 @@ use Rattle.std.proofs.Common.{◌≡◌, ◌<◌, ◌^◌, length, None, IsSome,
 use Rattle.std.specs.Prelude.{slice_set}
 use Rattle.exh_array.specs.Copies.{CopiesState}
 use Rattle.exh_table.specs.TableOrder.{table_join}
-use Rattle.exh_world.specs.Kept.{IsKeptWorld}
+use Rattle.exh_world.specs.WorldKept.{IsKeptWorld}
 use Rattle.exh_world.specs.Sound.{IsSoundWorld}
 use Rattle.exh_world.specs.Step.{HasJoined}
 use Rattle.exh_world.specs.World.{WorldState, numbered}

@@ -4,7 +4,7 @@ use Rattle.exh_ward.specs.WardState.{WardState}
 use Rattle.std.proofs.Common.{◌≡◌, ◌≤◌, ◌<◌, ◌^◌, length, None, Some, IsSome, inl, refl, List, sym, ap, ◌∙◌, subst, Ok}
 use Rattle.exh_array.specs.Copies.{CopiesState}
 use Rattle.exh_table.specs.Table.{table_with}
-use Rattle.exh_world.specs.Kept.{IsKeptWorld, HaveIndexesInTurn}
+use Rattle.exh_world.specs.WorldKept.{IsKeptWorld, HaveIndexesInTurn}
 use Rattle.exh_world.specs.Sound.{IsSoundWorld}
 use Rattle.exh_world.specs.Step.{HasTaken}
 use Rattle.exh_world.specs.World.{WorldState, numbered}

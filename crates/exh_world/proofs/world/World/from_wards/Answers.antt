@@ -1,5 +1,5 @@
 use Rattle.std.proofs.Common.{length, map, replicate, sym, ap, ◌∙◌, subst}
-use Rattle.exh_world.specs.Kept.{IsKeptWorld}
+use Rattle.exh_world.specs.WorldKept.{IsKeptWorld}
 use Rattle.exh_world.specs.NewWorld.{tables_joined}
 use Rattle.exh_array.specs.Pointers.{HasArrayOf}
 use Rattle.exh_array.specs.Copies.{CopiesState}

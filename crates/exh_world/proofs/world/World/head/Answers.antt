@@ -5,8 +5,8 @@ use Rattle.std.proofs.lemmas.Result.{IfOk-from_err}
 use Rattle.exh_page.specs.declared.page_head.PageHead.{PageHead}
 use Rattle.exh_ward.specs.WardFault.{PageRefused}
 use Rattle.exh_ward.specs.WardState.{WardState}
-use Rattle.exh_prefix.specs.ListLemmas.{set_same}
-use Rattle.exh_world.specs.Kept.{IsKeptWorld}
+use Rattle.exh_prefix.specs.PrefixListLemmas.{set_same}
+use Rattle.exh_world.specs.WorldKept.{IsKeptWorld}
 use Rattle.exh_world.specs.Step.{IsChangeRefused, LeavesRefused}
 use Rattle.exh_world.specs.World.{WorldState}
 use Rattle.exh_world.proofs.InsideWorld.{world_of}

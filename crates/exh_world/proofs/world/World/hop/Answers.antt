@@ -7,8 +7,8 @@ use Rattle.exh_world.specs.InFlight.{request_named}
 use Rattle.exh_world.specs.World.{WorldState}
 use Rattle.exh_event.specs.declared.event.Event.TheVariants.{Hop as HopOn}
 use Rattle.exh_world.proofs.HopSteps.{at_within, reaches, hashed, covered, had_few, changed_since, bound_told, bound_small, noticed_within, room, hopped, hopped_kept}
-use Rattle.exh_event.specs.Progress.{progress_with}
-use Rattle.exh_world.specs.Progress.{progress_of}
+use Rattle.exh_event.specs.EventProgress.{progress_with}
+use Rattle.exh_world.specs.RequestProgress.{progress_of}
 use Rattle.exh_world.proofs.InsideWorld.{with_ward, within_len, world_of}
 use Rattle.exh_world.proofs.world.World.hop.Given.{Over}
 use Rattle.exh_world.proofs.WardChanges.{after, leaves_refused, memory_of, of_refusal, same_kept}

@@ -1,7 +1,7 @@
 use Rattle.std.proofs.Common.{◌≡◌, ◌<◌, ◌^◌, length, refl, sym, ap, ◌∙◌, subst, Ok, None, inl}
 use Rattle.std.specs.Prelude.{slice_set}
 use Rattle.exh_array.specs.Copies.{CopiesState}
-use Rattle.exh_world.specs.Kept.{IsKeptWorld}
+use Rattle.exh_world.specs.WorldKept.{IsKeptWorld}
 use Rattle.exh_world.specs.Sound.{IsSoundWorld}
 use Rattle.exh_world.specs.Step.{HasRestarted}
 use Rattle.exh_world.specs.World.{WorldState, numbered}

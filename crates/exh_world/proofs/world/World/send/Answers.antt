@@ -1,7 +1,7 @@
 use Rattle.std.proofs.Common.{◌≡◌, ◌<◌, ◌^◌, ◌++◌, ◌∷◌, [], suc, length, refl, sym, ap, ◌∙◌, subst, Ok, arith, None, inl, inr}
 use Rattle.std.proofs.lemmas.List.{length_push}
 use Rattle.exh_array.specs.Copies.{CopiesState}
-use Rattle.exh_world.specs.Kept.{IsKeptWorld}
+use Rattle.exh_world.specs.WorldKept.{IsKeptWorld}
 use Rattle.exh_world.specs.Sound.{IsSoundWorld}
 use Rattle.exh_world.specs.Step.{HasSent}
 use Rattle.exh_world.specs.World.{WorldState, numbered}

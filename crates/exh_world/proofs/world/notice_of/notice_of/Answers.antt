@@ -4,7 +4,7 @@ use Rattle.std.specs.List.{HoldsAt}
 use Rattle.std.specs.Option.{MatchOption, option_copied}
 use Rattle.std.proofs.lemmas.Option.{slice_get_read}
 use Rattle.exh_notice.specs.declared.notice.Notice.{Notice}
-use Rattle.exh_world.specs.Kept.{HaveIndexesInTurn}
+use Rattle.exh_world.specs.WorldKept.{HaveIndexesInTurn}
 use Rattle.exh_world.proofs.world.notice_of.notice_of.Goals as goal
 
 module _ (notices : List Notice) (in_turn : HaveIndexesInTurn notices) (first : Notice) (first_is : slice_get notices 0 ≡ Some first) where

@@ -1,0 +1,84 @@
+//! A lock for each ward: a caller is answered in ward 1 while the lock of ward 0 is held.
+ghost use Rattle.std.specs.Prelude.{◌≡◌};
+ghost use Rattle.exh_keyer.specs.Pseudokey.{plain_pseudokey};
+ghost use Rattle.exh_live_file.specs.declared.ledgers.TheConstants.{ANSWER_PARTS, ENTRY_PARTS};
+
+use exh_callers::{
+    Caller, Conductor, IS_LATE, IS_READ, Look, MAY_GO, Reader, WatchedFile, WatchedMaker, is_told,
+    next_caller, watched_file,
+};
+use exh_calls::Reply;
+use exh_fixtures::{Asked, Difference, Part, Run, same};
+use exh_keyer::PlainKeyer;
+use exh_live_file::{ANSWER_PARTS, ENTRY_PARTS, Identity};
+use exh_stores::{Pages, StoreMaker};
+use exh_walk::OpenGate;
+use std::sync::Wait;
+use std::sync::ledger::Blank;
+use std::thread::{Threads, join};
+use std::time::Clock;
+
+/// Runs it, over two wards of a maker's stores, of which the first one waits at its first reading.
+pub(crate) fn run<
+    R: Threads + Wait + Clock + Sync,
+    P: Pages + Drop + Send + Sync,
+    M: StoreMaker<P, PlainKeyer>,
+    F: Identity + Sync + Send,
+>(
+    rt: &R,
+    run: &mut Run,
+    copies: &mut Vec<Reader>,
+    signs: &Conductor<'_, R>,
+    stores: &M,
+    answers: Blank,
+    entries: Blank,
+) -> Result<(), Difference>
+    requires answers { (answers.name ≡ F.answers) × (answers.parts ≡ ANSWER_PARTS) }
+    requires entries { (entries.name ≡ F.entries) × (entries.parts ≡ ENTRY_PARTS) }
+    requires hashed { F.hashing ≡ plain_pseudokey }
+{
+    let maker = WatchedMaker::new(&*stores, Look::Waits, &*signs);
+    let mut file = watched_file::<P, M, R, F>(run.alloc, &maker, 1, answers, entries)?;
+    let mut first = next_caller(&mut file, copies)?;
+    let mut second = next_caller(&mut file, copies)?;
+    let (waited, told) = join(
+        rt,
+        || put(rt, &file, &mut first, b"\0"),
+        || put_meanwhile(rt, &file, &mut second, signs),
+    );
+    run.tally.step(told);
+    run.tally.step(waited);
+    let is_late = (signs.count(IS_LATE) > 0) != run.lie.is_due();
+    run.tally.step(same(!is_late, Part::Run));
+    Ok(())
+}
+
+fn put<R: Wait + Clock, P: Pages + Drop, F: Identity>(
+    rt: &R,
+    file: &WatchedFile<'_, P, R, F>,
+    caller: &mut Caller<F>,
+    key: &[u8],
+) -> Result<(), Difference> {
+    is_told(
+        rt,
+        file,
+        caller,
+        Asked::Put(key, b"a"),
+        &OpenGate,
+        Reply::New,
+    )
+}
+
+// Puts a key of ward 1 once the other caller reads in ward 0, and lets that one go on then.
+fn put_meanwhile<R: Wait + Clock, P: Pages + Drop, F: Identity>(
+    rt: &R,
+    file: &WatchedFile<'_, P, R, F>,
+    caller: &mut Caller<F>,
+    signs: &Conductor<'_, R>,
+) -> Result<(), Difference> {
+    let is_read = signs.wait_for(IS_READ, 1);
+    let told = put(rt, file, caller, b"\x80");
+    signs.raise(MAY_GO, 1);
+    same(is_read, Part::Run)?;
+    told
+}

@@ -1,0 +1,33 @@
+//! Stores of which one call fails.
+
+use exh_codec::DIGEST_LEN;
+use exh_fixtures::FailingPages;
+use exh_keyer::Keyer;
+use exh_page::Page;
+use exh_stores::{Pages, StoreMaker};
+use std::alloc::{AllocError, Global};
+
+/// Makes stores over those that another maker makes, of which the call of this number fails; 0 is no call's.
+#[derive(Clone, Copy)]
+pub(crate) struct FailingMaker<M> {
+    pub(crate) inner: M,
+    pub(crate) at: u64,
+}
+
+impl<P: Pages + Drop, K: Keyer, M: StoreMaker<P, K>> StoreMaker<FailingPages<P>, K>
+    for FailingMaker<M> {
+    fn first(&self, alloc: Global, keyer: K, page: Page) -> Result<FailingPages<P>, AllocError> {
+        Ok(FailingPages::new(self.inner.first(alloc, keyer, page)?, self.at))
+    }
+
+    fn of_pages(
+        &self,
+        alloc: Global,
+        keyer: K,
+        given: Vec<Page>,
+        digests: &[[u8; DIGEST_LEN]],
+    ) -> Result<FailingPages<P>, AllocError> {
+        let inner = self.inner.of_pages(alloc, keyer, given, digests)?;
+        Ok(FailingPages::new(inner, self.at))
+    }
+}

@@ -1,0 +1,364 @@
+ghost use Rattle.std.specs.Prelude.{◌≡◌, ◌↔◌, ◌-◌, ◌<◌, ◌^◌, [], ◌∷◌, ◌++◌, length, map, remove, slice_set, IsSome, IfOk, OnOk, OnErr, IsErrOf};
+ghost use Rattle.std.specs.List.{AllByRecursion};
+ghost use Rattle.exh_prefix.specs.Layout.{written_version};
+ghost use Rattle.exh_codec.specs.PageImage.{IsImage, page_digest};
+ghost use Rattle.exh_page.specs.Page.{IsLive, IsWellFormed, records_of, with_records};
+ghost use Rattle.exh_page.specs.Records.{with_record};
+ghost use Rattle.exh_page.specs.Search.{IsSought, IsSpot};
+ghost use Rattle.exh_stores.specs.PageStore.{IfPage};
+ghost use Rattle.exh_frames.specs.CacheSize.{IsCacheSize};
+ghost use Rattle.exh_frames.specs.Decoded.{decoded_at};
+
+use crate::CacheFault;
+use crate::cache_size::to_cache_size;
+use crate::decoded_pages::DecodedPages;
+use crate::images::Images;
+use exh_codec::{BLOCK_LEN, DIGEST_LEN};
+use exh_keyer::Keyer;
+use exh_page::{Key, Page, PageHead, Record, Spot, Value};
+use exh_prefix::PageNo;
+use exh_stores::{Pages, PagesFault};
+use std::alloc::{AllocError, Global};
+use std::marker::Model;
+use std::num::NonZeroUsize;
+
+/// Pages that stand as images of 4,096 bytes, each well formed under a keyer, and a cache of decoded
+/// ones, which no clause of `Pages` sees. A write changes the image at once. It never answers a page
+/// fault.
+#[derive(Drop)]
+pub struct FramedPages<K: Keyer> {
+    images: Images<K>,
+    decoded: DecodedPages,
+}
+
+impl<K: Keyer> Model for FramedPages<K> {
+    ghost use Rattle.exh_frames.specs.Decoded.{AreOf};
+    ghost use Rattle.exh_frames.specs.FramedStore.{FramedStore};
+
+    ghost Value = { FramedStore K };
+
+    ghost view = { λ a. record { keyer = a.images.keyer; pages = a.images.pages; decoded = a.decoded } };
+
+    ghost invariant = { λ a. AreOf a.images.pages a.decoded };
+}
+
+impl<K: Keyer> FramedPages<K> {
+    /// A store of one page, number 0, behind a cache of 1 to 1,024 decoded pages: any other size is
+    /// `CacheFault::Size`, before anything else. `CacheFault::Memory` where memory is refused.
+    pub fn new(
+        alloc: Global,
+        first: Page,
+        keyer: K,
+        cache_size: usize,
+    ) -> Result<FramedPages<K>, CacheFault>
+        requires { IsWellFormed (K.pseudokey_of keyer) first }
+        ensures keyer { IfOk result (λ store. store.keyer ≡ keyer) }
+        ensures pages { IfOk result (λ store. store.pages ≡ first ∷ []) }
+        ensures size { IsErrOf result CacheFault.Size ↔ (IsCacheSize cache_size → ⊥) }
+    {
+        let size = to_cache_size(cache_size)?;
+        Ok(FramedPages::of_first(alloc, first, keyer, size)?)
+    }
+
+    /// The same of these pages, in their order.
+    pub fn from_pages(
+        alloc: Global,
+        pages: Vec<Page>,
+        keyer: K,
+        cache_size: usize,
+    ) -> Result<FramedPages<K>, CacheFault>
+        requires few { length pages.items < 2 ^ 32 }
+        requires formed { AllByRecursion (IsWellFormed (K.pseudokey_of keyer)) pages.items }
+        ensures keyer { IfOk result (λ store. store.keyer ≡ keyer) }
+        ensures pages { IfOk result (λ store. store.pages ≡ pages.items) }
+        ensures size { IsErrOf result CacheFault.Size ↔ (IsCacheSize cache_size → ⊥) }
+    {
+        let size = to_cache_size(cache_size)?;
+        Ok(FramedPages::of_given(alloc, pages, keyer, size)?)
+    }
+
+    /// The image of the page of this number, whose digest is made here where it wasn't yet. It takes
+    /// no memory.
+    pub fn image(&self, number: PageNo) -> [u8; BLOCK_LEN]
+        requires { number < length self.now.pages }
+        ensures { IfPage self.now.pages number (λ page. IsImage written_version (K.pseudokey_of self.now.keyer) page result) }
+    {
+        self.images.block(number)
+    }
+
+    // A store of one page.
+    pub(crate) fn of_first(
+        alloc: Global,
+        first: Page,
+        keyer: K,
+        size: NonZeroUsize,
+    ) -> Result<FramedPages<K>, AllocError>
+        requires { IsWellFormed (K.pseudokey_of keyer) first }
+        ensures { IfOk result (λ store. store ≡ record { keyer = keyer; pages = first ∷ []; decoded = [] }) }
+    {
+        let mut images = Images::new(alloc, keyer);
+        images.add(&first)?;
+        FramedPages::of_images(alloc, images, size)
+    }
+
+    // A store of given pages.
+    pub(crate) fn of_given(
+        alloc: Global,
+        given: Vec<Page>,
+        keyer: K,
+        size: NonZeroUsize,
+    ) -> Result<FramedPages<K>, AllocError>
+        requires few { length given.items < 2 ^ 32 }
+        requires formed { AllByRecursion (IsWellFormed (K.pseudokey_of keyer)) given.items }
+        ensures { IfOk result (λ store. store ≡ record { keyer = keyer; pages = given.items; decoded = [] }) }
+    {
+        let images = Images::of_pages(alloc, keyer, &given)?;
+        FramedPages::of_images(alloc, images, size)
+    }
+
+    // A store of given pages, each with the digest of its block.
+    pub(crate) fn of_read(
+        alloc: Global,
+        given: Vec<Page>,
+        digests: &[[u8; DIGEST_LEN]],
+        keyer: K,
+        size: NonZeroUsize,
+    ) -> Result<FramedPages<K>, AllocError>
+        requires few { length given.items < 2 ^ 32 }
+        requires formed { AllByRecursion (IsWellFormed (K.pseudokey_of keyer)) given.items }
+        requires digests { digests.now ≡ map page_digest given.items }
+        ensures { IfOk result (λ store. store ≡ record { keyer = keyer; pages = given.items; decoded = [] }) }
+    {
+        let images = Images::of_read(alloc, keyer, &given, digests)?;
+        FramedPages::of_images(alloc, images, size)
+    }
+
+    // A store of images, none of which is decoded yet.
+    fn of_images(
+        alloc: Global,
+        images: Images<K>,
+        size: NonZeroUsize,
+    ) -> Result<FramedPages<K>, AllocError>
+        ensures { IfOk result (λ store. store ≡ record { keyer = images.keyer; pages = images.pages; decoded = [] }) }
+    {
+        let decoded = DecodedPages::new(alloc, size)?;
+        Ok(FramedPages { images, decoded })
+    }
+
+    // Puts a page in place of the one of this number, in its image and among the decoded ones.
+    fn write(&mut self, number: PageNo, page: Page)
+        requires there { number < length self.old.pages }
+        requires formed { IsWellFormed (K.pseudokey_of self.old.keyer) page }
+        ensures keyer { self.new.keyer ≡ self.old.keyer }
+        ensures pages { self.new.pages ≡ slice_set self.old.pages number page }
+    {
+        self.images.set(number, &page);
+        self.decoded.keep(number, page);
+    }
+
+    // Puts a record into a page that is at hand. Where the decoded page finds no memory for it, that is
+    // let go.
+    fn put_at_hand(
+        &mut self,
+        number: PageNo,
+        spot: Result<Spot, Spot>,
+        pseudokey: u64,
+        key: &Key,
+        value: &Value,
+    )
+        requires there { IsSome (decoded_at number self.old.decoded) }
+        requires live { IfPage self.old.pages number IsLive }
+        requires sought { IfPage self.old.pages number (λ page. IsSought (pseudokey, key.now) (records_of page) spot) }
+        requires formed { IfPage self.old.pages number (λ page. IsWellFormed (K.pseudokey_of self.old.keyer) (with_records (with_record (record { pseudokey = pseudokey; key = key.now; value = value.now }) (records_of page)) page)) }
+        ensures keyer { self.new.keyer ≡ self.old.keyer }
+        ensures pages { IfPage self.old.pages number (λ page. self.new.pages ≡ slice_set self.old.pages number (with_records (with_record (record { pseudokey = pseudokey; key = key.now; value = value.now }) (records_of page)) page)) }
+    {
+        let Some(page) = self.decoded.get(number) else {
+            unreachable!();
+        };
+        let item = Record {
+            pseudokey,
+            key: *key,
+            value: *value,
+        };
+        self.images.put(number, page, &item);
+        let Err(_) = self.decoded.put_at(number, spot, pseudokey, key, value) else {
+            return;
+        };
+        self.decoded.forget(number);
+    }
+
+    // Takes the record of a spot out of a page that is at hand.
+    fn remove_at_hand(&mut self, number: PageNo, spot: Spot)
+        requires there { IsSome (decoded_at number self.old.decoded) }
+        requires live { IfPage self.old.pages number IsLive }
+        requires spot { IfPage self.old.pages number (λ page. (spot.index < length (records_of page)) × IsSpot (records_of page) spot) }
+        requires formed { IfPage self.old.pages number (λ page. IsWellFormed (K.pseudokey_of self.old.keyer) (with_records (remove (records_of page) spot.index) page)) }
+        ensures keyer { self.new.keyer ≡ self.old.keyer }
+        ensures pages { IfPage self.old.pages number (λ page. self.new.pages ≡ slice_set self.old.pages number (with_records (remove (records_of page) spot.index) page)) }
+    {
+        self.decoded.remove_at(number, spot);
+        match self.decoded.get(number) {
+            Some(page) => self.images.remove(number, page),
+            None => unreachable!(),
+        }
+    }
+
+    // Adds a page. An `AllocError` where memory is refused, and its pages are as before.
+    fn add(&mut self, page: Page) -> Result<(), AllocError>
+        requires room { length self.old.pages < 2 ^ 32 - 1 }
+        requires formed { IsWellFormed (K.pseudokey_of self.old.keyer) page }
+        ensures keyer { self.new.keyer ≡ self.old.keyer }
+        ensures ok { OnOk result (self.new.pages ≡ self.old.pages ++ page ∷ []) }
+        ensures err { OnErr result (self.new.pages ≡ self.old.pages) }
+    {
+        let number = self.images.count();
+        self.images.add(&page)?;
+        self.decoded.keep(number, page);
+        Ok(())
+    }
+}
+
+impl<K: Keyer> Pages for FramedPages<K> {
+    ghost use Rattle.std.specs.Prelude.{◌≢◌, ◌++◌, ◌∷◌, [], length, remove, slice_get, slice_set, Some, IsSome, IsOk, IfOk, OnErr};
+    ghost use Rattle.exh_stores.specs.PageStore.{CountsFaults, TakesTheSame};
+    ghost use Rattle.exh_frames.specs.FramedStore.{FramedStore};
+    ghost use Rattle.exh_frames.specs.Decoded.{decoded_at};
+
+    ghost pages = { λ store. store.pages };
+
+    ghost takes = { λ store page. IsWellFormed (K.pseudokey_of store.keyer) page };
+
+    ghost failures = { λ _. 0 };
+
+    ghost at_hand = { λ store number. IsSome (decoded_at number store.decoded) };
+
+    fn count(&self) -> PageNo {
+        self.images.count()
+    }
+
+    fn failures(&self) -> u64 {
+        0
+    }
+
+    fn get(&mut self, number: PageNo) -> Result<Page, PagesFault> {
+        match self.decoded.get(number) {
+            Some(page) => Ok(page.try_clone_with_room(0)?),
+            None => Ok(self.images.page(number)?),
+        }
+    }
+
+    fn head(&mut self, number: PageNo) -> Result<PageHead, PagesFault> {
+        Ok(self.images.head(number))
+    }
+
+    fn block(&mut self, number: PageNo, out: &mut [u8; BLOCK_LEN]) -> Result<(), PagesFault> {
+        *out = self.image(number);
+        Ok(())
+    }
+
+    fn fetch(&mut self, number: PageNo) -> Result<(), PagesFault>
+        requires { number < length self.old.pages }
+        ensures at_hand { OnOk result (IsSome (decoded_at number self.new.decoded)) }
+        ensures pages { self.new.pages ≡ self.old.pages }
+        ensures failures { CountsFaults result 0 0 }
+        ensures takes { TakesTheSame (λ (store : FramedStore K) page. IsWellFormed (K.pseudokey_of store.keyer) page) self.old self.new }
+        ensures already { IsSome (decoded_at number self.old.decoded) → IsOk result }
+    {
+        if self.decoded.touch(number) {
+            return Ok(());
+        }
+        let page = self.images.page(number)?;
+        self.decoded.keep(number, page);
+        Ok(())
+    }
+
+    fn fetched(&self, number: PageNo) -> &Page {
+        match self.decoded.get(number) {
+            Some(page) => page,
+            None => unreachable!(),
+        }
+    }
+
+    fn put_at(
+        &mut self,
+        number: PageNo,
+        spot: Result<Spot, Spot>,
+        pseudokey: u64,
+        key: &Key,
+        value: &Value,
+    ) -> Result<(), PagesFault>
+        requires there { number < length self.old.pages }
+        requires live { IfPage self.old.pages number IsLive }
+        requires sought { IfPage self.old.pages number (λ page. IsSought (pseudokey, key.now) (records_of page) spot) }
+        requires taken { IfPage self.old.pages number (λ page. IsWellFormed (K.pseudokey_of self.old.keyer) (with_records (with_record (record { pseudokey = pseudokey; key = key.now; value = value.now }) (records_of page)) page)) }
+        ensures ok { OnOk result (IfPage self.old.pages number (λ page. self.new.pages ≡ slice_set self.old.pages number (with_records (with_record (record { pseudokey = pseudokey; key = key.now; value = value.now }) (records_of page)) page))) }
+        ensures err { OnErr result (self.new.pages ≡ self.old.pages) }
+        ensures failures { CountsFaults result 0 0 }
+        ensures takes { TakesTheSame (λ (store : FramedStore K) page. IsWellFormed (K.pseudokey_of store.keyer) page) self.old self.new }
+        ensures already { IsSome (decoded_at number self.old.decoded) → IsOk result }
+    {
+        self.fetch(number)?;
+        self.put_at_hand(number, spot, pseudokey, key, value);
+        Ok(())
+    }
+
+    fn remove_at(&mut self, number: PageNo, spot: Spot) -> Result<(), PagesFault>
+        requires there { number < length self.old.pages }
+        requires live { IfPage self.old.pages number IsLive }
+        requires spot { IfPage self.old.pages number (λ page. (spot.index < length (records_of page)) × IsSpot (records_of page) spot) }
+        requires taken { IfPage self.old.pages number (λ page. IsWellFormed (K.pseudokey_of self.old.keyer) (with_records (remove (records_of page) spot.index) page)) }
+        ensures ok { OnOk result (IfPage self.old.pages number (λ page. self.new.pages ≡ slice_set self.old.pages number (with_records (remove (records_of page) spot.index) page))) }
+        ensures err { OnErr result (self.new.pages ≡ self.old.pages) }
+        ensures failures { CountsFaults result 0 0 }
+        ensures takes { TakesTheSame (λ (store : FramedStore K) page. IsWellFormed (K.pseudokey_of store.keyer) page) self.old self.new }
+        ensures already { IsSome (decoded_at number self.old.decoded) → IsOk result }
+    {
+        self.fetch(number)?;
+        self.remove_at_hand(number, spot);
+        Ok(())
+    }
+
+    fn set(&mut self, number: PageNo, page: Page) -> Result<(), PagesFault>
+        requires there { number < length self.old.pages }
+        requires taken { IsWellFormed (K.pseudokey_of self.old.keyer) page }
+        ensures ok { OnOk result (self.new.pages ≡ slice_set self.old.pages number page) }
+        ensures err { OnErr result (self.new.pages ≡ self.old.pages) }
+        ensures failures { CountsFaults result 0 0 }
+        ensures takes { TakesTheSame (λ (store : FramedStore K) page. IsWellFormed (K.pseudokey_of store.keyer) page) self.old self.new }
+        ensures always { IsOk result }
+    {
+        self.write(number, page);
+        Ok(())
+    }
+
+    fn set_two(
+        &mut self,
+        number: PageNo,
+        page: Page,
+        other: PageNo,
+        twin: Page,
+    ) -> Result<(), PagesFault>
+        requires there { number < length self.old.pages }
+        requires other_there { other < length self.old.pages }
+        requires apart { number ≢ other }
+        requires taken { IsWellFormed (K.pseudokey_of self.old.keyer) page }
+        requires twin_taken { IsWellFormed (K.pseudokey_of self.old.keyer) twin }
+        ensures ok { OnOk result (self.new.pages ≡ slice_set (slice_set self.old.pages number page) other twin) }
+        ensures err { OnErr result (self.new.pages ≡ self.old.pages) }
+        ensures failures { CountsFaults result 0 0 }
+        ensures takes { TakesTheSame (λ (store : FramedStore K) page. IsWellFormed (K.pseudokey_of store.keyer) page) self.old self.new }
+        ensures always { IsOk result }
+    {
+        self.write(number, page);
+        self.write(other, twin);
+        Ok(())
+    }
+
+    fn grow_and_set(&mut self, new: Page, number: PageNo, page: Page) -> Result<(), PagesFault> {
+        // The new image first: nothing may fail once a page has changed.
+        self.add(new)?;
+        self.write(number, page);
+        Ok(())
+    }
+}

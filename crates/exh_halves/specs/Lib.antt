@@ -1,3 +1,0 @@
-pub mod Halves
-pub mod LeftHalf
-pub mod Refusal

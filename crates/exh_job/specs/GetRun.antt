@@ -1,0 +1,39 @@
+-- What a get prints, and with which status the program then ends.
+use Rattle.std.specs.Prelude.{◌≡◌, ◌⊎◌, ℕ, Bool, cond, List, ◌++◌, Option, None, Some, Result, Ok, Err, IfErr, IfOk}
+use Rattle.exh_text.specs.Contents.{on_line}
+use Rattle.exh_text.specs.Printing.{printed, refused_text}
+use Rattle.exh_direct.specs.DirectAnswer.{Finds, Refuses}
+use Rattle.exh_direct.specs.DirectFault.{direct_fault_number, direct_fault_place}
+use Rattle.exh_direct.specs.declared.direct_fault.DirectFault.{DirectFault}
+use Rattle.exh_report.specs.Finding.{place_words}
+use Rattle.exh_job.specs.LastLine.{PrintsLine, memory_line}
+use Rattle.exh_job.specs.declared.status.Status.{Status}
+use Rattle.exh_job.specs.declared.status.Status.TheVariants.{Done, Missing, Refused}
+
+-- a value as one word
+abbrev pub value_line : List ℕ → List ℕ
+value_line value = on_line (printed value)
+
+-- a refusal as `check` tells it, but for a reason, which a get doesn't find out
+abbrev pub get_refusal_line : DirectFault → List ℕ
+get_refusal_line fault = on_line (refused_text (direct_fault_number fault) ++ place_words (direct_fault_place fault))
+
+-- of a writer that held `old` bytes before and `new` ones after, where these are known, and of whether it failed
+module _ (old new : Option (List ℕ)) (failed : Bool) where
+  -- of a value its line, done where that went out; or the last line of a program that memory ended
+  abbrev pub EndsValue : List ℕ → Status → Type 0
+  EndsValue value status = (PrintsLine old new failed (value_line value) × (status ≡ cond failed Refused Done)) ⊎ (PrintsLine old new failed memory_line × (status ≡ Refused))
+
+  -- what comes of what was found: the value, or nothing where there is none, or the refusal
+  abbrev pub EndsAs : Result (Option (List ℕ)) DirectFault → Status → Type 0
+  EndsAs (Ok None) status = (new ≡ old) × (status ≡ Missing)
+  EndsAs (Ok (Some value)) status = EndsValue value status
+  EndsAs (Err fault) status = (PrintsLine old new failed (get_refusal_line fault) ⊎ PrintsLine old new failed memory_line) × (status ≡ Refused)
+
+  -- it is what the blocks have at the key
+  pub record EndsGet (known reads : Option (List ℕ)) (key : List ℕ) (status : Status) : Type 0 where
+    pub outcome : Result (Option (List ℕ)) DirectFault
+    pub after : Option (List ℕ)
+    pub found : IfOk outcome (Finds known key reads after)
+    pub refused : IfErr outcome (Refuses known key reads after)
+    pub printed : EndsAs outcome status

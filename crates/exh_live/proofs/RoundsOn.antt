@@ -1,0 +1,47 @@
+-- One round more of a keeper or a courier, and why a caller is refused.
+use Rattle.std.proofs.Common.{◌≡◌, ℕ, suc, ◌+◌, ◌≤◌, Bool, true, List, ◌∷◌, [], ◌++◌, Result, Ok, Err, IfErr, refl, subst, arith}
+use Rattle.std.specs.Prelude.{IsErr, IsErrAnd}
+use Rattle.exh_table.specs.Table.{TableMap}
+use Rattle.exh_calls.specs.declared.call.Call.{Call}
+use Rattle.exh_copy.specs.Additions.{Additions, Held as HeldByCopy}
+use Rattle.exh_walk.specs.CallerWalk.{ask_fault_number}
+use Rattle.exh_walk.specs.declared.ask_fault.AskFault.{AskFault}
+use Rattle.exh_live_file.specs.Locked.{IsAsked, IsFirstPage}
+use Rattle.exh_live_file.specs.CursorPlaceLemmas.{one_more}
+use Rattle.exh_live_file.specs.Rounds.{IsKeeperRound}
+use Rattle.exh_live.specs.StormCalls.{storm_call}
+use Rattle.exh_live.specs.StormFault.{storm_fault_number}
+use Rattle.exh_live.specs.StormRounds.{AreCourierRounds, AreKeeperRounds, IsCallerFault, IsCourierRound}
+use Rattle.exh_live.specs.declared.fault.StormFault.{StormFault}
+
+-- a loop that ends no sooner and no later ends there
+pub so_many : {done rounds : ℕ} → rounds ≤ done → done ≤ rounds → done ≡ rounds
+so_many least most = omega arith
+
+-- a refusal that is handed on as another
+handed_on : {T : Type 0} (From To : StormFault → Type 0) → ((fault : StormFault) → From fault → To fault) → (result : Result T StormFault) → IsErr result × IsErrAnd result From → IfErr result To
+handed_on From To so (Ok value) is = absurd is.1
+handed_on From To so (Err fault) is = so fault is.1
+
+-- of a caller the call after those done was refused
+pub caller_refused : {K T : Type 0} (pseudokey_of : K → List ℕ → ℕ) (hashing : List ℕ → ℕ) (start : TableMap) (ward_bits : ℕ) (may : ℕ → ℕ → Bool → Type 0) (own client done calls : ℕ) (call : Call) (old new : HeldByCopy) (asked : AskFault)
+    → (result : Result T StormFault) → client ≡ own → call ≡ storm_call own (done + 1) → done + 1 ≤ calls → IsAsked {K = K} pseudokey_of hashing (IsFirstPage start ward_bits old new) (may client) client call (Err asked)
+    → IsErr result × IsErrAnd result (λ fault. storm_fault_number fault ≡ ask_fault_number asked) → IfErr result (IsCallerFault {K = K} pseudokey_of hashing start ward_bits (may own) own calls)
+caller_refused {K} pseudokey_of hashing start ward_bits may own client done calls call old new asked result same is within walk refused =
+    let Asked : ℕ → Call → Type 0 = λ caller made. IsAsked {K = K} pseudokey_of hashing (IsFirstPage start ward_bits old new) (may caller) caller made (Err asked) in
+    let walked : Asked own (storm_call own (done + 1)) = subst (Asked own) is (subst (λ caller. Asked caller call) same walk) in
+    handed_on (λ fault. storm_fault_number fault ≡ ask_fault_number asked) (IsCallerFault {K = K} pseudokey_of hashing start ward_bits (may own) own calls)
+    (λ fault number. (done + 1, omega arith, within, old, new, asked, walked, number)) result refused
+
+pub keeper_round_more : {K : Type 0} (may : ℕ → Bool → Type 0) (pseudokey_of : K → List ℕ → ℕ) (done merges : ℕ) (passed : Bool) → AreKeeperRounds pseudokey_of may done → may (done + 1) passed → passed ≡ true → IsKeeperRound pseudokey_of merges
+    → AreKeeperRounds pseudokey_of may (done + 1)
+keeper_round_more {K} may pseudokey_of done merges passed so_far says true_is round = (
+  so_far.0 ++ merges ∷ [],
+  one_more (λ place made. may (place + 1) true × IsKeeperRound {K = K} pseudokey_of made) done so_far.0 merges (so_far.0 ++ merges ∷ []) so_far.1 (subst (may (done + 1)) true_is says, round) refl,
+)
+
+pub courier_round_more : (may : ℕ → Bool → Type 0) (done : ℕ) (old between new : Additions) (cursors at lasts : List ℕ) (passed : Bool) → AreCourierRounds may done old cursors between at → may (done + 1) passed → passed ≡ true → IsCourierRound between at new lasts
+    → AreCourierRounds may (done + 1) old cursors new lasts
+courier_round_more may done old between new cursors at lasts passed so_far says true_is round =
+    let next : suc done ≡ done + 1 = omega arith in
+    subst (λ rounds. AreCourierRounds may rounds old cursors new lasts) next (between, at, so_far, subst (may (done + 1)) true_is says, round)

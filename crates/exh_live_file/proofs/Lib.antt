@@ -1,0 +1,5 @@
+mod Counts
+mod Order
+mod Rounds
+mod ToBeTallied
+mod Walks

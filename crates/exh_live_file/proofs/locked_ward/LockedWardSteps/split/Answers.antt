@@ -1,0 +1,5 @@
+use Rattle.std.proofs.Common.{inl, arith}
+use Rattle.exh_live_file.proofs.locked_ward.LockedWardSteps.split.Goals as goal
+
+pub returns-clause-step : goal.returns-clause-step
+returns-clause-step g c = (omega arith, (_, _, c.split.ensures.step.0, inl c.split.ensures.step.1))

@@ -1,0 +1,10 @@
+pub mod Closing
+pub mod CursorLaws
+pub mod LiveFile
+pub mod Locked
+pub mod LiveWardLemmas
+pub mod CursorPlaceLemmas
+pub mod Rounds
+pub mod Spare
+pub mod Stock
+pub mod Units

@@ -1,0 +1,54 @@
+ghost use Rattle.std.specs.Prelude.{◌≡◌, ◌+◌, ◌<◌, length};
+ghost use Rattle.exh_calls.specs.Call.{key_of};
+ghost use Rattle.exh_route.specs.WardRun.{answer_of};
+ghost use Rattle.exh_live_file.specs.Locked.{IsSomeWardsStep};
+
+use crate::Identity;
+use crate::ledgers::Answers;
+use crate::lock::lock_soon;
+use crate::tallied_ward::WardLock;
+use exh_calls::Call;
+use exh_keyer::Keyer;
+use exh_notice::Notice;
+use exh_prefix::PageNo;
+use exh_stores::Pages;
+use exh_walk::Steps;
+use exh_ward::{Hop, WardFault};
+use std::sync::Wait;
+use std::sync::ledger::Share;
+
+/// A ward behind its lock, for one call of one caller, whose share of the answers it has meanwhile.
+/// The lock is taken once for each hop and each split.
+#[derive(Drop)]
+pub(crate) struct LockedWard<'a, P: Pages + Drop, K: Keyer, F: Identity, R: Wait> {
+    pub(crate) rt: &'a R,
+    pub(crate) ward: &'a WardLock<P, K, F>,
+    pub(crate) answers: Share<Answers<F>>,
+    ghost one_part: { answers.parts ≡ 1 },
+}
+
+// An answer is one unit more, and nothing else is any.
+impl<'a, P: Pages + Drop, K: Keyer, F: Identity, R: Wait> Steps for LockedWard<'a, P, K, F, R> {
+    ghost step = { λ old event new. (new.answers.amount ≡ old.answers.amount + length (answer_of event)) × IsSomeWardsStep K.pseudokey_of event };
+
+    ghost serves = { λ ward call pseudokey. pseudokey ≡ F.hashing (key_of call) };
+
+    // `Stray` for a key that the ward doesn't cover, which its lock can't tell.
+    fn hop(
+        &mut self,
+        at: PageNo,
+        client: u32,
+        call: &Call,
+        pseudokey: u64,
+    ) -> Result<Hop, WardFault> {
+        let mut ward = lock_soon(self.ward, self.rt);
+        if !ward.covers(pseudokey) {
+            return Ok(Hop::Stray);
+        }
+        ward.hop(&mut self.answers, at, client, call, pseudokey)
+    }
+
+    fn split(&mut self, at: PageNo) -> Result<Notice, WardFault> {
+        lock_soon(self.ward, self.rt).split(at)
+    }
+}

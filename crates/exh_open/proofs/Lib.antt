@@ -1,2 +1,0 @@
-pub mod Legal
-mod Digests

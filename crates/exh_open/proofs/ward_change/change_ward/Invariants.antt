@@ -1,5 +1,0 @@
-use Rattle.exh_open.specs.TurnLemmas.{AreTurns}
-use Rattle.exh_open.proofs.ward_change.change_ward.Given as goal
-
-abbrev pub invariant-turns : goal.invariant-turns
-invariant-turns g l = AreTurns l.fn.ward l.pseudokey l.turn l.ward

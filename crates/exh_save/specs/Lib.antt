@@ -1,4 +1,0 @@
-pub mod SaveFault
-pub mod Saved
-pub mod LeftLemmas
-pub mod Reopened

@@ -1,8 +1,0 @@
-pub mod Beside
-pub mod Callers
-pub mod Each
-pub mod Entries
-pub mod Order
-pub mod Splits
-pub mod Totals
-pub mod Wards

@@ -1,7 +1,0 @@
-use Rattle.std.proofs.Common.{take}
-use Rattle.exh_settle.specs.Settled.{AreApart}
-use Rattle.exh_settle.proofs.settlement.are_apart.Given as goal
-
--- the diaries so far are of different callers
-abbrev pub invariant-loop-at : goal.invariant-loop-at
-invariant-loop-at l = AreApart (take l.at l.diaries)

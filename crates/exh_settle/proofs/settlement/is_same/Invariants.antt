@@ -1,8 +1,0 @@
-use Rattle.std.proofs.Common.{◌<◌, ◌*◌, ℕ}
-use Rattle.exh_settle.specs.Beside.{IsSameFrom}
-use Rattle.exh_settle.specs.declared.settlement.TheConstants.{ROW}
-use Rattle.exh_settle.proofs.settlement.is_same.Given as goal
-
--- in the rows so far the wards have the same of the caller as the diary
-abbrev pub invariant-loop-row : goal.invariant-loop-row
-invariant-loop-row g l = (k : ℕ) → k < l.row → IsSameFrom (g.J.Journals.ward_of l.journals) (g.J.Journals.journals_of l.journals) l.diary (k * ROW)

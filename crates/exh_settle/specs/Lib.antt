@@ -1,4 +1,0 @@
-pub mod Beside
-pub mod Diary
-pub mod Settled
-pub mod Laws

@@ -1,0 +1,14 @@
+//! Stores of pages: lists of pages that a ward reads, changes and grows, wherever they lie (exhash's
+//! own).
+#![tactic(auto)]
+
+pub use pages::Pages;
+pub use pages_fault::PagesFault;
+pub use plain_pages::PlainPages;
+pub use store_maker::{PlainMaker, StoreMaker};
+
+mod pages;
+mod pages_fault;
+mod plain_pages;
+mod store_maker;
+mod stored_page;

@@ -1,0 +1,148 @@
+ghost use Rattle.std.specs.Prelude.{◌≡◌, ◌≢◌, ℕ, ◌-◌, ◌^◌, ◌<◌, ◌≤◌, List, [], ◌∷◌, ◌++◌, length, remove, slice_get, slice_set, Some, IfOk, OnOk, OnErr};
+ghost use Rattle.exh_page.specs.Page.{IsLive, records_of, with_records};
+ghost use Rattle.exh_page.specs.Records.{with_record};
+ghost use Rattle.exh_page.specs.Search.{IsSought, IsSpot};
+ghost use Rattle.exh_page.specs.declared.page.Page.{Page};
+ghost use Rattle.exh_page.specs.declared.page.TheConstants.{CAP_LIMIT};
+ghost use Rattle.exh_codec.specs.Block.{sealed};
+ghost use Rattle.exh_codec.specs.PageImage.{IsHeld, content_of};
+ghost use Rattle.exh_stores.specs.PageStore.{IfPage, HasHead, CountsFaults, TakesTheSame};
+
+use crate::PagesFault;
+use exh_codec::BLOCK_LEN;
+use exh_page::{Key, Page, PageHead, Spot, Value};
+use exh_prefix::PageNo;
+
+/// A store of pages, numbered from 0 on in the order in which they came. Each call
+/// that answers a `Result` may be refused: `PagesFault::Page` where a page couldn't be reached, which
+/// the store counts as a failure, else `PagesFault::Memory`. Its pages are then as before.
+pub trait Pages {
+    /// The pages, by their numbers.
+    ghost pages: { Self → List Page };
+
+    /// The pages that may be handed in, which are always the same.
+    ghost takes: { Self → Page → Type 0 };
+
+    /// How many calls have answered a page fault. It never falls.
+    ghost failures: { Self → ℕ };
+
+    /// The pages that are at hand, by their numbers.
+    ghost at_hand: { Self → ℕ → Type 0 };
+
+    /// How many pages there are. It takes no memory.
+    fn count(&self) -> PageNo
+        ensures { result ≡ length (pages self.now) };
+
+    /// How often a page couldn't be reached. It takes no memory.
+    fn failures(&self) -> u64
+        ensures { result ≡ failures self.now };
+
+    /// A page equal to the one of this number.
+    fn get(&mut self, number: PageNo) -> Result<Page, PagesFault>
+        requires { number < length (pages self.old) }
+        ensures page { IfOk result (λ page. slice_get (pages self.old) number ≡ Some page) }
+        ensures pages { pages self.new ≡ pages self.old }
+        ensures failures { CountsFaults result (failures self.old) (failures self.new) }
+        ensures takes { TakesTheSame takes self.old self.new };
+
+    /// All of the page of this number but its records. It takes no memory.
+    fn head(&mut self, number: PageNo) -> Result<PageHead, PagesFault>
+        requires { number < length (pages self.old) }
+        ensures head { IfOk result (HasHead (pages self.old) number) }
+        ensures pages { pages self.new ≡ pages self.old }
+        ensures failures { CountsFaults result (failures self.old) (failures self.new) }
+        ensures takes { TakesTheSame takes self.old self.new };
+
+    /// Writes the block that the page of this number has in a page file of the version that is written,
+    /// with its digest, which isn't made again where the store has it. It takes no memory.
+    fn block(&mut self, number: PageNo, out: &mut [u8; BLOCK_LEN]) -> Result<(), PagesFault>
+        requires there { number < length (pages self.old) }
+        requires few { IfPage (pages self.old) number (λ page. length (records_of page) ≤ CAP_LIMIT) }
+        ensures block { OnOk result (IfPage (pages self.old) number (λ page. (out.new ≡ sealed (content_of page)) × IsHeld page)) }
+        ensures pages { pages self.new ≡ pages self.old }
+        ensures failures { CountsFaults result (failures self.old) (failures self.new) }
+        ensures takes { TakesTheSame takes self.old self.new };
+
+    /// Gets the page of this number at hand.
+    fn fetch(&mut self, number: PageNo) -> Result<(), PagesFault>
+        requires { number < length (pages self.old) }
+        ensures at_hand { OnOk result (at_hand self.new number) }
+        ensures pages { pages self.new ≡ pages self.old }
+        ensures failures { CountsFaults result (failures self.old) (failures self.new) }
+        ensures takes { TakesTheSame takes self.old self.new };
+
+    /// The page of this number, which is at hand, to be read in place. It takes no memory.
+    fn fetched(&self, number: PageNo) -> &Page
+        requires { at_hand self.now number }
+        ensures { slice_get (pages self.now) number ≡ Some result.now };
+
+    /// Puts a record into a live page in place, at the spot that a search of its records for the key
+    /// came to. The page with the record is one that the store takes.
+    fn put_at(
+        &mut self,
+        number: PageNo,
+        spot: Result<Spot, Spot>,
+        pseudokey: u64,
+        key: &Key,
+        value: &Value,
+    ) -> Result<(), PagesFault>
+        requires there { number < length (pages self.old) }
+        requires live { IfPage (pages self.old) number IsLive }
+        requires sought { IfPage (pages self.old) number (λ page. IsSought (pseudokey, key.now) (records_of page) spot) }
+        requires taken { IfPage (pages self.old) number (λ page. takes self.old (with_records (with_record (record { pseudokey = pseudokey; key = key.now; value = value.now }) (records_of page)) page)) }
+        ensures ok { OnOk result (IfPage (pages self.old) number (λ page. pages self.new ≡ slice_set (pages self.old) number (with_records (with_record (record { pseudokey = pseudokey; key = key.now; value = value.now }) (records_of page)) page))) }
+        ensures err { OnErr result (pages self.new ≡ pages self.old) }
+        ensures failures { CountsFaults result (failures self.old) (failures self.new) }
+        ensures takes { TakesTheSame takes self.old self.new };
+
+    /// Takes the record of a spot out of a live page in place. The page without it is one that the
+    /// store takes.
+    fn remove_at(&mut self, number: PageNo, spot: Spot) -> Result<(), PagesFault>
+        requires there { number < length (pages self.old) }
+        requires live { IfPage (pages self.old) number IsLive }
+        requires spot { IfPage (pages self.old) number (λ page. (spot.index < length (records_of page)) × IsSpot (records_of page) spot) }
+        requires taken { IfPage (pages self.old) number (λ page. takes self.old (with_records (remove (records_of page) spot.index) page)) }
+        ensures ok { OnOk result (IfPage (pages self.old) number (λ page. pages self.new ≡ slice_set (pages self.old) number (with_records (remove (records_of page) spot.index) page))) }
+        ensures err { OnErr result (pages self.new ≡ pages self.old) }
+        ensures failures { CountsFaults result (failures self.old) (failures self.new) }
+        ensures takes { TakesTheSame takes self.old self.new };
+
+    /// Puts a page in place of the one of this number.
+    fn set(&mut self, number: PageNo, page: Page) -> Result<(), PagesFault>
+        requires there { number < length (pages self.old) }
+        requires taken { takes self.old page }
+        ensures ok { OnOk result (pages self.new ≡ slice_set (pages self.old) number page) }
+        ensures err { OnErr result (pages self.new ≡ pages self.old) }
+        ensures failures { CountsFaults result (failures self.old) (failures self.new) }
+        ensures takes { TakesTheSame takes self.old self.new };
+
+    /// Puts two pages in place of those of two numbers, both or neither.
+    fn set_two(
+        &mut self,
+        number: PageNo,
+        page: Page,
+        other: PageNo,
+        twin: Page,
+    ) -> Result<(), PagesFault>
+        requires there { number < length (pages self.old) }
+        requires other_there { other < length (pages self.old) }
+        requires apart { number ≢ other }
+        requires taken { takes self.old page }
+        requires twin_taken { takes self.old twin }
+        ensures ok { OnOk result (pages self.new ≡ slice_set (slice_set (pages self.old) number page) other twin) }
+        ensures err { OnErr result (pages self.new ≡ pages self.old) }
+        ensures failures { CountsFaults result (failures self.old) (failures self.new) }
+        ensures takes { TakesTheSame takes self.old self.new };
+
+    /// Adds a page, whose number is the count so far, and puts another in place of the one of this
+    /// number, both or neither. The greatest number of 32 bits is no page's.
+    fn grow_and_set(&mut self, new: Page, number: PageNo, page: Page) -> Result<(), PagesFault>
+        requires there { number < length (pages self.old) }
+        requires room { length (pages self.old) < 2 ^ 32 - 1 }
+        requires new_taken { takes self.old new }
+        requires taken { takes self.old page }
+        ensures ok { OnOk result (pages self.new ≡ slice_set (pages self.old) number page ++ new ∷ []) }
+        ensures err { OnErr result (pages self.new ≡ pages self.old) }
+        ensures failures { CountsFaults result (failures self.old) (failures self.new) }
+        ensures takes { TakesTheSame takes self.old self.new };
+}

@@ -1,5 +1,0 @@
-use Rattle.exh_live.specs.NewWardLemmas.{answered_nothing}
-use Rattle.exh_watched.proofs.file.watched_file.Goals as goal
-
-pub new-requires-clause-wards : goal.new-requires-clause-wards
-new-requires-clause-wards g c = answered_nothing _ _ c.in_ok-wards.ensures.wards

@@ -1,2 +1,0 @@
-pub mod CopiesTold
-pub mod RunWords

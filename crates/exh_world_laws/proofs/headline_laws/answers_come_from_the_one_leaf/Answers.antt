@@ -1,5 +1,0 @@
-use Rattle.exh_world_laws.proofs.RunWords.{from_one_leaf}
-use Rattle.exh_world_laws.proofs.headline_laws.answers_come_from_the_one_leaf.Goals as goal
-
-pub returns : goal.returns
-returns g c = from_one_leaf g.K.Keyer.pseudokey_of

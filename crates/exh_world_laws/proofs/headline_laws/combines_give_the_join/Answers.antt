@@ -1,5 +1,0 @@
-use Rattle.exh_world_laws.proofs.RunWords.{combines_join}
-use Rattle.exh_world_laws.proofs.headline_laws.combines_give_the_join.Goals as goal
-
-pub returns : goal.returns
-returns g c = combines_join g.K.Keyer.pseudokey_of
