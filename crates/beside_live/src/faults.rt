@@ -13,11 +13,11 @@ use exh_callers::{
     one_ward_file, settled,
 };
 use exh_copy::{NewCopyFault, Start, new_copy};
-use exh_fixtures::{Difference, FailingPages, Part, Run, again, first_store, same};
+use exh_fixtures::{Difference, Part, Run, again, first_store, same};
+use exh_frames::{FailingPages, PlainPages};
 use exh_keyer::PlainKeyer;
 use exh_live_file::{ANSWER_PARTS, Cursors, ENTRY_PARTS, Identity};
 use exh_settings::FileSettings;
-use exh_stores::PlainPages;
 use exh_table::Table;
 use exh_walk::OpenGate;
 use exh_ward::Ward;

@@ -7,15 +7,13 @@ ghost use Rattle.exh_world.specs.Sound.{IsSoundWorld};
 
 use crate::answers::ROOM;
 use crate::steps::{STEP_COUNT, STEPS, Step};
-use exh_fixtures::{
-    Difference, FailingPages, Part, Run, again, are_same, first_store, refused, same,
-};
+use exh_fixtures::{Difference, Part, Run, again, are_same, first_store, refused, same};
+use exh_frames::{FailingPages, PlainPages};
 use exh_keyer::AnyKeyer;
 use exh_page::Page;
 use exh_prefix::PageNo;
 use exh_script::{ResponseFault, Run as Script, push_response};
 use exh_settings::FileSettings;
-use exh_stores::PlainPages;
 use exh_text::Config;
 use exh_ward::{Ward, WardFault};
 use exh_world::World;

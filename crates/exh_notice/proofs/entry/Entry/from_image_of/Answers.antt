@@ -4,7 +4,7 @@ use Rattle.byteorder.specs.Endian.{big_from}
 use Rattle.exh_prefix.specs.Layout.{layout}
 use Rattle.exh_prefix.specs.LayoutLemmas.{layout_fits}
 use Rattle.exh_notice.specs.ImageLemmas.{image_from_fields, image_passes, image_has_prefix, reads_every}
-use Rattle.exh_notice.proofs.entry.Entry.from_image.Goals as goal
+use Rattle.exh_notice.proofs.entry.Entry.from_image_of.Goals as goal
 
 pub returns-in_err-kind-clause-every : goal.returns-in_err-kind-clause-every
 returns-in_err-kind-clause-every c = λ ward prefix entry is. absurd (image_passes (layout c.args.version) (layout_fits c.args.version) c.in_err-kind.field-0.0 is c.in_err-kind.ensures.err)

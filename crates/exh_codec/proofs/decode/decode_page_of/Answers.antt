@@ -2,7 +2,7 @@ use Rattle.std.proofs.Common.{sym, ◌∙◌}
 use Rattle.std.proofs.lemmas.Bool.{false≢true}
 use Rattle.exh_prefix.specs.Layout.{layout}
 use Rattle.exh_codec.proofs.FirstFault.{image_parts, image_given, digest_first, later_first}
-use Rattle.exh_codec.proofs.decode.decode_page.Goals as goal
+use Rattle.exh_codec.proofs.decode.decode_page_of.Goals as goal
 
 pub returns-then-not-is_sealed-clause-only : goal.returns-then-not-is_sealed-clause-only
 returns-then-not-is_sealed-clause-only g c page image =

@@ -4,7 +4,7 @@ use Rattle.exh_prefix.specs.Layout.{layout}
 use Rattle.exh_prefix.specs.LayoutLemmas.{layout_fits}
 use Rattle.exh_notice.specs.NoticeImages.{FailsFirst}
 use Rattle.exh_notice.specs.ImageLemmas.{notice_from_parts, entry_image_of, one_notice, image_passes, fails_whole}
-use Rattle.exh_notice.proofs.notice.Notice.from_image.Goals as goal
+use Rattle.exh_notice.proofs.notice.Notice.from_image_of.Goals as goal
 
 err_given : {V E : Type 0} (result : Result V E) (fault : E) (P : E → Type 0) → IsErrAnd result (λ e. e ≡ fault) → P fault → IfErr result P
 err_given (Ok value) fault P is holds = tt

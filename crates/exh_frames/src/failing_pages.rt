@@ -1,5 +1,5 @@
 ghost use Rattle.std.specs.Prelude.{◌≡◌, ◌≤◌, ◌<◌, ◌-◌, ◌^◌, false, IsTrue, IsErrOf, OnOk};
-ghost use Rattle.exh_fixtures.specs.Failure.{HasRoom, IsFaultless, after_call, count_with, failed_call, failure_at, is_due};
+ghost use Rattle.exh_frames.specs.Failure.{HasRoom, IsFaultless, after_call, count_with, failed_call, failure_at, is_due};
 ghost use Rattle.exh_stores.specs.PageStore.{CountsFaults};
 
 use crate::PagesCall;
@@ -28,7 +28,7 @@ enum Failure {
 }
 
 impl<P: Pages + Drop> Model for FailingPages<P> {
-    ghost use Rattle.exh_fixtures.specs.Failure.{FailingStore};
+    ghost use Rattle.exh_frames.specs.Failure.{FailingStore};
 
     ghost Value = { FailingStore P };
 

@@ -1,8 +1,8 @@
 -- The one failure of a store that fails on purpose, over a store that has a count of its own.
 use Rattle.std.specs.Prelude.{⊤, ℕ, zero, suc, ◌+◌, ◌-◌, ◌^◌, ◌<◌, Bool, cond, false, ltb, min, Option, Some, None, Result, Ok, Err}
-use Rattle.exh_fixtures.specs.declared.failing_pages.Failure.{Failure}
-use Rattle.exh_fixtures.specs.declared.failing_pages.Failure.TheVariants.{After, Past, Never}
-use Rattle.exh_fixtures.specs.declared.pages_call.PagesCall.{PagesCall}
+use Rattle.exh_frames.specs.declared.failing_pages.Failure.{Failure}
+use Rattle.exh_frames.specs.declared.failing_pages.Failure.TheVariants.{After, Past, Never}
+use Rattle.exh_frames.specs.declared.pages_call.PagesCall.{PagesCall}
 use Rattle.exh_stores.specs.declared.pages_fault.PagesFault.{PagesFault}
 use Rattle.exh_stores.specs.declared.pages_fault.PagesFault.TheVariants.{Memory, Page as OutOfReach}
 
