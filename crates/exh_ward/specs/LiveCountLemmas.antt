@@ -7,9 +7,9 @@ use Rattle.exh_page.specs.declared.page.Page.{Page}
 use Rattle.exh_page.specs.declared.page.Page.TheVariants.{Live, Forward}
 use Rattle.exh_page.specs.Page.{IsLive, low_bound}
 use Rattle.exh_legal.specs.Pages.{IsAt, AreLinked, bare}
-use Rattle.exh_route.specs.Distance.{is_live_between, live_between}
-use Rattle.exh_route.proofs.Counts.{count_none, count_one_more}
-use Rattle.exh_route.proofs.Links.{IsNext, apart}
+use Rattle.exh_ward.specs.Distance.{is_live_between, live_between}
+use Rattle.exh_ward.specs.CountLemmas.{count_none, count_one_more}
+use Rattle.exh_ward.specs.LinkLemmas.{IsNext, apart}
 
 -- ---- the test that counts live pages
 

@@ -2,18 +2,11 @@
 use Rattle.std.specs.Prelude.{◌≡◌, ℕ, Bool, List, length, Option}
 use Rattle.exh_prefix.specs.Prefix.{low_of}
 use Rattle.exh_page.specs.declared.page.Page.{Page}
-use Rattle.exh_page.specs.declared.page.Page.TheVariants.{Live, Forward}
+use Rattle.exh_page.specs.declared.page.Page.TheVariants.{Live}
 use Rattle.exh_page.specs.declared.record.Record.{Record}
 use Rattle.exh_legal.specs.Pages.{IsAt}
-use Rattle.exh_route.specs.Distance.{IsForwarded}
-use Rattle.exh_route.specs.declared.distances.FirstLive.{FirstLive}
-use Rattle.exh_route.specs.declared.distances.Lead.{Lead}
-use Rattle.exh_route.specs.declared.distances.Lead.TheVariants.{Right, Target}
-
--- where a page leads on to
-abbrev pub lead_of : Page → Lead
-lead_of (Live prefix right records) = Right (low_of prefix) right
-lead_of (Forward low target) = Target target
+use Rattle.exh_ward.specs.Distance.{IsForwarded}
+use Rattle.exh_ward.specs.declared.ward.distance.FirstLive.{FirstLive}
 
 -- a live page at a number, with a low bound and a right link
 pub record IsLivePage (pages : List Page) (number low : ℕ) (right : Option ℕ) : Type 0 where

@@ -13,9 +13,9 @@ use Rattle.exh_page.specs.declared.page.Page.{Page}
 use Rattle.exh_page.specs.declared.page.Page.TheVariants.{Live, Forward}
 use Rattle.exh_page.specs.Page.{low_bound}
 use Rattle.exh_legal.specs.Pages.{IsAt, AreLinked, bare}
-use Rattle.exh_route.specs.Distance.{IsDistance, IsForwarded, is_live, is_live_between, live_pages}
-use Rattle.exh_route.proofs.Counts.{counts, counts_few, count_cons, count_less}
-use Rattle.exh_route.proofs.Links.{forward_above, forward_prefix, target_cleared}
+use Rattle.exh_ward.specs.Distance.{IsDistance, IsForwarded, is_live, is_live_between, live_pages}
+use Rattle.exh_ward.specs.CountLemmas.{counts, counts_few, count_cons, count_less}
+use Rattle.exh_ward.specs.LinkLemmas.{forward_above, forward_prefix, target_cleared}
 use Rattle.exh_prefix.specs.PrefixListLemmas.{one_there}
 
 -- ---- set bits

@@ -8,20 +8,21 @@ use Rattle.exh_prefix.specs.declared.prefix.TheConstants.{LIMIT}
 use Rattle.exh_prefix.specs.Prefix.{low_of}
 use Rattle.exh_page.specs.declared.page.Page.{Page}
 use Rattle.exh_page.specs.declared.page.Page.TheVariants.{Live, Forward}
+use Rattle.exh_page.specs.declared.page_head.PageHead.{PageHead}
+use Rattle.exh_page.specs.declared.page_head.PageHead.TheVariants.{Live as LiveHead, Forward as ForwardHead}
 use Rattle.exh_page.specs.Page.{IsLive, low_bound}
+use Rattle.exh_page.specs.PageHead.{head_of}
 use Rattle.exh_legal.specs.LegalLaws.{PagesAreFew}
 use Rattle.exh_legal.specs.Pages.{IsAt, AreLinked, bare}
 use Rattle.exh_ward.specs.WardFault.{PageRefused}
 use Rattle.exh_ward.specs.WardState.{WardState, IsSound, IsUnchanged, own_prefix}
 use Rattle.exh_ward.specs.declared.ward_fault.WardFault.{WardFault}
 use Rattle.exh_ward.specs.declared.ward_fault.WardFault.TheVariants.{NoPage, Memory, Page as OutOfReach}
-use Rattle.exh_route.specs.Distance.{IsForwarded, is_live_between, live_between}
-use Rattle.exh_route.specs.FirstLive.{lead_of, IsLivePage, IsFirstLive}
-use Rattle.exh_route.specs.declared.distances.Lead.{Lead}
-use Rattle.exh_route.specs.declared.distances.Lead.TheVariants.{Right, Target}
-use Rattle.exh_route.proofs.Links.{IsNext, last_live, next_live, target_cleared, ward_few}
-use Rattle.exh_route.proofs.LiveCounts.{none_between, one_less_right}
-use Rattle.exh_route.proofs.DistancesFew.{chain_few}
+use Rattle.exh_ward.specs.Distance.{IsForwarded, is_live_between, live_between}
+use Rattle.exh_ward.specs.FirstLive.{IsLivePage, IsFirstLive}
+use Rattle.exh_ward.specs.LinkLemmas.{IsNext, last_live, next_live, target_cleared, ward_few}
+use Rattle.exh_ward.specs.LiveCountLemmas.{none_between, one_less_right}
+use Rattle.exh_ward.specs.DistanceLemmas.{chain_few}
 use Rattle.exh_prefix.specs.PrefixListLemmas.{one_there}
 
 -- as many forwarding pages as were counted lead to the page
@@ -32,20 +33,20 @@ HasForwarded pages from forwards at = (over : List ℕ) × IsForwarded pages fro
 abbrev pub HasCounted : List Page → ℕ → ℕ → ℕ → Option ℕ → Type 0
 HasCounted pages low pseudokey count next = (number last : ℕ) × IsLivePage pages number last next × (live_between pages low pseudokey ≡ count + live_between pages last pseudokey)
 
--- ---- what a page's lead tells
+-- ---- what a page's head tells
 
-pub lead_right : (pages : List Page) (number low : ℕ) (right : Option ℕ) (page : Page) → IsAt pages number page → Right low right ≡ lead_of page → IsLivePage pages number low right
-lead_right pages number low right (Live prefix link records) is same =
+live_head : (pages : List Page) (number : ℕ) (prefix : List Bool) (right : Option ℕ) (count : ℕ) (page : Page) → IsAt pages number page → LiveHead prefix right count ≡ head_of page → IsLivePage pages number (low_of prefix) right
+live_head pages number prefix right count (Live own link records) is same =
     let right_is : link ≡ right = cc in
-    let low_is : low ≡ low_of prefix = cc in
-    record { prefix = prefix; records = records; there = is ∙ ap (λ link. Some (Live prefix link records)) right_is; low_is = low_is }
-lead_right pages number low right (Forward bound target) is same = cc
+    let prefix_is : prefix ≡ own = cc in
+    record { prefix = own; records = records; there = is ∙ ap (λ link. Some (Live own link records)) right_is; low_is = ap low_of prefix_is }
+live_head pages number prefix right count (Forward bound target) is same = cc
 
-pub lead_target : (pages : List Page) (number target : ℕ) (page : Page) → IsAt pages number page → Target target ≡ lead_of page → (low : ℕ) × IsAt pages number (Forward low target)
-lead_target pages number target (Live prefix link records) is same = cc
-lead_target pages number target (Forward low other) is same =
+forward_head : (pages : List Page) (number low target : ℕ) (page : Page) → IsAt pages number page → ForwardHead low target ≡ head_of page → (bound : ℕ) × IsAt pages number (Forward bound target)
+forward_head pages number low target (Live prefix link records) is same = cc
+forward_head pages number low target (Forward bound other) is same =
     let target_is : other ≡ target = cc in
-    (low, is ∙ ap (λ n. Some (Forward low n)) target_is)
+    (bound, is ∙ ap (λ n. Some (Forward bound n)) target_is)
 
 -- ---- one forwarding page more
 
@@ -83,8 +84,12 @@ module _ (ward : List Bool) (pages : List Page) (linked : AreLinked ward (bare p
 
 -- ---- a step of the loops, over the ward as it was
 
-abbrev pub IsLeadAt : List Page → ℕ → Lead → Type 0
-IsLeadAt pages number lead = (page : Page) × IsAt pages number page × (lead ≡ lead_of page)
+abbrev pub IsHeadAt : List Page → ℕ → PageHead → Type 0
+IsHeadAt pages number head = (page : Page) × IsAt pages number page × (head ≡ head_of page)
+
+pub live_from : (pages : List Page) (number low count : ℕ) (prefix : List Bool) (right : Option ℕ) (head : PageHead) → IsHeadAt pages number head → head ≡ LiveHead prefix right count → low ≡ low_of prefix → IsLivePage pages number low right
+live_from pages number low count prefix right head is same low_is =
+    subst (λ low. IsLivePage pages number low right) (sym low_is) (live_head pages number prefix right count is.0 is.1 (sym same ∙ is.2))
 
 module _ {K : Type 0} (old now : WardState K) where
   pub pages_same : now ≡ old → now.pages ≡ old.pages
@@ -93,8 +98,8 @@ module _ {K : Type 0} (old now : WardState K) where
   pub pages_unchanged : IsUnchanged old now → now.pages ≡ old.pages
   pages_unchanged same = ap (λ (w : WardState K). w.pages) same
 
-  pub lead_before : now ≡ old → (number : ℕ) (lead : Lead) → IsLeadAt now.pages number lead → IsLeadAt old.pages number lead
-  lead_before same number lead is = subst (λ pages. IsLeadAt pages number lead) (pages_same same) is
+  pub head_before : now ≡ old → (number : ℕ) (head : PageHead) → IsHeadAt now.pages number head → IsHeadAt old.pages number head
+  head_before same number head is = subst (λ pages. IsHeadAt pages number head) (pages_same same) is
 
   pub live_before : now ≡ old → (number low : ℕ) (right : Option ℕ) → IsLivePage now.pages number low right → IsLivePage old.pages number low right
   live_before same number low right is = subst (λ pages. IsLivePage pages number low right) (pages_same same) is
@@ -102,19 +107,19 @@ module _ {K : Type 0} (old now : WardState K) where
 pub linked_before : {K : Type 0} (pseudo : List ℕ → ℕ) (new : WardState K) (pages : List Page) → IsSound pseudo new → new.pages ≡ pages → AreLinked (own_prefix new) (bare pages)
 linked_before pseudo new pages sound same = subst (λ pages. AreLinked (own_prefix new) (bare pages)) same sound.legal.legal.legal.linked
 
-pub first_found : (pages : List Page) (from forwards at low : ℕ) (right : Option ℕ) (lead : Lead) → HasForwarded pages from forwards at → IsLeadAt pages at lead → lead ≡ Right low right
+pub first_found : (pages : List Page) (from forwards at low count : ℕ) (prefix : List Bool) (right : Option ℕ) (head : PageHead) → HasForwarded pages from forwards at → IsHeadAt pages at head → head ≡ LiveHead prefix right count → low ≡ low_of prefix
     → IsFirstLive pages from (record { forwards = forwards; low = low; right = right })
-first_found pages from forwards at low right lead has is same = record {
+first_found pages from forwards at low count prefix right head has is same low_is = record {
   over = has.0;
   live = at;
   forwarded = has.1;
   counted = has.2;
-  is = lead_right pages at low right is.0 is.1 (sym same ∙ is.2);
+  is = live_from pages at low count prefix right head is same low_is;
 }
 
-pub goes_forward : (pages : List Page) (from forwards at target : ℕ) (lead : Lead) → HasForwarded pages from forwards at → IsLeadAt pages at lead → lead ≡ Target target → HasForwarded pages from (forwards + 1) target
-goes_forward pages from forwards at target lead has is same =
-    let forward = lead_target pages at target is.0 is.1 (sym same ∙ is.2) in
+pub goes_forward : (pages : List Page) (from forwards at low target : ℕ) (head : PageHead) → HasForwarded pages from forwards at → IsHeadAt pages at head → head ≡ ForwardHead low target → HasForwarded pages from (forwards + 1) target
+goes_forward pages from forwards at low target head has is same =
+    let forward = forward_head pages at low target is.0 is.1 (sym same ∙ is.2) in
     forwarded_more pages from forwards at forward.0 target has forward.1
 
 -- ---- the count
