@@ -7,14 +7,13 @@ ghost use Rattle.exh_copy.specs.Additions.{AreOf};
 ghost use Rattle.exh_live_file.specs.LiveFile.{IsNewWardOf};
 ghost use Rattle.exh_live_file.specs.declared.ledgers.TheConstants.{ANSWER_PARTS, ENTRY_PARTS};
 
-use crate::broken_pages::BrokenPages;
 use exh_callers::{
     CAP, Caller, File, Reader, Writer, close, is_carried, is_told, keep, next_caller,
     one_ward_file, settled,
 };
 use exh_calls::Reply;
 use exh_copy::{NewCopyFault, Start, new_copy};
-use exh_fixtures::{Asked, Difference, Part, Said, first_store, same};
+use exh_fixtures::{Asked, BrokenPages, Difference, Part, Said, first_store, same};
 use exh_keyer::{Keyer, PlainKeyer};
 use exh_live_file::{ANSWER_PARTS, Cursors, ENTRY_PARTS, Identity};
 use exh_prefix::PageNo;

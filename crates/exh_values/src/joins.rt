@@ -16,8 +16,10 @@ fn pair(first: u64, second: u64) -> Pair {
 }
 
 fn are_joined() -> bool {
+    let numbers = [3, 5, 4].map(|number| Greatest { number });
     let three = [pair(3, 9), pair(5, 2), pair(4, 3)];
     join_all::<Pair>(&[]).is_ok_and(|joined| joined.is_none())
+        && join_all(&numbers).is_ok_and(|joined| joined == Some(Greatest { number: 5 }))
         && join_all(&three).is_ok_and(|joined| joined == Some(pair(5, 9)))
 }
 

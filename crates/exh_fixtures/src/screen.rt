@@ -1,19 +1,24 @@
+//! A terminal with a clock, both a test's own.
+
 use exh_stream::Terminal;
 use std::alloc::Global;
 use std::cell::{Cell, RefCell};
 use std::io;
 use std::io::Write;
 
-// A terminal that keeps what it is shown, with a clock that a test sets, and how often that was asked.
+/// A terminal that keeps what it is shown, with a clock that a test sets.
 #[derive(Drop)]
-pub(crate) struct Screen {
-    pub(crate) now: Cell<Option<u64>>,
-    pub(crate) asked: Cell<u32>,
+pub struct Screen {
+    /// The clock, in milliseconds; `None` where there is none.
+    pub now: Cell<Option<u64>>,
+    /// How often the clock was asked.
+    pub asked: Cell<u32>,
     shown: RefCell<Vec<u8>>,
 }
 
 impl Screen {
-    pub(crate) fn new(alloc: Global) -> Screen {
+    /// One that was shown nothing, at the time 0. It takes no memory.
+    pub fn new(alloc: Global) -> Screen {
         Screen {
             now: Cell::new(Some(0)),
             asked: Cell::new(0),
@@ -21,8 +26,8 @@ impl Screen {
         }
     }
 
-    // Whether this was shown since the last call.
-    pub(crate) fn has_shown(&self, text: &[u8]) -> bool {
+    /// Whether this was shown since the last call.
+    pub fn has_shown(&self, text: &[u8]) -> bool {
         match self.shown.try_borrow_mut() {
             Ok(mut shown) => {
                 let is_same = shown.as_slice() == text;

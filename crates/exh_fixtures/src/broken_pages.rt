@@ -9,10 +9,12 @@ use exh_stores::{Pages, PagesFault, PlainPages};
 
 /// Pages in memory. Of the calls that answer a `Result` so many as are left are done, and each later one fails.
 #[derive(Drop)]
-pub(crate) struct BrokenPages {
-    pub(crate) inner: PlainPages,
-    pub(crate) left: u64,
-    pub(crate) failures: u64,
+pub struct BrokenPages {
+    pub inner: PlainPages,
+    /// How many calls are still done.
+    pub left: u64,
+    /// How many calls failed.
+    pub failures: u64,
 }
 
 impl BrokenPages {
