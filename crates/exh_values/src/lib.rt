@@ -13,6 +13,8 @@ mod joins;
 #[cfg(test)]
 mod keys;
 #[cfg(test)]
+mod live_doors;
+#[cfg(test)]
 mod notices;
 #[cfg(test)]
 mod texts;
