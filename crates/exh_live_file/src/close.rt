@@ -64,7 +64,9 @@ pub struct NotClosed<P: Pages + Drop, K: Keyer, F: Identity> {
 
 impl<P: Pages + Drop, K: Keyer, F: Identity> fmt::Debug for NotClosed<P, K, F> {
     fn fmt<W: fmt::Write>(&self, f: &mut fmt::Formatter<W>) -> fmt::Result {
-        f.debug_struct("NotClosed").field("fault", &self.fault).finish_non_exhaustive()
+        f.debug_struct("NotClosed")
+            .field("fault", &self.fault)
+            .finish_non_exhaustive()
     }
 }
 
