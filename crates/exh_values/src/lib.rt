@@ -15,6 +15,8 @@ mod joins;
 #[cfg(test)]
 mod keys;
 #[cfg(test)]
+mod live_doors;
+#[cfg(test)]
 mod notices;
 #[cfg(test)]
 mod page_doors;

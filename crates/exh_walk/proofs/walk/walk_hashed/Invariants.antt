@@ -1,6 +1,6 @@
 use Rattle.exh_walk.specs.CallerWalk.{ServesOn}
 use Rattle.exh_walk.proofs.Turns.{Stands}
-use Rattle.exh_walk.proofs.walk.walk_steps.Given as goal
+use Rattle.exh_walk.proofs.walk.walk_hashed.Given as goal
 
 abbrev pub invariant-loop-turns : goal.invariant-loop-turns
 invariant-loop-turns g l =
