@@ -20,6 +20,7 @@ pub use said::Said;
 pub use same_pages::are_same;
 pub use status::Status;
 pub use tally::Tally;
+pub use three_pairs::three_pairs;
 pub use ward_calls::{hop, hop_of, merge_page, page, refused, split_page};
 
 mod again;
@@ -40,4 +41,5 @@ mod said;
 mod same_pages;
 mod status;
 mod tally;
+mod three_pairs;
 mod ward_calls;
