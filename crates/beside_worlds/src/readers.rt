@@ -2,11 +2,10 @@
 //! second, and so on: the fault is told, and no read comes after it.
 
 use crate::three_pairs::{
-    BLOCK_LEN, is_saved, not_opened, reader_of, three_pairs, write_to, writer_for,
+    BLOCK_LEN, is_saved, not_opened, reader_of, write_to, writer_for,
 };
 use exh_file::{OpenFault, open};
-use exh_fixtures::{Difference, FakeReader, Part, Run, same};
-use exh_stores::PlainMaker;
+use exh_fixtures::{Difference, FakeReader, Part, Run, same, three_pairs};
 use std::alloc::{AllocError, Global};
 use std::io::ErrorKind;
 
@@ -41,7 +40,7 @@ fn take_reads(run: &mut Run, file: &[u8], most: usize, reads: u32) -> Result<(),
 
 // Whether the reader's fault is told.
 fn is_refused(alloc: Global, reader: &mut FakeReader<'_>) -> Result<bool, AllocError> {
-    match open(alloc, &PlainMaker, reader) {
+    match open(alloc, reader) {
         Ok(_opened) => Ok(false),
         Err(fault) => is_of_the_reader(fault),
     }
@@ -61,9 +60,9 @@ pub(crate) fn is_opened(
     reader: &mut FakeReader<'_>,
 ) -> Result<(), Difference> {
     let mut writer = writer_for(alloc, file)?;
-    match open(alloc, &PlainMaker, reader) {
-        Ok(opened) => {
-            let (saved, _opened) = write_to(opened, &mut writer);
+    match open(alloc, reader) {
+        Ok(mut opened) => {
+            let saved = write_to(&mut opened, &mut writer);
             same(
                 is_saved(saved)? && writer.taken.as_slice() == file,
                 Part::Step,

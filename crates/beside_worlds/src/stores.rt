@@ -4,10 +4,10 @@
 use crate::failing_maker::FailingMaker;
 use crate::readers::is_opened;
 use crate::three_pairs::{
-    BLOCK_LEN, is_saved, not_opened, reader_of, three_pairs, write_to, writer_for,
+    BLOCK_LEN, is_saved, not_opened, reader_of, write_to, writer_for,
 };
-use exh_file::{OpenFault, Opened, open};
-use exh_fixtures::{Difference, FakeWriter, Part, Run, same};
+use exh_file::{OpenFault, Opened, open_over};
+use exh_fixtures::{Difference, FakeWriter, Part, Run, same, three_pairs};
 use exh_frames::{FailingPages, PlainMaker, PlainPages};
 use std::alloc::Global;
 
@@ -66,8 +66,8 @@ fn refuse_call(alloc: Global, file: &[u8], at: u64) -> Result<Met, Difference> {
         inner: PlainMaker,
         at,
     };
-    match open(alloc, &maker, &mut reader) {
-        Ok(opened) => write_twice(opened, file, &mut writer),
+    match open_over(alloc, &maker, &mut reader) {
+        Ok(mut opened) => write_twice(&mut opened, file, &mut writer),
         Err(fault) => {
             is_out_of_reach(fault)?;
             same(reader.rest.is_empty(), Part::Fault)?;
@@ -87,14 +87,14 @@ fn is_out_of_reach(fault: OpenFault) -> Result<(), Difference> {
 
 // Where a page was out of reach a beginning of the file went out, and all of it does then.
 fn write_twice(
-    opened: Opened<FailingPages<PlainPages>>,
+    opened: &mut Opened<FailingPages<PlainPages>>,
     file: &[u8],
     writer: &mut FakeWriter,
 ) -> Result<Met, Difference> {
-    let (saved, opened) = write_to(opened, writer);
+    let saved = write_to(opened, writer);
     let is_front = file.starts_with(writer.taken.as_slice());
     let is_whole = is_front && writer.taken.len() == file.len();
-    let (last, _opened) = write_to(opened, writer);
+    let last = write_to(opened, writer);
     let is_healed = is_saved(last)? && writer.taken.as_slice() == file;
     if is_saved(saved)? {
         same(is_whole, Part::Healed)?;

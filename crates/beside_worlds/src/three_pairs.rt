@@ -1,41 +1,12 @@
-//! The page file of the three pairs, and writers and readers of it.
+//! Readers and writers of the page file of the three pairs, and what comes of opening and of writing it.
 
-use exh_file::{OpenFault, Opened, SaveFault, write_opened};
+use exh_file::{OpenFault, Opened, SaveFault, write_file};
 use exh_fixtures::{Difference, FakeReader, FakeWriter, WriteRefusal};
-use exh_format::FileWriter;
 use exh_stores::Pages;
-use sha2::{Digest, Sha256};
 use std::alloc::{AllocError, Global};
 
 /// The length of a block, in bytes.
 pub(crate) const BLOCK_LEN: usize = 4096;
-
-// How many bytes of a block stand before its digest.
-const CONTENT_LEN: usize = 4064;
-
-// The content of each block up to its zeros, from docs/FORMATS.md: the header of a file of one ward of two pages, of cap 2
-// and of keyer plain, with one entry; page 0 of prefix 0 and right link 1, with the records `#00` a and `#40` x; page 1 of
-// prefix 1 and no right link, with `#80` b; and the entry of the split that made it.
-const CONTENTS: [&[u8]; 4] = [
-    b"EXHASHPF\x00\x02\x02\x00\x02\x00\x00\x00\x00\x00\x00\x01\x00\x00\x00\x02",
-    b"\x01\x01\x02\x00\x00\x00\x00\x01\x00\x00\x00\x00\x00\x00\x00\x00\x01\x01\x00\x61\x01\x01\x40\x78",
-    b"\x01\x01\x01\x00\xff\xff\xff\xff\x80\x00\x00\x00\x00\x00\x00\x00\x01\x01\x80\x62",
-    b"\x00\x01\x00\x00\x00\x00\x00\x00\x00\x00\x00\x01\x00\x00\x00\x01",
-];
-
-/// The bytes of the file, each block with the digest of its content.
-pub(crate) fn three_pairs(alloc: Global) -> Result<Vec<u8>, AllocError> {
-    let mut file = Vec::new(alloc);
-    for content in CONTENTS {
-        let mut block = [0; CONTENT_LEN];
-        for (byte, given) in block.iter_mut().zip(content) {
-            *byte = *given;
-        }
-        file.extend_from_slice(&block)?;
-        file.extend_from_slice(&Sha256::digest(&block))?;
-    }
-    Ok(file)
-}
 
 /// A reader of a file that gives at most so many bytes a read, and doesn't fail.
 pub(crate) fn reader_of(file: &[u8], most: usize) -> FakeReader<'_> {
@@ -60,12 +31,12 @@ pub(crate) fn writer_for(alloc: Global, file: &[u8]) -> Result<FakeWriter, Alloc
 
 /// Writes the file of wards to a writer of which nothing is kept.
 pub(crate) fn write_to<P: Pages + Drop>(
-    opened: Opened<P>,
+    opened: &mut Opened<P>,
     writer: &mut FakeWriter,
-) -> (Result<(), SaveFault>, Opened<P>) {
+) -> Result<(), SaveFault> {
     writer.taken.clear();
     writer.writes = 0;
-    write_opened(opened, &mut FileWriter::new(writer))
+    write_file(writer, opened)
 }
 
 /// Whether a file was written whole. A `Difference` where no page was out of reach.

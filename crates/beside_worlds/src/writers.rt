@@ -3,10 +3,10 @@
 
 ghost use Rattle.std.specs.Prelude.{◌<◌};
 
-use crate::three_pairs::{BLOCK_LEN, not_opened, reader_of, three_pairs, write_to, writer_for};
+use crate::three_pairs::{BLOCK_LEN, not_opened, reader_of, write_to, writer_for};
 use exh_file::{Opened, SaveFault, open};
-use exh_fixtures::{Difference, FakeWriter, Part, Run, WriteRefusal, same};
-use exh_stores::{PlainMaker, PlainPages};
+use exh_fixtures::{Difference, FakeWriter, Part, Run, WriteRefusal, same, three_pairs};
+use exh_frames::FileStore;
 use std::io::ErrorKind;
 
 // What the writer answers where it has no room.
@@ -20,22 +20,21 @@ pub(crate) fn run(run: &mut Run) -> Result<(), Difference> {
     let file = three_pairs(run.alloc)?;
     let mut writer = writer_for(run.alloc, &file)?;
     let mut reader = reader_of(&file, BLOCK_LEN);
-    match open(run.alloc, &PlainMaker, &mut reader) {
-        Ok(opened) => {
-            write_all(run, opened, &file, &mut writer);
+    match open(run.alloc, &mut reader) {
+        Ok(mut opened) => {
+            write_all(run, &mut opened, &file, &mut writer);
             Ok(())
         }
         Err(fault) => Err(not_opened(fault)),
     }
 }
 
-fn write_all(run: &mut Run, opened: Opened<PlainPages>, file: &[u8], writer: &mut FakeWriter) {
-    let mut opened = write_pieces(run, opened, file, writer);
+fn write_all(run: &mut Run, opened: &mut Opened<FileStore>, file: &[u8], writer: &mut FakeWriter) {
+    write_pieces(run, opened, file, writer);
     let stride = file.len() / (run.rounds.max(1) as usize);
     for room in 0..file.len() {
         if is_tried(room, stride.max(1)) {
-            let (is_right, back) = write_up_to(opened, file, writer, room);
-            opened = back;
+            let is_right = write_up_to(opened, file, writer, room);
             run.tally
                 .step(same(is_right != run.lie.is_due(), Part::Step));
         }
@@ -52,41 +51,36 @@ fn is_tried(room: usize, stride: usize) -> bool
 // All goes out, however few bytes a write takes.
 fn write_pieces(
     run: &mut Run,
-    opened: Opened<PlainPages>,
+    opened: &mut Opened<FileStore>,
     file: &[u8],
     writer: &mut FakeWriter,
-) -> Opened<PlainPages> {
-    let mut opened = opened;
+) {
     writer.room = None;
     for most in PIECES {
         writer.most = most;
-        let (saved, back) = write_to(opened, writer);
-        opened = back;
+        let saved = write_to(opened, writer);
         let is_written = saved.is_ok() && writer.taken.as_slice() == file;
         run.tally.step(same(is_written, Part::Step));
     }
-    opened
 }
 
 // Whether a writer with this room gets so much, and the fault is its own, however it refuses.
 fn write_up_to(
-    opened: Opened<PlainPages>,
+    opened: &mut Opened<FileStore>,
     file: &[u8],
     writer: &mut FakeWriter,
     room: usize,
-) -> (bool, Opened<PlainPages>) {
-    let mut opened = opened;
+) -> bool {
     let mut is_right = true;
     for refusal in REFUSALS {
         writer.room = Some(room);
         writer.refusal = refusal;
-        let (saved, back) = write_to(opened, writer);
-        opened = back;
+        let saved = write_to(opened, writer);
         is_right &= is_refused(saved)
             && writer.taken.len() == room
             && file.starts_with(writer.taken.as_slice());
     }
-    (is_right, opened)
+    is_right
 }
 
 fn is_refused(saved: Result<(), SaveFault>) -> bool {

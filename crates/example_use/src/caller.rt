@@ -3,15 +3,15 @@
 use anyhow::bail;
 use exh_calls::{Call, Reply};
 use exh_copy::{CopyReader, Start};
+use exh_frames::FileStore;
 use exh_keyer::AnyKeyer;
 use exh_live_file::{Identity, LiveFile, Seat};
 use exh_page::{Key, Value};
-use exh_stores::PlainPages;
 use exh_walk::OpenGate;
 use std::sync::Wait;
 
 /// The wards of a page file, each behind its lock.
-pub type File<F> = LiveFile<PlainPages, AnyKeyer, F>;
+pub type File<F> = LiveFile<FileStore, AnyKeyer, F>;
 
 /// A key and its value, as text.
 pub type Pair = (&'static str, &'static str);

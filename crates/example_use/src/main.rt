@@ -12,8 +12,8 @@ mod service;
 use crate::service::{NAMES, serve};
 use anyhow::Context;
 use exh_file::{Opened, open};
+use exh_frames::FileStore;
 use exh_path::{Seen, SystemDisk, save_at};
-use exh_stores::{PlainMaker, PlainPages};
 use exh_stream::{Console, Meter, Unit, Work};
 use std::fs::File;
 use std::str;
@@ -33,12 +33,12 @@ fn main(rt: HostRuntime) -> anyhow::Result<()> {
 }
 
 // The wards of the page file of a path, and what the file is.
-fn open_at(rt: &HostRuntime, path: &str) -> anyhow::Result<(Opened<PlainPages>, Seen)>
+fn open_at(rt: &HostRuntime, path: &str) -> anyhow::Result<(Opened<FileStore>, Seen)>
     ensures { IfOk result (λ opened. AreUnasked opened.0) }
 {
     let mut file = File::open(rt, path)?;
     let seen = SystemDisk::new(rt).seen(path, &file)?;
-    let opened = open(rt.alloc(), &PlainMaker, &mut file)?;
+    let opened = open(rt.alloc(), &mut file)?;
     Ok((opened, seen))
 }
 
@@ -47,7 +47,7 @@ fn save(
     rt: &HostRuntime,
     path: &str,
     seen: &Seen,
-    opened: Opened<PlainPages>,
+    opened: Opened<FileStore>,
 ) -> anyhow::Result<()> {
     let work = Work {
         unit: Unit::BlocksWritten,

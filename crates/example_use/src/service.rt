@@ -10,6 +10,7 @@ use anyhow::{Context, bail};
 use exh_calls::settle;
 use exh_copy::{CopyReader, CopyWriter, NewCopyFault, Start, new_copy};
 use exh_file::Opened;
+use exh_frames::FileStore;
 use exh_join::Join;
 use exh_keyer::AnyKeyer;
 use exh_live_file::{
@@ -17,7 +18,6 @@ use exh_live_file::{
 };
 use exh_page::{Key, Value};
 use exh_settings::FileSettings;
-use exh_stores::PlainPages;
 use exh_table::Table;
 use exh_ward::Ward;
 use std::alloc::{AllocError, Global};
@@ -43,7 +43,7 @@ pub const NAMES: [&str; 9] = [
 /// What a service leaves: the wards, the values of those keys, and how many answers were settled.
 #[derive(Drop)]
 pub struct Served {
-    pub opened: Opened<PlainPages>,
+    pub opened: Opened<FileStore>,
     pub values: Vec<Value>,
     pub answers: u128,
 }
@@ -64,7 +64,7 @@ type Thread<F, S> = JoinHandle<(Caller<F, S>, anyhow::Result<()>)>;
 pub fn serve<R: Threads + Wait + Sync>(
     rt: &R,
     alloc: Global,
-    opened: Opened<PlainPages>,
+    opened: Opened<FileStore>,
 ) -> anyhow::Result<Served>
     requires { AreUnasked opened }
 {
@@ -75,7 +75,7 @@ pub fn serve<R: Threads + Wait + Sync>(
 }
 
 // What the wards tell of their splits and merges so far: what a copy of the directory begins with.
-fn told_table(alloc: Global, wards: &[Ward<PlainPages, AnyKeyer>]) -> Result<Table, AllocError> {
+fn told_table(alloc: Global, wards: &[Ward<FileStore, AnyKeyer>]) -> Result<Table, AllocError> {
     let mut table = Table::new(alloc);
     for ward in wards {
         table.join_in(ward.table())?;
@@ -87,7 +87,7 @@ fn told_table(alloc: Global, wards: &[Ward<PlainPages, AnyKeyer>]) -> Result<Tab
 fn serve_as<R: Threads + Wait + Sync, F: Identity + Send + Sync, S: Start + Send + Sync>(
     rt: &R,
     alloc: Global,
-    opened: Opened<PlainPages>,
+    opened: Opened<FileStore>,
     table: &Table,
     answers: Blank,
     entries: Blank,
@@ -113,7 +113,7 @@ fn serve_as<R: Threads + Wait + Sync, F: Identity + Send + Sync, S: Start + Send
 // What a closed file leaves, where its callers' diaries and its wards' journals say the same.
 fn settle_all(
     settings: FileSettings<AnyKeyer>,
-    closed: Closed<PlainPages, AnyKeyer>,
+    closed: Closed<FileStore, AnyKeyer>,
     values: Vec<Value>,
 ) -> anyhow::Result<Served>
     requires { settings.ward_bits ≤ WARD_BITS_LIMIT }

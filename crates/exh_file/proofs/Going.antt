@@ -7,10 +7,12 @@ use Rattle.exh_prefix.specs.Version.{Version}
 use Rattle.exh_keyer.specs.declared.any_keyer.AnyKeyer.{AnyKeyer}
 use Rattle.exh_page.specs.declared.page.Page.{Page}
 use Rattle.exh_format.specs.declared.file_entry.FileEntry.{FileEntry}
-use Rattle.exh_format.specs.declared.file_writer.FileWriter.{FileWriter}
 use Rattle.exh_format.specs.PageFile.{page_block, pages_of}
-use Rattle.exh_format.specs.Writing.{TakesBlocks, TakesBlocksBeginning, TakesEntries, TakesEntriesBeginning}
-use Rattle.exh_format.specs.WritingLemmas.{TakesBlocks-then, TakesBlocksBeginning-then, TakesBlocksBeginning-of_more, TakesEntries-then, TakesEntriesBeginning-then, TakesEntriesBeginning-of_more}
+use Rattle.exh_stream.specs.Output.{Takes, TakesBeginning}
+use Rattle.exh_stream.specs.OutputLemmas.{Takes-then, TakesBeginning-of_more, TakesBeginning-then}
+use Rattle.exh_stream.specs.declared.output.Output.{Output}
+use Rattle.exh_format.specs.Writing.{OnItsWay, TakesEntries, TakesEntriesBeginning}
+use Rattle.exh_format.specs.WritingLemmas.{TakesEntries-then, TakesEntriesBeginning-then, TakesEntriesBeginning-of_more}
 use Rattle.exh_ward.specs.WardState.{WardState}
 use Rattle.exh_file.specs.Saved.{entries_of_all, entries_of, pages_of_all}
 use Rattle.exh_file.proofs.Lists.{next_is, whole_is}
@@ -18,19 +20,19 @@ use Rattle.exh_file.proofs.Lists.{next_is, whole_is}
 -- ---- blocks
 
 module _ {W : Type 0} {contents : W → Option (List ℕ)} {A : Type 0} (F : List A → List ℕ) (joins : (front back : List A) → F (front ++ back) ≡ F front ++ F back) (xs : List A) (at : ℕ) (x : A) (is : slice_get xs at ≡ Some x) (y : List ℕ) (one : F (x ∷ []) ≡ y) where
-  pub blocks_next : {old mid new : FileWriter W} → TakesBlocks contents old mid (F (take at xs)) → TakesBlocks contents mid new y → TakesBlocks contents old new (F (take (at + 1) xs))
-  blocks_next {old} {mid} {new} front here = subst (TakesBlocks contents old new) (sym (next_is F joins xs at x is y one)) (TakesBlocks-then front here)
+  pub blocks_next : {old mid new : Output W} → Takes contents old mid (F (take at xs)) → Takes contents mid new y → Takes contents old new (F (take (at + 1) xs))
+  blocks_next {old} {mid} {new} front here = subst (Takes contents old new) (sym (next_is F joins xs at x is y one)) (Takes-then front here)
 
-  pub blocks_cut : {old mid new : FileWriter W} → TakesBlocks contents old mid (F (take at xs)) → TakesBlocksBeginning contents mid new y → TakesBlocksBeginning contents old new (F xs)
-  blocks_cut {old} {mid} {new} front here = subst (TakesBlocksBeginning contents old new) (whole_is F joins xs at x is y one) (TakesBlocksBeginning-of_more (F (drop (at + 1) xs)) (TakesBlocksBeginning-then front here))
+  pub blocks_cut : {old mid new : Output W} → Takes contents old mid (F (take at xs)) → TakesBeginning contents mid new y → TakesBeginning contents old new (F xs)
+  blocks_cut {old} {mid} {new} front here = subst (TakesBeginning contents old new) (whole_is F joins xs at x is y one) (TakesBeginning-of_more (F (drop (at + 1) xs)) (TakesBeginning-then front here))
 
 -- ---- entries
 
 module _ {W : Type 0} {contents : W → Option (List ℕ)} {version : Version} {A : Type 0} (F : List A → List FileEntry) (joins : (front back : List A) → F (front ++ back) ≡ F front ++ F back) (xs : List A) (at : ℕ) (x : A) (is : slice_get xs at ≡ Some x) (y : List FileEntry) (one : F (x ∷ []) ≡ y) where
-  pub entries_next : {old mid new : FileWriter W} → TakesEntries contents version old mid (F (take at xs)) → TakesEntries contents version mid new y → TakesEntries contents version old new (F (take (at + 1) xs))
+  pub entries_next : {old mid new : OnItsWay W} → TakesEntries contents version old mid (F (take at xs)) → TakesEntries contents version mid new y → TakesEntries contents version old new (F (take (at + 1) xs))
   entries_next {old} {mid} {new} front here = subst (TakesEntries contents version old new) (sym (next_is F joins xs at x is y one)) (TakesEntries-then front here)
 
-  pub entries_cut : {old mid new : FileWriter W} → TakesEntries contents version old mid (F (take at xs)) → TakesEntriesBeginning contents version mid new y → TakesEntriesBeginning contents version old new (F xs)
+  pub entries_cut : {old mid new : OnItsWay W} → TakesEntries contents version old mid (F (take at xs)) → TakesEntriesBeginning contents version mid new y → TakesEntriesBeginning contents version old new (F xs)
   entries_cut {old} {mid} {new} front here = subst (TakesEntriesBeginning contents version old new) (whole_is F joins xs at x is y one) (TakesEntriesBeginning-of_more (F (drop (at + 1) xs)) (TakesEntriesBeginning-then front here))
 
 -- ---- pages and entries of some wards and then of others

@@ -1,3 +1,13 @@
+-- the definitions of page files, of which the clauses here speak
+pub use Rattle.exh_format.specs.FileParts
+pub use Rattle.exh_format.specs.FileTests
+pub use Rattle.exh_format.specs.FileVersion
+pub use Rattle.exh_format.specs.LegalFile
+pub use Rattle.exh_format.specs.LegalFileFault
+pub use Rattle.exh_format.specs.PageFile
+pub use Rattle.exh_format.specs.ReadFileFault
+pub use Rattle.exh_format.specs.Reading
+pub use Rattle.exh_format.specs.Writing
 pub mod OpenFault
 pub mod Opened
 pub mod Opening

@@ -1,22 +1,26 @@
 //! Page files opened as wards, and wards written as one page file; one call over the wards of a file.
 #![tactic(auto)]
 
+pub use exh_format::{
+    FileEntry, FileFault, FileParts, Header, LegalFile, LegalFileFault, ReadFileFault, read_file,
+    read_legal_file,
+};
 pub use file_change::change_file;
 pub use open_fault::OpenFault;
 pub use opened::Opened;
-pub use opened_writing::write_opened;
-pub use opening::open;
+pub use opening::open_over;
+pub use page_file::{open, write_file};
 pub use reply::{is_done, reply_line};
 pub use save_fault::SaveFault;
-pub use saving::write_file;
+pub use saving::write_wards;
 pub use ward_change::{CHANGER, change_ward};
 
 mod file_change;
 mod header;
 mod open_fault;
 mod opened;
-mod opened_writing;
 mod opening;
+mod page_file;
 mod reply;
 mod save_fault;
 mod saving;

@@ -10,8 +10,8 @@ use std::marker::Model;
 /// The wards of a page file: one for each number, in order, each of the file's settings.
 #[derive(Drop)]
 pub struct Opened<P: Pages + Drop> {
-    settings: FileSettings<AnyKeyer>,
-    wards: Vec<Ward<P, AnyKeyer>>,
+    pub(crate) settings: FileSettings<AnyKeyer>,
+    pub(crate) wards: Vec<Ward<P, AnyKeyer>>,
 }
 
 impl<P: Pages + Drop> Model for Opened<P> {

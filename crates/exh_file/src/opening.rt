@@ -32,7 +32,7 @@ use std::mem;
 ///
 /// `File`: no legal page file was read; the first fault is told. `Page`: a ward's store couldn't reach
 /// a page.
-pub fn open<R: Read, P: Pages + Drop, M: StoreMaker<P, AnyKeyer>>(
+pub fn open_over<R: Read, P: Pages + Drop, M: StoreMaker<P, AnyKeyer>>(
     alloc: Global,
     maker: &M,
     reader: &mut R,

@@ -1,16 +1,16 @@
-ghost use Rattle.std.specs.Prelude.{◌≡◌, ◌≢◌, ◌<◌, ◌≤◌, length, map, IfErr, OnOk, OnErr, IsErr, IsErrOf, IsTrue};
+ghost use Rattle.std.specs.Prelude.{◌≡◌, ◌≢◌, ◌<◌, ◌≤◌, [], length, map, IfErr, OnOk, OnErr, IsErr, IsErrOf, IsTrue};
 ghost use Rattle.std.specs.List.{AllByRecursion, flat_map};
 ghost use Rattle.std.specs.FinMap.{entries};
 ghost use Rattle.std.specs.Io.KnownBytes.{Appends};
 ghost use Rattle.exh_prefix.specs.Layout.{written_version};
 ghost use Rattle.exh_page.specs.declared.page.TheConstants.{CAP_LIMIT};
-ghost use Rattle.exh_stream.specs.Output.{AppendsBeginning};
+ghost use Rattle.exh_stream.specs.Output.{AppendsBeginning, SameWriter, Takes, TakesBeginning, held, pending, writer_failed};
 ghost use Rattle.exh_codec.specs.PageImage.{IsInRange};
 ghost use Rattle.exh_format.specs.FileVersion.{written_format};
 ghost use Rattle.exh_format.specs.HeaderImage.{IsHeader};
 ghost use Rattle.exh_format.specs.TableImage.{IsFileEntry};
 ghost use Rattle.exh_format.specs.PageFile.{file_bytes, page_block, pages_of};
-ghost use Rattle.exh_format.specs.Writing.{IsBare, SameTarget, TakesBlocks, TakesBlocksBeginning, TakesEntries, TakesEntriesBeginning, file_failed, written};
+ghost use Rattle.exh_format.specs.Writing.{TakesEntries, TakesEntriesBeginning, on_its_way};
 ghost use Rattle.exh_stores.specs.PageStore.{IfPage};
 ghost use Rattle.exh_format.specs.declared.header.TheConstants.{COUNTS_LEN};
 ghost use Rattle.exh_ward.specs.WardState.{IsUnchanged};
@@ -22,7 +22,7 @@ ghost use Rattle.exh_file.specs.Saved.{AreInOrder, AreShort, AreUnchanged, HasCa
 use crate::SaveFault;
 use crate::header::header_of;
 use exh_codec::BLOCK_LEN;
-use exh_format::{FileEntry, FileWriter, Header, images_are_blocks, one_file, same_blocks};
+use exh_format::{FileEntry, Header, TableWriter, images_are_blocks, one_file, same_blocks};
 use exh_keyer::AnyKeyer;
 use exh_legal::{
     fitting_tables_begin_wards, legal_files_pass, legal_tables_have_room, pages_are_few,
@@ -30,12 +30,12 @@ use exh_legal::{
 use exh_prefix::PageNo;
 use exh_settings::FileSettings;
 use exh_stores::Pages;
-use exh_stream::WriteFault;
+use exh_stream::{Output, WriteFault};
 use exh_table::Table;
 use exh_ward::Ward;
 use std::io::Write;
 
-/// Appends the page file of these wards to the writer of a file of which nothing is on its way, in the
+/// Appends the page file of these wards to the writer of an output that holds nothing back, in the
 /// version that is written: one ward for each number, in order, of these settings. What was written whole is a legal
 /// page file, and opening it gives wards of the same pages and tables; wards that were opened from a
 /// file, with no change since, are written as its very bytes, if it was of the version that is written, and
@@ -44,19 +44,19 @@ use std::io::Write;
 ///
 /// `Write`: the writer failed or took no bytes. `Page`: a page is out of reach. `Memory`: a growth was
 /// refused. Then a beginning of the file went out. The wards are as before.
-pub fn write_file<P: Pages + Drop, W: Write>(
+pub fn write_wards<P: Pages + Drop, W: Write>(
     settings: FileSettings<AnyKeyer>,
     wards: &mut [Ward<P, AnyKeyer>],
-    file: &mut FileWriter<'_, W>,
+    output: &mut Output<'_, W>,
 ) -> Result<(), SaveFault>
     requires wards { AreWardsOf (in_file settings wards.old) }
-    requires bare { IsBare file.old }
-    ensures same_target { SameTarget file.old file.new }
-    ensures ok { OnOk result (Appends (written W.contents file.old) (written W.contents file.new) (file_bytes written_format (written_file (in_file settings wards.old)))) }
+    requires bare { pending output.old ≡ [] }
+    ensures same_writer { SameWriter output.old output.new }
+    ensures ok { OnOk result (Appends (held W.contents output.old) (held W.contents output.new) (file_bytes written_format (written_file (in_file settings wards.old)))) }
     ensures opens { OnOk result (IsKept (in_file settings wards.old) (file_bytes written_format (written_file (in_file settings wards.old)))) }
     ensures again { IsWrittenAgain (in_file settings wards.old) }
-    ensures err { OnErr result (AppendsBeginning (written W.contents file.old) (written W.contents file.new) (file_bytes written_format (written_file (in_file settings wards.old)))) }
-    ensures failed { IsErrOf result SaveFault.Write → IsTrue (file_failed file.new) }
+    ensures err { OnErr result (AppendsBeginning (held W.contents output.old) (held W.contents output.new) (file_bytes written_format (written_file (in_file settings wards.old)))) }
+    ensures failed { IsErrOf result SaveFault.Write → IsTrue (writer_failed output.new) }
     ensures wards { AreUnchanged wards.old wards.new }
     ensures failures { CountsSaveFailures result (failures_in wards.old) (failures_in wards.new) }
 {
@@ -68,98 +68,99 @@ pub fn write_file<P: Pages + Drop, W: Write>(
     pages_are_few();
     same_blocks();
     let header = header_of(settings, wards);
-    write_parts(file, &header, wards)
+    write_parts(output, &header, wards)
 }
 
 // Writes the file of this header and these wards.
 fn write_parts<P: Pages + Drop, W: Write>(
-    file: &mut FileWriter<'_, W>,
+    output: &mut Output<'_, W>,
     header: &Header,
     wards: &mut [Ward<P, AnyKeyer>],
 ) -> Result<(), SaveFault>
-    requires bare { IsBare file.old }
+    requires bare { pending output.old ≡ [] }
     requires header { IsHeader written_format header.now }
     requires caps { HasCaps wards.old }
     requires numbers { AreInOrder wards.old }
     requires few { length wards.old ≤ COUNTS_LEN }
     requires short { AreShort (entries_of_all wards.old) }
-    ensures same_target { SameTarget file.old file.new }
-    ensures ok { OnOk result (Appends (written W.contents file.old) (written W.contents file.new) (file_bytes written_format (file_with header.now wards.old))) }
+    ensures same_writer { SameWriter output.old output.new }
+    ensures ok { OnOk result (Appends (held W.contents output.old) (held W.contents output.new) (file_bytes written_format (file_with header.now wards.old))) }
     ensures pages { OnOk result (AllByRecursion (IsInRange written_version) (pages_of (pages_of_all wards.old))) }
     ensures entries { OnOk result (AllByRecursion (IsFileEntry written_version) (entries_of_all wards.old)) }
-    ensures err { OnErr result (AppendsBeginning (written W.contents file.old) (written W.contents file.new) (file_bytes written_format (file_with header.now wards.old))) }
-    ensures failed { IsErrOf result SaveFault.Write → IsTrue (file_failed file.new) }
+    ensures err { OnErr result (AppendsBeginning (held W.contents output.old) (held W.contents output.new) (file_bytes written_format (file_with header.now wards.old))) }
+    ensures failed { IsErrOf result SaveFault.Write → IsTrue (writer_failed output.new) }
     ensures wards { AreUnchanged wards.old wards.new }
     ensures failures { CountsSaveFailures result (failures_in wards.old) (failures_in wards.new) }
 {
-    file.write_header(header)?;
-    write_pages(file, wards)?;
-    write_table(file, wards)?;
-    Ok(file.finish()?)
+    output.push(&header.to_block())?;
+    write_pages(output, wards)?;
+    let mut waiting = TableWriter::new();
+    write_table(output, &mut waiting, wards)?;
+    Ok(waiting.finish(output)?)
 }
 
 // Writes the pages of all wards.
 fn write_pages<P: Pages + Drop, W: Write>(
-    file: &mut FileWriter<'_, W>,
+    output: &mut Output<'_, W>,
     wards: &mut [Ward<P, AnyKeyer>],
 ) -> Result<(), SaveFault>
     requires { HasCaps wards.old }
-    ensures same_target { SameTarget file.old file.new }
-    ensures ok { OnOk result (TakesBlocks W.contents file.old file.new (flat_map page_block (pages_of (pages_of_all wards.old)))) }
+    ensures same_writer { SameWriter output.old output.new }
+    ensures ok { OnOk result (Takes W.contents output.old output.new (flat_map page_block (pages_of (pages_of_all wards.old)))) }
     ensures pages { OnOk result (AllByRecursion (IsInRange written_version) (pages_of (pages_of_all wards.old))) }
-    ensures err { OnErr result (TakesBlocksBeginning W.contents file.old file.new (flat_map page_block (pages_of (pages_of_all wards.old)))) }
-    ensures failed { IsErrOf result SaveFault.Write → IsTrue (file_failed file.new) }
+    ensures err { OnErr result (TakesBeginning W.contents output.old output.new (flat_map page_block (pages_of (pages_of_all wards.old)))) }
+    ensures failed { IsErrOf result SaveFault.Write → IsTrue (writer_failed output.new) }
     ensures same { OnOk result (wards.new ≡ wards.old) }
     ensures wards { AreUnchanged wards.old wards.new }
     ensures failures { CountsSaveFailures result (failures_in wards.old) (failures_in wards.new) }
 {
     for number in 0..wards.len() {
-        write_ward(file, &mut wards[number])?;
+        write_ward(output, &mut wards[number])?;
     }
     Ok(())
 }
 
 // Writes the pages of one ward, in the order of their numbers.
 fn write_ward<P: Pages + Drop, W: Write>(
-    file: &mut FileWriter<'_, W>,
+    output: &mut Output<'_, W>,
     ward: &mut Ward<P, AnyKeyer>,
 ) -> Result<(), SaveFault>
     requires { ward.old.cap ≤ CAP_LIMIT }
-    ensures same_target { SameTarget file.old file.new }
-    ensures ok { OnOk result (TakesBlocks W.contents file.old file.new (flat_map page_block ward.old.pages)) }
+    ensures same_writer { SameWriter output.old output.new }
+    ensures ok { OnOk result (Takes W.contents output.old output.new (flat_map page_block ward.old.pages)) }
     ensures pages { OnOk result (AllByRecursion (IsInRange written_version) ward.old.pages) }
-    ensures err { OnErr result (TakesBlocksBeginning W.contents file.old file.new (flat_map page_block ward.old.pages)) }
-    ensures failed { IsErrOf result SaveFault.Write → IsTrue (file_failed file.new) }
+    ensures err { OnErr result (TakesBeginning W.contents output.old output.new (flat_map page_block ward.old.pages)) }
+    ensures failed { IsErrOf result SaveFault.Write → IsTrue (writer_failed output.new) }
     ensures same { OnOk result (ward.new ≡ ward.old) }
     ensures ward { IsUnchanged ward.old ward.new }
     ensures failures { CountsSaveFailures result ward.old.failures ward.new.failures }
 {
     let mut block = [0; BLOCK_LEN];
     for number in 0..ward.page_count() {
-        write_page(file, ward, number, &mut block)?;
+        write_page(output, ward, number, &mut block)?;
     }
     Ok(())
 }
 
 // Writes the page of a number, by way of a block.
 fn write_page<P: Pages + Drop, W: Write>(
-    file: &mut FileWriter<'_, W>,
+    output: &mut Output<'_, W>,
     ward: &mut Ward<P, AnyKeyer>,
     number: PageNo,
     block: &mut [u8; BLOCK_LEN],
 ) -> Result<(), SaveFault>
     requires there { number < length ward.old.pages }
     requires cap { ward.old.cap ≤ CAP_LIMIT }
-    ensures same_target { SameTarget file.old file.new }
-    ensures ok { OnOk result (IfPage ward.old.pages number (λ page. TakesBlocks W.contents file.old file.new (page_block page) × IsInRange written_version page)) }
-    ensures err { OnErr result (IfPage ward.old.pages number (λ page. TakesBlocksBeginning W.contents file.old file.new (page_block page))) }
-    ensures failed { IsErrOf result SaveFault.Write → IsTrue (file_failed file.new) }
+    ensures same_writer { SameWriter output.old output.new }
+    ensures ok { OnOk result (IfPage ward.old.pages number (λ page. Takes W.contents output.old output.new (page_block page) × IsInRange written_version page)) }
+    ensures err { OnErr result (IfPage ward.old.pages number (λ page. TakesBeginning W.contents output.old output.new (page_block page))) }
+    ensures failed { IsErrOf result SaveFault.Write → IsTrue (writer_failed output.new) }
     ensures same { OnOk result (ward.new ≡ ward.old) }
     ensures ward { IsUnchanged ward.old ward.new }
     ensures failures { CountsSaveFailures result ward.old.failures ward.new.failures }
 {
     read_block(ward, number, block)?;
-    Ok(file.write_block(block)?)
+    Ok(output.push(block)?)
 }
 
 // The block of the page of a number.
@@ -184,43 +185,46 @@ fn read_block<P: Pages + Drop>(
 
 // Writes the entries of all wards.
 fn write_table<P: Pages + Drop, W: Write>(
-    file: &mut FileWriter<'_, W>,
+    output: &mut Output<'_, W>,
+    waiting: &mut TableWriter,
     wards: &[Ward<P, AnyKeyer>],
 ) -> Result<(), WriteFault>
     requires numbers { AreInOrder wards.now }
     requires few { length wards.now ≤ COUNTS_LEN }
     requires short { AreShort (entries_of_all wards.now) }
-    ensures same_target { SameTarget file.old file.new }
-    ensures ok { OnOk result (TakesEntries W.contents written_version file.old file.new (entries_of_all wards.now)) }
+    ensures same_writer { SameWriter output.old output.new }
+    ensures ok { OnOk result (TakesEntries W.contents written_version (on_its_way output.old waiting.old) (on_its_way output.new waiting.new) (entries_of_all wards.now)) }
     ensures entries { OnOk result (AllByRecursion (IsFileEntry written_version) (entries_of_all wards.now)) }
-    ensures err { OnErr result (TakesEntriesBeginning W.contents written_version file.old file.new (entries_of_all wards.now)) }
-    ensures failed { IsErr result → IsTrue (file_failed file.new) }
+    ensures err { OnErr result (TakesEntriesBeginning W.contents written_version (on_its_way output.old waiting.old) (on_its_way output.new waiting.new) (entries_of_all wards.now)) }
+    ensures failed { IsErr result → IsTrue (writer_failed output.new) }
 {
     for number in 0..wards.len() {
-        write_entries(file, number as u8, wards[number].table())?;
+        write_entries(output, waiting, number as u8, wards[number].table())?;
     }
     Ok(())
 }
 
 // Writes the entries of one ward's table.
 fn write_entries<W: Write>(
-    file: &mut FileWriter<'_, W>,
+    output: &mut Output<'_, W>,
+    waiting: &mut TableWriter,
     ward: u8,
     table: &Table,
 ) -> Result<(), WriteFault>
     requires short { AreShort (map (file_entry ward) (entries table.now)) }
-    ensures same_target { SameTarget file.old file.new }
-    ensures ok { OnOk result (TakesEntries W.contents written_version file.old file.new (map (file_entry ward) (entries table.now))) }
+    ensures same_writer { SameWriter output.old output.new }
+    ensures ok { OnOk result (TakesEntries W.contents written_version (on_its_way output.old waiting.old) (on_its_way output.new waiting.new) (map (file_entry ward) (entries table.now))) }
     ensures entries { OnOk result (AllByRecursion (IsFileEntry written_version) (map (file_entry ward) (entries table.now))) }
-    ensures err { OnErr result (TakesEntriesBeginning W.contents written_version file.old file.new (map (file_entry ward) (entries table.now))) }
-    ensures failed { IsErr result → IsTrue (file_failed file.new) }
+    ensures err { OnErr result (TakesEntriesBeginning W.contents written_version (on_its_way output.old waiting.old) (on_its_way output.new waiting.new) (map (file_entry ward) (entries table.now))) }
+    ensures failed { IsErr result → IsTrue (writer_failed output.new) }
 {
     for (prefix, entry) in table.entries() {
-        file.write_entry(&FileEntry {
+        let item = FileEntry {
             ward,
             prefix: *prefix,
             entry: *entry,
-        })?;
+        };
+        waiting.write_entry(output, &item)?;
     }
     Ok(())
 }

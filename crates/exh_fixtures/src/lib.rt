@@ -22,6 +22,7 @@ pub use same_pages::are_same;
 pub use screen::Screen;
 pub use status::Status;
 pub use tally::Tally;
+pub use three_pairs::three_pairs;
 pub use ward_calls::{hop, hop_of, merge_page, page, refused, split_page};
 
 mod again;
@@ -44,4 +45,5 @@ mod same_pages;
 mod screen;
 mod status;
 mod tally;
+mod three_pairs;
 mod ward_calls;

@@ -7,7 +7,8 @@ use Rattle.std.specs.List.{flat_map}
 use Rattle.std.specs.Io.KnownBytes.{Appends}
 use Rattle.std.proofs.KnownBytes.{Appends-trans}
 use Rattle.exh_prefix.specs.Version.{Fits, Version}
-use Rattle.exh_stream.specs.Output.{AppendsAllBut, AppendsBeginning, Takes, TakesBeginning, pending}
+use Rattle.exh_stream.specs.Output.{AppendsAllBut, AppendsBeginning, Takes, TakesBeginning, held, pending}
+use Rattle.exh_stream.specs.declared.output.Output.{Output}
 use Rattle.exh_stream.specs.OutputLemmas.{AppendsAllBut-more, AppendsBeginning-after, AppendsBeginning-from, Takes-none, Takes-then, TakesBeginning-of_more, TakesBeginning-then}
 use Rattle.exh_notice.specs.ImageLemmas.{length-entry_image}
 use Rattle.exh_codec.specs.Block.{sealed}
@@ -15,30 +16,8 @@ use Rattle.exh_codec.specs.PageImage.{padded}
 use Rattle.exh_format.specs.declared.file_entry.FileEntry.{FileEntry}
 use Rattle.exh_format.specs.FileVersion.{FileVersion}
 use Rattle.exh_format.specs.TableImage.{image_of}
-use Rattle.exh_format.specs.declared.file_writer.FileWriter.{FileWriter}
 use Rattle.exh_format.specs.PageFile.{PageFile, file_bytes, header_block, page_block, pages_of, table_block, table_blocks, table_bytes}
-use Rattle.exh_format.specs.Writing.{IsBare, TakesBlocks, TakesBlocksBeginning, TakesEntries, TakesEntriesBeginning, full_blocks, last_block, unsent, waiting_images, written}
-
--- ---- blocks, one after the other
-
-module _ {W : Type 0} {contents : W → Option (List ℕ)} where
-  pub TakesBlocks-none : (file : FileWriter W) → TakesBlocks contents file file []
-  TakesBlocks-none file = record { passed = Takes-none contents file.output; waits = refl }
-
-  -- taking some blocks and then others takes both
-  pub TakesBlocks-then : {old mid new : FileWriter W} {a b : List ℕ} → TakesBlocks contents old mid a → TakesBlocks contents mid new b → TakesBlocks contents old new (a ++ b)
-  TakesBlocks-then first second = record { passed = Takes-then first.passed second.passed; waits = second.waits ∙ first.waits }
-
-  pub TakesBlocksBeginning-then : {old mid new : FileWriter W} {a b : List ℕ} → TakesBlocks contents old mid a → TakesBlocksBeginning contents mid new b → TakesBlocksBeginning contents old new (a ++ b)
-  TakesBlocksBeginning-then first second = record { passed = TakesBeginning-then first.passed second.passed }
-
-  -- all of some blocks is a beginning of them
-  pub TakesBlocksBeginning-from : {old new : FileWriter W} {a : List ℕ} → TakesBlocks contents old new a → TakesBlocksBeginning contents old new a
-  TakesBlocksBeginning-from all = record { passed = record { passed = AppendsBeginning-from all.passed.passed } }
-
-  -- and one of more blocks
-  pub TakesBlocksBeginning-of_more : {old new : FileWriter W} {a : List ℕ} (b : List ℕ) → TakesBlocksBeginning contents old new a → TakesBlocksBeginning contents old new (a ++ b)
-  TakesBlocksBeginning-of_more b begun = record { passed = TakesBeginning-of_more b begun.passed }
+use Rattle.exh_format.specs.Writing.{OnItsWay, TakesEntries, TakesEntriesBeginning, full_blocks, last_block, unsent}
 
 -- ---- blocks that are full of images
 
@@ -74,53 +53,53 @@ split_then before a b gone waiting more last first second =
     sym (append_assoc before a b) ∙ ap (λ (l : List ℕ). l ++ b) first ∙ append_assoc gone waiting b ∙ ap (λ (l : List ℕ). gone ++ l) second ∙ sym (append_assoc gone more last)
 
 module _ {W : Type 0} {contents : W → Option (List ℕ)} {version : Version} where
-  pub TakesEntries-none : (file : FileWriter W) → TakesEntries contents version file file []
-  TakesEntries-none file = record { blocks = 0; images = []; split = append-nil (waiting_images file); full = refl; passed = Takes-none contents file.output }
+  pub TakesEntries-none : (file : OnItsWay W) → TakesEntries contents version file file []
+  TakesEntries-none file = record { blocks = 0; images = []; split = append-nil file.images; full = refl; passed = Takes-none contents file.output }
 
   -- taking some entries and then others takes both
-  pub TakesEntries-then : {old mid new : FileWriter W} {a b : List FileEntry} → TakesEntries contents version old mid a → TakesEntries contents version mid new b → TakesEntries contents version old new (a ++ b)
+  pub TakesEntries-then : {old mid new : OnItsWay W} {a b : List FileEntry} → TakesEntries contents version old mid a → TakesEntries contents version mid new b → TakesEntries contents version old new (a ++ b)
   TakesEntries-then {old} {mid} {new} {a} {b} first second = record {
     blocks = first.blocks + second.blocks;
     images = first.images ++ second.images;
     split =
-        ap (λ (images : List ℕ). waiting_images old ++ images) (flat_map-append (image_of version) a b)
-        ∙ split_then (waiting_images old) (flat_map (image_of version) a) (flat_map (image_of version) b) first.images (waiting_images mid) second.images (waiting_images new) first.split second.split;
+        ap (λ (images : List ℕ). old.images ++ images) (flat_map-append (image_of version) a b)
+        ∙ split_then old.images (flat_map (image_of version) a) (flat_map (image_of version) b) first.images mid.images second.images new.images first.split second.split;
     full = omega (arith, first.full, second.full, length-append first.images second.images);
     passed = subst (Takes contents old.output new.output) (sym (full_blocks-append first.blocks second.blocks first.images second.images first.full)) (Takes-then first.passed second.passed);
   }
 
-  pub TakesEntriesBeginning-then : {old mid new : FileWriter W} {a b : List FileEntry} → TakesEntries contents version old mid a → TakesEntriesBeginning contents version mid new b → TakesEntriesBeginning contents version old new (a ++ b)
+  pub TakesEntriesBeginning-then : {old mid new : OnItsWay W} {a b : List FileEntry} → TakesEntries contents version old mid a → TakesEntriesBeginning contents version mid new b → TakesEntriesBeginning contents version old new (a ++ b)
   TakesEntriesBeginning-then {old} {mid} {new} {a} {b} first second = record {
     blocks = first.blocks + second.blocks;
     images = first.images ++ second.images;
     rest = second.rest;
     split =
-        ap (λ (images : List ℕ). waiting_images old ++ images) (flat_map-append (image_of version) a b)
-        ∙ split_then (waiting_images old) (flat_map (image_of version) a) (flat_map (image_of version) b) first.images (waiting_images mid) second.images second.rest first.split second.split;
+        ap (λ (images : List ℕ). old.images ++ images) (flat_map-append (image_of version) a b)
+        ∙ split_then old.images (flat_map (image_of version) a) (flat_map (image_of version) b) first.images mid.images second.images second.rest first.split second.split;
     full = omega (arith, first.full, second.full, length-append first.images second.images);
     passed = subst (TakesBeginning contents old.output new.output) (sym (full_blocks-append first.blocks second.blocks first.images second.images first.full)) (TakesBeginning-then first.passed second.passed);
   }
 
   -- all of some entries is a beginning of them
-  pub TakesEntriesBeginning-from : {old new : FileWriter W} {a : List FileEntry} → TakesEntries contents version old new a → TakesEntriesBeginning contents version old new a
+  pub TakesEntriesBeginning-from : {old new : OnItsWay W} {a : List FileEntry} → TakesEntries contents version old new a → TakesEntriesBeginning contents version old new a
   TakesEntriesBeginning-from {old} {new} all = record {
     blocks = all.blocks;
     images = all.images;
-    rest = waiting_images new;
+    rest = new.images;
     split = all.split;
     full = all.full;
     passed = record { passed = AppendsBeginning-from all.passed.passed };
   }
 
   -- and one of more entries
-  pub TakesEntriesBeginning-of_more : {old new : FileWriter W} {a : List FileEntry} (b : List FileEntry) → TakesEntriesBeginning contents version old new a → TakesEntriesBeginning contents version old new (a ++ b)
+  pub TakesEntriesBeginning-of_more : {old new : OnItsWay W} {a : List FileEntry} (b : List FileEntry) → TakesEntriesBeginning contents version old new a → TakesEntriesBeginning contents version old new (a ++ b)
   TakesEntriesBeginning-of_more {old} {new} {a} b begun = record {
     blocks = begun.blocks;
     images = begun.images;
     rest = begun.rest ++ flat_map (image_of version) b;
     split =
-        ap (λ (images : List ℕ). waiting_images old ++ images) (flat_map-append (image_of version) a b)
-        ∙ sym (append_assoc (waiting_images old) (flat_map (image_of version) a) (flat_map (image_of version) b))
+        ap (λ (images : List ℕ). old.images ++ images) (flat_map-append (image_of version) a b)
+        ∙ sym (append_assoc old.images (flat_map (image_of version) a) (flat_map (image_of version) b))
         ∙ ap (λ (l : List ℕ). l ++ flat_map (image_of version) b) begun.split
         ∙ append_assoc begun.images begun.rest (flat_map (image_of version) b);
     full = begun.full;
@@ -193,53 +172,53 @@ blocks_before version file = header_block version file.header ++ flat_map page_b
 abbrev table_of : FileVersion → PageFile → List ℕ
 table_of version file = table_bytes version.images (table_blocks (length file.entries)) file.entries
 
-module _ {W : Type 0} (contents : W → Option (List ℕ)) (version : FileVersion) (fits : Fits 4 version.images) (file : PageFile) (start : FileWriter W) (bare : IsBare start) where
+-- an output before the table, of which no entry waits
+abbrev pub before_table : {W : Type 0} → Output W → OnItsWay W
+before_table output = record { output = output; images = [] }
+
+module _ {W : Type 0} (contents : W → Option (List ℕ)) (version : FileVersion) (fits : Fits 4 version.images) (file : PageFile) (start : Output W) (bare : pending start ≡ []) where
   whole_is : blocks_before version file ++ table_of version file ≡ file_bytes version file
   whole_is = append_assoc (header_block version file.header) (flat_map page_block (pages_of file.wards)) (table_of version file)
 
   -- a beginning of the file, where nothing was on its way before
-  begun_is : (new : FileWriter W) (bytes more : List ℕ) → bytes ++ more ≡ file_bytes version file → TakesBeginning contents start.output new.output bytes → AppendsBeginning (written contents start) (written contents new) (file_bytes version file)
+  begun_is : (new : Output W) (bytes more : List ℕ) → bytes ++ more ≡ file_bytes version file → TakesBeginning contents start new bytes → AppendsBeginning (held contents start) (held contents new) (file_bytes version file)
   begun_is new bytes more is begun =
-      let all : TakesBeginning contents start.output new.output (file_bytes version file) = subst (TakesBeginning contents start.output new.output) is (TakesBeginning-of_more more begun) in
-      subst (λ (waited : List ℕ). AppendsBeginning (written contents start) (written contents new) (waited ++ file_bytes version file)) bare.output all.passed
+      let all : TakesBeginning contents start new (file_bytes version file) = subst (TakesBeginning contents start new) is (TakesBeginning-of_more more begun) in
+      subst (λ (waited : List ℕ). AppendsBeginning (held contents start) (held contents new) (waited ++ file_bytes version file)) bare all.passed
 
   -- the writer failed amid the header or the pages
-  pub cut_in_blocks : (new : FileWriter W) → TakesBlocksBeginning contents start new (blocks_before version file) → AppendsBeginning (written contents start) (written contents new) (file_bytes version file)
-  cut_in_blocks new begun = begun_is new (blocks_before version file) (table_of version file) whole_is begun.passed
+  pub cut_in_blocks : (new : Output W) → TakesBeginning contents start new (blocks_before version file) → AppendsBeginning (held contents start) (held contents new) (file_bytes version file)
+  cut_in_blocks new begun = begun_is new (blocks_before version file) (table_of version file) whole_is begun
 
-  module _ (mid : FileWriter W) (front : TakesBlocks contents start mid (blocks_before version file)) where
-    -- no entry waited before the table
-    none_waits : (images rest : List ℕ) → waiting_images mid ++ flat_map (image_of version.images) file.entries ≡ images ++ rest → flat_map (image_of version.images) file.entries ≡ images ++ rest
-    none_waits images rest split = sym (ap (λ (waiting : List ℕ). waiting ++ flat_map (image_of version.images) file.entries) (front.waits ∙ bare.images)) ∙ split
-
+  module _ (mid : Output W) (front : Takes contents start mid (blocks_before version file)) where
     -- or amid the table
-    pub cut_in_table : (new : FileWriter W) → TakesEntriesBeginning contents version.images mid new file.entries → AppendsBeginning (written contents start) (written contents new) (file_bytes version file)
+    pub cut_in_table : (new : OnItsWay W) → TakesEntriesBeginning contents version.images (before_table mid) new file.entries → AppendsBeginning (held contents start) (held contents new.output) (file_bytes version file)
     cut_in_table new begun =
-        let split = table_split version.images fits begun.blocks begun.images begun.rest file.entries (none_waits begun.images begun.rest begun.split) begun.full in
+        let split = table_split version.images fits begun.blocks begun.images begun.rest file.entries begun.split begun.full in
         let later = table_bytes version.images (table_blocks (length split.later)) split.later in
         let blocks = full_blocks begun.blocks begun.images in
         let is : (blocks_before version file ++ blocks) ++ later ≡ file_bytes version file = append_assoc (blocks_before version file) blocks later ∙ ap (λ (table : List ℕ). blocks_before version file ++ table) (sym split.table) ∙ whole_is in
-        begun_is new (blocks_before version file ++ blocks) later is (TakesBeginning-then front.passed begun.passed)
+        begun_is new.output (blocks_before version file ++ blocks) later is (TakesBeginning-then front begun.passed)
 
-    module _ (last : FileWriter W) (table : TakesEntries contents version.images mid last file.entries) (few : length (waiting_images last) ≤ 4064) where
+    module _ (last : OnItsWay W) (table : TakesEntries contents version.images (before_table mid) last file.entries) (few : length last.images ≤ 4064) where
       -- all but what is on its way in the end
-      nearly : AppendsAllBut (written contents start) (written contents last) (file_bytes version file) (unsent last)
+      nearly : AppendsAllBut (held contents start) (held contents last.output) (file_bytes version file) (unsent last)
       nearly =
           let blocks = full_blocks table.blocks table.images in
-          let end = last_block (waiting_images last) in
+          let end = last_block last.images in
           let is : (blocks_before version file ++ blocks) ++ end ≡ file_bytes version file =
           append_assoc (blocks_before version file) blocks end
-          ∙ ap (λ (table : List ℕ). blocks_before version file ++ table) (sym (table_ends version.images fits table.blocks table.images (waiting_images last) file.entries (none_waits table.images (waiting_images last) table.split) table.full few))
+          ∙ ap (λ (table : List ℕ). blocks_before version file ++ table) (sym (table_ends version.images fits table.blocks table.images last.images file.entries table.split table.full few))
           ∙ whole_is in
-          let taken = (Takes-then front.passed table.passed).passed in
-          let bared : AppendsAllBut (written contents start) (written contents last) (blocks_before version file ++ blocks) (pending last.output) =
-          subst (λ (waited : List ℕ). AppendsAllBut (written contents start) (written contents last) (waited ++ (blocks_before version file ++ blocks)) (pending last.output)) bare.output taken in
-          subst (λ (bytes : List ℕ). AppendsAllBut (written contents start) (written contents last) bytes (unsent last)) is (AppendsAllBut-more end bared)
+          let taken = (Takes-then front table.passed).passed in
+          let bared : AppendsAllBut (held contents start) (held contents last.output) (blocks_before version file ++ blocks) (pending last.output) =
+          subst (λ (waited : List ℕ). AppendsAllBut (held contents start) (held contents last.output) (waited ++ (blocks_before version file ++ blocks)) (pending last.output)) bare taken in
+          subst (λ (bytes : List ℕ). AppendsAllBut (held contents start) (held contents last.output) bytes (unsent last)) is (AppendsAllBut-more end bared)
 
       -- or at the end
-      pub cut_at_end : (new : FileWriter W) → AppendsBeginning (written contents last) (written contents new) (unsent last) → AppendsBeginning (written contents start) (written contents new) (file_bytes version file)
+      pub cut_at_end : (new : Output W) → AppendsBeginning (held contents last.output) (held contents new) (unsent last) → AppendsBeginning (held contents start) (held contents new) (file_bytes version file)
       cut_at_end new gone = AppendsBeginning-after nearly gone
 
       -- or got the file whole
-      pub whole_file : (new : FileWriter W) → Appends (written contents last) (written contents new) (unsent last) → Appends (written contents start) (written contents new) (file_bytes version file)
-      whole_file new gone = subst (Appends (written contents start) (written contents new)) (sym nearly.split) (Appends-trans _ _ _ nearly.front (unsent last) nearly.gone gone)
+      pub whole_file : (new : Output W) → Appends (held contents last.output) (held contents new) (unsent last) → Appends (held contents start) (held contents new) (file_bytes version file)
+      whole_file new gone = subst (Appends (held contents start) (held contents new)) (sym nearly.split) (Appends-trans _ _ _ nearly.front (unsent last) nearly.gone gone)

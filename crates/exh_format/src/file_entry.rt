@@ -30,14 +30,14 @@ impl FileEntry {
             prefix,
             entry,
         } = *self;
-        let _version = change_version_of(entry);
+        let _number = change_number_of(entry);
         let _right = right_of(entry.kind);
         entry.to_image(ward, prefix)
     }
 }
 
-// The version in an entry's image.
-fn change_version_of(entry: Entry) -> u32
+// The number in an entry's image.
+fn change_number_of(entry: Entry) -> u32
     ensures { result ≡ entry.number }
 {
     entry.number

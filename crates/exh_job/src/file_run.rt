@@ -8,7 +8,7 @@ ghost use Rattle.exh_job.specs.PairsAgain.{TellsAgain};
 
 use crate::laws::pairs_load_again;
 use crate::{Status, UNOPENED, print_line, print_out_of_memory};
-use exh_report::{OtherSettings, ReportFault, Verdict, check_text, dump_text, pairs_text};
+use exh_report::{OtherSettings, ReportFault, Verdict, check_onto, dump_onto, pairs_onto};
 use exh_stream::Output;
 use std::alloc::Global;
 use std::io;
@@ -90,8 +90,8 @@ fn tell<R: Read, W: Write>(
     ensures empty { IsFalse (writer_failed output.new) → pending output.new ≡ [] }
 {
     match topic {
-        Topic::Size => check_text(alloc, reader, output),
-        Topic::Content => dump_text(alloc, reader, output),
-        Topic::Pairs(other) => pairs_text(alloc, &other, reader, output),
+        Topic::Size => check_onto(alloc, reader, output),
+        Topic::Content => dump_onto(alloc, reader, output),
+        Topic::Pairs(other) => pairs_onto(alloc, &other, reader, output),
     }
 }

@@ -52,7 +52,7 @@ fn open_bytes<R: Read, W: Write>(
     ensures same_writer { SameWriter output.old output.new }
     ensures opens { OpensOrTells (held W.contents output.old) (held W.contents output.new) (writer_failed output.new) (R.remaining reader.old) result }
 {
-    match open(alloc, &MAKER, reader) {
+    match open(alloc, reader) {
         Ok(opened) => Ok(opened),
         Err(fault) => {
             tell_fault(alloc, fault, output);

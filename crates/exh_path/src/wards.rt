@@ -1,8 +1,7 @@
 ghost use Rattle.exh_file.specs.Saved.{IsLeft};
 
 use exh_disk::{Source, SourceFault};
-use exh_file::{Opened, SaveFault, write_opened};
-use exh_format::FileWriter;
+use exh_file::{Opened, SaveFault, write_file};
 use exh_stores::Pages;
 use exh_stream::{Meter, MeteredWriter, Terminal};
 use std::io::Write;
@@ -18,10 +17,9 @@ impl<P: Pages + Drop, T: Terminal> Source for Wards<'_, P, T> {
     ghost leaves = { λ old new. IsLeft old.opened new.opened };
 
     fn write_to<W: Write>(self, writer: &mut W) -> (Result<(), SourceFault>, Self) {
-        let meter = self.meter;
+        let Wards { mut opened, meter } = self;
         let mut counted = MeteredWriter::new(writer, meter);
-        let (saved, opened) = write_opened(self.opened, &mut FileWriter::new(&mut counted));
-        let written = match saved {
+        let written = match write_file(&mut counted, &mut opened) {
             Ok(()) => Ok(()),
             Err(SaveFault::Write) => Err(SourceFault::Writer),
             Err(SaveFault::Memory) => Err(SourceFault::Memory),

@@ -1,3 +1,5 @@
+-- what an audit answers
+pub use Rattle.exh_calls.specs.History
 pub mod ReportLines
 pub mod Counts
 pub mod Check

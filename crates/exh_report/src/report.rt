@@ -36,7 +36,7 @@ enum Topic {
 ///
 /// `Write`: the writer failed or took no bytes, and got a beginning of the text. `Memory`: a growth was refused, and
 /// the writer got a beginning of its lines, each line whole.
-pub fn check_text<R: Read, W: Write>(
+pub fn check_onto<R: Read, W: Write>(
     alloc: Global,
     reader: &mut R,
     output: &mut Output<'_, W>,
@@ -52,11 +52,11 @@ pub fn check_text<R: Read, W: Write>(
 }
 
 /// Tells what the legal page file has that all bytes are which a reader has left: its settings, the pages of each ward
-/// with their pairs, and its table; or the refusal, as `check_text` does.
+/// with their pairs, and its table; or the refusal, as `check_onto` does.
 ///
 /// `Write`: the writer failed or took no bytes, and got a beginning of the text. `Memory`: a growth was refused, and
 /// the writer got a beginning of its lines, each line whole.
-pub fn dump_text<R: Read, W: Write>(
+pub fn dump_onto<R: Read, W: Write>(
     alloc: Global,
     reader: &mut R,
     output: &mut Output<'_, W>,
@@ -72,12 +72,12 @@ pub fn dump_text<R: Read, W: Write>(
 }
 
 /// Tells the pairs of the legal page file that all bytes are which a reader has left, as the text that a load takes:
-/// its settings, or others in their place, and each record in the order of its pages; or the refusal, as `check_text`
+/// its settings, or others in their place, and each record in the order of its pages; or the refusal, as `check_onto`
 /// does.
 ///
 /// `Write`: the writer failed or took no bytes, and got a beginning of the text. `Memory`: a growth was refused, and
 /// the writer got a beginning of its lines, each line whole.
-pub fn pairs_text<R: Read, W: Write>(
+pub fn pairs_onto<R: Read, W: Write>(
     alloc: Global,
     other: &OtherSettings,
     reader: &mut R,

@@ -2,8 +2,8 @@
 
 use exh_calls::{Base, Call, Journal, PackedPairs, Reply};
 use exh_keyer::PlainKeyer;
-use exh_model::audit;
 use exh_page::{Key, SizeFault, Value};
+use exh_report::audit;
 use std::alloc::Global;
 use std::test::Fail;
 

@@ -9,6 +9,8 @@ mod copies;
 #[cfg(test)]
 mod diaries;
 #[cfg(test)]
+mod file_doors;
+#[cfg(test)]
 mod images;
 #[cfg(test)]
 mod joins;

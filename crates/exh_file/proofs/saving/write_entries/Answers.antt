@@ -7,7 +7,7 @@ use Rattle.exh_notice.specs.declared.entry.Entry.{Entry}
 use Rattle.exh_stream.specs.OutputLemmas.{OnErr-from}
 use Rattle.exh_format.specs.declared.file_entry.FileEntry.{FileEntry}
 use Rattle.exh_format.specs.TableImage.{IsFileEntry}
-use Rattle.exh_format.specs.Writing.{TakesEntries, TakesEntriesBeginning}
+use Rattle.exh_format.specs.Writing.{TakesEntries, TakesEntriesBeginning, on_its_way}
 use Rattle.exh_format.specs.WritingLemmas.{TakesEntries-none, TakesEntries-then, TakesEntriesBeginning-of_more, TakesEntriesBeginning-then}
 use Rattle.exh_file.specs.Saved.{AreShort, file_entry}
 use Rattle.exh_file.proofs.saving.write_entries.Goals as goal
@@ -28,7 +28,7 @@ pub returns-clause-ok : goal.returns-clause-ok
 returns-clause-ok g c =
     let inv = c.loop-prefix.invariant in
     let whole = whole_of c.args.ward (map (file_entry c.args.ward) (entries c.args.table.now)) inv.front c.loop-prefix.prefix-iterator inv.split c.in-None.ensures.steps.0 in
-    subst (TakesEntries g.W.Write.contents written_version c.args.file.now c.loop-prefix.file) whole inv.taken
+    subst (TakesEntries g.W.Write.contents written_version (on_its_way c.args.output.now c.args.waiting.now) (on_its_way c.loop-prefix.output c.loop-prefix.waiting)) whole inv.taken
 
 pub returns-clause-entries : goal.returns-clause-entries
 returns-clause-entries g c =
@@ -42,8 +42,8 @@ loop-prefix-init g c =
     record {
       front = [];
       split = ap (λ (items : List (List Bool × Entry)). map (file_entry c.args.ward) items) (sym given);
-      target = refl;
-      taken = TakesEntries-none c.args.file.now;
+      writer = refl;
+      taken = TakesEntries-none (on_its_way c.args.output.now c.args.waiting.now);
       valid = tt;
       short = subst (λ (items : List (List Bool × Entry)). AreShort (map (file_entry c.args.ward) items)) (sym given) c.requires.short;
     }
@@ -59,7 +59,7 @@ loop-prefix-preserved g c =
     record {
       front = inv.front ++ item ∷ [];
       split = next_of c.args.ward (map (file_entry c.args.ward) (entries c.args.table.now)) inv.front c.loop-prefix.prefix-iterator c.next.new.self told inv.split c.in-Some.ensures.steps;
-      target = c.in_ok-write_entry.ensures.same_target ∙ inv.target;
+      writer = c.in_ok-write_entry.ensures.same_writer ∙ inv.writer;
       taken = TakesEntries-then inv.taken c.in_ok-write_entry.ensures.ok;
       valid = AllByRecursion-append (IsFileEntry written_version) inv.front (item ∷ []) inv.valid (c.in_ok-write_entry.ensures.valid, tt);
       short = (short_next c.args.ward c.loop-prefix.prefix-iterator c.next.new.self told c.in-Some.ensures.steps inv.short).1;
@@ -71,5 +71,5 @@ returns-in_err-write_entry-clause-err g c =
     let told : List Bool × Entry = (c.in-Some.prefix.now, c.in-Some.entry.now) in
     let all = map (file_entry c.args.ward) (entries c.args.table.now) in
     OnErr-from c.from_residual.result
-    (subst (TakesEntriesBeginning g.W.Write.contents written_version c.args.file.now c.write_entry.new.self) (sym (next_of c.args.ward all inv.front c.loop-prefix.prefix-iterator c.next.new.self told inv.split c.in-Some.ensures.steps))
+    (subst (TakesEntriesBeginning g.W.Write.contents written_version (on_its_way c.args.output.now c.args.waiting.now) (on_its_way c.write_entry.new.output c.write_entry.new.self)) (sym (next_of c.args.ward all inv.front c.loop-prefix.prefix-iterator c.next.new.self told inv.split c.in-Some.ensures.steps))
     (TakesEntriesBeginning-of_more (map (file_entry c.args.ward) c.next.new.self) (TakesEntriesBeginning-then inv.taken c.in_err-write_entry.ensures.err)))

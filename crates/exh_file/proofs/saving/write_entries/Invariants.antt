@@ -4,7 +4,8 @@ use Rattle.std.specs.List.{AllByRecursion}
 use Rattle.exh_prefix.specs.Layout.{written_version}
 use Rattle.exh_format.specs.declared.file_entry.FileEntry.{FileEntry}
 use Rattle.exh_format.specs.TableImage.{IsFileEntry}
-use Rattle.exh_format.specs.Writing.{SameTarget, TakesEntries}
+use Rattle.exh_stream.specs.Output.{SameWriter}
+use Rattle.exh_format.specs.Writing.{TakesEntries, on_its_way}
 use Rattle.exh_file.specs.Saved.{AreShort, file_entry}
 use Rattle.exh_file.proofs.saving.write_entries.Given as goal
 
@@ -13,8 +14,8 @@ abbrev pub invariant-loop-prefix : goal.invariant-loop-prefix
 invariant-loop-prefix g l = record {
   front : List FileEntry;
   split : map (file_entry l.ward) (entries l.table) ≡ front ++ map (file_entry l.ward) l.prefix-iterator;
-  target : SameTarget l.fn.file l.file;
-  taken : TakesEntries g.W.Write.contents written_version l.fn.file l.file front;
+  writer : SameWriter l.fn.output l.output;
+  taken : TakesEntries g.W.Write.contents written_version (on_its_way l.fn.output l.fn.waiting) (on_its_way l.output l.waiting) front;
   valid : AllByRecursion (IsFileEntry written_version) front;
   short : AreShort (map (file_entry l.ward) l.prefix-iterator);
 }

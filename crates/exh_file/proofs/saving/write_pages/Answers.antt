@@ -7,11 +7,10 @@ use Rattle.std.proofs.lemmas.Option.{slice_get-get_or}
 use Rattle.exh_prefix.specs.PrefixListLemmas.{set_same}
 use Rattle.exh_prefix.specs.Layout.{written_version}
 use Rattle.exh_keyer.specs.declared.any_keyer.AnyKeyer.{AnyKeyer}
-use Rattle.exh_stream.specs.OutputLemmas.{OnErr-from}
+use Rattle.exh_stream.specs.Output.{Takes}
+use Rattle.exh_stream.specs.OutputLemmas.{OnErr-from, Takes-none}
 use Rattle.exh_codec.specs.PageImage.{IsInRange}
 use Rattle.exh_format.specs.PageFile.{page_block}
-use Rattle.exh_format.specs.Writing.{TakesBlocks}
-use Rattle.exh_format.specs.WritingLemmas.{TakesBlocks-none}
 use Rattle.exh_ward.specs.WardState.{WardState}
 use Rattle.exh_file.specs.SaveFault.{CountsSaveFailures}
 use Rattle.exh_file.specs.Saved.{AreUnchanged, failures_in}
@@ -42,7 +41,7 @@ write_ward-requires g c =
     c.requires number ward (there c.args.wards.now now number ward inv.wards (slice_get-get_or now number c.index-wards-number.result less))
 
 pub loop-number-init : goal.loop-number-init
-loop-number-init g c = record { target = refl; taken = TakesBlocks-none c.args.file.now; ranges = tt; wards = refl }
+loop-number-init g c = record { writer = refl; taken = Takes-none g.W.Write.contents c.args.output.now; ranges = tt; wards = refl }
 
 pub returns-in_err-write_ward-clause-failures : goal.returns-in_err-write_ward-clause-failures
 returns-in_err-write_ward-clause-failures g c =
@@ -61,7 +60,7 @@ returns-in_err-write_ward-clause-failures g c =
 pub returns-clause-ok : goal.returns-clause-ok
 returns-clause-ok g c =
     let all = take_all c.loop-number.number c.args.wards.now c.loop-number-test.false in
-    subst (λ (wards : List (WardState AnyKeyer)). TakesBlocks g.W.Write.contents c.args.file.now c.loop-number.file (blocks_in wards)) all c.loop-number.invariant.taken
+    subst (λ (wards : List (WardState AnyKeyer)). Takes g.W.Write.contents c.args.output.now c.loop-number.output (blocks_in wards)) all c.loop-number.invariant.taken
 
 pub returns-clause-pages : goal.returns-clause-pages
 returns-clause-pages g c =
@@ -104,7 +103,7 @@ loop-number-preserved g c =
     let is_now = slice_get-get_or now number c.index-wards-number.result less in
     let is = there c.args.wards.now now number ward inv.wards is_now in
     record {
-      target = c.in_ok-write_ward.ensures.same_target ∙ inv.target;
+      writer = c.in_ok-write_ward.ensures.same_writer ∙ inv.writer;
       taken = blocks_next blocks_in ward_blocks_join c.args.wards.now number ward is (flat_map page_block ward.pages) (one_ward_blocks ward) inv.taken c.in_ok-write_ward.ensures.ok;
       ranges = next_all all_pages_in pages_join c.args.wards.now number ward is ward.pages (one_ward ward) (IsInRange written_version) inv.ranges c.in_ok-write_ward.ensures.pages;
       wards = ap (λ (w : WardState AnyKeyer). slice_set now number w) c.in_ok-write_ward.ensures.same ∙ set_same now number ward is_now ∙ inv.wards;

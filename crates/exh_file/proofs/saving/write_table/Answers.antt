@@ -11,7 +11,7 @@ use Rattle.exh_stream.specs.OutputLemmas.{OnErr-from}
 use Rattle.exh_table.specs.Table.{TableMap}
 use Rattle.exh_format.specs.declared.file_entry.FileEntry.{FileEntry}
 use Rattle.exh_format.specs.TableImage.{IsFileEntry}
-use Rattle.exh_format.specs.Writing.{TakesEntries, TakesEntriesBeginning}
+use Rattle.exh_format.specs.Writing.{TakesEntries, TakesEntriesBeginning, on_its_way}
 use Rattle.exh_format.specs.WritingLemmas.{TakesEntries-none}
 use Rattle.exh_ward.specs.WardState.{WardState}
 use Rattle.exh_file.specs.Saved.{AreShort, entries_of_all, entries_of, file_entry}
@@ -32,7 +32,7 @@ short_here wards at ward is short =
     (subst (AllByRecursion IsShort) (sym (whole_is entries_of_all entries_join wards at ward is (entries_of ward) (one_wards_entries ward))) short))
 
 pub loop-number-init : goal.loop-number-init
-loop-number-init g c = record { target = refl; taken = TakesEntries-none c.args.file.now; valid = tt }
+loop-number-init g c = record { writer = refl; taken = TakesEntries-none (on_its_way c.args.output.now c.args.waiting.now); valid = tt }
 
 pub write_entries-requires : goal.write_entries-requires
 write_entries-requires g c =
@@ -52,7 +52,7 @@ returns-in_err-write_entries-clause-err g c =
     let is = slice_get_read wards (length wards) number ward refl less c.index-wards-number.is in
     let own = own_entries ward number c.table.result.now (c.requires.numbers number ward is) c.table.ensures.table in
     OnErr-from c.from_residual.result (entries_cut entries_of_all entries_join wards number ward is (entries_of ward) (one_wards_entries ward) c.loop-number.invariant.taken
-    (subst (TakesEntriesBeginning g.W.Write.contents written_version c.loop-number.file c.write_entries.new.file) own c.in_err-write_entries.ensures.err))
+    (subst (TakesEntriesBeginning g.W.Write.contents written_version (on_its_way c.loop-number.output c.loop-number.waiting) (on_its_way c.write_entries.new.output c.write_entries.new.waiting)) own c.in_err-write_entries.ensures.err))
 
 pub loop-number-preserved : goal.loop-number-preserved
 loop-number-preserved g c =
@@ -64,16 +64,16 @@ loop-number-preserved g c =
     let is = slice_get_read wards (length wards) number ward refl less c.index-wards-number.is in
     let own = own_entries ward number c.table.result.now (c.requires.numbers number ward is) c.table.ensures.table in
     record {
-      target = c.in_ok-write_entries.ensures.same_target ∙ inv.target;
+      writer = c.in_ok-write_entries.ensures.same_writer ∙ inv.writer;
       taken = entries_next entries_of_all entries_join wards number ward is (entries_of ward) (one_wards_entries ward) inv.taken
-          (subst (TakesEntries g.W.Write.contents written_version c.loop-number.file c.write_entries.new.file) own c.in_ok-write_entries.ensures.ok);
+          (subst (TakesEntries g.W.Write.contents written_version (on_its_way c.loop-number.output c.loop-number.waiting) (on_its_way c.write_entries.new.output c.write_entries.new.waiting)) own c.in_ok-write_entries.ensures.ok);
       valid = next_all entries_of_all entries_join wards number ward is (entries_of ward) (one_wards_entries ward) (IsFileEntry written_version) inv.valid
           (subst (AllByRecursion (IsFileEntry written_version)) own c.in_ok-write_entries.ensures.entries);
     }
 
 pub returns-clause-ok : goal.returns-clause-ok
 returns-clause-ok g c =
-    subst (λ (wards : List (WardState AnyKeyer)). TakesEntries g.W.Write.contents written_version c.args.file.now c.loop-number.file (entries_of_all wards)) (take_all c.loop-number.number c.args.wards.now c.loop-number-test.false)
+    subst (λ (wards : List (WardState AnyKeyer)). TakesEntries g.W.Write.contents written_version (on_its_way c.args.output.now c.args.waiting.now) (on_its_way c.loop-number.output c.loop-number.waiting) (entries_of_all wards)) (take_all c.loop-number.number c.args.wards.now c.loop-number-test.false)
     c.loop-number.invariant.taken
 
 pub returns-clause-entries : goal.returns-clause-entries

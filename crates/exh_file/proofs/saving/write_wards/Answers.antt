@@ -4,18 +4,17 @@ use Rattle.std.specs.Io.KnownBytes.{Appends}
 use Rattle.exh_prefix.specs.declared.prefix.TheConstants.{WARD_BITS_LIMIT}
 use Rattle.exh_page.specs.declared.page.TheConstants.{CAP_LIMIT}
 use Rattle.exh_format.specs.declared.header.TheConstants.{COUNTS_LEN}
-use Rattle.exh_stream.specs.Output.{AppendsBeginning}
+use Rattle.exh_stream.specs.Output.{AppendsBeginning, held}
 use Rattle.exh_format.specs.FileVersion.{written_format}
 use Rattle.exh_format.specs.HeaderImage.{IsHeader}
 use Rattle.exh_format.specs.declared.header.Header.{Header}
 use Rattle.exh_format.specs.PageFile.{file_bytes}
-use Rattle.exh_format.specs.Writing.{written}
 use Rattle.exh_file.specs.Opened.{in_file}
 use Rattle.exh_file.specs.Saved.{file_with}
 use Rattle.exh_file.proofs.Again.{is_again}
 use Rattle.exh_file.proofs.Legal.{are_short, is_header}
 use Rattle.exh_file.proofs.Reopened.{both_ok, is_kept}
-use Rattle.exh_file.proofs.saving.write_file.Goals as goal
+use Rattle.exh_file.proofs.saving.write_wards.Goals as goal
 
 pub write_parts-requires-clause-header : goal.write_parts-requires-clause-header
 write_parts-requires-clause-header g c =
@@ -40,12 +39,12 @@ write_parts-requires-clause-short g c =
 
 pub returns-clause-ok : goal.returns-clause-ok
 returns-clause-ok g c =
-    subst (λ (header : Header). OnOk c.write_parts.result (Appends (written g.W.Write.contents c.args.file.now) (written g.W.Write.contents c.write_parts.new.file) (file_bytes written_format (file_with header c.args.wards.now))))
+    subst (λ (header : Header). OnOk c.write_parts.result (Appends (held g.W.Write.contents c.args.output.now) (held g.W.Write.contents c.write_parts.new.output) (file_bytes written_format (file_with header c.args.wards.now))))
     c.header_of-header.ensures.header c.write_parts.ensures.ok
 
 pub returns-clause-err : goal.returns-clause-err
 returns-clause-err g c =
-    subst (λ (header : Header). OnErr c.write_parts.result (AppendsBeginning (written g.W.Write.contents c.args.file.now) (written g.W.Write.contents c.write_parts.new.file) (file_bytes written_format (file_with header c.args.wards.now))))
+    subst (λ (header : Header). OnErr c.write_parts.result (AppendsBeginning (held g.W.Write.contents c.args.output.now) (held g.W.Write.contents c.write_parts.new.output) (file_bytes written_format (file_with header c.args.wards.now))))
     c.header_of-header.ensures.header c.write_parts.ensures.err
 
 pub returns-clause-opens : goal.returns-clause-opens

@@ -8,7 +8,7 @@ use Rattle.exh_file.specs.declared.open_fault.OpenFault.{OpenFault}
 use Rattle.exh_file.specs.declared.open_fault.OpenFault.TheVariants.{File, Page}
 use Rattle.exh_file.specs.OpenFault.{IsOtherOpening}
 use Rattle.exh_file.specs.Opening.{IsOpenFaultOf, IsOpenedFile}
-use Rattle.exh_file.proofs.opening.open.Goals as goal
+use Rattle.exh_file.proofs.opening.open_over.Goals as goal
 
 other_fault : (known : Option (List ℕ)) (fault : OpenFault) → IsOtherOpening fault → IsOpenFaultOf known fault
 other_fault known (File (Unread fault)) other = absurd other
