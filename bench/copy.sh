@@ -11,7 +11,7 @@
 # - as the floor of a look by `left_right`'s scheme, two additions to an atomic counter that no other thread has, and a
 #   plain read between them, on one thread;
 # - a take of a directory, and a take of a copy with its publish, with no reader on a thread.
-# crates/bench makes each run, and checks nothing but that each look names a page.
+# The program bench makes each run, and checks nothing but that each look names a page.
 #
 # Wanted: a look by one reader takes at most 4 times a plain read, and at most 1.2 times its floor; readers beside a
 # writer make at least 0.9 times as many looks as readers alone; 4 readers, where there are 4 processors, at least 3 times
@@ -32,7 +32,6 @@ die() {
 
 bench=$(cd "$(dirname "$0")" && pwd) || exit 2
 root=$(dirname "$bench")
-program=$root/crates/bench/out/bench
 folder=$(mktemp -d "${TMPDIR:-/tmp}/exhash-bench.XXXXXX") || exit 2
 trap 'rm -rf "$folder"' EXIT
 
@@ -58,10 +57,7 @@ measure() {
     done
 }
 
-(cd "$root/crates/bench" && rt run) > "$folder/log" 2>&1 || {
-    cat "$folder/log" >&2
-    die 'the program could not be built'
-}
+program=$("$bench/build") || die 'the program bench could not be built'
 for pages in 1000 60000; do
     measure "$pages"
 done > "$folder/times"

@@ -38,7 +38,6 @@ die() {
 
 bench=$(cd "$(dirname "$0")" && pwd) || exit 2
 root=$(dirname "$bench")
-timed=$root/crates/bench/out/bench
 program=$root/crates/exh_cli/out/exh_cli
 shared=/dev/shm
 [ -d "$shared" ] && [ -w "$shared" ] || shared=${TMPDIR:-/tmp}
@@ -49,10 +48,7 @@ short=0
 for name in gdbmtool mdb_load strace; do
     [ -n "$(command -v "$name")" ] || die "there is no $name (Debian: apt-get install gdbmtool lmdb-utils strace)"
 done
-(cd "$root/crates/bench" && rt run) > "$folder/log" 2>&1 || {
-    cat "$folder/log" >&2
-    die 'the program that makes files could not be built'
-}
+timed=$("$bench/build") || die 'the program bench could not be built'
 [ "$("$root/exhash" get "$root/examples/three-pairs.files/three-pairs.exh" @)" = x ] ||
     die 'exhash does not take examples/three-pairs.files/three-pairs.exh'
 cc -O2 -Wall -Wextra -o "$folder/clock" "$bench/clock.c" || die 'clock.c could not be built'

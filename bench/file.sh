@@ -5,9 +5,9 @@
 #
 # The files are of one ward of cap 16, of 1,000, 10,000 and 60,000 pages, under the keyer plain. Keys and values have 8
 # bytes, and the keys' first bits are evenly spread, so that a page has some 11 records, and none is turned away.
-# crates/bench makes them: what `load` takes in is too short for the longer ones. All files lie in memory, on
+# The program bench makes them: what `load` takes in is too short for the longer ones. All files lie in memory, on
 # /dev/shm where there is one. Timed are, in turns:
-# - in crates/bench, over the file's bytes in memory: the SHA-256 of its blocks alone, compared with those that
+# - in the program bench, over the file's bytes in memory: the SHA-256 of its blocks alone, compared with those that
 #   they have; opening it, which tests legality and makes wards; writing it to nowhere. That is the processor's time;
 # - the program itself, by the processor that it takes: `exhash check` and `exhash dump` of the file, to nowhere;
 # - bench once more, as it opens the file and writes it to another one, for the most memory that it takes;
@@ -37,7 +37,6 @@ die() {
 
 bench=$(cd "$(dirname "$0")" && pwd) || exit 2
 root=$(dirname "$bench")
-timed=$root/crates/bench/out/bench
 program=$root/crates/exh_cli/out/exh_cli
 shared=/dev/shm
 [ -d "$shared" ] && [ -w "$shared" ] || shared=${TMPDIR:-/tmp}
@@ -141,10 +140,7 @@ done
 for name in gdbmtool gdbm_dump db5.3_load db5.3_dump; do
     [ -n "$(command -v "$name")" ] || die "there is no $name (Debian: apt-get install gdbmtool db5.3-util)"
 done
-(cd "$root/crates/bench" && rt run) > "$folder/log" 2>&1 || {
-    cat "$folder/log" >&2
-    die 'the program that is timed could not be built'
-}
+timed=$("$bench/build") || die 'the program bench could not be built'
 [ "$("$root/exhash" check "$root/examples/three-pairs.files/three-pairs.exh" | cut -d ' ' -f 1)" = legal ] ||
     die 'exhash does not take examples/three-pairs.files/three-pairs.exh'
 for size in "${SIZES[@]}"; do

@@ -14,7 +14,7 @@
 #   directory that a courier's rounds told of what filled the file, and of nothing since. Each file is settled
 #   afterwards.
 # - alone: a ward by itself, on one thread, with neither lock nor diary.
-# crates/bench makes both.
+# The program bench makes both.
 # - lmdb, gdbm: live_rivals.c makes the calls by LMDB's threads, of which one writes at a time, and by gdbm behind one
 #   mutex. They are to stand as well as they can: their files are on /dev/shm where there is one, nothing is
 #   synchronized, and the fastest of several settings counts.
@@ -45,18 +45,13 @@ shared=/dev/shm
 folder=$(mktemp -d "$shared/exhash-bench.XXXXXX") || exit 2
 trap 'rm -rf "$folder"' EXIT
 
-# Proves and builds the program of crate $1.
-build() {
-    (cd "$root/crates/$1" && rt run) > "$folder/log" 2>&1 || {
-        cat "$folder/log" >&2
-        die "the program $1 could not be built"
-    }
-}
-
 # Plays the story of many callers $1 times.
 play() {
     local time failed=0
-    build beside
+    (cd "$root/crates/beside" && rt run) > "$folder/log" 2>&1 || {
+        cat "$folder/log" >&2
+        die "the program beside could not be built"
+    }
     for ((time = 1; time <= $1; time++)); do
         "$root/crates/beside/out/beside" live "$time" 10000 callers > "$folder/said" 2>&1 || {
             failed=$((failed + 1))
@@ -71,7 +66,6 @@ play() {
 
 RUNS=${1:-5}
 CALLS=${2:-400000}
-program=$root/crates/bench/out/bench
 
 # Makes a run of the way $1 over $2 wards by $3 callers by the rest of the words, and prints a line.
 clock() {
@@ -101,7 +95,7 @@ measure() {
 
 cc -O2 -Wall -Wextra -o "$folder/live_rivals" "$bench/live_rivals.c" -lgdbm -llmdb -lpthread ||
     die "the rivals' libraries could not be built against (Debian: apt-get install liblmdb-dev libgdbm-dev)"
-build bench
+program=$("$bench/build") || die 'the program bench could not be built'
 mkdir "$folder/lmdb" || exit 2
 for ((run = 0; run < RUNS; run++)); do
     measure

@@ -5,10 +5,10 @@
 #                                     if left out, and at most that
 #
 # What is measured: storms of 16 callers by two copies of the directory, of 2 and of 16 records a page, over 1, 4 and 16
-# wards of a file in memory, by keyer sha. They call 50 keys: by turns a put, a get and a delete (`exh_storm`). There is
+# wards of a file in memory, by keyer sha. They call 50 keys: by turns a put, a get and a delete (`exh_live`). There is
 # a keeper for each ward and a courier to each copy, which make rounds until all callers are done; a keeper waits for a
 # millisecond before each of its own, as one without work to do would. After each run the file is closed, and diaries
-# and journals are settled. crates/bench makes each run.
+# and journals are settled. the program bench makes each run.
 # - moves: how often a call was sent on to another page, a call, in all runs together; most: in the worst of them. A
 #   gate of each caller counts its turns: it is asked before each hop. A call's hops are those that send it on, those
 #   that find a page full, and the last, which answers it; after each that finds a page full the caller splits it, or
@@ -37,7 +37,6 @@ die() {
 
 bench=$(cd "$(dirname "$0")" && pwd) || exit 2
 root=$(dirname "$bench")
-program=$root/crates/bench/out/bench
 folder=$(mktemp -d "${TMPDIR:-/tmp}/exhash-bench.XXXXXX") || exit 2
 trap 'rm -rf "$folder"' EXIT
 
@@ -63,10 +62,7 @@ measure() {
 }
 
 cc -O2 -Wall -Wextra -o "$folder/clock" "$bench/clock.c" || die 'clock.c could not be built'
-(cd "$root/crates/bench" && rt run) > "$folder/log" 2>&1 || {
-    cat "$folder/log" >&2
-    die 'the program could not be built'
-}
+program=$("$bench/build") || die 'the program bench could not be built'
 for ((run = 0; run < RUNS; run++)); do
     measure
 done > "$folder/runs" || exit 2

@@ -9,7 +9,7 @@
 # What is compared: microseconds a call, at 1,000, 10,000 and 60,000 records. A round begins with an empty file, puts
 # as many new keys as that, with the splits that they bring, and then gets each of them once, in another order. Keys
 # and values have 8 bytes, and the keys' first bits are evenly spread.
-# - crates/bench calls a ward of 16 records a page over pages in memory, by keyer plain and by keyer sha. Its
+# - the program bench calls a ward of 16 records a page over pages in memory, by keyer plain and by keyer sha. Its
 #   caller hashes a key once, asks a copy of the directory for the page, hops until it is answered, and splits where
 #   that is to be done first; the copy takes each notice at once.
 # - ward_gdbm.c calls gdbm_store and gdbm_fetch. It is to stand as well as it can: its file is on /dev/shm where there
@@ -51,7 +51,6 @@ die() {
 
 bench=$(cd "$(dirname "$0")" && pwd) || exit 2
 root=$(dirname "$bench")
-program=$root/crates/bench/out/bench
 shared=/dev/shm
 [ -d "$shared" ] && [ -w "$shared" ] || shared=${TMPDIR:-/tmp}
 folder=$(mktemp -d "$shared/exhash-bench.XXXXXX") || exit 2
@@ -106,10 +105,7 @@ count() {
 
 cc -O2 -Wall -Wextra -o "$folder/ward_gdbm" "$bench/ward_gdbm.c" -lgdbm ||
     die "gdbm's library could not be built against (Debian: apt-get install libgdbm-dev)"
-(cd "$root/crates/bench" && rt run) > "$folder/log" 2>&1 || {
-    cat "$folder/log" >&2
-    die 'the program could not be built'
-}
+program=$("$bench/build") || die 'the program bench could not be built'
 for records in 1000 10000 60000; do
     measure "$records"
     if command -v valgrind > "$folder/log"; then

@@ -1,10 +1,9 @@
 //! Stores of which one call fails.
 
 use exh_codec::DIGEST_LEN;
-use exh_fixtures::FailingPages;
+use exh_frames::{FailingPages, Pages, StoreMaker};
 use exh_keyer::Keyer;
 use exh_page::Page;
-use exh_stores::{Pages, StoreMaker};
 use std::alloc::{AllocError, Global};
 
 /// Makes stores over those that another maker makes, of which the call of this number fails; 0 is no call's.

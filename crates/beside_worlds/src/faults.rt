@@ -7,15 +7,13 @@ ghost use Rattle.exh_world.specs.Sound.{IsSoundWorld};
 
 use crate::answers::ROOM;
 use crate::steps::{STEP_COUNT, STEPS, Step};
-use exh_fixtures::{
-    Difference, FailingPages, Part, Run, again, are_same, first_store, refused, same,
-};
+use exh_fixtures::{Difference, Part, Run, again, are_same, first_store, refused, same};
+use exh_frames::{FailingPages, PlainPages};
 use exh_keyer::AnyKeyer;
 use exh_page::Page;
 use exh_prefix::PageNo;
 use exh_script::{ResponseFault, Run as Script, push_response};
 use exh_settings::FileSettings;
-use exh_stores::PlainPages;
 use exh_text::Config;
 use exh_ward::{Ward, WardFault};
 use exh_world::World;
@@ -128,7 +126,12 @@ fn failing_world(
     let mut wards = Vec::new(alloc);
     wards.reserve(1)?;
     let store = FailingPages::new(first_store(alloc, 0, 0)?, at);
-    wards.push_reserved(Ward::new(alloc, store, CONFIG.settings, 0));
+    let FileSettings {
+        cap,
+        ward_bits,
+        keyer,
+    } = CONFIG.settings;
+    wards.push_reserved(Ward::new(alloc, store, cap, ward_bits, 0, keyer));
     World::from_wards(alloc, &CONFIG, wards)
 }
 

@@ -6,10 +6,12 @@ use crate::failing_maker::FailingMaker;
 use crate::lists::{LISTS, List};
 use crate::played::{CONFIG, OUT_OF_REACH, Played, events_of, new_world, play, turns_of};
 use exh_event::{StepFault, Turn};
-use exh_fixtures::{Difference, FailingPages, Part, Run, again, same};
-use exh_frames::{CACHE_SIZE_LIMIT, CacheFault, FramedMaker, FramedPages};
+use exh_fixtures::{Difference, Part, Run, again, same};
+use exh_frames::{
+    CACHE_SIZE_LIMIT, CacheFault, FailingPages, FramedMaker, FramedPages, Pages, PlainMaker,
+    PlainPages, StoreMaker,
+};
 use exh_keyer::AnyKeyer;
-use exh_stores::{Pages, PlainMaker, PlainPages, StoreMaker};
 use exh_ward::WardFault;
 use exh_world::World;
 use std::alloc::{AllocError, Global};

@@ -7,8 +7,8 @@ use crate::three_pairs::{
     BLOCK_LEN, is_saved, not_opened, reader_of, three_pairs, write_to, writer_for,
 };
 use exh_file::{OpenFault, Opened, open};
-use exh_fixtures::{Difference, FailingPages, FakeWriter, Part, Run, same};
-use exh_stores::{PlainMaker, PlainPages};
+use exh_fixtures::{Difference, FakeWriter, Part, Run, same};
+use exh_frames::{FailingPages, PlainMaker, PlainPages};
 use std::alloc::Global;
 
 // More calls than opening and writing make.

@@ -14,5 +14,5 @@ pub mod ImagesPass
 pub mod PassingImages
 -- of blocks_are_read, decode_head
 pub mod PageOf
--- of decode_page and images_are_sealed
+-- of decode_page_of and images_are_sealed
 pub mod FirstFault

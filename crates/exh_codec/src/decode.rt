@@ -1,7 +1,8 @@
 ghost use Rattle.std.specs.Prelude.{◌≡◌, ◌≢◌, ◌↔◌, ℕ, List, Some, IsTrue, MatchResult, IfOk, IfErr};
 ghost use Rattle.exh_codec.specs.Block.{AreZero};
 ghost use Rattle.exh_prefix.specs.declared.version.Version.{Version as KnownVersion};
-ghost use Rattle.exh_prefix.specs.Layout.{layout};
+ghost use Rattle.exh_prefix.specs.Layout.{layout, written_version};
+ghost use Rattle.exh_prefix.specs.Version.{first_version};
 ghost use Rattle.exh_page.specs.declared.page.Page.{Page};
 ghost use Rattle.exh_page.specs.PageHead.{head_of};
 ghost use Rattle.exh_codec.specs.PageImage.{IsImage, IsLaidOut};
@@ -16,14 +17,49 @@ use crate::kind::Kind;
 use crate::pages::{forward_page, live_page, right_link};
 use exh_keyer::Keyer;
 use exh_page::{Page, PageHead};
-use exh_prefix::{Prefix, Version};
+use exh_prefix::{Prefix, Version, WRITTEN};
 use std::alloc::Global;
+
+/// The page that a block is the image of under a keyer, in the version of the page file that is
+/// written. Where it is that of none, the fault is the first of `Digest`, `Kind`, `Length`, `Padding`,
+/// `Prefix` and `Order` whose test the block fails, each test being over the whole block. It takes
+/// memory for the records: `Memory` where that is refused.
+pub fn decode_page<K: Keyer>(
+    alloc: Global,
+    keyer: &K,
+    block: &[u8; BLOCK_LEN],
+) -> Result<Page, ImageFault>
+    ensures page { IfOk result (λ page. IsImage written_version (K.pseudokey_of keyer.now) page block.now) }
+    ensures only { (page : Page) → IsImage written_version (K.pseudokey_of keyer.now) page block.now
+        → MatchResult result (λ found. found ≡ page) (λ fault. fault ≡ ImageFault.Memory) }
+    ensures fault { IfErr result (λ fault. fault ≢ ImageFault.Memory
+        → IsFirst (Passes written_version (K.pseudokey_of keyer.now) block.now) image_tests fault) }
+{
+    decode_page_of(alloc, WRITTEN, keyer, block)
+}
+
+/// The page that a block is the image of under a keyer, in version 1 of the page file: a fault as of
+/// `decode_page`, by the tests of that version. It takes memory for the records: `Memory` where that
+/// is refused.
+pub fn decode_page_v1<K: Keyer>(
+    alloc: Global,
+    keyer: &K,
+    block: &[u8; BLOCK_LEN],
+) -> Result<Page, ImageFault>
+    ensures page { IfOk result (λ page. IsImage first_version (K.pseudokey_of keyer.now) page block.now) }
+    ensures only { (page : Page) → IsImage first_version (K.pseudokey_of keyer.now) page block.now
+        → MatchResult result (λ found. found ≡ page) (λ fault. fault ≡ ImageFault.Memory) }
+    ensures fault { IfErr result (λ fault. fault ≢ ImageFault.Memory
+        → IsFirst (Passes first_version (K.pseudokey_of keyer.now) block.now) image_tests fault) }
+{
+    decode_page_of(alloc, Version::First, keyer, block)
+}
 
 /// The page that a block is the image of in a version, under a keyer. Where it is that of none, the fault is the
 /// first of `Digest`, `Kind`, `Length`, `Padding`, `Prefix` and `Order` whose test the block fails,
 /// each test being over the whole block. It takes memory for the records: `Memory` where that is
 /// refused.
-pub fn decode_page<K: Keyer>(
+pub fn decode_page_of<K: Keyer>(
     alloc: Global,
     version: Version,
     keyer: &K,

@@ -5,7 +5,9 @@
 pub use block::{
     BLOCK_LEN, CONTENT_LEN, DIGEST_LEN, digest_in, digest_of, is_sealed, put_digest, seal,
 };
-pub use decode::{are_zero, decode_content, decode_head, decode_page};
+pub use decode::{
+    are_zero, decode_content, decode_head, decode_page, decode_page_of, decode_page_v1,
+};
 pub use encode::{encode_page, lay_out, lay_over};
 pub use image_fault::ImageFault;
 pub use laws::{

@@ -11,7 +11,7 @@ ghost use Rattle.exh_format.specs.FileTests.{HeaderFails, PageFails, TableFails}
 ghost use Rattle.exh_direct.specs.KnownBlocks.{BlockFails, IsBlockAt, IsCount, IsCutOff, IsHeaderAt, IsPageBlock, IsTableBlock, ReadsUpTo};
 
 use crate::{Blocks, DirectFault};
-use exh_codec::{BLOCK_LEN, decode_page};
+use exh_codec::{BLOCK_LEN, decode_page_of};
 use exh_format::{FileEntry, FileFault, Header, decode_entries, version_in};
 use exh_keyer::AnyKeyer;
 use exh_page::Page;
@@ -85,7 +85,7 @@ pub(crate) fn read_page<B: Blocks>(
 {
     let mut block = [0; BLOCK_LEN];
     read_block(blocks, count, place, &mut block)?;
-    match decode_page(alloc, version, &keyer, &block) {
+    match decode_page_of(alloc, version, &keyer, &block) {
         Ok(page) => Ok(page),
         Err(fault) => Err(DirectFault::at_place(place, fault)),
     }

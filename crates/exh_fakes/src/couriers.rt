@@ -18,7 +18,6 @@ use exh_fixtures::{Asked, Difference, Part, Said, first_store, same};
 use exh_keyer::{Keyer, PlainKeyer};
 use exh_live_file::{ANSWER_PARTS, Cursors, ENTRY_PARTS, Identity};
 use exh_prefix::PageNo;
-use exh_settings::FileSettings;
 use exh_table::Table;
 use exh_walk::OpenGate;
 use exh_ward::Ward;
@@ -237,12 +236,7 @@ fn broken_ward(
         left: calls,
         failures: 0,
     };
-    let settings = FileSettings {
-        cap: CAP as u8,
-        ward_bits: 0,
-        keyer,
-    };
-    Ok(Ward::new(alloc, store, settings, 0))
+    Ok(Ward::new(alloc, store, CAP as u8, 0, 0, keyer))
 }
 
 #[test]

@@ -7,10 +7,9 @@ ghost use Rattle.exh_page.specs.Search.{IsSought};
 ghost use Rattle.exh_stores.specs.PageStore.{IfPage};
 
 use exh_codec::BLOCK_LEN;
-use exh_fixtures::{FailingPages, PagesCall};
+use exh_frames::{FailingPages, Pages, PagesCall, PagesFault, PlainPages};
 use exh_page::{Key, Page, Record, Records, Spot, Value};
 use exh_prefix::{PageNo, Prefix};
-use exh_stores::{Pages, PagesFault, PlainPages};
 use std::alloc::Global;
 
 // A record of the key `k`.

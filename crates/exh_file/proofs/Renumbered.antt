@@ -54,7 +54,7 @@ module _ (inside behind : List ℕ) (len : length inside ≡ 4064) where
       (λ i. made (begun_magic i) (begun i) (left i))
 
 longer : (item : FileEntry) → IsFileEntry (layout First) item → IsFileEntry written_version item
-longer item valid = record { shorter = omega (arith, valid.shorter); change_version = valid.change_version; right = valid.right }
+longer item valid = record { shorter = omega (arith, valid.shorter); change_number = valid.change_number; right = valid.right }
 
 pub renumbered_file : HeadersAreBlocks → SameBlocks → (file : PageFile) → IsFile (file_version First) file → file_bytes written_format file ≡ renumbered (number_of_version WRITTEN) (file_bytes (file_version First) file)
 unfolding header_block

@@ -1,3 +1,2 @@
 pub mod OpenedWard
-pub mod Failure
 pub mod RunsStatus

@@ -19,10 +19,10 @@ made ward prefix entry = record { ward = ward; prefix = prefix; entry = entry }
 
 -- bytes that are an entry's image tell that it is one
 pub entry_from_image : (version : Version) (ward : ℕ) (prefix : List Bool) (entry : Entry) (image : List ℕ) → IsEntryImage version ward prefix entry image → IsFileEntry version (record { ward = ward; prefix = prefix; entry = entry })
-entry_from_image version ward prefix entry image is = record { shorter = is.shorter; change_version = is.change_version; right = is.right }
+entry_from_image version ward prefix entry image is = record { shorter = is.shorter; change_number = is.change_number; right = is.right }
 
 pub image_from_entry : (version : Version) (item : FileEntry) → IsFileEntry version item → IsEntryImage version item.ward item.prefix item.entry (image_of version item)
-image_from_entry version item valid = record { shorter = valid.shorter; change_version = valid.change_version; right = valid.right; bytes = refl }
+image_from_entry version item valid = record { shorter = valid.shorter; change_number = valid.change_number; right = valid.right; bytes = refl }
 
 module _ (version : Version) (fits : Fits 4 version) where
   pub length-image_of : (item : FileEntry) → length (image_of version item) ≡ 16

@@ -14,7 +14,7 @@ use Rattle.exh_format.specs.declared.table_block.TheConstants.{BLOCK_ENTRIES}
 -- an entry that any file of the version may have
 pub record IsFileEntry (version : Version) (item : FileEntry) : Type 0 where
   pub shorter : length item.prefix < version.limit
-  pub change_version : item.entry.number < 2 ^ 32
+  pub change_number : item.entry.number < 2 ^ 32
   pub right : right_field item.entry.kind < 2 ^ 32
 
 abbrev pub image_of : Version → FileEntry → List ℕ

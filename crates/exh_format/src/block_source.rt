@@ -17,7 +17,7 @@ ghost use Rattle.exh_codec.specs.declared.block.TheConstants.{BLOCK_LEN};
 use crate::{
     BLOCK_ENTRIES, FileEntry, FileFault, Header, ReadFileFault, decode_entries, version_in,
 };
-use exh_codec::{BLOCK_LEN, DIGEST_LEN, decode_page, digest_in, images_are_sealed};
+use exh_codec::{BLOCK_LEN, DIGEST_LEN, decode_page_of, digest_in, images_are_sealed};
 use exh_keyer::AnyKeyer;
 use exh_page::Page;
 use exh_prefix::{Prefix, Version};
@@ -87,7 +87,7 @@ impl<'r, R: Read> BlockSource<'r, R> {
         images_are_sealed();
         let mut block = [0; BLOCK_LEN];
         self.fill(&mut block)?;
-        match decode_page(alloc, version, &keyer, &block) {
+        match decode_page_of(alloc, version, &keyer, &block) {
             Ok(page) => {
                 let digest = digest_in(&block);
                 self.place += 1;

@@ -71,7 +71,7 @@ fn entries_of(
     for i in 0..count {
         let start = ENTRY_IMAGE_LEN * i;
         let image = bytes[start..].first_chunk::<ENTRY_IMAGE_LEN>().unwrap();
-        match Entry::from_image(version, image) {
+        match Entry::from_image_of(version, image) {
             Ok(read) => push(&mut entries, of_parts(read))?,
             Err(fault) => return Err(entry_fault(fault)),
         }

@@ -1,15 +1,23 @@
-//! Stores of pages over their images, behind a cache of decoded pages (exhash's own).
+//! Stores of pages: those in memory, those over images of pages behind a cache of decoded ones, and
+//! for tests those of which one call fails (exhash's own).
 #![tactic(auto)]
 
 pub use cache_size::{CACHE_SIZE_LIMIT, CacheFault};
+pub use exh_stores::{Pages, PagesFault, PlainMaker, PlainPages, StoreMaker};
+pub use failing_pages::FailingPages;
 pub use framed_maker::FramedMaker;
 pub use framed_pages::FramedPages;
+pub use pages_call::PagesCall;
+pub use stores::{FileStore, MAKER};
 
 mod cache_size;
 mod decoded_pages;
 mod edit;
+mod failing_pages;
 mod framed_maker;
 mod framed_pages;
 mod gap;
 mod image;
 mod images;
+mod pages_call;
+mod stores;

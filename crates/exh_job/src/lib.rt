@@ -3,6 +3,7 @@
 #![tactic(auto)]
 
 pub use ending::Ending;
+pub use exh_frames::MAKER;
 pub use file_run::Topic;
 pub use job_path::{JobPath, path_of};
 pub use last_line::{OUT_OF_MEMORY, UNOPENED, print_line, print_out_of_memory};
@@ -13,7 +14,7 @@ pub use saving::{save_at_path, warn};
 pub use standard::{change, get, tell_change, tell_path};
 pub use standard_load::load;
 pub use status::Status;
-pub use stores::{FileWards, MAKER};
+pub use stores::FileWards;
 pub use watch::{console, reading_meter};
 
 mod change_run;

@@ -1,10 +1,7 @@
-//! The stores of the program's pages: which they are is said here alone.
+//! The wards of the program's page files, over its stores.
 
 use exh_file::Opened;
-use exh_stores::{PlainMaker, PlainPages};
+use exh_frames::FileStore;
 
 /// The wards of a page file, over the program's stores.
-pub type FileWards = Opened<PlainPages>;
-
-/// Makes the program's stores.
-pub const MAKER: PlainMaker = PlainMaker;
+pub type FileWards = Opened<FileStore>;

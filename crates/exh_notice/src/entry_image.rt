@@ -1,14 +1,14 @@
 ghost use Rattle.std.specs.Prelude.{◌≡◌, ◌↔◌, ℕ, ◌+◌, ◌-◌, ◌<◌, Bool, List, length, slice_index, IsTrue, IfOk, IfErr, Ok};
 ghost use Rattle.std.specs.List.{AllByRecursion};
 ghost use Rattle.byteorder.specs.Endian.{big_from};
-ghost use Rattle.exh_prefix.specs.Layout.{layout};
-ghost use Rattle.exh_prefix.specs.Version.{Version as AnyVersion, Fits, four_bytes};
+ghost use Rattle.exh_prefix.specs.Layout.{layout, written_version};
+ghost use Rattle.exh_prefix.specs.Version.{Version as AnyVersion, Fits, first_version, four_bytes};
 ghost use Rattle.exh_notice.specs.declared.entry.Entry.{Entry as EntryValue};
 ghost use Rattle.exh_notice.specs.NoticeImages.{items, kind_byte, right_field, prefix_field, entry_image, IsEntryImage, IsPadded, HasPrefixField, FailsFirst};
 
 use crate::{Entry, Kind, NoticeFault};
 use byteorder::{BigEndian, ByteOrder};
-use exh_prefix::{Prefix, Version};
+use exh_prefix::{Prefix, Version, WRITTEN};
 
 /// How many bytes the image of an entry has.
 pub const ENTRY_IMAGE_LEN: usize = 16;
@@ -30,10 +30,31 @@ impl Entry {
         image
     }
 
+    /// The ward, the prefix and the entry that have this image in the version of the page file that is
+    /// written: a `NoticeFault` by the first test that the bytes fail, of their kind, their padding and
+    /// their prefix. It takes no memory.
+    pub fn from_image(image: &[u8; ENTRY_IMAGE_LEN]) -> Result<(u8, Prefix, Entry), NoticeFault>
+        ensures ok { IfOk result (λ read. IsEntryImage written_version read.0 read.1 read.2 image.now) }
+        ensures every { (ward : ℕ) (prefix : List Bool) (entry : EntryValue) → IsEntryImage written_version ward prefix entry image.now → result ≡ Ok (ward, prefix, entry) }
+        ensures err { IfErr result (λ fault. FailsFirst written_version fault image.now) }
+    {
+        Entry::from_image_of(WRITTEN, image)
+    }
+
+    /// The ward, the prefix and the entry that have this image in version 1 of the page file: a
+    /// `NoticeFault` as of `from_image`, by the tests of that version. It takes no memory.
+    pub fn from_image_v1(image: &[u8; ENTRY_IMAGE_LEN]) -> Result<(u8, Prefix, Entry), NoticeFault>
+        ensures ok { IfOk result (λ read. IsEntryImage first_version read.0 read.1 read.2 image.now) }
+        ensures every { (ward : ℕ) (prefix : List Bool) (entry : EntryValue) → IsEntryImage first_version ward prefix entry image.now → result ≡ Ok (ward, prefix, entry) }
+        ensures err { IfErr result (λ fault. FailsFirst first_version fault image.now) }
+    {
+        Entry::from_image_of(Version::First, image)
+    }
+
     /// The ward, the prefix and the entry that have this image in a version of the page file:
     /// a `NoticeFault` by the first test that the bytes fail, of their kind, their padding and their
     /// prefix. It takes no memory.
-    pub fn from_image(
+    pub fn from_image_of(
         version: Version,
         image: &[u8; ENTRY_IMAGE_LEN],
     ) -> Result<(u8, Prefix, Entry), NoticeFault>

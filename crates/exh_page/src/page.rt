@@ -1,6 +1,6 @@
 ghost use Rattle.std.specs.Prelude.{◌≡◌, ℕ, ◌≤◌, ◌↔◌, length, IsTrue, IsOk, IfSome, IfOk, OnErr};
 
-use crate::{Key, PageHead, Records, Spot, Value};
+use crate::{Key, PageHead, Record, Records, Spot, Value};
 use exh_prefix::{PageNo, Prefix};
 use std::alloc::AllocError;
 
@@ -27,7 +27,8 @@ pub enum Page {
 
 impl Page {
     ghost use Rattle.std.specs.Prelude.{◌≡◌, ◌<◌, ◌≤◌, ◌++◌, ◌↔◌, length, remove, IsTrue, IsOk, IfSome, IfOk, OnOk, OnErr};
-    ghost use Rattle.exh_page.specs.Records.{IsRising, value_at, with_record};
+    ghost use Rattle.exh_page.specs.Place.{place_of};
+    ghost use Rattle.exh_page.specs.Records.{IsRising, value_at, with_record, without_place};
     ghost use Rattle.exh_page.specs.Search.{IsSought, IsSpot};
     ghost use Rattle.exh_page.specs.Page.{low_bound, records_of, share_of, with_records, IsDivisible, IsLive};
     ghost use Rattle.exh_page.specs.PageHead.{head_of};
@@ -84,6 +85,23 @@ impl Page {
         }
     }
 
+    /// Puts a record into a live page, and answers the value that it replaces, or `None` where it is
+    /// new. Neither the number of records nor the prefix is tested. Only a new record, or a value longer
+    /// than the one it replaces, may need memory: where that is refused, an `AllocError`, the page is
+    /// as before.
+    pub fn put(&mut self, item: Record) -> Result<Option<Value>, AllocError>
+        requires { IsLive self.old }
+        ensures old { IfOk result (λ old. old ≡ value_at (place_of item) (records_of self.old)) }
+        ensures ok { OnOk result (self.new ≡ with_records (with_record item (records_of self.old)) self.old) }
+        ensures err { OnErr result (self.new ≡ self.old) }
+        ensures replaces { IfSome (value_at (place_of item) (records_of self.old)) (λ old. length item.value ≤ length old → IsOk result) }
+    {
+        match self {
+            Page::Live { records, .. } => records.put(item),
+            Page::Forward { .. } => unreachable!(),
+        }
+    }
+
     /// Puts a record into a live page, at the spot that a search of its records for the key came to.
     /// Neither the number of records nor the prefix is tested. Only a new record, or a value longer
     /// than the one it replaces, may need memory: where that is refused, an `AllocError`, the page is
@@ -103,6 +121,19 @@ impl Page {
     {
         match self {
             Page::Live { records, .. } => records.put_at(spot, pseudokey, key, value),
+            Page::Forward { .. } => unreachable!(),
+        }
+    }
+
+    /// Takes the record of a key with this pseudokey out of a live page, and answers its value, or
+    /// `None` where no record has both, and the page is as before. It takes no memory.
+    pub fn remove(&mut self, pseudokey: u64, key: &Key) -> Option<Value>
+        requires { IsLive self.old }
+        ensures old { result ≡ value_at (pseudokey, key.now) (records_of self.old) }
+        ensures others { self.new ≡ with_records (without_place (pseudokey, key.now) (records_of self.old)) self.old }
+    {
+        match self {
+            Page::Live { records, .. } => records.remove(pseudokey, key),
             Page::Forward { .. } => unreachable!(),
         }
     }
@@ -159,6 +190,14 @@ impl Page {
             ) => { records.followed_by(others) }
             _ => unreachable!(),
         }
+    }
+
+    /// A page equal to this one. It takes memory for the records: an `AllocError` where that is
+    /// refused.
+    pub fn try_clone(&self) -> Result<Page, AllocError>
+        ensures { IfOk result (λ page. page ≡ self.now) }
+    {
+        self.try_clone_with_room(0)
     }
 
     /// A page equal to this one, with room for `more` further records that are as long as its own are

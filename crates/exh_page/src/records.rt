@@ -1,7 +1,7 @@
 ghost use Rattle.std.specs.Prelude.{◌≡◌, ◌<◌, ◌≤◌, [], ◌∷◌, ◌++◌, ◌↔◌, length, remove, slice_get, IsTrue, IsOk, IfSome, IfOk, OnOk, OnErr};
 ghost use Rattle.std.specs.Iterator.{YieldsFirst, item_count};
 ghost use Rattle.exh_page.specs.Place.{place_of};
-ghost use Rattle.exh_page.specs.Records.{IsRising, value_at, with_record};
+ghost use Rattle.exh_page.specs.Records.{IsRising, value_at, with_record, without_place};
 ghost use Rattle.exh_page.specs.Page.{begun_by};
 ghost use Rattle.exh_page.specs.Search.{IsSought, IsSpot};
 
@@ -141,6 +141,23 @@ impl Records {
             Err(spot) => self.packed.insert(spot, pseudokey, key, value)?,
         }
         Ok(())
+    }
+
+    /// Takes out the record of a key with this pseudokey, and answers its value, or `None` where no
+    /// record has both, and the records are as before. It takes no memory.
+    pub fn remove(&mut self, pseudokey: u64, key: &Key) -> Option<Value>
+        ensures old { result ≡ value_at (pseudokey, key.now) self.old }
+        ensures others { self.new ≡ without_place (pseudokey, key.now) self.old }
+    {
+        let (spot, stood) = self.seek(pseudokey, key);
+        let old = match stood {
+            Some(stood) => Some(stood.to_value()),
+            None => None,
+        };
+        if let Ok(spot) = spot {
+            self.remove_at(spot);
+        }
+        old
     }
 
     /// Takes out the record of a spot. It takes no memory.

@@ -58,7 +58,7 @@ const UNIONS: [Union; 4] = [
         &[(0, 2, None), (1, 1, Some(2))],
         0,
     ),
-    // At equal versions a merge stands before a split, and splits are ordered by right page.
+    // At equal numbers a merge stands before a split, and splits are ordered by right page.
     (
         &[(0, 3, None)],
         &[(0, 3, Some(0))],

@@ -15,6 +15,8 @@ mod keys;
 #[cfg(test)]
 mod notices;
 #[cfg(test)]
+mod page_doors;
+#[cfg(test)]
 mod texts;
 #[cfg(test)]
 mod walks;

@@ -78,11 +78,11 @@ fn is_imaged(notice: &Notice, image: &[u8; NOTICE_IMAGE_LEN]) -> bool {
 fn is_read(version: Version, notice: &Notice, image: &[u8; NOTICE_IMAGE_LEN]) -> bool {
     let front: &[u8; ENTRY_IMAGE_LEN] = image.first_chunk().unwrap();
     if notice.prefix.len() >= version.limit() {
-        return Notice::from_image(version, image).is_err()
-            && Entry::from_image(version, front).is_err();
+        return Notice::from_image_of(version, image).is_err()
+            && Entry::from_image_of(version, front).is_err();
     }
-    Notice::from_image(version, image) == Ok(*notice)
-        && Entry::from_image(version, front) == Ok((notice.ward, notice.prefix, notice.entry()))
+    Notice::from_image_of(version, image) == Ok(*notice)
+        && Entry::from_image_of(version, front) == Ok((notice.ward, notice.prefix, notice.entry()))
 }
 
 // The index of the notice that has another image.

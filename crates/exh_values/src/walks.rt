@@ -9,7 +9,6 @@ use exh_keyer::PlainKeyer;
 use exh_notice::Notice;
 use exh_page::{Key, Value};
 use exh_prefix::PageNo;
-use exh_settings::FileSettings;
 use exh_stores::PlainPages;
 use exh_walk::{AskFault, Gate, OpenGate, Steps, TurnGate, walk_steps, walk_ward};
 use exh_ward::{Hop, Ward, WardFault, first_page};
@@ -80,12 +79,7 @@ fn goes_right(ward: &mut PlainWard) -> Option<bool> {
 
 fn new_ward(alloc: Global) -> Option<PlainWard> {
     let store = PlainPages::new(alloc, first_page(alloc, 0, 0)).ok()?;
-    let settings = FileSettings {
-        cap: 2,
-        ward_bits: 0,
-        keyer: PlainKeyer,
-    };
-    Some(Ward::new(alloc, store, settings, 0))
+    Some(Ward::new(alloc, store, 2, 0, 0, PlainKeyer))
 }
 
 fn story(alloc: Global) -> Option<bool> {

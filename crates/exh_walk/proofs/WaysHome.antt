@@ -18,7 +18,7 @@ use Rattle.exh_ward.specs.declared.hop.Hop.{Hop}
 use Rattle.exh_ward.specs.declared.hop.Hop.TheVariants.{Done, Moved, MustSplit, Stray}
 use Rattle.exh_ward.specs.declared.ward_fault.WardFault.{WardFault}
 use Rattle.exh_ward.specs.declared.ward_fault.WardFault.TheVariants.{Memory, Page as PageFault, NoPage, NotLive, NotFull, AtLimit, NoBuddy, BuddySplit, TooMany, Worn}
-use Rattle.exh_route.specs.Distance.{IsDistance}
+use Rattle.exh_ward.specs.Distance.{IsDistance}
 use Rattle.exh_route.specs.RouteLaws.{EndsAtHome, OneDistance}
 use Rattle.exh_route.specs.WardMoves.{AreMoves, EndsMoves}
 use Rattle.exh_route.specs.WardRun.{WardEvent, HopAt}
