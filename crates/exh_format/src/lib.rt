@@ -9,6 +9,7 @@ pub use file_laws::{files_pass, one_file, one_image, same_blocks, written_is_fil
 pub use file_parts::FileParts;
 pub use file_writer::FileWriter;
 pub use header::{COUNTS_LEN, Header, version_in};
+pub use items::push_item;
 pub use legal_file::LegalFile;
 pub use legal_file_fault::LegalFileFault;
 pub use legal_reading::read_legal_file;
@@ -24,6 +25,7 @@ mod file_laws;
 mod file_parts;
 mod file_writer;
 mod header;
+mod items;
 mod legal_file;
 mod legal_file_fault;
 mod legal_reading;

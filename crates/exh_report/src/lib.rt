@@ -2,7 +2,7 @@
 #![tactic(auto)]
 
 pub use other_settings::OtherSettings;
-pub use refusal_line::push_refusal;
+pub use refusal_line::{push_block, push_refusal};
 pub use report::{check_text, dump_text, pairs_text};
 pub use report_fault::ReportFault;
 pub use verdict::Verdict;
