@@ -21,8 +21,7 @@ _exhash() {
                     ;;
             esac
             ;;
-        # How it loads stands right behind it.
-        load) ((COMP_CWORD > 2)) || options='--long --into --help' ;;
+        load) options='--long --into --help' ;;
         # Keys and values are no paths.
         get | put | del | swap) ((COMP_CWORD == 2)) || return ;;
         help)

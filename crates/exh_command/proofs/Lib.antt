@@ -1,9 +1,9 @@
 pub mod WordLemmas
 pub mod OptionLemmas
 pub mod OptionFlags
+pub mod SetFlags
 pub mod TheProgram
 pub mod KeyWords
 pub mod PutWords
 pub mod SwapWords
 pub mod ParserLemmas
-pub mod Ways

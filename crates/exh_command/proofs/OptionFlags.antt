@@ -1,4 +1,4 @@
--- A command whose arguments are options with a value: which words it takes, and what it then holds.
+-- A command whose arguments are options with a value, and perhaps a path: which words it takes, and what it then holds.
 use Rattle.std.proofs.Common.{◌≡◌, ◌∙◌, ℕ, Bool, true, false, List, [], ◌∷◌, ◌++◌, Option, Some, None, refl, sym, ap, subst, codes, cond, is_some, inl, inr, ap₂}
 use Rattle.std.specs.Prelude.{not, ◌&&◌, ◌||◌, find, fold, map, option_map}
 use Rattle.std.specs.List.{list_any}
@@ -22,11 +22,11 @@ pub help_asking : (is_help : Bool) → IsAsking (cond is_help (Some help) None)
 help_asking true = inr (inl refl)
 help_asking false = inl refl
 
-or-true : (b : Bool) → (b || true) ≡ true
+pub or-true : (b : Bool) → (b || true) ≡ true
 or-true true = refl
 or-true false = refl
 
-default_kept : (b : Bool) (rows : List Row) → cond b rows rows ≡ rows
+pub default_kept : (b : Bool) (rows : List Row) → cond b rows rows ≡ rows
 default_kept true rows = refl
 default_kept false rows = refl
 
@@ -66,7 +66,7 @@ none_placed : (names : List Text) (position : ℕ) → arg_by_index (option_flag
 none_placed [] position = refl
 none_placed (first ∷ names) position = none_placed names position
 
-keeps_rows : (names : List Text) (rows : List Row) → fold with_default rows (option_flags names) ≡ rows
+pub keeps_rows : (names : List Text) (rows : List Row) → fold with_default rows (option_flags names) ≡ rows
 keeps_rows [] rows = default_kept (has_row (codes "help") rows) rows
 keeps_rows (first ∷ names) rows = ap (λ rows. fold with_default rows (option_flags names)) (default_kept (has_row first rows) rows) ∙ keeps_rows names rows
 
@@ -77,17 +77,18 @@ no_defaults (first ∷ names) rows = rw (or-true (has_row first rows), default_k
 
 -- a command with them, which asks for nothing else
 pub option_leaf : (command : Text) (names : List Text) → is_named names path_name ≡ false
-    → ((rows : List Row) → or_else (defaults_fault rows (option_flags names)) (check_fault (leaf_of command (option_flags names)) (fold with_default rows (option_flags names)) false) ≡ []) → IsOptionLeaf false command (option_flags names) names
+    → ((rows : List Row) → or_else (defaults_fault rows (option_flags names)) (check_fault (leaf_of command (option_flags names)) (fold with_default rows (option_flags names)) false) ≡ []) → IsOptionLeaf false command (option_flags names) names []
 option_leaf command names no_path ends = record {
   by_long_name = flag_by_long names;
   by_id = flag_by_id names;
-  asks = flag_asks names;
+  by_long_flag = λ name other never. cc;
+  asks = λ name other unset. flag_asks names name other;
   asks_short = flag_asks_short names;
   path_by_id = λ never. cc;
   placed = λ used. none_placed names (cond used 2 1);
   no_option = no_path;
+  no_flag = refl;
   ends = λ uses. ends (rows_of_uses uses);
-  keeps = keeps_rows names;
 }
 
 -- ---- a path before them
@@ -111,11 +112,11 @@ path_defaults : (names : List Text) (rows : List Row) → defaults_fault rows (p
 unfolding defaults_fault
 path_defaults names rows = rw (or-true (has_row path_name rows), default_kept (has_row path_name rows) rows) (no_defaults names rows)
 
-path_keeps : (names : List Text) (rows : List Row) → fold with_default rows (path_flags_of names) ≡ rows
+pub path_keeps : (names : List Text) (rows : List Row) → fold with_default rows (path_flags_of names) ≡ rows
 path_keeps names rows = ap (λ rows. fold with_default rows (option_flags names)) (default_kept (has_row path_name rows) rows) ∙ keeps_rows names rows
 
 -- it alone is required
-given_path : (uses : List Use) → is_given path_name (rows_of_uses uses) ≡ gives_path uses
+pub given_path : (uses : List Use) → is_given path_name (rows_of_uses uses) ≡ gives_path uses
 given_path [] = refl
 given_path (one ∷ uses) = go (is_use_of path_name one) (given_path uses)
   where
@@ -131,7 +132,7 @@ none_required : (names : List Text) (rows : List Row) → list_any (lacks rows) 
 none_required [] rows = refl
 none_required (first ∷ names) rows = none_required names rows
 
-fails_where : (wants : Bool) → FailsWhere wants (check_kinds false false wants)
+pub fails_where : (wants : Bool) → FailsWhere wants (check_kinds false false wants)
 fails_where true = tt
 fails_where false = refl
 
@@ -145,17 +146,18 @@ path_ends command names uses =
     (subst (λ rows. FailsWhere (not (gives_path uses)) (check_fault leaf rows false)) (sym (path_keeps names rows))
     (subst (λ wants. FailsWhere (not (gives_path uses)) (check_kinds false false wants)) (sym is) (fails_where (not (gives_path uses)))))
 
-pub path_leaf_of : (command : Text) (names : List Text) → is_named names path_name ≡ false → IsOptionLeaf true command (path_flags_of names) names
+pub path_leaf_of : (command : Text) (names : List Text) → is_named names path_name ≡ false → IsOptionLeaf true command (path_flags_of names) names []
 path_leaf_of command names no_path = record {
   by_long_name = flag_by_long names;
   by_id = option_by_id names no_path;
-  asks = flag_asks names;
+  by_long_flag = λ name other never. cc;
+  asks = λ name other unset. flag_asks names name other;
   asks_short = flag_asks_short names;
   path_by_id = λ takes. refl;
   placed = path_place names;
   no_option = no_path;
+  no_flag = refl;
   ends = path_ends command names;
-  keeps = path_keeps names;
 }
 
 -- ---- uses that are read have the path, where one is taken
@@ -172,30 +174,30 @@ read_wants takes Wrong found same = cc
 
 -- ---- the words behind such a command
 
-module _ (takes : Bool) (command : Text) (rules : List Rule) (names : List Text) (is : IsOptionLeaf takes command rules names) (by : List Use → Asked) where
+module _ (takes : Bool) (command : Text) (rules : List Rule) (names flags : List Text) (is : IsOptionLeaf takes command rules names flags) (by : List Use → Asked) where
   abbrev pub flag_kinds : List Text → Kinds
   flag_kinds words = level_fault (leaf_of command rules) [] nothing_held words false []
 
   abbrev ReadsWords : List Text → Option (List Use) → Type 0
-  ReadsWords words read = Reads takes command rules names is (walk_from nothing_held) words read
+  ReadsWords words read = Reads takes command rules names flags is (walk_from nothing_held) words read
 
-  reads : (words : List Text) → ReadsWords words (uses_taken takes names words)
-  reads words = options_read takes command rules names is words
+  reads : (words : List Text) → ReadsWords words (uses_taken takes names flags words)
+  reads words = options_read takes command rules names flags is words
 
-  pub flags_agree : (words : List Text) → Agrees (option_map by (uses_taken takes names words)) (flag_kinds words)
-  flags_agree words = go (uses_taken takes names words) (reads words)
+  pub flags_agree : (words : List Text) → Agrees (option_map by (uses_taken takes names flags words)) (flag_kinds words)
+  flags_agree words = go (uses_taken takes names flags words) (reads words)
     where
       go : (read : Option (List Use)) → ReadsWords words read → Agrees (option_map by read) (flag_kinds words)
       go None fails = fails
       go (Some uses) reads = reads.0
 
   -- it meets their values
-  pub flags_met : ((uses : List Use) → wants_path takes uses ≡ false → HasValues (by uses) (rows_of_uses uses)) → (words : List Text) (asked : Asked) → option_map by (uses_taken takes names words) ≡ Some asked
+  pub flags_met : ((words : List Text) (uses : List Use) → uses_taken takes names flags words ≡ Some uses → wants_path takes uses ≡ false → HasValues (by uses) (fold with_default (rows_of_uses uses) rules)) → (words : List Text) (asked : Asked) → option_map by (uses_taken takes names flags words) ≡ Some asked
       → HasValues asked (rows_after rules [] words)
-  flags_met has words asked named = go (uses_taken takes names words) refl (reads words) named
+  flags_met has words asked named = go (uses_taken takes names flags words) refl (reads words) named
     where
-      go : (read : Option (List Use)) → uses_taken takes names words ≡ read → ReadsWords words read → option_map by read ≡ Some asked → HasValues asked (rows_after rules [] words)
+      go : (read : Option (List Use)) → uses_taken takes names flags words ≡ read → ReadsWords words read → option_map by read ≡ Some asked → HasValues asked (rows_after rules [] words)
       go None is fails named = cc
       go (Some uses) is reads named =
-          let whole = read_wants takes (fold (after_word takes names) (Between []) words) uses is in
-          subst (λ asked. HasValues asked (rows_after rules [] words)) (some_is named) (subst (HasValues (by uses)) (sym reads.1) (has uses whole))
+          let whole = read_wants takes (fold (after_word takes names flags) (Between []) words) uses is in
+          subst (λ asked. HasValues asked (rows_after rules [] words)) (some_is named) (subst (HasValues (by uses)) (sym reads.1) (has words uses is whole))

@@ -1,4 +1,4 @@
--- Which words a command takes that has options with a value, and perhaps a path, and what it then holds.
+-- Which words a command takes that has options with a value, flags, and perhaps a path, and what it then holds.
 use Rattle.std.proofs.Common.{◌≡◌, ◌∙◌, ℕ, Bool, true, false, List, [], ◌∷◌, ◌++◌, Option, Some, None, refl, sym, ap, ap₂, subst, codes, cond, inl, inr, append-nil}
 use Rattle.std.specs.Prelude.{◌⊎◌, ◌||◌, ◌&&◌, not, find, fold, map, option_and_then, option_map, slice_get, IsSome}
 use Rattle.std.specs.List.{list_any}
@@ -14,9 +14,9 @@ use Rattle.clap.specs.Walk.{Held, Waiting, Walk, after_step, long_or_other, arg_
 use Rattle.clap.specs.Faults.{check_fault, defaults_fault, positional_fault, settle_fault, step_fault, stray_fault, turn_fault, use_fault, walk_fault}
 use Rattle.clap.specs.declared.parser.matches.ValueSource.TheVariants.{CommandLine}
 use Rattle.clap.proofs.WalkLemmas.{find-map, list_any-map}
-use Rattle.exh_command.specs.Parser.{option_rule, path_rule}
+use Rattle.exh_command.specs.Parser.{flag_rule, option_rule, path_rule}
 use Rattle.clap.proofs.OnLiterals.{clap_on_literals}
-use Rattle.exh_command.specs.Words.{uses_taken, Between, Ended, Reading, Use, Wanting, Wrong, after_option, after_path, after_word, ends_options, gives_path, is_named, is_option, is_use_of, path_name, used_by, uses_read, option_given, wants_path, whole, with_use}
+use Rattle.exh_command.specs.Words.{uses_taken, Between, Ended, Reading, Use, Wanting, Wrong, after_option, after_path, after_word, ends_options, flag_set, flagged_by, gives_path, is_named, is_option, is_use_of, path_name, used_by, uses_read, option_given, wants_path, whole, with_use}
 use Rattle.exh_command.proofs.WordLemmas.{Fails, IsAsking, IsFlagged, IsValue, or_nothing, by_bundle_fails, by_long, by_long_fails, first_fails, flagged, is_end, is_name, is_plain_word, is_value, long_fails, second_fails}
 
 -- ---- an option, as it is when its command is built, and what is held of its use
@@ -73,6 +73,22 @@ module _ (name value' : Text) (uses : List Use) where
   use_again_fails : list_any (is_use_of name) uses ≡ true → Fails (use_fault false (option_built name) (value' ∷ []) (rows_of_uses uses))
   use_again_fails again = rw (has_row-rows_of_uses name uses, again) tt
 
+-- ---- a flag, of whose use the same is held as of an option that is given its text
+
+abbrev pub flag_built : Text → Rule
+flag_built name = with_index 1 (filled (flag_rule name))
+
+module _ (name : Text) (uses : List Use) where
+  set_more : list_any (is_use_of name) uses ≡ false → used (flag_built name) [] (rows_of_uses uses) ≡ rows_of_uses (more name flag_set uses)
+  set_more unused = used_more name flag_set uses unused
+
+  set_passes : list_any (is_use_of name) uses ≡ false → use_fault false (flag_built name) [] (rows_of_uses uses) ≡ []
+  unfolding clap_on_literals
+  set_passes unused = rw (has_row-rows_of_uses name uses, unused) refl
+
+  set_again_fails : list_any (is_use_of name) uses ≡ true → Fails (use_fault false (flag_built name) [] (rows_of_uses uses))
+  set_again_fails again = rw (has_row-rows_of_uses name uses, again) tt
+
 -- an option without its value
 bare_fails : (name : Text) (rows : List Row) → Fails (use_fault false (option_built name) [] rows)
 bare_fails name rows = tt
@@ -122,20 +138,21 @@ abbrev pub FailsWhere : Bool → Kinds → Type 0
 FailsWhere true kinds = Fails kinds
 FailsWhere false kinds = kinds ≡ []
 
--- its arguments are the options of these names, and flags that ask for help, and a path where it takes one
-pub record IsOptionLeaf (takes : Bool) (command : Text) (rules : List Rule) (names : List Text) : Type 0 where
+-- its arguments are the options and the flags of these names, and flags that ask for help, and a path where it takes one
+pub record IsOptionLeaf (takes : Bool) (command : Text) (rules : List Rule) (names flags : List Text) : Type 0 where
   pub by_long_name : (name : Text) → is_named names name ≡ true → arg_by_long rules name ≡ Some (option_built name)
   pub by_id : (name : Text) → is_named names name ≡ true → arg_by_id rules name ≡ Some (option_built name)
-  pub asks : (name : Text) → is_named names name ≡ false → IsAsking (arg_by_long rules name)
+  pub by_long_flag : (name : Text) → is_named names name ≡ false → is_named flags name ≡ true → arg_by_long rules name ≡ Some (flag_built name)
+  pub asks : (name : Text) → is_named names name ≡ false → is_named flags name ≡ false → IsAsking (arg_by_long rules name)
   pub asks_short : (c : ℕ) → IsAsking (arg_by_short rules c)
   pub path_by_id : takes ≡ true → arg_by_id rules path_name ≡ Some path_built
   -- the first place is the path's, and there is no second
   pub placed : (used : Bool) → arg_by_index rules (cond used 2 1) ≡ cond (takes && not used) (Some path_built) None
   pub no_option : is_named names path_name ≡ false
+  pub no_flag : is_named flags path_name ≡ false
   pub ends : (uses : List Use) → FailsWhere (wants_path takes uses) (or_else (defaults_fault (rows_of_uses uses) rules) (check_fault (leaf_of command rules) (fold with_default (rows_of_uses uses) rules) false))
-  pub keeps : (rows : List Row) → fold with_default rows rules ≡ rows
 
-module _ (takes : Bool) (command : Text) (rules : List Rule) (names : List Text) (is : IsOptionLeaf takes command rules names) where
+module _ (takes : Bool) (command : Text) (rules : List Rule) (names flags : List Text) (is : IsOptionLeaf takes command rules names flags) where
   abbrev own : Shape
   own = leaf_of command rules
 
@@ -196,7 +213,7 @@ module _ (takes : Bool) (command : Text) (rules : List Rule) (names : List Text)
   Steps w after word = ((turn w word ≡ []) × Follows (next_walk w word) after) ⊎ ((after ≡ Wrong) × Fails (turn w word))
 
   abbrev after : Reading → Text → Reading
-  after = after_word takes names
+  after = after_word takes names flags
 
   -- ---- a word at the place of the path
 
@@ -303,18 +320,30 @@ module _ (takes : Bool) (command : Text) (rules : List Rule) (names : List Text)
     unfolding walked
     end_walked ends = rw ends refl
 
-    -- a name that is no option's
-    other_fails : (waiting : Waiting) (p : Text × Option Text) → is_named names p.0 ≡ false → Fails (kinds_by waiting (Some p))
-    other_fails waiting p other = first_fails _ _ (long_fails own rules is.asks_short rows pending position word p.1 (arg_by_long rules p.0) (is.asks p.0 other))
+    -- a name that is no option's and no flag's
+    other_fails : (waiting : Waiting) (p : Text × Option Text) → is_named names p.0 ≡ false → is_named flags p.0 ≡ false → Fails (kinds_by waiting (Some p))
+    other_fails waiting p other unset = first_fails _ _ (long_fails own rules is.asks_short rows pending position word p.1 (arg_by_long rules p.0) (is.asks p.0 other unset))
 
-    -- where what is held doesn't pass, no option does
+    -- a flag with a value
+    valued_flag_fails : (waiting : Waiting) (name value' : Text) → is_named names name ≡ false → is_named flags name ≡ true → Fails (kinds_by waiting (Some (name, Some value')))
+    valued_flag_fails waiting name value' other sets = rw (is.by_long_flag name other sets) tt
+
+    -- where what is held doesn't pass, no option does, and no flag
     lost_named : (waiting : Waiting) (name : Text) (v : Option Text) → Fails (settle_fault rules false (holds rows pending)) → is_named names name ≡ true → Fails (kinds_by waiting (Some (name, v)))
     lost_named waiting name None lost e = rw (is.by_long_name name e) (first_fails _ _ lost)
     lost_named waiting name (Some v) lost e = rw (is.by_long_name name e) (first_fails _ _ (first_fails _ _ lost))
 
+    lost_flag : (waiting : Waiting) (name : Text) (v : Option Text) → Fails (settle_fault rules false (holds rows pending)) → is_named names name ≡ false → is_named flags name ≡ true → Fails (kinds_by waiting (Some (name, v)))
+    lost_flag waiting name None lost other sets = rw (is.by_long_flag name other sets) (first_fails _ _ (first_fails _ _ lost))
+    lost_flag waiting name (Some v) lost other sets = valued_flag_fails waiting name v other sets
+
+    lost_other : (waiting : Waiting) (p : Text × Option Text) → Fails (settle_fault rules false (holds rows pending)) → is_named names p.0 ≡ false → (sets : Bool) → is_named flags p.0 ≡ sets → Fails (kinds_by waiting (Some p))
+    lost_other waiting p lost other true f = lost_flag waiting p.0 p.1 lost other f
+    lost_other waiting p lost other false f = other_fails waiting p other f
+
     lost_option : (waiting : Waiting) (p : Text × Option Text) → Fails (settle_fault rules false (holds rows pending)) → (named : Bool) → is_named names p.0 ≡ named → Fails (kinds_by waiting (Some p))
     lost_option waiting p lost true e = lost_named waiting p.0 p.1 lost e
-    lost_option waiting p lost false e = other_fails waiting p e
+    lost_option waiting p lost false e = lost_other waiting p lost e (is_named flags p.0) refl
 
     -- nor any other word but `--`
     module _ (lost : Fails (settle_fault rules false (holds rows pending))) (strays : Fails (step_fault own position (holds rows pending) value)) where
@@ -354,14 +383,35 @@ module _ (takes : Bool) (command : Text) (rules : List Rule) (names : List Text)
             rw (is.by_long_name name named)
             (first_fails _ _ (second_fails (settle_fault rules false (holds rows pending)) _ (subst (λ rows. Fails (use_fault false (option_built name) (value' ∷ []) rows)) (sym stands.rows_are) (use_again_fails name value' uses again))))
 
-  -- an option isn't the path
-  place_kept : (name value' : Text) (uses : List Use) → is_named names name ≡ true → place_of (more name value' uses) ≡ place_of uses
-  place_kept name value' uses named =
-      ap (λ b. cond b 2 1) (has_more uses (record { name = name; value = value' }) ∙ ap (λ b. gives_path uses || b) (other (bytes_eq name path_name) refl) ∙ or-false (gives_path uses))
+    -- a flag, of what passes
+    module _ (uses : List Use) (stands : Stands (holds rows pending) uses) (name : Text) (other : is_named names name ≡ false) (sets : is_named flags name ≡ true) where
+      flag_kinds : list_any (is_use_of name) uses ≡ false → kinds_by idle (Some (name, None)) ≡ []
+      flag_kinds unused =
+          rw (is.by_long_flag name other sets)
+          (or_nothing _ ∙ ap₂ or_else stands.settles (ap (use_fault false (flag_built name) []) stands.rows_are ∙ set_passes name uses unused))
+
+      flag_walk : list_any (is_use_of name) uses ≡ false → walk_by (Some (name, None)) ≡ standing position (holds (rows_of_uses (more name flag_set uses)) None)
+      flag_walk unused =
+          rw (is.by_long_flag name other sets) (ap (λ rows. standing position (holds rows None)) (ap (used (flag_built name) []) stands.rows_are ∙ set_more name uses unused))
+
+      flag_again : list_any (is_use_of name) uses ≡ true → Fails (kinds_by idle (Some (name, None)))
+      flag_again again =
+          rw (is.by_long_flag name other sets)
+          (first_fails _ _ (second_fails (settle_fault rules false (holds rows pending)) _ (subst (λ rows. Fails (use_fault false (flag_built name) [] rows)) (sym stands.rows_are) (set_again_fails name uses again))))
+
+  -- an option or a flag isn't the path
+  is_apart : (all : List Text) (name : Text) → is_named all path_name ≡ false → is_named all name ≡ true → bytes_eq name path_name ≡ false
+  is_apart all name no_path named = go (bytes_eq name path_name) refl
     where
-      other : (same : Bool) → bytes_eq name path_name ≡ same → bytes_eq name path_name ≡ false
-      other true e = absurd (let never : true ≡ false = sym named ∙ ap (is_named names) (is_name name path_name e) ∙ is.no_option in cc)
-      other false e = e
+      go : (same : Bool) → bytes_eq name path_name ≡ same → bytes_eq name path_name ≡ false
+      go true e = absurd (let never : true ≡ false = sym named ∙ ap (is_named all) (is_name name path_name e) ∙ no_path in cc)
+      go false e = e
+
+  place_after : (name value' : Text) (uses : List Use) → bytes_eq name path_name ≡ false → place_of (more name value' uses) ≡ place_of uses
+  place_after name value' uses apart = ap (λ b. cond b 2 1) (has_more uses (record { name = name; value = value' }) ∙ ap (λ b. gives_path uses || b) apart ∙ or-false (gives_path uses))
+
+  place_kept : (name value' : Text) (uses : List Use) → is_named names name ≡ true → place_of (more name value' uses) ≡ place_of uses
+  place_kept name value' uses named = place_after name value' uses (is_apart names name is.no_option named)
 
   step_lost : (w : Walk) → IsLost w → (word : Text) → Steps w Wrong word
   step_lost w l word = go l.place
@@ -413,11 +463,35 @@ module _ (takes : Bool) (command : Text) (rules : List Rule) (names : List Text)
       )
       at_value name (Some value') same named = at_use name value' same named (list_any (is_use_of name) uses) refl
 
-      at_named : (p : Text × Option Text) → long_of word ≡ Some p → (named : Bool) → is_named names p.0 ≡ named → Steps here (cond named (used_by p.0 p.1 uses) Wrong) word
-      at_named p same true e = at_value p.0 p.1 same e
-      at_named p same false e = inr (refl, by_kinds _ same (other_fails rows pending (place_of uses) word idle p e))
+      -- a flag
+      at_set : (name : Text) → long_of word ≡ Some (name, None) → is_named names name ≡ false → is_named flags name ≡ true → (again : Bool) → list_any (is_use_of name) uses ≡ again
+          → Steps here (cond again Wrong (Between (more name flag_set uses))) word
+      at_set name same other sets true e = inr (refl, by_kinds _ same (flag_again rows pending (place_of uses) word uses stands name other sets e))
+      at_set name same other sets false e = inl (
+        by_none _ same (flag_kinds rows pending (place_of uses) word uses stands name other sets e),
+        record {
+          rows = rows_of_uses (more name flag_set uses);
+          pending = None;
+          walk_is = by_walk _ _ same (flag_walk rows pending (place_of uses) word uses stands name other sets e)
+              ∙ ap (λ position. standing position (holds (rows_of_uses (more name flag_set uses)) None)) (sym (place_after name flag_set uses (is_apart flags name is.no_flag sets)));
+          stands = record { settles = refl; rows_are = refl };
+        },
+      )
 
-      at_long : is_option word ≡ true → (long : Option (Text × Option Text)) → long_of word ≡ long → Steps here (after_option names long uses) word
+      at_flag : (name : Text) (v : Option Text) → long_of word ≡ Some (name, v) → is_named names name ≡ false → is_named flags name ≡ true → Steps here (flagged_by name v uses) word
+      at_flag name None same other sets = at_set name same other sets (list_any (is_use_of name) uses) refl
+      at_flag name (Some v) same other sets = inr (refl, by_kinds _ same (valued_flag_fails rows pending (place_of uses) word idle name v other sets))
+
+      at_other : (p : Text × Option Text) → long_of word ≡ Some p → is_named names p.0 ≡ false → (sets : Bool) → is_named flags p.0 ≡ sets → Steps here (cond sets (flagged_by p.0 p.1 uses) Wrong) word
+      at_other p same other true f = at_flag p.0 p.1 same other f
+      at_other p same other false f = inr (refl, by_kinds _ same (other_fails rows pending (place_of uses) word idle p other f))
+
+      at_named : (p : Text × Option Text) → long_of word ≡ Some p → (named : Bool) → is_named names p.0 ≡ named
+          → Steps here (cond named (used_by p.0 p.1 uses) (cond (is_named flags p.0) (flagged_by p.0 p.1 uses) Wrong)) word
+      at_named p same true e = at_value p.0 p.1 same e
+      at_named p same false e = at_other p same e (is_named flags p.0) refl
+
+      at_long : is_option word ≡ true → (long : Option (Text × Option Text)) → long_of word ≡ long → Steps here (after_option names flags long uses) word
       at_long o None same = inr (refl, by_kinds _ same (bundle_fails rows pending (place_of uses) word idle (flagged word o no_end) same))
       at_long o (Some p) same = at_named p same (is_named names p.0) refl
 
@@ -446,7 +520,7 @@ module _ (takes : Bool) (command : Text) (rules : List Rule) (names : List Text)
         at_path false e = inr (refl, subst Fails (sym turn_here) (too_many uses (holds rows pending) e))
 
     at_between : (ends is_flag : Bool) → ends_options word ≡ ends → is_option word ≡ is_flag
-        → Steps (standing (place_of uses) (holds rows pending)) (cond ends (Ended uses) (cond is_flag (after_option names (long_of word) uses) (after_path takes Between word uses))) word
+        → Steps (standing (place_of uses) (holds rows pending)) (cond ends (Ended uses) (cond is_flag (after_option names flags (long_of word) uses) (after_path takes Between word uses))) word
     at_between true is_flag e o = inl (end_passes rows pending (place_of uses) word e, record { waiting = idle; held = holds rows pending; walk_is = end_walked rows pending (place_of uses) word e; stands = stands })
     at_between false true e o = at_long e o (long_of word) refl
     at_between false false e o = at_path e o (wants_path takes uses) refl
@@ -565,7 +639,7 @@ module _ (takes : Bool) (command : Text) (rules : List Rule) (names : List Text)
   -- words that use options, or fail
   abbrev pub Reads : Walk → List Text → Option (List Use) → Type 0
   Reads w words None = Fails (kinds_left w words)
-  Reads w words (Some uses) = (kinds_left w words ≡ []) × (rows_left w words ≡ rows_of_uses uses)
+  Reads w words (Some uses) = (kinds_left w words ≡ []) × (rows_left w words ≡ fold with_default (rows_of_uses uses) rules)
 
   stands_end : (held : Held) (uses : List Use) → Stands held uses → FailsWhere (wants_path takes uses) (ending held)
   stands_end held uses s =
@@ -578,7 +652,7 @@ module _ (takes : Bool) (command : Text) (rules : List Rule) (names : List Text)
     where
       go : (wants : Bool) → FailsWhere wants (ending w.held) → Reads w [] (cond wants None (Some uses))
       go true fails = fails
-      go false none = (none, is.keeps (settled rules w.held).rows ∙ s.rows_are)
+      go false none = (none, ap (λ rows. fold with_default rows rules) s.rows_are)
 
   lost_end : (w : Walk) → IsLost w → Fails (ending w.held)
   lost_end w l = go l.place
@@ -616,5 +690,5 @@ module _ (takes : Bool) (command : Text) (rules : List Rule) (names : List Text)
           subst (Reads w (word ∷ words)) (sym (ap (λ reading. uses_read takes (fold after reading words)) wrong ∙ wrong_stays words)) (first_fails _ _ (first_fails _ _ fails))
 
   -- the words behind the command
-  pub options_read : (words : List Text) → Reads (walk_from nothing_held) words (uses_taken takes names words)
+  pub options_read : (words : List Text) → Reads (walk_from nothing_held) words (uses_taken takes names flags words)
   options_read words = reads_on words (walk_from nothing_held) (Between []) (record { rows = []; pending = None; walk_is = refl; stands = record { settles = refl; rows_are = refl } })

@@ -11,24 +11,25 @@ use Rattle.clap.specs.Words.{App, HasKind, found_of, rows_of, subcommand_name_of
 use Rattle.clap.specs.Kinds.{or_else}
 use Rattle.clap.specs.Lexer.{long_of}
 use Rattle.clap.specs.Simple.{built, entered, filled_from, help_rule, names_of}
-use Rattle.clap.specs.Walk.{Names, Walk, after_step, arg_by_long, arg_by_short, finished, has_long, has_short, idle, nothing_held, rows_after, settled, subcommand_met, walk_from, walked}
+use Rattle.clap.specs.Walk.{Names, Walk, after_step, arg_by_long, arg_by_short, finished, has_long, has_short, idle, nothing_held, rows_after, settled, subcommand_met, walk_from, walked, with_default}
 use Rattle.clap.specs.Faults.{built_fault, check_fault, defaults_fault, entered_fault, level_fault, settle_fault, step_fault, turn_fault, walk_fault}
 use Rattle.clap.specs.declared.error.Error.{Error}
 use Rattle.clap.specs.declared.error.kind.ErrorKind.TheVariants as kind
 use Rattle.clap.proofs.OnLiterals.{clap_on_literals}
-use Rattle.clap.proofs.WalkLemmas.{both, first_value-rows, walk_stopped}
+use Rattle.clap.proofs.WalkLemmas.{both, first_value-rows, one_text-rows, walk_stopped}
 use Rattle.clap.proofs.FaultLemmas.{stopped_fault}
 use Rattle.exh_command.specs.CommandFault.{IsFaultOf, IsWrong, TellsVersion}
-use Rattle.exh_command.specs.Words.{Use, alone, ends_options, gives_path, is_option, is_use_of, only_word, option_given, path_and_key, path_and_three, path_and_two, path_name, path_named, uses_and_path, uses_named, wants_path}
-use Rattle.exh_command.specs.Job.{AskForVersion, Asked, Serve, Check, Dump, Load, Storm, Get, Put, Del, Swap, Pairs, asked_by, callers_name, calls_name, cap_name, command_of, copies_name, del_asked, deleted_by, get_asked, got_by, job_asked, job_named, keyer_name, open_name, paired_by, pairs_asked, pairs_names, put_asked, put_by, save_name, serve_asked, serve_names, served_by, storm_asked, storm_names, stormed_by, swap_asked, swapped_by, wards_name}
-use Rattle.exh_command.specs.Parser.{HasPairsTexts, HasTexts, HasValues, IsJobMet, Meets, ReadsJobs, key_id, new_id, old_id, pairs_texts_of, path_id, path_rule, texts_of, value_id}
+use Rattle.exh_command.specs.Words.{Use, alone, ends_options, flags_and_path, gives_path, is_option, is_use_of, only_word, option_given, path_and_key, path_and_three, path_and_two, path_name, path_named, uses_and_path, uses_named, wants_path}
+use Rattle.exh_command.specs.Job.{AskForVersion, Asked, Serve, Check, Dump, Load, Storm, Get, Put, Del, Swap, Pairs, asked_by, callers_name, calls_name, cap_name, command_of, copies_name, del_asked, deleted_by, get_asked, got_by, job_asked, job_named, into_name, keyer_name, load_asked, load_flags, loaded_by, long_name, open_name, paired_by, pairs_asked, pairs_names, put_asked, put_by, save_name, serve_asked, serve_names, served_by, storm_asked, storm_names, stormed_by, swap_asked, swapped_by, wards_name}
+use Rattle.exh_command.specs.Parser.{HasFlags, HasPairsTexts, HasTexts, HasValues, IsJobMet, Meets, ReadsJobs, key_id, new_id, old_id, pairs_texts_of, path_id, path_rule, texts_of, value_id}
 use Rattle.exh_command.proofs.TheProgram.{program, serve}
 use Rattle.exh_command.proofs.KeyWords.{key_agrees, key_flags, key_kinds, key_met}
 use Rattle.exh_command.proofs.PutWords.{put_agrees, put_flags, put_kinds, put_met}
 use Rattle.exh_command.proofs.SwapWords.{swap_agrees, swap_flags, swap_kinds, swap_met}
 use Rattle.exh_command.specs.declared.fault.CliFault.{CliFault}
 use Rattle.exh_command.proofs.OptionLemmas.{IsOptionLeaf, first_of-rows_of_uses, rows_of_uses}
-use Rattle.exh_command.proofs.OptionFlags.{flags_agree, flags_met, help_asking, no_defaults, option_flags, option_leaf, path_flags_of, path_leaf_of}
+use Rattle.exh_command.proofs.OptionFlags.{flags_agree, flags_met, help_asking, keeps_rows, no_defaults, option_flags, option_leaf, path_flags_of, path_keeps, path_leaf_of}
+use Rattle.exh_command.proofs.SetFlags.{first_text, flags_leaf_of, path_and_flags, path_value_kept, second_text, uses_set}
 use Rattle.exh_command.proofs.WordLemmas.{Agrees, Fails, IsAsking, IsValue, agreed, agrees_as, all_ask, first_fails, flags, help, is_end, is_name, is_plain_word, is_value, option_fails, or_nothing, some_is, version, word_fails}
 
 -- ---- the parser, as clap's clauses see it
@@ -49,11 +50,11 @@ path_flags = filled_from 1 (path_rule ∷ help_rule ∷ [])
 
 -- ---- the words after `serve`, and after `storm`
 
-serve_leaf : IsOptionLeaf false (codes "serve") serve_flags serve_names
+serve_leaf : IsOptionLeaf false (codes "serve") serve_flags serve_names []
 unfolding clap_on_literals
 serve_leaf = option_leaf (codes "serve") serve_names refl (λ rows. ap₂ or_else (no_defaults serve_names rows) refl)
 
-storm_leaf : IsOptionLeaf false (codes "storm") storm_flags storm_names
+storm_leaf : IsOptionLeaf false (codes "storm") storm_flags storm_names []
 unfolding clap_on_literals
 storm_leaf = option_leaf (codes "storm") storm_names refl (λ rows. ap₂ or_else (no_defaults storm_names rows) refl)
 
@@ -64,10 +65,10 @@ abbrev storm_kinds : List Text → Kinds
 storm_kinds words = level_fault (slice_index_or (built program).subs 4 serve) [] nothing_held words false []
 
 leaf_agrees : (words : List Text) → Agrees (serve_asked words) (leaf_kinds words)
-leaf_agrees words = flags_agree false (codes "serve") serve_flags serve_names serve_leaf served_by words
+leaf_agrees words = flags_agree false (codes "serve") serve_flags serve_names [] serve_leaf served_by words
 
 storm_agrees : (words : List Text) → Agrees (storm_asked words) (storm_kinds words)
-storm_agrees words = flags_agree false (codes "storm") storm_flags storm_names storm_leaf stormed_by words
+storm_agrees words = flags_agree false (codes "storm") storm_flags storm_names [] storm_leaf stormed_by words
 
 served_values : (uses : List Use) → wants_path false uses ≡ false → HasValues (served_by uses) (rows_of_uses uses)
 served_values uses whole = (first_of-rows_of_uses open_name uses, first_of-rows_of_uses save_name uses)
@@ -83,17 +84,17 @@ stormed_values uses whole = record {
 
 -- they meet their values
 leaf_met : (words : List Text) (asked : Asked) → serve_asked words ≡ Some asked → HasValues asked (rows_after serve_flags [] words)
-leaf_met words asked named = flags_met false (codes "serve") serve_flags serve_names serve_leaf served_by served_values words asked named
+leaf_met words asked named = flags_met false (codes "serve") serve_flags serve_names [] serve_leaf served_by (λ words uses is whole. subst (HasValues (served_by uses)) (sym (keeps_rows serve_names (rows_of_uses uses))) (served_values uses whole)) words asked named
 
 storm_leaf_met : (words : List Text) (asked : Asked) → storm_asked words ≡ Some asked → HasValues asked (rows_after storm_flags [] words)
-storm_leaf_met words asked named = flags_met false (codes "storm") storm_flags storm_names storm_leaf stormed_by stormed_values words asked named
+storm_leaf_met words asked named = flags_met false (codes "storm") storm_flags storm_names [] storm_leaf stormed_by (λ words uses is whole. subst (HasValues (stormed_by uses)) (sym (keeps_rows storm_names (rows_of_uses uses))) (stormed_values uses whole)) words asked named
 
 -- ---- the words after `pairs`
 
 abbrev pairs_flags : List Rule
 pairs_flags = path_flags_of pairs_names
 
-pairs_leaf : IsOptionLeaf true (codes "pairs") pairs_flags pairs_names
+pairs_leaf : IsOptionLeaf true (codes "pairs") pairs_flags pairs_names []
 unfolding clap_on_literals
 pairs_leaf = path_leaf_of (codes "pairs") pairs_names refl
 
@@ -101,7 +102,7 @@ abbrev pairs_kinds : List Text → Kinds
 pairs_kinds words = level_fault (slice_index_or (built program).subs 9 serve) [] nothing_held words false []
 
 pairs_agree : (words : List Text) → Agrees (pairs_asked words) (pairs_kinds words)
-pairs_agree words = flags_agree true (codes "pairs") pairs_flags pairs_names pairs_leaf paired_by words
+pairs_agree words = flags_agree true (codes "pairs") pairs_flags pairs_names [] pairs_leaf paired_by words
 
 path_given_is : (uses : List Use) → is_some (option_given path_name uses) ≡ gives_path uses
 path_given_is [] = refl
@@ -131,7 +132,35 @@ paired_values uses whole =
     )
 
 pairs_met : (words : List Text) (asked : Asked) → pairs_asked words ≡ Some asked → HasValues asked (rows_after pairs_flags [] words)
-pairs_met words asked named = flags_met true (codes "pairs") pairs_flags pairs_names pairs_leaf paired_by paired_values words asked named
+pairs_met words asked named = flags_met true (codes "pairs") pairs_flags pairs_names [] pairs_leaf paired_by (λ words uses is whole. subst (HasValues (paired_by uses)) (sym (path_keeps pairs_names (rows_of_uses uses))) (paired_values uses whole)) words asked named
+
+-- ---- the words after `load`
+
+abbrev load_rules : List Rule
+load_rules = path_and_flags load_flags
+
+load_leaf : IsOptionLeaf true (codes "load") load_rules [] load_flags
+unfolding clap_on_literals
+load_leaf = flags_leaf_of (codes "load") load_flags refl
+
+abbrev load_kinds : List Text → Kinds
+load_kinds words = level_fault (slice_index_or (built program).subs 3 serve) [] nothing_held words false []
+
+load_agrees : (words : List Text) → Agrees (load_asked words) (load_kinds words)
+load_agrees words = flags_agree true (codes "load") load_rules [] load_flags load_leaf loaded_by words
+
+loaded_values : (words : List Text) (uses : List Use) → flags_and_path load_flags words ≡ Some uses → wants_path true uses ≡ false → HasValues (loaded_by uses) (fold with_default (rows_of_uses uses) load_rules)
+unfolding clap_on_literals
+loaded_values words uses is whole =
+    let all = uses_set load_flags refl words uses is in
+    let given = path_given_is uses ∙ not-false (gives_path uses) whole in (
+      path_value_kept load_flags refl uses ∙ first_of-rows_of_uses path_name uses ∙ some_or (option_given path_name uses) given,
+      first_text long_name into_name refl refl uses all refl refl,
+      second_text long_name into_name refl refl uses all refl refl,
+    )
+
+load_met : (words : List Text) (asked : Asked) → load_asked words ≡ Some asked → HasValues asked (rows_after load_rules [] words)
+load_met words asked named = flags_met true (codes "load") load_rules [] load_flags load_leaf loaded_by loaded_values words asked named
 
 -- ---- the words after a command about a path
 
@@ -303,9 +332,9 @@ dump_leaves : (words : List Text) → top_kinds (codes "dump" ∷ words) ≡ pat
 unfolding clap_on_literals
 dump_leaves words = stopped_is (codes "dump") words ∙ or_nothing (path_kinds words)
 
-load_leaves : (words : List Text) → top_kinds (codes "load" ∷ words) ≡ path_kinds words
+load_leaves : (words : List Text) → top_kinds (codes "load" ∷ words) ≡ load_kinds words
 unfolding clap_on_literals
-load_leaves words = stopped_is (codes "load") words ∙ or_nothing (path_kinds words)
+load_leaves words = stopped_is (codes "load") words ∙ or_nothing (load_kinds words)
 
 storm_leaves : (words : List Text) → top_kinds (codes "storm" ∷ words) ≡ storm_kinds words
 unfolding clap_on_literals
@@ -353,7 +382,7 @@ module _ (word : Text) (no_serve : bytes_eq (codes "serve") word ≡ false) (no_
       first_fails _ _ (first_fails _ _ (word_fails top flags short_asking [] None 1 word refl (all_ask flags long_asking (long_of word)) names (unnamed no_help) no_end))
 
 command_agrees : (word : Text) (rest : List Text) (serves checks dumps loads storms gets puts dels swaps pairs : Bool) → bytes_eq (codes "serve") word ≡ serves → bytes_eq (codes "check") word ≡ checks → bytes_eq (codes "dump") word ≡ dumps → bytes_eq (codes "load") word ≡ loads → bytes_eq (codes "storm") word ≡ storms → bytes_eq (codes "get") word ≡ gets → bytes_eq (codes "put") word ≡ puts → bytes_eq (codes "del") word ≡ dels → bytes_eq (codes "swap") word ≡ swaps → bytes_eq (codes "pairs") word ≡ pairs
-    → Agrees (cond serves (serve_asked rest) (cond checks (option_map Check (path_named rest)) (cond dumps (option_map Dump (path_named rest)) (cond loads (option_map Load (path_named rest)) (cond storms (storm_asked rest) (cond gets (get_asked rest) (cond puts (put_asked rest) (cond dels (del_asked rest) (cond swaps (swap_asked rest) (cond pairs (pairs_asked rest) None))))))))))
+    → Agrees (cond serves (serve_asked rest) (cond checks (option_map Check (path_named rest)) (cond dumps (option_map Dump (path_named rest)) (cond loads (load_asked rest) (cond storms (storm_asked rest) (cond gets (get_asked rest) (cond puts (put_asked rest) (cond dels (del_asked rest) (cond swaps (swap_asked rest) (cond pairs (pairs_asked rest) None))))))))))
     (top_kinds (word ∷ rest))
 command_agrees word rest true checks dumps loads storms gets puts dels swaps pairs s c d l o g p e w i =
     let left = subst (Agrees (serve_asked rest)) (sym (serve_leaves rest)) (leaf_agrees rest) in
@@ -365,8 +394,8 @@ command_agrees word rest false false true loads storms gets puts dels swaps pair
     let left = subst (Agrees (option_map Dump (path_named rest))) (sym (dump_leaves rest)) (agrees_as Dump _ _ (path_agrees rest)) in
     subst (λ w. Agrees (option_map Dump (path_named rest)) (top_kinds (w ∷ rest))) (is_name (codes "dump") word d) left
 command_agrees word rest false false false true storms gets puts dels swaps pairs s c d l o g p e w i =
-    let left = subst (Agrees (option_map Load (path_named rest))) (sym (load_leaves rest)) (agrees_as Load _ _ (path_agrees rest)) in
-    subst (λ w. Agrees (option_map Load (path_named rest)) (top_kinds (w ∷ rest))) (is_name (codes "load") word l) left
+    let left = subst (Agrees (load_asked rest)) (sym (load_leaves rest)) (load_agrees rest) in
+    subst (λ w. Agrees (load_asked rest) (top_kinds (w ∷ rest))) (is_name (codes "load") word l) left
 command_agrees word rest false false false false true gets puts dels swaps pairs s c d l o g p e w i =
     let left = subst (Agrees (storm_asked rest)) (sym (storm_leaves rest)) (storm_agrees rest) in
     subst (λ w. Agrees (storm_asked rest) (top_kinds (w ∷ rest))) (is_name (codes "storm") word o) left
@@ -412,9 +441,9 @@ dump_met : (name : Text) (words : List Text) → subcommand_of program (name ∷
 unfolding clap_on_literals
 dump_met name words = met_at (codes "dump") words
 
-load_met : (name : Text) (words : List Text) → subcommand_of program (name ∷ codes "load" ∷ words) ≡ Some (codes "load", rows_after path_flags [] words)
+load_command_met : (name : Text) (words : List Text) → subcommand_of program (name ∷ codes "load" ∷ words) ≡ Some (codes "load", rows_after load_rules [] words)
 unfolding clap_on_literals
-load_met name words = met_at (codes "load") words
+load_command_met name words = met_at (codes "load") words
 
 storm_met : (name : Text) (words : List Text) → subcommand_of program (name ∷ codes "storm" ∷ words) ≡ Some (codes "storm", rows_after storm_flags [] words)
 unfolding clap_on_literals
@@ -466,6 +495,13 @@ pairs_is_met name rest asked named = record {
   values = pairs_met rest asked named;
 }
 
+load_is_met : (name : Text) (rest : List Text) (asked : Asked) → load_asked rest ≡ Some asked → Meets program (name ∷ codes "load" ∷ rest) asked
+load_is_met name rest asked named = record {
+  rows = rows_after load_rules [] rest;
+  met = load_command_met name rest ∙ ap (λ command. Some (command, rows_after load_rules [] rest)) (is_by loaded_by (codes "load") (λ uses. refl) (flags_and_path load_flags rest) asked named);
+  values = load_met rest asked named;
+}
+
 -- and so of a command about a path
 path_is_met : (name command : Text) (of : Text → Asked) → ((path : Text) → command_of (of path) ≡ command) → ((path : Text) (rows : List Row) → first_of path_id rows ≡ Some path → HasValues (of path) rows)
     → (rest : List Text) → subcommand_of program (name ∷ command ∷ rest) ≡ Some (command, rows_after path_flags [] rest)
@@ -511,7 +547,7 @@ swap_is_met name rest (Some words) asked named same = let has = swap_met rest wo
 })
 
 command_met : (name word : Text) (rest : List Text) (serves checks dumps loads storms gets puts dels swaps pairs : Bool) (asked : Asked) → bytes_eq (codes "serve") word ≡ serves → bytes_eq (codes "check") word ≡ checks → bytes_eq (codes "dump") word ≡ dumps → bytes_eq (codes "load") word ≡ loads → bytes_eq (codes "storm") word ≡ storms → bytes_eq (codes "get") word ≡ gets → bytes_eq (codes "put") word ≡ puts → bytes_eq (codes "del") word ≡ dels → bytes_eq (codes "swap") word ≡ swaps → bytes_eq (codes "pairs") word ≡ pairs
-    → (cond serves (serve_asked rest) (cond checks (option_map Check (path_named rest)) (cond dumps (option_map Dump (path_named rest)) (cond loads (option_map Load (path_named rest)) (cond storms (storm_asked rest) (cond gets (get_asked rest) (cond puts (put_asked rest) (cond dels (del_asked rest) (cond swaps (swap_asked rest) (cond pairs (pairs_asked rest) None)))))))))) ≡ Some asked
+    → (cond serves (serve_asked rest) (cond checks (option_map Check (path_named rest)) (cond dumps (option_map Dump (path_named rest)) (cond loads (load_asked rest) (cond storms (storm_asked rest) (cond gets (get_asked rest) (cond puts (put_asked rest) (cond dels (del_asked rest) (cond swaps (swap_asked rest) (cond pairs (pairs_asked rest) None)))))))))) ≡ Some asked
     → Meets program (name ∷ word ∷ rest) asked
 command_met name word rest true checks dumps loads storms gets puts dels swaps pairs asked s c d l o g p e w i named =
     subst (λ w. Meets program (name ∷ w ∷ rest) asked) (is_name (codes "serve") word s) (serve_is_met name rest asked named)
@@ -520,7 +556,7 @@ command_met name word rest false true dumps loads storms gets puts dels swaps pa
 command_met name word rest false false true loads storms gets puts dels swaps pairs asked s c d l o g p e w i named =
     subst (λ w. Meets program (name ∷ w ∷ rest) asked) (is_name (codes "dump") word d) (path_is_met name (codes "dump") Dump (λ path. refl) (λ path rows is. is) rest (dump_met name rest) (path_named rest) asked refl named)
 command_met name word rest false false false true storms gets puts dels swaps pairs asked s c d l o g p e w i named =
-    subst (λ w. Meets program (name ∷ w ∷ rest) asked) (is_name (codes "load") word l) (path_is_met name (codes "load") Load (λ path. refl) (λ path rows is. is) rest (load_met name rest) (path_named rest) asked refl named)
+    subst (λ w. Meets program (name ∷ w ∷ rest) asked) (is_name (codes "load") word l) (load_is_met name rest asked named)
 command_met name word rest false false false false true gets puts dels swaps pairs asked s c d l o g p e w i named =
     subst (λ w. Meets program (name ∷ w ∷ rest) asked) (is_name (codes "storm") word o) (storm_is_met name rest asked named)
 command_met name word rest false false false false false true puts dels swaps pairs asked s c d l o g p e w i named =
@@ -611,7 +647,7 @@ serves (Serve opening saving) own opened saved is opens saves =
     ap₂ (λ opened saved. Some (Serve opened saved)) (sym (opens ∙ first_value-rows (found_of own) open_name ∙ is.values.0)) (sym (saves ∙ first_value-rows (found_of own) save_name ∙ is.values.1))
 serves (Check path) own opened saved is opens saves = absurd (let never : 115 ≡ 99 = ap (λ (word : Text). slice_index_or word 0 0) is.command_is in omega arith)
 serves (Dump path) own opened saved is opens saves = absurd (let never : 115 ≡ 100 = ap (λ (word : Text). slice_index_or word 0 0) is.command_is in omega arith)
-serves (Load path) own opened saved is opens saves = absurd (let never : 115 ≡ 108 = ap (λ (word : Text). slice_index_or word 0 0) is.command_is in omega arith)
+serves (Load path long into) own opened saved is opens saves = absurd (let never : 115 ≡ 108 = ap (λ (word : Text). slice_index_or word 0 0) is.command_is in omega arith)
 serves (Storm texts) own opened saved is opens saves = absurd (let never : 101 ≡ 116 = ap (λ (word : Text). slice_index_or word 1 0) is.command_is in omega arith)
 serves (Get path word) own opened saved is opens saves = absurd (let never : 115 ≡ 103 = ap (λ (word : Text). slice_index_or word 0 0) is.command_is in omega arith)
 serves (Put path key value) own opened saved is opens saves = absurd (let never : 115 ≡ 112 = ap (λ (word : Text). slice_index_or word 0 0) is.command_is in omega arith)
@@ -630,7 +666,7 @@ pub checks : (asked : Asked) (own : ArgMatches) → IsOwn (codes "check") own as
 checks (Serve opening saving) own is path read = absurd (let never : 99 ≡ 115 = ap (λ (word : Text). slice_index_or word 0 0) is.command_is in omega arith)
 checks (Check other) own is path read = ap (λ path. Some (Check path)) (same_path own other path is.values read)
 checks (Dump other) own is path read = absurd (let never : 99 ≡ 100 = ap (λ (word : Text). slice_index_or word 0 0) is.command_is in omega arith)
-checks (Load other) own is path read = absurd (let never : 99 ≡ 108 = ap (λ (word : Text). slice_index_or word 0 0) is.command_is in omega arith)
+checks (Load other long into) own is path read = absurd (let never : 99 ≡ 108 = ap (λ (word : Text). slice_index_or word 0 0) is.command_is in omega arith)
 checks (Storm texts) own is path read = absurd (let never : 99 ≡ 115 = ap (λ (word : Text). slice_index_or word 0 0) is.command_is in omega arith)
 checks (Get file word) own is path read = absurd (let never : 99 ≡ 103 = ap (λ (word : Text). slice_index_or word 0 0) is.command_is in omega arith)
 checks (Put file key value) own is path read = absurd (let never : 99 ≡ 112 = ap (λ (word : Text). slice_index_or word 0 0) is.command_is in omega arith)
@@ -642,7 +678,7 @@ pub dumps : (asked : Asked) (own : ArgMatches) → IsOwn (codes "dump") own aske
 dumps (Serve opening saving) own is path read = absurd (let never : 100 ≡ 115 = ap (λ (word : Text). slice_index_or word 0 0) is.command_is in omega arith)
 dumps (Check other) own is path read = absurd (let never : 100 ≡ 99 = ap (λ (word : Text). slice_index_or word 0 0) is.command_is in omega arith)
 dumps (Dump other) own is path read = ap (λ path. Some (Dump path)) (same_path own other path is.values read)
-dumps (Load other) own is path read = absurd (let never : 100 ≡ 108 = ap (λ (word : Text). slice_index_or word 0 0) is.command_is in omega arith)
+dumps (Load other long into) own is path read = absurd (let never : 100 ≡ 108 = ap (λ (word : Text). slice_index_or word 0 0) is.command_is in omega arith)
 dumps (Storm texts) own is path read = absurd (let never : 100 ≡ 115 = ap (λ (word : Text). slice_index_or word 0 0) is.command_is in omega arith)
 dumps (Get file word) own is path read = absurd (let never : 100 ≡ 103 = ap (λ (word : Text). slice_index_or word 0 0) is.command_is in omega arith)
 dumps (Put file key value) own is path read = absurd (let never : 100 ≡ 112 = ap (λ (word : Text). slice_index_or word 0 0) is.command_is in omega arith)
@@ -650,17 +686,33 @@ dumps (Del file key) own is path read = absurd (let never : 117 ≡ 101 = ap (λ
 dumps (Swap file key old new) own is path read = absurd (let never : 100 ≡ 115 = ap (λ (word : Text). slice_index_or word 0 0) is.command_is in omega arith)
 dumps (Pairs file texts) own is path read = absurd (let never : 100 ≡ 112 = ap (λ (word : Text). slice_index_or word 0 0) is.command_is in omega arith)
 
-pub loads : (asked : Asked) (own : ArgMatches) → IsOwn (codes "load") own asked → (path : Text) → Some path ≡ first_value (found_of own) path_id → Some asked ≡ Some (Load path)
-loads (Serve opening saving) own is path read = absurd (let never : 108 ≡ 115 = ap (λ (word : Text). slice_index_or word 0 0) is.command_is in omega arith)
-loads (Check other) own is path read = absurd (let never : 108 ≡ 99 = ap (λ (word : Text). slice_index_or word 0 0) is.command_is in omega arith)
-loads (Dump other) own is path read = absurd (let never : 108 ≡ 100 = ap (λ (word : Text). slice_index_or word 0 0) is.command_is in omega arith)
-loads (Load other) own is path read = ap (λ path. Some (Load path)) (same_path own other path is.values read)
-loads (Storm texts) own is path read = absurd (let never : 108 ≡ 115 = ap (λ (word : Text). slice_index_or word 0 0) is.command_is in omega arith)
-loads (Get file word) own is path read = absurd (let never : 108 ≡ 103 = ap (λ (word : Text). slice_index_or word 0 0) is.command_is in omega arith)
-loads (Put file key value) own is path read = absurd (let never : 108 ≡ 112 = ap (λ (word : Text). slice_index_or word 0 0) is.command_is in omega arith)
-loads (Del file key) own is path read = absurd (let never : 108 ≡ 100 = ap (λ (word : Text). slice_index_or word 0 0) is.command_is in omega arith)
-loads (Swap file key old new) own is path read = absurd (let never : 108 ≡ 115 = ap (λ (word : Text). slice_index_or word 0 0) is.command_is in omega arith)
-loads (Pairs file texts) own is path read = absurd (let never : 108 ≡ 112 = ap (λ (word : Text). slice_index_or word 0 0) is.command_is in omega arith)
+-- the path and the flags of a load, as they were read
+pub record GivesLoad (asked : Asked) (own : ArgMatches) : Type 0 where
+  pub path : Text
+  pub long : Bool
+  pub into : Bool
+  pub asked_is : Some asked ≡ Some (Load path long into)
+  pub path_is : Some path ≡ first_value (found_of own) path_id
+  pub flags : HasFlags (found_of own) long into
+
+pub loads : (asked : Asked) (own : ArgMatches) → IsOwn (codes "load") own asked → GivesLoad asked own
+loads (Serve opening saving) own is = absurd (let never : 108 ≡ 115 = ap (λ (word : Text). slice_index_or word 0 0) is.command_is in omega arith)
+loads (Check path) own is = absurd (let never : 108 ≡ 99 = ap (λ (word : Text). slice_index_or word 0 0) is.command_is in omega arith)
+loads (Dump path) own is = absurd (let never : 108 ≡ 100 = ap (λ (word : Text). slice_index_or word 0 0) is.command_is in omega arith)
+loads (Storm texts) own is = absurd (let never : 108 ≡ 115 = ap (λ (word : Text). slice_index_or word 0 0) is.command_is in omega arith)
+loads (Get path word) own is = absurd (let never : 108 ≡ 103 = ap (λ (word : Text). slice_index_or word 0 0) is.command_is in omega arith)
+loads (Put path key value) own is = absurd (let never : 108 ≡ 112 = ap (λ (word : Text). slice_index_or word 0 0) is.command_is in omega arith)
+loads (Del path key) own is = absurd (let never : 108 ≡ 100 = ap (λ (word : Text). slice_index_or word 0 0) is.command_is in omega arith)
+loads (Swap path key old new) own is = absurd (let never : 108 ≡ 115 = ap (λ (word : Text). slice_index_or word 0 0) is.command_is in omega arith)
+loads (Pairs path texts) own is = absurd (let never : 108 ≡ 112 = ap (λ (word : Text). slice_index_or word 0 0) is.command_is in omega arith)
+loads (Load path long into) own is = record {
+  path = path;
+  long = long;
+  into = into;
+  asked_is = refl;
+  path_is = sym (first_value-rows (found_of own) path_id ∙ is.values.0);
+  flags = (one_text-rows (found_of own) long_name ∙ is.values.1, one_text-rows (found_of own) into_name ∙ is.values.2);
+}
 
 -- a text, as it was read
 same_text : (own : ArgMatches) (name : Text) (text : Option Text) → first_of name (rows_of (found_of own)) ≡ text → text ≡ first_value (found_of own) name
@@ -670,7 +722,7 @@ pub storms : (asked : Asked) (own : ArgMatches) → IsOwn (codes "storm") own as
 storms (Serve opening saving) own is = absurd (let never : 116 ≡ 101 = ap (λ (word : Text). slice_index_or word 1 0) is.command_is in omega arith)
 storms (Check path) own is = absurd (let never : 115 ≡ 99 = ap (λ (word : Text). slice_index_or word 0 0) is.command_is in omega arith)
 storms (Dump path) own is = absurd (let never : 115 ≡ 100 = ap (λ (word : Text). slice_index_or word 0 0) is.command_is in omega arith)
-storms (Load path) own is = absurd (let never : 115 ≡ 108 = ap (λ (word : Text). slice_index_or word 0 0) is.command_is in omega arith)
+storms (Load path long into) own is = absurd (let never : 115 ≡ 108 = ap (λ (word : Text). slice_index_or word 0 0) is.command_is in omega arith)
 storms (Get path word) own is = absurd (let never : 115 ≡ 103 = ap (λ (word : Text). slice_index_or word 0 0) is.command_is in omega arith)
 storms (Put path key value) own is = absurd (let never : 115 ≡ 112 = ap (λ (word : Text). slice_index_or word 0 0) is.command_is in omega arith)
 storms (Del path key) own is = absurd (let never : 115 ≡ 100 = ap (λ (word : Text). slice_index_or word 0 0) is.command_is in omega arith)
@@ -693,7 +745,7 @@ pub path_given : (asked : Asked) (command : Text) (own : ArgMatches) → IsOwn c
 path_given (Serve opening saving) command own is other = absurd (other.0 is.command_is)
 path_given (Check path) command own is other = has_path own path is.values
 path_given (Dump path) command own is other = has_path own path is.values
-path_given (Load path) command own is other = has_path own path is.values
+path_given (Load path long into) command own is other = has_path own path is.values.0
 path_given (Storm texts) command own is other = absurd (other.1 is.command_is)
 path_given (Get path word) command own is other = has_path own path is.values.0
 path_given (Put path key value) command own is other = has_path own path is.values.0
@@ -706,7 +758,7 @@ pub key_given : (asked : Asked) (own : ArgMatches) → IsOwn (codes "get") own a
 key_given (Serve opening saving) own is = absurd (let never : 103 ≡ 115 = ap (λ (word : Text). slice_index_or word 0 0) is.command_is in omega arith)
 key_given (Check path) own is = absurd (let never : 103 ≡ 99 = ap (λ (word : Text). slice_index_or word 0 0) is.command_is in omega arith)
 key_given (Dump path) own is = absurd (let never : 103 ≡ 100 = ap (λ (word : Text). slice_index_or word 0 0) is.command_is in omega arith)
-key_given (Load path) own is = absurd (let never : 103 ≡ 108 = ap (λ (word : Text). slice_index_or word 0 0) is.command_is in omega arith)
+key_given (Load path long into) own is = absurd (let never : 103 ≡ 108 = ap (λ (word : Text). slice_index_or word 0 0) is.command_is in omega arith)
 key_given (Storm texts) own is = absurd (let never : 103 ≡ 115 = ap (λ (word : Text). slice_index_or word 0 0) is.command_is in omega arith)
 key_given (Get path word) own is = subst IsSome (sym (first_value-rows (found_of own) key_id ∙ is.values.1)) refl
 key_given (Put path key value) own is = absurd (let never : 103 ≡ 112 = ap (λ (word : Text). slice_index_or word 0 0) is.command_is in omega arith)
@@ -725,7 +777,7 @@ pub gets : (asked : Asked) (own : ArgMatches) → IsOwn (codes "get") own asked 
 gets (Serve opening saving) own is = absurd (let never : 103 ≡ 115 = ap (λ (word : Text). slice_index_or word 0 0) is.command_is in omega arith)
 gets (Check path) own is = absurd (let never : 103 ≡ 99 = ap (λ (word : Text). slice_index_or word 0 0) is.command_is in omega arith)
 gets (Dump path) own is = absurd (let never : 103 ≡ 100 = ap (λ (word : Text). slice_index_or word 0 0) is.command_is in omega arith)
-gets (Load path) own is = absurd (let never : 103 ≡ 108 = ap (λ (word : Text). slice_index_or word 0 0) is.command_is in omega arith)
+gets (Load path long into) own is = absurd (let never : 103 ≡ 108 = ap (λ (word : Text). slice_index_or word 0 0) is.command_is in omega arith)
 gets (Storm texts) own is = absurd (let never : 103 ≡ 115 = ap (λ (word : Text). slice_index_or word 0 0) is.command_is in omega arith)
 gets (Put path key value) own is = absurd (let never : 103 ≡ 112 = ap (λ (word : Text). slice_index_or word 0 0) is.command_is in omega arith)
 gets (Del path key) own is = absurd (let never : 103 ≡ 100 = ap (λ (word : Text). slice_index_or word 0 0) is.command_is in omega arith)
@@ -753,7 +805,7 @@ pub puts : (asked : Asked) (own : ArgMatches) → IsOwn (codes "put") own asked 
 puts (Serve opening saving) own is = absurd (let never : 112 ≡ 115 = ap (λ (word : Text). slice_index_or word 0 0) is.command_is in omega arith)
 puts (Check path) own is = absurd (let never : 112 ≡ 99 = ap (λ (word : Text). slice_index_or word 0 0) is.command_is in omega arith)
 puts (Dump path) own is = absurd (let never : 112 ≡ 100 = ap (λ (word : Text). slice_index_or word 0 0) is.command_is in omega arith)
-puts (Load path) own is = absurd (let never : 112 ≡ 108 = ap (λ (word : Text). slice_index_or word 0 0) is.command_is in omega arith)
+puts (Load path long into) own is = absurd (let never : 112 ≡ 108 = ap (λ (word : Text). slice_index_or word 0 0) is.command_is in omega arith)
 puts (Storm texts) own is = absurd (let never : 112 ≡ 115 = ap (λ (word : Text). slice_index_or word 0 0) is.command_is in omega arith)
 puts (Get path word) own is = absurd (let never : 112 ≡ 103 = ap (λ (word : Text). slice_index_or word 0 0) is.command_is in omega arith)
 puts (Del path key) own is = absurd (let never : 112 ≡ 100 = ap (λ (word : Text). slice_index_or word 0 0) is.command_is in omega arith)
@@ -781,7 +833,7 @@ pub dels : (asked : Asked) (own : ArgMatches) → IsOwn (codes "del") own asked 
 dels (Serve opening saving) own is = absurd (let never : 100 ≡ 115 = ap (λ (word : Text). slice_index_or word 0 0) is.command_is in omega arith)
 dels (Check path) own is = absurd (let never : 100 ≡ 99 = ap (λ (word : Text). slice_index_or word 0 0) is.command_is in omega arith)
 dels (Dump path) own is = absurd (let never : 101 ≡ 117 = ap (λ (word : Text). slice_index_or word 1 0) is.command_is in omega arith)
-dels (Load path) own is = absurd (let never : 100 ≡ 108 = ap (λ (word : Text). slice_index_or word 0 0) is.command_is in omega arith)
+dels (Load path long into) own is = absurd (let never : 100 ≡ 108 = ap (λ (word : Text). slice_index_or word 0 0) is.command_is in omega arith)
 dels (Storm texts) own is = absurd (let never : 100 ≡ 115 = ap (λ (word : Text). slice_index_or word 0 0) is.command_is in omega arith)
 dels (Get path word) own is = absurd (let never : 100 ≡ 103 = ap (λ (word : Text). slice_index_or word 0 0) is.command_is in omega arith)
 dels (Put path key value) own is = absurd (let never : 100 ≡ 112 = ap (λ (word : Text). slice_index_or word 0 0) is.command_is in omega arith)
@@ -811,7 +863,7 @@ pub swaps : (asked : Asked) (own : ArgMatches) → IsOwn (codes "swap") own aske
 swaps (Serve opening saving) own is = absurd (let never : 119 ≡ 101 = ap (λ (word : Text). slice_index_or word 1 0) is.command_is in omega arith)
 swaps (Check path) own is = absurd (let never : 115 ≡ 99 = ap (λ (word : Text). slice_index_or word 0 0) is.command_is in omega arith)
 swaps (Dump path) own is = absurd (let never : 115 ≡ 100 = ap (λ (word : Text). slice_index_or word 0 0) is.command_is in omega arith)
-swaps (Load path) own is = absurd (let never : 115 ≡ 108 = ap (λ (word : Text). slice_index_or word 0 0) is.command_is in omega arith)
+swaps (Load path long into) own is = absurd (let never : 115 ≡ 108 = ap (λ (word : Text). slice_index_or word 0 0) is.command_is in omega arith)
 swaps (Storm texts) own is = absurd (let never : 119 ≡ 116 = ap (λ (word : Text). slice_index_or word 1 0) is.command_is in omega arith)
 swaps (Get path word) own is = absurd (let never : 115 ≡ 103 = ap (λ (word : Text). slice_index_or word 0 0) is.command_is in omega arith)
 swaps (Put path key value) own is = absurd (let never : 115 ≡ 112 = ap (λ (word : Text). slice_index_or word 0 0) is.command_is in omega arith)
@@ -839,7 +891,7 @@ pub pairs : (asked : Asked) (own : ArgMatches) → IsOwn (codes "pairs") own ask
 pairs (Serve opening saving) own is = absurd (let never : 112 ≡ 115 = ap (λ (word : Text). slice_index_or word 0 0) is.command_is in omega arith)
 pairs (Check path) own is = absurd (let never : 112 ≡ 99 = ap (λ (word : Text). slice_index_or word 0 0) is.command_is in omega arith)
 pairs (Dump path) own is = absurd (let never : 112 ≡ 100 = ap (λ (word : Text). slice_index_or word 0 0) is.command_is in omega arith)
-pairs (Load path) own is = absurd (let never : 112 ≡ 108 = ap (λ (word : Text). slice_index_or word 0 0) is.command_is in omega arith)
+pairs (Load path long into) own is = absurd (let never : 112 ≡ 108 = ap (λ (word : Text). slice_index_or word 0 0) is.command_is in omega arith)
 pairs (Storm texts) own is = absurd (let never : 112 ≡ 115 = ap (λ (word : Text). slice_index_or word 0 0) is.command_is in omega arith)
 pairs (Get path word) own is = absurd (let never : 112 ≡ 103 = ap (λ (word : Text). slice_index_or word 0 0) is.command_is in omega arith)
 pairs (Put path key value) own is = absurd (let never : 97 ≡ 117 = ap (λ (word : Text). slice_index_or word 1 0) is.command_is in omega arith)
@@ -870,7 +922,7 @@ pub is_command : (asked : Asked) (command : Text) (own : ArgMatches) → IsOwn c
 is_command (Serve opening saving) command own is no_serve no_check no_dump no_load no_storm no_get no_put no_del no_swap no_pairs = no_serve is.command_is
 is_command (Check path) command own is no_serve no_check no_dump no_load no_storm no_get no_put no_del no_swap no_pairs = no_check is.command_is
 is_command (Dump path) command own is no_serve no_check no_dump no_load no_storm no_get no_put no_del no_swap no_pairs = no_dump is.command_is
-is_command (Load path) command own is no_serve no_check no_dump no_load no_storm no_get no_put no_del no_swap no_pairs = no_load is.command_is
+is_command (Load path long into) command own is no_serve no_check no_dump no_load no_storm no_get no_put no_del no_swap no_pairs = no_load is.command_is
 is_command (Storm texts) command own is no_serve no_check no_dump no_load no_storm no_get no_put no_del no_swap no_pairs = no_storm is.command_is
 is_command (Get path word) command own is no_serve no_check no_dump no_load no_storm no_get no_put no_del no_swap no_pairs = no_get is.command_is
 is_command (Put path key value) command own is no_serve no_check no_dump no_load no_storm no_get no_put no_del no_swap no_pairs = no_put is.command_is

@@ -1,5 +1,5 @@
 -- The job that a command line names.
-use Rattle.std.specs.Prelude.{◌≡◌, ◌≤◌, ⊤, ℕ, ◌&&◌, leb, List, [], ◌∷◌, Option, Some, None, IfSome, option_map, option_and_then, unwrap_or, codes, if◌then◌else◌}
+use Rattle.std.specs.Prelude.{◌≡◌, ◌≤◌, ⊤, ℕ, Bool, true, false, ◌&&◌, leb, List, [], ◌∷◌, Option, Some, None, IfSome, is_some, option_map, option_and_then, unwrap_or, codes, if◌then◌else◌}
 use Rattle.std.specs.Str.{bytes_eq}
 use Rattle.exh_page.specs.declared.page.TheConstants.{CAP_LIMIT}
 use Rattle.exh_prefix.specs.declared.prefix.TheConstants.{WARD_BITS_LIMIT}
@@ -12,8 +12,10 @@ use Rattle.exh_text.specs.Numbers.{number_spelled}
 use Rattle.exh_settings.specs.StormConfig.{IsStormConfig}
 use Rattle.exh_settings.specs.declared.config.StormConfig.{StormConfig}
 use Rattle.exh_settings.specs.declared.config.TheConstants.{CALLERS_LIMIT, CALLS_LIMIT, COPIES_LIMIT}
-use Rattle.exh_command.specs.Words.{Use, path_and_key, path_and_three, path_and_two, path_name, path_named, uses_and_path, uses_named, option_given}
+use Rattle.exh_command.specs.Words.{Use, flags_and_path, path_and_key, path_and_three, path_and_two, path_name, path_named, uses_and_path, uses_named, option_given}
 use Rattle.exh_command.specs.declared.job.Job.{Job}
+use Rattle.exh_command.specs.declared.load_way.LoadWay.{LoadWay}
+use Rattle.exh_command.specs.declared.load_way.LoadWay.TheVariants.{Short, Long, Into}
 use Rattle.exh_command.specs.declared.job.Job.TheVariants as jobs
 
 -- the texts of a storm's numbers, where they were given
@@ -36,7 +38,8 @@ pub data Asked : Type 0 where
   Serve : Option (List ℕ) → Option (List ℕ) → Asked
   Check : List ℕ → Asked
   Dump : List ℕ → Asked
-  Load : List ℕ → Asked
+  -- the file, and whether each of the two flags is there
+  Load : List ℕ → Bool → Bool → Asked
   Storm : StormTexts → Asked
   -- the file, and the word of the key
   Get : List ℕ → List ℕ → Asked
@@ -52,7 +55,7 @@ pub data Named : Type 0 where
   Serving : Option (List ℕ) → Option (List ℕ) → Named
   Checking : List ℕ → Named
   Dumping : List ℕ → Named
-  Loading : List ℕ → Named
+  Loading : List ℕ → LoadWay → Named
   Storming : StormConfig → Named
   Getting : List ℕ → List ℕ → Named
   Changing : List ℕ → Call → Named
@@ -63,7 +66,7 @@ abbrev pub named_of : Job → Named
 named_of (jobs.Serve opened saved) = Serving (option_map (λ path. path.now) opened) (option_map (λ path. path.now) saved)
 named_of (jobs.Check path) = Checking path.now
 named_of (jobs.Dump path) = Dumping path.now
-named_of (jobs.Load path) = Loading path.now
+named_of (jobs.Load path way) = Loading path.now way
 named_of (jobs.Storm config) = Storming config
 named_of (jobs.Get path key) = Getting path.now key
 named_of (jobs.Change path call) = Changing path.now call
@@ -74,7 +77,7 @@ abbrev pub IsWithinLimits : Job → Type 0
 IsWithinLimits (jobs.Serve opened saved) = ⊤
 IsWithinLimits (jobs.Check path) = ⊤
 IsWithinLimits (jobs.Dump path) = ⊤
-IsWithinLimits (jobs.Load path) = ⊤
+IsWithinLimits (jobs.Load path way) = ⊤
 IsWithinLimits (jobs.Storm config) = IsStormConfig config
 IsWithinLimits (jobs.Get path key) = ⊤
 IsWithinLimits (jobs.Change path call) = ⊤
@@ -97,6 +100,22 @@ served_by uses = Serve (option_given open_name uses) (option_given save_name use
 
 abbrev pub serve_asked : List (List ℕ) → Option Asked
 serve_asked words = option_map served_by (uses_named serve_names words)
+
+-- `load` takes a path, and two flags
+abbrev pub long_name : List ℕ
+long_name = codes "long"
+
+abbrev pub into_name : List ℕ
+into_name = codes "into"
+
+abbrev pub load_flags : List (List ℕ)
+load_flags = long_name ∷ into_name ∷ []
+
+abbrev pub loaded_by : List Use → Asked
+loaded_by uses = Load (unwrap_or (option_given path_name uses) []) (is_some (option_given long_name uses)) (is_some (option_given into_name uses))
+
+abbrev pub load_asked : List (List ℕ) → Option Asked
+load_asked words = option_map loaded_by (flags_and_path load_flags words)
 
 -- `storm` takes five
 abbrev pub callers_name : List ℕ
@@ -182,7 +201,7 @@ asked_by (program ∷ command ∷ rest) =
     if bytes_eq (codes "serve") command then serve_asked rest
     else (if bytes_eq (codes "check") command then option_map Check (path_named rest)
     else (if bytes_eq (codes "dump") command then option_map Dump (path_named rest)
-    else (if bytes_eq (codes "load") command then option_map Load (path_named rest)
+    else (if bytes_eq (codes "load") command then load_asked rest
     else (if bytes_eq (codes "storm") command then storm_asked rest
     else (if bytes_eq (codes "get") command then get_asked rest
     else (if bytes_eq (codes "put") command then put_asked rest
@@ -234,6 +253,15 @@ pairing_of path texts =
     (number_given 0 WARD_BITS_LIMIT texts.wards))
     (number_given 1 CAP_LIMIT texts.cap)
 
+-- ---- the way of a load
+
+-- as one of the flags says, or neither; both of them say none
+abbrev pub way_of : Bool → Bool → Option LoadWay
+way_of false false = Some Short
+way_of true false = Some Long
+way_of false true = Some Into
+way_of true true = None
+
 -- ---- the key of a get
 
 -- the key that a word spells
@@ -256,12 +284,12 @@ del_spelled key = option_map calls.Del (key_spelled key)
 abbrev pub swap_spelled : List ℕ → List ℕ → List ℕ → Option Call
 swap_spelled key old new = option_and_then (λ k. option_and_then (λ o. option_map (calls.Swap k o) (value_spelled new)) (value_spelled old)) (key_spelled key)
 
--- the job that a command comes to: of a storm and of pairs where all their numbers and keyers are some, of a command about a key where its words spell a key and values
+-- the job that a command comes to: of a load where its flags say a way, of a storm and of pairs where all their numbers and keyers are some, of a command about a key where its words spell a key and values
 abbrev pub job_asked : Asked → Option Named
 job_asked (Serve opened saved) = Some (Serving opened saved)
 job_asked (Check path) = Some (Checking path)
 job_asked (Dump path) = Some (Dumping path)
-job_asked (Load path) = Some (Loading path)
+job_asked (Load path long into) = option_map (Loading path) (way_of long into)
 job_asked (Storm texts) = option_map Storming (storm_of texts)
 job_asked (Get path word) = option_map (Getting path) (key_spelled word)
 job_asked (Put path key value) = option_map (Changing path) (put_spelled key value)
@@ -282,7 +310,7 @@ abbrev pub command_of : Asked → List ℕ
 command_of (Serve opened saved) = codes "serve"
 command_of (Check path) = codes "check"
 command_of (Dump path) = codes "dump"
-command_of (Load path) = codes "load"
+command_of (Load path long into) = codes "load"
 command_of (Storm texts) = codes "storm"
 command_of (Get path word) = codes "get"
 command_of (Put path key value) = codes "put"

@@ -3,4 +3,3 @@ pub mod Words
 pub mod Job
 pub mod Parser
 pub mod Program
-pub mod LoadWay

@@ -1,13 +1,15 @@
 -- What the parser of the command line does with words.
-use Rattle.std.specs.Prelude.{◌≡◌, ◌↔◌, ℕ, List, [], ◌∷◌, map, Some, IsSome, codes, true, false}
-use Rattle.clap.specs.Words.{App, Row, Rule, Shape, fault_of, first_of, first_value, is_simple_and_free, new_rule, subcommand_of, subcommand_rows_of}
+use Rattle.std.specs.Prelude.{◌≡◌, ◌↔◌, ℕ, Bool, List, [], ◌∷◌, map, Some, IsSome, codes, true, false}
+use Rattle.clap.specs.Words.{App, Row, Rule, Shape, fault_of, first_of, first_value, one_of, one_text, is_simple_and_free, new_rule, subcommand_of, subcommand_rows_of}
 use Rattle.clap.specs.Simple.{new_shape}
+use Rattle.clap.specs.declared.builder.action.ArgAction.TheVariants.{SetTrue}
 use Rattle.clap.specs.declared.builder.command.Command.{Command}
 use Rattle.clap.specs.declared.builder.command.Command.TheViews.{out-Command}
 use Rattle.clap.specs.declared.parser.matches.ArgMatches.{ArgMatches}
 use Rattle.clap.specs.declared.parser.matches.Found.{Found}
 use Rattle.clap.specs.declared.error.kind.ErrorKind.TheVariants.{DisplayVersion}
-use Rattle.exh_command.specs.Job.{Asked, Check, Del, Dump, Get, Load, Pairs, PairsTexts, Put, Serve, Storm, StormTexts, Swap, asked_by, callers_name, calls_name, cap_name, command_of, copies_name, keyer_name, open_name, save_name, wards_name}
+use Rattle.exh_command.specs.Job.{Asked, Check, Del, Dump, Get, Load, Pairs, PairsTexts, Put, Serve, Storm, StormTexts, Swap, asked_by, callers_name, calls_name, cap_name, command_of, copies_name, into_name, keyer_name, long_name, open_name, save_name, wards_name}
+use Rattle.exh_command.specs.Words.{flag_set}
 
 -- ---- arguments
 
@@ -52,6 +54,10 @@ new_value_rule = word_rule new_id
 abbrev pub option_rule : List ℕ → Rule
 option_rule name = record (new_rule name) { long = Some name; value_names = 1 }
 
+-- a flag
+abbrev pub flag_rule : List ℕ → Rule
+flag_rule name = record (new_rule name) { long = Some name; action = Some SetTrue }
+
 -- a command about one path
 abbrev pub about_path : List ℕ → Shape
 about_path name = record (new_shape name) { rules = path_rule ∷ [] }
@@ -74,6 +80,10 @@ with_options name options = record (new_shape name) { rules = map option_rule op
 -- a command about a path, with such options
 abbrev pub about_path_with : List ℕ → List (List ℕ) → Shape
 about_path_with name options = record (new_shape name) { rules = path_rule ∷ map option_rule options }
+
+-- and with such flags
+abbrev pub about_path_flagged : List ℕ → List (List ℕ) → Shape
+about_path_flagged name flags = record (new_shape name) { rules = path_rule ∷ map flag_rule flags }
 
 -- a command without subcommands
 abbrev pub only : Shape → App
@@ -99,12 +109,17 @@ pub record HasPairsTexts (texts : PairsTexts) (rows : List Row) : Type 0 where
   pub wards : first_of wards_name rows ≡ texts.wards
   pub keyer : first_of keyer_name rows ≡ texts.keyer
 
+-- the text of a flag that is there, or isn't
+abbrev pub flag_text : Bool → List ℕ
+flag_text true = flag_set
+flag_text false = codes "false"
+
 -- what was met of a command gives these values
 abbrev pub HasValues : Asked → List Row → Type 0
 HasValues (Serve opened saved) rows = (first_of open_name rows ≡ opened) × (first_of save_name rows ≡ saved)
 HasValues (Check path) rows = first_of path_id rows ≡ Some path
 HasValues (Dump path) rows = first_of path_id rows ≡ Some path
-HasValues (Load path) rows = first_of path_id rows ≡ Some path
+HasValues (Load path long into) rows = (first_of path_id rows ≡ Some path) × (one_of long_name rows ≡ Some (flag_text long)) × (one_of into_name rows ≡ Some (flag_text into))
 HasValues (Storm texts) rows = HasTexts texts rows
 HasValues (Get path word) rows = (first_of path_id rows ≡ Some path) × (first_of key_id rows ≡ Some word)
 HasValues (Put path key value) rows = (first_of path_id rows ≡ Some path) × (first_of key_id rows ≡ Some key) × (first_of value_id rows ≡ Some value)
@@ -136,6 +151,10 @@ pub record IsJobMet (matches : ArgMatches) (asked : Asked) : Type 0 where
 -- and so of some command
 abbrev pub IsSomeJobMet : ArgMatches → Type 0
 IsSomeJobMet matches = (asked : Asked) × IsJobMet matches asked
+
+-- the flags of a load were found, or not
+abbrev pub HasFlags : Found → Bool → Bool → Type 0
+HasFlags found long into = (one_text found long_name ≡ Some (flag_text long)) × (one_text found into_name ≡ Some (flag_text into))
 
 -- the texts that were found for a storm's numbers
 abbrev pub texts_of : Found → StormTexts

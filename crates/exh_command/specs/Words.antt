@@ -140,22 +140,35 @@ module _ (takes_path : Bool) where
   uses_read (Ended uses) = whole uses
   uses_read Wrong = None
 
--- ---- all words behind a command with options
+-- ---- flags among them
 
-module _ (names : List (List ℕ)) where
-  abbrev pub is_named : List ℕ → Bool
-  is_named name = list_any (λ own. bytes_eq own name) names
+-- what a flag that stands there says
+abbrev pub flag_set : List ℕ
+flag_set = codes "true"
 
+-- a flag is used once, and has no value behind it
+abbrev pub flagged_by : List ℕ → Option (List ℕ) → List Use → Reading
+flagged_by name None uses = with_use name flag_set uses
+flagged_by name (Some value) uses = Wrong
+
+-- ---- all words behind a command with options and flags
+
+abbrev pub is_named : List (List ℕ) → List ℕ → Bool
+is_named names name = list_any (λ own. bytes_eq own name) names
+
+module _ (names flags : List (List ℕ)) where
   -- by the name and value of `--name` or `--name=value`
   abbrev pub after_option : Option (List ℕ × Option (List ℕ)) → List Use → Reading
   after_option None uses = Wrong
-  after_option (Some long) uses = if is_named long.0 then used_by long.0 long.1 uses else Wrong
+  after_option (Some long) uses =
+      if is_named names long.0 then used_by long.0 long.1 uses
+      else (if is_named flags long.0 then flagged_by long.0 long.1 uses else Wrong)
 
-module _ (takes_path : Bool) (names : List (List ℕ)) where
+module _ (takes_path : Bool) (names flags : List (List ℕ)) where
   abbrev pub after_word : Reading → List ℕ → Reading
   after_word (Between uses) word =
       if ends_options word then Ended uses
-      else (if is_option word then after_option names (long_of word) uses else after_path takes_path Between word uses)
+      else (if is_option word then after_option names flags (long_of word) uses else after_path takes_path Between word uses)
   after_word (Wanting name uses) word = if is_option word then Wrong else with_use name word uses
   after_word (Ended uses) word = after_path takes_path Ended word uses
   after_word Wrong word = Wrong
@@ -165,8 +178,12 @@ module _ (takes_path : Bool) (names : List (List ℕ)) where
 
 -- the options that the words use, each of these names at most once, in any order; `--` may stand behind them
 abbrev pub uses_named : List (List ℕ) → List (List ℕ) → Option (List Use)
-uses_named = uses_taken false
+uses_named names = uses_taken false names []
 
 -- the same, and a path, before them, between them, or behind them and `--`
 abbrev pub uses_and_path : List (List ℕ) → List (List ℕ) → Option (List Use)
-uses_and_path = uses_taken true
+uses_and_path names = uses_taken true names []
+
+-- the flags that the words use, each of these at most once, in any order, and a path, as among options
+abbrev pub flags_and_path : List (List ℕ) → List (List ℕ) → Option (List Use)
+flags_and_path = uses_taken true []

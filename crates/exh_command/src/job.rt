@@ -1,15 +1,17 @@
 //! What a command line asks for.
-ghost use Rattle.std.specs.Prelude.{◌≡◌, ◌<◌, ◌≤◌, ◌^◌, ℕ, List, Some, None, map, option_and_then, option_map, IfOk, IfErr, IfSome, IsSome};
-ghost use Rattle.clap.specs.Words.{first_value, found_of};
+ghost use Rattle.std.specs.Prelude.{◌≡◌, ◌<◌, ◌≤◌, ◌^◌, ℕ, Bool, List, Some, None, map, option_and_then, option_map, IfOk, IfErr, IfSome, IsSome};
+ghost use Rattle.clap.specs.Words.{first_value, found_of, one_text};
 ghost use Rattle.exh_command.specs.CommandFault.{IsWrong, TellsVersion};
-ghost use Rattle.exh_command.specs.Job.{AskForVersion, Asked, Del, Get, IsWithinLimits, Pairs, Put, Storm, Swap, del_spelled, job_asked, job_named, key_spelled, keyer_given, keyer_name, named_of, number_given, number_of, pairing_of, put_spelled, storm_of, swap_spelled, value_spelled};
-ghost use Rattle.exh_command.specs.Parser.{IsJobMet, IsSomeJobMet, key_id, new_id, old_id, pairs_texts_of, path_id, texts_of, value_id};
+ghost use Rattle.exh_command.specs.Job.{AskForVersion, Asked, Del, Get, IsWithinLimits, Load, Pairs, Put, Storm, Swap, del_spelled, job_asked, job_named, key_spelled, keyer_given, keyer_name, named_of, number_given, number_of, pairing_of, put_spelled, storm_of, swap_spelled, value_spelled, way_of};
+ghost use Rattle.exh_command.specs.Parser.{HasFlags, IsJobMet, IsSomeJobMet, flag_text, key_id, new_id, old_id, pairs_texts_of, path_id, texts_of, value_id};
 ghost use Rattle.exh_settings.specs.StormConfig.{IsStormConfig};
 
 use crate::fault::CliFault;
+use crate::load_way::LoadWay;
 use crate::parser::{
-    CALLERS, CALLS, CAP, CHECK, COPIES, DEL, DUMP, GET, KEY, KEYER, LOAD, NEW, OLD, OPEN, PAIRS,
-    PATH, PUT, SAVE, SERVE, STORM, SWAP, VALUE, WARDS, parser, wrong_value,
+    CALLERS, CALLS, CAP, CHECK, COPIES, DEL, DUMP, GET, INTO, KEY, KEYER, LOAD, LONG, NEW, OLD,
+    OPEN, PAIRS, PATH, PUT, SAVE, SERVE, STORM, SWAP, VALUE, WARDS, parser, wrong_flags,
+    wrong_value,
 };
 use clap::ArgMatches;
 use exh_calls::Call;
@@ -38,9 +40,10 @@ pub enum Job<'w> {
     Dump {
         path: &'w str,
     },
-    /// Save the pairs on standard input as the page file of a path.
+    /// Save the pairs on standard input as the page file of a path, or into it.
     Load {
         path: &'w str,
+        way: LoadWay,
     },
     /// Run callers, keepers and couriers at once over a new file.
     Storm {
@@ -70,8 +73,8 @@ pub enum Job<'w> {
 /// # Errors
 ///
 /// `CliFault::Wrong` only where the words name no job, as in a call for help, or for the version,
-/// which its text then tells; a number that is none, or out of range, and a key or value that is none are such words
-/// too.
+/// which its text then tells; a number that is none, or out of range, a key or value that is none, and both flags of
+/// `load` are such words too.
 /// `CliFault::Memory` may come at any words.
 pub fn job_of<'w, S: AsStr>(alloc: Global, words: &'w [S]) -> Result<Job<'w>, CliFault>
     ensures named { IfOk result (λ job. job_named (map S.text words.now) ≡ Some (named_of job)) }
@@ -102,7 +105,7 @@ fn job_met<'w>(alloc: Global, matches: &ArgMatches<'w>) -> Result<Job<'w>, CliFa
         }),
         CHECK => Ok(Job::Check { path: path_in(own) }),
         DUMP => Ok(Job::Dump { path: path_in(own) }),
-        LOAD => Ok(Job::Load { path: path_in(own) }),
+        LOAD => load_job(alloc, own),
         STORM => storm_job(alloc, own),
         GET => get_job(alloc, own),
         PUT => put_job(alloc, own),
@@ -122,6 +125,36 @@ fn path_in<'w>(own: &ArgMatches<'w>) -> &'w str
         unreachable!()
     };
     path
+}
+
+// The load of the path that was given, in the way that the flags say.
+fn load_job<'w>(alloc: Global, own: &ArgMatches<'w>) -> Result<Job<'w>, CliFault>
+    requires path { IsSome (first_value (found_of own.now) path_id) }
+    ensures named { IfOk result (λ job. (path : List ℕ) (long into : Bool) → Some path ≡ first_value (found_of own.now) path_id → HasFlags (found_of own.now) long into → job_asked (Load path long into) ≡ Some (named_of job)) }
+    ensures limits { IfOk result IsWithinLimits }
+    ensures wrong { IfErr result (λ fault. IsWrong fault → (path : List ℕ) (long into : Bool) → HasFlags (found_of own.now) long into → job_asked (Load path long into) ≡ None) }
+{
+    match way_in(own) {
+        Some(way) => Ok(Job::Load {
+            path: path_in(own),
+            way,
+        }),
+        None => Err(CliFault::Wrong(wrong_flags(alloc)?)),
+    }
+}
+
+// The way that the flags of a load say.
+fn way_in(own: &ArgMatches<'_>) -> Option<LoadWay>
+    ensures { (long into : Bool) → HasFlags (found_of own.now) long into → result ≡ way_of long into }
+{
+    LoadWay::by_flags(flag_in(own, LONG), flag_in(own, INTO))
+}
+
+// Whether the flag of this name was there.
+fn flag_in(own: &ArgMatches<'_>, name: &str) -> bool
+    ensures { (is_there : Bool) → one_text (found_of own.now) name.now ≡ Some (flag_text is_there) → result ≡ is_there }
+{
+    own.get_flag(name)
 }
 
 // The get of the path and the key that were given.

@@ -3,7 +3,7 @@
 
 pub use fault::CliFault;
 pub use job::{Job, job_of};
-pub use load_way::{LoadWay, take_way};
+pub use load_way::LoadWay;
 pub use parser::not_text;
 
 mod fault;

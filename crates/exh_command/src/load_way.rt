@@ -1,9 +1,6 @@
-//! How `load` loads, as the word right behind it says.
-ghost use Rattle.std.specs.Prelude.{◌≡◌, map};
-ghost use Rattle.exh_command.specs.LoadWay.{way_in, way_spelled, words_left};
-
-use crate::parser::LOAD;
-use std::convert::AsStr;
+//! How `load` loads.
+ghost use Rattle.std.specs.Prelude.{◌≡◌};
+ghost use Rattle.exh_command.specs.Job.{way_of};
 
 /// How pairs are loaded.
 #[derive(Clone, Copy)]
@@ -16,39 +13,16 @@ pub enum LoadWay {
     Into,
 }
 
-/// How the words of a command line would have pairs loaded; the word that says so is taken out of them.
-pub fn take_way<S: AsStr + Drop>(words: &mut Vec<S>) -> LoadWay
-    ensures way { result ≡ way_in (map S.text words.old.items) }
-    ensures left { map S.text words.new.items ≡ words_left (map S.text words.old.items) }
-{
-    let way = way_in(words);
-    if let LoadWay::Long | LoadWay::Into = way {
-        words.remove(2);
-    }
-    way
-}
-
-// The same of words that stay as they are.
-fn way_in<S: AsStr>(words: &[S]) -> LoadWay
-    ensures { result ≡ way_in (map S.text words.now) }
-{
-    let (Some(command), Some(word)) = (words.get(1), words.get(2)) else {
-        return LoadWay::Short;
-    };
-    if command.as_str() == LOAD {
-        way_spelled(word.as_str())
-    } else {
-        LoadWay::Short
-    }
-}
-
-// How a word behind `load` would have pairs loaded.
-fn way_spelled(word: &str) -> LoadWay
-    ensures { result ≡ way_spelled word.now }
-{
-    match word {
-        "--long" => LoadWay::Long,
-        "--into" => LoadWay::Into,
-        _ => LoadWay::Short,
+impl LoadWay {
+    /// The way that the flags `--long` and `--into` say. Both of them say none.
+    pub(crate) fn by_flags(long: bool, into: bool) -> Option<LoadWay>
+        ensures { result ≡ way_of long into }
+    {
+        match (long, into) {
+            (false, false) => Some(LoadWay::Short),
+            (true, false) => Some(LoadWay::Long),
+            (false, true) => Some(LoadWay::Into),
+            (true, true) => None,
+        }
     }
 }

@@ -1,12 +1,12 @@
 //! The parser of the command line, with the texts that a stranger reads.
 ghost use Rattle.std.specs.Prelude.{◌≡◌, IfOk, codes, false};
 ghost use Rattle.clap.specs.Words.{Shape, app_of, kind_of, new_app, rule_of, with_subcommand};
-ghost use Rattle.exh_command.specs.Job.{pairs_names, serve_names, storm_names};
+ghost use Rattle.exh_command.specs.Job.{load_flags, pairs_names, serve_names, storm_names};
 ghost use Rattle.exh_command.specs.Program.{bare_program};
-ghost use Rattle.exh_command.specs.Parser.{HasOwnArgs, ReadsJobs, about_key, about_path, about_path_with, about_two_values, about_value, key_rule, only, option_rule, path_rule, with_options, word_rule};
+ghost use Rattle.exh_command.specs.Parser.{HasOwnArgs, ReadsJobs, about_key, about_path, about_path_flagged, about_path_with, about_two_values, about_value, flag_rule, key_rule, only, option_rule, path_rule, with_options, word_rule};
 
 use clap::error::{Error, ErrorKind};
-use clap::{Arg, Command};
+use clap::{Arg, ArgAction, Command};
 use std::alloc::{AllocError, Global};
 
 /// The command that answers a script.
@@ -38,6 +38,12 @@ pub(crate) const SWAP: &str = "swap";
 
 /// The command that prints pairs as the text that `load` takes.
 pub(crate) const PAIRS: &str = "pairs";
+
+/// The flag of `load` of a text of any length.
+pub(crate) const LONG: &str = "long";
+
+/// The flag of `load` of pairs that are put into the file that is there.
+pub(crate) const INTO: &str = "into";
 
 /// What help calls the path of the file that a command is about.
 pub(crate) const PATH: &str = "PATH";
@@ -259,7 +265,7 @@ full is said on standard error.
 These stand alone or come last, and nothing is saved: 60 or 61 for the `file`
 line, 62 for more than 1048576 bytes, 41 where reading fails, 10 where memory
 ends. Why a path can't be saved to is said on standard error.
-Right behind `load` may stand one of these:
+Before the path or behind it may stand one of these:
   --long   the text has any number of bytes, and is put line by line: where
            reading fails, 41 stands behind what is told of the lines before
   --into   the same, and the pairs are put into the page file that is there,
@@ -441,14 +447,7 @@ pub(crate) fn parser<'a>(alloc: Global) -> Result<Command<'a>, AllocError>
         DUMPED,
     );
     let dumping = with_command(checking, dump)?;
-    let load = path_command(
-        alloc,
-        LOAD,
-        "Saves the pairs on standard input as a page file",
-        LOAD_USAGE,
-        LOADED,
-    );
-    let loading = with_command(dumping, load)?;
+    let loading = with_command(dumping, load(alloc))?;
     let storming = with_command(loading, storm(alloc))?;
     let get = key_command(
         alloc,
@@ -535,6 +534,22 @@ fn serve<'a>(alloc: Global) -> Result<Command<'a>, AllocError>
         PATH,
         "Where the pages are saved once the run is done",
     ))
+}
+
+// The parser of `load`.
+fn load<'a>(alloc: Global) -> Result<Command<'a>, AllocError>
+    ensures own { IfOk result HasOwnArgs }
+    ensures is { IfOk result (λ command. app_of command ≡ only (about_path_flagged (codes "load") load_flags)) }
+{
+    path_command(
+        alloc,
+        LOAD,
+        "Saves the pairs on standard input as a page file",
+        LOAD_USAGE,
+        LOADED,
+    )?
+    .arg(flag(alloc, LONG, "Takes a text of any length, line by line"))?
+    .arg(flag(alloc, INTO, "The same, into the page file that is there"))
 }
 
 // The parser of `storm`.
@@ -716,6 +731,27 @@ fn option<'a>(alloc: Global, name: &'a str, value: &'a str, help: &'a str) -> Ar
         .long(name)
         .value_name(value)
         .help(help)
+}
+
+// A flag, and what it tells.
+fn flag<'a>(alloc: Global, name: &'a str, help: &'a str) -> Arg<'a>
+    ensures rule { rule_of result ≡ flag_rule name.now }
+    ensures own { result.global ≡ false }
+{
+    Arg::new(alloc, name)
+        .long(name)
+        .action(ArgAction::SetTrue)
+        .help(help)
+}
+
+/// The error of flags of `load` that can't stand together, with the usage of `load`.
+pub(crate) fn wrong_flags(alloc: Global) -> Result<Error, AllocError>
+    ensures { IfOk result (λ error. kind_of error ≡ ErrorKind.ArgumentConflict) }
+{
+    load(alloc)?.error(
+        ErrorKind::ArgumentConflict,
+        "the argument '--long' cannot be used with '--into'",
+    )
 }
 
 /// The error of a number, a keyer or a key that is none, or out of its range, as these words say.

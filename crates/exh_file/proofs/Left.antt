@@ -38,13 +38,6 @@ module _ (wards : List (WardState AnyKeyer)) (at : ℕ) (ward left : WardState A
   one_counted (Err Memory) same = omega (arith, sum_of-set (λ (w : WardState AnyKeyer). w.failures) wards at ward left is, same)
   one_counted (Err Page) more = omega (arith, sum_of-set (λ (w : WardState AnyKeyer). w.failures) wards at ward left is, more)
 
--- wards of which none was touched
-pub none_touched : (wards : List (WardState AnyKeyer)) → AreUnchanged wards wards
-none_touched wards = record {
-  count = refl;
-  each = λ number ward left was there. let same : left ≡ ward = one_there wards number left ward there was in subst (IsUnchanged ward) (sym same) refl;
-}
-
 -- a count that a `?` hands on with its fault
 pub counted_as : {T : Type 0} (result : Result T SaveFault) (fault : SaveFault) (old new : ℕ) → IsErrAnd result (λ other. other ≡ fault) → CountsSaveFailures {T = T} (Err fault) old new → CountsSaveFailures result old new
 counted_as (Ok value) fault old new is counts = absurd is

@@ -8,7 +8,7 @@ use Rattle.exh_file.specs.Opened.{OpenedState}
 use Rattle.exh_file.specs.Saved.{AreUnchanged, IsLeft}
 
 -- they are unchanged
-still_the_same : (wards : List (WardState AnyKeyer)) → AreUnchanged wards wards
+pub still_the_same : (wards : List (WardState AnyKeyer)) → AreUnchanged wards wards
 still_the_same wards = record {
   count = refl;
   each = λ number ward left is there. let same = one_there wards number left ward there is in subst (λ (w : WardState AnyKeyer). IsUnchanged ward w) (sym same) refl;

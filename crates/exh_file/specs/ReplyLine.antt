@@ -1,18 +1,9 @@
 -- What is printed of the reply to one call over a file, and whether the call is done.
-use Rattle.std.specs.Prelude.{ℕ, Bool, true, false, List, ◌++◌, codes}
+use Rattle.std.specs.Prelude.{ℕ, Bool, true, false, List}
 use Rattle.exh_text.specs.Contents.{on_line}
-use Rattle.exh_text.specs.Printing.{printed}
+use Rattle.exh_text.specs.ReplyText.{reply_text}
 use Rattle.exh_calls.specs.declared.reply.Reply.{Reply}
 use Rattle.exh_calls.specs.declared.reply.Reply.TheVariants.{Is, None as Absent, New, Was, Full, Swapped, Differs}
-
-abbrev pub reply_text : Reply → List ℕ
-reply_text (Is value) = codes "is " ++ printed value
-reply_text Absent = codes "none"
-reply_text New = codes "new"
-reply_text (Was value) = codes "was " ++ printed value
-reply_text Full = codes "full"
-reply_text Swapped = codes "swapped"
-reply_text (Differs value) = codes "differs " ++ printed value
 
 abbrev pub reply_line : Reply → List ℕ
 reply_line reply = on_line (reply_text reply)

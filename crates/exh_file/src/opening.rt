@@ -1,4 +1,4 @@
-ghost use Rattle.std.specs.Prelude.{◌≡◌, ◌+◌, ◌<◌, ◌≤◌, ◌^◌, ◌++◌, ◌∷◌, [], List, ℕ, Some, length, map, take, drop, IfOk, IfErr, OnOk, MatchResult};
+ghost use Rattle.std.specs.Prelude.{◌≡◌, ◌+◌, ◌<◌, ◌≤◌, ◌^◌, List, ℕ, Some, length, map, take, drop, IfOk, IfErr, MatchResult};
 ghost use Rattle.exh_keyer.specs.Pseudokey.{any_pseudokey};
 ghost use Rattle.exh_codec.specs.PageImage.{page_digest};
 ghost use Rattle.exh_format.specs.FileVersion.{format_of};
@@ -13,7 +13,7 @@ ghost use Rattle.exh_file.specs.Opening.{AreLegalWards, AreOpened, IsLegalWard, 
 
 use crate::{OpenFault, Opened};
 use exh_codec::DIGEST_LEN;
-use exh_format::{Header, LegalFile, read_legal_file};
+use exh_format::{Header, LegalFile, push_item, read_legal_file};
 use exh_keyer::AnyKeyer;
 use exh_legal::{legal_files_pass, pages_are_few};
 use exh_page::Page;
@@ -21,7 +21,7 @@ use exh_settings::FileSettings;
 use exh_stores::{Pages, StoreMaker};
 use exh_table::Table;
 use exh_ward::Ward;
-use std::alloc::{AllocError, Global};
+use std::alloc::Global;
 use std::io::Read;
 use std::mem;
 
@@ -96,7 +96,7 @@ fn open_wards<P: Pages + Drop, M: StoreMaker<P, AnyKeyer>>(
         let count = own.len();
         let own_digests = part(digests, start, count);
         let ward = open_ward(alloc, maker, header, number as u8, own, own_digests, table)?;
-        push(&mut wards, ward)?;
+        push_item(&mut wards, ward)?;
         start += count;
     }
     Ok(wards)
@@ -136,14 +136,4 @@ fn open_ward<P: Pages + Drop, M: StoreMaker<P, AnyKeyer>>(
     } = header.settings;
     let store = maker.of_pages(alloc, keyer, pages, digests)?;
     Ward::from_pages(alloc, cap, ward_bits, number, store, table, keyer).map_err(OpenFault::of_ward)
-}
-
-// Puts an item behind the others.
-fn push<T: Drop>(items: &mut Vec<T>, item: T) -> Result<(), AllocError>
-    ensures { OnOk result (items.new.items ≡ items.old.items ++ item ∷ []) }
-{
-    match items.push(item) {
-        Ok(()) => Ok(()),
-        Err(failed) => Err(AllocError::from(failed)),
-    }
 }

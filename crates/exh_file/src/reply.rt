@@ -1,8 +1,8 @@
-ghost use Rattle.std.specs.Prelude.{◌≡◌, ◌++◌, IfOk, OnOk};
-ghost use Rattle.exh_file.specs.ReplyLine.{is_done, reply_line, reply_text};
+ghost use Rattle.std.specs.Prelude.{◌≡◌, IfOk};
+ghost use Rattle.exh_file.specs.ReplyLine.{is_done, reply_line};
 
 use exh_calls::Reply;
-use exh_text::{push_text, push_value};
+use exh_text::{push_reply, push_text};
 use std::alloc::{AllocError, Global};
 
 /// Whether a reply says that the call did what it asks for: `new`, `was` and `swapped` do. It takes no memory.
@@ -23,28 +23,4 @@ pub fn reply_line(alloc: Global, reply: &Reply) -> Result<Vec<u8>, AllocError>
     push_reply(&mut line, reply)?;
     push_text(&mut line, "\n")?;
     Ok(line)
-}
-
-// Adds the line without its end.
-fn push_reply(line: &mut Vec<u8>, reply: &Reply) -> Result<(), AllocError>
-    ensures { OnOk result (line.new.items ≡ line.old.items ++ reply_text reply.now) }
-{
-    match reply {
-        Reply::Is(value) => {
-            push_text(line, "is ")?;
-            push_value(line, value.as_bytes())
-        }
-        Reply::None => push_text(line, "none"),
-        Reply::New => push_text(line, "new"),
-        Reply::Was(value) => {
-            push_text(line, "was ")?;
-            push_value(line, value.as_bytes())
-        }
-        Reply::Full => push_text(line, "full"),
-        Reply::Swapped => push_text(line, "swapped"),
-        Reply::Differs(value) => {
-            push_text(line, "differs ")?;
-            push_value(line, value.as_bytes())
-        }
-    }
 }

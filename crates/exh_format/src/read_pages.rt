@@ -1,4 +1,4 @@
-ghost use Rattle.std.specs.Prelude.{◌≡◌, ◌+◌, ◌<◌, ◌^◌, [], ◌∷◌, ◌++◌, ◌↔◌, length, map, IfOk, OnOk, IfErr, IsErrOf, IsTrue, IsFalse};
+ghost use Rattle.std.specs.Prelude.{◌≡◌, ◌+◌, ◌<◌, ◌^◌, ◌++◌, ◌↔◌, length, map, IfOk, OnOk, IfErr, IsErrOf, IsTrue, IsFalse};
 ghost use Rattle.std.specs.List.{sum};
 ghost use Rattle.exh_keyer.specs.Pseudokey.{any_pseudokey};
 ghost use Rattle.exh_prefix.specs.Layout.{layout};
@@ -6,12 +6,12 @@ ghost use Rattle.exh_codec.specs.PageImage.{page_digest};
 ghost use Rattle.exh_format.specs.FileParts.{pages_in};
 ghost use Rattle.exh_format.specs.Reading.{FailsInPages, GivesPages, IsOf, blocks_failed, left};
 
-use crate::ReadFileFault;
 use crate::block_source::BlockSource;
+use crate::{ReadFileFault, push_item};
 use exh_keyer::AnyKeyer;
 use exh_page::Page;
 use exh_prefix::Version;
-use std::alloc::{AllocError, Global};
+use std::alloc::Global;
 use std::io::Read;
 
 // The pages of each ward, of so many pages each.
@@ -36,7 +36,7 @@ pub(crate) fn read_wards<R: Read>(
     let mut wards = Vec::new(alloc);
     for count in counts {
         let pages = read_pages(alloc, blocks, version, keyer, *count)?;
-        push(&mut wards, pages)?;
+        push_item(&mut wards, pages)?;
     }
     Ok(wards)
 }
@@ -63,17 +63,7 @@ fn read_pages<R: Read>(
     let mut pages = Vec::new(alloc);
     for number in 0..count {
         let page = blocks.read_page(alloc, version, keyer)?;
-        push(&mut pages, page)?;
+        push_item(&mut pages, page)?;
     }
     Ok(pages)
-}
-
-// Puts an item behind the others.
-fn push<T: Drop>(items: &mut Vec<T>, item: T) -> Result<(), AllocError>
-    ensures { OnOk result (items.new.items ≡ items.old.items ++ item ∷ []) }
-{
-    match items.push(item) {
-        Ok(()) => Ok(()),
-        Err(failed) => Err(AllocError::from(failed)),
-    }
 }

@@ -1,4 +1,4 @@
-ghost use Rattle.std.specs.Prelude.{◌≡◌, ◌≢◌, ◌≤◌, ◌<◌, ◌*◌, ◌↔◌, ◌++◌, ℕ, List, length, drop, vec_len, [], ◌∷◌, IsTrue, IfOk, IfErr, OnOk, MatchResult};
+ghost use Rattle.std.specs.Prelude.{◌≡◌, ◌≢◌, ◌≤◌, ◌<◌, ◌*◌, ◌↔◌, ◌++◌, ℕ, List, length, drop, vec_len, IsTrue, IfOk, IfErr, MatchResult};
 ghost use Rattle.std.specs.List.{AllByRecursion, flat_map};
 ghost use Rattle.std.specs.Option.{option_to_list};
 ghost use Rattle.exh_prefix.specs.Layout.{layout};
@@ -11,11 +11,11 @@ ghost use Rattle.exh_format.specs.TableImage.{AreEntries, AreRising, IsFileEntry
 ghost use Rattle.exh_format.specs.ReadEntries.{FailsAtEntry, MayPrecede};
 ghost use Rattle.exh_format.specs.TableTests.{IsFirstFault, entry_fault};
 
-use crate::FileEntry;
+use crate::{FileEntry, push_item};
 use exh_codec::{BLOCK_LEN, CONTENT_LEN, ImageFault, are_zero, is_sealed};
 use exh_notice::{ENTRY_IMAGE_LEN, Entry, NoticeFault};
 use exh_prefix::{Prefix, Version};
-use std::alloc::{AllocError, Global};
+use std::alloc::Global;
 use std::cmp::Ordering;
 
 /// The most entries of a table block.
@@ -72,7 +72,7 @@ fn entries_of(
         let start = ENTRY_IMAGE_LEN * i;
         let image = bytes[start..].first_chunk::<ENTRY_IMAGE_LEN>().unwrap();
         match Entry::from_image_of(version, image) {
-            Ok(read) => push(&mut entries, of_parts(read))?,
+            Ok(read) => push_item(&mut entries, of_parts(read))?,
             Err(fault) => return Err(entry_fault(fault)),
         }
     }
@@ -88,14 +88,6 @@ fn of_parts(read: (u8, Prefix, Entry)) -> FileEntry
         prefix,
         entry,
     }
-}
-
-// Puts an entry behind the others.
-fn push(entries: &mut Vec<FileEntry>, item: FileEntry) -> Result<(), AllocError>
-    ensures { OnOk result (entries.new.items ≡ entries.old.items ++ item ∷ []) }
-{
-    entries.push(item)?;
-    Ok(())
 }
 
 // The fault of a block in which an entry's image has this one.

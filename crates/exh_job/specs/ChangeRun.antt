@@ -1,11 +1,11 @@
 -- What a put, a del or a swap prints, what of it is saved, and with which status the program then ends.
-use Rattle.std.specs.Prelude.{◌≡◌, ◌⊎◌, ℕ, Bool, true, false, cond, List, [], ◌∷◌, ◌++◌, codes, Option, None, Some}
+use Rattle.std.specs.Prelude.{◌≡◌, ◌⊎◌, ℕ, Bool, true, false, List, [], ◌∷◌, ◌++◌, codes, Option, None, Some}
 use Rattle.exh_calls.specs.declared.call.Call.{Call}
 use Rattle.exh_calls.specs.declared.reply.Reply.{Reply}
 use Rattle.exh_file.specs.Opened.{OpenedState}
 use Rattle.exh_file.specs.FileChange.{ChangesOneMap, IsChangedIn}
 use Rattle.exh_file.specs.ReplyLine.{is_done, reply_line}
-use Rattle.exh_job.specs.LastLine.{PrintsLine, memory_line}
+use Rattle.exh_job.specs.LastLine.{PrintsLine, TellsLine, memory_line}
 use Rattle.exh_job.specs.declared.job_path.JobPath.{JobPath}
 use Rattle.exh_job.specs.declared.ending.Ending.{Ending}
 use Rattle.exh_job.specs.declared.ending.Ending.TheVariants.{Over, Save, SaveAndTell}
@@ -29,17 +29,13 @@ SavesFile path left line (SaveAndTell one wards told) = (path ≡ Some one) × (
 
 -- of a writer that held `old` bytes before and `new` ones after, where these are known, and of whether it failed
 module _ (old new : Option (List ℕ)) (failed : Bool) where
-  -- a line, and the status, which is another where the line didn't go out
-  abbrev pub TellsLine : List ℕ → Status → Status → Type 0
-  TellsLine line status result = PrintsLine old new failed line × (result ≡ cond failed Refused status)
-
   -- memory ran out, or a page is out of reach
   abbrev pub Refuses : Status → Type 0
   Refuses status = (PrintsLine old new failed memory_line ⊎ PrintsLine old new failed out_of_reach_line) × (status ≡ Refused)
 
   -- a reply that leaves the file as it was, and its line
   abbrev pub LeavesFile : Reply → Status → Type 0
-  LeavesFile reply status = (is_done reply ≡ false) × TellsLine (reply_line reply) Missing status
+  LeavesFile reply status = (is_done reply ≡ false) × TellsLine old new failed (reply_line reply) Missing status
 
   -- a reply that says that the call is done: its file is to be saved at the job's path, and nothing is printed before
   abbrev pub LeavesToSave : Option JobPath → Reply → OpenedState → Ending → Type 0
@@ -56,5 +52,5 @@ module _ (old new : Option (List ℕ)) (failed : Bool) where
 
   -- after the save: the line, where the file is saved
   abbrev pub EndsSaved : Status → List ℕ → Status → Type 0
-  EndsSaved Done line result = TellsLine line Done result
+  EndsSaved Done line result = TellsLine old new failed line Done result
   EndsSaved status line result = (new ≡ old) × (result ≡ status)

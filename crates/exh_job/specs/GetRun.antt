@@ -1,12 +1,12 @@
 -- What a get prints, and with which status the program then ends.
-use Rattle.std.specs.Prelude.{◌≡◌, ◌⊎◌, ℕ, Bool, cond, List, ◌++◌, Option, None, Some, Result, Ok, Err, IfErr, IfOk}
+use Rattle.std.specs.Prelude.{◌≡◌, ◌⊎◌, ℕ, Bool, List, ◌++◌, Option, None, Some, Result, Ok, Err, IfErr, IfOk}
 use Rattle.exh_text.specs.Contents.{on_line}
 use Rattle.exh_text.specs.Printing.{printed, refused_text}
 use Rattle.exh_direct.specs.DirectAnswer.{Finds, Refuses}
 use Rattle.exh_direct.specs.DirectFault.{direct_fault_number, direct_fault_place}
 use Rattle.exh_direct.specs.declared.direct_fault.DirectFault.{DirectFault}
 use Rattle.exh_report.specs.Finding.{place_words}
-use Rattle.exh_job.specs.LastLine.{PrintsLine, memory_line}
+use Rattle.exh_job.specs.LastLine.{PrintsLine, TellsLine, memory_line}
 use Rattle.exh_job.specs.declared.status.Status.{Status}
 use Rattle.exh_job.specs.declared.status.Status.TheVariants.{Done, Missing, Refused}
 
@@ -22,7 +22,7 @@ get_refusal_line fault = on_line (refused_text (direct_fault_number fault) ++ pl
 module _ (old new : Option (List ℕ)) (failed : Bool) where
   -- of a value its line, done where that went out; or the last line of a program that memory ended
   abbrev pub EndsValue : List ℕ → Status → Type 0
-  EndsValue value status = (PrintsLine old new failed (value_line value) × (status ≡ cond failed Refused Done)) ⊎ (PrintsLine old new failed memory_line × (status ≡ Refused))
+  EndsValue value status = TellsLine old new failed (value_line value) Done status ⊎ (PrintsLine old new failed memory_line × (status ≡ Refused))
 
   -- what comes of what was found: the value, or nothing where there is none, or the refusal
   abbrev pub EndsAs : Result (Option (List ℕ)) DirectFault → Status → Type 0

@@ -16,7 +16,7 @@ abbrev pub path_of : Job → Option JobPath
 path_of (Serve opened saved) = at saved
 path_of (Check path) = None
 path_of (Dump path) = None
-path_of (Load path) = at (Some path)
+path_of (Load path way) = at (Some path)
 path_of (Storm config) = None
 path_of (Get path key) = None
 path_of (Change path call) = at (Some path)

@@ -2,9 +2,10 @@
 ghost use Rattle.std.specs.Prelude.{◌≡◌, [], IsFalse};
 ghost use Rattle.exh_stream.specs.Output.{SameWriter, held, pending, writer_failed};
 ghost use Rattle.exh_job.specs.JobPath.{SavesAt};
-ghost use Rattle.exh_job.specs.ChangeRun.{EndsAnswer, EndsChange, EndsSaved, Refuses, SavesFile, TellsLine};
+ghost use Rattle.exh_job.specs.ChangeRun.{EndsAnswer, EndsChange, EndsSaved, Refuses, SavesFile};
 
-use crate::{Ending, FileWards, JobPath, OUT_OF_MEMORY, Status, print_line};
+use crate::last_line::{OUT_OF_MEMORY, print_last, tell_line};
+use crate::{Ending, FileWards, JobPath, Status};
 use exh_calls::{Call, Reply};
 use exh_file::{change_file, is_done, reply_line};
 use exh_stream::Output;
@@ -83,19 +84,6 @@ pub fn tell_saved<W: Write>(saved: Status, line: &[u8], output: &mut Output<'_, 
     }
 }
 
-// Prints a line, and says with which status the program ends: with this one where it went out.
-fn tell_line<W: Write>(line: &[u8], status: Status, output: &mut Output<'_, W>) -> Status
-    requires open { IsFalse (writer_failed output.old) }
-    requires empty { pending output.old ≡ [] }
-    ensures same_writer { SameWriter output.old output.new }
-    ensures told { TellsLine (held W.contents output.old) (held W.contents output.new) (writer_failed output.new) line.now status result }
-{
-    match print_line(output, line) {
-        Ok(()) => status,
-        Err(_) => Status::Refused,
-    }
-}
-
 // Prints the line of a fault.
 fn refuse<W: Write>(fault: WardFault, output: &mut Output<'_, W>) -> Status
     requires open { IsFalse (writer_failed output.old) }
@@ -107,6 +95,6 @@ fn refuse<W: Write>(fault: WardFault, output: &mut Output<'_, W>) -> Status
         WardFault::Page => OUT_OF_REACH,
         _ => OUT_OF_MEMORY,
     };
-    let _ = print_line(output, line);
+    print_last(output, line);
     Status::Refused
 }

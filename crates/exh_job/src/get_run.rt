@@ -1,16 +1,17 @@
 //! The run of a get to the program's end: the value of a key, and the status.
-ghost use Rattle.std.specs.Prelude.{◌≡◌, ◌⊎◌, ◌++◌, [], cond, IfErr, IfOk, IsFalse, OnOk};
-ghost use Rattle.exh_report.specs.Finding.{place_words};
+ghost use Rattle.std.specs.Prelude.{◌≡◌, ◌⊎◌, [], IfErr, IfOk, IsFalse};
 ghost use Rattle.exh_stream.specs.Output.{SameWriter, held, pending, writer_failed};
 ghost use Rattle.exh_job.specs.LastLine.{PrintsLine, memory_line};
 ghost use Rattle.exh_job.specs.OpenRun.{EndsUnopened};
 ghost use Rattle.exh_job.specs.GetRun.{EndsAs, EndsGet, EndsValue, get_refusal_line, value_line};
 
-use crate::{OUT_OF_MEMORY, Status, UNOPENED, print_line};
+use crate::last_line::{OUT_OF_MEMORY, UNOPENED, print_last, print_line, tell_line};
+use crate::status::Status;
 use exh_direct::{Blocks, DirectFault, find};
 use exh_page::{Key, Value};
+use exh_report::push_block;
 use exh_stream::Output;
-use exh_text::{push_number, push_refused, push_text, push_value};
+use exh_text::{push_refused, push_text, push_value};
 use std::alloc::{AllocError, Global};
 use std::io;
 use std::io::Write;
@@ -70,25 +71,11 @@ fn tell_value<W: Write>(alloc: Global, value: &Value, output: &mut Output<'_, W>
     ensures told { EndsValue (held W.contents output.old) (held W.contents output.new) (writer_failed output.new) value.now result }
 {
     match value_line(alloc, value) {
-        Ok(line) => print_value(&line, output),
+        Ok(line) => tell_line(&line, Status::Done, output),
         Err(_) => {
             let _ = print_line(output, OUT_OF_MEMORY);
             Status::Refused
         }
-    }
-}
-
-// Prints a line, and says whether it went out.
-fn print_value<W: Write>(line: &[u8], output: &mut Output<'_, W>) -> Status
-    requires open { IsFalse (writer_failed output.old) }
-    requires empty { pending output.old ≡ [] }
-    ensures same_writer { SameWriter output.old output.new }
-    ensures printed { PrintsLine (held W.contents output.old) (held W.contents output.new) (writer_failed output.new) line.now }
-    ensures status { result ≡ cond (writer_failed output.new) Status.Refused Status.Done }
-{
-    match print_line(output, line) {
-        Ok(()) => Status::Done,
-        Err(_) => Status::Refused,
     }
 }
 
@@ -101,19 +88,9 @@ fn tell_refusal<W: Write>(alloc: Global, fault: DirectFault, output: &mut Output
         ⊎ PrintsLine (held W.contents output.old) (held W.contents output.new) (writer_failed output.new) memory_line }
 {
     match refusal_line(alloc, fault) {
-        Ok(line) => print(output, &line),
-        Err(_) => print(output, OUT_OF_MEMORY),
+        Ok(line) => print_last(output, &line),
+        Err(_) => print_last(output, OUT_OF_MEMORY),
     }
-}
-
-// Prints a line, or where the writer fails a beginning of it.
-fn print<W: Write>(output: &mut Output<'_, W>, line: &[u8])
-    requires open { IsFalse (writer_failed output.old) }
-    requires empty { pending output.old ≡ [] }
-    ensures same_writer { SameWriter output.old output.new }
-    ensures printed { PrintsLine (held W.contents output.old) (held W.contents output.new) (writer_failed output.new) line.now }
-{
-    let _ = print_line(output, line);
 }
 
 fn value_line(alloc: Global, value: &Value) -> Result<Vec<u8>, AllocError>
@@ -133,14 +110,4 @@ fn refusal_line(alloc: Global, fault: DirectFault) -> Result<Vec<u8>, AllocError
     push_block(&mut line, fault.place())?;
     push_text(&mut line, "\n")?;
     Ok(line)
-}
-
-fn push_block(line: &mut Vec<u8>, place: Option<u32>) -> Result<(), AllocError>
-    ensures { OnOk result (line.new.items ≡ line.old.items ++ place_words place) }
-{
-    let Some(place) = place else {
-        return Ok(());
-    };
-    push_text(line, " at ")?;
-    push_number(line, u64::from(place))
 }

@@ -24,7 +24,7 @@ pub fn path_of<'w>(job: &Job<'w>) -> Option<JobPath<'w>>
 {
     match job {
         Job::Serve { save, .. } => at(*save),
-        Job::Load { path } => at(Some(*path)),
+        Job::Load { path, .. } => at(Some(*path)),
         Job::Change { path, .. } => at(Some(*path)),
         Job::Check { .. }
         | Job::Dump { .. }

@@ -2,8 +2,9 @@
 ghost use Rattle.std.specs.Prelude.{◌≡◌, ◌↔◌, [], IsErr, IsFalse, IsTrue, OnErr, OnOk};
 ghost use Rattle.std.specs.Io.KnownBytes.{Appends};
 ghost use Rattle.exh_stream.specs.Output.{AppendsBeginning, SameWriter, held, pending, writer_failed};
-ghost use Rattle.exh_job.specs.LastLine.{PrintsLine, memory_line};
+ghost use Rattle.exh_job.specs.LastLine.{PrintsLine, TellsLine, memory_line};
 
+use crate::status::Status;
 use exh_stream::{Output, WriteFault};
 use std::io::Write;
 
@@ -38,4 +39,27 @@ pub fn print_line<W: Write>(output: &mut Output<'_, W>, line: &[u8]) -> Result<(
 {
     output.push(line)?;
     output.finish()
+}
+
+/// Prints a line as `print_line` does, where the status is the same whatever comes of it.
+pub(crate) fn print_last<W: Write>(output: &mut Output<'_, W>, line: &[u8])
+    requires open { IsFalse (writer_failed output.old) }
+    requires empty { pending output.old ≡ [] }
+    ensures same_writer { SameWriter output.old output.new }
+    ensures printed { PrintsLine (held W.contents output.old) (held W.contents output.new) (writer_failed output.new) line.now }
+{
+    let _ = print_line(output, line);
+}
+
+/// Prints a line, and says with which status the program ends: with this one where it went out.
+pub(crate) fn tell_line<W: Write>(line: &[u8], status: Status, output: &mut Output<'_, W>) -> Status
+    requires open { IsFalse (writer_failed output.old) }
+    requires empty { pending output.old ≡ [] }
+    ensures same_writer { SameWriter output.old output.new }
+    ensures told { TellsLine (held W.contents output.old) (held W.contents output.new) (writer_failed output.new) line.now status result }
+{
+    match print_line(output, line) {
+        Ok(()) => status,
+        Err(_) => Status::Refused,
+    }
 }

@@ -4,7 +4,7 @@ ghost use Rattle.exh_stream.specs.Output.{SameWriter, held, pending, writer_fail
 ghost use Rattle.exh_job.specs.LastLine.{PrintsLine, memory_line};
 ghost use Rattle.exh_job.specs.OpenRun.{EndsUnopened, OpensOrTells, open_refusal_line};
 
-use crate::last_line::{OUT_OF_MEMORY, UNOPENED, print_line};
+use crate::last_line::{OUT_OF_MEMORY, UNOPENED, print_last};
 use crate::status::Status;
 use crate::stores::FileWards;
 use exh_file::{OpenFault, open};
@@ -35,7 +35,7 @@ pub fn open_file<F: Read + Drop, W: Write>(
     match opened {
         Ok(mut file) => open_bytes(alloc, &mut file, output),
         Err(_) => {
-            print(output, UNOPENED);
+            print_last(output, UNOPENED);
             Err(Status::Refused)
         }
     }
@@ -70,8 +70,8 @@ fn tell_fault<W: Write>(alloc: Global, fault: OpenFault, output: &mut Output<'_,
         ⊎ PrintsLine (held W.contents output.old) (held W.contents output.new) (writer_failed output.new) memory_line }
 {
     match refusal_line(alloc, fault) {
-        Ok(line) => print(output, &line),
-        Err(_) => print(output, OUT_OF_MEMORY),
+        Ok(line) => print_last(output, &line),
+        Err(_) => print_last(output, OUT_OF_MEMORY),
     }
 }
 
@@ -87,14 +87,4 @@ fn refusal_line(alloc: Global, fault: OpenFault) -> Result<Vec<u8>, AllocError>
         }
     }
     Ok(line)
-}
-
-// Prints a line, or where the writer fails a beginning of it.
-fn print<W: Write>(output: &mut Output<'_, W>, line: &[u8])
-    requires open { IsFalse (writer_failed output.old) }
-    requires empty { pending output.old ≡ [] }
-    ensures same_writer { SameWriter output.old output.new }
-    ensures printed { PrintsLine (held W.contents output.old) (held W.contents output.new) (writer_failed output.new) line.now }
-{
-    let _ = print_line(output, line);
 }

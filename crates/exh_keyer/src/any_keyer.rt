@@ -13,6 +13,18 @@ pub enum AnyKeyer {
     Sha,
 }
 
+impl AnyKeyer {
+    /// The word by which a keyer is named, as it prints.
+    pub fn word(self) -> &'static str
+        ensures { result.now ≡ keyer_word self }
+    {
+        match self {
+            AnyKeyer::Plain => "plain",
+            AnyKeyer::Sha => "sha",
+        }
+    }
+}
+
 impl Keyer for AnyKeyer {
     ghost pseudokey_of = { any_pseudokey };
 
@@ -46,9 +58,6 @@ impl fmt::Display for AnyKeyer {
     ghost output = { λ keyer. Some (keyer_word keyer) };
 
     fn fmt<W: fmt::Write>(&self, f: &mut fmt::Formatter<W>) -> fmt::Result {
-        f.write_str(match self {
-            AnyKeyer::Plain => "plain",
-            AnyKeyer::Sha => "sha",
-        })
+        f.write_str(self.word())
     }
 }

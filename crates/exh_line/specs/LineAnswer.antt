@@ -5,7 +5,8 @@ use Rattle.exh_notice.specs.declared.entry.Kind.TheVariants as kinds
 use Rattle.exh_notice.specs.declared.notice.Notice.{Notice}
 use Rattle.exh_text.specs.Contents.{entry_text}
 use Rattle.exh_text.specs.TextLines.{newline}
-use Rattle.exh_text.specs.Printing.{printed, place_text, refused_text}
+use Rattle.exh_text.specs.Printing.{place_text, refused_text}
+use Rattle.exh_text.specs.ReplyText.{reply_text}
 use Rattle.exh_event.specs.declared.progress.Progress.{Progress}
 use Rattle.exh_event.specs.declared.progress.Progress.TheVariants as hops
 use Rattle.exh_calls.specs.declared.reply.Reply.{Reply}
@@ -65,15 +66,6 @@ step_answer tells_moves event (Ok outcome) = outcome_answer tells_moves event ou
 step_answer tells_moves event (Err fault) = Refused (Step fault)
 
 -- ---- what is printed of it
-
-abbrev pub reply_text : Reply → List ℕ
-reply_text (Is value) = codes "is " ++ printed value
-reply_text Absent = codes "none"
-reply_text New = codes "new"
-reply_text (Was value) = codes "was " ++ printed value
-reply_text Full = codes "full"
-reply_text Swapped = codes "swapped"
-reply_text (Differs value) = codes "differs " ++ printed value
 
 -- the moves and their bound, at the end of a reply's line
 abbrev pub moves_text : Option Moves → List ℕ

@@ -1,5 +1,5 @@
 ghost use Rattle.std.specs.Prelude.{◌≡◌, ◌++◌, OnOk, decimal};
-ghost use Rattle.exh_line.specs.LineAnswer.{answer_text, answer_words, copy_text, moves_text, notice_text, outcome_answer, reply_text, request_in, request_text};
+ghost use Rattle.exh_line.specs.LineAnswer.{answer_text, answer_words, copy_text, moves_text, notice_text, outcome_answer, request_in, request_text};
 ghost use Rattle.exh_line.specs.LineStart.{short_event};
 ghost use Rattle.exh_line.specs.declared.answer.Answer.TheVariants.{Begun, Refused, Replied};
 ghost use Rattle.exh_text.specs.Printing.{Keeps, place_text};
@@ -9,7 +9,7 @@ use exh_calls::Reply;
 use exh_event::{Outcome, Progress};
 use exh_notice::Notice;
 use exh_prefix::PageNo;
-use exh_text::{push_entry, push_number, push_refused, push_text, push_value};
+use exh_text::{push_entry, push_number, push_refused, push_reply, push_text};
 use std::alloc::AllocError;
 
 /// Adds the line that an answer prints.
@@ -186,30 +186,6 @@ fn push_notice(out: &mut Vec<u8>, notice: &Notice) -> Result<(), AllocError>
     push_place(out, u32::from(notice.ward), notice.index)?;
     push_text(out, " prefix ")?;
     push_entry(out, &notice.prefix, notice.number, &notice.kind)
-}
-
-fn push_reply(out: &mut Vec<u8>, reply: &Reply) -> Result<(), AllocError>
-    ensures ok { OnOk result (out.new.items ≡ out.old.items ++ reply_text reply.now) }
-    ensures kept { Keeps out.old.items out.new.items }
-{
-    match reply {
-        Reply::Is(value) => {
-            push_text(out, "is ")?;
-            push_value(out, value.as_bytes())
-        }
-        Reply::None => push_text(out, "none"),
-        Reply::New => push_text(out, "new"),
-        Reply::Was(value) => {
-            push_text(out, "was ")?;
-            push_value(out, value.as_bytes())
-        }
-        Reply::Full => push_text(out, "full"),
-        Reply::Swapped => push_text(out, "swapped"),
-        Reply::Differs(value) => {
-            push_text(out, "differs ")?;
-            push_value(out, value.as_bytes())
-        }
-    }
 }
 
 // The moves of a request and their bound, where they are told.

@@ -49,10 +49,6 @@ memory_differs same = cc
 pub too_long_differs : (fault : InputFault) → fault ≡ TooLong → fault ≢ Read
 too_long_differs fault is same = cc
 
-pub stays_open : (failed : Bool) → (IsTrue failed → ⊥) → IsFalse failed
-stays_open true still = absurd (still refl)
-stays_open false still = refl
-
 -- another form of the same load
 module _ {W : Type 0} (contents : W → Option (List ℕ)) (old new : Output W) (one other : Load) (same : one ≡ other) (result : Result (Option OpenedState) LoadFault) where
   pub same_text : OnOk result (Takes contents old new one.printed) → OnOk result (Takes contents old new other.printed)

@@ -11,7 +11,7 @@ use exh_format::Header;
 use exh_keyer::AnyKeyer;
 use exh_page::{Page, Record};
 use exh_prefix::PageNo;
-use exh_settings::{FileSettings, keyer_name};
+use exh_settings::FileSettings;
 use exh_text::{push_forward_page, push_live_page, push_number, push_text, push_value};
 use std::alloc::AllocError;
 
@@ -61,7 +61,7 @@ pub(crate) fn push_file(out: &mut Vec<u8>, header: &Header) -> Result<(), AllocE
     push_text(out, " wards=")?;
     push_number(out, u64::from(header.settings.ward_bits))?;
     push_text(out, " keyer=")?;
-    push_text(out, keyer_name(header.settings.keyer))?;
+    push_text(out, header.settings.keyer.word())?;
     push_text(out, "\n")
 }
 
@@ -145,6 +145,6 @@ pub(crate) fn push_first(
     push_text(out, " wards=")?;
     push_number(out, u64::from(settings.ward_bits))?;
     push_text(out, " copies=1 keyer=")?;
-    push_text(out, keyer_name(settings.keyer))?;
+    push_text(out, settings.keyer.word())?;
     push_text(out, "\n")
 }

@@ -4,7 +4,7 @@
 
 pub use exh_model::audit;
 pub use other_settings::OtherSettings;
-pub use refusal_line::push_refusal;
+pub use refusal_line::{push_block, push_refusal};
 pub use report::{check_onto, dump_onto, pairs_onto};
 pub use report_fault::ReportFault;
 pub use texts::{check_text, dump_text};

@@ -18,7 +18,8 @@ pub fn push_refusal(out: &mut Vec<u8>, fault: LegalFileFault) -> Result<(), Allo
     push_text(out, "\n")
 }
 
-fn push_block(out: &mut Vec<u8>, place: Option<u32>) -> Result<(), AllocError>
+/// Adds the block that a refusal is of, if it is of one.
+pub fn push_block(out: &mut Vec<u8>, place: Option<u32>) -> Result<(), AllocError>
     ensures ok { OnOk result (out.new.items ≡ out.old.items ++ place_words place) }
     ensures kept { Keeps out.old.items out.new.items }
 {

@@ -1,20 +1,9 @@
-//! The word, the byte and the equality of a file's keyer.
+//! The keyer of a word, and the byte and the equality of a file's keyer.
 ghost use Rattle.std.specs.Prelude.{◌≡◌, IfSome, IfNone};
-ghost use Rattle.exh_keyer.specs.Pseudokey.{keyer_word};
 ghost use Rattle.exh_keyer.specs.declared.any_keyer.AnyKeyer.{AnyKeyer};
 ghost use Rattle.exh_settings.specs.Keyers.{is_same_keyer, keyer_byte, keyer_named};
 
 use exh_keyer::AnyKeyer;
-
-/// The word by which a keyer is named, as it prints.
-pub fn keyer_name(keyer: AnyKeyer) -> &'static str
-    ensures { result.now ≡ keyer_word keyer }
-{
-    match keyer {
-        AnyKeyer::Sha => "sha",
-        AnyKeyer::Plain => "plain",
-    }
-}
 
 /// The keyer of a word, `None` where it is that of none.
 pub fn keyer_named(word: &[u8]) -> Option<AnyKeyer>

@@ -4,7 +4,7 @@
 
 pub use config::{CALLERS_LIMIT, CALLS_LIMIT, COPIES_LIMIT, StormConfig};
 pub use file_settings::FileSettings;
-pub use keyers::{is_same_keyer, keyer_byte, keyer_name, keyer_named, keyer_of_byte};
+pub use keyers::{is_same_keyer, keyer_byte, keyer_named, keyer_of_byte};
 
 mod config;
 mod file_settings;

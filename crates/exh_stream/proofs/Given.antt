@@ -1,5 +1,5 @@
 -- What came out of a reader, read by read.
-use Rattle.std.proofs.Common.{◌≡◌, Bool, true, false, IsTrue, IsFalse, refl, ℕ, ◌+◌, ◌<◌, ◌≤◌, List, ◌++◌, length, take, Option, Result, OnErr, Ok, Err, sym, ap, ◌∙◌, arith, length-append, length-take-le}
+use Rattle.std.proofs.Common.{◌≡◌, ℕ, ◌+◌, ◌<◌, ◌≤◌, List, ◌++◌, length, take, Option, Result, OnErr, Ok, Err, sym, ap, ◌∙◌, arith, length-append, length-take-le}
 use Rattle.std.proofs.Math.Seq.{take-append-add}
 use Rattle.std.proofs.lemmas.List.{take-append-le}
 use Rattle.std.specs.Io.KnownBytes.{Consumes}
@@ -25,8 +25,3 @@ pub LosesLonger-after : (a b c : Option (List ℕ)) (first block : List ℕ) (co
 LosesLonger-after a b c first block count limit given next within more =
     let over : limit < length (first ++ take count block) = omega (arith, more, length-append first (take count block), length-take-le count block within) in
     (first ++ take count block, over, Consumes-trans a b c first (take count block) given next)
-
--- what doesn't fail stays open
-pub stays_open : (failed : Bool) → (IsTrue failed → ⊥) → IsFalse failed
-stays_open true never = absurd (never refl)
-stays_open false never = refl

@@ -1,5 +1,5 @@
 -- What goes to a writer, part by part.
-use Rattle.std.proofs.Common.{◌≡◌, ℕ, List, [], ◌++◌, Option, Result, Ok, Err, OnErr, refl, sym, ap, ◌∙◌, subst, append_assoc, append-nil}
+use Rattle.std.proofs.Common.{◌≡◌, ℕ, Bool, true, false, IsTrue, IsFalse, List, [], ◌++◌, Option, Result, Ok, Err, OnErr, refl, sym, ap, ◌∙◌, subst, append_assoc, append-nil}
 use Rattle.std.specs.Io.KnownBytes.{Appends}
 use Rattle.std.proofs.KnownBytes.{Appends-nil, Appends-trans}
 use Rattle.exh_stream.specs.Output.{AppendsAllBut, AppendsBeginning, Takes, TakesBeginning, WriterUntouched, held, pending}
@@ -57,6 +57,11 @@ module _ {W : Type 0} {contents : W → Option (List ℕ)} where
 pub OnErr-from : {T E P : Type 0} (r : Result T E) → P → OnErr r P
 OnErr-from (Ok x) p = tt
 OnErr-from (Err e) p = p
+
+-- what doesn't fail stays open
+pub stays_open : (failed : Bool) → (IsTrue failed → ⊥) → IsFalse failed
+stays_open true never = absurd (never refl)
+stays_open false never = refl
 
 module _ {W : Type 0} (contents : W → Option (List ℕ)) where
   -- nothing is a beginning of any bytes

@@ -2,6 +2,7 @@ pub mod TextLines
 pub mod Numbers
 pub mod ByteWord
 pub mod Printing
+pub mod ReplyText
 pub mod Contents
 pub mod LineFault
 pub mod TextLemmas

@@ -15,6 +15,7 @@ pub use lines::{Lines, split_words};
 pub use number::{parse_u32, parse_u32_after, parse_u64};
 pub use parts::Parts;
 pub use printing::{push_number, push_place, push_prefix, push_refused, push_text, push_value};
+pub use reply_text::push_reply;
 pub use script::SCRIPT_LIMIT;
 pub use settings::Settings;
 
@@ -28,5 +29,6 @@ mod lines;
 mod number;
 mod parts;
 mod printing;
+mod reply_text;
 mod script;
 mod settings;

@@ -29,14 +29,22 @@ pub returns-in-dump-clause-named : goal.returns-in-dump-clause-named
 returns-in-dump-clause-named c = λ asked met.
     job_is asked _ (dumps asked c.in-Some.own.now (own_of c.args.matches.now c.in-Some.command.now c.in-Some.own.now _ c.in-Some.ensures.name c.in-Some.ensures.rows c.in-dump.is asked met) _ c.path_in-in-dump.ensures)
 
-pub path_in-requires-in-load : goal.path_in-requires-in-load
-path_in-requires-in-load c =
-    let own = own_is c.args.matches.now c.in-Some.command.now c.in-Some.own.now c.requires.0 c.in-Some.ensures.name c.in-Some.ensures.rows c.requires.1 in
-    path_given c.requires.0 c.in-Some.command.now c.in-Some.own.now own (no_options c.in-Some.command.now (inr (inr (inl c.in-load.is))))
+pub load_job-requires : goal.load_job-requires
+load_job-requires c =
+    let given = loads c.requires.0 c.in-Some.own.now (own_of c.args.matches.now c.in-Some.command.now c.in-Some.own.now _ c.in-Some.ensures.name c.in-Some.ensures.rows c.in-load.is c.requires.0 c.requires.1) in
+    record { path = subst IsSome given.path_is refl }
 
 pub returns-in-load-clause-named : goal.returns-in-load-clause-named
-returns-in-load-clause-named c = λ asked met.
-    job_is asked _ (loads asked c.in-Some.own.now (own_of c.args.matches.now c.in-Some.command.now c.in-Some.own.now _ c.in-Some.ensures.name c.in-Some.ensures.rows c.in-load.is asked met) _ c.path_in-in-load.ensures)
+returns-in-load-clause-named c =
+    IfOk-weaker c.load_job.result _ _ (λ job is asked met.
+    let given = loads asked c.in-Some.own.now (own_of c.args.matches.now c.in-Some.command.now c.in-Some.own.now _ c.in-Some.ensures.name c.in-Some.ensures.rows c.in-load.is asked met) in
+    job_is asked _ given.asked_is ∙ is given.path given.long given.into given.path_is given.flags) c.load_job.ensures.named
+
+pub returns-in-load-clause-wrong : goal.returns-in-load-clause-wrong
+returns-in-load-clause-wrong c =
+    IfErr-weaker c.load_job.result _ _ (λ fault none wrong asked met.
+    let given = loads asked c.in-Some.own.now (own_of c.args.matches.now c.in-Some.command.now c.in-Some.own.now _ c.in-Some.ensures.name c.in-Some.ensures.rows c.in-load.is asked met) in
+    job_is asked _ given.asked_is ∙ none wrong given.path given.long given.into given.flags) c.load_job.ensures.wrong
 
 pub returns-in-storm-clause-named : goal.returns-in-storm-clause-named
 returns-in-storm-clause-named c =
@@ -158,10 +166,7 @@ pub returns-in-dump-clause-wrong : goal.returns-in-dump-clause-wrong
 returns-in-dump-clause-wrong c = tt
 
 pub returns-in-load-clause-limits : goal.returns-in-load-clause-limits
-returns-in-load-clause-limits c = tt
-
-pub returns-in-load-clause-wrong : goal.returns-in-load-clause-wrong
-returns-in-load-clause-wrong c = tt
+returns-in-load-clause-limits c = c.load_job.ensures.limits
 
 pub returns-in-storm-clause-limits : goal.returns-in-storm-clause-limits
 returns-in-storm-clause-limits c = c.storm_job.ensures.limits

@@ -4,7 +4,7 @@ use Rattle.clap.specs.Words.{App, Shape, with_subcommand}
 use Rattle.exh_command.specs.Parser.{ReadsJobs, about_key, about_path, about_two_values, about_value}
 use Rattle.exh_command.specs.Program.{bare_program}
 use Rattle.exh_command.proofs.ParserLemmas.{program_reads}
-use Rattle.exh_command.proofs.TheProgram.{pairs, serve, storm}
+use Rattle.exh_command.proofs.TheProgram.{load, pairs, serve, storm}
 use Rattle.exh_command.proofs.parser.parser.Goals as goal
 
 below : (command : Shape) {one other : App} → one ≡ other → with_subcommand one command ≡ with_subcommand other command
@@ -12,18 +12,18 @@ below command same = ap (λ (app : App). with_subcommand app command) same
 
 -- the commands one behind the other
 stacked : {bare serving checking dumping loading storming getting putting deleting swapping whole : App} → bare ≡ bare_program → serving ≡ with_subcommand bare serve → checking ≡ with_subcommand serving (about_path (codes "check"))
-    → dumping ≡ with_subcommand checking (about_path (codes "dump")) → loading ≡ with_subcommand dumping (about_path (codes "load")) → storming ≡ with_subcommand loading storm
+    → dumping ≡ with_subcommand checking (about_path (codes "dump")) → loading ≡ with_subcommand dumping load → storming ≡ with_subcommand loading storm
     → getting ≡ with_subcommand storming (about_key (codes "get")) → putting ≡ with_subcommand getting (about_value (codes "put")) → deleting ≡ with_subcommand putting (about_key (codes "del"))
     → swapping ≡ with_subcommand deleting (about_two_values (codes "swap"))
     → whole ≡ with_subcommand swapping pairs → ReadsJobs whole
 stacked is with_serve with_check with_dump with_load with_storm with_get with_put with_del with_swap with_pairs =
-    subst ReadsJobs (sym (with_pairs ∙ below pairs (with_swap ∙ below (about_two_values (codes "swap")) (with_del ∙ below (about_key (codes "del")) (with_put ∙ below (about_value (codes "put")) (with_get ∙ below (about_key (codes "get")) (with_storm ∙ below storm (with_load ∙ below (about_path (codes "load")) (with_dump ∙ below (about_path (codes "dump")) (with_check ∙ below (about_path (codes "check")) (with_serve ∙ below serve (is)))))))))))) program_reads
+    subst ReadsJobs (sym (with_pairs ∙ below pairs (with_swap ∙ below (about_two_values (codes "swap")) (with_del ∙ below (about_key (codes "del")) (with_put ∙ below (about_value (codes "put")) (with_get ∙ below (about_key (codes "get")) (with_storm ∙ below storm (with_load ∙ below load (with_dump ∙ below (about_path (codes "dump")) (with_check ∙ below (about_path (codes "check")) (with_serve ∙ below serve (is)))))))))))) program_reads
 
 pub returns : goal.returns
 returns c =
     IfOk-weaker c.with_command-10.result _ _ (λ command whole. stacked c.in_ok-bare_program.ensures
     (c.in_ok-serving.ensures serve c.serve.ensures.is) (c.in_ok-checking.ensures (about_path (codes "check")) c.path_command-check.ensures.is) (c.in_ok-dumping.ensures (about_path (codes "dump")) c.path_command-dump.ensures.is)
-    (c.in_ok-loading.ensures (about_path (codes "load")) c.path_command-load.ensures.is) (c.in_ok-storming.ensures storm c.storm.ensures.is) (c.in_ok-getting.ensures (about_key (codes "get")) c.key_command-get.ensures.is)
+    (c.in_ok-loading.ensures load c.load.ensures.is) (c.in_ok-storming.ensures storm c.storm.ensures.is) (c.in_ok-getting.ensures (about_key (codes "get")) c.key_command-get.ensures.is)
     (c.in_ok-putting.ensures (about_value (codes "put")) c.value_command-put.ensures.is) (c.in_ok-deleting.ensures (about_key (codes "del")) c.key_command-del.ensures.is) (c.in_ok-swapping.ensures (about_two_values (codes "swap")) c.swap_command-swap.ensures.is) whole) (c.with_command-10.ensures pairs c.pairs.ensures.is)
 
 pub with_command-requires : goal.with_command-requires
@@ -36,7 +36,7 @@ pub with_command-requires-3 : goal.with_command-requires-3
 with_command-requires-3 c = c.path_command-dump.ensures.own
 
 pub with_command-requires-4 : goal.with_command-requires-4
-with_command-requires-4 c = c.path_command-load.ensures.own
+with_command-requires-4 c = c.load.ensures.own
 
 pub with_command-requires-5 : goal.with_command-requires-5
 with_command-requires-5 c = c.storm.ensures.own
@@ -91,9 +91,6 @@ path_command-check-requires c = tt
 
 pub path_command-dump-requires : goal.path_command-dump-requires
 path_command-dump-requires c = tt
-
-pub path_command-load-requires : goal.path_command-load-requires
-path_command-load-requires c = tt
 
 pub key_command-get-requires : goal.key_command-get-requires
 key_command-get-requires c = tt

@@ -65,11 +65,11 @@ loop-number-init g c = record {
   start = refl;
 }
 
-pub returns-in_err-push-clause-counted : goal.returns-in_err-push-clause-counted
-returns-in_err-push-clause-counted g c = memory_counted g.P.Pages.failures c.from_residual-in_err-push.result c.from_residual-in_err-push.ensures.1
+pub returns-in_err-push_item-clause-counted : goal.returns-in_err-push_item-clause-counted
+returns-in_err-push_item-clause-counted g c = memory_counted g.P.Pages.failures c.from_residual-in_err-push_item.result c.from_residual-in_err-push_item.ensures.1
 
-pub returns-in_err-push-clause-fault : goal.returns-in_err-push-clause-fault
-returns-in_err-push-clause-fault g c = memory_other c.from_residual-in_err-push.result c.from_residual-in_err-push.ensures.1
+pub returns-in_err-push_item-clause-fault : goal.returns-in_err-push_item-clause-fault
+returns-in_err-push_item-clause-fault g c = memory_other c.from_residual-in_err-push_item.result c.from_residual-in_err-push_item.ensures.1
 
 pub returns-in_err-ward-clause-counted : goal.returns-in_err-ward-clause-counted
 returns-in_err-ward-clause-counted g c = err_as c.from_residual.result c.in_err-ward.field-0.0 _ c.from_residual.ensures.1 c.in_err-ward.ensures.counted
@@ -127,8 +127,8 @@ loop-number-preserved g c =
     let made = subst (λ t. IsOpenedWard header number c.index-pages-number.result.items t c.in_ok-ward.ward) (c.replace-table.ensures.value ∙ sym c.index-tables-number.is)
     (subst (λ (o : Vec Page Global). IsOpenedWard header number o.items c.replace-table.result c.in_ok-ward.ward) (c.replace-own.ensures.value ∙ sym c.index-pages-number.is) c.in_ok-ward.ensures.opened) in
     record {
-      count = ap length c.in_ok-push.ensures ∙ length_push wards c.in_ok-ward.ward ∙ ap (λ n. n + 1) c.loop-number.invariant.count;
-      opened = subst (AreOpened header c.args.pages.now c.args.tables.now) (sym c.in_ok-push.ensures)
+      count = ap length c.in_ok-push_item.ensures.ok ∙ length_push wards c.in_ok-ward.ward ∙ ap (λ n. n + 1) c.loop-number.invariant.count;
+      opened = subst (AreOpened header c.args.pages.now c.args.tables.now) (sym c.in_ok-push_item.ensures.ok)
           (more_opened header c.args.pages.now c.args.tables.now wards c.in_ok-ward.ward number c.index-pages-number.result c.index-tables-number.result c.loop-number.invariant.count own table made c.loop-number.invariant.opened);
       pages = λ at past. untouched c.loop-number.pages number at c.replace-own.new.dest (later number past) ∙ c.loop-number.invariant.pages at (still_later number past);
       tables = λ at past. untouched c.loop-number.tables number at c.replace-table.new.dest (later number past) ∙ c.loop-number.invariant.tables at (still_later number past);

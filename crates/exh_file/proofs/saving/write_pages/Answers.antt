@@ -15,7 +15,8 @@ use Rattle.exh_ward.specs.WardState.{WardState}
 use Rattle.exh_file.specs.SaveFault.{CountsSaveFailures}
 use Rattle.exh_file.specs.Saved.{AreUnchanged, failures_in}
 use Rattle.exh_file.proofs.Going.{all_pages_in, blocks_cut, blocks_next, one_ward, one_ward_blocks, pages_join, ward_blocks_join}
-use Rattle.exh_file.proofs.Left.{counted_as, none_touched, one_counted, one_touched}
+use Rattle.exh_file.proofs.Left.{counted_as, one_counted, one_touched}
+use Rattle.exh_file.specs.LeftLemmas.{still_the_same}
 use Rattle.exh_file.proofs.Lists.{next_all}
 use Rattle.exh_file.proofs.saving.write_pages.Goals as goal
 
@@ -68,7 +69,7 @@ returns-clause-pages g c =
     subst (λ (wards : List (WardState AnyKeyer)). AllByRecursion (IsInRange written_version) (all_pages_in wards)) all c.loop-number.invariant.ranges
 
 pub returns-clause-wards : goal.returns-clause-wards
-returns-clause-wards g c = subst (AreUnchanged c.args.wards.now) (sym c.loop-number.invariant.wards) (none_touched c.args.wards.now)
+returns-clause-wards g c = subst (AreUnchanged c.args.wards.now) (sym c.loop-number.invariant.wards) (still_the_same c.args.wards.now)
 
 pub returns-clause-failures : goal.returns-clause-failures
 returns-clause-failures g c = ap failures_in c.loop-number.invariant.wards

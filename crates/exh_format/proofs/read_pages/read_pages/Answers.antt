@@ -29,7 +29,7 @@ loop-number-preserved g c =
     let pseudo = any_pseudokey c.args.keyer in
     let read = c.in_ok-page.ensures.ok in
     let pages = c.loop-number.pages.items in
-    let pushed : c.push.new.items.items ≡ pages ++ c.in_ok-page.page ∷ [] = c.in_ok-push.ensures in
+    let pushed : c.push_item.new.items.items ≡ pages ++ c.in_ok-page.page ∷ [] = c.in_ok-push_item.ensures.ok in
     record {
       unfailed = still_open c.in_ok-page.page _ c.in_ok-page.ensures.failed.1;
       place = omega (arith, c.loop-number.invariant.place, c.in_ok-page.ensures.place);

@@ -41,12 +41,12 @@ loop-count-preserved g c =
     let wards = c.loop-count.wards.items in
     let ward = c.in_ok-pages.pages in
     let within = c.loop-count-test.true in
-    let joined : pages_in c.push.new.items.items ≡ pages_in wards ++ ward.items = ap pages_in c.in_ok-push.ensures ∙ pages_push wards ward in
+    let joined : pages_in c.push_item.new.items.items ≡ pages_in wards ++ ward.items = ap pages_in c.in_ok-push_item.ensures.ok ∙ pages_push wards ward in
     record {
       unfailed = still_open ward _ read.failed.1;
       place = next_place counts at within c.args.blocks.now.place was.place read.place;
       some = ap length joined ∙ length-append (pages_in wards) ward.items ∙ next_count counts at within was.some read.count;
-      counts = ap (map (λ (ward : Vec Page Global). length ward.items)) c.in_ok-push.ensures ∙ map_push (λ (ward : Vec Page Global). length ward.items) wards ward ∙ ap (λ (front : List ℕ). front ++ length ward.items ∷ []) was.counts
+      counts = ap (map (λ (ward : Vec Page Global). length ward.items)) c.in_ok-push_item.ensures.ok ∙ map_push (λ (ward : Vec Page Global). length ward.items) wards ward ∙ ap (λ (front : List ℕ). front ++ length ward.items ∷ []) was.counts
           ∙ ap (λ (last : ℕ). take at counts ++ last ∷ []) read.count ∙ sym (take_more counts at 0 within);
       given = subst (GivesPages (layout c.args.version) pseudo _ _) (sym joined) (more_pages (layout c.args.version) pseudo _ _ _ (pages_in wards) ward.items was.given read.given);
       digests = read.digests ∙ ap (λ (known : List (List ℕ)). known ++ map page_digest ward.items) was.digests

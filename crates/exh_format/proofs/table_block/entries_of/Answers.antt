@@ -18,8 +18,8 @@ loop-i-preserved c =
     let chunk = rw c.unwrap-image.ensures at c.first_chunk.ensures.cases in
     let whole : take (length bytes - start) (drop start bytes) ≡ drop start bytes = take_all (length bytes - start) (drop start bytes) (omega (arith, length-drop start bytes)) in
     let front : c.unwrap-image.result.now ≡ take 16 (drop start bytes) = chunk.same ∙ ap (take 16) whole in
-    let pushed : c.push.new.entries.items ≡ c.loop-i.entries.items ++ record { ward = c.in-Ok.read.0; prefix = c.in-Ok.read.1; entry = c.in-Ok.read.2 } ∷ [] =
-    c.in_ok-push-in-Ok.ensures ∙ ap (λ (item : FileEntry). c.loop-i.entries.items ++ item ∷ []) c.of_parts.ensures in
+    let pushed : c.push_item.new.items.items ≡ c.loop-i.entries.items ++ record { ward = c.in-Ok.read.0; prefix = c.in-Ok.read.1; entry = c.in-Ok.read.2 } ∷ [] =
+    c.in_ok-push_item-in-Ok.ensures.ok ∙ ap (λ (item : FileEntry). c.loop-i.entries.items ++ item ∷ []) c.of_parts.ensures in
     subst (λ (items : List FileEntry). AreEntries (layout c.args.version) (c.loop-i.i + 1) bytes items (drop (16 * (c.loop-i.i + 1)) bytes)) (sym pushed)
     (next_entry (layout c.args.version) (layout_fits c.args.version) c.loop-i.i bytes c.loop-i.entries.items c.in-Ok.read.0 c.in-Ok.read.1 c.in-Ok.read.2 c.unwrap-image.result.now c.loop-i.invariant front c.in-Ok.ensures.ok)
 

@@ -1,5 +1,6 @@
 use Rattle.std.proofs.Common.{◌≡◌, List, ℕ, ◌++◌, Result, Ok, Err, OnOk, codes, decimal, append_assoc, ap, ◌∙◌}
-use Rattle.exh_line.specs.LineAnswer.{moves_text, reply_text}
+use Rattle.exh_text.specs.ReplyText.{reply_text}
+use Rattle.exh_line.specs.LineAnswer.{moves_text}
 use Rattle.exh_line.proofs.answer_text.push_replied.Goals as goal
 
 -- a name and a word behind it, a reply and its moves

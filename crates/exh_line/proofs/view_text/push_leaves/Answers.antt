@@ -2,7 +2,6 @@ use Rattle.std.proofs.Common.{◌≡◌, ℕ, ◌+◌, ◌<◌, List, [], ◌∷
 use Rattle.std.proofs.lemmas.Grind.{flat_map-append}
 use Rattle.std.proofs.lemmas.List.{append-nil, take_all, take_more}
 use Rattle.std.proofs.lemmas.Result.{IfOk-from_err}
-use Rattle.exh_table.specs.Below.{leaves_listed}
 use Rattle.exh_table.specs.declared.leaf.Leaf.{Leaf}
 use Rattle.exh_text.specs.TextLemmas.{keeps_all, keeps_more}
 use Rattle.exh_line.specs.Shown.{leaf_line}

@@ -1,10 +1,10 @@
 use Rattle.std.proofs.Common.{Err, ap, arith, inr, length, refl, rules}
 use Rattle.exh_stream.specs.Output.{Takes, TakesBeginning}
-use Rattle.exh_stream.specs.OutputLemmas.{TakesBeginning-none}
+use Rattle.exh_stream.specs.OutputLemmas.{TakesBeginning-none, stays_open}
 use Rattle.exh_stream.specs.Source.{reader_failed, unread}
 use Rattle.exh_stream.specs.SourceLemmas.{Consumes-all_given, LosesLonger-had}
 use Rattle.exh_load.specs.Load.{IsLoadOf, TakesFront, beginning, load_of, refused}
-use Rattle.exh_load.proofs.Exits.{not_closed, other_closed, stays_open, too_long_differs}
+use Rattle.exh_load.proofs.Exits.{not_closed, other_closed, too_long_differs}
 use Rattle.exh_load.proofs.Loads.{front_none, load_long, load_read, loads_err, loads_front, loads_ok, printed_read, printed_unread, text_long, text_read}
 use Rattle.exh_load.proofs.Records.{lines_few}
 use Rattle.exh_load.proofs.load_source.load_source.Goals as goal

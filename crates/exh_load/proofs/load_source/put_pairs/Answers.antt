@@ -1,8 +1,8 @@
 use Rattle.std.proofs.Common.{Some, ap, ◌∙◌}
 use Rattle.std.proofs.lemmas.Result.{IfOk-from_err}
-use Rattle.exh_stream.specs.OutputLemmas.{OnErr-from}
+use Rattle.exh_stream.specs.OutputLemmas.{OnErr-from, stays_open}
 use Rattle.exh_load.specs.Loading.{loading_in, loading_of}
-use Rattle.exh_load.proofs.Exits.{no_fault, not_closed, same_fault, stays_open}
+use Rattle.exh_load.proofs.Exits.{no_fault, not_closed, same_fault}
 use Rattle.exh_load.proofs.Pairs.{handed_on, lines_begun, lines_front, pairs_begun, pairs_front, pairs_out, records_told}
 use Rattle.exh_load.proofs.load_source.put_pairs.Goals as goal
 

@@ -1,11 +1,10 @@
 use Rattle.std.proofs.Common.{[], ◌∷◌, arith, ◌∙◌, ◌++◌, sym, ap, subst, append_assoc}
 use Rattle.std.proofs.lemmas.List.{length_push}
 use Rattle.exh_stream.specs.Output.{Takes}
-use Rattle.exh_stream.specs.OutputLemmas.{OnErr-from}
+use Rattle.exh_stream.specs.OutputLemmas.{OnErr-from, stays_open}
 use Rattle.std.proofs.lemmas.Result.{IfOk-from_err}
 use Rattle.exh_load.specs.Loading.{line_text, loading_of, load_text_from}
 use Rattle.std.proofs.lemmas.Bool.{false≢true}
-use Rattle.exh_load.proofs.Exits.{stays_open}
 use Rattle.exh_load.proofs.Lines.{IfErr-from, LeadTo-more, line_is, line_out, line_stopped, stopped, text_lines, text_of_left, text_of_more, text_of_next}
 use Rattle.exh_load.proofs.load_text.load_lines.Goals as goal
 

@@ -1,9 +1,9 @@
 use Rattle.std.proofs.Common.{◌≡◌, ℕ, List, false, true, [], ◌∷◌, ◌++◌, refl, sym, subst, arith, ◌∙◌}
-use Rattle.exh_stream.specs.OutputLemmas.{Takes-none}
+use Rattle.exh_stream.specs.OutputLemmas.{Takes-none, stays_open}
 use Rattle.std.proofs.lemmas.Result.{IfOk-from_err}
 use Rattle.exh_load.specs.LineSource.{GoesOn, Passes}
 use Rattle.exh_load.specs.Loading.{loading_of}
-use Rattle.exh_load.proofs.Exits.{not_closed, stays_open}
+use Rattle.exh_load.proofs.Exits.{not_closed}
 use Rattle.exh_load.proofs.Lines.{LeadTo-more, LeadTo-none}
 use Rattle.exh_load.proofs.LongLoads.{all_put, more_passed, more_taken, some_endless, some_read, stopped_on}
 use Rattle.exh_load.proofs.TextLines.{passes_none}

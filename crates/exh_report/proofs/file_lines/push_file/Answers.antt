@@ -10,4 +10,4 @@ returns c =
     (codes "file cap=") (decimal settings.cap) (codes " wards=") (decimal settings.ward_bits) (codes " keyer=") (keyer_word settings.keyer) (10 ∷ [])
     c.in_ok-push_text.ensures.ok (c.in_ok-push_number.ensures.ok ∙ ap (λ n. c.push_text.new.out.items ++ decimal n) c.from.ensures) c.in_ok-push_text-2.ensures.ok
     (c.in_ok-push_number-2.ensures.ok ∙ ap (λ n. c.push_text-2.new.out.items ++ decimal n) c.from-2.ensures) c.in_ok-push_text-3.ensures.ok
-    (c.in_ok-push_text-4.ensures.ok ∙ ap (λ word. c.push_text-3.new.out.items ++ word) c.keyer_name.ensures) c.push_text-5.ensures.ok
+    (c.in_ok-push_text-4.ensures.ok ∙ ap (λ word. c.push_text-3.new.out.items ++ word) c.word.ensures) c.push_text-5.ensures.ok

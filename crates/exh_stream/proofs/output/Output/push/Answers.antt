@@ -2,8 +2,7 @@ use Rattle.std.proofs.Common.{◌≡◌, ◌<◌, ◌++◌, length, take, sym, a
 use Rattle.std.proofs.lemmas.List.{take_rest}
 use Rattle.std.proofs.lemmas.Bool.{false≢true}
 use Rattle.exh_stream.specs.Output.{AppendsAllBut, TakesBeginning}
-use Rattle.exh_stream.specs.OutputLemmas.{AppendsAllBut-trans, AppendsAllBut-more, AppendsBeginning-after, AppendsBeginning-of_more, TakesBeginning-none, OnErr-from}
-use Rattle.exh_stream.proofs.Given.{stays_open}
+use Rattle.exh_stream.specs.OutputLemmas.{AppendsAllBut-trans, AppendsAllBut-more, AppendsBeginning-after, AppendsBeginning-of_more, TakesBeginning-none, OnErr-from, stays_open}
 use Rattle.exh_stream.proofs.Taken.{append-taken, length-taken}
 use Rattle.exh_stream.proofs.output.Output.push.Goals as goal
 

@@ -1,7 +1,7 @@
 use Rattle.std.proofs.Common.{◌≡◌, ◌∙◌, length, ap, arith, rules}
 use Rattle.std.proofs.lemmas.Bool.{false≢true}
 use Rattle.std.proofs.lemmas.List.{drop-drop}
-use Rattle.exh_stream.proofs.Given.{stays_open}
+use Rattle.exh_stream.specs.OutputLemmas.{stays_open}
 use Rattle.exh_stream.proofs.Taken.{AppendsAllBut-write}
 use Rattle.exh_stream.proofs.output.Output.write_block.Goals as goal
 

@@ -2,7 +2,8 @@ use Rattle.std.proofs.Common.{sym, subst, rules, ◌∙◌}
 use Rattle.std.proofs.lemmas.Bool.{false≢true}
 use Rattle.std.specs.Io.KnownBytes.{Consumes}
 use Rattle.std.proofs.KnownBytes.{Consumes-trans}
-use Rattle.exh_stream.proofs.Given.{filled_more, stays_open}
+use Rattle.exh_stream.specs.OutputLemmas.{stays_open}
+use Rattle.exh_stream.proofs.Given.{filled_more}
 use Rattle.exh_stream.proofs.source.Source.fill.Goals as goal
 
 pub loop-filled-preserved : goal.loop-filled-preserved
