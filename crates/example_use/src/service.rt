@@ -7,14 +7,13 @@ ghost use Rattle.example_use.specs.Unasked.{AreUnasked};
 
 use crate::caller::{Caller, File, Pair};
 use anyhow::{Context, bail};
-use exh_calls::settle;
 use exh_copy::{CopyReader, CopyWriter, NewCopyFault, Start, new_copy};
 use exh_file::Opened;
 use exh_frames::FileStore;
 use exh_join::Join;
 use exh_keyer::AnyKeyer;
 use exh_live_file::{
-    ANSWER_PARTS, Closed, Cursors, ENTRY_PARTS, Identity, LiveFile, Seat, WardJournals,
+    ANSWER_PARTS, Closed, Cursors, ENTRY_PARTS, Identity, LiveFile, Seat, settle,
 };
 use exh_page::{Key, Value};
 use exh_settings::FileSettings;
@@ -115,16 +114,9 @@ fn settle_all(
     settings: FileSettings<AnyKeyer>,
     closed: Closed<FileStore, AnyKeyer>,
     values: Vec<Value>,
-) -> anyhow::Result<Served>
-    requires { settings.ward_bits ≤ WARD_BITS_LIMIT }
-{
+) -> anyhow::Result<Served> {
     let Closed { wards, diaries } = closed;
-    let journals = WardJournals {
-        ward_bits: settings.ward_bits,
-        keyer: settings.keyer,
-        wards: &wards,
-    };
-    let answers = settle(&journals, &diaries)?.answers;
+    let answers = settle(&wards, &diaries)?.answers;
     let opened = Opened::from_wards(settings, wards);
     match opened {
         Ok(opened) => Ok(Served {

@@ -1,7 +1,7 @@
 //! The calls of a live file, of the copy of the directory that its caller looks at, of a walk and of a storm, each once
 //! as `exh_live` and `exh_copy` hand it out. By hand: of pages that hold two records, by keyer plain, the third put
 //! splits page 0 into pages 0, for keys that begin with bit 0, and 1; after two deletes both have one record.
-ghost use Rattle.std.specs.Prelude.{◌≡◌};
+ghost use Rattle.std.specs.Prelude.{◌≡◌, IfOk};
 ghost use Rattle.std.specs.FinMap as map;
 ghost use Rattle.exh_keyer.specs.Pseudokey.{plain_pseudokey};
 ghost use Rattle.exh_live_file.specs.declared.ledgers.TheConstants.{ANSWER_PARTS, ENTRY_PARTS};
@@ -19,7 +19,7 @@ use exh_settings::FileSettings;
 use exh_stores::{PlainMaker, PlainPages};
 use exh_table::{Leaf, Table};
 use exh_ward::{Ward, new_wards};
-use std::alloc::Global;
+use std::alloc::{AllocError, Global};
 use std::marker::Brand;
 use std::sync::Wait;
 use std::sync::ledger::Blank;
@@ -60,7 +60,10 @@ fn get(key: &[u8], value: &[u8]) -> Option<(Call, Reply)> {
 
 fn delete(key: &[u8], value: &[u8]) -> Option<(Call, Reply)> {
     let key = Key::from_bytes(key).ok()?;
-    Some((Call::Del { key }, Reply::Was(Value::from_bytes(value).ok()?)))
+    Some((
+        Call::Del { key },
+        Reply::Was(Value::from_bytes(value).ok()?),
+    ))
 }
 
 // Whether calls of the seat are answered so.
@@ -125,6 +128,21 @@ fn is_told<R: Wait, S: Start>(
     Some((before, copy.look(HALF)) == (Some(1), Some(0)))
 }
 
+// A new file of one ward.
+fn new_file<F: Identity>(
+    alloc: Global,
+    answers: Blank,
+    entries: Blank,
+) -> Result<File<F>, AllocError>
+    requires answers { (answers.name ≡ F.answers) × (answers.parts ≡ ANSWER_PARTS) }
+    requires entries { (entries.name ≡ F.entries) × (entries.parts ≡ ENTRY_PARTS) }
+    requires hashed { F.hashing ≡ plain_pseudokey }
+    ensures { IfOk result (λ file. file.ward_bits ≡ 0) }
+{
+    let wards = new_wards(alloc, &PlainMaker, SETTINGS)?;
+    LiveFile::new(alloc, wards, answers, entries)
+}
+
 // A file of one caller: what it leaves is settled.
 fn is_served<R: Wait, F: Identity, S: Start>(
     rt: &R,
@@ -139,9 +157,12 @@ fn is_served<R: Wait, F: Identity, S: Start>(
     requires entries { (entries.name ≡ F.entries) × (entries.parts ≡ ENTRY_PARTS) }
     requires hashed { F.hashing ≡ plain_pseudokey }
 {
-    let wards = new_wards(alloc, &PlainMaker, SETTINGS).ok()?;
-    let mut file: File<F> = LiveFile::new(alloc, wards, answers, entries).ok()?;
-    let mut seat = file.seat().ok()?;
+    let Ok(mut file) = new_file::<F>(alloc, answers, entries) else {
+        return None;
+    };
+    let Ok(mut seat) = file.seat() else {
+        return None;
+    };
     let are_made = are_rounds_made(rt, alloc, &file, &mut seat, writer, copy)?;
     let is_told = is_told(rt, writer, copy)?;
     let mut seats = Vec::new(alloc);
@@ -194,8 +215,11 @@ fn a_live_file(rt: HostRuntime) {
 
 // A put over a ward by itself is one entry of its journal.
 fn walk(alloc: Global) -> Option<bool> {
-    let mut wards: Vec<Ward<PlainPages, PlainKeyer>> =
-        new_wards(alloc, &PlainMaker, SETTINGS).ok()?;
+    let mut wards: Vec<Ward<PlainPages, PlainKeyer>> = new_wards(
+        alloc,
+        &PlainMaker,
+        SETTINGS,
+    ).ok()?;
     let ward = wards.first_mut()?;
     let (call, reply) = put(b"\x80", b"b")?;
     if !ward.covers(HALF) || ward.pseudokey(call.key()) != HALF {

@@ -20,4 +20,4 @@ new_wards opened wards wards_are are unasked = record {
 pub new-requires-clause-wards : goal.new-requires-clause-wards
 new-requires-clause-wards g c =
     let wards = c.into_wards-wards.result.items in
-    subst (λ (settings : FileSettings AnyKeyer). AreNewWardsOf settings wards) (sym c.settings-settings.ensures) (new_wards c.args.opened wards c.into_wards-wards.ensures.wards c.into_wards-wards.ensures.each c.requires.unasked)
+    (settings_in c.args.opened, new_wards c.args.opened wards c.into_wards-wards.ensures.wards c.into_wards-wards.ensures.each c.requires.unasked, c.requires.hashed)

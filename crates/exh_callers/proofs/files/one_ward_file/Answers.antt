@@ -1,7 +1,15 @@
-use Rattle.std.proofs.Common.{rules}
+use Rattle.std.proofs.Common.{ap, rules}
+use Rattle.std.proofs.lemmas.Result.{IfOk-weaker}
+use Rattle.exh_keyer.specs.declared.plain_keyer.PlainKeyer.{PlainKeyer}
+use Rattle.exh_live_file.specs.LiveFile.{LiveState}
 use Rattle.exh_callers.specs.declared.files.TheConstants.{CAP}
 use Rattle.exh_callers.proofs.OneNewWard.{one_new_ward}
 use Rattle.exh_callers.proofs.files.one_ward_file.Goals as goal
 
 pub new-requires-clause-wards : goal.new-requires-clause-wards
-new-requires-clause-wards g c = one_new_ward CAP c.args.keyer c.args.ward c.requires.new _ (search rules)
+new-requires-clause-wards g c = (_, one_new_ward CAP c.args.keyer c.args.ward c.requires.new _ (search rules), c.requires.hashed)
+
+pub returns-clause-settings : goal.returns-clause-settings
+returns-clause-settings g c = IfOk-weaker c.new.result _ _ (λ file is.
+    let made = is _ (one_new_ward CAP c.args.keyer c.args.ward c.requires.new _ (search rules)) in
+    (ap (λ (file : LiveState PlainKeyer). file.cap) made, ap (λ (file : LiveState PlainKeyer). file.ward_bits) made)) c.new.ensures
