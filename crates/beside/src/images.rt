@@ -5,7 +5,7 @@ ghost use Rattle.std.specs.Prelude.{IfSome};
 ghost use Rattle.exh_settings.specs.StormConfig.{IsStormConfig};
 
 use exh_frames::FramedMaker;
-use exh_live::{NoWatch, storm};
+use exh_live::{NoWatch, storm_over};
 use exh_notes::{Expect, Notes};
 use exh_script::{ServeFault, serve_from};
 use exh_settings::{CALLERS_LIMIT, CALLS_LIMIT, StormConfig};
@@ -114,7 +114,7 @@ fn run_storm(
 ) -> ExitCode
     requires { IsStormConfig config.now }
 {
-    match storm(threads, rt.alloc(), maker, config, &OpenGate, &NoWatch) {
+    match storm_over(threads, rt.alloc(), maker, config, &OpenGate, &NoWatch) {
         Ok(answers) => match println!(rt; "settled {answers}") {
             Ok(()) => ExitCode::SUCCESS,
             Err(_) => ExitCode::from(REFUSED),

@@ -17,7 +17,6 @@ use exh_fixtures::{Difference, Part, Run, again, first_store, same};
 use exh_frames::{FailingPages, PlainPages};
 use exh_keyer::PlainKeyer;
 use exh_live_file::{ANSWER_PARTS, Cursors, ENTRY_PARTS, Identity};
-use exh_settings::FileSettings;
 use exh_table::Table;
 use exh_walk::OpenGate;
 use exh_ward::Ward;
@@ -228,10 +227,5 @@ fn failing_ward(alloc: Global, keyer: PlainKeyer, at: u64) -> Result<FailingWard
     ensures { IfOk result (IsNewWardOf 2 0 keyer 0) }
 {
     let store = FailingPages::new(first_store(alloc, 0, 0)?, at);
-    let settings = FileSettings {
-        cap: CAP as u8,
-        ward_bits: 0,
-        keyer,
-    };
-    Ok(Ward::new(alloc, store, settings, 0))
+    Ok(Ward::new(alloc, store, CAP as u8, 0, 0, keyer))
 }

@@ -9,10 +9,13 @@ use exh_callers::{
     CAP, Caller, Conductor, Count, PlainFile, Reader, Rule, Then, Who, close_settled, is_told,
     new_file, next_caller,
 };
-use exh_calls::Reply;
+use exh_calls::{JournalEntry, Reply};
 use exh_fixtures::{Asked, Difference, Part, Run, Said, same, value};
+use exh_keyer::PlainKeyer;
 use exh_live_file::{ANSWER_PARTS, ENTRY_PARTS, Identity};
+use exh_stores::PlainPages;
 use exh_walk::OpenGate;
+use exh_ward::Ward;
 use std::sync::Wait;
 use std::sync::ledger::Blank;
 use std::thread::{Threads, join};
@@ -34,6 +37,15 @@ const RULES: [Rule; 3] = [
 // The page that is looked up has two records.
 const BEFORE: [Said<'static>; 2] = [Said::New(b"\0", b"a"), Said::New(b"\x80", b"b")];
 
+// What the one ward answers, in this order, each call with its caller.
+const JOURNAL: [(u32, Said<'static>); 5] = [
+    (2, Said::New(b"\0", b"a")),
+    (2, Said::New(b"\x80", b"b")),
+    (2, Said::New(b"\x40", b"x")),
+    (2, Said::Is(b"\x40", b"x")),
+    (1, Said::Is(b"\x80", b"b")),
+];
+
 /// Runs it, over a copy that is told of nothing.
 pub(crate) fn run<R: Threads + Wait + Clock + Sync, F: Identity + Sync + Send>(
     rt: &R,
@@ -53,7 +65,21 @@ pub(crate) fn run<R: Threads + Wait + Clock + Sync, F: Identity + Sync + Send>(
     let mut seats = Vec::new(run.alloc);
     seats.push(first.seat)?;
     seats.push(second.seat)?;
-    close_settled(run, 0, file, seats, 5)?;
+    let closed = close_settled(run, 0, file, seats, 5)?;
+    run.tally.step(has_journal(closed.wards.as_slice()));
+    Ok(())
+}
+
+// The one ward has these entries in its journal, and no others.
+fn has_journal(wards: &[Ward<PlainPages, PlainKeyer>]) -> Result<(), Difference> {
+    let [ward] = wards else {
+        return same(false, Part::Journal);
+    };
+    same(ward.journal().len() == JOURNAL.len(), Part::Journal)?;
+    for (entry, (caller, said)) in ward.journal().iter().zip(&JOURNAL) {
+        let due = JournalEntry::new(*caller, &said.asked().call()?, &said.reply()?);
+        same(entry == due, Part::Journal)?;
+    }
     Ok(())
 }
 

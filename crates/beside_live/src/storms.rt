@@ -3,7 +3,7 @@ ghost use Rattle.exh_settings.specs.StormConfig.{IsStormConfig};
 
 use exh_callers::{Conductor, Count, Rule, Then, Who};
 use exh_fixtures::{Part, Run, again, same};
-use exh_live::{StormFault, storm};
+use exh_live::{StormFault, storm_over};
 use exh_settings::StormConfig;
 use exh_stores::PlainMaker;
 use std::alloc::Global;
@@ -253,7 +253,7 @@ fn told_once<R: Threads + Wait + Clock + Sync>(
     rules: &[Rule],
 ) -> Result<Told, StormFault> {
     let conductor = Conductor::new(rt, rules);
-    let outcome = match storm(
+    let outcome = match storm_over(
         rt,
         alloc,
         &PlainMaker,

@@ -7,7 +7,6 @@ use exh_fixtures::{Difference, Part, again, opened_ward, refused};
 use exh_join::Join;
 use exh_keyer::PlainKeyer;
 use exh_legal::fitting_tables_begin_wards;
-use exh_settings::FileSettings;
 use exh_stores::PlainPages;
 use exh_ward::{Ward, WardFault};
 use std::alloc::Global;
@@ -62,11 +61,6 @@ fn reopened(alloc: Global, keyer: PlainKeyer, ward: &mut PlainWard) -> Result<Pl
         }
     }
     let table = ward.table().try_clone()?;
-    let settings = FileSettings {
-        cap: 2,
-        ward_bits: 0,
-        keyer,
-    };
     let store = PlainPages::of_pages(alloc, pages)?;
-    Ward::from_pages(alloc, settings, 0, store, table)
+    Ward::from_pages(alloc, 2, 0, 0, store, table, keyer)
 }

@@ -4,7 +4,7 @@
 ghost use Rattle.std.specs.Prelude.{◌<◌, ◌≤◌, ◌^◌};
 ghost use Rattle.exh_prefix.specs.declared.prefix.TheConstants.{WARD_BITS_LIMIT};
 
-use crate::plain_ward::{PlainWard, plain_ward, settings};
+use crate::plain_ward::{PlainWard, plain_ward};
 use exh_calls::{Call, Journal, JournalEntry, Reply};
 use exh_fixtures::{
     Asked, Difference, Part, Run, Said, again, first_store, hop_of, refused, same, split_page,
@@ -201,7 +201,7 @@ fn run_cover(
     requires number { number < 2 ^ ward_bits }
 {
     let store = first_store(run.alloc, ward_bits, number)?;
-    let ward = Ward::new(run.alloc, store, settings(ward_bits), number);
+    let ward = Ward::new(run.alloc, store, 2, ward_bits, number, PlainKeyer);
     take_covers(run, &ward, pseudokeys);
     Ok(())
 }

@@ -5,7 +5,6 @@ use exh_fixtures::{
     Difference, Lie, Part, Run, Said, again, hop, merge_page, refused, same, split_page,
 };
 use exh_prefix::PageNo;
-use exh_route::distance;
 use exh_ward::{Hop, WardFault};
 
 // The pseudokeys of the keys #40, #80 and #c0.
@@ -155,7 +154,7 @@ fn take(ward: &mut PlainWard, step: &RouteStep, lie: &mut Lie) -> Result<(), Dif
     }
 }
 
-// How many moves a page is from the answer for a pseudokey. Refused as `distance`.
+// How many moves a page is from the answer for a pseudokey. Refused as `Ward::distance`.
 fn moves_from(ward: &mut PlainWard, page: PageNo, pseudokey: u64) -> Result<u32, WardFault> {
-    again!(Err(WardFault::Memory) => distance(ward, page, pseudokey))
+    again!(Err(WardFault::Memory) => ward.distance(page, pseudokey))
 }

@@ -1,5 +1,5 @@
-//! A world that is taken apart, and made anew of its wards, twice; and its events at once. What comes of
-//! them is beside what was worked out by hand.
+//! A world that is taken apart, and made anew of its wards, which have its notices and its journal. What comes of that is
+//! beside what was worked out by hand.
 
 ghost use Rattle.std.specs.Prelude.{◌≡◌, IfOk, OnOk};
 ghost use Rattle.exh_keyer.specs.Pseudokey.{any_pseudokey};
@@ -8,37 +8,30 @@ ghost use Rattle.exh_world.specs.Sound.{IsSoundWorld};
 ghost use Rattle.beside_worlds.specs.Anew.{AreItsWards, HasSettings};
 
 use crate::answers::{Line, PlainScript, ROOM, answer};
-use crate::lives::{FIRST, GONE, SECOND, THIRD, journal, notices};
+use crate::lives::{FIRST, GONE, SECOND, journal, notices};
 use exh_calls::JournalEntry;
-use exh_event::{Event, StepFault, Turn};
-use exh_fixtures::{Asked, Difference, Part, Run, same};
+use exh_fixtures::{Difference, Part, Run, same};
 use exh_keyer::AnyKeyer;
 use exh_notice::Notice;
 use exh_script::Run as Script;
 use exh_settings::FileSettings;
 use exh_stores::PlainPages;
 use exh_text::Config;
-use exh_ward::{Ward, WardFault};
+use exh_ward::Ward;
 use exh_world::World;
 use std::alloc::{AllocError, Global};
 
-type PlainWorld = World<PlainPages, AnyKeyer>;
-
 type PlainWard = Ward<PlainPages, AnyKeyer>;
 
-const WANT: StepFault = StepFault::Ward(WardFault::Memory);
-
-/// Three worlds, of which the second and third are made of the wards of the one before.
+/// Two worlds, of which the second is made of the wards of the first.
 pub(crate) fn run(run: &mut Run) -> Result<(), Difference> {
     let notices = notices()?;
     let journal = journal()?;
     let wards = first_life(run)?;
     have_told(run, &wards, &notices[..3], &journal[..6]);
-    let wards = next_life(run, wards, &SECOND)?;
-    have_told(run, &wards, &notices[..5], &journal[..14]);
-    let wards = next_life(run, wards, &THIRD)?;
+    let wards = second_life(run, wards)?;
     have_told(run, &wards, &notices, &journal);
-    run_at_once(run)
+    Ok(())
 }
 
 // A file of one ward, of pages of two records.
@@ -75,11 +68,7 @@ fn first_life(run: &mut Run) -> Result<Vec<PlainWard>, AllocError>
 
 // The life of a world that is made of wards.
 #[tactic(auto, using(crate::proofs::Settings::wards_taken))]
-fn next_life(
-    run: &mut Run,
-    wards: Vec<PlainWard>,
-    lines: &[Line],
-) -> Result<Vec<PlainWard>, AllocError>
+fn second_life(run: &mut Run, wards: Vec<PlainWard>) -> Result<Vec<PlainWard>, AllocError>
     requires { AreItsWards wards.items }
     ensures { IfOk result (λ wards. AreItsWards wards.items) }
 {
@@ -87,7 +76,7 @@ fn next_life(
         world: World::from_wards(run.alloc, &settings(3), wards)?,
         tells_moves: true,
     };
-    live(run, script, [&GONE, lines])
+    live(run, script, [&GONE, &SECOND])
 }
 
 // The wards that a script leaves after two lists of lines.
@@ -156,78 +145,4 @@ fn has_tables(ward: &PlainWard, notices: &[Notice]) -> Result<(), Difference> {
     let table = ward.table();
     let has_entry = table.get(last.prefix) == Some(last.entry()) && table.entries().count() == 1;
     same(is_empty && has_entry, Part::Entries)
-}
-
-// A new world runs events at once, the last of which is refused. Its turns are those that another one takes one by one.
-fn run_at_once(run: &mut Run) -> Result<(), Difference> {
-    let events = events()?;
-    let turns = turns_of(run.alloc, &events)?;
-    let is_each = turns
-        .iter()
-        .map(|turn| turn.event)
-        .eq(events.iter().copied());
-    run.tally.check(same(is_each, Part::Run));
-    let last = turns.last().map(|turn| turn.result);
-    run.tally.check(same(last == Some(Err(StepFault::NoRequest)), Part::Refusal));
-    take_turns(run, &turns)?;
-    Ok(())
-}
-
-// An event of each kind.
-fn events() -> Result<[Event; 11], Difference> {
-    Ok([
-        begin(1, Asked::Put(b"\0", b"a"))?,
-        Event::Hop { name: 1 },
-        begin(2, Asked::Put(b"\x80", b"b"))?,
-        Event::Hop { name: 2 },
-        Event::Split { ward: 0, page: 0 },
-        Event::Deliver {
-            copy: 1,
-            ward: 0,
-            index: 1,
-        },
-        Event::Send { copy: 1 },
-        Event::Merge { ward: 0, page: 0 },
-        Event::Restart { copy: 1 },
-        Event::Combine { copy: 1, table: 1 },
-        Event::Hop { name: 3 },
-    ])
-}
-
-fn begin(name: u32, asked: Asked<'_>) -> Result<Event, Difference> {
-    Ok(Event::Begin {
-        name,
-        client: 1,
-        copy: 1,
-        call: asked.call()?,
-    })
-}
-
-fn turns_of(alloc: Global, events: &[Event]) -> Result<Vec<Turn>, AllocError> {
-    let mut world = World::new(alloc, &settings(2))?;
-    run_events(&mut world, events)
-}
-
-fn run_events(world: &mut PlainWorld, events: &[Event]) -> Result<Vec<Turn>, AllocError> {
-    let turns = world.run(events)?;
-    if turns.iter().any(|turn| turn.result == Err(WANT)) {
-        return Err(AllocError);
-    }
-    Ok(turns)
-}
-
-fn take_turns(run: &mut Run, turns: &[Turn]) -> Result<(), AllocError> {
-    let mut world = World::new(run.alloc, &settings(2))?;
-    take_each(run, &mut world, turns)
-}
-
-fn take_each(run: &mut Run, world: &mut PlainWorld, turns: &[Turn]) -> Result<(), AllocError> {
-    for turn in turns {
-        let result = world.step(&turn.event);
-        if result == Err(WANT) {
-            return Err(AllocError);
-        }
-        run.tally.step(same(result == turn.result, Part::Outcome));
-    }
-    Ok(())
 }

@@ -18,23 +18,8 @@ pub(crate) type Line = (&'static str, &'static str);
 /// More bytes than a line prints.
 pub(crate) const ROOM: usize = 200;
 
-/// Answers lines, each of which is a step. An `AllocError` where memory is refused: what comes then isn't what would
-/// come otherwise.
-pub(crate) fn answer_all(
-    run: &mut Run,
-    script: &mut PlainScript,
-    lines: &[Line],
-) -> Result<(), AllocError>
-    requires { IsSoundWorld any_pseudokey script.old.world }
-{
-    let mut text = Vec::with_capacity(run.alloc, ROOM)?;
-    'lines: for line in lines {
-        answer(run, script, &mut text, line)?;
-    }
-    Ok(())
-}
-
-/// Answers a line, which is a step, over what stands in a text. An `AllocError` as for `answer_all`.
+/// Answers a line, which is a step, over what stands in a text. An `AllocError` where memory is refused: what
+/// comes then isn't what would come otherwise.
 pub(crate) fn answer(
     run: &mut Run,
     script: &mut PlainScript,

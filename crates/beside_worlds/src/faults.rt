@@ -126,7 +126,12 @@ fn failing_world(
     let mut wards = Vec::new(alloc);
     wards.reserve(1)?;
     let store = FailingPages::new(first_store(alloc, 0, 0)?, at);
-    wards.push_reserved(Ward::new(alloc, store, CONFIG.settings, 0));
+    let FileSettings {
+        cap,
+        ward_bits,
+        keyer,
+    } = CONFIG.settings;
+    wards.push_reserved(Ward::new(alloc, store, cap, ward_bits, 0, keyer));
     World::from_wards(alloc, &CONFIG, wards)
 }
 

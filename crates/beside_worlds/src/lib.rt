@@ -13,8 +13,6 @@ mod faults;
 mod line_runs;
 mod lists;
 mod lives;
-mod opened;
-mod opened_lines;
 mod page_turns;
 mod played;
 mod readers;

@@ -1,6 +1,6 @@
 //! Answers lines of scripts over worlds that no script begins, beside what was worked out by hand, and prints for each
-//! kind of run how many steps it took, and how many of them differed: over pages that are out of reach, over wards as of
-//! a file that was written, and over the wards that another world left.
+//! kind of run how many steps it took, and how many of them differed: over pages that are out of reach, and over the
+//! wards that another world left.
 //!
 //! Where a growth is refused a run begins once more: so it prints the same where memory is refused once, wherever that
 //! is.
@@ -11,27 +11,16 @@ use exh_fixtures::{Difference, Named, Run, RunKind, Status, run_kinds};
 enum Kind {
     /// Page faults.
     Faults,
-    /// A ward as of a file that was written.
-    OpenedWards,
-    /// Two wards as of a file that was written.
-    OpenedWorlds,
-    /// Worlds made anew of the wards of others.
+    /// A world made anew of the wards of another.
     Anew,
 }
 
-const KINDS: [Kind; 4] = [
-    Kind::Faults,
-    Kind::OpenedWards,
-    Kind::OpenedWorlds,
-    Kind::Anew,
-];
+const KINDS: [Kind; 2] = [Kind::Faults, Kind::Anew];
 
 impl Kind {
     fn take_once(self, run: &mut Run) -> Result<(), Difference> {
         match self {
             Kind::Faults => crate::faults::run(run),
-            Kind::OpenedWards => crate::opened::run_wards(run),
-            Kind::OpenedWorlds => crate::opened::run_worlds(run),
             Kind::Anew => crate::anew::run(run),
         }
     }
@@ -41,16 +30,13 @@ impl Named for Kind {
     fn name(self) -> &'static str {
         match self {
             Kind::Faults => "faults",
-            Kind::OpenedWards => "opened-wards",
-            Kind::OpenedWorlds => "opened-worlds",
             Kind::Anew => "anew",
         }
     }
 }
 
 impl RunKind for Kind {
-    // Where memory is refused for a world of wards, these are gone, and a list of events that a world does at once goes
-    // on behind a refused one: so a run begins once more.
+    // Where memory is refused for a world of wards, these are gone: so a run begins once more.
     fn take_steps(self, run: &mut Run) -> Result<(), Difference> {
         let start = *run;
         match self.take_once(run) {

@@ -19,26 +19,31 @@ pub(crate) struct List {
 
 /// All lists. Of the calls of pages there are, list by list: those of begun requests, of hops, of splits, of merges and of
 /// refused changes.
-pub(crate) const LISTS: [List; 4] = [
+pub(crate) const LISTS: [List; 5] = [
     List {
         name: "revived page",
         rows: &REVIVED,
-        least: 6 + 12 + 4 + 3 + 2,
+        least: 5 + 10 + 4 + 3,
     },
     List {
         name: "late table",
         rows: &LATE_TABLE,
-        least: 7 + 14 + 2 + 3,
+        least: 4 + 9 + 2 + 3,
     },
     List {
         name: "all splits",
         rows: &ALL_SPLITS,
-        least: 4 + 8 + 40 + 2,
+        least: 4 + 9 + 40 + 1,
     },
     List {
         name: "swaps",
         rows: &SWAPS,
         least: 9 + 18 + 2,
+    },
+    List {
+        name: "restarted copy",
+        rows: &RESTARTED_COPY,
+        least: 7 + 14 + 2 + 3 + 3,
     },
 ];
 
@@ -59,8 +64,8 @@ const SECOND: Change = Change(2, "", 2, None);
 
 const THIRD: Change = Change(3, "", 3, Some(1));
 
-// The page of the prefix 1 is merged away under two requests, and live again. At three records a merge is refused.
-const REVIVED: [Row; 19] = [
+// The page of the prefix 1 is merged away under a request, and live again.
+const REVIVED: [Row; 15] = [
     Begin(1, 1, PUT_A, 0),
     Done(1, PUT_A, 0, 0),
     Begin(2, 1, PUT_B, 0),
@@ -70,21 +75,16 @@ const REVIVED: [Row; 19] = [
     Split(0, FIRST),
     Done(3, PUT_X, 0, 1),
     Taken(1, FIRST),
-    NoMerge(0, WardFault::TooMany(3)),
-    Begin(4, 1, GET_B, 1),
     Begin(5, 1, GET_B, 1),
     Begin(6, 1, DEL_X, 0),
     Done(6, DEL_X, 0, 0),
     Merge(0, SECOND),
-    Moved(4, 0),
-    Done(4, GET_B, 1, 1),
     Split(0, THIRD),
     Done(5, GET_B, 0, 2),
 ];
 
-// A table that was sent before a merge reaches a copy behind its notice, and takes nothing back; then it reaches that copy
-// after a restart, and tells it of the split.
-const LATE_TABLE: [Row; 25] = [
+// A table that was sent before a merge reaches a copy behind its notice.
+const LATE_TABLE: [Row; 16] = [
     Begin(1, 1, PUT_A, 0),
     Done(1, PUT_A, 0, 0),
     Begin(2, 1, PUT_B, 0),
@@ -98,18 +98,9 @@ const LATE_TABLE: [Row; 25] = [
     Begin(4, 1, DEL_X, 0),
     Done(4, DEL_X, 0, 0),
     Merge(0, SECOND),
+    Taken(1, SECOND),
     Taken(2, SECOND),
     Joined(2, 1),
-    Begin(5, 2, GET_B, 0),
-    Done(5, GET_B, 0, 0),
-    Begin(6, 1, GET_B, 1),
-    Moved(6, 0),
-    Done(6, GET_B, 1, 1),
-    Restarted(2),
-    Joined(2, 1),
-    Begin(7, 2, GET_B, 1),
-    Moved(7, 0),
-    Done(7, GET_B, 1, 1),
 ];
 
 // Keys of equal pseudokeys.
@@ -121,8 +112,8 @@ const NO_ROOM: Said<'static> = Full(b"\0\0\0\0", b"c");
 
 const CHANGED: Said<'static> = Changed(b"\0\0", b"d", b"a");
 
-// Two keys of equal pseudokeys fill a page: no split helps a third one, up to the last, and then it is turned away. The
-// page that the last split made is empty.
+// Two keys of equal pseudokeys fill a page: no split helps a third one, not the sixteenth and not the last, and then it is
+// turned away, and no more split is made.
 const ALL_SPLITS: [Row; 31] = [
     Begin(1, 1, ONE, 0),
     Done(1, ONE, 0, 0),
@@ -146,15 +137,15 @@ const ALL_SPLITS: [Row; 31] = [
     Split(0, Change(14, "0000000000000", 1, Some(14))),
     Split(0, Change(15, "00000000000000", 1, Some(15))),
     Split(0, Change(16, "000000000000000", 1, Some(16))),
+    MustSplit(3),
     Split(0, Change(17, "0000000000000000", 1, Some(17))),
     Split(0, Change(18, "00000000000000000", 1, Some(18))),
     Split(0, Change(19, "000000000000000000", 1, Some(19))),
     Split(0, Change(20, "0000000000000000000", 1, Some(20))),
     Done(3, NO_ROOM, 0, 20),
-    NoSplit(0, WardFault::AtLimit),
-    NoSplit(20, WardFault::NotFull),
     Begin(4, 1, CHANGED, 0),
     Done(4, CHANGED, 0, 0),
+    NoSplit(0, WardFault::AtLimit),
 ];
 
 const SWAP_B: Said<'static> = Swapped(b"\x80", b"b", b"c");
@@ -193,4 +184,37 @@ const SWAPS: [Row; 22] = [
     Done(8, SWAP_X, 0, 0),
     Begin(9, 1, GET_NONE, 0),
     Moved(9, 1),
+];
+
+// What the lists above lack: a split and a merge that are refused for the page's records, requests that are begun at a
+// copy which the late table told nothing, and at a page that is merged away, and a copy that restarts and is told of the
+// split by that table.
+const RESTARTED_COPY: [Row; 27] = [
+    Begin(1, 1, PUT_A, 0),
+    Done(1, PUT_A, 0, 0),
+    Begin(2, 1, PUT_B, 0),
+    Done(2, PUT_B, 0, 0),
+    Begin(3, 1, PUT_X, 0),
+    MustSplit(3),
+    Split(0, FIRST),
+    Done(3, PUT_X, 0, 1),
+    NoSplit(1, WardFault::NotFull),
+    NoMerge(0, WardFault::TooMany(3)),
+    Taken(1, FIRST),
+    Sent(1, 1),
+    Begin(4, 1, DEL_X, 0),
+    Done(4, DEL_X, 0, 0),
+    Merge(0, SECOND),
+    Taken(2, SECOND),
+    Joined(2, 1),
+    Begin(5, 2, GET_B, 0),
+    Done(5, GET_B, 0, 0),
+    Begin(6, 1, GET_B, 1),
+    Moved(6, 0),
+    Done(6, GET_B, 1, 1),
+    Restarted(2),
+    Joined(2, 1),
+    Begin(7, 2, GET_B, 1),
+    Moved(7, 0),
+    Done(7, GET_B, 1, 1),
 ];

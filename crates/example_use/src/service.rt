@@ -101,7 +101,7 @@ fn serve_as<R: Threads + Wait + Sync, F: Identity + Send + Sync, S: Start + Send
     let settings = opened.settings();
     let ward_bits = settings.ward_bits;
     let wards = opened.into_wards();
-    let mut file: File<F> = LiveFile::new(alloc, settings, wards, answers, entries)?;
+    let mut file: File<F> = LiveFile::new(alloc, wards, answers, entries)?;
     let Done { seats, values } = serve_copy::<R, F, S>(rt, alloc, ward_bits, &mut file, table)?;
     let closed = file.close(seats);
     match closed {

@@ -38,5 +38,5 @@ pub fn watched_file<'a, P: Pages + Drop, M: StoreMaker<P, PlainKeyer>, R: Clock,
         keyer: PlainKeyer,
     };
     let wards = new_wards(alloc, maker, settings)?;
-    LiveFile::new(alloc, settings, wards, answers, entries)
+    LiveFile::new(alloc, wards, answers, entries)
 }

@@ -49,7 +49,7 @@ pub fn new_file<F: Identity>(
         keyer: PlainKeyer,
     };
     let wards = new_wards(alloc, &PlainMaker, settings)?;
-    LiveFile::new(alloc, settings, wards, answers, entries)
+    LiveFile::new(alloc, wards, answers, entries)
 }
 
 /// A file of this new ward alone, of a story's pages. An `AllocError` where memory is refused.
@@ -66,14 +66,9 @@ pub fn one_ward_file<P: Pages + Drop, F: Identity>(
     requires hashed { F.hashing ≡ plain_pseudokey }
     ensures settings { IfOk result (λ file. (file.cap ≡ CAP) × (file.ward_bits ≡ 0)) }
 {
-    let settings = FileSettings {
-        cap: CAP as u8,
-        ward_bits: 0,
-        keyer,
-    };
     let mut wards = Vec::new(alloc);
     wards.push(ward)?;
-    LiveFile::new(alloc, settings, wards, answers, entries)
+    LiveFile::new(alloc, wards, answers, entries)
 }
 
 /// What a file leaves that is closed with these seats, once more where memory was refused; else the

@@ -3,8 +3,9 @@ ghost use Rattle.exh_settings.specs.StormConfig.{IsStormConfig};
 
 use crate::storm_run::tell_storm;
 use crate::storm_watch::StormWatch;
-use exh_job::{MAKER, Status, console};
-use exh_live::{NoWatch, StormFault, storm};
+use exh_frames::MAKER;
+use exh_job::{Status, console};
+use exh_live::{StormFault, storm, storm_over};
 use exh_settings::StormConfig;
 use exh_stream::{Console, Output, StormMeter};
 use exh_walk::OpenGate;
@@ -24,7 +25,7 @@ pub(crate) fn run_storm(
 {
     let outcome = match console(rt) {
         Some(console) => watched_storm(rt, threads, config, console),
-        None => storm(threads, rt.alloc(), &MAKER, config, &OpenGate, &NoWatch),
+        None => storm(threads, rt.alloc(), config, &OpenGate),
     };
     tell_storm(outcome, &mut Output::new(&mut io::writer(rt)))
 }
@@ -40,7 +41,7 @@ fn watched_storm(
 {
     let mut meter = StormMeter::new(console);
     let watch = StormWatch { meter: &meter };
-    let outcome = storm(threads, rt.alloc(), &MAKER, config, &OpenGate, &watch);
+    let outcome = storm_over(threads, rt.alloc(), &MAKER, config, &OpenGate, &watch);
     meter.clear();
     outcome
 }

@@ -5,7 +5,7 @@ use crate::rule::{Rule, View};
 use left_right::reader::Reader;
 use std::marker::Model;
 
-/// What a writer handed on: all that it had published, by the name of its copy. It takes up a place for a
+/// What a writer tells: all that it had published, by the name of its copy. It takes up a place for a
 /// reader until it is learned or dropped, and may go to another thread.
 #[derive(Drop)]
 pub struct Told<S: Start> {

@@ -8,6 +8,7 @@ use crate::{Found, Head, Runner};
 use std::alloc::Global;
 use std::io;
 use std::io::Write;
+use thiserror::Error;
 
 /// What a save asks of the system, call by call. Each fails as the system does, and a file is then as far as before.
 pub trait Disk {
@@ -134,9 +135,12 @@ pub trait Source: Drop {
 }
 
 /// Why not all was written.
-#[derive(Clone, Copy)]
+#[derive(Clone, Copy, Debug, Error)]
 pub enum SourceFault {
+    #[error("the writer failed")]
     Writer,
+    #[error("out of memory")]
     Memory,
+    #[error("a page is out of reach")]
     Source,
 }

@@ -7,18 +7,16 @@ ghost use Rattle.exh_copy.specs.Additions.{AreOf};
 ghost use Rattle.exh_live_file.specs.LiveFile.{IsNewWardOf};
 ghost use Rattle.exh_live_file.specs.declared.ledgers.TheConstants.{ANSWER_PARTS, ENTRY_PARTS};
 
-use crate::broken_pages::BrokenPages;
 use exh_callers::{
     CAP, Caller, File, Reader, Writer, close, is_carried, is_told, keep, next_caller,
     one_ward_file, settled,
 };
 use exh_calls::Reply;
 use exh_copy::{NewCopyFault, Start, new_copy};
-use exh_fixtures::{Asked, Difference, Part, Said, first_store, same};
+use exh_fixtures::{Asked, BrokenPages, Difference, Part, Said, first_store, same};
 use exh_keyer::{Keyer, PlainKeyer};
 use exh_live_file::{ANSWER_PARTS, Cursors, ENTRY_PARTS, Identity};
 use exh_prefix::PageNo;
-use exh_settings::FileSettings;
 use exh_table::Table;
 use exh_walk::OpenGate;
 use exh_ward::Ward;
@@ -237,12 +235,7 @@ fn broken_ward(
         left: calls,
         failures: 0,
     };
-    let settings = FileSettings {
-        cap: CAP as u8,
-        ward_bits: 0,
-        keyer,
-    };
-    Ok(Ward::new(alloc, store, settings, 0))
+    Ok(Ward::new(alloc, store, CAP as u8, 0, 0, keyer))
 }
 
 #[test]

@@ -4,8 +4,6 @@
 #![tactic(auto)]
 
 #[cfg(test)]
-mod broken_pages;
-#[cfg(test)]
 mod couriers;
 #[cfg(test)]
 mod inputs;
@@ -17,8 +15,6 @@ mod meters;
 mod outputs;
 #[cfg(test)]
 mod saves;
-#[cfg(test)]
-mod screen;
 #[cfg(test)]
 mod side;
 #[cfg(test)]

@@ -1,6 +1,6 @@
 //! What a terminal shows, by a clock that a test sets.
 
-use crate::screen::Screen;
+use exh_fixtures::Screen;
 use exh_stream::{ClearingWriter, Meter, MeteredReader, MeteredWriter, Unit, Work};
 use std::alloc::{AllocError, Global};
 use std::io::{Read, Write};

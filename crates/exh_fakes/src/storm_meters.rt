@@ -1,7 +1,7 @@
 //! What a terminal shows of a storm.
 
-use crate::screen::Screen;
 use arrayvec::ArrayVec;
+use exh_fixtures::Screen;
 use exh_stream::{StormMeter, Terminal};
 use std::sync::Mutex;
 use std::sync::atomic::{AtomicU32, AtomicU64, Ordering};

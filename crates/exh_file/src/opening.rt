@@ -17,6 +17,7 @@ use exh_format::{Header, LegalFile, read_legal_file};
 use exh_keyer::AnyKeyer;
 use exh_legal::{legal_files_pass, pages_are_few};
 use exh_page::Page;
+use exh_settings::FileSettings;
 use exh_stores::{Pages, StoreMaker};
 use exh_table::Table;
 use exh_ward::Ward;
@@ -128,9 +129,13 @@ fn open_ward<P: Pages + Drop, M: StoreMaker<P, AnyKeyer>>(
     ensures counted { IsCounted P.failures result }
 {
     pages_are_few();
-    let settings = header.settings;
-    let store = maker.of_pages(alloc, settings.keyer, pages, digests)?;
-    Ward::from_pages(alloc, settings, number, store, table).map_err(OpenFault::of_ward)
+    let FileSettings {
+        cap,
+        ward_bits,
+        keyer,
+    } = header.settings;
+    let store = maker.of_pages(alloc, keyer, pages, digests)?;
+    Ward::from_pages(alloc, cap, ward_bits, number, store, table, keyer).map_err(OpenFault::of_ward)
 }
 
 // Puts an item behind the others.

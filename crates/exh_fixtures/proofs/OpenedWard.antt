@@ -1,4 +1,4 @@
--- A ward of two empty pages, whose start table has a split at the ward's prefix, of whatever odd version, is legal.
+-- A ward of two empty pages, whose start table has a split at the ward's prefix, of whatever odd number, is legal.
 use Rattle.std.proofs.Common.{◌≡◌, ℕ, zero, suc, ◌+◌, ◌<◌, ◌%◌, Bool, true, false, cond, List, [], ◌∷◌, ◌++◌, length, slice_get, Option, None, Some, inl, inr, refl, sym, ap, ◌∙◌, subst, arith}
 use Rattle.std.specs.FinMap as fin
 use Rattle.std.specs.Option.{option_map_or}
@@ -66,7 +66,7 @@ module _ (own : List Bool) where
   split_told : (number : ℕ) (prefix : List Bool) → split_at (told own number) prefix ≡ cond (is_own prefix) (Some 1) None
   split_told number prefix = ap right_of (get_told number prefix) ∙ right_told (is_own prefix) number
 
-  -- the splits don't tell the version
+  -- the splits don't tell the number
   same_split : (number other : ℕ) (prefix : List Bool) → split_at (told own number) prefix ≡ split_at (told own other) prefix
   same_split number other prefix = split_told number prefix ∙ sym (split_told other prefix)
 

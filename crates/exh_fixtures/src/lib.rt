@@ -3,6 +3,7 @@
 //! steps it took, and how many of them differed.
 #![tactic(auto)]
 
+pub use broken_pages::BrokenPages;
 pub use calls::{Asked, key, value};
 pub use dice::Dice;
 pub use difference::{Difference, Part, same};
@@ -18,12 +19,14 @@ pub use replies::told_reply;
 pub use run::Run;
 pub use said::Said;
 pub use same_pages::are_same;
+pub use screen::Screen;
 pub use status::Status;
 pub use tally::Tally;
 pub use three_pairs::three_pairs;
 pub use ward_calls::{hop, hop_of, merge_page, page, refused, split_page};
 
 mod again;
+mod broken_pages;
 mod calls;
 mod dice;
 mod difference;
@@ -39,6 +42,7 @@ mod replies;
 mod run;
 mod said;
 mod same_pages;
+mod screen;
 mod status;
 mod tally;
 mod three_pairs;

@@ -11,7 +11,6 @@ use exh_legal::{fitting_tables_begin_wards, lone_pages_are_legal, splits_keep_le
 use exh_notice::{Entry, Kind};
 use exh_page::{Page, Records};
 use exh_prefix::{PageNo, Prefix};
-use exh_settings::FileSettings;
 use exh_stores::{Pages, PlainPages};
 use exh_table::Table;
 use exh_ward::{Ward, WardFault, first_page};
@@ -61,12 +60,7 @@ fn opened_once<K: Keyer>(
     let store = two_pages(alloc, own)?;
     let mut table = Table::new(alloc);
     table.put_greater(own, last_entry(changes))?;
-    let settings = FileSettings {
-        cap: 2,
-        ward_bits,
-        keyer,
-    };
-    Ward::from_pages(alloc, settings, number, store, table)
+    Ward::from_pages(alloc, 2, ward_bits, number, store, table, keyer)
 }
 
 // The prefix of a ward.

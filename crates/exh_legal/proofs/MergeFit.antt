@@ -23,7 +23,7 @@ use Rattle.exh_prefix.specs.LowLemmas.{own_front, begins_own_low, front_shorter,
 use Rattle.exh_legal.proofs.MergeLinks.{IsJoined, short, became, was, stays, home_is_half, parent_in_ward}
 use Rattle.exh_legal.proofs.TableSteps.{cases_prefix, get_with_same, get_with_other}
 
--- where a split stands the version is odd
+-- where a split stands the number is odd
 pub odd_at : (ward : List Bool) (table : TableMap) (pages : List Page) → FitsPages ward table pages → (prefix : List Bool) → IsSplitAt table prefix → (number_at table prefix) % 2 ≡ 1
 odd_at ward table pages fits prefix split =
     elim (fin.get table prefix) as (λ found. fin.get table prefix ≡ found → right_of found ≡ Some split.0 → (option_map_or (λ entry. entry.number) found 0) % 2 ≡ 1) [

@@ -53,7 +53,7 @@ kind_of_entry entry = elim entry.kind as (λ kind. entry.kind ≡ kind → (righ
 pub split_from_entry : (table : TableMap) (prefix : List Bool) (entry : Entry) (right : ℕ) → fin.get table prefix ≡ Some entry → entry.kind ≡ Split right → split_at table prefix ≡ Some right
 split_from_entry table prefix entry right is kind = rw (is, kind) refl
 
--- where no split stands the version is even
+-- where no split stands the number is even
 pub even_at : (ward : List Bool) (table : TableMap) (pages : List Page) → FitsPages ward table pages → (prefix : List Bool) → (IsSplitAt table prefix → ⊥) → (number_at table prefix) % 2 ≡ 0
 even_at ward table pages fits prefix none =
     elim (fin.get table prefix) as (λ found. fin.get table prefix ≡ found → (option_map_or (λ entry. entry.number) found 0) % 2 ≡ 0) [

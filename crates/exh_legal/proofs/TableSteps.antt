@@ -42,7 +42,7 @@ get_with_same table notice later =
     ∙ ap (λ o. cond (is_eq o) (Some (greater_of (fin.get table notice.prefix) (entry_of notice))) (fin.get table notice.prefix)) (tied_itself prefix_cmp-total notice.prefix)
     ∙ ap Some (later_wins (fin.get table notice.prefix) (entry_of notice) later)
 
--- ---- the sum of the versions
+-- ---- the sum of the numbers
 
 abbrev pub weight : List Bool × Entry → ℕ
 weight e = e.1.number

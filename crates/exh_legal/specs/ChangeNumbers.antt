@@ -1,4 +1,4 @@
--- Versions at prefixes, and the index of a ward's notices.
+-- Numbers at prefixes, and the index of a ward's notices.
 use Rattle.std.specs.Prelude.{◌≡◌, ℕ, ◌+◌, Bool, List, slice_get, Some}
 use Rattle.std.specs.FinMap.{entries, get}
 use Rattle.std.specs.List.{sum_by}
@@ -8,15 +8,15 @@ use Rattle.exh_notice.specs.declared.entry.Kind.{Kind}
 use Rattle.exh_notice.specs.declared.notice.Notice.{Notice}
 use Rattle.exh_table.specs.Table.{TableMap}
 
--- the version at a prefix: how many changes were made there
+-- the number at a prefix: how many changes were made there
 abbrev pub number_at : TableMap → List Bool → ℕ
 number_at table prefix = option_map_or (λ entry. entry.number) (get table prefix) 0
 
--- how many changes a table tells of: the sum of the versions at all prefixes
+-- how many changes a table tells of: the sum of the numbers at all prefixes
 abbrev pub index_of : TableMap → ℕ
 index_of table = sum_by (λ (e : List Bool × Entry). e.1.number) (entries table)
 
--- the notice of the next change, at a prefix: it has the next version there, and the next index
+-- the notice of the next change, at a prefix: it has the next number there, and the next index
 abbrev pub next_notice : ℕ → TableMap → List Bool → Kind → Notice
 next_notice ward table prefix kind = record { ward = ward; index = index_of table + 1; prefix = prefix; number = number_at table prefix + 1; kind = kind }
 

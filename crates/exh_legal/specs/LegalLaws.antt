@@ -59,7 +59,7 @@ MergesKeepLegal =
     → notice.prefix ≡ prefix → notice.number ≡ number_at table prefix + 1 → notice.kind ≡ Merge
     → IsChanged cap pseudo ward start changes table pages notice new
 
--- before a split of a live page the version at its prefix is even, and if a page has its right child's low bound, that forwards
+-- before a split of a live page the number at its prefix is even, and if a page has its right child's low bound, that forwards
 pub record IsSplittable (table : TableMap) (pages : List Page) (prefix : List Bool) : Type 0 where
   pub even : (number_at table prefix) % 2 ≡ 0
   pub forwards : (number : ℕ) → IsPageOf pages (low_of (prefix ++ true ∷ [])) number → IsForwardOf pages (low_of (prefix ++ true ∷ [])) number
@@ -69,7 +69,7 @@ LivePagesSplit =
     (cap : ℕ) (pseudo : List ℕ → ℕ) (ward : List Bool) (start : TableMap) (changes : List Notice) (table : TableMap) (pages : List Page) (prefix : List Bool) (number : ℕ)
     → IsWard cap pseudo ward start changes table pages → IsLiveAt pages prefix number → length prefix < LIMIT → IsSplittable table pages prefix
 
--- before a merge of a live left child the version at its parent is odd, and the table's split there names the page of the right child's low bound, which is the right
+-- before a merge of a live left child the number at its parent is odd, and the table's split there names the page of the right child's low bound, which is the right
 -- child's page if that is live
 pub record IsMergeable (table : TableMap) (pages : List Page) (prefix : List Bool) : Type 0 where
   pub odd : (number_at table prefix) % 2 ≡ 1

@@ -1,18 +1,24 @@
 use exh_event::StepFault;
 use exh_text::LineFault;
+use thiserror::Error;
 
 /// Why a line, a script or a run of it is refused.
-#[derive(Clone, Copy)]
+#[derive(Clone, Copy, Debug, Error)]
 pub enum Refusal {
     /// The line can't be read, or stands at the wrong place.
+    #[error(transparent)]
     Line(LineFault),
     /// The step that the line asks for is refused.
+    #[error(transparent)]
     Step(StepFault),
     /// The reader failed.
+    #[error("the reader failed")]
     Read,
     /// The script is longer than a script may be.
+    #[error("the script is too long")]
     TooLong,
     /// The script's `file` line isn't that of the opened file.
+    #[error("the file line isn't that of the opened file")]
     OtherFile,
 }
 

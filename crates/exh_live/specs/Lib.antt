@@ -1,3 +1,16 @@
+pub use Rattle.exh_calls.specs.Diary
+pub use Rattle.exh_calls.specs.Settled
+pub use Rattle.exh_live_file.specs.Closing
+pub use Rattle.exh_live_file.specs.CursorLaws
+pub use Rattle.exh_live_file.specs.LiveFile
+pub use Rattle.exh_live_file.specs.LiveWardLemmas
+pub use Rattle.exh_live_file.specs.Locked
+pub use Rattle.exh_live_file.specs.Rounds
+pub use Rattle.exh_live_file.specs.WardOfKey
+pub use Rattle.exh_settings.specs.StormConfig
+pub use Rattle.exh_walk.specs.CallerWalk
+pub use Rattle.exh_walk.specs.WardStep
+pub use Rattle.exh_walk.specs.WardWalk
 pub mod Refusals
 pub mod StormCalls
 pub mod StormFault

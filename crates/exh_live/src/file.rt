@@ -52,7 +52,7 @@ pub fn new_file<P: Pages + Drop, M: StoreMaker<P, ShaKeyer>, F: Identity>(
         keyer: ShaKeyer,
     };
     let wards = new_wards(alloc, maker, settings)?;
-    LiveFile::new(alloc, settings, wards, answers, entries)
+    LiveFile::new(alloc, wards, answers, entries)
 }
 
 /// How many answers the diaries of a closed file and its wards, in order, settle to; else `Mismatch`.

@@ -1,15 +1,22 @@
-//! A storm: callers, keepers and couriers over one new live file, each on a thread of its own, all at
-//! once; and what they leave is settled.
+//! Live files: wards behind locks, for callers, keepers and couriers on threads of their own. And a storm:
+//! all of these over one new live file, at once; what they leave is settled.
 #![tactic(auto)]
 
 pub use call::storm_call;
 pub use caller::Caller;
 pub use courier::{COURIER_CLIENT, Courier};
+pub use exh_calls::{Diary, DiaryEntry, Mismatch, Settled};
+pub use exh_live_file::{
+    ANSWER_PARTS, Answers, CloseFault, Closed, Cursors, ENTRY_PARTS, Entries, Identity, LedgerNames,
+    LiveFile, NoSeat, NotClosed, Seat, WardJournals, cursors_go_on_with_wards, settle,
+};
+pub use exh_settings::StormConfig;
+pub use exh_walk::{AskFault, Gate, OpenGate, Steps, TURN_LIMIT, TurnGate, walk_steps};
 pub use fault::StormFault;
 pub use file::{StormFile, StormLeft, StormWard, new_file};
 pub use keeper::{KEEPER_CLIENT, Keeper};
 pub use open_copy::OpenCopy;
-pub use run::{storm, storm_left};
+pub use run::{storm, storm_left, storm_over};
 pub use watch::{NoWatch, Watch};
 pub use workers::{Workers, new_workers};
 

@@ -11,8 +11,9 @@ use crate::file::{StormFile, StormLeft, new_file, settled};
 use crate::overseers::Overseers;
 use crate::threads::{Rounds, run_all};
 use crate::workers::new_workers;
-use crate::{StormFault, Watch};
+use crate::{NoWatch, StormFault, Watch};
 use exh_copy::Start;
+use exh_frames::MAKER;
 use exh_keyer::ShaKeyer;
 use exh_live_file::{ANSWER_PARTS, Closed, ENTRY_PARTS, Identity, Seat};
 use exh_settings::StormConfig;
@@ -24,8 +25,22 @@ use std::sync::Wait;
 use std::sync::ledger::Blank;
 use std::thread::Threads;
 
+/// Runs a storm, as `storm_left`, over the program's stores, and answers how many answers were settled.
+/// Refused as that.
+pub fn storm<R: Threads + Wait + Sync, G: Gate + Sync>(
+    rt: &R,
+    alloc: Global,
+    config: &StormConfig,
+    gate: &G,
+) -> Result<u64, StormFault>
+    requires { IsStormConfig config.now }
+    ensures { IfOk result (λ count. count ≡ config.now.callers * config.now.calls) }
+{
+    storm_over(rt, alloc, &MAKER, config, gate, &NoWatch)
+}
+
 /// Runs a storm, as `storm_left`, and answers how many answers were settled. Refused as that.
-pub fn storm<
+pub fn storm_over<
     R: Threads + Wait + Sync,
     P: Pages + Drop + Send + Sync,
     M: StoreMaker<P, ShaKeyer>,

@@ -1,4 +1,5 @@
 mod Counts
+mod FirstWard
 mod Order
 mod Rounds
 mod ToBeTallied

@@ -8,3 +8,4 @@ pub mod Rounds
 pub mod Spare
 pub mod Stock
 pub mod Units
+pub mod WardOfKey

@@ -40,6 +40,14 @@ pub record AreNewWardsOf {K : Type 0} (settings : FileSettings K) (wards : List 
   pub count : length wards ≡ 2 ^ settings.ward_bits
   pub each : (number : ℕ) (ward : WardState K) → slice_get wards number ≡ Some ward → IsNewWardOf settings.cap settings.ward_bits settings.keyer number ward
 
+-- of some file, whose keyer hashes so
+abbrev pub AreNewWards : {K : Type 0} → (K → List ℕ → ℕ) → (List ℕ → ℕ) → List (WardState K) → Type 0
+AreNewWards {K} pseudokey_of hashing wards = (settings : FileSettings K) × AreNewWardsOf settings wards × (hashing ≡ pseudokey_of settings.keyer)
+
+-- the file has the settings of these wards, and gave no seat yet
+abbrev pub IsNewFileOf : {K : Type 0} → List (WardState K) → LiveState K → Type 0
+IsNewFileOf {K} wards file = (settings : FileSettings K) → AreNewWardsOf settings wards → file ≡ without_seats settings
+
 -- each answered nothing, turns keys into these pseudokeys, and stands at the place of its number, from a number on
 abbrev pub AreToBeTallied : {K : Type 0} → (K → List ℕ → ℕ) → (List ℕ → ℕ) → ℕ → List (WardState K) → Type 0
 AreToBeTallied pseudokey_of pseudo number [] = ⊤

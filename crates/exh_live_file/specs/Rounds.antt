@@ -23,7 +23,7 @@ use Rattle.exh_live_file.specs.CursorPlaceLemmas.{AreFirst}
 abbrev pub AreSparse : {K : Type 0} → WardState K → ℕ → Type 0
 AreSparse ward at = (sum : ℕ) × HasBuddySum ward at sum × (2 * sum ≤ ward.cap)
 
--- a keeper's turn at a page: they were sparse and are merged, or nothing changed, since they aren't sparse or the version at the parent is the greatest
+-- a keeper's turn at a page: they were sparse and are merged, or nothing changed, since they aren't sparse or the number at the parent is the greatest
 abbrev pub IsKeeperTurn : {K : Type 0} → WardState K → ℕ → Bool → WardState K → Type 0
 IsKeeperTurn old at true new = AreSparse old at × ((notice : Notice) × IsMergeStep old at notice new)
 IsKeeperTurn old at false new = (new ≡ old) × (AreSparse old at → MergeRefused old at Worn)
@@ -57,11 +57,11 @@ MayRefuseKeeper fault = ⊥
 abbrev pub is_of_ward : ℕ → ℕ → List Bool → Bool
 is_of_ward ward_bits number prefix = leb ward_bits (length prefix) && nat_eq (ward_of ward_bits (low_of prefix)) number
 
--- what an entry at a prefix adds to the cursor in a ward: its version, where the prefix is the ward's
+-- what an entry at a prefix adds to the cursor in a ward: its number, where the prefix is the ward's
 abbrev pub told_of : ℕ → ℕ → List Bool × Entry → ℕ
 told_of ward_bits number e = if is_of_ward ward_bits number e.0 then e.1.number else 0
 
--- how many changes of a ward's pages a table tells of: the sum of the versions at the ward's prefixes
+-- how many changes of a ward's pages a table tells of: the sum of the numbers at the ward's prefixes
 abbrev pub changes_told : ℕ → TableMap → ℕ → ℕ
 changes_told ward_bits table number = sum_by (told_of ward_bits number) (entries table)
 

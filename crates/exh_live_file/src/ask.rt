@@ -77,8 +77,9 @@ impl<P: Pages + Drop, K: Keyer, F: Identity> LiveFile<P, K, F> {
             rt,
             ward: &self.wards[usize::from(number)],
             answers,
+            pseudokey,
         };
-        let result = walk_steps(&mut ward, gate, at, client, call, pseudokey);
+        let result = walk_steps(&mut ward, gate, at, client, call);
         (ward.answers, result)
     }
 }

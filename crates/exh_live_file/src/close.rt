@@ -11,6 +11,7 @@ use exh_keyer::Keyer;
 use exh_stores::Pages;
 use exh_ward::Ward;
 use std::alloc::AllocError;
+use std::fmt;
 use std::sync::ledger::Share;
 use thiserror::Error;
 
@@ -53,11 +54,20 @@ impl CloseFault {
 }
 
 /// A file that isn't closed, with the seats that were handed in.
-#[derive(Drop)]
+#[derive(Drop, Error)]
+#[error("{fault}")]
 pub struct NotClosed<P: Pages + Drop, K: Keyer, F: Identity> {
     pub fault: CloseFault,
     pub file: LiveFile<P, K, F>,
     pub seats: Vec<Seat<F>>,
+}
+
+impl<P: Pages + Drop, K: Keyer, F: Identity> fmt::Debug for NotClosed<P, K, F> {
+    fn fmt<W: fmt::Write>(&self, f: &mut fmt::Formatter<W>) -> fmt::Result {
+        f.debug_struct("NotClosed")
+            .field("fault", &self.fault)
+            .finish_non_exhaustive()
+    }
 }
 
 impl<P: Pages + Drop, K: Keyer, F: Identity> LiveFile<P, K, F> {

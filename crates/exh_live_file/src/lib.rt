@@ -10,6 +10,7 @@ pub use ledgers::{ANSWER_PARTS, Answers, ENTRY_PARTS, Entries, LedgerNames};
 pub use live_file::LiveFile;
 pub use lock::lock_soon;
 pub use seat::{NoSeat, Seat};
+pub use settlement::settle;
 pub use ward_journals::WardJournals;
 
 mod ask;
@@ -24,6 +25,7 @@ mod live_file;
 mod lock;
 mod locked_ward;
 mod seat;
+mod settlement;
 mod spare;
 mod tallied_ward;
 mod tally;

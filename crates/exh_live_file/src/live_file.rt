@@ -1,8 +1,7 @@
 ghost use Rattle.std.specs.Prelude.{◌≡◌, ◌+◌, ◌*◌, ◌^◌, ◌<◌, ◌≤◌, [], vec_len, IfOk, OnOk, OnErr};
-ghost use Rattle.exh_prefix.specs.declared.prefix.TheConstants.{WARD_BITS_LIMIT};
 ghost use Rattle.exh_live_file.specs.declared.ledgers.TheConstants.{ANSWER_PARTS, ENTRY_PARTS};
 ghost use Rattle.exh_calls.specs.declared.diary.TheConstants.{CALLER_LIMIT};
-ghost use Rattle.exh_live_file.specs.LiveFile.{AreNewWardsOf, AreToBeTallied, without_seats};
+ghost use Rattle.exh_live_file.specs.LiveFile.{AreNewWards, AreToBeTallied, IsNewFileOf};
 ghost use Rattle.exh_live_file.specs.Stock.{stock, units_of_first};
 
 use crate::ledgers::{Answers, Entries};
@@ -55,22 +54,20 @@ impl<P: Pages + Drop, K: Keyer, F: Identity> Model for LiveFile<P, K, F> {
 }
 
 impl<P: Pages + Drop, K: Keyer, F: Identity> LiveFile<P, K, F> {
-    /// The live file of wards with empty journals, one for each number, in order, all of these settings,
+    /// The live file of wards with empty journals, one for each number, in order, all of the same settings,
     /// and of two blank ledgers, whose names are the file's. An `AllocError` where memory is refused.
     pub fn new(
         alloc: Global,
-        settings: FileSettings<K>,
         wards: Vec<Ward<P, K>>,
         answers: Blank,
         entries: Blank,
     ) -> Result<LiveFile<P, K, F>, AllocError>
-        requires bits { settings.ward_bits ≤ WARD_BITS_LIMIT }
-        requires wards { AreNewWardsOf settings wards.items }
+        requires wards { AreNewWards K.pseudokey_of F.hashing wards.items }
         requires answers { (answers.name ≡ F.answers) × (answers.parts ≡ ANSWER_PARTS) }
         requires entries { (entries.name ≡ F.entries) × (entries.parts ≡ ENTRY_PARTS) }
-        requires hashed { F.hashing ≡ K.pseudokey_of settings.keyer }
-        ensures { IfOk result (λ file. file ≡ without_seats settings) }
+        ensures { IfOk result (IsNewFileOf wards.items) }
     {
+        let settings = wards[0].settings();
         let (given, answers) = answers.open::<Answers<F>>();
         let (entered, entries) = entries.open::<Entries<F>>();
         let mut tally = Tally {

@@ -1,4 +1,4 @@
-ghost use Rattle.std.specs.Prelude.{◌≡◌, ◌+◌, ◌<◌, length};
+ghost use Rattle.std.specs.Prelude.{◌≡◌, ⊤, ◌+◌, ◌<◌, length};
 ghost use Rattle.exh_calls.specs.Call.{key_of};
 ghost use Rattle.exh_route.specs.WardRun.{answer_of};
 ghost use Rattle.exh_live_file.specs.Locked.{IsSomeWardsStep};
@@ -12,7 +12,7 @@ use exh_keyer::Keyer;
 use exh_notice::Notice;
 use exh_prefix::PageNo;
 use exh_stores::Pages;
-use exh_walk::Steps;
+use exh_walk::{Gate, Steps};
 use exh_ward::{Hop, WardFault};
 use std::sync::Wait;
 use std::sync::ledger::Share;
@@ -24,6 +24,8 @@ pub(crate) struct LockedWard<'a, P: Pages + Drop, K: Keyer, F: Identity, R: Wait
     pub(crate) rt: &'a R,
     pub(crate) ward: &'a WardLock<P, K, F>,
     pub(crate) answers: Share<Answers<F>>,
+    // That of the call's key.
+    pub(crate) pseudokey: u64,
     ghost one_part: { answers.parts ≡ 1 },
 }
 
@@ -31,10 +33,16 @@ pub(crate) struct LockedWard<'a, P: Pages + Drop, K: Keyer, F: Identity, R: Wait
 impl<'a, P: Pages + Drop, K: Keyer, F: Identity, R: Wait> Steps for LockedWard<'a, P, K, F, R> {
     ghost step = { λ old event new. (new.answers.amount ≡ old.answers.amount + length (answer_of event)) × IsSomeWardsStep K.pseudokey_of event };
 
-    ghost serves = { λ ward call pseudokey. pseudokey ≡ F.hashing (key_of call) };
+    ghost serves = { λ ward call pseudokey. (pseudokey ≡ ward.pseudokey) × (pseudokey ≡ F.hashing (key_of call)) };
+
+    ghost walked = { λ _ _ _ _ _ _ _. ⊤ };
+
+    fn pseudokey(&self, _call: &Call) -> u64 {
+        self.pseudokey
+    }
 
     // `Stray` for a key that the ward doesn't cover, which its lock can't tell.
-    fn hop(
+    fn hop_hashed(
         &mut self,
         at: PageNo,
         client: u32,
@@ -51,4 +59,6 @@ impl<'a, P: Pages + Drop, K: Keyer, F: Identity, R: Wait> Steps for LockedWard<'
     fn split(&mut self, at: PageNo) -> Result<Notice, WardFault> {
         lock_soon(self.ward, self.rt).split(at)
     }
+
+    fn walks_are_walked<G: Gate>(&self, _gate: &G) {}
 }

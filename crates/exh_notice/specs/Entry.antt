@@ -15,7 +15,7 @@ kind_cmp Merge (Split right) = Less
 kind_cmp (Split right) Merge = Greater
 kind_cmp (Split one) (Split other) = nat_cmp one other
 
--- by version, then by kind
+-- by number, then by kind
 abbrev pub entry_cmp : Entry → Entry → Ordering
 entry_cmp = then_cmp (on (λ (e : Entry). e.number) nat_cmp) (on (λ (e : Entry). e.kind) kind_cmp)
 

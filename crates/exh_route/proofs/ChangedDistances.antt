@@ -13,12 +13,12 @@ use Rattle.exh_page.specs.Page.{IsLive, low_bound, begun_by}
 use Rattle.exh_legal.specs.Change.{IsSplit, IsMerge}
 use Rattle.exh_prefix.specs.LowLemmas.{left_keeps}
 use Rattle.exh_legal.specs.Pages.{IsAt, AreLinked, bare}
-use Rattle.exh_route.specs.Distance.{IsDistance, IsForwarded, is_live_between, live_between}
+use Rattle.exh_ward.specs.Distance.{IsDistance, IsForwarded, is_live_between, live_between}
 use Rattle.exh_route.specs.DistanceLaws.{IsChange, IsDistanceUpTo}
 use Rattle.exh_route.proofs.CountsWithin.{count_within, count_within_but}
-use Rattle.exh_route.proofs.Links.{apart, one_home, within_at, target_below}
+use Rattle.exh_ward.specs.LinkLemmas.{apart, one_home, within_at, target_below}
 use Rattle.exh_legal.specs.LegalPlaceLemmas.{home_of_low}
-use Rattle.exh_route.proofs.LiveCounts.{is_between}
+use Rattle.exh_ward.specs.LiveCountLemmas.{is_between}
 use Rattle.exh_prefix.specs.PrefixListLemmas.{one_there}
 
 -- ---- what the test that counts live pages tells

@@ -2,7 +2,7 @@
 use Rattle.std.proofs.Common.{◌≡◌, ◌≢◌, ℕ, zero, suc, ◌≤◌, Bool, true, List, [], ◌∷◌, slice_get, Some, inl, inr, refl, ap, ◌∙◌, arith}
 use Rattle.std.specs.Prelude.{count_by}
 use Rattle.std.proofs.lemmas.Bool.{cases_Bool, false_from_ne_true}
-use Rattle.exh_route.proofs.Counts.{counts, counts_few, count_cons, count_none}
+use Rattle.exh_ward.specs.CountLemmas.{counts, counts_few, count_cons, count_none}
 
 module _ {A : Type 0} (p q : A → Bool) where
   -- at the place of what passes in the other list there is something that passes

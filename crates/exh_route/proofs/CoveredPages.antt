@@ -7,7 +7,7 @@ use Rattle.exh_notice.specs.declared.notice.Notice.{Notice}
 use Rattle.exh_page.specs.declared.page.Page.{Page}
 use Rattle.exh_page.specs.Page.{low_bound}
 use Rattle.exh_legal.specs.Pages.{IsAt}
-use Rattle.exh_route.proofs.Counts.{counts, counts_few, count_cons, count_less, count_none}
+use Rattle.exh_ward.specs.CountLemmas.{counts, counts_few, count_cons, count_less, count_none}
 use Rattle.exh_route.proofs.LaterNotices.{AnyNotice, IsChangeAt}
 
 -- ---- counts

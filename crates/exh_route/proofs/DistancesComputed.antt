@@ -6,9 +6,9 @@ use Rattle.exh_page.specs.declared.page.Page.{Page}
 use Rattle.exh_page.specs.declared.page.Page.TheVariants.{Live, Forward}
 use Rattle.exh_page.specs.Page.{IsLive, low_bound}
 use Rattle.exh_legal.specs.Pages.{IsAt, AreLinked, bare}
-use Rattle.exh_route.specs.Distance.{IsDistance, IsForwarded, live_between, live_pages}
+use Rattle.exh_ward.specs.Distance.{IsDistance, IsForwarded, live_between, live_pages}
 use Rattle.exh_route.specs.DistanceFunction.{distance_at, distance_within, distance_of}
-use Rattle.exh_route.proofs.DistancesFew.{distance_few}
+use Rattle.exh_ward.specs.DistanceLemmas.{distance_few}
 
 module _ (pages : List Page) (pseudokey : ℕ) where
   at_page : (most number : ℕ) (page : Page) → IsAt pages number page → distance_within pages pseudokey (suc most) number ≡ distance_at pages pseudokey (distance_within pages pseudokey most) page

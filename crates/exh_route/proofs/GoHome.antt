@@ -16,11 +16,11 @@ use Rattle.exh_ward.specs.WardLaws.{OneHop}
 use Rattle.exh_calls.specs.declared.call.Call.{Call}
 use Rattle.exh_ward.specs.declared.hop.Hop.{Hop}
 use Rattle.exh_ward.specs.declared.hop.Hop.TheVariants.{Moved}
-use Rattle.exh_route.specs.Distance.{IsDistance, live_between}
+use Rattle.exh_ward.specs.Distance.{IsDistance, live_between}
 use Rattle.exh_route.specs.RouteLaws.{CanGoOn, EndsAtHome}
 use Rattle.exh_route.specs.WardMoves.{AreMoves, EndsMoves}
-use Rattle.exh_route.proofs.Links.{IsNext, target_below, next_live, none_beyond_home}
-use Rattle.exh_route.proofs.LiveCounts.{none_between, one_less_right}
+use Rattle.exh_ward.specs.LinkLemmas.{IsNext, target_below, next_live, none_beyond_home}
+use Rattle.exh_ward.specs.LiveCountLemmas.{none_between, one_less_right}
 use Rattle.exh_route.proofs.OneDistance.{same_distance}
 use Rattle.exh_prefix.specs.PrefixListLemmas.{one_there}
 

@@ -26,14 +26,14 @@ use Rattle.exh_legal.specs.Growth.{IsGrown, IsLiveAt}
 use Rattle.exh_legal.specs.LegalLaws.{IsBelow, IsWard}
 use Rattle.exh_prefix.specs.LowLemmas.{begins_own_low, front_of_longer, front_shorter, left_keeps, own_front, same_front}
 use Rattle.exh_legal.specs.Pages.{IsAt, IsHome, AreLinked, bare}
-use Rattle.exh_route.specs.Distance.{IsDistance, IsForwarded, is_live_between, live_between}
+use Rattle.exh_ward.specs.Distance.{IsDistance, IsForwarded, is_live_between, live_between}
 use Rattle.exh_route.specs.DistanceLaws.{IsDistanceUpTo, IsTableWithin, NamesPages}
 use Rattle.exh_route.specs.RouteLaws.{GetsGoHome}
 use Rattle.exh_route.proofs.ChangedDistances.{between_tells}
 use Rattle.exh_route.proofs.CoveredPages.{count_covered, more_below}
 use Rattle.exh_route.proofs.LateWalks.{IsStop, walk_stops}
 use Rattle.exh_route.proofs.LaterNotices.{AnyNotice, IsChangeAt, IsSplitNotice, any_such, told_later, split_above, leaves_after-append}
-use Rattle.exh_route.proofs.Links.{apart, first_page, target_cleared, ward_few}
+use Rattle.exh_ward.specs.LinkLemmas.{apart, first_page, target_cleared, ward_few}
 use Rattle.exh_prefix.specs.PrefixListLemmas.{one_there}
 use Rattle.exh_route.proofs.WalkDistances.{none_from_home}
 

@@ -6,17 +6,11 @@ pub mod StepPlaces
 pub mod PagesStay
 pub mod NamedPagesStay
 -- of gets_go_home and moves_come_nearer
-pub mod Links
-pub mod Counts
-pub mod LiveCounts
 pub mod GoHome
--- of one_distance and distances_are_few
+-- of one_distance
 pub mod OneDistance
-pub mod DistancesFew
 -- of distances_are_computed
 pub mod DistancesComputed
--- of distances: the first live page, and the count from there
-pub mod FirstSteps
 -- of distance_laws
 pub mod CountsWithin
 pub mod ChangedDistances

@@ -19,7 +19,7 @@ use Rattle.exh_ward.specs.declared.hop.Hop.{Hop}
 use Rattle.exh_ward.specs.declared.hop.Hop.TheVariants.{Done, Moved, MustSplit, Stray}
 use Rattle.exh_route.specs.RouteLaws.{IsLegalWard, IsKeptPage}
 use Rattle.exh_route.specs.WardRun.{WardEvent, HopAt, SplitAt, MergeAt, WardStep, WardMoment, IsWardRun, named_by, right_page}
-use Rattle.exh_route.proofs.Links.{target_below, next_live}
+use Rattle.exh_ward.specs.LinkLemmas.{target_below, next_live}
 use Rattle.exh_route.proofs.PagesStay.{run_places}
 use Rattle.exh_route.proofs.StepOneMap.{stepped}
 

@@ -4,7 +4,7 @@ use Rattle.exh_page.specs.declared.page.Page.{Page}
 use Rattle.exh_page.specs.declared.page.Page.TheVariants.{Forward}
 use Rattle.exh_page.specs.Page.{IsLive, low_bound}
 use Rattle.exh_legal.specs.Pages.{IsAt}
-use Rattle.exh_route.specs.Distance.{IsDistance, IsForwarded, live_between}
+use Rattle.exh_ward.specs.Distance.{IsDistance, IsForwarded, live_between}
 use Rattle.exh_prefix.specs.PrefixListLemmas.{one_there}
 
 module _ (pages : List Page) where

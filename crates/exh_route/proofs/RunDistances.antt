@@ -18,7 +18,7 @@ use Rattle.exh_ward.specs.WardLaws.{AnswersKeepLegal}
 use Rattle.exh_ward.specs.WardState.{WardState, LeavesAfter, IsUnchanged, own_prefix}
 use Rattle.exh_ward.specs.declared.hop.Hop.{Hop}
 use Rattle.exh_ward.specs.declared.hop.Hop.TheVariants.{Done, Moved, MustSplit, Stray}
-use Rattle.exh_route.specs.Distance.{IsDistance}
+use Rattle.exh_ward.specs.Distance.{IsDistance}
 use Rattle.exh_route.specs.DistanceLaws.{IsDistanceUpTo, Goes, HasGone}
 use Rattle.exh_route.specs.RouteLaws.{IsLegalWard, CanGoOn, MovesComeNearer}
 use Rattle.exh_route.specs.WardRun.{WardEvent, HopAt, SplitAt, MergeAt, WardStep, WardMoment, IsWardRun, changes_by, changes_over}

@@ -17,10 +17,10 @@ use Rattle.exh_page.specs.declared.page.Page.TheVariants.{Live}
 use Rattle.exh_page.specs.Page.{low_bound}
 use Rattle.exh_legal.specs.LegalLaws.{IsWard, WalksNameHomes}
 use Rattle.exh_legal.specs.Pages.{IsAt, IsHome, AreLinked, bare}
-use Rattle.exh_route.specs.Distance.{IsDistance, live_between}
+use Rattle.exh_ward.specs.Distance.{IsDistance, live_between}
 use Rattle.exh_route.specs.DistanceLaws.{IsTableWithin}
-use Rattle.exh_route.proofs.Links.{none_beyond_home}
-use Rattle.exh_route.proofs.LiveCounts.{none_between}
+use Rattle.exh_ward.specs.LinkLemmas.{none_beyond_home}
+use Rattle.exh_ward.specs.LiveCountLemmas.{none_between}
 
 -- from a home no live page is left to come to
 pub none_from_home : (ward : List Bool) (pages : List Page) → AreLinked ward (bare pages) → (pseudokey home : ℕ) (page : Page) → IsAt pages home page → pseudokey < 2 ^ 64 → IsHome page pseudokey → live_between pages (low_bound page) pseudokey ≡ 0

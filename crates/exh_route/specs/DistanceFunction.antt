@@ -5,7 +5,7 @@ use Rattle.exh_prefix.specs.declared.prefix.TheConstants.{LIMIT}
 use Rattle.exh_prefix.specs.Prefix.{low_of}
 use Rattle.exh_page.specs.declared.page.Page.{Page}
 use Rattle.exh_page.specs.declared.page.Page.TheVariants.{Live, Forward}
-use Rattle.exh_route.specs.Distance.{live_between, live_pages}
+use Rattle.exh_ward.specs.Distance.{live_between, live_pages}
 
 -- of a forwarding page one more than its target's
 abbrev pub distance_at : List Page → ℕ → (ℕ → ℕ) → Page → ℕ

@@ -14,7 +14,7 @@ use Rattle.exh_calls.specs.Call.{key_of}
 use Rattle.exh_calls.specs.declared.call.Call.{Call}
 use Rattle.exh_ward.specs.WardState.{WardState, own_prefix}
 use Rattle.exh_ward.specs.declared.hop.Hop.TheVariants.{Moved}
-use Rattle.exh_route.specs.Distance.{IsDistance}
+use Rattle.exh_ward.specs.Distance.{IsDistance}
 use Rattle.exh_route.specs.RouteLaws.{IsLegalWard}
 use Rattle.exh_route.specs.WardRun.{HopAt, WardEvent, WardMoment, WardStep, IsWardRun, changes_by, changes_over}
 

@@ -14,7 +14,7 @@ use Rattle.exh_ward.specs.WardState.{WardState, IsSoundWard, own_prefix}
 use Rattle.exh_calls.specs.declared.call.Call.{Call}
 use Rattle.exh_calls.specs.declared.call.Call.TheVariants.{Get}
 use Rattle.exh_ward.specs.declared.hop.Hop.TheVariants.{Done, Moved, MustSplit}
-use Rattle.exh_route.specs.Distance.{IsDistance, live_pages}
+use Rattle.exh_ward.specs.Distance.{IsDistance, live_pages}
 use Rattle.exh_route.specs.DistanceFunction.{distance_of}
 use Rattle.exh_route.specs.WardMoves.{AreMoves, GoesHome}
 use Rattle.exh_route.specs.WardRun.{WardMoment, IsWardRun, answer_of, answers_in, changes_over, named_by}

@@ -7,7 +7,7 @@ use Rattle.exh_legal.specs.Pages.{IsAt, IsHome}
 use Rattle.exh_calls.specs.declared.call.Call.{Call}
 use Rattle.exh_ward.specs.declared.hop.Hop.{Hop}
 use Rattle.exh_ward.specs.declared.hop.Hop.TheVariants.{Moved}
-use Rattle.exh_route.specs.Distance.{IsDistance}
+use Rattle.exh_ward.specs.Distance.{IsDistance}
 
 -- a hop at each page moves on to the next of the list, the first hop being where it begins, and the last to the page `to`
 abbrev pub AreMoves : ℕ → (List ℕ → ℕ) → List Page → Call → ℕ → List ℕ → ℕ → Type 0

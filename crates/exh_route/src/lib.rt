@@ -6,12 +6,10 @@ pub use distance_laws::{
     changes_add_one, late_tables_are_near, moves_are_bounded, steps_add_changes,
     whole_tables_name_homes,
 };
-pub use distances::distance;
 pub use laws::{
     distances_are_computed, distances_are_few, gets_go_home, moves_come_nearer, named_pages_stay,
     one_distance, pages_stay, runs_keep_wards_sound_and_one_map,
 };
 
 mod distance_laws;
-mod distances;
 mod laws;

@@ -67,7 +67,7 @@ table_at table prefix (Some entry) = insert table prefix entry
 
 -- ---- the next change at a prefix
 
--- the version of what stands at a prefix, 0 where nothing does
+-- the number of what stands at a prefix, 0 where nothing does
 abbrev pub entry_number : Option Entry → ℕ
 entry_number stood = option_map_or (λ entry. entry.number) stood 0
 

@@ -114,7 +114,7 @@ table_laws = join_laws table_order table_bound
 
 -- ---- the next change at a prefix
 
--- a greater version makes a greater entry
+-- a greater number makes a greater entry
 pub later_wins : (stood : Option Entry) (entry : Entry) → entry_number stood < entry.number → greater_of stood entry ≡ entry
 later_wins None entry later = refl
 later_wins (Some old) entry later =

@@ -40,7 +40,7 @@ abbrev pub kind_text : Kind → List ℕ
 kind_text (Split right) = codes " split right " ++ decimal right
 kind_text Merge = codes " merge"
 
--- the version and the kind of what was done at a prefix
+-- the number and the kind of what was done at a prefix
 abbrev pub entry_text : List Bool → ℕ → Kind → List ℕ
 entry_text prefix version kind = prefix_text prefix ++ (codes " number " ++ (decimal version ++ kind_text kind))
 

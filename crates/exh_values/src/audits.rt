@@ -1,6 +1,6 @@
 //! Journals whose replies were worked out by hand.
 
-use exh_calls::{Base, Call, Journal, Reply};
+use exh_calls::{Base, Call, Journal, PackedPairs, Reply};
 use exh_keyer::PlainKeyer;
 use exh_page::{Key, SizeFault, Value};
 use exh_report::audit;
@@ -31,16 +31,20 @@ fn swap(key: &[u8], old: &[u8], new: &[u8]) -> Result<Call, SizeFault> {
     })
 }
 
-// A history of a file of cap 2 and keyer plain. The keys of zeros have one pseudokey.
-fn lines() -> Result<[Line; 9], SizeFault> {
+// A history of a file of cap 2 and keyer plain, in which the key `z` has the value `z` before. The keys of zeros have one
+// pseudokey.
+fn lines() -> Result<[Line; 12], SizeFault> {
     let a = Value::from_bytes(b"a")?;
     let key = Key::from_bytes(b"\0\0")?;
     Ok([
+        (get(b"z")?, Reply::Is(Value::from_bytes(b"z")?)),
         (put(b"\0", b"a")?, Reply::New),
         (put(b"\0\0", b"a")?, Reply::New),
         (put(b"\0\0\0", b"a")?, Reply::Full),
         (put(b"\0", b"b")?, Reply::Was(a)),
+        (get(b"\0")?, Reply::Is(Value::from_bytes(b"b")?)),
         (Call::Del { key }, Reply::Was(a)),
+        (Call::Del { key }, Reply::None),
         (get(b"\0\0")?, Reply::None),
         (swap(b"\0", b"b", b"c")?, Reply::Swapped),
         (
@@ -51,6 +55,15 @@ fn lines() -> Result<[Line; 9], SizeFault> {
     ])
 }
 
+// The pairs before: of two of one key the first counts.
+fn base(alloc: Global) -> Result<Base, Fail> {
+    let key = Key::from_bytes(b"z")?;
+    let mut pairs = PackedPairs::new(alloc);
+    pairs.push(&key, &Value::from_bytes(b"z")?)?;
+    pairs.push(&key, &Value::from_bytes(b"y")?)?;
+    Ok(Base::from_pairs(pairs))
+}
+
 // The audit of a journal of these lines, in a file of this cap.
 fn audited(alloc: Global, cap: usize, lines: &[Line]) -> Result<bool, Fail> {
     let mut journal = Journal::new(alloc);
@@ -58,7 +71,7 @@ fn audited(alloc: Global, cap: usize, lines: &[Line]) -> Result<bool, Fail> {
         journal.reserve()?;
         journal.push_reserved(1, call, reply);
     }
-    Ok(audit(alloc, cap, &PlainKeyer, &Base::new(alloc), &journal)?)
+    Ok(audit(alloc, cap, &PlainKeyer, &base(alloc)?, &journal)?)
 }
 
 // Whether each beginning is a history, and none with another last reply.

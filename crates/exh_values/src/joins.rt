@@ -16,8 +16,10 @@ fn pair(first: u64, second: u64) -> Pair {
 }
 
 fn are_joined() -> bool {
+    let numbers = [3, 5, 4].map(|number| Greatest { number });
     let three = [pair(3, 9), pair(5, 2), pair(4, 3)];
     join_all::<Pair>(&[]).is_ok_and(|joined| joined.is_none())
+        && join_all(&numbers).is_ok_and(|joined| joined == Some(Greatest { number: 5 }))
         && join_all(&three).is_ok_and(|joined| joined == Some(pair(5, 9)))
 }
 
@@ -58,7 +60,7 @@ const UNIONS: [Union; 4] = [
         &[(0, 2, None), (1, 1, Some(2))],
         0,
     ),
-    // At equal versions a merge stands before a split, and splits are ordered by right page.
+    // At equal numbers a merge stands before a split, and splits are ordered by right page.
     (
         &[(0, 3, None)],
         &[(0, 3, Some(0))],

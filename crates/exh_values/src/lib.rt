@@ -11,11 +11,17 @@ mod diaries;
 #[cfg(test)]
 mod file_doors;
 #[cfg(test)]
+mod images;
+#[cfg(test)]
 mod joins;
 #[cfg(test)]
 mod keys;
 #[cfg(test)]
+mod live_doors;
+#[cfg(test)]
 mod notices;
+#[cfg(test)]
+mod page_doors;
 #[cfg(test)]
 mod texts;
 #[cfg(test)]

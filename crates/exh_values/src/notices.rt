@@ -38,14 +38,25 @@ const SPLIT_AT_19_ROW: Row = (
     Some(0xd1d2_d3d4),
 );
 
+// The split at the root, its merge, and in place of that the split of its left half.
+const SPLIT: [u8; 24] = [
+    0, 1, 0, 0, 0, 0, 0, 0, 0, 0, 0, 1, 0, 0, 0, 1, 0, 0, 0, 0, 0, 0, 0, 1,
+];
+
 const MERGE: [u8; 24] = [
     0, 2, 0, 0, 0, 0, 0, 0, 0, 0, 0, 2, 0, 0, 0, 0, 0, 0, 0, 0, 0, 0, 0, 2,
 ];
 
-const IMAGES: [(Row, [u8; 24]); 3] = [
+const SPLIT_BELOW: [u8; 24] = [
+    0, 1, 1, 0, 0, 0, 0, 0, 0, 0, 0, 1, 0, 0, 0, 2, 0, 0, 0, 0, 0, 0, 0, 2,
+];
+
+const IMAGES: [(Row, [u8; 24]); 5] = [
     (SPLIT_AT_15_ROW, SPLIT_AT_15),
     (SPLIT_AT_19_ROW, SPLIT_AT_19),
+    ((0, 1, 0, 0, 1, Some(1)), SPLIT),
     ((0, 2, 0, 0, 2, None), MERGE),
+    ((0, 2, 1, 0, 1, Some(2)), SPLIT_BELOW),
 ];
 
 fn notice(row: Row) -> Option<Notice> {
@@ -85,12 +96,12 @@ fn is_read(version: Version, notice: &Notice, image: &[u8; NOTICE_IMAGE_LEN]) ->
         && Entry::from_image_of(version, front) == Ok((notice.ward, notice.prefix, notice.entry()))
 }
 
-// The index of the notice that has another image.
-fn wrong_image() -> Option<u64> {
-    for (row, image) in IMAGES {
-        match notice(row) {
-            Some(notice) if is_imaged(&notice, &image) => {}
-            _ => return Some(row.1),
+// The place of the notice that has another image.
+fn wrong_image() -> Option<usize> {
+    for (at, (row, image)) in IMAGES.iter().enumerate() {
+        match notice(*row) {
+            Some(notice) if is_imaged(&notice, image) => {}
+            _ => return Some(at),
         }
     }
     None

@@ -9,9 +9,8 @@ use exh_keyer::PlainKeyer;
 use exh_notice::Notice;
 use exh_page::{Key, Value};
 use exh_prefix::PageNo;
-use exh_settings::FileSettings;
 use exh_stores::PlainPages;
-use exh_walk::{AskFault, Gate, OpenGate, Steps, TurnGate, walk_steps, walk_ward};
+use exh_walk::{AskFault, Gate, OpenGate, Steps, TurnGate, walk_steps};
 use exh_ward::{Hop, Ward, WardFault, first_page};
 use std::alloc::Global;
 use std::sync::atomic::{AtomicU32, Ordering};
@@ -35,13 +34,13 @@ fn get(key: &[u8]) -> Option<Call> {
 // Whether the walk of client 7, in a ward that covers the key, is answered so.
 fn answers<G: Gate>(ward: &mut PlainWard, gate: &G, at: PageNo, call: &Call, reply: Reply) -> bool {
     let pseudokey = ward.pseudokey(call.key());
-    ward.covers(pseudokey) && walk_ward(ward, gate, at, 7, call) == Ok(reply)
+    ward.covers(pseudokey) && walk_steps(ward, gate, at, 7, call) == Ok(reply)
 }
 
 // Whether it is held.
 fn holds<G: Gate>(ward: &mut PlainWard, gate: &G, at: PageNo, call: &Call) -> bool {
     let pseudokey = ward.pseudokey(call.key());
-    ward.covers(pseudokey) && walk_ward(ward, gate, at, 7, call) == Err(AskFault::Held)
+    ward.covers(pseudokey) && walk_steps(ward, gate, at, 7, call) == Err(AskFault::Held)
 }
 
 // Three puts from page 0; then the same get from page 0 and from a page that isn't there, each held
@@ -80,12 +79,7 @@ fn goes_right(ward: &mut PlainWard) -> Option<bool> {
 
 fn new_ward(alloc: Global) -> Option<PlainWard> {
     let store = PlainPages::new(alloc, first_page(alloc, 0, 0)).ok()?;
-    let settings = FileSettings {
-        cap: 2,
-        ward_bits: 0,
-        keyer: PlainKeyer,
-    };
-    Some(Ward::new(alloc, store, settings, 0))
+    Some(Ward::new(alloc, store, 2, 0, 0, PlainKeyer))
 }
 
 fn story(alloc: Global) -> Option<bool> {
@@ -120,7 +114,13 @@ impl Steps for Planned {
 
     ghost serves = { λ _ _ _. ⊤ };
 
-    fn hop(
+    ghost walked = { λ _ _ _ _ _ _ _. ⊤ };
+
+    fn pseudokey(&self, _call: &Call) -> u64 {
+        0
+    }
+
+    fn hop_hashed(
         &mut self,
         at: PageNo,
         _client: u32,
@@ -141,6 +141,8 @@ impl Steps for Planned {
         self.splits = self.splits.wrapping_add(1);
         Err(self.refusal)
     }
+
+    fn walks_are_walked<G: Gate>(&self, _gate: &G) {}
 }
 
 // Says yes, and counts how often it was asked and what the last turn was.
@@ -200,7 +202,7 @@ fn walked(plan: &'static [Plan], refusal: WardFault) -> Option<Walked> {
         asked: AtomicU32::new(0),
         last: AtomicU32::new(0),
     };
-    let answer = match walk_steps(&mut steps, &gate, 0, 7, &call, 0) {
+    let answer = match walk_steps(&mut steps, &gate, 0, 7, &call) {
         Ok(Reply::New) => Ok(()),
         Ok(_) => return None,
         Err(fault) => Err(fault),

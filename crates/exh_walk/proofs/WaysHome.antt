@@ -1,11 +1,10 @@
 -- The walk of a call that puts nothing: its hops are the moves of the way home, so it ends after as many as the distance and one.
-use Rattle.std.proofs.Common.{◌≡◌, ℕ, suc, ◌+◌, ◌≤◌, Bool, false, List, [], ◌∷◌, ◌++◌, length, Option, Some, None, Result, Ok, Err, refl, sym, ap, ◌∙◌, subst, arith}
+use Rattle.std.proofs.Common.{◌≡◌, ℕ, suc, ◌+◌, ◌≤◌, Bool, false, List, [], ◌∷◌, ◌++◌, length, Result, Ok, Err, refl, sym, ap, subst, arith}
 use Rattle.std.proofs.lemmas.List.{length-append}
 use Rattle.exh_page.specs.declared.page.Page.{Page}
 use Rattle.exh_page.specs.declared.page.Page.TheVariants.{Live, Forward}
 use Rattle.exh_page.specs.KeyMap.{KeyMap}
 use Rattle.exh_legal.specs.Pages.{map_of}
-use Rattle.exh_calls.specs.Call.{key_of}
 use Rattle.exh_calls.specs.Effect.{sets_new}
 use Rattle.exh_calls.specs.MapMachine.{reply_of}
 use Rattle.exh_calls.specs.declared.call.Call.{Call}
@@ -18,8 +17,7 @@ use Rattle.exh_ward.specs.declared.hop.Hop.{Hop}
 use Rattle.exh_ward.specs.declared.hop.Hop.TheVariants.{Done, Moved, MustSplit, Stray}
 use Rattle.exh_ward.specs.declared.ward_fault.WardFault.{WardFault}
 use Rattle.exh_ward.specs.declared.ward_fault.WardFault.TheVariants.{Memory, Page as PageFault, NoPage, NotLive, NotFull, AtLimit, NoBuddy, BuddySplit, TooMany, Worn}
-use Rattle.exh_route.specs.Distance.{IsDistance}
-use Rattle.exh_route.specs.RouteLaws.{EndsAtHome, OneDistance}
+use Rattle.exh_route.specs.RouteLaws.{EndsAtHome}
 use Rattle.exh_route.specs.WardMoves.{AreMoves, EndsMoves}
 use Rattle.exh_route.specs.WardRun.{WardEvent, HopAt}
 use Rattle.exh_walk.specs.declared.ask_fault.AskFault.{AskFault}

@@ -38,6 +38,10 @@ IsRun {S} step old (event ∷ earlier) new = (between : S) × IsRun step old ear
 abbrev pub ServesOn : {S : Type 0} → (S → Call → ℕ → Type 0) → S → S → Type 0
 ServesOn serves old new = (call : Call) (pseudokey : ℕ) → serves old call pseudokey → serves new call pseudokey
 
+-- a call may be asked for, by its pseudokey
+abbrev pub MayBeAsked : {S : Type 0} → (S → Call → ℕ → Type 0) → S → Call → Type 0
+MayBeAsked serves steps call = (pseudokey : ℕ) × serves steps call pseudokey
+
 -- ---- what a walk consists of
 
 -- what is to come in a walk: a hop at a page, a split of a page, or nothing, since it has come to this
@@ -129,3 +133,7 @@ pub record IsWalked {S : Type 0} (step : S → WardEvent → S → Type 0) (may 
   pub events : List WardEvent
   pub way : IsWay step may old at client call pseudokey events new
   pub end : IsEnd may (due_from pseudokey at events) (hops_in events) result
+
+-- so, by the call's pseudokey
+abbrev pub IsCallWalked : {S : Type 0} → (S → WardEvent → S → Type 0) → (S → Call → ℕ → Type 0) → (ℕ → Bool → Type 0) → S → ℕ → ℕ → Call → Result Reply AskFault → S → Type 0
+IsCallWalked step serves may old at client call result new = (pseudokey : ℕ) × serves old call pseudokey × IsWalked step may old at client call pseudokey result new

@@ -1,16 +1,17 @@
 -- What a caller's walk over a ward by itself keeps.
-use Rattle.std.specs.Prelude.{◌≡◌, ◌⊎◌, ℕ, ◌+◌, ◌≤◌, Bool, List, [], ◌∷◌, ◌++◌, All, Result, Ok, Err}
+use Rattle.std.specs.Prelude.{◌≡◌, ◌⊎◌, ℕ, ◌+◌, ◌≤◌, Bool, false, List, [], ◌∷◌, ◌++◌, All, Result, Ok, Err}
 use Rattle.exh_notice.specs.declared.notice.Notice.{Notice}
 use Rattle.exh_page.specs.declared.page.Page.{Page}
 use Rattle.exh_legal.specs.LegalLaws.{IsBelow}
+use Rattle.exh_calls.specs.Call.{key_of}
+use Rattle.exh_calls.specs.Effect.{sets_new}
 use Rattle.exh_calls.specs.declared.call.Call.{Call}
 use Rattle.exh_calls.specs.declared.reply.Reply.{Reply}
 use Rattle.exh_calls.specs.declared.journal_entry.JournalEntry.{JournalEntry}
 use Rattle.exh_ward.specs.declared.hop.Hop.{Hop}
 use Rattle.exh_ward.specs.declared.ward_fault.WardFault.{WardFault}
-use Rattle.exh_ward.specs.WardFault.{CountsFailures}
 use Rattle.exh_ward.specs.WardState.{WardState, IsSoundWard}
-use Rattle.exh_route.specs.Distance.{IsDistance}
+use Rattle.exh_ward.specs.Distance.{IsDistance}
 use Rattle.exh_route.specs.WardRun.{WardEvent, HopAt, SplitAt, WardMoment, IsWardRun}
 use Rattle.exh_walk.specs.declared.ask_fault.AskFault.{AskFault}
 use Rattle.exh_walk.specs.declared.ask_fault.AskFault.TheVariants.{Held}
@@ -44,3 +45,9 @@ IsHeldInTurn may pages at pseudokey result =
 abbrev pub PassesInTurn : (ℕ → Bool → Type 0) → List Page → ℕ → ℕ → Result Reply AskFault → Type 0
 PassesInTurn may pages at pseudokey result =
     (distance : ℕ) (reply : Reply) → IsBelow pages at pseudokey → IsDistance pages at pseudokey distance → result ≡ Ok reply → (turn : ℕ) → 1 ≤ turn → turn ≤ 1 + distance → MaySayYes may turn
+
+-- both of a walk of the call, under a gate: a call that gives no new key is held, and answered, in turn
+pub record IsWalkOfWard {K : Type 0} (pseudokey_of : K → List ℕ → ℕ) (old : WardState K) (may : ℕ → Bool → Type 0) (at client : ℕ) (call : Call) (result : Result Reply AskFault) (new : WardState K) : Type 0 where
+  pub walked : IsWardWalked pseudokey_of old client call result new
+  pub held : sets_new call ≡ false → IsHeldInTurn may old.pages at (pseudokey_of old.keyer (key_of call)) result
+  pub answered : sets_new call ≡ false → PassesInTurn may old.pages at (pseudokey_of old.keyer (key_of call)) result

@@ -6,11 +6,9 @@ pub use ask_fault::AskFault;
 pub use gate::{Gate, OpenGate, TurnGate};
 pub use steps::Steps;
 pub use walk::{TURN_LIMIT, walk_steps};
-pub use ward_walk::walk_ward;
 
 mod ask_fault;
 mod gate;
 mod steps;
 mod walk;
 mod ward_steps;
-mod ward_walk;

@@ -1,6 +1,6 @@
 ghost use Rattle.std.specs.Prelude.{◌≡◌};
 ghost use Rattle.exh_walk.specs.Turn.{IsTurn, IsSplitTurn};
-ghost use Rattle.exh_walk.specs.CallerWalk.{IsWalked, ServesOn, half_of, right_begins};
+ghost use Rattle.exh_walk.specs.CallerWalk.{IsCallWalked, IsWalked, MayBeAsked, ServesOn, half_of, right_begins};
 
 use crate::{AskFault, Gate, Steps};
 use exh_calls::{Call, Reply};
@@ -22,12 +22,30 @@ enum Turn {
     At(PageNo),
 }
 
-/// Walks a client's call, whose key has this pseudokey, from the page of number `at` to its answer: hops,
-/// before each of which the gate is asked; after `MustSplit` a split of that page and a hop at the half of
-/// the pseudokey, or there again where it wasn't split; after `Stray` a hop at page 0. Refused: `Held`
-/// where the gate says no, or after 1,000,000 turns; at any point `Memory` and `Page`. The call has then
-/// changed nothing; splits made on the way stay.
+/// Walks a client's call from the page of number `at` to its answer: hops, before each of which the gate is
+/// asked; after `MustSplit` a split of that page and a hop at the half of the call's pseudokey, or there
+/// again where it wasn't split; after `Stray` a hop at page 0. Refused: `Held` where the gate says no, or
+/// after 1,000,000 turns; at any point `Memory` and `Page`. The call has then changed nothing; splits made
+/// on the way stay.
 pub fn walk_steps<S: Steps, G: Gate>(
+    steps: &mut S,
+    gate: &G,
+    at: PageNo,
+    client: u32,
+    call: &Call,
+) -> Result<Reply, AskFault>
+    requires { MayBeAsked S.serves steps.old call.now }
+    ensures walk { IsCallWalked S.step S.serves (G.may gate.now client) steps.old at client call.now result steps.new }
+    ensures walked { S.walked steps.old (G.may gate.now client) at client call.now result steps.new }
+    ensures serves { ServesOn S.serves steps.old steps.new }
+{
+    steps.walks_are_walked(gate);
+    let pseudokey = steps.pseudokey(call);
+    walk_hashed(steps, gate, at, client, call, pseudokey)
+}
+
+// The walk of a call whose key has this pseudokey.
+fn walk_hashed<S: Steps, G: Gate>(
     steps: &mut S,
     gate: &G,
     at: PageNo,
@@ -65,7 +83,7 @@ fn take_turn<S: Steps>(
     ensures turn { IsTurn S.step steps.old page client call.now pseudokey result steps.new }
     ensures serves { ServesOn S.serves steps.old steps.new }
 {
-    match steps.hop(page, client, call, pseudokey) {
+    match steps.hop_hashed(page, client, call, pseudokey) {
         Ok(Hop::Done(reply)) => Ok(Turn::Answered(reply)),
         Ok(Hop::Moved(next)) => Ok(Turn::At(next)),
         Ok(Hop::MustSplit) => split_full(steps, page, pseudokey),

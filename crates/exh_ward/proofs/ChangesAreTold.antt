@@ -93,7 +93,7 @@ refused_so (Err fault) P Q is gives = gives fault is
 
 -- ---- refusals
 
--- where the version at the prefix isn't the greatest, only the store refuses
+-- where the number at the prefix isn't the greatest, only the store refuses
 pub telling_stores : {K : Type 0} (w : WardState K) (prefix : List Bool) → (number_at w.table prefix ≡ 2 ^ 32 - 1 → ⊥) → (fault : WardFault) → IsTellingFault w prefix fault → IsStoreFault fault
 telling_stores w prefix less NoPage is = is
 telling_stores w prefix less NotLive is = is

@@ -83,6 +83,6 @@ module _ {K : Type 0} {pseudo : List ℕ → ℕ} {takes : Page → Type 0} {own
   ]
   found_forward (Some right) is = ready.forwards right (page_full w.pages low right ((kept.indexed low right).0 (sym is)).1)
 
-  -- the version at the prefix is even
+  -- the number at the prefix is even
   pub even_here : (number_at w.table prefix) % 2 ≡ 0
   even_here = ready.even

@@ -29,6 +29,8 @@ pub mod SplitsAreSteps
 pub mod Heads
 pub mod MergesAreSteps
 pub mod BuddySums
+-- distances: the first live page, and the count from there
+pub mod FirstSteps
 -- splits and merges as functions
 pub mod PlacedPages
 pub mod SplitsAreComputed

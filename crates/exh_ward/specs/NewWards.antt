@@ -7,10 +7,10 @@ use Rattle.exh_prefix.specs.Leading.{ward_prefix}
 use Rattle.exh_settings.specs.declared.file_settings.FileSettings.{FileSettings}
 use Rattle.exh_ward.specs.WardState.{WardState}
 
--- the ward of a number: one page, of all its keys, with no record
-abbrev pub new_ward : {K : Type 0} → FileSettings K → ℕ → WardState K
-new_ward settings number = record {
-  pages = Live (ward_prefix settings.ward_bits number) None [] ∷ [];
+-- a ward of one page, of all its keys, with no record
+abbrev pub empty_ward : {K : Type 0} → ℕ → ℕ → ℕ → K → WardState K
+empty_ward cap ward_bits number keyer = record {
+  pages = Live (ward_prefix ward_bits number) None [] ∷ [];
   base = empty;
   has_base = true;
   journal = [];
@@ -18,11 +18,15 @@ new_ward settings number = record {
   notices = [];
   table = empty;
   failures = 0;
-  cap = settings.cap;
-  ward_bits = settings.ward_bits;
+  cap = cap;
+  ward_bits = ward_bits;
   number = number;
-  keyer = settings.keyer;
+  keyer = keyer;
 }
+
+-- the ward of a number
+abbrev pub new_ward : {K : Type 0} → FileSettings K → ℕ → WardState K
+new_ward settings number = empty_ward settings.cap settings.ward_bits number settings.keyer
 
 -- one for each number, in order
 abbrev pub new_wards : {K : Type 0} → FileSettings K → List (WardState K)

@@ -1,6 +1,7 @@
 //! A ward of an extendible hash file: its pages, the hops of calls over them, and its history.
 #![tactic(auto)]
 
+pub use exh_calls::{Base, Call, Entries, Journal, JournalEntry, Pairs, Reply};
 pub use hop::Hop;
 pub use laws::{
     answers_keep_legal, hops_are_computed, hops_have_outcomes, merges_are_computed,

@@ -28,7 +28,15 @@ pub fn new_wards<P: Pages + Drop, K: Keyer, M: StoreMaker<P, K>>(
     for number in 0..1 << settings.ward_bits {
         let first = first_page(alloc, settings.ward_bits, number);
         let store = maker.first(alloc, settings.keyer, first)?;
-        wards.push(Ward::new(alloc, store, settings, number))?;
+        let ward = Ward::new(
+            alloc,
+            store,
+            settings.cap,
+            settings.ward_bits,
+            number,
+            settings.keyer,
+        );
+        wards.push(ward)?;
     }
     Ok(wards)
 }

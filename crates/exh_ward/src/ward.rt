@@ -5,7 +5,7 @@ ghost use Rattle.exh_page.specs.declared.page.Page.{Page};
 ghost use Rattle.exh_page.specs.declared.page.Page.TheVariants.{Live};
 ghost use Rattle.exh_page.specs.Page.{IsWellFormed};
 ghost use Rattle.exh_prefix.specs.Leading.{ward_prefix};
-ghost use Rattle.exh_ward.specs.NewWards.{new_ward};
+ghost use Rattle.exh_ward.specs.NewWards.{empty_ward};
 ghost use Rattle.exh_ward.specs.WardState.{IsSoundWard, own_prefix};
 ghost use Rattle.exh_prefix.specs.declared.prefix.TheConstants.{WARD_BITS_LIMIT};
 
@@ -16,7 +16,6 @@ use exh_legal::{PageIndex, lone_pages_are_legal};
 use exh_notice::Notice;
 use exh_page::{CAP_LIMIT, Page, Records};
 use exh_prefix::Prefix;
-use exh_settings::FileSettings;
 use exh_stores::Pages;
 use exh_table::Table;
 use std::alloc::Global;
@@ -24,6 +23,7 @@ use std::marker::Model;
 
 mod buddy_sum;
 mod change;
+mod distance;
 mod from_pages;
 mod history;
 mod hop;
@@ -76,32 +76,28 @@ impl<P: Pages + Drop, K: Keyer> Model for Ward<P, K> {
 }
 
 impl<P: Pages + Drop, K: Keyer> Ward<P, K> {
-    /// Ward `number` of a new file of these settings, over a store of its first page alone (`first_page`).
-    /// `number` is the leading bits of its pseudokeys as a number. It takes no memory.
-    pub fn new(alloc: Global, store: P, settings: FileSettings<K>, number: u8) -> Ward<P, K>
-        requires first { P.pages store ≡ Live (ward_prefix settings.ward_bits number) None [] ∷ [] }
-        requires takes { (page : Page) → IsWellFormed (K.pseudokey_of settings.keyer) page → P.takes store page }
-        requires some { 1 ≤ settings.cap }
-        requires most { settings.cap ≤ CAP_LIMIT }
-        requires bits { settings.ward_bits ≤ WARD_BITS_LIMIT }
-        requires number { number < 2 ^ settings.ward_bits }
-        ensures empty { result ≡ record (new_ward settings number) { failures = P.failures store } }
+    /// Ward `number` of a new file, over a store of its first page alone (`first_page`). A page holds
+    /// at most `cap` records, 1 to 16; the file is cut into 2^`ward_bits` wards, by 0 to 4 leading bits
+    /// of pseudokeys; `number` is those bits as a number. It takes no memory.
+    pub fn new(alloc: Global, pages: P, cap: u8, ward_bits: u8, number: u8, keyer: K) -> Ward<P, K>
+        requires first { P.pages pages ≡ Live (ward_prefix ward_bits number) None [] ∷ [] }
+        requires takes { (page : Page) → IsWellFormed (K.pseudokey_of keyer) page → P.takes pages page }
+        requires some { 1 ≤ cap }
+        requires most { cap ≤ CAP_LIMIT }
+        requires bits { ward_bits ≤ WARD_BITS_LIMIT }
+        requires number { number < 2 ^ ward_bits }
+        ensures empty { result ≡ record (empty_ward cap ward_bits number keyer) { failures = P.failures pages } }
         ensures sound { IsSoundWard K.pseudokey_of result }
     {
         lone_pages_are_legal();
-        let FileSettings {
-            cap,
-            ward_bits,
-            keyer,
-        } = settings;
-        let seen = Seen::of(&store);
+        let seen = Seen::of(&pages);
         Ward {
             cap: cap as usize,
             ward_bits,
             number,
             keyer,
             own: own_prefix(ward_bits, number),
-            store,
+            store: pages,
             index: PageIndex::new(alloc),
             base: Some(Base::new(alloc)),
             seen,

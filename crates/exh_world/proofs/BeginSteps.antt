@@ -21,7 +21,7 @@ use Rattle.exh_calls.specs.Call.{key_of}
 use Rattle.exh_calls.specs.declared.call.Call.{Call}
 use Rattle.exh_world.specs.InFlight.{Requests, request_named}
 use Rattle.exh_world.specs.WorldKept.{IsKeptWorld}
-use Rattle.exh_route.specs.Distance.{IsDistance}
+use Rattle.exh_ward.specs.Distance.{IsDistance}
 use Rattle.exh_ward.specs.WardState.{WardState}
 use Rattle.exh_world.specs.Step.{request_begun, HasBegun}
 use Rattle.exh_prefix.specs.Leading.{ward_of}

@@ -9,7 +9,7 @@ use Rattle.exh_table.specs.Table.{TableMap, IsEntryOf, told_by}
 use Rattle.exh_calls.specs.Call.{key_of}
 use Rattle.exh_calls.specs.declared.call.Call.{Call}
 use Rattle.exh_ward.specs.WardState.{WardState, own_prefix}
-use Rattle.exh_route.specs.Distance.{IsDistance}
+use Rattle.exh_ward.specs.Distance.{IsDistance}
 use Rattle.exh_route.specs.DistanceLaws.{IsTableWithin, LateTablesAreNear, NamesPages}
 use Rattle.exh_route.specs.RouteLaws.{DistancesAreFew, OneDistance}
 use Rattle.exh_world.specs.InFlight.{request_named}

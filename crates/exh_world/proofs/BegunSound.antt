@@ -16,7 +16,7 @@ use Rattle.exh_ward.specs.WardState.{WardState, own_prefix}
 use Rattle.exh_calls.specs.declared.call.Call.{Call}
 use Rattle.exh_world.specs.InFlight.{Requests}
 use Rattle.exh_world.specs.Sound.{LeadsRightIn, IsOnTheWay, IsSoundWorld}
-use Rattle.exh_route.specs.Distance.{IsDistance}
+use Rattle.exh_ward.specs.Distance.{IsDistance}
 use Rattle.exh_world.specs.Step.{pseudokey_in, request_begun}
 use Rattle.exh_prefix.specs.Leading.{ward_of, ward_prefix}
 use Rattle.exh_world.specs.World.{WorldState, changes_in, numbered}

@@ -13,7 +13,7 @@ use Rattle.exh_calls.specs.Call.{key_of}
 use Rattle.exh_ward.specs.HopTable.{HopOf}
 use Rattle.exh_ward.specs.WardState.{WardState, own_prefix}
 use Rattle.exh_ward.specs.declared.hop.Hop.TheVariants as hops
-use Rattle.exh_route.specs.Distance.{IsDistance}
+use Rattle.exh_ward.specs.Distance.{IsDistance}
 use Rattle.exh_route.specs.DistanceLaws.{StepsAddChanges}
 use Rattle.exh_route.specs.RouteLaws.{CanGoOn, MovesComeNearer, RunsKeepWardsSound}
 use Rattle.exh_world.specs.StepEffectLemmas.{on_effect, on_refusal}

@@ -16,7 +16,7 @@ use Rattle.exh_ward.specs.WardState.{WardState, IsSoundWard, IsAnswered, own_pre
 use Rattle.exh_ward.specs.declared.hop.Hop.TheVariants.{Done, Moved, Stray}
 use Rattle.exh_calls.specs.declared.reply.Reply.{Reply}
 use Rattle.exh_ward.specs.AnswerLemmas.{places_answered}
-use Rattle.exh_route.specs.Distance.{IsDistance}
+use Rattle.exh_ward.specs.Distance.{IsDistance}
 use Rattle.exh_route.specs.DistanceLaws.{IsTableWithin, StepsAddChanges}
 use Rattle.exh_route.specs.RouteLaws.{CanGoOn, MovesComeNearer}
 use Rattle.exh_route.specs.WardRun.{HopAt}

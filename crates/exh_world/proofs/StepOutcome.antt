@@ -23,7 +23,7 @@ use Rattle.exh_ward.specs.declared.hop.Hop.{Hop}
 use Rattle.exh_ward.specs.declared.hop.Hop.TheVariants.{Done, Moved, MustSplit, Stray}
 use Rattle.exh_ward.specs.declared.ward_fault.WardFault.{WardFault}
 use Rattle.exh_ward.specs.declared.ward_fault.WardFault.TheVariants.{Page}
-use Rattle.exh_route.specs.Distance.{IsDistance}
+use Rattle.exh_ward.specs.Distance.{IsDistance}
 use Rattle.exh_route.specs.DistanceFunction.{distance_of}
 use Rattle.exh_route.specs.RouteLaws.{CanGoOn, DistancesAreComputed, GetsGoHome}
 use Rattle.exh_world.specs.InFlight.{request_named, requests_after}

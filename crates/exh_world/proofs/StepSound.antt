@@ -11,7 +11,7 @@ use Rattle.exh_ward.specs.SplitStep.{IsSplitStep}
 use Rattle.exh_calls.specs.declared.call.Call.{Call}
 use Rattle.exh_ward.specs.declared.hop.Hop.{Hop}
 use Rattle.exh_ward.specs.declared.hop.Hop.TheVariants.{Done, Moved, MustSplit, Stray}
-use Rattle.exh_route.specs.Distance.{IsDistance}
+use Rattle.exh_ward.specs.Distance.{IsDistance}
 use Rattle.exh_route.specs.DistanceLaws.{StepsAddChanges}
 use Rattle.exh_route.specs.RouteLaws.{MovesComeNearer}
 use Rattle.exh_world.specs.InFlight.{Requests, request_named, requests_after}

@@ -4,7 +4,7 @@ use Rattle.exh_prefix.specs.declared.prefix.TheConstants.{LIMIT}
 use Rattle.exh_table.specs.Table.{TableMap}
 use Rattle.exh_calls.specs.declared.call.Call.{Call}
 use Rattle.exh_ward.specs.WardState.{WardState, own_prefix}
-use Rattle.exh_route.specs.Distance.{IsDistance, live_pages}
+use Rattle.exh_ward.specs.Distance.{IsDistance, live_pages}
 use Rattle.exh_route.specs.DistanceLaws.{IsTableWithin}
 use Rattle.exh_world.specs.InFlight.{request_named}
 use Rattle.exh_world.specs.Sound.{IsSoundWorld}

@@ -13,7 +13,7 @@ use Rattle.exh_ward.specs.SplitStep.{IsSplitStep}
 use Rattle.exh_calls.specs.declared.call.Call.{Call}
 use Rattle.exh_ward.specs.declared.ward_fault.WardFault.{WardFault}
 use Rattle.exh_ward.specs.declared.ward_fault.WardFault.TheVariants.{Memory, Page}
-use Rattle.exh_route.specs.Distance.{IsDistance}
+use Rattle.exh_ward.specs.Distance.{IsDistance}
 use Rattle.exh_world.specs.InFlight.{request_named, requests_after}
 use Rattle.exh_event.specs.EventProgress.{hop_in}
 use Rattle.exh_world.specs.RequestProgress.{progress_of}

@@ -23,34 +23,35 @@ use exh_keyer::Keyer;
 use exh_legal::{PageIndex, entries_are_few, index_of};
 use exh_page::{CAP_LIMIT, Page, Records};
 use exh_prefix::PageNo;
-use exh_settings::FileSettings;
 use exh_stores::Pages;
 use exh_table::{Table, own_entries_give_the_table};
 use std::alloc::{AllocError, Global};
 
 impl<P: Pages + Drop, K: Keyer> Ward<P, K> {
-    /// Ward `number` of a file of these settings that was written: its pages, and the table of the changes that they
+    /// Ward `number` of a file that was written: its pages, and the table of the changes that they
     /// went through, which is its start table. They are a legal ward for that table and no change
     /// since. Its base is the map of its pages, its journal is empty, and its notices go on after the
-    /// changes that the table tells of. `number` is as in `new`.
+    /// changes that the table tells of. `cap`, `ward_bits` and `number` are as in `new`.
     ///
     /// It takes memory for a copy of the table, for each page but page 0 and for each record:
     /// `WardFault::Memory` where that is refused. Each page is fetched once, which the store may
     /// refuse as it does. Nothing else is refused.
     pub fn from_pages(
         alloc: Global,
-        settings: FileSettings<K>,
+        cap: u8,
+        ward_bits: u8,
         number: u8,
         pages: P,
         table: Table,
+        keyer: K,
     ) -> Result<Ward<P, K>, WardFault>
-        requires legal { IsWard settings.cap (K.pseudokey_of settings.keyer) (ward_prefix settings.ward_bits number) table [] table (P.pages pages) }
-        requires takes { (page : Page) → IsWellFormed (K.pseudokey_of settings.keyer) page → P.takes pages page }
-        requires some { 1 ≤ settings.cap }
-        requires most { settings.cap ≤ CAP_LIMIT }
-        requires bits { settings.ward_bits ≤ WARD_BITS_LIMIT }
-        requires number { number < 2 ^ settings.ward_bits }
-        ensures ward { IfOk result (λ ward. ward ≡ record { pages = P.pages pages; base = map_of (P.pages pages); has_base = true; journal = []; start = table; notices = []; table = table; failures = P.failures pages; cap = settings.cap; ward_bits = settings.ward_bits; number = number; keyer = settings.keyer }) }
+        requires legal { IsWard cap (K.pseudokey_of keyer) (ward_prefix ward_bits number) table [] table (P.pages pages) }
+        requires takes { (page : Page) → IsWellFormed (K.pseudokey_of keyer) page → P.takes pages page }
+        requires some { 1 ≤ cap }
+        requires most { cap ≤ CAP_LIMIT }
+        requires bits { ward_bits ≤ WARD_BITS_LIMIT }
+        requires number { number < 2 ^ ward_bits }
+        ensures ward { IfOk result (λ ward. ward ≡ record { pages = P.pages pages; base = map_of (P.pages pages); has_base = true; journal = []; start = table; notices = []; table = table; failures = P.failures pages; cap = cap; ward_bits = ward_bits; number = number; keyer = keyer }) }
         ensures sound { IfOk result (IsSoundWard K.pseudokey_of) }
         ensures fault { IfErr result IsStoreFault }
         ensures page_fault { IfErr result (λ fault. fault ≡ OutOfReach → (left : P) × (P.failures pages < P.failures left)) }
@@ -61,11 +62,6 @@ impl<P: Pages + Drop, K: Keyer> Ward<P, K> {
         let (index, pairs) = read_pages(alloc, &mut store)?;
         let start = table.try_clone()?;
         let seen = Seen::of(&store);
-        let FileSettings {
-            cap,
-            ward_bits,
-            keyer,
-        } = settings;
         Ok(Ward {
             cap: cap as usize,
             ward_bits,

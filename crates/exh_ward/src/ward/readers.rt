@@ -10,6 +10,7 @@ ghost use Rattle.exh_page.specs.PageHead.{head_of};
 ghost use Rattle.exh_legal.specs.LegalLaws.{NamesHome};
 ghost use Rattle.exh_calls.specs.Undone.{map_before};
 ghost use Rattle.exh_legal.specs.Pages.{IsAt, map_of};
+ghost use Rattle.exh_settings.specs.FileSettings.{AreInRange};
 ghost use Rattle.exh_ward.specs.WardFault.{PageRefused, CountsFailures};
 ghost use Rattle.exh_ward.specs.WardState.{IsSoundWard, IsUnchanged, notices_above, own_prefix};
 
@@ -22,6 +23,7 @@ use exh_legal::{pages_are_few, walks_name_homes};
 use exh_notice::Notice;
 use exh_page::{Key, Page, PageHead};
 use exh_prefix::PageNo;
+use exh_settings::FileSettings;
 use exh_stores::Pages;
 use exh_table::Table;
 
@@ -85,6 +87,18 @@ impl<P: Pages + Drop, K: Keyer> Ward<P, K> {
         ensures { result ≡ self.now.keyer }
     {
         self.keyer
+    }
+
+    /// The settings of the file that the ward is of. It takes no memory.
+    pub fn settings(&self) -> FileSettings<K>
+        ensures settings { result ≡ record { cap = self.now.cap; ward_bits = self.now.ward_bits; keyer = self.now.keyer } }
+        ensures range { AreInRange result }
+    {
+        FileSettings {
+            cap: self.cap as u8,
+            ward_bits: self.ward_bits,
+            keyer: self.keyer,
+        }
     }
 
     /// How many pages the ward has. It takes no memory.

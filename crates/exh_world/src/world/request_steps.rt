@@ -11,7 +11,7 @@ use exh_calls::Call;
 use exh_event::{Outcome, Progress, StepFault};
 use exh_keyer::Keyer;
 use exh_prefix::ward_number;
-use exh_route::{distance, moves_come_nearer};
+use exh_route::moves_come_nearer;
 use exh_stores::Pages;
 
 impl<P: Pages + Drop, K: Keyer> World<P, K> {
@@ -40,7 +40,7 @@ impl<P: Pages + Drop, K: Keyer> World<P, K> {
         let ward = ward_number(self.ward_bits, pseudokey);
         let page = self.copies.copy(at).walk(pseudokey);
         let state = &mut self.wards[usize::from(ward)];
-        let distance = distance(state, page, pseudokey)?;
+        let distance = state.distance(page, pseudokey)?;
         let changes = changes_since(state, self.noticed[usize::from(ward)]);
         let request = Request {
             client,

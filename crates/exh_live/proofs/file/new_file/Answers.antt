@@ -17,20 +17,14 @@ new_wards-requires-clause-most g c = c.requires.config.cap
 pub new_wards-requires-clause-bits : goal.new_wards-requires-clause-bits
 new_wards-requires-clause-bits g c = c.requires.config.ward_bits
 
-pub new-requires-clause-bits : goal.new-requires-clause-bits
-new-requires-clause-bits g c = c.requires.config.ward_bits
-
 pub new-requires-clause-wards : goal.new-requires-clause-wards
-new-requires-clause-wards g c = answered_nothing _ _ c.in_ok-wards.ensures.wards
+new-requires-clause-wards g c = (_, answered_nothing _ _ c.in_ok-wards.ensures.wards, c.requires.hashed)
 
 pub new-requires-clause-answers : goal.new-requires-clause-answers
 new-requires-clause-answers g c = c.requires.answers
 
 pub new-requires-clause-entries : goal.new-requires-clause-entries
 new-requires-clause-entries g c = c.requires.entries
-
-pub new-requires-clause-hashed : goal.new-requires-clause-hashed
-new-requires-clause-hashed g c = c.requires.hashed
 
 pub returns-in_err-wards-clause-settings : goal.returns-in_err-wards-clause-settings
 returns-in_err-wards-clause-settings g c = IfOk-from_err c.from_residual.result _ c.from_residual.ensures.0
@@ -39,7 +33,9 @@ pub returns-in_err-wards-clause-seats : goal.returns-in_err-wards-clause-seats
 returns-in_err-wards-clause-seats g c = IfOk-from_err c.from_residual.result _ c.from_residual.ensures.0
 
 pub returns-clause-settings : goal.returns-clause-settings
-returns-clause-settings g c = IfOk-weaker c.new.result _ _ (λ file is. (ap (λ (made : LiveState ShaKeyer). made.cap) is, ap (λ (made : LiveState ShaKeyer). made.ward_bits) is)) c.new.ensures
+returns-clause-settings g c = IfOk-weaker c.new.result _ _ (λ file is.
+    let made = is _ (answered_nothing _ _ c.in_ok-wards.ensures.wards) in
+    (ap (λ (file : LiveState ShaKeyer). file.cap) made, ap (λ (file : LiveState ShaKeyer). file.ward_bits) made)) c.new.ensures
 
 pub returns-clause-seats : goal.returns-clause-seats
-returns-clause-seats g c = IfOk-weaker c.new.result _ _ (λ file is. ap (λ (made : LiveState ShaKeyer). made.seats) is) c.new.ensures
+returns-clause-seats g c = IfOk-weaker c.new.result _ _ (λ file is. ap (λ (file : LiveState ShaKeyer). file.seats) (is _ (answered_nothing _ _ c.in_ok-wards.ensures.wards))) c.new.ensures

@@ -1,4 +1,4 @@
-use Rattle.exh_route.proofs.DistancesFew.{distance_few}
+use Rattle.exh_ward.specs.DistanceLemmas.{distance_few}
 use Rattle.exh_route.proofs.laws.distances_are_few.Goals as goal
 
 pub returns : goal.returns

@@ -1,5 +1,5 @@
 use Rattle.std.proofs.Common.{refl}
-use Rattle.exh_ward.specs.declared.hop.Hop.TheVariants.{Done, Moved, MustSplit, Stray}
+use Rattle.exh_ward.specs.declared.hop.Hop.TheVariants.{Done, Moved, Stray}
 use Rattle.exh_walk.specs.CallerWalk.{fault_at}
 use Rattle.exh_walk.proofs.Turns.{hop_turn, hop_turn_as, split_turn, next_of_fault}
 use Rattle.exh_walk.proofs.walk.take_turn.Goals as goal

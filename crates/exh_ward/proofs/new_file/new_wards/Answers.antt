@@ -15,7 +15,7 @@ loop-number-init g c = no_ward_yet g.K.Keyer.pseudokey_of c.args.settings c.new-
 
 pub loop-number-preserved : goal.loop-number-preserved
 loop-number-preserved g c =
-    let ward = c.new in
+    let ward = c.new-ward in
     one_ward_more g.K.Keyer.pseudokey_of c.args.settings c.loop-number.number (g.P.Pages.failures c.in_ok-store.store) c.loop-number.wards.items c.push.new.self.items ward.result c.loop-number.invariant
     ward.ensures.empty c.in_ok-store.ensures.failures ward.ensures.sound c.in_ok-push.ensures.items
 
@@ -34,20 +34,20 @@ returns-in_err-store-clause-wards g c = IfOk-from_err c.from_residual.result _ c
 pub returns-in_err-store-clause-sound : goal.returns-in_err-store-clause-sound
 returns-in_err-store-clause-sound g c = IfOk-from_err c.from_residual.result _ c.from_residual.ensures.0
 
-pub new-requires-clause-first : goal.new-requires-clause-first
-new-requires-clause-first g c = c.in_ok-store.ensures.pages ∙ ap (λ (page : Page). page ∷ []) c.first_page-first.ensures.page
+pub new-ward-requires-clause-first : goal.new-ward-requires-clause-first
+new-ward-requires-clause-first g c = c.in_ok-store.ensures.pages ∙ ap (λ (page : Page). page ∷ []) c.first_page-first.ensures.page
 
-pub new-requires-clause-takes : goal.new-requires-clause-takes
-new-requires-clause-takes g c = c.in_ok-store.ensures.takes
+pub new-ward-requires-clause-takes : goal.new-ward-requires-clause-takes
+new-ward-requires-clause-takes g c = c.in_ok-store.ensures.takes
 
-pub new-requires-clause-some : goal.new-requires-clause-some
-new-requires-clause-some g c = c.requires.some
+pub new-ward-requires-clause-some : goal.new-ward-requires-clause-some
+new-ward-requires-clause-some g c = c.requires.some
 
-pub new-requires-clause-most : goal.new-requires-clause-most
-new-requires-clause-most g c = c.requires.most
+pub new-ward-requires-clause-most : goal.new-ward-requires-clause-most
+new-ward-requires-clause-most g c = c.requires.most
 
-pub new-requires-clause-bits : goal.new-requires-clause-bits
-new-requires-clause-bits g c = c.requires.bits
+pub new-ward-requires-clause-bits : goal.new-ward-requires-clause-bits
+new-ward-requires-clause-bits g c = c.requires.bits
 
 pub returns-in_err-push-clause-wards : goal.returns-in_err-push-clause-wards
 returns-in_err-push-clause-wards g c = IfOk-from_err c.from_residual-in_err-push.result _ c.from_residual-in_err-push.ensures.0

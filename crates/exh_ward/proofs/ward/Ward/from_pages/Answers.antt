@@ -30,19 +30,19 @@ pub returns-clause-ward : goal.returns-clause-ward
 returns-clause-ward g c =
     let read = c.in_ok-index.ensures in
     made_seen (g.P.Pages.pages c.read_pages.new.store) (g.P.Pages.pages c.args.pages) c.from_pairs.result c.new.result.entries c.in_ok-start.start c.args.table c.new-2.result.items (g.P.Pages.failures c.read_pages.new.store) (g.P.Pages.failures c.args.pages)
-    c.args.settings.cap c.args.settings.ward_bits c.args.number c.args.settings.keyer
+    c.args.cap c.args.ward_bits c.args.number c.args.keyer
     read.pages (c.from_pairs.ensures ∙ ap fin.from_entries read.pairs) c.new.ensures c.in_ok-start.ensures c.new-2.ensures.items read.failures
 
 pub read_pages-requires : goal.read_pages-requires
-read_pages-requires g c = record { apart = apart_from (ward_prefix c.args.settings.ward_bits c.args.number) _ c.requires.legal.legal.legal.linked }
+read_pages-requires g c = record { apart = apart_from (ward_prefix c.args.ward_bits c.args.number) _ c.requires.legal.legal.legal.linked }
 
 pub index_of-requires : goal.index_of-requires
-index_of-requires g c = few_entries c.entries_are_few.ensures c.args.settings.ward_bits c.args.number c.requires.bits _ c.requires.legal
+index_of-requires g c = few_entries c.entries_are_few.ensures c.args.ward_bits c.args.number c.requires.bits _ c.requires.legal
 
 pub invariant_of-result : goal.invariant_of-result
 invariant_of-result g c =
     let read = c.in_ok-index.ensures in
-    kept_made c.args.settings.cap c.args.settings.ward_bits c.args.number _ c.args.settings.keyer _ (g.P.Pages.pages c.args.pages) c.args.table c.own_entries_give_the_table.ensures c.requires.legal
+    kept_made c.args.cap c.args.ward_bits c.args.number _ c.args.keyer _ (g.P.Pages.pages c.args.pages) c.args.table c.own_entries_give_the_table.ensures c.requires.legal
     (λ page formed. (read.takes page).0 (c.requires.takes page formed)) c.requires.bits c.requires.some c.requires.most
     read.index c.index_of.ensures.index c.index_of.ensures.few
     read.pages (c.from_pairs.ensures ∙ ap fin.from_entries read.pairs) c.new.ensures c.in_ok-start.ensures c.new-2.ensures.items c.own_prefix.ensures

@@ -21,7 +21,7 @@ use Rattle.exh_world.proofs.world.World.begin.Goals.{In_ok-begin}
 use Rattle.exh_world.proofs.world.World.begin.Goals as goal
 
 abbrev HasBegunHere : (g : Over) → In_ok-begin g → WorldState g.row.K.Denot → Type 0
-HasBegunHere g c old = HasBegun g.K.Keyer.pseudokey_of old c.args.name c.args.client c.args.copy c.args.call.now c.ward_number-ward.result c.walk-page.result (with_ward c.self.inside c.from.result c.distance.new.ward c.begin.new.self)
+HasBegunHere g c old = HasBegun g.K.Keyer.pseudokey_of old c.args.name c.args.client c.args.copy c.args.call.now c.ward_number-ward.result c.walk-page.result (with_ward c.self.inside c.from.result c.distance.new.self c.begin.new.self)
 
 begun_here : (g : Over) (c : In_ok-begin g) → HasBegunHere g c (world_of c.self.inside)
 begun_here g c =
@@ -41,14 +41,14 @@ begun_here g c =
     let changes = c.changes_since-changes.ensures.count ∙ ap (λ (w : WardState g.row.K.Denot). length w.notices - c.index.result.now) same
     ∙ changes_are pseudokey_of i kept c.pseudo-pseudokey.result c.from.result at_is _ state_is c.from-2.result place_is c.index.result.now c.index.ensures
     ∙ ap (λ n. length (changes_in (world_of i) n)) c.from.ensures in
-    subst (HasBegun pseudokey_of (world_of i) c.args.name c.args.client c.args.copy c.args.call.now c.ward_number-ward.result c.walk-page.result) (sym (same_ward pseudokey_of i kept c.pseudo-pseudokey.result c.from.result at_is _ state_is c.distance.new.ward same c.begin.new.self))
+    subst (HasBegun pseudokey_of (world_of i) c.args.name c.args.client c.args.copy c.args.call.now c.ward_number-ward.result c.walk-page.result) (sym (same_ward pseudokey_of i kept c.pseudo-pseudokey.result c.from.result at_is _ state_is c.distance.new.self same c.begin.new.self))
     (begun pseudokey_of i c.args.name c.args.client c.args.copy c.args.call.now free c.copy.result.now.table there c.as_bytes.result.now bytes c.pseudo-pseudokey.result c.ward_number-ward.result c.walk-page.result
     c.pseudo-pseudokey.ensures c.ward_number-ward.ensures page
     _ (subst (λ n. slice_get i.wards.items n ≡ Some c.index_mut-state.result.now) c.from.ensures found) c.in_ok-distance.distance c.in_ok-distance.ensures.distance c.changes_since-changes.result changes c.begin.new.self c.in_ok-begin.ensures.ok)
 
 pub invariant_of-self-2 : goal.invariant_of-self-2
 invariant_of-self-2 g c =
-    (begun_kept g.K.Keyer.pseudokey_of c.self.inside c.args.name c.args.client c.args.copy c.args.call.now c.ward_number-ward.result c.walk-page.result (with_ward c.self.inside c.from.result c.distance.new.ward c.begin.new.self) refl refl c.self.invariant.0 (begun_here g c), c.self.invariant.1)
+    (begun_kept g.K.Keyer.pseudokey_of c.self.inside c.args.name c.args.client c.args.copy c.args.call.now c.ward_number-ward.result c.walk-page.result (with_ward c.self.inside c.from.result c.distance.new.self c.begin.new.self) refl refl c.self.invariant.0 (begun_here g c), c.self.invariant.1)
 
 pub returns-clause-step : goal.returns-clause-step
 returns-clause-step g c = subst (HasBegunHere g c) c.self.view_is (begun_here g c)
@@ -95,7 +95,7 @@ changes_since-changes-requires g c =
 pub invariant_of-self : goal.invariant_of-self
 invariant_of-self g c =
     let fits = at_within g.K.Keyer.pseudokey_of c.self.inside c.self.invariant.0 c.pseudo-pseudokey.result c.from.result (c.from.ensures ∙ c.ward_number-ward.ensures) in
-    (same_kept c.self.view_is c.self.invariant.0 fits c.index_mut-state.ensures.value c.distance.new.ward c.in_err-distance.ensures.err, c.self.invariant.1)
+    (same_kept c.self.view_is c.self.invariant.0 fits c.index_mut-state.ensures.value c.distance.new.self c.in_err-distance.ensures.err, c.self.invariant.1)
 
 pub returns-in_err-distance-clause-step : goal.returns-in_err-distance-clause-step
 returns-in_err-distance-clause-step g c =
@@ -108,7 +108,7 @@ returns-in_err-distance-clause-step g c =
     let at_is = c.from.ensures ∙ c.ward_number-ward.ensures in
     let fits = at_within pseudokey_of i kept c.pseudo-pseudokey.result c.from.result at_is in
     let lent = c.index_mut-state.ensures.value in
-    let new = changed.after c.self.view_is kept fits lent c.distance.new.ward in
+    let new = changed.after c.self.view_is kept fits lent c.distance.new.self in
     let free : request_named c.args.name i.in_flight ≡ None = sym c.get.ensures ∙ ap option_copied (none_there c.get.result (sym c.is_some.ensures ∙ c.if-is_some.false)) in
     let there : numbered i.copies.copies c.args.copy ≡ Some c.copy.result.now.table = (c.in-Some.ensures.some i.copies.copies (sym c.count.ensures)).2 ∙ c.copy.ensures.copy in
     let ward_bits = c.copy.ensures.array.bits ∙ c.self.invariant.1 in
@@ -118,24 +118,24 @@ returns-in_err-distance-clause-step g c =
     let reaches : ReachesInto pseudokey_of old event c.from.result =
     subst (λ (w : WorldState g.row.K.Denot). ReachesInto pseudokey_of w event c.from.result) c.self.view_is (free, ap is_some there, at_is ∙ ap (ward_of i.ward_bits) hashed) in
     of_refusal (λ result. Step pseudokey_of old event result new) c.from_residual.result fault c.from_residual.ensures
-    (leaves_refused c.self.view_is kept fits lent c.distance.new.ward c.in_err-distance.ensures.err (ReachesInto pseudokey_of old event) (IsRefused old event) reaches ℕ fault c.in_err-distance.ensures.failures
+    (leaves_refused c.self.view_is kept fits lent c.distance.new.self c.in_err-distance.ensures.err (ReachesInto pseudokey_of old event) (IsRefused old event) reaches ℕ fault c.in_err-distance.ensures.failures
     (λ other. inr (memory_of fault (no_page_missing pseudokey_of i kept c.pseudo-pseudokey.result c.from.result at_is _ lent c.copy.result.now.table (kept.sound.copies c.args.copy c.copy.result.now.table there) small c.walk-page.result page fault c.in_err-distance.ensures.refused) other)))
 
 pub returns-in_err-distance-clause-sound : goal.returns-in_err-distance-clause-sound
 returns-in_err-distance-clause-sound g c = (invariant_of-self g c).0.sound
 
 -- the world where memory for the request was refused
-unchanged : (g : Over) (c : goal.After-from_residual-in_err-begin g) → with_ward c.self.inside c.from.result c.distance.new.ward c.begin.new.self ≡ world_of c.self.inside
+unchanged : (g : Over) (c : goal.After-from_residual-in_err-begin g) → with_ward c.self.inside c.from.result c.distance.new.self c.begin.new.self ≡ world_of c.self.inside
 unchanged g c =
     let i = c.self.inside in
-    same_ward g.K.Keyer.pseudokey_of i c.self.invariant.0 c.pseudo-pseudokey.result c.from.result (c.from.ensures ∙ c.ward_number-ward.ensures) _ c.index_mut-state.ensures.value c.distance.new.ward c.in_ok-distance.ensures.ok c.begin.new.self
+    same_ward g.K.Keyer.pseudokey_of i c.self.invariant.0 c.pseudo-pseudokey.result c.from.result (c.from.ensures ∙ c.ward_number-ward.ensures) _ c.index_mut-state.ensures.value c.distance.new.self c.in_ok-distance.ensures.ok c.begin.new.self
     ∙ ap (with_requests i) c.in_err-begin.ensures.err
 
 pub returns-in_err-begin-clause-step : goal.returns-in_err-begin-clause-step
 returns-in_err-begin-clause-step g c =
     let i = c.self.inside in
     let event = Begin c.args.name c.args.client c.args.copy c.args.call.now in
-    let new = with_ward i c.from.result c.distance.new.ward c.begin.new.self in
+    let new = with_ward i c.from.result c.distance.new.self c.begin.new.self in
     of_refusal (λ result. Step g.K.Keyer.pseudokey_of c.args.self.now event result new) c.from_residual-in_err-begin.result Memory c.from_residual-in_err-begin.ensures (inl (unchanged g c ∙ c.self.view_is, inr refl))
 
 pub invariant_of-self-in_err-begin : goal.invariant_of-self-in_err-begin

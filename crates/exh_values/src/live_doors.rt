@@ -1,0 +1,224 @@
+//! The calls of a live file, of the copy of the directory that its caller looks at, of a walk and of a storm, each once
+//! as `exh_live` and `exh_copy` hand it out. By hand: of pages that hold two records, by keyer plain, the third put
+//! splits page 0 into pages 0, for keys that begin with bit 0, and 1; after two deletes both have one record.
+ghost use Rattle.std.specs.Prelude.{◌≡◌};
+ghost use Rattle.std.specs.FinMap as map;
+ghost use Rattle.exh_keyer.specs.Pseudokey.{plain_pseudokey};
+ghost use Rattle.exh_live_file.specs.declared.ledgers.TheConstants.{ANSWER_PARTS, ENTRY_PARTS};
+
+use exh_calls::{Call, Reply};
+use exh_copy::{CopyReader, CopyWriter, NewCopyFault, Start, new_copy};
+use exh_keyer::PlainKeyer;
+use exh_live::{
+    ANSWER_PARTS, Closed, Cursors, ENTRY_PARTS, Identity, LiveFile, OpenGate, Seat, StormConfig,
+    settle, storm, walk_steps,
+};
+use exh_notice::{Kind, Notice};
+use exh_page::{Key, Value};
+use exh_settings::FileSettings;
+use exh_stores::{PlainMaker, PlainPages};
+use exh_table::{Leaf, Table};
+use exh_ward::{Ward, new_wards};
+use std::alloc::Global;
+use std::marker::Brand;
+use std::sync::Wait;
+use std::sync::ledger::Blank;
+use std::test::*;
+
+type File<F> = LiveFile<PlainPages, PlainKeyer, F>;
+
+// The pseudokey `#80`.
+const HALF: u64 = 0x8000_0000_0000_0000;
+
+const SETTINGS: FileSettings<PlainKeyer> = FileSettings {
+    cap: 2,
+    ward_bits: 0,
+    keyer: PlainKeyer,
+};
+
+// The notice of the merge of both pages.
+fn merge() -> Notice {
+    Notice {
+        ward: 0,
+        index: 2,
+        prefix: Leaf::root().prefix,
+        number: 2,
+        kind: Kind::Merge,
+    }
+}
+
+fn put(key: &[u8], value: &[u8]) -> Option<(Call, Reply)> {
+    let key = Key::from_bytes(key).ok()?;
+    let value = Value::from_bytes(value).ok()?;
+    Some((Call::Put { key, value }, Reply::New))
+}
+
+fn get(key: &[u8], value: &[u8]) -> Option<(Call, Reply)> {
+    let key = Key::from_bytes(key).ok()?;
+    Some((Call::Get { key }, Reply::Is(Value::from_bytes(value).ok()?)))
+}
+
+fn delete(key: &[u8], value: &[u8]) -> Option<(Call, Reply)> {
+    let key = Key::from_bytes(key).ok()?;
+    Some((Call::Del { key }, Reply::Was(Value::from_bytes(value).ok()?)))
+}
+
+// Whether calls of the seat are answered so.
+fn are_answered<R: Wait, F: Identity, S: Start>(
+    rt: &R,
+    file: &File<F>,
+    seat: &mut Seat<F>,
+    copy: &mut CopyReader<S>,
+    lines: &[(Call, Reply)],
+) -> bool
+    ensures { copy.new.name ≡ copy.old.name }
+{
+    'lines: for (call, reply) in lines {
+        if file.ask(rt, seat, copy, call, &OpenGate) != Ok(*reply) {
+            return false;
+        }
+    }
+    true
+}
+
+// Three puts, whose split a courier carries to the copy; a get, and two deletes, after which a keeper merges once.
+fn are_rounds_made<R: Wait, F: Identity, S: Start>(
+    rt: &R,
+    alloc: Global,
+    file: &File<F>,
+    seat: &mut Seat<F>,
+    writer: &mut CopyWriter<S>,
+    copy: &mut CopyReader<S>,
+) -> Option<bool>
+    requires bits { file.now.ward_bits ≡ 0 }
+    requires own { copy.old.name ≡ writer.old.name }
+    ensures { copy.new.name ≡ writer.new.name }
+{
+    let puts = [put(b"\0", b"a")?, put(b"\x80", b"b")?, put(b"\x40", b"x")?];
+    let rest = [
+        get(b"\x80", b"b")?,
+        delete(b"\x40", b"x")?,
+        delete(b"\x80", b"b")?,
+    ];
+    let mut cursors = Cursors::new(alloc, 0, &Table::new(alloc)).ok()?;
+    let are_put = are_answered(rt, file, seat, copy, &puts);
+    let carried = file.courier_round(rt, writer, &mut cursors).ok()?;
+    copy.learn(writer.tell().ok()?);
+    let page = copy.look(HALF);
+    let are_gone = are_answered(rt, file, seat, copy, &rest);
+    let merges = file.keeper_round(rt, 0).ok()?;
+    Some(are_put && are_gone && (carried, page, merges) == (1, Some(1), 1))
+}
+
+// The notice of that merge, which a look doesn't show before it is published and learned.
+fn is_told<R: Wait, S: Start>(
+    rt: &R,
+    writer: &mut CopyWriter<S>,
+    copy: &mut CopyReader<S>,
+) -> Option<bool>
+    requires { copy.old.name ≡ writer.old.name }
+{
+    writer.take(&merge()).ok()?;
+    let before = copy.look(HALF);
+    writer.publish(rt).ok()?;
+    copy.learn(writer.tell().ok()?);
+    Some((before, copy.look(HALF)) == (Some(1), Some(0)))
+}
+
+// A file of one caller: what it leaves is settled.
+fn is_served<R: Wait, F: Identity, S: Start>(
+    rt: &R,
+    alloc: Global,
+    writer: &mut CopyWriter<S>,
+    copy: &mut CopyReader<S>,
+    answers: Blank,
+    entries: Blank,
+) -> Option<bool>
+    requires own { copy.old.name ≡ writer.old.name }
+    requires answers { (answers.name ≡ F.answers) × (answers.parts ≡ ANSWER_PARTS) }
+    requires entries { (entries.name ≡ F.entries) × (entries.parts ≡ ENTRY_PARTS) }
+    requires hashed { F.hashing ≡ plain_pseudokey }
+{
+    let wards = new_wards(alloc, &PlainMaker, SETTINGS).ok()?;
+    let mut file: File<F> = LiveFile::new(alloc, wards, answers, entries).ok()?;
+    let mut seat = file.seat().ok()?;
+    let are_made = are_rounds_made(rt, alloc, &file, &mut seat, writer, copy)?;
+    let is_told = is_told(rt, writer, copy)?;
+    let mut seats = Vec::new(alloc);
+    seats.push(seat).ok()?;
+    let Closed { wards, diaries } = file.close(seats).ok()?;
+    let answers = settle(&wards, &diaries).ok()?.answers;
+    Some(are_made && is_told && (wards.len(), diaries.len(), answers) == (1, 1, 6))
+}
+
+// The same, by a copy that is closed afterwards.
+fn with_copy<R: Wait, F: Identity, S: Start>(
+    rt: &R,
+    alloc: Global,
+    answers: Blank,
+    entries: Blank,
+) -> Option<bool>
+    requires copy { S.ward_bits ≡ 0 }
+    requires table { S.table ≡ map.empty }
+    requires answers { (answers.name ≡ F.answers) × (answers.parts ≡ ANSWER_PARTS) }
+    requires entries { (entries.name ≡ F.entries) × (entries.parts ≡ ENTRY_PARTS) }
+    requires hashed { F.hashing ≡ plain_pseudokey }
+{
+    match new_copy::<S>(alloc, 0, &Table::new(alloc), 1) {
+        Ok((mut writer, mut copies)) => {
+            let served = match copies.get_mut(0) {
+                Some(copy) => is_served::<R, F, S>(rt, alloc, &mut writer, copy, answers, entries),
+                None => None,
+            };
+            drop(writer.close(rt));
+            served
+        }
+        Err(NewCopyFault::Memory) => None,
+        Err(NewCopyFault::NoPlace(writer)) => {
+            drop(writer.close(rt));
+            None
+        }
+    }
+}
+
+fn live<R: Wait>(rt: &R, alloc: Global) -> Option<bool> {
+    let answers = Blank::new(ANSWER_PARTS);
+    let entries = Blank::new(ENTRY_PARTS);
+    with_copy::<R, Brand, Brand>(rt, alloc, answers, entries)
+}
+
+#[test]
+fn a_live_file(rt: HostRuntime) {
+    assert!(rt; live(&rt, rt.alloc()) == Some(true));
+}
+
+// A put over a ward by itself is one entry of its journal.
+fn walk(alloc: Global) -> Option<bool> {
+    let mut wards: Vec<Ward<PlainPages, PlainKeyer>> =
+        new_wards(alloc, &PlainMaker, SETTINGS).ok()?;
+    let ward = wards.first_mut()?;
+    let (call, reply) = put(b"\x80", b"b")?;
+    if !ward.covers(HALF) || ward.pseudokey(call.key()) != HALF {
+        return None;
+    }
+    let answer = walk_steps(ward, &OpenGate, 0, 7, &call);
+    Some(answer == Ok(reply) && ward.journal().len() == 1)
+}
+
+#[test]
+fn a_walk(rt: HostRuntime) {
+    assert!(rt; walk(rt.alloc()) == Some(true));
+}
+
+const STORM: StormConfig = StormConfig {
+    callers: 2,
+    calls: 10,
+    cap: 2,
+    ward_bits: 0,
+    copies: 2,
+};
+
+#[test]
+fn a_storm(rt: HostRuntime) {
+    assert!(rt; storm(&rt, rt.alloc(), &STORM, &OpenGate).ok() == Some(20));
+}

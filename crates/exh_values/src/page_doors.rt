@@ -1,0 +1,126 @@
+//! Pages, their images and stores, and a ward over one, by the calls that a program makes of them: of one record under the
+//! key of the byte 80 hexadecimal, whose bits under keyer plain begin with 1.
+
+use exh_codec::{BLOCK_LEN, ImageFault, decode_page, decode_page_v1, seal};
+use exh_frames::{FailingPages, FramedPages, Pages, PagesFault, PlainPages};
+use exh_keyer::PlainKeyer;
+use exh_notice::{ENTRY_IMAGE_LEN, Entry, Kind, NOTICE_IMAGE_LEN, Notice, NoticeFault, PageNo};
+use exh_page::{Key, Page, PageHead, Record, Records, Value};
+use exh_prefix::Prefix;
+use exh_ward::{Ward, first_page};
+use std::alloc::Global;
+
+const PSEUDOKEY: u64 = 1 << 63;
+
+// The image of a notice: of the split of a prefix of 17 bits, one, zeros and one, whose right page is 9.
+const SPLIT_AT_17: [u8; NOTICE_IMAGE_LEN] = [
+    0, 1, 17, 0, 0x80, 0, 0x80, 0, 0, 0, 0, 3, 0, 0, 0, 9, 0, 0, 0, 0, 0, 0, 0, 5,
+];
+
+// Whether a page gives back what is put into it, and its copy keeps what is taken out of it.
+fn keeps_a_record(alloc: Global) -> Option<bool> {
+    let key = Key::from_bytes(b"\x80").ok()?;
+    let (old, new) = (
+        Value::from_bytes(b"b").ok()?,
+        Value::from_bytes(b"bb").ok()?,
+    );
+    let mut page = Page::Live {
+        prefix: Prefix::new(0, 0)?,
+        right: None,
+        records: Records::new(alloc),
+    };
+    let record = |value: Value| Record {
+        pseudokey: PSEUDOKEY,
+        key,
+        value,
+    };
+    let is_put = page.put(record(old)).ok()? == None && page.put(record(new)).ok()? == Some(old);
+    let mut copy = page.try_clone().ok()?;
+    let is_taken = copy.remove(PSEUDOKEY, &key) == Some(new)
+        && copy.remove(PSEUDOKEY, &key) == None;
+    Some(
+        is_put
+            && is_taken
+            && page.find(PSEUDOKEY, &key) == Some(new)
+            && copy.find(PSEUDOKEY, &key) == None,
+    )
+}
+
+// The block of an empty live page of a prefix of 17 bits, ones, with no right link.
+fn block_of_17_bits() -> [u8; BLOCK_LEN] {
+    let mut block = [0; BLOCK_LEN];
+    block[0] = 1;
+    block[1] = 17;
+    for byte in 4..10 {
+        block[byte] = 0xff;
+    }
+    block[10] = 0x80;
+    seal(&mut block);
+    block
+}
+
+// Whether the block is read in the version that is written, and refused in the first, whose prefixes have at most 16 bits;
+// and the same of an entry's image.
+fn reads_each_version(alloc: Global) -> Option<bool> {
+    let block = block_of_17_bits();
+    let page = decode_page(alloc, &PlainKeyer, &block).ok()?;
+    let prefix = Prefix::new(17, 0xffff_8000_0000_0000)?;
+    let head = PageHead::Live {
+        prefix,
+        right: None,
+        count: 0,
+    };
+    let is_page = page.head() == head
+        && matches!(
+            decode_page_v1(alloc, &PlainKeyer, &block),
+            Err(ImageFault::Padding)
+        );
+    let notice = Notice {
+        ward: 0,
+        index: 5,
+        prefix: Prefix::new(17, 0x8000_8000_0000_0000)?,
+        number: 3,
+        kind: Kind::Split { right: 9 },
+    };
+    let front = SPLIT_AT_17.first_chunk::<ENTRY_IMAGE_LEN>()?;
+    Some(
+        is_page
+            && Notice::from_image(&SPLIT_AT_17) == Ok(notice)
+            && Entry::from_image(front) == Ok((0, notice.prefix, notice.entry()))
+            && matches!(Entry::from_image_v1(front), Err(NoticeFault::Padding)),
+    )
+}
+
+// Whether stores of images give their pages back, and one of which the first call fails gives one then.
+fn lends_its_pages(alloc: Global) -> Option<bool> {
+    let mut pages = Vec::new(alloc);
+    pages.push(first_page(alloc, 1, 1)).ok()?;
+    let mut new = FramedPages::new(alloc, first_page(alloc, 0, 0), PlainKeyer, 64).ok()?;
+    let mut given = FramedPages::from_pages(alloc, pages, PlainKeyer, 1).ok()?;
+    let mut failing = FailingPages::new(PlainPages::new(alloc, first_page(alloc, 0, 0)).ok()?, 1);
+    let has_pages = new.get(0).ok()?.low() == 0 && given.get(0).ok()?.low() == PSEUDOKEY;
+    let has_failed = matches!(failing.get(0), Err(PagesFault::Page)) && failing.failures() == 1;
+    Some(has_pages && has_failed && failing.get(0).ok()?.low() == 0 && failing.count() == 1)
+}
+
+// Whether each page of a new ward is as far from a key as it is: none but page 0 is there.
+fn tells_distances(alloc: Global) -> Option<bool> {
+    let store = PlainPages::new(alloc, first_page(alloc, 0, 0)).ok()?;
+    let mut ward = Ward::new(alloc, store, 2, 0, 0, PlainKeyer);
+    let first: PageNo = 0;
+    Some(
+        ward.covers(PSEUDOKEY)
+            && ward.distance(first, PSEUDOKEY) == Ok(0)
+            && ward.buddy_sum(first) == Ok(None)
+            && ward.distance(1, PSEUDOKEY).is_err(),
+    )
+}
+
+#[test]
+fn doors(rt: HostRuntime) {
+    let alloc = rt.alloc();
+    assert_eq!(rt; keeps_a_record(alloc), Some(true));
+    assert_eq!(rt; reads_each_version(alloc), Some(true));
+    assert_eq!(rt; lends_its_pages(alloc), Some(true));
+    assert_eq!(rt; tells_distances(alloc), Some(true));
+}
