@@ -15,9 +15,8 @@ use exh_fixtures::{Asked, Difference, Part, Run, same};
 use exh_keyer::AnyKeyer;
 use exh_notice::Notice;
 use exh_script::Run as Script;
-use exh_settings::FileSettings;
+use exh_settings::Config;
 use exh_stores::PlainPages;
-use exh_text::Config;
 use exh_ward::{Ward, WardFault};
 use exh_world::World;
 use std::alloc::{AllocError, Global};
@@ -43,16 +42,16 @@ pub(crate) fn run(run: &mut Run) -> Result<(), Difference> {
 
 // A file of one ward, of pages of two records.
 fn settings(copies: u32) -> Config<AnyKeyer>
-    ensures cap { result.settings.cap ≡ 2 }
-    ensures bits { result.settings.ward_bits ≡ 0 }
-    ensures keyer { result.settings.keyer ≡ Plain }
+    ensures cap { result.cap ≡ 2 }
+    ensures bits { result.ward_bits ≡ 0 }
+    ensures keyer { result.keyer ≡ Plain }
 {
-    let settings = FileSettings {
+    Config {
         cap: 2,
         ward_bits: 0,
+        copies,
         keyer: AnyKeyer::Plain,
-    };
-    Config { settings, copies }
+    }
 }
 
 fn new_script(alloc: Global) -> Result<PlainScript, AllocError>
@@ -60,7 +59,7 @@ fn new_script(alloc: Global) -> Result<PlainScript, AllocError>
     ensures settings { IfOk result (λ script. HasSettings script.world) }
 {
     Ok(Script {
-        world: World::new(alloc, &settings(2))?,
+        world: World::new(alloc, settings(2))?,
         tells_moves: true,
     })
 }
@@ -84,7 +83,7 @@ fn next_life(
     ensures { IfOk result (λ wards. AreItsWards wards.items) }
 {
     let script = Script {
-        world: World::from_wards(run.alloc, &settings(3), wards)?,
+        world: World::from_wards(run.alloc, settings(3), wards)?,
         tells_moves: true,
     };
     live(run, script, [&GONE, lines])
@@ -204,7 +203,7 @@ fn begin(name: u32, asked: Asked<'_>) -> Result<Event, Difference> {
 }
 
 fn turns_of(alloc: Global, events: &[Event]) -> Result<Vec<Turn>, AllocError> {
-    let mut world = World::new(alloc, &settings(2))?;
+    let mut world = World::new(alloc, settings(2))?;
     run_events(&mut world, events)
 }
 
@@ -217,7 +216,7 @@ fn run_events(world: &mut PlainWorld, events: &[Event]) -> Result<Vec<Turn>, All
 }
 
 fn take_turns(run: &mut Run, turns: &[Turn]) -> Result<(), AllocError> {
-    let mut world = World::new(run.alloc, &settings(2))?;
+    let mut world = World::new(run.alloc, settings(2))?;
     take_each(run, &mut world, turns)
 }
 

@@ -12,9 +12,8 @@ use exh_keyer::AnyKeyer;
 use exh_notice::Notice;
 use exh_prefix::PageNo;
 use exh_script::Run as Script;
-use exh_settings::FileSettings;
+use exh_settings::Config;
 use exh_stores::PlainPages;
-use exh_text::Config;
 use exh_ward::{Ward, WardFault};
 use exh_world::World;
 use std::alloc::Global;
@@ -27,12 +26,10 @@ const GREATEST: u32 = 4_294_967_295;
 const BEFORE: u32 = 4_294_967_293;
 
 const ONE_WARD: Config<AnyKeyer> = Config {
-    settings: FileSettings {
-        cap: 2,
-        ward_bits: 0,
-        keyer: AnyKeyer::Plain,
-    },
+    cap: 2,
+    ward_bits: 0,
     copies: 1,
+    keyer: AnyKeyer::Plain,
 };
 
 /// Takes the lines of files of one ward. The sums are those of pages in the end, each with its right buddy; there is no
@@ -82,7 +79,7 @@ fn one_ward(alloc: Global, changes: u32) -> Result<PlainScript, Difference>
     let ward = opened_ward(alloc, AnyKeyer::Plain, 0, 0, changes);
     wards.push_reserved(ward.map_err(refused)?);
     Ok(Script {
-        world: World::from_wards(alloc, &ONE_WARD, wards)?,
+        world: World::from_wards(alloc, ONE_WARD, wards)?,
         tells_moves: true,
     })
 }
@@ -135,15 +132,13 @@ fn two_wards(alloc: Global) -> Result<PlainScript, Difference>
     wards.push_reserved(opened_ward(alloc, keyer, 1, 0, GREATEST).map_err(refused)?);
     wards.push_reserved(opened_ward(alloc, keyer, 1, 1, BEFORE).map_err(refused)?);
     let config = Config {
-        settings: FileSettings {
-            cap: 2,
-            ward_bits: 1,
-            keyer,
-        },
+        cap: 2,
+        ward_bits: 1,
         copies: 2,
+        keyer,
     };
     Ok(Script {
-        world: World::from_wards(alloc, &config, wards)?,
+        world: World::from_wards(alloc, config, wards)?,
         tells_moves: true,
     })
 }

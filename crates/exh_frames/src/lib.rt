@@ -4,6 +4,7 @@
 pub use cache_size::{CACHE_SIZE_LIMIT, CacheFault};
 pub use framed_maker::FramedMaker;
 pub use framed_pages::FramedPages;
+pub use stores::{FileStore, MAKER};
 
 mod cache_size;
 mod decoded_pages;
@@ -13,3 +14,4 @@ mod framed_pages;
 mod gap;
 mod image;
 mod images;
+mod stores;

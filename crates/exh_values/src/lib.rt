@@ -18,3 +18,5 @@ mod notices;
 mod texts;
 #[cfg(test)]
 mod walks;
+#[cfg(test)]
+mod world_doors;
