@@ -7,7 +7,7 @@ ghost use Rattle.exh_settings.specs.StormConfig.{IsStormConfig};
 use exh_frames::FramedMaker;
 use exh_live::{NoWatch, storm_over};
 use exh_notes::{Expect, Notes};
-use exh_script::{ServeFault, serve_from};
+use exh_script::{ServeFault, serve_over};
 use exh_settings::{CALLERS_LIMIT, CALLS_LIMIT, StormConfig};
 use exh_stream::Output;
 use exh_walk::OpenGate;
@@ -89,7 +89,7 @@ fn storm_of(callers: &str, calls: &str) -> Option<StormConfig>
 // Answers the script. Where memory ran out the last line is `refused 10`.
 fn serve(rt: &HostRuntime, maker: &FramedMaker) -> ExitCode {
     let mut notes = Notes::new(rt.stderr(), Expect::Keyword);
-    let served = serve_from(
+    let served = serve_over(
         rt.alloc(),
         maker,
         None,

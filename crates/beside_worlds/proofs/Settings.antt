@@ -9,15 +9,15 @@ use Rattle.exh_ward.specs.WardState.{WardState}
 use Rattle.exh_world.specs.NewWorld.{AreWardsFor, settings_of}
 use Rattle.exh_world.specs.Sound.{IsSoundWorld}
 use Rattle.exh_world.specs.World.{WorldState}
-use Rattle.exh_text.specs.declared.config.Config.{Config}
+use Rattle.exh_settings.specs.declared.config.Config.{Config}
 use Rattle.beside_worlds.specs.Anew.{AreItsWards, HasSettings}
 
 pub line_keeps : LinesKeepSettings → (old : ScriptWorld) → IsSoundWorld any_pseudokey old → (line : List ℕ) (new : ScriptWorld)
     → new ≡ after_line old line → HasSettings old → HasSettings new
 line_keeps law old sound line new made is = subst HasSettings (sym made) (record {
-  cap = ap (λ config. config.settings.cap) kept ∙ is.cap;
-  bits = ap (λ config. config.settings.ward_bits) kept ∙ is.bits;
-  keyer = ap (λ config. config.settings.keyer) kept ∙ is.keyer;
+  cap = ap (λ config. config.cap) kept ∙ is.cap;
+  bits = ap (λ config. config.ward_bits) kept ∙ is.bits;
+  keyer = ap (λ config. config.keyer) kept ∙ is.keyer;
 })
   where
     kept : settings_of (after_line old line) 0 ≡ settings_of old 0
@@ -38,8 +38,8 @@ wards_given world wards is count each = record {
 }
 
 -- a world of the settings can be made of them
-pub wards_taken : (config : Config AnyKeyer) (wards : List (WardState AnyKeyer)) → config.settings.cap ≡ 2 → config.settings.ward_bits ≡ 0
-    → config.settings.keyer ≡ Plain → AreItsWards wards → AreWardsFor config wards
+pub wards_taken : (config : Config AnyKeyer) (wards : List (WardState AnyKeyer)) → config.cap ≡ 2 → config.ward_bits ≡ 0
+    → config.keyer ≡ Plain → AreItsWards wards → AreWardsFor config wards
 wards_taken config wards cap bits keyer are number ward there = record {
   cap = (are.each number ward there).cap ∙ sym cap;
   bits = (are.each number ward there).bits ∙ sym bits;

@@ -14,9 +14,8 @@ use exh_fixtures::{Difference, Part, Run, same};
 use exh_keyer::AnyKeyer;
 use exh_notice::Notice;
 use exh_script::Run as Script;
-use exh_settings::FileSettings;
+use exh_settings::Config;
 use exh_stores::PlainPages;
-use exh_text::Config;
 use exh_ward::Ward;
 use exh_world::World;
 use std::alloc::{AllocError, Global};
@@ -36,16 +35,16 @@ pub(crate) fn run(run: &mut Run) -> Result<(), Difference> {
 
 // A file of one ward, of pages of two records.
 fn settings(copies: u32) -> Config<AnyKeyer>
-    ensures cap { result.settings.cap ≡ 2 }
-    ensures bits { result.settings.ward_bits ≡ 0 }
-    ensures keyer { result.settings.keyer ≡ Plain }
+    ensures cap { result.cap ≡ 2 }
+    ensures bits { result.ward_bits ≡ 0 }
+    ensures keyer { result.keyer ≡ Plain }
 {
-    let settings = FileSettings {
+    Config {
         cap: 2,
         ward_bits: 0,
+        copies,
         keyer: AnyKeyer::Plain,
-    };
-    Config { settings, copies }
+    }
 }
 
 fn new_script(alloc: Global) -> Result<PlainScript, AllocError>
@@ -53,7 +52,7 @@ fn new_script(alloc: Global) -> Result<PlainScript, AllocError>
     ensures settings { IfOk result (λ script. HasSettings script.world) }
 {
     Ok(Script {
-        world: World::new(alloc, &settings(2))?,
+        world: World::new(alloc, settings(2))?,
         tells_moves: true,
     })
 }
@@ -73,7 +72,7 @@ fn second_life(run: &mut Run, wards: Vec<PlainWard>) -> Result<Vec<PlainWard>, A
     ensures { IfOk result (λ wards. AreItsWards wards.items) }
 {
     let script = Script {
-        world: World::from_wards(run.alloc, &settings(3), wards)?,
+        world: World::from_wards(run.alloc, settings(3), wards)?,
         tells_moves: true,
     };
     live(run, script, [&GONE, &SECOND])

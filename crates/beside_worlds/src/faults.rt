@@ -13,8 +13,7 @@ use exh_keyer::AnyKeyer;
 use exh_page::Page;
 use exh_prefix::PageNo;
 use exh_script::{ResponseFault, Run as Script, push_response};
-use exh_settings::FileSettings;
-use exh_text::Config;
+use exh_settings::Config;
 use exh_ward::{Ward, WardFault};
 use exh_world::World;
 use std::alloc::{AllocError, Global};
@@ -25,12 +24,10 @@ type FailingWard = Ward<FailingPages<PlainPages>, AnyKeyer>;
 const MOST: u64 = 1000;
 
 const CONFIG: Config<AnyKeyer> = Config {
-    settings: FileSettings {
-        cap: 2,
-        ward_bits: 0,
-        keyer: AnyKeyer::Plain,
-    },
+    cap: 2,
+    ward_bits: 0,
     copies: 2,
+    keyer: AnyKeyer::Plain,
 };
 
 /// Whether a step was refused, and came to what it should each time.
@@ -126,13 +123,15 @@ fn failing_world(
     let mut wards = Vec::new(alloc);
     wards.reserve(1)?;
     let store = FailingPages::new(first_store(alloc, 0, 0)?, at);
-    let FileSettings {
-        cap,
-        ward_bits,
-        keyer,
-    } = CONFIG.settings;
-    wards.push_reserved(Ward::new(alloc, store, cap, ward_bits, 0, keyer));
-    World::from_wards(alloc, &CONFIG, wards)
+    wards.push_reserved(Ward::new(
+        alloc,
+        store,
+        CONFIG.cap,
+        CONFIG.ward_bits,
+        0,
+        CONFIG.keyer,
+    ));
+    World::from_wards(alloc, CONFIG, wards)
 }
 
 // Answers the lines, each once more where a page was out of reach. Answers whether one was.

@@ -134,7 +134,7 @@ fn new_over<P: Pages + Drop, M: StoreMaker<P, AnyKeyer>>(
     alloc: Global,
     maker: &M,
 ) -> Result<World<P, AnyKeyer>, AllocError> {
-    World::new_over(alloc, maker, &CONFIG)
+    World::new_over(alloc, maker, CONFIG)
 }
 
 // Has a world do what each event asks, once more where a page was out of reach.

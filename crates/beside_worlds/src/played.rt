@@ -5,9 +5,8 @@ use crate::row::Row;
 use exh_event::{Event, StepFault, Turn};
 use exh_fixtures::{Difference, Part, again, same};
 use exh_keyer::AnyKeyer;
-use exh_settings::FileSettings;
+use exh_settings::Config;
 use exh_stores::{Pages, PlainPages};
-use exh_text::Config;
 use exh_ward::{Ward, WardFault};
 use exh_world::World;
 use std::alloc::{AllocError, Global};
@@ -20,12 +19,10 @@ pub(crate) const OUT_OF_REACH: StepFault = StepFault::Ward(WardFault::Page);
 
 /// A file of one ward, of pages of two records, with two copies.
 pub(crate) const CONFIG: Config<AnyKeyer> = Config {
-    settings: FileSettings {
-        cap: 2,
-        ward_bits: 0,
-        keyer: AnyKeyer::Plain,
-    },
+    cap: 2,
+    ward_bits: 0,
     copies: 2,
+    keyer: AnyKeyer::Plain,
 };
 
 /// What each event came to, and the wards that they left.
@@ -103,7 +100,7 @@ pub(crate) fn events_of(alloc: Global, turns: &[Turn]) -> Result<Vec<Event>, All
 
 /// The world of a new file, in memory.
 pub(crate) fn new_world(alloc: Global) -> Result<World<PlainPages, AnyKeyer>, AllocError> {
-    World::new(alloc, &CONFIG)
+    World::new(alloc, CONFIG)
 }
 
 /// Has a world do what events ask, at once. A list that was refused in whole has done nothing, and is played once more.

@@ -1,11 +1,11 @@
 //! Events of a file of one ward, each with what it comes to.
 
 use exh_calls::{Call, Reply};
-use exh_event::{Event, Outcome, Progress, StepFault, Turn};
+use exh_event::{Event, Outcome, StepFault, Turn};
 use exh_fixtures::{Difference, Part, Said, merge, prefix, split};
 use exh_notice::Notice;
 use exh_prefix::PageNo;
-use exh_ward::WardFault;
+use exh_ward::{Hop, WardFault};
 use std::alloc::AllocError;
 
 /// A change of the ward: its index, the bits of its prefix, its number there, and the right page of a split.
@@ -64,8 +64,7 @@ impl Row {
         let call = self.call();
         let event = self.told_event(call);
         let reply = self.reply();
-        let hop = self.hop(reply);
-        let result = self.told_result(hop);
+        let result = self.told_result(reply);
         turns.reserve(1)?;
         turns.push_reserved(Turn { event, result });
         Ok(())
@@ -105,21 +104,8 @@ impl Row {
         }
     }
 
-    fn hop(&self, reply: Option<Reply>) -> Option<Progress> {
-        match self {
-            Row::Moved(_, page) => Some(Progress::Moved(*page)),
-            Row::MustSplit(_) => Some(Progress::MustSplit),
-            Row::Done(_, _, moves, bound) => Some(Progress::Done {
-                reply: reply?,
-                moves: *moves,
-                bound: *bound,
-            }),
-            _ => None,
-        }
-    }
-
-    fn told_result(&self, hop: Option<Progress>) -> Result<Outcome, StepFault> {
-        match self.result(hop) {
+    fn told_result(&self, reply: Option<Reply>) -> Result<Outcome, StepFault> {
+        match self.result(reply) {
             Ok(result) => result,
             Err(_) => Err(StepFault::NoWard),
         }
@@ -147,15 +133,19 @@ impl Row {
         })
     }
 
-    fn result(&self, hop: Option<Progress>) -> Result<Result<Outcome, StepFault>, Difference> {
+    fn result(&self, reply: Option<Reply>) -> Result<Result<Outcome, StepFault>, Difference> {
         Ok(Ok(match self {
             Row::Begin(.., page) => Outcome::Begun {
                 ward: 0,
                 page: *page,
             },
-            Row::Moved(..) | Row::MustSplit(_) | Row::Done(..) => Outcome::Hopped {
+            Row::Moved(_, page) => hopped(Hop::Moved(*page)),
+            Row::MustSplit(_) => hopped(Hop::MustSplit),
+            Row::Done(_, _, moves, bound) => Outcome::Replied {
                 ward: 0,
-                hop: hop.ok_or(Difference::Apart(Part::Run))?,
+                reply: reply.ok_or(Difference::Apart(Part::Run))?,
+                moves: *moves,
+                bound: *bound,
             },
             Row::Split(_, change) | Row::Merge(_, change) => Outcome::Changed(change.notice()?),
             Row::NoSplit(_, fault) | Row::NoMerge(_, fault) => {
@@ -179,4 +169,9 @@ fn is_written(said: &Said<'_>) -> bool {
         said,
         Said::New(..) | Said::Changed(..) | Said::Was(..) | Said::Swapped(..)
     )
+}
+
+// The hop left the request without an answer.
+fn hopped(hop: Hop) -> Outcome {
+    Outcome::Hopped { ward: 0, hop }
 }

@@ -5,7 +5,7 @@ ghost use Rattle.exh_cli.specs.ScriptRun.{IsEnding, RunPrints};
 
 use exh_job::{Ending, FileWards, JobPath, MAKER, Status, print_out_of_memory};
 use exh_notes::Listener;
-use exh_script::{ServeFault, serve_from};
+use exh_script::{ServeFault, serve_over};
 use exh_stream::Output;
 use std::alloc::Global;
 use std::io::{Read, Write};
@@ -22,7 +22,7 @@ pub(crate) fn serve_script<R: Read, W: Write, L: Listener>(
 ) -> Result<Option<FileWards>, ServeFault>
     ensures { RunPrints (beginning from) (W.contents writer.old) (W.contents writer.new) (R.remaining reader.old) result }
 {
-    match serve_from(alloc, &MAKER, from, reader, writer, listener) {
+    match serve_over(alloc, &MAKER, from, reader, writer, listener) {
         Err(ServeFault::Memory) => {
             print_out_of_memory(&mut Output::new(writer))?;
             Err(ServeFault::Memory)

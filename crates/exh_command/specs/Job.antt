@@ -10,8 +10,8 @@ use Rattle.exh_calls.specs.declared.call.Call.TheVariants as calls
 use Rattle.exh_text.specs.ByteWord.{bytes_of_word, key_in_range, value_in_range}
 use Rattle.exh_text.specs.Numbers.{number_spelled}
 use Rattle.exh_settings.specs.StormConfig.{IsStormConfig}
-use Rattle.exh_settings.specs.declared.config.StormConfig.{StormConfig}
-use Rattle.exh_settings.specs.declared.config.TheConstants.{CALLERS_LIMIT, CALLS_LIMIT, COPIES_LIMIT}
+use Rattle.exh_settings.specs.declared.storm_config.StormConfig.{StormConfig}
+use Rattle.exh_settings.specs.declared.storm_config.TheConstants.{CALLERS_LIMIT, CALLS_LIMIT, COPIES_LIMIT}
 use Rattle.exh_command.specs.Words.{Use, flags_and_path, path_and_key, path_and_three, path_and_two, path_name, path_named, uses_and_path, uses_named, option_given}
 use Rattle.exh_command.specs.declared.job.Job.{Job}
 use Rattle.exh_command.specs.declared.load_way.LoadWay.{LoadWay}

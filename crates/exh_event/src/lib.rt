@@ -3,12 +3,10 @@
 
 pub use event::Event;
 pub use outcome::Outcome;
-pub use progress::Progress;
 pub use step_fault::StepFault;
 pub use turn::Turn;
 
 mod event;
 mod outcome;
-mod progress;
 mod step_fault;
 mod turn;

@@ -67,7 +67,7 @@ told_again r can =
 
 -- what the first line says
 abbrev pub settings_told : FileSettings AnyKeyer → Settings
-settings_told settings = record { file = record { settings = settings; copies = 1 }; tells_moves = false }
+settings_told settings = record { file = record { cap = settings.cap; ward_bits = settings.ward_bits; copies = 1; keyer = settings.keyer }; tells_moves = false }
 
 cap_told : (number : ℕ) → number < 2 ^ 32 → number_after (codes "cap=") (codes "cap=" ++ decimal number) ≡ Some number
 unfolding number_after

@@ -7,8 +7,8 @@ use Rattle.exh_text.specs.Contents.{entry_text}
 use Rattle.exh_text.specs.TextLines.{newline}
 use Rattle.exh_text.specs.Printing.{place_text, refused_text}
 use Rattle.exh_text.specs.ReplyText.{reply_text}
-use Rattle.exh_event.specs.declared.progress.Progress.{Progress}
-use Rattle.exh_event.specs.declared.progress.Progress.TheVariants as hops
+use Rattle.exh_ward.specs.declared.hop.Hop.{Hop}
+use Rattle.exh_ward.specs.declared.hop.Hop.TheVariants as hops
 use Rattle.exh_calls.specs.declared.reply.Reply.{Reply}
 use Rattle.exh_calls.specs.declared.reply.Reply.TheVariants.{Is, None as Absent, New, Was, Full, Swapped, Differs}
 use Rattle.exh_event.specs.declared.event.Event.{Event}
@@ -46,15 +46,17 @@ table_in event = 0
 abbrev pub told_moves : Bool → ℕ → ℕ → Option Moves
 told_moves tells_moves made bound = if tells_moves then Some (record { made = made; bound = bound }) else None
 
-abbrev pub hop_answer : Bool → ℕ → ℕ → Progress → Answer
-hop_answer tells_moves name ward (hops.Done reply moves bound) = Replied name reply (told_moves tells_moves moves bound)
-hop_answer tells_moves name ward (hops.Moved page) = Moved name ward page
-hop_answer tells_moves name ward hops.MustSplit = MustSplit name
-hop_answer tells_moves name ward hops.Stray = Stray name
+-- a hop by itself tells no moves
+abbrev pub hop_answer : ℕ → ℕ → Hop → Answer
+hop_answer name ward (hops.Done reply) = Replied name reply None
+hop_answer name ward (hops.Moved page) = Moved name ward page
+hop_answer name ward hops.MustSplit = MustSplit name
+hop_answer name ward hops.Stray = Stray name
 
 abbrev pub outcome_answer : Bool → Event → Outcome → Answer
 outcome_answer tells_moves event (outcomes.Begun ward page) = Begun (request_in event) ward page
-outcome_answer tells_moves event (outcomes.Hopped ward hop) = hop_answer tells_moves (request_in event) ward hop
+outcome_answer tells_moves event (outcomes.Hopped ward hop) = hop_answer (request_in event) ward hop
+outcome_answer tells_moves event (outcomes.Replied ward reply moves bound) = Replied (request_in event) reply (told_moves tells_moves moves bound)
 outcome_answer tells_moves event (outcomes.Changed notice) = Changed notice
 outcome_answer tells_moves event (outcomes.Taken notice) = Taken (copy_in event) notice.ward notice.index
 outcome_answer tells_moves event (outcomes.Sent table) = Sent table

@@ -5,9 +5,10 @@ ghost use Rattle.exh_line.specs.LineStart.{short_event};
 
 use crate::{Moves, Refusal, ShortStep, Told};
 use exh_calls::Reply;
-use exh_event::{Event, Outcome, Progress};
+use exh_event::{Event, Outcome};
 use exh_notice::Notice;
 use exh_prefix::PageNo;
+use exh_ward::Hop;
 
 /// What a line of a script is answered, unless it asks for a view. Each variant is one printed line.
 #[derive(Clone, Copy)]
@@ -85,7 +86,20 @@ impl Answer {
                 ward: *ward,
                 page: *page,
             },
-            Outcome::Hopped { ward, hop } => Answer::of_hop(named.request, *ward, hop, tells_moves),
+            Outcome::Hopped { ward, hop } => Answer::of_hop(named.request, *ward, hop),
+            Outcome::Replied {
+                reply,
+                moves,
+                bound,
+                ..
+            } => Answer::Replied {
+                name: named.request,
+                reply: *reply,
+                told: tells_moves.then_some(Moves {
+                    made: *moves,
+                    bound: *bound,
+                }),
+            },
             Outcome::Changed(notice) => Answer::Changed(*notice),
             Outcome::Taken(notice) => Answer::Taken {
                 copy: named.copy,
@@ -101,30 +115,23 @@ impl Answer {
         }
     }
 
-    // What a hop in a ward is answered.
-    fn of_hop(name: u32, ward: u8, hop: &Progress, tells_moves: bool) -> Answer
-        ensures { result ≡ hop_answer tells_moves name ward hop.now }
+    // What a hop in a ward is answered, which tells no moves.
+    fn of_hop(name: u32, ward: u8, hop: &Hop) -> Answer
+        ensures { result ≡ hop_answer name ward hop.now }
     {
         match hop {
-            Progress::Done {
-                reply,
-                moves,
-                bound,
-            } => Answer::Replied {
+            Hop::Done(reply) => Answer::Replied {
                 name,
                 reply: *reply,
-                told: tells_moves.then_some(Moves {
-                    made: *moves,
-                    bound: *bound,
-                }),
+                told: None,
             },
-            Progress::Moved(page) => Answer::Moved {
+            Hop::Moved(page) => Answer::Moved {
                 name,
                 ward,
                 page: *page,
             },
-            Progress::MustSplit => Answer::MustSplit { name },
-            Progress::Stray => Answer::Stray { name },
+            Hop::MustSplit => Answer::MustSplit { name },
+            Hop::Stray => Answer::Stray { name },
         }
     }
 }

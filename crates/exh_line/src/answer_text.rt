@@ -6,7 +6,7 @@ ghost use Rattle.exh_text.specs.Printing.{Keeps, place_text};
 
 use crate::{Answer, Moves, Refusal, ShortStep, Told};
 use exh_calls::Reply;
-use exh_event::{Outcome, Progress};
+use exh_event::Outcome;
 use exh_notice::Notice;
 use exh_prefix::PageNo;
 use exh_text::{push_entry, push_number, push_refused, push_reply, push_text};
@@ -43,12 +43,10 @@ pub fn push_outcome(
     ensures kept { Keeps out.old.items out.new.items }
 {
     match outcome {
-        Outcome::Hopped {
-            hop: Progress::Done {
-                reply,
-                moves,
-                bound,
-            },
+        Outcome::Replied {
+            reply,
+            moves,
+            bound,
             ..
         } => {
             let told = tells_moves.then_some(Moves {

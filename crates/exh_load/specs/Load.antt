@@ -11,7 +11,8 @@ use Rattle.exh_text.specs.TextLines.{lines_of}
 use Rattle.exh_text.specs.declared.line_fault.LineFault.{LineFault}
 use Rattle.exh_stream.specs.Output.{Takes}
 use Rattle.exh_stream.specs.declared.output.Output.{Output}
-use Rattle.exh_text.specs.declared.config.Config.{Config}
+use Rattle.exh_settings.specs.Config.{file_settings}
+use Rattle.exh_settings.specs.declared.config.Config.{Config}
 use Rattle.exh_text.specs.FileLine.{file_line_of}
 use Rattle.exh_text.specs.declared.settings.Settings.{Settings}
 use Rattle.exh_settings.specs.FileSettings.{are_same}
@@ -24,7 +25,7 @@ abbrev pub empty_loading : ℕ → ℕ → AnyKeyer → Loading
 empty_loading cap ward_bits keyer = record { cap = cap; ward_bits = ward_bits; keyer = keyer; maps = replicate (2 ^ ward_bits) fin.empty }
 
 abbrev pub new_loading : Config AnyKeyer → Loading
-new_loading file = empty_loading file.settings.cap file.settings.ward_bits file.settings.keyer
+new_loading file = empty_loading file.cap file.ward_bits file.keyer
 
 -- how many records there are
 abbrev pub record_count : Loading → ℕ
@@ -41,7 +42,7 @@ new_file file = Ok (new_loading file)
 
 -- the maps of an opened file where the settings are its own, with any number of copies
 abbrev pub opened_file : OpenedState → Beginning
-opened_file opened file = if are_same (settings_in opened) file.settings then Ok (loading_in opened) else Err 63
+opened_file opened file = if are_same (settings_in opened) (file_settings file) then Ok (loading_in opened) else Err 63
 
 -- over an opened file, or over a new one
 abbrev pub beginning : Option OpenedState → Beginning

@@ -7,8 +7,8 @@ use crate::Loader;
 use exh_file::Opened;
 use exh_keyer::AnyKeyer;
 use exh_notes::Listener;
+use exh_settings::Config;
 use exh_stores::{Pages, StoreMaker};
-use exh_text::Config;
 use std::alloc::{AllocError, Global};
 
 /// The loader of an opened file of these settings, or of a new one over stores that the maker makes. `None` where the
@@ -25,7 +25,7 @@ pub(crate) fn begin<P: Pages + Drop, M: StoreMaker<P, AnyKeyer>, L: Listener>(
     ensures { IfOk result (IsBegun (beginning from file.now)) }
 {
     match from {
-        None => Ok(Some(Loader::new(alloc, maker, file.settings)?)),
+        None => Ok(Some(Loader::new(alloc, maker, file.file_settings())?)),
         Some(opened) => begin_over(alloc, opened, file, listener),
     }
 }
@@ -39,8 +39,8 @@ fn begin_over<P: Pages + Drop, L: Listener>(
 ) -> Result<Option<Loader<P>>, AllocError>
     ensures { IfOk result (IsBegun (opened_file opened file.now)) }
 {
-    if !opened.settings().are_same(&file.settings) {
-        listener.differs(file.settings, opened.settings());
+    if !opened.settings().are_same(&file.file_settings()) {
+        listener.differs(file.file_settings(), opened.settings());
         return Ok(None);
     }
     Ok(Some(Loader::over(alloc, opened)?))

@@ -1,6 +1,7 @@
 ghost use Rattle.std.specs.Prelude.{◌≡◌, ◌≢◌, ◌+◌, ◌<◌, ◌≤◌, ◌^◌, ◌++◌, ◌↔◌, length, IfOk, IfErr, OnOk, OnErr, IsErrOf, IsTrue, IsFalse};
 ghost use Rattle.exh_stream.specs.Output.{SameWriter, Takes, TakesBeginning, writer_failed};
 ghost use Rattle.exh_load.specs.Load.{TakesFront, new_count, record_count};
+ghost use Rattle.exh_load.specs.LoadFault.{IsLoadCounted};
 ghost use Rattle.exh_load.specs.Loader.{IsLoading};
 ghost use Rattle.exh_load.specs.Loading.{after_pair_line, line_text, loaded_from, loading_of, load_text_from};
 
@@ -18,7 +19,8 @@ use std::io::Write;
 /// there are more, the greatest `u64` where they are still more. The lines are of a whole text, and the listener is told
 /// of each. On an `Err` a beginning of that text went out, and the loader can be used no more.
 ///
-/// `Write`: the writer failed or took no bytes. `Memory`: a growth was refused. `Page`: a page couldn't be reached.
+/// `Write`: the writer failed or took no bytes. `Memory`: a growth was refused. `Page`: a page couldn't be reached, which a
+/// store has counted.
 pub fn load_lines<P: Pages + Drop, W: Write, L: Listener>(
     alloc: Global,
     output: &mut Output<'_, W>,
@@ -36,6 +38,7 @@ pub fn load_lines<P: Pages + Drop, W: Write, L: Listener>(
     ensures err { OnErr result (TakesBeginning W.contents output.old output.new (load_text_from (loading_of loader.old) lines.entry)) }
     ensures front { IfErr result (λ fault. fault ≢ LoadFault.Write → TakesFront W.contents output.old output.new (load_text_from (loading_of loader.old) lines.entry)) }
     ensures records { IfOk result (λ records. length lines.entry < 2 ^ 64 → records + record_count (loading_of loader.old) ≡ record_count (loading_of loader.new)) }
+    ensures counted { IsLoadCounted P.failures result }
     ensures failed { IsErrOf result LoadFault.Write ↔ IsTrue (writer_failed output.new) }
 {
     let mut records = 0u64;
@@ -89,6 +92,7 @@ fn push_line<P: Pages + Drop>(
     ensures records { IfOk result (λ more. more + record_count (loading_of loader.old) ≡ record_count (loading_of loader.new)) }
     ensures few { IfOk result (λ more. more ≤ 1) }
     ensures fault { IfErr result (λ fault. fault ≢ LoadFault.Write) }
+    ensures counted { IsLoadCounted P.failures result }
 {
     match parse_pair_line(line) {
         Ok((key, value)) => {

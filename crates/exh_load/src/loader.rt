@@ -6,7 +6,13 @@ ghost use Rattle.exh_calls.specs.declared.call.Call.TheVariants.{Put};
 ghost use Rattle.exh_file.specs.FileChange.{ChangesOneMap};
 ghost use Rattle.exh_file.specs.Opened.{settings_in};
 ghost use Rattle.exh_ward.specs.WardFault.{IsStoreFault};
+ghost use Rattle.exh_keyer.specs.Pseudokey.{any_pseudokey};
+ghost use Rattle.exh_prefix.specs.Prefix.{Begins};
+ghost use Rattle.exh_file.specs.WardChange.{AreSplitsAtMost, IsChanged};
+ghost use Rattle.exh_ward.specs.WardState.{IsSoundWard, own_prefix};
 ghost use Rattle.exh_load.specs.Load.{empty_loading, new_count, record_count};
+ghost use Rattle.exh_load.specs.LoadFault.{IsPutCounted};
+ghost use Rattle.exh_load.specs.Put.{IsDirectoryOf};
 ghost use Rattle.exh_load.specs.Loading.{after_pair, loading_of, pair_reply};
 ghost use Rattle.exh_load.specs.Loader.{AreEach, HasSplitsIn, IsDirectoryAt, IsEmptyDirectory, IsEmptyLoader, IsLoading, IsPutIn, file_in};
 
@@ -89,7 +95,7 @@ impl<P: Pages + Drop> Loader<P> {
 
     /// Puts a pair into the ward of its key, and splits pages where they are full for it, as `put_pair`
     /// does. The key is hashed once. The ward's history begins anew then, so that no journal grows with
-    /// the pairs. `Memory` and `Page` may come at any point: splits that were made stay made, and no more
+    /// the pairs. `Memory` and `Page` may come at any point, `Page` where the store has counted it: splits that were made stay made, and no more
     /// pairs can be put then, since a directory may lack a notice.
     pub fn put(&mut self, key: Key, value: Value) -> Result<Reply, WardFault>
         requires { IsLoading self.old }
@@ -101,12 +107,13 @@ impl<P: Pages + Drop> Loader<P> {
         ensures loading { OnOk result (IsLoading self.new) }
         ensures err { OnErr result (HasSplitsIn self.old key self.new) }
         ensures fault { IfErr result IsStoreFault }
+        ensures counted { IsPutCounted P.failures result }
     {
         let pseudokey = self.settings.keyer.pseudo(key.as_bytes());
         let at = usize::from(ward_number(self.settings.ward_bits, pseudokey));
         let ward = &mut self.wards[at];
         let directory = &mut self.directories[at];
-        let reply = put_pair(ward, directory, key, value, pseudokey)?;
+        let reply = put_counted(ward, directory, key, value, pseudokey)?;
         ward.begin_history();
         Ok(reply)
     }
@@ -124,6 +131,29 @@ impl<P: Pages + Drop> Loader<P> {
     {
         Opened::new(self.settings, self.wards)
     }
+}
+
+// Puts a pair into a ward as `put_pair` does. A page out of reach is one that the ward's store has counted.
+fn put_counted<P: Pages + Drop>(
+    ward: &mut Ward<P, AnyKeyer>,
+    directory: &mut Directory,
+    key: Key,
+    value: Value,
+    pseudokey: u64,
+) -> Result<Reply, WardFault>
+    requires hashed { pseudokey ≡ any_pseudokey ward.old.keyer key }
+    requires covered { Begins (own_prefix ward.old) pseudokey }
+    requires told { IsDirectoryOf ward.old directory.old }
+    ensures put { IfOk result (λ reply. IsChanged any_pseudokey ward.old (Put key value) reply ward.new) }
+    ensures told { OnOk result (IsDirectoryOf ward.new directory.new) }
+    ensures err { OnErr result (AreSplitsAtMost ward.old ward.new) }
+    ensures fault { IfErr result IsStoreFault }
+    ensures sound { IsSoundWard any_pseudokey ward.new }
+    ensures counted { IsPutCounted P.failures result }
+{
+    let put = put_pair(ward, directory, key, value, pseudokey);
+    ward.failures();
+    put
 }
 
 // A directory of no entry for each ward.

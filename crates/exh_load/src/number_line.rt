@@ -25,6 +25,7 @@ pub(crate) fn refuse<P: Pages + Drop, W: Write>(
     ensures left { IfOk result (λ file. option_map loading_in file ≡ (refused number).left) }
     ensures err { OnErr result (TakesBeginning W.contents output.old output.new (refused number).printed) }
     ensures front { IfErr result (λ fault. fault ≢ LoadFault.Write → TakesFront W.contents output.old output.new (refused number).printed) }
+    ensures page { IsErrOf result LoadFault.Page → ⊥ }
     ensures failed { IsErrOf result LoadFault.Write ↔ IsTrue (writer_failed output.new) }
 {
     print_number(alloc, output, "refused ", u64::from(number))?;
@@ -43,6 +44,7 @@ pub(crate) fn print_number<W: Write>(
     ensures text { OnOk result (Takes W.contents output.old output.new (number_line word.now number)) }
     ensures err { OnErr result (TakesBeginning W.contents output.old output.new (number_line word.now number)) }
     ensures front { IfErr result (λ fault. fault ≢ LoadFault.Write → TakesFront W.contents output.old output.new (number_line word.now number)) }
+    ensures page { IsErrOf result LoadFault.Page → ⊥ }
     ensures failed { IsErrOf result LoadFault.Write ↔ IsTrue (writer_failed output.new) }
 {
     let mut text = Vec::new(alloc);

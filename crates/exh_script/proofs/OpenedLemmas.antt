@@ -10,7 +10,7 @@ use Rattle.exh_file.specs.Opened.{AreWardsOf, OpenedState}
 use Rattle.exh_world.specs.WorldLaws.{WorldsOfWardsAreSound}
 use Rattle.exh_world.specs.NewWorld.{AreWardsFor, settings_of, world_of_wards}
 use Rattle.exh_world.specs.Sound.{IsSoundWorld}
-use Rattle.exh_text.specs.declared.config.Config.{Config}
+use Rattle.exh_settings.specs.declared.config.Config.{Config}
 use Rattle.exh_script.specs.AnyStart.{BeginsSound}
 use Rattle.exh_script.specs.Text.{ScriptWorld}
 use Rattle.exh_line.specs.declared.refusal.Refusal.TheVariants.{OtherFile}
@@ -28,26 +28,26 @@ same_keyer Plain Sha is = cc
 same_keyer Sha Plain is = cc
 
 module _ (opened : OpenedState) (file : Config AnyKeyer) (is : is_of_file opened file ≡ true) where
-  parts : ((eqb opened.cap file.settings.cap && eqb opened.ward_bits file.settings.ward_bits) ≡ true) × (is_same_keyer opened.keyer file.settings.keyer ≡ true)
-  parts = and_parts (eqb opened.cap file.settings.cap && eqb opened.ward_bits file.settings.ward_bits) (is_same_keyer opened.keyer file.settings.keyer) is
+  parts : ((eqb opened.cap file.cap && eqb opened.ward_bits file.ward_bits) ≡ true) × (is_same_keyer opened.keyer file.keyer ≡ true)
+  parts = and_parts (eqb opened.cap file.cap && eqb opened.ward_bits file.ward_bits) (is_same_keyer opened.keyer file.keyer) is
 
-  numbers : (eqb opened.cap file.settings.cap ≡ true) × (eqb opened.ward_bits file.settings.ward_bits ≡ true)
-  numbers = and_parts (eqb opened.cap file.settings.cap) (eqb opened.ward_bits file.settings.ward_bits) parts.0
+  numbers : (eqb opened.cap file.cap ≡ true) × (eqb opened.ward_bits file.ward_bits ≡ true)
+  numbers = and_parts (eqb opened.cap file.cap) (eqb opened.ward_bits file.ward_bits) parts.0
 
-  cap_is : opened.cap ≡ file.settings.cap
-  cap_is = eqb-true opened.cap file.settings.cap numbers.0
+  cap_is : opened.cap ≡ file.cap
+  cap_is = eqb-true opened.cap file.cap numbers.0
 
-  bits_is : opened.ward_bits ≡ file.settings.ward_bits
-  bits_is = eqb-true opened.ward_bits file.settings.ward_bits numbers.1
+  bits_is : opened.ward_bits ≡ file.ward_bits
+  bits_is = eqb-true opened.ward_bits file.ward_bits numbers.1
 
-  keyer_is : opened.keyer ≡ file.settings.keyer
-  keyer_is = same_keyer opened.keyer file.settings.keyer parts.1
+  keyer_is : opened.keyer ≡ file.keyer
+  keyer_is = same_keyer opened.keyer file.keyer parts.1
 
   module _ (are : AreWardsOf opened) where
-    pub few_bits : file.settings.ward_bits ≤ WARD_BITS_LIMIT
+    pub few_bits : file.ward_bits ≤ WARD_BITS_LIMIT
     few_bits = subst (λ bits. bits ≤ WARD_BITS_LIMIT) bits_is are.bits
 
-    pub one_each : length opened.wards ≡ 2 ^ file.settings.ward_bits
+    pub one_each : length opened.wards ≡ 2 ^ file.ward_bits
     one_each = are.count ∙ ap (λ bits. 2 ^ bits) bits_is
 
     pub wards_for : AreWardsFor file opened.wards
@@ -84,22 +84,22 @@ begins_sound law opened are file world within is = begun_sound law opened are fi
 
 module _ (file : Config AnyKeyer) (world : ScriptWorld) (same : settings_of world file.copies ≡ file) where
   abbrev file_with : Config AnyKeyer → List (WardState AnyKeyer) → OpenedState
-  file_with config wards = record { cap = config.settings.cap; ward_bits = config.settings.ward_bits; keyer = config.settings.keyer; wards = wards }
+  file_with config wards = record { cap = config.cap; ward_bits = config.ward_bits; keyer = config.keyer; wards = wards }
 
-  pub wards_of : (wards : List (WardState AnyKeyer)) → 1 ≤ file.settings.cap → file.settings.cap ≤ CAP_LIMIT → file.settings.ward_bits ≤ WARD_BITS_LIMIT → length wards ≡ 2 ^ world.ward_bits → AreWardsFor (settings_of world file.copies) wards
+  pub wards_of : (wards : List (WardState AnyKeyer)) → 1 ≤ file.cap → file.cap ≤ CAP_LIMIT → file.ward_bits ≤ WARD_BITS_LIMIT → length wards ≡ 2 ^ world.ward_bits → AreWardsFor (settings_of world file.copies) wards
       → AreWardsOf (file_with file wards)
   wards_of wards some most bits count each = record {
     some = some;
     most = most;
     bits = bits;
-    count = count ∙ ap (λ (config : Config AnyKeyer). 2 ^ config.settings.ward_bits) same;
+    count = count ∙ ap (λ (config : Config AnyKeyer). 2 ^ config.ward_bits) same;
     each = λ number ward there.
         let own = each number ward there in
         record {
-          cap = own.cap ∙ ap (λ (config : Config AnyKeyer). config.settings.cap) same;
-          bits = own.bits ∙ ap (λ (config : Config AnyKeyer). config.settings.ward_bits) same;
+          cap = own.cap ∙ ap (λ (config : Config AnyKeyer). config.cap) same;
+          bits = own.bits ∙ ap (λ (config : Config AnyKeyer). config.ward_bits) same;
           number_is = own.number_is;
-          keyer = own.keyer ∙ ap (λ (config : Config AnyKeyer). config.settings.keyer) same;
+          keyer = own.keyer ∙ ap (λ (config : Config AnyKeyer). config.keyer) same;
         };
   }
 

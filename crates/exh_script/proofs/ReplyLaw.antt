@@ -8,8 +8,8 @@ use Rattle.exh_keyer.specs.declared.any_keyer.AnyKeyer.{AnyKeyer}
 use Rattle.exh_keyer.specs.Pseudokey.{any_pseudokey}
 use Rattle.exh_text.specs.declared.line_fault.LineFault.{LineFault}
 use Rattle.exh_calls.specs.declared.call.Call.{Call}
-use Rattle.exh_event.specs.declared.progress.Progress.{Progress}
-use Rattle.exh_event.specs.declared.progress.Progress.TheVariants as hops
+use Rattle.exh_event.specs.EventProgress.{Progress, hop_outcome}
+use Rattle.exh_event.specs.EventProgress as hops
 use Rattle.exh_calls.specs.declared.journal_entry.JournalEntry.{JournalEntry}
 use Rattle.exh_world.specs.InFlight.{Requests}
 use Rattle.exh_world.specs.WorldRun.{answered_by, answered_at, journal_entry_of}
@@ -23,7 +23,7 @@ use Rattle.exh_world.specs.World.{changes_in}
 use Rattle.exh_world.specs.declared.request.Request.{Request}
 use Rattle.exh_event.specs.declared.step_fault.StepFault.{StepFault}
 use Rattle.exh_world.specs.StepEffectLemmas.{on_effect, on_refusal}
-use Rattle.exh_line.specs.LineAnswer.{told_moves, hop_answer, outcome_answer, step_answer}
+use Rattle.exh_line.specs.LineAnswer.{told_moves, outcome_answer, step_answer}
 use Rattle.exh_line.specs.Grammar.{line_of}
 use Rattle.exh_script.specs.Replies.{Turn, turns_from, is_about, IsBegunLast, Enters, EnterInOrder}
 use Rattle.exh_script.specs.Text.{ScriptWorld, Response, Said, view_response, parsed_response, line_response, response_text, after_parsed, after_line, text_from}
@@ -88,10 +88,10 @@ module _ (tells_moves : Bool) (world : ScriptWorld) (before : List Turn) (all : 
 
   module _ (name ward : ℕ) (parsed : line_of line ≡ Ok (lines.Step (events.Hop name))) where
     goes_hopped : (hop : Progress) (new : ScriptWorld) → HasHopped any_pseudokey world name ward hop new
-        → Goes (Said (hop_answer tells_moves name ward hop)) (map journal_entry_of (answered_at world (events.Hop name) (Ok (outcomes.Hopped ward hop)))) new
+        → Goes (Said (outcome_answer tells_moves (events.Hop name) (hop_outcome ward hop))) (map journal_entry_of (answered_at world (events.Hop name) (Ok (hop_outcome ward hop)))) new
     goes_hopped (hops.Done reply moves bound) new has =
         let P : Requests → Type 0 = Still (Said (Replied name reply (told_moves tells_moves moves bound))) in
-        let told : map journal_entry_of (answered_at world (events.Hop name) (Ok (outcomes.Hopped ward (hops.Done reply moves bound)))) ≡ record { client = has.request.client; call = has.request.call; reply = reply } ∷ [] =
+        let told : map journal_entry_of (answered_at world (events.Hop name) (Ok (outcomes.Replied ward reply moves bound))) ≡ record { client = has.request.client; call = has.request.call; reply = reply } ∷ [] =
         ap (λ named. map journal_entry_of (option_map_or (λ request. answered_by world reply moves bound request ∷ []) named [])) has.there in
         record {
           entered = (has.request.client, has.request.call, told, parsed, all.begun name has.request has.there);

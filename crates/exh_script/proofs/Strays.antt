@@ -6,7 +6,7 @@ use Rattle.std.proofs.lemmas.List.Elements.{All-from_recursion, recursion_from_A
 use Rattle.exh_keyer.specs.declared.any_keyer.AnyKeyer.{AnyKeyer}
 use Rattle.exh_keyer.specs.Pseudokey.{any_pseudokey}
 use Rattle.exh_text.specs.declared.line_fault.LineFault.{LineFault}
-use Rattle.exh_event.specs.declared.progress.Progress.TheVariants as hops
+use Rattle.exh_ward.specs.declared.hop.Hop.TheVariants as hops
 use Rattle.exh_world.specs.Headline.{DoesNotStray as KeepsCourse}
 use Rattle.exh_world.specs.WorldRun.{Moment}
 use Rattle.exh_world.specs.StepFunction.{result_of}
@@ -27,7 +27,8 @@ use Rattle.exh_script.proofs.LineMoments.{parsed_moments, moments_from}
 strays_never : (tells_moves : Bool) (event : Event) (result : Result Outcome StepFault) → ((ward : ℕ) → result ≢ Ok (outcomes.Hopped ward hops.Stray)) → (name : ℕ) → Said (step_answer tells_moves event result) ≢ Said (Stray name)
 strays_never tells_moves event (Err fault) none name same = cc
 strays_never tells_moves event (Ok (outcomes.Begun ward page)) none name same = cc
-strays_never tells_moves event (Ok (outcomes.Hopped ward (hops.Done reply moves bound))) none name same = cc
+strays_never tells_moves event (Ok (outcomes.Replied ward reply moves bound)) none name same = cc
+strays_never tells_moves event (Ok (outcomes.Hopped ward (hops.Done reply))) none name same = cc
 strays_never tells_moves event (Ok (outcomes.Hopped ward (hops.Moved next))) none name same = cc
 strays_never tells_moves event (Ok (outcomes.Hopped ward hops.MustSplit)) none name same = cc
 strays_never tells_moves event (Ok (outcomes.Hopped ward hops.Stray)) none name same = none ward refl

@@ -15,9 +15,7 @@ use Rattle.exh_ward.specs.HopTable.{HopOf}
 use Rattle.exh_ward.specs.MergeStep.{IsMergeStep}
 use Rattle.exh_ward.specs.SplitStep.{IsSplitStep}
 use Rattle.exh_ward.specs.WardState.{WardState, IsSoundWard}
-use Rattle.exh_event.specs.declared.progress.Progress.{Progress}
-use Rattle.exh_event.specs.declared.progress.Progress.TheVariants.{Done, Moved, MustSplit, Stray}
-use Rattle.exh_event.specs.EventProgress.{hop_in}
+use Rattle.exh_event.specs.EventProgress.{hop_in, Progress, Done, Moved, MustSplit, Stray, hop_outcome}
 use Rattle.exh_calls.specs.declared.journal_entry.JournalEntry.{JournalEntry}
 use Rattle.exh_ward.specs.declared.ward_fault.WardFault.TheVariants.{Page}
 use Rattle.exh_route.specs.RouteLaws.{RunsKeepWardsSound}
@@ -30,7 +28,7 @@ use Rattle.exh_prefix.specs.Leading.{ward_of, ward_prefix}
 use Rattle.exh_event.specs.declared.event.Event.{Event}
 use Rattle.exh_event.specs.declared.event.Event.TheVariants.{Hop as HopOn}
 use Rattle.exh_event.specs.declared.outcome.Outcome.{Outcome}
-use Rattle.exh_event.specs.declared.outcome.Outcome.TheVariants.{Hopped}
+use Rattle.exh_event.specs.declared.outcome.Outcome.TheVariants.{Replied}
 use Rattle.exh_world.specs.declared.request.Request.{Request}
 use Rattle.exh_event.specs.declared.step_fault.StepFault.{StepFault}
 use Rattle.exh_world.specs.StepEffectLemmas.{on_effect, on_refusal}
@@ -180,9 +178,9 @@ module _ (old : ScriptWorld) where
               journal = journal ∙ ap (λ is. has.before.journal ++ cond is (entry ∷ []) []) (sym (eq-eqb _ _ of_entry));
             }) (λ number else. only_own has.request.ward number entry of_entry else _ refl)
 
-      by_hop : (hop : Progress) (new : ScriptWorld) → HasHopped any_pseudokey old name ward hop new → AreWardsLeft old (map journal_entry_of (answered_at old (HopOn name) (Ok (Hopped ward hop)))) new
+      by_hop : (hop : Progress) (new : ScriptWorld) → HasHopped any_pseudokey old name ward hop new → AreWardsLeft old (map journal_entry_of (answered_at old (HopOn name) (Ok (hop_outcome ward hop)))) new
       by_hop (Done reply moves bound) new has =
-          let told : map journal_entry_of (answered_at old (HopOn name) (Ok (Hopped ward (Done reply moves bound)))) ≡ record { client = has.request.client; call = has.request.call; reply = reply } ∷ [] =
+          let told : map journal_entry_of (answered_at old (HopOn name) (Ok (Replied ward reply moves bound))) ≡ record { client = has.request.client; call = has.request.call; reply = reply } ∷ [] =
           ap (λ named. map journal_entry_of (option_map_or (λ request. answered_by old reply moves bound request ∷ []) named [])) has.there in
           subst (λ entries. AreWardsLeft old entries new) (sym told) (answered (Done reply moves bound) new has (record { client = has.request.client; call = has.request.call; reply = reply }) refl has.leaves.journal)
       by_hop (Moved next) new has = not_answered (Moved next) new has has.leaves

@@ -4,13 +4,14 @@ use Rattle.exh_keyer.specs.declared.any_keyer.AnyKeyer.{AnyKeyer}
 use Rattle.exh_settings.specs.FileSettings.{are_same}
 use Rattle.exh_file.specs.Opened.{OpenedState, settings_in}
 use Rattle.exh_world.specs.NewWorld.{world_of_wards}
-use Rattle.exh_text.specs.declared.config.Config.{Config}
+use Rattle.exh_settings.specs.Config.{file_settings}
+use Rattle.exh_settings.specs.declared.config.Config.{Config}
 use Rattle.exh_script.specs.Text.{Beginning, new_file}
 use Rattle.exh_line.specs.declared.refusal.Refusal.TheVariants.{OtherFile}
 
 -- whether settings are those of an opened file, with any number of copies
 abbrev pub is_of_file : OpenedState → Config AnyKeyer → Bool
-is_of_file opened file = are_same (settings_in opened) file.settings
+is_of_file opened file = are_same (settings_in opened) (file_settings file)
 
 -- with these the world of its wards, each copy at the file's table; with others none
 abbrev pub opened_file : OpenedState → Beginning

@@ -16,7 +16,7 @@ use Rattle.exh_world.specs.WorldRun.{Told, answered_in, journal_entry_of}
 use Rattle.exh_world.specs.StepFunction.{result_of}
 use Rattle.exh_prefix.specs.Leading.{ward_of}
 use Rattle.exh_world.specs.World.{map_in, numbered}
-use Rattle.exh_text.specs.declared.config.Config.{Config}
+use Rattle.exh_settings.specs.declared.config.Config.{Config}
 use Rattle.exh_event.specs.declared.event.Event.TheVariants.{Begin, Hop}
 use Rattle.exh_event.specs.declared.turn.Turn.{Turn as StepTurn}
 use Rattle.exh_line.specs.LineAnswer.{answer_text, copy_text}
@@ -109,7 +109,7 @@ pub record IsScript (script : List ℕ) (settings : Settings) (lines : List (Lis
 
 -- whether an entry's call is of a ward
 abbrev pub is_of_ward : Config AnyKeyer → ℕ → JournalEntry → Bool
-is_of_ward file ward entry = ward_of file.settings.ward_bits (any_pseudokey file.settings.keyer (key_of entry.call)) == ward
+is_of_ward file ward entry = ward_of file.ward_bits (any_pseudokey file.keyer (key_of entry.call)) == ward
 
 -- what `show` prints of two copies that have taken the same differs in the copies' numbers alone
 abbrev pub ShowTheSame : ScriptWorld → List StepTurn → ScriptWorld → Type 0
@@ -129,10 +129,10 @@ pub record RepliesAsMap (script : List ℕ) (settings : Settings) (lines : List 
   -- and their answering hops are these entries
   pub entries_are : map journal_entry_of (answered_in headline.moments) ≡ entries
   -- the map machine gives these replies to these calls, one after another, from the empty map
-  pub history : IsHistory settings.file.settings.cap (any_pseudokey settings.file.settings.keyer) empty entries
+  pub history : IsHistory settings.file.cap (any_pseudokey settings.file.keyer) empty entries
   -- at the end each ward's journal is those of these calls that are of the ward, and the pages of all wards hold the map that they leave
   pub journals : (number : ℕ) (ward : WardState AnyKeyer) → slice_get (world_left (new_world settings.file) lines).wards number ≡ Some ward → ward.journal ≡ filter (is_of_ward settings.file number) entries
-  pub left : map_in (world_left (new_world settings.file) lines) ≡ map_left settings.file.settings.cap (any_pseudokey settings.file.settings.keyer) empty entries
+  pub left : map_in (world_left (new_world settings.file) lines) ≡ map_left settings.file.cap (any_pseudokey settings.file.keyer) empty entries
   -- copies that took the same are shown the same
   pub shows : ShowTheSame (new_world settings.file) (steps_from (new_world settings.file) lines) (world_left (new_world settings.file) lines)
   -- no hop strays

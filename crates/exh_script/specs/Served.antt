@@ -1,15 +1,17 @@
 -- What the server prints and leaves, for the bytes that its reader has left.
-use Rattle.std.specs.Prelude.{◌≡◌, ◌⊎◌, ◌≤◌, ℕ, List, [], ◌∷◌, ◌++◌, Option, None, IfSome, Result, length}
+use Rattle.std.specs.Prelude.{◌≡◌, ◌⊎◌, ◌<◌, ◌≤◌, ℕ, List, [], ◌∷◌, ◌++◌, Option, None, IfErr, IfSome, Result, length}
 use Rattle.exh_text.specs.TextLines.{lines_of}
 use Rattle.exh_file.specs.Opened.{OpenedState}
 use Rattle.exh_line.specs.RefusalText.{refusal_text}
-use Rattle.exh_script.specs.Text.{Beginning, Start, text_after, text_of_lines, text_of}
+use Rattle.exh_script.specs.Text.{Beginning, Start, ended_of, text_after, text_of_lines, text_of}
 use Rattle.exh_line.specs.declared.refusal.Refusal.{Refusal}
 use Rattle.exh_line.specs.declared.refusal.Refusal.TheVariants.{Read}
 use Rattle.exh_script.specs.declared.response_fault.ResponseFault.{ResponseFault}
 use Rattle.exh_script.specs.declared.response_fault.ResponseFault.TheVariants as line
 use Rattle.exh_text.specs.declared.script.TheConstants.{SCRIPT_LIMIT}
 use Rattle.exh_script.specs.Left.{left_of}
+use Rattle.exh_script.specs.declared.ended.Ended.{Ended}
+use Rattle.exh_script.specs.declared.ended.Ended.TheVariants.{Refused}
 use Rattle.exh_script.specs.declared.serve_fault.ServeFault.{ServeFault}
 use Rattle.exh_script.specs.declared.serve_fault.ServeFault.TheVariants.{Memory, Page}
 
@@ -17,6 +19,10 @@ use Rattle.exh_script.specs.declared.serve_fault.ServeFault.TheVariants.{Memory,
 abbrev pub fault_of : ResponseFault → ServeFault
 fault_of line.Memory = Memory
 fault_of line.Page = Page
+
+-- a page out of reach is told only where a store of the run's kind has counted one
+abbrev pub CountsInStore : {P T : Type 0} → (P → ℕ) → Result T ServeFault → Type 0
+CountsInStore {P} failures result = IfErr result (λ fault. fault ≡ Page → (store : P) × (0 < failures store))
 
 -- the only line where the reader failed
 unfoldable pub unread_text : List ℕ
@@ -27,6 +33,10 @@ module _ (prints : List ℕ → Type 0) where
   -- the line of a reader that failed, and no wards
   abbrev pub PrintsUnread : Option OpenedState → Type 0
   PrintsUnread left = prints unread_text × (left ≡ None)
+
+  -- and a run that is refused
+  abbrev pub EndsUnread : Ended → Type 0
+  EndsUnread ended = prints unread_text × (ended ≡ Refused)
 
   -- the text of a beginning of the lines behind the first, by where that starts the run
   pub record PrintsFrontFrom (begun : Result Start Refusal) (lines : List (List ℕ)) : Type 0 where
@@ -47,6 +57,11 @@ module _ (begin : Beginning) (prints : List ℕ → Type 0) where
   pub record PrintsWhole (known : Option (List ℕ)) (left : Option OpenedState) : Type 0 where
     pub whole : PrintsText known
     pub left_is : left ≡ left_of begin whole.script
+
+  -- and so the script's run ends
+  pub record PrintsToEnd (known : Option (List ℕ)) (ended : Ended) : Type 0 where
+    pub whole : PrintsText known
+    pub ended_is : ended ≡ ended_of begin whole.script
 
   -- the text of a beginning of these lines
   pub record PrintsFront (lines : List (List ℕ)) : Type 0 where

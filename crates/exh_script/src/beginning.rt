@@ -13,8 +13,8 @@ use exh_file::Opened;
 use exh_keyer::AnyKeyer;
 use exh_line::Refusal;
 use exh_notes::Listener;
+use exh_settings::Config;
 use exh_stores::{Pages, StoreMaker};
-use exh_text::Config;
 use exh_world::World;
 use std::alloc::{AllocError, Global};
 
@@ -28,15 +28,15 @@ pub(crate) fn begin<P: Pages + Drop, M: StoreMaker<P, AnyKeyer>, L: Listener>(
     file: &Config<AnyKeyer>,
     listener: &mut L,
 ) -> Result<Result<World<P, AnyKeyer>, Refusal>, AllocError>
-    requires some { 1 ≤ file.now.settings.cap }
-    requires most { file.now.settings.cap ≤ CAP_LIMIT }
-    requires bits { file.now.settings.ward_bits ≤ WARD_BITS_LIMIT }
+    requires some { 1 ≤ file.now.cap }
+    requires most { file.now.cap ≤ CAP_LIMIT }
+    requires bits { file.now.ward_bits ≤ WARD_BITS_LIMIT }
     ensures begun { IfOk result (λ begun. begun ≡ beginning from file.now) }
     ensures sound { IfOk result (λ begun. IfOk begun (IsSoundWorld any_pseudokey)) }
     ensures settings { IfOk result (λ begun. IfOk begun (λ world. settings_of world file.now.copies ≡ file.now)) }
 {
     match from {
-        None => Ok(Ok(World::new_over(alloc, maker, file)?)),
+        None => Ok(Ok(World::new_over(alloc, maker, *file)?)),
         Some(opened) => begin_over(alloc, opened, file, listener),
     }
 }
@@ -48,23 +48,23 @@ fn begin_over<P: Pages + Drop, L: Listener>(
     file: &Config<AnyKeyer>,
     listener: &mut L,
 ) -> Result<Result<World<P, AnyKeyer>, Refusal>, AllocError>
-    requires bits { file.now.settings.ward_bits ≤ WARD_BITS_LIMIT }
+    requires bits { file.now.ward_bits ≤ WARD_BITS_LIMIT }
     ensures begun { IfOk result (λ begun. begun ≡ opened_file opened file.now) }
     ensures sound { IfOk result (λ begun. IfOk begun (IsSoundWorld any_pseudokey)) }
     ensures settings { IfOk result (λ begun. IfOk begun (λ world. settings_of world file.now.copies ≡ file.now)) }
 {
     if !is_of_file(&opened, file) {
-        listener.differs(file.settings, opened.settings());
+        listener.differs(file.file_settings(), opened.settings());
         return Ok(Err(Refusal::OtherFile));
     }
-    Ok(Ok(World::from_wards(alloc, file, opened.into_wards())?))
+    Ok(Ok(World::from_wards(alloc, *file, opened.into_wards())?))
 }
 
 // Whether settings are those of an opened file.
 fn is_of_file<P: Pages + Drop>(opened: &Opened<P>, file: &Config<AnyKeyer>) -> bool
     ensures { result ≡ is_of_file opened.now file.now }
 {
-    opened.settings().are_same(&file.settings)
+    opened.settings().are_same(&file.file_settings())
 }
 
 /// The wards of a world of these settings, as those of a file. It takes no memory.
@@ -72,11 +72,11 @@ pub(crate) fn leave<P: Pages + Drop>(
     file: &Config<AnyKeyer>,
     world: World<P, AnyKeyer>,
 ) -> Opened<P>
-    requires some { 1 ≤ file.now.settings.cap }
-    requires most { file.now.settings.cap ≤ CAP_LIMIT }
-    requires bits { file.now.settings.ward_bits ≤ WARD_BITS_LIMIT }
+    requires some { 1 ≤ file.now.cap }
+    requires most { file.now.cap ≤ CAP_LIMIT }
+    requires bits { file.now.ward_bits ≤ WARD_BITS_LIMIT }
     requires settings { settings_of world file.now.copies ≡ file.now }
     ensures { result ≡ file_left world }
 {
-    Opened::new(file.settings, world.into_wards())
+    Opened::new(file.file_settings(), world.into_wards())
 }

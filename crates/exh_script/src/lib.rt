@@ -2,7 +2,10 @@
 //! begins.
 #![tactic(auto)]
 
+pub use doors::{load, serve, serve_from};
 pub use ended::Ended;
+pub use exh_file::Opened;
+pub use exh_settings::Config;
 pub use laws::{
     lines_go_alike, lines_keep_settings, refused_lines_leave_the_others, replies_are_one_maps,
     replies_follow_any_start,
@@ -10,12 +13,14 @@ pub use laws::{
 pub use response::push_response;
 pub use response_fault::ResponseFault;
 pub use run::Run;
+pub use run_fault::RunFault;
 pub use serve_fault::ServeFault;
 pub use serve_laws::{done_runs_leave_wards, replies_follow_the_file};
-pub use server::serve_from;
+pub use server::serve_over;
 
 mod beginning;
 mod begun;
+mod doors;
 mod ended;
 mod in_flight_text;
 mod laws;
@@ -23,6 +28,7 @@ mod respond;
 mod response;
 mod response_fault;
 mod run;
+mod run_fault;
 mod serve_fault;
 mod serve_laws;
 mod server;

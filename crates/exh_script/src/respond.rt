@@ -1,19 +1,19 @@
-ghost use Rattle.std.specs.Prelude.{◌≡◌, ◌≢◌, ◌⊎◌, ◌≤◌, ◌↔◌, [], Ok, None, IfOk, IfErr, OnOk, OnErr, IsErrOf, IsFalse, IsTrue};
+ghost use Rattle.std.specs.Prelude.{◌≡◌, ◌≢◌, ◌⊎◌, ◌++◌, ◌<◌, ◌≤◌, ◌↔◌, [], Ok, None, IfOk, IfErr, OnOk, OnErr, IsErrOf, IsFalse, IsTrue};
 ghost use Rattle.exh_keyer.specs.Pseudokey.{any_pseudokey};
 ghost use Rattle.exh_page.specs.declared.page.TheConstants.{CAP_LIMIT};
 ghost use Rattle.exh_prefix.specs.declared.prefix.TheConstants.{WARD_BITS_LIMIT};
 ghost use Rattle.exh_line.specs.RefusalText.{refusal_text};
 ghost use Rattle.exh_script.specs.Replies.{world_left};
-ghost use Rattle.exh_script.specs.Text.{start_in, text_after, text_from, text_of_lines};
+ghost use Rattle.exh_script.specs.Text.{HasCounted, after_line, line_response, response_text, start_in, text_after, text_from, text_of_lines};
 ghost use Rattle.exh_script.specs.Left.{left_after, left_of_lines};
 ghost use Rattle.exh_script.specs.OpenedScript.{beginning};
-ghost use Rattle.exh_script.specs.Served.{PrintsFront, PrintsFrontFrom};
+ghost use Rattle.exh_script.specs.Served.{CountsInStore, fault_of, PrintsFront, PrintsFrontFrom};
 ghost use Rattle.exh_stream.specs.Output.{SameWriter, Takes, TakesBeginning, writer_failed};
 ghost use Rattle.exh_text.specs.TextLines.{lines_of};
 ghost use Rattle.exh_world.specs.Sound.{IsSoundWorld};
 
 use crate::beginning::{begin, leave};
-use crate::{Run, ServeFault, lines_keep_settings, push_response};
+use crate::{ResponseFault, Run, ServeFault, lines_keep_settings, push_response};
 use exh_file::Opened;
 use exh_keyer::AnyKeyer;
 use exh_line::{Refusal, push_refusal};
@@ -43,6 +43,7 @@ pub(crate) fn respond<P: Pages + Drop, M: StoreMaker<P, AnyKeyer>, W: Write, L: 
     ensures err { OnErr result (TakesBeginning W.contents output.old output.new (text_of_lines (beginning from) (lines_of script.now))) }
     ensures front { IfErr result (λ fault. fault ≢ ServeFault.Write → Takes W.contents output.old output.new []
         ⊎ PrintsFront (beginning from) (Takes W.contents output.old output.new) (lines_of script.now)) }
+    ensures counted { CountsInStore P.failures result }
     ensures failed { IsErrOf result ServeFault.Write ↔ IsTrue (writer_failed output.new) }
 {
     let mut lines = Lines::new(script);
@@ -72,6 +73,7 @@ pub(crate) fn refuse<P: Pages + Drop, W: Write>(
     ensures left { IfOk result (λ left. left ≡ None) }
     ensures err { OnErr result (TakesBeginning W.contents output.old output.new (refusal_text refusal)) }
     ensures front { IfErr result (λ fault. fault ≢ ServeFault.Write → Takes W.contents output.old output.new []) }
+    ensures counted { CountsInStore P.failures result }
     ensures failed { IsErrOf result ServeFault.Write ↔ IsTrue (writer_failed output.new) }
 {
     let mut text = Vec::new(alloc);
@@ -92,15 +94,16 @@ fn serve_file<P: Pages + Drop, M: StoreMaker<P, AnyKeyer>, W: Write, L: Listener
     listener: &mut L,
 ) -> Result<Option<Opened<P>>, ServeFault>
     requires open { IsFalse (writer_failed output.old) }
-    requires some { 1 ≤ settings.now.file.settings.cap }
-    requires most { settings.now.file.settings.cap ≤ CAP_LIMIT }
-    requires bits { settings.now.file.settings.ward_bits ≤ WARD_BITS_LIMIT }
+    requires some { 1 ≤ settings.now.file.cap }
+    requires most { settings.now.file.cap ≤ CAP_LIMIT }
+    requires bits { settings.now.file.ward_bits ≤ WARD_BITS_LIMIT }
     ensures same_writer { SameWriter output.old output.new }
     ensures text { OnOk result (Takes W.contents output.old output.new (text_after (start_in settings.now.tells_moves (beginning from settings.now.file)) lines.entry)) }
     ensures left { IfOk result (λ left. left ≡ left_after (start_in settings.now.tells_moves (beginning from settings.now.file)) lines.entry) }
     ensures err { OnErr result (TakesBeginning W.contents output.old output.new (text_after (start_in settings.now.tells_moves (beginning from settings.now.file)) lines.entry)) }
     ensures front { IfErr result (λ fault. fault ≢ ServeFault.Write → Takes W.contents output.old output.new []
         ⊎ PrintsFrontFrom (Takes W.contents output.old output.new) (start_in settings.now.tells_moves (beginning from settings.now.file)) lines.entry) }
+    ensures counted { CountsInStore P.failures result }
     ensures failed { IsErrOf result ServeFault.Write ↔ IsTrue (writer_failed output.new) }
 {
     lines_keep_settings();
@@ -132,14 +135,45 @@ fn answer_lines<P: Pages + Drop, W: Write, L: Listener>(
     ensures world { OnOk result (run.new.world ≡ world_left run.old.world lines.entry) }
     ensures err { OnErr result (TakesBeginning W.contents output.old output.new (text_from run.old.tells_moves run.old.world lines.entry)) }
     ensures front { IfErr result (λ fault. fault ≢ ServeFault.Write → PrintsFrontFrom (Takes W.contents output.old output.new) (start_in run.old.tells_moves (Ok run.old.world)) lines.entry) }
+    ensures counted { CountsInStore P.failures result }
     ensures failed { IsErrOf result ServeFault.Write ↔ IsTrue (writer_failed output.new) }
 {
     let mut text = Vec::new(alloc);
     for line in lines {
         text.clear();
-        push_response(&mut text, run, line)?;
+        push_line(&mut text, run, line)?;
         output.push(&text)?;
         listener.answered(script, line, &text);
     }
     Ok(())
+}
+
+// Answers a line as `push_response` does. A page out of reach is one that a store has counted.
+fn push_line<P: Pages + Drop>(
+    out: &mut Vec<u8>,
+    run: &mut Run<P>,
+    line: &[u8],
+) -> Result<(), ServeFault>
+    requires { IsSoundWorld any_pseudokey run.old.world }
+    ensures text { OnOk result (out.new.items ≡ out.old.items ++ response_text (line_response run.old.tells_moves run.old.world line.now)) }
+    ensures world { OnOk result (run.new.world ≡ after_line run.old.world line.now) }
+    ensures sound { IsSoundWorld any_pseudokey run.new.world }
+    ensures telling { run.new.tells_moves ≡ run.old.tells_moves }
+    ensures written { IsErrOf result ServeFault.Write → ⊥ }
+    ensures counted { CountsInStore P.failures result }
+{
+    match push_response(out, run, line) {
+        Ok(()) => Ok(()),
+        Err(fault) => Err(fault_in(run, fault)),
+    }
+}
+
+// Why a run ends at a line that has no response. It asks the stores, one of which has counted a page out of reach.
+fn fault_in<P: Pages + Drop>(run: &Run<P>, fault: ResponseFault) -> ServeFault
+    requires { fault ≡ ResponseFault.Page → HasCounted run.now.world }
+    ensures is { result ≡ fault_of fault }
+    ensures counted { result ≡ ServeFault.Page → (store : P) × (0 < P.failures store) }
+{
+    run.world.most_failures();
+    fault.into()
 }

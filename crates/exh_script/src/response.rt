@@ -200,7 +200,7 @@ fn push_page_shown<P: Pages + Drop>(
     ensures counted { IsErrOf result ResponseFault.Page → CountsPageFault world.old world.new }
     ensures memory { IsErrOf result ResponseFault.Memory → world.new ≡ world.old }
 {
-    match world.head(ward, page) {
+    match world.page_line(ward, page) {
         Ok(head) => Ok(push_page(out, ward, page, head)?),
         Err(StepFault::Ward(WardFault::Memory)) => Err(ResponseFault::Memory),
         Err(StepFault::Ward(WardFault::Page)) => Err(ResponseFault::Page),

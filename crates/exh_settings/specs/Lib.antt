@@ -1,3 +1,4 @@
 pub mod Keyers
 pub mod FileSettings
+pub mod Config
 pub mod StormConfig

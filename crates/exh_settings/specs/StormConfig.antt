@@ -2,8 +2,8 @@
 use Rattle.std.specs.Prelude.{◌≤◌}
 use Rattle.exh_page.specs.declared.page.TheConstants.{CAP_LIMIT}
 use Rattle.exh_prefix.specs.declared.prefix.TheConstants.{WARD_BITS_LIMIT}
-use Rattle.exh_settings.specs.declared.config.StormConfig.{StormConfig}
-use Rattle.exh_settings.specs.declared.config.TheConstants.{CALLERS_LIMIT, CALLS_LIMIT, COPIES_LIMIT}
+use Rattle.exh_settings.specs.declared.storm_config.StormConfig.{StormConfig}
+use Rattle.exh_settings.specs.declared.storm_config.TheConstants.{CALLERS_LIMIT, CALLS_LIMIT, COPIES_LIMIT}
 
 -- one caller at least, each of whom makes one call at least, one record a page and one copy of the directory; and no more of any than the limits
 pub record IsStormConfig (config : StormConfig) : Type 0 where

@@ -1,21 +1,27 @@
-//! The settings of a storm.
+ghost use Rattle.std.specs.Prelude.{◌≡◌};
+ghost use Rattle.exh_settings.specs.Config.{file_settings};
 
-/// The most callers of a storm.
-pub const CALLERS_LIMIT: u8 = 16;
+use crate::FileSettings;
 
-/// The most calls of one caller of a storm.
-pub const CALLS_LIMIT: u32 = 10_000;
-
-/// The most copies of the directory in a storm.
-pub const COPIES_LIMIT: u8 = 8;
-
-/// The settings of a storm: 1 to 16 callers; 1 to 10,000 calls of each; at most `cap` records a page, 1
-/// to 16; 2^`ward_bits` wards, by 0 to 4 leading bits of pseudokeys; and 1 to 8 copies of the directory.
+/// The settings of a world: a page holds at most `cap` records, 1 to 16; the file is cut into 2^`ward_bits` wards, by
+/// 0 to 4 leading bits of pseudokeys; there are so many `copies` of the directory, 1 to 8; and the file's keyer.
 #[derive(Clone, Copy)]
-pub struct StormConfig {
-    pub callers: u8,
-    pub calls: u32,
-    pub cap: usize,
+pub struct Config<K> {
+    pub cap: u8,
     pub ward_bits: u8,
-    pub copies: u8,
+    pub copies: u32,
+    pub keyer: K,
+}
+
+impl<K: Copy> Config<K> {
+    /// The settings of the world's file, which are all but the count of copies.
+    pub fn file_settings(&self) -> FileSettings<K>
+        ensures { result ≡ file_settings self.now }
+    {
+        FileSettings {
+            cap: self.cap,
+            ward_bits: self.ward_bits,
+            keyer: self.keyer,
+        }
+    }
 }

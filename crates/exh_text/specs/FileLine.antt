@@ -10,7 +10,7 @@ use Rattle.exh_text.specs.LineFault.{ranged}
 use Rattle.exh_text.specs.TextLines.{words_of}
 use Rattle.exh_text.specs.Numbers.{◌>>=◌, after_prefix, number_after}
 use Rattle.exh_text.specs.declared.line_fault.LineFault.{LineFault}
-use Rattle.exh_text.specs.declared.config.Config.{Config}
+use Rattle.exh_settings.specs.declared.config.Config.{Config}
 use Rattle.exh_text.specs.declared.file_line.TheConstants.{COPIES_LIMIT}
 use Rattle.exh_text.specs.declared.settings.Settings.{Settings}
 
@@ -34,7 +34,7 @@ spelled_settings (cap ∷ wards ∷ copies ∷ keyer ∷ moves) = do
   copies ← number_after (codes "copies=") copies
   keyer ← keyer_of keyer
   tells_moves ← telling_of moves
-  Some (record { file = record { settings = record { cap = cap; ward_bits = ward_bits; keyer = keyer }; copies = copies }; tells_moves = tells_moves })
+  Some (record { file = record { cap = cap; ward_bits = ward_bits; copies = copies; keyer = keyer }; tells_moves = tells_moves })
 spelled_settings words = None
 
 -- `file` and the settings
@@ -45,7 +45,7 @@ spelled_file (keyword ∷ words) = if bytes_eq keyword (codes "file") then spell
 -- ---- ranges
 
 abbrev pub file_in_range : Config AnyKeyer → Bool
-file_in_range file = is_in_range 1 CAP_LIMIT file.settings.cap && is_in_range 0 WARD_BITS_LIMIT file.settings.ward_bits && is_in_range 1 COPIES_LIMIT file.copies
+file_in_range file = is_in_range 1 CAP_LIMIT file.cap && is_in_range 0 WARD_BITS_LIMIT file.ward_bits && is_in_range 1 COPIES_LIMIT file.copies
 
 abbrev pub settings_in_range : Settings → Bool
 settings_in_range settings = file_in_range settings.file

@@ -2,11 +2,11 @@ ghost use Rattle.std.specs.Prelude.{◌≡◌, IfOk, IsTrue};
 ghost use Rattle.exh_text.specs.LineFault.{ranged};
 ghost use Rattle.exh_text.specs.FileLine.{file_line_of, keyer_of, settings_in_range, spelled_settings, telling_of};
 
-use crate::{Config, LineFault, Parts, Settings, parse_u32_after, split_words};
+use crate::{LineFault, Parts, Settings, parse_u32_after, split_words};
 use exh_keyer::AnyKeyer;
 use exh_page::CAP_LIMIT;
 use exh_prefix::WARD_BITS_LIMIT;
-use exh_settings::{FileSettings, keyer_named};
+use exh_settings::{Config, keyer_named};
 
 /// The most copies of the directory that a file has.
 pub const COPIES_LIMIT: u32 = 8;
@@ -47,12 +47,12 @@ fn parse_settings(mut words: Parts<'_>) -> Result<Settings, LineFault>
     {
         return Err(LineFault::Range);
     }
-    let settings = FileSettings {
+    let file = Config {
         cap: cap as u8,
         ward_bits: ward_bits as u8,
+        copies,
         keyer,
     };
-    let file = Config { settings, copies };
     Ok(Settings { file, tells_moves })
 }
 

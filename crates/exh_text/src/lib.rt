@@ -3,7 +3,6 @@
 #![tactic(auto)]
 
 pub use byte_word::{ByteWord, parse_key, parse_pair};
-pub use config::Config;
 pub use contents::{push_entry, push_entry_line, push_forward_page, push_live_page};
 pub use file_line::{COPIES_LIMIT, parse_file_line};
 pub use laws::{
@@ -20,7 +19,6 @@ pub use script::SCRIPT_LIMIT;
 pub use settings::Settings;
 
 mod byte_word;
-mod config;
 mod contents;
 mod file_line;
 mod laws;

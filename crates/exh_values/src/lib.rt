@@ -26,3 +26,5 @@ mod page_doors;
 mod texts;
 #[cfg(test)]
 mod walks;
+#[cfg(test)]
+mod world_doors;

@@ -24,6 +24,7 @@ use std::marker::Model;
 mod buddy_sum;
 mod change;
 mod distance;
+mod failures;
 mod from_pages;
 mod history;
 mod hop;

@@ -10,10 +10,10 @@ use Rattle.exh_calls.specs.declared.call.Call.{Call}
 use Rattle.exh_event.specs.declared.event.Event.{Event}
 use Rattle.exh_event.specs.declared.event.Event.TheVariants.{Begin, Hop as HopOn, Split, Merge, Deliver, Send, Combine, Restart}
 use Rattle.exh_event.specs.declared.outcome.Outcome.{Outcome}
-use Rattle.exh_event.specs.declared.outcome.Outcome.TheVariants.{Changed, Hopped}
+use Rattle.exh_event.specs.declared.outcome.Outcome.TheVariants.{Changed}
 use Rattle.exh_event.specs.declared.step_fault.StepFault.{StepFault}
 use Rattle.exh_event.specs.declared.step_fault.StepFault.TheVariants.{NoCopy, NoRequest, NoWard, NoNotice, NoTable}
-use Rattle.exh_event.specs.EventProgress.{progress_with}
+use Rattle.exh_event.specs.EventProgress.{progress_with, hop_outcome}
 use Rattle.exh_page.specs.declared.page.Page.{Page}
 use Rattle.exh_page.specs.declared.page.Page.TheVariants.{Live, Forward}
 use Rattle.exh_prefix.specs.Leading.{ward_of}
@@ -134,7 +134,7 @@ module _ {K : Type 0} (pseudokey_of : K → List ℕ → ℕ) where
   hop_alike : (world : WorldState K) (name : ℕ) (request : Request) (ward : WardState K) (hop : Hop) → hopped pseudokey_of (uncounted world) name request (bare ward) hop ≡ told (hopped pseudokey_of world name request ward hop)
   hop_alike world name request ward hop =
       let requests = requests_after name hop world.in_flight in
-      let told_of : List Notice → Result Outcome StepFault = λ changes. Ok (Hopped request.ward (progress_with hop request.moves (request.distance + (length changes - request.changes)))) in
+      let told_of : List Notice → Result Outcome StepFault = λ changes. Ok (hop_outcome request.ward (progress_with hop request.moves (request.distance + (length changes - request.changes)))) in
       ap (λ changes. (told_of changes, record world { wards = slice_set (map bare world.wards) request.ward (ward_after_hop pseudokey_of (bare ward) request hop); in_flight = requests })) (changes_same world request.ward)
       ∙ ap (λ left. (told_of (changes_in world request.ward), record world { wards = slice_set (map bare world.wards) request.ward left; in_flight = requests })) (hop_left ward request hop)
       ∙ ap (λ wards. (told_of (changes_in world request.ward), record world { wards = wards; in_flight = requests })) (sym (map-set bare world.wards request.ward (ward_after_hop pseudokey_of ward request hop)))

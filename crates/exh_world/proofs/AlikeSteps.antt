@@ -11,11 +11,10 @@ use Rattle.exh_calls.specs.declared.call.Call.{Call}
 use Rattle.exh_event.specs.declared.event.Event.{Event}
 use Rattle.exh_event.specs.declared.event.Event.TheVariants.{Begin, Hop as HopOn, Split, Merge, Deliver, Send, Combine, Restart}
 use Rattle.exh_event.specs.declared.outcome.Outcome.{Outcome}
-use Rattle.exh_event.specs.declared.outcome.Outcome.TheVariants.{Begun, Hopped}
-use Rattle.exh_event.specs.declared.progress.Progress.{Progress}
+use Rattle.exh_event.specs.declared.outcome.Outcome.TheVariants.{Begun}
 use Rattle.exh_event.specs.declared.step_fault.StepFault.{StepFault}
 use Rattle.exh_event.specs.declared.step_fault.StepFault.TheVariants.{NameTaken, NoCopy, NoRequest, NoWard, NoNotice, NoTable, Ward}
-use Rattle.exh_event.specs.EventProgress.{hop_in, progress_with}
+use Rattle.exh_event.specs.EventProgress.{hop_in, progress_with, Progress, hop_outcome}
 use Rattle.exh_page.specs.declared.record.Record.{Record}
 use Rattle.exh_ward.specs.WardState.{WardState, LeavesAfter}
 use Rattle.exh_ward.specs.MergeStep.{IsLeftChild, IsMergeStep}
@@ -30,7 +29,7 @@ use Rattle.exh_world.specs.AlikeLemmas.{counting, fault_alike, fault_too, ward_t
 use Rattle.exh_world.specs.InFlight.{requests_after}
 use Rattle.exh_world.specs.Step.{HasBegun, HasHopped, HasChanged, HasEffect, IsChangeRefused, IsRefused, ReachesInto, Step, pseudokey_in, request_begun}
 use Rattle.exh_world.specs.World.{WorldState, changes_in}
-use Rattle.exh_world.specs.StepEffectLemmas.{on_effect}
+use Rattle.exh_world.specs.StepEffectLemmas.{hopped_step, on_effect}
 use Rattle.exh_world.specs.WorldListLemmas.{altered_has}
 
 -- ---- wards
@@ -123,14 +122,14 @@ module _ {K : Type 0} (pseudokey_of : K → List ℕ → ℕ) (old : WorldState 
         ap uncounted has.after ∙ ap (λ changes. record (uncounted old) { in_flight = requests changes }) (changes_alike ward) ∙ ap (λ ws. record twin { wards = ws; in_flight = requests (changes_in twin ward) }) same,
       )
 
-  hopped : (name ward : ℕ) (hop : Progress) (new : WorldState K) → HasHopped pseudokey_of old name ward hop new → Follows (HopOn name) (Ok (Hopped ward hop)) new
+  hopped : (name ward : ℕ) (hop : Progress) (new : WorldState K) → HasHopped pseudokey_of old name ward hop new → Follows (HopOn name) (Ok (hop_outcome ward hop)) new
   hopped name ward hop new has =
       let found = ward_there old.wards wards same ward has.before has.found in
       let left = counting found.0 has.left in
       let requests = requests_after name (hop_in hop) old.in_flight in
       let bound = λ (changes : List Notice). progress_with (hop_in hop) has.request.moves (has.request.distance + (length changes - has.request.changes)) in (
         record twin { wards = slice_set wards ward left; in_flight = requests },
-        record {
+        hopped_step pseudokey_of twin name ward hop (record twin { wards = slice_set wards ward left; in_flight = requests }) (record {
           request = has.request;
           there = has.there;
           ward_is = has.ward_is;
@@ -141,7 +140,7 @@ module _ {K : Type 0} (pseudokey_of : K → List ℕ → ℕ) (old : WorldState 
           left = left;
           leaves = leaves_after pseudokey_of found.0 has.before has.request.page has.request.client has.request.call (hop_in hop) has.left has.leaves;
           after = refl;
-        },
+        }),
         ap uncounted has.after ∙ ap (λ ws. record old { wards = ws; in_flight = requests }) (set_alike old.wards wards same ward found.0 has.left),
       )
 

@@ -14,19 +14,18 @@ use Rattle.exh_world.specs.World.{WorldState}
 use Rattle.exh_event.specs.declared.event.Event.{Event}
 use Rattle.exh_event.specs.declared.event.Event.TheVariants.{Hop as HopOn}
 use Rattle.exh_event.specs.declared.outcome.Outcome.{Outcome}
-use Rattle.exh_event.specs.declared.outcome.Outcome.TheVariants.{Hopped}
-use Rattle.exh_event.specs.declared.progress.Progress.{Progress}
-use Rattle.exh_event.specs.declared.progress.Progress.TheVariants.{Done, Moved, MustSplit, Stray}
+use Rattle.exh_event.specs.declared.outcome.Outcome.TheVariants.{Replied}
+use Rattle.exh_event.specs.EventProgress.{Progress, Done, Moved, MustSplit, Stray, hop_outcome}
 use Rattle.exh_event.specs.declared.step_fault.StepFault.{StepFault}
 
 module _ {K : Type 0} (pseudokey_of : K → List ℕ → ℕ) (old : WorldState K) (sound : IsSoundWorld pseudokey_of old) where
-  hop_bounded : (name ward : ℕ) (hop : Progress) (new : WorldState K) → HasHopped pseudokey_of old name ward hop new → AllByRecursion IsBounded (answered_at old (HopOn name) (Ok (Hopped ward hop)))
+  hop_bounded : (name ward : ℕ) (hop : Progress) (new : WorldState K) → HasHopped pseudokey_of old name ward hop new → AllByRecursion IsBounded (answered_at old (HopOn name) (Ok (hop_outcome ward hop)))
   hop_bounded name ward (Moved next) new has = tt
   hop_bounded name ward MustSplit new has = tt
   hop_bounded name ward Stray new has = tt
   hop_bounded name ward (Done reply moves bound) new has =
       let request = has.request in
-      let told : answered_at old (HopOn name) (Ok (Hopped ward (Done reply moves bound))) ≡ answered_by old reply moves bound request ∷ [] = ap (λ found. option_map_or (λ request. answered_by old reply moves bound request ∷ []) found []) has.there in
+      let told : answered_at old (HopOn name) (Ok (Replied ward reply moves bound)) ≡ answered_by old reply moves bound request ∷ [] = ap (λ found. option_map_or (λ request. answered_by old reply moves bound request ∷ []) found []) has.there in
       let way : IsOnTheWay pseudokey_of old request = all_named (IsOnTheWay pseudokey_of old) name old.in_flight request sound.requests has.there in
       let counted : Done reply moves bound ≡ Done reply request.moves (bound_in old request) = has.counted in
       let moves_are : moves ≡ request.moves = cc in

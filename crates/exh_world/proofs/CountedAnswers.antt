@@ -21,8 +21,7 @@ use Rattle.exh_world.specs.RequestProgress.{bound_in}
 use Rattle.exh_world.specs.Sound.{IsOnTheWay, IsSoundWorld}
 use Rattle.exh_world.specs.Step.{HasBegun, HasHopped, pseudokey_in}
 use Rattle.exh_world.specs.World.{WorldState, changes_in, numbered}
-use Rattle.exh_event.specs.declared.progress.Progress.{Progress}
-use Rattle.exh_event.specs.declared.progress.Progress.TheVariants.{Done, Moved, MustSplit, Stray}
+use Rattle.exh_event.specs.EventProgress.{Progress, Done, Moved, MustSplit, Stray}
 use Rattle.exh_world.specs.declared.request.Request.{Request}
 use Rattle.exh_world.specs.Current.{IsCurrentIn, LooksOnce}
 use Rattle.exh_world.specs.Counted.{IsAway, GoesOn, TellsMoves}

@@ -18,7 +18,8 @@ use Rattle.exh_world.specs.NewWorld.{new_world}
 use Rattle.exh_world.specs.Sound.{LeadsRight, LeadsRightIn, IsWardOf, IsSoundWorld}
 use Rattle.exh_world.specs.World.{WorldState}
 use Rattle.exh_world.specs.InFlight.{Requests}
-use Rattle.exh_text.specs.declared.config.Config.{Config}
+use Rattle.exh_settings.specs.Config.{file_settings}
+use Rattle.exh_settings.specs.declared.config.Config.{Config}
 use Rattle.exh_world.specs.WorldListLemmas.{mapped_is, numbered_is, numbered_none}
 use Rattle.exh_world.proofs.ToldTruly.{new_told}
 
@@ -36,9 +37,9 @@ none_noticed n k count before noticed n_is none k_is is =
 module _ {K : Type 0} (config : Config K) where
   abbrev pub made_of : List (WardState K) → TableMap → List ℕ → List TableMap → List TableMap → Requests → WorldState K
   made_of wards start noticed copies sent in_flight = record {
-    cap = config.settings.cap;
-    ward_bits = config.settings.ward_bits;
-    keyer = config.settings.keyer;
+    cap = config.cap;
+    ward_bits = config.ward_bits;
+    keyer = config.keyer;
     wards = wards;
     start = start;
     noticed = noticed;
@@ -63,8 +64,8 @@ module _ {K : Type 0} (pseudokey_of : K → List ℕ → ℕ) where
   abbrev pub AreSoundWards : List (WardState K) → Type 0
   AreSoundWards wards = (number : ℕ) (ward : WardState K) → slice_get wards number ≡ Some ward → IsSoundWard pseudokey_of ward
 
-  module _ (config : Config K) (words : (keyer : K) (key : List ℕ) → pseudokey_of keyer key < 2 ^ 64) (bits : config.settings.ward_bits ≤ WARD_BITS_LIMIT) (sound : AreSoundWards (new_world config).wards) where
-    new_is_ward : (number : ℕ) → number < 2 ^ config.settings.ward_bits → IsSoundWard pseudokey_of (new_ward config.settings number) → IsWardOf pseudokey_of (new_world config) number (new_ward config.settings number)
+  module _ (config : Config K) (words : (keyer : K) (key : List ℕ) → pseudokey_of keyer key < 2 ^ 64) (bits : config.ward_bits ≤ WARD_BITS_LIMIT) (sound : AreSoundWards (new_world config).wards) where
+    new_is_ward : (number : ℕ) → number < 2 ^ config.ward_bits → IsSoundWard pseudokey_of (new_ward (file_settings config) number) → IsWardOf pseudokey_of (new_world config) number (new_ward (file_settings config) number)
     new_is_ward number within is = record {
       cap = refl;
       bits = refl;
@@ -72,7 +73,7 @@ module _ {K : Type 0} (pseudokey_of : K → List ℕ → ℕ) where
       keyer = refl;
       sound = is;
       before = 0;
-      noticed = replicate_there (2 ^ config.settings.ward_bits) 0 number within;
+      noticed = replicate_there (2 ^ config.ward_bits) 0 number within;
       first = omega arith;
       started = λ prefix front. since_nothing prefix;
       directory = λ prefix. (λ leaf. leaf, λ leaf. leaf);
@@ -81,13 +82,13 @@ module _ {K : Type 0} (pseudokey_of : K → List ℕ → ℕ) where
     pub new_sound : IsSoundWorld pseudokey_of (new_world config)
     new_sound = record {
       bits = omega (arith, bits);
-      words = words config.settings.keyer;
-      count = length-map-range_with_len (new_ward config.settings) 0 (2 ^ config.settings.ward_bits);
+      words = words config.keyer;
+      count = length-map-range_with_len (new_ward (file_settings config)) 0 (2 ^ config.ward_bits);
       wards = λ number ward is.
-          let here = mapped_is (new_ward config.settings) (2 ^ config.settings.ward_bits) number ward is in
+          let here = mapped_is (new_ward (file_settings config)) (2 ^ config.ward_bits) number ward is in
           subst (IsWardOf pseudokey_of (new_world config) number) (sym here.1) (new_is_ward number here.0 (subst (IsSoundWard pseudokey_of) here.1 (sound number ward is)));
-      start = λ number ward is. no_splits (ward_prefix config.settings.ward_bits number) ward.pages;
-      copies = λ copy table is. subst (LeadsRightIn (new_world config)) (sym (numbered_is config.copies fin.empty table copy is)) (λ number ward is. no_splits (ward_prefix config.settings.ward_bits number) ward.pages);
+      start = λ number ward is. no_splits (ward_prefix config.ward_bits number) ward.pages;
+      copies = λ copy table is. subst (LeadsRightIn (new_world config)) (sym (numbered_is config.copies fin.empty table copy is)) (λ number ward is. no_splits (ward_prefix config.ward_bits number) ward.pages);
       sent = λ number table is. absurd (numbered_none number table is);
       told = new_told config;
       requests = tt;

@@ -16,7 +16,7 @@ use Rattle.exh_ward.specs.WardState.{WardState, own_prefix}
 use Rattle.exh_world.specs.NewWorld.{AreWardsFor, tables_joined, world_of_wards}
 use Rattle.exh_world.specs.WorldListLemmas.{map_from, map_there, numbered_is, numbered_none}
 use Rattle.exh_world.specs.World.{WorldState}
-use Rattle.exh_text.specs.declared.config.Config.{Config}
+use Rattle.exh_settings.specs.declared.config.Config.{Config}
 use Rattle.exh_world.specs.Tables.{TellsTruly, IsToldTruly}
 use Rattle.exh_world.proofs.FreshWorld.{AreSoundWards}
 use Rattle.exh_world.proofs.NoticeEntries.{join_up}
@@ -44,15 +44,15 @@ all_up prefix bound first (table ∷ tables) own each = all_up prefix bound (tab
 
 -- ---- the world
 
-module _ {K : Type 0} (pseudokey_of : K → List ℕ → ℕ) (config : Config K) (wards : List (WardState K)) (count : length wards ≡ 2 ^ config.settings.ward_bits) (each : AreWardsFor config wards) (sound : AreSoundWards pseudokey_of wards) where
+module _ {K : Type 0} (pseudokey_of : K → List ℕ → ℕ) (config : Config K) (wards : List (WardState K)) (count : length wards ≡ 2 ^ config.ward_bits) (each : AreWardsFor config wards) (sound : AreSoundWards pseudokey_of wards) where
   abbrev start : TableMap
   start = tables_joined wards
 
   abbrev given : WorldState K
   given = world_of_wards config wards
 
-  module _ (number : ℕ) (ward : WardState K) (is : slice_get wards number ≡ Some ward) (prefix : List _) (front : IsFront (ward_prefix config.settings.ward_bits number) prefix) where
-    fits : (other : ℕ) (one : WardState K) → slice_get wards other ≡ Some one → other < 2 ^ config.settings.ward_bits
+  module _ (number : ℕ) (ward : WardState K) (is : slice_get wards number ≡ Some ward) (prefix : List _) (front : IsFront (ward_prefix config.ward_bits number) prefix) where
+    fits : (other : ℕ) (one : WardState K) → slice_get wards other ≡ Some one → other < 2 ^ config.ward_bits
     fits other one there = subst (λ n. other < n) count (slice_get_within wards other one there)
 
     -- what a ward's table has at a prefix of this ward, this ward's has: it is of this ward
@@ -60,9 +60,9 @@ module _ {K : Type 0} (pseudokey_of : K → List ℕ → ℕ) (config : Config K
     own_alone other one there None has = tt
     own_alone other one there (Some entry) has =
         let suits = each other one there in
-        let own_is : own_prefix one ≡ ward_prefix config.settings.ward_bits other = ap (λ bits. ward_prefix bits one.number) suits.bits ∙ ap (ward_prefix config.settings.ward_bits) suits.number_is in
-        let within : IsFront (ward_prefix config.settings.ward_bits other) prefix = subst (λ p. IsFront p prefix) own_is ((sound other one there).legal.fits.entries prefix entry has).within in
-        let here : other ≡ number = one_front config.settings.ward_bits other number prefix (fits other one there) (fits number ward is) within front in
+        let own_is : own_prefix one ≡ ward_prefix config.ward_bits other = ap (λ bits. ward_prefix bits one.number) suits.bits ∙ ap (ward_prefix config.ward_bits) suits.number_is in
+        let within : IsFront (ward_prefix config.ward_bits other) prefix = subst (λ p. IsFront p prefix) own_is ((sound other one there).legal.fits.entries prefix entry has).within in
+        let here : other ≡ number = one_front config.ward_bits other number prefix (fits other one there) (fits number ward is) within front in
         let same : one ≡ ward = one_there wards number one ward (subst (λ n. slice_get wards n ≡ Some one) here there) is in
         subst (λ e. IsOptionUpTo e (get ward.table prefix)) (ap (λ (w : WardState K). get w.table prefix) (sym same) ∙ has) (up_to_itself (get ward.table prefix))
 

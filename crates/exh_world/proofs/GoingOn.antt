@@ -16,10 +16,10 @@ use Rattle.exh_ward.specs.declared.hop.Hop.TheVariants as hops
 use Rattle.exh_ward.specs.Distance.{IsDistance}
 use Rattle.exh_route.specs.DistanceLaws.{StepsAddChanges}
 use Rattle.exh_route.specs.RouteLaws.{CanGoOn, MovesComeNearer, RunsKeepWardsSound}
-use Rattle.exh_world.specs.StepEffectLemmas.{on_effect, on_refusal}
+use Rattle.exh_world.specs.StepEffectLemmas.{hopped_step, on_effect, on_refusal}
 use Rattle.exh_world.specs.InFlight.{request_named, requests_after}
 use Rattle.exh_world.specs.WorldLaws.{StepsKeepWorldsSound}
-use Rattle.exh_event.specs.EventProgress.{hop_in}
+use Rattle.exh_event.specs.EventProgress.{hop_in, Progress, Done, Moved, MustSplit, Stray, hop_outcome}
 use Rattle.exh_world.specs.RequestLemmas.{all_named}
 use Rattle.exh_world.specs.WorldRun.{Moment, IsRun}
 use Rattle.exh_world.specs.Sound.{IsOnTheWay, IsSoundWorld}
@@ -28,9 +28,6 @@ use Rattle.exh_world.specs.World.{WorldState, changes_in}
 use Rattle.exh_event.specs.declared.event.Event.{Event}
 use Rattle.exh_event.specs.declared.event.Event.TheVariants.{Hop as HopOn}
 use Rattle.exh_event.specs.declared.outcome.Outcome.{Outcome}
-use Rattle.exh_event.specs.declared.outcome.Outcome.TheVariants.{Hopped}
-use Rattle.exh_event.specs.declared.progress.Progress.{Progress}
-use Rattle.exh_event.specs.declared.progress.Progress.TheVariants.{Done, Moved, MustSplit, Stray}
 use Rattle.exh_world.specs.declared.request.Request.{Request}
 use Rattle.exh_event.specs.declared.step_fault.StepFault.{StepFault}
 use Rattle.exh_world.specs.Counted.{moves_by, moves_over, IsAway, LeavesOpen, GoesOn}
@@ -172,7 +169,7 @@ module _ {K : Type 0} (pseudokey_of : K → List ℕ → ℕ) (steps : StepsAddC
   -- another request's hop, or one that leaves the requests as they are
   other_hop : (other ward : ℕ) (hop : Progress) (new : WorldState K) → HasHopped pseudokey_of old other ward hop new → request_named name (requests_after other (hop_in hop) old.in_flight) ≡ Some request → GoesOn old name request distance 0 new
   other_hop other ward hop new has there =
-      put new (ap (λ (w : WorldState K). request_named name w.in_flight) has.after ∙ there) (step_turn pseudokey_of old sound (HopOn other) (Ok (Hopped ward hop)) new has)
+      put new (ap (λ (w : WorldState K). request_named name w.in_flight) has.after ∙ there) (step_turn pseudokey_of old sound (HopOn other) (Ok (hop_outcome ward hop)) new (hopped_step pseudokey_of old other ward hop new has))
 
   -- its own hop, which moves it on
   own_move : (ward next : ℕ) (new : WorldState K) → HasHopped pseudokey_of old name ward (Moved next) new → GoesOn old name request distance 1 new
@@ -181,8 +178,8 @@ module _ {K : Type 0} (pseudokey_of : K → List ℕ → ℕ) (steps : StepsAddC
       let P : Request → Type 0 = λ r. IsAway old r distance → GoesOn old name r distance 1 new in
       subst P (sym same) (moved pseudokey_of old sound moves name ward next new has distance) away
 
-  hopped_on : (other ward : ℕ) (hop : Progress) (new : WorldState K) → HasHopped pseudokey_of old other ward hop new → LeavesOpen name (HopOn other) (Ok (Hopped ward hop)) → (same : Bool) → eqb name other ≡ same
-      → GoesOn old name request distance (moves_by name (HopOn other) (Ok (Hopped ward hop))) new
+  hopped_on : (other ward : ℕ) (hop : Progress) (new : WorldState K) → HasHopped pseudokey_of old other ward hop new → LeavesOpen name (HopOn other) (Ok (hop_outcome ward hop)) → (same : Bool) → eqb name other ≡ same
+      → GoesOn old name request distance (moves_by name (HopOn other) (Ok (hop_outcome ward hop))) new
   hopped_on other ward (Done reply told bound) new has unmet true is = absurd (unmet (ap HopOn (sym (eqb-true name other is))) ward reply told bound refl)
   hopped_on other ward (Done reply told bound) new has unmet false is = other_hop other ward (Done reply told bound) new has (named_else name other (grind (arith, nat_tests)) (hops.Done reply) old.in_flight ∙ named)
   hopped_on other ward (Moved next) new has unmet true is =

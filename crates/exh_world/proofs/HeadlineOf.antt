@@ -19,7 +19,8 @@ use Rattle.exh_event.specs.declared.event.Event.{Event}
 use Rattle.exh_event.specs.declared.event.Event.TheVariants.{Combine}
 use Rattle.exh_event.specs.declared.outcome.Outcome.{Outcome}
 use Rattle.exh_event.specs.declared.outcome.Outcome.TheVariants.{Hopped}
-use Rattle.exh_event.specs.declared.progress.Progress.TheVariants.{Stray}
+use Rattle.exh_event.specs.EventProgress.{Progress, Done, Moved, MustSplit, Stray, hop_outcome}
+use Rattle.exh_ward.specs.declared.hop.Hop.TheVariants as hops
 use Rattle.exh_event.specs.declared.step_fault.StepFault.{StepFault}
 use Rattle.exh_event.specs.declared.turn.Turn.{Turn}
 use Rattle.exh_world.specs.StepEffectLemmas.{on_effect}
@@ -53,13 +54,19 @@ combined_by pseudokey_of old new event result step copy table is joined =
 
 -- an effect whose outcome is a stray
 abbrev StraysTo : {K : Type 0} → WorldState K → Event → Outcome → WorldState K → Type 0
-StraysTo old event outcome new = (ward : ℕ) → outcome ≢ Hopped ward Stray
+StraysTo old event outcome new = (ward : ℕ) → outcome ≢ Hopped ward hops.Stray
+
+stray_is : (ward other : ℕ) (hop : Progress) → hop_outcome ward hop ≡ Hopped other hops.Stray → hop ≡ Stray
+stray_is ward other (Done reply moves bound) is = cc
+stray_is ward other (Moved next) is = cc
+stray_is ward other MustSplit is = cc
+stray_is ward other Stray is = refl
 
 strays_never : {K : Type 0} (pseudokey_of : K → List ℕ → ℕ) (old : WorldState K) → IsSoundWorld pseudokey_of old → (event : Event) (outcome : Outcome) (new : WorldState K) → HasEffect pseudokey_of old event outcome new → StraysTo old event outcome new
 strays_never {K} pseudokey_of old sound = on_effect pseudokey_of old (StraysTo old) record {
   begun = λ name client copy call ward page new has other same. cc;
   hopped = λ name ward hop new has other same.
-      let stray : hop ≡ Stray = cc in
+      let stray : hop ≡ Stray = stray_is ward other hop same in
       let P : _ → Type 0 = λ h. HasHopped pseudokey_of old name ward h new in
       does_not_stray pseudokey_of old sound new name ward (subst P stray has);
   split = λ ward page notice new has other same. cc;
@@ -71,7 +78,7 @@ strays_never {K} pseudokey_of old sound = on_effect pseudokey_of old (StraysTo o
 }
 
 stray_by : {K : Type 0} (pseudokey_of : K → List ℕ → ℕ) (old new : WorldState K) → IsSoundWorld pseudokey_of old → (event : Event) (result : Result Outcome StepFault) → Step pseudokey_of old event result new → DoesNotStray (record { before = old; turn = record { event = event; result = result }; after = new })
-stray_by pseudokey_of old new sound event (Ok outcome) step ward same = strays_never pseudokey_of old sound event outcome new step ward (let is : outcome ≡ Hopped ward Stray = cc in is)
+stray_by pseudokey_of old new sound event (Ok outcome) step ward same = strays_never pseudokey_of old sound event outcome new step ward (let is : outcome ≡ Hopped ward hops.Stray = cc in is)
 stray_by pseudokey_of old new sound event (Err fault) step ward same = cc
 
 -- ---- a run

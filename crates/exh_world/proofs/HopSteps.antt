@@ -14,13 +14,12 @@ use Rattle.exh_world.specs.InFlight.{HasRoom, Requests, request_named, requests_
 use Rattle.exh_world.specs.WorldKept.{IsKeptWorld}
 use Rattle.exh_world.specs.WorldLaws.{StepsKeepWorldsSound}
 use Rattle.exh_world.specs.Sound.{IsWardOf, IsOnTheWay}
-use Rattle.exh_world.specs.Step.{HasHopped, ReachesInto}
-use Rattle.exh_event.specs.EventProgress.{hop_in, progress_with}
+use Rattle.exh_world.specs.Step.{HasEffect, HasHopped, ReachesInto}
+use Rattle.exh_world.specs.StepEffectLemmas.{hopped_step}
+use Rattle.exh_event.specs.EventProgress.{hop_in, progress_with, Progress, hop_outcome}
 use Rattle.exh_world.specs.RequestProgress.{bound_in, progress_of}
 use Rattle.exh_world.specs.World.{WorldState, changes_in}
 use Rattle.exh_event.specs.declared.event.Event.TheVariants.{Hop as HopOn}
-use Rattle.exh_event.specs.declared.outcome.Outcome.TheVariants.{Hopped}
-use Rattle.exh_event.specs.declared.progress.Progress.{Progress}
 use Rattle.exh_world.specs.declared.request.Request.{Request}
 use Rattle.exh_world.specs.declared.world.World.TheInside.{Inside}
 use Rattle.exh_world.proofs.InsideWorld.{with_ward, world_of}
@@ -121,7 +120,7 @@ module _ {P K : Type 0} (pseudokey_of : K → List ℕ → ℕ) (i : Inside P K)
         new_is =
             ap (λ n. with_ward i n left requests) at_is ∙ ap (with_ward i request.ward left) requests_are
 
-        pub hopped : HasHopped pseudokey_of (world_of i) name request.ward progress (with_ward i at left requests)
+        hopped : HasHopped pseudokey_of (world_of i) name request.ward progress (with_ward i at left requests)
         hopped = record {
           request = request;
           there = named;
@@ -135,11 +134,14 @@ module _ {P K : Type 0} (pseudokey_of : K → List ℕ → ℕ) (i : Inside P K)
           after = new_is ∙ ap (λ h. let then : WorldState K = record (world_of i) { wards = slice_set i.wards.items request.ward left; in_flight = requests_after name h i.in_flight } in then) (sym same);
         }
 
+        pub hopped_to : HasEffect pseudokey_of (world_of i) (HopOn name) (hop_outcome request.ward progress) (with_ward i at left requests)
+        hopped_to = hopped_step pseudokey_of (world_of i) name request.ward progress (with_ward i at left requests) hopped
+
         pub hopped_kept : StepsKeepWorldsSound pseudokey_of → IsSoundWard pseudokey_of left → IsKeptWorld pseudokey_of (with_ward i at left requests)
         hopped_kept steps sound =
             let wards = wards_left pseudokey_of (world_of i) (with_ward i at left requests) at ward left kept.sound refl there_at sound in
             record {
-              sound = steps (world_of i) (HopOn name) (Ok (Hopped request.ward progress)) (with_ward i at left requests) kept.sound hopped wards;
+              sound = steps (world_of i) (HopOn name) (Ok (hop_outcome request.ward progress)) (with_ward i at left requests) kept.sound hopped_to wards;
               few_wards = kept.few_wards;
               few_sent = kept.few_sent;
             }

@@ -2,6 +2,8 @@
 pub mod FreshWorld
 pub mod NewWards
 pub mod WorldOfWards
+-- of most_failures
+pub mod MostFailures
 -- of into_wards
 pub mod MadeAnew
 -- of steps_keep_worlds_sound

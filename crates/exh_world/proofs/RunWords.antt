@@ -32,9 +32,11 @@ use Rattle.exh_world.specs.World.{WorldState, numbered, current_leaves, changes_
 use Rattle.exh_event.specs.declared.event.Event.{Event}
 use Rattle.exh_event.specs.declared.event.Event.TheVariants.{Hop as HopOn, Combine}
 use Rattle.exh_event.specs.declared.outcome.Outcome.{Outcome}
-use Rattle.exh_event.specs.declared.outcome.Outcome.TheVariants.{Hopped, Joined}
-use Rattle.exh_event.specs.declared.progress.Progress.{Progress}
-use Rattle.exh_event.specs.declared.progress.Progress.TheVariants.{Done, Moved, MustSplit, Stray}
+use Rattle.exh_event.specs.declared.outcome.Outcome.TheVariants.{Hopped, Replied, Joined}
+use Rattle.exh_event.specs.EventProgress as progresses
+use Rattle.exh_event.specs.EventProgress.{Progress, hop_outcome}
+use Rattle.exh_ward.specs.declared.hop.Hop.{Hop}
+use Rattle.exh_ward.specs.declared.hop.Hop.TheVariants.{Done, Moved, MustSplit, Stray}
 use Rattle.exh_world.specs.declared.request.Request.{Request}
 use Rattle.exh_event.specs.declared.step_fault.StepFault.{StepFault}
 use Rattle.exh_event.specs.declared.turn.Turn.{Turn}
@@ -172,9 +174,9 @@ module _ {K : Type 0} (pseudokey_of : K → List ℕ → ℕ) where
     hop_event = HopOn answers.name
 
     abbrev hop_result : Result Outcome StepFault
-    hop_result = Ok (Hopped answers.ward (Done reply answers.moves answers.bound))
+    hop_result = Ok (Replied answers.ward reply answers.moves answers.bound)
 
-    has : HasHopped pseudokey_of moment.before answers.name answers.ward (Done reply answers.moves answers.bound) moment.after
+    has : HasHopped pseudokey_of moment.before answers.name answers.ward (progresses.Done reply answers.moves answers.bound) moment.after
     has =
         let P : Event → Result Outcome StepFault → Type 0 = λ e r. Step pseudokey_of moment.before e r moment.after in
         subst (P hop_event) answers.result (subst (λ e. P e moment.turn.result) answers.event step)
@@ -236,34 +238,67 @@ module _ {K : Type 0} (pseudokey_of : K → List ℕ → ℕ) where
 
   -- ---- hops
 
-  abbrev LeadsOn : Progress → Type 0
-  LeadsOn hop = ((reply : Reply) × (moves : ℕ) × (bound : ℕ) × (hop ≡ Done reply moves bound)) ⊎ ((next : ℕ) × (hop ≡ Moved next)) ⊎ (hop ≡ MustSplit)
+  -- an answer is told as one
+  abbrev IsTold : WorldState K → Event → Outcome → WorldState K → Type 0
+  IsTold old event outcome new = (ward : ℕ) (reply : Reply) → outcome ≢ Hopped ward (Done reply)
 
-  leads_on : (hop : Progress) → hop ≢ Stray → LeadsOn hop
-  leads_on (Done reply moves bound) never = inl (reply, moves, bound, refl)
-  leads_on (Moved next) never = inr (inl (next, refl))
-  leads_on MustSplit never = inr (inr refl)
-  leads_on Stray never = absurd (never refl)
+  hop_told : (ward other : ℕ) (reply : Reply) (hop : Progress) → hop_outcome ward hop ≢ Hopped other (Done reply)
+  hop_told ward other reply (progresses.Done own moves bound) same = cc
+  hop_told ward other reply (progresses.Moved next) same = cc
+  hop_told ward other reply progresses.MustSplit same = cc
+  hop_told ward other reply progresses.Stray same = cc
+
+  effect_told : (old : WorldState K) (event : Event) (outcome : Outcome) (new : WorldState K) → HasEffect pseudokey_of old event outcome new → IsTold old event outcome new
+  effect_told old = on_effect pseudokey_of old (IsTold old) record {
+    begun = λ name client copy call ward page new has other reply same. cc;
+    hopped = λ name ward hop new has other reply same. hop_told ward other reply hop same;
+    split = λ ward page notice new has other reply same. cc;
+    merge = λ ward page notice new has other reply same. cc;
+    taken = λ copy ward index notice new has other reply same. cc;
+    sent = λ copy number new has other reply same. cc;
+    joined = λ copy table new has other reply same. cc;
+    restarted = λ copy new has other reply same. cc;
+  }
+
+  step_told : (old : WorldState K) (event : Event) (result : Result Outcome StepFault) (new : WorldState K) → Step pseudokey_of old event result new
+      → (ward : ℕ) (reply : Reply) → result ≢ Ok (Hopped ward (Done reply))
+  step_told old event (Ok outcome) new step ward reply same = effect_told old event outcome new step ward reply (let is : outcome ≡ Hopped ward (Done reply) = cc in is)
+  step_told old event (Err fault) new step ward reply same = cc
+
+  abbrev LeadsOn : Hop → Type 0
+  LeadsOn hop = ((next : ℕ) × (hop ≡ Moved next)) ⊎ (hop ≡ MustSplit)
+
+  leads_on : (hop : Hop) → ((reply : Reply) → hop ≢ Done reply) → hop ≢ Stray → LeadsOn hop
+  leads_on (Done reply) untold never = absurd (untold reply refl)
+  leads_on (Moved next) untold never = inl (next, refl)
+  leads_on MustSplit untold never = inr refl
+  leads_on Stray untold never = absurd (never refl)
 
   abbrev TurnLeadsOn : Turn → Type 0
-  TurnLeadsOn turn = (ward : ℕ) (hop : Progress) → turn.result ≡ Ok (Hopped ward hop) → LeadsOn hop
+  TurnLeadsOn turn = (ward : ℕ) (hop : Hop) → turn.result ≡ Ok (Hopped ward hop) → LeadsOn hop
 
-  all_lead : (moments : List (Moment K)) → AllByRecursion (DoesNotStray {K = K}) moments → AllByRecursion TurnLeadsOn (turns_of moments)
-  all_lead [] none = tt
-  all_lead (moment ∷ moments) none = (λ ward hop is. leads_on hop (λ stray. none.0 ward (is ∙ ap (λ h. Ok (Hopped ward h)) stray)), all_lead moments none.1)
+  all_lead : (now : WorldState K) (moments : List (Moment K)) (end : WorldState K) → IsRun pseudokey_of now moments end → AllByRecursion (DoesNotStray {K = K}) moments
+      → AllByRecursion TurnLeadsOn (turns_of moments)
+  all_lead now [] end run none = tt
+  all_lead now (moment ∷ moments) end run none = (
+    λ ward hop is. leads_on hop
+        (λ reply done. step_told now moment.turn.event moment.turn.result moment.after run.1 ward reply (is ∙ ap (λ h. Ok (Hopped ward h)) done))
+        (λ stray. none.0 ward (is ∙ ap (λ h. Ok (Hopped ward h)) stray)),
+    all_lead moment.after moments end run.2 none.1,
+  )
 
   pub hops_lead_on : HopsLeadOn pseudokey_of
   hops_lead_on start turns end headline turn among =
       All-contains TurnLeadsOn turns turn (subst (λ ts. All TurnLeadsOn ts) headline.turns_are
-      (All-from_recursion TurnLeadsOn (turns_of headline.moments) (all_lead headline.moments (recursion_from_All (DoesNotStray {K = K}) headline.moments headline.no_stray)))) among
+      (All-from_recursion TurnLeadsOn (turns_of headline.moments) (all_lead start headline.moments end headline.run (recursion_from_All (DoesNotStray {K = K}) headline.moments headline.no_stray)))) among
 
   -- ---- the map
 
   abbrev AnswersNone : Turn → Type 0
-  AnswersNone turn = (ward : ℕ) (reply : Reply) (moves bound : ℕ) → turn.result ≢ Ok (Hopped ward (Done reply moves bound))
+  AnswersNone turn = (ward : ℕ) (reply : Reply) (moves bound : ℕ) → turn.result ≢ Ok (Replied ward reply moves bound)
 
-  no_answer : (world : WorldState K) (event : Event) (result : Result Outcome StepFault) → ((ward : ℕ) (reply : Reply) (moves bound : ℕ) → result ≢ Ok (Hopped ward (Done reply moves bound))) → answered_at world event result ≡ []
-  no_answer world (HopOn name) (Ok (Hopped ward (Done reply moves bound))) none = absurd (none ward reply moves bound refl)
+  no_answer : (world : WorldState K) (event : Event) (result : Result Outcome StepFault) → ((ward : ℕ) (reply : Reply) (moves bound : ℕ) → result ≢ Ok (Replied ward reply moves bound)) → answered_at world event result ≡ []
+  no_answer world (HopOn name) (Ok (Replied ward reply moves bound)) none = absurd (none ward reply moves bound refl)
   no_answer world other came none = refl
 
   no_answers : (moments : List (Moment K)) → AllByRecursion AnswersNone (turns_of moments) → answered_in moments ≡ []

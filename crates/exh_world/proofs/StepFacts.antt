@@ -27,9 +27,8 @@ use Rattle.exh_world.specs.World.{WorldState, map_in}
 use Rattle.exh_event.specs.declared.event.Event.{Event}
 use Rattle.exh_event.specs.declared.event.Event.TheVariants.{Begin, Hop as HopOn, Split, Merge, Deliver, Send, Combine, Restart}
 use Rattle.exh_event.specs.declared.outcome.Outcome.{Outcome}
-use Rattle.exh_event.specs.declared.outcome.Outcome.TheVariants.{Begun, Hopped, Changed, Taken, Sent, Joined, Restarted}
-use Rattle.exh_event.specs.declared.progress.Progress.{Progress}
-use Rattle.exh_event.specs.declared.progress.Progress.TheVariants.{Done, Moved, MustSplit, Stray}
+use Rattle.exh_event.specs.declared.outcome.Outcome.TheVariants.{Begun, Replied, Changed, Taken, Sent, Joined, Restarted}
+use Rattle.exh_event.specs.EventProgress.{Progress, Done, Moved, MustSplit, Stray, hop_outcome}
 use Rattle.exh_world.specs.StepEffectLemmas.{on_effect}
 use Rattle.exh_world.proofs.Known.{IsKnown, taken_known, joined_known, sent_known, restarted_known}
 use Rattle.exh_world.proofs.Named.{named}
@@ -90,7 +89,7 @@ module _ {K : Type 0} (pseudokey_of : K → List ℕ → ℕ) (old : WorldState 
         let wards : new.wards ≡ old.wards = wards_are ∙ ap (slice_set old.wards has.request.ward) same ∙ set_same old.wards has.request.ward has.before found in
         ap (λ wards. map_of (flat_map (λ (w : WardState K). w.pages) wards)) wards
 
-  hopped : (name ward : ℕ) (hop : Progress) (new : WorldState K) → HasHopped pseudokey_of old name ward hop new → IsSoundWorld pseudokey_of new → IsStepped pseudokey_of old (HopOn name) (Hopped ward hop) new
+  hopped : (name ward : ℕ) (hop : Progress) (new : WorldState K) → HasHopped pseudokey_of old name ward hop new → IsSoundWorld pseudokey_of new → IsStepped pseudokey_of old (HopOn name) (hop_outcome ward hop) new
   hopped name ward (Moved next) new has new_sound = record { same = hop_same name ward (Moved next) new has; known = hop_known name ward (Moved next) new has; goes = left_alone name ward (Moved next) new has has.leaves; named_all = tt }
   hopped name ward MustSplit new has new_sound = record { same = hop_same name ward MustSplit new has; known = hop_known name ward MustSplit new has; goes = left_alone name ward MustSplit new has has.leaves; named_all = tt }
   hopped name ward Stray new has new_sound = record { same = hop_same name ward Stray new has; known = hop_known name ward Stray new has; goes = left_alone name ward Stray new has has.leaves; named_all = tt }
@@ -100,7 +99,7 @@ module _ {K : Type 0} (pseudokey_of : K → List ℕ → ℕ) (old : WorldState 
       let same = hop_same name ward (Done reply moves bound) new has in
       let wards = wards_are name ward (Done reply moves bound) new has in
       let request = has.request in
-      let answered : answered_at old (HopOn name) (Ok (Hopped ward (Done reply moves bound))) ≡ answered_by old reply moves bound request ∷ [] = ap (λ found. option_map_or (λ request. answered_by old reply moves bound request ∷ []) found []) has.there in
+      let answered : answered_at old (HopOn name) (Ok (Replied ward reply moves bound)) ≡ answered_by old reply moves bound request ∷ [] = ap (λ found. option_map_or (λ request. answered_by old reply moves bound request ∷ []) found []) has.there in
       let begins : Begins (ward_prefix old.ward_bits request.ward) (pseudokey_of old.keyer (key_of request.call)) = subst (Begins (ward_prefix old.ward_bits request.ward)) on_way.pseudokey_is on_way.begins in
       let own_ward = sound.wards request.ward has.before there in
       let left_map : map_of has.left.pages ≡ map_after old.cap (pseudokey_of old.keyer) (map_of has.before.pages) request.call =

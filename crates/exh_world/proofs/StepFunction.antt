@@ -24,7 +24,7 @@ use Rattle.exh_ward.specs.declared.ward_fault.WardFault.TheVariants.{Memory, Pag
 use Rattle.exh_route.specs.DistanceFunction.{distance_of}
 use Rattle.exh_route.specs.RouteLaws.{DistancesAreComputed}
 use Rattle.exh_world.specs.InFlight.{requests_after}
-use Rattle.exh_event.specs.EventProgress.{hop_in}
+use Rattle.exh_event.specs.EventProgress.{hop_in, Progress, hop_outcome}
 use Rattle.exh_world.specs.WorldLaws.{HasVersionOfWord, IsComputed}
 use Rattle.exh_world.specs.Sound.{IsSoundWorld}
 use Rattle.exh_world.specs.Step.{pseudokey_in, request_begun, IsRefused, HasBegun, HasHopped, HasChanged, HasTaken, HasSent, HasJoined, HasRestarted, HasEffect, Step}
@@ -33,8 +33,7 @@ use Rattle.exh_world.specs.World.{WorldState, changes_in, numbered, issued_in}
 use Rattle.exh_event.specs.declared.event.Event.{Event}
 use Rattle.exh_event.specs.declared.event.Event.TheVariants.{Begin, Hop as HopOn, Split, Merge, Deliver, Send, Combine, Restart}
 use Rattle.exh_event.specs.declared.outcome.Outcome.{Outcome}
-use Rattle.exh_event.specs.declared.progress.Progress.{Progress}
-use Rattle.exh_event.specs.declared.outcome.Outcome.TheVariants.{Begun, Hopped, Changed, Taken, Sent, Joined, Restarted}
+use Rattle.exh_event.specs.declared.outcome.Outcome.TheVariants.{Begun, Changed, Taken, Sent, Joined, Restarted}
 use Rattle.exh_world.specs.declared.request.Request.{Request}
 use Rattle.exh_event.specs.declared.step_fault.StepFault.{StepFault}
 use Rattle.exh_event.specs.declared.step_fault.StepFault.TheVariants.{NameTaken, NoCopy, NoRequest, NoWard, NoNotice, NoTable, Ward}
@@ -102,7 +101,7 @@ module _ {K : Type 0} (pseudokey_of : K → List ℕ → ℕ) (old : WorldState 
   left_is ward request MustSplit left leaves = leaves
   left_is ward request Stray left leaves = leaves
 
-  hopped_is : HopsAreComputed → (name ward : ℕ) (hop : Progress) (new : WorldState K) → HasHopped pseudokey_of old name ward hop new → Is (HopOn name) (Ok (Hopped ward hop)) new
+  hopped_is : HopsAreComputed → (name ward : ℕ) (hop : Progress) (new : WorldState K) → HasHopped pseudokey_of old name ward hop new → Is (HopOn name) (Ok (hop_outcome ward hop)) new
   unfolding step_of
   hopped_is hops name ward hop new has =
       let found : slice_get old.wards has.request.ward ≡ Some has.before = subst (λ n. slice_get old.wards n ≡ Some has.before) has.ward_is has.found in
@@ -111,8 +110,8 @@ module _ {K : Type 0} (pseudokey_of : K → List ℕ → ℕ) (old : WorldState 
       (let here : step_of pseudokey_of old (HopOn name) ≡ hopped pseudokey_of old name has.request has.before (hop_of old.cap (pseudokey_of old.keyer) has.before.pages has.request.page has.request.call) = rw (has.there, found) refl in here)
       ∙ ap (hopped pseudokey_of old name has.request has.before) (sym hop_is) in
       let Left : ℕ → WardState K → WorldState K = λ n left. record old { wards = slice_set old.wards n left; in_flight = requests_after name (hop_in hop) old.in_flight } in
-      is_step (HopOn name) (hopped pseudokey_of old name has.request has.before (hop_in hop)) computed (Ok (Hopped ward hop)) new
-      (ap (λ n. Ok (Hopped n hop)) has.ward_is ∙ ap (λ h. Ok (Hopped has.request.ward h)) has.counted)
+      is_step (HopOn name) (hopped pseudokey_of old name has.request has.before (hop_in hop)) computed (Ok (hop_outcome ward hop)) new
+      (ap (λ n. Ok (hop_outcome n hop)) has.ward_is ∙ ap (λ h. Ok (hop_outcome has.request.ward h)) has.counted)
       (has.after ∙ ap (λ n. Left n has.left) has.ward_is ∙ ap (Left has.request.ward) (left_is has.before has.request (hop_in hop) has.left has.leaves))
 
   -- ---- copies

@@ -30,6 +30,7 @@ use Rattle.exh_world.specs.InFlight.{request_named, requests_after}
 use Rattle.exh_world.specs.Sound.{IsWardOf, IsOnTheWay, IsSoundWorld}
 use Rattle.exh_world.specs.RequestProgress.{bound_in, progress_of}
 use Rattle.exh_world.specs.Step.{pseudokey_in, HasHopped, Step}
+use Rattle.exh_world.specs.StepEffectLemmas.{hopped_step}
 use Rattle.exh_world.specs.StepFunction.{Stepped, pages_in, request_from, begun, ward_after_hop, hopped, after_change, with_copy, step_of, result_of, world_after}
 use Rattle.exh_world.specs.World.{WorldState, numbered, issued_in}
 use Rattle.exh_event.specs.declared.event.Event.{Event}
@@ -257,7 +258,9 @@ module _ {K : Type 0} (pseudokey_of : K → List ℕ → ℕ) (old : WorldState 
         hopped_comes =
             let own_outcome = subst (λ (keyer : K). HopOf before.cap (pseudokey_of keyer) before.pages request.page request.call hop) (sym own.keyer)
             (subst (λ cap. HopOf cap (pseudokey_of old.keyer) before.pages request.page request.call hop) (sym own.cap) outcome) in
-            comes (HopOn name) (hopped pseudokey_of old name request before hop) (rw (named, way.there) refl) (has_hopped request named before way.there hop outcome (ward_after_hop pseudokey_of before request hop) (leaves hop own_outcome))
+            comes (HopOn name) (hopped pseudokey_of old name request before hop) (rw (named, way.there) refl)
+            (hopped_step pseudokey_of old name request.ward (progress_of old request hop) (hopped pseudokey_of old name request before hop).1
+            (has_hopped request named before way.there hop outcome (ward_after_hop pseudokey_of before request hop) (leaves hop own_outcome)))
 
       hop_comes : (found : Option Request) → request_named name old.in_flight ≡ found → Comes (HopOn name)
       unfolding step_of

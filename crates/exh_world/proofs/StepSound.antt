@@ -19,12 +19,11 @@ use Rattle.exh_world.specs.WorldLaws.{AreWardsSound}
 use Rattle.exh_world.specs.Sound.{IsOnTheWay, IsSoundWorld}
 use Rattle.exh_world.specs.Step.{pseudokey_in, request_begun, HasBegun, HasHopped, HasChanged, HasTaken, HasSent, HasJoined, HasRestarted, HasEffect, Step}
 use Rattle.exh_prefix.specs.Leading.{ward_of}
-use Rattle.exh_event.specs.EventProgress.{hop_in}
+use Rattle.exh_event.specs.EventProgress.{hop_in, Progress}
+use Rattle.exh_event.specs.EventProgress as progresses
 use Rattle.exh_world.specs.World.{WorldState, changes_in}
 use Rattle.exh_event.specs.declared.event.Event.{Event}
 use Rattle.exh_event.specs.declared.outcome.Outcome.{Outcome}
-use Rattle.exh_event.specs.declared.progress.Progress.{Progress}
-use Rattle.exh_event.specs.declared.progress.Progress.TheVariants as progresses
 use Rattle.exh_world.specs.declared.request.Request.{Request}
 use Rattle.exh_event.specs.declared.step_fault.StepFault.{StepFault}
 use Rattle.exh_world.specs.StepEffectLemmas.{on_effect, on_refusal}

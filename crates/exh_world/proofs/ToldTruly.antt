@@ -25,7 +25,8 @@ use Rattle.exh_world.specs.WorldRun.{Told}
 use Rattle.exh_world.specs.Sound.{IsSoundWorld}
 use Rattle.exh_world.specs.Step.{HasEffect, Step}
 use Rattle.exh_world.specs.World.{WorldState, changes_in, issued_in, numbered}
-use Rattle.exh_text.specs.declared.config.Config.{Config}
+use Rattle.exh_settings.specs.Config.{file_settings}
+use Rattle.exh_settings.specs.declared.config.Config.{Config}
 use Rattle.exh_event.specs.declared.event.Event.{Event}
 use Rattle.exh_event.specs.declared.outcome.Outcome.{Outcome}
 use Rattle.exh_event.specs.declared.step_fault.StepFault.{StepFault}
@@ -272,7 +273,7 @@ module _ {K : Type 0} (config : Config K) where
     copies = λ copy table is. subst (TellsTruly fresh) (sym (numbered_is config.copies fin.empty table copy is)) empty_truly;
     sent = λ number table is. absurd (numbered_none number table is);
     wards = λ number ward is prefix entry front has.
-        let own : ward ≡ new_ward config.settings number = (mapped_is (new_ward config.settings) (2 ^ config.settings.ward_bits) number ward is).1 in
+        let own : ward ≡ new_ward (file_settings config) number = (mapped_is (new_ward (file_settings config)) (2 ^ config.ward_bits) number ward is).1 in
         let none : None ≡ Some entry = sym (nothing prefix) ∙ ap (λ (w : WardState K). get w.table prefix) (sym own) ∙ has in
         cc;
   }

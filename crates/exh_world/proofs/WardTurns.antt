@@ -15,13 +15,12 @@ use Rattle.exh_route.specs.RouteLaws.{RunsKeepWardsSound}
 use Rattle.exh_route.specs.WardRun.{WardEvent, HopAt, SplitAt, MergeAt, WardStep, changes_by}
 use Rattle.exh_world.specs.StepEffectLemmas.{on_effect, on_refusal}
 use Rattle.exh_world.specs.WorldLaws.{AreWardsSound, StepsKeepWorldsSound}
-use Rattle.exh_event.specs.EventProgress.{hop_in}
+use Rattle.exh_event.specs.EventProgress.{hop_in, Progress}
 use Rattle.exh_world.specs.Sound.{IsSoundWorld}
 use Rattle.exh_world.specs.Step.{HasHopped, HasEffect, Step}
 use Rattle.exh_world.specs.World.{WorldState}
 use Rattle.exh_event.specs.declared.event.Event.{Event}
 use Rattle.exh_event.specs.declared.outcome.Outcome.{Outcome}
-use Rattle.exh_event.specs.declared.progress.Progress.{Progress}
 use Rattle.exh_event.specs.declared.step_fault.StepFault.{StepFault}
 
 -- the ward's notices and table are as they were, or it has one notice more, which its table took

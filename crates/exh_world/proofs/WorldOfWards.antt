@@ -26,7 +26,7 @@ use Rattle.exh_prefix.specs.Leading.{ward_prefix}
 use Rattle.exh_prefix.specs.LeadingLemmas.{one_front}
 use Rattle.exh_ward.specs.WardState.{WardState, IsSoundWard, notices_above}
 use Rattle.exh_prefix.specs.declared.prefix.TheConstants.{WARD_BITS_LIMIT}
-use Rattle.exh_text.specs.declared.config.Config.{Config}
+use Rattle.exh_settings.specs.declared.config.Config.{Config}
 use Rattle.exh_world.specs.InFlight.{Requests}
 use Rattle.exh_world.specs.WorldKept.{IsKeptWorld}
 use Rattle.exh_world.specs.WorldListLemmas.{map_from, map_there, numbered_is, numbered_none}
@@ -79,12 +79,12 @@ walks_agree one other ward (bit ∷ bits) at same front =
 -- ---- the world
 
 module _ {K : Type 0} (pseudokey_of : K → List ℕ → ℕ) (config : Config K) (wards : List (WardState K))
-    (words : (keyer : K) (key : List ℕ) → pseudokey_of keyer key < 2 ^ 64) (bits : config.settings.ward_bits ≤ WARD_BITS_LIMIT) (count : length wards ≡ 2 ^ config.settings.ward_bits)
+    (words : (keyer : K) (key : List ℕ) → pseudokey_of keyer key < 2 ^ 64) (bits : config.ward_bits ≤ WARD_BITS_LIMIT) (count : length wards ≡ 2 ^ config.ward_bits)
     (each : AreWardsFor config wards) (sound : AreSoundWards pseudokey_of wards) (homes : WalksNameHomes) where
   abbrev prefix_of : ℕ → List Bool
-  prefix_of number = ward_prefix config.settings.ward_bits number
+  prefix_of number = ward_prefix config.ward_bits number
 
-  fits : (number : ℕ) (ward : WardState K) → slice_get wards number ≡ Some ward → number < 2 ^ config.settings.ward_bits
+  fits : (number : ℕ) (ward : WardState K) → slice_get wards number ≡ Some ward → number < 2 ^ config.ward_bits
   fits number ward is = subst (λ n. number < n) count (slice_get_within wards number ward is)
 
   module _ (number : ℕ) (ward : WardState K) (is : slice_get wards number ≡ Some ward) where
@@ -109,7 +109,7 @@ module _ {K : Type 0} (pseudokey_of : K → List ℕ → ℕ) (config : Config K
     not_others prefix front other table differ there =
         let of = map_from (λ (w : WardState K). w.table) wards other table there in
         ap (λ t. fin.get t prefix) of.2
-        ∙ none_outside other of.0 of.1 prefix (λ front_too. differ (one_front config.settings.ward_bits other number prefix (fits other of.0 of.1) (fits number ward is) front_too front))
+        ∙ none_outside other of.0 of.1 prefix (λ front_too. differ (one_front config.ward_bits other number prefix (fits other of.0 of.1) (fits number ward is) front_too front))
 
     -- in the ward the start table is the ward's own
     own_entry : (prefix : List Bool) → IsFront (prefix_of number) prefix → fin.get start prefix ≡ fin.get ward.table prefix
@@ -172,7 +172,7 @@ module _ {K : Type 0} (pseudokey_of : K → List ℕ → ℕ) (config : Config K
   wards_world_kept = record {
     sound = record {
       bits = omega (arith, bits);
-      words = words config.settings.keyer;
+      words = words config.keyer;
       count = count;
       wards = λ number ward is. is_ward_of number ward is;
       start = leads_in;

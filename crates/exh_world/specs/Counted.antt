@@ -11,8 +11,8 @@ use Rattle.exh_world.specs.World.{WorldState, changes_in}
 use Rattle.exh_event.specs.declared.event.Event.{Event}
 use Rattle.exh_event.specs.declared.event.Event.TheVariants.{Hop as HopOn}
 use Rattle.exh_event.specs.declared.outcome.Outcome.{Outcome}
-use Rattle.exh_event.specs.declared.outcome.Outcome.TheVariants.{Hopped}
-use Rattle.exh_event.specs.declared.progress.Progress.TheVariants.{Done, Moved}
+use Rattle.exh_event.specs.declared.outcome.Outcome.TheVariants.{Hopped, Replied}
+use Rattle.exh_ward.specs.declared.hop.Hop.TheVariants.{Moved}
 use Rattle.exh_world.specs.declared.request.Request.{Request}
 use Rattle.exh_event.specs.declared.step_fault.StepFault.{StepFault}
 
@@ -37,7 +37,7 @@ IsAway {K} world request distance = (ward : WardState K) × (slice_get world.war
 
 -- the turn doesn't answer the request of a name
 abbrev pub LeavesOpen : ℕ → Event → Result Outcome StepFault → Type 0
-LeavesOpen name event result = event ≡ HopOn name → (ward : ℕ) (reply : Reply) (moves bound : ℕ) → result ≢ Ok (Hopped ward (Done reply moves bound))
+LeavesOpen name event result = event ≡ HopOn name → (ward : ℕ) (reply : Reply) (moves bound : ℕ) → result ≢ Ok (Replied ward reply moves bound)
 
 abbrev pub AllLeaveOpen : {K : Type 0} → ℕ → List (Moment K) → Type 0
 AllLeaveOpen {K} name moments = All (λ (moment : Moment K). LeavesOpen name moment.turn.event moment.turn.result) moments
@@ -76,7 +76,7 @@ abbrev pub AnswersAreCounted : {K : Type 0} → (K → List ℕ → ℕ) → Typ
 AnswersAreCounted {K} pseudokey_of = (now : WorldState K) (moments : List (Moment K)) (answering after : WorldState K) → IsSoundWorld pseudokey_of now → IsRun pseudokey_of now moments answering
     → (name : ℕ) (request : Request) → request_named name now.in_flight ≡ Some request → AllLeaveOpen name moments
     → (distance : ℕ) → IsAway now request distance
-    → (ward : ℕ) (reply : Reply) (moves bound : ℕ) → Step pseudokey_of answering (HopOn name) (Ok (Hopped ward (Done reply moves bound))) after
+    → (ward : ℕ) (reply : Reply) (moves bound : ℕ) → Step pseudokey_of answering (HopOn name) (Ok (Replied ward reply moves bound)) after
     → TellsMoves now request distance (moves_over name moments) answering moves bound
 
 -- ---- one step
@@ -85,7 +85,7 @@ AnswersAreCounted {K} pseudokey_of = (now : WorldState K) (moments : List (Momen
 pub record CountsMoves {K : Type 0} (old : WorldState K) (event : Event) (result : Result Outcome StepFault) (new : WorldState K) : Type 0 where
   pub goes_on : (name : ℕ) (request : Request) → request_named name old.in_flight ≡ Some request → LeavesOpen name event result
       → (distance : ℕ) → IsAway old request distance → GoesOn old name request distance (moves_by name event result) new
-  pub answers : (name ward : ℕ) (reply : Reply) (moves bound : ℕ) → event ≡ HopOn name → result ≡ Ok (Hopped ward (Done reply moves bound))
+  pub answers : (name ward : ℕ) (reply : Reply) (moves bound : ℕ) → event ≡ HopOn name → result ≡ Ok (Replied ward reply moves bound)
       → (request : Request) → request_named name old.in_flight ≡ Some request → (distance : ℕ) → IsAway old request distance → TellsMoves old request distance 0 old moves bound
 
 -- of every step of a sound world

@@ -13,9 +13,8 @@ use Rattle.exh_world.specs.Sound.{IsSoundWorld}
 use Rattle.exh_world.specs.Step.{Step, pseudokey_in, request_begun}
 use Rattle.exh_world.specs.World.{WorldState, changes_in, numbered}
 use Rattle.exh_event.specs.declared.event.Event.TheVariants.{Begin, Hop as HopOn}
-use Rattle.exh_event.specs.declared.outcome.Outcome.TheVariants.{Begun, Hopped}
-use Rattle.exh_event.specs.declared.progress.Progress.{Progress}
-use Rattle.exh_event.specs.declared.progress.Progress.TheVariants.{Done, MustSplit}
+use Rattle.exh_event.specs.declared.outcome.Outcome.TheVariants.{Begun}
+use Rattle.exh_event.specs.EventProgress.{Progress, Done, MustSplit, hop_outcome}
 use Rattle.exh_world.specs.declared.request.Request.{Request}
 use Rattle.exh_world.specs.Counted.{AllLeaveOpen}
 
@@ -37,7 +36,7 @@ CurrentCopiesLookOnce {K} pseudokey_of = (old now : WorldState K) (name client c
     → Step pseudokey_of old (Begin name client copy call) (Ok (Begun ward page)) now
     → (table : TableMap) → numbered old.copies copy ≡ Some table → IsCurrentIn old ward table
     → (moments : List (Moment K)) (later : WorldState K) → IsRun pseudokey_of now moments later → AllLeaveOpen name moments → changes_in later ward ≡ changes_in now ward
-    → (number : ℕ) (hop : Progress) (after : WorldState K) → Step pseudokey_of later (HopOn name) (Ok (Hopped number hop)) after
+    → (number : ℕ) (hop : Progress) (after : WorldState K) → Step pseudokey_of later (HopOn name) (Ok (hop_outcome number hop)) after
     → LooksOnce (request_begun client call (pseudokey_in pseudokey_of old call) ward page 0 (length (changes_in old ward))) name later hop
 
 -- of a request that begins at such a copy the distance is 0, whether it ever hops or not

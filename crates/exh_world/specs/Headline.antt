@@ -12,7 +12,7 @@ use Rattle.exh_world.specs.WorldRun.{Moment, IsRun, Told, known_by, known_at_end
 use Rattle.exh_world.specs.World.{WorldState, numbered, map_in}
 use Rattle.exh_event.specs.declared.event.Event.TheVariants.{Combine}
 use Rattle.exh_event.specs.declared.outcome.Outcome.TheVariants.{Hopped, Joined}
-use Rattle.exh_event.specs.declared.progress.Progress.TheVariants.{Stray}
+use Rattle.exh_ward.specs.declared.hop.Hop.TheVariants.{Stray}
 use Rattle.exh_event.specs.declared.turn.Turn.{Turn}
 
 -- what a copy has taken over the turns

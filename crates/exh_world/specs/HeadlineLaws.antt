@@ -19,9 +19,9 @@ use Rattle.exh_world.specs.World.{WorldState, numbered, current_leaves, map_in}
 use Rattle.exh_event.specs.declared.event.Event.{Event}
 use Rattle.exh_event.specs.declared.event.Event.TheVariants.{Hop, Deliver, Combine, Restart}
 use Rattle.exh_event.specs.declared.outcome.Outcome.{Outcome}
-use Rattle.exh_event.specs.declared.outcome.Outcome.TheVariants.{Hopped, Taken, Joined, Restarted}
-use Rattle.exh_event.specs.declared.progress.Progress.{Progress}
-use Rattle.exh_event.specs.declared.progress.Progress.TheVariants.{Done, Moved, MustSplit}
+use Rattle.exh_event.specs.declared.outcome.Outcome.TheVariants.{Hopped, Replied, Taken, Joined, Restarted}
+use Rattle.exh_ward.specs.declared.hop.Hop.{Hop as HopType}
+use Rattle.exh_ward.specs.declared.hop.Hop.TheVariants.{Moved, MustSplit}
 use Rattle.exh_world.specs.declared.request.Request.{Request}
 use Rattle.exh_event.specs.declared.step_fault.StepFault.{StepFault}
 use Rattle.exh_event.specs.declared.turn.Turn.{Turn}
@@ -105,22 +105,22 @@ pub record Answers {K : Type 0} (moment : Moment K) (request : Request) (reply :
   pub ward : ℕ
   pub moves : ℕ
   pub bound : ℕ
-  pub result : moment.turn.result ≡ Ok (Hopped ward (Done reply moves bound))
+  pub result : moment.turn.result ≡ Ok (Replied ward reply moves bound)
 
 abbrev pub AnswersComeFromTheOneLeaf : {K : Type 0} → (K → List ℕ → ℕ) → Type 0
 AnswersComeFromTheOneLeaf {K} pseudokey_of = (start : WorldState K) (turns : List Turn) (end : WorldState K) (headline : IsHeadline pseudokey_of start turns end)
     → (moment : Moment K) → Contains headline.moments moment → (request : Request) (reply : Reply) → Answers moment request reply → IsAtTheOneLeaf moment.before request
 
--- each hop answers, moves on, or waits for a split
+-- each hop that doesn't answer moves on, or waits for a split
 abbrev pub HopsLeadOn : {K : Type 0} → (K → List ℕ → ℕ) → Type 0
 HopsLeadOn {K} pseudokey_of = (start : WorldState K) (turns : List Turn) (end : WorldState K) → IsHeadline pseudokey_of start turns end
-    → (turn : Turn) → Contains turns turn → (ward : ℕ) (hop : Progress) → turn.result ≡ Ok (Hopped ward hop)
-    → ((reply : Reply) × (moves : ℕ) × (bound : ℕ) × (hop ≡ Done reply moves bound)) ⊎ ((next : ℕ) × (hop ≡ Moved next)) ⊎ (hop ≡ MustSplit)
+    → (turn : Turn) → Contains turns turn → (ward : ℕ) (hop : HopType) → turn.result ≡ Ok (Hopped ward hop)
+    → ((next : ℕ) × (hop ≡ Moved next)) ⊎ (hop ≡ MustSplit)
 
 -- a run without answers keeps the map, whatever is split, merged or told
 abbrev pub OnlyAnswersChangeTheMap : {K : Type 0} → (K → List ℕ → ℕ) → Type 0
 OnlyAnswersChangeTheMap {K} pseudokey_of = (start : WorldState K) (turns : List Turn) (end : WorldState K) → IsHeadline pseudokey_of start turns end
-    → All (λ (turn : Turn). (ward : ℕ) (reply : Reply) (moves bound : ℕ) → turn.result ≢ Ok (Hopped ward (Done reply moves bound))) turns → map_in end ≡ map_in start
+    → All (λ (turn : Turn). (ward : ℕ) (reply : Reply) (moves bound : ℕ) → turn.result ≢ Ok (Replied ward reply moves bound)) turns → map_in end ≡ map_in start
 
 -- an answer is the map machine's, over the map that the answers before it leave of the map at the start
 abbrev pub RepliesFollowTheAnswersBefore : {K : Type 0} → (K → List ℕ → ℕ) → Type 0

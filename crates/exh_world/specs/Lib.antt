@@ -1,3 +1,7 @@
+-- of the crates below: events, and the settings of a world
+pub use Rattle.exh_event.specs.EventProgress
+pub use Rattle.exh_event.specs.StepFault
+pub use Rattle.exh_settings.specs.Config
 pub mod InFlight
 pub mod World
 pub mod RequestProgress

@@ -6,17 +6,18 @@ use Rattle.exh_table.specs.TableOrder.{table_join}
 use Rattle.exh_ward.specs.NewWards.{new_wards}
 use Rattle.exh_ward.specs.WardState.{WardState}
 use Rattle.exh_world.specs.World.{WorldState, changes_in, issued_in}
-use Rattle.exh_text.specs.declared.config.Config.{Config}
+use Rattle.exh_settings.specs.Config.{file_settings}
+use Rattle.exh_settings.specs.declared.config.Config.{Config}
 
 -- no copy was told of a split, and nothing was sent or begun
 abbrev pub new_world : {K : Type 0} → Config K → WorldState K
 new_world config = record {
-  cap = config.settings.cap;
-  ward_bits = config.settings.ward_bits;
-  keyer = config.settings.keyer;
-  wards = new_wards config.settings;
+  cap = config.cap;
+  ward_bits = config.ward_bits;
+  keyer = config.keyer;
+  wards = new_wards (file_settings config);
   start = empty;
-  noticed = replicate (2 ^ config.settings.ward_bits) 0;
+  noticed = replicate (2 ^ config.ward_bits) 0;
   copies = replicate config.copies empty;
   sent = [];
   in_flight = [];
@@ -26,10 +27,10 @@ new_world config = record {
 
 -- a ward that can be the one of a number: of the world's cap, ward bits and keyer
 pub record IsWardFor {K : Type 0} (config : Config K) (number : ℕ) (ward : WardState K) : Type 0 where
-  pub cap : ward.cap ≡ config.settings.cap
-  pub bits : ward.ward_bits ≡ config.settings.ward_bits
+  pub cap : ward.cap ≡ config.cap
+  pub bits : ward.ward_bits ≡ config.ward_bits
   pub number_is : ward.number ≡ number
-  pub keyer : ward.keyer ≡ config.settings.keyer
+  pub keyer : ward.keyer ≡ config.keyer
 
 -- each at the place of its number
 abbrev pub AreWardsFor : {K : Type 0} → Config K → List (WardState K) → Type 0
@@ -42,9 +43,9 @@ tables_joined wards = fold table_join empty (map (λ ward. ward.table) wards)
 -- each copy has the wards' tables, all notices so far came before, and nothing was sent or begun
 abbrev pub world_of_wards : {K : Type 0} → Config K → List (WardState K) → WorldState K
 world_of_wards config wards = record {
-  cap = config.settings.cap;
-  ward_bits = config.settings.ward_bits;
-  keyer = config.settings.keyer;
+  cap = config.cap;
+  ward_bits = config.ward_bits;
+  keyer = config.keyer;
   wards = wards;
   start = tables_joined wards;
   noticed = map (λ ward. length ward.notices) wards;
@@ -57,7 +58,7 @@ world_of_wards config wards = record {
 
 -- a world's settings, with a count of copies
 abbrev pub settings_of : {K : Type 0} → WorldState K → ℕ → Config K
-settings_of world count = record { settings = record { cap = world.cap; ward_bits = world.ward_bits; keyer = world.keyer }; copies = count }
+settings_of world count = record { cap = world.cap; ward_bits = world.ward_bits; copies = count; keyer = world.keyer }
 
 -- a world of the same wards with so many copies, each at the start table, which is the wards' tables together: their notices all count as issued, and
 -- none as a change; nothing was sent or begun

@@ -12,9 +12,8 @@ use Rattle.exh_world.specs.Step.{pseudokey_in, request_begun}
 use Rattle.exh_world.specs.Taken.{HasTakenAll, turns_of}
 use Rattle.exh_world.specs.World.{WorldState, changes_in, numbered}
 use Rattle.exh_event.specs.declared.event.Event.TheVariants.{Begin, Hop as HopOn}
-use Rattle.exh_event.specs.declared.outcome.Outcome.TheVariants.{Begun, Hopped}
-use Rattle.exh_event.specs.declared.progress.Progress.{Progress}
-use Rattle.exh_event.specs.declared.progress.Progress.TheVariants.{Done}
+use Rattle.exh_event.specs.declared.outcome.Outcome.TheVariants.{Begun, Replied}
+use Rattle.exh_event.specs.EventProgress.{Progress, hop_outcome}
 use Rattle.exh_world.specs.declared.request.Request.{Request}
 use Rattle.exh_event.specs.declared.turn.Turn.{Turn}
 
@@ -38,7 +37,7 @@ pub record HasCountedMoves {K : Type 0} (pseudokey_of : K → List ℕ → ℕ) 
       → (name : ℕ) (request : Request) → request_named name now.in_flight ≡ Some request → AllLeaveOpen name part
       → (distance : ℕ) → IsAway now request distance → GoesOn now name request distance (moves_over name part) later
   pub answers : (now : WorldState K) (part : List (Moment K)) (hop : Moment K) (is : IsPart pseudokey_of start moments now part hop.before) (rest : List (Moment K)) → is.back ≡ hop ∷ rest
-      → (name ward : ℕ) (reply : Reply) (moves bound : ℕ) → hop.turn ≡ record { event = HopOn name; result = Ok (Hopped ward (Done reply moves bound)) }
+      → (name ward : ℕ) (reply : Reply) (moves bound : ℕ) → hop.turn ≡ record { event = HopOn name; result = Ok (Replied ward reply moves bound) }
       → (request : Request) → request_named name now.in_flight ≡ Some request → AllLeaveOpen name part
       → (distance : ℕ) → IsAway now request distance → TellsMoves now request distance (moves_over name part) hop.before moves bound
 
@@ -58,7 +57,7 @@ pub record BeginsAndHops {K : Type 0} (moments front : List (Moment K)) (begin h
   pub open_still : AllLeaveOpen name part
   pub changes : changes_in hop.before ward ≡ changes_in begin.after ward
   pub number : ℕ
-  pub hops : hop.turn ≡ record { event = HopOn name; result = Ok (Hopped number progress) }
+  pub hops : hop.turn ≡ record { event = HopOn name; result = Ok (hop_outcome number progress) }
 
 -- a request begins at a copy after the first turns of a run
 pub record BeginsAfter {K : Type 0} (moments front : List (Moment K)) (begin : Moment K) (name client copy : ℕ) (call : Call) (ward page : ℕ) : Type 0 where

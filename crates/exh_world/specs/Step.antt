@@ -6,6 +6,7 @@ use Rattle.exh_table.specs.TableOrder.{table_join}
 use Rattle.exh_table.specs.TableWalk.{walk_of}
 use Rattle.exh_calls.specs.Call.{key_of}
 use Rattle.exh_ward.specs.HopTable.{HopOf}
+use Rattle.exh_ward.specs.declared.hop.Hop.TheVariants as hops
 use Rattle.exh_ward.specs.WardState.{WardState, LeavesAfter}
 use Rattle.exh_ward.specs.MergeStep.{IsMergeStep}
 use Rattle.exh_ward.specs.WardFault.{MergeRefused, SplitRefused}
@@ -15,15 +16,15 @@ use Rattle.exh_ward.specs.declared.ward_fault.WardFault.{WardFault}
 use Rattle.exh_ward.specs.declared.ward_fault.WardFault.TheVariants.{Memory, Page}
 use Rattle.exh_ward.specs.Distance.{IsDistance}
 use Rattle.exh_world.specs.InFlight.{request_named, requests_after}
-use Rattle.exh_event.specs.EventProgress.{hop_in}
+use Rattle.exh_event.specs.EventProgress.{Progress, hop_in}
+use Rattle.exh_event.specs.EventProgress as progresses
 use Rattle.exh_world.specs.RequestProgress.{progress_of}
 use Rattle.exh_prefix.specs.Leading.{ward_of}
 use Rattle.exh_world.specs.World.{WorldState, numbered, changes_in, issued_in}
 use Rattle.exh_event.specs.declared.event.Event.{Event}
 use Rattle.exh_event.specs.declared.event.Event.TheVariants.{Begin, Hop as HopOn, Split, Merge, Deliver, Send, Combine, Restart}
 use Rattle.exh_event.specs.declared.outcome.Outcome.{Outcome}
-use Rattle.exh_event.specs.declared.outcome.Outcome.TheVariants.{Begun, Hopped, Changed, Taken, Sent, Joined, Restarted}
-use Rattle.exh_event.specs.declared.progress.Progress.{Progress}
+use Rattle.exh_event.specs.declared.outcome.Outcome.TheVariants.{Begun, Hopped, Replied, Changed, Taken, Sent, Joined, Restarted}
 use Rattle.exh_world.specs.declared.request.Request.{Request}
 use Rattle.exh_event.specs.declared.step_fault.StepFault.{StepFault}
 use Rattle.exh_event.specs.declared.step_fault.StepFault.TheVariants.{NameTaken, NoCopy, NoRequest, NoWard, NoNotice, NoTable, Ward}
@@ -152,7 +153,10 @@ pub record HasRestarted {K : Type 0} (old : WorldState K) (copy : ℕ) (new : Wo
 
 abbrev pub HasEffect : {K : Type 0} → (K → List ℕ → ℕ) → WorldState K → Event → Outcome → WorldState K → Type 0
 HasEffect pseudokey_of old (Begin name client copy call) (Begun ward page) new = HasBegun pseudokey_of old name client copy call ward page new
-HasEffect pseudokey_of old (HopOn name) (Hopped ward hop) new = HasHopped pseudokey_of old name ward hop new
+HasEffect pseudokey_of old (HopOn name) (Replied ward reply moves bound) new = HasHopped pseudokey_of old name ward (progresses.Done reply moves bound) new
+HasEffect pseudokey_of old (HopOn name) (Hopped ward (hops.Moved next)) new = HasHopped pseudokey_of old name ward (progresses.Moved next) new
+HasEffect pseudokey_of old (HopOn name) (Hopped ward hops.MustSplit) new = HasHopped pseudokey_of old name ward progresses.MustSplit new
+HasEffect pseudokey_of old (HopOn name) (Hopped ward hops.Stray) new = HasHopped pseudokey_of old name ward progresses.Stray new
 HasEffect pseudokey_of old (Split ward page) (Changed notice) new = HasChanged IsSplitStep old ward page notice new
 HasEffect pseudokey_of old (Merge ward page) (Changed notice) new = HasChanged IsMergeStep old ward page notice new
 HasEffect pseudokey_of old (Deliver copy ward index) (Taken notice) new = HasTaken old copy ward index notice new

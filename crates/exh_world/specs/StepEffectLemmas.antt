@@ -6,19 +6,34 @@ use Rattle.exh_ward.specs.MergeStep.{IsMergeStep}
 use Rattle.exh_ward.specs.SplitStep.{IsSplitStep}
 use Rattle.exh_calls.specs.declared.call.Call.{Call}
 use Rattle.exh_ward.specs.WardState.{WardState}
+use Rattle.exh_ward.specs.declared.hop.Hop.TheVariants as hops
 use Rattle.exh_world.specs.Step.{HasBegun, HasHopped, HasChanged, HasTaken, HasSent, HasJoined, HasRestarted, HasEffect, Step}
 use Rattle.exh_world.specs.World.{WorldState}
 use Rattle.exh_event.specs.declared.event.Event.{Event}
 use Rattle.exh_event.specs.declared.event.Event.TheVariants.{Begin, Hop as HopOn, Split, Merge, Deliver, Send, Combine, Restart}
 use Rattle.exh_event.specs.declared.outcome.Outcome.{Outcome}
-use Rattle.exh_event.specs.declared.outcome.Outcome.TheVariants.{Begun, Hopped, Changed, Taken, Sent, Joined, Restarted}
-use Rattle.exh_event.specs.declared.progress.Progress.{Progress}
+use Rattle.exh_event.specs.declared.outcome.Outcome.TheVariants.{Begun, Hopped, Replied, Changed, Taken, Sent, Joined, Restarted}
+use Rattle.exh_event.specs.EventProgress.{Progress, Done, Moved, MustSplit, Stray, hop_outcome}
 use Rattle.exh_event.specs.declared.step_fault.StepFault.{StepFault}
+
+-- what a hop has done is a step to its outcome, and the other way round
+module _ {K : Type 0} (pseudokey_of : K → List ℕ → ℕ) (old : WorldState K) (name ward : ℕ) where
+  pub hopped_step : (hop : Progress) (new : WorldState K) → HasHopped pseudokey_of old name ward hop new → HasEffect pseudokey_of old (HopOn name) (hop_outcome ward hop) new
+  hopped_step (Done reply moves bound) new has = has
+  hopped_step (Moved next) new has = has
+  hopped_step MustSplit new has = has
+  hopped_step Stray new has = has
+
+  pub step_hopped : (hop : Progress) (new : WorldState K) → HasEffect pseudokey_of old (HopOn name) (hop_outcome ward hop) new → HasHopped pseudokey_of old name ward hop new
+  step_hopped (Done reply moves bound) new has = has
+  step_hopped (Moved next) new has = has
+  step_hopped MustSplit new has = has
+  step_hopped Stray new has = has
 
 module _ {K : Type 0} (pseudokey_of : K → List ℕ → ℕ) (old : WorldState K) (P : Event → Outcome → WorldState K → Type 0) where
   pub record ForEach : Type 0 where
     pub begun : (name client copy : ℕ) (call : Call) (ward page : ℕ) (new : WorldState K) → HasBegun pseudokey_of old name client copy call ward page new → P (Begin name client copy call) (Begun ward page) new
-    pub hopped : (name ward : ℕ) (hop : Progress) (new : WorldState K) → HasHopped pseudokey_of old name ward hop new → P (HopOn name) (Hopped ward hop) new
+    pub hopped : (name ward : ℕ) (hop : Progress) (new : WorldState K) → HasHopped pseudokey_of old name ward hop new → P (HopOn name) (hop_outcome ward hop) new
     pub split : (ward page : ℕ) (notice : Notice) (new : WorldState K) → HasChanged IsSplitStep old ward page notice new → P (Split ward page) (Changed notice) new
     pub merge : (ward page : ℕ) (notice : Notice) (new : WorldState K) → HasChanged IsMergeStep old ward page notice new → P (Merge ward page) (Changed notice) new
     pub taken : (copy ward index : ℕ) (notice : Notice) (new : WorldState K) → HasTaken old copy ward index notice new → P (Deliver copy ward index) (Taken notice) new
@@ -28,7 +43,10 @@ module _ {K : Type 0} (pseudokey_of : K → List ℕ → ℕ) (old : WorldState 
 
   pub on_effect : ForEach → (event : Event) (outcome : Outcome) (new : WorldState K) → HasEffect pseudokey_of old event outcome new → P event outcome new
   on_effect each (Begin name client copy call) (Begun ward page) new has = each.begun name client copy call ward page new has
-  on_effect each (HopOn name) (Hopped ward hop) new has = each.hopped name ward hop new has
+  on_effect each (HopOn name) (Replied ward reply moves bound) new has = each.hopped name ward (Done reply moves bound) new has
+  on_effect each (HopOn name) (Hopped ward (hops.Moved next)) new has = each.hopped name ward (Moved next) new has
+  on_effect each (HopOn name) (Hopped ward hops.MustSplit) new has = each.hopped name ward MustSplit new has
+  on_effect each (HopOn name) (Hopped ward hops.Stray) new has = each.hopped name ward Stray new has
   on_effect each (Split ward page) (Changed notice) new has = each.split ward page notice new has
   on_effect each (Merge ward page) (Changed notice) new has = each.merge ward page notice new has
   on_effect each (Deliver copy ward index) (Taken notice) new has = each.taken copy ward index notice new has

@@ -22,8 +22,9 @@ use Rattle.exh_prefix.specs.Leading.{ward_of}
 use Rattle.exh_world.specs.World.{WorldState, changes_in, numbered}
 use Rattle.exh_event.specs.declared.event.Event.{Event}
 use Rattle.exh_event.specs.declared.event.Event.TheVariants.{Begin, Hop as HopOn, Split, Merge, Deliver, Send, Combine, Restart}
+use Rattle.exh_event.specs.EventProgress.{hop_outcome}
 use Rattle.exh_event.specs.declared.outcome.Outcome.{Outcome}
-use Rattle.exh_event.specs.declared.outcome.Outcome.TheVariants.{Begun, Hopped, Changed, Taken, Sent, Joined, Restarted}
+use Rattle.exh_event.specs.declared.outcome.Outcome.TheVariants.{Begun, Changed, Taken, Sent, Joined, Restarted}
 use Rattle.exh_world.specs.declared.request.Request.{Request}
 use Rattle.exh_event.specs.declared.step_fault.StepFault.{StepFault}
 use Rattle.exh_event.specs.declared.step_fault.StepFault.TheVariants.{NameTaken, NoCopy, NoRequest, NoWard, NoNotice, NoTable, Ward}
@@ -64,7 +65,7 @@ ward_after_hop pseudokey_of ward request hop = ward
 
 abbrev pub hopped : {K : Type 0} → (K → List ℕ → ℕ) → WorldState K → ℕ → Request → WardState K → Hop → Stepped K
 hopped pseudokey_of world name request ward hop =
-    (Ok (Hopped request.ward (progress_of world request hop)), record world { wards = slice_set world.wards request.ward (ward_after_hop pseudokey_of ward request hop); in_flight = requests_after name hop world.in_flight })
+    (Ok (hop_outcome request.ward (progress_of world request hop)), record world { wards = slice_set world.wards request.ward (ward_after_hop pseudokey_of ward request hop); in_flight = requests_after name hop world.in_flight })
 
 -- ---- splits and merges
 

@@ -13,8 +13,8 @@ use Rattle.exh_world.specs.Sound.{IsSoundWorld}
 use Rattle.exh_world.specs.Step.{Step, pseudokey_in, request_begun}
 use Rattle.exh_world.specs.World.{WorldState, changes_in, numbered}
 use Rattle.exh_event.specs.declared.event.Event.TheVariants.{Begin, Hop as HopOn}
-use Rattle.exh_event.specs.declared.outcome.Outcome.TheVariants.{Begun, Hopped}
-use Rattle.exh_event.specs.declared.progress.Progress.{Progress}
+use Rattle.exh_event.specs.declared.outcome.Outcome.TheVariants.{Begun}
+use Rattle.exh_event.specs.EventProgress.{Progress, hop_outcome}
 use Rattle.exh_event.specs.declared.turn.Turn.{Turn}
 
 -- over the turns the copy took each change of the ward: they are in the set of what it has taken
@@ -37,7 +37,7 @@ abbrev pub TakersLookOnce : {K : Type 0} → (K → List ℕ → ℕ) → Type 0
 TakersLookOnce {K} pseudokey_of = (start : WorldState K) (front : List (Moment K)) (old : WorldState K) → IsSoundWorld pseudokey_of start → IsRun pseudokey_of start front old
     → (name client copy : ℕ) (call : Call) (ward page : ℕ) (now : WorldState K) → Step pseudokey_of old (Begin name client copy call) (Ok (Begun ward page)) now → HasTakenAll start (turns_of front) old copy ward
     → (moments : List (Moment K)) (later : WorldState K) → IsRun pseudokey_of now moments later → AllLeaveOpen name moments → changes_in later ward ≡ changes_in now ward
-    → (number : ℕ) (hop : Progress) (after : WorldState K) → Step pseudokey_of later (HopOn name) (Ok (Hopped number hop)) after
+    → (number : ℕ) (hop : Progress) (after : WorldState K) → Step pseudokey_of later (HopOn name) (Ok (hop_outcome number hop)) after
     → LooksOnce (request_begun client call (pseudokey_in pseudokey_of old call) ward page 0 (length (changes_in old ward))) name later hop
 
 -- And its distance is 0, whether it ever hops or not.

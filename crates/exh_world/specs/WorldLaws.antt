@@ -10,7 +10,7 @@ use Rattle.exh_world.specs.Sound.{IsSoundWorld}
 use Rattle.exh_world.specs.Step.{CountsFailure, ReachesInto, Step}
 use Rattle.exh_world.specs.StepFunction.{result_of, world_after}
 use Rattle.exh_world.specs.World.{WorldState}
-use Rattle.exh_text.specs.declared.config.Config.{Config}
+use Rattle.exh_settings.specs.declared.config.Config.{Config}
 use Rattle.exh_event.specs.declared.event.Event.{Event}
 use Rattle.exh_event.specs.declared.outcome.Outcome.{Outcome}
 use Rattle.exh_event.specs.declared.outcome.Outcome.TheVariants.{Changed}
@@ -66,9 +66,9 @@ RunsCarryTheHeadline {K} pseudokey_of = (start : WorldState K) (moments : List (
 
 -- the world of a new file is sound
 abbrev pub NewWorldsAreSound : {K : Type 0} → (K → List ℕ → ℕ) → Type 0
-NewWorldsAreSound {K} pseudokey_of = (config : Config K) → config.settings.ward_bits ≤ WARD_BITS_LIMIT → IsSoundWorld pseudokey_of (new_world config)
+NewWorldsAreSound {K} pseudokey_of = (config : Config K) → config.ward_bits ≤ WARD_BITS_LIMIT → IsSoundWorld pseudokey_of (new_world config)
 
 -- and that of sound wards, one for each number
 abbrev pub WorldsOfWardsAreSound : {K : Type 0} → (K → List ℕ → ℕ) → Type 0
-WorldsOfWardsAreSound {K} pseudokey_of = (config : Config K) (wards : List (WardState K)) → config.settings.ward_bits ≤ WARD_BITS_LIMIT → length wards ≡ 2 ^ config.settings.ward_bits → AreWardsFor config wards
+WorldsOfWardsAreSound {K} pseudokey_of = (config : Config K) (wards : List (WardState K)) → config.ward_bits ≤ WARD_BITS_LIMIT → length wards ≡ 2 ^ config.ward_bits → AreWardsFor config wards
     → ((number : ℕ) (ward : WardState K) → slice_get wards number ≡ Some ward → IsSoundWard pseudokey_of ward) → IsSoundWorld pseudokey_of (world_of_wards config wards)

@@ -15,8 +15,7 @@ use Rattle.exh_world.specs.World.{WorldState, numbered, changes_in}
 use Rattle.exh_event.specs.declared.event.Event.{Event}
 use Rattle.exh_event.specs.declared.event.Event.TheVariants.{Hop as HopOn, Deliver, Send, Combine, Restart}
 use Rattle.exh_event.specs.declared.outcome.Outcome.{Outcome}
-use Rattle.exh_event.specs.declared.outcome.Outcome.TheVariants.{Hopped, Taken, Sent, Joined, Restarted}
-use Rattle.exh_event.specs.declared.progress.Progress.TheVariants.{Done}
+use Rattle.exh_event.specs.declared.outcome.Outcome.TheVariants.{Replied, Taken, Sent, Joined, Restarted}
 use Rattle.exh_world.specs.declared.request.Request.{Request}
 use Rattle.exh_event.specs.declared.step_fault.StepFault.{StepFault}
 use Rattle.exh_event.specs.declared.turn.Turn.{Turn}
@@ -87,7 +86,7 @@ abbrev pub answered_by : {K : Type 0} → WorldState K → Reply → ℕ → ℕ
 answered_by world reply moves bound request = record { request = request; reply = reply; prefix = prefix_at world request.ward request.page; changes = changes_in world request.ward; moves = moves; bound = bound }
 
 abbrev pub answered_at : {K : Type 0} → WorldState K → Event → Result Outcome StepFault → List Answered
-answered_at world (HopOn name) (Ok (Hopped ward (Done reply moves bound))) = option_map_or (λ request. answered_by world reply moves bound request ∷ []) (request_named name world.in_flight) []
+answered_at world (HopOn name) (Ok (Replied ward reply moves bound)) = option_map_or (λ request. answered_by world reply moves bound request ∷ []) (request_named name world.in_flight) []
 answered_at world event result = []
 
 -- the answering hops of a run, in order

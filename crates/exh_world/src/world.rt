@@ -11,6 +11,7 @@ use std::marker::Model;
 
 mod changes;
 mod copy_steps;
+mod failures;
 mod new_world;
 mod notice_of;
 mod place;

@@ -54,9 +54,10 @@ impl<P: Pages + Drop, K: Keyer> World<P, K> {
         self.in_flight.iter()
     }
 
-    /// All of the page of this number in a ward but its records; both are numbered from 0 on. Refused in this order: `NoWard`, `NoPage`; at any point `Memory` and `Page`. The world
+    /// What a line that shows the page of this number in a ward names: all of it but its records, with their count. Both
+    /// are numbered from 0 on. Refused in this order: `NoWard`, `NoPage`; at any point `Memory` and `Page`. The world
     /// stays as it was, but that at `Page` the ward has counted it.
-    pub fn head(&mut self, ward: u32, page: PageNo) -> Result<PageHead, StepFault>
+    pub fn page_line(&mut self, ward: u32, page: PageNo) -> Result<PageHead, StepFault>
         ensures head { IfOk result (λ head. (state : WardState K) × (slice_get self.old.wards ward ≡ Some state) × (content : Page) × IsAt state.pages page content × (head ≡ head_of content)) }
         ensures ok { OnOk result (self.new ≡ self.old) }
         ensures refused { IfErr result (λ fault. LeavesRefused (λ number. number ≡ ward) (IsChangeRefused self.old (λ state. PageRefused state.pages) ward page) self.old fault self.new) }

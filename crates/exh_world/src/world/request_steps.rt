@@ -8,7 +8,7 @@ use super::place::place_of;
 use crate::Request;
 use crate::laws::steps_keep_worlds_sound;
 use exh_calls::Call;
-use exh_event::{Outcome, Progress, StepFault};
+use exh_event::{Outcome, StepFault};
 use exh_keyer::Keyer;
 use exh_prefix::ward_number;
 use exh_route::moves_come_nearer;
@@ -81,9 +81,6 @@ impl<P: Pages + Drop, K: Keyer> World<P, K> {
             request.pseudokey,
         )?;
         self.in_flight.note_hop(name, &hop);
-        Ok(Outcome::Hopped {
-            ward: number,
-            hop: Progress::of_hop(&hop, moves, bound),
-        })
+        Ok(Outcome::of_hop(number, &hop, moves, bound))
     }
 }

@@ -10,38 +10,38 @@ use crate::in_flight::InFlight;
 use exh_array::{Copies, Directory};
 use exh_keyer::Keyer;
 use exh_legal::walks_name_homes;
+use exh_settings::Config;
 use exh_stores::Pages;
-use exh_text::Config;
 use exh_ward::Ward;
 use std::alloc::{AllocError, Global};
 
 impl<P: Pages + Drop, K: Keyer> World<P, K> {
-    /// The world of given wards, one for each number, in order, each of the settings' `cap`,
+    /// The world of given wards, one for each number, in order, each of the config's `cap`,
     /// `ward_bits` and `keyer`: their tables together are the start table and that of each copy, and
     /// the changes are those that the wards make from now on, whatever notices they had before. No
     /// table was sent, and no request is in flight. An `AllocError` where memory is
     /// refused.
     pub fn from_wards(
         alloc: Global,
-        config: &Config<K>,
+        config: Config<K>,
         wards: Vec<Ward<P, K>>,
     ) -> Result<World<P, K>, AllocError>
-        requires bits { config.now.settings.ward_bits ≤ WARD_BITS_LIMIT }
-        requires count { length wards.items ≡ 2 ^ config.now.settings.ward_bits }
-        requires each { AreWardsFor config.now wards.items }
-        ensures world { IfOk result (λ world. world ≡ world_of_wards config.now wards.items) }
+        requires bits { config.ward_bits ≤ WARD_BITS_LIMIT }
+        requires count { length wards.items ≡ 2 ^ config.ward_bits }
+        requires each { AreWardsFor config wards.items }
+        ensures world { IfOk result (λ world. world ≡ world_of_wards config wards.items) }
         ensures sound { IfOk result (IsSoundWorld K.pseudokey_of) }
     {
         walks_name_homes();
-        let start = joined_tables(alloc, config.settings.ward_bits, &wards)?;
+        let start = joined_tables(alloc, config.ward_bits, &wards)?;
         let noticed = notice_counts(alloc, &wards)?;
         let copies = Copies::new(alloc, start, config.copies)?;
         let in_flight = InFlight::new(alloc)?;
         Ok(World {
             alloc,
-            cap: config.settings.cap as usize,
-            ward_bits: config.settings.ward_bits,
-            keyer: config.settings.keyer,
+            cap: config.cap as usize,
+            ward_bits: config.ward_bits,
+            keyer: config.keyer,
             wards,
             noticed,
             copies,

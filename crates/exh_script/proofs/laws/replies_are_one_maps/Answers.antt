@@ -29,7 +29,7 @@ use Rattle.exh_script.proofs.StartedReplies.{replies_from}
 use Rattle.exh_script.proofs.laws.replies_are_one_maps.Goals as goal
 
 module _ (laws : WorldLaws) (carry : RunsCarryTheHeadline any_pseudokey) (fresh : NewWorldsAreSound any_pseudokey) (script : List ℕ) where
-  module _ (settings : Settings) (lines : List (List ℕ)) (few : settings.file.settings.ward_bits ≤ WARD_BITS_LIMIT) (text : text_of new_file script ≡ text_from settings.tells_moves (new_world settings.file) lines) where
+  module _ (settings : Settings) (lines : List (List ℕ)) (few : settings.file.ward_bits ≤ WARD_BITS_LIMIT) (text : text_of new_file script ≡ text_from settings.tells_moves (new_world settings.file) lines) where
     abbrev start : ScriptWorld
     start = new_world settings.file
 
@@ -53,9 +53,9 @@ module _ (laws : WorldLaws) (carry : RunsCarryTheHeadline any_pseudokey) (fresh 
       answered = replies.answered;
       headline = replies.headline;
       entries_are = replies.entries_are;
-      history = let P : KeyMap → Type 0 = λ m. IsHistory settings.file.settings.cap (any_pseudokey settings.file.settings.keyer) m entries in subst P (new_map settings.file) replies.history;
+      history = let P : KeyMap → Type 0 = λ m. IsHistory settings.file.cap (any_pseudokey settings.file.keyer) m entries in subst P (new_map settings.file) replies.history;
       journals = journals;
-      left = replies.left ∙ ap (λ m. map_left settings.file.settings.cap (any_pseudokey settings.file.settings.keyer) m entries) (new_map settings.file);
+      left = replies.left ∙ ap (λ m. map_left settings.file.cap (any_pseudokey settings.file.keyer) m entries) (new_map settings.file);
       shows = replies.shows;
       no_stray = replies.no_stray;
     }

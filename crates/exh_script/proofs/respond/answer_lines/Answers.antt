@@ -20,13 +20,13 @@ loop-line-init g c = record {
   passed = Takes-none g.W.Write.contents c.args.output.now;
 }
 
-pub returns-in_err-push_response-clause-err : goal.returns-in_err-push_response-clause-err
-returns-in_err-push_response-clause-err g c =
+pub returns-in_err-push_line-clause-err : goal.returns-in_err-push_line-clause-err
+returns-in_err-push_line-clause-err g c =
     let i = c.loop-line.invariant in
     OnErr-from c.from_residual.result (stopped g.W.Write.contents c.args.output.now c.loop-line.output _ _ _ i.passed (text_of_left _ _ _ i.answered i.lead _ _ i.split))
 
-pub returns-in_err-push_response-clause-front : goal.returns-in_err-push_response-clause-front
-returns-in_err-push_response-clause-front g c =
+pub returns-in_err-push_line-clause-front : goal.returns-in_err-push_line-clause-front
+returns-in_err-push_line-clause-front g c =
     let i = c.loop-line.invariant in
     IfCut-from c.from_residual.result (record { front = i.answered; rest = c.loop-line.line-iterator; split = i.split; text = i.passed })
 
@@ -38,18 +38,18 @@ loop-line-preserved g c =
     let line = c.in-Some.line.now in
     let text = response_text (line_response tells c.loop-line.run.world line) in
     let whole = text_of_left tells new _ i.answered i.lead _ _ i.split in
-    let split = text_of_next tells c.loop-line.run.world c.push_response.new.run.world c.loop-line.line-iterator c.next.new.self line c.in-Some.ensures.steps c.in_ok-push_response.ensures.world in
-    let is = line_is tells c.loop-line.run.tells_moves c.loop-line.run.world line c.clear.new.self.items c.push_response.new.out.items c.deref.result.now i.telling c.clear.ensures.items c.in_ok-push_response.ensures.text c.deref.ensures.value in
+    let split = text_of_next tells c.loop-line.run.world c.push_line.new.run.world c.loop-line.line-iterator c.next.new.self line c.in-Some.ensures.steps c.in_ok-push_line.ensures.world in
+    let is = line_is tells c.loop-line.run.tells_moves c.loop-line.run.world line c.clear.new.self.items c.push_line.new.out.items c.deref.result.now i.telling c.clear.ensures.items c.in_ok-push_line.ensures.text c.deref.ensures.value in
     record {
       same_writer = c.in_ok-push.ensures.same_writer ∙ i.same_writer;
       open_still = search rules;
-      sound = c.push_response.ensures.sound;
-      telling = c.push_response.ensures.telling ∙ i.telling;
+      sound = c.push_line.ensures.sound;
+      telling = c.push_line.ensures.telling ∙ i.telling;
       answered = i.answered ++ line ∷ [];
       split = i.split ∙ ap (λ l. i.answered ++ l) c.in-Some.ensures.steps ∙ sym (append_assoc i.answered (line ∷ []) c.next.new.self);
-      lead = LeadTo-more tells new c.loop-line.run.world i.answered i.lead line c.push_response.new.run.world c.in_ok-push_response.ensures.world;
+      lead = LeadTo-more tells new c.loop-line.run.world i.answered i.lead line c.push_line.new.run.world c.in_ok-push_line.ensures.world;
       passed = subst (Takes g.W.Write.contents c.args.output.now c.push.new.self) (sym (text_of_more tells new c.loop-line.run.world i.answered i.lead line))
-          (line_out g.W.Write.contents c.args.output.now c.loop-line.output c.push.new.self (text_from tells new i.answered) _ _ text (text_from tells c.push_response.new.run.world c.next.new.self) _ i.passed whole split is c.in_ok-push.ensures.ok);
+          (line_out g.W.Write.contents c.args.output.now c.loop-line.output c.push.new.self (text_from tells new i.answered) _ _ text (text_from tells c.push_line.new.run.world c.next.new.self) _ i.passed whole split is c.in_ok-push.ensures.ok);
     }
 
 pub returns-in_err-push-clause-err : goal.returns-in_err-push-clause-err
@@ -57,10 +57,10 @@ returns-in_err-push-clause-err g c =
     let i = c.loop-line.invariant in
     let tells = c.args.run.now.tells_moves in
     let line = response_text (line_response tells c.loop-line.run.world c.in-Some.line.now) in
-    let more = text_from tells c.push_response.new.run.world c.next.new.self in
+    let more = text_from tells c.push_line.new.run.world c.next.new.self in
     let whole = text_of_left tells (c.args.run.now.world) _ i.answered i.lead _ _ i.split in
-    let split = text_of_next tells c.loop-line.run.world c.push_response.new.run.world c.loop-line.line-iterator c.next.new.self c.in-Some.line.now c.in-Some.ensures.steps c.in_ok-push_response.ensures.world in
-    let is = line_is tells c.loop-line.run.tells_moves c.loop-line.run.world c.in-Some.line.now c.clear.new.self.items c.push_response.new.out.items c.deref.result.now i.telling c.clear.ensures.items c.in_ok-push_response.ensures.text c.deref.ensures.value in
+    let split = text_of_next tells c.loop-line.run.world c.push_line.new.run.world c.loop-line.line-iterator c.next.new.self c.in-Some.line.now c.in-Some.ensures.steps c.in_ok-push_line.ensures.world in
+    let is = line_is tells c.loop-line.run.tells_moves c.loop-line.run.world c.in-Some.line.now c.clear.new.self.items c.push_line.new.out.items c.deref.result.now i.telling c.clear.ensures.items c.in_ok-push_line.ensures.text c.deref.ensures.value in
     OnErr-from c.from_residual-in_err-push.result (line_stopped g.W.Write.contents c.args.output.now c.loop-line.output c.push.new.self _ _ _ line more _ i.passed whole split is c.in_err-push.ensures.err)
 
 pub returns-clause-world : goal.returns-clause-world
@@ -87,14 +87,14 @@ returns-clause-ok g c =
     let is = sym (append-nil told) ∙ ap (λ left. told ++ text_from tells c.loop-line.run.world left) (sym c.in-None.ensures.steps.0) ∙ text_of_left tells new _ i.answered i.lead _ _ i.split in
     subst (Takes g.W.Write.contents c.args.output.now c.loop-line.output) is i.passed
 
-pub returns-in_err-push_response-clause-same_writer : goal.returns-in_err-push_response-clause-same_writer
-returns-in_err-push_response-clause-same_writer g c = c.loop-line.invariant.same_writer
+pub returns-in_err-push_line-clause-same_writer : goal.returns-in_err-push_line-clause-same_writer
+returns-in_err-push_line-clause-same_writer g c = c.loop-line.invariant.same_writer
 
-pub returns-in_err-push_response-clause-ok : goal.returns-in_err-push_response-clause-ok
-returns-in_err-push_response-clause-ok g c = IfOk-from_err c.from_residual.result _ c.from_residual.ensures.0
+pub returns-in_err-push_line-clause-ok : goal.returns-in_err-push_line-clause-ok
+returns-in_err-push_line-clause-ok g c = IfOk-from_err c.from_residual.result _ c.from_residual.ensures.0
 
-pub returns-in_err-push_response-clause-world : goal.returns-in_err-push_response-clause-world
-returns-in_err-push_response-clause-world g c = IfOk-from_err c.from_residual.result _ c.from_residual.ensures.0
+pub returns-in_err-push_line-clause-world : goal.returns-in_err-push_line-clause-world
+returns-in_err-push_line-clause-world g c = IfOk-from_err c.from_residual.result _ c.from_residual.ensures.0
 
 pub returns-in_err-push-clause-same_writer : goal.returns-in_err-push-clause-same_writer
 returns-in_err-push-clause-same_writer g c = c.push.ensures.same_writer ∙ c.loop-line.invariant.same_writer
@@ -108,5 +108,5 @@ returns-in_err-push-clause-world g c = IfOk-from_err c.from_residual-in_err-push
 pub returns-in_err-push-clause-front : goal.returns-in_err-push-clause-front
 returns-in_err-push-clause-front g c = IfCut-handed c.from_residual-in_err-push.result Write c.from_residual-in_err-push.ensures (λ differs. absurd (differs refl))
 
-pub push_response-requires : goal.push_response-requires
-push_response-requires g c = c.loop-line.invariant.sound
+pub push_line-requires : goal.push_line-requires
+push_line-requires g c = c.loop-line.invariant.sound

@@ -2,6 +2,7 @@ use Rattle.std.proofs.Common.{◌≡◌, List, length, slice_get, Some, Ok, refl
 use Rattle.exh_ward.specs.WardState.{WardState}
 use Rattle.exh_world.specs.InFlight.{request_named}
 use Rattle.exh_world.specs.Step.{pseudokey_in, request_begun}
+use Rattle.exh_world.specs.StepEffectLemmas.{step_hopped}
 use Rattle.exh_world.specs.World.{WorldState, changes_in}
 use Rattle.exh_event.specs.declared.event.Event.TheVariants.{Begin}
 use Rattle.exh_event.specs.declared.outcome.Outcome.TheVariants.{Begun}
@@ -41,7 +42,7 @@ returns-clause-current g c old now name client copy call ward page sound begins 
     let now_sound = stays_sound pseudokey_of old sound runs keep (Begin name client copy call) (Ok (Begun ward page)) now begins in
     let goes = c.moves_are_counted.ensures.go_on now moments later now_sound run name begun named unmet 0 away in
     let since = ap length (sym (same_changes old now ward (ap (λ (ws : List (WardState K)). slice_get ws ward) wards) (ap (λ (w : WorldState K). w.noticed) begins.after))) in
-    first_hop pseudokey_of c.moves_come_nearer.ensures now later after (run_sound pseudokey_of keep runs now moments later now_sound run) name begun refl refl (moves_over name moments) goes kept since number hop step
+    first_hop pseudokey_of c.moves_come_nearer.ensures now later after (run_sound pseudokey_of keep runs now moments later now_sound run) name begun refl refl (moves_over name moments) goes kept since number hop (step_hopped pseudokey_of later name number hop after step)
 
 pub returns-clause-takers : goal.returns-clause-takers
 returns-clause-takers g c = taker_along g.K.Keyer.pseudokey_of c.steps_keep_worlds_sound.ensures c.runs_keep_wards_sound_and_one_map.ensures.sound c.runs_carry_the_headline.ensures

@@ -26,24 +26,24 @@ index_mut-directory-requires g c =
     let within : c.from-at.result < length i.directories.items = directory_within old c.args.self.now c.self.view_is c.self.invariant c.requires c.args.key c.args.value c.pseudo-pseudokey.result c.from-at.result hashed at_is in
     omega (arith, i.directories.ok.0, within)
 
-pub put_pair-requires-clause-hashed : goal.put_pair-requires-clause-hashed
-put_pair-requires-clause-hashed g c =
+pub put_counted-requires-clause-hashed : goal.put_counted-requires-clause-hashed
+put_counted-requires-clause-hashed g c =
     let i = c.self.inside in
     let old : LoaderState = record { cap = i.settings.cap; ward_bits = i.settings.ward_bits; keyer = i.settings.keyer; wards = i.wards.items; directories = i.directories.items } in
     let hashed : c.pseudo-pseudokey.result ≡ any_pseudokey i.settings.keyer c.args.key = c.pseudo-pseudokey.ensures ∙ ap (any_pseudokey i.settings.keyer) c.as_bytes.ensures.bytes in
     let at_is : c.from-at.result ≡ ward_of i.settings.ward_bits c.pseudo-pseudokey.result = c.from-at.ensures ∙ c.ward_number.ensures in
     ward_hashed (file_in old) c.self.invariant (Put c.args.key c.args.value) c.pseudo-pseudokey.result c.from-at.result hashed at_is c.index_mut-ward.result.now c.index_mut-ward.ensures.value
 
-pub put_pair-requires-clause-covered : goal.put_pair-requires-clause-covered
-put_pair-requires-clause-covered g c =
+pub put_counted-requires-clause-covered : goal.put_counted-requires-clause-covered
+put_counted-requires-clause-covered g c =
     let i = c.self.inside in
     let old : LoaderState = record { cap = i.settings.cap; ward_bits = i.settings.ward_bits; keyer = i.settings.keyer; wards = i.wards.items; directories = i.directories.items } in
     let hashed : c.pseudo-pseudokey.result ≡ any_pseudokey i.settings.keyer c.args.key = c.pseudo-pseudokey.ensures ∙ ap (any_pseudokey i.settings.keyer) c.as_bytes.ensures.bytes in
     let at_is : c.from-at.result ≡ ward_of i.settings.ward_bits c.pseudo-pseudokey.result = c.from-at.ensures ∙ c.ward_number.ensures in
     ward_covers (file_in old) c.self.invariant (Put c.args.key c.args.value) c.pseudo-pseudokey.result c.from-at.result hashed at_is c.index_mut-ward.result.now c.index_mut-ward.ensures.value
 
-pub put_pair-requires-clause-told : goal.put_pair-requires-clause-told
-put_pair-requires-clause-told g c =
+pub put_counted-requires-clause-told : goal.put_counted-requires-clause-told
+put_counted-requires-clause-told g c =
     let i = c.self.inside in
     let old : LoaderState = record { cap = i.settings.cap; ward_bits = i.settings.ward_bits; keyer = i.settings.keyer; wards = i.wards.items; directories = i.directories.items } in
     let hashed : c.pseudo-pseudokey.result ≡ any_pseudokey i.settings.keyer c.args.key = c.pseudo-pseudokey.ensures ∙ ap (any_pseudokey i.settings.keyer) c.as_bytes.ensures.bytes in
@@ -56,8 +56,8 @@ invariant_of-self g c =
     let old : LoaderState = record { cap = i.settings.cap; ward_bits = i.settings.ward_bits; keyer = i.settings.keyer; wards = i.wards.items; directories = i.directories.items } in
     let hashed : c.pseudo-pseudokey.result ≡ any_pseudokey i.settings.keyer c.args.key = c.pseudo-pseudokey.ensures ∙ ap (any_pseudokey i.settings.keyer) c.as_bytes.ensures.bytes in
     let at_is : c.from-at.result ≡ ward_of i.settings.ward_bits c.pseudo-pseudokey.result = c.from-at.ensures ∙ c.ward_number.ensures in
-    wards_left (file_in old) c.self.invariant (Put c.args.key c.args.value) c.pseudo-pseudokey.result c.from-at.result hashed at_is c.index_mut-ward.result.now c.index_mut-ward.ensures.value c.put_pair.new.ward
-    (settings_kept c.index_mut-ward.result.now c.put_pair.new.ward (Put c.args.key c.args.value) c.put_pair.result c.put_pair.ensures.put c.put_pair.ensures.err)
+    wards_left (file_in old) c.self.invariant (Put c.args.key c.args.value) c.pseudo-pseudokey.result c.from-at.result hashed at_is c.index_mut-ward.result.now c.index_mut-ward.ensures.value c.put_counted.new.ward
+    (settings_kept c.index_mut-ward.result.now c.put_counted.new.ward (Put c.args.key c.args.value) c.put_counted.result c.put_counted.ensures.put c.put_counted.ensures.err)
 
 pub returns-in_err-reply-clause-err : goal.returns-in_err-reply-clause-err
 returns-in_err-reply-clause-err g c =
@@ -66,7 +66,7 @@ returns-in_err-reply-clause-err g c =
     let hashed : c.pseudo-pseudokey.result ≡ any_pseudokey i.settings.keyer c.args.key = c.pseudo-pseudokey.ensures ∙ ap (any_pseudokey i.settings.keyer) c.as_bytes.ensures.bytes in
     let at_is : c.from-at.result ≡ ward_of i.settings.ward_bits c.pseudo-pseudokey.result = c.from-at.ensures ∙ c.ward_number.ensures in
     OnErr-from c.from_residual.result (are_splits_in old c.args.self.now c.self.view_is c.self.invariant c.requires c.args.key c.args.value c.pseudo-pseudokey.result c.from-at.result hashed at_is c.index_mut-ward.result.now c.index_mut-ward.ensures.value c.index_mut-directory.result.now c.index_mut-directory.ensures.value
-    c.put_pair.new.ward c.put_pair.new.directory c.in_err-reply.ensures.err)
+    c.put_counted.new.ward c.put_counted.new.directory c.in_err-reply.ensures.err)
 
 pub invariant_of-self-2 : goal.invariant_of-self-2
 invariant_of-self-2 g c =
@@ -76,8 +76,8 @@ invariant_of-self-2 g c =
     let at_is : c.from-at.result ≡ ward_of i.settings.ward_bits c.pseudo-pseudokey.result = c.from-at.ensures ∙ c.ward_number.ensures in
     wards_left (file_in old) c.self.invariant (Put c.args.key c.args.value) c.pseudo-pseudokey.result c.from-at.result hashed at_is c.index_mut-ward.result.now c.index_mut-ward.ensures.value c.begin_history.new.self
     (begun_keeps old c.args.self.now c.self.view_is c.self.invariant c.requires c.args.key c.args.value c.pseudo-pseudokey.result c.from-at.result hashed at_is c.index_mut-ward.result.now c.index_mut-ward.ensures.value c.index_mut-directory.result.now c.index_mut-directory.ensures.value
-    c.put_pair.new.ward c.put_pair.new.directory c.begin_history.new.self c.begin_history.ensures.begun
-    (settings_kept c.index_mut-ward.result.now c.put_pair.new.ward (Put c.args.key c.args.value) c.put_pair.result c.put_pair.ensures.put c.put_pair.ensures.err))
+    c.put_counted.new.ward c.put_counted.new.directory c.begin_history.new.self c.begin_history.ensures.begun
+    (settings_kept c.index_mut-ward.result.now c.put_counted.new.ward (Put c.args.key c.args.value) c.put_counted.result c.put_counted.ensures.put c.put_counted.ensures.err))
 
 pub returns-clause-put : goal.returns-clause-put
 returns-clause-put g c =
@@ -86,7 +86,7 @@ returns-clause-put g c =
     let hashed : c.pseudo-pseudokey.result ≡ any_pseudokey i.settings.keyer c.args.key = c.pseudo-pseudokey.ensures ∙ ap (any_pseudokey i.settings.keyer) c.as_bytes.ensures.bytes in
     let at_is : c.from-at.result ≡ ward_of i.settings.ward_bits c.pseudo-pseudokey.result = c.from-at.ensures ∙ c.ward_number.ensures in
     put_in old c.args.self.now c.self.view_is c.self.invariant c.requires c.args.key c.args.value c.pseudo-pseudokey.result c.from-at.result hashed at_is c.index_mut-ward.result.now c.index_mut-ward.ensures.value c.index_mut-directory.result.now c.index_mut-directory.ensures.value
-    c.put_pair.new.ward c.put_pair.new.directory c.begin_history.new.self c.begin_history.ensures.begun c.in_ok-reply.reply c.in_ok-reply.ensures.put
+    c.put_counted.new.ward c.put_counted.new.directory c.begin_history.new.self c.begin_history.ensures.begun c.in_ok-reply.reply c.in_ok-reply.ensures.put
 
 pub returns-clause-one : goal.returns-clause-one
 returns-clause-one g c =
@@ -95,7 +95,7 @@ returns-clause-one g c =
     let hashed : c.pseudo-pseudokey.result ≡ any_pseudokey i.settings.keyer c.args.key = c.pseudo-pseudokey.ensures ∙ ap (any_pseudokey i.settings.keyer) c.as_bytes.ensures.bytes in
     let at_is : c.from-at.result ≡ ward_of i.settings.ward_bits c.pseudo-pseudokey.result = c.from-at.ensures ∙ c.ward_number.ensures in
     one_put_in old c.args.self.now c.self.view_is c.self.invariant c.requires c.args.key c.args.value c.pseudo-pseudokey.result c.from-at.result hashed at_is c.index_mut-ward.result.now c.index_mut-ward.ensures.value c.index_mut-directory.result.now c.index_mut-directory.ensures.value
-    c.put_pair.new.ward c.put_pair.new.directory c.begin_history.new.self c.begin_history.ensures.begun c.in_ok-reply.reply c.in_ok-reply.ensures.put
+    c.put_counted.new.ward c.put_counted.new.directory c.begin_history.new.self c.begin_history.ensures.begun c.in_ok-reply.reply c.in_ok-reply.ensures.put
 
 pub returns-clause-reply : goal.returns-clause-reply
 returns-clause-reply g c =
@@ -104,7 +104,7 @@ returns-clause-reply g c =
     let hashed : c.pseudo-pseudokey.result ≡ any_pseudokey i.settings.keyer c.args.key = c.pseudo-pseudokey.ensures ∙ ap (any_pseudokey i.settings.keyer) c.as_bytes.ensures.bytes in
     let at_is : c.from-at.result ≡ ward_of i.settings.ward_bits c.pseudo-pseudokey.result = c.from-at.ensures ∙ c.ward_number.ensures in
     reply_in old c.args.self.now c.self.view_is c.self.invariant c.requires c.args.key c.args.value c.pseudo-pseudokey.result c.from-at.result hashed at_is c.index_mut-ward.result.now c.index_mut-ward.ensures.value c.index_mut-directory.result.now c.index_mut-directory.ensures.value
-    c.put_pair.new.ward c.put_pair.new.directory c.begin_history.new.self c.begin_history.ensures.begun c.in_ok-reply.reply c.in_ok-reply.ensures.put
+    c.put_counted.new.ward c.put_counted.new.directory c.begin_history.new.self c.begin_history.ensures.begun c.in_ok-reply.reply c.in_ok-reply.ensures.put
 
 pub returns-clause-maps : goal.returns-clause-maps
 returns-clause-maps g c =
@@ -113,7 +113,7 @@ returns-clause-maps g c =
     let hashed : c.pseudo-pseudokey.result ≡ any_pseudokey i.settings.keyer c.args.key = c.pseudo-pseudokey.ensures ∙ ap (any_pseudokey i.settings.keyer) c.as_bytes.ensures.bytes in
     let at_is : c.from-at.result ≡ ward_of i.settings.ward_bits c.pseudo-pseudokey.result = c.from-at.ensures ∙ c.ward_number.ensures in
     maps_in old c.args.self.now c.self.view_is c.self.invariant c.requires c.args.key c.args.value c.pseudo-pseudokey.result c.from-at.result hashed at_is c.index_mut-ward.result.now c.index_mut-ward.ensures.value c.index_mut-directory.result.now c.index_mut-directory.ensures.value
-    c.put_pair.new.ward c.put_pair.new.directory c.begin_history.new.self c.begin_history.ensures.begun c.in_ok-reply.reply c.in_ok-reply.ensures.put
+    c.put_counted.new.ward c.put_counted.new.directory c.begin_history.new.self c.begin_history.ensures.begun c.in_ok-reply.reply c.in_ok-reply.ensures.put
 
 pub returns-clause-records : goal.returns-clause-records
 returns-clause-records g c =
@@ -122,7 +122,7 @@ returns-clause-records g c =
     let hashed : c.pseudo-pseudokey.result ≡ any_pseudokey i.settings.keyer c.args.key = c.pseudo-pseudokey.ensures ∙ ap (any_pseudokey i.settings.keyer) c.as_bytes.ensures.bytes in
     let at_is : c.from-at.result ≡ ward_of i.settings.ward_bits c.pseudo-pseudokey.result = c.from-at.ensures ∙ c.ward_number.ensures in
     records_left old c.args.self.now c.self.view_is c.self.invariant c.requires c.args.key c.args.value c.pseudo-pseudokey.result c.from-at.result hashed at_is c.index_mut-ward.result.now c.index_mut-ward.ensures.value c.index_mut-directory.result.now c.index_mut-directory.ensures.value
-    c.put_pair.new.ward c.put_pair.new.directory c.begin_history.new.self c.begin_history.ensures.begun c.in_ok-reply.reply c.in_ok-reply.ensures.put
+    c.put_counted.new.ward c.put_counted.new.directory c.begin_history.new.self c.begin_history.ensures.begun c.in_ok-reply.reply c.in_ok-reply.ensures.put
 
 pub returns-clause-loading : goal.returns-clause-loading
 returns-clause-loading g c =
@@ -131,4 +131,4 @@ returns-clause-loading g c =
     let hashed : c.pseudo-pseudokey.result ≡ any_pseudokey i.settings.keyer c.args.key = c.pseudo-pseudokey.ensures ∙ ap (any_pseudokey i.settings.keyer) c.as_bytes.ensures.bytes in
     let at_is : c.from-at.result ≡ ward_of i.settings.ward_bits c.pseudo-pseudokey.result = c.from-at.ensures ∙ c.ward_number.ensures in
     loading_left old c.args.self.now c.self.view_is c.self.invariant c.requires c.args.key c.args.value c.pseudo-pseudokey.result c.from-at.result hashed at_is c.index_mut-ward.result.now c.index_mut-ward.ensures.value c.index_mut-directory.result.now c.index_mut-directory.ensures.value
-    c.put_pair.new.ward c.put_pair.new.directory c.begin_history.new.self c.begin_history.ensures.begun c.in_ok-reply.ensures.told
+    c.put_counted.new.ward c.put_counted.new.directory c.begin_history.new.self c.begin_history.ensures.begun c.in_ok-reply.ensures.told

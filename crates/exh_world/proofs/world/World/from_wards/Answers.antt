@@ -11,14 +11,14 @@ pub returns-clause-world : goal.returns-clause-world
 returns-clause-world g c =
     let made = c.in_ok-copies.ensures in
     let start = c.in_ok-start.ensures.table ∙ ap tables_joined c.deref.ensures.value in
-    made_of_wards c.args.config.now c.args.wards.items c.in_ok-copies.copies.start c.in_ok-noticed.noticed.items c.in_ok-copies.copies.copies c.in_ok-copies.copies.sent c.in_ok-in_flight.in_flight
-    (ap (λ (copies : CopiesState). copies.start) made ∙ start) (c.in_ok-noticed.ensures ∙ ap (map (λ ward. length ward.notices)) c.deref-2.ensures.value) (ap (λ (copies : CopiesState). copies.copies) made ∙ ap (replicate c.args.config.now.copies) (sym (ap (λ (copies : CopiesState). copies.start) made))) (ap (λ (copies : CopiesState). copies.sent) made) c.in_ok-in_flight.ensures
+    made_of_wards c.args.config c.args.wards.items c.in_ok-copies.copies.start c.in_ok-noticed.noticed.items c.in_ok-copies.copies.copies c.in_ok-copies.copies.sent c.in_ok-in_flight.in_flight
+    (ap (λ (copies : CopiesState). copies.start) made ∙ start) (c.in_ok-noticed.ensures ∙ ap (map (λ ward. length ward.notices)) c.deref-2.ensures.value) (ap (λ (copies : CopiesState). copies.copies) made ∙ ap (replicate c.args.config.copies) (sym (ap (λ (copies : CopiesState). copies.start) made))) (ap (λ (copies : CopiesState). copies.sent) made) c.in_ok-in_flight.ensures
 
 pub invariant_of-result : goal.invariant_of-result
 invariant_of-result g c =
     let pseudokey_of = g.K.Keyer.pseudokey_of in (
       subst (IsKeptWorld pseudokey_of) (sym (returns-clause-world g c))
-          (wards_world_kept pseudokey_of c.args.config.now c.args.wards.items g.met.K.Keyer.pseudokey_fits c.requires.bits c.requires.count c.requires.each (subst (AreSoundWards pseudokey_of) c.deref.ensures.value c.in_ok-start.ensures.sound) c.walks_name_homes.ensures),
+          (wards_world_kept pseudokey_of c.args.config c.args.wards.items g.met.K.Keyer.pseudokey_fits c.requires.bits c.requires.count c.requires.each (subst (AreSoundWards pseudokey_of) c.deref.ensures.value c.in_ok-start.ensures.sound) c.walks_name_homes.ensures),
       ap (λ (copies : CopiesState). copies.ward_bits) c.in_ok-copies.ensures ∙ c.in_ok-start.ensures.array.bits,
     )
 

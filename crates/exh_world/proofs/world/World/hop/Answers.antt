@@ -2,12 +2,13 @@ use Rattle.std.proofs.Common.{◌≡◌, ℕ, ◌^◌, ◌<◌, ◌≤◌, inr, 
 use Rattle.std.specs.Option.{option_copied}
 use Rattle.exh_ward.specs.declared.hop.Hop.{Hop}
 use Rattle.exh_world.specs.Sound.{IsSoundWorld}
-use Rattle.exh_world.specs.Step.{HasHopped, IsRefused, ReachesInto, Step}
+use Rattle.exh_world.specs.Step.{HasEffect, IsRefused, ReachesInto, Step}
 use Rattle.exh_world.specs.InFlight.{request_named}
 use Rattle.exh_world.specs.World.{WorldState}
 use Rattle.exh_event.specs.declared.event.Event.TheVariants.{Hop as HopOn}
-use Rattle.exh_world.proofs.HopSteps.{at_within, reaches, hashed, covered, had_few, changed_since, bound_told, bound_small, noticed_within, room, hopped, hopped_kept}
-use Rattle.exh_event.specs.EventProgress.{progress_with}
+use Rattle.exh_world.proofs.HopSteps.{at_within, reaches, hashed, covered, had_few, changed_since, bound_told, bound_small, noticed_within, room, hopped_to, hopped_kept}
+use Rattle.exh_event.specs.declared.outcome.Outcome.{Outcome}
+use Rattle.exh_event.specs.EventProgress.{Progress, hop_outcome, progress_with}
 use Rattle.exh_world.specs.RequestProgress.{progress_of}
 use Rattle.exh_world.proofs.InsideWorld.{with_ward, within_len, world_of}
 use Rattle.exh_world.proofs.world.World.hop.Given.{Over}
@@ -82,11 +83,14 @@ note_hop-requires g c =
     record { room = room g.K.Keyer.pseudokey_of c.self.inside c.self.invariant.0 c.args.name c.in-Some.request.now named c.from.result c.from.ensures _ c.index_mut-ward.ensures.value c.moves_come_nearer.ensures c.in_ok-hop.hop c.in_ok-hop.ensures.hop small }
 
 -- what the hop came to, with the moves and their bound
-progress_told : (g : Over) (c : goal.After-of_hop g) → c.of_hop.result ≡ progress_of (world_of c.self.inside) c.in-Some.request.now c.in_ok-hop.hop
-progress_told g c =
+abbrev told : (g : Over) (c : goal.After-of_hop g) → Progress
+told g c = progress_of (world_of c.self.inside) c.in-Some.request.now c.in_ok-hop.hop
+
+outcome_told : (g : Over) (c : goal.After-of_hop g) → c.of_hop.result ≡ hop_outcome c.in-Some.request.now.ward (told g c)
+outcome_told g c =
     let named = sym c.get.ensures ∙ ap option_copied c.in-Some.is in
     c.of_hop.ensures
-    ∙ ap (progress_with c.in_ok-hop.hop c.in-Some.request.now.moves)
+    ∙ ap (λ bound. hop_outcome c.in-Some.request.now.ward (progress_with c.in_ok-hop.hop c.in-Some.request.now.moves bound))
     (bound_told g.K.Keyer.pseudokey_of c.self.inside c.self.invariant.0 c.args.name c.in-Some.request.now named c.from.result c.from.ensures _ c.index_mut-ward.ensures.value c.from-2.result c.from-2.ensures
     c.index.result.now c.index.ensures c.from-3.result c.changes_since-changes.result c.from-3.ensures c.changes_since-changes.ensures.count)
 
@@ -94,7 +98,7 @@ pub invariant_of-self-2 : goal.invariant_of-self-2
 invariant_of-self-2 g c =
     let named = sym c.get.ensures ∙ ap option_copied c.in-Some.is in (
       hopped_kept g.K.Keyer.pseudokey_of c.self.inside c.self.invariant.0 c.args.name c.in-Some.request.now named c.from.result c.from.ensures _ c.index_mut-ward.ensures.value c.hop_hashed.new.self c.in_ok-hop.hop
-          c.in_ok-hop.ensures.hop c.in_ok-hop.ensures.leaves c.note_hop.new.self c.note_hop.ensures c.of_hop.result (progress_told g c) c.steps_keep_worlds_sound.ensures c.in_ok-hop.ensures.sound,
+          c.in_ok-hop.ensures.hop c.in_ok-hop.ensures.leaves c.note_hop.new.self c.note_hop.ensures (told g c) refl c.steps_keep_worlds_sound.ensures c.in_ok-hop.ensures.sound,
       c.self.invariant.1,
     )
 
@@ -103,9 +107,12 @@ returns-clause-step g c =
     let pseudokey_of = g.K.Keyer.pseudokey_of in
     let named = sym c.get.ensures ∙ ap option_copied c.in-Some.is in
     let new = with_ward c.self.inside c.from.result c.hop_hashed.new.self c.note_hop.new.self in
-    subst (λ (old : WorldState g.row.K.Denot). HasHopped pseudokey_of old c.args.name c.in-Some.request.now.ward c.of_hop.result new) c.self.view_is
-    (hopped pseudokey_of c.self.inside c.self.invariant.0 c.args.name c.in-Some.request.now named c.from.result c.from.ensures _ c.index_mut-ward.ensures.value c.hop_hashed.new.self c.in_ok-hop.hop
-    c.in_ok-hop.ensures.hop c.in_ok-hop.ensures.leaves c.note_hop.new.self c.note_hop.ensures c.of_hop.result (progress_told g c))
+    let to = hop_outcome c.in-Some.request.now.ward (told g c) in
+    let P : Outcome → Type 0 = λ outcome. HasEffect pseudokey_of c.args.self.now (HopOn c.args.name) outcome new in
+    subst P (sym (outcome_told g c))
+    (subst (λ (old : WorldState g.row.K.Denot). HasEffect pseudokey_of old (HopOn c.args.name) to new) c.self.view_is
+    (hopped_to pseudokey_of c.self.inside c.self.invariant.0 c.args.name c.in-Some.request.now named c.from.result c.from.ensures _ c.index_mut-ward.ensures.value c.hop_hashed.new.self c.in_ok-hop.hop
+    c.in_ok-hop.ensures.hop c.in_ok-hop.ensures.leaves c.note_hop.new.self c.note_hop.ensures (told g c) refl))
 
 pub returns-clause-sound : goal.returns-clause-sound
 returns-clause-sound g c = (invariant_of-self-2 g c).0.sound

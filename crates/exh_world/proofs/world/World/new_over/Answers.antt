@@ -1,28 +1,35 @@
-use Rattle.std.proofs.Common.{ℕ, ◌≤◌, replicate, arith, sym, ap, ◌∙◌, subst, rules}
+use Rattle.std.proofs.Common.{◌≡◌, ℕ, ◌≤◌, replicate, arith, sym, ap, ◌∙◌, subst, rules}
 use Rattle.std.proofs.lemmas.Result.{IfOk-from_err}
 use Rattle.exh_prefix.specs.declared.prefix.TheConstants.{LIMIT, WARD_BITS_LIMIT}
 use Rattle.exh_world.specs.WorldKept.{IsKeptWorld}
 use Rattle.exh_array.specs.Pointers.{HasArrayOf}
 use Rattle.exh_array.specs.Copies.{CopiesState}
 use Rattle.exh_world.proofs.FreshWorld.{made_is, none_noticed, AreSoundWards, new_kept}
+use Rattle.exh_settings.specs.Config.{file_settings}
+use Rattle.exh_ward.specs.NewWards.{new_wards}
+use Rattle.exh_world.proofs.world.World.new_over.Given.{Over}
 use Rattle.exh_world.proofs.world.World.new_over.Goals as goal
 
 small_enough : (ward_bits : ℕ) → ward_bits ≤ WARD_BITS_LIMIT → ward_bits ≤ LIMIT
 small_enough ward_bits few = omega (arith, few)
 
+-- the wards are those of a new file of the world's settings
+made_wards : (g : Over) (c : goal.In_ok-in_flight g) → c.in_ok-wards.wards.items ≡ new_wards (file_settings c.args.config)
+made_wards g c = c.in_ok-wards.ensures.wards ∙ ap new_wards c.file_settings.ensures
+
 pub returns-clause-world : goal.returns-clause-world
 returns-clause-world g c =
     let made = c.in_ok-copies.ensures in
-    made_is c.args.config.now c.in_ok-wards.wards.items c.in_ok-copies.copies.start c.resize.new.self.items c.in_ok-copies.copies.copies c.in_ok-copies.copies.sent c.in_ok-in_flight.in_flight
-    c.in_ok-wards.ensures.wards (ap (λ (copies : CopiesState). copies.start) made ∙ c.in_ok-start.ensures.table)
+    made_is c.args.config c.in_ok-wards.wards.items c.in_ok-copies.copies.start c.resize.new.self.items c.in_ok-copies.copies.copies c.in_ok-copies.copies.sent c.in_ok-in_flight.in_flight
+    (made_wards g c) (ap (λ (copies : CopiesState). copies.start) made ∙ c.in_ok-start.ensures.table)
     (none_noticed _ _ _ c.new-noticed.result.items c.resize.new.self.items (search rules) c.new-noticed.ensures.items c.new-noticed.ensures.len c.in_ok-resize.ensures.items)
-    (ap (λ (copies : CopiesState). copies.copies) made ∙ ap (replicate c.args.config.now.copies) c.in_ok-start.ensures.table) (ap (λ (copies : CopiesState). copies.sent) made) c.in_ok-in_flight.ensures
+    (ap (λ (copies : CopiesState). copies.copies) made ∙ ap (replicate c.args.config.copies) c.in_ok-start.ensures.table) (ap (λ (copies : CopiesState). copies.sent) made) c.in_ok-in_flight.ensures
 
 pub invariant_of-result : goal.invariant_of-result
 invariant_of-result g c =
     let pseudokey_of = g.K.Keyer.pseudokey_of in (
       subst (IsKeptWorld pseudokey_of) (sym (returns-clause-world g c))
-          (new_kept pseudokey_of c.args.config.now g.met.K.Keyer.pseudokey_fits c.requires.bits (subst (AreSoundWards pseudokey_of) c.in_ok-wards.ensures.wards c.in_ok-wards.ensures.sound)),
+          (new_kept pseudokey_of c.args.config g.met.K.Keyer.pseudokey_fits c.requires.bits (subst (AreSoundWards pseudokey_of) (made_wards g c) c.in_ok-wards.ensures.sound)),
       ap (λ (copies : CopiesState). copies.ward_bits) c.in_ok-copies.ensures ∙ c.in_ok-start.ensures.array.bits,
     )
 

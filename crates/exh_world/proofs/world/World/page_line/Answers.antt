@@ -11,8 +11,8 @@ use Rattle.exh_world.specs.Step.{IsChangeRefused, LeavesRefused}
 use Rattle.exh_world.specs.World.{WorldState}
 use Rattle.exh_world.proofs.InsideWorld.{world_of}
 use Rattle.exh_world.proofs.WardChanges.{after, found_now, same_kept, leaves_refused, of_refusal, change_refused}
-use Rattle.exh_world.proofs.world.World.head.Given.{Over}
-use Rattle.exh_world.proofs.world.World.head.Goals as goal
+use Rattle.exh_world.proofs.world.World.page_line.Given.{Over}
+use Rattle.exh_world.proofs.world.World.page_line.Goals as goal
 
 pub invariant_of-self-in_err-head : goal.invariant_of-self-in_err-head
 invariant_of-self-in_err-head g c =

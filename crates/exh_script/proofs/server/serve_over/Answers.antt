@@ -5,7 +5,7 @@ use Rattle.exh_stream.specs.Output.{held}
 use Rattle.exh_stream.specs.Source.{reader_failed, unread}
 use Rattle.exh_script.specs.OpenedScript.{beginning}
 use Rattle.exh_script.specs.Served.{PrintsUnread, PrintsWhole}
-use Rattle.exh_script.proofs.server.serve_from.Goals as goal
+use Rattle.exh_script.proofs.server.serve_over.Goals as goal
 
 -- whether the reader failed or not
 either_way : {T E : Type 0} (result : Result T E) (failed : Bool) (Unread Whole : T → Type 0) → IfOk result (λ left. MatchBool failed (Unread left) (Whole left)) → IfOk result (λ left. Whole left ⊎ Unread left)
