@@ -123,14 +123,7 @@ fn failing_world(
     let mut wards = Vec::new(alloc);
     wards.reserve(1)?;
     let store = FailingPages::new(first_store(alloc, 0, 0)?, at);
-    wards.push_reserved(Ward::new(
-        alloc,
-        store,
-        CONFIG.cap,
-        CONFIG.ward_bits,
-        0,
-        CONFIG.keyer,
-    ));
+    wards.push_reserved(Ward::new(alloc, store, CONFIG.cap, CONFIG.ward_bits, 0, CONFIG.keyer));
     World::from_wards(alloc, CONFIG, wards)
 }
 

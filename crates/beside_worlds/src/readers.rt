@@ -1,9 +1,7 @@
 //! The page file of the three pairs is opened from readers that give it in pieces and fail at one read, the first, the
 //! second, and so on: the fault is told, and no read comes after it.
 
-use crate::three_pairs::{
-    BLOCK_LEN, is_saved, not_opened, reader_of, write_to, writer_for,
-};
+use crate::three_pairs::{BLOCK_LEN, is_saved, not_opened, reader_of, write_to, writer_for};
 use exh_file::{OpenFault, open};
 use exh_fixtures::{Difference, FakeReader, Part, Run, same, three_pairs};
 use std::alloc::{AllocError, Global};

@@ -131,7 +131,12 @@ fn worlds(rt: HostRuntime) -> Result<(), Fail> {
     assert!(rt; goes_so(&mut World::new_framed(alloc, CONFIG, 1)?) == Some(true));
     assert!(rt; goes_so(&mut World::new_framed(alloc, CONFIG, 1024)?) == Some(true));
     assert!(rt; matches!(World::new_framed(alloc, CONFIG, 0), Err(CacheFault::Size)));
-    assert!(rt; matches!(World::new_framed(alloc, CONFIG, 1025), Err(CacheFault::Size)));
+    assert!(rt;
+        matches!(
+            World::new_framed(alloc, CONFIG, 1025),
+            Err(CacheFault::Size)
+        )
+    );
     Ok(())
 }
 
@@ -165,7 +170,9 @@ fn opened_scripts(rt: HostRuntime) -> Result<(), Fail> {
     let other = b"file cap=3 wards=0 copies=1 keyer=plain\n".as_slice();
     let (ended, opened) = serve_from(alloc, opened, &mut { other }, &mut out)?;
     assert!(rt; ended == Ended::Refused && opened.is_none());
-    assert!(rt; out.as_slice() == b"r1 at 0/0\nr1 new\nr1 at 0/0\nr1 is v\nrefused 63\n".as_slice());
+    assert!(rt;
+        out.as_slice() == b"r1 at 0/0\nr1 new\nr1 at 0/0\nr1 is v\nrefused 63\n".as_slice()
+    );
     Ok(())
 }
 
