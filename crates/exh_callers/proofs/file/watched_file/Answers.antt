@@ -8,7 +8,9 @@ use Rattle.exh_callers.proofs.file.watched_file.Goals as goal
 pub new-requires-clause-wards : goal.new-requires-clause-wards
 new-requires-clause-wards g c = (_, answered_nothing _ _ c.in_ok-wards.ensures.wards, c.requires.hashed)
 
-pub returns-clause-settings : goal.returns-clause-settings
-returns-clause-settings g c = IfOk-weaker c.new.result _ _ (λ file is.
-    let made = is _ (answered_nothing _ _ c.in_ok-wards.ensures.wards) in
-    (ap (λ (file : LiveState PlainKeyer). file.cap) made, ap (λ (file : LiveState PlainKeyer). file.ward_bits) made)) c.new.ensures
+pub returns : goal.returns
+returns g c = record {
+  settings = IfOk-weaker c.new.result _ _ (λ file is.
+      let made = is _ (answered_nothing _ _ c.in_ok-wards.ensures.wards) in
+      (ap (λ (file : LiveState PlainKeyer). file.cap) made, ap (λ (file : LiveState PlainKeyer). file.ward_bits) made)) c.new.ensures;
+}

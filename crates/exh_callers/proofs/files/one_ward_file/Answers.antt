@@ -9,7 +9,9 @@ use Rattle.exh_callers.proofs.files.one_ward_file.Goals as goal
 pub new-requires-clause-wards : goal.new-requires-clause-wards
 new-requires-clause-wards g c = (_, one_new_ward CAP c.args.keyer c.args.ward c.requires.new _ (search rules), c.requires.hashed)
 
-pub returns-clause-settings : goal.returns-clause-settings
-returns-clause-settings g c = IfOk-weaker c.new.result _ _ (λ file is.
-    let made = is _ (one_new_ward CAP c.args.keyer c.args.ward c.requires.new _ (search rules)) in
-    (ap (λ (file : LiveState PlainKeyer). file.cap) made, ap (λ (file : LiveState PlainKeyer). file.ward_bits) made)) c.new.ensures
+pub returns : goal.returns
+returns g c = record {
+  settings = IfOk-weaker c.new.result _ _ (λ file is.
+      let made = is _ (one_new_ward CAP c.args.keyer c.args.ward c.requires.new _ (search rules)) in
+      (ap (λ (file : LiveState PlainKeyer). file.cap) made, ap (λ (file : LiveState PlainKeyer). file.ward_bits) made)) c.new.ensures;
+}
