@@ -1,94 +1,76 @@
 //! Journals whose replies were worked out by hand.
 
-use exh_calls::{Base, Call, Journal, PackedPairs, Reply};
+use exh_calls::{Base, Journal, PackedPairs, Reply};
+use exh_fixtures::{Difference, Said, key, value};
 use exh_keyer::PlainKeyer;
-use exh_page::{Key, SizeFault, Value};
 use exh_report::audit;
 use std::alloc::Global;
-use std::test::Fail;
-
-// A call with its reply.
-type Line = (Call, Reply);
-
-fn get(key: &[u8]) -> Result<Call, SizeFault> {
-    Ok(Call::Get {
-        key: Key::from_bytes(key)?,
-    })
-}
-
-fn put(key: &[u8], value: &[u8]) -> Result<Call, SizeFault> {
-    Ok(Call::Put {
-        key: Key::from_bytes(key)?,
-        value: Value::from_bytes(value)?,
-    })
-}
-
-fn swap(key: &[u8], old: &[u8], new: &[u8]) -> Result<Call, SizeFault> {
-    Ok(Call::Swap {
-        key: Key::from_bytes(key)?,
-        old: Value::from_bytes(old)?,
-        new: Value::from_bytes(new)?,
-    })
-}
 
 // A history of a file of cap 2 and keyer plain, in which the key `z` has the value `z` before. The keys of zeros have one
 // pseudokey.
-fn lines() -> Result<[Line; 12], SizeFault> {
-    let a = Value::from_bytes(b"a")?;
-    let key = Key::from_bytes(b"\0\0")?;
-    Ok([
-        (get(b"z")?, Reply::Is(Value::from_bytes(b"z")?)),
-        (put(b"\0", b"a")?, Reply::New),
-        (put(b"\0\0", b"a")?, Reply::New),
-        (put(b"\0\0\0", b"a")?, Reply::Full),
-        (put(b"\0", b"b")?, Reply::Was(a)),
-        (get(b"\0")?, Reply::Is(Value::from_bytes(b"b")?)),
-        (Call::Del { key }, Reply::Was(a)),
-        (Call::Del { key }, Reply::None),
-        (get(b"\0\0")?, Reply::None),
-        (swap(b"\0", b"b", b"c")?, Reply::Swapped),
-        (
-            swap(b"\0", b"b", b"d")?,
-            Reply::Differs(Value::from_bytes(b"c")?),
-        ),
-        (swap(b"\0\0", b"a", b"b")?, Reply::None),
-    ])
-}
+const LINES: [Said<'static>; 12] = [
+    Said::Is(b"z", b"z"),
+    Said::New(b"\0", b"a"),
+    Said::New(b"\0\0", b"a"),
+    Said::Full(b"\0\0\0", b"a"),
+    Said::Changed(b"\0", b"b", b"a"),
+    Said::Is(b"\0", b"b"),
+    Said::Was(b"\0\0", b"a"),
+    Said::Gone(b"\0\0"),
+    Said::Absent(b"\0\0"),
+    Said::Swapped(b"\0", b"b", b"c"),
+    Said::Differs(b"\0", b"b", b"d", b"c"),
+    Said::Unswapped(b"\0\0", b"a", b"b"),
+];
 
 // The pairs before: of two of one key the first counts.
-fn base(alloc: Global) -> Result<Base, Fail> {
-    let key = Key::from_bytes(b"z")?;
+fn base(alloc: Global) -> Result<Base, Difference> {
     let mut pairs = PackedPairs::new(alloc);
-    pairs.push(&key, &Value::from_bytes(b"z")?)?;
-    pairs.push(&key, &Value::from_bytes(b"y")?)?;
+    pairs.push(&key(b"z")?, &value(b"z")?)?;
+    pairs.push(&key(b"z")?, &value(b"y")?)?;
     Ok(Base::from_pairs(pairs))
 }
 
-// The audit of a journal of these lines, in a file of this cap.
-fn audited(alloc: Global, cap: usize, lines: &[Line]) -> Result<bool, Fail> {
+// Adds an entry of a call with a reply, which may be another than its own.
+fn add(journal: &mut Journal, said: &Said<'_>, reply: Reply) -> Result<(), Difference> {
+    let call = said.asked().call()?;
+    journal.reserve()?;
+    journal.push_reserved(1, &call, &reply);
+    Ok(())
+}
+
+// The audit of a journal of these lines and a last one with this reply, in a file of this cap.
+fn audited(
+    alloc: Global,
+    cap: usize,
+    front: &[Said<'_>],
+    last: &Said<'_>,
+    reply: Reply,
+) -> Result<bool, Difference> {
     let mut journal = Journal::new(alloc);
-    for (call, reply) in lines {
-        journal.reserve()?;
-        journal.push_reserved(1, call, reply);
+    for said in front {
+        add(&mut journal, said, said.reply()?)?;
     }
+    add(&mut journal, last, reply)?;
     Ok(audit(alloc, cap, &PlainKeyer, &base(alloc)?, &journal)?)
 }
 
-// Whether each beginning is a history, and none with another last reply.
-fn are_told_apart(alloc: Global) -> Result<bool, Fail> {
-    let all = lines()?;
-    for len in 1..=all.len() {
-        let mut changed = lines()?;
-        changed[len - 1].1 = Reply::Is(Value::from_bytes(b"a")?);
-        if !audited(alloc, 2, &all[..len])? || audited(alloc, 2, &changed[..len])? {
+// Whether each beginning is a history, and none with another last reply, nor the whole in a file of another cap.
+fn are_told_apart(alloc: Global) -> Result<bool, Difference> {
+    let other = Reply::Is(value(b"a")?);
+    for (at, said) in LINES.iter().enumerate() {
+        let front = &LINES[..at];
+        if !audited(alloc, 2, front, said, said.reply()?)?
+            || audited(alloc, 2, front, said, other)?
+        {
             return Ok(false);
         }
     }
-    Ok(!audited(alloc, 3, &all)?)
+    let [front @ .., last] = &LINES;
+    Ok(!audited(alloc, 3, front, last, last.reply()?)?)
 }
 
 #[test]
-fn histories_and_others(rt: HostRuntime) -> Result<(), Fail> {
-    assert!(rt; are_told_apart(rt.alloc())?);
-    Ok(())
+fn histories_and_others(rt: HostRuntime) {
+    assert!(rt; matches!(are_told_apart(rt.alloc()), Ok(true)));
 }

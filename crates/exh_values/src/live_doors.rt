@@ -8,13 +8,12 @@ ghost use Rattle.exh_live_file.specs.declared.ledgers.TheConstants.{ANSWER_PARTS
 
 use exh_calls::{Call, Reply};
 use exh_copy::{CopyReader, CopyWriter, NewCopyFault, Start, new_copy};
+use exh_fixtures::{Said, merge};
 use exh_keyer::PlainKeyer;
 use exh_live::{
     ANSWER_PARTS, Closed, Cursors, ENTRY_PARTS, Identity, LiveFile, OpenGate, Seat, StormConfig,
     settle, storm, walk_steps,
 };
-use exh_notice::{Kind, Notice};
-use exh_page::{Key, Value};
 use exh_settings::FileSettings;
 use exh_stores::{PlainMaker, PlainPages};
 use exh_table::{Leaf, Table};
@@ -36,34 +35,9 @@ const SETTINGS: FileSettings<PlainKeyer> = FileSettings {
     keyer: PlainKeyer,
 };
 
-// The notice of the merge of both pages.
-fn merge() -> Notice {
-    Notice {
-        ward: 0,
-        index: 2,
-        prefix: Leaf::root().prefix,
-        number: 2,
-        kind: Kind::Merge,
-    }
-}
-
-fn put(key: &[u8], value: &[u8]) -> Option<(Call, Reply)> {
-    let key = Key::from_bytes(key).ok()?;
-    let value = Value::from_bytes(value).ok()?;
-    Some((Call::Put { key, value }, Reply::New))
-}
-
-fn get(key: &[u8], value: &[u8]) -> Option<(Call, Reply)> {
-    let key = Key::from_bytes(key).ok()?;
-    Some((Call::Get { key }, Reply::Is(Value::from_bytes(value).ok()?)))
-}
-
-fn delete(key: &[u8], value: &[u8]) -> Option<(Call, Reply)> {
-    let key = Key::from_bytes(key).ok()?;
-    Some((
-        Call::Del { key },
-        Reply::Was(Value::from_bytes(value).ok()?),
-    ))
+// A call with its reply.
+fn line(said: Said<'_>) -> Option<(Call, Reply)> {
+    Some((said.asked().call().ok()?, said.reply().ok()?))
 }
 
 // Whether calls of the seat are answered so.
@@ -97,11 +71,15 @@ fn are_rounds_made<R: Wait, F: Identity, S: Start>(
     requires own { copy.old.name ≡ writer.old.name }
     ensures { copy.new.name ≡ writer.new.name }
 {
-    let puts = [put(b"\0", b"a")?, put(b"\x80", b"b")?, put(b"\x40", b"x")?];
+    let puts = [
+        line(Said::New(b"\0", b"a"))?,
+        line(Said::New(b"\x80", b"b"))?,
+        line(Said::New(b"\x40", b"x"))?,
+    ];
     let rest = [
-        get(b"\x80", b"b")?,
-        delete(b"\x40", b"x")?,
-        delete(b"\x80", b"b")?,
+        line(Said::Is(b"\x80", b"b"))?,
+        line(Said::Was(b"\x40", b"x"))?,
+        line(Said::Was(b"\x80", b"b"))?,
     ];
     let mut cursors = Cursors::new(alloc, 0, &Table::new(alloc)).ok()?;
     let are_put = are_answered(rt, file, seat, copy, &puts);
@@ -113,7 +91,7 @@ fn are_rounds_made<R: Wait, F: Identity, S: Start>(
     Some(are_put && are_gone && (carried, page, merges) == (1, Some(1), 1))
 }
 
-// The notice of that merge, which a look doesn't show before it is published and learned.
+// The notice of the merge of both pages, which a look doesn't show before it is published and learned.
 fn is_told<R: Wait, S: Start>(
     rt: &R,
     writer: &mut CopyWriter<S>,
@@ -121,7 +99,7 @@ fn is_told<R: Wait, S: Start>(
 ) -> Option<bool>
     requires { copy.old.name ≡ writer.old.name }
 {
-    writer.take(&merge()).ok()?;
+    writer.take(&merge(2, Leaf::root().prefix, 2)).ok()?;
     let before = copy.look(HALF);
     writer.publish(rt).ok()?;
     copy.learn(writer.tell().ok()?);
@@ -221,7 +199,7 @@ fn walk(alloc: Global) -> Option<bool> {
         SETTINGS,
     ).ok()?;
     let ward = wards.first_mut()?;
-    let (call, reply) = put(b"\x80", b"b")?;
+    let (call, reply) = line(Said::New(b"\x80", b"b"))?;
     if !ward.covers(HALF) || ward.pseudokey(call.key()) != HALF {
         return None;
     }
