@@ -12,9 +12,7 @@ use exh_file::Opened;
 use exh_frames::FileStore;
 use exh_join::Join;
 use exh_keyer::AnyKeyer;
-use exh_live_file::{
-    ANSWER_PARTS, Closed, Cursors, ENTRY_PARTS, Identity, LiveFile, Seat, settle,
-};
+use exh_live_file::{ANSWER_PARTS, Closed, Cursors, ENTRY_PARTS, Identity, LiveFile, Seat, settle};
 use exh_page::{Key, Value};
 use exh_settings::FileSettings;
 use exh_table::Table;

@@ -7,8 +7,8 @@ pub use caller::Caller;
 pub use courier::{COURIER_CLIENT, Courier};
 pub use exh_calls::{Diary, DiaryEntry, Mismatch, Settled};
 pub use exh_live_file::{
-    ANSWER_PARTS, Answers, CloseFault, Closed, Cursors, ENTRY_PARTS, Entries, Identity, LedgerNames,
-    LiveFile, NoSeat, NotClosed, Seat, WardJournals, cursors_go_on_with_wards, settle,
+    ANSWER_PARTS, Answers, CloseFault, Closed, Cursors, ENTRY_PARTS, Entries, Identity,
+    LedgerNames, LiveFile, NoSeat, NotClosed, Seat, WardJournals, cursors_go_on_with_wards, settle,
 };
 pub use exh_settings::StormConfig;
 pub use exh_walk::{AskFault, Gate, OpenGate, Steps, TURN_LIMIT, TurnGate, walk_steps};

@@ -89,7 +89,15 @@ pub fn load<R: Read, W: Write>(
     ensures err { OnErr result (Prints (IsLoadOf (load_of new_loaded SCRIPT_LIMIT) (R.remaining reader.old)) (AppendsBeginning (W.contents writer.old) (W.contents writer.new))) }
     ensures memory { IfErr result (λ fault. fault ≢ RunFault.Write → PrintsFront (IsLoadOf (load_of new_loaded SCRIPT_LIMIT) (R.remaining reader.old)) (Appends (W.contents writer.old) (W.contents writer.new))) }
 {
-    match exh_load::load(alloc, &MAKER, None, SCRIPT_LIMIT, reader, writer, &mut Silent) {
+    match exh_load::load(
+        alloc,
+        &MAKER,
+        None,
+        SCRIPT_LIMIT,
+        reader,
+        writer,
+        &mut Silent,
+    ) {
         Ok(file) => Ok(file),
         Err(LoadFault::Write) => Err(RunFault::Write),
         Err(LoadFault::Memory) => Err(RunFault::Memory),
