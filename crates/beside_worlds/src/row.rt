@@ -63,8 +63,9 @@ impl Row {
     pub(crate) fn push_turn(&self, turns: &mut Vec<Turn>) -> Result<(), AllocError> {
         let call = self.call();
         let event = self.told_event(call);
+        let hop = self.hop();
         let reply = self.reply();
-        let result = self.told_result(reply);
+        let result = self.told_result(hop, reply);
         turns.reserve(1)?;
         turns.push_reserved(Turn { event, result });
         Ok(())
@@ -97,6 +98,15 @@ impl Row {
         }
     }
 
+    // The hop that leaves a request without an answer.
+    fn hop(&self) -> Option<Hop> {
+        match self {
+            Row::Moved(_, page) => Some(Hop::Moved(*page)),
+            Row::MustSplit(_) => Some(Hop::MustSplit),
+            _ => None,
+        }
+    }
+
     fn told_event(&self, call: Option<Call>) -> Event {
         match self.event(call) {
             Ok(event) => event,
@@ -104,8 +114,8 @@ impl Row {
         }
     }
 
-    fn told_result(&self, reply: Option<Reply>) -> Result<Outcome, StepFault> {
-        match self.result(reply) {
+    fn told_result(&self, hop: Option<Hop>, reply: Option<Reply>) -> Result<Outcome, StepFault> {
+        match self.result(hop, reply) {
             Ok(result) => result,
             Err(_) => Err(StepFault::NoWard),
         }
@@ -133,14 +143,20 @@ impl Row {
         })
     }
 
-    fn result(&self, reply: Option<Reply>) -> Result<Result<Outcome, StepFault>, Difference> {
+    fn result(
+        &self,
+        hop: Option<Hop>,
+        reply: Option<Reply>,
+    ) -> Result<Result<Outcome, StepFault>, Difference> {
         Ok(Ok(match self {
             Row::Begin(.., page) => Outcome::Begun {
                 ward: 0,
                 page: *page,
             },
-            Row::Moved(_, page) => hopped(Hop::Moved(*page)),
-            Row::MustSplit(_) => hopped(Hop::MustSplit),
+            Row::Moved(..) | Row::MustSplit(_) => Outcome::Hopped {
+                ward: 0,
+                hop: hop.ok_or(Difference::Apart(Part::Run))?,
+            },
             Row::Done(_, _, moves, bound) => Outcome::Replied {
                 ward: 0,
                 reply: reply.ok_or(Difference::Apart(Part::Run))?,
@@ -169,9 +185,4 @@ fn is_written(said: &Said<'_>) -> bool {
         said,
         Said::New(..) | Said::Changed(..) | Said::Was(..) | Said::Swapped(..)
     )
-}
-
-// The hop left the request without an answer.
-fn hopped(hop: Hop) -> Outcome {
-    Outcome::Hopped { ward: 0, hop }
 }

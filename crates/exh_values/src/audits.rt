@@ -57,12 +57,11 @@ fn audited(
 
 // Whether each beginning is a history, and none with another last reply, nor the whole in a file of another cap.
 fn are_told_apart(alloc: Global) -> Result<bool, Difference> {
-    let other = Reply::Is(value(b"a")?);
-    for (at, said) in LINES.iter().enumerate() {
-        let front = &LINES[..at];
-        if !audited(alloc, 2, front, said, said.reply()?)?
-            || audited(alloc, 2, front, said, other)?
-        {
+    for at in 0..LINES.len() {
+        let (front, said) = (&LINES[..at], &LINES[at]);
+        let is_history = audited(alloc, 2, front, said, said.reply()?)?;
+        let is_another = audited(alloc, 2, front, said, Reply::Is(value(b"a")?))?;
+        if !is_history || is_another {
             return Ok(false);
         }
     }

@@ -91,16 +91,33 @@ fn reads_each_version(alloc: Global) -> Option<bool> {
     )
 }
 
-// Whether stores of images give their pages back, and one of which the first call fails gives one then.
+// The low bound of a store's first page, or why it isn't reached; none of a store without pages.
+fn first_low<P: Pages + Drop>(store: &mut P) -> Option<Result<u64, PagesFault>> {
+    if store.count() == 0 {
+        return None;
+    }
+    match store.get(0) {
+        Ok(page) => Some(Ok(page.low())),
+        Err(fault) => Some(Err(fault)),
+    }
+}
+
+// Whether stores of images give their pages back.
 fn lends_its_pages(alloc: Global) -> Option<bool> {
     let mut pages = Vec::new(alloc);
     pages.push(first_page(alloc, 1, 1)).ok()?;
     let mut new = FramedPages::new(alloc, first_page(alloc, 0, 0), PlainKeyer, 64).ok()?;
     let mut given = FramedPages::from_pages(alloc, pages, PlainKeyer, 1).ok()?;
-    let mut failing = FailingPages::new(PlainPages::new(alloc, first_page(alloc, 0, 0)).ok()?, 1);
-    let has_pages = new.get(0).ok()?.low() == 0 && given.get(0).ok()?.low() == PSEUDOKEY;
-    let has_failed = matches!(failing.get(0), Err(PagesFault::Page)) && failing.failures() == 1;
-    Some(has_pages && has_failed && failing.get(0).ok()?.low() == 0 && failing.count() == 1)
+    let is_new = matches!(first_low(&mut new), Some(Ok(0)));
+    Some(is_new && matches!(first_low(&mut given), Some(Ok(PSEUDOKEY))))
+}
+
+// Whether a store of which the first call fails gives its page then.
+fn fails_once(alloc: Global) -> Option<bool> {
+    let mut store = FailingPages::new(PlainPages::new(alloc, first_page(alloc, 0, 0)).ok()?, 1);
+    let has_failed = matches!(first_low(&mut store), Some(Err(PagesFault::Page)));
+    let is_counted = store.failures() == 1;
+    Some(has_failed && is_counted && matches!(first_low(&mut store), Some(Ok(0))))
 }
 
 // Whether each page of a new ward is as far from a key as it is: none but page 0 is there.
@@ -122,5 +139,6 @@ fn doors(rt: HostRuntime) {
     assert_eq!(rt; keeps_a_record(alloc), Some(true));
     assert_eq!(rt; reads_each_version(alloc), Some(true));
     assert_eq!(rt; lends_its_pages(alloc), Some(true));
+    assert_eq!(rt; fails_once(alloc), Some(true));
     assert_eq!(rt; tells_distances(alloc), Some(true));
 }

@@ -3,7 +3,7 @@ use Rattle.exh_keyer.specs.declared.any_keyer.AnyKeyer.{AnyKeyer}
 use Rattle.exh_settings.specs.declared.file_settings.FileSettings.{FileSettings}
 use Rattle.exh_ward.specs.WardState.{WardState}
 use Rattle.exh_file.specs.Opened.{AreWardsOf, OpenedState, settings_in}
-use Rattle.exh_live_file.specs.LiveFile.{AreNewWardsOf}
+use Rattle.exh_live_file.specs.LiveFile.{AreNewWardsOf, LiveState}
 use Rattle.example_use.specs.Unasked.{AreUnasked}
 use Rattle.example_use.proofs.service.serve_as.Goals as goal
 
@@ -21,3 +21,9 @@ pub new-requires-clause-wards : goal.new-requires-clause-wards
 new-requires-clause-wards g c =
     let wards = c.into_wards-wards.result.items in
     (settings_in c.args.opened, new_wards c.args.opened wards c.into_wards-wards.ensures.wards c.into_wards-wards.ensures.each c.requires.unasked, c.requires.hashed)
+
+pub serve_copy-requires-clause-bits : goal.serve_copy-requires-clause-bits
+serve_copy-requires-clause-bits g c κs within =
+    let news = new_wards c.args.opened c.into_wards-wards.result.items c.into_wards-wards.ensures.wards c.into_wards-wards.ensures.each c.requires.unasked in
+    ap (λ (file : LiveState AnyKeyer). file.ward_bits) (c.in_ok-file.ensures (settings_in c.args.opened) news)
+    ∙ sym (ap (λ (settings : FileSettings AnyKeyer). settings.ward_bits) c.settings-settings.ensures)
