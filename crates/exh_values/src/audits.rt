@@ -57,16 +57,19 @@ fn audited(
 
 // Whether each beginning is a history, and none with another last reply, nor the whole in a file of another cap.
 fn are_told_apart(alloc: Global) -> Result<bool, Difference> {
-    for at in 0..LINES.len() {
-        let (front, said) = (&LINES[..at], &LINES[at]);
+    let lines: &[Said<'_>] = &LINES;
+    for at in 0..lines.len() {
+        let (front, said) = (&lines[..at], &lines[at]);
         let is_history = audited(alloc, 2, front, said, said.reply()?)?;
         let is_another = audited(alloc, 2, front, said, Reply::Is(value(b"a")?))?;
         if !is_history || is_another {
             return Ok(false);
         }
     }
-    let [front @ .., last] = &LINES;
-    Ok(!audited(alloc, 3, front, last, last.reply()?)?)
+    match lines {
+        [front @ .., last] => Ok(!audited(alloc, 3, front, last, last.reply()?)?),
+        [] => Ok(false),
+    }
 }
 
 #[test]
