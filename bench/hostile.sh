@@ -1,7 +1,7 @@
 #!/usr/bin/env bash
 # Measures what a script, or a text of pairs, of at most 1 MiB can cost.
 #
-#   bench/hostile.sh [SECONDS [KIB]]     a run is ended after so many seconds of processor, 120 if left out, and may
+#   bench/hostile.sh [SECONDS [KIB]]     a run is ended after so many seconds of processor, 600 if left out, and may
 #                                        have so many KiB of memory, 4 GiB if left out
 #
 # hostile.awk draws scripts over a new file of cap 1, whose directory is of the greatest depth, twenty bits, and has 20
@@ -19,14 +19,16 @@
 #
 # The program is the one that ./exhash builds, or the one that the variable EXHASH names.
 #
-# Wanted: 10 seconds, and one more for each 200 MB that is printed; 600 MiB, of the load 1.3 times the file that it
-# writes, over an opened file 4 times its size.
+# Wanted: 10 seconds, and one more for each 200 MB that is printed; of `restart` and `combine` by turns, and of merges and
+# splits by turns, 200 seconds, since each second line or so makes a directory of 2^20 pointers anew, and of the first
+# over as many entries as half a script makes 550, since each `combine` takes all of them too; 600 MiB, of the load 1.3
+# times the file that it writes, over an opened file 4 times its size.
 #
 # Status: 0 where all that is met, 1 where something isn't, 2 where nothing could be measured.
 set -u
 export LC_ALL=C
 
-LIMIT=${1:-120}
+LIMIT=${1:-600}
 ROOM=${2:-$((4 * 1024 * 1024))}
 LARGEST=$((1024 * 1024))
 KINDS=(combine restart send deliver halve show page inflight begin hop)
@@ -119,6 +121,11 @@ cc -O2 -Wall -Wextra -o "$folder/clock" "$bench/clock.c" || die 'clock.c could n
 machine="$(nproc) x $(sed -n 's/^model name[^:]*: //p' /proc/cpuinfo | head -n 1)"
 echo "machine: $machine, load $(cut -d ' ' -f 1 /proc/loadavg); a run has $LIMIT seconds and $((ROOM / 1024)) MiB"
 awk '
+    # How many seconds a run over so many entries may take that prints nothing.
+    function allowed(what, entries) {
+        if (what == "restart" && entries > 256) return 550
+        return what == "restart" || what == "halve" ? 200 : 10
+    }
     function fall(what) { short[++falls] = "FALLS SHORT: " $1 " over " $2 " entries: " what }
     BEGIN { printf "%-15s %8s %8s %9s %9s %8s\n", "what", "entries", "lines", "seconds", "MB", "MiB" }
     # what entries before lines wanted microseconds elapsed KiB lines bytes ended
@@ -134,7 +141,7 @@ awk '
             whole = sprintf("  the whole: %.0f seconds", seconds * $4 / answered)
         print whole ($11 == "ended" ? "  ended" : "")
         if ($11 == "ended") fall(sprintf("ended after %.1f seconds, with %d MiB", seconds, memory))
-        else if (seconds > (most = 10 + printed / 200)) fall(sprintf("%.1f seconds, %.1f are wanted", seconds, most))
+        else if (seconds > (most = allowed($1, $2) + printed / 200)) fall(sprintf("%.1f seconds, %.1f are wanted", seconds, most))
         if (memory > $5) fall(sprintf("%d MiB, %d are wanted", memory, $5))
     }
     END {

@@ -70,14 +70,54 @@ const FOUR_WARDS: [&[Leaf]; 3] = [
     ],
 ];
 
+// Notices in the order told, the depth of one ward's array of pointers then, and its pages, each with the first pseudokey
+// of its pointer.
+type Array = (&'static [Told], u8, &'static [(u64, PageNo)]);
+
+const ARRAYS: [Array; 5] = [
+    (&[], 0, &[(0, 0)]),
+    // Walks don't come to this split yet.
+    (&[("0", 1, Some(2))], 0, &[(0, 0)]),
+    // Now they do: the array is doubled twice at once.
+    (
+        &[("0", 1, Some(2)), ("", 1, Some(1))],
+        2,
+        &[(0, 0), (1 << 62, 2), (2 << 62, 1), (3 << 62, 1)],
+    ),
+    (&[("", 1, Some(1))], 1, &[(0, 0), (1 << 63, 1)]),
+    // Merged, it is halved.
+    (&[("", 1, Some(1)), ("", 2, None)], 0, &[(0, 0)]),
+];
+
 /// Tells directories of one ward and of four, makes one of the most wards, and one as deep as may be.
 pub(crate) fn run(run: &mut Run) -> Result<(), Difference> {
     run_wards(run, 0, &ONE_WARD)?;
     run_wards(run, 2, &FOUR_WARDS)?;
+    run_arrays(run)?;
     let most = has_most_wards(run.alloc);
     run.tally.step(most);
     let mut chain = again!(Err(AllocError) => Directory::new(run.alloc, 0))?;
     run.tally.step(take_chain(&mut chain));
+    Ok(())
+}
+
+fn run_arrays(run: &mut Run) -> Result<(), Difference> {
+    for array in &ARRAYS {
+        let mut directory = again!(Err(AllocError) => Directory::new(run.alloc, 0))?;
+        run.tally.step(has_array(&mut directory, array));
+    }
+    Ok(())
+}
+
+// A directory that is told of the notices has the array.
+fn has_array(directory: &mut Directory, array: &Array) -> Result<(), Difference> {
+    let (told, depth, pages) = *array;
+    take_all(directory, told)?;
+    let pointers = directory.pointers();
+    same(pointers.depth() == depth, Part::Depth)?;
+    for (pseudokey, page) in pages {
+        same(pointers.page(*pseudokey) == *page, Part::Pointer)?;
+    }
     Ok(())
 }
 
@@ -152,7 +192,7 @@ fn has_leaves(directory: &Directory, ward_bits: u8, leaves: &[Leaf]) -> Result<(
     same(directory.depth() == depth, Part::Depth)
 }
 
-// A pseudokey has this page and local depth, also by its pointer, where that is to a leaf.
+// A pseudokey has this page and local depth.
 fn is_at(
     directory: &Directory,
     pseudokey: u64,
@@ -160,12 +200,9 @@ fn is_at(
     local_depth: u8,
 ) -> Result<(), Difference> {
     let pointers = directory.pointers();
-    let is_walk = directory.walk(pseudokey) == page;
-    let is_page = pointers.page(pseudokey).unwrap_or(page) == page;
-    same(is_walk && is_page, Part::Pointer)?;
-    let is_length = directory.local_depth(pseudokey) == local_depth;
-    let is_bits = pointers.local_depth(pseudokey).unwrap_or(local_depth) == local_depth;
-    same(is_length && is_bits, Part::Pointer)
+    let is_page = directory.walk(pseudokey) == page && pointers.page(pseudokey) == page;
+    let is_length = pointers.local_depth(pseudokey) == local_depth;
+    same(is_page && is_length, Part::Pointer)
 }
 
 // As many wards as there may be: none of them can be split.
@@ -173,18 +210,16 @@ fn has_most_wards(alloc: Global) -> Result<(), Difference> {
     let pointers = again!(Err(AllocError) => Pointers::new(alloc, LIMIT))?;
     for leading in 0..1u64 << LIMIT {
         let pseudokey = leading << (64 - LIMIT);
-        let is_page = pointers.page(pseudokey) == Some(0);
-        same(
-            is_page && pointers.local_depth(pseudokey) == Some(LIMIT),
-            Part::Pointer,
-        )?;
+        let is_page = pointers.page(pseudokey) == 0;
+        let is_length = pointers.local_depth(pseudokey) == LIMIT;
+        same(is_page && is_length, Part::Pointer)?;
     }
-    Ok(())
+    same(pointers.depth() == LIMIT, Part::Depth)
 }
 
 // Splits at 0 to `LIMIT` zeros make a directory as deep as may be, of which the last is not passed, and merges make it
 // flat again; then, told of the longest first, it is made deep by the split at the root, and flat by a merge there. Its
-// array is doubled as far as 20 entries ask for, and no further.
+// array is doubled and halved one by one, and then all at once.
 fn take_chain(directory: &mut Directory) -> Result<(), Difference> {
     for zeros in 0..=LIMIT {
         take_zeros(directory, zeros, 1, (zeros + 1).min(LIMIT))?;
@@ -227,22 +262,6 @@ fn is_chain(directory: &Directory) -> Result<(), Difference> {
     }
     for pseudokey in [0, 1, 0x8000_0000_0000_0000 >> LIMIT, u64::MAX >> LIMIT] {
         is_at(directory, pseudokey, 0, LIMIT)?;
-    }
-    is_cut_off(directory)
-}
-
-// Of 21 entries and a ward there are at most 8 * 22 pointers: 2^7, so that leaves of 7 bits have one, and longer ones none.
-fn is_cut_off(directory: &Directory) -> Result<(), Difference> {
-    let pointers = directory.pointers();
-    let within = u64::MAX >> 6;
-    let is_within = pointers.page(within) == Some(7) && pointers.local_depth(within) == Some(7);
-    same(is_within, Part::Pointer)?;
-    for pseudokey in [0, u64::MAX >> 7] {
-        let is_past = pointers.page(pseudokey).is_none();
-        same(
-            is_past && pointers.local_depth(pseudokey).is_none(),
-            Part::Pointer,
-        )?;
     }
     Ok(())
 }

@@ -5,9 +5,9 @@ ghost use Rattle.std.specs.Prelude.{◌<◌, ◌≤◌, ◌^◌};
 ghost use Rattle.exh_prefix.specs.declared.prefix.TheConstants.{WARD_BITS_LIMIT};
 
 use crate::plain_ward::{PlainWard, plain_ward};
-use exh_calls::{Call, Journal, JournalEntry, Reply};
+use exh_calls::{Base, Call, Journal, JournalEntry, Reply};
 use exh_fixtures::{
-    Asked, Difference, Part, Run, Said, again, first_store, hop_of, refused, same, split_page,
+    Asked, Difference, Part, Run, Said, again, first_store, hop_of, key, refused, same, split_page,
     value,
 };
 use exh_keyer::PlainKeyer;
@@ -75,21 +75,33 @@ fn take_call(
 // The journal has these entries and no others, and begins with no key.
 fn has_entries(ward: &PlainWard, lines: &[Line]) -> Result<(), Difference> {
     has_just(ward.journal(), lines)?;
-    let Some(base) = ward.base() else {
-        return same(false, Part::Journal);
-    };
-    same(base.pairs().next().is_none(), Part::Journal)
+    has_pairs(ward.base(), &[])
 }
 
-// A history that begins anew has no entry, and the base isn't kept; the value that a key was given stands, and the call
-// that asks for it is the first entry.
+// The base has these pairs and no others, in order.
+fn has_pairs(base: &Base, wanted: &[(&[u8], &[u8])]) -> Result<(), Difference> {
+    let mut pairs = base.pairs();
+    same(pairs.len() == wanted.len(), Part::Journal)?;
+    for (own_key, own_value) in wanted {
+        let pair = Some((key(own_key)?, value(own_value)?));
+        same(pairs.next() == pair, Part::Journal)?;
+    }
+    Ok(())
+}
+
+// The pairs of the pages when the history begins anew.
+const LEFT: [(&[u8], &[u8]); 2] = [(b"\0", &[8; 128]), (b"\0\0", b"b")];
+
+// A history that begins anew has no entry, and the pairs of the pages as its base, and goes on with the call that comes
+// next.
 fn has_begun(ward: &mut PlainWard) -> Result<(), Difference> {
-    ward.begin_history();
+    again!(Err(WardFault::Memory) => ward.begin_history()).map_err(refused)?;
     has_just(ward.journal(), &[])?;
+    has_pairs(ward.base(), &LEFT)?;
     let asked = (7, Said::Is(b"\0", &[8; 128]));
     take_call(ward, asked.0, &asked.1, false)?;
     has_just(ward.journal(), &[asked])?;
-    same(ward.base().is_none(), Part::Journal)
+    has_pairs(ward.base(), &LEFT)
 }
 
 // The journal has these entries and no others.

@@ -41,6 +41,15 @@ module _ (start : TableMap) (sent : List TableMap) (copy : HeldCopy) (held : IsH
   pub at_start : copy.since ≡ None → copy.news ≡ empty → copy.directory.table ≡ start
   at_start since news = held.table ∙ ap (λ s. table_join (base_in start sent s) copy.news) since ∙ ap (table_join start) news ∙ joined_none start
 
+  -- its table is the same
+  pub told : (directory : DirectoryState) → directory.table ≡ copy.directory.table → IsHeld start sent (record copy { directory = directory })
+  told directory same = record {
+    begun = subst (IsTableUpTo start) (sym same) held.begun;
+    before = held.before;
+    table = same ∙ held.table;
+    known = subst (AreKnown sent copy.known) (sym same) held.known;
+  }
+
   -- it took an entry
   pub taken : (directory : DirectoryState) (news : TableMap) (key : List Bool) (entry : Entry) → directory.table ≡ raised copy.directory.table key entry → news ≡ raised copy.news key entry
       → IsHeld start sent (record copy { directory = directory; news = news })

@@ -1,5 +1,5 @@
 -- What tables are that were joined, and told an entry more.
-use Rattle.std.proofs.Common.{◌≡◌, Bool, true, false, cond, List, Option, Some, None, refl, sym, ap, ◌∙◌, subst}
+use Rattle.std.proofs.Common.{◌≡◌, Bool, true, false, cond, List, [], ◌∷◌, ◌++◌, Option, Some, None, refl, sym, ap, ◌∙◌, subst}
 use Rattle.std.specs.FinMap.{empty, get, get-empty, get-insert}
 use Rattle.std.specs.Ordering.{eq_by_cmp}
 use Rattle.exh_prefix.specs.Prefix.{prefix_cmp}
@@ -10,6 +10,7 @@ use Rattle.exh_notice.specs.Entry.{entry_cmp}
 use Rattle.exh_notice.specs.EntryLemmas.{entry_laws}
 use Rattle.exh_table.specs.Table.{TableMap, raised, greater_of}
 use Rattle.exh_table.specs.TableOrder.{IsOptionUpTo, IsTableUpTo, table_join}
+use Rattle.exh_table.specs.RaisedLemmas.{raised_all}
 use Rattle.exh_table.specs.TableLemmas.{joined, get-table_join, same_table, same_from_tie, table_laws}
 
 -- a table that is at most this one is joined in it already
@@ -78,3 +79,24 @@ raised_told table key stood entry is up =
 pub joined_told : (own news : TableMap) (key : List Bool) (entry : Entry) → raised own key entry ≡ own → raised (table_join own news) key entry ≡ table_join own news
 joined_told own news key entry told =
     ap (λ t. raised t key entry) (table_laws.commutative own news) ∙ sym (joined_raised news own key entry) ∙ ap (table_join news) told ∙ table_laws.commutative news own
+
+-- ---- entries that are taken from behind
+
+-- a table that took an entry is joined with the one that has it alone
+raised_is_join : (table : TableMap) (key : List Bool) (entry : Entry) → raised table key entry ≡ table_join table (raised empty key entry)
+raised_is_join table key entry = ap (λ t. raised t key entry) (sym (joined_none table)) ∙ sym (joined_raised table empty key entry)
+
+-- two entries are taken in either order
+raised_swapped : (table : TableMap) (one other : List Bool) (first second : Entry) → raised (raised table one first) other second ≡ raised (raised table other second) one first
+raised_swapped table one other first second =
+    raised_is_join (raised table one first) other second
+    ∙ ap (λ t. table_join t (raised empty other second)) (raised_is_join table one first)
+    ∙ swapped table (raised empty one first) (raised empty other second)
+    ∙ ap (λ t. table_join t (raised empty one first)) (sym (raised_is_join table other second))
+    ∙ sym (raised_is_join (raised table other second) one first)
+
+-- the last of some may come first
+pub raised_all-last : (table : TableMap) (entries : List (List Bool × Entry)) (last : List Bool × Entry) → raised_all table (entries ++ last ∷ []) ≡ raised_all (raised table last.0 last.1) entries
+raised_all-last table [] last = refl
+raised_all-last table (e ∷ entries) last =
+    raised_all-last (raised table e.0 e.1) entries last ∙ ap (λ t. raised_all t entries) (raised_swapped table e.0 last.0 e.1 last.1)

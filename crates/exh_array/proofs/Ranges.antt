@@ -62,19 +62,19 @@ module _ (depth : ℕ) (prefix : List Bool) (short : length prefix ≤ depth) (s
 -- from one place up to another there stands one pointer, and elsewhere what stood there
 pub record IsFilled (old new : PointerArray) (from to : ℕ) (pointer : Pointer) : Type 0 where
   pub ward_bits : new.ward_bits ≡ old.ward_bits
-  pub bits : new.bits ≡ old.bits
+  pub depth : new.depth ≡ old.depth
   pub full : length new.pointers ≡ length old.pointers
   pub inside : (k : ℕ) → from ≤ k → k < to → slice_get new.pointers k ≡ Some pointer
   pub outside : (k : ℕ) → k < length old.pointers → (k < from) ⊎ (to ≤ k) → slice_get new.pointers k ≡ slice_get old.pointers k
 
 pub filled_none : (array : PointerArray) (from : ℕ) (pointer : Pointer) → IsFilled array array from from pointer
-filled_none array from pointer = record { ward_bits = refl; bits = refl; full = refl; inside = λ k above below. absurd (omega arith); outside = λ k there past. refl }
+filled_none array from pointer = record { ward_bits = refl; depth = refl; full = refl; inside = λ k above below. absurd (omega arith); outside = λ k there past. refl }
 
 pub filled_more : (old new : PointerArray) (from to : ℕ) (pointer : Pointer) → from ≤ to → to < length old.pointers → IsFilled old new from to pointer
     → IsFilled old (record new { pointers = set new.pointers to pointer }) from (to + 1) pointer
 filled_more old new from to pointer begun within filled = record {
   ward_bits = filled.ward_bits;
-  bits = filled.bits;
+  depth = filled.depth;
   full = length-set new.pointers to pointer ∙ filled.full;
   inside = λ k above below. elim (leb_tells to k) [
     | inl last ↦
@@ -89,21 +89,21 @@ filled_more old new from to pointer begun within filled = record {
 }
 
 -- where the range of a prefix is filled, its pseudokeys have the pointer, and all others what they had
-module _ (old new : PointerArray) (prefix : List Bool) (from to : ℕ) (pointer : Pointer) (filled : IsFilled old new from to pointer) (short : length prefix ≤ old.bits) (small : old.bits ≤ 64) (full : length old.pointers ≡ 2 ^ old.bits)
-    (first : from ≡ leading old.bits (low_of prefix)) (last : to ≡ from + room old.bits prefix) where
+module _ (old new : PointerArray) (prefix : List Bool) (from to : ℕ) (pointer : Pointer) (filled : IsFilled old new from to pointer) (short : length prefix ≤ old.depth) (small : old.depth ≤ 64) (full : length old.pointers ≡ 2 ^ old.depth)
+    (first : from ≡ leading old.depth (low_of prefix)) (last : to ≡ from + room old.depth prefix) where
   pub filled_inside : (pseudokey : ℕ) → Begins prefix pseudokey → pointer_at new pseudokey ≡ Some pointer
   filled_inside pseudokey begins =
-      let within = begun_within old.bits prefix short small pseudokey begins in
-      ap (λ n. slice_get new.pointers (leading n pseudokey)) filled.bits ∙ filled.inside (leading old.bits pseudokey) (omega (arith, within.0)) (omega (arith, within.1))
+      let within = begun_within old.depth prefix short small pseudokey begins in
+      ap (λ n. slice_get new.pointers (leading n pseudokey)) filled.depth ∙ filled.inside (leading old.depth pseudokey) (omega (arith, within.0)) (omega (arith, within.1))
 
   pub filled_outside : (pseudokey : ℕ) → (Begins prefix pseudokey → ⊥) → pointer_at new pseudokey ≡ pointer_at old pseudokey
   filled_outside pseudokey other =
-      let place = leading old.bits pseudokey in
-      ap (λ n. slice_get new.pointers (leading n pseudokey)) filled.bits
-      ∙ filled.outside place (omega (arith, full, leading-lt old.bits pseudokey small)) (elim (leb_tells from place) [
+      let place = leading old.depth pseudokey in
+      ap (λ n. slice_get new.pointers (leading n pseudokey)) filled.depth
+      ∙ filled.outside place (omega (arith, full, leading-lt old.depth pseudokey small)) (elim (leb_tells from place) [
         | inl above ↦ elim (leb_tells to place) [
           | inl behind ↦ inr behind.1
-          | inr below ↦ absurd (other (begins_within old.bits prefix short small pseudokey (omega (arith, above.1)) (omega (arith, below.1))))
+          | inr below ↦ absurd (other (begins_within old.depth prefix short small pseudokey (omega (arith, above.1)) (omega (arith, below.1))))
         ]
         | inr before ↦ inl (omega (arith, before.1))
       ])

@@ -1,10 +1,11 @@
 -- Walks along some bits and then others, and walks by splits that differ at one prefix.
-use Rattle.std.proofs.Common.{◌≡◌, ◌≢◌, ℕ, zero, suc, ◌+◌, ◌<◌, ◌≤◌, ◌⊎◌, inl, inr, Bool, false, List, [], ◌∷◌, ◌++◌, length, replicate, Option, Some, None, refl, sym, ap, ◌∙◌, subst, arith}
+use Rattle.std.proofs.Common.{◌≡◌, ◌≢◌, ℕ, zero, suc, ◌+◌, ◌<◌, ◌≤◌, ◌⊎◌, inl, inr, Bool, true, false, List, [], ◌∷◌, ◌++◌, length, max, replicate, Option, Some, None, refl, sym, ap, ◌∙◌, subst, arith}
 use Rattle.std.specs.Option.{option_map_or}
 use Rattle.std.proofs.lemmas.List.{append_assoc, append-nil, length_push, take_at}
 use Rattle.exh_prefix.specs.Prefix.{IsFront}
 use Rattle.exh_table.specs.declared.leaf.Leaf.{Leaf}
 use Rattle.exh_table.specs.TableWalk.{step, walk_on}
+use Rattle.exh_table.specs.Below.{depth_below}
 use Rattle.exh_table.specs.WalkLemmas.{walk_on-stop}
 
 -- ---- one walk
@@ -50,6 +51,36 @@ module _ (splits : List Bool → Option ℕ) where
         | None ↦ refl
         | Some right ↦ walk_on-zeros n (step at false right)
       ]
+
+  -- no leaf is longer than all the bits
+  pub depth_below-short : (n : ℕ) (at : Leaf) → depth_below splits n at ≤ length at.prefix + n
+  depth_below-short zero at = omega arith
+  depth_below-short (suc n) at =
+      elim (splits at.prefix) as (λ split. option_map_or (λ right. max (depth_below splits n (step at false right)) (depth_below splits n (step at true right))) split (length at.prefix) ≤ length at.prefix + suc n) [
+        | None ↦ omega arith
+        | Some right ↦ omega (arith, depth_below-short n (step at false right), depth_below-short n (step at true right), length_push at.prefix false, length_push at.prefix true)
+      ]
+
+  depth-least : (n : ℕ) (at : Leaf) → splits at.prefix ≡ None → depth_below splits n at ≡ length at.prefix
+  depth-least zero at none = refl
+  depth-least (suc n) at none = ap (λ split. option_map_or (λ right. max (depth_below splits n (step at false right)) (depth_below splits n (step at true right))) split (length at.prefix)) none
+
+  -- what lies below where a walk ends lies below where it began
+  pub depth_below-walk : (bits : List Bool) (n all : ℕ) (at : Leaf) → all ≡ length bits + n → depth_below splits n (walk_on splits bits at) ≤ depth_below splits all at
+  depth_below-walk [] n all at is = subst (λ all. depth_below splits n at ≤ depth_below splits all at) (let same : n ≡ all = omega arith in same) (omega arith)
+  depth_below-walk (bit ∷ bits) n zero at is = absurd (omega arith)
+  depth_below-walk (bit ∷ bits) n (suc all) at is =
+      elim (splits at.prefix) as (λ split. splits at.prefix ≡ split → depth_below splits n (option_map_or (λ right. walk_on splits bits (step at bit right)) split at)
+      ≤ option_map_or (λ right. max (depth_below splits all (step at false right)) (depth_below splits all (step at true right))) split (length at.prefix)) [
+        | None ↦ λ none. omega (arith, depth-least n at none)
+        | Some right ↦ λ split.
+            let rest = depth_below-walk bits n all (step at bit right) (omega arith) in
+            elim bit as (λ bit. depth_below splits n (walk_on splits bits (step at bit right)) ≤ depth_below splits all (step at bit right)
+            → depth_below splits n (walk_on splits bits (step at bit right)) ≤ max (depth_below splits all (step at false right)) (depth_below splits all (step at true right))) [
+              | false ↦ λ rest. omega arith
+              | true ↦ λ rest. omega arith
+            ] rest
+      ] refl
 
 -- ---- splits that differ at most at one prefix
 

@@ -1,25 +1,24 @@
-ghost use Rattle.std.specs.Prelude.{◌≡◌, ◌≤◌, length, Some, None, IsTrue, IfOk, OnOk, OnErr};
+ghost use Rattle.std.specs.Prelude.{◌≡◌, ◌≤◌, IfOk, OnOk, OnErr};
 ghost use Rattle.std.specs.FinMap as map;
 ghost use Rattle.exh_prefix.specs.declared.prefix.TheConstants.{LIMIT};
-ghost use Rattle.exh_table.specs.Table.{greater_of, raised, table_with};
+ghost use Rattle.exh_table.specs.Table.{raised, table_with};
 ghost use Rattle.exh_table.specs.TableOrder.{table_join};
 ghost use Rattle.exh_table.specs.TableWalk.{walk_of};
 ghost use Rattle.exh_table.specs.Leaves.{leaves_of};
 ghost use Rattle.exh_table.specs.Directory.{IsDepth};
 ghost use Rattle.exh_table.specs.Below.{depth_of};
-ghost use Rattle.exh_array.specs.Pointers.{HasArrayOf, IsArrayOf, NamesPageOf, most_pointers};
+ghost use Rattle.exh_array.specs.Pointers.{HasArrayOf, IsArrayOf, NamesPageOf};
 
 use crate::Pointers;
-use crate::leaf_of::leaf_of;
 use exh_join::Join;
 use exh_notice::{Entry, Notice};
-use exh_prefix::{LIMIT, PageNo, Prefix};
+use exh_prefix::{PageNo, Prefix};
 use exh_table::Table;
 use std::alloc::{AllocError, Global};
 use std::marker::Model;
 
 /// A copy of the directory: a table, and beside it the table's pointers in a file of some number of
-/// ward bits, of which each look-up is made, as far as they reach.
+/// ward bits, of which each look-up is made.
 #[derive(Drop)]
 pub struct Directory {
     table: Table,
@@ -75,56 +74,37 @@ impl Directory {
     pub fn pointers(&self) -> &Pointers
         ensures pointers { result.now ≡ self.now.pointers }
         ensures array { IsArrayOf self.now.table result.now }
-        ensures most { length result.now.pointers ≤ most_pointers self.now.table result.now.ward_bits }
     {
         &self.pointers
     }
 
-    /// The page that the table names for a pseudokey (Fagin et al. 1979): one look at a pointer, and
-    /// a walk through the table where that says that the leaf is deeper than the array. It takes no
-    /// memory.
+    /// The page that the table names for a pseudokey (Fagin et al. 1979): one look at a pointer. It
+    /// takes no memory.
     pub fn walk(&self, pseudokey: u64) -> PageNo
         ensures pointer { NamesPageOf self.now.pointers pseudokey result }
         ensures page { result ≡ (walk_of self.now.table self.now.pointers.ward_bits pseudokey).page }
     {
-        match self.pointers.page(pseudokey) {
-            Some(page) => page,
-            None => leaf_of(&self.table, self.pointers.ward_bits(), pseudokey).page,
-        }
-    }
-
-    /// The local depth of a pseudokey: the length of the leaf where its walk stops, in bits (Fagin et
-    /// al. 1979). It takes no memory.
-    pub fn local_depth(&self, pseudokey: u64) -> u8
-        ensures length { result ≡ length (walk_of self.now.table self.now.pointers.ward_bits pseudokey).prefix }
-        ensures limit { result ≤ LIMIT }
-    {
-        match self.pointers.local_depth(pseudokey) {
-            Some(local_depth) => local_depth,
-            None => leaf_of(&self.table, self.pointers.ward_bits(), pseudokey)
-                .prefix
-                .len(),
-        }
+        self.pointers.page(pseudokey)
     }
 
     /// The depth of the directory: the greatest length of a leaf, over all wards (Fagin et al.
-    /// 1979). The table is walked through for it. It takes no memory.
+    /// 1979). It is the pointers', and takes no memory.
     pub fn depth(&self) -> u8
+        ensures pointers { result ≡ self.now.pointers.depth }
         ensures depth { IsDepth (leaves_of self.now.table self.now.pointers.ward_bits) result }
         ensures computed { result ≡ depth_of self.now.table self.now.pointers.ward_bits }
     {
-        self.table.depth(self.pointers.ward_bits())
+        self.pointers.depth()
     }
 
-    /// Takes a notice: at its prefix the greater entry stays. It answers what stood there. Where
-    /// memory is refused, an `AllocError`, the directory is as before; it is asked for only where no
-    /// entry stands at the prefix.
+    /// Takes a notice: at its prefix the greater entry stays, and the pointers are brought up to the
+    /// table. It answers what stood there. Where memory is refused, an `AllocError`, the directory is
+    /// as before.
     pub fn take(&mut self, notice: &Notice) -> Result<Option<Entry>, AllocError>
         ensures stood { IfOk result (λ stood. stood ≡ map.get self.old.table notice.now.prefix) }
         ensures ok { OnOk result (self.new.table ≡ table_with self.old.table notice.now) }
         ensures array { HasArrayOf self.old.pointers.ward_bits self.new }
         ensures err { OnErr result (self.new ≡ self.old) }
-        ensures absent { OnErr result (map.get self.old.table notice.now.prefix ≡ None) }
     {
         self.put_greater(notice.prefix, notice.entry())
     }
@@ -141,7 +121,9 @@ impl Directory {
             return Ok(());
         }
         let mut joined = self.try_clone()?;
-        for (prefix, entry) in other.entries() {
+        // What stands below a prefix comes first, so that it is pointed to once.
+        let mut entries = other.entries();
+        while let Some((prefix, entry)) = entries.next_back() {
             joined.put_greater(*prefix, *entry)?;
         }
         *self = joined;
@@ -164,22 +146,12 @@ impl Directory {
         ensures ok { OnOk result (self.new.table ≡ raised self.old.table prefix entry) }
         ensures array { HasArrayOf self.old.pointers.ward_bits self.new }
         ensures err { OnErr result (self.new ≡ self.old) }
-        ensures absent { OnErr result (map.get self.old.table prefix ≡ None) }
     {
         let stood = self.table.put_greater(prefix, entry)?;
-        if counts_over(stood, entry) {
-            self.pointers.update(&self.table, prefix);
+        if let Err(error) = self.pointers.update(&self.table, prefix) {
+            self.table.put_back(prefix, stood);
+            return Err(error);
         }
         Ok(stood)
-    }
-}
-
-// Whether an entry counts where another, or none, stood: one that was told late or twice changes nothing.
-fn counts_over(stood: Option<Entry>, entry: Entry) -> bool
-    ensures { (IsTrue result → ⊥) → stood ≡ Some (greater_of stood entry) }
-{
-    match stood {
-        Some(old) => old < entry,
-        None => true,
     }
 }

@@ -57,6 +57,8 @@ impl HeldCopy {
         ensures err { OnErr result (self.new ≡ self.old) }
     {
         if is_told(self.directory.table(), notice.prefix, &notice.entry()) {
+            // It is no news, and changes nothing.
+            self.directory.take(notice)?;
             return Ok(());
         }
         let stood = self.news.take(notice)?;

@@ -10,7 +10,6 @@ mod copies;
 mod directory;
 mod held_copy;
 mod known;
-mod leaf_of;
 mod news;
 mod pointer;
 mod pointers;

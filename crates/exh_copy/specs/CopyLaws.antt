@@ -24,7 +24,7 @@ CopiesAreTablesOfTheirSets = (start : TableMap) (additions : List Addition) → 
 
 -- A directory with its array, as a copy in a world is, that took a set of entries: where the list of a look tells the same
 -- set, in whatever order and however often, the look names the page that the directory's table does, and so does the
--- directory's pointer, where it is to a leaf.
+-- directory's pointer.
 abbrev pub LooksAreWalksOfCopies : Type 0
 LooksAreWalksOfCopies = (start : TableMap) (ward_bits : ℕ) (additions : List Addition) (directory : DirectoryState) (taken : List (List Bool × Entry)) (pseudokey : ℕ)
     → HasArrayOf ward_bits directory → IsTableOf taken directory.table
