@@ -7,7 +7,6 @@ use Rattle.exh_prefix.specs.Leading.{leading}
 use Rattle.exh_page.specs.KeyMap.{KeyMap}
 use Rattle.exh_calls.specs.History.{IsHistory, map_left}
 use Rattle.exh_calls.specs.MapMachine.{reply_of, map_after}
-use Rattle.exh_calls.specs.Undone.{map_before}
 use Rattle.exh_calls.specs.declared.call.Call.{Call}
 use Rattle.exh_calls.specs.declared.call.Call.TheVariants.{Swap}
 use Rattle.exh_calls.specs.declared.journal_entry.JournalEntry.{JournalEntry}
@@ -35,11 +34,6 @@ abbrev pub HistoryIsDetermined : Type 0
 HistoryIsDetermined = (cap : ℕ) (pseudo : List ℕ → ℕ) (base : KeyMap) (one other : List JournalEntry)
     → IsHistory cap pseudo base one → IsHistory cap pseudo base other → calls_of one ≡ calls_of other
     → (replies_of one ≡ replies_of other) × (map_left cap pseudo base one ≡ map_left cap pseudo base other)
-
--- a history can be undone: its entries and the map that it leaves decide its base
-abbrev pub HistoriesAreUndone : Type 0
-HistoriesAreUndone = (cap : ℕ) (pseudo : List ℕ → ℕ) (base : KeyMap) (journal : List JournalEntry)
-    → IsHistory cap pseudo base journal → map_before journal (map_left cap pseudo base journal) ≡ base
 
 -- a prefix that begins a pseudokey begins all that share its leading bits, as Full counts them; and one of LIMIT bits begins no others
 pub record AreSharers (prefix : List Bool) (one other : ℕ) : Type 0 where

@@ -2,7 +2,6 @@ pub mod Call
 pub mod Effect
 pub mod MapMachine
 pub mod History
-pub mod Undone
 pub mod Journal
 pub mod PackedPairs
 pub mod CallLaws

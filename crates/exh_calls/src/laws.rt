@@ -1,7 +1,7 @@
 //! What holds of all histories, of leading bits and of all swaps, for the proofs of callers. Each
 //! function does nothing.
 
-ghost use Rattle.exh_calls.specs.CallLaws.{HistoriesGoOn, HistoriesAreUndone, HistoryIsDetermined, SharersBegin, SwapsCompare};
+ghost use Rattle.exh_calls.specs.CallLaws.{HistoriesGoOn, HistoryIsDetermined, SharersBegin, SwapsCompare};
 
 /// A history goes on with the map machine's reply over the map that it leaves, and then leaves the
 /// map machine's map.
@@ -12,11 +12,6 @@ pub fn histories_go_on()
 /// The calls of a history decide its replies and the map that it leaves.
 pub fn history_is_determined()
     ensures { HistoryIsDetermined }
-{}
-
-/// A history can be undone: its entries and the map that it leaves decide the map that it begins with.
-pub fn histories_are_undone()
-    ensures { HistoriesAreUndone }
 {}
 
 /// A prefix that begins a pseudokey begins all that share its leading bits as `Full` counts them, and

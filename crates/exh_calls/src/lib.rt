@@ -11,9 +11,7 @@ pub use journal::{Entries, Journal};
 pub use journal_entry::JournalEntry;
 pub use journals::Journals;
 pub use key_change::KeyChange;
-pub use laws::{
-    histories_are_undone, histories_go_on, history_is_determined, sharers_begin, swaps_compare,
-};
+pub use laws::{histories_go_on, history_is_determined, sharers_begin, swaps_compare};
 pub use mismatch::Mismatch;
 pub use packed_pairs::{PackedPairs, Pairs};
 pub use reply::Reply;

@@ -110,6 +110,15 @@ impl<'a> Model for Pairs<'a> {
     ghost view = { λ a. drop a.next a.pairs.now };
 }
 
+impl Pairs<'_> {
+    /// How many pairs are left. It takes no memory, and no time for the pairs.
+    pub fn len(&self) -> usize
+        ensures { result ≡ length self.now }
+    {
+        self.pairs.count().saturating_sub(self.next)
+    }
+}
+
 impl<'a> Iterator for Pairs<'a> {
     type Item = (Key, Value);
 

@@ -33,7 +33,7 @@ few_entries law ward_bits number bits pages legal =
     let few = law own _ pages (omega (arith, bits, length-bits_of ward_bits number)) legal.legal.legal.linked legal.fits in
     omega (arith, few, pow-le-pow_right {n = 2} (omega arith) (let less : LIMIT - length own ≤ LIMIT = omega arith in less))
 
-module _ {K : Type 0} {pseudo : List ℕ → ℕ} {takes : Page → Type 0} (cap ward_bits number failures : ℕ) (keyer : K) (has_base : Bool) (given : List Page) (told_first : TableMap) (own_entries : OwnEntries)
+module _ {K : Type 0} {pseudo : List ℕ → ℕ} {takes : Page → Type 0} (cap ward_bits number failures : ℕ) (keyer : K) (given : List Page) (told_first : TableMap) (own_entries : OwnEntries)
     (legal : IsWard cap pseudo (ward_prefix ward_bits number) told_first [] told_first given) (takes_all : (page : Page) → IsWellFormed pseudo page → takes page)
     (bits : ward_bits ≤ WARD_BITS_LIMIT) (some : 1 ≤ cap) (most : cap ≤ CAP_LIMIT) where
   since : IsTableSince told_first [] told_first
@@ -41,7 +41,7 @@ module _ {K : Type 0} {pseudo : List ℕ → ℕ} {takes : Page → Type 0} (cap
 
   module _ {index : IndexMap} {told : ℕ} (indexed : IsIndexOf index (bare given)) (told_is : told ≡ index_of told_first) (told_few : told < 2 ^ 62) where
     made_kept : IsKeptWard pseudo takes (ward_prefix ward_bits number) index told
-        (let w : WardState K = record { pages = given; base = map_of given; has_base = has_base; journal = []; start = told_first; notices = []; table = told_first; failures = failures; cap = cap; ward_bits = ward_bits; number = number; keyer = keyer } in w)
+        (let w : WardState K = record { pages = given; base = map_of given; journal = []; start = told_first; notices = []; table = told_first; failures = failures; cap = cap; ward_bits = ward_bits; number = number; keyer = keyer } in w)
     made_kept = record {
       sound = record {
         legal = legal;
@@ -65,10 +65,10 @@ module _ {K : Type 0} {pseudo : List ℕ → ℕ} {takes : Page → Type 0} (cap
     module _ {pages : List Page} {base : KeyMap} {journal : List JournalEntry} {start : TableMap} {notices : List Notice} {own : List Bool} where
       pub kept_made : pages ≡ given → base ≡ map_of given → journal ≡ [] → start ≡ told_first → notices ≡ [] → own ≡ ward_prefix ward_bits number
           → IsKeptWard pseudo takes own index told
-          (let w : WardState K = record { pages = pages; base = base; has_base = has_base; journal = journal; start = start; notices = notices; table = told_first; failures = failures; cap = cap; ward_bits = ward_bits; number = number; keyer = keyer } in w)
+          (let w : WardState K = record { pages = pages; base = base; journal = journal; start = start; notices = notices; table = told_first; failures = failures; cap = cap; ward_bits = ward_bits; number = number; keyer = keyer } in w)
       kept_made is_pages is_base is_journal is_start is_notices is_own =
           let ward = λ (pages : List Page) (base : KeyMap) (journal : List JournalEntry) (start : TableMap) (notices : List Notice).
-          (let w : WardState K = record { pages = pages; base = base; has_base = has_base; journal = journal; start = start; notices = notices; table = told_first; failures = failures; cap = cap; ward_bits = ward_bits; number = number; keyer = keyer } in w) in
+          (let w : WardState K = record { pages = pages; base = base; journal = journal; start = start; notices = notices; table = told_first; failures = failures; cap = cap; ward_bits = ward_bits; number = number; keyer = keyer } in w) in
           let one : List Page → Type 0 = λ pages. IsKeptWard pseudo takes own index told (ward pages base journal start notices) in
           let two : KeyMap → Type 0 = λ base. IsKeptWard pseudo takes own index told (ward given base journal start notices) in
           let three : List JournalEntry → Type 0 = λ journal. IsKeptWard pseudo takes own index told (ward given (map_of given) journal start notices) in

@@ -33,13 +33,12 @@ first_alone page low (suc number) some is = cc
 pub no_pages : (page : Page) → IsIndexOf fin.empty (page ∷ [])
 no_pages page low number = (λ found. let none : None ≡ Some number = sym (fin.get-empty nat_cmp low) ∙ found in cc, λ is. absurd (first_alone page low number is.0 is.1))
 
-module _ {K : Type 0} (law : LonePagesAreLegal) {pseudo : List ℕ → ℕ} {takes : Page → Type 0} (cap ward_bits number failures : ℕ) (keyer : K) (has_base : Bool) (takes_all : (page : Page) → IsWellFormed pseudo page → takes page)
+module _ {K : Type 0} (law : LonePagesAreLegal) {pseudo : List ℕ → ℕ} {takes : Page → Type 0} (cap ward_bits number failures : ℕ) (keyer : K) (takes_all : (page : Page) → IsWellFormed pseudo page → takes page)
     (bits : ward_bits ≤ WARD_BITS_LIMIT) (some : 1 ≤ cap) (most : cap ≤ CAP_LIMIT) where
   abbrev fresh : WardState K
   fresh = record {
     pages = Live (ward_prefix ward_bits number) None [] ∷ [];
     base = fin.empty;
-    has_base = has_base;
     journal = [];
     start = fin.empty;
     notices = [];
@@ -75,10 +74,10 @@ module _ {K : Type 0} (law : LonePagesAreLegal) {pseudo : List ℕ → ℕ} {tak
   module _ {pages : List Page} {base : KeyMap} {journal : List JournalEntry} {start table : TableMap} {notices : List Notice} {index : IndexMap} {own : List Bool} where
     pub kept_new : pages ≡ Live (ward_prefix ward_bits number) None [] ∷ [] → base ≡ fin.empty → journal ≡ [] → start ≡ fin.empty → notices ≡ [] → table ≡ fin.empty → index ≡ fin.empty → own ≡ ward_prefix ward_bits number
         → IsKeptWard pseudo takes own index 0
-        (let w : WardState K = record { pages = pages; base = base; has_base = has_base; journal = journal; start = start; notices = notices; table = table; failures = failures; cap = cap; ward_bits = ward_bits; number = number; keyer = keyer } in w)
+        (let w : WardState K = record { pages = pages; base = base; journal = journal; start = start; notices = notices; table = table; failures = failures; cap = cap; ward_bits = ward_bits; number = number; keyer = keyer } in w)
     kept_new is_pages is_base is_journal is_start is_notices is_table is_index is_own =
         let ward = λ (pages : List Page) (base : KeyMap) (journal : List JournalEntry) (start : TableMap) (notices : List Notice) (table : TableMap).
-        (let w : WardState K = record { pages = pages; base = base; has_base = has_base; journal = journal; start = start; notices = notices; table = table; failures = failures; cap = cap; ward_bits = ward_bits; number = number; keyer = keyer } in w) in
+        (let w : WardState K = record { pages = pages; base = base; journal = journal; start = start; notices = notices; table = table; failures = failures; cap = cap; ward_bits = ward_bits; number = number; keyer = keyer } in w) in
         let first = Live (ward_prefix ward_bits number) None [] ∷ [] in
         let one : List Page → Type 0 = λ pages. IsKeptWard pseudo takes own index 0 (ward pages base journal start notices table) in
         let two : KeyMap → Type 0 = λ base. IsKeptWard pseudo takes own index 0 (ward first base journal start notices table) in

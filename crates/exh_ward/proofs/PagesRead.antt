@@ -1,5 +1,5 @@
 -- What is read of a ward's pages: their index, the pairs of their records, and the numbers of the entries of their table.
-use Rattle.std.proofs.Common.{◌≡◌, ℕ, zero, suc, ◌+◌, List, [], ◌∷◌, ◌++◌, append-nil, length, map, nat_cmp, take, None, Some, refl, sym, ap, ◌∙◌, subst, arith}
+use Rattle.std.proofs.Common.{◌≡◌, ℕ, zero, suc, ◌+◌, ◌≤◌, List, [], ◌∷◌, ◌++◌, append-nil, length, map, nat_cmp, take, None, Some, refl, sym, ap, ◌∙◌, subst, arith}
 use Rattle.std.specs.FinMap as fin
 use Rattle.std.specs.List.{flat_map}
 use Rattle.std.proofs.lemmas.Grind.{flat_map-append}
@@ -10,7 +10,7 @@ use Rattle.exh_page.specs.Page.{low_bound, records_of, with_records}
 use Rattle.exh_legal.specs.LegalLaws.{KeepsPlaces}
 use Rattle.exh_legal.specs.Pages.{IsAt, bare}
 use Rattle.exh_page.specs.KeyMap.{pair_of}
-use Rattle.exh_ward.specs.FromPages.{HaveOwnBounds, index_with, pairs_of}
+use Rattle.exh_ward.specs.FromPages.{HaveOwnBounds, pairs_of}
 use Rattle.exh_legal.specs.PageIndex.{IndexMap, IsIndexOf}
 use Rattle.exh_ward.proofs.ChangesAreTold.{index_grown}
 use Rattle.exh_ward.proofs.NewWardsAreSound.{first_alone}
@@ -35,7 +35,7 @@ one_taken pages number page is =
 
 -- ---- the index
 
-pub none_indexed : (index : IndexMap) → index ≡ fin.empty → IsIndexOf index []
+none_indexed : (index : IndexMap) → index ≡ fin.empty → IsIndexOf index []
 none_indexed index is low number = (
   λ found. let none : None ≡ Some number = sym (ap (λ (index : IndexMap). fin.get index low) is ∙ fin.get-empty nat_cmp low) ∙ found in cc,
   λ page. cc,
@@ -48,22 +48,24 @@ first_only index page none low number = (
   λ is. absurd (first_alone page low number is.0 is.1),
 )
 
-pub one_page_more : (index next : IndexMap) (pages : List Page) (number : ℕ) (page : Page) → HaveOwnBounds pages → IsAt pages number page → IsIndexOf index (bare (take number pages)) → next ≡ index_with index number page
-    → IsIndexOf next (bare (take (number + 1) pages))
-one_page_more index next pages zero page apart is indexed next_is =
-    subst (λ pages. IsIndexOf next (bare pages)) (sym (one_taken pages 0 page is)) (subst (λ index. IsIndexOf index (bare (page ∷ []))) (sym next_is) (first_only index (with_records [] page) indexed))
-one_page_more index next pages (suc number) page apart is indexed next_is =
-    let front = take (suc number) pages in
-    let within = slice_get_within pages (suc number) page is in
-    let count : length front ≡ suc number = length-take-le (suc number) pages (omega (arith, within)) in
+pub first_indexed : (index : IndexMap) (pages : List Page) → index ≡ fin.empty → IsIndexOf index (bare (take 1 pages))
+first_indexed index [] is = none_indexed index is
+first_indexed index (page ∷ pages) is = first_only index (with_records [] page) (none_indexed index is)
+
+pub one_page_more : (index next : IndexMap) (pages : List Page) (number low : ℕ) (page : Page) → HaveOwnBounds pages → 1 ≤ number → IsAt pages number page → low ≡ low_bound page → IsIndexOf index (bare (take number pages))
+    → next ≡ fin.insert index low number → IsIndexOf next (bare (take (number + 1) pages))
+one_page_more index next pages number low page apart some is low_is indexed next_is =
+    let front = take number pages in
+    let within = slice_get_within pages number page is in
+    let count : length front ≡ number = length-take-le number pages (omega (arith, within)) in
     let places : KeepsPlaces front (front ++ page ∷ []) = λ at other there. (other, still_there front (page ∷ []) at other there, refl) in
     let alone : (at : ℕ) (other : Page) → IsAt front at other → low_bound other ≡ low_bound page → ⊥ =
     λ at other there same.
-    let same_place = apart at (suc number) other page (there_before pages (suc number) at other there) is same in
+    let same_place = apart at number other page (there_before pages number at other there) is same in
     absurd (omega (arith, same_place, count, slice_get_within front at other there)) in
     let grown = index_grown index front front page indexed places refl (omega (arith, count)) alone in
-    let next_grown : fin.insert index (low_bound page) (length front) ≡ next = ap (fin.insert index (low_bound page)) count ∙ sym next_is in
-    subst (λ pages. IsIndexOf next (bare pages)) (sym (one_taken pages (suc number) page is)) (subst (λ index. IsIndexOf index (bare (front ++ page ∷ []))) next_grown grown)
+    let next_grown : fin.insert index (low_bound page) (length front) ≡ next = ap (fin.insert index (low_bound page)) count ∙ ap (λ low. fin.insert index low number) (sym low_is) ∙ sym next_is in
+    subst (λ pages. IsIndexOf next (bare pages)) (sym (one_taken pages number page is)) (subst (λ index. IsIndexOf index (bare (front ++ page ∷ []))) next_grown grown)
 
 -- ---- the pairs
 

@@ -1,12 +1,10 @@
 -- What is read of the pages that a ward is made of.
-use Rattle.std.specs.Prelude.{◌≡◌, ℕ, zero, suc, List, map}
-use Rattle.std.specs.FinMap.{insert}
+use Rattle.std.specs.Prelude.{◌≡◌, ℕ, List, map}
 use Rattle.std.specs.List.{flat_map}
 use Rattle.exh_page.specs.declared.page.Page.{Page}
 use Rattle.exh_page.specs.Page.{low_bound, records_of}
 use Rattle.exh_legal.specs.Pages.{IsAt}
 use Rattle.exh_page.specs.KeyMap.{pair_of}
-use Rattle.exh_legal.specs.PageIndex.{IndexMap}
 
 -- no two pages share a low bound
 abbrev pub HaveOwnBounds : List Page → Type 0
@@ -15,8 +13,3 @@ HaveOwnBounds pages = (one other : ℕ) (page twin : Page) → IsAt pages one pa
 -- the pairs of all records, page by page
 abbrev pub pairs_of : List Page → List (List ℕ × List ℕ)
 pairs_of pages = map pair_of (flat_map records_of pages)
-
--- the index with a page more: page 0 isn't in it
-abbrev pub index_with : IndexMap → ℕ → Page → IndexMap
-index_with index zero page = index
-index_with index (suc number) page = insert index (low_bound page) (suc number)

@@ -1,5 +1,5 @@
 -- The wards of a new file.
-use Rattle.std.specs.Prelude.{ℕ, ◌^◌, true, List, [], ◌∷◌, map, None}
+use Rattle.std.specs.Prelude.{ℕ, ◌^◌, List, [], ◌∷◌, map, None}
 use Rattle.std.specs.List.{range_with_len}
 use Rattle.std.specs.FinMap.{empty}
 use Rattle.exh_page.specs.declared.page.Page.TheVariants.{Live}
@@ -12,7 +12,6 @@ abbrev pub empty_ward : {K : Type 0} → ℕ → ℕ → ℕ → K → WardState
 empty_ward cap ward_bits number keyer = record {
   pages = Live (ward_prefix ward_bits number) None [] ∷ [];
   base = empty;
-  has_base = true;
   journal = [];
   start = empty;
   notices = [];

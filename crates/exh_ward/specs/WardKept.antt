@@ -1,19 +1,13 @@
 -- What a ward keeps of its fields.
-use Rattle.std.specs.Prelude.{◌≡◌, ℕ, ◌<◌, ◌≤◌, ◌^◌, Bool, List, Option, Some, None}
+use Rattle.std.specs.Prelude.{◌≡◌, ℕ, ◌<◌, ◌≤◌, ◌^◌, Bool, List}
 use Rattle.exh_page.specs.declared.page.TheConstants.{CAP_LIMIT}
 use Rattle.exh_page.specs.declared.page.Page.{Page}
-use Rattle.exh_page.specs.KeyMap.{KeyMap}
 use Rattle.exh_page.specs.Page.{IsWellFormed}
 use Rattle.exh_legal.specs.ChangeNumbers.{index_of}
 use Rattle.exh_legal.specs.Pages.{bare}
 use Rattle.exh_legal.specs.PageIndex.{IndexMap, IsIndexOf}
 use Rattle.exh_ward.specs.WardState.{WardState, IsSound, own_prefix}
 use Rattle.exh_prefix.specs.declared.prefix.TheConstants.{WARD_BITS_LIMIT}
-
--- the map that a history begins with: one that is kept, or that of the pages as they then were
-abbrev pub base_in : Option KeyMap → KeyMap → KeyMap
-base_in (Some base) seen = base
-base_in None seen = seen
 
 pub record IsKeptWard {K : Type 0} (pseudo : List ℕ → ℕ) (takes : Page → Type 0) (own : List Bool) (index : IndexMap) (told : ℕ) (ward : WardState K) : Type 0 where
   pub sound : IsSound pseudo ward

@@ -1,5 +1,5 @@
 -- A ward as a value, and what its steps leave of it.
-use Rattle.std.specs.Prelude.{◌≡◌, ℕ, ◌+◌, nat_lt, Bool, false, List, ◌++◌, ◌∷◌, [], length, filter}
+use Rattle.std.specs.Prelude.{◌≡◌, ℕ, ◌+◌, nat_lt, Bool, List, ◌++◌, ◌∷◌, [], length, filter}
 use Rattle.exh_notice.specs.declared.notice.Notice.{Notice}
 use Rattle.exh_table.specs.Table.{TableMap, IsTableSince}
 use Rattle.exh_page.specs.declared.page.Page.{Page}
@@ -20,9 +20,8 @@ use Rattle.exh_calls.specs.declared.reply.Reply.{Reply}
 
 pub record WardState (K : Type 0) : Type 0 where
   pub pages : List Page
-  -- the map that the history begins with, and whether its pairs are kept
+  -- the map that the history begins with
   pub base : KeyMap
-  pub has_base : Bool
   pub journal : List JournalEntry
   -- the table at first, the notices since, and the table of both
   pub start : TableMap
@@ -75,9 +74,9 @@ LeavesAfter pseudokey_of old at client call Stray new = new ≡ old
 
 -- ---- histories
 
--- the ward with its history begun anew: the base is the map of its pages, of which nothing is kept, and no call was answered since
+-- the ward with its history begun anew: the base is the map of its pages, and no call was answered since
 abbrev pub history_begun : {K : Type 0} → WardState K → WardState K
-history_begun ward = record ward { base = map_of ward.pages; has_base = false; journal = [] }
+history_begun ward = record ward { base = map_of ward.pages; journal = [] }
 
 -- ---- refusals
 

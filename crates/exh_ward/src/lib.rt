@@ -14,6 +14,5 @@ pub use ward_fault::WardFault;
 mod hop;
 mod laws;
 mod new_file;
-mod seen;
 mod ward;
 mod ward_fault;

@@ -9,7 +9,6 @@ ghost use Rattle.exh_ward.specs.NewWards.{empty_ward};
 ghost use Rattle.exh_ward.specs.WardState.{IsSoundWard, own_prefix};
 ghost use Rattle.exh_prefix.specs.declared.prefix.TheConstants.{WARD_BITS_LIMIT};
 
-use crate::seen::Seen;
 use exh_calls::{Base, Journal};
 use exh_keyer::Keyer;
 use exh_legal::{PageIndex, lone_pages_are_legal};
@@ -44,9 +43,7 @@ pub struct Ward<P: Pages + Drop, K: Keyer> {
     own: Prefix,
     store: P,
     index: PageIndex,
-    // None where the history began anew: then the base is the map of the pages that `seen` shows.
-    base: Option<Base>,
-    seen: Seen<P>,
+    base: Base,
     journal: Journal,
     start: Table,
     told: u64,
@@ -57,13 +54,12 @@ pub struct Ward<P: Pages + Drop, K: Keyer> {
 impl<P: Pages + Drop, K: Keyer> Model for Ward<P, K> {
     ghost use Rattle.std.specs.Prelude.{◌≤◌, ◌+◌, ◌<◌, ◌^◌, length};
     ghost use Rattle.std.specs.Coded.{codes};
-    ghost use Rattle.std.specs.Option.{is_some};
     ghost use Rattle.exh_page.specs.declared.page.TheConstants.{CAP_LIMIT};
     ghost use Rattle.exh_page.specs.KeyMap.{coded_key_map};
     ghost use Rattle.exh_legal.specs.ChangeNumbers.{index_of};
-    ghost use Rattle.exh_legal.specs.Pages.{bare, map_of};
+    ghost use Rattle.exh_legal.specs.Pages.{bare};
     ghost use Rattle.exh_legal.specs.PageIndex.{IsIndexOf};
-    ghost use Rattle.exh_ward.specs.WardKept.{IsKeptWard, base_in};
+    ghost use Rattle.exh_ward.specs.WardKept.{IsKeptWard};
     ghost use Rattle.exh_table.specs.Table.{coded_table};
     ghost use Rattle.exh_ward.specs.WardState.{WardState};
 
@@ -71,9 +67,9 @@ impl<P: Pages + Drop, K: Keyer> Model for Ward<P, K> {
 
     ghost coded = { Prim.hlevel (codes, coded_key_map, coded_table) };
 
-    ghost view = { λ a. record { pages = P.pages a.store; base = base_in a.base (map_of (P.pages a.seen.value)); has_base = is_some a.base; journal = a.journal.entries; start = a.start; notices = a.notices.items; table = a.table; failures = P.failures a.store; cap = a.cap; ward_bits = a.ward_bits; number = a.number; keyer = a.keyer } };
+    ghost view = { λ a. record { pages = P.pages a.store; base = a.base; journal = a.journal.entries; start = a.start; notices = a.notices.items; table = a.table; failures = P.failures a.store; cap = a.cap; ward_bits = a.ward_bits; number = a.number; keyer = a.keyer } };
 
-    ghost invariant = { λ a. IsKeptWard (K.pseudokey_of a.keyer) (P.takes a.store) a.own a.index a.told (record { pages = P.pages a.store; base = base_in a.base (map_of (P.pages a.seen.value)); has_base = is_some a.base; journal = a.journal.entries; start = a.start; notices = a.notices.items; table = a.table; failures = P.failures a.store; cap = a.cap; ward_bits = a.ward_bits; number = a.number; keyer = a.keyer }) };
+    ghost invariant = { λ a. IsKeptWard (K.pseudokey_of a.keyer) (P.takes a.store) a.own a.index a.told (record { pages = P.pages a.store; base = a.base; journal = a.journal.entries; start = a.start; notices = a.notices.items; table = a.table; failures = P.failures a.store; cap = a.cap; ward_bits = a.ward_bits; number = a.number; keyer = a.keyer }) };
 }
 
 impl<P: Pages + Drop, K: Keyer> Ward<P, K> {
@@ -91,7 +87,6 @@ impl<P: Pages + Drop, K: Keyer> Ward<P, K> {
         ensures sound { IsSoundWard K.pseudokey_of result }
     {
         lone_pages_are_legal();
-        let seen = Seen::of(&pages);
         Ward {
             cap: cap as usize,
             ward_bits,
@@ -100,8 +95,7 @@ impl<P: Pages + Drop, K: Keyer> Ward<P, K> {
             own: own_prefix(ward_bits, number),
             store: pages,
             index: PageIndex::new(alloc),
-            base: Some(Base::new(alloc)),
-            seen,
+            base: Base::new(alloc),
             journal: Journal::new(alloc),
             start: Table::new(alloc),
             told: 0,

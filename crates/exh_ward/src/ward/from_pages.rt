@@ -1,31 +1,30 @@
-ghost use Rattle.std.specs.Prelude.{◌≡◌, ◌^◌, ◌<◌, ◌≤◌, ◌++◌, [], true, length, map, IfOk, IfErr, OnOk};
+ghost use Rattle.std.specs.Prelude.{◌≡◌, ◌^◌, ◌<◌, ◌≤◌, [], length, IfOk, IfErr};
 ghost use Rattle.exh_prefix.specs.declared.prefix.TheConstants.{WARD_BITS_LIMIT};
 ghost use Rattle.exh_page.specs.declared.page.TheConstants.{CAP_LIMIT};
 ghost use Rattle.exh_page.specs.declared.page.Page.{Page};
-ghost use Rattle.exh_page.specs.Page.{IsWellFormed, records_of};
+ghost use Rattle.exh_page.specs.Page.{IsWellFormed, low_bound};
+ghost use Rattle.exh_page.specs.PageHead.{head_of};
 ghost use Rattle.exh_stores.specs.PageStore.{TakesTheSame};
 ghost use Rattle.exh_legal.specs.LegalLaws.{IsWard};
 ghost use Rattle.exh_legal.specs.Pages.{bare, map_of};
-ghost use Rattle.exh_page.specs.KeyMap.{pair_of};
 ghost use Rattle.exh_prefix.specs.Leading.{ward_prefix};
-ghost use Rattle.exh_ward.specs.FromPages.{HaveOwnBounds, index_with, pairs_of};
+ghost use Rattle.exh_ward.specs.FromPages.{HaveOwnBounds};
 ghost use Rattle.exh_legal.specs.PageIndex.{IsIndexOf};
 ghost use Rattle.exh_ward.specs.WardFault.{CountsFailures, IsStoreFault};
 ghost use Rattle.exh_ward.specs.WardState.{IsSoundWard};
 ghost use Rattle.exh_ward.specs.declared.ward_fault.WardFault.TheVariants.{Page as OutOfReach};
 
+use super::history::read_base;
 use super::{Ward, own_prefix};
 use crate::WardFault;
-use crate::seen::Seen;
-use exh_calls::{Base, Journal, PackedPairs};
+use exh_calls::Journal;
 use exh_join::Join;
 use exh_keyer::Keyer;
 use exh_legal::{PageIndex, entries_are_few, index_of};
-use exh_page::{CAP_LIMIT, Page, Records};
-use exh_prefix::PageNo;
+use exh_page::{CAP_LIMIT, PageHead};
 use exh_stores::Pages;
 use exh_table::{Table, own_entries_give_the_table};
-use std::alloc::{AllocError, Global};
+use std::alloc::Global;
 
 impl<P: Pages + Drop, K: Keyer> Ward<P, K> {
     /// Ward `number` of a file that was written: its pages, and the table of the changes that they
@@ -34,8 +33,8 @@ impl<P: Pages + Drop, K: Keyer> Ward<P, K> {
     /// changes that the table tells of. `cap`, `ward_bits` and `number` are as in `new`.
     ///
     /// It takes memory for a copy of the table, for each page but page 0 and for each record:
-    /// `WardFault::Memory` where that is refused. Each page is fetched once, which the store may
-    /// refuse as it does. Nothing else is refused.
+    /// `WardFault::Memory` where that is refused. Each page's head is read once, and each page fetched
+    /// once, which the store may refuse as it does. Nothing else is refused.
     pub fn from_pages(
         alloc: Global,
         cap: u8,
@@ -51,7 +50,7 @@ impl<P: Pages + Drop, K: Keyer> Ward<P, K> {
         requires most { cap ≤ CAP_LIMIT }
         requires bits { ward_bits ≤ WARD_BITS_LIMIT }
         requires number { number < 2 ^ ward_bits }
-        ensures ward { IfOk result (λ ward. ward ≡ record { pages = P.pages pages; base = map_of (P.pages pages); has_base = true; journal = []; start = table; notices = []; table = table; failures = P.failures pages; cap = cap; ward_bits = ward_bits; number = number; keyer = keyer }) }
+        ensures ward { IfOk result (λ ward. ward ≡ record { pages = P.pages pages; base = map_of (P.pages pages); journal = []; start = table; notices = []; table = table; failures = P.failures pages; cap = cap; ward_bits = ward_bits; number = number; keyer = keyer }) }
         ensures sound { IfOk result (IsSoundWard K.pseudokey_of) }
         ensures fault { IfErr result IsStoreFault }
         ensures page_fault { IfErr result (λ fault. fault ≡ OutOfReach → (left : P) × (P.failures pages < P.failures left)) }
@@ -59,9 +58,9 @@ impl<P: Pages + Drop, K: Keyer> Ward<P, K> {
         own_entries_give_the_table();
         entries_are_few();
         let mut store = pages;
-        let (index, pairs) = read_pages(alloc, &mut store)?;
+        let index = read_index(alloc, &mut store)?;
+        let base = read_base(alloc, &mut store)?;
         let start = table.try_clone()?;
-        let seen = Seen::of(&store);
         Ok(Ward {
             cap: cap as usize,
             ward_bits,
@@ -70,8 +69,7 @@ impl<P: Pages + Drop, K: Keyer> Ward<P, K> {
             own: own_prefix(ward_bits, number),
             store,
             index,
-            base: Some(Base::from_pairs(pairs)),
-            seen,
+            base,
             journal: Journal::new(alloc),
             start,
             told: index_of(&table),
@@ -81,49 +79,29 @@ impl<P: Pages + Drop, K: Keyer> Ward<P, K> {
     }
 }
 
-// The index of a store's pages, and the pairs of their records.
-fn read_pages<P: Pages>(alloc: Global, store: &mut P) -> Result<(PageIndex, PackedPairs), WardFault>
+// The index of a store's pages, by their heads. Page 0 isn't in it.
+fn read_index<P: Pages>(alloc: Global, store: &mut P) -> Result<PageIndex, WardFault>
     requires apart { HaveOwnBounds (P.pages store.old) }
-    ensures index { IfOk result (λ read. IsIndexOf read.0 (bare (P.pages store.old))) }
-    ensures pairs { IfOk result (λ read. read.1 ≡ pairs_of (P.pages store.old)) }
+    ensures index { IfOk result (λ index. IsIndexOf index (bare (P.pages store.old))) }
     ensures pages { P.pages store.new ≡ P.pages store.old }
     ensures fault { IfErr result IsStoreFault }
     ensures failures { CountsFailures result (P.failures store.old) (P.failures store.new) }
     ensures takes { TakesTheSame P.takes store.old store.new }
 {
     let mut index = PageIndex::new(alloc);
-    let mut pairs = PackedPairs::new(alloc);
-    for number in 0..store.count() {
-        store.fetch(number)?;
-        take_page(number, store.fetched(number), &mut index, &mut pairs)?;
+    for number in 1..store.count() {
+        let head = store.head(number)?;
+        index.insert(low_of(head), number)?;
     }
-    Ok((index, pairs))
+    Ok(index)
 }
 
-// Takes a page's number and its records' pairs.
-fn take_page(
-    number: PageNo,
-    page: &Page,
-    index: &mut PageIndex,
-    pairs: &mut PackedPairs,
-) -> Result<(), AllocError>
-    ensures index { OnOk result (index.new ≡ index_with index.old number page.now) }
-    ensures pairs { OnOk result (pairs.new ≡ pairs.old ++ map pair_of (records_of page.now)) }
+// The low bound of the page that a head is of.
+fn low_of(head: PageHead) -> u64
+    ensures { (page : Page) → head ≡ head_of page → result ≡ low_bound page }
 {
-    if number > 0 {
-        index.insert(page.low(), number)?;
+    match head {
+        PageHead::Live { prefix, .. } => prefix.low(),
+        PageHead::Forward { low, .. } => low,
     }
-    match page {
-        Page::Live { records, .. } => push_pairs(pairs, records),
-        Page::Forward { .. } => Ok(()),
-    }
-}
-
-fn push_pairs(pairs: &mut PackedPairs, records: &Records) -> Result<(), AllocError>
-    ensures { OnOk result (pairs.new ≡ pairs.old ++ map pair_of records.now) }
-{
-    for item in records.iter() {
-        pairs.push(&item.key, &item.value)?;
-    }
-    Ok(())
 }

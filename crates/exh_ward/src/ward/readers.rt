@@ -1,4 +1,4 @@
-ghost use Rattle.std.specs.Prelude.{◌≡◌, ◌-◌, ◌^◌, ◌<◌, ◌≤◌, ◌↔◌, ℕ, [], length, IfOk, IfErr, IfSome, IsSome, IsTrue, OnOk, OnErr};
+ghost use Rattle.std.specs.Prelude.{◌≡◌, ◌-◌, ◌^◌, ◌<◌, ◌≤◌, ℕ, [], length, IfOk, IfErr, OnOk, OnErr};
 ghost use Rattle.exh_prefix.specs.Prefix.{Begins};
 ghost use Rattle.exh_prefix.specs.declared.prefix.TheConstants.{LIMIT};
 ghost use Rattle.exh_page.specs.declared.page.Page.{Page};
@@ -8,15 +8,14 @@ ghost use Rattle.exh_codec.specs.Block.{sealed};
 ghost use Rattle.exh_codec.specs.PageImage.{IsHeld, content_of};
 ghost use Rattle.exh_page.specs.PageHead.{head_of};
 ghost use Rattle.exh_legal.specs.LegalLaws.{NamesHome};
-ghost use Rattle.exh_calls.specs.Undone.{map_before};
-ghost use Rattle.exh_legal.specs.Pages.{IsAt, map_of};
+ghost use Rattle.exh_legal.specs.Pages.{IsAt};
 ghost use Rattle.exh_settings.specs.FileSettings.{AreInRange};
 ghost use Rattle.exh_ward.specs.WardFault.{PageRefused, CountsFailures};
 ghost use Rattle.exh_ward.specs.WardState.{IsSoundWard, IsUnchanged, notices_above, own_prefix};
 
 use super::Ward;
 use crate::WardFault;
-use exh_calls::{Base, Journal, histories_are_undone};
+use exh_calls::{Base, Journal};
 use exh_codec::BLOCK_LEN;
 use exh_keyer::Keyer;
 use exh_legal::{pages_are_few, walks_name_homes};
@@ -176,14 +175,10 @@ impl<P: Pages + Drop, K: Keyer> Ward<P, K> {
         &self.journal
     }
 
-    /// The map that the history begins with. `None` where it isn't kept, since the history was begun anew: the
-    /// journal, undone over the map of the pages, gives it then. It takes no memory.
-    pub fn base(&self) -> Option<&Base>
-        ensures base { IfSome result (λ base. base.now ≡ self.now.base) }
-        ensures kept { IsSome result ↔ IsTrue self.now.has_base }
-        ensures undone { map_before self.now.journal (map_of self.now.pages) ≡ self.now.base }
+    /// The map that the history begins with. It takes no memory.
+    pub fn base(&self) -> &Base
+        ensures { result.now ≡ self.now.base }
     {
-        histories_are_undone();
-        self.base.as_ref()
+        &self.base
     }
 }

@@ -1,6 +1,6 @@
 use Rattle.std.proofs.Common.{◌≡◌, ◌++◌, map}
 use Rattle.exh_page.specs.KeyMap.{pair_of}
-use Rattle.exh_ward.proofs.ward.from_pages.push_pairs.Given as goal
+use Rattle.exh_ward.proofs.ward.history.push_pairs.Given as goal
 
 -- the pairs of the records so far
 abbrev pub invariant-loop-item : goal.invariant-loop-item

@@ -1,20 +1,18 @@
-use Rattle.std.proofs.Common.{◌≡◌, ◌≤◌, ◌++◌, List, map, slice_get, refl, sym, ap, ◌∙◌, subst, arith, ℕ, Err}
+use Rattle.std.proofs.Common.{◌≡◌, ◌≤◌, ◌++◌, map, slice_get, refl, sym, ap, ◌∙◌, subst, arith, ℕ, Err}
+use Rattle.std.specs.FinMap as fin
 use Rattle.std.proofs.lemmas.List.{take_all}
 use Rattle.std.proofs.lemmas.Result.{IfOk-from_err}
-use Rattle.exh_page.specs.declared.page.Page.{Page}
 use Rattle.exh_page.specs.Page.{records_of}
 use Rattle.exh_stores.specs.PageStore.{CountsFaults}
-use Rattle.exh_legal.specs.Pages.{bare}
 use Rattle.exh_page.specs.KeyMap.{pair_of}
-use Rattle.exh_legal.specs.PageIndex.{IsIndexOf}
 use Rattle.exh_ward.specs.FromPages.{pairs_of}
 use Rattle.exh_ward.specs.WardFault.{IsStoreFault, fault_of, CountsFailures}
 use Rattle.exh_ward.specs.declared.ward_fault.WardFault.TheVariants.{Memory}
 use Rattle.exh_ward.proofs.StepsKeepSound.{at_read}
-use Rattle.exh_ward.proofs.PagesRead.{none_indexed, one_page_more, pairs_more}
+use Rattle.exh_ward.proofs.PagesRead.{pairs_more}
 use Rattle.exh_ward.proofs.Exits.{counted_as, fault_counted, store_fault}
 use Rattle.exh_ward.proofs.HalvesOfPages.{failed_with}
-use Rattle.exh_ward.proofs.ward.from_pages.read_pages.Goals as goal
+use Rattle.exh_ward.proofs.ward.history.read_base.Goals as goal
 
 all_read : {number end count : ℕ} → end ≤ number → end ≡ count → count ≤ number
 all_read past is = omega (arith, past, is)
@@ -22,7 +20,6 @@ all_read past is = omega (arith, past, is)
 pub loop-number-init : goal.loop-number-init
 loop-number-init g c = record {
   within = omega arith;
-  index = none_indexed _ c.new-index.ensures;
   pairs = c.new-pairs.ensures;
   pages = refl;
   failures = refl;
@@ -36,27 +33,20 @@ loop-number-preserved g c =
     let page = ap (λ pages. slice_get pages c.loop-number.number) (sym is.pages) ∙ at_read _ _ _ _ c.fetch.ensures.pages c.fetched.ensures in
     record {
       within = omega (arith, c.loop-number-test.true, c.count-number-end.ensures);
-      index = one_page_more _ _ pages c.loop-number.number c.fetched.result.now c.requires.apart page is.index c.in_ok-take_page.ensures.index;
-      pairs = c.in_ok-take_page.ensures.pairs ∙ ap (λ ps. ps ++ map pair_of (records_of c.fetched.result.now)) is.pairs ∙ sym (pairs_more pages c.loop-number.number _ page);
+      pairs = c.in_ok-push_page.ensures ∙ ap (λ ps. ps ++ map pair_of (records_of c.fetched.result.now)) is.pairs ∙ sym (pairs_more pages c.loop-number.number _ page);
       pages = c.fetch.ensures.pages ∙ is.pages;
       failures = subst (λ result. CountsFaults result (g.P.Pages.failures c.loop-number.store) (g.P.Pages.failures c.fetch.new.self)) c.in_ok-fetch.was c.fetch.ensures.failures ∙ is.failures;
       takes = λ other. (λ x. (c.fetch.ensures.takes other).0 ((is.takes other).0 x), λ x. (is.takes other).1 ((c.fetch.ensures.takes other).1 x));
     }
 
-pub returns-clause-index : goal.returns-clause-index
-returns-clause-index g c =
+pub returns-clause-base : goal.returns-clause-base
+returns-clause-base g c =
     let pages = g.P.Pages.pages c.args.store.now in
-    subst (λ (pages : List Page). IsIndexOf c.loop-number.index (bare pages)) (take_all c.loop-number.number pages (all_read c.loop-number-test.false c.count-number-end.ensures)) c.loop-number.invariant.index
+    let all = take_all c.loop-number.number pages (all_read c.loop-number-test.false c.count-number-end.ensures) in
+    c.from_pairs.ensures ∙ ap fin.from_entries (c.loop-number.invariant.pairs ∙ ap pairs_of all)
 
-pub returns-clause-pairs : goal.returns-clause-pairs
-returns-clause-pairs g c =
-    c.loop-number.invariant.pairs ∙ ap pairs_of (take_all c.loop-number.number (g.P.Pages.pages c.args.store.now) (all_read c.loop-number-test.false c.count-number-end.ensures))
-
-pub returns-in_err-fetch-clause-index : goal.returns-in_err-fetch-clause-index
-returns-in_err-fetch-clause-index g c = IfOk-from_err c.from_residual.result _ c.from_residual.ensures.0
-
-pub returns-in_err-fetch-clause-pairs : goal.returns-in_err-fetch-clause-pairs
-returns-in_err-fetch-clause-pairs g c = IfOk-from_err c.from_residual.result _ c.from_residual.ensures.0
+pub returns-in_err-fetch-clause-base : goal.returns-in_err-fetch-clause-base
+returns-in_err-fetch-clause-base g c = IfOk-from_err c.from_residual.result _ c.from_residual.ensures.0
 
 pub returns-in_err-fetch-clause-pages : goal.returns-in_err-fetch-clause-pages
 returns-in_err-fetch-clause-pages g c = c.fetch.ensures.pages ∙ c.loop-number.invariant.pages
@@ -74,24 +64,21 @@ returns-in_err-fetch-clause-takes g c =
     let is = c.loop-number.invariant in
     λ other. (λ x. (c.fetch.ensures.takes other).0 ((is.takes other).0 x), λ x. (is.takes other).1 ((c.fetch.ensures.takes other).1 x))
 
-pub returns-in_err-take_page-clause-index : goal.returns-in_err-take_page-clause-index
-returns-in_err-take_page-clause-index g c = IfOk-from_err c.from_residual-in_err-take_page.result _ c.from_residual-in_err-take_page.ensures.0
+pub returns-in_err-push_page-clause-base : goal.returns-in_err-push_page-clause-base
+returns-in_err-push_page-clause-base g c = IfOk-from_err c.from_residual-in_err-push_page.result _ c.from_residual-in_err-push_page.ensures.0
 
-pub returns-in_err-take_page-clause-pairs : goal.returns-in_err-take_page-clause-pairs
-returns-in_err-take_page-clause-pairs g c = IfOk-from_err c.from_residual-in_err-take_page.result _ c.from_residual-in_err-take_page.ensures.0
+pub returns-in_err-push_page-clause-pages : goal.returns-in_err-push_page-clause-pages
+returns-in_err-push_page-clause-pages g c = c.fetch.ensures.pages ∙ c.loop-number.invariant.pages
 
-pub returns-in_err-take_page-clause-pages : goal.returns-in_err-take_page-clause-pages
-returns-in_err-take_page-clause-pages g c = c.fetch.ensures.pages ∙ c.loop-number.invariant.pages
+pub returns-in_err-push_page-clause-fault : goal.returns-in_err-push_page-clause-fault
+returns-in_err-push_page-clause-fault g c = failed_with c.from_residual-in_err-push_page.result Memory IsStoreFault c.from_residual-in_err-push_page.ensures.1 tt
 
-pub returns-in_err-take_page-clause-fault : goal.returns-in_err-take_page-clause-fault
-returns-in_err-take_page-clause-fault g c = failed_with c.from_residual-in_err-take_page.result Memory IsStoreFault c.from_residual-in_err-take_page.ensures.1 tt
+pub returns-in_err-push_page-clause-failures : goal.returns-in_err-push_page-clause-failures
+returns-in_err-push_page-clause-failures g c =
+    counted_as c.from_residual-in_err-push_page.result Memory _ _ c.from_residual-in_err-push_page.ensures.1 (c.in_ok-fetch.ensures.failures ∙ c.loop-number.invariant.failures)
 
-pub returns-in_err-take_page-clause-failures : goal.returns-in_err-take_page-clause-failures
-returns-in_err-take_page-clause-failures g c =
-    counted_as c.from_residual-in_err-take_page.result Memory _ _ c.from_residual-in_err-take_page.ensures.1 (c.in_ok-fetch.ensures.failures ∙ c.loop-number.invariant.failures)
-
-pub returns-in_err-take_page-clause-takes : goal.returns-in_err-take_page-clause-takes
-returns-in_err-take_page-clause-takes g c =
+pub returns-in_err-push_page-clause-takes : goal.returns-in_err-push_page-clause-takes
+returns-in_err-push_page-clause-takes g c =
     let is = c.loop-number.invariant in
     λ other. (λ x. (c.fetch.ensures.takes other).0 ((is.takes other).0 x), λ x. (is.takes other).1 ((c.fetch.ensures.takes other).1 x))
 

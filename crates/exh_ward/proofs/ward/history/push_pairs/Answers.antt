@@ -2,7 +2,7 @@ use Rattle.std.proofs.Common.{◌≡◌, ℕ, List, [], ◌∷◌, ◌++◌, map
 use Rattle.std.proofs.lemmas.List.{map_push}
 use Rattle.exh_page.specs.KeyMap.{pair_of}
 use Rattle.exh_page.specs.declared.record.Record.{Record}
-use Rattle.exh_ward.proofs.ward.from_pages.push_pairs.Goals as goal
+use Rattle.exh_ward.proofs.ward.history.push_pairs.Goals as goal
 
 next_pair : (old : List (List ℕ × List ℕ)) (seen : List Record) (item : Record) {so_far next : List (List ℕ × List ℕ)} → so_far ≡ old ++ map pair_of seen → next ≡ so_far ++ pair_of item ∷ []
     → next ≡ old ++ map pair_of (seen ++ item ∷ [])

@@ -1,7 +1,0 @@
--- What was seen owns nothing, so it may go to another thread.
-use denote.RattleType.{RattleType}
-use denote.Param.Send.{IsSend}
-use Rattle.exh_ward.specs.contracts.seen.Seen.{the_row}
-
-pub send : (T : RattleType) → IsSend (the_row T)
-send T = record { owned = λ d vs. ((λ vss. (tt, ((λ uss. (tt, tt)), tt))), tt); leaving = λ k f vs. tt }

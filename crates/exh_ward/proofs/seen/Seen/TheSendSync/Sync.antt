@@ -1,8 +1,0 @@
--- A `&` to it gives nothing away, since it owns nothing.
-use denote.RattleType.{RattleType}
-use denote.Param.Send.{IsSync, part_keyless}
-use Rattle.exh_ward.specs.contracts.seen.Seen.{the_row}
-use Rattle.exh_ward.proofs.seen.Seen.TheSendSync.Send.{send}
-
-pub sync : (T : RattleType) → IsSync (the_row T)
-sync T = record { shared = λ d b o κ q. part_keyless (the_row T) (send T) q d b o }
