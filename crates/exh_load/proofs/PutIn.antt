@@ -5,6 +5,7 @@ use Rattle.std.proofs.lemmas.Bool.{cases_eq}
 use Rattle.std.proofs.lemmas.Option.{slice_get_read}
 use Rattle.std.proofs.lemmas.List.{length-map, length-set, map-set}
 use Rattle.exh_page.specs.KeyMap.{KeyMap}
+use Rattle.exh_page.specs.declared.page.Page.{Page}
 use Rattle.exh_prefix.specs.Leading.{ward_of}
 use Rattle.exh_prefix.specs.PrefixListLemmas.{one_there, set_else, set_here}
 use Rattle.exh_keyer.specs.declared.any_keyer.AnyKeyer.{AnyKeyer}
@@ -15,16 +16,43 @@ use Rattle.exh_calls.specs.declared.call.Call.{Call}
 use Rattle.exh_calls.specs.declared.call.Call.TheVariants.{Put}
 use Rattle.exh_calls.specs.declared.reply.Reply.{Reply}
 use Rattle.exh_legal.specs.Pages.{map_of}
-use Rattle.exh_ward.specs.WardState.{WardState, history_begun}
+use Rattle.exh_ward.specs.WardState.{WardState}
 use Rattle.exh_file.specs.Opened.{AreWardsOf, OpenedState}
 use Rattle.exh_file.specs.FileChange.{AreParts, ChangesOneMap, maps_in as maps_of}
 use Rattle.exh_file.specs.InWardLemmas.{HasSettings, at_within, here, maps_here, one_in, place, reply_here, there}
 use Rattle.exh_file.specs.WardChange.{AreSplitsAtMost, IsChanged}
 use Rattle.exh_load.specs.Put.{IsDirectoryOf}
-use Rattle.exh_load.specs.Loader.{HasSplitsIn, IsLoading, IsPutIn, LoaderState, file_in}
+use Rattle.exh_load.specs.Loader.{HasSplitsIn, IsLoading, IsPutIn, LoaderState, MayHaveBegun, file_in}
 use Rattle.exh_load.specs.Loading.{Loading, after_pair, loading_of, pair_reply}
 use Rattle.exh_load.specs.Load.{new_count, record_count}
 use Rattle.exh_load.proofs.Records.{pair_counted}
+
+-- whether the history began or goes on, all else is the same
+record IsSameBeside {K : Type 0} (old new : WardState K) : Type 0 where
+  pages : new.pages ≡ old.pages
+  table : new.table ≡ old.table
+  cap : new.cap ≡ old.cap
+  bits : new.ward_bits ≡ old.ward_bits
+  number : new.number ≡ old.number
+  keyer : new.keyer ≡ old.keyer
+
+same_beside : {K : Type 0} (old new : WardState K) → MayHaveBegun old new → IsSameBeside old new
+same_beside {K} old new (inl begun) = record {
+  pages = ap (λ (w : WardState K). w.pages) begun.1;
+  table = ap (λ (w : WardState K). w.table) begun.1;
+  cap = ap (λ (w : WardState K). w.cap) begun.1;
+  bits = ap (λ (w : WardState K). w.ward_bits) begun.1;
+  number = ap (λ (w : WardState K). w.number) begun.1;
+  keyer = ap (λ (w : WardState K). w.keyer) begun.1;
+}
+same_beside {K} old new (inr same) = record {
+  pages = ap (λ (w : WardState K). w.pages) same;
+  table = ap (λ (w : WardState K). w.table) same;
+  cap = ap (λ (w : WardState K). w.cap) same;
+  bits = ap (λ (w : WardState K). w.ward_bits) same;
+  number = ap (λ (w : WardState K). w.number) same;
+  keyer = ap (λ (w : WardState K). w.keyer) same;
+}
 
 module _ (old now : LoaderState) (view_is : old ≡ now) (are : AreWardsOf (file_in old)) (loading : IsLoading now) (key value : List ℕ) (pseudokey at : ℕ)
     (hashed : pseudokey ≡ any_pseudokey old.keyer key) (at_is : at ≡ ward_of old.ward_bits pseudokey) where
@@ -72,20 +100,23 @@ module _ (old now : LoaderState) (view_is : old ≡ now) (are : AreWardsOf (file
       pub are_splits_in : AreSplitsAtMost ward answered → HasSplitsIn now key split_left
       are_splits_in splits = subst (λ o. HasSplitsIn o key split_left) view_is (splits_in splits)
 
-      -- ---- an answered one, after which the history begins anew
+      -- ---- an answered one, after which the history may begin anew
 
-      module _ (after : WardState AnyKeyer) (begun : after ≡ history_begun answered) where
+      module _ (after : WardState AnyKeyer) (history : MayHaveBegun answered after) where
+        beside : IsSameBeside answered after
+        beside = same_beside answered after history
+
         abbrev pub left : LoaderState
         left = record old { wards = slice_set old.wards at after; directories = slice_set old.directories at told }
 
         pub begun_keeps : HasSettings ward answered → HasSettings ward after
-        begun_keeps kept = subst (HasSettings ward) (sym begun) (record { cap = kept.cap; bits = kept.bits; number = kept.number; keyer = kept.keyer })
+        begun_keeps kept = record { cap = beside.cap ∙ kept.cap; bits = beside.bits ∙ kept.bits; number = beside.number ∙ kept.number; keyer = beside.keyer ∙ kept.keyer }
 
         -- the maps are the same
         same_maps : maps_of (file_in left) ≡ maps_of (file_in split_left)
         same_maps =
             let f : WardState AnyKeyer → KeyMap = λ (w : WardState AnyKeyer). map_of w.pages in
-            map-set f old.wards at after ∙ ap (λ w. slice_set (map f old.wards) at (f w)) begun ∙ sym (map-set f old.wards at answered)
+            map-set f old.wards at after ∙ ap (λ (pages : List Page). slice_set (map f old.wards) at (map_of pages)) beside.pages ∙ sym (map-set f old.wards at answered)
 
         same_loading : loading_of left ≡ loading_of split_left
         same_loading = ap (λ (ms : List KeyMap). let loading : Loading = record (loading_of old) { maps = ms } in loading) same_maps
@@ -97,10 +128,11 @@ module _ (old now : LoaderState) (view_is : old ≡ now) (are : AreWardsOf (file
               record {
                 ward = ward;
                 after = answered;
+                left = after;
                 there = subst (λ n. slice_get old.wards n ≡ Some ward) at_place ward_there;
                 changed = changed;
-                others = ap (λ (w : WardState AnyKeyer). let opened : OpenedState = record file { wards = slice_set old.wards at w } in opened) begun
-                    ∙ ap (λ (n : ℕ). let opened : OpenedState = record file { wards = slice_set old.wards n (history_begun answered) } in opened) at_place;
+                history = history;
+                others = ap (λ (n : ℕ). let opened : OpenedState = record file { wards = slice_set old.wards n after } in opened) at_place;
               }
 
           pub put_in : IsPutIn (file_in now) key value reply (file_in left)
@@ -147,7 +179,7 @@ module _ (old now : LoaderState) (view_is : old ≡ now) (are : AreWardsOf (file
 
         pub loading_left : IsDirectoryOf answered told → IsLoading left
         loading_left answered_has =
-            let has : IsDirectoryOf after told = subst (λ w. IsDirectoryOf w told) (sym begun) (record { table = answered_has.table; bits = answered_has.bits }) in
+            let has : IsDirectoryOf after told = record { table = answered_has.table ∙ sym beside.table; bits = answered_has.bits ∙ sym beside.bits } in
             let ward_here = here file are call pseudokey at hashed at_is ward ward_is after in
             let directory_here = set_here old.directories at directory told directory_there in
             record {

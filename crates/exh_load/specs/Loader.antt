@@ -1,5 +1,5 @@
 -- The wards of a file that pairs are put into, each with its directory.
-use Rattle.std.specs.Prelude.{◌≡◌, ℕ, List, length, slice_get, slice_set, Some}
+use Rattle.std.specs.Prelude.{◌≡◌, ◌⊎◌, ℕ, ◌≤◌, List, length, slice_get, slice_set, Some}
 use Rattle.std.specs.FinMap as map
 use Rattle.exh_keyer.specs.declared.any_keyer.AnyKeyer.{AnyKeyer}
 use Rattle.exh_array.specs.Pointers.{DirectoryState}
@@ -8,11 +8,12 @@ use Rattle.exh_ward.specs.NewWards.{new_wards}
 use Rattle.exh_calls.specs.declared.call.Call.TheVariants.{Put}
 use Rattle.exh_calls.specs.declared.reply.Reply.{Reply}
 use Rattle.exh_keyer.specs.Pseudokey.{any_pseudokey}
-use Rattle.exh_ward.specs.WardState.{WardState, history_begun}
+use Rattle.exh_ward.specs.WardState.{WardState, IsUnchanged, history_begun}
 use Rattle.exh_file.specs.Opened.{OpenedState, in_file}
 use Rattle.exh_file.specs.FileChange.{ward_in}
 use Rattle.exh_file.specs.WardChange.{AreSplitsAtMost, IsChanged}
 use Rattle.exh_load.specs.Put.{IsDirectoryOf}
+use Rattle.exh_load.specs.declared.history.TheConstants.{HISTORY_LEN}
 
 pub record LoaderState : Type 0 where
   pub cap : ℕ
@@ -35,13 +36,24 @@ pub record IsLoading (loader : LoaderState) : Type 0 where
 abbrev pub IsEmptyLoader : FileSettings AnyKeyer → LoaderState → Type 0
 IsEmptyLoader settings loader = file_in loader ≡ in_file settings (new_wards settings)
 
--- the ward of the key answered the put, and then began its history anew; the other wards and the settings are as before
+-- the journal has at least as many entries as the base has pairs, and some
+pub record IsOutgrown {K : Type 0} (ward : WardState K) : Type 0 where
+  pub pairs : map.len ward.base ≤ length ward.journal
+  pub some : HISTORY_LEN ≤ length ward.journal
+
+-- the history began anew, since the journal had outgrown the base; or goes on, and the count of page faults may be another
+abbrev pub MayHaveBegun : {K : Type 0} → WardState K → WardState K → Type 0
+MayHaveBegun old new = (IsOutgrown old × (new ≡ history_begun old)) ⊎ IsUnchanged old new
+
+-- the ward of the key answered the put, and then its history may have begun anew; the other wards and the settings are as before
 pub record IsPutIn (old : OpenedState) (key value : List ℕ) (reply : Reply) (new : OpenedState) : Type 0 where
   pub ward : WardState AnyKeyer
   pub after : WardState AnyKeyer
+  pub left : WardState AnyKeyer
   pub there : slice_get old.wards (ward_in old key) ≡ Some ward
   pub changed : IsChanged any_pseudokey ward (Put key value) reply after
-  pub others : new ≡ record old { wards = slice_set old.wards (ward_in old key) (history_begun after) }
+  pub history : MayHaveBegun after left
+  pub others : new ≡ record old { wards = slice_set old.wards (ward_in old key) left }
 
 -- pages of the ward of a key may have been split, and its count of page faults may be another; the other wards are as before
 pub record HasSplitsIn (old : LoaderState) (key : List ℕ) (new : LoaderState) : Type 0 where

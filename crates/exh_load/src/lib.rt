@@ -1,6 +1,7 @@
 //! A text of pairs loaded into the wards of a file, with splits on demand.
 #![tactic(auto)]
 
+pub use history::HISTORY_LEN;
 pub use laws::loads_are_one_maps;
 pub use line_source::LINE_LEN;
 pub use load_fault::LoadFault;
@@ -11,6 +12,7 @@ pub use long_load::load_long;
 pub use put::put_pair;
 
 mod begin;
+mod history;
 mod laws;
 mod line_source;
 mod load_fault;

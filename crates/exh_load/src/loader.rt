@@ -16,6 +16,7 @@ ghost use Rattle.exh_load.specs.Put.{IsDirectoryOf};
 ghost use Rattle.exh_load.specs.Loading.{after_pair, loading_of, pair_reply};
 ghost use Rattle.exh_load.specs.Loader.{AreEach, HasSplitsIn, IsDirectoryAt, IsEmptyDirectory, IsEmptyLoader, IsLoading, IsPutIn, file_in};
 
+use crate::history::renew_history;
 use crate::put_pair;
 use exh_array::Directory;
 use exh_calls::Reply;
@@ -94,8 +95,8 @@ impl<P: Pages + Drop> Loader<P> {
     }
 
     /// Puts a pair into the ward of its key, and splits pages where they are full for it, as `put_pair`
-    /// does. The key is hashed once. The ward's history begins anew then, so that no journal grows with
-    /// the pairs. `Memory` and `Page` may come at any point, `Page` where the store has counted it: splits that were made stay made, and no more
+    /// does. The key is hashed once. The ward's history begins anew once its journal has outgrown its base,
+    /// unless that is refused, so that no journal grows with the text. `Memory` and `Page` may come at any point, `Page` where the store has counted it: splits that were made stay made, and no more
     /// pairs can be put then, since a directory may lack a notice.
     pub fn put(&mut self, key: Key, value: Value) -> Result<Reply, WardFault>
         requires { IsLoading self.old }
@@ -114,7 +115,7 @@ impl<P: Pages + Drop> Loader<P> {
         let ward = &mut self.wards[at];
         let directory = &mut self.directories[at];
         let reply = put_counted(ward, directory, key, value, pseudokey)?;
-        ward.begin_history();
+        renew_history(ward);
         Ok(reply)
     }
 
