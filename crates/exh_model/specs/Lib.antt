@@ -1,2 +1,3 @@
 pub mod MachineState
 pub mod MachinePairs
+pub mod LeafSet

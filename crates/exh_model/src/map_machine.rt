@@ -1,13 +1,14 @@
-ghost use Rattle.std.specs.Prelude.{◌≡◌, ◌↔◌, IsTrue, IfOk, OnErr};
+ghost use Rattle.std.specs.Prelude.{◌≡◌, IfOk, OnOk, OnErr};
 ghost use Rattle.std.specs.FinMap as map;
-ghost use Rattle.exh_calls.specs.MapMachine.{sharing, is_full, reply_of, map_after};
+ghost use Rattle.exh_calls.specs.MapMachine.{sharing, is_full};
 ghost use Rattle.exh_prefix.specs.declared.prefix.TheConstants.{LIMIT};
 ghost use Rattle.exh_prefix.specs.Leading.{leading};
+ghost use Rattle.exh_model.specs.MachineState.{reply_from, state_after};
 
 use crate::PairMap;
-use exh_calls::{Call, KeyChange, Reply};
+use exh_calls::{Call, Reply};
 use exh_keyer::Keyer;
-use exh_page::{Key, LentValue, Value};
+use exh_page::{Key, Value};
 use exh_prefix::LIMIT;
 use std::alloc::{AllocError, Global};
 use std::marker::Model;
@@ -58,24 +59,68 @@ impl<K: Keyer> MapMachine<K> {
     /// Answers a call, by the map machine's table. Where a growth is refused, an
     /// `AllocError`, the machine is as before.
     pub fn answer(&mut self, call: &Call) -> Result<Reply, AllocError>
-        ensures reply { IfOk result (λ reply. reply ≡ reply_of self.old.cap (K.pseudokey_of self.old.keyer) self.old.map call.now) }
-        ensures ok { IfOk result (λ _. self.new ≡ record self.old { map = map_after self.old.cap (K.pseudokey_of self.old.keyer) self.old.map call.now }) }
+        ensures reply { IfOk result (λ reply. reply ≡ reply_from K.pseudokey_of self.old call.now) }
+        ensures ok { OnOk result (self.new ≡ state_after K.pseudokey_of self.old call.now) }
         ensures err { OnErr result (self.new ≡ self.old) }
     {
-        let key = call.key();
-        let value = self.map.get(key);
-        let stood = lent(&value);
-        let full = stood.is_none() && call.sets_new() && self.is_full(key);
-        match call.change(full, &stood) {
-            KeyChange::Keep => {}
-            KeyChange::Set(value) => {
-                self.map.insert(*key, *value)?;
-            }
-            KeyChange::Remove => {
-                self.map.remove(key);
-            }
+        match call {
+            Call::Get { key } => Ok(self.get(key)),
+            Call::Put { key, value } => self.put(key, value),
+            Call::Del { key } => Ok(self.del(key)),
+            Call::Swap { key, old, new } => self.swap(key, old, new),
         }
-        Ok(call.reply(full, &stood))
+    }
+
+    fn get(&self, key: &Key) -> Reply
+        ensures reply { result ≡ reply_from K.pseudokey_of self.now (Call.Get key.now) }
+        ensures same { state_after K.pseudokey_of self.now (Call.Get key.now) ≡ self.now }
+    {
+        match self.map.get(key) {
+            Some(value) => Reply::Is(value),
+            None => Reply::None,
+        }
+    }
+
+    fn put(&mut self, key: &Key, value: &Value) -> Result<Reply, AllocError>
+        ensures reply { IfOk result (λ reply. reply ≡ reply_from K.pseudokey_of self.old (Call.Put key.now value.now)) }
+        ensures ok { OnOk result (self.new ≡ state_after K.pseudokey_of self.old (Call.Put key.now value.now)) }
+        ensures err { OnErr result (self.new ≡ self.old) }
+    {
+        if let Some(old) = self.map.get(key) {
+            self.map.insert(*key, *value)?;
+            return Ok(Reply::Was(old));
+        }
+        if self.is_full(key) {
+            return Ok(Reply::Full);
+        }
+        self.map.insert(*key, *value)?;
+        Ok(Reply::New)
+    }
+
+    fn del(&mut self, key: &Key) -> Reply
+        ensures reply { result ≡ reply_from K.pseudokey_of self.old (Call.Del key.now) }
+        ensures ok { self.new ≡ state_after K.pseudokey_of self.old (Call.Del key.now) }
+    {
+        let Some(old) = self.map.get(key) else {
+            return Reply::None;
+        };
+        self.map.remove(key);
+        Reply::Was(old)
+    }
+
+    fn swap(&mut self, key: &Key, old: &Value, new: &Value) -> Result<Reply, AllocError>
+        ensures reply { IfOk result (λ reply. reply ≡ reply_from K.pseudokey_of self.old (Call.Swap key.now old.now new.now)) }
+        ensures ok { OnOk result (self.new ≡ state_after K.pseudokey_of self.old (Call.Swap key.now old.now new.now)) }
+        ensures err { OnErr result (self.new ≡ self.old) }
+    {
+        let Some(value) = self.map.get(key) else {
+            return Ok(Reply::None);
+        };
+        if value != *old {
+            return Ok(Reply::Differs(value));
+        }
+        self.map.insert(*key, *new)?;
+        Ok(Reply::Swapped)
     }
 
     // Whether at least `cap` keys share the `LIMIT` leading bits of this key's pseudokey.
@@ -102,15 +147,5 @@ impl<K: Keyer> MapMachine<K> {
         ensures { result ≡ leading LIMIT (K.pseudokey_of self.now.keyer key.now) }
     {
         exh_prefix::leading(LIMIT, self.keyer.pseudo(key.as_bytes()))
-    }
-}
-
-// A value, to be read where it stands.
-fn lent(value: &Option<Value>) -> Option<LentValue<'_>>
-    ensures { result ≡ value.now }
-{
-    match value {
-        Some(value) => Some(value.lend()),
-        None => None,
     }
 }
