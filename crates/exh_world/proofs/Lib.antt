@@ -45,6 +45,8 @@ pub mod PagesReached
 pub mod AlikeSteps
 pub mod AlikeFunction
 pub mod OthersRun
+-- of requests in flight, in their slots
+pub mod SlotLemmas
 -- of each event's method: the world as its struct holds it, and shows it
 pub mod InsideWorld
 pub mod WardsLeft

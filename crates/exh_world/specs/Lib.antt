@@ -3,6 +3,7 @@ pub use Rattle.exh_event.specs.EventProgress
 pub use Rattle.exh_event.specs.StepFault
 pub use Rattle.exh_settings.specs.Config
 pub mod InFlight
+pub mod Slots
 pub mod World
 pub mod RequestProgress
 pub mod Step

@@ -9,6 +9,7 @@ pub use headline_laws::{
     only_answers_change_the_map, replies_follow_the_answers_before, runs_go_step_by_step,
     same_notices_give_same_tables,
 };
+pub use in_flight::Requests;
 pub use laws::{
     new_worlds_are_sound, page_faults_are_counted, refused_turns_leave_the_others,
     runs_carry_the_headline, steps_are_computed, steps_go_alike, steps_have_outcomes,
@@ -23,4 +24,5 @@ mod in_flight;
 mod laws;
 mod move_laws;
 mod request;
+mod slot;
 mod world;

@@ -67,7 +67,7 @@ impl<P: Pages + Drop, K: Keyer> World<P, K> {
         noticed.resize(1 << config.ward_bits, 0)?;
         let start = Directory::new(alloc, config.ward_bits)?;
         let copies = Copies::new(alloc, start, config.copies)?;
-        let in_flight = InFlight::new(alloc)?;
+        let in_flight = InFlight::new(alloc);
         Ok(World {
             alloc,
             cap: config.cap as usize,

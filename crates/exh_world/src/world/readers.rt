@@ -14,14 +14,13 @@ ghost use Rattle.exh_world.specs.declared.request.Request.{Request as RequestTyp
 
 use super::World;
 use super::place::place_of;
-use crate::Request;
+use crate::Requests;
 use exh_array::Directory;
 use exh_event::StepFault;
 use exh_keyer::Keyer;
 use exh_page::PageHead;
 use exh_prefix::PageNo;
 use exh_stores::Pages;
-use lru::Iter;
 
 impl<P: Pages + Drop, K: Keyer> World<P, K> {
     /// The file is cut into 2^this many wards, by so many leading bits of pseudokeys, 0 to 4. It takes
@@ -47,7 +46,7 @@ impl<P: Pages + Drop, K: Keyer> World<P, K> {
     }
 
     /// The requests in flight with their names, in the order begun. It takes no memory.
-    pub fn in_flight(&self) -> Iter<'_, u32, Request>
+    pub fn in_flight(&self) -> Requests<'_>
         ensures rest { result ≡ self.now.in_flight }
         ensures runs { ShowsInOrder (deref_pair {K = ℕ} {X = RequestType}) }
     {

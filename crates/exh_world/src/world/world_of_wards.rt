@@ -36,7 +36,7 @@ impl<P: Pages + Drop, K: Keyer> World<P, K> {
         let start = joined_tables(alloc, config.ward_bits, &wards)?;
         let noticed = notice_counts(alloc, &wards)?;
         let copies = Copies::new(alloc, start, config.copies)?;
-        let in_flight = InFlight::new(alloc)?;
+        let in_flight = InFlight::new(alloc);
         Ok(World {
             alloc,
             cap: config.cap as usize,

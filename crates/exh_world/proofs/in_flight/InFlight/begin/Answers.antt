@@ -1,39 +1,37 @@
-use Rattle.std.proofs.Common.{◌≡◌, ℕ, ◌-◌, ◌≤◌, [], ◌∷◌, ◌++◌, length, take, Option, Some, None, refl, ap, ◌∙◌, arith}
-use Rattle.std.specs.Prelude.{nat_eq}
-use Rattle.std.specs.Map.{lookup_entry, remove_entry}
-use Rattle.std.specs.Option.{option_map, option_map_or}
-use Rattle.std.proofs.lemmas.Bool.{eq-eqb}
-use Rattle.std.proofs.lemmas.List.{take_all}
-use Rattle.lru.specs.LruCache.{LruCache, demoted, put_entries}
-use Rattle.lru.proofs.Pairs.{lookup-lookup_entry}
+use Rattle.std.proofs.Common.{◌≡◌, ℕ, ◌+◌, ◌<◌, ◌^◌, ◌++◌, ◌∷◌, [], false, cond, Result, Ok, Err, Some, IsOk, OnOk, refl, sym, ap, ◌∙◌, subst, nat_eq, arith}
+use Rattle.std.specs.HashMap.{get}
+use Rattle.indexmap.proofs.CallerLemmas.{insert_entry-new}
+use Rattle.exh_prefix.specs.PrefixListLemmas.{value_of_some}
 use Rattle.exh_world.specs.InFlight.{Requests, request_named}
-use Rattle.exh_world.specs.declared.request.Request.{Request}
+use Rattle.exh_world.specs.Slots.{standing_in, AreKept}
+use Rattle.exh_world.specs.declared.slot.Slot.{Slot}
+use Rattle.exh_world.proofs.SlotLemmas.{Slots, standing-push, not_placed, not_begun, kept_begun}
 use Rattle.exh_world.proofs.in_flight.InFlight.begin.Goals as goal
 
-unmapped : (entry : Option (ℕ × Request)) → option_map (λ (e : ℕ × Request). e.1) entry ≡ None → entry ≡ None
-unmapped None is = refl
-unmapped (Some e) is = cc
+-- what holds where a call succeeds, which does
+where_ok : {A E : Type 0} (result : Result A E) (P : Type 0) → IsOk result → OnOk result P → P
+where_ok (Ok made) P ok holds = holds
+where_ok (Err fault) P ok holds = cc
 
-no_entry : (name : ℕ) (requests : Requests) → request_named name requests ≡ None → lookup_entry (nat_eq name) requests ≡ None
-no_entry name requests free = unmapped (lookup_entry (nat_eq name) requests) (lookup-lookup_entry (nat_eq name) requests ∙ free)
-
--- what is put in, and then made the least recently used, stands last
-first_to_last : (name : ℕ) (request : Request) (requests : Requests) → demoted (nat_eq name) ((name, request) ∷ requests) ≡ requests ++ (name, request) ∷ []
-first_to_last name request requests = rw (eq-eqb name name refl) refl
-
-begun_last : (cache : LruCache ℕ Request) (name : ℕ) (request : Request) → request_named name cache.entries ≡ None → length cache.entries ≤ cache.cap - 1
-    → demoted (nat_eq name) (put_entries nat_eq cache name request) ≡ cache.entries ++ (name, request) ∷ []
-begun_last cache name request free few =
-    let longer : Requests → Requests = λ requests. (name, request) ∷ requests in
-    ap (λ entry. demoted (nat_eq name) (option_map_or (λ e. (e.0, request) ∷ remove_entry (nat_eq name) cache.entries) entry (longer (take (cache.cap - 1) cache.entries)))) (no_entry name cache.entries free)
-    ∙ ap (λ (requests : Requests). demoted (nat_eq name) (longer requests)) (take_all (cache.cap - 1) cache.entries few)
-    ∙ first_to_last name request cache.entries
+pub invariant_of-self-2 : goal.invariant_of-self-2
+invariant_of-self-2 c =
+    let i = c.self.inside in
+    let name = c.args.name in
+    let slot : Slot = record { name = name; request = c.args.request; is_answered = false } in
+    let none = not_placed i.slots.entries (get nat_eq i.places) i.begun c.self.invariant name (ap (request_named name) c.self.view_is ∙ c.requires) in
+    let room = c.in_ok-reserve.ensures.ok in
+    let put = where_ok c.insert-2.result _ (c.insert-2.ensures.succeeds (omega (arith, room))) c.insert-2.ensures.updates in
+    let more : c.in_ok-begun.begun ≡ i.begun + 1 = value_of_some _ (i.begun + 1 < 2 ^ 64) (i.begun + 1) _ c.checked_add.ensures c.in_ok-begun.ensures.ok_part in
+    let added = c.in_ok-insert.ensures.entries ∙ insert_entry-new nat_eq i.slots i.begun slot (not_begun i.slots.entries (get nat_eq i.places) i.begun c.self.invariant) in
+    let P : Slots → Type 0 = λ slots. AreKept slots (get nat_eq c.insert-2.new.self) (i.begun + 1) in
+    let Q : ℕ → Type 0 = λ begun. AreKept c.insert.new.self.entries (get nat_eq c.insert-2.new.self) begun in
+    subst Q (sym more) (subst P (sym added)
+    (kept_begun i.slots.entries (get nat_eq i.places) i.begun c.self.invariant name slot (get nat_eq c.insert-2.new.self) none refl refl
+    (λ q. put.0 q ∙ ap (cond (nat_eq name q) (Some i.begun)) (c.reserve.ensures.entries.2 q))))
 
 pub returns-clause-ok : goal.returns-clause-ok
 returns-clause-ok c =
-    let cache = c.self.inside.requests in
-    let free = ap (request_named c.args.name) c.self.view_is ∙ c.requires in
-    ap (λ (now : LruCache ℕ Request). now.entries) c.demote.ensures.entries
-    ∙ ap (λ (now : LruCache ℕ Request). demoted (nat_eq c.args.name) now.entries) c.in-Ok.ensures.entries
-    ∙ begun_last cache c.args.name c.args.request free (omega (arith, c.len.ensures, c.self.invariant))
-    ∙ ap (λ (requests : Requests). requests ++ (c.args.name, c.args.request) ∷ []) c.self.view_is
+    let i = c.self.inside in
+    let slot : Slot = record { name = c.args.name; request = c.args.request; is_answered = false } in
+    ap standing_in (c.in_ok-insert.ensures.entries ∙ insert_entry-new nat_eq i.slots i.begun slot (not_begun i.slots.entries (get nat_eq i.places) i.begun c.self.invariant))
+    ∙ standing-push i.slots.entries i.begun slot refl ∙ ap (λ (requests : Requests). requests ++ (c.args.name, c.args.request) ∷ []) c.self.view_is

@@ -11,8 +11,8 @@ pub returns-clause-world : goal.returns-clause-world
 returns-clause-world g c =
     let made = c.in_ok-copies.ensures in
     let start = c.in_ok-start.ensures.table ∙ ap tables_joined c.deref.ensures.value in
-    made_of_wards c.args.config c.args.wards.items c.in_ok-copies.copies.start c.in_ok-noticed.noticed.items c.in_ok-copies.copies.copies c.in_ok-copies.copies.sent c.in_ok-in_flight.in_flight
-    (ap (λ (copies : CopiesState). copies.start) made ∙ start) (c.in_ok-noticed.ensures ∙ ap (map (λ ward. length ward.notices)) c.deref-2.ensures.value) (ap (λ (copies : CopiesState). copies.copies) made ∙ ap (replicate c.args.config.copies) (sym (ap (λ (copies : CopiesState). copies.start) made))) (ap (λ (copies : CopiesState). copies.sent) made) c.in_ok-in_flight.ensures
+    made_of_wards c.args.config c.args.wards.items c.in_ok-copies.copies.start c.in_ok-noticed.noticed.items c.in_ok-copies.copies.copies c.in_ok-copies.copies.sent c.new-in_flight.result
+    (ap (λ (copies : CopiesState). copies.start) made ∙ start) (c.in_ok-noticed.ensures ∙ ap (map (λ ward. length ward.notices)) c.deref-2.ensures.value) (ap (λ (copies : CopiesState). copies.copies) made ∙ ap (replicate c.args.config.copies) (sym (ap (λ (copies : CopiesState). copies.start) made))) (ap (λ (copies : CopiesState). copies.sent) made) c.new-in_flight.ensures
 
 pub invariant_of-result : goal.invariant_of-result
 invariant_of-result g c =
