@@ -8,7 +8,9 @@
 # wards of a file in memory, by keyer sha. They call 50 keys: by turns a put, a get and a delete (`exh_live`). There is
 # a keeper for each ward and a courier to each copy, which make rounds until all callers are done; a keeper waits for a
 # millisecond before each of its own, as one without work to do would. After each run the file is closed, and diaries
-# and journals are settled. the program bench makes each run.
+# and journals are settled. The program bench makes each run.
+# - restless: how many times as long a storm takes over 16 wards of 2 records a page whose keepers never rest: the least
+#   milliseconds of all runs, by those of one whose keepers do.
 # - moves: how often a call was sent on to another page, a call, in all runs together; most: in the worst of them. A
 #   gate of each caller counts its turns: it is asked before each hop. A call's hops are those that send it on, those
 #   that find a page full, and the last, which answers it; after each that finds a page full the caller splits it, or
@@ -20,7 +22,7 @@
 #   journals and diaries alone. Its keys and values have about as many bytes; where they have fewer or more, its memory
 #   is counted with as many.
 #
-# Wanted: at most 0.1 moves a call over 4 wards; and memory beside journals and diaries that is flat in the number of
+# Wanted: at most 0.1 moves a call over 4 wards; a storm whose keepers never rest within 5 times the time; and memory beside journals and diaries that is flat in the number of
 # calls: from a quarter of the calls to all of them a storm takes at most 1.1 times as much more as 'kept' does.
 #
 # Status: 0 where all that is met, 1 where something isn't, 2 where nothing could be measured.
@@ -41,11 +43,12 @@ folder=$(mktemp -d "${TMPDIR:-/tmp}/exhash-bench.XXXXXX") || exit 2
 trap 'rm -rf "$folder"' EXIT
 
 # Makes a run of the way $1 by $2 records a page over 2^$3 wards, of $4 calls a caller, and prints a line: these, the
-# most KiB of memory, and what the program printed.
+# most KiB of memory, what the program printed, and the microseconds from its start to its end.
 clock() {
     local line
     line=$("$folder/clock" /dev/null "$folder/line" "$program" "$@") || die "$program $* ended with status $?"
-    echo "$1 $2 $((1 << $3)) $4 ${line##* } $(cat "$folder/line")"
+    line=${line#* }
+    echo "$1 $2 $((1 << $3)) $4 ${line##* } $(cat "$folder/line") ${line%% *}"
 }
 
 # Makes a run of each kind.
@@ -59,6 +62,7 @@ measure() {
             done
         done
     done
+    clock restless 2 4 "$CALLS"
 }
 
 cc -O2 -Wall -Wextra -o "$folder/clock" "$bench/clock.c" || die 'clock.c could not be built'
@@ -78,6 +82,7 @@ awk -v all="$CALLS" -v quarter=$((CALLS / 4)) '
         if (found > bound) falls[++short] = sprintf("FALLS SHORT: %s: %.2f, at most %s is wanted", what, found, bound)
     }
     function most(name, value) { if (!(name in greatest) || value > greatest[name]) greatest[name] = value }
+    function least(name, value) { if (!(name in fewest) || value < fewest[name]) fewest[name] = value }
     function add(name, value) { sum[name] += value }
     # Prints the moves and splits of storms.
     function tell(cap, wards,    at, moves) {
@@ -103,13 +108,22 @@ awk -v all="$CALLS" -v quarter=$((CALLS / 4)) '
         printf "  %5.2f\n", more["storm"] / more["kept"]
         judge("growth of memory by kept, " cap " records a page, wards " wards, more["storm"] / more["kept"], 1.1)
     }
-    # way cap wards calls KiB answers, of a storm turns splits, then texts
-    NF != ($1 == "kept" ? 7 : 9) || $6 != 16 * $4 { fail("wrong values: " $0) }
-    {
+    # Prints how long a storm takes whose keepers never rest, and one whose keepers do.
+    function tell_rest(    rest, none) {
+        rest = fewest["storm 2 16"] / 1000
+        none = fewest["restless 2 16"] / 1000
+        print "cap  wards  ms, keepers rest  ms, never  times"
+        printf "%3d  %5d  %16.0f  %9.0f  %5.2f\n", 2, 16, rest, none, none / rest
+        judge("time of a storm whose keepers never rest, by one whose keepers do", none / rest, 5)
+    }
+    # way cap wards calls KiB answers, of a storm turns splits, then texts microseconds
+    NF != ($1 == "kept" ? 8 : 10) || $6 != 16 * $4 { fail("wrong values: " $0) }
+    $4 == all { least($1 " " $2 " " $3, $NF) }
+    $1 != "restless" {
         at = $1 " " $2 " " $3
         most(at " memory " $4, $5 / 1024)
         # What the last runs have more with all calls.
-        texts[at, $4] = $NF
+        texts[at, $4] = $(NF - 1)
         texts[at] = texts[at, all] - texts[at, quarter]
     }
     $1 == "storm" && $4 == all {
@@ -128,6 +142,7 @@ awk -v all="$CALLS" -v quarter=$((CALLS / 4)) '
         for (c = 1; c <= 2; c++) {
             for (i = 1; i <= 3; i++) tell(caps[c], counts[i])
         }
+        tell_rest()
         print "cap  wards  storm, MiB      kept, MiB       growth by kept"
         for (c = 1; c <= 2; c++) {
             for (i = 1; i <= 3; i++) tell_memory(caps[c], counts[i])

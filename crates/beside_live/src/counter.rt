@@ -216,10 +216,7 @@ fn next(number: &Value) -> Result<Value, Difference> {
 
 // Whether a ward's journal is a history, by the audit.
 fn is_history(run: &Run, ward: &PlainWard) -> Result<(), Difference> {
-    let Some(base) = ward.base() else {
-        return same(false, Part::Journal);
-    };
-    let is_true =
-        again!(Err(AllocError) => audit(run.alloc, CAP, &PlainKeyer, base, ward.journal()))?;
+    let (base, journal) = (ward.base(), ward.journal());
+    let is_true = again!(Err(AllocError) => audit(run.alloc, CAP, &PlainKeyer, base, journal))?;
     same(is_true, Part::Journal)
 }

@@ -60,6 +60,9 @@ const STORIES: [Story; 17] = [
     Story::Faults,
 ];
 
+// Played where they are named, since growths are refused in them on asking.
+const REFUSED_STORIES: [Story; 1] = [Story::OneCaller(OneCaller::RefusedCourier)];
+
 impl Story {
     // By how many leading bits of pseudokeys the copy of the directory is cut.
     fn ward_bits(self) -> u8
@@ -89,6 +92,7 @@ impl Named for Story {
             Story::OneCaller(OneCaller::WornKeeper) => "worn-keeper",
             Story::OneCaller(OneCaller::WrongHint) => "wrong-hint",
             Story::OneCaller(OneCaller::SevenSplits) => "seven-splits",
+            Story::OneCaller(OneCaller::RefusedCourier) => "refused-courier",
             Story::Closing => "closing",
             Story::Faults => "faults",
             Story::Callers => "callers",
@@ -182,12 +186,20 @@ fn play_counted<R: Threads + Wait + AllocGlobal + Sync>(
     run.tally
 }
 
+// The stories that words ask for.
+fn job_of(words: &[String]) -> Option<Job<'static, Story>> {
+    match Job::of_words(words, &STORIES) {
+        Some(job) => Some(job),
+        None => Job::of_words(words, &REFUSED_STORIES),
+    }
+}
+
 /// Plays the stories that words ask for, and prints what each came to.
 pub fn play_live<R: Threads + Wait + Print + Eprint + AllocGlobal + Sync>(
     rt: &R,
     words: &[String],
 ) -> Status {
-    let Some(job) = Job::of_words(words, &STORIES) else {
+    let Some(job) = job_of(words) else {
         return Status::WrongWords;
     };
     let mut has_differed = false;

@@ -9,8 +9,8 @@ ghost use Rattle.exh_prefix.specs.declared.prefix.TheConstants.{WARD_BITS_LIMIT}
 use crate::written_ward::written_ward;
 use exh_callers::lists::{
     COURIER, EVEN_HALF, FAR_BEHIND, FOUR_WARDS, KEEPER, LATE_COURIER, LONG, MERGED_COURIER,
-    ODD_HALF, OPENED_COURIER, SEVEN_SPLITS, THREE_KEYS, THREE_KEYS_EACH, TOLD_COPY, WORN_KEEPER,
-    WRONG_HINT,
+    ODD_HALF, OPENED_COURIER, REFUSED_COURIER, SEVEN_SPLITS, THREE_KEYS, THREE_KEYS_EACH,
+    TOLD_COPY, WORN_KEEPER, WRONG_HINT,
 };
 use exh_callers::{
     LiveStep, PlainFile, Reader, Writer, close_settled, new_file, next_caller, one_ward_file,
@@ -60,6 +60,8 @@ pub(crate) enum OneCaller {
     WrongHint,
     /// One call takes seven splits.
     SevenSplits,
+    /// A courier is refused ten times, where growths are refused on asking.
+    RefusedCourier,
 }
 
 impl OneCaller {
@@ -113,6 +115,7 @@ impl OneCaller {
         match self {
             OneCaller::WrongHint => 1,
             OneCaller::SevenSplits => 4,
+            OneCaller::RefusedCourier => 5,
             OneCaller::ToldCopy | OneCaller::Courier | OneCaller::MergedCourier => 6,
             OneCaller::OpenedCourier | OneCaller::LateCourier => 7,
             OneCaller::EvenHalf | OneCaller::WornKeeper => 9,
@@ -147,6 +150,7 @@ impl OneCaller {
             OneCaller::WornKeeper => [&WORN_KEEPER, &[]],
             OneCaller::WrongHint => [&WRONG_HINT, &[]],
             OneCaller::SevenSplits => [&SEVEN_SPLITS, &[]],
+            OneCaller::RefusedCourier => [&THREE_KEYS, &REFUSED_COURIER],
             _ => [&[], &[]],
         }
     }

@@ -1,8 +1,8 @@
 //! The steps of stories of one caller.
 
 use crate::live_step::LiveStep::{
-    self, Call, Carried, Closed, Held, Idle, Kept, KeptIn, Named, Often, Refilled, Stale, Tell,
-    Within,
+    self, Call, Carried, Closed, Held, Idle, Kept, KeptIn, Named, Often, Refilled, Refused, Stale,
+    Tell, Within,
 };
 use exh_fixtures::Said::{self, Absent, Is, New, Was};
 
@@ -38,6 +38,31 @@ pub static COURIER: [LiveStep; 10] = [
     Carried(1),
     Named(b"\x80", 0),
     Carried(0),
+];
+
+/// After the three keys ten rounds are refused: where the notice is copied, is kept, is counted and is taken, and where
+/// what is pending is published. Told looks show nothing of it, and calls are answered as before. Then a round
+/// carries the one notice, which is pending some seven times, and a told look shows it; and the next round carries none.
+pub static REFUSED_COURIER: [LiveStep; 19] = [
+    Refused(1),
+    Refused(2),
+    Refused(3),
+    Named(b"\x80", 0),
+    Refused(4),
+    Refused(5),
+    Named(b"\x80", 0),
+    Within(2, Is(b"\x80", b"b")),
+    Refused(4),
+    Refused(4),
+    Refused(5),
+    Refused(4),
+    Refused(4),
+    Named(b"\x80", 0),
+    Carried(1),
+    Named(b"\x80", 1),
+    Within(1, Is(b"\x80", b"b")),
+    Carried(0),
+    Named(b"\x40", 0),
 ];
 
 /// After the three keys and deletes of two a round makes one merge, and the next none. Where three pages are

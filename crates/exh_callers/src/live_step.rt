@@ -45,9 +45,16 @@ pub enum LiveStep {
     Closed(u32, Said<'static>),
     /// The same as `Carried` of a courier to a copy that was told of nothing.
     Stale(u64),
+    /// A courier's round of which the growth of this number is refused, where such are refused on asking: it is
+    /// refused.
+    Refused(u8),
     /// A told look for a key names this page.
     Named(&'static [u8], PageNo),
 }
+
+// More bytes than any memory has. Who refuses growths on asking takes a growth of these and n more as asked to refuse
+// the n-th one after it.
+const ASKS: usize = 1 << 62;
 
 /// Takes steps. The file has 2^`ward_bits` wards. These, and the copy that is told of them and at which the
 /// caller looks, begin with this table.
@@ -163,6 +170,7 @@ fn take<R: Wait, F: Identity, S: Start>(
             let mut others = first_cursors(run.alloc, ward_bits, &Table::new(run.alloc))?;
             is_carried(rt, file, writer, &mut others, *notices)
         }
+        LiveStep::Refused(growth) => is_refused(rt, run.alloc, file, writer, cursors, *growth),
         LiveStep::Named(key, page) => is_named(writer, &mut caller.copy, key, *page),
     }
 }
@@ -182,6 +190,25 @@ fn is_kept_in<R: Wait, F: Identity>(
         return Err(Difference::Apart(Part::Run));
     }
     is_kept(rt, file, ward, merges)
+}
+
+// Whether a courier's round is refused of which a growth is.
+fn is_refused<R: Wait, F: Identity, S: Start>(
+    rt: &R,
+    alloc: Global,
+    file: &PlainFile<F>,
+    writer: &mut Writer<S>,
+    cursors: &mut Cursors,
+    growth: u8,
+) -> Result<(), Difference>
+    requires { length cursors.old ≡ 2 ^ file.now.ward_bits }
+    ensures cursors { length cursors.new ≡ length cursors.old }
+    ensures name { writer.new.name ≡ writer.old.name }
+{
+    let mut asked: Vec<u8> = Vec::new(alloc);
+    let is_asked = asked.reserve(ASKS + usize::from(growth)).is_err();
+    let is_refused = file.courier_round(rt, writer, cursors).is_err();
+    same(is_asked && is_refused, Part::Refusal)
 }
 
 // Whether so many rounds of a courier take nothing.

@@ -1,11 +1,10 @@
 -- Rounds: why sparse pages aren't merged, and notices that are taken one by one and ward by ward.
-use Rattle.std.proofs.Common.{◌≡◌, ℕ, suc, ◌+◌, ◌-◌, ◌*◌, ◌<◌, ◌≤◌, Bool, true, false, cond, List, [], ◌∷◌, ◌++◌, append-nil, append_assoc, map, length, take, drop, set, get_or, Some, None, Result, Ok, Err, IfOk, inl, inr, refl, sym, ap, ◌∙◌, subst, arith}
+use Rattle.std.proofs.Common.{◌≡◌, ℕ, suc, ◌+◌, ◌-◌, ◌*◌, ◌<◌, ◌≤◌, Bool, true, false, cond, List, [], ◌∷◌, ◌++◌, append-nil, append_assoc, map, length, take, drop, get_or, Some, None, Result, Ok, Err, IfOk, inl, inr, refl, sym, ap, ◌∙◌, subst, arith}
 use Rattle.std.proofs.lemmas.Bool.{false≢true}
-use Rattle.std.specs.Prelude.{IsErr, OnErr, OnOk}
+use Rattle.std.specs.Prelude.{OnErr}
 use Rattle.std.specs.declared.alloc.AllocError.{AllocError}
 use Rattle.std.proofs.lemmas.List.Sums.{sum_by-append, sum_by-cons}
-use Rattle.std.proofs.lemmas.List.{length-append, length-map, length-take, length-take-le, length-set, length_push, same_from_push, take_more, take_more_set, take-append-drop, drop_more, drop_all, drop-set-lt, get_or-drop, map-append}
-use Rattle.std.proofs.lemmas.Grind.{drop_more_same}
+use Rattle.std.proofs.lemmas.List.{length-append, length-take, length-take-le, length_push, same_from_push, take_all, take_more, take-append-drop, drop_more, drop_all, map-append}
 use Rattle.std.proofs.lemmas.Option.{slice_get_within}
 use Rattle.exh_prefix.specs.PrefixListLemmas.{one_there}
 use Rattle.exh_notice.specs.declared.notice.Notice.{Notice}
@@ -20,7 +19,7 @@ use Rattle.exh_ward.specs.WardState.{WardState, IsUnchanged}
 use Rattle.exh_ward.specs.declared.ward_fault.WardFault.{WardFault}
 use Rattle.exh_ward.specs.declared.ward_fault.WardFault.TheVariants.{NoPage, NotLive, NotFull, AtLimit, NoBuddy, BuddySplit, TooMany, Worn, Memory, Page}
 use Rattle.exh_live_file.specs.CursorPlaceLemmas.{one_more}
-use Rattle.exh_live_file.specs.Rounds.{AreCarried, AreFromTo, AreKeeperTurns, Follows, IsKeeperTurn, IsSomeKeeperTurn, MayRefuseKeeper, NoneFollows, TakesAll, TakesBatch, TakesBetween, TakesFromTo}
+use Rattle.exh_live_file.specs.Rounds.{AreCarried, AreFromTo, AreKeeperTurns, Follows, IsKeeperTurn, IsRefusedRound, IsSomeKeeperTurn, MayRefuseKeeper, NoneFollows, PushesBatch, PushesFromTo, TakesAll, TakesFirst}
 
 -- ---- keepers
 
@@ -114,43 +113,39 @@ takes_on old between new notices more one other =
     ∙ ap (λ (copy : Additions). record copy { pending = copy.pending ++ map Take more }) one
     ∙ ap (λ pending. record old { pending = pending }) (append_assoc old.pending (map Take notices) (map Take more) ∙ ap (λ rest. old.pending ++ rest) (sym (map-append Take notices more)))
 
-pub ward_nothing : (ward : ℕ) (copy : Additions) (cursor : ℕ) → TakesFromTo ward copy cursor copy cursor
-ward_nothing ward copy cursor = ([], refl, takes_nothing copy)
+-- nothing of a ward
+pub pushes_nothing : (ward : ℕ) (list : List Notice) (cursor : ℕ) → PushesFromTo ward list cursor list cursor
+pushes_nothing ward list cursor = ([], refl, sym (append-nil list))
 
 -- a batch more
-pub batch_on : (ward : ℕ) (batch : List Notice) (old between new : Additions) (cursor far last : ℕ) (result : Result (Unit {0}) AllocError) → TakesFromTo ward old cursor between far → TakesBatch ward batch between far result new last
-    → TakesFromTo ward old cursor new last
-batch_on ward batch old between new cursor far last result so_far more =
-    (so_far.0 ++ more.0, from_to_on ward cursor so_far.0 far more.0 last so_far.1 more.3, takes_on old between new so_far.0 more.0 so_far.2 more.4)
+pub batch_on : (ward : ℕ) (batch old between new : List Notice) (cursor far last : ℕ) → PushesFromTo ward old cursor between far → PushesBatch ward batch between far new last → PushesFromTo ward old cursor new last
+batch_on ward batch old between new cursor far last so_far more =
+    (so_far.0 ++ more.0, from_to_on ward cursor so_far.0 far more.0 last so_far.1 more.3, more.4 ∙ ap (λ ns. ns ++ more.0) so_far.2 ∙ append_assoc old so_far.0 more.0)
 
 -- of so many notices of a batch at most the cursor moves by no more than these
-pub turn_within : (ward count most : ℕ) (batch : List Notice) (old new : Additions) (cursor last : ℕ) (result : Result (Unit {0}) AllocError) → count ≤ most → TakesBatch ward (take count batch) old cursor result new last → last ≤ cursor + most
-turn_within ward count most batch old new cursor last result few takes =
-    let whole : length (take count batch) ≡ length (takes.0 ++ takes.1) = ap length takes.2 in
-    omega (arith, few, last_of ward cursor takes.0 last takes.3, whole, length-append takes.0 takes.1, length-take count batch)
+pub turn_within : (ward count most : ℕ) (batch old new : List Notice) (cursor last : ℕ) → count ≤ most → PushesBatch ward (take count batch) old cursor new last → last ≤ cursor + most
+turn_within ward count most batch old new cursor last few pushes =
+    let whole : length (take count batch) ≡ length (pushes.0 ++ pushes.1) = ap length pushes.2 in
+    omega (arith, few, last_of ward cursor pushes.0 last pushes.3, whole, length-append pushes.0 pushes.1, length-take count batch)
 
--- what was taken of a batch so far, by how many
-abbrev pub BatchSoFar : ℕ → List Notice → Additions → ℕ → ℕ → Additions → ℕ → Type 0
-BatchSoFar ward batch old cursor count new last = AreFromTo ward cursor (take count batch) last × TakesAll old (take count batch) new
+-- what was pushed of a batch so far, by how many
+abbrev pub BatchSoFar : ℕ → List Notice → List Notice → ℕ → ℕ → List Notice → ℕ → Type 0
+BatchSoFar ward batch old cursor count new last = AreFromTo ward cursor (take count batch) last × (new ≡ old ++ take count batch)
 
-pub one_taken : (ward : ℕ) (batch : List Notice) (old between new : Additions) (cursor count last : ℕ) (notice : Notice) → count < length batch → BatchSoFar ward batch old cursor count between last → get_or batch count notice ≡ notice → Follows ward last notice
-    → TakesAll between (notice ∷ []) new → BatchSoFar ward batch old cursor (count + 1) new notice.index
-one_taken ward batch old between new cursor count last notice within so_far here follows takes =
-    let longer : take (count + 1) batch ≡ take count batch ++ notice ∷ [] = take_more batch count notice within ∙ ap (λ n. take count batch ++ n ∷ []) here in (
-      subst (λ ns. AreFromTo ward cursor ns notice.index) (sym longer) (one_further ward cursor (take count batch) last notice so_far.0 follows),
-      subst (λ ns. TakesAll old ns new) (sym longer) (takes_on old between new (take count batch) (notice ∷ []) so_far.1 takes),
+-- one notice more
+longer : (notices : List Notice) (count : ℕ) (notice : Notice) → count < length notices → get_or notices count notice ≡ notice → take (count + 1) notices ≡ take count notices ++ notice ∷ []
+longer notices count notice within here = take_more notices count notice within ∙ ap (λ n. take count notices ++ n ∷ []) here
+
+pub one_pushed : (ward : ℕ) (batch old between new : List Notice) (cursor count last : ℕ) (notice : Notice) → count < length batch → BatchSoFar ward batch old cursor count between last → get_or batch count notice ≡ notice → Follows ward last notice
+    → new ≡ between ++ notice ∷ [] → BatchSoFar ward batch old cursor (count + 1) new notice.index
+one_pushed ward batch old between new cursor count last notice within so_far here follows pushed =
+    let more = longer batch count notice within here in (
+      subst (λ ns. AreFromTo ward cursor ns notice.index) (sym more) (one_further ward cursor (take count batch) last notice so_far.0 follows),
+      pushed ∙ ap (λ ns. ns ++ notice ∷ []) so_far.1 ∙ append_assoc old (take count batch) (notice ∷ []) ∙ ap (λ ns. old ++ ns) (sym more),
     )
 
-pub batch_taken : (ward : ℕ) (batch : List Notice) (old new : Additions) (cursor count last : ℕ) (result : Result (Unit {0}) AllocError) → BatchSoFar ward batch old cursor count new last → OnOk result (NoneFollows ward last (drop count batch))
-    → TakesBatch ward batch old cursor result new last
-batch_taken ward batch old new cursor count last result so_far end = (take count batch, drop count batch, sym (take-append-drop count batch), so_far.0, so_far.1, end)
-
--- where memory is refused, what was taken of the batch stays
-pub batch_refused : (ward : ℕ) (batch : List Notice) (old between new : Additions) (cursor count last : ℕ) (result : Result (Unit {0}) AllocError) → BatchSoFar ward batch old cursor count between last → new ≡ between → IsErr result
-    → TakesBatch ward batch old cursor result new last
-batch_refused ward batch old between new cursor count last (Ok done) so_far same refused = absurd (false≢true refused)
-batch_refused ward batch old between new cursor count last (Err error) so_far same refused =
-    batch_taken ward batch old new cursor count last (Err error) (subst (λ copy. BatchSoFar ward batch old cursor count copy last) (sym same) so_far) tt
+pub batch_pushed : (ward : ℕ) (batch old new : List Notice) (cursor count last : ℕ) → BatchSoFar ward batch old cursor count new last → NoneFollows ward last (drop count batch) → PushesBatch ward batch old cursor new last
+batch_pushed ward batch old new cursor count last so_far end = (take count batch, drop count batch, sym (take-append-drop count batch), so_far.0, so_far.1, end)
 
 pub none_follows_at : (ward last : ℕ) (batch : List Notice) (count : ℕ) (notice : Notice) → count < length batch → get_or batch count notice ≡ notice → ¬ Follows ward last notice → NoneFollows ward last (drop count batch)
 none_follows_at ward last batch count notice within here not =
@@ -191,66 +186,31 @@ one_cursor_more cursors number notices more all lasts ends last within carried s
     let P : List ℕ → List Notice → List ℕ → Type 0 = λ ps ns ls. AreCarried 0 ps ns ls in
     subst (λ ps. P ps all ends) (sym (take_more cursors number 0 within)) (subst (λ ns. P (take number cursors ++ cursor ∷ []) ns ends) (sym all_is) (subst (P (take number cursors ++ cursor ∷ []) (notices ++ more)) (sym ends_are) further))
 
--- ---- all wards
+-- ---- a copy takes them
+
+pub one_taken : (notices : List Notice) (old between new : Additions) (count : ℕ) (notice : Notice) → count < length notices → TakesAll old (take count notices) between → get_or notices count notice ≡ notice → TakesAll between (notice ∷ []) new
+    → TakesAll old (take (count + 1) notices) new
+one_taken notices old between new count notice within so_far here takes =
+    subst (λ ns. TakesAll old ns new) (sym (longer notices count notice within here)) (takes_on old between new (take count notices) (notice ∷ []) so_far takes)
+
+pub all_taken : (notices : List Notice) (old new : Additions) (count : ℕ) → length notices ≤ count → TakesAll old (take count notices) new → TakesAll old notices new
+all_taken notices old new count past so_far = subst (λ ns. TakesAll old ns new) (take_all count notices past) so_far
+
+some_taken : (notices : List Notice) (old between new : Additions) (count : ℕ) → TakesAll old (take count notices) between → new ≡ between → TakesFirst old notices new
+some_taken notices old between new count so_far same = (take count notices, drop count notices, sym (take-append-drop count notices), subst (TakesAll old (take count notices)) (sym same) so_far)
+
+-- where memory is refused
+pub take_refused : {T : Type 0} (notices : List Notice) (old between new : Additions) (count : ℕ) (result : Result T AllocError) → TakesAll old (take count notices) between → new ≡ between → OnErr result (TakesFirst old notices new)
+take_refused notices old between new count (Ok value) so_far same = tt
+take_refused notices old between new count (Err error) so_far same = some_taken notices old between new count so_far same
+
+-- ---- a round
 
 none_carried : (ward : ℕ) (cursors : List ℕ) → AreCarried ward cursors [] cursors
 none_carried ward [] = (refl, refl)
 none_carried ward (cursor ∷ cursors) = ([], [], cursor, cursors, refl, refl, refl, none_carried (ward + 1) cursors)
 
--- wards of which nothing is carried
-carried_before : (ward : ℕ) (cursors rest : List ℕ) (notices : List Notice) (lasts : List ℕ) → AreCarried ward cursors notices lasts → AreCarried ward (cursors ++ rest) notices (lasts ++ rest)
-carried_before ward [] rest notices lasts carried =
-    subst (λ ns. AreCarried ward rest ns (lasts ++ rest)) (sym carried.0) (subst (λ ls. AreCarried ward rest [] (ls ++ rest)) (sym carried.1) (none_carried ward rest))
-carried_before ward (cursor ∷ cursors) rest notices lasts (first, more, last, ends, is, lasts_are, from, carried) =
-    (first, more, last, ends ++ rest, is, ap (λ ls. ls ++ rest) lasts_are, from, carried_before (ward + 1) cursors rest more ends carried)
-
--- what was taken of the wards below a number
-abbrev pub WardsSoFar : ℕ → Additions → List ℕ → Additions → List ℕ → Type 0
-WardsSoFar number old cursors new lasts =
-    (notices : List Notice) × AreCarried 0 (take number cursors) notices (take number lasts) × TakesAll old notices new × (drop number lasts ≡ drop number cursors) × (length lasts ≡ length cursors)
-
-pub none_so_far : (copy : Additions) (cursors : List ℕ) → WardsSoFar 0 copy cursors copy cursors
-none_so_far copy cursors = ([], (refl, refl), takes_nothing copy, refl, refl)
-
-pub one_ward_taken : (number : ℕ) (old between new : Additions) (cursors lasts after : List ℕ) (last : ℕ) → number < length cursors → WardsSoFar number old cursors between lasts → (spot : ℕ) → spot ≡ number → TakesFromTo number between (get_or lasts spot 0) new last
-    → after ≡ set lasts spot last → WardsSoFar (number + 1) old cursors new after
-one_ward_taken number old between new cursors lasts after last within so_far spot here more is =
-    let inside : number < length lasts = omega (arith, within, so_far.4) in
-    let set_there : after ≡ set lasts number last = is ∙ ap (λ n. set lasts n last) here in
-    let plain : number + 0 ≡ number = omega arith in
-    let old_cursor : get_or lasts spot 0 ≡ get_or cursors number 0 =
-    ap (λ n. get_or lasts n 0) (here ∙ sym plain) ∙ sym (get_or-drop number lasts 0 0) ∙ ap (λ rest. get_or rest 0 0) so_far.3 ∙ get_or-drop number cursors 0 0 ∙ ap (λ n. get_or cursors n 0) plain in
-    let ends : take (number + 1) after ≡ take number lasts ++ last ∷ [] = ap (take (number + 1)) set_there ∙ take_more_set lasts number last inside in (
-      so_far.0 ++ more.0,
-      one_cursor_more cursors number so_far.0 more.0 (so_far.0 ++ more.0) (take number lasts) (take (number + 1) after) last within so_far.1 number refl (subst (λ p. AreFromTo number p more.0 last) old_cursor more.1) refl ends,
-      takes_on old between new so_far.0 more.0 so_far.2 more.2,
-      ap (drop (number + 1)) set_there ∙ drop-set-lt (number + 1) lasts number last (omega arith) ∙ drop_more_same lasts cursors number so_far.3,
-      ap length set_there ∙ length-set lasts number last ∙ so_far.4,
-    )
-
-pub all_taken : (number : ℕ) (old new : Additions) (cursors lasts : List ℕ) → WardsSoFar number old cursors new lasts → TakesBetween old cursors new lasts
-all_taken number old new cursors lasts so_far =
-    let whole = carried_before 0 (take number cursors) (drop number cursors) so_far.0 (take number lasts) so_far.1 in
-    let lasts_are : take number lasts ++ drop number cursors ≡ lasts = ap (λ rest. take number lasts ++ rest) (sym so_far.3) ∙ take-append-drop number lasts in
-    (so_far.0, subst (λ ps. AreCarried 0 ps so_far.0 lasts) (take-append-drop number cursors) (subst (AreCarried 0 (take number cursors ++ drop number cursors) so_far.0) lasts_are whole), so_far.2)
-
--- ---- a round
-
-pub round_refused : (old taken new : Additions) (cursors lasts after : List ℕ) (result : Result ℕ AllocError) → TakesBetween old cursors taken lasts → new ≡ taken → after ≡ lasts → OnErr result (TakesBetween old cursors new after)
-round_refused old taken new cursors lasts after (Ok count) round same back = tt
-round_refused old taken new cursors lasts after (Err error) round same back =
-    subst (λ ls. TakesBetween old cursors new ls) (sym back) (subst (λ (copy : Additions). TakesBetween old cursors copy lasts) (sym same) round)
-
-pub round_told : (old taken new : Additions) (cursors lasts after : List ℕ) (all before : ℕ) → TakesBetween old cursors taken lasts → after ≡ lasts → new ≡ record taken { published = taken.published ++ taken.pending; pending = [] } → all ≡ length new.published
-    → before ≡ length old.published → (notices : List Notice) × AreCarried 0 cursors notices after × (all - before ≡ length old.pending + length notices) × (new ≡ record old { published = (old.published ++ old.pending) ++ map Take notices; pending = [] })
-round_told old taken new cursors lasts after all before (notices, carried, takes) back is all_is before_is =
-    let new_is : new ≡ record old { published = (old.published ++ old.pending) ++ map Take notices; pending = [] } =
-    is
-    ∙ ap (λ (copy : Additions). record copy { published = copy.published ++ copy.pending; pending = [] }) takes
-    ∙ ap (λ published. record old { published = published; pending = [] }) (sym (append_assoc old.published old.pending (map Take notices))) in
-    let long : length new.published ≡ length ((old.published ++ old.pending) ++ map Take notices) = ap (λ (copy : Additions). length copy.published) new_is in
-    let outer = length-append (old.published ++ old.pending) (map Take notices) in
-    let inner = length-append old.published old.pending in
-    let told : length (map Take notices) ≡ length notices = length-map notices Take in
-    let count : all - before ≡ length old.pending + length notices = omega (arith, all_is, before_is, long, outer, inner, told) in
-    (notices, subst (λ ls. AreCarried 0 cursors notices ls) (sym back) carried, count, new_is)
+-- where no notices were copied
+pub none_copied : {T : Type 0} (copy : Additions) (cursors after : List ℕ) (result : Result T AllocError) → after ≡ cursors → OnErr result (IsRefusedRound copy cursors copy after)
+none_copied copy cursors after (Ok value) same = tt
+none_copied copy cursors after (Err error) same = (same, ([], cursors, none_carried 0 cursors, ([], [], refl, takes_nothing copy)))

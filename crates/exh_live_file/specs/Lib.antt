@@ -6,6 +6,6 @@ pub mod LiveWardLemmas
 pub mod CursorPlaceLemmas
 pub mod Rounds
 pub mod Spare
-pub mod Stock
 pub mod Units
 pub mod WardOfKey
+pub mod WardParts

@@ -1,7 +1,6 @@
 -- What the rounds of keepers and couriers come to.
-use Rattle.std.specs.Prelude.{◌≡◌, ⊤, ℕ, ◌+◌, ◌*◌, ◌^◌, ◌≤◌, Bool, true, false, ◌&&◌, nat_eq, leb, if◌then◌else◌, List, [], ◌∷◌, ◌++◌, length, slice_get, sum_by, count_by, map, Some, Result, OnOk}
+use Rattle.std.specs.Prelude.{◌≡◌, ⊤, ℕ, ◌+◌, ◌*◌, ◌^◌, ◌≤◌, Bool, true, false, ◌&&◌, nat_eq, leb, if◌then◌else◌, List, [], ◌∷◌, ◌++◌, length, slice_get, sum_by, count_by, map, Some}
 use Rattle.std.specs.FinMap.{entries}
-use Rattle.std.specs.declared.alloc.AllocError.{AllocError}
 use Rattle.exh_prefix.specs.Leading.{ward_of}
 use Rattle.exh_prefix.specs.Prefix.{low_of}
 use Rattle.exh_notice.specs.declared.entry.Entry.{Entry}
@@ -89,13 +88,17 @@ AreCarried ward (cursor ∷ cursors) notices new =
 abbrev pub TakesAll : Additions → List Notice → Additions → Type 0
 TakesAll old notices new = new ≡ record old { pending = old.pending ++ map Take notices }
 
--- a copy took such notices of a ward, from a cursor to another
-abbrev pub TakesFromTo : ℕ → Additions → ℕ → Additions → ℕ → Type 0
-TakesFromTo ward old cursor new last = (notices : List Notice) × AreFromTo ward cursor notices last × TakesAll old notices new
+-- a copy took a beginning of these notices
+abbrev pub TakesFirst : Additions → List Notice → Additions → Type 0
+TakesFirst old notices new = (taken rest : List Notice) × (notices ≡ taken ++ rest) × TakesAll old taken new
 
--- a courier's cursors before and after: a copy took such notices of all wards
-abbrev pub TakesBetween : Additions → List ℕ → Additions → List ℕ → Type 0
-TakesBetween old cursors new lasts = (notices : List Notice) × AreCarried 0 cursors notices lasts × TakesAll old notices new
+-- a courier's round that was refused: no cursor moved, and a copy took a beginning of such notices of all wards, from its cursors on
+abbrev pub IsRefusedRound : Additions → List ℕ → Additions → List ℕ → Type 0
+IsRefusedRound old cursors new after = (after ≡ cursors) × ((notices : List Notice) × (lasts : List ℕ) × AreCarried 0 cursors notices lasts × TakesFirst old notices new)
+
+-- such notices of a ward were pushed to a list, from a cursor to another
+abbrev pub PushesFromTo : ℕ → List Notice → ℕ → List Notice → ℕ → Type 0
+PushesFromTo ward old cursor new last = (notices : List Notice) × AreFromTo ward cursor notices last × (new ≡ old ++ notices)
 
 -- some sound ward had so many notices above a cursor
 abbrev pub HadSoMany : {K : Type 0} → (K → List ℕ → ℕ) → ℕ → ℕ → Type 0
@@ -110,7 +113,6 @@ abbrev pub NoneFollows : ℕ → ℕ → List Notice → Type 0
 NoneFollows ward cursor [] = ⊤
 NoneFollows ward cursor (notice ∷ notices) = ¬ Follows ward cursor notice
 
--- of a batch of notices a copy took a beginning, from a cursor to another; all that go on from it, or where memory was refused some
-abbrev pub TakesBatch : ℕ → List Notice → Additions → ℕ → Result (Unit {0}) AllocError → Additions → ℕ → Type 0
-TakesBatch ward batch old cursor result new last =
-    (taken rest : List Notice) × (batch ≡ taken ++ rest) × AreFromTo ward cursor taken last × TakesAll old taken new × OnOk result (NoneFollows ward last rest)
+-- of a batch of notices all that go on from a cursor were pushed to a list, to another cursor
+abbrev pub PushesBatch : ℕ → List Notice → List Notice → ℕ → List Notice → ℕ → Type 0
+PushesBatch ward batch old cursor new last = (pushed rest : List Notice) × (batch ≡ pushed ++ rest) × AreFromTo ward cursor pushed last × (new ≡ old ++ pushed) × NoneFollows ward last rest

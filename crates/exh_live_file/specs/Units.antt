@@ -1,4 +1,4 @@
--- What hops and calls add to a caller's share of the answers.
+-- What hops and calls add to both ledgers.
 use Rattle.std.specs.Prelude.{ℕ, Result, Ok, Err}
 use Rattle.exh_calls.specs.declared.reply.Reply.{Reply}
 use Rattle.exh_walk.specs.declared.ask_fault.AskFault.{AskFault}

@@ -76,6 +76,7 @@ impl<P: Pages + Drop, K: Keyer, F: Identity> LiveFile<P, K, F> {
         let mut ward = LockedWard {
             rt,
             ward: &self.wards[usize::from(number)],
+            tally: &self.tally,
             answers,
             pseudokey,
         };

@@ -1,6 +1,6 @@
 ghost use Rattle.std.specs.Prelude.{◌≡◌, ◌+◌, ◌*◌, ◌^◌, ◌≤◌, [], length, vec_len, vec_capacity, IfOk, IfErr};
 ghost use Rattle.exh_live_file.specs.Closing.{AreDiariesOf, AreInOrder, IsClosed, IsCloseFault, answers_given, close_fault_number, entries_made};
-ghost use Rattle.exh_live_file.specs.Stock.{stock, units_of_first, units_of_wards};
+ghost use Rattle.exh_live_file.specs.WardParts.{parts_of_first, parts_of_wards, ward_parts};
 ghost use Rattle.exh_live_file.specs.declared.close.CloseFault.TheVariants.{Memory};
 
 use crate::ledgers::{Answers, Entries};
@@ -117,9 +117,8 @@ impl<P: Pages + Drop, K: Keyer, F: Identity> LiveFile<P, K, F> {
     {
         let LiveFile {
             wards: locks,
-            given,
+            tally,
             answers,
-            entered,
             entries,
             ..
         } = self;
@@ -128,9 +127,10 @@ impl<P: Pages + Drop, K: Keyer, F: Identity> LiveFile<P, K, F> {
         let mut entries = entries.into_share();
         unlock(locks, &mut wards, &mut answers, &mut entries);
         stand_up(seats, &mut diaries, &mut answers);
-        // Shares that have all parts of their ledgers are the totals.
-        given.audit(&mut answers);
-        entered.audit(&mut entries);
+        tally
+            .into_inner()
+            .into_inner()
+            .audit(&mut answers, &mut entries);
         put_in_order(&mut wards);
         Closed { wards, diaries }
     }
@@ -146,14 +146,15 @@ fn unlock<P: Pages + Drop, K: Keyer, F: Identity>(
     requires empty { wards.old.items ≡ [] }
     requires room { vec_len locks ≤ vec_capacity wards.old }
     ensures count { length wards.new.items ≡ vec_len locks }
-    ensures parts { (answers.new.parts ≡ answers.old.parts + vec_len locks) × (entries.new.parts ≡ entries.old.parts + vec_len locks) }
-    ensures stock { answers.new.amount + entries_made wards.new.items ≡ answers.old.amount + vec_len locks * stock }
-    ensures units { entries.new.amount ≡ entries.old.amount + units_of_wards wards.new.items }
+    ensures answers { answers.new.parts + parts_of_wards wards.new.items ≡ answers.old.parts + vec_len locks * ward_parts }
+    ensures entries { entries.new.parts ≡ entries.old.parts + parts_of_wards wards.new.items }
+    ensures amount { entries.new.amount ≡ entries.old.amount + entries_made wards.new.items }
+    ensures none { answers.new.amount ≡ answers.old.amount }
 {
     for lock in locks {
-        let (ward, stock, entry) = lock.into_inner().into_inner().into_parts();
-        answers.merge(stock);
-        entries.merge(entry);
+        let (ward, own, spare) = lock.into_inner().into_inner().into_parts();
+        entries.merge(own);
+        answers.merge(spare);
         wards.push_reserved(ward);
     }
 }
@@ -162,7 +163,7 @@ fn unlock<P: Pages + Drop, K: Keyer, F: Identity>(
 // has. They are in it: but of what a list of locks keeps no clause says which lock has which ward.
 fn put_in_order<P: Pages + Drop, K: Keyer>(wards: &mut Vec<Ward<P, K>>)
     requires few { length wards.old.items ≤ 16 }
-    requires all { units_of_wards wards.old.items ≡ units_of_first (length wards.old.items) }
+    requires all { parts_of_wards wards.old.items ≡ parts_of_first (length wards.old.items) }
     ensures order { AreInOrder wards.new.items }
     ensures count { length wards.new.items ≡ length wards.old.items }
     ensures entries { entries_made wards.new.items ≡ entries_made wards.old.items }

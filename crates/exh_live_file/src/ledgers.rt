@@ -4,19 +4,19 @@ use exh_calls::CALLER_LIMIT;
 use std::marker::{Brand, PhantomData};
 use std::sync::ledger::Ledger;
 
-/// The parts of the ledger of answers: one for each seat, one for each ward that a file may have, and
-/// one that is never given to any.
-pub const ANSWER_PARTS: u64 = CALLER_LIMIT as u64 + 17;
+/// The parts of the ledger of answers: one for each seat, one that is never given to any, and what the
+/// sixteen wards that a file may have leave of 2^64 parts to the ledger of entries.
+pub const ANSWER_PARTS: u64 = CALLER_LIMIT as u64 + 1 + (u64::MAX - ENTRY_PARTS + 1);
 
-/// The parts of the ledger of entered wards: one for each that a file may have, and one more.
-pub const ENTRY_PARTS: u64 = 17;
+/// The parts of the ledger of entries: 16^n for ward n, of the sixteen that a file may have.
+pub const ENTRY_PARTS: u64 = 0x1111_1111_1111_1111;
 
 /// The names of a file's two ledgers.
 pub trait LedgerNames {
     /// That of the ledger of answers.
     ghost answers: { ℕ };
 
-    /// That of the ledger of entered wards.
+    /// That of the ledger of journal entries.
     ghost entries: { ℕ };
 }
 
@@ -27,10 +27,10 @@ impl LedgerNames for Brand {
     ghost entries = { 0 };
 }
 
-/// The ledger of answers: those that the file's callers got, and those that its wards have in stock.
+/// The ledger of the answers that a file's callers got.
 pub struct Answers<F>(PhantomData<F>);
 
-/// The ledger of the wards that were entered in the file: of each, what tells its number.
+/// The ledger of the entries in a file's journals.
 pub struct Entries<F>(PhantomData<F>);
 
 impl<F: LedgerNames> Ledger for Answers<F> {

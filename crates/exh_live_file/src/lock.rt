@@ -1,5 +1,6 @@
 use std::hint::spin_loop;
 use std::sync::{Mutex, MutexGuard, Wait};
+use std::thread::yield_now;
 
 // How often a lock is looked at before its taker sleeps: some 20 microseconds long.
 const LOOKS: u32 = 400;
@@ -14,4 +15,12 @@ pub fn lock_soon<'a, T, R: Wait>(mutex: &'a Mutex<T>, rt: &R) -> MutexGuard<'a, 
         spin_loop();
     }
     mutex.lock(rt)
+}
+
+/// Lets other threads run, and then takes a lock as `lock_soon` does: for who takes locks round after round
+/// and never rests. Such a thread runs until it is stopped, and where that is in a turn of a lock, all who
+/// wait for the lock wait until it runs again.
+pub(crate) fn yield_and_lock<'a, T, R: Wait>(mutex: &'a Mutex<T>, rt: &R) -> MutexGuard<'a, T> {
+    yield_now();
+    lock_soon(mutex, rt)
 }

@@ -7,6 +7,7 @@ use crate::Identity;
 use crate::ledgers::Answers;
 use crate::lock::lock_soon;
 use crate::tallied_ward::WardLock;
+use crate::tally::TallyLock;
 use exh_calls::Call;
 use exh_keyer::Keyer;
 use exh_notice::Notice;
@@ -23,6 +24,7 @@ use std::sync::ledger::Share;
 pub(crate) struct LockedWard<'a, P: Pages + Drop, K: Keyer, F: Identity, R: Wait> {
     pub(crate) rt: &'a R,
     pub(crate) ward: &'a WardLock<P, K, F>,
+    pub(crate) tally: &'a TallyLock<F>,
     pub(crate) answers: Share<Answers<F>>,
     // That of the call's key.
     pub(crate) pseudokey: u64,
@@ -53,7 +55,15 @@ impl<'a, P: Pages + Drop, K: Keyer, F: Identity, R: Wait> Steps for LockedWard<'
         if !ward.covers(pseudokey) {
             return Ok(Hop::Stray);
         }
-        ward.hop(&mut self.answers, at, client, call, pseudokey)
+        ward.hop(
+            self.rt,
+            self.tally,
+            &mut self.answers,
+            at,
+            client,
+            call,
+            pseudokey,
+        )
     }
 
     fn split(&mut self, at: PageNo) -> Result<Notice, WardFault> {

@@ -9,10 +9,12 @@ ghost use Rattle.exh_route.specs.WardRun.{HopAt, SplitAt, answer_of};
 ghost use Rattle.exh_ward.specs.declared.ward_fault.WardFault.TheVariants.{Worn};
 ghost use Rattle.exh_walk.specs.WardStep.{IsWardStep};
 ghost use Rattle.exh_live_file.specs.Rounds.{IsKeeperTurn, MayRefuseKeeper};
-ghost use Rattle.exh_live_file.specs.Stock.{stock as stock_of_ward, units_of_number};
+ghost use Rattle.exh_live_file.specs.WardParts.{parts_of_number, ward_parts};
 
 use crate::Identity;
 use crate::ledgers::{Answers, Entries};
+use crate::lock::lock_soon;
+use crate::tally::TallyLock;
 use crossbeam_utils::CachePadded;
 use exh_calls::Call;
 use exh_keyer::Keyer;
@@ -21,8 +23,8 @@ use exh_prefix::PageNo;
 use exh_stores::Pages;
 use exh_ward::{Hop, Ward, WardFault};
 use std::alloc::AllocError;
-use std::sync::Mutex;
 use std::sync::ledger::Share;
+use std::sync::{Mutex, Wait};
 
 /// So many notices are copied at most in one turn of a ward's lock.
 pub(crate) const TURN_LIMIT: usize = 256;
@@ -31,17 +33,17 @@ pub(crate) const TURN_LIMIT: usize = 256;
 /// have no line in common.
 pub(crate) type WardLock<P, K, F> = Mutex<CachePadded<TalliedWard<P, K, F>>>;
 
-/// What a ward's lock keeps: the ward, which is sound as every ward is, with the answers that it has in
-/// stock, which are fewer by its journal's length, and what tells its number. It turns keys into the
-/// file's pseudokeys.
+/// What a ward's lock keeps: the ward, which is sound as every ward is, with its share of the journal
+/// entries, which is its journal's length. Its parts of the ledgers, of which that of answers has no
+/// amount, tell its number. It turns keys into the file's pseudokeys.
 #[derive(Drop)]
 pub(crate) struct TalliedWard<P: Pages + Drop, K: Keyer, F: Identity> {
     ward: Ward<P, K>,
-    stock: Share<Answers<F>>,
-    entry: Share<Entries<F>>,
-    ghost one_part: { (stock.parts ≡ 1) × (entry.parts ≡ 1) },
-    ghost counted: { stock.amount + length ward.journal ≡ stock_of_ward },
-    ghost numbered: { entry.amount ≡ units_of_number ward.number },
+    entries: Share<Entries<F>>,
+    spare: Share<Answers<F>>,
+    ghost counted: { entries.amount ≡ length ward.journal },
+    ghost numbered: { (entries.parts ≡ parts_of_number ward.number) × (spare.parts + parts_of_number ward.number ≡ ward_parts) },
+    ghost none_spare: { spare.amount ≡ 0 },
     ghost hashed: { K.pseudokey_of ward.keyer ≡ F.hashing },
 }
 
@@ -49,28 +51,35 @@ impl<P: Pages + Drop, K: Keyer, F: Identity> TalliedWard<P, K, F> {
     /// A ward that answered nothing, with its parts of the ledgers.
     pub(crate) fn new(
         ward: Ward<P, K>,
-        stock: Share<Answers<F>>,
-        entry: Share<Entries<F>>,
+        entries: Share<Entries<F>>,
+        spare: Share<Answers<F>>,
     ) -> TalliedWard<P, K, F>
-        requires parts { (stock.parts ≡ 1) × (entry.parts ≡ 1) }
-        requires stock { stock.amount ≡ stock_of_ward }
-        requires numbered { entry.amount ≡ units_of_number ward.number }
         requires empty { ward.journal ≡ [] }
         requires hashed { K.pseudokey_of ward.keyer ≡ F.hashing }
+        requires entries { (entries.parts ≡ parts_of_number ward.number) × (entries.amount ≡ 0) }
+        requires spare { (spare.parts + parts_of_number ward.number ≡ ward_parts) × (spare.amount ≡ 0) }
         ensures { result.ward ≡ ward }
     {
-        TalliedWard { ward, stock, entry }
+        TalliedWard {
+            ward,
+            entries,
+            spare,
+        }
     }
 
     /// The ward and its shares.
-    pub(crate) fn into_parts(self) -> (Ward<P, K>, Share<Answers<F>>, Share<Entries<F>>)
+    pub(crate) fn into_parts(self) -> (Ward<P, K>, Share<Entries<F>>, Share<Answers<F>>)
         ensures ward { result.0 ≡ self.ward }
-        ensures parts { (result.1.parts ≡ 1) × (result.2.parts ≡ 1) }
-        ensures counted { result.1.amount + length result.0.journal ≡ stock_of_ward }
-        ensures numbered { result.2.amount ≡ units_of_number result.0.number }
+        ensures counted { result.1.amount ≡ length result.0.journal }
+        ensures numbered { (result.1.parts ≡ parts_of_number result.0.number) × (result.2.parts + parts_of_number result.0.number ≡ ward_parts) }
+        ensures spare { result.2.amount ≡ 0 }
     {
-        let TalliedWard { ward, stock, entry } = self;
-        (ward, stock, entry)
+        let TalliedWard {
+            ward,
+            entries,
+            spare,
+        } = self;
+        (ward, entries, spare)
     }
 
     /// Whether keys of this pseudokey belong to the ward.
@@ -83,10 +92,12 @@ impl<P: Pages + Drop, K: Keyer, F: Identity> TalliedWard<P, K, F> {
         self.ward.covers(pseudokey)
     }
 
-    /// One hop of the ward: the method that the world's step calls. At `Done` one of the answers that the
-    /// ward has in stock is the caller's; else none.
-    pub(crate) fn hop(
+    /// One hop of the ward: the method that the world's step calls. At `Done` the tally is locked too, and
+    /// a unit is added to both books, to the caller's share and to the ward's; else to none.
+    pub(crate) fn hop<R: Wait>(
         &mut self,
+        rt: &R,
+        tally: &TallyLock<F>,
         answers: &mut Share<Answers<F>>,
         at: PageNo,
         client: u32,
@@ -105,12 +116,12 @@ impl<P: Pages + Drop, K: Keyer, F: Identity> TalliedWard<P, K, F> {
         ensures units { answers.new.amount ≡ answers.old.amount + length (answer_of (HopAt at client call.now result)) }
         ensures seat { answers.new.parts ≡ answers.old.parts }
     {
-        let TalliedWard { ward, stock, .. } = self;
-        // By whose contracts the ward is sound, and has an answer in stock.
-        ward.journal().len();
+        let TalliedWard { ward, entries, .. } = self;
+        // By whose contract the ward is sound.
+        ward.journal();
         let hop = ward.hop_hashed(at, client, call, pseudokey)?;
         if let Hop::Done(_) = hop {
-            stock.transfer(answers, 1);
+            lock_soon(tally, rt).count(answers, entries);
         }
         Ok(hop)
     }

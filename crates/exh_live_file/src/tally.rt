@@ -1,55 +1,56 @@
-ghost use Rattle.std.specs.Prelude.{◌≡◌, ◌+◌, ◌<◌, []};
-ghost use Rattle.exh_live_file.specs.Stock.{stock, units_of_number};
+ghost use Rattle.std.specs.Prelude.{◌≡◌, ◌+◌, ◌<◌, ◌≤◌};
+ghost use Rattle.exh_live_file.specs.declared.ledgers.TheConstants.{ANSWER_PARTS, ENTRY_PARTS};
 
 use crate::Identity;
 use crate::ledgers::{Answers, Entries};
-use crate::tallied_ward::TalliedWard;
-use exh_keyer::Keyer;
-use exh_stores::Pages;
-use exh_ward::Ward;
+use std::sync::Mutex;
 use std::sync::ledger::{Book, Share};
 
-/// The ledgers of a file that is being made: their books, and the parts that nobody has.
+/// The lock of a file's tally.
+pub(crate) type TallyLock<F> = Mutex<Tally<F>>;
+
+/// What the tally's lock keeps: the books of answers and of journal entries, which are equal.
 #[derive(Drop)]
 pub(crate) struct Tally<F: Identity> {
-    pub(crate) given: Book<Answers<F>>,
-    pub(crate) answers: Share<Answers<F>>,
-    pub(crate) entered: Book<Entries<F>>,
-    pub(crate) entries: Share<Entries<F>>,
-    ghost none: { (answers.amount ≡ 0) × (entries.amount ≡ 0) },
+    answers: Book<Answers<F>>,
+    entries: Book<Entries<F>>,
+    ghost equal: { answers.total ≡ entries.total },
 }
 
 impl<F: Identity> Tally<F> {
-    /// A ward that answered nothing, entered with its stock of answers and with what tells its number.
-    pub(crate) fn enter<P: Pages + Drop, K: Keyer>(
-        &mut self,
-        ward: Ward<P, K>,
-    ) -> TalliedWard<P, K, F>
-        requires empty { ward.journal ≡ [] }
-        requires hashed { K.pseudokey_of ward.keyer ≡ F.hashing }
-        requires number { ward.number < 16 }
-        requires answers { 1 < self.old.answers.parts }
-        requires entries { 1 < self.old.entries.parts }
-        ensures stocked { self.new.given.total ≡ self.old.given.total + stock }
-        ensures answers { self.new.answers.parts + 1 ≡ self.old.answers.parts }
-        ensures entered { self.new.entered.total ≡ self.old.entered.total + units_of_number ward.number }
-        ensures entries { self.new.entries.parts + 1 ≡ self.old.entries.parts }
+    /// The tally of a file that answered nothing.
+    pub(crate) fn new(answers: Book<Answers<F>>, entries: Book<Entries<F>>) -> Tally<F>
+        requires { answers.total ≡ entries.total }
     {
-        let mut stock = self.answers.split_off(1, 0);
-        // One more than the greatest number of entries.
-        self.given.add(&mut stock, u64::MAX);
-        self.given.add(&mut stock, 1);
-        let mut entry = self.entries.split_off(1, 0);
-        self.entered.add(&mut entry, units(ward.number()));
-        TalliedWard::new(ward, stock, entry)
+        Tally { answers, entries }
     }
-}
 
-// How many units a ward of this number is entered with: powers of 17, so that of at most sixteen wards
-// the sum tells the numbers.
-fn units(number: u8) -> u64
-    requires { number < 16 }
-    ensures { result ≡ units_of_number number }
-{
-    17u64.pow(u32::from(number))
+    /// Adds a unit to each book: one answer, in a seat's share, and one entry, in a ward's share.
+    pub(crate) fn count(&mut self, answers: &mut Share<Answers<F>>, entries: &mut Share<Entries<F>>)
+        requires seat { 0 < answers.old.parts }
+        requires ward { 0 < entries.old.parts }
+        ensures answers { answers.new.amount ≡ answers.old.amount + 1 }
+        ensures entries { entries.new.amount ≡ entries.old.amount + 1 }
+        ensures seat { answers.new.parts ≡ answers.old.parts }
+        ensures ward { entries.new.parts ≡ entries.old.parts }
+    {
+        self.answers.add(answers, 1);
+        self.entries.add(entries, 1);
+    }
+
+    /// No share has more parts than its ledger was cut into. Shares that have all parts of theirs are the
+    /// books, so they are equal.
+    pub(crate) fn audit(&mut self, answers: &mut Share<Answers<F>>, entries: &mut Share<Entries<F>>)
+        ensures answers { answers.old.parts ≤ ANSWER_PARTS }
+        ensures entries { entries.old.parts ≤ ENTRY_PARTS }
+        ensures equal { answers.old.parts ≡ ANSWER_PARTS → entries.old.parts ≡ ENTRY_PARTS → answers.old.amount ≡ entries.old.amount }
+    {
+        // What is put to a share tells how many parts both have at most.
+        let no_answers = answers.empty();
+        answers.merge(no_answers);
+        let no_entries = entries.empty();
+        entries.merge(no_entries);
+        self.answers.audit(answers);
+        self.entries.audit(entries);
+    }
 }

@@ -6,7 +6,7 @@ use Rattle.exh_calls.specs.Diary.{DiaryState}
 use Rattle.exh_calls.specs.declared.diary_entry.DiaryEntry.{DiaryEntry}
 use Rattle.exh_live_file.specs.Closing.{answers_given, seat_of}
 use Rattle.exh_live_file.specs.LiveFile.{SeatState}
-use Rattle.exh_live_file.proofs.Counts.{nothing_more, one_back, one_fewer, room_after, room_at_first, room_for_next, units_back}
+use Rattle.exh_live_file.proofs.Counts.{nothing_more, one_back, one_fewer, room_after, room_at_first, room_for_next, sum_back}
 use Rattle.exh_live_file.proofs.close.stand_up.Goals as goal
 
 abbrev seat_with : ℕ → List DiaryEntry → SeatState
@@ -57,7 +57,7 @@ loop-seat-preserved g c =
       diaries = one_more diaries c.push_reserved.new.self.items diary c.in-Some.seat _ _ _ pushed (ap₂ seat_with is.0 is.1) steps.0 was.diaries;
       room = subst (λ room. length c.push_reserved.new.self.items + length (into_iter_items c.next.new.self) ≤ room) (sym c.push_reserved.ensures.capacity) (room_after (length diaries) was.room short longer);
       parts = one_back c.args.answers.now.parts (length diaries) was.parts c.merge.ensures.parts c.into_parts-diary.ensures.part longer;
-      amount = units_back c.args.answers.now.amount (answers_given diaries) was.amount c.merge.ensures.amount c.into_parts-diary.ensures.counted given;
+      amount = sum_back c.args.answers.now.amount (answers_given diaries) was.amount c.merge.ensures.amount c.into_parts-diary.ensures.counted given;
     }
 
 pub returns-clause-diaries : goal.returns-clause-diaries

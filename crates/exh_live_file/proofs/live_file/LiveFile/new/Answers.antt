@@ -1,8 +1,9 @@
 use Rattle.std.proofs.Common.{◌≡◌, ℕ, ◌^◌, ◌<◌, ◌≤◌, vec_len, ap, sym, ◌∙◌, arith}
 use Rattle.exh_calls.specs.declared.diary.TheConstants.{CALLER_LIMIT}
 use Rattle.exh_settings.specs.declared.file_settings.FileSettings.{FileSettings}
-use Rattle.exh_live_file.specs.Stock.{units_of_first}
+use Rattle.exh_live_file.specs.WardParts.{parts_of_first, ward_parts}
 use Rattle.exh_live_file.proofs.FirstWard.{new_file, settings_of_first}
+use Rattle.exh_live_file.proofs.Parts.{entries_for_wards, room_for_wards}
 use Rattle.exh_live_file.proofs.ToBeTallied.{to_be_tallied, wards_are_few}
 use Rattle.exh_live_file.proofs.live_file.LiveFile.new.Goals as goal
 
@@ -30,12 +31,14 @@ locked-requires-clause-count g c =
 pub locked-requires-clause-answers : goal.locked-requires-clause-answers
 locked-requires-clause-answers g c =
     let same = c.settings-settings.ensures.settings ∙ settings_of_first c.requires.wards.0 c.args.wards.items c.index.result.now c.requires.wards.1 c.index.ensures in
-    omega (arith, c.args.wards.ok.0, counted _ _ _ same c.requires.wards.1.count, wards_are_few c.settings-settings.result.ward_bits c.settings-settings.ensures.range.bits, c.open-given.ensures.parts)
+    let few = few_locks _ _ (c.args.wards.ok.0 ∙ counted _ _ _ same c.requires.wards.1.count) (wards_are_few c.settings-settings.result.ward_bits c.settings-settings.ensures.range.bits) in
+    (omega (arith, room_for_wards (vec_len c.args.wards) few, c.open-given.ensures.parts), c.open-given.ensures.amount)
 
 pub locked-requires-clause-entries : goal.locked-requires-clause-entries
 locked-requires-clause-entries g c =
     let same = c.settings-settings.ensures.settings ∙ settings_of_first c.requires.wards.0 c.args.wards.items c.index.result.now c.requires.wards.1 c.index.ensures in
-    omega (arith, c.args.wards.ok.0, counted _ _ _ same c.requires.wards.1.count, wards_are_few c.settings-settings.result.ward_bits c.settings-settings.ensures.range.bits, c.open-entered.ensures.parts)
+    let few = few_locks _ _ (c.args.wards.ok.0 ∙ counted _ _ _ same c.requires.wards.1.count) (wards_are_few c.settings-settings.result.ward_bits c.settings-settings.ensures.range.bits) in
+    (omega (arith, entries_for_wards (vec_len c.args.wards) few, c.open-made.ensures.parts), c.open-made.ensures.amount)
 
 pub invariant_of-result : goal.invariant_of-result
 invariant_of-result g c =
@@ -48,14 +51,10 @@ invariant_of-result g c =
       ap (λ (one : FileSettings g.row.K.Denot). g.K.Keyer.pseudokey_of one.keyer) same ∙ sym c.requires.wards.2,
       few_locks _ _ count few,
       no_seats,
-      omega (arith, made.count, made.answers, c.open-given.ensures.parts),
-      omega arith,
-      omega arith,
-      omega (arith, made.count, made.stocked),
-      omega (arith, made.count, made.entries, c.open-entered.ensures.parts),
-      omega arith,
-      omega arith,
-      omega (arith, made.entered, ap units_of_first made.count),
+      omega (arith, made.answers, made.count, ap parts_of_first made.count, c.open-given.ensures.parts),
+      omega (arith, c.locked.ensures.none.0),
+      omega (arith, made.entries, ap parts_of_first made.count, c.open-made.ensures.parts),
+      omega (arith, c.locked.ensures.none.1),
     )
 
 pub returns : goal.returns

@@ -1,5 +1,6 @@
-use Rattle.std.proofs.Common.{◌+◌, ◌<◌, [], refl, sym, ap, ◌∙◌, subst, arith}
+use Rattle.std.proofs.Common.{◌+◌, ◌<◌, [], vec_len, refl, sym, ap, ◌∙◌, subst, arith}
 use Rattle.exh_live_file.specs.LiveFile.{LiveState, SeatState}
+use Rattle.exh_live_file.proofs.Parts.{room_for_seat}
 use Rattle.exh_live_file.proofs.live_file.LiveFile.seat.Goals as goal
 
 pub returns-then-self-eq-CALLER_LIMIT-clause-seat : goal.returns-then-self-eq-CALLER_LIMIT-clause-seat
@@ -18,7 +19,7 @@ pub returns-then-self-eq-CALLER_LIMIT-clause-err : goal.returns-then-self-eq-CAL
 returns-then-self-eq-CALLER_LIMIT-clause-err g c = refl
 
 pub part-answers-requires-clause-some : goal.part-answers-requires-clause-some
-part-answers-requires-clause-some g c = omega (arith, c.self.invariant.3, c.self.invariant.4, c.self.invariant.5, c.if-self-eq-CALLER_LIMIT.false)
+part-answers-requires-clause-some g c = room_for_seat (vec_len c.self.inside.wards) c.self.invariant.3 (omega (arith, c.self.invariant.4, c.if-self-eq-CALLER_LIMIT.false)) c.self.invariant.5
 
 pub part-answers-requires-clause-none : goal.part-answers-requires-clause-none
 part-answers-requires-clause-none g c = c.self.invariant.6
@@ -44,10 +45,6 @@ invariant_of-self g c =
       c.part-answers.ensures.none,
       was.7,
       was.8,
-      was.9,
-      was.10,
-      was.11,
-      was.12,
     )
 
 pub returns-clause-seat : goal.returns-clause-seat

@@ -9,18 +9,13 @@ use Rattle.exh_ward.specs.declared.hop.Hop.{Hop}
 use Rattle.exh_ward.specs.declared.hop.Hop.TheVariants.{Done, Moved, MustSplit, Stray}
 use Rattle.exh_route.specs.WardRun.{HopAt, answer_of}
 use Rattle.exh_walk.specs.WardStep.{IsWardStep}
-use Rattle.exh_live_file.specs.Stock.{stock, units_of_number}
+use Rattle.exh_live_file.specs.WardParts.{parts_of_number, ward_parts}
 use Rattle.exh_live_file.specs.declared.ledgers.Answers.{Answers}
 use Rattle.exh_live_file.specs.declared.tallied_ward.TalliedWard.{TalliedWard}
+use Rattle.exh_live_file.proofs.Order.{some_parts}
 use Rattle.exh_live_file.proofs.tallied_ward.TalliedWard.hop.Given.{Over}
 use Rattle.exh_live_file.proofs.tallied_ward.TalliedWard.hop.Goals.{in-Done, in_default, Joined-hop}
 use Rattle.exh_live_file.proofs.tallied_ward.TalliedWard.hop.Goals as goal
-
-in_stock : (amount entries : ℕ) → amount + entries ≡ stock → entries < 2 ^ 64 → 1 ≤ amount
-in_stock amount entries counted small = omega (arith, counted, small)
-
-one_fewer : (left was fewer more : ℕ) → left + 1 ≡ was → was + fewer ≡ stock → more ≡ fewer + 1 → left + more ≡ stock
-one_fewer left was fewer more gone counted longer = omega (arith, gone, counted, longer)
 
 unanswered : {K : Type 0} (pseudokey_of : K → List ℕ → ℕ) (old : WardState K) (at client : ℕ) (call : Call) (hop : Hop) (new : WardState K) → ((reply : Reply) → hop ≡ Done reply → ⊥) → LeavesAfter pseudokey_of old at client call hop new → new ≡ old
 unanswered pseudokey_of old at client call (Done reply) new not leaves = absurd (not reply refl)
@@ -34,15 +29,17 @@ none_given at client call (Moved next) was not = omega arith
 none_given at client call MustSplit was not = omega arith
 none_given at client call Stray was not = omega arith
 
+numbered_still : (entries now spare old new : ℕ) → now ≡ entries → new ≡ old → (entries ≡ parts_of_number old) × (spare + parts_of_number old ≡ ward_parts) → (now ≡ parts_of_number new) × (spare + parts_of_number new ≡ ward_parts)
+numbered_still entries now spare old new kept same was = (kept ∙ was.0 ∙ ap parts_of_number (sym same), ap (λ parts. spare + parts) (ap parts_of_number same) ∙ was.1)
+
 -- whatever the hop came to, the ward is as it left it
 ward_left : (g : Over) (c : Joined-hop g) → c.match-hop.self.ward ≡ c.hop_hashed.new.self
 ward_left g c =
     let Tallied : Type 0 = TalliedWard g.row.P.Denot g.row.K.Denot g.row.F.Denot g.P.Pages g.K.Keyer g.F.Identity in
     elim c.match-hop.branch [ in-Done w ↦ ap (λ (tallied : Tallied). tallied.ward) w.self-is | in_default w ↦ ap (λ (tallied : Tallied). tallied.ward) w.self-is ]
 
-pub transfer-requires-clause-has_amount : goal.transfer-requires-clause-has_amount
-transfer-requires-clause-has_amount g c =
-    in_stock c.args.self.now.stock.amount _ c.args.self.now.counted (subst (λ n. n < 2 ^ 64) (c.len.ensures ∙ ap length c.journal.ensures.entries) c.len.type_inv)
+pub count-requires-clause-ward : goal.count-requires-clause-ward
+count-requires-clause-ward g c = omega (arith, some_parts c.args.self.now.ward.number, c.args.self.now.numbered.0)
 
 pub invariant_of-self-in-Done : goal.invariant_of-self-in-Done
 invariant_of-self-in-Done g c =
@@ -50,9 +47,9 @@ invariant_of-self-in-Done g c =
     let answered : IsAnswered g.K.Keyer.pseudokey_of was.ward c.args.at c.args.client c.args.call.now c.in-Done.field-0 c.hop_hashed.new.self =
     subst (λ hop. LeavesAfter g.K.Keyer.pseudokey_of was.ward c.args.at c.args.client c.args.call.now hop c.hop_hashed.new.self) c.in-Done.is c.in_ok-hop.ensures.leaves in
     record {
-      one_part = (c.transfer.ensures.parts_left ∙ was.one_part.0, was.one_part.1);
-      counted = one_fewer c.transfer.new.self.amount was.stock.amount (length was.ward.journal) _ c.transfer.ensures.amount_left was.counted (ap length answered.journal ∙ length_push was.ward.journal _);
-      numbered = was.numbered ∙ sym (ap (λ (ward : WardState g.row.K.Denot). units_of_number ward.number) answered.others);
+      counted = c.count.ensures.entries ∙ ap (λ (n : ℕ). n + 1) was.counted ∙ sym (ap length answered.journal ∙ length_push was.ward.journal _);
+      numbered = numbered_still _ _ was.spare.parts _ _ c.count.ensures.ward (ap (λ (ward : WardState g.row.K.Denot). ward.number) answered.others) was.numbered;
+      none_spare = was.none_spare;
       hashed = ap (λ (ward : WardState g.row.K.Denot). g.K.Keyer.pseudokey_of ward.keyer) answered.others ∙ was.hashed;
     }
 
@@ -61,9 +58,9 @@ invariant_of-self-in_default g c =
     let was = c.args.self.now in
     let same = unanswered g.K.Keyer.pseudokey_of was.ward c.args.at c.args.client c.args.call.now c.in_ok-hop.hop c.hop_hashed.new.self c.in_default.not-Done c.in_ok-hop.ensures.leaves in
     record {
-      one_part = was.one_part;
-      counted = ap (λ (ward : WardState g.row.K.Denot). was.stock.amount + length ward.journal) same ∙ was.counted;
-      numbered = was.numbered ∙ sym (ap (λ (ward : WardState g.row.K.Denot). units_of_number ward.number) same);
+      counted = was.counted ∙ sym (ap (λ (ward : WardState g.row.K.Denot). length ward.journal) same);
+      numbered = subst (λ (ward : WardState g.row.K.Denot). (was.entries.parts ≡ parts_of_number ward.number) × (was.spare.parts + parts_of_number ward.number ≡ ward_parts)) (sym same) was.numbered;
+      none_spare = was.none_spare;
       hashed = ap (λ (ward : WardState g.row.K.Denot). g.K.Keyer.pseudokey_of ward.keyer) same ∙ was.hashed;
     }
 
@@ -87,7 +84,7 @@ returns-clause-units g c =
     let amount : Share (Answers g.row.F.Denot) → ℕ = λ share. share.amount in
     elim c.match-hop.branch [
       | in-Done w ↦
-          ap amount w.answers-is ∙ w.transfer.ensures.amount_given
+          ap amount w.answers-is ∙ w.count.ensures.answers
           ∙ ap (λ hop. c.args.answers.now.amount + length (answer_of (HopAt c.args.at c.args.client c.args.call.now (Ok hop)))) (sym w.in-Done.is)
       | in_default w ↦ ap amount w.answers-is ∙ none_given c.args.at c.args.client c.args.call.now c.in_ok-hop.hop c.args.answers.now.amount w.in_default.not-Done
     ]
@@ -95,4 +92,4 @@ returns-clause-units g c =
 pub returns-clause-seat : goal.returns-clause-seat
 returns-clause-seat g c =
     let parts : Share (Answers g.row.F.Denot) → ℕ = λ share. share.parts in
-    elim c.match-hop.branch [ in-Done w ↦ ap parts w.answers-is ∙ w.transfer.ensures.parts_given | in_default w ↦ ap parts w.answers-is ]
+    elim c.match-hop.branch [ in-Done w ↦ ap parts w.answers-is ∙ w.count.ensures.seat | in_default w ↦ ap parts w.answers-is ]
