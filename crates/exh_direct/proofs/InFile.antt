@@ -330,22 +330,22 @@ module _ (laws : Laws) (known_version : KnownVersion) (file : PageFile) (bytes :
           no_fault (PageFails version.images pseudo own_place) bytes own_place fault own_stands.whole
           (λ (fault : FileFault). λ (named : PageFails version.images pseudo own_place (block_at own_place bytes) fault). none_image_first _ _ named.0 named.1 passed) fails
 
-      no_end_fault : (number : ℕ) (fault : DirectFault) → number ≡ home.number → FailsAtEnd version (Some bytes) file.header key [] number fault → IsOtherFault fault
-      no_end_fault number (File fault) here fails =
+      no_end_fault : (whole number : ℕ) (fault : DirectFault) → number ≡ home.number → FailsAtEnd version (Some bytes) file.header key whole [] number fault → IsOtherFault fault
+      no_end_fault whole number (File fault) here fails =
           no_page_fault (File fault) (subst (λ (n : ℕ). BlockFails (PageFails version.images pseudo (page_place file.header w n)) (Some bytes) (page_place file.header w n) (File fault)) here fails.1)
-      no_end_fault number Astray here (inl none) = absurd (omega (arith, none, within))
-      no_end_fault number Astray here (inr (inl outside)) = absurd (omega (arith, outside, within, here))
-      no_end_fault number Astray here (inr (inr (page, there, nowhere))) =
+      no_end_fault whole number Astray here (inl none) = absurd (omega (arith, none.0, none.1))
+      no_end_fault whole number Astray here (inr (inl outside)) = absurd (omega (arith, outside, within, here))
+      no_end_fault whole number Astray here (inr (inr (page, there, nowhere))) =
           let is = same_page page (subst (λ (n : ℕ). IsPageIn version (Some bytes) file.header key n page) here there) in
           let never : Home ≡ Nowhere = sym leads_home ∙ ap (λ (page : Page). lead_of page k) (sym is) ∙ nowhere in
           cc
-      no_end_fault number Read here fails = tt
-      no_end_fault number Memory here fails = tt
+      no_end_fault whole number Read here fails = tt
+      no_end_fault whole number Memory here fails = tt
 
-      no_way_fault : (old new : Option (List ℕ)) (fault : DirectFault) → FailsOnWay version (Some bytes) file.header key (page_named file.header k file.entries) old new fault → IsOtherFault fault
-      no_way_fault old new fault fails =
+      no_way_fault : (whole : ℕ) (old new : Option (List ℕ)) (fault : DirectFault) → FailsOnWay version (Some bytes) file.header key whole (page_named file.header k file.entries) old new fault → IsOtherFault fault
+      no_way_fault whole old new fault fails =
           let end = stays _ fails.way fails.number home.named fails.leads in
-          no_end_fault fails.number fault end.is (subst (λ (way : List ℕ). FailsAtEnd version (Some bytes) file.header key way fails.number fault) end.none fails.fails)
+          no_end_fault whole fails.number fault end.is (subst (λ (way : List ℕ). FailsAtEnd version (Some bytes) file.header key whole way fails.number fault) end.none fails.fails)
 
       -- ---- its value
 
@@ -357,8 +357,8 @@ module _ (laws : Laws) (known_version : KnownVersion) (file : PageFile) (bytes :
           sym (get_in_ward file.header.settings.cap pseudo bits w file.wards own_pages key all_legal (count_of_wards file (known_version, legal.is.valid)) ward_there legal_pages.each ward_begins
           ∙ get-map_of file.header.settings.cap pseudo (ward_prefix bits w) own_pages home.number own key legal_pages home.at home.begins)
 
-      found_in_file : (old between new : Option (List ℕ)) (value : Option (List ℕ)) → Appends old between (head_places file.header) → FindsOnWay version (Some bytes) file.header key (page_named file.header k file.entries) between new value → FindsInFile file key old new value
-      found_in_file old between new value heads found =
+      found_in_file : (whole : ℕ) (old between new : Option (List ℕ)) (value : Option (List ℕ)) → Appends old between (head_places file.header) → FindsOnWay version (Some bytes) file.header key whole (page_named file.header k file.entries) between new value → FindsInFile file key old new value
+      found_in_file whole old between new value heads found =
           let end = stays _ found.way found.number home.named found.leads in
           let page = same_page found.page (subst (λ (n : ℕ). IsPageIn version (Some bytes) file.header key n found.page) end.is found.there) in
           let places : map (place_in file.header key) (found.way ++ found.number ∷ []) ≡ own_place ∷ [] = (λ i. map (place_in file.header key) (end.none i ++ end.is i ∷ [])) in
@@ -371,25 +371,25 @@ module _ (laws : Laws) (known_version : KnownVersion) (file : PageFile) (bytes :
 
     -- ---- the answer
 
-    pub answers : (old between new : Option (List ℕ)) (value : Option (List ℕ)) (other : Header) (entries : List FileEntry) → IsHeaderAt version (Some bytes) other → IsTable version (Some bytes) other entries
-        → Appends old between (head_places other) → FindsOnWay version (Some bytes) other key (page_named other (pseudokey_in other key) entries) between new value → FindsInFile file key old new value
-    answers old between new value other entries head table heads found =
+    pub answers : (whole : ℕ) (old between new : Option (List ℕ)) (value : Option (List ℕ)) (other : Header) (entries : List FileEntry) → IsHeaderAt version (Some bytes) other → IsTable version (Some bytes) other entries
+        → Appends old between (head_places other) → FindsOnWay version (Some bytes) other key whole (page_named other (pseudokey_in other key) entries) between new value → FindsInFile file key old new value
+    answers whole old between new value other entries head table heads found =
         let same = same_header other head in
         let all = same_table entries (subst (λ (header : Header). IsTable version (Some bytes) header entries) same table) in
-        found_in_file has_home old between new value
+        found_in_file has_home whole old between new value
         (subst (λ (header : Header). Appends old between (head_places header)) same heads)
-        (subst (λ (entries : List FileEntry). FindsOnWay version (Some bytes) file.header key (page_named file.header k entries) between new value) all
-        (subst (λ (header : Header). FindsOnWay version (Some bytes) header key (page_named header (pseudokey_in header key) entries) between new value) same found))
+        (subst (λ (entries : List FileEntry). FindsOnWay version (Some bytes) file.header key whole (page_named file.header k entries) between new value) all
+        (subst (λ (header : Header). FindsOnWay version (Some bytes) header key whole (page_named header (pseudokey_in header key) entries) between new value) same found))
 
-    pub no_refusal_behind : (old new : Option (List ℕ)) (fault : DirectFault) (other : Header) → RefusesBehind version (Some bytes) key old new fault other → IsOtherFault fault
-    no_refusal_behind old new fault other (head, inl behind) =
+    pub no_refusal_behind : (whole : ℕ) (old new : Option (List ℕ)) (fault : DirectFault) (other : Header) → RefusesBehind version (Some bytes) whole key old new fault other → IsOtherFault fault
+    no_refusal_behind whole old new fault other (head, inl behind) =
         no_table_fault fault (subst (λ (header : Header). FailsBehind version (Some bytes) header fault) (same_header other head) behind.0)
-    no_refusal_behind old new fault other (head, inr (entries, table, between, heads, way)) =
+    no_refusal_behind whole old new fault other (head, inr (entries, table, between, heads, way)) =
         let same = same_header other head in
         let all = same_table entries (subst (λ (header : Header). IsTable version (Some bytes) header entries) same table) in
-        no_way_fault has_home between new fault
-        (subst (λ (entries : List FileEntry). FailsOnWay version (Some bytes) file.header key (page_named file.header k entries) between new fault) all
-        (subst (λ (header : Header). FailsOnWay version (Some bytes) header key (page_named header (pseudokey_in header key) entries) between new fault) same way))
+        no_way_fault has_home whole between new fault
+        (subst (λ (entries : List FileEntry). FailsOnWay version (Some bytes) file.header key whole (page_named file.header k entries) between new fault) all
+        (subst (λ (header : Header). FailsOnWay version (Some bytes) header key whole (page_named header (pseudokey_in header key) entries) between new fault) same way))
 
 -- ---- the version that the bytes say
 
@@ -411,20 +411,20 @@ module _ (laws : Laws) (file : PageFile) (bytes : List ℕ) (small : AreBytes by
       (λ (fault : FileFault). λ (first : HeaderFails (format_of block) block fault).
       header_passes laws version file bytes small legal fault (subst (λ (version : KnownVersion). HeaderFails (file_version version) block fault) same first)) fails
 
-  pub finds_in_file : (old new : Option (List ℕ)) (key : List ℕ) (value : Option (List ℕ)) → Finds (Some bytes) key old new value → FindsInFile file key old new value
-  finds_in_file old new key value finds =
-      answers laws finds.version file bytes small (legal_in finds.version finds.header finds.head) key old finds.between new value finds.header finds.entries finds.head finds.table finds.heads finds.found
+  pub finds_in_file : (whole : ℕ) (old new : Option (List ℕ)) (key : List ℕ) (value : Option (List ℕ)) → Finds (Some bytes) whole key old new value → FindsInFile file key old new value
+  finds_in_file whole old new key value finds =
+      answers laws finds.version file bytes small (legal_in finds.version finds.header finds.head) key whole old finds.between new value finds.header finds.entries finds.head finds.table finds.heads finds.found
 
-  pub no_refusal : (old new : Option (List ℕ)) (key : List ℕ) (fault : DirectFault) → Refuses (Some bytes) key old new fault → IsOtherFault fault
-  no_refusal old new key fault (inl refused) = no_header_fault fault refused.0
-  no_refusal old new key fault (inr (version, header, behind)) =
-      no_refusal_behind laws version file bytes small (legal_in version header behind.0) key old new fault header behind
+  pub no_refusal : (whole : ℕ) (old new : Option (List ℕ)) (key : List ℕ) (fault : DirectFault) → Refuses (Some bytes) whole key old new fault → IsOtherFault fault
+  no_refusal whole old new key fault (inl refused) = no_header_fault fault refused.0
+  no_refusal whole old new key fault (inr (version, header, behind)) =
+      no_refusal_behind laws version file bytes small (legal_in version header behind.0) key whole old new fault header behind
 
 -- ---- where the file's bytes are known
 
-pub every : Laws → (known old new : Option (List ℕ)) (key : List ℕ) (result : Result (Option (List ℕ)) DirectFault) → IfOk result (Finds known key old new) → IfErr result (Refuses known key old new)
+pub every : Laws → (whole : ℕ) (known old new : Option (List ℕ)) (key : List ℕ) (result : Result (Option (List ℕ)) DirectFault) → IfOk result (Finds known whole key old new) → IfErr result (Refuses known whole key old new)
     → (file : PageFile) (bytes : List ℕ) → known ≡ Some bytes → AreBytes bytes → IsLegalPageFile (format_of bytes) file bytes → MatchResult result (FindsInFile file key old new) IsOtherFault
-every laws known old new key (Ok value) found refused file bytes knows small legal =
-    finds_in_file laws file bytes small legal old new key value (subst (λ (known : Option (List ℕ)). Finds known key old new value) knows found)
-every laws known old new key (Err fault) found refused file bytes knows small legal =
-    no_refusal laws file bytes small legal old new key fault (subst (λ (known : Option (List ℕ)). Refuses known key old new fault) knows refused)
+every laws whole known old new key (Ok value) found refused file bytes knows small legal =
+    finds_in_file laws file bytes small legal whole old new key value (subst (λ (known : Option (List ℕ)). Finds known whole key old new value) knows found)
+every laws whole known old new key (Err fault) found refused file bytes knows small legal =
+    no_refusal laws file bytes small legal whole old new key fault (subst (λ (known : Option (List ℕ)). Refuses known whole key old new fault) knows refused)

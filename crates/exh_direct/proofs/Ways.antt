@@ -48,7 +48,7 @@ pub reads_more : (a b c : Option (List ℕ)) (f : ℕ → ℕ) (way : List ℕ) 
 reads_more a b c f way number place is first second =
     subst (Appends a c) (ap (λ (last : ℕ). map f way ++ last ∷ []) is ∙ sym (map-append f way (number ∷ []))) (Appends-trans a b c (map f way) (place ∷ []) first second)
 
-module _ (version : FileVersion) (known now : Option (List ℕ)) (header : Header) (key : List ℕ) (ward before number : ℕ) (same : now ≡ known) (ward_is : ward ≡ ward_in header key) (begins : before ≡ 1 + sum (take ward header.page_counts)) (inside : number < slice_index header.page_counts ward) where
+module _ (version : FileVersion) (known now : Option (List ℕ)) (header : Header) (key : List ℕ) (whole ward before number : ℕ) (same : now ≡ known) (ward_is : ward ≡ ward_in header key) (begins : before ≡ 1 + sum (take ward header.page_counts)) (inside : number < slice_index header.page_counts ward) where
   pub inside_too : number < pages_in header key
   inside_too = subst (λ (ward : ℕ). number < slice_index header.page_counts ward) ward_is inside
 
@@ -59,7 +59,7 @@ module _ (version : FileVersion) (known now : Option (List ℕ)) (header : Heade
         (subst (λ (now : Option (List ℕ)). IsPageBlock version.images (any_pseudokey header.settings.keyer) now (before + number) page) same block);
   }
 
-  pub page_fails : (way : List ℕ) (fault : DirectFault) → BlockFails (PageFails version.images (any_pseudokey header.settings.keyer) (before + number)) now (before + number) fault → FailsAtEnd version known header key way number fault
+  pub page_fails : (way : List ℕ) (fault : DirectFault) → BlockFails (PageFails version.images (any_pseudokey header.settings.keyer) (before + number)) now (before + number) fault → FailsAtEnd version known header key whole way number fault
   page_fails way (File fault) fails = (
     inside_too,
     subst (λ (place : ℕ). BlockFails (PageFails version.images (any_pseudokey header.settings.keyer) place) known place (File fault)) (place_there header key ward before number ward_is begins)

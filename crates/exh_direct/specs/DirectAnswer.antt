@@ -91,6 +91,10 @@ pages_in header key = slice_index header.page_counts (ward_in header key)
 abbrev pub place_in : Header → List ℕ → ℕ → ℕ
 place_in header key number = page_place header (ward_in header key) number
 
+-- how many of them lie within a file of so many whole blocks
+abbrev pub pages_within : ℕ → Header → List ℕ → ℕ
+pages_within whole header key = min (pages_in header key) (whole - place_in header key 0)
+
 module _ (version : FileVersion) (known : Option (List ℕ)) (header : Header) (key : List ℕ) where
   -- the page of a number
   pub record IsPageIn (number : ℕ) (page : Page) : Type 0 where
@@ -102,43 +106,47 @@ module _ (version : FileVersion) (known : Option (List ℕ)) (header : Header) (
   IsWay from [] to = from ≡ to
   IsWay from (number ∷ way) to = (number ≡ from) × (page : Page) × IsPageIn number page × (next : ℕ) × (lead_of page (pseudokey_in header key) ≡ To next) × IsWay next way to
 
-  -- what the key's own page has, at the end of a way; the pages of the way were read, and this one
-  pub record FindsOnWay (first : ℕ) (old new : Option (List ℕ)) (value : Option (List ℕ)) : Type 0 where
-    pub way : List ℕ
-    pub number : ℕ
-    pub leads : IsWay first way number
-    pub page : Page
-    pub there : IsPageIn number page
-    pub home : lead_of page (pseudokey_in header key) ≡ Home
-    pub is : value ≡ value_at (pseudokey_in header key, key) (records_of page)
-    pub short : length way < pages_in header key
-    pub reads : Appends old new (map (place_in header key) (way ++ number ∷ []))
+  -- of a file of so many whole blocks
+  module _ (whole : ℕ) where
+    -- what the key's own page has, at the end of a way; the pages of the way were read, and this one
+    pub record FindsOnWay (first : ℕ) (old new : Option (List ℕ)) (value : Option (List ℕ)) : Type 0 where
+      pub way : List ℕ
+      pub number : ℕ
+      pub leads : IsWay first way number
+      pub page : Page
+      pub there : IsPageIn number page
+      pub home : lead_of page (pseudokey_in header key) ≡ Home
+      pub is : value ≡ value_at (pseudokey_in header key, key) (records_of page)
+      pub short : length way < pages_within whole header key
+      pub reads : Appends old new (map (place_in header key) (way ++ number ∷ []))
 
-  -- a number behind a way at which no page leads on: as many pages as the ward has were passed, or it has none of this
-  -- number, or the page leads nowhere
-  abbrev pub IsAstray : List ℕ → ℕ → Type 0
-  IsAstray way number = (pages_in header key ≤ length way) ⊎ ((pages_in header key ≤ number) ⊎ ((page : Page) × IsPageIn number page × (lead_of page (pseudokey_in header key) ≡ Nowhere)))
+    -- a number behind a way at which no page leads on: it is that of a page within the file, and as many as lie there were
+    -- passed, or the ward has none of this number, or the page leads nowhere
+    abbrev pub IsAstray : List ℕ → ℕ → Type 0
+    IsAstray way number = ((number < pages_within whole header key) × (pages_within whole header key ≤ length way))
+        ⊎ ((pages_in header key ≤ number) ⊎ ((page : Page) × IsPageIn number page × (lead_of page (pseudokey_in header key) ≡ Nowhere)))
 
-  -- what comes of the number: the fault of its page, or that it leads astray
-  abbrev pub FailsAtEnd : List ℕ → ℕ → DirectFault → Type 0
-  FailsAtEnd way number (File fault) = (number < pages_in header key) × BlockFails (PageFails version.images (any_pseudokey header.settings.keyer) (place_in header key number)) known (place_in header key number) (File fault)
-  FailsAtEnd way number Astray = IsAstray way number
-  FailsAtEnd way number Read = ⊤
-  FailsAtEnd way number Memory = ⊤
+    -- what comes of the number: the fault of its page, or that it leads astray
+    abbrev pub FailsAtEnd : List ℕ → ℕ → DirectFault → Type 0
+    FailsAtEnd way number (File fault) = (number < pages_in header key) × BlockFails (PageFails version.images (any_pseudokey header.settings.keyer) (place_in header key number)) known (place_in header key number) (File fault)
+    FailsAtEnd way number Astray = IsAstray way number
+    FailsAtEnd way number Read = ⊤
+    FailsAtEnd way number Memory = ⊤
 
-  -- the pages of a way were read, and at most one more; there are at most as many as the ward has
-  pub record FailsOnWay (first : ℕ) (old new : Option (List ℕ)) (fault : DirectFault) : Type 0 where
-    pub way : List ℕ
-    pub number : ℕ
-    pub leads : IsWay first way number
-    pub fails : FailsAtEnd way number fault
-    pub short : length way ≤ pages_in header key
-    pub reads : ReadsUpTo old new (length way + 1)
+    -- the pages of a way were read, and at most one more; there are at most as many as the ward has within the file
+    pub record FailsOnWay (first : ℕ) (old new : Option (List ℕ)) (fault : DirectFault) : Type 0 where
+      pub way : List ℕ
+      pub number : ℕ
+      pub leads : IsWay first way number
+      pub fails : FailsAtEnd way number fault
+      pub short : length way ≤ pages_within whole header key
+      pub reads : ReadsUpTo old new (length way + 1)
 
 -- ---- the whole answer
 
--- the value of a key in the version that a header is of, and the blocks that were read for it, in their order
-pub record Finds (known : Option (List ℕ)) (key : List ℕ) (old new : Option (List ℕ)) (value : Option (List ℕ)) : Type 0 where
+-- the value of a key in the version that a header is of, and the blocks that were read for it, of so many whole ones, in
+-- their order
+pub record Finds (known : Option (List ℕ)) (whole : ℕ) (key : List ℕ) (old new : Option (List ℕ)) (value : Option (List ℕ)) : Type 0 where
   pub version : Version
   pub header : Header
   pub head : IsHeaderAt (file_version version) known header
@@ -146,14 +154,14 @@ pub record Finds (known : Option (List ℕ)) (key : List ℕ) (old new : Option 
   pub entries : List FileEntry
   pub table : IsTable (file_version version) known header entries
   pub heads : Appends old between (head_places header)
-  pub found : FindsOnWay (file_version version) known header key (page_named header (pseudokey_in header key) entries) between new value
+  pub found : FindsOnWay (file_version version) known header key whole (page_named header (pseudokey_in header key) entries) between new value
 
 -- the first fault: of the header, of the table behind it, or of the way behind both
-abbrev pub RefusesBehind : FileVersion → Option (List ℕ) → List ℕ → Option (List ℕ) → Option (List ℕ) → DirectFault → Header → Type 0
-RefusesBehind version known key old new fault header = IsHeaderAt version known header × ((FailsBehind version known header fault × ReadsUpTo old new (1 + table_blocks header.entry_count))
+abbrev pub RefusesBehind : FileVersion → Option (List ℕ) → ℕ → List ℕ → Option (List ℕ) → Option (List ℕ) → DirectFault → Header → Type 0
+RefusesBehind version known whole key old new fault header = IsHeaderAt version known header × ((FailsBehind version known header fault × ReadsUpTo old new (1 + table_blocks header.entry_count))
     ⊎ ((entries : List FileEntry) × IsTable version known header entries × (between : Option (List ℕ)) × Appends old between (head_places header)
-    × FailsOnWay version known header key (page_named header (pseudokey_in header key) entries) between new fault))
+    × FailsOnWay version known header key whole (page_named header (pseudokey_in header key) entries) between new fault))
 
-abbrev pub Refuses : Option (List ℕ) → List ℕ → Option (List ℕ) → Option (List ℕ) → DirectFault → Type 0
-Refuses known key old new fault = (BlockFails (λ block. HeaderFails (format_of block) block) known 0 fault × ReadsUpTo old new 1)
-    ⊎ ((version : Version) × (header : Header) × RefusesBehind (file_version version) known key old new fault header)
+abbrev pub Refuses : Option (List ℕ) → ℕ → List ℕ → Option (List ℕ) → Option (List ℕ) → DirectFault → Type 0
+Refuses known whole key old new fault = (BlockFails (λ block. HeaderFails (format_of block) block) known 0 fault × ReadsUpTo old new 1)
+    ⊎ ((version : Version) × (header : Header) × RefusesBehind (file_version version) known whole key old new fault header)

@@ -1,4 +1,4 @@
-ghost use Rattle.std.specs.Prelude.{◌≡◌, ℕ, List, Option, [], ◌∷◌, IfOk, OnOk};
+ghost use Rattle.std.specs.Prelude.{◌≡◌, ℕ, List, Option, [], ◌∷◌, OnOk};
 ghost use Rattle.std.specs.Io.KnownBytes.{Appends};
 ghost use Rattle.exh_direct.specs.KnownBlocks.{IsBlockAt, IsCount};
 
@@ -14,14 +14,17 @@ pub trait Blocks {
     ghost reads: { Self → Option (List ℕ) };
 
     /// How many whole blocks there are.
-    fn count(&mut self) -> io::Result<u64>
-        ensures same_bytes { known self.new ≡ known self.old }
-        ensures no_read { reads self.new ≡ reads self.old }
-        ensures count { IfOk result (IsCount (known self.old)) };
+    ghost whole: { Self → ℕ };
+
+    /// How many whole blocks there are.
+    fn count(&self) -> u64
+        ensures count { result ≡ whole self.now }
+        ensures bytes { IsCount (known self.now) result };
 
     /// Reads the block at a place, of which the first is 0. It fails where there is none.
     fn read(&mut self, place: u32, block: &mut [u8; BLOCK_LEN]) -> io::Result<()>
         ensures same_bytes { known self.new ≡ known self.old }
+        ensures same_count { whole self.new ≡ whole self.old }
         ensures one_read { Appends (reads self.old) (reads self.new) (place ∷ []) }
         ensures block { OnOk result (IsBlockAt (known self.old) place block.new) };
 }

@@ -15,8 +15,8 @@ use exh_page::{Key, Value};
 use std::alloc::Global;
 
 /// What a page file of either version has at a key, `None` where it hasn't the key. Of its blocks the header, those of
-/// the table and the pages on the key's way are read, and each is tested; of a legal file one page. It takes memory for
-/// the entries or records of one block at a time.
+/// the table and the pages on the key's way are read, at most as many as the key's ward has within the file, and each is
+/// tested; of a legal file one page. It takes memory for the entries or records of one block at a time.
 ///
 /// `File`: a block that is read ends early or fails a test, the one that is met first. `Astray`: the pages on the way
 /// don't lead to the key's own, which tells that the file isn't legal. `Read`: a block couldn't be read. `Memory`: a
@@ -26,8 +26,8 @@ pub fn find<B: Blocks>(
     blocks: &mut B,
     key: &Key,
 ) -> Result<Option<Value>, DirectFault>
-    ensures found { IfOk result (Finds (B.known blocks.old) key.now (B.reads blocks.old) (B.reads blocks.new)) }
-    ensures refused { IfErr result (Refuses (B.known blocks.old) key.now (B.reads blocks.old) (B.reads blocks.new)) }
+    ensures found { IfOk result (Finds (B.known blocks.old) (B.whole blocks.old) key.now (B.reads blocks.old) (B.reads blocks.new)) }
+    ensures refused { IfErr result (Refuses (B.known blocks.old) (B.whole blocks.old) key.now (B.reads blocks.old) (B.reads blocks.new)) }
     ensures every { (file : PageFile) (bytes : List ℕ) → B.known blocks.old ≡ Some bytes → AreBytes bytes → IsLegalPageFile (format_of bytes) file bytes
         → MatchResult result (FindsInFile file key.now (B.reads blocks.old) (B.reads blocks.new)) IsOtherFault }
 {
@@ -47,12 +47,10 @@ fn find_on_way<B: Blocks>(
     blocks: &mut B,
     key: &Key,
 ) -> Result<Option<Value>, DirectFault>
-    ensures found { IfOk result (Finds (B.known blocks.old) key.now (B.reads blocks.old) (B.reads blocks.new)) }
-    ensures refused { IfErr result (Refuses (B.known blocks.old) key.now (B.reads blocks.old) (B.reads blocks.new)) }
+    ensures found { IfOk result (Finds (B.known blocks.old) (B.whole blocks.old) key.now (B.reads blocks.old) (B.reads blocks.new)) }
+    ensures refused { IfErr result (Refuses (B.known blocks.old) (B.whole blocks.old) key.now (B.reads blocks.old) (B.reads blocks.new)) }
 {
-    let Ok(count) = blocks.count() else {
-        return Err(DirectFault::Read);
-    };
+    let count = blocks.count();
     let (version, header) = read_header(blocks, count)?;
     let pseudokey = header.settings.keyer.pseudo(key.as_bytes());
     let first = named_page(alloc, blocks, version, count, &header, pseudokey)?;

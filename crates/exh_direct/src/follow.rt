@@ -1,4 +1,4 @@
-ghost use Rattle.std.specs.Prelude.{◌≡◌, ◌+◌, ◌*◌, ◌<◌, ◌≤◌, ◌^◌, take, IfOk, IfErr, IfSome};
+ghost use Rattle.std.specs.Prelude.{◌≡◌, ◌+◌, ◌-◌, ◌*◌, ◌<◌, ◌≤◌, ◌^◌, min, take, IfOk, IfErr, IfSome};
 ghost use Rattle.std.specs.List.{sum};
 ghost use Rattle.exh_keyer.specs.Pseudokey.{any_pseudokey};
 ghost use Rattle.exh_format.specs.FileVersion.{file_version};
@@ -10,12 +10,13 @@ ghost use Rattle.exh_direct.specs.DirectAnswer.{FailsOnWay, FindsOnWay, page_pla
 use crate::lead::{Lead, lead_of};
 use crate::reading::{read_page, total};
 use crate::{Blocks, DirectFault};
-use exh_format::Header;
+use exh_format::{FileFault, Header};
 use exh_page::{Key, Value};
 use exh_prefix::{PageNo, Version, ward_number};
 use std::alloc::Global;
 
-/// What the page of a key has, which the links lead to from the first page on. It takes memory for a page at a time.
+/// What the page of a key has, which the links lead to from the first page on. Of so many blocks it reads at most as many
+/// pages as the ward has within them. It takes memory for a page at a time.
 pub(crate) fn follow<B: Blocks>(
     alloc: Global,
     blocks: &mut B,
@@ -30,14 +31,15 @@ pub(crate) fn follow<B: Blocks>(
     requires header { IsHeader (file_version version) header.now }
     requires pseudokey { pseudokey ≡ any_pseudokey header.now.settings.keyer key.now }
     ensures same_bytes { B.known blocks.new ≡ B.known blocks.old }
-    ensures ok { IfOk result (FindsOnWay (file_version version) (B.known blocks.old) header.now key.now first (B.reads blocks.old) (B.reads blocks.new)) }
-    ensures err { IfErr result (FailsOnWay (file_version version) (B.known blocks.old) header.now key.now first (B.reads blocks.old) (B.reads blocks.new)) }
+    ensures ok { IfOk result (FindsOnWay (file_version version) (B.known blocks.old) header.now key.now count first (B.reads blocks.old) (B.reads blocks.new)) }
+    ensures err { IfErr result (FailsOnWay (file_version version) (B.known blocks.old) header.now key.now count first (B.reads blocks.old) (B.reads blocks.new)) }
 {
     let ward = ward_number(header.settings.ward_bits, pseudokey) as usize;
     let pages = header.page_counts[ward];
     let before = pages_before(header, ward);
+    let within = pages_within(pages, before, count);
     let mut number = first;
-    for turn in 0..pages {
+    for turn in 0..within {
         if number >= pages {
             return Err(DirectFault::Astray);
         }
@@ -55,7 +57,18 @@ pub(crate) fn follow<B: Blocks>(
             Lead::Nowhere => return Err(DirectFault::Astray),
         }
     }
+    // Behind as many pages as there are comes one that was passed, or one behind the end of the file.
+    if within <= number && number < pages {
+        return Err(DirectFault::File(FileFault::Truncated));
+    }
     Err(DirectFault::Astray)
+}
+
+// How many of a ward's pages, which begin at a place, lie within so many blocks.
+fn pages_within(pages: u32, before: u32, count: u64) -> u32
+    ensures { result ≡ min pages (count - before) }
+{
+    u64::from(pages).min(count.saturating_sub(u64::from(before))) as u32
 }
 
 // Where the pages of a ward begin: behind the header, and those of the wards before it.

@@ -14,4 +14,4 @@ returns-clause-every g c =
       header_blocks = c.images_are_blocks-2.ensures.headers;
       table_blocks = c.images_are_blocks-2.ensures.tables;
       walks = c.walks_name_homes.ensures;
-    }) _ _ _ _ _ c.find_on_way.ensures.found c.find_on_way.ensures.refused
+    }) _ _ _ _ _ _ c.find_on_way.ensures.found c.find_on_way.ensures.refused

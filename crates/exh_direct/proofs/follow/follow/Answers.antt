@@ -1,4 +1,5 @@
-use Rattle.std.proofs.Common.{◌≡◌, ◌<◌, ◌≤◌, ◌+◌, ℕ, [], ◌∷◌, ◌++◌, length, map, slice_index, inl, inr, refl, sym, ap, ◌∙◌, arith}
+use Rattle.std.proofs.Common.{◌≡◌, ◌<◌, ◌≤◌, ◌+◌, ◌-◌, ℕ, List, [], ◌∷◌, ◌++◌, length, map, min, slice_index, take, inl, inr, refl, sym, ap, ◌∙◌, arith}
+use Rattle.std.specs.List.{sum}
 use Rattle.std.proofs.lemmas.List.{length-map, length_push}
 use Rattle.exh_prefix.specs.Leading.{ward_of}
 use Rattle.exh_prefix.specs.LeadingLemmas.{leading-lt}
@@ -8,7 +9,7 @@ use Rattle.exh_format.specs.declared.header.Header.{Header}
 use Rattle.exh_prefix.specs.declared.version.Version.{Version as KnownVersion}
 use Rattle.exh_format.specs.FileVersion.{file_version}
 use Rattle.exh_format.specs.HeaderImage.{IsHeader}
-use Rattle.exh_direct.specs.DirectAnswer.{FailsOnWay, pages_in, place_in, ward_in}
+use Rattle.exh_direct.specs.DirectAnswer.{FailsOnWay, pages_in, pages_within, place_in, ward_in}
 use Rattle.exh_direct.specs.Way.{lead_of}
 use Rattle.exh_direct.proofs.ReadPlaces.{none_read, read_then}
 use Rattle.exh_format.specs.HeaderLemmas.{few_wards}
@@ -40,6 +41,12 @@ overflow_add-before g c =
     let few = few_in_ward header ward (c.args.version, c.requires.header) (ward_within c.args.version header ward c.args.pseudokey c.requires.header c.ward_number-ward.ensures) in
     omega (arith, few, c.pages_before-before.ensures.few, c.if-number-pages.false)
 
+-- the pages within the file, as the code counts them
+within_is : (header : Header) (key : List ℕ) (ward before whole within : ℕ) → ward ≡ ward_in header key → before ≡ 1 + sum (take ward header.page_counts) → within ≡ min (slice_index header.page_counts ward) (whole - before)
+    → pages_within whole header key ≡ within
+within_is header key ward before whole within ward_is place is =
+    omega (arith, is, place, ap (slice_index header.page_counts) ward_is, ap (λ (ward : ℕ). sum (take ward header.page_counts)) ward_is)
+
 short_of : {way turn pages all : ℕ} → way ≡ turn → turn ≤ pages → all ≡ pages → way ≤ all
 short_of is few some = omega (arith, is, few, some)
 
@@ -58,13 +65,13 @@ returns-then-number-pages-clause-err g c =
     let key = c.args.key.now in
     let ward = c.ward_number-ward.result in
     let ward_is : ward ≡ ward_in header key = c.ward_number-ward.ensures ∙ ap (ward_of header.settings.ward_bits) c.requires.pseudokey in
-    let some : pages_in header key ≡ slice_index header.page_counts ward = ap (slice_index header.page_counts) (sym ward_is) in
+    let some = within_is header key ward c.pages_before-before.result c.args.count c.pages_within-within.result ward_is c.pages_before-before.ensures.place c.pages_within-within.ensures in
     let so_far = c.loop-turn.invariant.so_far in
     record {
       way = so_far.0;
       number = c.loop-turn.number;
       leads = so_far.2;
-      fails = inr (inl (past_all refl c.if-number-pages.true some));
+      fails = inr (inl (past_all refl c.if-number-pages.true (ap (slice_index header.page_counts) (sym ward_is))));
       short = shorter_of so_far.1 c.loop-turn-test.true some;
       reads = read_then _ _ _ (map (place_in header key) so_far.0) (length so_far.0) 1 (length-map so_far.0 (place_in header key)) so_far.3 (none_read (g.B.Blocks.reads c.loop-turn.blocks) 1);
     }
@@ -75,13 +82,16 @@ returns-clause-err g c =
     let key = c.args.key.now in
     let ward = c.ward_number-ward.result in
     let ward_is : ward ≡ ward_in header key = c.ward_number-ward.ensures ∙ ap (ward_of header.settings.ward_bits) c.requires.pseudokey in
-    let some : pages_in header key ≡ slice_index header.page_counts ward = ap (slice_index header.page_counts) (sym ward_is) in
+    let some = within_is header key ward c.pages_before-before.result c.args.count c.pages_within-within.result ward_is c.pages_before-before.ensures.place c.pages_within-within.ensures in
     let so_far = c.loop-turn.invariant.so_far in
     record {
       way = so_far.0;
       number = c.loop-turn.number;
       leads = so_far.2;
-      fails = inl (past_all so_far.1 c.loop-turn-test.false some);
+      fails = elim c.else-within-number.either [
+        | inl outside ↦ inr (inl (past_all refl outside.1 (ap (slice_index header.page_counts) (sym ward_is))))
+        | inr inside ↦ inl (less_of refl inside some, past_all so_far.1 c.loop-turn-test.false some)
+      ];
       short = short_of so_far.1 c.loop-turn.auto.turn-end some;
       reads = read_then _ _ _ (map (place_in header key) so_far.0) (length so_far.0) 1 (length-map so_far.0 (place_in header key)) so_far.3 (none_read (g.B.Blocks.reads c.loop-turn.blocks) 1);
     }
@@ -99,12 +109,12 @@ returns-in_err-page-clause-err g c =
     let so_far = c.loop-turn.invariant.so_far in
     let fault = c.in_err-page.field-0.0 in
     let inside = c.if-number-pages.false in
-    let some : pages_in header key ≡ slice_index header.page_counts ward = ap (slice_index header.page_counts) (sym ward_is) in
-    err_is c.from_residual.result fault (FailsOnWay (file_version c.args.version) known header key c.args.first _ _) c.from_residual.ensures.1 (record {
+    let some = within_is header key ward c.pages_before-before.result c.args.count c.pages_within-within.result ward_is c.pages_before-before.ensures.place c.pages_within-within.ensures in
+    err_is c.from_residual.result fault (FailsOnWay (file_version c.args.version) known header key c.args.count c.args.first _ _) c.from_residual.ensures.1 (record {
       way = so_far.0;
       number = number;
       leads = so_far.2;
-      fails = page_fails (file_version c.args.version) known now header key ward before number c.loop-turn.invariant.same ward_is c.pages_before-before.ensures.place inside so_far.0 fault c.in_err-page.ensures.err;
+      fails = page_fails (file_version c.args.version) known now header key c.args.count ward before number c.loop-turn.invariant.same ward_is c.pages_before-before.ensures.place inside so_far.0 fault c.in_err-page.ensures.err;
       short = shorter_of so_far.1 c.loop-turn-test.true some;
       reads = read_then _ _ _ (map (place_in header key) so_far.0) (length so_far.0) 1 (length-map so_far.0 (place_in header key)) so_far.3 c.in_err-page.ensures.few;
     })
@@ -122,13 +132,13 @@ returns-in-Home-clause-ok g c =
     let ward_is : ward ≡ ward_in header key = c.ward_number-ward.ensures ∙ ap (ward_of header.settings.ward_bits) c.requires.pseudokey in
     let so_far = c.loop-turn.invariant.so_far in
     let inside = c.if-number-pages.false in
-    let some : pages_in header key ≡ slice_index header.page_counts ward = ap (slice_index header.page_counts) (sym ward_is) in
+    let some = within_is header key ward c.pages_before-before.result c.args.count c.pages_within-within.result ward_is c.pages_before-before.ensures.place c.pages_within-within.ensures in
     record {
       way = so_far.0;
       number = number;
       leads = so_far.2;
       page = page;
-      there = page_in (file_version c.args.version) known now header key ward before number c.loop-turn.invariant.same ward_is c.pages_before-before.ensures.place inside page c.in_ok-page.ensures.ok;
+      there = page_in (file_version c.args.version) known now header key c.args.count ward before number c.loop-turn.invariant.same ward_is c.pages_before-before.ensures.place inside page c.in_ok-page.ensures.ok;
       home = ap (lead_of page) (sym c.requires.pseudokey) ∙ sym c.lead_of.ensures ∙ c.in-Home.is;
       is = c.find.ensures ∙ ap (λ (pseudokey : ℕ). value_at (pseudokey, key) (records_of page)) c.requires.pseudokey;
       short = less_of so_far.1 c.loop-turn-test.true some;
@@ -148,8 +158,8 @@ returns-in-Nowhere-clause-err g c =
     let ward_is : ward ≡ ward_in header key = c.ward_number-ward.ensures ∙ ap (ward_of header.settings.ward_bits) c.requires.pseudokey in
     let so_far = c.loop-turn.invariant.so_far in
     let inside = c.if-number-pages.false in
-    let some : pages_in header key ≡ slice_index header.page_counts ward = ap (slice_index header.page_counts) (sym ward_is) in
-    let there = page_in (file_version c.args.version) known now header key ward before number c.loop-turn.invariant.same ward_is c.pages_before-before.ensures.place inside page c.in_ok-page.ensures.ok in
+    let some = within_is header key ward c.pages_before-before.result c.args.count c.pages_within-within.result ward_is c.pages_before-before.ensures.place c.pages_within-within.ensures in
+    let there = page_in (file_version c.args.version) known now header key c.args.count ward before number c.loop-turn.invariant.same ward_is c.pages_before-before.ensures.place inside page c.in_ok-page.ensures.ok in
     record {
       way = so_far.0;
       number = number;
@@ -172,7 +182,7 @@ loop-turn-preserved g c =
     let ward_is : ward ≡ ward_in header key = c.ward_number-ward.ensures ∙ ap (ward_of header.settings.ward_bits) c.requires.pseudokey in
     let so_far = c.loop-turn.invariant.so_far in
     let inside = c.if-number-pages.false in
-    let there = page_in (file_version c.args.version) known now header key ward before number c.loop-turn.invariant.same ward_is c.pages_before-before.ensures.place inside page c.in_ok-page.ensures.ok in
+    let there = page_in (file_version c.args.version) known now header key c.args.count ward before number c.loop-turn.invariant.same ward_is c.pages_before-before.ensures.place inside page c.in_ok-page.ensures.ok in
     record {
       same = c.in_ok-page.ensures.same_bytes ∙ c.loop-turn.invariant.same;
       so_far = (
